@@ -1,0 +1,9 @@
+//! The faults of a parse, and their texts.
+#![tactic(auto)]
+
+mod error;
+mod kind;
+mod texts;
+
+pub use error::{Error, PResult};
+pub use kind::SyntaxError;

@@ -1,0 +1,233 @@
+use crate::keyword::Keyword;
+use crate::kind::TokenKind;
+use crate::operator::{AssignOp, BinOpToken};
+use swc_ecma_parser_common::{Atom, Span, Spanned};
+use swc_ecma_parser_error::{Error, PResult};
+
+/// A word: a keyword, one of the three word literals, or any other name.
+#[derive(Debug, PartialEq, Eq, Drop)]
+pub enum Word {
+    Keyword(Keyword),
+    Null,
+    True,
+    False,
+    Ident(Atom),
+}
+
+/// A token.
+#[derive(Debug, PartialEq, Eq, Drop)]
+pub enum Token {
+    Word(Word),
+    /// `=>`
+    Arrow,
+    /// `#`
+    Hash,
+    /// `@`
+    At,
+    /// `.`
+    Dot,
+    /// `...`
+    DotDotDot,
+    /// `!`
+    Bang,
+    /// `(`
+    LParen,
+    /// `)`
+    RParen,
+    /// `[`
+    LBracket,
+    /// `]`
+    RBracket,
+    /// `{`
+    LBrace,
+    /// `}`
+    RBrace,
+    /// `;`
+    Semi,
+    /// `,`
+    Comma,
+    /// `:`
+    Colon,
+    /// `?`
+    QuestionMark,
+    /// `++`
+    PlusPlus,
+    /// `--`
+    MinusMinus,
+    /// `~`
+    Tilde,
+    BinOp(BinOpToken),
+    AssignOp(AssignOp),
+    /// A string literal: what it says, and how it is written.
+    Str { value: Atom, raw: Atom },
+    /// A number, as it is written.
+    Num { raw: Atom },
+    /// A big integer, as it is written, with its `n`.
+    BigInt { raw: Atom },
+    /// The first line of a text that begins with `#!`, without these two.
+    Shebang(Atom),
+    /// Where no token could be read.
+    Error(Error),
+}
+
+/// A token with its place.
+#[derive(Debug, PartialEq, Eq, Drop)]
+pub struct TokenAndSpan {
+    pub token: Token,
+    /// Whether a line break stands between it and the token before it.
+    pub had_line_break: bool,
+    pub span: Span,
+}
+
+impl Word {
+    ghost use Rattle.std.specs.Prelude.{◌≡◌, IfOk};
+    ghost use Rattle.swc_ecma_parser_token.specs.Kind.{word_kind};
+    ghost use Rattle.swc_ecma_parser_token.specs.Text.{word_text};
+
+    /// The kind of token that it is.
+    pub fn kind(&self) -> TokenKind
+        ensures { result ≡ word_kind self.now }
+    {
+        match self {
+            Word::Keyword(keyword) => keyword.kind(),
+            Word::Null => TokenKind::Null,
+            Word::True => TokenKind::True,
+            Word::False => TokenKind::False,
+            Word::Ident(_) => TokenKind::Ident,
+        }
+    }
+
+    /// How it is written.
+    pub fn as_str(&self) -> &str
+        ensures { result.now ≡ word_text self.now }
+    {
+        match self {
+            Word::Keyword(keyword) => keyword.as_str(),
+            Word::Null => "null",
+            Word::True => "true",
+            Word::False => "false",
+            Word::Ident(text) => text.as_str(),
+        }
+    }
+
+    /// An equal word, or a fault of kind `OutOfMemory` at 0.
+    pub fn try_clone(&self) -> PResult<Word>
+        ensures { IfOk result (λ w. w ≡ self.now) }
+    {
+        let copy = match self {
+            Word::Keyword(keyword) => Word::Keyword(*keyword),
+            Word::Null => Word::Null,
+            Word::True => Word::True,
+            Word::False => Word::False,
+            Word::Ident(text) => Word::Ident(text.try_clone()?),
+        };
+        Ok(copy)
+    }
+}
+
+impl Token {
+    ghost use Rattle.std.specs.Prelude.{◌≡◌, IfOk};
+    ghost use Rattle.swc_ecma_parser_token.specs.Kind.{token_kind};
+
+    /// The kind of token that it is.
+    pub fn kind(&self) -> TokenKind
+        ensures { result ≡ token_kind self.now }
+    {
+        match self {
+            Token::Word(word) => word.kind(),
+            Token::BinOp(op) => op.kind(),
+            Token::AssignOp(op) => op.kind(),
+            Token::Arrow => TokenKind::Arrow,
+            Token::Hash => TokenKind::Hash,
+            Token::At => TokenKind::At,
+            Token::Dot => TokenKind::Dot,
+            Token::DotDotDot => TokenKind::DotDotDot,
+            Token::Bang => TokenKind::Bang,
+            Token::LParen => TokenKind::LParen,
+            Token::RParen => TokenKind::RParen,
+            Token::LBracket => TokenKind::LBracket,
+            Token::RBracket => TokenKind::RBracket,
+            Token::LBrace => TokenKind::LBrace,
+            Token::RBrace => TokenKind::RBrace,
+            Token::Semi => TokenKind::Semi,
+            Token::Comma => TokenKind::Comma,
+            Token::Colon => TokenKind::Colon,
+            Token::QuestionMark => TokenKind::QuestionMark,
+            Token::PlusPlus => TokenKind::PlusPlus,
+            Token::MinusMinus => TokenKind::MinusMinus,
+            Token::Tilde => TokenKind::Tilde,
+            Token::Str { .. } => TokenKind::Str,
+            Token::Num { .. } => TokenKind::Num,
+            Token::BigInt { .. } => TokenKind::BigInt,
+            Token::Shebang(_) => TokenKind::Shebang,
+            Token::Error(_) => TokenKind::Error,
+        }
+    }
+
+    /// An equal token, or a fault of kind `OutOfMemory` at 0.
+    pub fn try_clone(&self) -> PResult<Token>
+        ensures { IfOk result (λ t. t ≡ self.now) }
+    {
+        let copy = match self {
+            Token::Word(word) => Token::Word(word.try_clone()?),
+            Token::BinOp(op) => Token::BinOp(*op),
+            Token::AssignOp(op) => Token::AssignOp(*op),
+            Token::Arrow => Token::Arrow,
+            Token::Hash => Token::Hash,
+            Token::At => Token::At,
+            Token::Dot => Token::Dot,
+            Token::DotDotDot => Token::DotDotDot,
+            Token::Bang => Token::Bang,
+            Token::LParen => Token::LParen,
+            Token::RParen => Token::RParen,
+            Token::LBracket => Token::LBracket,
+            Token::RBracket => Token::RBracket,
+            Token::LBrace => Token::LBrace,
+            Token::RBrace => Token::RBrace,
+            Token::Semi => Token::Semi,
+            Token::Comma => Token::Comma,
+            Token::Colon => Token::Colon,
+            Token::QuestionMark => Token::QuestionMark,
+            Token::PlusPlus => Token::PlusPlus,
+            Token::MinusMinus => Token::MinusMinus,
+            Token::Tilde => Token::Tilde,
+            Token::Str { value, raw } => Token::Str {
+                value: value.try_clone()?,
+                raw: raw.try_clone()?,
+            },
+            Token::Num { raw } => Token::Num {
+                raw: raw.try_clone()?,
+            },
+            Token::BigInt { raw } => Token::BigInt {
+                raw: raw.try_clone()?,
+            },
+            Token::Shebang(text) => Token::Shebang(text.try_clone()?),
+            Token::Error(error) => Token::Error(error.try_clone()?),
+        };
+        Ok(copy)
+    }
+}
+
+impl TokenAndSpan {
+    ghost use Rattle.std.specs.Prelude.{◌≡◌, IfOk};
+
+    /// An equal token, or a fault of kind `OutOfMemory` at 0.
+    pub fn try_clone(&self) -> PResult<TokenAndSpan>
+        ensures { IfOk result (λ t. t ≡ self.now) }
+    {
+        let token = self.token.try_clone()?;
+        Ok(TokenAndSpan {
+            token,
+            had_line_break: self.had_line_break,
+            span: self.span,
+        })
+    }
+}
+
+impl Spanned for TokenAndSpan {
+    ghost span_of = { λ t. t.span };
+
+    fn span(&self) -> Span {
+        self.span
+    }
+}
