@@ -1,5 +1,5 @@
 -- The kinds of faults without what they hold, and a fault as its kind and span.
-use Rattle.std.specs.Prelude.{ℕ, List, map, codes}
+use Rattle.std.specs.Prelude.{◌≡◌, ℕ, List, map, codes}
 use Rattle.swc_ecma_parser_common.specs.declared.span.Span.{Span}
 use Rattle.swc_ecma_parser_error.specs.declared.kind.SyntaxError.{SyntaxError}
 use Rattle.swc_ecma_parser_error.specs.declared.kind.SyntaxError.TheVariants as v
@@ -238,3 +238,7 @@ name_of UnterminatedStrLit = codes "UnterminatedStrLit"
 name_of UnterminatedBlockComment = codes "UnterminatedBlockComment"
 name_of InvalidNumber = codes "InvalidNumber"
 name_of InvalidStrEscape = codes "InvalidStrEscape"
+
+-- memory ran out
+abbrev pub IsOutOfMemory : Error → Type 0
+IsOutOfMemory e = kind_of e.kind ≡ OutOfMemory

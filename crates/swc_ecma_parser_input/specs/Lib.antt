@@ -1,0 +1,4 @@
+pub mod Setting
+pub mod TokenSource
+pub mod Place
+pub mod Buffered

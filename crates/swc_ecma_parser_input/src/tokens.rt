@@ -1,0 +1,63 @@
+ghost use Rattle.std.specs.Prelude.{◌≡◌, ◌++◌, ◌∷◌, [], IfOk, IfErr, OnOk, OnErr};
+
+use crate::context::Context;
+use crate::syntax::Syntax;
+use swc_ecma_parser_common::BytePos;
+use swc_ecma_parser_error::{Error, PResult};
+use swc_ecma_parser_token::TokenAndSpan;
+
+/// A source of a finite list of tokens. It keeps the context that was set last and two lists of faults: those recorded,
+/// and those that count in module code alone, which are held back until the code is known to be a module's.
+pub trait Tokens: Drop {
+    ghost use Rattle.std.specs.Prelude.{ℕ, IsTrue};
+    ghost use Rattle.swc_ecma_parser_input.specs.TokenSource.{TokenSource};
+    ghost use Rattle.swc_ecma_parser_input.specs.TokenSource as source;
+    ghost use Rattle.swc_ecma_parser_error.specs.Kind.{IsOutOfMemory};
+
+    /// The source as contracts see it.
+    ghost seen: { Self → TokenSource };
+
+    /// Takes the first token left. Where there is no memory for it, an error token of kind `OutOfMemory` stands in its
+    /// place.
+    fn next(&mut self) -> Option<TokenAndSpan>
+        ensures { source.Draws (seen self.old) result (seen self.new) };
+
+    /// Sets the context. With `module` on, the faults held back move to the end of those recorded. It takes no memory.
+    fn set_ctx(&mut self, context: Context)
+        ensures { seen self.new ≡ source.with_context context (seen self.old) };
+
+    /// The context set last.
+    fn ctx(&self) -> Context
+        ensures { result ≡ (seen self.now).context };
+
+    /// The language that is read.
+    fn syntax(&self) -> Syntax
+        ensures { result ≡ (seen self.now).syntax };
+
+    /// Where the text starts: at most the start of the first token.
+    fn start_pos(&self) -> BytePos
+        ensures { result ≡ (seen self.now).start };
+
+    /// Records a fault, or changes nothing where there is no memory.
+    fn add_error(&mut self, error: Error) -> PResult<()>
+        ensures ok { OnOk result (seen self.new ≡ source.recording error (seen self.old)) }
+        ensures err { IfErr result (λ e. IsOutOfMemory e × (seen self.new ≡ seen self.old)) };
+
+    /// Records a fault of module code: it is held back while the context is no module's.
+    fn add_module_mode_error(&mut self, error: Error) -> PResult<()>
+        ensures ok { OnOk result (seen self.new ≡ source.holding_back error (seen self.old)) }
+        ensures err { IfErr result (λ e. IsOutOfMemory e × (seen self.new ≡ seen self.old)) };
+
+    /// Hands out the recorded faults, in order. Those held back stay. It takes no memory.
+    fn take_errors(&mut self) -> Vec<Error>
+        ensures errors { result.items ≡ (seen self.old).recorded }
+        ensures source { seen self.new ≡ record (seen self.old) { recorded = [] } };
+
+    /// An equal source, or a fault of kind `OutOfMemory`.
+    fn try_clone(&self) -> PResult<Self>
+        ensures ok { IfOk result (λ it. seen it ≡ seen self.now) }
+        ensures err { IfErr result IsOutOfMemory };
+
+    /// Each token starts at or after the end of the one before it, and ends at or after its own start.
+    ghost ordered: { (s : Self) → IsTrue (source.is_ordered (seen s)) };
+}

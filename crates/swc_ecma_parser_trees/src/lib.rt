@@ -1,0 +1,135 @@
+//! What a rule may know of the tree that it makes: the kinds of node that pass between rules, the model that each node
+//! stands for, and for each form a function that makes it.
+#![tactic(auto)]
+
+ghost use Rattle.std.specs.Prelude.{◌≡◌, IfOk, map};
+
+use std::alloc::{AllocError, Global};
+use std::marker::PhantomData;
+use swc_ecma_parser_common::{Atom, Span};
+use swc_ecma_parser_model::{BigInt, Bool, Ident, Null, Number, Str, VarDeclKind};
+
+/// Where trees are made. A function value that answers a node takes this, since its arguments have to name the types of
+/// its answer.
+pub struct Maker<E, P, S> {
+    pub alloc: Global,
+    nodes: PhantomData<(E, P, S)>,
+}
+
+/// The maker of a tree's nodes.
+pub type MakerOf<T> = Maker<<T as Trees>::Expr, <T as Trees>::Pat, <T as Trees>::Stmt>;
+
+impl<E, P, S> Maker<E, P, S> {
+    pub fn new(alloc: Global) -> Maker<E, P, S> {
+        Maker {
+            alloc,
+            nodes: PhantomData,
+        }
+    }
+}
+
+/// The kinds of node, each with the model that a node stands for.
+pub trait Trees {
+    ghost use Rattle.swc_ecma_parser_model.specs.Tree.{Tree};
+    ghost use Rattle.std.specs.Prelude.{Bool};
+    ghost use Rattle.swc_ecma_parser_model.specs.Directive as directive;
+
+    type Expr: Drop;
+
+    type Pat: Drop;
+
+    type Declarator: Drop;
+
+    type Stmt: Drop;
+
+    type Script: Drop;
+
+    ghost expr_of: { Self.Expr → Tree };
+
+    ghost pat_of: { Self.Pat → Tree };
+
+    ghost declarator_of: { Self.Declarator → Tree };
+
+    ghost stmt_of: { Self.Stmt → Tree };
+
+    ghost script_of: { Self.Script → Tree };
+
+    /// Whether it is `'use strict'` or `"use strict"` as written, with no parentheses.
+    fn is_use_strict(stmt: &Self::Stmt) -> bool
+        ensures { result ≡ directive.is_use_strict (stmt_of stmt.now) };
+}
+
+/// Makes expressions.
+pub trait BuildsExpr: Trees {
+    ghost use Rattle.swc_ecma_parser_model.specs.Tree as tree;
+
+    fn ident(alloc: Global, ident: Ident) -> Result<Self::Expr, AllocError>
+        ensures { IfOk result (λ x. Self.expr_of x ≡ tree.ident ident.span ident.sym) };
+
+    fn str(alloc: Global, str: Str) -> Result<Self::Expr, AllocError>
+        ensures { IfOk result (λ x. Self.expr_of x ≡ tree.str str.span str.value str.raw) };
+
+    fn bool(alloc: Global, bool: Bool) -> Result<Self::Expr, AllocError>
+        ensures { IfOk result (λ x. Self.expr_of x ≡ tree.bool bool.span bool.value) };
+
+    fn null(alloc: Global, null: Null) -> Result<Self::Expr, AllocError>
+        ensures { IfOk result (λ x. Self.expr_of x ≡ tree.null null.span) };
+
+    fn num(alloc: Global, num: Number) -> Result<Self::Expr, AllocError>
+        ensures { IfOk result (λ x. Self.expr_of x ≡ tree.num num.span num.raw) };
+
+    fn big_int(alloc: Global, big_int: BigInt) -> Result<Self::Expr, AllocError>
+        ensures { IfOk result (λ x. Self.expr_of x ≡ tree.big_int big_int.span big_int.raw) };
+
+    fn paren(alloc: Global, span: Span, expr: Self::Expr) -> Result<Self::Expr, AllocError>
+        ensures { IfOk result (λ x. Self.expr_of x ≡ tree.paren span (Self.expr_of expr)) };
+}
+
+/// Makes patterns.
+pub trait BuildsPat: Trees {
+    ghost use Rattle.swc_ecma_parser_model.specs.Tree as tree;
+
+    fn ident_pat(alloc: Global, ident: Ident) -> Result<Self::Pat, AllocError>
+        ensures { IfOk result (λ x. Self.pat_of x ≡ tree.ident_pat ident.span ident.sym) };
+}
+
+/// Makes statements, and scripts of them.
+pub trait BuildsStmt: Trees {
+    ghost use Rattle.swc_ecma_parser_model.specs.Tree as tree;
+    ghost use Rattle.swc_ecma_parser_trees.specs.Parts as parts;
+
+    fn declarator(
+        alloc: Global,
+        span: Span,
+        name: Self::Pat,
+        init: Option<Self::Expr>,
+    ) -> Result<Self::Declarator, AllocError>
+        ensures { IfOk result (λ x. Self.declarator_of x
+            ≡ tree.declarator span (Self.pat_of name) (parts.part_of Self.expr_of init)) };
+
+    fn var(
+        alloc: Global,
+        span: Span,
+        kind: VarDeclKind,
+        decls: Vec<Self::Declarator>,
+    ) -> Result<Self::Stmt, AllocError>
+        ensures { IfOk result (λ x. Self.stmt_of x
+            ≡ tree.var span kind (tree.listed (map Self.declarator_of decls.items))) };
+
+    fn block(alloc: Global, span: Span, stmts: Vec<Self::Stmt>) -> Result<Self::Stmt, AllocError>
+        ensures { IfOk result (λ x. Self.stmt_of x
+            ≡ tree.block span (tree.listed (map Self.stmt_of stmts.items))) };
+
+    fn empty(alloc: Global, span: Span) -> Result<Self::Stmt, AllocError>
+        ensures { IfOk result (λ x. Self.stmt_of x ≡ tree.empty span) };
+
+    fn debugger(alloc: Global, span: Span) -> Result<Self::Stmt, AllocError>
+        ensures { IfOk result (λ x. Self.stmt_of x ≡ tree.debugger span) };
+
+    fn expr_stmt(alloc: Global, span: Span, expr: Self::Expr) -> Result<Self::Stmt, AllocError>
+        ensures { IfOk result (λ x. Self.stmt_of x ≡ tree.expr_stmt span (Self.expr_of expr)) };
+
+    fn script(span: Span, body: Vec<Self::Stmt>, shebang: Option<Atom>) -> Self::Script
+        ensures { Self.script_of result
+            ≡ tree.script span (tree.listed (map Self.stmt_of body.items)) shebang };
+}
