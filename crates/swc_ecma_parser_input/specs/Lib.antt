@@ -2,3 +2,4 @@ pub mod Setting
 pub mod TokenSource
 pub mod Place
 pub mod Buffered
+pub mod Faults

@@ -65,3 +65,12 @@ released s = record s { recorded = s.recorded ++ s.held_back; held_back = [] }
 
 abbrev pub with_context : Context → TokenSource → TokenSource
 with_context c s = if c.module then record (released s) { context = c } else record s { context = c }
+
+abbrev pub start_of : List TokenAndSpan → BytePos
+start_of [] = record { 0 = 0 }
+start_of (t ∷ ts) = t.span.lo
+
+-- a source of these tokens with no faults
+abbrev pub of_list : Context → Syntax → List TokenAndSpan → TokenSource
+of_list context syntax ts =
+    record { left = ts; context = context; syntax = syntax; start = start_of ts; recorded = []; held_back = [] }

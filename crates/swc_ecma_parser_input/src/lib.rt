@@ -1,10 +1,14 @@
-//! Where tokens come from: the trait of sources with its laws, settings and contexts.
+//! Where tokens come from: the trait of sources with its laws, sources, settings and contexts.
 #![tactic(auto)]
 
 mod context;
+mod faults;
 mod syntax;
 mod tokens;
+mod tokens_input;
 
 pub use context::Context;
+pub use faults::{FaultLists, out_of_memory};
 pub use syntax::{EsSyntax, Syntax};
 pub use tokens::Tokens;
+pub use tokens_input::{TokensInput, spans_ordered};

@@ -33,6 +33,7 @@ pub trait Trees {
     ghost use Rattle.swc_ecma_parser_model.specs.Tree.{Tree};
     ghost use Rattle.std.specs.Prelude.{Bool};
     ghost use Rattle.swc_ecma_parser_model.specs.Directive as directive;
+    ghost use Rattle.swc_ecma_parser_model.specs.Forms as forms;
 
     type Expr: Drop;
 
@@ -57,6 +58,22 @@ pub trait Trees {
     /// Whether it is `'use strict'` or `"use strict"` as written, with no parentheses.
     fn is_use_strict(stmt: &Self::Stmt) -> bool
         ensures { result ≡ directive.is_use_strict (stmt_of stmt.now) };
+
+    /// Where an expression stands.
+    fn expr_span(expr: &Self::Expr) -> Span
+        ensures { result ≡ forms.span_of (expr_of expr.now) };
+
+    /// Whether it is a bare name, with no parentheses.
+    fn is_ident(expr: &Self::Expr) -> bool
+        ensures { result ≡ forms.is_ident (expr_of expr.now) };
+
+    /// Whether it is this name, bare.
+    fn is_ident_named(expr: &Self::Expr, name: &str) -> bool
+        ensures { result ≡ forms.is_ident_named name.now (expr_of expr.now) };
+
+    /// Whether it stands in parentheses.
+    fn is_paren(expr: &Self::Expr) -> bool
+        ensures { result ≡ forms.is_paren (expr_of expr.now) };
 }
 
 /// Makes expressions.

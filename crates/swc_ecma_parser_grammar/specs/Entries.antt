@@ -1,0 +1,42 @@
+-- What a whole list of tokens spells: ECMA-262, section 16.1.
+use Rattle.std.specs.Prelude.{◌≡◌, ℕ, Bool, true, false, ◌||◌, List, [], ◌∷◌, Option, Some, None}
+use Rattle.swc_ecma_parser_common.specs.declared.span.Span.{Span}
+use Rattle.swc_ecma_parser_token.specs.declared.kind.TokenKind.TheVariants as kind
+use Rattle.swc_ecma_parser_token.specs.declared.token.Token.TheVariants as token
+use Rattle.swc_ecma_parser_token.specs.declared.token.TokenAndSpan.{TokenAndSpan}
+use Rattle.swc_ecma_parser_token.specs.Kind.{token_kind}
+use Rattle.swc_ecma_parser_input.specs.Place.{Place}
+use Rattle.swc_ecma_parser_model.specs.Tree as tree
+use Rattle.swc_ecma_parser_model.specs.Tree.{Tree, Text, listed}
+use Rattle.swc_ecma_parser_grammar.specs.Looks.{kind_at, sees, same_kind, spanned}
+use Rattle.swc_ecma_parser_grammar.specs.Names.{Code}
+use Rattle.swc_ecma_parser_grammar.specs.Reads.{ReadsToken, ReadsItems, ReadsStmt, top_item}
+use Rattle.swc_ecma_parser_grammar.specs.Walk.{walk, env_of}
+
+-- a script is no module code
+abbrev pub script_code : Code → Code
+script_code k = record k { flags = record k.flags { «module» = false } }
+
+-- a first line that begins with `#!`: section 12.5
+pub data ReadsShebang (c d : Place) : Option Text → Type 0 where
+  some_shebang : (text : Text) (s : Span) → ReadsToken (token.Shebang text) s c d → ReadsShebang c d (Some text)
+  no_shebang : sees kind.Shebang c ≡ false → d ≡ c → ReadsShebang c d None
+
+-- a script within so many levels, which takes the whole list
+pub record ReadsScript (n : ℕ) (k : Code) (x : Tree) (c d : Place) : Type 0 where
+  pub shebang : Option Text
+  pub first : Place
+  pub reads_shebang : ReadsShebang c first shebang
+  pub items : List Tree
+  pub reads_items : ReadsItems (λ j. ReadsStmt n j top_item) (script_code k) true items first d
+  pub whole : kind_at d ≡ kind.End
+  pub is : x ≡ tree.script (spanned c d) (listed items) shebang
+
+-- it is read, and the walk finds nothing
+abbrev pub SpellsScript : ℕ → Code → List Text → Tree → Place → Place → Type 0
+SpellsScript n k labels x c d = ReadsScript n k x c d × (walk (env_of (script_code k) labels) x ≡ [])
+
+-- no error token stands in the list
+abbrev pub has_error_token : List TokenAndSpan → Bool
+has_error_token [] = false
+has_error_token (t ∷ ts) = same_kind (token_kind t.token) kind.Error || has_error_token ts

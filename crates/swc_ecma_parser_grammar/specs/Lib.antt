@@ -1,0 +1,9 @@
+pub mod Looks
+pub mod Names
+pub mod Ends
+pub mod Follows
+pub mod Reads
+pub mod Entries
+pub mod Depth
+pub mod Notes
+pub mod Walk

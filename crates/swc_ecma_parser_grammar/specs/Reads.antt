@@ -1,0 +1,120 @@
+-- The grammar, as a relation between a tree and the two places that it stands between, within so many levels.
+use Rattle.std.specs.Prelude.{◌≡◌, ℕ, zero, suc, Bool, true, false, ◌&&◌, if◌then◌else◌, List, [], ◌∷◌, codes}
+use Rattle.swc_ecma_parser_common.specs.declared.span.Span.{Span}
+use Rattle.swc_ecma_parser_token.specs.declared.kind.TokenKind.TheVariants as kind
+use Rattle.swc_ecma_parser_token.specs.declared.token.Token.{Token}
+use Rattle.swc_ecma_parser_token.specs.declared.token.Token.TheVariants as token
+use Rattle.swc_ecma_parser_token.specs.declared.token.Word.{Word}
+use Rattle.swc_ecma_parser_token.specs.declared.token.Word.TheVariants as word
+use Rattle.swc_ecma_parser_token.specs.declared.token.TokenAndSpan.{TokenAndSpan}
+use Rattle.swc_ecma_parser_token.specs.Text.{word_text}
+use Rattle.swc_ecma_parser_input.specs.Place.{Place, after}
+use Rattle.swc_ecma_parser_model.specs.declared.leaves.VarDeclKind.TheVariants as decl
+use Rattle.swc_ecma_parser_model.specs.Tree as tree
+use Rattle.swc_ecma_parser_model.specs.Tree.{Tree, Text, listed}
+use Rattle.swc_ecma_parser_model.specs.Directive.{is_use_strict}
+use Rattle.swc_ecma_parser_model.specs.Forms.{is_ident, is_ident_named}
+use Rattle.swc_ecma_parser_grammar.specs.declared.position.Position.{Position}
+use Rattle.swc_ecma_parser_grammar.specs.Looks.{kind_at, sees, spanned}
+use Rattle.swc_ecma_parser_grammar.specs.Names.{Code, is_name}
+use Rattle.swc_ecma_parser_grammar.specs.Ends.{Ends}
+use Rattle.swc_ecma_parser_grammar.specs.Follows.{continues, may_begin_expression_statement}
+
+-- ---- contexts
+
+-- `in` is an operator here
+abbrev pub with_in : Code → Code
+with_in k = record k { flags = record k.flags { include_in_expr = true } }
+
+abbrev pub in_strict : Code → Code
+in_strict k = record k { flags = record k.flags { strict = true } }
+
+-- a statement in a block or a body, and one of the script itself
+abbrev pub nested_item : Position
+nested_item = record { include_decl = true; top_level = false }
+
+abbrev pub top_item : Position
+top_item = record { include_decl = true; top_level = true }
+
+-- ---- one token
+
+pub record ReadsToken (t : Token) (span : Span) (c d : Place) : Type 0 where
+  pub had_line_break : Bool
+  pub rest : List TokenAndSpan
+  pub is : c.left ≡ record { token = t; had_line_break = had_line_break; span = span } ∷ rest
+  pub next : d ≡ after c
+
+-- ---- expressions: ECMA-262, section 13
+
+-- Primary expressions, section 13.2: names, literals and parentheses.
+pub data PrimaryRule (Inner : Code → Tree → Place → Place → Type 0) (k : Code) (x : Tree) (c d : Place) : Type 0 where
+  name_rule : (w : Word) (s : Span) → ReadsToken (token.Word w) s c d → is_name k.flags (word_text w) ≡ true
+      → x ≡ tree.ident s (word_text w) → PrimaryRule Inner k x c d
+  string_rule : (value raw : Text) (s : Span) → ReadsToken (token.Str value raw) s c d → x ≡ tree.str s value raw → PrimaryRule Inner k x c d
+  number_rule : (raw : Text) (s : Span) → ReadsToken (token.Num raw) s c d → x ≡ tree.num s raw → PrimaryRule Inner k x c d
+  big_int_rule : (raw : Text) (s : Span) → ReadsToken (token.BigInt raw) s c d → x ≡ tree.big_int s raw → PrimaryRule Inner k x c d
+  null_rule : (s : Span) → ReadsToken (token.Word word.Null) s c d → x ≡ tree.null s → PrimaryRule Inner k x c d
+  true_rule : (s : Span) → ReadsToken (token.Word word.True) s c d → x ≡ tree.bool s true → PrimaryRule Inner k x c d
+  false_rule : (s : Span) → ReadsToken (token.Word word.False) s c d → x ≡ tree.bool s false → PrimaryRule Inner k x c d
+  paren_rule : (e : Tree) (m : Place) → kind_at c ≡ kind.LParen → Inner (with_in k) e (after c) m → kind_at m ≡ kind.RParen → d ≡ after m
+      → x ≡ tree.paren (spanned c d) e → PrimaryRule Inner k x c d
+
+-- An expression within so many levels. No token stands behind it that goes on with it.
+abbrev pub ReadsExpr : ℕ → Code → Tree → Place → Place → Type 0
+ReadsExpr zero k x c d = ⊥
+ReadsExpr (suc n) k x c d = PrimaryRule (ReadsExpr n) k x c d × (continues k x d ≡ false)
+
+-- ---- binding patterns: section 14.3.3
+
+pub data PatRule (k : Code) (x : Tree) (c d : Place) : Type 0 where
+  binding_rule : (w : Word) (s : Span) → ReadsToken (token.Word w) s c d → is_name k.flags (word_text w) ≡ true
+      → x ≡ tree.ident_pat s (word_text w) → PatRule k x c d
+
+abbrev pub ReadsPat : ℕ → Code → Tree → Place → Place → Type 0
+ReadsPat zero k x c d = ⊥
+ReadsPat (suc n) k x c d = PatRule k x c d
+
+-- ---- statements: section 14
+
+-- a declarator of section 14.3.2; one without initializer stands before no `=`
+pub data DeclaratorRule (Pat : Code → Tree → Place → Place → Type 0) (k : Code) (x : Tree) (c d : Place) : Type 0 where
+  plain_rule : (p : Tree) → Pat k p c d → sees kind.Assign d ≡ false → x ≡ tree.declarator (spanned c d) p tree.absent → DeclaratorRule Pat k x c d
+
+-- at least one, with commas between and none behind
+abbrev pub ReadsSeparated : (Tree → Place → Place → Type 0) → List Tree → Place → Place → Type 0
+ReadsSeparated Reads [] c d = ⊥
+ReadsSeparated Reads (x ∷ []) c d = Reads x c d × (sees kind.Comma d ≡ false)
+ReadsSeparated Reads (x ∷ y ∷ ys) c d = (m : Place) × Reads x c m × (kind_at m ≡ kind.Comma) × ReadsSeparated Reads (y ∷ ys) (after m) d
+
+-- Directives, section 11.2.1: the first statement of a body that has directives can turn strict what follows it.
+abbrev pub directed : Code → Bool → Tree → Code
+directed k directives x = if directives && is_use_strict x then in_strict k else k
+
+-- whether a statement behind this one can be a directive
+abbrev pub directs_on : Bool → Tree → Bool
+directs_on directives x = false
+
+-- statements one behind another, in a body with directives or without
+abbrev pub ReadsItems : (Code → Tree → Place → Place → Type 0) → Code → Bool → List Tree → Place → Place → Type 0
+ReadsItems Reads k directives [] c d = d ≡ c
+ReadsItems Reads k directives (x ∷ xs) c d = (m : Place) × Reads k x c m × ReadsItems Reads (directed k directives x) (directs_on directives x) xs m d
+
+pub data StmtRule (Stmt : Code → Position → Tree → Place → Place → Type 0) (Expr Pat : Code → Tree → Place → Place → Type 0) (k : Code) (at : Position) (x : Tree) (c d : Place) : Type 0 where
+  -- section 14.2
+  block_rule : (xs : List Tree) (m : Place) → kind_at c ≡ kind.LBrace → ReadsItems (λ j. Stmt j nested_item) k false xs (after c) m → kind_at m ≡ kind.RBrace
+      → d ≡ after m → x ≡ tree.block (spanned c d) (listed xs) → StmtRule Stmt Expr Pat k at x c d
+  -- section 14.4
+  empty_rule : kind_at c ≡ kind.Semi → d ≡ after c → x ≡ tree.empty (spanned c d) → StmtRule Stmt Expr Pat k at x c d
+  -- section 14.16
+  debugger_rule : kind_at c ≡ kind.Debugger → Ends (after c) d → x ≡ tree.debugger (spanned c d) → StmtRule Stmt Expr Pat k at x c d
+  -- section 14.3.2
+  var_rule : (xs : List Tree) (m : Place) → kind_at c ≡ kind.Var → ReadsSeparated (DeclaratorRule Pat (with_in k)) xs (after c) m → Ends m d
+      → x ≡ tree.var (spanned c d) decl.Var (listed xs) → StmtRule Stmt Expr Pat k at x c d
+  -- section 14.5. A bare name before `:` is a label; in module code the bare name `interface` is none.
+  expr_rule : (e : Tree) (m : Place) → may_begin_expression_statement at c ≡ true → Expr (with_in k) e c m → is_ident e && sees kind.Colon m ≡ false
+      → k.flags.module && is_ident_named (codes "interface") e ≡ false → Ends m d → x ≡ tree.expr_stmt (spanned c d) e → StmtRule Stmt Expr Pat k at x c d
+
+-- a statement within so many levels
+abbrev pub ReadsStmt : ℕ → Code → Position → Tree → Place → Place → Type 0
+ReadsStmt zero k at x c d = ⊥
+ReadsStmt (suc n) k at x c d = StmtRule (ReadsStmt n) (ReadsExpr n) (ReadsPat n) k at x c d

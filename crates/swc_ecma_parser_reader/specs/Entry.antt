@@ -1,0 +1,30 @@
+-- What an entry gives, by the grammar and the walk alone.
+use Rattle.std.specs.Prelude.{◌≡◌, ℕ, false, List, [], ◌++◌}
+use Rattle.swc_ecma_parser_error.specs.Kind.{Fault}
+use Rattle.swc_ecma_parser_token.specs.declared.kind.TokenKind.TheVariants as kind
+use Rattle.swc_ecma_parser_input.specs.Place.{Place}
+use Rattle.swc_ecma_parser_model.specs.Tree.{Tree}
+use Rattle.swc_ecma_parser_grammar.specs.Looks.{kind_at}
+use Rattle.swc_ecma_parser_grammar.specs.Entries.{ReadsScript, script_code, has_error_token}
+use Rattle.swc_ecma_parser_grammar.specs.Notes.{notes}
+use Rattle.swc_ecma_parser_grammar.specs.Walk.{walk, env_of, tabled, drops}
+use Rattle.swc_ecma_parser_reader.specs.State.{State}
+
+-- the walk of a script read in a state
+abbrev pub script_walk : State → Tree → List Fault
+script_walk s x = walk (env_of (script_code s.code) s.scope.labels) x
+
+-- the state after a script
+abbrev pub script_left : State → Tree → Place → State
+script_left s x d = record s { at = d; code = script_code s.code; faults = s.faults ++ script_walk s x; held_back = s.held_back ++ notes x }
+
+-- An answer: it takes the whole list; where nothing was recorded it is in the grammar; and where no error token stands and
+-- nothing was dropped, the faults of the table among those recorded are the walk's.
+pub record SoundScript (limit : ℕ) (s : State) (x : Tree) (t : State) : Type 0 where
+  pub code : t.code ≡ script_code s.code
+  pub scope : t.scope ≡ s.scope
+  pub whole : kind_at t.at ≡ kind.End
+  pub added : List Fault
+  pub faults : t.faults ≡ s.faults ++ added
+  pub reads : added ≡ [] → ReadsScript limit s.code x s.at t.at
+  pub walked : has_error_token s.at.left ≡ false → drops added ≡ false → tabled added ≡ script_walk s x

@@ -1,0 +1,246 @@
+-- The reader, rule by rule.
+use Rattle.std.specs.Prelude.{ℕ, zero, suc, Bool, true, false, ◌&&◌, ◌||◌, if◌then◌else◌, List, [], ◌∷◌, ◌++◌, codes, Option, Some, None, Ok}
+use Rattle.swc_ecma_parser_common.specs.declared.span.Span.{Span}
+use Rattle.swc_ecma_parser_error.specs.Kind as faults
+use Rattle.swc_ecma_parser_token.specs.declared.kind.TokenKind.{TokenKind}
+use Rattle.swc_ecma_parser_token.specs.declared.kind.TokenKind.TheVariants as kind
+use Rattle.swc_ecma_parser_token.specs.declared.token.Token.{Token}
+use Rattle.swc_ecma_parser_token.specs.declared.token.Token.TheVariants as token
+use Rattle.swc_ecma_parser_token.specs.declared.token.Word.TheVariants as word
+use Rattle.swc_ecma_parser_token.specs.declared.token.TokenAndSpan.{TokenAndSpan}
+use Rattle.swc_ecma_parser_input.specs.Place.{Place}
+use Rattle.swc_ecma_parser_model.specs.declared.leaves.VarDeclKind.TheVariants as decl
+use Rattle.swc_ecma_parser_model.specs.Tree as tree
+use Rattle.swc_ecma_parser_model.specs.Tree.{Tree, Text, listed}
+use Rattle.swc_ecma_parser_model.specs.Forms.{is_ident, is_ident_named, span_of}
+use Rattle.swc_ecma_parser_grammar.specs.declared.position.Position.{Position}
+use Rattle.swc_ecma_parser_grammar.specs.Looks.{kind_at, sees, span_at}
+use Rattle.swc_ecma_parser_grammar.specs.Names.{name_at}
+use Rattle.swc_ecma_parser_grammar.specs.Follows.{continues, may_begin_expression_statement}
+use Rattle.swc_ecma_parser_grammar.specs.Reads.{with_in, directed, nested_item, top_item}
+use Rattle.swc_ecma_parser_grammar.specs.Entries.{script_code}
+use Rattle.swc_ecma_parser_reader.specs.State.{Reader, ◌>>=◌, ◌>>◌, pure, here, skip, moved, spanned_from, coded, within, fault, fault_at, module_fault, wanted, too_deep, expect, end, name, Step, More, Done, loop}
+
+-- ---- expressions
+
+abbrev pub literal_of : Span → Token → Option Tree
+literal_of span (token.Str value raw) = Some (tree.str span value raw)
+literal_of span (token.Num raw) = Some (tree.num span raw)
+literal_of span (token.BigInt raw) = Some (tree.big_int span raw)
+literal_of span (token.Word word.Null) = Some (tree.null span)
+literal_of span (token.Word word.True) = Some (tree.bool span true)
+literal_of span (token.Word word.False) = Some (tree.bool span false)
+literal_of span _ = None
+
+abbrev pub literal_in : List TokenAndSpan → Option Tree
+literal_in [] = None
+literal_in (t ∷ ts) = literal_of t.span t.token
+
+abbrev pub taken : Option Tree → Reader (Option Tree)
+taken None = λ s. Ok (None, s)
+taken (Some x) = λ s. Ok (Some x, moved s)
+
+-- a literal, if one stands here
+unfoldable pub literal : Reader (Option Tree)
+literal = λ s. taken (literal_in s.at.left) s
+
+unfoldable pub ident_expr : Reader Tree
+ident_expr = do
+  i ← name faults.Unexpected
+  pure (tree.ident i.span i.sym)
+
+module _ (expr : Reader Tree) where
+  unfoldable pub paren : Reader Tree
+  paren = do
+    start ← here
+    skip
+    inner ← within with_in expr
+    expect kind.RParen
+    span ← spanned_from start
+    pure (tree.paren span inner)
+
+  abbrev pub paren_or_none : Reader Tree
+  paren_or_none = λ s. if sees kind.LParen s.at then paren s else wanted faults.Unexpected s
+
+  abbrev pub literal_or : Option Tree → Reader Tree
+  literal_or (Some x) = pure x
+  literal_or None = paren_or_none
+
+  unfoldable pub primary : Reader Tree
+  primary = λ s. if name_at s.code.flags s.at then ident_expr s else (literal >>= literal_or) s
+
+-- an expression that no token goes on with
+unfoldable pub closed : Tree → Reader Tree
+closed x = λ s. if continues s.code x s.at then wanted faults.Unexpected s else Ok (x, s)
+
+unfoldable pub whole_expr : Reader Tree → Reader Tree
+whole_expr expr = do
+  x ← primary expr
+  closed x
+
+-- an expression in so many levels
+unfoldable pub expr : ℕ → Reader Tree
+expr zero = too_deep
+expr (suc n) = whole_expr (expr n)
+
+-- ---- binding patterns
+
+unfoldable pub binding : Reader Tree
+binding = do
+  i ← name faults.ExpectedIdent
+  pure (tree.ident_pat i.span i.sym)
+
+unfoldable pub pat : ℕ → Reader Tree
+pat zero = too_deep
+pat (suc n) = binding
+
+-- ---- statements
+
+unfoldable pub empty : Reader Tree
+empty = do
+  start ← here
+  skip
+  span ← spanned_from start
+  pure (tree.empty span)
+
+unfoldable pub debugger : Reader Tree
+debugger = do
+  start ← here
+  skip
+  end faults.Expected
+  span ← spanned_from start
+  pure (tree.debugger span)
+
+module _ (pat : Reader Tree) where
+  -- a declarator; no initializer is read yet
+  unfoldable pub plain_declarator : Place → Tree → Reader Tree
+  plain_declarator start p = λ s. if sees kind.Assign s.at then wanted faults.Unexpected s else (do
+    span ← spanned_from start
+    pure (tree.declarator span p tree.absent)) s
+
+  unfoldable pub declarator : Reader Tree
+  declarator = do
+    start ← here
+    p ← pat
+    plain_declarator start p
+
+  unfoldable pub declarators_turn : List Tree → Reader (Step (List Tree) (List Tree))
+  declarators_turn found = do
+    x ← declarator
+    λ s. if sees kind.Comma s.at then Ok (More (found ++ x ∷ []), moved s) else Ok (Done (found ++ x ∷ []), s)
+
+  unfoldable pub declarators : Reader (List Tree)
+  declarators = loop declarators_turn []
+
+  unfoldable pub var : Reader Tree
+  var = do
+    start ← here
+    skip
+    found ← within with_in declarators
+    end faults.Unexpected
+    span ← spanned_from start
+    pure (tree.var span decl.Var (listed found))
+
+-- a block's statements end before `}` or at the end of the list
+unfoldable pub closes : Place → Bool
+closes c = sees kind.RBrace c || sees kind.End c
+
+unfoldable pub at_end : Place → Bool
+at_end c = sees kind.End c
+
+-- the `}`, or a fault where the list has ended
+unfoldable pub close : Reader (Unit {0})
+close = λ s. if sees kind.RBrace s.at then skip s else fault (fault_at (span_at s.at) faults.Expected) s
+
+-- whether a statement behind these can be a directive
+abbrev pub directs : Bool → List Tree → Bool
+directs directives [] = directives
+directs directives (x ∷ xs) = false
+
+abbrev pub after_item : Bool → List Tree → Tree → Reader (Step (List Tree) (List Tree))
+after_item directives found x = λ s. Ok (More (found ++ x ∷ []), coded (directed s.code (directs directives found) x) s)
+
+module _ (stmt : Reader Tree) where
+  unfoldable pub items_turn : (Place → Bool) → Bool → List Tree → Reader (Step (List Tree) (List Tree))
+  items_turn stops directives found = λ s. if stops s.at then Ok (Done found, s) else (stmt >>= after_item directives found) s
+
+  -- statements up to a place where they stop, in a body with directives or without
+  unfoldable pub items : (Place → Bool) → Bool → Reader (List Tree)
+  items stops directives = loop (items_turn stops directives) []
+
+  unfoldable pub block : Reader Tree
+  block = do
+    start ← here
+    skip
+    body ← items closes false
+    close
+    span ← spanned_from start
+    pure (tree.block span (listed body))
+
+-- the bare name `interface` is a fault in module code
+unfoldable pub note_statement : Tree → Reader (Unit {0})
+note_statement x = λ s. if is_ident_named (codes "interface") x then Ok (tt, module_fault (fault_at (span_of x) faults.InvalidIdentInStrict) s) else Ok (tt, s)
+
+module _ (expr : Reader Tree) where
+  -- a bare name before `:` is a label; none is read yet
+  unfoldable pub no_label : Tree → Reader (Unit {0})
+  no_label x = λ s. if is_ident x && sees kind.Colon s.at then wanted faults.Unexpected s else Ok (tt, s)
+
+  unfoldable pub expr_stmt : Reader Tree
+  expr_stmt = do
+    start ← here
+    x ← within with_in expr
+    no_label x
+    note_statement x
+    end faults.ExpectedSemiForExprStmt
+    span ← spanned_from start
+    pure (tree.expr_stmt span x)
+
+  unfoldable pub expr_stmt_at : Position → Reader Tree
+  expr_stmt_at at = λ s. if may_begin_expression_statement at s.at then expr_stmt s else wanted faults.Unexpected s
+
+module _ (stmt : Position → Reader Tree) (expr pat : Reader Tree) where
+  abbrev pub stmt_by : Position → TokenKind → Reader Tree
+  stmt_by at kind.LBrace = block (stmt nested_item)
+  stmt_by at kind.Semi = empty
+  stmt_by at kind.Debugger = debugger
+  stmt_by at kind.Var = var pat
+  stmt_by at _ = expr_stmt_at expr at
+
+  unfoldable pub stmt_level : Position → Reader Tree
+  stmt_level at = λ s. stmt_by at (kind_at s.at) s
+
+-- a statement in so many levels
+unfoldable pub stmt : ℕ → Position → Reader Tree
+stmt zero at = too_deep
+stmt (suc n) at = stmt_level (stmt n) (expr n) (pat n) at
+
+-- ---- a script
+
+abbrev pub shebang_of : Token → Option Text
+shebang_of (token.Shebang text) = Some text
+shebang_of _ = None
+
+abbrev pub shebang_in : List TokenAndSpan → Option Text
+shebang_in [] = None
+shebang_in (t ∷ ts) = shebang_of t.token
+
+abbrev pub shebang_taken : Option Text → Reader (Option Text)
+shebang_taken None = λ s. Ok (None, s)
+shebang_taken (Some text) = λ s. Ok (Some text, moved s)
+
+unfoldable pub shebang : Reader (Option Text)
+shebang = λ s. shebang_taken (shebang_in s.at.left) s
+
+unfoldable pub script_body : ℕ → Reader Tree
+script_body n = do
+  start ← here
+  first ← shebang
+  body ← items (stmt n top_item) at_end true
+  span ← spanned_from start
+  pure (tree.script span (listed body) first)
+
+unfoldable pub script : ℕ → Reader Tree
+script n = λ s. (do
+  x ← script_body n
+  λ t. Ok (x, coded (script_code s.code) t)) (coded (script_code s.code) s)

@@ -1,0 +1,211 @@
+-- What a reader reads from, and the steps that every rule is made of.
+use Rattle.std.specs.Prelude.{◌≡◌, ◌≢◌, ℕ, zero, suc, Bool, if◌then◌else◌, nat_lt, List, [], ◌∷◌, ◌++◌, length, Option, Some, Result, Ok, Err}
+use Rattle.swc_ecma_parser_common.specs.declared.span.Span.{Span}
+use Rattle.swc_ecma_parser_error.specs.declared.error.Error.{Error}
+use Rattle.swc_ecma_parser_error.specs.Kind as faults
+use Rattle.swc_ecma_parser_error.specs.Kind.{Kind, Fault, fault_of, kind_of}
+use Rattle.swc_ecma_parser_token.specs.declared.kind.TokenKind.{TokenKind}
+use Rattle.swc_ecma_parser_token.specs.declared.kind.TokenKind.TheVariants as kind
+use Rattle.swc_ecma_parser_token.specs.declared.token.Token.{Token}
+use Rattle.swc_ecma_parser_token.specs.declared.token.Token.TheVariants as token
+use Rattle.swc_ecma_parser_token.specs.declared.token.TokenAndSpan.{TokenAndSpan}
+use Rattle.swc_ecma_parser_token.specs.Text.{word_text}
+use Rattle.swc_ecma_parser_input.specs.TokenSource.{means_out_of_memory}
+use Rattle.swc_ecma_parser_input.specs.Place.{Place, after}
+use Rattle.swc_ecma_parser_model.specs.declared.leaves.Ident.{Ident}
+use Rattle.swc_ecma_parser_model.specs.Tree.{Text}
+use Rattle.swc_ecma_parser_grammar.specs.Looks.{sees, spanned}
+use Rattle.swc_ecma_parser_grammar.specs.Names.{Code, is_name}
+use Rattle.swc_ecma_parser_grammar.specs.Ends.{can_end}
+use Rattle.swc_ecma_parser_reader.specs.declared.mark.Mark.{Mark}
+use Rattle.swc_ecma_parser_reader.specs.declared.mark.Mark.TheVariants as mark
+
+-- the labels around, whether the code is known to be a module's, and the mark
+pub record Scope : Type 0 where
+  pub labels : List Text
+  pub found_module_item : Bool
+  pub mark : Option Mark
+
+pub record State : Type 0 where
+  pub at : Place
+  pub code : Code
+  pub scope : Scope
+  -- the faults recorded, and those held back until the code is a module's
+  pub faults : List Fault
+  pub held_back : List Fault
+
+-- ---- readers
+
+abbrev pub Outcome : Type 0 → Type 0
+Outcome A = Result (A × State) (Fault × State)
+
+abbrev pub Reader : Type 0 → Type 0
+Reader A = State → Outcome A
+
+abbrev pub and_then : {A B : Type 0} → Outcome A → (A → Reader B) → Outcome B
+and_then (Ok p) f = f p.0 p.1
+and_then (Err e) f = Err e
+
+infixl 10 ◌>>=◌
+abbrev pub ◌>>=◌ : {A B : Type 0} → Reader A → (A → Reader B) → Reader B
+p >>= f = λ s. and_then (p s) f
+
+infixl 10 ◌>>◌
+abbrev pub ◌>>◌ : {A B : Type 0} → Reader A → Reader B → Reader B
+p >> q = p >>= (λ _. q)
+
+abbrev pub pure : {A : Type 0} → A → Reader A
+pure a = λ s. Ok (a, s)
+
+infixr 11 ◌<$>◌
+abbrev pub ◌<$>◌ : {A B : Type 0} → (A → B) → Reader A → Reader B
+f <$> p = p >>= (λ x. pure (f x))
+
+-- ---- steps
+
+abbrev pub here : Reader Place
+here = λ s. Ok (s.at, s)
+
+abbrev pub moved : State → State
+moved s = record s { at = after s.at }
+
+abbrev pub skip : Reader (Unit {0})
+skip = λ s. Ok (tt, moved s)
+
+-- what was read since a place
+abbrev pub spanned_from : Place → Reader Span
+spanned_from c = λ s. Ok (spanned c s.at, s)
+
+abbrev pub coded : Code → State → State
+coded k s = record s { code = k }
+
+-- a reader under other code
+abbrev pub within : {A : Type 0} → (Code → Code) → Reader A → Reader A
+within change p = λ s. and_then (p (coded (change s.code) s)) (λ a t. Ok (a, coded s.code t))
+
+abbrev pub noted : Fault → State → State
+noted f s = record s { faults = s.faults ++ f ∷ [] }
+
+-- a fault that counts in module code alone
+abbrev pub module_fault : Fault → State → State
+module_fault f s = if s.code.flags.module then noted f s else record s { held_back = s.held_back ++ f ∷ [] }
+
+-- ---- recording: an error token that stands here is read and recorded first, and one for want of memory answered
+
+abbrev pub recorded_at : Fault → State → Token → Outcome (Unit {0})
+recorded_at f s (token.Error e) = if means_out_of_memory e.kind then Err (fault_of e, moved s) else Ok (tt, noted f (noted (fault_of e) (moved s)))
+recorded_at f s _ = Ok (tt, noted f s)
+
+abbrev pub recorded_in : Fault → State → List TokenAndSpan → Outcome (Unit {0})
+recorded_in f s [] = Ok (tt, noted f s)
+recorded_in f s (t ∷ ts) = recorded_at f s t.token
+
+unfoldable pub fault : Fault → Reader (Unit {0})
+fault f = λ s. recorded_in f s s.at.left
+
+-- ---- refusals
+
+abbrev pub fault_at : Span → Kind → Fault
+fault_at span kind = record { span = span; kind = kind }
+
+-- the end of what was read last
+abbrev pub end_of : Span → Span
+end_of span = record { lo = span.hi; hi = span.hi }
+
+-- a part that must stand here does not: at the end the kind is `Eof`, and an error token is read and its fault answered
+abbrev pub wanted_at : {A : Type 0} → Kind → State → Token → Span → Outcome A
+wanted_at kind s (token.Error e) span = Err (fault_of e, moved s)
+wanted_at kind s _ span = Err (fault_at span kind, s)
+
+abbrev pub wanted_in : {A : Type 0} → Kind → State → List TokenAndSpan → Outcome A
+wanted_in kind s [] = Err (fault_at (end_of s.at.last) faults.Eof, s)
+wanted_in kind s (t ∷ ts) = wanted_at kind s t.token t.span
+
+unfoldable pub wanted : {A : Type 0} → Kind → Reader A
+wanted kind = λ s. wanted_in kind s s.at.left
+
+-- what would stand deeper than the limit; the state is marked
+abbrev pub marked : Mark → State → State
+marked m s = record s { scope = record s.scope { mark = Some m } }
+
+abbrev pub too_deep_at : {A : Type 0} → State → Token → Span → Outcome A
+too_deep_at s (token.Error e) span = Err (fault_of e, moved s)
+too_deep_at s _ span = Err (fault_at span faults.TooDeep, marked mark.TooDeep s)
+
+abbrev pub too_deep_in : {A : Type 0} → State → List TokenAndSpan → Outcome A
+too_deep_in s [] = Err (fault_at (end_of s.at.last) faults.Eof, s)
+too_deep_in s (t ∷ ts) = too_deep_at s t.token t.span
+
+unfoldable pub too_deep : {A : Type 0} → Reader A
+too_deep = λ s. too_deep_in s s.at.left
+
+-- the parser's own refusal of what stands here; an error token is read and recorded
+abbrev pub refused : {A : Type 0} → Fault → Outcome (Unit {0}) → Outcome A
+refused f (Ok p) = Err (f, p.1)
+refused f (Err e) = Err e
+
+abbrev pub refuse_at : {A : Type 0} → Kind → State → Token → Span → Outcome A
+refuse_at kind s (token.Error e) span = if means_out_of_memory e.kind then Err (fault_of e, moved s) else refused (fault_at span kind) (fault (fault_of e) (moved s))
+refuse_at kind s _ span = Err (fault_at span kind, s)
+
+abbrev pub refuse_in : {A : Type 0} → Kind → State → List TokenAndSpan → Outcome A
+refuse_in kind s [] = Err (fault_at s.at.last kind, s)
+refuse_in kind s (t ∷ ts) = refuse_at kind s t.token t.span
+
+unfoldable pub refuse : {A : Type 0} → Kind → Reader A
+refuse kind = λ s. refuse_in kind s s.at.left
+
+-- ---- fixed tokens, ends and names
+
+unfoldable pub expect : TokenKind → Reader (Unit {0})
+expect k = λ s. if sees k s.at then Ok (tt, moved s) else refuse faults.Expected s
+
+-- the end of a statement
+unfoldable pub end : Kind → Reader (Unit {0})
+end missing = λ s. if sees kind.Semi s.at then Ok (tt, moved s) else (if can_end s.at then Ok (tt, s) else refuse missing s)
+
+abbrev pub name_by : Kind → State → Token → Span → Outcome Ident
+name_by kind s (token.Word w) span = if is_name s.code.flags (word_text w) then Ok (record { span = span; sym = word_text w }, moved s) else wanted kind s
+name_by kind s _ span = wanted kind s
+
+abbrev pub name_in : Kind → State → List TokenAndSpan → Outcome Ident
+name_in kind s [] = wanted kind s
+name_in kind s (t ∷ ts) = name_by kind s t.token t.span
+
+unfoldable pub name : Kind → Reader Ident
+name kind = λ s. name_in kind s s.at.left
+
+-- ---- loops, each turn of which takes a token
+
+pub data Step (A B : Type 0) : Type 0 where
+  More : A → Step A B
+  Done : B → Step A B
+
+-- what no turn comes to
+abbrev pub stuck : {A : Type 0} → Reader A
+stuck = λ s. Err (fault_at s.at.last faults.OutOfMemory, s)
+
+abbrev pub next_turn : {A B : Type 0} → (A → Reader B) → ℕ → State → Step A B → Outcome B
+next_turn go before s (More a) = if nat_lt (length s.at.left) before then go a s else stuck s
+next_turn go before s (Done b) = Ok (b, s)
+
+abbrev pub after_turn : {A B : Type 0} → (A → Reader B) → ℕ → Outcome (Step A B) → Outcome B
+after_turn go before (Ok p) = next_turn go before p.1 p.0
+after_turn go before (Err e) = Err e
+
+abbrev pub turns : {A B : Type 0} → (A → Reader (Step A B)) → ℕ → A → Reader B
+turns body zero a = stuck
+turns body (suc n) a = λ s. after_turn (turns body n) (length s.at.left) (body a s)
+
+unfoldable pub loop : {A B : Type 0} → (A → Reader (Step A B)) → A → Reader B
+loop body a = λ s. turns body (suc (length s.at.left)) a s
+
+-- ---- what a function that reads ensures: the reader's outcome, unless memory ran out
+
+abbrev pub GivesAs : {A B : Type 0} → (A → B) → Outcome B → Result A Error → State → Type 0
+GivesAs view outcome (Ok a) new = outcome ≡ Ok (view a, new)
+GivesAs view outcome (Err e) new = kind_of e.kind ≢ faults.OutOfMemory → outcome ≡ Err (fault_of e, new)
+
+abbrev pub Gives : {A : Type 0} → Outcome A → Result A Error → State → Type 0
+Gives outcome (Ok a) new = outcome ≡ Ok (a, new)
+Gives outcome (Err e) new = kind_of e.kind ≢ faults.OutOfMemory → outcome ≡ Err (fault_of e, new)
