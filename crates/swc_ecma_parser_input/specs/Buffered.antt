@@ -1,10 +1,11 @@
 -- A source behind its buffer: the place that it has come to, and what the source keeps.
-use Rattle.std.specs.Prelude.{List}
+use Rattle.std.specs.Prelude.{if◌then◌else◌, List, [], ◌∷◌, ◌++◌, drop}
 use Rattle.swc_ecma_parser_common.specs.declared.span.BytePos.{BytePos}
 use Rattle.swc_ecma_parser_error.specs.declared.error.Error.{Error}
 use Rattle.swc_ecma_parser_input.specs.declared.context.Context.{Context}
 use Rattle.swc_ecma_parser_input.specs.declared.syntax.Syntax.{Syntax}
-use Rattle.swc_ecma_parser_input.specs.Place.{Place}
+use Rattle.swc_ecma_parser_input.specs.Place.{Place, outset}
+use Rattle.swc_ecma_parser_input.specs.TokenSource.{TokenSource}
 
 pub record Buffered : Type 0 where
   pub place : Place
@@ -13,3 +14,41 @@ pub record Buffered : Type 0 where
   pub start : BytePos
   pub recorded : List Error
   pub held_back : List Error
+
+-- a source at a place
+abbrev pub placed : Place → TokenSource → Buffered
+placed p s = record {
+  place = p;
+  context = s.context;
+  syntax = s.syntax;
+  start = s.start;
+  recorded = s.recorded;
+  held_back = s.held_back;
+}
+
+-- a source before anything was read
+abbrev pub opened : TokenSource → Buffered
+opened s = placed (outset s.start s.left) s
+
+-- the source behind the buffer, which holds the first two tokens
+abbrev pub behind : Buffered → TokenSource
+behind b = record {
+  left = drop 2 b.place.left;
+  context = b.context;
+  syntax = b.syntax;
+  start = b.start;
+  recorded = b.recorded;
+  held_back = b.held_back;
+}
+
+abbrev pub recording : Error → Buffered → Buffered
+recording e b = record b { recorded = b.recorded ++ e ∷ [] }
+
+abbrev pub holding_back : Error → Buffered → Buffered
+holding_back e b = if b.context.module then recording e b else record b { held_back = b.held_back ++ e ∷ [] }
+
+abbrev pub released : Buffered → Buffered
+released b = record b { recorded = b.recorded ++ b.held_back; held_back = [] }
+
+abbrev pub with_context : Context → Buffered → Buffered
+with_context c b = if c.module then record (released b) { context = c } else record b { context = c }

@@ -1,10 +1,11 @@
 ghost use Rattle.std.specs.Prelude.{◌≡◌, ◌++◌, ◌∷◌, [], IfOk, IfErr, OnOk, OnErr};
+ghost use Rattle.swc_ecma_parser_input.specs.TokenSource as source;
 
 use crate::context::Context;
 use crate::syntax::Syntax;
 use swc_ecma_parser_common::BytePos;
-use swc_ecma_parser_error::{Error, PResult};
-use swc_ecma_parser_token::TokenAndSpan;
+use swc_ecma_parser_error::{Error, PResult, SyntaxError};
+use swc_ecma_parser_token::{Token, TokenAndSpan};
 
 /// A source of a finite list of tokens. It keeps the context that was set last and two lists of faults: those recorded,
 /// and those that count in module code alone, which are held back until the code is known to be a module's.
@@ -60,4 +61,15 @@ pub trait Tokens: Drop {
 
     /// Each token starts at or after the end of the one before it, and ends at or after its own start.
     ghost ordered: { (s : Self) → IsTrue (source.is_ordered (seen s)) };
+}
+
+/// Whether it is an error token of kind `OutOfMemory`, which stands in the place of a token for which there was no
+/// memory.
+pub fn is_out_of_memory(token: &Token) -> bool
+    ensures { result ≡ source.is_out_of_memory token.now }
+{
+    match token {
+        Token::Error(error) => matches!(error.kind, SyntaxError::OutOfMemory),
+        _ => false,
+    }
 }

@@ -1,3 +1,7 @@
 pub mod Tree
 pub mod Directive
 pub mod Forms
+pub mod Kinds
+pub mod Code
+pub mod Same
+pub mod Held

@@ -5,6 +5,7 @@ use Rattle.swc_ecma_parser_token.specs.declared.kind.TokenKind.TheVariants as ki
 use Rattle.swc_ecma_parser_input.specs.Place.{Place}
 use Rattle.swc_ecma_parser_model.specs.Tree.{Tree}
 use Rattle.swc_ecma_parser_grammar.specs.Looks.{kind_at}
+use Rattle.swc_ecma_parser_grammar.specs.Names.{Code}
 use Rattle.swc_ecma_parser_grammar.specs.Entries.{ReadsScript, script_code, has_error_token}
 use Rattle.swc_ecma_parser_grammar.specs.Notes.{notes}
 use Rattle.swc_ecma_parser_grammar.specs.Walk.{walk, env_of, tabled, drops}
@@ -28,3 +29,7 @@ pub record SoundScript (limit : ℕ) (s : State) (x : Tree) (t : State) : Type 0
   pub faults : t.faults ≡ s.faults ++ added
   pub reads : added ≡ [] → ReadsScript limit s.code x s.at t.at
   pub walked : has_error_token s.at.left ≡ false → drops added ≡ false → tabled added ≡ script_walk s x
+
+-- at most one tree within a limit spells a list, and it ends in one place
+abbrev pub IsOneScript : Type 0
+IsOneScript = (limit : ℕ) (k : Code) (x y : Tree) (c d e : Place) → ReadsScript limit k x c d → ReadsScript limit k y c e → (x ≡ y) × (d ≡ e)

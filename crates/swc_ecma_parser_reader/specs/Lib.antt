@@ -1,3 +1,4 @@
 pub mod State
 pub mod Reader
 pub mod Entry
+pub mod Limits

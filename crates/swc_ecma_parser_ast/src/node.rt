@@ -1,0 +1,145 @@
+//! `Node` holds what is on a way from a tree back to a tree: a boxed expression, or a list of statements.
+//! A handle such as `ExprBox` says which of them a node holds.
+
+ghost use Rattle.std.specs.Prelude.{◌≡◌, false, IfOk, MatchOption, map};
+ghost use Rattle.swc_ecma_parser_model.specs.Tree.{listed};
+ghost use Rattle.swc_ecma_parser_model.specs.Kinds.{is_expr, is_list};
+ghost use Rattle.swc_ecma_parser_ast.specs.View.{view_expr, view_stmt};
+
+use crate::expr::Expr;
+use crate::stmt::Stmt;
+use std::alloc::{AllocError, Global};
+use std::marker::Model;
+
+/// A boxed expression.
+#[derive(Debug, PartialEq, Eq, Drop)]
+pub struct ExprBox<N = Node> {
+    node: N,
+}
+
+/// A list of statements.
+#[derive(Debug, PartialEq, Eq, Drop)]
+pub struct StmtList<N = Node> {
+    node: N,
+}
+
+/// What a node may hold.
+#[cycle(ast)]
+#[derive(Debug, PartialEq, Drop)]
+pub enum Any {
+    Expr(Box<Expr<Node>>),
+    Stmts(Vec<Stmt<Node>>),
+}
+
+/// A part of a tree, of any kind. Contracts see it as the model's tree.
+#[cycle(ast)]
+#[derive(Debug, Drop)]
+pub struct Node {
+    inner: Any,
+}
+
+impl Model for Node {
+    ghost use Rattle.swc_ecma_parser_model.specs.Code.{tree_size};
+    ghost use Rattle.swc_ecma_parser_model.specs.Held.{Held, coded_held};
+
+    ghost Value = { Held };
+
+    ghost coded = { coded_held };
+
+    ghost use Rattle.swc_ecma_parser_ast.specs.View.{view_any};
+
+    ghost view = { λ b. view_any b.inner };
+
+    ghost size = { λ h. tree_size h.tree };
+
+    ghost use Rattle.swc_ecma_parser_ast.specs.Falls.{le_any};
+
+    ghost size_decreases = { λ a h. le_any a.inner };
+}
+
+impl PartialEq for Node {
+    ghost use Rattle.swc_ecma_parser_model.specs.Held.{same_held, same_held_laws};
+
+    ghost eq = { same_held };
+
+    ghost laws = { same_held_laws };
+
+    #[cycle(ast)]
+    fn eq(&self, other: &Node) -> bool {
+        self.inner == other.inner
+    }
+}
+
+impl Eq for Node {
+    ghost use Rattle.swc_ecma_parser_model.specs.Held.{same_held_equivalence};
+
+    ghost laws = { same_held_equivalence };
+}
+
+impl ExprBox<Node> {
+    /// A handle of an expression; it fails only where memory runs out.
+    pub fn new(alloc: Global, value: Expr<Node>) -> Result<ExprBox<Node>, AllocError>
+        ensures { IfOk result (λ b. b.node.tree ≡ view_expr value) }
+    {
+        let inner = Any::Expr(Box::new(alloc, value)?);
+        Ok(ExprBox {
+            node: Node { inner },
+        })
+    }
+
+    /// The expression; none only of a handle that no function of this crate makes.
+    pub fn get(&self) -> Option<&Expr<Node>>
+        ensures { MatchOption result (is_expr self.now.node.tree ≡ false) (λ e. view_expr e.now ≡ self.now.node.tree) }
+    {
+        match &self.node.inner {
+            Any::Expr(e) => Some(e),
+            _ => None,
+        }
+    }
+
+    /// The expression itself, in place of the handle.
+    pub fn into_inner(self) -> Option<Expr<Node>>
+        ensures { MatchOption result (is_expr self.node.tree ≡ false) (λ e. view_expr e ≡ self.node.tree) }
+    {
+        let ExprBox { node } = self;
+        let Node { inner } = node;
+        match inner {
+            Any::Expr(e) => Some(Box::into_inner(e)),
+            _ => None,
+        }
+    }
+}
+
+impl StmtList<Node> {
+    /// A handle of a list of statements.
+    pub fn new(stmts: Vec<Stmt<Node>>) -> StmtList<Node>
+        ensures { result.node.tree ≡ listed (map view_stmt stmts.items) }
+    {
+        let inner = Any::Stmts(stmts);
+        StmtList {
+            node: Node { inner },
+        }
+    }
+
+    /// The statements; none only of a handle that no function of this crate makes.
+    pub fn get(&self) -> Option<&Vec<Stmt<Node>>>
+        ensures { MatchOption result (is_list self.now.node.tree ≡ false) (λ xs. listed (map view_stmt xs.now.items) ≡ self.now.node.tree) }
+    {
+        match &self.node.inner {
+            Any::Stmts(xs) => Some(xs),
+            _ => None,
+        }
+    }
+
+    /// The statements themselves, in place of the handle.
+    pub fn into_inner(self) -> Option<Vec<Stmt<Node>>>
+        ensures { MatchOption result (is_list self.node.tree ≡ false) (λ xs. listed (map view_stmt xs.items) ≡ self.node.tree) }
+    {
+        let StmtList { node } = self;
+        let Node { inner } = node;
+        match inner {
+            Any::Stmts(xs) => Some(xs),
+            _ => None,
+        }
+    }
+}

@@ -1,0 +1,165 @@
+//! The tree of `swc_ecma_parser_ast` as one that rules can make.
+#![tactic(auto)]
+
+ghost use Rattle.std.specs.Prelude.{◌≡◌, IfOk, map};
+ghost use Rattle.swc_ecma_parser_ast.specs.View.{view_expr, view_pat, view_declarator, view_stmt, view_script};
+
+use std::alloc::{AllocError, Global};
+use swc_ecma_parser_ast::{
+    Atom, BigInt, BindingIdent, BlockStmt, Bool, DebuggerStmt, Decl, EmptyStmt, Expr, ExprBox,
+    ExprStmt, Ident, Lit, Null, Number, ParenExpr, Pat, Script, Span, Spanned, Stmt, StmtList, Str,
+    VarDecl, VarDeclKind, VarDeclarator,
+};
+use swc_ecma_parser_trees::{BuildsExpr, BuildsPat, BuildsStmt, Trees};
+
+/// The trees of `swc_ecma_parser_ast`.
+pub struct Ast;
+
+impl Trees for Ast {
+    type Expr = Expr;
+
+    type Pat = Pat;
+
+    type Declarator = VarDeclarator;
+
+    type Stmt = Stmt;
+
+    type Script = Script;
+
+    ghost expr_of = { view_expr };
+
+    ghost pat_of = { view_pat };
+
+    ghost declarator_of = { view_declarator };
+
+    ghost stmt_of = { view_stmt };
+
+    ghost script_of = { view_script };
+
+    fn is_use_strict(stmt: &Stmt) -> bool {
+        stmt.is_use_strict()
+    }
+
+    fn expr_span(expr: &Expr) -> Span {
+        expr.span()
+    }
+
+    fn is_ident(expr: &Expr) -> bool {
+        match expr {
+            Expr::Ident(_) => true,
+            _ => false,
+        }
+    }
+
+    fn is_ident_named(expr: &Expr, name: &str) -> bool {
+        match expr {
+            Expr::Ident(ident) => ident.sym.as_str() == name,
+            _ => false,
+        }
+    }
+
+    fn is_paren(expr: &Expr) -> bool {
+        match expr {
+            Expr::Paren(_) => true,
+            _ => false,
+        }
+    }
+}
+
+impl BuildsExpr for Ast {
+    fn ident(alloc: Global, ident: Ident) -> Result<Expr, AllocError> {
+        Ok(Expr::Ident(ident))
+    }
+
+    fn str(alloc: Global, str: Str) -> Result<Expr, AllocError> {
+        Ok(Expr::Lit(Lit::Str(str)))
+    }
+
+    fn bool(alloc: Global, bool: Bool) -> Result<Expr, AllocError> {
+        Ok(Expr::Lit(Lit::Bool(bool)))
+    }
+
+    fn null(alloc: Global, null: Null) -> Result<Expr, AllocError> {
+        Ok(Expr::Lit(Lit::Null(null)))
+    }
+
+    fn num(alloc: Global, num: Number) -> Result<Expr, AllocError> {
+        Ok(Expr::Lit(Lit::Num(num)))
+    }
+
+    fn big_int(alloc: Global, big_int: BigInt) -> Result<Expr, AllocError> {
+        Ok(Expr::Lit(Lit::BigInt(big_int)))
+    }
+
+    fn paren(alloc: Global, span: Span, expr: Expr) -> Result<Expr, AllocError> {
+        let expr = ExprBox::new(alloc, expr)?;
+        Ok(Expr::Paren(ParenExpr { span, expr }))
+    }
+}
+
+impl BuildsPat for Ast {
+    fn ident_pat(alloc: Global, ident: Ident) -> Result<Pat, AllocError> {
+        Ok(Pat::Ident(BindingIdent { id: ident }))
+    }
+}
+
+impl BuildsStmt for Ast {
+    ghost use Rattle.swc_ecma_parser_model.specs.Tree as tree;
+    ghost use Rattle.swc_ecma_parser_trees.specs.Parts as parts;
+
+    fn declarator(
+        alloc: Global,
+        span: Span,
+        name: Pat,
+        init: Option<Expr>,
+    ) -> Result<VarDeclarator, AllocError>
+        ensures { IfOk result (λ x. view_declarator x ≡ tree.declarator span (view_pat name) (parts.part_of view_expr init)) }
+    {
+        let init = match init {
+            Some(expr) => Some(ExprBox::new(alloc, expr)?),
+            None => None,
+        };
+        Ok(VarDeclarator { span, name, init })
+    }
+
+    fn var(
+        alloc: Global,
+        span: Span,
+        kind: VarDeclKind,
+        decls: Vec<VarDeclarator>,
+    ) -> Result<Stmt, AllocError>
+        ensures { IfOk result (λ x. view_stmt x ≡ tree.var span kind (tree.listed (map view_declarator decls.items))) }
+    {
+        Ok(Stmt::Decl(Decl::Var(VarDecl { span, kind, decls })))
+    }
+
+    fn block(alloc: Global, span: Span, stmts: Vec<Stmt>) -> Result<Stmt, AllocError>
+        ensures { IfOk result (λ x. view_stmt x ≡ tree.block span (tree.listed (map view_stmt stmts.items))) }
+    {
+        let stmts = StmtList::new(stmts);
+        Ok(Stmt::Block(BlockStmt { span, stmts }))
+    }
+
+    fn empty(alloc: Global, span: Span) -> Result<Stmt, AllocError> {
+        Ok(Stmt::Empty(EmptyStmt { span }))
+    }
+
+    fn debugger(alloc: Global, span: Span) -> Result<Stmt, AllocError> {
+        Ok(Stmt::Debugger(DebuggerStmt { span }))
+    }
+
+    fn expr_stmt(alloc: Global, span: Span, expr: Expr) -> Result<Stmt, AllocError> {
+        let expr = ExprBox::new(alloc, expr)?;
+        Ok(Stmt::Expr(ExprStmt { span, expr }))
+    }
+
+    fn script(span: Span, body: Vec<Stmt>, shebang: Option<Atom>) -> Script
+        ensures { view_script result ≡ tree.script span (tree.listed (map view_stmt body.items)) shebang }
+    {
+        Script {
+            span,
+            body,
+            shebang,
+        }
+    }
+}

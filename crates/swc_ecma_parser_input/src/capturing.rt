@@ -1,0 +1,152 @@
+//! A source of tokens that keeps copies of what it hands out.
+
+ghost use Rattle.std.specs.Prelude.{◌≡◌, [], ◌∷◌, ◌++◌, IfOk, IfErr, OnOk, OnErr};
+ghost use Rattle.swc_ecma_parser_error.specs.Kind.{IsOutOfMemory};
+ghost use Rattle.swc_ecma_parser_input.specs.TokenSource as source;
+ghost use Rattle.swc_ecma_parser_input.specs.Captured as captured;
+
+use crate::context::Context;
+use crate::faults::out_of_memory;
+use crate::syntax::Syntax;
+use crate::tokens::{Tokens, is_out_of_memory};
+use crate::tokens_input::copies;
+use std::alloc::{AllocError, Global};
+use std::marker::Model;
+use std::mem;
+use swc_ecma_parser_common::BytePos;
+use swc_ecma_parser_error::{Error, PResult};
+use swc_ecma_parser_token::{Token, TokenAndSpan};
+
+/// A source of tokens that keeps copies of what it hands out. Error tokens of kind `OutOfMemory` are not kept; one of
+/// them stands also in the place of a token that could not be copied.
+#[derive(Drop)]
+pub struct Capturing<I: Tokens> {
+    input: I,
+    copies: Vec<TokenAndSpan>,
+}
+
+impl<I: Tokens> Model for Capturing<I> {
+    ghost use Rattle.swc_ecma_parser_input.specs.Captured.{Captured};
+
+    ghost Value = { Captured I };
+
+    ghost use Rattle.std.specs.Coded.{code_by, coded×, coded_list};
+    ghost use Rattle.std.specs.Prelude.{List, refl};
+    ghost use Rattle.swc_ecma_parser_token.specs.declared.token.TokenAndSpan.{TokenAndSpan};
+    ghost use Rattle.swc_ecma_parser_token.specs.contracts.token.TokenAndSpan as token;
+
+    ghost coded = { code_by (I × List TokenAndSpan) (coded× I.code (coded_list token.the_row.coded)) (λ e. (e.input, e.copies)) (λ p. record { input = p.0; copies = p.1 }) (λ _. refl) };
+
+    ghost view = { λ c. record { input = c.input; copies = c.copies.items } };
+}
+
+impl<I: Tokens> Capturing<I> {
+    /// A source that gives what `input` does. It takes no memory; `alloc` is for the copies.
+    pub fn new(alloc: Global, input: I) -> Capturing<I>
+        ensures { result ≡ record { input = input; copies = [] } }
+    {
+        Capturing {
+            input,
+            copies: Vec::new(alloc),
+        }
+    }
+
+    /// Hands out the copies, in order, and keeps none of them. It takes no memory.
+    pub fn take(&mut self) -> Vec<TokenAndSpan>
+        ensures copies { result.items ≡ self.old.copies }
+        ensures source { self.new ≡ record self.old { copies = [] } }
+    {
+        let alloc = *self.copies.allocator();
+        mem::replace(&mut self.copies, Vec::new(alloc))
+    }
+
+    /// Keeps a copy, or changes nothing where memory runs out.
+    fn keep(&mut self, token: &TokenAndSpan) -> Result<(), AllocError>
+        ensures ok { OnOk result (self.new ≡ record self.old { copies = self.old.copies ++ token.now ∷ [] }) }
+        ensures err { OnErr result (self.new ≡ self.old) }
+    {
+        match token.try_clone() {
+            Ok(copy) => Ok(self.copies.push(copy)?),
+            Err(_) => Err(AllocError),
+        }
+    }
+}
+
+impl<I: Tokens> Tokens for Capturing<I> {
+    ghost seen = { λ c. I.seen c.input };
+
+    fn next(&mut self) -> Option<TokenAndSpan>
+        ensures draws { source.Draws (I.seen self.old.input) result (I.seen self.new.input) }
+        ensures copies { self.new.copies ≡ self.old.copies ++ captured.kept result }
+    {
+        let token = self.input.next()?;
+        if is_out_of_memory(&token.token) {
+            return Some(token);
+        }
+        match self.keep(&token) {
+            Ok(()) => Some(token),
+            Err(AllocError) => Some(TokenAndSpan {
+                token: Token::Error(out_of_memory(token.span)),
+                had_line_break: token.had_line_break,
+                span: token.span,
+            }),
+        }
+    }
+
+    fn set_ctx(&mut self, context: Context)
+        ensures source { I.seen self.new.input ≡ source.with_context context (I.seen self.old.input) }
+        ensures copies { self.new.copies ≡ self.old.copies }
+    {
+        self.input.set_ctx(context);
+    }
+
+    fn ctx(&self) -> Context {
+        self.input.ctx()
+    }
+
+    fn syntax(&self) -> Syntax {
+        self.input.syntax()
+    }
+
+    fn start_pos(&self) -> BytePos {
+        self.input.start_pos()
+    }
+
+    fn add_error(&mut self, error: Error) -> PResult<()>
+        ensures ok { OnOk result (I.seen self.new.input ≡ source.recording error (I.seen self.old.input)) }
+        ensures err { IfErr result (λ e. IsOutOfMemory e × (I.seen self.new.input ≡ I.seen self.old.input)) }
+        ensures copies { self.new.copies ≡ self.old.copies }
+    {
+        self.input.add_error(error)
+    }
+
+    fn add_module_mode_error(&mut self, error: Error) -> PResult<()>
+        ensures ok { OnOk result (I.seen self.new.input ≡ source.holding_back error (I.seen self.old.input)) }
+        ensures err { IfErr result (λ e. IsOutOfMemory e × (I.seen self.new.input ≡ I.seen self.old.input)) }
+        ensures copies { self.new.copies ≡ self.old.copies }
+    {
+        self.input.add_module_mode_error(error)
+    }
+
+    fn take_errors(&mut self) -> Vec<Error>
+        ensures errors { result.items ≡ (I.seen self.old.input).recorded }
+        ensures source { I.seen self.new.input ≡ record (I.seen self.old.input) { recorded = [] } }
+        ensures copies { self.new.copies ≡ self.old.copies }
+    {
+        self.input.take_errors()
+    }
+
+    fn try_clone(&self) -> PResult<Capturing<I>>
+        ensures ok { IfOk result (λ it. I.seen it.input ≡ I.seen self.now.input) }
+        ensures copies { IfOk result (λ it. it.copies ≡ self.now.copies) }
+        ensures err { IfErr result IsOutOfMemory }
+    {
+        let alloc = *self.copies.allocator();
+        Ok(Capturing {
+            input: self.input.try_clone()?,
+            copies: copies(alloc, &self.copies)?,
+        })
+    }
+
+    ghost ordered = { λ c. I.ordered c.input };
+}

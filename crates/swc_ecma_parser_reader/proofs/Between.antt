@@ -1,0 +1,182 @@
+-- What is read between two states: the scope and the code stay as said, faults and notes are added, and where no fault is
+-- added the grammar has it.
+use Rattle.std.proofs.Common.{◌≡◌, Bool, true, false, cond, List, [], ◌∷◌, ◌++◌, refl, sym, ◌∙◌, ap, subst, append_assoc, append-nil}
+use Rattle.std.specs.Prelude.{◌||◌}
+use Rattle.swc_ecma_parser_error.specs.Kind.{Fault}
+use Rattle.swc_ecma_parser_token.specs.declared.kind.TokenKind.TheVariants as kind
+use Rattle.swc_ecma_parser_token.specs.declared.token.TokenAndSpan.{TokenAndSpan}
+use Rattle.swc_ecma_parser_token.specs.Kind.{token_kind}
+use Rattle.swc_ecma_parser_input.specs.Place.{Place, after, past}
+use Rattle.swc_ecma_parser_model.specs.Tree.{Text}
+use Rattle.swc_ecma_parser_grammar.specs.Looks.{same_kind}
+use Rattle.swc_ecma_parser_grammar.specs.Names.{Code}
+use Rattle.swc_ecma_parser_grammar.specs.Entries.{has_error_token}
+use Rattle.swc_ecma_parser_grammar.specs.Walk.{is_tabled, is_dropping, tabled, drops}
+use Rattle.swc_ecma_parser_reader.specs.State.{State, Reader, moved, coded, within}
+use Rattle.swc_ecma_parser_reader.proofs.Meets.{Meets, meets_then}
+
+-- ---- lists of faults
+
+pub tabled-append : (es fs : List Fault) → tabled (es ++ fs) ≡ tabled es ++ tabled fs
+tabled-append [] fs = refl
+tabled-append (e ∷ es) fs = by_kind (is_tabled e.kind) (tabled-append es fs)
+  where
+    by_kind : (b : Bool) → tabled (es ++ fs) ≡ tabled es ++ tabled fs
+        → cond b (e ∷ tabled (es ++ fs)) (tabled (es ++ fs)) ≡ cond b (e ∷ tabled es) (tabled es) ++ tabled fs
+    by_kind true h = ap (λ z. e ∷ z) h
+    by_kind false h = h
+
+pub drops-split : (es fs : List Fault) → drops (es ++ fs) ≡ false → (drops es ≡ false) × (drops fs ≡ false)
+drops-split [] fs h = (refl, h)
+drops-split (e ∷ es) fs h = by_kind (is_dropping e.kind) (λ k. drops-split es fs k) h
+  where
+    by_kind : (b : Bool) → (drops (es ++ fs) ≡ false → (drops es ≡ false) × (drops fs ≡ false)) → cond b true (drops (es ++ fs)) ≡ false
+        → (cond b true (drops es) ≡ false) × (drops fs ≡ false)
+    by_kind true f h = (cc, cc)
+    by_kind false f h = f h
+
+pub nil-split : {A : Type 0} (xs ys : List A) → xs ++ ys ≡ [] → (xs ≡ []) × (ys ≡ [])
+nil-split [] ys e = (refl, e)
+nil-split (x ∷ xs) ys e = (cc, cc)
+
+pub some_fault : {X : Type 0} (e : Fault) (es : List Fault) → e ∷ es ≡ [] → X
+some_fault e es h = cc
+
+-- ---- no error token is ahead of what has none behind
+
+or_right : (a b : Bool) → (a || b) ≡ false → b ≡ false
+or_right true b h = cc
+or_right false b h = h
+
+past_keeps : (c : Place) (ts : List TokenAndSpan) → c.left ≡ ts → has_error_token c.left ≡ false → has_error_token (past c ts).left ≡ false
+past_keeps c [] e h = h
+past_keeps c (t ∷ ts) e h = or_right (same_kind (token_kind t.token) kind.Error) (has_error_token ts) (sym (ap has_error_token e) ∙ h)
+
+pub after_keeps : (c : Place) → has_error_token c.left ≡ false → has_error_token (after c).left ≡ false
+unfolding after
+after_keeps c h = past_keeps c c.left refl h
+
+-- ---- the record
+
+-- faults by the code and the labels around
+abbrev pub Walk : Type 0
+Walk = Code → List Text → List Fault
+
+abbrev pub no_faults : Walk
+no_faults k labels = []
+
+-- the code stays
+abbrev pub same : Code → Code
+same k = k
+
+pub record Sound (next : Code → Code) (w : Walk) (ns : List Fault) (P : Code → Place → Place → Type 0) (s t : State) : Type 0 where
+  pub code : t.code ≡ next s.code
+  pub scope : t.scope ≡ s.scope
+  pub added : List Fault
+  pub faults : t.faults ≡ s.faults ++ added
+  pub held_back : added ≡ [] → t.held_back ≡ s.held_back ++ ns
+  pub walked : has_error_token s.at.left ≡ false → drops added ≡ false → tabled added ≡ w s.code s.scope.labels
+  pub keeps : has_error_token s.at.left ≡ false → has_error_token t.at.left ≡ false
+  pub reads : added ≡ [] → P s.code s.at t.at
+
+-- one behind another
+pub sound_then : {f g : Code → Code} {w v : Walk} {ns ms : List Fault} {P Q : Code → Place → Place → Type 0} {s m t : State} → Sound f w ns P s m → Sound g v ms Q m t
+    → Sound (λ k. g (f k)) (λ k l. w k l ++ v (f k) l) (ns ++ ms) (λ k c d. (i : Place) × P k c i × Q (f k) i d) s t
+sound_then {f = f} {g = g} {w = w} {v = v} {ns = ns} {ms = ms} {Q = Q} {s = s} {m = m} {t = t} p q = record {
+  code = q.code ∙ ap g p.code;
+  scope = q.scope ∙ p.scope;
+  added = p.added ++ q.added;
+  faults = q.faults ∙ ap (λ z. z ++ q.added) p.faults ∙ append_assoc s.faults p.added q.added;
+  held_back = λ e. let h = nil-split p.added q.added e in q.held_back h.1 ∙ ap (λ z. z ++ ms) (p.held_back h.0) ∙ append_assoc s.held_back ns ms;
+  walked = λ h d. let e = drops-split p.added q.added d in
+      tabled-append p.added q.added ∙ ap (λ z. z ++ tabled q.added) (p.walked h e.0)
+      ∙ ap (λ z. w s.code s.scope.labels ++ z) (q.walked (p.keeps h) e.1 ∙ ap (λ z. v z m.scope.labels) p.code ∙ ap (λ z. v (f s.code) z.labels) p.scope);
+  keeps = λ h. q.keeps (p.keeps h);
+  reads = λ e. let h = nil-split p.added q.added e in (m.at, p.reads h.0, subst (λ k. Q k m.at t.at) p.code (q.reads h.1));
+}
+
+-- nothing is added
+pub sound_plain : {P : Code → Place → Place → Type 0} (s : State) (d : Place) → (has_error_token s.at.left ≡ false → has_error_token d.left ≡ false) → P s.code s.at d
+    → Sound same no_faults [] P s (record s { at = d })
+sound_plain s d h r = record {
+  code = refl;
+  scope = refl;
+  added = [];
+  faults = sym (append-nil s.faults);
+  held_back = λ e. sym (append-nil s.held_back);
+  walked = λ h d. refl;
+  keeps = h;
+  reads = λ e. r;
+}
+
+pub sound_moved : {P : Code → Place → Place → Type 0} (s : State) → P s.code s.at (after s.at) → Sound same no_faults [] P s (moved s)
+sound_moved s r = sound_plain s (after s.at) (after_keeps s.at) r
+
+pub sound_here : {P : Code → Place → Place → Type 0} (s : State) → P s.code s.at s.at → Sound same no_faults [] P s s
+sound_here s r = sound_plain s s.at (λ h. h) r
+
+-- under another rule, with the same walk and notes
+pub sound_as : {f g : Code → Code} {w v : Walk} {ns ms : List Fault} {P Q : Code → Place → Place → Type 0} (s t : State) → f s.code ≡ g s.code
+    → w s.code s.scope.labels ≡ v s.code s.scope.labels → ns ≡ ms → (P s.code s.at t.at → Q s.code s.at t.at) → Sound f w ns P s t → Sound g v ms Q s t
+sound_as s t k e n r p = record {
+  code = p.code ∙ k;
+  scope = p.scope;
+  added = p.added;
+  faults = p.faults;
+  held_back = λ h. p.held_back h ∙ ap (λ z. s.held_back ++ z) n;
+  walked = λ h d. p.walked h d ∙ e;
+  keeps = p.keeps;
+  reads = λ h. r (p.reads h);
+}
+
+-- from the place before a token
+pub sound_after : {f : Code → Code} {w v : Walk} {ns ms : List Fault} {P Q : Code → Place → Place → Type 0} (s t : State) → w s.code s.scope.labels ≡ v s.code s.scope.labels
+    → ns ≡ ms → (P s.code (after s.at) t.at → Q s.code s.at t.at) → Sound f w ns P (moved s) t → Sound f v ms Q s t
+sound_after s t e n r p = record {
+  code = p.code;
+  scope = p.scope;
+  added = p.added;
+  faults = p.faults;
+  held_back = λ h. p.held_back h ∙ ap (λ z. s.held_back ++ z) n;
+  walked = λ h d. p.walked (after_keeps s.at h) d ∙ e;
+  keeps = λ h. p.keeps (after_keeps s.at h);
+  reads = λ h. r (p.reads h);
+}
+
+-- with a step behind it that has no faults and no notes of its own
+pub sound_more : {f g : Code → Code} {w : Walk} {ns : List Fault} {P Q : Code → Place → Place → Type 0} {s m t : State} → Sound f w ns P s m → Sound g no_faults [] Q m t
+    → Sound (λ k. g (f k)) w ns (λ k c d. (i : Place) × P k c i × Q (f k) i d) s t
+sound_more {f = f} {g = g} {w = w} {ns = ns} {s = s} {t = t} p q = sound_as s t refl (append-nil (w s.code s.scope.labels)) (append-nil ns) (λ h. h) (sound_then p q)
+
+-- code that is set afterwards
+pub sound_coded : {f g : Code → Code} {w : Walk} {ns : List Fault} {P : Code → Place → Place → Type 0} (s t : State) (k : Code) → k ≡ g s.code → Sound f w ns P s t
+    → Sound g w ns P s (coded k t)
+sound_coded s t k e p = record {
+  code = e;
+  scope = p.scope;
+  added = p.added;
+  faults = p.faults;
+  held_back = p.held_back;
+  walked = p.walked;
+  keeps = p.keeps;
+  reads = p.reads;
+}
+
+-- under other code
+pub sound_under : {f : Code → Code} {w : Walk} {ns : List Fault} {P : Code → Place → Place → Type 0} (change : Code → Code) (s t : State) → Sound f w ns P (coded (change s.code) s) t
+    → Sound same (λ k l. w (change k) l) ns (λ k. P (change k)) s (coded s.code t)
+sound_under change s t p = record {
+  code = refl;
+  scope = p.scope;
+  added = p.added;
+  faults = p.faults;
+  held_back = p.held_back;
+  walked = p.walked;
+  keeps = p.keeps;
+  reads = p.reads;
+}
+
+pub within_sound : {A : Type 0} (w : A → Walk) (ns : A → List Fault) (P : A → Code → Place → Place → Type 0) (change : Code → Code) (p : Reader A) (s : State)
+    → Meets (λ x t. Sound same (w x) (ns x) (P x) (coded (change s.code) s) t) (p (coded (change s.code) s))
+    → Meets (λ x t. Sound same (λ k l. w x (change k) l) (ns x) (λ k. P x (change k)) s t) (within change p s)
+within_sound w ns P change p s h = meets_then _ (p (coded (change s.code) s)) _ h (λ x t q. sound_under change s t q)

@@ -1,0 +1,299 @@
+-- What the grammar allows is read, with the faults of the walk and the notes held back, and no others.
+use Rattle.std.proofs.Common.{◌≡◌, ℕ, zero, suc, ◌<◌, Bool, true, false, cond, List, [], ◌∷◌, ◌++◌, length, Option, Some, None, Ok, refl, ◌∙◌, append_assoc, append-nil}
+use Rattle.std.specs.Prelude.{◌&&◌, codes}
+use denote.Enum.Bare.{true_same}
+use Rattle.swc_ecma_parser_common.specs.declared.span.Span.{Span}
+use Rattle.swc_ecma_parser_error.specs.Kind as faults
+use Rattle.swc_ecma_parser_error.specs.Kind.{Kind, Fault}
+use Rattle.swc_ecma_parser_token.specs.contracts.kind.TokenKind.{the_type}
+use Rattle.swc_ecma_parser_token.specs.declared.kind.TokenKind.{TokenKind}
+use Rattle.swc_ecma_parser_token.specs.declared.kind.TokenKind.TheVariants as kind
+use Rattle.swc_ecma_parser_token.specs.declared.token.Token.{Token}
+use Rattle.swc_ecma_parser_token.specs.declared.token.Token.TheVariants as token
+use Rattle.swc_ecma_parser_token.specs.declared.token.Word.{Word}
+use Rattle.swc_ecma_parser_token.specs.declared.token.Word.TheVariants as word
+use Rattle.swc_ecma_parser_token.specs.declared.token.TokenAndSpan.{TokenAndSpan}
+use Rattle.swc_ecma_parser_token.specs.Text.{word_text}
+use Rattle.swc_ecma_parser_token.specs.Kind.{token_kind}
+use Rattle.swc_ecma_parser_input.specs.Place.{Place, after}
+use Rattle.swc_ecma_parser_model.specs.declared.leaves.VarDeclKind.TheVariants as decl
+use Rattle.swc_ecma_parser_model.specs.Tree as tree
+use Rattle.swc_ecma_parser_model.specs.Tree.{Tree, Text, listed, trees}
+use Rattle.swc_ecma_parser_model.specs.Directive.{is_use_strict}
+use Rattle.swc_ecma_parser_model.specs.Forms.{is_ident, is_ident_named, span_of}
+use Rattle.swc_ecma_parser_grammar.specs.declared.position.Position.{Position}
+use Rattle.swc_ecma_parser_grammar.specs.Looks.{kind_at, sees, same_kind, spanned}
+use Rattle.swc_ecma_parser_grammar.specs.Names.{Code, is_name, name_at, token_is_name}
+use Rattle.swc_ecma_parser_grammar.specs.Ends.{Ends, by_semicolon, by_insertion}
+use Rattle.swc_ecma_parser_grammar.specs.Reads.{with_in, in_strict, nested_item, top_item, ReadsToken, PrimaryRule, name_rule, string_rule, number_rule, big_int_rule, null_rule, true_rule, false_rule, paren_rule, ReadsExpr, binding_rule, ReadsPat, DeclaratorRule, plain_rule, ReadsSeparated, directed, ReadsItems, StmtRule, block_rule, empty_rule, debugger_rule, var_rule, expr_rule, ReadsStmt}
+use Rattle.swc_ecma_parser_grammar.specs.Entries.{script_code, ReadsShebang, some_shebang, no_shebang, ReadsScript}
+use Rattle.swc_ecma_parser_grammar.specs.Notes.{notes, all_notes, statement_note}
+use Rattle.swc_ecma_parser_grammar.specs.Walk as walks_of
+use Rattle.swc_ecma_parser_grammar.specs.Walk.{Env, env_of, walk, walks}
+use Rattle.swc_ecma_parser_reader.specs.State.{Scope, State, Outcome, Reader, noted, expect, end, name, fault_at, loop}
+use Rattle.swc_ecma_parser_reader.specs.Reader.{literal, literal_of, literal_in, ident_expr, paren, primary, closed, whole_expr, expr, binding, pat, empty, debugger, plain_declarator, declarator, declarators_turn, declarators, var, closes, at_end, close, directs, items_turn, items, block, note_statement, no_label, expr_stmt, expr_stmt_at, stmt_level, stmt, shebang_of, shebang_in, shebang, script_body, script}
+use Rattle.swc_ecma_parser_reader.specs.Entry.{script_left}
+use Rattle.swc_ecma_parser_reader.proofs.Loops.{stmt_shorter, items_stop, items_more, declarators_done, declarators_more}
+use Rattle.swc_ecma_parser_reader.proofs.Opens.{expr_opens, opened, stmt_goes, paren_here, null_unnamed, true_unnamed, false_unnamed}
+
+abbrev pub st : Place → Code → Scope → List Fault → List Fault → State
+st c k w f h = record { at = c; code = k; scope = w; faults = f; held_back = h }
+
+-- the answer of a reader that is complete: the tree, its end, the faults of its walk, and its notes held back
+abbrev pub Reads : Reader Tree → Code → Tree → Place → Place → Type 0
+Reads reader k x c d = (w : Scope) (f h : List Fault) → reader (st c k w f h) ≡ Ok (x, st d k w (f ++ walk (env_of k w.labels) x) (h ++ notes x))
+
+seen : (c : Place) (k : TokenKind) → kind_at c ≡ k → sees k c ≡ true
+unfolding same_kind
+seen c k e = true_same the_type (kind_at c) k e
+
+-- ---- fixed tokens, ends and names
+
+ends_read : (missing : Kind) (c d : Place) (k : Code) (w : Scope) (f h : List Fault) → Ends c d → end missing (st c k w f h) ≡ Ok (tt, st d k w f h)
+unfolding end
+ends_read missing c d k w f h (by_semicolon e g) = rw (seen c kind.Semi e, g) refl
+ends_read missing c d k w f h (by_insertion e i g) = rw (e, i, g) refl
+
+expect_reads : (want : TokenKind) (c : Place) (k : Code) (w : Scope) (f h : List Fault) → kind_at c ≡ want → expect want (st c k w f h) ≡ Ok (tt, st (after c) k w f h)
+unfolding expect
+expect_reads want c k w f h e = rw (seen c want e) refl
+
+close_reads : (c : Place) (k : Code) (w : Scope) (f h : List Fault) → kind_at c ≡ kind.RBrace → close (st c k w f h) ≡ Ok (tt, st (after c) k w f h)
+unfolding close
+close_reads c k w f h e = rw (seen c kind.RBrace e) refl
+
+name_reads : (missing : Kind) (v : Word) (sp : Span) (c d : Place) (k : Code) (w : Scope) (f h : List Fault) → ReadsToken (token.Word v) sp c d → is_name k.flags (word_text v) ≡ true
+    → name missing (st c k w f h) ≡ Ok (record { span = sp; sym = word_text v }, st d k w f h)
+unfolding name
+name_reads missing v sp c d k w f h r e = rw (r.is, e, r.next) refl
+
+-- ---- expressions
+
+-- a token stands first that is a name, or none
+named : (u : Token) (sp : Span) (c d : Place) (k : Code) (b : Bool) → ReadsToken u sp c d → token_is_name k.flags u ≡ b → name_at k.flags c ≡ b
+unfolding name_at
+named u sp c d k b r e = rw r.is e
+
+literal_here : (u : Token) (sp : Span) (y : Tree) (c d : Place) → ReadsToken u sp c d → literal_of sp u ≡ Some y → literal_in c.left ≡ Some y
+literal_here u sp y c d r e = rw r.is e
+
+literal_reads : (u : Token) (sp : Span) (x y : Tree) (c d : Place) (k : Code) (w : Scope) (f h : List Fault) → ReadsToken u sp c d → literal_of sp u ≡ Some y → x ≡ y
+    → literal (st c k w f h) ≡ Ok (Some x, st d k w f h)
+unfolding literal
+literal_reads u sp x y c d k w f h r e g = rw (literal_here u sp y c d r e, r.next, g) refl
+
+-- a literal as an expression
+literal_primary : (inner : Reader Tree) (u : Token) (sp : Span) (x y : Tree) (c d : Place) (k : Code) → ReadsToken u sp c d → token_is_name k.flags u ≡ false → literal_of sp u ≡ Some y
+    → x ≡ y → ((env : Env) → walk env y ≡ []) → notes y ≡ [] → Reads (primary inner) k x c d
+unfolding primary
+literal_primary inner u sp x y c d k r n e g z o w f h =
+    rw (named u sp c d k false r n, literal_reads u sp x y c d k w f h r e g, g, z (env_of k w.labels), o, append-nil f, append-nil h) refl
+
+-- `(` leads to what stands in parentheses
+first_paren : (inner : Reader Tree) (k : Code) (x : Tree) (c d : Place) → kind_at c ≡ kind.LParen → Reads (paren inner) k x c d → Reads (primary inner) k x c d
+unfolding primary literal
+first_paren inner k x c d e reads w f h = rw ((paren_here k.flags c e).0, (paren_here k.flags c e).1, seen c kind.LParen e) (reads w f h)
+
+module _ (n : ℕ) (reads : (k : Code) (x : Tree) (c d : Place) → ReadsExpr n k x c d → Reads (expr n) k x c d) where
+  paren_reads : (e : Tree) (m : Place) (k : Code) (x : Tree) (c d : Place) → ReadsExpr n (with_in k) e (after c) m → kind_at m ≡ kind.RParen → d ≡ after m
+      → x ≡ tree.paren (spanned c d) e → Reads (paren (expr n)) k x c d
+  unfolding paren
+  paren_reads e m k x c d r g i j w f h = rw (reads (with_in k) e (after c) m r w f h, expect_reads kind.RParen m k w (f ++ walk (env_of k w.labels) e) (h ++ notes e) g, j, i) refl
+
+  primary_reads : (k : Code) (x : Tree) (c d : Place) → PrimaryRule (ReadsExpr n) k x c d → Reads (primary (expr n)) k x c d
+  unfolding primary ident_expr
+  primary_reads k x c d (name_rule v s r e g) w f h =
+      rw (named (token.Word v) s c d k true r e, name_reads faults.Unexpected v s c d k w f h r e, g, append-nil f, append-nil h) refl
+  primary_reads k x c d (string_rule value raw s r g) w f h = literal_primary (expr n) (token.Str value raw) s x (tree.str s value raw) c d k r refl refl g (λ env. refl) refl w f h
+  primary_reads k x c d (number_rule raw s r g) w f h = literal_primary (expr n) (token.Num raw) s x (tree.num s raw) c d k r refl refl g (λ env. refl) refl w f h
+  primary_reads k x c d (big_int_rule raw s r g) w f h = literal_primary (expr n) (token.BigInt raw) s x (tree.big_int s raw) c d k r refl refl g (λ env. refl) refl w f h
+  primary_reads k x c d (null_rule s r g) w f h = literal_primary (expr n) (token.Word word.Null) s x (tree.null s) c d k r (null_unnamed k.flags) refl g (λ env. refl) refl w f h
+  primary_reads k x c d (true_rule s r g) w f h = literal_primary (expr n) (token.Word word.True) s x (tree.bool s true) c d k r (true_unnamed k.flags) refl g (λ env. refl) refl w f h
+  primary_reads k x c d (false_rule s r g) w f h = literal_primary (expr n) (token.Word word.False) s x (tree.bool s false) c d k r (false_unnamed k.flags) refl g (λ env. refl) refl w f h
+  primary_reads k x c d (paren_rule e m o r g i j) w f h = first_paren (expr n) k x c d o (paren_reads e m k x c d r g i j) w f h
+
+pub expr_reads : (n : ℕ) (k : Code) (x : Tree) (c d : Place) → ReadsExpr n k x c d → Reads (expr n) k x c d
+unfolding expr whole_expr closed
+expr_reads zero k x c d r w f h = absurd r
+expr_reads (suc n) k x c d r w f h = rw (primary_reads n (expr_reads n) k x c d r.0 w f h, r.1) refl
+
+-- ---- binding patterns
+
+pub pat_reads : (n : ℕ) (k : Code) (x : Tree) (c d : Place) → ReadsPat n k x c d → Reads (pat n) k x c d
+unfolding pat binding
+pat_reads zero k x c d r w f h = absurd r
+pat_reads (suc n) k x c d (binding_rule v s r e g) w f h = rw (name_reads faults.ExpectedIdent v s c d k w f h r e, g, append-nil f, append-nil h) refl
+
+-- ---- statements that hold none
+
+empty_reads : (k : Code) (x : Tree) (c d : Place) → d ≡ after c → x ≡ tree.empty (spanned c d) → Reads empty k x c d
+unfolding empty
+empty_reads k x c d e g w f h = rw (g, e, append-nil f, append-nil h) refl
+
+debugger_reads : (k : Code) (x : Tree) (c d : Place) → Ends (after c) d → x ≡ tree.debugger (spanned c d) → Reads debugger k x c d
+unfolding debugger
+debugger_reads k x c d e g w f h = rw (ends_read faults.Expected (after c) d k w f h e, g, append-nil f, append-nil h) refl
+
+-- ---- declarators
+
+declarator_reads : (n : ℕ) (k : Code) (x : Tree) (c d : Place) → DeclaratorRule (ReadsPat n) k x c d → Reads (declarator (pat n)) k x c d
+unfolding declarator plain_declarator
+declarator_reads n k x c d (plain_rule p r e g) w f h = rw (pat_reads n k p c d r w f h, e, g, append-nil (walk (env_of k w.labels) p), append-nil (notes p)) refl
+
+many_declarators : (n : ℕ) (xs found : List Tree) (k : Code) (c d : Place) (w : Scope) (f h : List Fault) → ReadsSeparated (DeclaratorRule (ReadsPat n) k) xs c d
+    → loop (declarators_turn (pat n)) found (st c k w f h) ≡ Ok (found ++ xs, st d k w (f ++ walks (env_of k w.labels) false (trees xs)) (h ++ all_notes (trees xs)))
+many_declarators n [] found k c d w f h r = absurd r
+many_declarators n (x ∷ []) found k c d w f h r =
+    rw (append-nil (walk (env_of k w.labels) x), append-nil (notes x))
+    (declarators_done n found (st c k w f h) x (st d k w (f ++ walk (env_of k w.labels) x) (h ++ notes x)) (declarator_reads n k x c d r.0 w f h) r.1)
+many_declarators n (x ∷ y ∷ ys) found k c d w f h (m, r, e, more) =
+    declarators_more n found (st c k w f h) x (st m k w (f ++ walk (env_of k w.labels) x) (h ++ notes x)) (declarator_reads n k x c m r w f h) (seen m kind.Comma e)
+    ∙ many_declarators n (y ∷ ys) (found ++ x ∷ []) k (after m) d w (f ++ walk (env_of k w.labels) x) (h ++ notes x) more ∙ simp append_assoc refl
+
+var_reads : (n : ℕ) (xs : List Tree) (m : Place) (k : Code) (x : Tree) (c d : Place) → ReadsSeparated (DeclaratorRule (ReadsPat n) (with_in k)) xs (after c) m → Ends m d
+    → x ≡ tree.var (spanned c d) decl.Var (listed xs) → Reads (var (pat n)) k x c d
+unfolding var declarators
+var_reads n xs m k x c d r e g w f h =
+    rw (many_declarators n xs [] (with_in k) (after c) m w f h r, ends_read faults.Unexpected m d k w (f ++ walks (env_of k w.labels) false (trees xs)) (h ++ all_notes (trees xs)) e, g) refl
+
+-- ---- statements one behind another
+
+-- the code behind statements: a directive may have turned it strict
+abbrev pub code_behind : Code → Bool → List Tree → Code
+code_behind k directives [] = k
+code_behind k directives (x ∷ xs) = code_behind (directed k directives x) false xs
+
+-- without directives it stays
+code_stays : (k : Code) (xs : List Tree) → code_behind k false xs ≡ k
+code_stays k [] = refl
+code_stays k (x ∷ xs) = code_stays k xs
+
+-- behind a first statement there is no directive
+directs_behind : (directives : Bool) (found : List Tree) (x : Tree) → directs directives (found ++ x ∷ []) ≡ false
+directs_behind directives [] x = refl
+directs_behind directives (y ∷ ys) x = refl
+
+-- the walk and the reader agree on what a directive turns strict
+strict_walk : (b : Bool) (k : Code) (labels : List Text) → env_of (cond b (in_strict k) k) labels ≡ cond b (record (env_of k labels) { strict = true }) (env_of k labels)
+strict_walk true k labels = refl
+strict_walk false k labels = refl
+
+directed_walk : (k : Code) (directives : Bool) (x : Tree) (labels : List Text) → env_of (directed k directives x) labels ≡ walks_of.directed (env_of k labels) directives x
+directed_walk k directives x labels = strict_walk (directives && is_use_strict x) k labels
+
+module _ (Inner : Code → Tree → Place → Place → Type 0) (inner : Reader Tree)
+    (reads : (k : Code) (x : Tree) (c d : Place) → Inner k x c d → Reads inner k x c d)
+    (shorter : (s : State) (x : Tree) (t : State) → inner s ≡ Ok (x, t) → length t.at.left < length s.at.left)
+    (stops : Place → Bool) (goes : (k : Code) (x : Tree) (c d : Place) → Inner k x c d → stops c ≡ false) where
+  many_items : (directives : Bool) (xs found : List Tree) (b : Bool) (k : Code) (c d : Place) (w : Scope) (f h : List Fault) → directs directives found ≡ b → ReadsItems Inner k b xs c d → stops d ≡ true
+      → loop (items_turn inner stops directives) found (st c k w f h) ≡ Ok (found ++ xs, st d (code_behind k b xs) w (f ++ walks (env_of k w.labels) b (trees xs)) (h ++ all_notes (trees xs)))
+  many_items directives [] found b k c d w f h p r e =
+      rw (append-nil found, append-nil f, append-nil h, r) (items_stop inner stops directives found (st c k w f h) (rw (← r) e))
+  many_items directives (x ∷ xs) found b k c d w f h p (m, r, more) e =
+      let one = reads k x c m r w f h in
+      let first = items_more inner stops directives found (st c k w f h) x (st m k w (f ++ walk (env_of k w.labels) x) (h ++ notes x)) (goes k x c m r) one
+      (shorter (st c k w f h) x (st m k w (f ++ walk (env_of k w.labels) x) (h ++ notes x)) one) in
+      let rest = many_items directives xs (found ++ x ∷ []) false (directed k b x) m d w (f ++ walk (env_of k w.labels) x) (h ++ notes x) (directs_behind directives found x) more e in
+      let turn = rw p at first in
+      turn ∙ rest ∙ rw (directed_walk k b x w.labels) (simp append_assoc refl)
+
+  items_read : (directives : Bool) (xs : List Tree) (k : Code) (c d : Place) (w : Scope) (f h : List Fault) → ReadsItems Inner k directives xs c d → stops d ≡ true
+      → items inner stops directives (st c k w f h) ≡ Ok (xs, st d (code_behind k directives xs) w (f ++ walks (env_of k w.labels) directives (trees xs)) (h ++ all_notes (trees xs)))
+  unfolding items
+  items_read directives xs k c d w f h r e = many_items directives xs [] directives k c d w f h refl r e
+
+closes_at : (c : Place) → kind_at c ≡ kind.RBrace → closes c ≡ true
+unfolding closes same_kind
+closes_at c e = rw e refl
+
+at_end_at : (c : Place) → kind_at c ≡ kind.End → at_end c ≡ true
+unfolding at_end same_kind
+at_end_at c e = rw e refl
+
+-- ---- expression statements
+
+-- what a bare name `interface` leaves behind: the grammar has none in module code, and elsewhere its fault is held back
+note_by : (b in_module : Bool) (e : Fault) (s : State) → in_module && b ≡ false
+    → ◌≡◌ {A = Outcome (Unit {0})} (cond b (Ok (tt, cond in_module (noted e s) (record s { held_back = s.held_back ++ e ∷ [] }))) (Ok (tt, s))) (Ok (tt, record s { held_back = s.held_back ++ cond b (e ∷ []) [] }))
+note_by false in_module e s g = rw (append-nil s.held_back) refl
+note_by true false e s g = refl
+note_by true true e s g = cc
+
+note_reads : (e : Tree) (m : Place) (k : Code) (w : Scope) (f h : List Fault) → k.flags.module && is_ident_named (codes "interface") e ≡ false
+    → note_statement e (st m k w f h) ≡ Ok (tt, st m k w f (h ++ statement_note e))
+unfolding note_statement
+note_reads e m k w f h g = note_by (is_ident_named (codes "interface") e) k.flags.module (fault_at (span_of e) faults.InvalidIdentInStrict) (st m k w f h) g
+
+expr_stmt_reads : (n : ℕ) (e : Tree) (m : Place) (k : Code) (x : Tree) (c d : Place) → ReadsExpr n (with_in k) e c m → is_ident e && sees kind.Colon m ≡ false
+    → k.flags.module && is_ident_named (codes "interface") e ≡ false → Ends m d → x ≡ tree.expr_stmt (spanned c d) e → Reads (expr_stmt (expr n)) k x c d
+unfolding expr_stmt no_label
+expr_stmt_reads n e m k x c d r l i g j w f h =
+    rw (
+      expr_reads n (with_in k) e c m r w f h,
+      l,
+      note_reads e m k w (f ++ walk (env_of k w.labels) e) (h ++ notes e) i,
+      ends_read faults.ExpectedSemiForExprStmt m d k w (f ++ walk (env_of k w.labels) e) ((h ++ notes e) ++ statement_note e) g,
+      j,
+      append_assoc,
+    ) refl
+
+-- ---- statements
+
+module _ (n : ℕ) (reads : (at : Position) (k : Code) (x : Tree) (c d : Place) → ReadsStmt n k at x c d → Reads (stmt n at) k x c d) where
+  block_reads : (xs : List Tree) (m : Place) (k : Code) (x : Tree) (c d : Place) → ReadsItems (λ j. ReadsStmt n j nested_item) k false xs (after c) m → kind_at m ≡ kind.RBrace → d ≡ after m
+      → x ≡ tree.block (spanned c d) (listed xs) → Reads (block (stmt n nested_item)) k x c d
+  unfolding block
+  block_reads xs m k x c d r e g i w f h =
+      rw (
+        items_read (λ j. ReadsStmt n j nested_item) (stmt n nested_item) (reads nested_item) (stmt_shorter n nested_item) closes (λ j y a b q. (stmt_goes n j nested_item y a b q).0)
+            false xs k (after c) m w f h r (closes_at m e),
+        code_stays k xs,
+        close_reads m k w (f ++ walks (env_of k w.labels) false (trees xs)) (h ++ all_notes (trees xs)) e,
+        i,
+        g,
+      ) refl
+
+  by_rules : (at : Position) (k : Code) (x : Tree) (c d : Place) → StmtRule (ReadsStmt n) (ReadsExpr n) (ReadsPat n) k at x c d → Reads (stmt_level (stmt n) (expr n) (pat n) at) k x c d
+  unfolding stmt_level expr_stmt_at
+  by_rules at k x c d (block_rule xs m e r g i j) w f h = rw e (block_reads xs m k x c d r g i j w f h)
+  by_rules at k x c d (empty_rule e g i) w f h = rw e (empty_reads k x c d g i w f h)
+  by_rules at k x c d (debugger_rule e g i) w f h = rw e (debugger_reads k x c d g i w f h)
+  by_rules at k x c d (var_rule xs m e r g i) w f h = rw e (var_reads n xs m k x c d r g i w f h)
+  by_rules at k x c d (expr_rule e m b r l i g j) w f h =
+      opened (stmt n) (expr n) (pat n) at (st c k w f h) (kind_at c) (expr_opens n (with_in k) e c m r) ∙ rw b (expr_stmt_reads n e m k x c d r l i g j w f h)
+
+pub stmt_reads : (n : ℕ) (at : Position) (k : Code) (x : Tree) (c d : Place) → ReadsStmt n k at x c d → Reads (stmt n at) k x c d
+unfolding stmt
+stmt_reads zero at k x c d r w f h = absurd r
+stmt_reads (suc n) at k x c d r w f h = by_rules n (stmt_reads n) at k x c d r w f h
+
+-- ---- a script
+
+-- no `#!` stands where no such token is seen
+no_shebang_by : (t : Token) → same_kind (token_kind t) kind.Shebang ≡ false → shebang_of t ≡ None
+unfolding same_kind
+no_shebang_by (token.Shebang text) e = cc
+no_shebang_by _ e = refl
+
+no_shebang_in : (c : Place) (ts : List TokenAndSpan) → c.left ≡ ts → sees kind.Shebang c ≡ false → shebang_in ts ≡ None
+unfolding kind_at
+no_shebang_in c [] e h = refl
+no_shebang_in c (t ∷ ts) e h = no_shebang_by t.token (rw e at h)
+
+shebang_here : (text : Text) (sp : Span) (c d : Place) → ReadsToken (token.Shebang text) sp c d → shebang_in c.left ≡ Some text
+shebang_here text sp c d r = rw r.is refl
+
+shebang_reads : (first : Option Text) (c d : Place) (k : Code) (w : Scope) (f h : List Fault) → ReadsShebang c d first → shebang (st c k w f h) ≡ Ok (first, st d k w f h)
+unfolding shebang
+shebang_reads first c d k w f h (some_shebang text s r) = rw (shebang_here text s c d r, r.next) refl
+shebang_reads first c d k w f h (no_shebang e g) = rw (no_shebang_in c c.left refl e, g) refl
+
+pub script_reads : (n : ℕ) (s : State) (x : Tree) (d : Place) → ReadsScript n s.code x s.at d → script n s ≡ Ok (x, script_left s x d)
+unfolding script script_body
+script_reads n s x d r =
+    rw (
+      shebang_reads r.shebang s.at r.first (script_code s.code) s.scope s.faults s.held_back r.reads_shebang,
+      items_read (λ j. ReadsStmt n j top_item) (stmt n top_item) (stmt_reads n top_item) (stmt_shorter n top_item) at_end (λ j y a b q. (stmt_goes n j top_item y a b q).1)
+          true r.items (script_code s.code) r.first d s.scope s.faults s.held_back r.reads_items (at_end_at d r.whole),
+      r.is,
+    ) refl

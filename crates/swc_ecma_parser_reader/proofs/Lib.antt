@@ -1,0 +1,14 @@
+pub mod Steps
+pub mod Falls
+pub mod Loops
+pub mod Meets
+pub mod Between
+pub mod Sound
+pub mod Opens
+pub mod Complete
+pub mod Unique
+pub mod Empty
+pub mod Unnoted
+pub mod Limits
+pub mod Refusals
+pub mod Memory

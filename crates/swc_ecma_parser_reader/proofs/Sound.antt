@@ -1,0 +1,543 @@
+-- What is read is in the grammar where nothing was recorded, and the faults of the table are the walk's.
+use Rattle.std.proofs.Common.{◌≡◌, ℕ, zero, suc, Bool, true, false, cond, List, [], ◌∷◌, ◌++◌, Option, Some, None, Ok, refl, sym, ◌∙◌, ap, subst, append_assoc, append-nil}
+use Rattle.std.specs.Prelude.{◌&&◌, codes}
+use Rattle.swc_ecma_parser_error.specs.declared.error.Error.{Error}
+use Rattle.swc_ecma_parser_error.specs.Kind as faults
+use Rattle.swc_ecma_parser_error.specs.Kind.{Kind, Fault, fault_of}
+use Rattle.swc_ecma_parser_token.specs.declared.keyword.Keyword.{Keyword}
+use Rattle.swc_ecma_parser_token.specs.declared.keyword.Keyword.TheVariants as keyword
+use Rattle.swc_ecma_parser_token.specs.declared.operator.BinOpToken.{BinOpToken}
+use Rattle.swc_ecma_parser_token.specs.declared.operator.BinOpToken.TheVariants as bin
+use Rattle.swc_ecma_parser_token.specs.declared.operator.AssignOp.{AssignOp}
+use Rattle.swc_ecma_parser_token.specs.declared.operator.AssignOp.TheVariants as assign
+use Rattle.swc_ecma_parser_token.specs.declared.kind.TokenKind.{TokenKind}
+use Rattle.swc_ecma_parser_token.specs.declared.kind.TokenKind.TheVariants as kind
+use Rattle.swc_ecma_parser_token.specs.declared.token.Token.{Token}
+use Rattle.swc_ecma_parser_token.specs.declared.token.Token.TheVariants as token
+use Rattle.swc_ecma_parser_token.specs.declared.token.Word.{Word}
+use Rattle.swc_ecma_parser_token.specs.declared.token.Word.TheVariants as word
+use Rattle.swc_ecma_parser_token.specs.declared.token.TokenAndSpan.{TokenAndSpan}
+use Rattle.swc_ecma_parser_token.specs.Kind.{token_kind, word_kind, keyword_kind, bin_op_kind, assign_op_kind}
+use Rattle.swc_ecma_parser_token.specs.Text.{word_text}
+use Rattle.swc_ecma_parser_input.specs.TokenSource.{means_out_of_memory}
+use Rattle.swc_ecma_parser_input.specs.Place.{Place, after}
+use Rattle.swc_ecma_parser_model.specs.declared.leaves.Ident.{Ident}
+use Rattle.swc_ecma_parser_model.specs.Tree as tree
+use Rattle.swc_ecma_parser_model.specs.Tree.{Tree, Text, listed, trees}
+use Rattle.swc_ecma_parser_model.specs.Directive.{is_use_strict}
+use Rattle.swc_ecma_parser_model.specs.Forms.{is_ident, is_ident_named, span_of}
+use Rattle.swc_ecma_parser_grammar.specs.declared.position.Position.{Position}
+use Rattle.swc_ecma_parser_grammar.specs.Looks.{kind_at, sees, same_kind, span_at, spanned}
+use Rattle.swc_ecma_parser_grammar.specs.Names.{Code, is_name, name_at}
+use Rattle.swc_ecma_parser_grammar.specs.Ends.{Ends, by_semicolon, by_insertion, can_end}
+use Rattle.swc_ecma_parser_grammar.specs.Follows.{continues, may_begin_expression_statement}
+use Rattle.swc_ecma_parser_grammar.specs.Reads.{with_in, in_strict, directed, directs_on, nested_item, top_item, ReadsToken, PrimaryRule, name_rule, string_rule, number_rule, big_int_rule, null_rule, true_rule, false_rule, paren_rule, ReadsExpr, PatRule, binding_rule, ReadsPat, DeclaratorRule, plain_rule, ReadsSeparated, ReadsItems, StmtRule, block_rule, empty_rule, debugger_rule, var_rule, expr_rule, ReadsStmt}
+use Rattle.swc_ecma_parser_grammar.specs.Entries.{ReadsShebang, some_shebang, no_shebang, script_code, has_error_token}
+use Rattle.swc_ecma_parser_grammar.specs.Walk as walks
+use Rattle.swc_ecma_parser_grammar.specs.Walk.{walk, env_of}
+use Rattle.swc_ecma_parser_grammar.specs.Notes.{notes, all_notes, statement_note}
+use Rattle.swc_ecma_parser_reader.specs.State.{State, Reader, moved, coded, within, noted, module_fault, fault, recorded_in, recorded_at, fault_at, expect, end, name, name_in, name_by}
+use Rattle.swc_ecma_parser_reader.specs.Reader.{literal_of, literal_in, taken, literal, ident_expr, paren, paren_or_none, literal_or, primary, closed, whole_expr, expr, binding, pat, empty, debugger, plain_declarator, declarator, declarators_turn, declarators, var, closes, at_end, close, directs, items_turn, items, block, note_statement, no_label, expr_stmt, expr_stmt_at, stmt_by, stmt_level, stmt, shebang_of, shebang_in, shebang_taken, shebang, script_body, script}
+use Rattle.swc_ecma_parser_reader.specs.Entry.{SoundScript}
+use Rattle.swc_ecma_parser_reader.proofs.Meets.{Meets, Refuses, meets_then, meets_if, wanted_meets, too_deep_meets, refuse_meets, Turned, loop_answers, saw, meant}
+use Rattle.swc_ecma_parser_reader.proofs.Between.{Sound, no_faults, same, sound_then, sound_more, sound_moved, sound_here, sound_as, sound_after, sound_coded, within_sound, some_fault}
+
+-- a tree that a rule reads, with its walk and its notes
+abbrev pub SoundTree : (Code → Tree → Place → Place → Type 0) → State → Tree → State → Type 0
+SoundTree Reads s x t = Sound same (λ k l. walk (env_of k l) x) (notes x) (λ k. Reads k x) s t
+
+-- a step of no faults and no notes
+abbrev pub SoundStep : (Code → Place → Place → Type 0) → State → State → Type 0
+SoundStep Reads s t = Sound same no_faults [] Reads s t
+
+-- ---- ends, fixed tokens and names
+
+end_sound : (missing : Kind) (s : State) → Meets (λ _ t. SoundStep (λ k. Ends) s t) (end missing s)
+unfolding end
+end_sound missing s = meets_if _ (sees kind.Semi s.at) _ _
+    (λ e. sound_moved s (by_semicolon (saw s.at kind.Semi e) refl))
+    (λ e. meets_if _ (can_end s.at) _ _ (λ h. sound_here s (by_insertion e h refl)) (λ _. refuse_meets _ missing s))
+
+abbrev Takes : TokenKind → Place → Place → Type 0
+Takes j c d = (kind_at c ≡ j) × (d ≡ after c)
+
+expect_sound : (j : TokenKind) (s : State) → Meets (λ _ t. SoundStep (λ k. Takes j) s t) (expect j s)
+unfolding expect
+expect_sound j s = meets_if _ (sees j s.at) _ _ (λ e. sound_moved s (saw s.at j e, refl)) (λ _. refuse_meets _ faults.Expected s)
+
+-- a name's token
+record ReadsName (i : Ident) (k : Code) (c d : Place) : Type 0 where
+  word : Word
+  token : ReadsToken (token.Word word) i.span c d
+  free : is_name k.flags (word_text word) ≡ true
+  text : i.sym ≡ word_text word
+
+module _ (missing : Kind) (s : State) where
+  name_by_sound : (u : TokenAndSpan) (ts : List TokenAndSpan) (v : Token) → s.at.left ≡ u ∷ ts → u.token ≡ v
+      → Meets (λ i t. SoundStep (ReadsName i) s t) (name_by missing s v u.span)
+  name_by_sound u ts (token.Word w) e h = meets_if _ (is_name s.code.flags (word_text w)) _ _
+      (λ g. sound_moved s (record { word = w; token = record { had_line_break = u.had_line_break; rest = ts; is = e ∙ rw (← h) refl; next = refl }; free = g; text = refl }))
+      (λ _. wanted_meets _ missing s)
+  name_by_sound u ts _ e h = wanted_meets _ missing s
+
+  name_in_sound : (ts : List TokenAndSpan) → s.at.left ≡ ts → Meets (λ i t. SoundStep (ReadsName i) s t) (name_in missing s ts)
+  name_in_sound [] e = wanted_meets _ missing s
+  name_in_sound (u ∷ ts) e = name_by_sound u ts u.token e refl
+
+name_sound : (missing : Kind) (s : State) → Meets (λ i t. SoundStep (ReadsName i) s t) (name missing s)
+unfolding name
+name_sound missing s = name_in_sound missing s s.at.left refl
+
+-- ---- expressions
+
+module _ (Inner : Code → Tree → Place → Place → Type 0) where
+  ident_sound : (s : State) → Meets (λ x t. SoundTree (PrimaryRule Inner) s x t) (ident_expr s)
+  unfolding ident_expr
+  ident_sound s = meets_then _ (name faults.Unexpected s) _ (name_sound faults.Unexpected s) (λ i t p.
+      sound_as s t refl refl refl (λ r. name_rule r.word i.span r.token r.free (ap (λ z. tree.ident i.span z) r.text)) p)
+
+  -- a literal was read, or nothing
+  abbrev Literal : State → Option Tree → State → Type 0
+  Literal s (Some x) t = SoundTree (PrimaryRule Inner) s x t
+  Literal s None t = t ≡ s
+
+  literal_of_sound : (s : State) (u : TokenAndSpan) (ts : List TokenAndSpan) (v : Token) → s.at.left ≡ u ∷ ts → u.token ≡ v → Meets (Literal s) (taken (literal_of u.span v) s)
+  literal_of_sound s u ts (token.Str value raw) e h = sound_moved s (string_rule value raw u.span (record { had_line_break = u.had_line_break; rest = ts; is = e ∙ rw (← h) refl; next = refl }) refl)
+  literal_of_sound s u ts (token.Num raw) e h = sound_moved s (number_rule raw u.span (record { had_line_break = u.had_line_break; rest = ts; is = e ∙ rw (← h) refl; next = refl }) refl)
+  literal_of_sound s u ts (token.BigInt raw) e h = sound_moved s (big_int_rule raw u.span (record { had_line_break = u.had_line_break; rest = ts; is = e ∙ rw (← h) refl; next = refl }) refl)
+  literal_of_sound s u ts (token.Word word.Null) e h = sound_moved s (null_rule u.span (record { had_line_break = u.had_line_break; rest = ts; is = e ∙ rw (← h) refl; next = refl }) refl)
+  literal_of_sound s u ts (token.Word word.True) e h = sound_moved s (true_rule u.span (record { had_line_break = u.had_line_break; rest = ts; is = e ∙ rw (← h) refl; next = refl }) refl)
+  literal_of_sound s u ts (token.Word word.False) e h = sound_moved s (false_rule u.span (record { had_line_break = u.had_line_break; rest = ts; is = e ∙ rw (← h) refl; next = refl }) refl)
+  literal_of_sound s u ts _ e h = refl
+
+  literal_in_sound : (s : State) (ts : List TokenAndSpan) → s.at.left ≡ ts → Meets (Literal s) (taken (literal_in ts) s)
+  literal_in_sound s [] e = refl
+  literal_in_sound s (u ∷ ts) e = literal_of_sound s u ts u.token e refl
+
+  literal_sound : (s : State) → Meets (Literal s) (literal s)
+  unfolding literal
+  literal_sound s = literal_in_sound s s.at.left refl
+
+  module _ (inner : Reader Tree) (sound : (s : State) → Meets (λ x t. SoundTree Inner s x t) (inner s)) where
+    paren_sound : (s : State) → kind_at s.at ≡ kind.LParen → Meets (λ x t. SoundTree (PrimaryRule Inner) s x t) (paren inner s)
+    unfolding paren
+    paren_sound s e = meets_then _ (within with_in inner (moved s)) _
+        (within_sound (λ x k l. walk (env_of k l) x) notes (λ x k. Inner k x) with_in inner (moved s) (sound (coded (with_in s.code) (moved s)))) (λ x m p.
+        meets_then _ (expect kind.RParen m) _ (expect_sound kind.RParen m) (λ _ t q.
+        sound_after s t refl refl (λ (i, r, z). paren_rule x i e r z.0 z.1 refl) (sound_more p q)))
+
+    paren_or_none_sound : (s : State) → Meets (λ x t. SoundTree (PrimaryRule Inner) s x t) (paren_or_none inner s)
+    paren_or_none_sound s = meets_if _ (sees kind.LParen s.at) _ _ (λ e. paren_sound s (saw s.at kind.LParen e)) (λ _. wanted_meets _ faults.Unexpected s)
+
+    literal_or_sound : (s : State) (o : Option Tree) (t : State) → Literal s o t → Meets (λ x u. SoundTree (PrimaryRule Inner) s x u) (literal_or inner o t)
+    literal_or_sound s (Some x) t p = p
+    literal_or_sound s None t e = subst (λ z. Meets (λ x u. SoundTree (PrimaryRule Inner) s x u) (paren_or_none inner z)) (sym e) (paren_or_none_sound s)
+
+    primary_sound : (s : State) → Meets (λ x t. SoundTree (PrimaryRule Inner) s x t) (primary inner s)
+    unfolding primary
+    primary_sound s = meets_if _ (name_at s.code.flags s.at) _ _ (λ _. ident_sound s)
+        (λ _. meets_then _ (literal s) _ (literal_sound s) (λ o t p. literal_or_sound s o t p))
+
+    whole_sound : (s : State) → Meets (λ x t. SoundTree (λ k x c d. PrimaryRule Inner k x c d × (continues k x d ≡ false)) s x t) (whole_expr inner s)
+    unfolding whole_expr closed
+    whole_sound s = meets_then _ (primary inner s) _ (primary_sound s) (λ x t p. meets_if _ (continues t.code x t.at) _ _ (λ _. wanted_meets _ faults.Unexpected t)
+        (λ e. sound_as s t refl refl refl (λ r. (r, subst (λ k. continues k x t.at ≡ false) p.code e)) p))
+
+pub expr_sound : (n : ℕ) (s : State) → Meets (λ x t. SoundTree (ReadsExpr n) s x t) (expr n s)
+unfolding expr
+expr_sound zero s = too_deep_meets _ s
+expr_sound (suc n) s = whole_sound (ReadsExpr n) (expr n) (expr_sound n) s
+
+-- ---- binding patterns
+
+binding_sound : (s : State) → Meets (λ x t. SoundTree PatRule s x t) (binding s)
+unfolding binding
+binding_sound s = meets_then _ (name faults.ExpectedIdent s) _ (name_sound faults.ExpectedIdent s) (λ i t p.
+    sound_as s t refl refl refl (λ r. binding_rule r.word i.span r.token r.free (ap (λ z. tree.ident_pat i.span z) r.text)) p)
+
+pub pat_sound : (n : ℕ) (s : State) → Meets (λ x t. SoundTree (ReadsPat n) s x t) (pat n s)
+unfolding pat
+pat_sound zero s = too_deep_meets _ s
+pat_sound (suc n) s = binding_sound s
+
+-- ---- lists of trees
+
+walks_push : (env : walks.Env) (xs : List Tree) (x : Tree) → walks.walks env false (trees xs) ++ walk env x ≡ walks.walks env false (trees (xs ++ x ∷ []))
+walks_push env [] x = sym (append-nil (walk env x))
+walks_push env (y ∷ ys) x = append_assoc (walk env y) (walks.walks env false (trees ys)) (walk env x) ∙ ap (λ z. walk env y ++ z) (walks_push env ys x)
+
+notes_push : (xs : List Tree) (x : Tree) → all_notes (trees xs) ++ notes x ≡ all_notes (trees (xs ++ x ∷ []))
+notes_push [] x = sym (append-nil (notes x))
+notes_push (y ∷ ys) x = append_assoc (notes y) (all_notes (trees ys)) (notes x) ∙ ap (λ z. notes y ++ z) (notes_push ys x)
+
+-- ---- declarations
+
+-- trees with a comma after each
+abbrev Front : (Tree → Place → Place → Type 0) → List Tree → Place → Place → Type 0
+Front Reads [] c d = d ≡ c
+Front Reads (x ∷ xs) c d = (m : Place) × Reads x c m × (kind_at m ≡ kind.Comma) × Front Reads xs (after m) d
+
+module _ (Reads : Tree → Place → Place → Type 0) (x : Tree) where
+  front_push : (c i m : Place) (xs : List Tree) → Front Reads xs c i → Reads x i m → kind_at m ≡ kind.Comma → Front Reads (xs ++ x ∷ []) c (after m)
+  front_push c i m [] e r h = (m, subst (λ z. Reads x z m) e r, h, refl)
+  front_push c i m (y ∷ ys) (n, a, b, more) r h = (n, a, b, front_push (after n) i m ys more r h)
+
+  front_last : (c i d : Place) (xs : List Tree) → Front Reads xs c i → Reads x i d → sees kind.Comma d ≡ false → ReadsSeparated Reads (xs ++ x ∷ []) c d
+  front_last c i d [] e r h = (subst (λ z. Reads x z d) e r, h)
+  front_last c i d (y ∷ []) (m, a, b, e) r h = (m, a, b, front_last (after m) i d [] e r h)
+  front_last c i d (y ∷ z ∷ zs) (m, a, b, more) r h = (m, a, b, front_last (after m) i d (z ∷ zs) more r h)
+
+module _ (Pat : Code → Tree → Place → Place → Type 0) (pat : Reader Tree) (sound : (s : State) → Meets (λ x t. SoundTree Pat s x t) (pat s)) where
+  declarator_sound : (s : State) → Meets (λ x t. SoundTree (DeclaratorRule Pat) s x t) (declarator pat s)
+  unfolding declarator plain_declarator
+  declarator_sound s = meets_then _ (pat s) _ (sound s) (λ p t q. meets_if _ (sees kind.Assign t.at) _ _ (λ _. wanted_meets _ faults.Unexpected t)
+      (λ e. sound_as s t refl (sym (append-nil (walk (env_of s.code s.scope.labels) p))) (sym (append-nil (notes p))) (λ r. plain_rule p r e refl) q))
+
+  -- the declarators so far, and all
+  abbrev DeclaratorsSoFar : State → List Tree → State → Type 0
+  DeclaratorsSoFar s xs t = Sound same (λ k l. walks.walks (env_of k l) false (trees xs)) (all_notes (trees xs)) (λ k. Front (DeclaratorRule Pat k) xs) s t
+
+  abbrev Declarators : State → List Tree → State → Type 0
+  Declarators s xs t = Sound same (λ k l. walks.walks (env_of k l) false (trees xs)) (all_notes (trees xs)) (λ k. ReadsSeparated (DeclaratorRule Pat k) xs) s t
+
+  declarators_turn_sound : (s : State) (xs : List Tree) (t : State) → DeclaratorsSoFar s xs t
+      → Meets (Turned (declarators_turn pat) (DeclaratorsSoFar s) (Declarators s) Refuses) (declarators_turn pat xs t)
+  unfolding declarators_turn
+  declarators_turn_sound s xs t p = meets_then _ (declarator pat t) _ (declarator_sound t) (λ x u q. meets_if _ (sees kind.Comma u.at) _ _
+      (λ e. sound_as s (moved u) refl (walks_push (env_of s.code s.scope.labels) xs x) (notes_push xs x)
+      (λ (m, (i, a, b), z). subst (λ y. Front (DeclaratorRule Pat s.code) (xs ++ x ∷ []) s.at y) (sym z.1) (front_push (DeclaratorRule Pat s.code) x s.at i m xs a b z.0))
+      (sound_more (sound_then p q) (sound_moved {P = λ k. Takes kind.Comma} u (saw u.at kind.Comma e, refl))))
+      (λ e. sound_as s u refl (walks_push (env_of s.code s.scope.labels) xs x) (notes_push xs x)
+      (λ (i, a, b). front_last (DeclaratorRule Pat s.code) x s.at i u.at xs a b e) (sound_then p q)))
+
+  declarators_sound : (s : State) → Meets (Declarators s) (declarators pat s)
+  unfolding declarators
+  declarators_sound s = loop_answers (declarators_turn pat) (DeclaratorsSoFar s) (Declarators s) Refuses (declarators_turn_sound s) (λ t. tt) [] s (sound_here s refl)
+
+module _ (Pat : Code → Tree → Place → Place → Type 0) (pat : Reader Tree) (sound : (s : State) → Meets (λ x t. SoundTree Pat s x t) (pat s))
+    (Stmt : Code → Position → Tree → Place → Place → Type 0) (Expr : Code → Tree → Place → Place → Type 0) (at : Position) where
+  var_sound : (s : State) → kind_at s.at ≡ kind.Var → Meets (λ x t. SoundTree (λ k. StmtRule Stmt Expr Pat k at) s x t) (var pat s)
+  unfolding var
+  var_sound s e = meets_then _ (within with_in (declarators pat) (moved s)) _
+      (within_sound (λ xs k l. walks.walks (env_of k l) false (trees xs)) (λ xs. all_notes (trees xs)) (λ xs k. ReadsSeparated (DeclaratorRule Pat k) xs) with_in (declarators pat) (moved s)
+      (declarators_sound Pat pat sound (coded (with_in s.code) (moved s)))) (λ xs m p.
+      meets_then _ (end faults.Unexpected m) _ (end_sound faults.Unexpected m) (λ _ t q.
+      sound_after s t refl refl (λ (i, r, z). var_rule xs i e r z refl) (sound_more p q)))
+
+-- ---- statements one behind another
+
+-- the code behind these statements, and whether the next can be a directive
+abbrev pub code_after : Code → Bool → List Tree → Code
+code_after k directives [] = k
+code_after k directives (x ∷ xs) = code_after (directed k directives x) (directs_on directives x) xs
+
+abbrev pub directs_after : Bool → List Tree → Bool
+directs_after directives [] = directives
+directs_after directives (x ∷ xs) = directs_after (directs_on directives x) xs
+
+never_directs : (xs : List Tree) → directs_after false xs ≡ false
+never_directs [] = refl
+never_directs (x ∷ xs) = never_directs xs
+
+directs_agrees : (directives : Bool) (xs : List Tree) → directs directives xs ≡ directs_after directives xs
+directs_agrees directives [] = refl
+directs_agrees directives (x ∷ xs) = sym (never_directs xs)
+
+-- a block's statements change no code
+pub code_stays : (k : Code) (xs : List Tree) → code_after k false xs ≡ k
+code_stays k [] = refl
+code_stays k (x ∷ xs) = code_stays k xs
+
+pub code_push : (k : Code) (directives : Bool) (xs : List Tree) (x : Tree) → directed (code_after k directives xs) (directs_after directives xs) x ≡ code_after k directives (xs ++ x ∷ [])
+code_push k directives [] x = refl
+code_push k directives (y ∷ ys) x = code_push (directed k directives y) (directs_on directives y) ys x
+
+-- what the walk knows of the code behind a directive
+directed_env : (k : Code) (labels : List Text) (directives : Bool) (x : Tree) → env_of (directed k directives x) labels ≡ walks.directed (env_of k labels) directives x
+directed_env k labels directives x = by_test (directives && is_use_strict x)
+  where
+    by_test : (b : Bool) → env_of (cond b (in_strict k) k) labels ≡ cond b (record (env_of k labels) { strict = true }) (env_of k labels)
+    by_test true = refl
+    by_test false = refl
+
+pub items_walk_push : (k : Code) (labels : List Text) (directives : Bool) (xs : List Tree) (x : Tree)
+    → walks.walks (env_of k labels) directives (trees xs) ++ walk (env_of (code_after k directives xs) labels) x ≡ walks.walks (env_of k labels) directives (trees (xs ++ x ∷ []))
+items_walk_push k labels directives [] x = sym (append-nil (walk (env_of k labels) x))
+items_walk_push k labels directives (y ∷ ys) x =
+    let j : Code = directed k directives y in
+    let e : env_of j labels ≡ walks.directed (env_of k labels) directives y = directed_env k labels directives y in
+    append_assoc (walk (env_of k labels) y) (walks.walks (walks.directed (env_of k labels) directives y) false (trees ys)) (walk (env_of (code_after j false ys) labels) x)
+    ∙ ap (λ z. walk (env_of k labels) y ++ z) (subst (λ v. walks.walks v false (trees ys) ++ walk (env_of (code_after j false ys) labels) x ≡ walks.walks v false (trees (ys ++ x ∷ []))) e
+    (items_walk_push j labels false ys x))
+
+module _ (Reads : Code → Tree → Place → Place → Type 0) where
+  -- one more behind those read
+  pub items_push : (k : Code) (directives : Bool) (xs : List Tree) (x : Tree) (c m d : Place) → ReadsItems Reads k directives xs c m → Reads (code_after k directives xs) x m d
+      → ReadsItems Reads k directives (xs ++ x ∷ []) c d
+  items_push k directives [] x c m d e r = (d, subst (λ z. Reads k x z d) e r, refl)
+  items_push k directives (y ∷ ys) x c m d (i, a, more) r = (i, a, items_push (directed k directives y) (directs_on directives y) ys x i m d more r)
+
+  abbrev pub SoundItems : Bool → State → List Tree → State → Type 0
+  SoundItems directives s xs t = Sound (λ k. code_after k directives xs) (λ k l. walks.walks (env_of k l) directives (trees xs)) (all_notes (trees xs)) (λ k. ReadsItems Reads k directives xs) s t
+
+  module _ (stmt : Reader Tree) (sound : (s : State) → Meets (λ x t. SoundTree Reads s x t) (stmt s)) (stops : Place → Bool) (directives : Bool) where
+    abbrev Stopped : State → List Tree → State → Type 0
+    Stopped s xs t = SoundItems directives s xs t × (stops t.at ≡ true)
+
+    items_turn_sound : (s : State) (xs : List Tree) (t : State) → SoundItems directives s xs t
+        → Meets (Turned (items_turn stmt stops directives) (SoundItems directives s) (Stopped s) Refuses) (items_turn stmt stops directives xs t)
+    unfolding items_turn
+    items_turn_sound s xs t p = meets_if _ (stops t.at) _ _ (λ e. (p, e)) (λ _. meets_then _ (stmt t) _ (sound t) (λ x u q.
+        let r = sound_then p q in
+        let e : directed u.code (directs directives xs) x ≡ code_after s.code directives (xs ++ x ∷ []) =
+        ap (λ j. directed j (directs directives xs) x) r.code ∙ ap (λ b. directed (code_after s.code directives xs) b x) (directs_agrees directives xs) ∙ code_push s.code directives xs x in
+        sound_coded s u (directed u.code (directs directives xs) x) e
+        (sound_as {g = λ k. code_after k directives xs} s u refl (items_walk_push s.code s.scope.labels directives xs x) (notes_push xs x) (λ (i, a, b). items_push s.code directives xs x s.at i u.at a b) r)))
+
+    items_sound : (s : State) → Meets (Stopped s) (items stmt stops directives s)
+    unfolding items
+    items_sound s = loop_answers (items_turn stmt stops directives) (SoundItems directives s) (Stopped s) Refuses (items_turn_sound s) (λ t. tt) [] s (sound_here s refl)
+
+-- ---- statements
+
+-- an error token in first place is one of the list
+error_first : (c : Place) (u : TokenAndSpan) (ts : List TokenAndSpan) (e : Error) → c.left ≡ u ∷ ts → u.token ≡ token.Error e → has_error_token c.left ≡ true
+unfolding same_kind
+error_first c u ts e h g = rw (h, g) refl
+
+not_both : {X : Type 0} (b : Bool) → b ≡ true → b ≡ false → X
+not_both b e h = cc
+
+-- a recorded fault that is not of the table; an error token before it is recorded too
+module _ (P : Code → Place → Place → Type 0) (f : Fault) (s : State) (untabled : walks.is_tabled f.kind ≡ false) where
+  noted_sound : (ns : List Fault) → Sound same no_faults ns P s (noted f s)
+  noted_sound ns = record {
+    code = refl;
+    scope = refl;
+    added = f ∷ [];
+    faults = refl;
+    held_back = λ i. some_fault f [] i;
+    walked = λ i d. rw untabled refl;
+    keeps = λ i. i;
+    reads = λ i. some_fault f [] i;
+  }
+
+  recorded_at_sound : (u : TokenAndSpan) (ts : List TokenAndSpan) (v : Token) → s.at.left ≡ u ∷ ts → u.token ≡ v → Meets (λ _ t. SoundStep P s t) (recorded_at f s v)
+  recorded_at_sound u ts (token.Error e) h g = meets_if _ (means_out_of_memory e.kind) _ _ (λ _. tt) (λ _. record {
+    code = refl;
+    scope = refl;
+    added = fault_of e ∷ f ∷ [];
+    faults = append_assoc s.faults (fault_of e ∷ []) (f ∷ []);
+    held_back = λ i. some_fault (fault_of e) (f ∷ []) i;
+    walked = λ i d. not_both (has_error_token s.at.left) (error_first s.at u ts e h g) i;
+    keeps = λ i. not_both (has_error_token s.at.left) (error_first s.at u ts e h g) i;
+    reads = λ i. some_fault (fault_of e) (f ∷ []) i;
+  })
+  recorded_at_sound u ts _ h g = noted_sound []
+
+  recorded_in_sound : (ts : List TokenAndSpan) → s.at.left ≡ ts → Meets (λ _ t. SoundStep P s t) (recorded_in f s ts)
+  recorded_in_sound [] h = noted_sound []
+  recorded_in_sound (u ∷ ts) h = recorded_at_sound u ts u.token h refl
+
+  fault_sound : Meets (λ _ t. SoundStep P s t) (fault f s)
+  unfolding fault
+  fault_sound = recorded_in_sound s.at.left refl
+
+close_sound : (s : State) → Meets (λ _ t. SoundStep (λ k. Takes kind.RBrace) s t) (close s)
+unfolding close
+close_sound s = meets_if _ (sees kind.RBrace s.at) _ _ (λ e. sound_moved s (saw s.at kind.RBrace e, refl))
+    (λ _. fault_sound (λ k. Takes kind.RBrace) (fault_at (span_at s.at) faults.Expected) s refl)
+
+-- a bare name before `:` is refused
+NoLabel : Tree → Code → Place → Place → Type 0
+NoLabel x k c d = (is_ident x && sees kind.Colon c ≡ false) × (d ≡ c)
+
+no_label_sound : (expr : Reader Tree) (x : Tree) (s : State) → Meets (λ _ t. SoundStep (NoLabel x) s t) (no_label expr x s)
+unfolding no_label NoLabel
+no_label_sound expr x s = meets_if _ (is_ident x && sees kind.Colon s.at) _ _ (λ _. wanted_meets _ faults.Unexpected s) (λ e. sound_here s (e, refl))
+
+-- the bare name `interface` is noted, or recorded in module code
+NoNote : Tree → Code → Place → Place → Type 0
+NoNote x k c d = (k.flags.module && is_ident_named (codes "interface") x ≡ false) × (d ≡ c)
+
+SoundNote : Tree → State → State → Type 0
+SoundNote x s t = Sound same no_faults (statement_note x) (NoNote x) s t
+
+module_fault_sound : (x : Tree) (s : State) → is_ident_named (codes "interface") x ≡ true → SoundNote x s (module_fault (fault_at (span_of x) faults.InvalidIdentInStrict) s)
+unfolding SoundNote NoNote
+module_fault_sound x s e = by_module s.code.flags.module refl
+  where
+    f : Fault
+    f = fault_at (span_of x) faults.InvalidIdentInStrict
+
+    by_module : (b : Bool) → s.code.flags.module ≡ b → Sound same no_faults (statement_note x) (NoNote x) s (cond b (noted f s) (record s { held_back = s.held_back ++ f ∷ [] }))
+    by_module true h = noted_sound (NoNote x) f s refl (statement_note x)
+    by_module false h = record {
+      code = refl;
+      scope = refl;
+      added = [];
+      faults = sym (append-nil s.faults);
+      held_back = λ i. rw e refl;
+      walked = λ i d. refl;
+      keeps = λ i. i;
+      reads = λ i. (rw h refl, refl);
+    }
+
+and_false : (a b : Bool) → b ≡ false → (a && b) ≡ false
+and_false true b e = e
+and_false false b e = refl
+
+note_sound : (x : Tree) (s : State) → Meets (λ _ t. SoundNote x s t) (note_statement x s)
+unfolding note_statement SoundNote NoNote
+note_sound x s = meets_if _ (is_ident_named (codes "interface") x) _ _ (λ e. module_fault_sound x s e)
+    (λ e. sound_as s s refl refl (rw e refl) (λ h. h) (sound_here {P = NoNote x} s (and_false s.code.flags.module (is_ident_named (codes "interface") x) e, refl)))
+
+module _ (Stmt : Code → Position → Tree → Place → Place → Type 0) (Expr Pat : Code → Tree → Place → Place → Type 0) (inner : Position → Reader Tree) (inner_expr inner_pat : Reader Tree)
+    (sound : (at : Position) (s : State) → Meets (λ x t. SoundTree (λ k. Stmt k at) s x t) (inner at s))
+    (sound_expr : (s : State) → Meets (λ x t. SoundTree Expr s x t) (inner_expr s))
+    (sound_pat : (s : State) → Meets (λ x t. SoundTree Pat s x t) (inner_pat s)) (at : Position) where
+  abbrev SoundStmt : State → Tree → State → Type 0
+  SoundStmt s x t = SoundTree (λ k. StmtRule Stmt Expr Pat k at) s x t
+
+  empty_sound : (s : State) → kind_at s.at ≡ kind.Semi → Meets (SoundStmt s) (empty s)
+  unfolding empty
+  empty_sound s e = sound_moved s (empty_rule e refl refl)
+
+  debugger_sound : (s : State) → kind_at s.at ≡ kind.Debugger → Meets (SoundStmt s) (debugger s)
+  unfolding debugger
+  debugger_sound s e = meets_then _ (end faults.Expected (moved s)) _ (end_sound faults.Expected (moved s)) (λ _ t p. sound_after s t refl refl (λ h. debugger_rule e h refl) p)
+
+  block_sound : (s : State) → kind_at s.at ≡ kind.LBrace → Meets (SoundStmt s) (block (inner nested_item) s)
+  unfolding block
+  block_sound s e = meets_then _ (items (inner nested_item) closes false (moved s)) _ (items_sound (λ j. Stmt j nested_item) (inner nested_item) (sound nested_item) closes false (moved s)) (λ xs m p.
+      meets_then _ (close m) _ (close_sound m) (λ _ t q.
+      let b : Sound same (λ k l. walks.walks (env_of k l) false (trees xs)) (all_notes (trees xs)) (λ k c d. (i : Place) × ReadsItems (λ j. Stmt j nested_item) k false xs c i × Takes kind.RBrace i d) (moved s) t =
+      sound_as (moved s) t (code_stays s.code xs) refl refl (λ h. h) (sound_more p.0 q) in
+      sound_after s t refl refl (λ (i, r, z). block_rule xs i e r z.0 z.1 refl) b))
+
+  expr_stmt_sound : (s : State) → may_begin_expression_statement at s.at ≡ true → Meets (SoundStmt s) (expr_stmt inner_expr s)
+  unfolding expr_stmt SoundNote NoNote NoLabel
+  expr_stmt_sound s e = meets_then _ (within with_in inner_expr s) _
+      (within_sound (λ x k l. walk (env_of k l) x) notes (λ x k. Expr k x) with_in inner_expr s (sound_expr (coded (with_in s.code) s))) (λ x i p.
+      meets_then _ (no_label inner_expr x i) _ (no_label_sound inner_expr x i) (λ _ j q.
+      meets_then _ (note_statement x j) _ (note_sound x j) (λ _ m r.
+      meets_then _ (end faults.ExpectedSemiForExprStmt m) _ (end_sound faults.ExpectedSemiForExprStmt m) (λ _ t z.
+      sound_as s t refl (append-nil (walk (env_of s.code s.scope.labels) x)) refl
+      (λ (i, (j, (m, a, b), g), y). expr_rule x m e a b.0 g.0 (subst (λ v. Ends v t.at) (g.1 ∙ b.1) y) refl)
+      (sound_more (sound_then (sound_more p q) r) z)))))
+
+  expr_stmt_at_sound : (s : State) → Meets (SoundStmt s) (expr_stmt_at inner_expr at s)
+  unfolding expr_stmt_at
+  expr_stmt_at_sound s = meets_if _ (may_begin_expression_statement at s.at) _ _ (λ h. expr_stmt_sound s h) (λ _. wanted_meets _ faults.Unexpected s)
+
+  by_sound : (j : TokenKind) (s : State) → kind_at s.at ≡ j → Meets (SoundStmt s) (stmt_by inner inner_expr inner_pat at j s)
+  by_sound kind.LBrace s e = block_sound s e
+  by_sound kind.Semi s e = empty_sound s e
+  by_sound kind.Debugger s e = debugger_sound s e
+  by_sound kind.Var s e = var_sound Pat inner_pat sound_pat Stmt Expr at s e
+  by_sound _ s e = expr_stmt_at_sound s
+
+  level_sound : (s : State) → Meets (SoundStmt s) (stmt_level inner inner_expr inner_pat at s)
+  unfolding stmt_level
+  level_sound s = by_sound (kind_at s.at) s refl
+
+pub stmt_sound : (n : ℕ) (at : Position) (s : State) → Meets (λ x t. SoundTree (λ k. ReadsStmt n k at) s x t) (stmt n at s)
+unfolding stmt
+stmt_sound zero at s = too_deep_meets _ s
+stmt_sound (suc n) at s = level_sound (ReadsStmt n) (ReadsExpr n) (ReadsPat n) (stmt n) (expr n) (pat n) (stmt_sound n) (expr_sound n) (pat_sound n) at s
+
+-- ---- a script
+
+-- no word and no operator is a first line
+keyword_no_shebang : (k : Keyword) → same_kind (keyword_kind k) kind.Shebang ≡ false
+unfolding same_kind
+keyword_no_shebang keyword.Await = refl
+keyword_no_shebang _ = refl
+
+word_no_shebang : (w : Word) → same_kind (word_kind w) kind.Shebang ≡ false
+unfolding same_kind
+word_no_shebang (word.Keyword k) = keyword_no_shebang k
+word_no_shebang _ = refl
+
+bin_op_no_shebang : (o : BinOpToken) → same_kind (bin_op_kind o) kind.Shebang ≡ false
+unfolding same_kind
+bin_op_no_shebang bin.EqEq = refl
+bin_op_no_shebang _ = refl
+
+assign_op_no_shebang : (o : AssignOp) → same_kind (assign_op_kind o) kind.Shebang ≡ false
+unfolding same_kind
+assign_op_no_shebang assign.Assign = refl
+assign_op_no_shebang _ = refl
+
+ReadsNoShebang : Place → Place → Type 0
+ReadsNoShebang c d = (sees kind.Shebang c ≡ false) × (d ≡ c)
+
+SoundShebang : State → Option Text → State → Type 0
+SoundShebang s o t = SoundStep (λ k c d. ReadsShebang c d o) s t
+
+sees_other : (c : Place) (u : TokenAndSpan) (ts : List TokenAndSpan) (j : TokenKind) → c.left ≡ u ∷ ts → same_kind (token_kind u.token) j ≡ false → sees j c ≡ false
+unfolding kind_at
+sees_other c u ts j e h = rw e h
+
+shebang_of_sound : (s : State) (u : TokenAndSpan) (ts : List TokenAndSpan) (v : Token) → s.at.left ≡ u ∷ ts → u.token ≡ v → Meets (SoundShebang s) (shebang_taken (shebang_of v) s)
+unfolding same_kind SoundShebang
+shebang_of_sound s u ts (token.Shebang text) e h = sound_moved s (some_shebang text u.span (record { had_line_break = u.had_line_break; rest = ts; is = e ∙ rw (← h) refl; next = refl }))
+shebang_of_sound s u ts (token.Word w) e h = sound_here s (no_shebang (sees_other s.at u ts kind.Shebang e (rw h (word_no_shebang w))) refl)
+shebang_of_sound s u ts (token.BinOp o) e h = sound_here s (no_shebang (sees_other s.at u ts kind.Shebang e (rw h (bin_op_no_shebang o))) refl)
+shebang_of_sound s u ts (token.AssignOp o) e h = sound_here s (no_shebang (sees_other s.at u ts kind.Shebang e (rw h (assign_op_no_shebang o))) refl)
+shebang_of_sound s u ts _ e h = sound_here s (no_shebang (sees_other s.at u ts kind.Shebang e (rw h refl)) refl)
+
+shebang_in_sound : (s : State) (ts : List TokenAndSpan) → s.at.left ≡ ts → Meets (SoundShebang s) (shebang_taken (shebang_in ts) s)
+unfolding same_kind SoundShebang kind_at
+shebang_in_sound s [] e = sound_here s (no_shebang (rw e refl) refl)
+shebang_in_sound s (u ∷ ts) e = shebang_of_sound s u ts u.token e refl
+
+shebang_sound : (s : State) → Meets (SoundShebang s) (shebang s)
+unfolding shebang
+shebang_sound s = shebang_in_sound s s.at.left refl
+
+at_end_seen : (c : Place) → at_end c ≡ true → kind_at c ≡ kind.End
+unfolding at_end
+at_end_seen c e = saw c kind.End e
+
+-- the rule of a script under the code of one
+record ReadsBody (n : ℕ) (x : Tree) (k : Code) (c d : Place) : Type 0 where
+  shebang : Option Text
+  first : Place
+  reads_shebang : ReadsShebang c first shebang
+  items : List Tree
+  reads_items : ReadsItems (λ j. ReadsStmt n j top_item) k true items first d
+  is : x ≡ tree.script (spanned c d) (listed items) shebang
+
+-- ends where the list does
+abbrev SoundBody : ℕ → State → Tree → State → Type 0
+SoundBody n s x t = ((f : Code → Code) × Sound f (λ k l. walk (env_of k l) x) (notes x) (ReadsBody n x) s t) × (kind_at t.at ≡ kind.End)
+
+body_sound : (n : ℕ) (s : State) → Meets (SoundBody n s) (script_body n s)
+unfolding script_body SoundShebang
+body_sound n s = meets_then _ (shebang s) _ (shebang_sound s) (λ o m p.
+    meets_then _ (items (stmt n top_item) at_end true m) _ (items_sound (λ k. ReadsStmt n k top_item) (stmt n top_item) (stmt_sound n top_item) at_end true m) (λ xs t q.
+    (((λ k. code_after k true xs), sound_as s t refl refl refl (λ (i, r, z). record { shebang = o; first = i; reads_shebang = r; items = xs; reads_items = z; is = refl }) (sound_then p q.0)), at_end_seen t.at q.1)))
+
+script_is : (n : ℕ) (s : State) (x : Tree) (t : State) → SoundBody n (coded (script_code s.code) s) x t → SoundScript n s x (coded (script_code s.code) t)
+script_is n s x t ((f, p), e) = record {
+  code = refl;
+  scope = p.scope;
+  whole = e;
+  added = p.added;
+  faults = p.faults;
+  reads = λ h. let r = p.reads h in record { shebang = r.shebang; first = r.first; reads_shebang = r.reads_shebang; items = r.items; reads_items = r.reads_items; whole = e; is = r.is };
+  walked = p.walked;
+}
+
+pub script_sound : (n : ℕ) (s : State) → Meets (λ x t. SoundScript n s x t) (script n s)
+unfolding script
+script_sound n s = meets_then _ (script_body n (coded (script_code s.code) s)) _ (body_sound n (coded (script_code s.code) s)) (λ x t p. script_is n s x t p)
+
+pub script_is_sound : (n : ℕ) (s : State) (x : Tree) (t : State) → script n s ≡ Ok (x, t) → SoundScript n s x t
+script_is_sound n s x t e = meant (λ y u. SoundScript n s y u) Refuses (script n s) (Ok (x, t)) e (script_sound n s)
+
+-- where nothing is recorded, what is held back for module code are the tree's notes
+pub script_notes : (n : ℕ) (s : State) → Meets (λ x t. (added : List Fault) × (t.faults ≡ s.faults ++ added) × (added ≡ [] → t.held_back ≡ s.held_back ++ notes x)) (script n s)
+unfolding script
+script_notes n s = meets_then _ (script_body n (coded (script_code s.code) s)) _ (body_sound n (coded (script_code s.code) s)) (λ x t ((f, p), e). (p.added, p.faults, p.held_back))

@@ -1,0 +1,2 @@
+pub mod Primitives
+pub mod Taken

@@ -1,0 +1,5 @@
+pub mod View
+pub mod Wanted
+pub mod Literals
+pub mod FirstError
+pub mod Taken

@@ -1,0 +1,16 @@
+//! The state of a parser over any source of tokens, and the steps that its rules are made of.
+#![tactic(auto)]
+
+mod literal;
+mod looks;
+mod names;
+mod source;
+mod state;
+mod steps;
+mod wanted;
+
+pub use literal::Literal;
+pub use names::is_name;
+pub use source::Source;
+pub use state::State;
+pub use wanted::Wanted;

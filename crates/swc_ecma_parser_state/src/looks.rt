@@ -1,0 +1,196 @@
+//! What a rule asks of the tokens that stand next.
+
+ghost use Rattle.std.specs.Prelude.{◌≡◌};
+ghost use Rattle.swc_ecma_parser_grammar.specs.Ends as ends;
+ghost use Rattle.swc_ecma_parser_grammar.specs.Follows as follows;
+ghost use Rattle.swc_ecma_parser_grammar.specs.Looks as looks;
+ghost use Rattle.swc_ecma_parser_input.specs.Place as place;
+
+use crate::names::is_reserved_word;
+use crate::state::State;
+use swc_ecma_parser_grammar::Position;
+use swc_ecma_parser_input::Tokens;
+use swc_ecma_parser_token::{Token, TokenAndSpan, TokenKind, Word};
+
+/// Whether it is an operator between two operands that is no word.
+fn is_bin_op(kind: TokenKind) -> bool
+    ensures { result ≡ follows.is_bin_op kind }
+{
+    matches!(
+        kind,
+        TokenKind::EqEq
+            | TokenKind::NotEq
+            | TokenKind::EqEqEq
+            | TokenKind::NotEqEq
+            | TokenKind::Lt
+            | TokenKind::LtEq
+            | TokenKind::Gt
+            | TokenKind::GtEq
+            | TokenKind::LShift
+            | TokenKind::RShift
+            | TokenKind::ZeroFillRShift
+            | TokenKind::Add
+            | TokenKind::Sub
+            | TokenKind::Mul
+            | TokenKind::Div
+            | TokenKind::Mod
+            | TokenKind::BitOr
+            | TokenKind::BitXor
+            | TokenKind::BitAnd
+            | TokenKind::LogicalOr
+            | TokenKind::LogicalAnd
+            | TokenKind::NullishCoalescing
+            | TokenKind::Exp
+    )
+}
+
+/// Whether it is an operator of an assignment.
+fn is_assign_op(kind: TokenKind) -> bool
+    ensures { result ≡ follows.is_assign_op kind }
+{
+    matches!(
+        kind,
+        TokenKind::Assign
+            | TokenKind::AddAssign
+            | TokenKind::SubAssign
+            | TokenKind::MulAssign
+            | TokenKind::DivAssign
+            | TokenKind::ModAssign
+            | TokenKind::ExpAssign
+            | TokenKind::LShiftAssign
+            | TokenKind::RShiftAssign
+            | TokenKind::ZeroFillRShiftAssign
+            | TokenKind::BitAndAssign
+            | TokenKind::BitOrAssign
+            | TokenKind::BitXorAssign
+            | TokenKind::AndAssign
+            | TokenKind::OrAssign
+            | TokenKind::NullishAssign
+    )
+}
+
+/// Whether `let` before this token begins a declaration.
+fn follows_let(token: &Token) -> bool
+    ensures { result ≡ follows.token_follows_let token.now }
+{
+    match token {
+        Token::LBrace | Token::LBracket => true,
+        Token::Word(word) => !is_reserved_word(word.as_str()) || word.as_str() == "enum",
+        _ => false,
+    }
+}
+
+impl<I: Tokens> State<I> {
+    /// Whether a statement may end here without `;`: ECMA-262, section 12.10.
+    #[tactic(auto, unfolding(swc_ecma_parser_grammar::specs::Ends::can_end))]
+    pub fn can_end(&self) -> bool
+        ensures { result ≡ ends.can_end self.now.at }
+    {
+        self.sees(TokenKind::End) || self.sees(TokenKind::RBrace) || self.had_line_break()
+    }
+
+    /// Whether the current token goes on with a member or call expression, or is a postfix operator.
+    #[tactic(auto, unfolding(swc_ecma_parser_grammar::specs::Follows::continues_left_side))]
+    pub fn continues_left_side(&self) -> bool
+        ensures { result ≡ follows.continues_left_side self.now.at }
+    {
+        self.sees(TokenKind::Dot)
+            || self.sees(TokenKind::LBracket)
+            || self.sees(TokenKind::LParen)
+            || !self.had_line_break()
+                && (self.sees(TokenKind::PlusPlus) || self.sees(TokenKind::MinusMinus))
+    }
+
+    #[tactic(auto, unfolding(swc_ecma_parser_grammar::specs::Follows::is_binary))]
+    fn is_binary(&self) -> bool
+        ensures { result ≡ follows.is_binary self.now.code self.now.at }
+    {
+        is_bin_op(self.kind())
+            || self.sees(TokenKind::InstanceOf)
+            || self.flags().include_in_expr && self.sees(TokenKind::In)
+    }
+
+    /// Whether the current token goes on with an operand.
+    #[tactic(auto, unfolding(swc_ecma_parser_grammar::specs::Follows::continues_operand))]
+    pub fn continues_operand(&self) -> bool
+        ensures { result ≡ follows.continues_operand self.now.code self.now.at }
+    {
+        self.is_binary()
+            || self.sees(TokenKind::QuestionMark)
+            || is_assign_op(self.kind())
+            || self.sees(TokenKind::Comma)
+    }
+
+    /// Whether a word that is no keyword stands here and has this text.
+    #[tactic(auto, unfolding(swc_ecma_parser_grammar::specs::Follows::word_at))]
+    pub fn word_at(&self, text: &str) -> bool
+        ensures { result ≡ follows.word_at text.now self.now.at }
+    {
+        match self.buffer.cur() {
+            Some(
+                TokenAndSpan {
+                    token: Token::Word(Word::Ident(word)),
+                    ..
+                },
+            ) => word.as_str() == text,
+            _ => false,
+        }
+    }
+
+    /// Whether a line break stands before the token behind the current one.
+    #[tactic(auto, unfolding(swc_ecma_parser_grammar::specs::Looks::breaks_at, swc_ecma_parser_input::specs::Place::after))]
+    fn next_had_line_break(&self) -> bool
+        ensures { result ≡ looks.breaks_at (place.after self.now.at) }
+    {
+        match self.buffer.peek() {
+            None => false,
+            Some(t) => t.had_line_break,
+        }
+    }
+
+    #[tactic(auto, unfolding(swc_ecma_parser_grammar::specs::Looks::same_kind))]
+    fn next_sees(&self, kind: TokenKind) -> bool
+        ensures { result ≡ looks.sees kind (place.after self.now.at) }
+    {
+        self.next_kind() == kind
+    }
+
+    /// Whether `async function` stands here on one line.
+    #[tactic(auto, unfolding(swc_ecma_parser_grammar::specs::Follows::is_async_function))]
+    pub fn is_async_function(&self) -> bool
+        ensures { result ≡ follows.is_async_function self.now.at }
+    {
+        self.word_at("async") && self.next_sees(TokenKind::Function) && !self.next_had_line_break()
+    }
+
+    #[tactic(auto, unfolding(swc_ecma_parser_input::specs::Place::after))]
+    fn next_follows_let(&self) -> bool
+        ensures { result ≡ follows.first_follows_let (place.after self.now.at).left }
+    {
+        match self.buffer.peek() {
+            None => false,
+            Some(t) => follows_let(&t.token),
+        }
+    }
+
+    /// Whether `let` stands here and begins a declaration.
+    #[tactic(auto, unfolding(swc_ecma_parser_grammar::specs::Follows::is_let_declaration))]
+    pub fn is_let_declaration(&self) -> bool
+        ensures { result ≡ follows.is_let_declaration self.now.at }
+    {
+        self.sees(TokenKind::Let) && self.next_follows_let()
+    }
+
+    /// The look-ahead of an expression statement: ECMA-262, section 14.5.
+    #[tactic(auto, unfolding(swc_ecma_parser_grammar::specs::Follows::may_begin_expression_statement))]
+    pub fn may_begin_expression_statement(&self, at: Position) -> bool
+        ensures { result ≡ follows.may_begin_expression_statement at self.now.at }
+    {
+        !(self.sees(TokenKind::LBrace)
+            || self.sees(TokenKind::Function)
+            || self.sees(TokenKind::Class)
+            || self.sees(TokenKind::Import)
+            || self.is_async_function()
+            || at.include_decl && self.is_let_declaration())
+    }
+}

@@ -1,0 +1,130 @@
+//! The state of a parser: what its rules look at, and how it is made and given back.
+
+ghost use Rattle.std.specs.Prelude.{◌≡◌, is_none};
+ghost use Rattle.swc_ecma_parser_grammar.specs.Looks as looks;
+ghost use Rattle.swc_ecma_parser_grammar.specs.Names as names;
+ghost use Rattle.swc_ecma_parser_input.specs.Place as place;
+
+use crate::names::is_name;
+use std::marker::Model;
+use swc_ecma_parser_common::{Atom, Span};
+use swc_ecma_parser_input::{Buffer, Context, Tokens};
+use swc_ecma_parser_reader::Mark;
+use swc_ecma_parser_token::{Token, TokenAndSpan, TokenKind};
+
+/// A source of tokens behind its buffer, the labels around the place that it has come to, and what a call has met.
+#[derive(Drop)]
+pub struct State<I: Tokens> {
+    pub(crate) buffer: Buffer<I>,
+    pub(crate) labels: Vec<Atom>,
+    pub(crate) found_module_item: bool,
+    pub(crate) mark: Option<Mark>,
+}
+
+impl<I: Tokens> Model for State<I> {
+    ghost use Rattle.swc_ecma_parser_reader.specs.State.{State as Seen};
+
+    ghost Value = { Seen };
+
+    ghost use Rattle.std.specs.Coded.{codes};
+    ghost use Rattle.swc_ecma_parser_token.specs.contracts.token.TokenAndSpan as token;
+
+    ghost coded = { Prim.hlevel (codes, token.the_row.coded) };
+
+    ghost use Rattle.swc_ecma_parser_state.specs.View.{view_of, IsSettled};
+
+    ghost view = { view_of };
+
+    ghost invariant = { IsSettled };
+}
+
+impl<I: Tokens> State<I> {
+    /// The kind of the current token.
+    #[tactic(auto, unfolding(swc_ecma_parser_grammar::specs::Looks::kind_at))]
+    pub fn kind(&self) -> TokenKind
+        ensures { result ≡ looks.kind_at self.now.at }
+    {
+        match self.buffer.cur() {
+            None => TokenKind::End,
+            Some(t) => t.token.kind(),
+        }
+    }
+
+    /// The kind of the token behind the current one.
+    #[tactic(auto, unfolding(swc_ecma_parser_grammar::specs::Looks::kind_at, swc_ecma_parser_input::specs::Place::after))]
+    pub fn next_kind(&self) -> TokenKind
+        ensures { result ≡ looks.kind_at (place.after self.now.at) }
+    {
+        match self.buffer.peek() {
+            None => TokenKind::End,
+            Some(t) => t.token.kind(),
+        }
+    }
+
+    /// Whether a token of this kind stands here.
+    #[tactic(auto, unfolding(swc_ecma_parser_grammar::specs::Looks::same_kind))]
+    pub fn sees(&self, kind: TokenKind) -> bool
+        ensures { result ≡ looks.sees kind self.now.at }
+    {
+        self.kind() == kind
+    }
+
+    /// Whether a line break stands before the current token.
+    #[tactic(auto, unfolding(swc_ecma_parser_grammar::specs::Looks::breaks_at))]
+    pub fn had_line_break(&self) -> bool
+        ensures { result ≡ looks.breaks_at self.now.at }
+    {
+        match self.buffer.cur() {
+            None => false,
+            Some(t) => t.had_line_break,
+        }
+    }
+
+    /// The span of the current token, or of the one read last.
+    #[tactic(auto, unfolding(swc_ecma_parser_grammar::specs::Looks::span_at))]
+    pub fn span(&self) -> Span
+        ensures { result ≡ looks.span_at self.now.at }
+    {
+        match self.buffer.cur() {
+            None => self.buffer.last_span(),
+            Some(t) => t.span,
+        }
+    }
+
+    /// The span of the token read last.
+    pub fn last_span(&self) -> Span
+        ensures { result ≡ self.now.at.last }
+    {
+        self.buffer.last_span()
+    }
+
+    /// Whether no token is left.
+    pub fn is_at_end(&self) -> bool
+        ensures { result ≡ is_none (place.first self.now.at.left) }
+    {
+        self.buffer.cur().is_none()
+    }
+
+    /// What stands around.
+    pub fn flags(&self) -> Context
+        ensures { result ≡ self.now.code.flags }
+    {
+        self.buffer.ctx()
+    }
+
+    /// Whether a name stands here.
+    #[tactic(auto, unfolding(swc_ecma_parser_grammar::specs::Names::name_at))]
+    pub fn name_at(&self) -> bool
+        ensures { result ≡ names.name_at self.now.code.flags self.now.at }
+    {
+        match self.buffer.cur() {
+            Some(
+                TokenAndSpan {
+                    token: Token::Word(word),
+                    ..
+                },
+            ) => is_name(self.buffer.ctx(), word.as_str()),
+            _ => false,
+        }
+    }
+}

@@ -1,0 +1,397 @@
+//! The steps that every rule is made of.
+
+ghost use Rattle.std.specs.Prelude.{◌≡◌, ◌≢◌, true, false, Ok, Err, is_none, IfOk, IfErr, option_map};
+ghost use Rattle.swc_ecma_parser_error.specs.Kind as kinds;
+ghost use Rattle.swc_ecma_parser_error.specs.Kind.{fault_of, kind_of, IsOutOfMemory};
+ghost use Rattle.swc_ecma_parser_input.specs.Place as place;
+ghost use Rattle.swc_ecma_parser_input.specs.TokenSource as source;
+ghost use Rattle.swc_ecma_parser_model.specs.Tree.{Tree};
+ghost use Rattle.swc_ecma_parser_reader.specs.Reader as rules;
+ghost use Rattle.swc_ecma_parser_reader.specs.State as reader;
+ghost use Rattle.swc_ecma_parser_reader.specs.State.{Gives, GivesAs};
+ghost use Rattle.swc_ecma_parser_state.specs.FirstError as first;
+ghost use Rattle.swc_ecma_parser_state.specs.Literals.{literal_tree};
+ghost use Rattle.swc_ecma_parser_state.specs.Taken as taken;
+ghost use Rattle.swc_ecma_parser_state.specs.Wanted.{wanted_kind};
+ghost use Rattle.swc_ecma_parser_model.specs.declared.leaves.Ident.{Ident};
+ghost use Rattle.swc_ecma_parser_token.specs.Text.{word_text};
+
+use crate::literal::Literal;
+use crate::state::State;
+use crate::wanted::{Wanted, missing};
+use swc_ecma_parser_common::{Atom, Span};
+use swc_ecma_parser_error::{Error, PResult, SyntaxError};
+use swc_ecma_parser_input::{Context, Tokens};
+use swc_ecma_parser_model::{BigInt, Bool, Ident, Null, Number, Str};
+use swc_ecma_parser_reader::Mark;
+use swc_ecma_parser_token::{Token, TokenAndSpan, TokenKind, Word};
+
+impl<I: Tokens> State<I> {
+    /// Marks that memory ran out, and says so at the end of what was read last.
+    pub fn out_of_memory(&mut self) -> Error
+        ensures { IsOutOfMemory result }
+    {
+        let last = self.last_span();
+        self.mark = Some(Mark::OutOfMemory);
+        Error {
+            span: Span {
+                lo: last.hi,
+                hi: last.hi,
+            },
+            kind: SyntaxError::OutOfMemory,
+        }
+    }
+
+    /// Takes the current token. Where the token behind the next one finds no memory, that is answered.
+    pub(crate) fn take(&mut self) -> PResult<Option<TokenAndSpan>>
+        ensures token { IfOk result (λ t. t ≡ place.first self.old.at.left) }
+        ensures state { IfOk result (λ t. self.new ≡ reader.moved self.old) }
+        ensures err { IfErr result IsOutOfMemory }
+    {
+        let taken = self.buffer.bump();
+        if self.buffer.is_out_of_memory() {
+            return Err(self.out_of_memory());
+        }
+        Ok(taken)
+    }
+
+    /// Takes the current token and lets it go.
+    pub fn skip(&mut self) -> PResult<()>
+        ensures { Gives (reader.skip self.old) result self.new }
+    {
+        let _token = self.take()?;
+        Ok(())
+    }
+
+    /// Takes an error token that stands here. One for want of memory is answered.
+    pub(crate) fn take_error(&mut self) -> PResult<Option<Error>>
+        ensures error { IfOk result (λ e. e ≡ first.first_error self.old.at.left) }
+        ensures state { IfOk result (λ e. self.new ≡ first.without e self.old) }
+        ensures kind { IfOk result (λ o. first.Harmless o) }
+        ensures err { IfErr result IsOutOfMemory }
+    {
+        let is_error = matches!(
+            self.buffer.cur(),
+            Some(TokenAndSpan {
+                token: Token::Error(_),
+                ..
+            })
+        );
+        if !is_error {
+            return Ok(None);
+        }
+        let Some(taken) = self.take()? else {
+            return Ok(None);
+        };
+        let TokenAndSpan { token, .. } = taken;
+        let Token::Error(error) = token else {
+            return Ok(None);
+        };
+        if matches!(error.kind, SyntaxError::OutOfMemory) {
+            self.mark = Some(Mark::OutOfMemory);
+            return Err(error);
+        }
+        Ok(Some(error))
+    }
+
+    /// Adds a fault to those recorded.
+    pub(crate) fn record(&mut self, error: Error) -> PResult<()>
+        ensures ok { IfOk result (λ u. self.new ≡ reader.noted (fault_of error) self.old) }
+        ensures err { IfErr result IsOutOfMemory }
+    {
+        match self.buffer.add_error(error) {
+            Ok(()) => Ok(()),
+            Err(_) => Err(self.out_of_memory()),
+        }
+    }
+
+    /// Records a fault; an error token that stands here is read and recorded first.
+    #[tactic(auto, using(crate::proofs::Primitives::fault_plain, crate::proofs::Primitives::fault_error))]
+    pub fn fault(&mut self, kind: SyntaxError, span: Span) -> PResult<()>
+        ensures { Gives (reader.fault (reader.fault_at span (kind_of kind)) self.old) result self.new }
+    {
+        if let Some(error) = self.take_error()? {
+            self.record(error)?;
+        }
+        self.record(Error { span, kind })
+    }
+}
+
+impl<I: Tokens> State<I> {
+    /// The fault of what is wanted and does not stand here, or want of memory for its text.
+    fn missing(&mut self, wanted: Wanted) -> PResult<SyntaxError>
+        ensures ok { IfOk result (λ kind. kind_of kind ≡ wanted_kind wanted) }
+        ensures state { IfOk result (λ kind. self.new ≡ self.old) }
+        ensures err { IfErr result IsOutOfMemory }
+    {
+        let alloc = *self.labels.allocator();
+        let found = self.buffer.cur().map(|t| &t.token);
+        match missing(alloc, wanted, found) {
+            Ok(kind) => Ok(kind),
+            Err(_) => Err(self.out_of_memory()),
+        }
+    }
+
+    /// The fault of a part that must stand where the list has ended.
+    fn eof(&self) -> Error
+        ensures { fault_of result ≡ reader.fault_at (reader.end_of self.now.at.last) kinds.Eof }
+    {
+        let last = self.last_span();
+        Error {
+            span: Span {
+                lo: last.hi,
+                hi: last.hi,
+            },
+            kind: SyntaxError::Eof,
+        }
+    }
+
+    /// Refuses what stands here in the place of a part. At the end the kind is `Eof`, and an error token is read and its
+    /// fault answered.
+    #[tactic(auto, using(crate::proofs::Primitives::wanted_error, crate::proofs::Primitives::wanted_end, crate::proofs::Primitives::wanted_plain))]
+    pub fn wanted(&mut self, wanted: Wanted) -> Error
+        ensures tree { kind_of result.kind ≢ kinds.OutOfMemory
+            → reader.wanted {A = Tree} (wanted_kind wanted) self.old ≡ Err (fault_of result, self.new) }
+        ensures unit { kind_of result.kind ≢ kinds.OutOfMemory
+            → reader.wanted {A = Unit {0}} (wanted_kind wanted) self.old ≡ Err (fault_of result, self.new) }
+        ensures ident { kind_of result.kind ≢ kinds.OutOfMemory
+            → reader.wanted {A = Ident} (wanted_kind wanted) self.old ≡ Err (fault_of result, self.new) }
+    {
+        if self.is_at_end() {
+            return self.eof();
+        }
+        match self.take_error() {
+            Err(error) => error,
+            Ok(Some(error)) => error,
+            Ok(None) => match self.missing(wanted) {
+                Err(error) => error,
+                Ok(kind) => Error {
+                    span: self.span(),
+                    kind,
+                },
+            },
+        }
+    }
+
+    /// Refuses what would stand deeper than the limit, and marks it; at the end and at an error token as `wanted`.
+    #[tactic(auto, using(crate::proofs::Primitives::deep_error, crate::proofs::Primitives::deep_end, crate::proofs::Primitives::deep_plain))]
+    pub fn too_deep(&mut self) -> Error
+        ensures { kind_of result.kind ≢ kinds.OutOfMemory
+            → reader.too_deep {A = Tree} self.old ≡ Err (fault_of result, self.new) }
+    {
+        if self.is_at_end() {
+            return self.eof();
+        }
+        match self.take_error() {
+            Err(error) => error,
+            Ok(Some(error)) => error,
+            Ok(None) => {
+                self.mark = Some(Mark::TooDeep);
+                Error {
+                    span: self.span(),
+                    kind: SyntaxError::TooDeep,
+                }
+            }
+        }
+    }
+
+    /// Records the fault of an error token that was taken, as any other.
+    fn fault_again(&mut self, error: Error) -> PResult<()>
+        ensures { Gives (reader.fault (fault_of error) self.old) result self.new }
+    {
+        let Error { span, kind } = error;
+        self.fault(kind, span)
+    }
+
+    /// The parser's own refusal of what stands here. An error token is read and recorded.
+    #[tactic(auto, using(crate::proofs::Primitives::refuse_plain, crate::proofs::Primitives::refuse_recorded, crate::proofs::Primitives::refuse_failed))]
+    pub fn refuse(&mut self, wanted: Wanted) -> Error
+        ensures { kind_of result.kind ≢ kinds.OutOfMemory
+            → reader.refuse {A = Unit {0}} (wanted_kind wanted) self.old ≡ Err (fault_of result, self.new) }
+    {
+        let span = self.span();
+        let kind = match self.missing(wanted) {
+            Err(error) => return error,
+            Ok(kind) => kind,
+        };
+        match self.take_error() {
+            Err(error) => error,
+            Ok(None) => Error { span, kind },
+            Ok(Some(found)) => match self.fault_again(found) {
+                Err(error) => error,
+                Ok(()) => Error { span, kind },
+            },
+        }
+    }
+}
+
+impl<I: Tokens> State<I> {
+    /// Reads a token that must stand here, which is written so.
+    #[tactic(auto, unfolding(swc_ecma_parser_reader::specs::State::expect))]
+    pub fn expect(&mut self, kind: TokenKind, spelling: &'static str) -> PResult<()>
+        ensures { Gives (reader.expect kind self.old) result self.new }
+    {
+        if !self.sees(kind) {
+            return Err(self.refuse(Wanted::Token(spelling)));
+        }
+        self.skip()
+    }
+
+    /// The end of a statement: ECMA-262, section 12.10.
+    #[tactic(auto, unfolding(swc_ecma_parser_reader::specs::State::end))]
+    pub fn end(&mut self, wanted: Wanted) -> PResult<()>
+        ensures { Gives (reader.end (wanted_kind wanted) self.old) result self.new }
+    {
+        if self.sees(TokenKind::Semi) {
+            return self.skip();
+        }
+        if self.can_end() {
+            return Ok(());
+        }
+        Err(self.refuse(wanted))
+    }
+
+    /// A name.
+    #[tactic(auto, using(crate::proofs::Taken::name_none, crate::proofs::Taken::name_taken))]
+    pub fn name(&mut self, wanted: Wanted) -> PResult<Ident>
+        ensures { Gives (reader.name (wanted_kind wanted) self.old) result self.new }
+    {
+        if !self.name_at() {
+            return Err(self.wanted(wanted));
+        }
+        let Some(taken) = self.take()? else {
+            return Err(self.out_of_memory());
+        };
+        let TokenAndSpan { token, span, .. } = taken;
+        let Token::Word(word) = token else {
+            return Err(self.out_of_memory());
+        };
+        match self.word_atom(word) {
+            Ok(sym) => Ok(Ident { span, sym }),
+            Err(error) => Err(error),
+        }
+    }
+
+    /// The text of a word.
+    fn word_atom(&mut self, word: Word) -> PResult<Atom>
+        ensures ok { IfOk result (λ a. a ≡ word_text word) }
+        ensures state { IfOk result (λ a. self.new ≡ self.old) }
+        ensures err { IfErr result IsOutOfMemory }
+    {
+        if let Word::Ident(text) = word {
+            return Ok(text);
+        }
+        let alloc = *self.labels.allocator();
+        match Atom::new(alloc, word.as_str()) {
+            Ok(text) => Ok(text),
+            Err(_) => Err(self.out_of_memory()),
+        }
+    }
+
+    fn is_literal_here(&self) -> bool
+        ensures { result ≡ taken.literal_first self.now.at.left }
+    {
+        match self.buffer.cur() {
+            None => false,
+            Some(t) => is_literal(&t.token),
+        }
+    }
+
+    /// A literal, if one stands here.
+    #[tactic(auto, using(crate::proofs::Taken::literal_none, crate::proofs::Taken::literal_some))]
+    pub fn literal(&mut self) -> PResult<Option<Literal>>
+        ensures { GivesAs (option_map literal_tree) (rules.literal self.old) result self.new }
+    {
+        if !self.is_literal_here() {
+            return Ok(None);
+        }
+        let Some(taken) = self.take()? else {
+            return Err(self.out_of_memory());
+        };
+        let TokenAndSpan { token, span, .. } = taken;
+        match literal_of(token, span) {
+            Some(literal) => Ok(Some(literal)),
+            None => Err(self.out_of_memory()),
+        }
+    }
+
+    fn is_shebang_here(&self) -> bool
+        ensures { result ≡ taken.shebang_first self.now.at.left }
+    {
+        match self.buffer.cur() {
+            Some(
+                TokenAndSpan {
+                    token: Token::Shebang(_),
+                    ..
+                },
+            ) => true,
+            _ => false,
+        }
+    }
+
+    /// The text of a shebang, if one stands here.
+    #[tactic(auto, using(crate::proofs::Taken::shebang_none, crate::proofs::Taken::shebang_some))]
+    pub fn shebang(&mut self) -> PResult<Option<Atom>>
+        ensures { Gives (rules.shebang self.old) result self.new }
+    {
+        if !self.is_shebang_here() {
+            return Ok(None);
+        }
+        let Some(taken) = self.take()? else {
+            return Err(self.out_of_memory());
+        };
+        let TokenAndSpan { token, .. } = taken;
+        let Token::Shebang(text) = token else {
+            return Err(self.out_of_memory());
+        };
+        Ok(Some(text))
+    }
+
+    /// Sets the context to one of the same goal, script or module.
+    pub fn set_flags(&mut self, flags: Context)
+        requires { flags.module ≡ self.old.code.flags.module }
+        ensures { self.new ≡ reader.coded (record self.old.code { flags = flags }) self.old }
+    {
+        self.buffer.set_ctx(flags);
+    }
+
+    /// Adds a fault that counts in module code alone.
+    pub fn module_fault(&mut self, kind: SyntaxError, span: Span) -> PResult<()>
+        ensures { Gives (Ok (tt, reader.module_fault (reader.fault_at span (kind_of kind)) self.old)) result self.new }
+    {
+        match self.buffer.add_module_mode_error(Error { span, kind }) {
+            Ok(()) => Ok(()),
+            Err(_) => Err(self.out_of_memory()),
+        }
+    }
+}
+
+/// Whether a token is a literal.
+fn is_literal(token: &Token) -> bool
+    ensures { result ≡ taken.is_literal token.now }
+{
+    matches!(
+        token,
+        Token::Str { .. }
+            | Token::Num { .. }
+            | Token::BigInt { .. }
+            | Token::Word(Word::Null)
+            | Token::Word(Word::True)
+            | Token::Word(Word::False)
+    )
+}
+
+/// The literal that a token is.
+fn literal_of(token: Token, span: Span) -> Option<Literal>
+    ensures { option_map literal_tree result ≡ rules.literal_of span token }
+{
+    match token {
+        Token::Str { value, raw } => Some(Literal::Str(Str { span, value, raw })),
+        Token::Num { raw } => Some(Literal::Num(Number { span, raw })),
+        Token::BigInt { raw } => Some(Literal::BigInt(BigInt { span, raw })),
+        Token::Word(Word::Null) => Some(Literal::Null(Null { span })),
+        Token::Word(Word::True) => Some(Literal::Bool(Bool { span, value: true })),
+        Token::Word(Word::False) => Some(Literal::Bool(Bool { span, value: false })),
+        _ => None,
+    }
+}
