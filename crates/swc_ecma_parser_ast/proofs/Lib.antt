@@ -1,2 +1,4 @@
+pub mod Derived
 pub mod Alike
+pub mod Measured
 pub mod Directive

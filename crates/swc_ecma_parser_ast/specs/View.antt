@@ -1,7 +1,8 @@
 -- The model of each type of the tree, one equation for each form.
 use Rattle.std.specs.Prelude.{map, Option, Some, None}
+use Rattle.std.specs.Cmp.{IsPartialEquivalence}
 use Rattle.swc_ecma_parser_model.specs.Tree.{Tree, absent, listed, ident, str, bool, null, num, big_int, paren, ident_pat, declarator, var, block, empty, debugger, expr_stmt, script}
-use Rattle.swc_ecma_parser_model.specs.Held.{Held, There}
+use Rattle.swc_ecma_parser_model.specs.Held.{Held, There, same_held, same_held_laws}
 use Rattle.swc_ecma_parser_ast.specs.declared.expr.Expr.{Expr}
 use Rattle.swc_ecma_parser_ast.specs.declared.expr.Expr.TheVariants as e
 use Rattle.swc_ecma_parser_ast.specs.declared.expr.Lit.{Lit}
@@ -58,6 +59,7 @@ view_stmt (s.Expr x) = expr_stmt x.span x.expr.node.tree
 abbrev pub view_script : Script Held → Tree
 view_script x = script x.span (listed (map view_stmt x.body.items)) x.shebang
 
+-- no expression is left out
 pub there_expr : (x : Expr Held) → There (view_expr x)
 there_expr (e.Ident x) = tt
 there_expr (e.Lit (l.Str x)) = tt
@@ -70,3 +72,7 @@ there_expr (e.Paren x) = tt
 abbrev pub view_any : Any → Held
 view_any (a.Expr x) = record { tree = view_expr x.value; there = there_expr x.value }
 view_any (a.Stmts x) = record { tree = listed (map view_stmt x.items); there = tt }
+
+-- nodes are equal when their codes are
+pub same_any_laws : IsPartialEquivalence (λ x y. same_held (view_any x) (view_any y))
+same_any_laws = record { symm = λ x y. same_held_laws.symm (view_any x) (view_any y); trans = λ x y z. same_held_laws.trans (view_any x) (view_any y) (view_any z) }

@@ -5,6 +5,7 @@ ghost use Rattle.std.specs.Prelude.{◌≡◌, false, IfOk, MatchOption, map};
 ghost use Rattle.swc_ecma_parser_model.specs.Tree.{listed};
 ghost use Rattle.swc_ecma_parser_model.specs.Kinds.{is_expr, is_list};
 ghost use Rattle.swc_ecma_parser_ast.specs.View.{view_expr, view_stmt};
+ghost use Rattle.swc_ecma_parser_ast.specs.Equal as equal;
 
 use crate::expr::Expr;
 use crate::stmt::Stmt;
@@ -25,13 +26,13 @@ pub struct StmtList<N = Node> {
 
 /// What a node may hold.
 #[cycle(ast)]
-#[derive(Debug, PartialEq, Drop)]
+#[derive(Debug, Drop)]
 pub enum Any {
     Expr(Box<Expr<Node>>),
     Stmts(Vec<Stmt<Node>>),
 }
 
-/// A part of a tree, of any kind. Contracts see it as the model's tree.
+/// A part of a tree, of any kind. Contracts see it as the model's tree, which is never one that is left out.
 #[cycle(ast)]
 #[derive(Debug, Drop)]
 pub struct Node {
@@ -55,6 +56,43 @@ impl Model for Node {
     ghost use Rattle.swc_ecma_parser_ast.specs.Falls.{le_any};
 
     ghost size_decreases = { λ a h. le_any a.inner };
+}
+
+impl PartialEq for Any {
+    ghost use Rattle.swc_ecma_parser_model.specs.Held.{same_held};
+    ghost use Rattle.swc_ecma_parser_ast.specs.View.{view_any, same_any_laws};
+
+    ghost eq = { λ x y. same_held (view_any x) (view_any y) };
+
+    ghost laws = { same_any_laws };
+
+    #[cycle(ast)]
+    fn eq(&self, other: &Any) -> bool {
+        match self {
+            Any::Expr(a) => match other {
+                Any::Expr(b) => equal_exprs(a, b),
+                Any::Stmts(_) => false,
+            },
+            Any::Stmts(a) => match other {
+                Any::Stmts(b) => equal_stmts(a, b),
+                Any::Expr(_) => false,
+            },
+        }
+    }
+}
+
+/// `==`, in a contract that stays small: one that is derived, at `Node`, would be spelled out in the proof of `Any::eq`.
+fn equal_exprs<N: PartialEq>(a: &Box<Expr<N>>, b: &Box<Expr<N>>) -> bool
+    ensures { result ≡ equal.equal_expr N.eq a.now.value b.now.value }
+{
+    *a == *b
+}
+
+/// `==`, as `equal_exprs`.
+fn equal_stmts<N: PartialEq>(a: &Vec<Stmt<N>>, b: &Vec<Stmt<N>>) -> bool
+    ensures { result ≡ equal.equal_stmts N.eq a.now.items b.now.items }
+{
+    *a == *b
 }
 
 impl PartialEq for Node {

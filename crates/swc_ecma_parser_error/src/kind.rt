@@ -92,11 +92,11 @@ pub enum SyntaxError {
     /// The list of tokens has ended.
     Eof,
     /// Another token was wanted: its spelling, and the text of the one found.
-    Expected(&'static str, Atom),
+    Expected(Atom, Atom),
     /// No rule takes this token.
     Unexpected {
         got: Atom,
-        expected: &'static str,
+        expected: Atom,
     },
     /// A name was wanted.
     ExpectedIdent,
@@ -148,7 +148,7 @@ pub enum SyntaxError {
     WithLabel {
         inner: Boxed<Error>,
         span: Span,
-        note: &'static str,
+        note: Atom,
     },
     /// Memory ran out.
     OutOfMemory,
@@ -304,12 +304,12 @@ impl SyntaxError {
             ),
             SyntaxError::Eof => SyntaxError::Eof,
             SyntaxError::Expected(wanted, found) => SyntaxError::Expected(
-                *wanted,
+                wanted.try_clone()?,
                 found.try_clone()?,
             ),
             SyntaxError::Unexpected { got, expected } => SyntaxError::Unexpected {
                 got: got.try_clone()?,
-                expected: *expected,
+                expected: expected.try_clone()?,
             },
             SyntaxError::ExpectedIdent => SyntaxError::ExpectedIdent,
             SyntaxError::ExpectedSemiForExprStmt { expr } => SyntaxError::ExpectedSemiForExprStmt {
@@ -344,7 +344,7 @@ impl SyntaxError {
                 SyntaxError::WithLabel {
                     inner,
                     span: *span,
-                    note: *note,
+                    note: note.try_clone()?,
                 }
             }
             SyntaxError::OutOfMemory => SyntaxError::OutOfMemory,

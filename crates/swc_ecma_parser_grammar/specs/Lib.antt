@@ -7,3 +7,4 @@ pub mod Entries
 pub mod Depth
 pub mod Notes
 pub mod Walk
+pub mod Levels

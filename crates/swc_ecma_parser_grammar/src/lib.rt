@@ -4,4 +4,11 @@
 
 mod position;
 
+ghost use Rattle.swc_ecma_parser_grammar.specs.Levels.{LevelsAreDepth};
+
 pub use position::Position;
+
+/// A number of levels limits how deep a tree nests, and nothing else.
+pub fn within_levels()
+    ensures { LevelsAreDepth }
+{}

@@ -1,4 +1,4 @@
-//! Where tokens come from: the trait of sources with its laws, sources, settings and contexts.
+//! Where tokens come from: the trait of sources with its laws, two sources, a buffer over a source, settings and contexts.
 #![tactic(auto)]
 
 mod buffer;

@@ -12,11 +12,12 @@ use Rattle.swc_ecma_parser_grammar.specs.Looks.{same_kind}
 use Rattle.swc_ecma_parser_grammar.specs.Names.{Code}
 use Rattle.swc_ecma_parser_grammar.specs.Entries.{has_error_token}
 use Rattle.swc_ecma_parser_grammar.specs.Walk.{is_tabled, is_dropping, tabled, drops}
-use Rattle.swc_ecma_parser_reader.specs.State.{State, Reader, moved, coded, within}
+use Rattle.swc_ecma_parser_reader.specs.State.{State, Reader, moved, coded, flagged, within}
 use Rattle.swc_ecma_parser_reader.proofs.Meets.{Meets, meets_then}
 
 -- ---- lists of faults
 
+-- the table's faults of two lists one behind another
 pub tabled-append : (es fs : List Fault) → tabled (es ++ fs) ≡ tabled es ++ tabled fs
 tabled-append [] fs = refl
 tabled-append (e ∷ es) fs = by_kind (is_tabled e.kind) (tabled-append es fs)
@@ -26,6 +27,7 @@ tabled-append (e ∷ es) fs = by_kind (is_tabled e.kind) (tabled-append es fs)
     by_kind true h = ap (λ z. e ∷ z) h
     by_kind false h = h
 
+-- where nothing was dropped in both, nothing was in either
 pub drops-split : (es fs : List Fault) → drops (es ++ fs) ≡ false → (drops es ≡ false) × (drops fs ≡ false)
 drops-split [] fs h = (refl, h)
 drops-split (e ∷ es) fs h = by_kind (is_dropping e.kind) (λ k. drops-split es fs k) h
@@ -35,10 +37,12 @@ drops-split (e ∷ es) fs h = by_kind (is_dropping e.kind) (λ k. drops-split es
     by_kind true f h = (cc, cc)
     by_kind false f h = f h
 
+-- two lists are empty where they are together
 pub nil-split : {A : Type 0} (xs ys : List A) → xs ++ ys ≡ [] → (xs ≡ []) × (ys ≡ [])
 nil-split [] ys e = (refl, e)
 nil-split (x ∷ xs) ys e = (cc, cc)
 
+-- a recorded fault is one
 pub some_fault : {X : Type 0} (e : Fault) (es : List Fault) → e ∷ es ≡ [] → X
 some_fault e es h = cc
 
@@ -48,6 +52,7 @@ or_right : (a b : Bool) → (a || b) ≡ false → b ≡ false
 or_right true b h = cc
 or_right false b h = h
 
+-- the rest of a list has no error token where the list has none
 past_keeps : (c : Place) (ts : List TokenAndSpan) → c.left ≡ ts → has_error_token c.left ≡ false → has_error_token (past c ts).left ≡ false
 past_keeps c [] e h = h
 past_keeps c (t ∷ ts) e h = or_right (same_kind (token_kind t.token) kind.Error) (has_error_token ts) (sym (ap has_error_token e) ∙ h)
@@ -109,9 +114,11 @@ sound_plain s d h r = record {
   reads = λ e. r;
 }
 
+-- a token is taken
 pub sound_moved : {P : Code → Place → Place → Type 0} (s : State) → P s.code s.at (after s.at) → Sound same no_faults [] P s (moved s)
 sound_moved s r = sound_plain s (after s.at) (after_keeps s.at) r
 
+-- nothing is taken
 pub sound_here : {P : Code → Place → Place → Type 0} (s : State) → P s.code s.at s.at → Sound same no_faults [] P s s
 sound_here s r = sound_plain s s.at (λ h. h) r
 
@@ -162,11 +169,15 @@ sound_coded s t k e p = record {
   reads = p.reads;
 }
 
--- under other code
-pub sound_under : {f : Code → Code} {w : Walk} {ns : List Fault} {P : Code → Place → Place → Type 0} (change : Code → Code) (s t : State) → Sound f w ns P (coded (change s.code) s) t
-    → Sound same (λ k l. w (change k) l) ns (λ k. P (change k)) s (coded s.code t)
-sound_under change s t p = record {
-  code = refl;
+-- flags that are set and then set back
+pub flags_back : (k j : Code) → j.setting ≡ k.setting → ◌≡◌ {A = Code} (record j { flags = k.flags }) k
+flags_back k j e = λ i. record { flags = k.flags; setting = e i }
+
+-- under other flags
+pub sound_under : {w : Walk} {ns : List Fault} {P : Code → Place → Place → Type 0} (change : Code → Code) → ((k : Code) → (change k).setting ≡ k.setting) → (s t : State)
+    → Sound same w ns P (coded (change s.code) s) t → Sound same (λ k l. w (change k) l) ns (λ k. P (change k)) s (flagged s.code t)
+sound_under change keeps s t p = record {
+  code = flags_back s.code t.code (ap (λ k. k.setting) p.code ∙ keeps s.code);
   scope = p.scope;
   added = p.added;
   faults = p.faults;
@@ -176,7 +187,8 @@ sound_under change s t p = record {
   reads = p.reads;
 }
 
-pub within_sound : {A : Type 0} (w : A → Walk) (ns : A → List Fault) (P : A → Code → Place → Place → Type 0) (change : Code → Code) (p : Reader A) (s : State)
+-- a reader under other flags
+pub within_sound : {A : Type 0} (w : A → Walk) (ns : A → List Fault) (P : A → Code → Place → Place → Type 0) (change : Code → Code) → ((k : Code) → (change k).setting ≡ k.setting) → (p : Reader A) (s : State)
     → Meets (λ x t. Sound same (w x) (ns x) (P x) (coded (change s.code) s) t) (p (coded (change s.code) s))
     → Meets (λ x t. Sound same (λ k l. w x (change k) l) (ns x) (λ k. P x (change k)) s t) (within change p s)
-within_sound w ns P change p s h = meets_then _ (p (coded (change s.code) s)) _ h (λ x t q. sound_under change s t q)
+within_sound w ns P change keeps p s h = meets_then _ (p (coded (change s.code) s)) _ h (λ x t q. sound_under change keeps s t q)

@@ -168,6 +168,15 @@ code_stays : (k : Code) (xs : List Tree) → code_behind k false xs ≡ k
 code_stays k [] = refl
 code_stays k (x ∷ xs) = code_stays k xs
 
+-- a directive changes no setting
+in_strict_setting : (b : Bool) (k : Code) → (cond b (in_strict k) k).setting ≡ k.setting
+in_strict_setting true k = refl
+in_strict_setting false k = refl
+
+behind_setting : (k : Code) (directives : Bool) (xs : List Tree) → (code_behind k directives xs).setting ≡ k.setting
+behind_setting k directives [] = refl
+behind_setting k directives (x ∷ xs) = behind_setting (directed k directives x) false xs ∙ in_strict_setting (directives && is_use_strict x) k
+
 -- behind a first statement there is no directive
 directs_behind : (directives : Bool) (found : List Tree) (x : Tree) → directs directives (found ++ x ∷ []) ≡ false
 directs_behind directives [] x = refl
@@ -296,4 +305,5 @@ script_reads n s x d r =
       items_read (λ j. ReadsStmt n j top_item) (stmt n top_item) (stmt_reads n top_item) (stmt_shorter n top_item) at_end (λ j y a b q. (stmt_goes n j top_item y a b q).1)
           true r.items (script_code s.code) r.first d s.scope s.faults s.held_back r.reads_items (at_end_at d r.whole),
       r.is,
+      behind_setting (script_code s.code) true r.items,
     ) refl

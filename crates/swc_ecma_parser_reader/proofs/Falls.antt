@@ -321,7 +321,7 @@ unfolding note_statement
 note_falls x s = falls_if 0 (length s.at.left) (is_ident_named (codes "interface") x) _ _ (noted_either s.code.flags.module (length s.at.left) _ _ (omega arith) (omega arith)) (omega arith)
 
 module _ (inner : Reader Tree) (h : (s : State) → Falls 1 (length s.at.left) (inner s)) where
-  no_label_falls : (x : Tree) (s : State) → Falls 0 (length s.at.left) (no_label inner x s)
+  no_label_falls : (x : Tree) (s : State) → Falls 0 (length s.at.left) (no_label x s)
   unfolding no_label
   no_label_falls x s = falls_if 0 (length s.at.left) (is_ident x && sees kind.Colon s.at) _ _ (wanted_falls (Unit {0}) 0 (length s.at.left) faults.Unexpected s) (omega arith)
 
@@ -329,7 +329,7 @@ module _ (inner : Reader Tree) (h : (s : State) → Falls 1 (length s.at.left) (
   unfolding expr_stmt
   expr_stmt_falls s = falls_next (length s.at.left) (within with_in inner s) _
       (falls_coded 1 (length s.at.left) (inner (coded (with_in s.code) s)) _ _ (h (coded (with_in s.code) s))) (λ x t.
-      falls_then 0 0 (length t.at.left) (no_label inner x t) _ (no_label_falls x t) (λ _ u.
+      falls_then 0 0 (length t.at.left) (no_label x t) _ (no_label_falls x t) (λ _ u.
       falls_then 0 0 (length u.at.left) (note_statement x u) _ (note_falls x u) (λ _ v.
       falls_last 0 (length v.at.left) (end faults.ExpectedSemiForExprStmt v) _ (end_falls faults.ExpectedSemiForExprStmt v))))
 

@@ -12,3 +12,4 @@ pub mod Unnoted
 pub mod Limits
 pub mod Refusals
 pub mod Memory
+pub mod Entries

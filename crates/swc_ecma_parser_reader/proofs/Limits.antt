@@ -32,10 +32,12 @@ use Rattle.swc_ecma_parser_reader.proofs.Meets.{Answers, answers_then, answers_i
 
 -- ---- tokens that say nothing of the kind
 
+-- an error token of another kind says something else
 shallow_kind : (k : SyntaxError) → means_too_deep k ≡ false → kind_of k ≢ faults.TooDeep
 shallow_kind says.TooDeep h e = cc
 shallow_kind _ h e = cc
 
+-- neither of two tests holds
 either_false : (a b : Bool) → (a || b) ≡ false → (a ≡ false) × (b ≡ false)
 either_false true b h = (cc, cc)
 either_false false b h = (refl, h)
@@ -45,9 +47,11 @@ record Fine (m : ℕ) (ts : List TokenAndSpan) : Type 0 where
   few : length ts ≤ m
   shallow : has_too_deep_token ts ≡ false
 
+-- a greater number will do
 fine_more : (m n : ℕ) (ts : List TokenAndSpan) → m ≤ n → Fine m ts → Fine n ts
 fine_more m n ts h f = record { few = omega arith; shallow = f.shallow }
 
+-- what is left behind a token is fine
 fine_rest : (m : ℕ) (c : Place) (ts : List TokenAndSpan) → c.left ≡ ts → Fine m c.left → Fine m (past c ts).left
 fine_rest m c [] e f = f
 fine_rest m c (t ∷ ts) e f = let g : Fine m (t ∷ ts) = subst (Fine m) e f in record { few = omega arith; shallow = (either_false (is_too_deep t.token) (has_too_deep_token ts) g.shallow).1 }
@@ -71,17 +75,21 @@ fine_taken m c k e h f = fine_taken_in m c c.left refl (λ g. h (sym e ∙ g)) f
 
 -- ---- what is answered is fine, and no fault says too deep
 
+-- the fault says something else
 abbrev Shallow : Fault → State → Type 0
 Shallow e s = e.kind ≢ faults.TooDeep
 
+-- as many tokens at most are left
 abbrev Kept : {A : Type 0} → ℕ → A → State → Type 0
 Kept m x t = Fine m t.at.left
 
+-- the error tokens of such a list say nothing of the kind
 error_shallow : (m : ℕ) (s : State) (u : TokenAndSpan) (ts : List TokenAndSpan) (e : Error) → s.at.left ≡ u ∷ ts → u.token ≡ token.Error e → Fine m s.at.left → kind_of e.kind ≢ faults.TooDeep
 error_shallow m s u ts e h g f =
     let k : is_too_deep u.token || has_too_deep_token ts ≡ false = sym (ap has_too_deep_token h) ∙ f.shallow in
     shallow_kind e.kind (sym (ap is_too_deep g) ∙ (either_false (is_too_deep u.token) (has_too_deep_token ts) k).0)
 
+-- with no level left no token is left either, and the fault is another
 too_deep_shallow : {A : Type 0} (P : A → State → Type 0) (s : State) → length s.at.left ≤ 0 → Answers P Shallow (too_deep s)
 unfolding too_deep
 too_deep_shallow P s h = in_list s.at.left h
@@ -91,6 +99,7 @@ too_deep_shallow P s h = in_list s.at.left h
     in_list (t ∷ ts) h = absurd (omega arith)
 
 module _ (m : ℕ) (s : State) (f : Fine m s.at.left) where
+  -- an error token that is recorded may be answered
   recorded_at_shallow : (g : Fault) (u : TokenAndSpan) (ts : List TokenAndSpan) (v : Token) → s.at.left ≡ u ∷ ts → u.token ≡ v → Answers (Kept m) Shallow (recorded_at g s v)
   recorded_at_shallow g u ts (token.Error e) h i = answers_if _ _ (means_out_of_memory e.kind) _ _ (λ _. error_shallow m s u ts e h i f) (λ _. fine_after m s.at f)
   recorded_at_shallow g u ts _ h i = f
@@ -103,6 +112,7 @@ module _ (m : ℕ) (s : State) (f : Fine m s.at.left) where
   unfolding fault
   fault_shallow g = recorded_in_shallow g s.at.left refl
 
+-- refusals of another kind
 refused_shallow : {A : Type 0} (m : ℕ) (P : A → State → Type 0) (k : Kind) (span : Span) (o : Outcome (Unit {0})) → k ≢ faults.TooDeep → Answers (Kept m) Shallow o → Answers P Shallow (refused (fault_at span k) o)
 refused_shallow m P k span (Ok p) h g = h
 refused_shallow m P k span (Err e) h g = g
@@ -136,6 +146,7 @@ module _ {A : Type 0} (P : A → State → Type 0) (k : Kind) (other : k ≢ fau
 -- ---- ends, fixed tokens and names
 
 module _ (m : ℕ) (s : State) (f : Fine m s.at.left) where
+  -- steps that take a token at most
   end_shallow : (missing : Kind) → missing ≢ faults.TooDeep → Answers (Kept m) Shallow (end missing s)
   unfolding end
   end_shallow missing h = answers_if _ _ (sees kind.Semi s.at) _ _ (λ _. fine_after m s.at f) (λ _. answers_if _ _ (can_end s.at) _ _ (λ _. f) (λ _. refuse_shallow _ missing h m s f))
@@ -184,6 +195,7 @@ abbrev Levels : {A : Type 0} → ℕ → Reader A → Type 0
 Levels n p = (m : ℕ) (s : State) → 2 * m ≤ n → Fine m s.at.left → Answers (Kept m) Shallow (p s)
 
 module _ (inner : Reader Tree) (n : ℕ) (below : Levels n inner) (m : ℕ) (enough : 2 * m ≤ suc n) where
+  -- parentheses take a token before the level below
   paren_shallow : (s : State) → kind_at s.at ≡ kind.LParen → Fine m s.at.left → Answers (Kept m) Shallow (paren inner s)
   unfolding paren
   paren_shallow s e f =
@@ -208,11 +220,13 @@ module _ (inner : Reader Tree) (n : ℕ) (below : Levels n inner) (m : ℕ) (eno
   unfolding whole_expr closed
   whole_shallow s f = answers_then _ _ (primary inner s) _ (primary_shallow s f) (λ x t g. answers_if _ _ (continues t.code x t.at) _ _ (λ _. wanted_shallow _ faults.Unexpected (λ e. cc) m t g) (λ _. g))
 
+-- an expression needs two levels for each token
 expr_shallow : (n : ℕ) → Levels n (expr n)
 unfolding expr
 expr_shallow zero m s h f = too_deep_shallow _ s (omega arith)
 expr_shallow (suc n) m s h f = whole_shallow (expr n) n (expr_shallow n) m h s f
 
+-- so does a pattern
 pat_shallow : (n : ℕ) → Levels n (pat n)
 unfolding pat binding
 pat_shallow zero m s h f = too_deep_shallow _ s (omega arith)
@@ -220,6 +234,7 @@ pat_shallow (suc n) m s h f = answers_then _ _ (name faults.ExpectedIdent s) _ (
 
 -- ---- statements: one level more, for an expression that begins with the same token
 
+-- a reader in so many levels for two, and one more
 abbrev StmtLevels : ℕ → Reader Tree → Type 0
 StmtLevels n p = (m : ℕ) (s : State) → 2 * m + 1 ≤ n → Fine m s.at.left → Answers (Kept m) Shallow (p s)
 
@@ -228,12 +243,14 @@ module _ (inner_pat : Reader Tree) (n : ℕ) (below : Levels n inner_pat) (m : �
   unfolding declarator plain_declarator
   declarator_shallow s f = answers_then _ _ (inner_pat s) _ (below m s enough f) (λ p t g. answers_if _ _ (sees kind.Assign t.at) _ _ (λ _. wanted_shallow _ faults.Unexpected (λ e. cc) m t g) (λ _. g))
 
+  -- declarators are no level of their own
   declarators_shallow : (s : State) → Fine m s.at.left → Answers (Kept m) Shallow (declarators inner_pat s)
   unfolding declarators declarators_turn
   declarators_shallow s f = loop_answers (declarators_turn inner_pat) (Kept m) (Kept m) Shallow
       (λ xs t g. answers_then _ _ (declarator inner_pat t) _ (declarator_shallow t g) (λ x u h. answers_if _ _ (sees kind.Comma u.at) _ _ (λ _. fine_after m u.at h) (λ _. h)))
       (λ t e. cc) [] s f
 
+-- nor are statements one behind another
 items_shallow : (inner : Reader Tree) (n : ℕ) → StmtLevels n inner → (stops : Place → Bool) (directives : Bool) (m : ℕ) → 2 * m + 1 ≤ n → (s : State) → Fine m s.at.left
     → Answers (Kept m) Shallow (items inner stops directives s)
 unfolding items items_turn
@@ -241,6 +258,7 @@ items_shallow inner n below stops directives m h s f = loop_answers (items_turn 
     (λ xs t g. answers_if _ _ (stops t.at) _ _ (λ _. g) (λ _. answers_then _ _ (inner t) _ (below m t h g) (λ x u k. k)))
     (λ t e. cc) [] s f
 
+-- a note takes no token
 module_fault_fine : (m : ℕ) (g : Fault) (s : State) → Fine m s.at.left → Fine m (module_fault g s).at.left
 module_fault_fine m g s f = by_module s.code.flags.module
   where
@@ -250,6 +268,7 @@ module_fault_fine m g s f = by_module s.code.flags.module
 
 module _ (inner : Position → Reader Tree) (inner_expr inner_pat : Reader Tree) (n : ℕ) (below : (at : Position) → StmtLevels n (inner at)) (below_expr : Levels n inner_expr) (below_pat : Levels n inner_pat)
     (at : Position) (m : ℕ) (enough : 2 * m + 1 ≤ suc n) (s : State) (f : Fine m s.at.left) where
+  -- a block takes a token before the level below
   block_shallow : kind_at s.at ≡ kind.LBrace → Answers (Kept m) Shallow (block (inner nested_item) s)
   unfolding block
   block_shallow e =
@@ -267,11 +286,12 @@ module _ (inner : Position → Reader Tree) (inner_expr inner_pat : Reader Tree)
       (answers_then (Kept m) _ (declarators inner_pat (coded (with_in s.code) (moved s))) _ (declarators_shallow inner_pat n below_pat m (omega arith) (coded (with_in s.code) (moved s)) (fine_after m s.at f)) (λ x t k. k)) (λ x t k.
       answers_then _ _ (end faults.Unexpected t) _ (end_shallow m t k faults.Unexpected (λ e. cc)) (λ _ u j. j))
 
+  -- an expression statement takes none, which is why there is one level more
   expr_stmt_shallow : Answers (Kept m) Shallow (expr_stmt inner_expr s)
   unfolding expr_stmt no_label note_statement
   expr_stmt_shallow = answers_then _ _ (within with_in inner_expr s) _
       (answers_then (Kept m) _ (inner_expr (coded (with_in s.code) s)) _ (below_expr m (coded (with_in s.code) s) (omega arith) f) (λ x t k. k)) (λ x t k.
-      answers_then _ _ (no_label inner_expr x t) _ (answers_if (Kept m) _ (is_ident x && sees kind.Colon t.at) _ _ (λ _. wanted_shallow _ faults.Unexpected (λ e. cc) m t k) (λ _. k)) (λ _ u j.
+      answers_then _ _ (no_label x t) _ (answers_if (Kept m) _ (is_ident x && sees kind.Colon t.at) _ _ (λ _. wanted_shallow _ faults.Unexpected (λ e. cc) m t k) (λ _. k)) (λ _ u j.
       answers_then _ _ (note_statement x u) _ (answers_if (Kept m) _ (is_ident_named (codes "interface") x) _ _ (λ _. module_fault_fine m (fault_at (span_of x) faults.InvalidIdentInStrict) u j) (λ _. j)) (λ _ v g.
       answers_then _ _ (end faults.ExpectedSemiForExprStmt v) _ (end_shallow m v g faults.ExpectedSemiForExprStmt (λ e. cc)) (λ _ w z. z))))
 
@@ -291,11 +311,13 @@ module _ (inner : Position → Reader Tree) (inner_expr inner_pat : Reader Tree)
   unfolding stmt_level
   level_shallow = by_shallow (kind_at s.at) refl
 
+-- a statement needs two levels for each token, and one more
 stmt_shallow : (n : ℕ) (at : Position) → StmtLevels n (stmt n at)
 unfolding stmt
 stmt_shallow zero at m s h f = absurd (omega arith)
 stmt_shallow (suc n) at m s h f = level_shallow (stmt n) (expr n) (pat n) n (stmt_shallow n) (expr_shallow n) (pat_shallow n) at m h s f
 
+-- a script needs no more
 script_shallow : (n m : ℕ) (s : State) → 2 * m + 2 ≤ n → Fine m s.at.left → Answers (Kept m) Shallow (script n s)
 unfolding script script_body
 script_shallow n m s h f =

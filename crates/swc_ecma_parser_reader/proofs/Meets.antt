@@ -26,15 +26,18 @@ Refuses e s = Unit {0}
 abbrev pub Meets : {A : Type 0} → (A → State → Type 0) → Outcome A → Type 0
 Meets P o = Answers P Refuses o
 
+-- a step, and another behind it
 pub answers_then : {A B : Type 0} {P : A → State → Type 0} (Q : B → State → Type 0) (E : Fault → State → Type 0) (o : Outcome A) (f : A → Reader B) → Answers P E o
     → ((a : A) (s : State) → P a s → Answers Q E (f a s)) → Answers Q E (and_then o f)
 answers_then Q E (Ok p) f h g = g p.0 p.1 h
 answers_then Q E (Err e) f h g = h
 
+-- a choice
 pub answers_if : {A : Type 0} (P : A → State → Type 0) (E : Fault → State → Type 0) (b : Bool) (x y : Outcome A) → (b ≡ true → Answers P E x) → (b ≡ false → Answers P E y) → Answers P E (cond b x y)
 answers_if P E true x y h g = h refl
 answers_if P E false x y h g = g refl
 
+-- the same where refusals do not count
 pub meets_then : {A B : Type 0} {P : A → State → Type 0} (Q : B → State → Type 0) (o : Outcome A) (f : A → Reader B) → Meets P o
     → ((a : A) (s : State) → P a s → Meets Q (f a s)) → Meets Q (and_then o f)
 meets_then Q (Ok p) f h g = g p.0 p.1 h
@@ -47,6 +50,7 @@ meets_if P false x y h g = g refl
 -- ---- refusals answer nothing
 
 module _ {A : Type 0} (P : A → State → Type 0) where
+  -- a wanted part that is not there
   wanted_at_meets : (k : Kind) (s : State) (t : Token) (span : Span) → Meets P (wanted_at k s t span)
   wanted_at_meets k s (token.Error e) span = tt
   wanted_at_meets k s _ span = tt
@@ -59,6 +63,7 @@ module _ {A : Type 0} (P : A → State → Type 0) where
   unfolding wanted
   wanted_meets k s = wanted_in_meets k s s.at.left
 
+  -- what would stand too deep
   too_deep_at_meets : (s : State) (t : Token) (span : Span) → Meets P (too_deep_at s t span)
   too_deep_at_meets s (token.Error e) span = tt
   too_deep_at_meets s _ span = tt
@@ -71,6 +76,7 @@ module _ {A : Type 0} (P : A → State → Type 0) where
   unfolding too_deep
   too_deep_meets s = too_deep_in_meets s s.at.left
 
+  -- the parser's own refusals
   refused_meets : (f : Fault) (o : Outcome (Unit {0})) → Meets P (refused f o)
   refused_meets f (Ok p) = tt
   refused_meets f (Err e) = tt
@@ -90,11 +96,13 @@ module _ {A : Type 0} (P : A → State → Type 0) where
 -- ---- a loop keeps what each turn keeps
 
 module _ {A B : Type 0} (body : A → Reader (Step A B)) (Keeps : A → State → Type 0) (Q : B → State → Type 0) (E : Fault → State → Type 0) where
+  -- what holds behind a turn that goes on, and behind the last
   abbrev pub Turned : Step A B → State → Type 0
   Turned (More a) s = Keeps a s
   Turned (Done b) s = Q b s
 
   module _ (turn : (a : A) (s : State) → Keeps a s → Answers Turned E (body a s)) (sticks : (s : State) → E (fault_at s.at.last OutOfMemory) s) where
+    -- each turn keeps it, or the loop is stuck
     after_next : (go : A → Reader B) (before : ℕ) (s : State) (step : Step A B) → Turned step s → ((a : A) (t : State) → Keeps a t → Answers Q E (go a t))
         → Answers Q E (next_turn go before s step)
     after_next go before s (More a) h g = answers_if Q E (nat_lt (length s.at.left) before) _ _ (λ _. g a s h) (λ _. sticks s)
@@ -109,15 +117,18 @@ module _ {A B : Type 0} (body : A → Reader (Step A B)) (Keeps : A → State �
     turns_answer zero a s h = sticks s
     turns_answer (suc n) a s h = after_all (turns body n) (length s.at.left) (body a s) (turn a s h) (turns_answer n)
 
+    -- so the loop answers what its last turn does
     pub loop_answers : (a : A) (s : State) → Keeps a s → Answers Q E (loop body a s)
     unfolding loop
     loop_answers a s h = turns_answer (suc (length s.at.left)) a s h
 
 -- ---- tests
 
+-- a test that a kind stands first says so
 pub saw : (c : Place) (k : TokenKind) → sees k c ≡ true → kind_at c ≡ k
 unfolding same_kind
 saw c k e = same_true the_type (search rules) (kind_at c) k e
 
+-- what holds of an outcome holds of the one it equals
 pub meant : {A : Type 0} (P : A → State → Type 0) (E : Fault → State → Type 0) (o o' : Outcome A) → o ≡ o' → Answers P E o → Answers P E o'
 meant P E o o' e h = subst (Answers P E) e h

@@ -39,21 +39,25 @@ use Rattle.swc_ecma_parser_reader.proofs.Sound.{script_is_sound}
 abbrev pub Spares : Place → Place → Type 0
 Spares c d = has_out_of_memory_token d.left ≡ false → has_out_of_memory_token c.left ≡ false
 
+-- from one state to another
 abbrev Kept : {A : Type 0} → State → A → State → Type 0
 Kept s x t = Spares s.at t.at
 
 -- ---- a token that is taken is none
 
+-- neither of two tests holds
 both_false : (a b : Bool) → a ≡ false → b ≡ false → (a || b) ≡ false
 both_false true b h g = h
 both_false false b h g = g
 
+-- a token that is none is taken
 spares_past : (c : Place) (u : TokenAndSpan) (ts : List TokenAndSpan) → c.left ≡ u ∷ ts → is_out_of_memory u.token ≡ false → Spares c (after c)
 unfolding after
 spares_past c u ts e h g =
     let k : has_out_of_memory_token ts ≡ false = sym (ap (λ l. has_out_of_memory_token (past c l).left) e) ∙ g in
     ap has_out_of_memory_token e ∙ both_false (is_out_of_memory u.token) (has_out_of_memory_token ts) h k
 
+-- what is no error token says nothing of memory
 no_error : (v : Token) → token_kind v ≢ kind.Error → is_out_of_memory v ≡ false
 no_error (token.Error e) h = absurd (h refl)
 no_error _ h = refl
@@ -63,6 +67,7 @@ unfolding kind_at after
 spares_in c [] e h g = g
 spares_in c (u ∷ ts) e h g = ap has_out_of_memory_token e ∙ both_false (is_out_of_memory u.token) (has_out_of_memory_token ts) (no_error u.token (λ k. h (rw e k))) g
 
+-- a token of another kind is taken
 spares : (c : Place) (k : TokenKind) → kind_at c ≡ k → k ≢ kind.Error → Spares c (after c)
 unfolding after
 spares c k e h = spares_in c c.left refl (λ g. h (sym e ∙ g))
@@ -70,6 +75,7 @@ spares c k e h = spares_in c c.left refl (λ g. h (sym e ∙ g))
 -- ---- recording, ends, fixed tokens and names
 
 module _ (s : State) where
+  -- an error token that says so is answered, and not recorded
   recorded_at_spares : (f : Fault) (u : TokenAndSpan) (ts : List TokenAndSpan) (v : Token) → s.at.left ≡ u ∷ ts → u.token ≡ v → Meets (Kept s) (recorded_at f s v)
   recorded_at_spares f u ts (token.Error e) h g = meets_if _ (means_out_of_memory e.kind) _ _ (λ _. tt) (λ k. spares_past s.at u ts h (rw g k))
   recorded_at_spares f u ts _ h g = λ k. k
@@ -82,6 +88,7 @@ module _ (s : State) where
   unfolding fault
   fault_spares f = recorded_in_spares f s.at.left refl
 
+  -- a token that was looked for is taken
   sees_spares : (k : TokenKind) → k ≢ kind.Error → sees k s.at ≡ true → Spares s.at (after s.at)
   sees_spares k h e = spares s.at k (saw s.at k e) h
 
@@ -97,6 +104,7 @@ module _ (s : State) where
   unfolding close
   close_spares = meets_if _ (sees kind.RBrace s.at) _ _ (λ e. sees_spares kind.RBrace (λ z. cc) e) (λ _. fault_spares (fault_at (span_at s.at) faults.Expected))
 
+  -- a word is taken
   name_by_spares : (missing : Kind) (u : TokenAndSpan) (ts : List TokenAndSpan) (v : Token) → s.at.left ≡ u ∷ ts → u.token ≡ v → Meets (Kept s) (name_by missing s v u.span)
   name_by_spares missing u ts (token.Word w) h g = meets_if _ (is_name s.code.flags (word_text w)) _ _ (λ _. spares_past s.at u ts h (rw g refl)) (λ _. wanted_meets _ missing s)
   name_by_spares missing u ts _ h g = wanted_meets _ missing s
@@ -109,6 +117,7 @@ module _ (s : State) where
   unfolding name
   name_spares missing = name_in_spares missing s.at.left refl
 
+  -- a literal is taken, or nothing
   literal_of_spares : (u : TokenAndSpan) (ts : List TokenAndSpan) (v : Token) → s.at.left ≡ u ∷ ts → u.token ≡ v → Meets (Kept s) (taken (literal_of u.span v) s)
   literal_of_spares u ts (token.Str value raw) h g = spares_past s.at u ts h (rw g refl)
   literal_of_spares u ts (token.Num raw) h g = spares_past s.at u ts h (rw g refl)
@@ -126,6 +135,7 @@ module _ (s : State) where
   unfolding literal
   literal_spares = literal_in_spares s.at.left refl
 
+  -- a first line is taken, or nothing
   shebang_of_spares : (u : TokenAndSpan) (ts : List TokenAndSpan) (v : Token) → s.at.left ≡ u ∷ ts → u.token ≡ v → Meets (Kept s) (shebang_taken (shebang_of v) s)
   shebang_of_spares u ts (token.Shebang text) h g = spares_past s.at u ts h (rw g refl)
   shebang_of_spares u ts _ h g = λ k. k
@@ -145,10 +155,12 @@ spares_from : {A : Type 0} (s t : State) (o : Outcome A) → Spares s.at t.at �
 spares_from s t (Ok p) h g = λ k. h (g k)
 spares_from s t (Err e) h g = tt
 
+-- a reader spares all it reads
 abbrev Reads : Reader Tree → Type 0
 Reads p = (s : State) → Meets (Kept s) (p s)
 
 module _ (inner : Reader Tree) (below : Reads inner) where
+  -- under other flags too
   under_spares : (s : State) → Meets (Kept s) (within with_in inner s)
   under_spares s = meets_then {P = Kept s} _ (inner (coded (with_in s.code) s)) _ (below (coded (with_in s.code) s)) (λ x t h. h)
 
@@ -170,6 +182,7 @@ module _ (inner : Reader Tree) (below : Reads inner) where
   unfolding whole_expr closed
   whole_spares s = meets_then _ (primary inner s) _ (primary_spares s) (λ x t h. meets_if _ (continues t.code x t.at) _ _ (λ _. wanted_meets _ faults.Unexpected t) (λ _. h))
 
+-- expressions and patterns of any number of levels
 expr_spares : (n : ℕ) → Reads (expr n)
 unfolding expr
 expr_spares zero s = too_deep_meets _ s
@@ -187,6 +200,7 @@ module _ (inner : Reader Tree) (below : Reads inner) where
   unfolding declarator plain_declarator
   declarator_spares s = meets_then _ (inner s) _ (below s) (λ p t h. meets_if _ (sees kind.Assign t.at) _ _ (λ _. wanted_meets _ faults.Unexpected t) (λ _. h))
 
+  -- turn by turn, from the first declarator on
   declarators_spares : (s : State) → Meets (Kept s) (declarators inner s)
   unfolding declarators declarators_turn
   declarators_spares s = loop_answers (declarators_turn inner) (Kept s) (Kept s) Refuses
@@ -196,12 +210,14 @@ module _ (inner : Reader Tree) (below : Reads inner) where
   declarators_under_spares : (s : State) → Meets (Kept s) (within with_in (declarators inner) s)
   declarators_under_spares s = meets_then {P = Kept s} _ (declarators inner (coded (with_in s.code) s)) _ (declarators_spares (coded (with_in s.code) s)) (λ x t h. h)
 
+  -- turn by turn, from the first statement on
   items_spares : (stops : Place → Bool) (directives : Bool) (s : State) → Meets (Kept s) (items inner stops directives s)
   unfolding items items_turn
   items_spares stops directives s = loop_answers (items_turn inner stops directives) (Kept s) (Kept s) Refuses
       (λ xs t h. meets_if _ (stops t.at) _ _ (λ _. h) (λ _. meets_then _ (inner t) _ (below t) (λ x u g k. h (g k))))
       (λ t. tt) [] s (λ k. k)
 
+-- a note takes no token
 module_fault_stays : (f : Fault) (s : State) → (module_fault f s).at ≡ s.at
 module_fault_stays f s = by_module s.code.flags.module
   where
@@ -228,7 +244,7 @@ module _ (inner : Position → Reader Tree) (inner_expr inner_pat : Reader Tree)
   expr_stmt_spares : Meets (Kept s) (expr_stmt inner_expr s)
   unfolding expr_stmt no_label note_statement
   expr_stmt_spares = meets_then _ (within with_in inner_expr s) _ (under_spares inner_expr below_expr s) (λ x t h.
-      meets_then _ (no_label inner_expr x t) _ (meets_if (λ _ u. u.at ≡ t.at) (is_ident x && sees kind.Colon t.at) _ _ (λ _. wanted_meets _ faults.Unexpected t) (λ _. refl)) (λ _ u e.
+      meets_then _ (no_label x t) _ (meets_if (λ _ u. u.at ≡ t.at) (is_ident x && sees kind.Colon t.at) _ _ (λ _. wanted_meets _ faults.Unexpected t) (λ _. refl)) (λ _ u e.
       meets_then _ (note_statement x u) _ (meets_if (λ _ v. v.at ≡ u.at) (is_ident_named (codes "interface") x) _ _ (λ _. module_fault_stays (fault_at (span_of x) faults.InvalidIdentInStrict) u) (λ _. refl)) (λ _ v g.
       meets_then _ (end faults.ExpectedSemiForExprStmt v) _ (end_spares v faults.ExpectedSemiForExprStmt)
       (λ _ w z k. h (sym (ap (λ c. has_out_of_memory_token c.left) (g ∙ e)) ∙ z k)))))
@@ -249,6 +265,7 @@ module _ (inner : Position → Reader Tree) (inner_expr inner_pat : Reader Tree)
   unfolding stmt_level
   level_spares = by_spares (kind_at s.at) refl
 
+-- statements of any number of levels
 stmt_spares : (n : ℕ) (at : Position) → Reads (stmt n at)
 unfolding stmt
 stmt_spares zero at s = too_deep_meets _ s
@@ -259,12 +276,14 @@ unfolding script_body
 script_body_spares n s = meets_then _ (shebang s) _ (shebang_spares s) (λ o t h.
     meets_then _ (items (stmt n top_item) at_end true t) _ (items_spares (stmt n top_item) (stmt_spares n top_item) at_end true t) (λ xs u g k. h (g k)))
 
+-- a script
 pub script_spares : (n : ℕ) → Reads (script n)
 unfolding script
 script_spares n s = meets_then _ (script_body n (coded (script_code s.code) s)) _ (script_body_spares n (coded (script_code s.code) s)) (λ x t h. h)
 
 -- ---- nothing is left behind a script
 
+-- no token is of the kind that stands for the end
 keyword_no_end : (k : Keyword) → keyword_kind k ≢ kind.End
 keyword_no_end keyword.Await e = cc
 keyword_no_end _ e = cc
@@ -287,6 +306,7 @@ token_no_end (token.BinOp o) e = bin_op_no_end o e
 token_no_end (token.AssignOp o) e = assign_op_no_end o e
 token_no_end _ e = cc
 
+-- so where that kind stands first no token is left
 none_in : (ts : List TokenAndSpan) → first_kind ts ≡ kind.End → has_out_of_memory_token ts ≡ false
 none_in [] e = refl
 none_in (u ∷ ts) e = absurd (token_no_end u.token e)

@@ -22,6 +22,7 @@ refused_in zero s t e ts = (_, refl)
 refused_in (suc zero) s t e ts = (_, refl)
 refused_in (suc (suc n)) s t e ts = (_, refl)
 
+-- whatever the list goes on with
 pub script_of_error_token : (n : ℕ) (s : State) (t : TokenAndSpan) (ts : List TokenAndSpan) (e : Error) → s.at.left ≡ t ∷ ts → t.token ≡ token.Error e → (u : State) × (script n s ≡ Err (fault_of e, u))
 script_of_error_token n s t ts e h g =
     let k : (u : State) × (script n (before s t t.token ts) ≡ Err (fault_of e, u)) = subst (λ v. (u : State) × (script n (before s t v ts) ≡ Err (fault_of e, u))) (sym g) (refused_in n s t e ts) in

@@ -36,11 +36,11 @@ use Rattle.swc_ecma_parser_grammar.specs.Entries.{ReadsShebang, some_shebang, no
 use Rattle.swc_ecma_parser_grammar.specs.Walk as walks
 use Rattle.swc_ecma_parser_grammar.specs.Walk.{walk, env_of}
 use Rattle.swc_ecma_parser_grammar.specs.Notes.{notes, all_notes, statement_note}
-use Rattle.swc_ecma_parser_reader.specs.State.{State, Reader, moved, coded, within, noted, module_fault, fault, recorded_in, recorded_at, fault_at, expect, end, name, name_in, name_by}
+use Rattle.swc_ecma_parser_reader.specs.State.{State, Reader, moved, coded, flagged, within, noted, module_fault, fault, recorded_in, recorded_at, fault_at, expect, end, name, name_in, name_by}
 use Rattle.swc_ecma_parser_reader.specs.Reader.{literal_of, literal_in, taken, literal, ident_expr, paren, paren_or_none, literal_or, primary, closed, whole_expr, expr, binding, pat, empty, debugger, plain_declarator, declarator, declarators_turn, declarators, var, closes, at_end, close, directs, items_turn, items, block, note_statement, no_label, expr_stmt, expr_stmt_at, stmt_by, stmt_level, stmt, shebang_of, shebang_in, shebang_taken, shebang, script_body, script}
 use Rattle.swc_ecma_parser_reader.specs.Entry.{SoundScript}
 use Rattle.swc_ecma_parser_reader.proofs.Meets.{Meets, Refuses, meets_then, meets_if, wanted_meets, too_deep_meets, refuse_meets, Turned, loop_answers, saw, meant}
-use Rattle.swc_ecma_parser_reader.proofs.Between.{Sound, no_faults, same, sound_then, sound_more, sound_moved, sound_here, sound_as, sound_after, sound_coded, within_sound, some_fault}
+use Rattle.swc_ecma_parser_reader.proofs.Between.{Sound, no_faults, same, sound_then, sound_more, sound_moved, sound_here, sound_as, sound_after, sound_coded, within_sound, flags_back, some_fault}
 
 -- a tree that a rule reads, with its walk and its notes
 abbrev pub SoundTree : (Code → Tree → Place → Place → Type 0) → State → Tree → State → Type 0
@@ -52,12 +52,14 @@ SoundStep Reads s t = Sound same no_faults [] Reads s t
 
 -- ---- ends, fixed tokens and names
 
+-- the end of a statement is one by the grammar
 end_sound : (missing : Kind) (s : State) → Meets (λ _ t. SoundStep (λ k. Ends) s t) (end missing s)
 unfolding end
 end_sound missing s = meets_if _ (sees kind.Semi s.at) _ _
     (λ e. sound_moved s (by_semicolon (saw s.at kind.Semi e) refl))
     (λ e. meets_if _ (can_end s.at) _ _ (λ h. sound_here s (by_insertion e h refl)) (λ _. refuse_meets _ missing s))
 
+-- one token of a kind
 abbrev Takes : TokenKind → Place → Place → Type 0
 Takes j c d = (kind_at c ≡ j) × (d ≡ after c)
 
@@ -73,6 +75,7 @@ record ReadsName (i : Ident) (k : Code) (c d : Place) : Type 0 where
   text : i.sym ≡ word_text word
 
 module _ (missing : Kind) (s : State) where
+  -- a name that is read is a word that is free
   name_by_sound : (u : TokenAndSpan) (ts : List TokenAndSpan) (v : Token) → s.at.left ≡ u ∷ ts → u.token ≡ v
       → Meets (λ i t. SoundStep (ReadsName i) s t) (name_by missing s v u.span)
   name_by_sound u ts (token.Word w) e h = meets_if _ (is_name s.code.flags (word_text w)) _ _
@@ -91,6 +94,7 @@ name_sound missing s = name_in_sound missing s s.at.left refl
 -- ---- expressions
 
 module _ (Inner : Code → Tree → Place → Place → Type 0) where
+  -- a name as an expression
   ident_sound : (s : State) → Meets (λ x t. SoundTree (PrimaryRule Inner) s x t) (ident_expr s)
   unfolding ident_expr
   ident_sound s = meets_then _ (name faults.Unexpected s) _ (name_sound faults.Unexpected s) (λ i t p.
@@ -101,6 +105,7 @@ module _ (Inner : Code → Tree → Place → Place → Type 0) where
   Literal s (Some x) t = SoundTree (PrimaryRule Inner) s x t
   Literal s None t = t ≡ s
 
+  -- a literal is its rule's, and where none stands nothing is taken
   literal_of_sound : (s : State) (u : TokenAndSpan) (ts : List TokenAndSpan) (v : Token) → s.at.left ≡ u ∷ ts → u.token ≡ v → Meets (Literal s) (taken (literal_of u.span v) s)
   literal_of_sound s u ts (token.Str value raw) e h = sound_moved s (string_rule value raw u.span (record { had_line_break = u.had_line_break; rest = ts; is = e ∙ rw (← h) refl; next = refl }) refl)
   literal_of_sound s u ts (token.Num raw) e h = sound_moved s (number_rule raw u.span (record { had_line_break = u.had_line_break; rest = ts; is = e ∙ rw (← h) refl; next = refl }) refl)
@@ -119,30 +124,35 @@ module _ (Inner : Code → Tree → Place → Place → Type 0) where
   literal_sound s = literal_in_sound s s.at.left refl
 
   module _ (inner : Reader Tree) (sound : (s : State) → Meets (λ x t. SoundTree Inner s x t) (inner s)) where
+    -- an expression in parentheses
     paren_sound : (s : State) → kind_at s.at ≡ kind.LParen → Meets (λ x t. SoundTree (PrimaryRule Inner) s x t) (paren inner s)
     unfolding paren
     paren_sound s e = meets_then _ (within with_in inner (moved s)) _
-        (within_sound (λ x k l. walk (env_of k l) x) notes (λ x k. Inner k x) with_in inner (moved s) (sound (coded (with_in s.code) (moved s)))) (λ x m p.
+        (within_sound (λ x k l. walk (env_of k l) x) notes (λ x k. Inner k x) with_in (λ k. refl) inner (moved s) (sound (coded (with_in s.code) (moved s)))) (λ x m p.
         meets_then _ (expect kind.RParen m) _ (expect_sound kind.RParen m) (λ _ t q.
         sound_after s t refl refl (λ (i, r, z). paren_rule x i e r z.0 z.1 refl) (sound_more p q)))
 
     paren_or_none_sound : (s : State) → Meets (λ x t. SoundTree (PrimaryRule Inner) s x t) (paren_or_none inner s)
     paren_or_none_sound s = meets_if _ (sees kind.LParen s.at) _ _ (λ e. paren_sound s (saw s.at kind.LParen e)) (λ _. wanted_meets _ faults.Unexpected s)
 
+    -- a literal, or what else may begin an expression
     literal_or_sound : (s : State) (o : Option Tree) (t : State) → Literal s o t → Meets (λ x u. SoundTree (PrimaryRule Inner) s x u) (literal_or inner o t)
     literal_or_sound s (Some x) t p = p
     literal_or_sound s None t e = subst (λ z. Meets (λ x u. SoundTree (PrimaryRule Inner) s x u) (paren_or_none inner z)) (sym e) (paren_or_none_sound s)
 
+    -- a name, a literal or parentheses
     primary_sound : (s : State) → Meets (λ x t. SoundTree (PrimaryRule Inner) s x t) (primary inner s)
     unfolding primary
     primary_sound s = meets_if _ (name_at s.code.flags s.at) _ _ (λ _. ident_sound s)
         (λ _. meets_then _ (literal s) _ (literal_sound s) (λ o t p. literal_or_sound s o t p))
 
+    -- nothing goes on with an expression that is read
     whole_sound : (s : State) → Meets (λ x t. SoundTree (λ k x c d. PrimaryRule Inner k x c d × (continues k x d ≡ false)) s x t) (whole_expr inner s)
     unfolding whole_expr closed
     whole_sound s = meets_then _ (primary inner s) _ (primary_sound s) (λ x t p. meets_if _ (continues t.code x t.at) _ _ (λ _. wanted_meets _ faults.Unexpected t)
         (λ e. sound_as s t refl refl refl (λ r. (r, subst (λ k. continues k x t.at ≡ false) p.code e)) p))
 
+-- an expression is in the grammar within as many levels
 pub expr_sound : (n : ℕ) (s : State) → Meets (λ x t. SoundTree (ReadsExpr n) s x t) (expr n s)
 unfolding expr
 expr_sound zero s = too_deep_meets _ s
@@ -150,11 +160,13 @@ expr_sound (suc n) s = whole_sound (ReadsExpr n) (expr n) (expr_sound n) s
 
 -- ---- binding patterns
 
+-- a name as a pattern
 binding_sound : (s : State) → Meets (λ x t. SoundTree PatRule s x t) (binding s)
 unfolding binding
 binding_sound s = meets_then _ (name faults.ExpectedIdent s) _ (name_sound faults.ExpectedIdent s) (λ i t p.
     sound_as s t refl refl refl (λ r. binding_rule r.word i.span r.token r.free (ap (λ z. tree.ident_pat i.span z) r.text)) p)
 
+-- a pattern is in the grammar within as many levels
 pub pat_sound : (n : ℕ) (s : State) → Meets (λ x t. SoundTree (ReadsPat n) s x t) (pat n s)
 unfolding pat
 pat_sound zero s = too_deep_meets _ s
@@ -162,6 +174,7 @@ pat_sound (suc n) s = binding_sound s
 
 -- ---- lists of trees
 
+-- the walk of one tree more, and its notes
 walks_push : (env : walks.Env) (xs : List Tree) (x : Tree) → walks.walks env false (trees xs) ++ walk env x ≡ walks.walks env false (trees (xs ++ x ∷ []))
 walks_push env [] x = sym (append-nil (walk env x))
 walks_push env (y ∷ ys) x = append_assoc (walk env y) (walks.walks env false (trees ys)) (walk env x) ∙ ap (λ z. walk env y ++ z) (walks_push env ys x)
@@ -178,6 +191,7 @@ Front Reads [] c d = d ≡ c
 Front Reads (x ∷ xs) c d = (m : Place) × Reads x c m × (kind_at m ≡ kind.Comma) × Front Reads xs (after m) d
 
 module _ (Reads : Tree → Place → Place → Type 0) (x : Tree) where
+  -- one more, with a comma behind it or as the last
   front_push : (c i m : Place) (xs : List Tree) → Front Reads xs c i → Reads x i m → kind_at m ≡ kind.Comma → Front Reads (xs ++ x ∷ []) c (after m)
   front_push c i m [] e r h = (m, subst (λ z. Reads x z m) e r, h, refl)
   front_push c i m (y ∷ ys) (n, a, b, more) r h = (n, a, b, front_push (after n) i m ys more r h)
@@ -188,6 +202,7 @@ module _ (Reads : Tree → Place → Place → Type 0) (x : Tree) where
   front_last c i d (y ∷ z ∷ zs) (m, a, b, more) r h = (m, a, b, front_last (after m) i d (z ∷ zs) more r h)
 
 module _ (Pat : Code → Tree → Place → Place → Type 0) (pat : Reader Tree) (sound : (s : State) → Meets (λ x t. SoundTree Pat s x t) (pat s)) where
+  -- a name before no `=`
   declarator_sound : (s : State) → Meets (λ x t. SoundTree (DeclaratorRule Pat) s x t) (declarator pat s)
   unfolding declarator plain_declarator
   declarator_sound s = meets_then _ (pat s) _ (sound s) (λ p t q. meets_if _ (sees kind.Assign t.at) _ _ (λ _. wanted_meets _ faults.Unexpected t)
@@ -200,6 +215,7 @@ module _ (Pat : Code → Tree → Place → Place → Type 0) (pat : Reader Tree
   abbrev Declarators : State → List Tree → State → Type 0
   Declarators s xs t = Sound same (λ k l. walks.walks (env_of k l) false (trees xs)) (all_notes (trees xs)) (λ k. ReadsSeparated (DeclaratorRule Pat k) xs) s t
 
+  -- each turn reads one declarator
   declarators_turn_sound : (s : State) (xs : List Tree) (t : State) → DeclaratorsSoFar s xs t
       → Meets (Turned (declarators_turn pat) (DeclaratorsSoFar s) (Declarators s) Refuses) (declarators_turn pat xs t)
   unfolding declarators_turn
@@ -210,16 +226,18 @@ module _ (Pat : Code → Tree → Place → Place → Type 0) (pat : Reader Tree
       (λ e. sound_as s u refl (walks_push (env_of s.code s.scope.labels) xs x) (notes_push xs x)
       (λ (i, a, b). front_last (DeclaratorRule Pat s.code) x s.at i u.at xs a b e) (sound_then p q)))
 
+  -- declarators with commas between, and none behind
   declarators_sound : (s : State) → Meets (Declarators s) (declarators pat s)
   unfolding declarators
   declarators_sound s = loop_answers (declarators_turn pat) (DeclaratorsSoFar s) (Declarators s) Refuses (declarators_turn_sound s) (λ t. tt) [] s (sound_here s refl)
 
 module _ (Pat : Code → Tree → Place → Place → Type 0) (pat : Reader Tree) (sound : (s : State) → Meets (λ x t. SoundTree Pat s x t) (pat s))
     (Stmt : Code → Position → Tree → Place → Place → Type 0) (Expr : Code → Tree → Place → Place → Type 0) (at : Position) where
+  -- a `var` statement
   var_sound : (s : State) → kind_at s.at ≡ kind.Var → Meets (λ x t. SoundTree (λ k. StmtRule Stmt Expr Pat k at) s x t) (var pat s)
   unfolding var
   var_sound s e = meets_then _ (within with_in (declarators pat) (moved s)) _
-      (within_sound (λ xs k l. walks.walks (env_of k l) false (trees xs)) (λ xs. all_notes (trees xs)) (λ xs k. ReadsSeparated (DeclaratorRule Pat k) xs) with_in (declarators pat) (moved s)
+      (within_sound (λ xs k l. walks.walks (env_of k l) false (trees xs)) (λ xs. all_notes (trees xs)) (λ xs k. ReadsSeparated (DeclaratorRule Pat k) xs) with_in (λ k. refl) (declarators pat) (moved s)
       (declarators_sound Pat pat sound (coded (with_in s.code) (moved s)))) (λ xs m p.
       meets_then _ (end faults.Unexpected m) _ (end_sound faults.Unexpected m) (λ _ t q.
       sound_after s t refl refl (λ (i, r, z). var_rule xs i e r z refl) (sound_more p q)))
@@ -235,10 +253,12 @@ abbrev pub directs_after : Bool → List Tree → Bool
 directs_after directives [] = directives
 directs_after directives (x ∷ xs) = directs_after (directs_on directives x) xs
 
+-- behind the first statement no directive stands
 never_directs : (xs : List Tree) → directs_after false xs ≡ false
 never_directs [] = refl
 never_directs (x ∷ xs) = never_directs xs
 
+-- the reader's test for directives is that of the grammar
 directs_agrees : (directives : Bool) (xs : List Tree) → directs directives xs ≡ directs_after directives xs
 directs_agrees directives [] = refl
 directs_agrees directives (x ∷ xs) = sym (never_directs xs)
@@ -248,6 +268,16 @@ pub code_stays : (k : Code) (xs : List Tree) → code_after k false xs ≡ k
 code_stays k [] = refl
 code_stays k (x ∷ xs) = code_stays k xs
 
+-- a directive changes no setting
+in_strict_setting : (b : Bool) (k : Code) → (cond b (in_strict k) k).setting ≡ k.setting
+in_strict_setting true k = refl
+in_strict_setting false k = refl
+
+code_setting : (k : Code) (directives : Bool) (xs : List Tree) → (code_after k directives xs).setting ≡ k.setting
+code_setting k directives [] = refl
+code_setting k directives (x ∷ xs) = code_setting (directed k directives x) (directs_on directives x) xs ∙ in_strict_setting (directives && is_use_strict x) k
+
+-- the code behind one statement more
 pub code_push : (k : Code) (directives : Bool) (xs : List Tree) (x : Tree) → directed (code_after k directives xs) (directs_after directives xs) x ≡ code_after k directives (xs ++ x ∷ [])
 code_push k directives [] x = refl
 code_push k directives (y ∷ ys) x = code_push (directed k directives y) (directs_on directives y) ys x
@@ -260,6 +290,7 @@ directed_env k labels directives x = by_test (directives && is_use_strict x)
     by_test true = refl
     by_test false = refl
 
+-- the walk of a body with one statement more
 pub items_walk_push : (k : Code) (labels : List Text) (directives : Bool) (xs : List Tree) (x : Tree)
     → walks.walks (env_of k labels) directives (trees xs) ++ walk (env_of (code_after k directives xs) labels) x ≡ walks.walks (env_of k labels) directives (trees (xs ++ x ∷ []))
 items_walk_push k labels directives [] x = sym (append-nil (walk (env_of k labels) x))
@@ -277,13 +308,16 @@ module _ (Reads : Code → Tree → Place → Place → Type 0) where
   items_push k directives [] x c m d e r = (d, subst (λ z. Reads k x z d) e r, refl)
   items_push k directives (y ∷ ys) x c m d (i, a, more) r = (i, a, items_push (directed k directives y) (directs_on directives y) ys x i m d more r)
 
+  -- statements that were read, from the state before the first
   abbrev pub SoundItems : Bool → State → List Tree → State → Type 0
   SoundItems directives s xs t = Sound (λ k. code_after k directives xs) (λ k l. walks.walks (env_of k l) directives (trees xs)) (all_notes (trees xs)) (λ k. ReadsItems Reads k directives xs) s t
 
   module _ (stmt : Reader Tree) (sound : (s : State) → Meets (λ x t. SoundTree Reads s x t) (stmt s)) (stops : Place → Bool) (directives : Bool) where
+    -- up to a place where they stop
     abbrev Stopped : State → List Tree → State → Type 0
     Stopped s xs t = SoundItems directives s xs t × (stops t.at ≡ true)
 
+    -- each turn reads one statement, under the code behind those before
     items_turn_sound : (s : State) (xs : List Tree) (t : State) → SoundItems directives s xs t
         → Meets (Turned (items_turn stmt stops directives) (SoundItems directives s) (Stopped s) Refuses) (items_turn stmt stops directives xs t)
     unfolding items_turn
@@ -305,6 +339,7 @@ error_first : (c : Place) (u : TokenAndSpan) (ts : List TokenAndSpan) (e : Error
 unfolding same_kind
 error_first c u ts e h g = rw (h, g) refl
 
+-- a test has one outcome
 not_both : {X : Type 0} (b : Bool) → b ≡ true → b ≡ false → X
 not_both b e h = cc
 
@@ -343,6 +378,7 @@ module _ (P : Code → Place → Place → Type 0) (f : Fault) (s : State) (unta
   unfolding fault
   fault_sound = recorded_in_sound s.at.left refl
 
+-- a `}`, or a fault
 close_sound : (s : State) → Meets (λ _ t. SoundStep (λ k. Takes kind.RBrace) s t) (close s)
 unfolding close
 close_sound s = meets_if _ (sees kind.RBrace s.at) _ _ (λ e. sound_moved s (saw s.at kind.RBrace e, refl))
@@ -352,7 +388,7 @@ close_sound s = meets_if _ (sees kind.RBrace s.at) _ _ (λ e. sound_moved s (saw
 NoLabel : Tree → Code → Place → Place → Type 0
 NoLabel x k c d = (is_ident x && sees kind.Colon c ≡ false) × (d ≡ c)
 
-no_label_sound : (expr : Reader Tree) (x : Tree) (s : State) → Meets (λ _ t. SoundStep (NoLabel x) s t) (no_label expr x s)
+no_label_sound : (expr : Reader Tree) (x : Tree) (s : State) → Meets (λ _ t. SoundStep (NoLabel x) s t) (no_label x s)
 unfolding no_label NoLabel
 no_label_sound expr x s = meets_if _ (is_ident x && sees kind.Colon s.at) _ _ (λ _. wanted_meets _ faults.Unexpected s) (λ e. sound_here s (e, refl))
 
@@ -363,6 +399,7 @@ NoNote x k c d = (k.flags.module && is_ident_named (codes "interface") x ≡ fal
 SoundNote : Tree → State → State → Type 0
 SoundNote x s t = Sound same no_faults (statement_note x) (NoNote x) s t
 
+-- in module code it is a fault, and else held back
 module_fault_sound : (x : Tree) (s : State) → is_ident_named (codes "interface") x ≡ true → SoundNote x s (module_fault (fault_at (span_of x) faults.InvalidIdentInStrict) s)
 unfolding SoundNote NoNote
 module_fault_sound x s e = by_module s.code.flags.module refl
@@ -383,6 +420,7 @@ module_fault_sound x s e = by_module s.code.flags.module refl
       reads = λ i. (rw h refl, refl);
     }
 
+-- a conjunction is false where its second part is
 and_false : (a b : Bool) → b ≡ false → (a && b) ≡ false
 and_false true b e = e
 and_false false b e = refl
@@ -396,6 +434,7 @@ module _ (Stmt : Code → Position → Tree → Place → Place → Type 0) (Exp
     (sound : (at : Position) (s : State) → Meets (λ x t. SoundTree (λ k. Stmt k at) s x t) (inner at s))
     (sound_expr : (s : State) → Meets (λ x t. SoundTree Expr s x t) (inner_expr s))
     (sound_pat : (s : State) → Meets (λ x t. SoundTree Pat s x t) (inner_pat s)) (at : Position) where
+  -- a statement in its place
   abbrev SoundStmt : State → Tree → State → Type 0
   SoundStmt s x t = SoundTree (λ k. StmtRule Stmt Expr Pat k at) s x t
 
@@ -418,8 +457,8 @@ module _ (Stmt : Code → Position → Tree → Place → Place → Type 0) (Exp
   expr_stmt_sound : (s : State) → may_begin_expression_statement at s.at ≡ true → Meets (SoundStmt s) (expr_stmt inner_expr s)
   unfolding expr_stmt SoundNote NoNote NoLabel
   expr_stmt_sound s e = meets_then _ (within with_in inner_expr s) _
-      (within_sound (λ x k l. walk (env_of k l) x) notes (λ x k. Expr k x) with_in inner_expr s (sound_expr (coded (with_in s.code) s))) (λ x i p.
-      meets_then _ (no_label inner_expr x i) _ (no_label_sound inner_expr x i) (λ _ j q.
+      (within_sound (λ x k l. walk (env_of k l) x) notes (λ x k. Expr k x) with_in (λ k. refl) inner_expr s (sound_expr (coded (with_in s.code) s))) (λ x i p.
+      meets_then _ (no_label x i) _ (no_label_sound inner_expr x i) (λ _ j q.
       meets_then _ (note_statement x j) _ (note_sound x j) (λ _ m r.
       meets_then _ (end faults.ExpectedSemiForExprStmt m) _ (end_sound faults.ExpectedSemiForExprStmt m) (λ _ t z.
       sound_as s t refl (append-nil (walk (env_of s.code s.scope.labels) x)) refl
@@ -430,6 +469,7 @@ module _ (Stmt : Code → Position → Tree → Place → Place → Type 0) (Exp
   unfolding expr_stmt_at
   expr_stmt_at_sound s = meets_if _ (may_begin_expression_statement at s.at) _ _ (λ h. expr_stmt_sound s h) (λ _. wanted_meets _ faults.Unexpected s)
 
+  -- each kind of token begins its statement
   by_sound : (j : TokenKind) (s : State) → kind_at s.at ≡ j → Meets (SoundStmt s) (stmt_by inner inner_expr inner_pat at j s)
   by_sound kind.LBrace s e = block_sound s e
   by_sound kind.Semi s e = empty_sound s e
@@ -441,6 +481,7 @@ module _ (Stmt : Code → Position → Tree → Place → Place → Type 0) (Exp
   unfolding stmt_level
   level_sound s = by_sound (kind_at s.at) s refl
 
+-- a statement is in the grammar within as many levels
 pub stmt_sound : (n : ℕ) (at : Position) (s : State) → Meets (λ x t. SoundTree (λ k. ReadsStmt n k at) s x t) (stmt n at s)
 unfolding stmt
 stmt_sound zero at s = too_deep_meets _ s
@@ -469,12 +510,11 @@ unfolding same_kind
 assign_op_no_shebang assign.Assign = refl
 assign_op_no_shebang _ = refl
 
-ReadsNoShebang : Place → Place → Type 0
-ReadsNoShebang c d = (sees kind.Shebang c ≡ false) × (d ≡ c)
-
+-- a first line, or none
 SoundShebang : State → Option Text → State → Type 0
 SoundShebang s o t = SoundStep (λ k c d. ReadsShebang c d o) s t
 
+-- another kind stands first
 sees_other : (c : Place) (u : TokenAndSpan) (ts : List TokenAndSpan) (j : TokenKind) → c.left ≡ u ∷ ts → same_kind (token_kind u.token) j ≡ false → sees j c ≡ false
 unfolding kind_at
 sees_other c u ts j e h = rw e h
@@ -496,6 +536,7 @@ shebang_sound : (s : State) → Meets (SoundShebang s) (shebang s)
 unfolding shebang
 shebang_sound s = shebang_in_sound s s.at.left refl
 
+-- a script ends where the list does
 at_end_seen : (c : Place) → at_end c ≡ true → kind_at c ≡ kind.End
 unfolding at_end
 at_end_seen c e = saw c kind.End e
@@ -511,17 +552,18 @@ record ReadsBody (n : ℕ) (x : Tree) (k : Code) (c d : Place) : Type 0 where
 
 -- ends where the list does
 abbrev SoundBody : ℕ → State → Tree → State → Type 0
-SoundBody n s x t = ((f : Code → Code) × Sound f (λ k l. walk (env_of k l) x) (notes x) (ReadsBody n x) s t) × (kind_at t.at ≡ kind.End)
+SoundBody n s x t = ((f : Code → Code) × ((k : Code) → (f k).setting ≡ k.setting) × Sound f (λ k l. walk (env_of k l) x) (notes x) (ReadsBody n x) s t) × (kind_at t.at ≡ kind.End)
 
+-- a first line and statements up to the end
 body_sound : (n : ℕ) (s : State) → Meets (SoundBody n s) (script_body n s)
 unfolding script_body SoundShebang
 body_sound n s = meets_then _ (shebang s) _ (shebang_sound s) (λ o m p.
     meets_then _ (items (stmt n top_item) at_end true m) _ (items_sound (λ k. ReadsStmt n k top_item) (stmt n top_item) (stmt_sound n top_item) at_end true m) (λ xs t q.
-    (((λ k. code_after k true xs), sound_as s t refl refl refl (λ (i, r, z). record { shebang = o; first = i; reads_shebang = r; items = xs; reads_items = z; is = refl }) (sound_then p q.0)), at_end_seen t.at q.1)))
+    (((λ k. code_after k true xs), (λ k. code_setting k true xs), sound_as s t refl refl refl (λ (i, r, z). record { shebang = o; first = i; reads_shebang = r; items = xs; reads_items = z; is = refl }) (sound_then p q.0)), at_end_seen t.at q.1)))
 
-script_is : (n : ℕ) (s : State) (x : Tree) (t : State) → SoundBody n (coded (script_code s.code) s) x t → SoundScript n s x (coded (script_code s.code) t)
-script_is n s x t ((f, p), e) = record {
-  code = refl;
+script_is : (n : ℕ) (s : State) (x : Tree) (t : State) → SoundBody n (coded (script_code s.code) s) x t → SoundScript n s x (flagged (script_code s.code) t)
+script_is n s x t ((f, keeps, p), e) = record {
+  code = flags_back (script_code s.code) t.code (ap (λ k. k.setting) p.code ∙ keeps (script_code s.code));
   scope = p.scope;
   whole = e;
   added = p.added;
@@ -530,14 +572,16 @@ script_is n s x t ((f, p), e) = record {
   walked = p.walked;
 }
 
+-- the answer for a script is sound
 pub script_sound : (n : ℕ) (s : State) → Meets (λ x t. SoundScript n s x t) (script n s)
 unfolding script
 script_sound n s = meets_then _ (script_body n (coded (script_code s.code) s)) _ (body_sound n (coded (script_code s.code) s)) (λ x t p. script_is n s x t p)
 
+-- the same of an outcome that is known
 pub script_is_sound : (n : ℕ) (s : State) (x : Tree) (t : State) → script n s ≡ Ok (x, t) → SoundScript n s x t
 script_is_sound n s x t e = meant (λ y u. SoundScript n s y u) Refuses (script n s) (Ok (x, t)) e (script_sound n s)
 
 -- where nothing is recorded, what is held back for module code are the tree's notes
 pub script_notes : (n : ℕ) (s : State) → Meets (λ x t. (added : List Fault) × (t.faults ≡ s.faults ++ added) × (added ≡ [] → t.held_back ≡ s.held_back ++ notes x)) (script n s)
 unfolding script
-script_notes n s = meets_then _ (script_body n (coded (script_code s.code) s)) _ (body_sound n (coded (script_code s.code) s)) (λ x t ((f, p), e). (p.added, p.faults, p.held_back))
+script_notes n s = meets_then _ (script_body n (coded (script_code s.code) s)) _ (body_sound n (coded (script_code s.code) s)) (λ x t ((f, keeps, p), e). (p.added, p.faults, p.held_back))

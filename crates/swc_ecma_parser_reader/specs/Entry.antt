@@ -1,6 +1,7 @@
 -- What an entry gives, by the grammar and the walk alone.
-use Rattle.std.specs.Prelude.{◌≡◌, ℕ, false, List, [], ◌++◌}
-use Rattle.swc_ecma_parser_error.specs.Kind.{Fault}
+use Rattle.std.specs.Prelude.{◌≡◌, ◌≢◌, ℕ, false, ◌⊎◌, List, [], ◌++◌, None, Result, Ok, Err}
+use Rattle.swc_ecma_parser_error.specs.declared.error.Error.{Error}
+use Rattle.swc_ecma_parser_error.specs.Kind.{Fault, fault_of, kind_of, OutOfMemory}
 use Rattle.swc_ecma_parser_token.specs.declared.kind.TokenKind.TheVariants as kind
 use Rattle.swc_ecma_parser_input.specs.Place.{Place}
 use Rattle.swc_ecma_parser_model.specs.Tree.{Tree}
@@ -9,7 +10,8 @@ use Rattle.swc_ecma_parser_grammar.specs.Names.{Code}
 use Rattle.swc_ecma_parser_grammar.specs.Entries.{ReadsScript, script_code, has_error_token}
 use Rattle.swc_ecma_parser_grammar.specs.Notes.{notes}
 use Rattle.swc_ecma_parser_grammar.specs.Walk.{walk, env_of, tabled, drops}
-use Rattle.swc_ecma_parser_reader.specs.State.{State}
+use Rattle.swc_ecma_parser_reader.specs.State.{State, GivesAs}
+use Rattle.swc_ecma_parser_reader.specs.Reader.{script}
 
 -- the walk of a script read in a state
 abbrev pub script_walk : State → Tree → List Fault
@@ -33,3 +35,24 @@ pub record SoundScript (limit : ℕ) (s : State) (x : Tree) (t : State) : Type 0
 -- at most one tree within a limit spells a list, and it ends in one place
 abbrev pub IsOneScript : Type 0
 IsOneScript = (limit : ℕ) (k : Code) (x y : Tree) (c d e : Place) → ReadsScript limit k x c d → ReadsScript limit k y c e → (x ≡ y) × (d ≡ e)
+
+-- a state as a call begins: nothing is marked
+abbrev pub unmarked : State → State
+unmarked s = record s { scope = record s.scope { mark = None } }
+
+-- A tree within the limit that spells the list is the answer, with the faults of the walk and no others, unless memory ran
+-- out; where the walk finds some, no error token may stand in the list.
+abbrev pub CompleteScript : {X : Type 0} → (X → Tree) → ℕ → State → Result X Error → State → Type 0
+CompleteScript view limit s result t =
+    (x : Tree) (d : Place) → ReadsScript limit s.code x s.at d → (script_walk s x ≡ []) ⊎ (has_error_token s.at.left ≡ false) → GivesAs view (Ok (x, script_left s x d)) result t
+
+-- after a refusal: the context is as before the call, no label is left, and the note is as before
+pub record IsRestored (s t : State) : Type 0 where
+  pub flags : t.code.flags ≡ s.code.flags
+  pub labels : t.scope.labels ≡ []
+  pub found_module_item : t.scope.found_module_item ≡ s.scope.found_module_item
+
+-- what the reader answers; of the state after a refusal nothing is said
+abbrev pub AnswersScript : {X : Type 0} → (X → Tree) → ℕ → State → Result X Error → State → Type 0
+AnswersScript view limit s (Ok x) t = script limit s ≡ Ok (view x, t)
+AnswersScript view limit s (Err e) t = kind_of e.kind ≢ OutOfMemory → (u : State) × (script limit s ≡ Err (fault_of e, u))

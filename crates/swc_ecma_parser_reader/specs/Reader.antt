@@ -19,7 +19,7 @@ use Rattle.swc_ecma_parser_grammar.specs.Names.{name_at}
 use Rattle.swc_ecma_parser_grammar.specs.Follows.{continues, may_begin_expression_statement}
 use Rattle.swc_ecma_parser_grammar.specs.Reads.{with_in, directed, nested_item, top_item}
 use Rattle.swc_ecma_parser_grammar.specs.Entries.{script_code}
-use Rattle.swc_ecma_parser_reader.specs.State.{Reader, ◌>>=◌, ◌>>◌, pure, here, skip, moved, spanned_from, coded, within, fault, fault_at, module_fault, wanted, too_deep, expect, end, name, Step, More, Done, loop}
+use Rattle.swc_ecma_parser_reader.specs.State.{Reader, ◌>>=◌, ◌>>◌, pure, here, skip, moved, spanned_from, coded, flagged, within, fault, fault_at, module_fault, wanted, too_deep, expect, end, name, Step, More, Done, loop}
 
 -- ---- expressions
 
@@ -181,11 +181,11 @@ module _ (stmt : Reader Tree) where
 unfoldable pub note_statement : Tree → Reader (Unit {0})
 note_statement x = λ s. if is_ident_named (codes "interface") x then Ok (tt, module_fault (fault_at (span_of x) faults.InvalidIdentInStrict) s) else Ok (tt, s)
 
-module _ (expr : Reader Tree) where
-  -- a bare name before `:` is a label; none is read yet
-  unfoldable pub no_label : Tree → Reader (Unit {0})
-  no_label x = λ s. if is_ident x && sees kind.Colon s.at then wanted faults.Unexpected s else Ok (tt, s)
+-- a bare name before `:` is a label; none is read yet
+unfoldable pub no_label : Tree → Reader (Unit {0})
+no_label x = λ s. if is_ident x && sees kind.Colon s.at then wanted faults.Unexpected s else Ok (tt, s)
 
+module _ (expr : Reader Tree) where
   unfoldable pub expr_stmt : Reader Tree
   expr_stmt = do
     start ← here
@@ -243,4 +243,4 @@ script_body n = do
 unfoldable pub script : ℕ → Reader Tree
 script n = λ s. (do
   x ← script_body n
-  λ t. Ok (x, coded (script_code s.code) t)) (coded (script_code s.code) s)
+  λ t. Ok (x, flagged (script_code s.code) t)) (coded (script_code s.code) s)

@@ -79,9 +79,13 @@ spanned_from c = λ s. Ok (spanned c s.at, s)
 abbrev pub coded : Code → State → State
 coded k s = record s { code = k }
 
--- a reader under other code
+-- the flags are what they were
+abbrev pub flagged : Code → State → State
+flagged k s = coded (record s.code { flags = k.flags }) s
+
+-- a reader under other flags
 abbrev pub within : {A : Type 0} → (Code → Code) → Reader A → Reader A
-within change p = λ s. and_then (p (coded (change s.code) s)) (λ a t. Ok (a, coded s.code t))
+within change p = λ s. and_then (p (coded (change s.code) s)) (λ a t. Ok (a, flagged s.code t))
 
 abbrev pub noted : Fault → State → State
 noted f s = record s { faults = s.faults ++ f ∷ [] }

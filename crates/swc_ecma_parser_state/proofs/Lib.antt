@@ -1,2 +1,3 @@
 pub mod Primitives
 pub mod Taken
+pub mod Contexts

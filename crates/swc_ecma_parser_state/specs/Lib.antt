@@ -3,3 +3,4 @@ pub mod Wanted
 pub mod Literals
 pub mod FirstError
 pub mod Taken
+pub mod Opened

@@ -1,6 +1,7 @@
 //! The state of a parser over any source of tokens, and the steps that its rules are made of.
 #![tactic(auto)]
 
+mod entry;
 mod literal;
 mod looks;
 mod names;

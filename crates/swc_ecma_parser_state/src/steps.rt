@@ -203,17 +203,13 @@ impl<I: Tokens> State<I> {
         self.fault(kind, span)
     }
 
-    /// The parser's own refusal of what stands here. An error token is read and recorded.
+    /// Refuses what stands here with this kind. An error token is read and recorded.
     #[tactic(auto, using(crate::proofs::Primitives::refuse_plain, crate::proofs::Primitives::refuse_recorded, crate::proofs::Primitives::refuse_failed))]
-    pub fn refuse(&mut self, wanted: Wanted) -> Error
+    fn refuse_as(&mut self, kind: SyntaxError) -> Error
         ensures { kind_of result.kind ≢ kinds.OutOfMemory
-            → reader.refuse {A = Unit {0}} (wanted_kind wanted) self.old ≡ Err (fault_of result, self.new) }
+            → reader.refuse {A = Unit {0}} (kind_of kind) self.old ≡ Err (fault_of result, self.new) }
     {
         let span = self.span();
-        let kind = match self.missing(wanted) {
-            Err(error) => return error,
-            Ok(kind) => kind,
-        };
         match self.take_error() {
             Err(error) => error,
             Ok(None) => Error { span, kind },
@@ -221,6 +217,17 @@ impl<I: Tokens> State<I> {
                 Err(error) => error,
                 Ok(()) => Error { span, kind },
             },
+        }
+    }
+
+    /// The parser's own refusal of what stands here. An error token is read and recorded.
+    pub fn refuse(&mut self, wanted: Wanted) -> Error
+        ensures { kind_of result.kind ≢ kinds.OutOfMemory
+            → reader.refuse {A = Unit {0}} (wanted_kind wanted) self.old ≡ Err (fault_of result, self.new) }
+    {
+        match self.missing(wanted) {
+            Err(error) => error,
+            Ok(kind) => self.refuse_as(kind),
         }
     }
 }

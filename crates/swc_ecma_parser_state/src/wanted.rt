@@ -76,11 +76,12 @@ pub fn missing(
         Wanted::Name => SyntaxError::ExpectedIdent,
         Wanted::Expression => SyntaxError::Unexpected {
             got: Atom::new(alloc, text_of(found))?,
-            expected: "an expression",
+            expected: Atom::new(alloc, "an expression")?,
         },
-        Wanted::Token(spelling) => {
-            SyntaxError::Expected(spelling, Atom::new(alloc, text_of(found))?)
-        }
+        Wanted::Token(spelling) => SyntaxError::Expected(
+            Atom::new(alloc, spelling)?,
+            Atom::new(alloc, text_of(found))?,
+        ),
         Wanted::EndOfExpression(expr) => SyntaxError::ExpectedSemiForExprStmt { expr },
     };
     Ok(kind)

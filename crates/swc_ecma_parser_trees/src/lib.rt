@@ -11,16 +11,17 @@ use swc_ecma_parser_model::{BigInt, Bool, Ident, Null, Number, Str, VarDeclKind}
 
 /// Where trees are made. A function value that answers a node takes this, since its arguments have to name the types of
 /// its answer.
-pub struct Maker<E, P, S> {
+pub struct Maker<T, E, P, S> {
     pub alloc: Global,
-    nodes: PhantomData<(E, P, S)>,
+    nodes: PhantomData<(T, E, P, S)>,
 }
 
 /// The maker of a tree's nodes.
-pub type MakerOf<T> = Maker<<T as Trees>::Expr, <T as Trees>::Pat, <T as Trees>::Stmt>;
+pub type MakerOf<T> = Maker<T, <T as Trees>::Expr, <T as Trees>::Pat, <T as Trees>::Stmt>;
 
-impl<E, P, S> Maker<E, P, S> {
-    pub fn new(alloc: Global) -> Maker<E, P, S> {
+impl<T, E, P, S> Maker<T, E, P, S> {
+    /// A maker that allocates so.
+    pub fn new(alloc: Global) -> Maker<T, E, P, S> {
         Maker {
             alloc,
             nodes: PhantomData,

@@ -1,0 +1,73 @@
+//! Scripts: ECMA-262, section 16.1.
+
+ghost use Rattle.std.specs.Prelude.{◌≡◌, true, [], map, IsOk};
+ghost use Rattle.swc_ecma_parser_grammar.specs.Reads.{directed, top_item};
+ghost use Rattle.swc_ecma_parser_reader.specs.Reader as rules;
+ghost use Rattle.swc_ecma_parser_reader.specs.State as reader;
+ghost use Rattle.swc_ecma_parser_reader.specs.State.{GivesAs};
+
+use crate::grammar::stmt;
+use crate::steps::{in_strict, pushed, since};
+use swc_ecma_parser_error::PResult;
+use swc_ecma_parser_grammar::Position;
+use swc_ecma_parser_state::Source;
+use swc_ecma_parser_token::TokenKind;
+use swc_ecma_parser_trees::{BuildsExpr, BuildsPat, BuildsStmt, MakerOf, Trees};
+
+/// A statement of the script itself.
+pub const TOP_ITEM: Position = Position {
+    include_decl: true,
+    top_level: true,
+};
+
+/// Whether the list has ended.
+#[tactic(auto, unfolding(swc_ecma_parser_reader::specs::Reader::at_end))]
+fn at_end<P: Source>(p: &P) -> bool
+    ensures { result ≡ rules.at_end (P.seen p.now).at }
+{
+    p.sees(TokenKind::End)
+}
+
+/// Turns strict what follows a directive.
+fn direct<P: Source, T: Trees>(p: &mut P, directives: bool, x: &T::Stmt)
+    ensures { P.seen p.new ≡ reader.coded (directed (P.seen p.old).code directives (T.stmt_of x.now)) (P.seen p.old) }
+{
+    if directives && T::is_use_strict(x) {
+        let flags = p.flags();
+        p.set_flags(in_strict(flags));
+    }
+}
+
+/// The statements of a script, the first of which can be a directive.
+#[tactic(auto, unfolding(swc_ecma_parser_reader::specs::Reader::items), using(swc_ecma_parser_reader::proofs::Loops::items_stop, swc_ecma_parser_reader::proofs::Loops::items_err, crate::proofs::Items::script_more, swc_ecma_parser_reader::proofs::Loops::stmt_shorter, std::proofs::lemmas::List::map_push))]
+fn items<P: Source, T: BuildsExpr + BuildsPat + BuildsStmt>(
+    t: &MakerOf<T>,
+    p: &mut P,
+    limit: usize,
+) -> PResult<Vec<T::Stmt>>
+    ensures { GivesAs (λ found. map T.stmt_of found.items) (rules.items (rules.stmt limit top_item) rules.at_end true (P.seen p.old)) result (P.seen p.new) }
+{
+    let mut found = Vec::new(t.alloc);
+    'items: while !at_end(p) {
+        let stmt = stmt::<P, T>(t, p, limit, TOP_ITEM)?;
+        direct::<P, T>(p, found.is_empty(), &stmt);
+        pushed(p, &mut found, stmt)?;
+    }
+    Ok(found)
+}
+
+/// A script, whose items may stand so many levels deep.
+#[tactic(auto, unfolding(swc_ecma_parser_reader::specs::Reader::script_body, swc_ecma_parser_grammar::specs::Looks::spanned))]
+pub fn script_body<P: Source, T: BuildsExpr + BuildsPat + BuildsStmt>(
+    t: &MakerOf<T>,
+    p: &mut P,
+    limit: usize,
+) -> PResult<T::Script>
+    ensures { GivesAs T.script_of (rules.script_body limit (P.seen p.old)) result (P.seen p.new) }
+{
+    let start = p.span();
+    let shebang = p.shebang()?;
+    let body = items::<P, T>(t, p, limit)?;
+    let span = since(p, start);
+    Ok(T::script(span, body, shebang))
+}

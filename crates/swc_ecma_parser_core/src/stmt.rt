@@ -1,0 +1,274 @@
+//! Statements: ECMA-262, section 14.
+
+ghost use Rattle.std.specs.Prelude.{◌≡◌, false, map, IfOk, IfErr};
+ghost use Rattle.swc_ecma_parser_core.specs.Nests.{Nests};
+ghost use Rattle.swc_ecma_parser_error.specs.Kind as kinds;
+ghost use Rattle.swc_ecma_parser_error.specs.Kind.{kind_of, IsOutOfMemory};
+ghost use Rattle.swc_ecma_parser_grammar.specs.Reads.{nested_item};
+ghost use Rattle.swc_ecma_parser_reader.specs.Reader as rules;
+ghost use Rattle.swc_ecma_parser_reader.specs.State.{Gives, GivesAs};
+
+use crate::grammar::Grammar;
+use crate::steps::{grown, pushed, since, with_in};
+use std::alloc::Global;
+use swc_ecma_parser_common::Atom;
+use swc_ecma_parser_error::{PResult, SyntaxError};
+use swc_ecma_parser_grammar::Position;
+use swc_ecma_parser_model::VarDeclKind;
+use swc_ecma_parser_state::{Source, Wanted};
+use swc_ecma_parser_token::TokenKind;
+use swc_ecma_parser_trees::{BuildsStmt, MakerOf};
+
+/// A statement in a block or a body.
+pub const NESTED_ITEM: Position = Position {
+    include_decl: true,
+    top_level: false,
+};
+
+/// `;`
+#[tactic(auto, unfolding(swc_ecma_parser_reader::specs::Reader::empty, swc_ecma_parser_grammar::specs::Looks::spanned))]
+fn empty<P: Source, T: BuildsStmt>(alloc: Global, p: &mut P) -> PResult<T::Stmt>
+    ensures { GivesAs T.stmt_of (rules.empty (P.seen p.old)) result (P.seen p.new) }
+{
+    let start = p.span();
+    p.skip()?;
+    let span = since(p, start);
+    grown(p, T::empty(alloc, span))
+}
+
+/// `debugger`
+#[tactic(auto, unfolding(swc_ecma_parser_reader::specs::Reader::debugger, swc_ecma_parser_grammar::specs::Looks::spanned))]
+fn debugger<P: Source, T: BuildsStmt>(alloc: Global, p: &mut P) -> PResult<T::Stmt>
+    ensures { GivesAs T.stmt_of (rules.debugger (P.seen p.old)) result (P.seen p.new) }
+{
+    let start = p.span();
+    p.skip()?;
+    p.end(Wanted::Token(";"))?;
+    let span = since(p, start);
+    grown(p, T::debugger(alloc, span))
+}
+
+/// A declarator; no initializer is read yet.
+#[tactic(auto, unfolding(swc_ecma_parser_reader::specs::Reader::declarator, swc_ecma_parser_reader::specs::Reader::plain_declarator, swc_ecma_parser_grammar::specs::Looks::spanned))]
+pub fn declarator<
+    P: Source,
+    T: BuildsStmt,
+    S: Fn(&MakerOf<T>, &mut P, usize, Position) -> PResult<T::Stmt>,
+    E: Fn(&MakerOf<T>, &mut P, usize) -> PResult<T::Expr>,
+    N: Fn(&MakerOf<T>, &mut P, usize) -> PResult<T::Pat>,
+>(g: &Grammar<S, E, N>, t: &MakerOf<T>, p: &mut P) -> PResult<T::Declarator>
+    requires { Nests P.seen T.expr_of T.pat_of T.stmt_of g.now.depth (S.pre g.now.stmt) (S.post g.now.stmt) (E.pre g.now.expr) (E.post g.now.expr) (N.pre g.now.pat) (N.post g.now.pat) }
+    ensures { GivesAs T.declarator_of (rules.declarator (rules.pat g.now.depth) (P.seen p.old)) result (P.seen p.new) }
+{
+    let start = p.span();
+    let name = (g.pat)(t, p, g.depth)?;
+    if p.sees(TokenKind::Assign) {
+        return Err(p.wanted(Wanted::Expression));
+    }
+    let span = since(p, start);
+    grown(p, T::declarator(t.alloc, span, name, None))
+}
+
+/// Declarators with commas between.
+#[tactic(auto, unfolding(swc_ecma_parser_reader::specs::Reader::declarators), using(swc_ecma_parser_reader::proofs::Loops::declarators_done, swc_ecma_parser_reader::proofs::Loops::declarators_err, swc_ecma_parser_reader::proofs::Loops::declarators_more, swc_ecma_parser_reader::proofs::Loops::declarators_shorter, std::proofs::lemmas::List::map_push))]
+pub fn declarators<
+    P: Source,
+    T: BuildsStmt,
+    S: Fn(&MakerOf<T>, &mut P, usize, Position) -> PResult<T::Stmt>,
+    E: Fn(&MakerOf<T>, &mut P, usize) -> PResult<T::Expr>,
+    N: Fn(&MakerOf<T>, &mut P, usize) -> PResult<T::Pat>,
+>(g: &Grammar<S, E, N>, t: &MakerOf<T>, p: &mut P) -> PResult<Vec<T::Declarator>>
+    requires { Nests P.seen T.expr_of T.pat_of T.stmt_of g.now.depth (S.pre g.now.stmt) (S.post g.now.stmt) (E.pre g.now.expr) (E.post g.now.expr) (N.pre g.now.pat) (N.post g.now.pat) }
+    ensures { GivesAs (λ found. map T.declarator_of found.items) (rules.declarators (rules.pat g.now.depth) (P.seen p.old)) result (P.seen p.new) }
+{
+    let mut found = Vec::new(t.alloc);
+    'declarators: loop {
+        let declarator = declarator(g, t, p)?;
+        pushed(p, &mut found, declarator)?;
+        if !p.sees(TokenKind::Comma) {
+            return Ok(found);
+        }
+        p.skip()?;
+    }
+}
+
+/// A `var` statement.
+#[tactic(auto, unfolding(swc_ecma_parser_reader::specs::Reader::var, swc_ecma_parser_grammar::specs::Looks::spanned))]
+pub fn var<
+    P: Source,
+    T: BuildsStmt,
+    S: Fn(&MakerOf<T>, &mut P, usize, Position) -> PResult<T::Stmt>,
+    E: Fn(&MakerOf<T>, &mut P, usize) -> PResult<T::Expr>,
+    N: Fn(&MakerOf<T>, &mut P, usize) -> PResult<T::Pat>,
+>(g: &Grammar<S, E, N>, t: &MakerOf<T>, p: &mut P) -> PResult<T::Stmt>
+    requires { Nests P.seen T.expr_of T.pat_of T.stmt_of g.now.depth (S.pre g.now.stmt) (S.post g.now.stmt) (E.pre g.now.expr) (E.post g.now.expr) (N.pre g.now.pat) (N.post g.now.pat) }
+    ensures { GivesAs T.stmt_of (rules.var (rules.pat g.now.depth) (P.seen p.old)) result (P.seen p.new) }
+{
+    let start = p.span();
+    p.skip()?;
+    let outer = p.flags();
+    p.set_flags(with_in(outer));
+    let found = declarators(g, t, p)?;
+    p.set_flags(outer);
+    p.end(Wanted::Expression)?;
+    let span = since(p, start);
+    grown(p, T::var(t.alloc, span, VarDeclKind::Var, found))
+}
+
+/// Whether a block's statements end here.
+#[tactic(auto, unfolding(swc_ecma_parser_reader::specs::Reader::closes))]
+fn closes<P: Source>(p: &P) -> bool
+    ensures { result ≡ rules.closes (P.seen p.now).at }
+{
+    p.sees(TokenKind::RBrace) || p.sees(TokenKind::End)
+}
+
+/// The fault of a `}` that is missing at the end of the list.
+fn missing_brace<P: Source>(alloc: Global, p: &mut P) -> PResult<SyntaxError>
+    ensures kind { IfOk result (λ kind. kind_of kind ≡ kinds.Expected) }
+    ensures state { IfOk result (λ kind. P.seen p.new ≡ P.seen p.old) }
+    ensures err { IfErr result IsOutOfMemory }
+{
+    let wanted = grown(p, Atom::new(alloc, "}"))?;
+    let found = grown(p, Atom::new(alloc, "<eof>"))?;
+    Ok(SyntaxError::Expected(wanted, found))
+}
+
+/// The `}` of a block, or a fault where the list has ended.
+#[tactic(auto, unfolding(swc_ecma_parser_reader::specs::Reader::close))]
+fn close<P: Source>(alloc: Global, p: &mut P) -> PResult<()>
+    ensures { Gives (rules.close (P.seen p.old)) result (P.seen p.new) }
+{
+    if p.sees(TokenKind::RBrace) {
+        return p.skip();
+    }
+    let kind = missing_brace(alloc, p)?;
+    let span = p.span();
+    p.fault(kind, span)
+}
+
+/// The statements of a block.
+#[tactic(auto, unfolding(swc_ecma_parser_reader::specs::Reader::items), using(swc_ecma_parser_reader::proofs::Loops::items_stop, swc_ecma_parser_reader::proofs::Loops::items_err, crate::proofs::Items::nested_more, swc_ecma_parser_reader::proofs::Loops::stmt_shorter, std::proofs::lemmas::List::map_push))]
+pub fn block_items<
+    P: Source,
+    T: BuildsStmt,
+    S: Fn(&MakerOf<T>, &mut P, usize, Position) -> PResult<T::Stmt>,
+    E: Fn(&MakerOf<T>, &mut P, usize) -> PResult<T::Expr>,
+    N: Fn(&MakerOf<T>, &mut P, usize) -> PResult<T::Pat>,
+>(g: &Grammar<S, E, N>, t: &MakerOf<T>, p: &mut P) -> PResult<Vec<T::Stmt>>
+    requires { Nests P.seen T.expr_of T.pat_of T.stmt_of g.now.depth (S.pre g.now.stmt) (S.post g.now.stmt) (E.pre g.now.expr) (E.post g.now.expr) (N.pre g.now.pat) (N.post g.now.pat) }
+    ensures { GivesAs (λ found. map T.stmt_of found.items) (rules.items (rules.stmt g.now.depth nested_item) rules.closes false (P.seen p.old)) result (P.seen p.new) }
+{
+    let mut found = Vec::new(t.alloc);
+    'items: while !closes(p) {
+        let stmt = (g.stmt)(t, p, g.depth, NESTED_ITEM)?;
+        pushed(p, &mut found, stmt)?;
+    }
+    Ok(found)
+}
+
+/// A block.
+#[tactic(auto, unfolding(swc_ecma_parser_reader::specs::Reader::block, swc_ecma_parser_grammar::specs::Looks::spanned))]
+pub fn block<
+    P: Source,
+    T: BuildsStmt,
+    S: Fn(&MakerOf<T>, &mut P, usize, Position) -> PResult<T::Stmt>,
+    E: Fn(&MakerOf<T>, &mut P, usize) -> PResult<T::Expr>,
+    N: Fn(&MakerOf<T>, &mut P, usize) -> PResult<T::Pat>,
+>(g: &Grammar<S, E, N>, t: &MakerOf<T>, p: &mut P) -> PResult<T::Stmt>
+    requires { Nests P.seen T.expr_of T.pat_of T.stmt_of g.now.depth (S.pre g.now.stmt) (S.post g.now.stmt) (E.pre g.now.expr) (E.post g.now.expr) (N.pre g.now.pat) (N.post g.now.pat) }
+    ensures { GivesAs T.stmt_of (rules.block (rules.stmt g.now.depth nested_item) (P.seen p.old)) result (P.seen p.new) }
+{
+    let start = p.span();
+    p.skip()?;
+    let body = block_items(g, t, p)?;
+    close(t.alloc, p)?;
+    let span = since(p, start);
+    grown(p, T::block(t.alloc, span, body))
+}
+
+/// Adds the fault that the bare name `interface` is in module code.
+#[tactic(auto, unfolding(swc_ecma_parser_reader::specs::Reader::note_statement))]
+fn note_statement<P: Source, T: BuildsStmt>(alloc: Global, p: &mut P, x: &T::Expr) -> PResult<()>
+    ensures { Gives (rules.note_statement (T.expr_of x.now) (P.seen p.old)) result (P.seen p.new) }
+{
+    if !T::is_ident_named(x, "interface") {
+        return Ok(());
+    }
+    let word = grown(p, Atom::new(alloc, "interface"))?;
+    p.module_fault(SyntaxError::InvalidIdentInStrict(word), T::expr_span(x))
+}
+
+/// A bare name before `:` is a label; none is read yet.
+#[tactic(auto, unfolding(swc_ecma_parser_reader::specs::Reader::no_label))]
+fn no_label<P: Source, T: BuildsStmt>(p: &mut P, x: &T::Expr) -> PResult<()>
+    ensures { Gives (rules.no_label (T.expr_of x.now) (P.seen p.old)) result (P.seen p.new) }
+{
+    if T::is_ident(x) && p.sees(TokenKind::Colon) {
+        return Err(p.wanted(Wanted::Expression));
+    }
+    Ok(())
+}
+
+/// An expression statement.
+#[tactic(auto, unfolding(swc_ecma_parser_reader::specs::Reader::expr_stmt, swc_ecma_parser_grammar::specs::Looks::spanned))]
+pub fn expr_stmt<
+    P: Source,
+    T: BuildsStmt,
+    S: Fn(&MakerOf<T>, &mut P, usize, Position) -> PResult<T::Stmt>,
+    E: Fn(&MakerOf<T>, &mut P, usize) -> PResult<T::Expr>,
+    N: Fn(&MakerOf<T>, &mut P, usize) -> PResult<T::Pat>,
+>(g: &Grammar<S, E, N>, t: &MakerOf<T>, p: &mut P) -> PResult<T::Stmt>
+    requires { Nests P.seen T.expr_of T.pat_of T.stmt_of g.now.depth (S.pre g.now.stmt) (S.post g.now.stmt) (E.pre g.now.expr) (E.post g.now.expr) (N.pre g.now.pat) (N.post g.now.pat) }
+    ensures { GivesAs T.stmt_of (rules.expr_stmt (rules.expr g.now.depth) (P.seen p.old)) result (P.seen p.new) }
+{
+    let start = p.span();
+    let outer = p.flags();
+    p.set_flags(with_in(outer));
+    let x = (g.expr)(t, p, g.depth)?;
+    p.set_flags(outer);
+    no_label::<P, T>(p, &x)?;
+    note_statement::<P, T>(t.alloc, p, &x)?;
+    p.end(Wanted::EndOfExpression(T::expr_span(&x)))?;
+    let span = since(p, start);
+    grown(p, T::expr_stmt(t.alloc, span, x))
+}
+
+/// An expression statement, where one may begin.
+#[tactic(auto, unfolding(swc_ecma_parser_reader::specs::Reader::expr_stmt_at))]
+fn expr_stmt_at<
+    P: Source,
+    T: BuildsStmt,
+    S: Fn(&MakerOf<T>, &mut P, usize, Position) -> PResult<T::Stmt>,
+    E: Fn(&MakerOf<T>, &mut P, usize) -> PResult<T::Expr>,
+    N: Fn(&MakerOf<T>, &mut P, usize) -> PResult<T::Pat>,
+>(g: &Grammar<S, E, N>, t: &MakerOf<T>, p: &mut P, at: Position) -> PResult<T::Stmt>
+    requires { Nests P.seen T.expr_of T.pat_of T.stmt_of g.now.depth (S.pre g.now.stmt) (S.post g.now.stmt) (E.pre g.now.expr) (E.post g.now.expr) (N.pre g.now.pat) (N.post g.now.pat) }
+    ensures { GivesAs T.stmt_of (rules.expr_stmt_at (rules.expr g.now.depth) at (P.seen p.old)) result (P.seen p.new) }
+{
+    if !p.may_begin_expression_statement(at) {
+        return Err(p.wanted(Wanted::Expression));
+    }
+    expr_stmt(g, t, p)
+}
+
+/// A statement, by its first token.
+#[tactic(auto, unfolding(swc_ecma_parser_reader::specs::Reader::stmt_level))]
+pub fn level<
+    P: Source,
+    T: BuildsStmt,
+    S: Fn(&MakerOf<T>, &mut P, usize, Position) -> PResult<T::Stmt>,
+    E: Fn(&MakerOf<T>, &mut P, usize) -> PResult<T::Expr>,
+    N: Fn(&MakerOf<T>, &mut P, usize) -> PResult<T::Pat>,
+>(g: &Grammar<S, E, N>, t: &MakerOf<T>, p: &mut P, at: Position) -> PResult<T::Stmt>
+    requires { Nests P.seen T.expr_of T.pat_of T.stmt_of g.now.depth (S.pre g.now.stmt) (S.post g.now.stmt) (E.pre g.now.expr) (E.post g.now.expr) (N.pre g.now.pat) (N.post g.now.pat) }
+    ensures { GivesAs T.stmt_of (rules.stmt_level (rules.stmt g.now.depth) (rules.expr g.now.depth) (rules.pat g.now.depth) at (P.seen p.old)) result (P.seen p.new) }
+{
+    match p.kind() {
+        TokenKind::LBrace => block(g, t, p),
+        TokenKind::Semi => empty::<P, T>(t.alloc, p),
+        TokenKind::Debugger => debugger::<P, T>(t.alloc, p),
+        TokenKind::Var => var(g, t, p),
+        _ => expr_stmt_at(g, t, p, at),
+    }
+}

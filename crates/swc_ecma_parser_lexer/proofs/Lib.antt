@@ -1,0 +1,3 @@
+pub mod Scans
+pub mod Literals
+pub mod Texts

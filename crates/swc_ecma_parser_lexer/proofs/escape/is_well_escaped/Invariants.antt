@@ -1,0 +1,16 @@
+use Rattle.std.proofs.Common.{◌≡◌, length}
+use denote.Text.{Utf8}
+use denote.Shadow.{shadow}
+use Rattle.std.specs.Str.{chars}
+use Rattle.swc_ecma_parser_lexer.specs.declared.escape.Escape.TheVariants as escape
+use Rattle.swc_ecma_parser_lexer.specs.Strings as read
+use Rattle.swc_ecma_parser_lexer.proofs.escape.is_well_escaped.Given as goal
+
+abbrev pub invariant-loop-c : goal.invariant-loop-c
+invariant-loop-c l = record {
+  text : shadow (Utf8 l.rest);
+  same : read.is_well_escaped l.fn.quote escape.Text (chars l.fn.literal) ≡ read.is_well_escaped l.fn.quote l.state (chars l.rest);
+}
+
+abbrev pub decreases-loop-c : goal.decreases-loop-c
+decreases-loop-c l = length l.rest

@@ -1,0 +1,16 @@
+use Rattle.std.proofs.Common.{◌≡◌, ◌++◌, None, length, string_bytes}
+use denote.Text.{Utf8}
+use denote.Shadow.{shadow}
+use Rattle.std.specs.Str.{chars}
+use Rattle.swc_ecma_parser_lexer.specs.declared.escape.Escape.TheVariants as escape
+use Rattle.swc_ecma_parser_lexer.specs.Strings as read
+use Rattle.swc_ecma_parser_lexer.proofs.escape.value_of.Given as goal
+
+abbrev pub invariant-loop-c : goal.invariant-loop-c
+invariant-loop-c l = record {
+  text : shadow (Utf8 l.rest);
+  same : read.value_of l.fn.quote escape.Text None (chars l.fn.literal) ≡ string_bytes l.value ++ read.value_of l.fn.quote l.state l.waiting (chars l.rest);
+}
+
+abbrev pub decreases-loop-c : goal.decreases-loop-c
+decreases-loop-c l = length l.rest

@@ -1,0 +1,33 @@
+use Rattle.std.proofs.Common.{◌≡◌, ◌+◌, List, length, refl, ap, ◌∙◌}
+use Rattle.swc_ecma_parser_common.specs.declared.span.BytePos.{BytePos}
+use Rattle.swc_ecma_parser_common.specs.declared.span.Span.{Span}
+use Rattle.swc_ecma_parser_token.specs.declared.token.Token.{Token}
+use Rattle.swc_ecma_parser_token.specs.declared.token.TokenAndSpan.{TokenAndSpan}
+use Rattle.swc_ecma_parser_input.specs.TokenSource.{IsDrawn}
+use Rattle.swc_ecma_parser_lexer.specs.declared.place.Place.{Place}
+use Rattle.swc_ecma_parser_lexer.specs.declared.scan.Piece.{Piece}
+use Rattle.swc_ecma_parser_lexer.specs.Tokens.{token_of, token_at, tokens_at, span_at, IsToken, IsPast, IsTokenOrFault}
+use Rattle.swc_ecma_parser_lexer.proofs.Texts.{past-token}
+use Rattle.swc_ecma_parser_lexer.proofs.lexer.LexerTokens.next.Goals as goal
+
+drawn : (old : List TokenAndSpan) (p q : Place) (piece : Piece) (t : Token) (span : Span) → old ≡ tokens_at p → IsToken p piece → IsPast p piece q → span ≡ span_at (p.start.0 + p.at) (length piece.text.now) → IsTokenOrFault (token_of piece.state piece.text.now span) t → IsDrawn old (record { token = t; had_line_break = p.had_line_break; span = span }) (tokens_at q)
+unfolding token_at
+drawn old p q piece t span e h k s m = record {
+  first = token_at (p.start.0 + p.at) p.had_line_break piece.state piece.text.now;
+  list = e ∙ past-token p piece q h.first k h.kept;
+  span = s;
+  had_line_break = refl;
+  same = λ f. ap (λ (x : Token). record { token = x; had_line_break = p.had_line_break; span = span }) (m f)
+      ∙ ap (λ (x : Span). record { token = token_of piece.state piece.text.now x; had_line_break = p.had_line_break; span = x }) s;
+}
+
+pub returns : goal.returns
+returns c =
+    let self = c.args.self.now in
+    let q = c.past-self.result in
+    let found = rw c.in-Some.is at c.find-found.ensures.piece in
+    record {
+      draws = drawn (tokens_at self.place) c.find-found.result.place q c.in-Some.piece c.token_or_fault-token.result c.span_of-span.result
+          c.find-found.ensures.tokens found c.past-self.ensures c.span_of-span.ensures c.token_or_fault-token.ensures;
+      rest = ap (λ (b : BytePos). record { left = tokens_at q; context = self.context; syntax = self.syntax; start = b; recorded = self.faults.recorded; held_back = self.faults.held_back }) (c.past-self.ensures.start ∙ c.find-found.ensures.start);
+    }

@@ -1,0 +1,13 @@
+use Rattle.std.proofs.Common.{◌≡◌, length}
+use Rattle.swc_ecma_parser_lexer.specs.Tokens as read
+use Rattle.swc_ecma_parser_lexer.proofs.place.find.Given as goal
+
+abbrev pub invariant-loop-piece : goal.invariant-loop-piece
+invariant-loop-piece l = record {
+  tokens : read.tokens_at l.fn.first ≡ read.tokens_at l.place;
+  start : l.place.start ≡ l.fn.first.start;
+  fits : read.Fits l.place;
+}
+
+abbrev pub decreases-loop-piece : goal.decreases-loop-piece
+decreases-loop-piece l = length l.place.rest.now

@@ -1,0 +1,155 @@
+ghost use Rattle.std.specs.Prelude.{◌≡◌, ◌+◌, ◌<◌, [], length, true, false, MatchResult};
+ghost use Rattle.std.specs.Str.{chars};
+ghost use Rattle.swc_ecma_parser_error.specs.Kind.{IsOutOfMemory};
+ghost use Rattle.swc_ecma_parser_lexer.specs.Source.{source_of, outset};
+
+use crate::comment::{Comment, CommentList};
+use crate::input::StringInput;
+use crate::place::{Place, find, past, span_of, token_or_fault};
+use std::alloc::Global;
+use swc_ecma_parser_common::{BytePos, Span};
+use swc_ecma_parser_error::{Error, PResult, SyntaxError};
+use swc_ecma_parser_input::{Context, FaultLists, Syntax, Tokens};
+use swc_ecma_parser_token::TokenAndSpan;
+
+/// A lexer: what it has still to read of its text, and what a source of tokens keeps.
+#[derive(Drop)]
+pub struct Lexer<'a> {
+    alloc: Global,
+    syntax: Syntax,
+    context: Context,
+    place: Place<'a>,
+    faults: FaultLists,
+    comments: CommentList,
+    ghost fits: { place.start.0 + place.at + length place.rest.now < 4294967296 },
+}
+
+/// There is no memory: an empty span at a position.
+fn no_memory(at: BytePos) -> Error
+    ensures memory { IsOutOfMemory result }
+    ensures low { result.span.lo ≡ at }
+    ensures high { result.span.hi ≡ at }
+{
+    Error {
+        span: Span { lo: at, hi: at },
+        kind: SyntaxError::OutOfMemory,
+    }
+}
+
+impl<'a> Lexer<'a> {
+    /// A lexer at the start of a text, in the default context. With `comments` on it keeps the comments that it reads.
+    /// It takes no memory.
+    pub fn new(alloc: Global, syntax: Syntax, input: StringInput<'a>, comments: bool) -> Lexer<'a>
+        ensures { source_of result.place result.context result.syntax result.faults ≡ outset syntax input.entry.start (chars input.entry.src.now) }
+    {
+        Lexer {
+            alloc,
+            syntax,
+            context: Context::default(),
+            place: Place {
+                start: input.start(),
+                at: 0,
+                had_line_break: false,
+                rest: input.text(),
+            },
+            faults: FaultLists::new(alloc),
+            comments: CommentList::new(alloc, comments),
+        }
+    }
+
+    /// Hands out the comments read since the last such call, or says that one of them found no memory. No comment is
+    /// left either way, and the tokens stay. It takes no memory.
+    pub fn take_comments(&mut self) -> PResult<Vec<Comment>>
+        ensures comments { MatchResult result (λ comments. comments.items ≡ self.old.comments.comments.items) IsOutOfMemory }
+        ensures lossy { MatchResult result (λ _. self.old.comments.is_lossy ≡ false) (λ _. self.old.comments.is_lossy ≡ true) }
+        ensures left { self.new.comments.comments.items ≡ [] }
+        ensures fresh { self.new.comments.is_lossy ≡ false }
+        ensures source { source_of self.new.place self.new.context self.new.syntax self.new.faults ≡ source_of self.old.place self.old.context self.old.syntax self.old.faults }
+    {
+        match self.comments.take() {
+            Some(comments) => Ok(comments),
+            None => Err(no_memory(self.place.start)),
+        }
+    }
+}
+
+impl<'a> Tokens for Lexer<'a> {
+    ghost use Rattle.swc_ecma_parser_lexer.specs.Ordered.{ordered};
+
+    ghost seen = { λ s. source_of s.place s.context s.syntax s.faults };
+
+    fn next(&mut self) -> Option<TokenAndSpan> {
+        let found = find(self.place, &mut self.comments);
+        let Some(piece) = found.piece else {
+            self.place = found.place;
+            return None;
+        };
+        let span = span_of(found.place, piece);
+        let token = token_or_fault(self.alloc, piece.state, piece.text, span);
+        self.place = past(found.place, piece);
+        Some(TokenAndSpan {
+            token,
+            had_line_break: found.place.had_line_break,
+            span,
+        })
+    }
+
+    fn set_ctx(&mut self, context: Context) {
+        if context.module {
+            self.faults.release();
+        }
+        self.context = context;
+    }
+
+    fn ctx(&self) -> Context {
+        self.context
+    }
+
+    fn syntax(&self) -> Syntax {
+        self.syntax
+    }
+
+    fn start_pos(&self) -> BytePos {
+        self.place.start
+    }
+
+    fn add_error(&mut self, error: Error) -> PResult<()> {
+        match self.faults.add(error) {
+            Ok(()) => Ok(()),
+            Err(_) => Err(no_memory(self.place.start)),
+        }
+    }
+
+    fn add_module_mode_error(&mut self, error: Error) -> PResult<()> {
+        if self.context.module {
+            return self.add_error(error);
+        }
+        match self.faults.hold_back(error) {
+            Ok(()) => Ok(()),
+            Err(_) => Err(no_memory(self.place.start)),
+        }
+    }
+
+    fn take_errors(&mut self) -> Vec<Error> {
+        self.faults.take()
+    }
+
+    fn try_clone(&self) -> PResult<Lexer<'a>> {
+        let Ok(faults) = self.faults.try_clone() else {
+            return Err(no_memory(self.place.start));
+        };
+        let Ok(comments) = self.comments.try_clone() else {
+            return Err(no_memory(self.place.start));
+        };
+        Ok(Lexer {
+            alloc: self.alloc,
+            syntax: self.syntax,
+            context: self.context,
+            place: self.place,
+            faults,
+            comments,
+        })
+    }
+
+    ghost ordered = { λ s. ordered s.place.start.0 s.place.at s.place.had_line_break (chars s.place.rest.now) };
+}

@@ -1,0 +1,121 @@
+//! Places in a text, and the next token from a place on.
+
+ghost use Rattle.std.specs.Prelude.{◌≡◌, [], ◌==◌, ◌+◌, false, length, MatchOption};
+ghost use Rattle.swc_ecma_parser_lexer.specs.Scan.{IsFirstPiece};
+ghost use Rattle.swc_ecma_parser_lexer.specs.Tokens as read;
+
+use crate::comment::CommentList;
+use crate::make::{fault, token_of};
+use crate::scan::{Piece, scan};
+use crate::state::State;
+use std::alloc::Global;
+use swc_ecma_parser_common::{BytePos, Span};
+use swc_ecma_parser_error::SyntaxError;
+use swc_ecma_parser_token::{Token, TokenAndSpan};
+
+/// A place in a text.
+#[derive(Clone, Copy, Debug, PartialEq, Eq)]
+pub struct Place<'a> {
+    /// Where the text starts.
+    pub start: BytePos,
+    /// How many bytes stand before the place.
+    pub at: u32,
+    /// Whether a line break stands between the place and the token before it.
+    pub had_line_break: bool,
+    /// The text behind the place.
+    pub rest: &'a str,
+}
+
+/// A place and the token there, or the end of the text.
+#[derive(Clone, Copy)]
+pub struct Found<'a> {
+    pub place: Place<'a>,
+    pub piece: Option<Piece<'a>>,
+}
+
+/// White space, a line terminator or a comment.
+#[tactic(auto, unfolding(crate::specs::Tokens::is_skipped))]
+fn is_skipped(state: State) -> bool
+    ensures { result ≡ read.is_skipped state }
+{
+    match state {
+        State::Space => true,
+        State::LineBreak => true,
+        State::LineComment => true,
+        State::BlockCommentEnd(_) => true,
+        _ => false,
+    }
+}
+
+/// Whether a piece has a line break in it that counts: section 12.4 for those in comments.
+#[tactic(auto, unfolding(crate::specs::Tokens::breaks))]
+fn breaks(state: State) -> bool
+    ensures { result ≡ read.breaks state }
+{
+    match state {
+        State::LineBreak => true,
+        State::BlockCommentEnd(breaks) => breaks,
+        _ => false,
+    }
+}
+
+/// The span of the piece at a place.
+pub fn span_of(place: Place, piece: Piece) -> Span
+    requires fits { read.Fits place }
+    requires piece { IsFirstPiece (place.at == 0) place.rest.now piece }
+    ensures { result ≡ read.span_at (place.entry.start.0 + place.entry.at) (length piece.entry.text.now) }
+{
+    let low = place.start.0 + place.at;
+    let high = low + piece.text.len() as u32;
+    Span {
+        lo: BytePos(low),
+        hi: BytePos(high),
+    }
+}
+
+/// The place behind the piece at a place.
+pub fn past<'a>(place: Place<'a>, piece: Piece<'a>) -> Place<'a>
+    requires fits { read.Fits place }
+    requires piece { IsFirstPiece (place.at == 0) place.rest.now piece }
+    ensures { read.IsPast place.entry piece.entry result }
+{
+    Place {
+        start: place.start,
+        at: place.at + piece.text.len() as u32,
+        had_line_break: is_skipped(piece.state) & (place.had_line_break | breaks(piece.state)),
+        rest: piece.rest,
+    }
+}
+
+/// Goes past white space, line terminators and comments.
+pub fn find<'a>(first: Place<'a>, comments: &mut CommentList) -> Found<'a>
+    requires { read.Fits first }
+    ensures tokens { read.tokens_at first.entry ≡ read.tokens_at result.place }
+    ensures start { result.place.start ≡ first.entry.start }
+    ensures fits { read.Fits result.place }
+    ensures piece { MatchOption result.piece (read.tokens_at result.place ≡ []) (λ piece. read.IsToken result.place piece) }
+{
+    let mut place = first;
+    while let Some(piece) = scan(place.at == 0, place.rest) {
+        if !is_skipped(piece.state) {
+            return Found {
+                place,
+                piece: Some(piece),
+            };
+        }
+        comments.note(piece.state, piece.text, span_of(place, piece));
+        place = past(place, piece);
+    }
+    Found { place, piece: None }
+}
+
+/// The token that a piece spells, or an error token where there is no memory for its text.
+#[tactic(auto, unfolding(crate::specs::Make::fault))]
+pub fn token_or_fault(alloc: Global, state: State, text: &str, span: Span) -> Token
+    ensures { read.IsTokenOrFault (read.token_of state text.now span) result }
+{
+    match token_of(alloc, state, text, span) {
+        Ok(token) => token,
+        Err(_) => fault(SyntaxError::OutOfMemory, span),
+    }
+}

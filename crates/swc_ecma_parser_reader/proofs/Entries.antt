@@ -1,0 +1,57 @@
+-- What an entry promises, of whatever answers as the reader does.
+use Rattle.std.proofs.Common.{◌≡◌, ◌≢◌, ℕ, ◌+◌, ◌*◌, ◌≤◌, false, List, ◌∷◌, length, Result, Ok, Err, refl, sym, ◌∙◌, ap, subst, arith}
+use Rattle.std.specs.Prelude.{IfOk, IfErr, IsErrAnd}
+use Rattle.swc_ecma_parser_error.specs.declared.error.Error.{Error}
+use Rattle.swc_ecma_parser_error.specs.Kind as faults
+use Rattle.swc_ecma_parser_error.specs.Kind.{Fault, fault_of, kind_of}
+use Rattle.swc_ecma_parser_token.specs.declared.token.Token.TheVariants as token
+use Rattle.swc_ecma_parser_token.specs.declared.token.TokenAndSpan.{TokenAndSpan}
+use Rattle.swc_ecma_parser_model.specs.Tree.{Tree}
+use Rattle.swc_ecma_parser_reader.specs.State.{State, Outcome}
+use Rattle.swc_ecma_parser_reader.specs.Reader.{script}
+use Rattle.swc_ecma_parser_reader.specs.Entry.{SoundScript, CompleteScript, AnswersScript}
+use Rattle.swc_ecma_parser_reader.specs.Limits.{has_too_deep_token, has_out_of_memory_token}
+use Rattle.swc_ecma_parser_reader.proofs.Sound.{script_is_sound}
+use Rattle.swc_ecma_parser_reader.proofs.Complete.{script_reads}
+use Rattle.swc_ecma_parser_reader.proofs.Limits.{script_fits}
+use Rattle.swc_ecma_parser_reader.proofs.Refusals.{script_of_error_token}
+use Rattle.swc_ecma_parser_reader.proofs.Memory.{script_lacks_out_of_memory}
+
+-- the fault of a refusal
+abbrev refusal_of : Fault → Outcome Tree → Fault
+refusal_of f (Ok p) = f
+refusal_of f (Err e) = e.0
+
+module _ (X : Type 0) (view : X → Tree) (limit : ℕ) (s : State) where
+  pub entry_sound : (r : Result X Error) (t : State) → AnswersScript view limit s r t → IfOk r (λ x. SoundScript limit s (view x) t)
+  entry_sound (Ok x) t h = script_is_sound limit s (view x) t h
+  entry_sound (Err e) t h = tt
+
+  never_both : {A : Type 0} (f : Fault) (u : State) (x : Tree) (v : State) → script limit s ≡ Err (f, u) → script limit s ≡ Ok (x, v) → A
+  never_both f u x v h g = cc
+
+  pub entry_complete : (r : Result X Error) (t : State) → AnswersScript view limit s r t → CompleteScript view limit s r t
+  entry_complete (Ok y) t h = λ x d k g. sym (script_reads limit s x d k) ∙ h
+  entry_complete (Err e) t h = λ x d k g n. never_both (fault_of e) _ x _ (h n).1 (script_reads limit s x d k)
+
+  -- an answer has read no token for which there was no memory
+  pub entry_memory : (r : Result X Error) (t : State) → AnswersScript view limit s r t → IfOk r (λ x. has_out_of_memory_token s.at.left ≡ false)
+  entry_memory (Ok x) t h = script_lacks_out_of_memory limit s (view x) t h
+  entry_memory (Err e) t h = tt
+
+  no_memory : (k : faults.Kind) → k ≡ faults.TooDeep → k ≢ faults.OutOfMemory
+  no_memory k e h = cc
+
+  -- a limit of twice the tokens and two is never met
+  pub entry_fits : (r : Result X Error) (t : State) → AnswersScript view limit s r t → 2 * length s.at.left + 2 ≤ limit → has_too_deep_token s.at.left ≡ false → IfErr r (λ e. kind_of e.kind ≢ faults.TooDeep)
+  entry_fits (Ok x) t h l n = tt
+  entry_fits (Err e) t h l n = λ d. let p = h (no_memory (kind_of e.kind) d) in script_fits limit s (fault_of e) p.0 l p.1 n d
+
+  same_refusal : (e : Error) (f : Fault) (u v : State) → script limit s ≡ Err (fault_of e, u) → script limit s ≡ Err (f, v) → fault_of e ≡ f
+  same_refusal e f u v h g = ap (refusal_of f) (sym h ∙ g)
+
+  -- an error token in first place is answered
+  pub entry_of_error_token : (r : Result X Error) (t : State) → AnswersScript view limit s r t → (u : TokenAndSpan) (us : List TokenAndSpan) (d : Error) → s.at.left ≡ u ∷ us → u.token ≡ token.Error d
+      → IsErrAnd r (λ e. kind_of e.kind ≢ faults.OutOfMemory → fault_of e ≡ fault_of d)
+  entry_of_error_token (Ok x) t h u us d l e = let p = script_of_error_token limit s u us d l e in never_both (fault_of d) p.0 (view x) t p.1 h
+  entry_of_error_token (Err x) t h u us d l e = λ n. let p = script_of_error_token limit s u us d l e in let q = h n in same_refusal x (fault_of d) q.0 p.0 q.1 p.1

@@ -1,0 +1,136 @@
+//! How a state is made, given back and set right again.
+
+ghost use Rattle.std.specs.Prelude.{◌≡◌, false, [], None, length, drop, IfOk, IfErr};
+ghost use Rattle.swc_ecma_parser_error.specs.Kind.{faults_of, IsOutOfMemory};
+ghost use Rattle.swc_ecma_parser_grammar.specs.Entries.{script_code};
+ghost use Rattle.swc_ecma_parser_input.specs.Place as place;
+ghost use Rattle.swc_ecma_parser_reader.specs.Entry.{unmarked};
+ghost use Rattle.swc_ecma_parser_reader.specs.State as reader;
+ghost use Rattle.swc_ecma_parser_state.specs.Opened.{opened};
+
+use crate::state::State;
+use std::alloc::{AllocError, Global};
+use swc_ecma_parser_common::Atom;
+use swc_ecma_parser_error::{Error, PResult};
+use swc_ecma_parser_input::{Buffer, Context, Tokens};
+use swc_ecma_parser_reader::Mark;
+
+impl<I: Tokens> State<I> {
+    /// Sets the source's own context on it once more, and draws its first tokens.
+    pub fn new(alloc: Global, input: I) -> State<I>
+        ensures kept { result ≡ record (opened (I.seen input)) { at = place.outset (I.seen input).start result.at.left } }
+        ensures left { place.lacks_memory (place.first result.at.left) ≡ false
+            → place.lacks_memory (place.second result.at.left) ≡ false → result ≡ opened (I.seen input) }
+        ensures len { length result.at.left ≡ length (I.seen input).left }
+    {
+        let mut input = input;
+        let context = input.ctx();
+        input.set_ctx(context);
+        State {
+            buffer: Buffer::new(input),
+            labels: Vec::new(alloc),
+            found_module_item: false,
+            mark: None,
+        }
+    }
+
+    /// The labels around.
+    pub fn labels(&self) -> &[Atom]
+        ensures { result.now ≡ self.now.scope.labels }
+    {
+        self.labels.as_slice()
+    }
+
+    /// Whether the code is known to be a module's.
+    pub fn found_module_item(&self) -> bool
+        ensures { result ≡ self.now.scope.found_module_item }
+    {
+        self.found_module_item
+    }
+
+    /// What the call has met that no recovery may hide.
+    pub fn mark(&self) -> Option<Mark>
+        ensures { result ≡ self.now.scope.mark }
+    {
+        self.mark
+    }
+
+    /// Hands out the recorded faults, in order.
+    pub fn take_errors(&mut self) -> Vec<Error>
+        ensures errors { faults_of result.items ≡ self.old.faults }
+        ensures state { self.new ≡ record self.old { faults = [] } }
+    {
+        self.buffer.take_errors()
+    }
+
+    /// An equal state over an equal source, or a fault of kind `OutOfMemory`.
+    pub fn try_clone(&self) -> PResult<State<I>>
+        ensures ok { IfOk result (λ it. it ≡ self.now) }
+        ensures err { IfErr result IsOutOfMemory }
+    {
+        let buffer = self.buffer.try_clone()?;
+        let labels = copied(&self.labels)?;
+        Ok(State {
+            buffer,
+            labels,
+            found_module_item: self.found_module_item,
+            mark: self.mark,
+        })
+    }
+
+    /// The source, without the tokens that were read ahead: at most two.
+    pub fn into_input(self) -> I
+        ensures left { (I.seen result).left ≡ drop 2 self.at.left }
+        ensures context { (I.seen result).context ≡ self.code.flags }
+        ensures faults { faults_of (I.seen result).recorded ≡ self.faults }
+        ensures held_back { faults_of (I.seen result).held_back ≡ self.held_back }
+    {
+        let State {
+            buffer,
+            labels: _,
+            found_module_item: _,
+            mark: _,
+        } = self;
+        buffer.into_input()
+    }
+
+    /// Begins a call: nothing is marked.
+    pub fn begin(&mut self)
+        ensures { self.new ≡ unmarked self.old }
+    {
+        self.mark = None;
+    }
+
+    /// Begins code that is no module's.
+    pub fn enter_script(&mut self)
+        ensures { self.new ≡ reader.coded (script_code self.old.code) self.old }
+    {
+        let flags = self.buffer.ctx();
+        self.buffer.set_ctx(Context {
+            module: false,
+            ..flags
+        });
+    }
+
+    /// After a refusal: this context and note, and no labels.
+    pub fn restore(&mut self, flags: Context, found_module_item: bool)
+        ensures flags { self.new.code.flags ≡ flags }
+        ensures scope { self.new.scope ≡ record self.old.scope { labels = []; found_module_item = found_module_item } }
+        ensures at { self.new.at ≡ self.old.at }
+    {
+        self.labels.clear();
+        self.found_module_item = found_module_item;
+        self.buffer.set_ctx(flags);
+    }
+}
+
+/// Equal texts, or no memory.
+fn copied(texts: &Vec<Atom>) -> Result<Vec<Atom>, AllocError>
+    ensures { IfOk result (λ copy. copy.items ≡ texts.now.items) }
+{
+    let mut copy = Vec::with_capacity(*texts.allocator(), texts.len())?;
+    for text in texts {
+        copy.push(text.try_clone()?)?;
+    }
+    Ok(copy)
+}
