@@ -7,8 +7,9 @@ use Rattle.swc_ecma_parser_error.specs.Kind.{Fault, fault_of, kind_of}
 use Rattle.swc_ecma_parser_token.specs.declared.token.Token.TheVariants as token
 use Rattle.swc_ecma_parser_token.specs.declared.token.TokenAndSpan.{TokenAndSpan}
 use Rattle.swc_ecma_parser_model.specs.Tree.{Tree}
-use Rattle.swc_ecma_parser_reader.specs.State.{State, Outcome}
-use Rattle.swc_ecma_parser_reader.specs.Reader.{script}
+use Rattle.swc_ecma_parser_grammar.specs.Entries.{script_code}
+use Rattle.swc_ecma_parser_reader.specs.State.{State, Outcome, coded}
+use Rattle.swc_ecma_parser_reader.specs.Reader.{script_body, script}
 use Rattle.swc_ecma_parser_reader.specs.Entry.{SoundScript, CompleteScript, AnswersScript}
 use Rattle.swc_ecma_parser_reader.specs.Limits.{has_too_deep_token, has_out_of_memory_token}
 use Rattle.swc_ecma_parser_reader.proofs.Sound.{script_is_sound}
@@ -16,6 +17,11 @@ use Rattle.swc_ecma_parser_reader.proofs.Complete.{script_reads}
 use Rattle.swc_ecma_parser_reader.proofs.Limits.{script_fits}
 use Rattle.swc_ecma_parser_reader.proofs.Refusals.{script_of_error_token}
 use Rattle.swc_ecma_parser_reader.proofs.Memory.{script_lacks_out_of_memory}
+
+-- a script whose body is refused is refused
+pub script_refused : (limit : ℕ) (s : State) (p : Fault × State) → script_body limit (coded (script_code s.code) s) ≡ Err p → script limit s ≡ Err p
+unfolding script
+script_refused limit s p h = rw h
 
 -- the fault of a refusal
 abbrev refusal_of : Fault → Outcome Tree → Fault

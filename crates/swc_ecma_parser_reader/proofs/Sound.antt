@@ -585,3 +585,11 @@ script_is_sound n s x t e = meant (λ y u. SoundScript n s y u) Refuses (script 
 pub script_notes : (n : ℕ) (s : State) → Meets (λ x t. (added : List Fault) × (t.faults ≡ s.faults ++ added) × (added ≡ [] → t.held_back ≡ s.held_back ++ notes x)) (script n s)
 unfolding script
 script_notes n s = meets_then _ (script_body n (coded (script_code s.code) s)) _ (body_sound n (coded (script_code s.code) s)) (λ x t ((f, keeps, p), e). (p.added, p.faults, p.held_back))
+
+-- what is read leaves the code as it was
+pub expr_code : (n : ℕ) (s : State) (x : Tree) (t : State) → expr n s ≡ Ok (x, t) → t.code ≡ s.code
+expr_code n s x t e = let p : SoundTree (ReadsExpr n) s x t = meant (λ y u. SoundTree (ReadsExpr n) s y u) Refuses (expr n s) (Ok (x, t)) e (expr_sound n s) in p.code
+
+pub declarators_code : (n : ℕ) (s : State) (xs : List Tree) (t : State) → declarators (pat n) s ≡ Ok (xs, t) → t.code ≡ s.code
+declarators_code n s xs t e =
+    let p : Declarators (ReadsPat n) (pat n) (pat_sound n) s xs t = meant (Declarators (ReadsPat n) (pat n) (pat_sound n) s) Refuses (declarators (pat n) s) (Ok (xs, t)) e (declarators_sound (ReadsPat n) (pat n) (pat_sound n) s) in p.code

@@ -112,6 +112,14 @@ impl<I: Tokens> State<I> {
         });
     }
 
+    /// Sets a context of code that is no module's.
+    pub fn leave_script(&mut self, flags: Context)
+        requires { flags.module ≡ false }
+        ensures { self.new ≡ reader.coded (record self.old.code { flags = flags }) self.old }
+    {
+        self.buffer.set_ctx(flags);
+    }
+
     /// After a refusal: this context and note, and no labels.
     pub fn restore(&mut self, flags: Context, found_module_item: bool)
         ensures flags { self.new.code.flags ≡ flags }

@@ -27,6 +27,11 @@ impl<T, E, P, S> Maker<T, E, P, S> {
             nodes: PhantomData,
         }
     }
+
+    /// Lets it go.
+    pub fn finish(self) {
+        let Maker { alloc: _, nodes: _ } = self;
+    }
 }
 
 /// The kinds of node, each with the model that a node stands for.

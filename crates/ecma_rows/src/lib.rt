@@ -1,0 +1,15 @@
+//! Tests that cross crates: texts and what they parse to, and each public function once.
+#![tactic(auto)]
+
+#[cfg(test)]
+mod deep;
+#[cfg(test)]
+mod describe;
+#[cfg(test)]
+mod parsers;
+#[cfg(test)]
+mod rows;
+#[cfg(test)]
+mod texts;
+#[cfg(test)]
+mod values;

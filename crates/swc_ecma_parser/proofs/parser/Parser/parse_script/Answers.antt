@@ -1,0 +1,19 @@
+use Rattle.swc_ecma_parser_ast.specs.View.{view_script}
+use Rattle.swc_ecma_parser_reader.specs.Entry.{unmarked}
+use Rattle.swc_ecma_parser_reader.proofs.Entries as entries
+use Rattle.swc_ecma_parser.proofs.parser.Parser.parse_script.Goals as goal
+
+pub returns-clause-sound : goal.returns-clause-sound
+returns-clause-sound g c = rw (← c.self.view_is) (entries.entry_sound _ view_script c.self.inside.limit (unmarked c.self.inside.state) c.script.result c.script.new.state c.script.ensures.answers)
+
+pub returns-clause-complete : goal.returns-clause-complete
+returns-clause-complete g c = rw (← c.self.view_is) (entries.entry_complete _ view_script c.self.inside.limit (unmarked c.self.inside.state) c.script.result c.script.new.state c.script.ensures.answers)
+
+pub returns-clause-memory : goal.returns-clause-memory
+returns-clause-memory g c = rw (← c.self.view_is) (entries.entry_memory _ view_script c.self.inside.limit (unmarked c.self.inside.state) c.script.result c.script.new.state c.script.ensures.answers)
+
+pub returns-clause-fits : goal.returns-clause-fits
+returns-clause-fits g c = rw (← c.self.view_is) (entries.entry_fits _ view_script c.self.inside.limit (unmarked c.self.inside.state) c.script.result c.script.new.state c.script.ensures.answers)
+
+pub returns-clause-error_token : goal.returns-clause-error_token
+returns-clause-error_token g c = rw (← c.self.view_is) (entries.entry_of_error_token _ view_script c.self.inside.limit (unmarked c.self.inside.state) c.script.result c.script.new.state c.script.ensures.answers)

@@ -1,0 +1,139 @@
+//! The parser: a state over a source of tokens, with its entries.
+
+ghost use Rattle.std.specs.Prelude.{◌≡◌, ◌≢◌, ℕ, ◌+◌, ◌*◌, ◌≤◌, false, [], ◌∷◌, length, drop, IfOk, IfErr, OnErr, IsErrAnd, IsOk};
+ghost use Rattle.swc_ecma_parser_ast.specs.View.{view_script};
+ghost use Rattle.swc_ecma_parser_error.specs.Kind as kinds;
+ghost use Rattle.swc_ecma_parser_error.specs.Kind.{fault_of, faults_of, kind_of, IsOutOfMemory};
+ghost use Rattle.swc_ecma_parser_error.specs.declared.error.Error.{Error};
+ghost use Rattle.swc_ecma_parser_input.specs.Place as place;
+ghost use Rattle.swc_ecma_parser_reader.specs.Entry.{unmarked, SoundScript, CompleteScript, IsRestored};
+ghost use Rattle.swc_ecma_parser_reader.specs.Limits.{has_too_deep_token, has_out_of_memory_token};
+ghost use Rattle.swc_ecma_parser_state.specs.Opened.{opened};
+ghost use Rattle.swc_ecma_parser_token.specs.declared.token.Token.TheVariants as token;
+ghost use Rattle.swc_ecma_parser_token.specs.declared.token.TokenAndSpan.{TokenAndSpan};
+
+use crate::entry::script;
+use std::alloc::Global;
+use std::marker::Model;
+use swc_ecma_parser_ast::Script;
+use swc_ecma_parser_error::{Error, PResult};
+use swc_ecma_parser_input::Tokens;
+use swc_ecma_parser_state::State;
+
+/// How many levels deep a tree may nest where no limit is handed in.
+pub const DEFAULT_LIMIT: u32 = 1000;
+
+/// A parser over a source of tokens. A call that is refused leaves the tokens that it read read, the recorded faults to be
+/// taken, and the rest as before it, so that the next call goes on from there.
+#[derive(Drop)]
+pub struct Parser<I: Tokens> {
+    alloc: Global,
+    state: State<I>,
+    limit: u32,
+}
+
+impl<I: Tokens> Model for Parser<I> {
+    ghost use Rattle.swc_ecma_parser.specs.Parsing.{Parsing};
+
+    ghost Value = { Parsing };
+
+    ghost use Rattle.std.specs.Coded.{codes};
+    ghost use Rattle.swc_ecma_parser_token.specs.contracts.token.TokenAndSpan as token;
+
+    ghost coded = { Prim.hlevel (codes, token.the_row.coded) };
+
+    ghost view = { λ p. record { state = p.state; limit = p.limit } };
+}
+
+impl<I: Tokens> Parser<I> {
+    /// A parser of what a source hands out, whose trees nest at most 1,000 levels deep. It takes no memory.
+    pub fn new_from(alloc: Global, input: I) -> Parser<I>
+        ensures limit { result.limit ≡ 1000 }
+        ensures kept { result.state ≡ record (opened (I.seen input)) { at = place.outset (I.seen input).start result.state.at.left } }
+        ensures left { place.lacks_memory (place.first result.state.at.left) ≡ false
+            → place.lacks_memory (place.second result.state.at.left) ≡ false → result.state ≡ opened (I.seen input) }
+        ensures len { length result.state.at.left ≡ length (I.seen input).left }
+    {
+        Parser::new_from_limited(alloc, input, DEFAULT_LIMIT)
+    }
+
+    /// The same with this limit.
+    pub fn new_from_limited(alloc: Global, input: I, limit: u32) -> Parser<I>
+        ensures limit { result.limit ≡ limit }
+        ensures kept { result.state ≡ record (opened (I.seen input)) { at = place.outset (I.seen input).start result.state.at.left } }
+        ensures left { place.lacks_memory (place.first result.state.at.left) ≡ false
+            → place.lacks_memory (place.second result.state.at.left) ≡ false → result.state ≡ opened (I.seen input) }
+        ensures len { length result.state.at.left ≡ length (I.seen input).left }
+    {
+        Parser {
+            alloc,
+            state: State::new(alloc, input),
+            limit,
+        }
+    }
+
+    /// Reads the whole list as a script: ECMA-262, section 16.1. The code is no module's then, also after the call.
+    pub fn parse_script(&mut self) -> PResult<Script>
+        ensures limit { self.new.limit ≡ self.old.limit }
+
+        // Of any answer: it takes the whole list; with no fault recorded it is in the grammar within the limit; and its
+        // tabled faults are its walk where no error token stands and nothing was dropped.
+        ensures sound { IfOk result (λ x. SoundScript self.old.limit (unmarked self.old.state) (view_script x) self.new.state) }
+
+        // Each tree within the limit that spells the list is the answer, and only it, with its walk recorded.
+        ensures complete { CompleteScript view_script self.old.limit (unmarked self.old.state) result self.new.state }
+
+        // No token of an answer is one that memory ran out for.
+        ensures memory { IfOk result (λ x. has_out_of_memory_token self.old.state.at.left ≡ false) }
+
+        // A limit of twice the tokens and two is never met.
+        ensures fits { 2 * length self.old.state.at.left + 2 ≤ self.old.limit → has_too_deep_token self.old.state.at.left ≡ false
+            → IfErr result (λ e. kind_of e.kind ≢ kinds.TooDeep) }
+
+        // An error token in first place is answered, unless memory ran out.
+        ensures error_token { (t : TokenAndSpan) (ts : _) (d : Error) → self.old.state.at.left ≡ t ∷ ts → t.token ≡ token.Error d
+            → IsErrAnd result (λ e. kind_of e.kind ≢ kinds.OutOfMemory → fault_of e ≡ fault_of d) }
+        ensures refused { OnErr result (IsRestored self.old.state self.new.state) }
+    {
+        let alloc = self.alloc;
+        let limit = self.limit as usize;
+        let state = &mut self.state;
+        script(alloc, state, limit)
+    }
+
+    /// Hands out the recorded faults, in the order of recording. It takes no memory.
+    pub fn take_errors(&mut self) -> Vec<Error>
+        ensures errors { faults_of result.items ≡ self.old.state.faults }
+        ensures state { self.new ≡ record self.old { state = record self.old.state { faults = [] } } }
+    {
+        self.state.take_errors()
+    }
+
+    /// An equal parser over an equal source, or a fault of kind `OutOfMemory`.
+    pub fn try_clone(&self) -> PResult<Parser<I>>
+        ensures ok { IfOk result (λ it. it ≡ self.now) }
+        ensures err { IfErr result IsOutOfMemory }
+    {
+        let state = self.state.try_clone()?;
+        Ok(Parser {
+            alloc: self.alloc,
+            state,
+            limit: self.limit,
+        })
+    }
+
+    /// The source as the calls left it, without the tokens that were read ahead: at most two. It takes no memory.
+    pub fn into_input(self) -> I
+        ensures left { (I.seen result).left ≡ drop 2 self.state.at.left }
+        ensures context { (I.seen result).context ≡ self.state.code.flags }
+        ensures faults { faults_of (I.seen result).recorded ≡ self.state.faults }
+        ensures held_back { faults_of (I.seen result).held_back ≡ self.state.held_back }
+    {
+        let Parser {
+            alloc: _,
+            state,
+            limit: _,
+        } = self;
+        state.into_input()
+    }
+}
