@@ -7,14 +7,12 @@ mod fault;
 mod lines;
 mod read;
 mod run;
-
 #[cfg(test)]
 mod tests;
 
-use std::env;
-use std::io;
 use std::process::ExitCode;
 use std::rt::Env;
+use std::{env, io};
 
 /// The arguments without the program's name.
 fn words(rt: &(impl Env + AllocGlobal)) -> io::Result<Vec<String>> {

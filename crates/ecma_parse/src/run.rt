@@ -9,9 +9,8 @@ use crate::command::accept;
 use crate::fault::Fault;
 use crate::read::read_all;
 use std::alloc::Global;
-use std::io;
 use std::io::{Read, Write};
-use std::str;
+use std::{io, str};
 
 /// Writes all of a text.
 fn write_text<W: Write>(output: &mut W, text: &str) -> Result<(), Fault>

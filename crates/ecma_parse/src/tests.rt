@@ -110,10 +110,7 @@ fn texts(rt: HostRuntime) -> Result<(), Fail> {
             "debugger\na",
             "Script 0..10\n  Debugger 0..8\n  Expr 9..10\n||0",
         ),
-        (
-            "var a;(a)",
-            "Script 0..9\n  Var 0..6\n  Expr 6..9\n||0",
-        ),
+        ("var a;(a)", "Script 0..9\n  Var 0..6\n  Expr 6..9\n||0"),
         (
             "{ var a",
             "Script 0..7\n  Block 0..7\nfault 6..7 Expected\n||1",
@@ -196,8 +193,14 @@ fn readers_and_writers_that_fail(rt: HostRuntime) -> Result<(), Fail> {
             "|usage: ecma-parse script|module|program\n|3",
         ),
         (plain(b"a\xff"), "|input is not UTF-8\n|3"),
-        (Given { room: 0, ..text }, "|cannot write standard output\n|3"),
-        (Given { room: 5, ..text }, "Scrip|cannot write standard output\n|3"),
+        (
+            Given { room: 0, ..text },
+            "|cannot write standard output\n|3",
+        ),
+        (
+            Given { room: 5, ..text },
+            "Scrip|cannot write standard output\n|3",
+        ),
     ];
     for (given, wanted) in rows {
         let found = outcome(rt.alloc(), given)?;
@@ -224,7 +227,10 @@ fn words_that_cannot_be_had(rt: HostRuntime) -> Result<(), Fail> {
     let found = wordless(alloc, io::ErrorKind::OutOfMemory)?;
     assert_eq!(rt; found.as_str(), "out of memory\n|3|1");
     let found = wordless(alloc, io::ErrorKind::InvalidData)?;
-    assert_eq!(rt; found.as_str(), "usage: ecma-parse script|module|program\n|3|1");
+    assert_eq!(rt;
+        found.as_str(),
+        "usage: ecma-parse script|module|program\n|3|1"
+    );
     Ok(())
 }
 

@@ -150,7 +150,9 @@ fn trees_print(rt: HostRuntime) -> Result<(), Fail> {
     let alloc = rt.alloc();
     let tree = script(alloc, ";")?;
     let span = "Span { lo: BytePos(0), hi: BytePos(1) }";
-    let wanted = format!(in alloc; "Script {{ span: {span}, body: [Empty(EmptyStmt {{ span: {span} }})], shebang: None }}")?;
+    let wanted = format!(in alloc;
+        "Script {{ span: {span}, body: [Empty(EmptyStmt {{ span: {span} }})], shebang: None }}"
+    )?;
     let found = format!(in alloc; "{tree:?}")?;
     assert_eq!(rt; found.as_str(), wanted.as_str());
     Ok(())

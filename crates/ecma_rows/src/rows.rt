@@ -29,7 +29,10 @@ fn trees(rt: HostRuntime) -> Result<(), Fail> {
             ";'use strict'; var public;",
             "Script 0..26 Empty 0..1 Expr 1..14 [Str 1..13 'use strict'] Var 15..26",
         ),
-        ("interface;", "Script 0..10 Expr 0..10 [Ident 0..9 interface]"),
+        (
+            "interface;",
+            "Script 0..10 Expr 0..10 [Ident 0..9 interface]",
+        ),
         ("debugger\n;", "Script 0..10 Debugger 0..10"),
         (
             "debugger\na",
@@ -58,7 +61,10 @@ fn faults(rt: HostRuntime) -> Result<(), Fail> {
             "Script 0..7 Block 0..7 [Var 2..7], fault Expected at 6..7",
         ),
         ("a\n(b)", "refused Unexpected at 2..3"),
-        ("'use strict'; var public;", "refused ExpectedIdent at 18..24"),
+        (
+            "'use strict'; var public;",
+            "refused ExpectedIdent at 18..24",
+        ),
         ("var a b", "refused Unexpected at 6..7"),
         ("a: b", "refused Unexpected at 1..2"),
         ("await", "refused Unexpected at 0..5"),

@@ -40,10 +40,5 @@ pub fn list(alloc: Global, tokens: Vec<TokenAndSpan>) -> Result<TokensInput, Fai
     if !spans_ordered(tokens.as_slice()) {
         return Err("out of order")?;
     }
-    Ok(TokensInput::new(
-        alloc,
-        tokens,
-        Context::default(),
-        Syntax::default(),
-    ))
+    Ok(TokensInput::new(alloc, tokens, Context::default(), Syntax::default()))
 }

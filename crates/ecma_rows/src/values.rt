@@ -26,10 +26,7 @@ fn kinds(alloc: Global) -> Result<Vec<(SyntaxError, &'static str)>, Fail> {
     };
     let mut kinds = Vec::new(alloc);
     kinds.push((wanted, "Expected 'from', got ','"))?;
-    kinds.push((
-        unexpected,
-        "Unexpected token ')'. Expected an expression",
-    ))?;
+    kinds.push((unexpected, "Unexpected token ')'. Expected an expression"))?;
     kinds.push((label, "Expected ident"))?;
     kinds.push((SyntaxError::TooDeep, "TooDeep"))?;
     Ok(kinds)

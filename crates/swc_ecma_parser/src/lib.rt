@@ -3,6 +3,7 @@
 #![tactic(auto)]
 
 mod entry;
+mod lexing;
 mod parser;
 
 pub use parser::Parser;

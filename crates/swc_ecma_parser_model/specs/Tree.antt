@@ -12,7 +12,6 @@ mutual
     absent : Tree
     -- trees one behind another
     list : Trees → Tree
-
     -- expressions
     ident : Span → Text → Tree
     str : Span → (value raw : Text) → Tree
@@ -21,20 +20,16 @@ mutual
     num : Span → (raw : Text) → Tree
     big_int : Span → (raw : Text) → Tree
     paren : Span → Tree → Tree
-
     -- patterns
     ident_pat : Span → Text → Tree
-
     -- declarations: a name with an initializer or `absent`; a kind and a `list` of declarators
     declarator : Span → (name init : Tree) → Tree
     var : Span → VarDeclKind → Tree → Tree
-
     -- statements: a block holds a `list`
     block : Span → Tree → Tree
     empty : Span → Tree
     debugger : Span → Tree
     expr_stmt : Span → Tree → Tree
-
     -- a script: a `list` of statements, and the text of a first line `#!`
     script : Span → Tree → Option Text → Tree
 

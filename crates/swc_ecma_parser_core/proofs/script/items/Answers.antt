@@ -12,7 +12,7 @@ pub returns-in_err-stmt : goal.returns-in_err-stmt
 returns-in_err-stmt g c =
     let p = err_from_is_err_and c.from_residual.result c.from_residual.ensures.1 in
     rw (p.1, p.2) (λ h. c.items.invariant
-        ∙ items_err (stmt c.args.limit top_item) at_end true (map g.T.Trees.stmt_of c.items.found.items) (g.P.Source.seen c.items.p) _ (sym c.at_end.ensures ∙ c.items-test.true) (c.in_err-stmt.ensures h))
+    ∙ items_err (stmt c.args.limit top_item) at_end true (map g.T.Trees.stmt_of c.items.found.items) (g.P.Source.seen c.items.p) _ (sym c.at_end.ensures ∙ c.items-test.true) (c.in_err-stmt.ensures h))
 
 pub items-preserved : goal.items-preserved
 items-preserved g c =
@@ -21,4 +21,4 @@ items-preserved g c =
     let found = map g.T.Trees.stmt_of c.items.found.items in
     let first : c.is_empty.result ≡ (length found == 0) = c.is_empty.ensures ∙ ap (λ n. n == 0) (c.items.found.ok.0 ∙ sym (length-map c.items.found.items g.T.Trees.stmt_of)) in
     rw (c.in_ok-pushed.ensures.items, map_push, c.in_ok-pushed.ensures.state, c.direct.ensures) (c.items.invariant
-        ∙ script_more (stmt d top_item) at_end found c.is_empty.result s _ _ first (sym c.at_end.ensures ∙ c.items-test.true) c.in_ok-stmt.ensures (stmt_shorter d top_item s _ _ c.in_ok-stmt.ensures))
+    ∙ script_more (stmt d top_item) at_end found c.is_empty.result s _ _ first (sym c.at_end.ensures ∙ c.items-test.true) c.in_ok-stmt.ensures (stmt_shorter d top_item s _ _ c.in_ok-stmt.ensures))

@@ -11,11 +11,11 @@ pub returns-in_err-stmt : goal.returns-in_err-stmt
 returns-in_err-stmt g c =
     let p = err_from_is_err_and c.from_residual.result c.from_residual.ensures.1 in
     rw (p.1, p.2) (λ h. c.items.invariant
-        ∙ items_err (stmt c.args.g.now.depth nested_item) closes false (map g.T.Trees.stmt_of c.items.found.items) (g.P.Source.seen c.items.p) _ (sym c.closes.ensures ∙ c.items-test.true) (c.requires.stmt_gives _ _ _ _ _ c.in_err-stmt.ensures h))
+    ∙ items_err (stmt c.args.g.now.depth nested_item) closes false (map g.T.Trees.stmt_of c.items.found.items) (g.P.Source.seen c.items.p) _ (sym c.closes.ensures ∙ c.items-test.true) (c.requires.stmt_gives _ _ _ _ _ c.in_err-stmt.ensures h))
 
 pub items-preserved : goal.items-preserved
 items-preserved g c =
     let d = c.args.g.now.depth in
     let s = g.P.Source.seen c.items.p in
     rw (c.in_ok-pushed.ensures.items, map_push, c.in_ok-pushed.ensures.state) (c.items.invariant
-        ∙ nested_more (stmt d nested_item) closes (map g.T.Trees.stmt_of c.items.found.items) s _ _ (sym c.closes.ensures ∙ c.items-test.true) (c.requires.stmt_gives _ _ _ _ _ c.in_ok-stmt.ensures) (stmt_shorter d nested_item s _ _ (c.requires.stmt_gives _ _ _ _ _ c.in_ok-stmt.ensures)))
+    ∙ nested_more (stmt d nested_item) closes (map g.T.Trees.stmt_of c.items.found.items) s _ _ (sym c.closes.ensures ∙ c.items-test.true) (c.requires.stmt_gives _ _ _ _ _ c.in_ok-stmt.ensures) (stmt_shorter d nested_item s _ _ (c.requires.stmt_gives _ _ _ _ _ c.in_ok-stmt.ensures)))

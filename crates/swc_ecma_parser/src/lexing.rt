@@ -1,0 +1,31 @@
+//! A parser of source text.
+
+ghost use Rattle.std.specs.Prelude.{◌≡◌, false, length};
+ghost use Rattle.std.specs.Str.{chars};
+ghost use Rattle.swc_ecma_parser_input.specs.Place as place;
+ghost use Rattle.swc_ecma_parser_lexer.specs.Source as source;
+ghost use Rattle.swc_ecma_parser_state.specs.Opened.{opened};
+
+use crate::parser::Parser;
+use std::alloc::Global;
+use swc_ecma_parser_input::Syntax;
+use swc_ecma_parser_lexer::{Lexer, StringInput};
+
+impl<'a> Parser<Lexer<'a>> {
+    /// A parser of a text, whose trees nest at most 1,000 levels deep. With `comments` on the lexer keeps those it reads.
+    pub fn new(
+        alloc: Global,
+        syntax: Syntax,
+        input: StringInput<'a>,
+        comments: bool,
+    ) -> Parser<Lexer<'a>>
+        ensures limit { result.limit ≡ 1000 }
+        ensures left { place.lacks_memory (place.first result.state.at.left) ≡ false
+            → place.lacks_memory (place.second result.state.at.left) ≡ false
+            → result.state ≡ opened (source.outset syntax input.entry.start (chars input.entry.src.now)) }
+        ensures len { length result.state.at.left
+            ≡ length (source.outset syntax input.entry.start (chars input.entry.src.now)).left }
+    {
+        Parser::new_from(alloc, Lexer::new(alloc, syntax, input, comments))
+    }
+}
