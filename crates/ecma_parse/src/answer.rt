@@ -11,7 +11,7 @@ use swc_ecma_parser::ast::Script;
 use swc_ecma_parser::common::BytePos;
 use swc_ecma_parser::error::{Error, PResult, SyntaxError};
 use swc_ecma_parser::input::Syntax;
-use swc_ecma_parser::lexer::StringInput;
+use swc_ecma_parser::lexer::{Lexer, StringInput};
 
 /// What a parse comes to.
 #[derive(Clone, Copy, Debug, PartialEq, Eq)]
@@ -46,13 +46,22 @@ fn judge(answer: &PResult<Script>, faults: &[Error]) -> Result<Verdict, Fault>
     }
 }
 
-/// Parses a text as a script: what that comes to, and its lines.
-pub fn parse(alloc: Global, text: &str) -> Result<(Verdict, String), Fault>
+/// A parser of a text, in the default settings.
+#[tactic(none)]
+fn parser_of(alloc: Global, text: &str) -> Parser<Lexer<'_>>
     requires { length text.now < 2 ^ 32 }
 {
     let end = BytePos(text.len() as u32);
     let input = StringInput::new(text, BytePos(0), end);
-    let mut parser = Parser::new(alloc, Syntax::default(), input, false);
+    Parser::new(alloc, Syntax::default(), input, false)
+}
+
+/// Parses a text as a script: what that comes to, and its lines.
+#[tactic(none)]
+pub fn parse(alloc: Global, text: &str) -> Result<(Verdict, String), Fault>
+    requires { length text.now < 2 ^ 32 }
+{
+    let mut parser = parser_of(alloc, text);
     let answer = parser.parse_script();
     let faults = parser.take_errors();
     let verdict = judge(&answer, faults.as_slice())?;

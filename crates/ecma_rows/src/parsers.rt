@@ -101,13 +101,14 @@ fn comments_are_handed_out_once(rt: HostRuntime) -> Result<(), Fail> {
     let input = input("/* a */ a // b")?;
     let mut parser = Parser::new(alloc, Syntax::default(), input, true);
     let _ = parser.parse_script()?;
-    let comments = parser.take_comments()?;
+    let mut lexer = parser.into_input();
+    let comments = lexer.take_comments()?;
     assert_eq!(rt; comments.len(), 2);
     let found = comment_text(alloc, &comments[0])?;
     assert_eq!(rt; found.as_str(), "Block 0..7 \" a \"");
     let found = comment_text(alloc, &comments[1])?;
     assert_eq!(rt; found.as_str(), "Line 10..14 \" b\"");
-    assert!(rt; parser.take_comments()?.is_empty());
+    assert!(rt; lexer.take_comments()?.is_empty());
     Ok(())
 }
 

@@ -6,13 +6,23 @@ use std::alloc::Global;
 use std::test::Fail;
 use swc_ecma_parser::Parser;
 
+/// What a list of a text's tokens parses to.
+fn listed(alloc: Global, text: &str, limit: u32) -> Result<String, Fail> {
+    let tokens = list(alloc, tokens(alloc, text)?)?;
+    let mut parser = Parser::new_from_limited(alloc, tokens, limit);
+    answer(alloc, &mut parser)
+}
+
+/// What a text parses to.
+fn lexed(alloc: Global, text: &str, limit: u32) -> Result<String, Fail> {
+    let mut parser = Parser::new_from_limited(alloc, lexer(alloc, text)?, limit);
+    answer(alloc, &mut parser)
+}
+
 /// What a text parses to, from a list of its tokens and from its lexer, if these agree.
 fn outcome(alloc: Global, text: &str, limit: u32) -> Result<String, Fail> {
-    let from_list = list(alloc, tokens(alloc, text)?)?;
-    let mut parser = Parser::new_from_limited(alloc, from_list, limit);
-    let listed = answer(alloc, &mut parser)?;
-    let mut parser = Parser::new_from_limited(alloc, lexer(alloc, text)?, limit);
-    let lexed = answer(alloc, &mut parser)?;
+    let listed = listed(alloc, text, limit)?;
+    let lexed = lexed(alloc, text, limit)?;
     if listed != lexed {
         return Ok(format!(in alloc; "{listed} from a list, {lexed} from the lexer")?);
     }

@@ -12,36 +12,52 @@ fn error(kind: SyntaxError) -> Error {
     }
 }
 
-/// Kinds of faults, and their texts.
-fn kinds(alloc: Global) -> Result<Vec<(SyntaxError, &'static str)>, Fail> {
-    let wanted = SyntaxError::Expected(Atom::new(alloc, "from")?, Atom::new(alloc, ",")?);
-    let unexpected = SyntaxError::Unexpected {
-        got: Atom::new(alloc, ")")?,
-        expected: Atom::new(alloc, "an expression")?,
-    };
-    let label = SyntaxError::WithLabel {
-        inner: Boxed::new(alloc, error(SyntaxError::ExpectedIdent))?,
-        span: Span::new(BytePos(0), BytePos(1)),
-        note: Atom::new(alloc, "a note")?,
-    };
-    let mut kinds = Vec::new(alloc);
-    kinds.push((wanted, "Expected 'from', got ','"))?;
-    kinds.push((unexpected, "Unexpected token ')'. Expected an expression"))?;
-    kinds.push((label, "Expected ident"))?;
-    kinds.push((SyntaxError::TooDeep, "TooDeep"))?;
-    Ok(kinds)
+/// The text of a fault, and of its kind.
+fn texts(alloc: Global, kind: SyntaxError) -> Result<String, Fail> {
+    let error = error(kind);
+    let kind = &error.kind;
+    Ok(format!(in alloc; "{error}|{kind}")?)
 }
 
 #[test]
-fn faults_have_texts(rt: HostRuntime) -> Result<(), Fail> {
+fn a_wanted_token_is_named(rt: HostRuntime) -> Result<(), Fail> {
     let alloc = rt.alloc();
-    for (kind, wanted) in kinds(alloc)? {
-        let found = format!(in alloc; "{kind}")?;
-        assert_eq!(rt; found.as_str(), wanted);
-        let error = error(kind);
-        let found = format!(in alloc; "{error}")?;
-        assert_eq!(rt; found.as_str(), wanted);
-    }
+    let kind = SyntaxError::Expected(Atom::new(alloc, "from")?, Atom::new(alloc, ",")?);
+    let found = texts(alloc, kind)?;
+    assert_eq!(rt;
+        found.as_str(),
+        "Expected 'from', got ','|Expected 'from', got ','"
+    );
+    Ok(())
+}
+
+#[test]
+fn a_token_that_no_rule_takes_is_named(rt: HostRuntime) -> Result<(), Fail> {
+    let alloc = rt.alloc();
+    let got = Atom::new(alloc, ")")?;
+    let expected = Atom::new(alloc, "an expression")?;
+    let found = texts(alloc, SyntaxError::Unexpected { got, expected })?;
+    let text = "Unexpected token ')'. Expected an expression";
+    let wanted = format!(in alloc; "{text}|{text}")?;
+    assert_eq!(rt; found.as_str(), wanted.as_str());
+    Ok(())
+}
+
+#[test]
+fn a_label_shows_what_it_holds(rt: HostRuntime) -> Result<(), Fail> {
+    let alloc = rt.alloc();
+    let inner = Boxed::new(alloc, error(SyntaxError::ExpectedIdent))?;
+    let note = Atom::new(alloc, "a note")?;
+    let span = Span::new(BytePos(0), BytePos(1));
+    let found = texts(alloc, SyntaxError::WithLabel { inner, span, note })?;
+    assert_eq!(rt; found.as_str(), "Expected ident|Expected ident");
+    Ok(())
+}
+
+#[test]
+fn a_kind_without_a_text_shows_its_name(rt: HostRuntime) -> Result<(), Fail> {
+    let found = texts(rt.alloc(), SyntaxError::TooDeep)?;
+    assert_eq!(rt; found.as_str(), "TooDeep|TooDeep");
     Ok(())
 }
 
