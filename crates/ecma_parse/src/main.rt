@@ -7,8 +7,6 @@ mod fault;
 mod lines;
 mod read;
 mod run;
-#[cfg(test)]
-mod tests;
 
 use std::process::ExitCode;
 use std::rt::Env;
