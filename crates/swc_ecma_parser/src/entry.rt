@@ -18,6 +18,7 @@ use swc_ecma_parser_trees::{Maker, MakerOf};
 #[tactic(auto, unfolding(swc_ecma_parser_reader::specs::Reader::script))]
 pub fn script<I: Tokens>(alloc: Global, state: &mut State<I>, limit: usize) -> PResult<Script>
     ensures answers { AnswersScript view_script limit (unmarked state.old) result state.new }
+    ensures outright { state.old.at.left ≡ [] → IsOk result }
     ensures refused { OnErr result (IsRestored state.old state.new) }
 {
     let outer = state.flags();

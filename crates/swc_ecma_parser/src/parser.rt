@@ -1,6 +1,6 @@
 //! The parser: a state over a source of tokens, with its entries.
 
-ghost use Rattle.std.specs.Prelude.{◌≡◌, ◌≢◌, ℕ, ◌+◌, ◌*◌, ◌≤◌, false, [], ◌∷◌, length, drop, IfOk, IfErr, OnErr, IsErrAnd, IsOk};
+ghost use Rattle.std.specs.Prelude.{◌≡◌, ◌≢◌, ℕ, ◌+◌, ◌*◌, ◌≤◌, ◌||◌, false, [], ◌∷◌, length, drop, IfOk, IfErr, OnErr, IsErrAnd, IsOk};
 ghost use Rattle.swc_ecma_parser_ast.specs.View.{view_script};
 ghost use Rattle.swc_ecma_parser_error.specs.Kind as kinds;
 ghost use Rattle.swc_ecma_parser_error.specs.Kind.{fault_of, faults_of, kind_of, IsOutOfMemory};
@@ -16,8 +16,9 @@ use crate::entry::script;
 use std::alloc::Global;
 use std::marker::Model;
 use swc_ecma_parser_ast::Script;
+use swc_ecma_parser_common::Comment;
 use swc_ecma_parser_error::{Error, PResult};
-use swc_ecma_parser_input::Tokens;
+use swc_ecma_parser_input::{CommentSource, Tokens};
 use swc_ecma_parser_state::State;
 
 /// How many levels deep a tree may nest where no limit is handed in.
@@ -93,12 +94,22 @@ impl<I: Tokens> Parser<I> {
         // An error token in first place is answered, unless memory ran out.
         ensures error_token { (t : TokenAndSpan) (ts : _) (d : Error) → self.old.state.at.left ≡ t ∷ ts → t.token ≡ token.Error d
             → IsErrAnd result (λ e. kind_of e.kind ≢ kinds.OutOfMemory → fault_of e ≡ fault_of d) }
+        // An empty list is read, whatever memory is left.
+        ensures outright { self.old.state.at.left ≡ [] → IsOk result }
         ensures refused { OnErr result (IsRestored self.old.state self.new.state) }
     {
         let alloc = self.alloc;
         let limit = self.limit as usize;
         let state = &mut self.state;
         script(alloc, state, limit)
+    }
+
+    /// Whether memory ran out for one of the two tokens that were read ahead, as by the functions that make a parser. A call
+    /// of a parser that meets such a token is refused with `OutOfMemory`.
+    pub fn lacks_memory(&self) -> bool
+        ensures { result ≡ (place.lacks_memory (place.first self.now.state.at.left) || place.lacks_memory (place.second self.now.state.at.left)) }
+    {
+        self.state.lacks_memory()
     }
 
     /// Hands out the recorded faults, in the order of recording. It takes no memory.
@@ -135,5 +146,16 @@ impl<I: Tokens> Parser<I> {
             limit: _,
         } = self;
         state.into_input()
+    }
+}
+
+impl<I: CommentSource> Parser<I> {
+    /// Hands out the comments read since the last such call, in order: those up to the tokens read ahead. Where one of them
+    /// found no memory the answer is a fault of kind `OutOfMemory`, and none is left all the same. It takes no memory.
+    pub fn take_comments(&mut self) -> PResult<Vec<Comment>>
+        ensures parser { self.new ≡ self.old }
+        ensures err { IfErr result IsOutOfMemory }
+    {
+        self.state.take_comments()
     }
 }

@@ -3,7 +3,8 @@ use Rattle.std.proofs.Common.{◌≡◌, List, [], ◌∷◌, refl, Bool, false,
 use Rattle.std.specs.Option.{option_eq}
 use Rattle.std.specs.Cmp.Lexicographic.{pointwise}
 use Rattle.swc_ecma_parser_model.specs.Tree.{Tree, Trees, trees, list}
-use Rattle.swc_ecma_parser_model.specs.Code.{codes, put_kind}
+use Rattle.swc_ecma_parser_model.specs.Leaf.{put_kind}
+use Rattle.swc_ecma_parser_model.specs.Code.{codes}
 use Rattle.swc_ecma_parser_model.specs.Same.{same, same_laws, alike}
 use Rattle.swc_ecma_parser_model.specs.Held.{Held, same_held, held_absent, absent_held}
 use Rattle.swc_ecma_parser_ast.specs.Equal.{equal_span, equal_lit, equal_pat, equal_expr, equal_declarator, equal_decl, equal_stmt, equal_stmts}

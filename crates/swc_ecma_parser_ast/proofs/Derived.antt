@@ -11,7 +11,7 @@ use Rattle.swc_ecma_parser_model.specs.declared.leaves.VarDeclKind.{VarDeclKind}
 use Rattle.swc_ecma_parser_model.specs.declared.leaves.VarDeclKind.TheVariants.{Var, Let, Const}
 use Rattle.swc_ecma_parser_model.specs.contracts.leaves.VarDeclKindPartialEq.TheImpl as kind
 use Rattle.swc_ecma_parser_model.specs.Tree.{Text}
-use Rattle.swc_ecma_parser_model.specs.Code.{put_bool, put_kind}
+use Rattle.swc_ecma_parser_model.specs.Leaf.{put_bool, put_kind}
 use Rattle.swc_ecma_parser_model.specs.Same.{alike}
 use Rattle.swc_ecma_parser_ast.specs.Equal.{equal_span, equal_text, equal_lit, equal_pat, equal_expr, equal_declarator, equal_decl, equal_stmt, equal_stmts}
 use Rattle.swc_ecma_parser_ast.specs.declared.expr.Expr.{Expr}

@@ -5,7 +5,7 @@ use Rattle.std.specs.Cmp.Lexicographic.{pointwise}
 use Rattle.swc_ecma_parser_common.specs.declared.span.Span.{Span}
 use Rattle.swc_ecma_parser_model.specs.declared.leaves.Ident.{Ident}
 use Rattle.swc_ecma_parser_model.specs.Tree.{Text}
-use Rattle.swc_ecma_parser_model.specs.Code.{put_span, put_text, put_bool, put_kind}
+use Rattle.swc_ecma_parser_model.specs.Leaf.{put_span, put_text, put_bool, put_kind}
 use Rattle.swc_ecma_parser_model.specs.Same.{alike}
 use Rattle.swc_ecma_parser_ast.specs.declared.expr.Expr.{Expr}
 use Rattle.swc_ecma_parser_ast.specs.declared.expr.Expr.TheVariants as e

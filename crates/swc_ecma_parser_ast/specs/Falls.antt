@@ -6,7 +6,7 @@ use denote.Param.Weighed.{most}
 use Rattle.swc_ecma_parser_common.specs.declared.span.Span.{Span}
 use Rattle.swc_ecma_parser_model.specs.Tree.{Tree, trees}
 use Rattle.swc_ecma_parser_model.specs.Held.{Held}
-use Rattle.swc_ecma_parser_model.specs.Code.{tree_size, trees_size}
+use Rattle.swc_ecma_parser_model.specs.Size.{tree_size, trees_size}
 use Rattle.swc_ecma_parser_ast.specs.View.{view_any, view_expr, view_stmt, view_declarator}
 use Rattle.swc_ecma_parser_ast.specs.declared.expr.Expr.{Expr}
 use Rattle.swc_ecma_parser_ast.specs.declared.expr.Expr.TheVariants as e

@@ -40,7 +40,7 @@ pub struct Node {
 }
 
 impl Model for Node {
-    ghost use Rattle.swc_ecma_parser_model.specs.Code.{tree_size};
+    ghost use Rattle.swc_ecma_parser_model.specs.Size.{tree_size};
     ghost use Rattle.swc_ecma_parser_model.specs.Held.{Held, coded_held};
 
     ghost Value = { Held };

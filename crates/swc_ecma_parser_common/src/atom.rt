@@ -31,12 +31,14 @@ impl Atom {
         })
     }
 
+    /// The text that a `String` has. It takes no memory.
     pub fn from_string(text: String) -> Atom
         ensures { result ≡ string_bytes text }
     {
         Atom { text }
     }
 
+    /// The text, borrowed.
     pub fn as_str(&self) -> &str
         ensures { result.now ≡ self.now }
     {

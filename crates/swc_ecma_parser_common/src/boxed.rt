@@ -18,17 +18,19 @@ impl<T> Model for Boxed<T> {
 }
 
 impl<T> Boxed<T> {
+    /// The value, borrowed.
     pub fn get(&self) -> &T
         ensures { result.now ≡ self.now }
     {
         &self.inner
     }
 
-    /// What it was allocated with.
+    /// What it was allocated with. Contracts see only the value, so they say nothing of it.
     pub fn allocator(&self) -> Global {
         *Box::allocator(&self.inner)
     }
 
+    /// The value; its block is given back.
     pub fn into_inner(self) -> T
         ensures { result ≡ self }
     {
@@ -38,6 +40,7 @@ impl<T> Boxed<T> {
 }
 
 impl<T: Drop> Boxed<T> {
+    /// A value in a block of its own; it fails only where memory runs out.
     pub fn new(alloc: Global, value: T) -> Result<Boxed<T>, AllocError>
         ensures { IfOk result (λ b. b ≡ value) }
     {

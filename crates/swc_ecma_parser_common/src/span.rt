@@ -1,10 +1,11 @@
 ghost use Rattle.std.specs.Prelude.{◌≡◌, min, max};
 
-/// A position in a source text: a byte offset.
+/// A position in a source text: an offset in bytes of UTF-8. A text may start at another position than 0.
 #[derive(Clone, Copy, Debug, PartialEq, Eq, PartialOrd, Ord)]
 pub struct BytePos(pub u32);
 
-/// The half-open range of bytes from `lo` up to `hi`.
+/// The half-open range of bytes from `lo` up to `hi`, both of them byte offsets. Nothing says here that `lo` comes first:
+/// `Span::new` puts it first.
 #[derive(Clone, Copy, Debug, PartialEq, Eq)]
 pub struct Span {
     pub lo: BytePos,
@@ -24,14 +25,14 @@ impl Span {
         }
     }
 
-    /// Where it starts.
+    /// Where it starts: the offset of its first byte.
     pub fn lo(self) -> BytePos
         ensures { result ≡ self.lo }
     {
         self.lo
     }
 
-    /// Where it ends.
+    /// Where it ends: the offset behind its last byte.
     pub fn hi(self) -> BytePos
         ensures { result ≡ self.hi }
     {

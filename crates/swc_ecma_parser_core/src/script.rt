@@ -45,7 +45,8 @@ fn items<P: Source, T: BuildsExpr + BuildsPat + BuildsStmt>(
     p: &mut P,
     limit: usize,
 ) -> PResult<Vec<T::Stmt>>
-    ensures { GivesAs (λ found. map T.stmt_of found.items) (rules.items (rules.stmt limit top_item) rules.at_end true (P.seen p.old)) result (P.seen p.new) }
+    ensures gives { GivesAs (λ found. map T.stmt_of found.items) (rules.items (rules.stmt limit top_item) rules.at_end true (P.seen p.old)) result (P.seen p.new) }
+    ensures outright { (P.seen p.old).at.left ≡ [] → IsOk result }
 {
     let mut found = Vec::new(t.alloc);
     'items: while !at_end(p) {
@@ -63,7 +64,8 @@ pub fn script_body<P: Source, T: BuildsExpr + BuildsPat + BuildsStmt>(
     p: &mut P,
     limit: usize,
 ) -> PResult<T::Script>
-    ensures { GivesAs T.script_of (rules.script_body limit (P.seen p.old)) result (P.seen p.new) }
+    ensures gives { GivesAs T.script_of (rules.script_body limit (P.seen p.old)) result (P.seen p.new) }
+    ensures outright { (P.seen p.old).at.left ≡ [] → IsOk result }
 {
     let start = p.span();
     let shebang = p.shebang()?;

@@ -239,6 +239,10 @@ name_of UnterminatedBlockComment = codes "UnterminatedBlockComment"
 name_of InvalidNumber = codes "InvalidNumber"
 name_of InvalidStrEscape = codes "InvalidStrEscape"
 
+-- the fault that stands for want of memory, where no place is known
+abbrev pub no_memory : Fault
+no_memory = record { span = record { lo = record { 0 = 0 }; hi = record { 0 = 0 } }; kind = OutOfMemory }
+
 -- memory ran out
 abbrev pub IsOutOfMemory : Error → Type 0
 IsOutOfMemory e = kind_of e.kind ≡ OutOfMemory

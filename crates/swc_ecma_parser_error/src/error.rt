@@ -2,7 +2,7 @@ use crate::kind::SyntaxError;
 use std::alloc::AllocError;
 use swc_ecma_parser_common::{BytePos, Span, Spanned};
 
-/// A fault, with the span of the source text that it belongs to.
+/// A fault, with the bytes of the source text that it belongs to.
 #[cycle(error)]
 #[derive(Debug, PartialEq, Eq, Drop)]
 pub struct Error {
@@ -14,9 +14,10 @@ pub struct Error {
 pub type PResult<T> = Result<T, Error>;
 
 impl Error {
-    ghost use Rattle.std.specs.Prelude.{◌≡◌, IfOk};
+    ghost use Rattle.std.specs.Prelude.{◌≡◌, IfOk, IfErr};
+    ghost use Rattle.swc_ecma_parser_error.specs.Kind.{fault_of, no_memory};
 
-    /// Where the fault is.
+    /// Where the fault is, in byte offsets.
     pub fn span(&self) -> Span
         ensures { result ≡ self.now.span }
     {
@@ -33,7 +34,8 @@ impl Error {
     /// An equal fault, or one of kind `OutOfMemory` at 0.
     #[cycle(copy)]
     pub fn try_clone(&self) -> PResult<Error>
-        ensures { IfOk result (λ e. e ≡ self.now) }
+        ensures ok { IfOk result (λ e. e ≡ self.now) }
+        ensures err { IfErr result (λ e. fault_of e ≡ no_memory) }
     {
         let kind = self.kind.try_clone()?;
         Ok(Error {
@@ -53,11 +55,11 @@ impl Spanned for Error {
 
 impl From<AllocError> for Error {
     ghost use Rattle.std.specs.Prelude.{◌≡◌};
-    ghost use Rattle.swc_ecma_parser_common.specs.declared.span.BytePos.{BytePos};
-    ghost use Rattle.swc_ecma_parser_error.specs.Kind.{fault_of, OutOfMemory};
+    ghost use Rattle.swc_ecma_parser_error.specs.Kind.{fault_of, no_memory};
 
-    ghost from_gives = { λ _ e. fault_of e ≡ record { span = record { lo = record { 0 = 0 }; hi = record { 0 = 0 } }; kind = OutOfMemory } };
+    ghost from_gives = { λ _ e. fault_of e ≡ no_memory };
 
+    /// The fault of kind `OutOfMemory` at 0.
     fn from(_: AllocError) -> Error {
         let start = BytePos(0);
         Error {

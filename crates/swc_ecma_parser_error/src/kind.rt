@@ -167,142 +167,82 @@ pub enum SyntaxError {
     InvalidStrEscape,
 }
 
+/// The name of each kind of the list, as the code spells it.
+macro_rules! name {
+    ($of:expr, [$($kind:ident)*]) => {
+        match $of {
+            $(SyntaxError::$kind { .. } => stringify!($kind),)*
+        }
+    };
+}
+
+/// A copy: the kinds of the list hold nothing, and each other one has its arm.
+macro_rules! copy {
+    ($of:expr, [$($plain:ident)*], { $($pattern:pat => $copy:expr,)* }) => {
+        match $of {
+            $(SyntaxError::$plain => SyntaxError::$plain,)*
+            $($pattern => $copy,)*
+        }
+    };
+}
+
 impl SyntaxError {
-    ghost use Rattle.std.specs.Prelude.{◌≡◌, IfOk};
-    ghost use Rattle.swc_ecma_parser_error.specs.Kind.{kind_of, name_of};
+    ghost use Rattle.std.specs.Prelude.{◌≡◌, IfOk, IfErr};
+    ghost use Rattle.swc_ecma_parser_error.specs.Kind.{fault_of, kind_of, name_of, no_memory};
 
     /// The name of the kind, as the code spells it.
     pub fn name(&self) -> &'static str
         ensures { result.now ≡ name_of (kind_of self.now) }
     {
-        match self {
-            SyntaxError::TS1105 => "TS1105",
-            SyntaxError::TS1107 => "TS1107",
-            SyntaxError::TS1115 => "TS1115",
-            SyntaxError::TS1116 => "TS1116",
-            SyntaxError::ReturnNotAllowed => "ReturnNotAllowed",
-            SyntaxError::DuplicateLabel(_) => "DuplicateLabel",
-            SyntaxError::LabelledFunctionInStrict => "LabelledFunctionInStrict",
-            SyntaxError::LabelledGeneratorOrAsync => "LabelledGeneratorOrAsync",
-            SyntaxError::DuplicateConstructor => "DuplicateConstructor",
-            SyntaxError::IllegalLanguageModeDirective => "IllegalLanguageModeDirective",
-            SyntaxError::TooManyVarInForInHead => "TooManyVarInForInHead",
-            SyntaxError::VarInitializerInForInHead => "VarInitializerInForInHead",
-            SyntaxError::ExportExpectFrom(_) => "ExportExpectFrom",
-            SyntaxError::ExportBindingIsString => "ExportBindingIsString",
-            SyntaxError::TS1005 => "TS1005",
-            SyntaxError::TS1009 => "TS1009",
-            SyntaxError::TS1172 => "TS1172",
-            SyntaxError::TS1184 => "TS1184",
-            SyntaxError::TS1089(_) => "TS1089",
-            SyntaxError::InvalidLeadingDecorator => "InvalidLeadingDecorator",
-            SyntaxError::TopLevelAwaitInScript => "TopLevelAwaitInScript",
-            SyntaxError::ImportMetaInScript => "ImportMetaInScript",
-            SyntaxError::AwaitInFunction => "AwaitInFunction",
-            SyntaxError::AwaitParamInAsync => "AwaitParamInAsync",
-            SyntaxError::InvalidIdentInAsync => "InvalidIdentInAsync",
-            SyntaxError::DeclNotAllowed => "DeclNotAllowed",
-            SyntaxError::UsingDeclNotEnabled => "UsingDeclNotEnabled",
-            SyntaxError::InvalidNameInUsingDecl => "InvalidNameInUsingDecl",
-            SyntaxError::InitRequiredForUsingDecl => "InitRequiredForUsingDecl",
-            SyntaxError::UsingDeclNotAllowedForForInLoop => "UsingDeclNotAllowedForForInLoop",
-            SyntaxError::ConstDeclarationsRequireInitialization =>
-                "ConstDeclarationsRequireInitialization",
-            SyntaxError::GeneratorConstructor => "GeneratorConstructor",
-            SyntaxError::ConstructorAccessor => "ConstructorAccessor",
-            SyntaxError::PrivateConstructor => "PrivateConstructor",
-            SyntaxError::GetterParam => "GetterParam",
-            SyntaxError::SetterParam => "SetterParam",
-            SyntaxError::RestPatInSetter => "RestPatInSetter",
-            SyntaxError::TrailingCommaInsideImport => "TrailingCommaInsideImport",
-            SyntaxError::WithInStrict => "WithInStrict",
-            SyntaxError::InvalidIdentInStrict(_) => "InvalidIdentInStrict",
-            SyntaxError::Eof => "Eof",
-            SyntaxError::Expected(_, _) => "Expected",
-            SyntaxError::Unexpected { .. } => "Unexpected",
-            SyntaxError::ExpectedIdent => "ExpectedIdent",
-            SyntaxError::ExpectedSemiForExprStmt { .. } => "ExpectedSemiForExprStmt",
-            SyntaxError::LineBreakInThrow => "LineBreakInThrow",
-            SyntaxError::MultipleDefault { .. } => "MultipleDefault",
-            SyntaxError::PatVarWithoutInit => "PatVarWithoutInit",
-            SyntaxError::AwaitForStmt => "AwaitForStmt",
-            SyntaxError::ImportExportInScript => "ImportExportInScript",
-            SyntaxError::ExportNotAllowed => "ExportNotAllowed",
-            SyntaxError::DecoratorOnExport => "DecoratorOnExport",
-            SyntaxError::TS8038 => "TS8038",
-            SyntaxError::ReservedWordInImport => "ReservedWordInImport",
-            SyntaxError::ImportBindingIsString(_) => "ImportBindingIsString",
-            SyntaxError::PropertyNamedConstructor => "PropertyNamedConstructor",
-            SyntaxError::AsyncConstructor => "AsyncConstructor",
-            SyntaxError::InvalidPat => "InvalidPat",
-            SyntaxError::NotSimpleAssign => "NotSimpleAssign",
-            SyntaxError::AssignProperty => "AssignProperty",
-            SyntaxError::NullishCoalescingWithLogicalOp => "NullishCoalescingWithLogicalOp",
-            SyntaxError::UnaryInExp => "UnaryInExp",
-            SyntaxError::LineBreakBeforeArrow => "LineBreakBeforeArrow",
-            SyntaxError::InvalidSuper => "InvalidSuper",
-            SyntaxError::WithLabel { .. } => "WithLabel",
-            SyntaxError::OutOfMemory => "OutOfMemory",
-            SyntaxError::TooDeep => "TooDeep",
-            SyntaxError::UnexpectedChar => "UnexpectedChar",
-            SyntaxError::UnterminatedStrLit => "UnterminatedStrLit",
-            SyntaxError::UnterminatedBlockComment => "UnterminatedBlockComment",
-            SyntaxError::InvalidNumber => "InvalidNumber",
-            SyntaxError::InvalidStrEscape => "InvalidStrEscape",
-        }
+        name!(self, [
+            TS1105 TS1107 TS1115 TS1116 ReturnNotAllowed DuplicateLabel LabelledFunctionInStrict
+            LabelledGeneratorOrAsync DuplicateConstructor IllegalLanguageModeDirective
+            TooManyVarInForInHead VarInitializerInForInHead ExportExpectFrom
+            ExportBindingIsString TS1005 TS1009 TS1172 TS1184 TS1089 InvalidLeadingDecorator
+            TopLevelAwaitInScript ImportMetaInScript AwaitInFunction AwaitParamInAsync
+            InvalidIdentInAsync DeclNotAllowed UsingDeclNotEnabled InvalidNameInUsingDecl
+            InitRequiredForUsingDecl UsingDeclNotAllowedForForInLoop
+            ConstDeclarationsRequireInitialization GeneratorConstructor ConstructorAccessor
+            PrivateConstructor GetterParam SetterParam RestPatInSetter TrailingCommaInsideImport
+            WithInStrict InvalidIdentInStrict Eof Expected Unexpected ExpectedIdent
+            ExpectedSemiForExprStmt LineBreakInThrow MultipleDefault PatVarWithoutInit
+            AwaitForStmt ImportExportInScript ExportNotAllowed DecoratorOnExport TS8038
+            ReservedWordInImport ImportBindingIsString PropertyNamedConstructor AsyncConstructor
+            InvalidPat NotSimpleAssign AssignProperty NullishCoalescingWithLogicalOp UnaryInExp
+            LineBreakBeforeArrow InvalidSuper WithLabel OutOfMemory TooDeep UnexpectedChar
+            UnterminatedStrLit UnterminatedBlockComment InvalidNumber InvalidStrEscape
+        ])
     }
 
     /// An equal kind, or a fault of kind `OutOfMemory` at 0.
     #[cycle(copy)]
     pub fn try_clone(&self) -> PResult<SyntaxError>
-        ensures { IfOk result (λ k. k ≡ self.now) }
+        ensures ok { IfOk result (λ k. k ≡ self.now) }
+        ensures err { IfErr result (λ e. fault_of e ≡ no_memory) }
     {
-        let copy = match self {
-            SyntaxError::TS1105 => SyntaxError::TS1105,
-            SyntaxError::TS1107 => SyntaxError::TS1107,
-            SyntaxError::TS1115 => SyntaxError::TS1115,
-            SyntaxError::TS1116 => SyntaxError::TS1116,
-            SyntaxError::ReturnNotAllowed => SyntaxError::ReturnNotAllowed,
+        let copy = copy!(self, [
+            TS1105 TS1107 TS1115 TS1116 ReturnNotAllowed LabelledFunctionInStrict
+            LabelledGeneratorOrAsync DuplicateConstructor IllegalLanguageModeDirective
+            TooManyVarInForInHead VarInitializerInForInHead ExportBindingIsString TS1005 TS1009
+            TS1172 TS1184 InvalidLeadingDecorator TopLevelAwaitInScript ImportMetaInScript
+            AwaitInFunction AwaitParamInAsync InvalidIdentInAsync DeclNotAllowed
+            UsingDeclNotEnabled InvalidNameInUsingDecl InitRequiredForUsingDecl
+            UsingDeclNotAllowedForForInLoop ConstDeclarationsRequireInitialization
+            GeneratorConstructor ConstructorAccessor PrivateConstructor GetterParam SetterParam
+            RestPatInSetter TrailingCommaInsideImport WithInStrict Eof ExpectedIdent
+            LineBreakInThrow PatVarWithoutInit AwaitForStmt ImportExportInScript ExportNotAllowed
+            DecoratorOnExport TS8038 ReservedWordInImport PropertyNamedConstructor
+            AsyncConstructor InvalidPat NotSimpleAssign AssignProperty
+            NullishCoalescingWithLogicalOp UnaryInExp LineBreakBeforeArrow InvalidSuper
+            OutOfMemory TooDeep UnexpectedChar UnterminatedStrLit UnterminatedBlockComment
+            InvalidNumber InvalidStrEscape
+        ], {
             SyntaxError::DuplicateLabel(text) => SyntaxError::DuplicateLabel(text.try_clone()?),
-            SyntaxError::LabelledFunctionInStrict => SyntaxError::LabelledFunctionInStrict,
-            SyntaxError::LabelledGeneratorOrAsync => SyntaxError::LabelledGeneratorOrAsync,
-            SyntaxError::DuplicateConstructor => SyntaxError::DuplicateConstructor,
-            SyntaxError::IllegalLanguageModeDirective => SyntaxError::IllegalLanguageModeDirective,
-            SyntaxError::TooManyVarInForInHead => SyntaxError::TooManyVarInForInHead,
-            SyntaxError::VarInitializerInForInHead => SyntaxError::VarInitializerInForInHead,
             SyntaxError::ExportExpectFrom(text) => SyntaxError::ExportExpectFrom(text.try_clone()?),
-            SyntaxError::ExportBindingIsString => SyntaxError::ExportBindingIsString,
-            SyntaxError::TS1005 => SyntaxError::TS1005,
-            SyntaxError::TS1009 => SyntaxError::TS1009,
-            SyntaxError::TS1172 => SyntaxError::TS1172,
-            SyntaxError::TS1184 => SyntaxError::TS1184,
             SyntaxError::TS1089(text) => SyntaxError::TS1089(text.try_clone()?),
-            SyntaxError::InvalidLeadingDecorator => SyntaxError::InvalidLeadingDecorator,
-            SyntaxError::TopLevelAwaitInScript => SyntaxError::TopLevelAwaitInScript,
-            SyntaxError::ImportMetaInScript => SyntaxError::ImportMetaInScript,
-            SyntaxError::AwaitInFunction => SyntaxError::AwaitInFunction,
-            SyntaxError::AwaitParamInAsync => SyntaxError::AwaitParamInAsync,
-            SyntaxError::InvalidIdentInAsync => SyntaxError::InvalidIdentInAsync,
-            SyntaxError::DeclNotAllowed => SyntaxError::DeclNotAllowed,
-            SyntaxError::UsingDeclNotEnabled => SyntaxError::UsingDeclNotEnabled,
-            SyntaxError::InvalidNameInUsingDecl => SyntaxError::InvalidNameInUsingDecl,
-            SyntaxError::InitRequiredForUsingDecl => SyntaxError::InitRequiredForUsingDecl,
-            SyntaxError::UsingDeclNotAllowedForForInLoop =>
-                SyntaxError::UsingDeclNotAllowedForForInLoop,
-            SyntaxError::ConstDeclarationsRequireInitialization =>
-                SyntaxError::ConstDeclarationsRequireInitialization,
-            SyntaxError::GeneratorConstructor => SyntaxError::GeneratorConstructor,
-            SyntaxError::ConstructorAccessor => SyntaxError::ConstructorAccessor,
-            SyntaxError::PrivateConstructor => SyntaxError::PrivateConstructor,
-            SyntaxError::GetterParam => SyntaxError::GetterParam,
-            SyntaxError::SetterParam => SyntaxError::SetterParam,
-            SyntaxError::RestPatInSetter => SyntaxError::RestPatInSetter,
-            SyntaxError::TrailingCommaInsideImport => SyntaxError::TrailingCommaInsideImport,
-            SyntaxError::WithInStrict => SyntaxError::WithInStrict,
             SyntaxError::InvalidIdentInStrict(text) => SyntaxError::InvalidIdentInStrict(
                 text.try_clone()?,
             ),
-            SyntaxError::Eof => SyntaxError::Eof,
             SyntaxError::Expected(wanted, found) => SyntaxError::Expected(
                 wanted.try_clone()?,
                 found.try_clone()?,
@@ -311,50 +251,21 @@ impl SyntaxError {
                 got: got.try_clone()?,
                 expected: expected.try_clone()?,
             },
-            SyntaxError::ExpectedIdent => SyntaxError::ExpectedIdent,
             SyntaxError::ExpectedSemiForExprStmt { expr } => SyntaxError::ExpectedSemiForExprStmt {
                 expr: *expr,
             },
-            SyntaxError::LineBreakInThrow => SyntaxError::LineBreakInThrow,
             SyntaxError::MultipleDefault { previous } => SyntaxError::MultipleDefault {
                 previous: *previous,
             },
-            SyntaxError::PatVarWithoutInit => SyntaxError::PatVarWithoutInit,
-            SyntaxError::AwaitForStmt => SyntaxError::AwaitForStmt,
-            SyntaxError::ImportExportInScript => SyntaxError::ImportExportInScript,
-            SyntaxError::ExportNotAllowed => SyntaxError::ExportNotAllowed,
-            SyntaxError::DecoratorOnExport => SyntaxError::DecoratorOnExport,
-            SyntaxError::TS8038 => SyntaxError::TS8038,
-            SyntaxError::ReservedWordInImport => SyntaxError::ReservedWordInImport,
             SyntaxError::ImportBindingIsString(text) => SyntaxError::ImportBindingIsString(
                 text.try_clone()?,
             ),
-            SyntaxError::PropertyNamedConstructor => SyntaxError::PropertyNamedConstructor,
-            SyntaxError::AsyncConstructor => SyntaxError::AsyncConstructor,
-            SyntaxError::InvalidPat => SyntaxError::InvalidPat,
-            SyntaxError::NotSimpleAssign => SyntaxError::NotSimpleAssign,
-            SyntaxError::AssignProperty => SyntaxError::AssignProperty,
-            SyntaxError::NullishCoalescingWithLogicalOp =>
-                SyntaxError::NullishCoalescingWithLogicalOp,
-            SyntaxError::UnaryInExp => SyntaxError::UnaryInExp,
-            SyntaxError::LineBreakBeforeArrow => SyntaxError::LineBreakBeforeArrow,
-            SyntaxError::InvalidSuper => SyntaxError::InvalidSuper,
-            SyntaxError::WithLabel { inner, span, note } => {
-                let inner = Boxed::new(inner.allocator(), inner.get().try_clone()?)?;
-                SyntaxError::WithLabel {
-                    inner,
-                    span: *span,
-                    note: note.try_clone()?,
-                }
-            }
-            SyntaxError::OutOfMemory => SyntaxError::OutOfMemory,
-            SyntaxError::TooDeep => SyntaxError::TooDeep,
-            SyntaxError::UnexpectedChar => SyntaxError::UnexpectedChar,
-            SyntaxError::UnterminatedStrLit => SyntaxError::UnterminatedStrLit,
-            SyntaxError::UnterminatedBlockComment => SyntaxError::UnterminatedBlockComment,
-            SyntaxError::InvalidNumber => SyntaxError::InvalidNumber,
-            SyntaxError::InvalidStrEscape => SyntaxError::InvalidStrEscape,
-        };
+            SyntaxError::WithLabel { inner, span, note } => SyntaxError::WithLabel {
+                inner: Boxed::new(inner.allocator(), inner.get().try_clone()?)?,
+                span: *span,
+                note: note.try_clone()?,
+            },
+        });
         Ok(copy)
     }
 }

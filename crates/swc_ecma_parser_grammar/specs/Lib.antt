@@ -6,5 +6,6 @@ pub mod Reads
 pub mod Entries
 pub mod Depth
 pub mod Notes
+pub mod Own
 pub mod Walk
 pub mod Levels

@@ -6,13 +6,14 @@ ghost use Rattle.swc_ecma_parser_input.specs.Buffered as buffered;
 ghost use Rattle.swc_ecma_parser_input.specs.Place as place;
 ghost use Rattle.swc_ecma_parser_input.specs.Place.{first, second};
 
+use crate::comments::CommentSource;
 use crate::context::Context;
 use crate::syntax::Syntax;
 use crate::tokens::{Tokens, is_out_of_memory};
 use std::alloc::AllocError;
 use std::marker::Model;
 use std::mem;
-use swc_ecma_parser_common::{BytePos, Span};
+use swc_ecma_parser_common::{BytePos, Comment, Span};
 use swc_ecma_parser_error::{Error, PResult};
 use swc_ecma_parser_token::TokenAndSpan;
 
@@ -199,6 +200,17 @@ impl<I: Tokens> Buffer<I> {
             last: _,
         } = self;
         input
+    }
+}
+
+impl<I: CommentSource> Buffer<I> {
+    /// Hands out the comments that the source has kept, those before the two tokens read ahead among them. It takes no
+    /// memory; the fault of kind `OutOfMemory` says that one of them found none.
+    pub fn take_comments(&mut self) -> PResult<Vec<Comment>>
+        ensures buffer { self.new ≡ self.old }
+        ensures err { IfErr result IsOutOfMemory }
+    {
+        self.input.take_comments()
     }
 }
 

@@ -5,6 +5,7 @@ ghost use Rattle.swc_ecma_parser_error.specs.Kind.{IsOutOfMemory};
 ghost use Rattle.swc_ecma_parser_input.specs.TokenSource as source;
 ghost use Rattle.swc_ecma_parser_input.specs.Captured as captured;
 
+use crate::comments::CommentSource;
 use crate::context::Context;
 use crate::faults::out_of_memory;
 use crate::syntax::Syntax;
@@ -13,7 +14,7 @@ use crate::tokens_input::copies;
 use std::alloc::{AllocError, Global};
 use std::marker::Model;
 use std::mem;
-use swc_ecma_parser_common::BytePos;
+use swc_ecma_parser_common::{BytePos, Comment};
 use swc_ecma_parser_error::{Error, PResult};
 use swc_ecma_parser_token::{Token, TokenAndSpan};
 
@@ -149,4 +150,14 @@ impl<I: Tokens> Tokens for Capturing<I> {
     }
 
     ghost ordered = { λ c. I.ordered c.input };
+}
+
+impl<I: CommentSource> CommentSource for Capturing<I> {
+    fn take_comments(&mut self) -> PResult<Vec<Comment>>
+        ensures source { I.seen self.new.input ≡ I.seen self.old.input }
+        ensures copies { self.new.copies ≡ self.old.copies }
+        ensures err { IfErr result IsOutOfMemory }
+    {
+        self.input.take_comments()
+    }
 }

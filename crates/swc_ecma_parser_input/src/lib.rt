@@ -3,6 +3,7 @@
 
 mod buffer;
 mod capturing;
+mod comments;
 mod context;
 mod faults;
 mod syntax;
@@ -11,6 +12,7 @@ mod tokens_input;
 
 pub use buffer::Buffer;
 pub use capturing::Capturing;
+pub use comments::CommentSource;
 pub use context::Context;
 pub use faults::{FaultLists, out_of_memory};
 pub use syntax::{EsSyntax, Syntax};

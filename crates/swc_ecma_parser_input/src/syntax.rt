@@ -37,6 +37,11 @@ impl Syntax {
 }
 
 impl Default for Syntax {
+    ghost use Rattle.std.specs.Prelude.{◌≡◌};
+    ghost use Rattle.swc_ecma_parser_input.specs.Setting.{plain};
+
+    ghost is_default = { λ s. s ≡ plain };
+
     fn default() -> Syntax {
         Syntax::Es(EsSyntax::default())
     }

@@ -1,3 +1,4 @@
-pub mod Scans
 pub mod Literals
 pub mod Texts
+pub mod Marks
+pub mod Collections

@@ -6,12 +6,12 @@ use Rattle.std.proofs.lemmas.Str.{encodes-chars, length-encode, len_utf8_bounds}
 use Rattle.swc_ecma_parser_common.specs.declared.span.BytePos.{BytePos}
 use Rattle.swc_ecma_parser_token.specs.declared.token.TokenAndSpan.{TokenAndSpan}
 use Rattle.swc_ecma_parser_lexer.specs.declared.place.Place.{Place}
-use Rattle.swc_ecma_parser_lexer.specs.declared.scan.Piece.{Piece}
-use Rattle.swc_ecma_parser_lexer.specs.declared.state.State.{State}
-use Rattle.swc_ecma_parser_lexer.specs.Scan.{scan, IsFirstPiece}
+use Rattle.swc_ecma_parser_scan.specs.declared.piece.Piece.{Piece}
+use Rattle.swc_ecma_parser_scan.specs.declared.state.State.{State}
+use Rattle.swc_ecma_parser_scan.specs.Scan.{scan, IsFirstPiece}
 use Rattle.swc_ecma_parser_lexer.specs.Tokens.{is_skipped, breaks, token_at, tokens_behind, tokens, tokens_at, IsPast}
 use Rattle.swc_ecma_parser_lexer.specs.Ordered.{length-encodes}
-use Rattle.swc_ecma_parser_lexer.specs.Splits.{scan-splits}
+use Rattle.swc_ecma_parser_scan.specs.Splits.{scan-splits}
 
 skip-all : (start : ℕ) (xs ys : List ℕ) (at : ℕ) (b : Bool) → tokens_behind start (length xs) at b (xs ++ ys) ≡ tokens_behind start 0 (at + length (encode_utf8_all xs)) b ys
 unfolding tokens_behind

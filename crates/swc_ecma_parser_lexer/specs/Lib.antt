@@ -1,11 +1,7 @@
-pub mod Chars
-pub mod Numbers
-pub mod Step
-pub mod Scan
 pub mod Strings
 pub mod Make
 pub mod Comments
 pub mod Tokens
 pub mod Source
-pub mod Splits
 pub mod Ordered
+pub mod Collected

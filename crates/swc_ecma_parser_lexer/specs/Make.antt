@@ -11,12 +11,12 @@ use Rattle.swc_ecma_parser_token.specs.declared.token.Word.TheVariants as word
 use Rattle.swc_ecma_parser_token.specs.declared.token.Token.{Token}
 use Rattle.swc_ecma_parser_token.specs.declared.token.Token.TheVariants as token
 use Rattle.swc_ecma_parser_token.specs.Text.{keyword_text}
-use Rattle.swc_ecma_parser_lexer.specs.declared.state.State.{State}
-use Rattle.swc_ecma_parser_lexer.specs.declared.state.State.TheVariants as state
-use Rattle.swc_ecma_parser_lexer.specs.declared.state.Number.{Number}
-use Rattle.swc_ecma_parser_lexer.specs.declared.state.Number.TheVariants as number
-use Rattle.swc_ecma_parser_lexer.specs.declared.state.Mark.{Mark}
-use Rattle.swc_ecma_parser_lexer.specs.declared.state.Mark.TheVariants as mark
+use Rattle.swc_ecma_parser_scan.specs.declared.state.State.{State}
+use Rattle.swc_ecma_parser_scan.specs.declared.state.State.TheVariants as state
+use Rattle.swc_ecma_parser_scan.specs.declared.state.Number.{Number}
+use Rattle.swc_ecma_parser_scan.specs.declared.state.Number.TheVariants as number
+use Rattle.swc_ecma_parser_scan.specs.declared.state.Mark.{Mark}
+use Rattle.swc_ecma_parser_scan.specs.declared.state.Mark.TheVariants as mark
 use Rattle.swc_ecma_parser_lexer.specs.declared.escape.Escape.TheVariants as escape
 use Rattle.swc_ecma_parser_lexer.specs.Strings.{is_well_escaped, value_of}
 

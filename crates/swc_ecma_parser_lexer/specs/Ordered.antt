@@ -6,10 +6,10 @@ use Rattle.std.proofs.Math.Seq.{take-append_seam}
 use Rattle.std.proofs.lemmas.Bool.Decides.{nat_tests}
 use Rattle.swc_ecma_parser_token.specs.declared.token.TokenAndSpan.{TokenAndSpan}
 use Rattle.swc_ecma_parser_input.specs.TokenSource.{ordered_from}
-use Rattle.swc_ecma_parser_lexer.specs.declared.state.State.{State}
-use Rattle.swc_ecma_parser_lexer.specs.Scan.{scan}
+use Rattle.swc_ecma_parser_scan.specs.declared.state.State.{State}
+use Rattle.swc_ecma_parser_scan.specs.Scan.{scan}
 use Rattle.swc_ecma_parser_lexer.specs.Tokens.{is_skipped, breaks, token_at, tokens_behind, tokens}
-use Rattle.swc_ecma_parser_lexer.specs.Splits.{scan-splits}
+use Rattle.swc_ecma_parser_scan.specs.Splits.{scan-splits}
 
 pub length-encodes : (c : ℕ) (cs : List ℕ) → length (encode_utf8_all (c ∷ cs)) ≡ length (encode_utf8 c) + length (encode_utf8_all cs)
 length-encodes c cs = length-append (encode_utf8 c) (encode_utf8_all cs)

@@ -4,7 +4,7 @@ use Rattle.std.specs.Char.{encode_utf8}
 use Rattle.swc_ecma_parser_lexer.specs.declared.escape.Escape.{Escape}
 use Rattle.swc_ecma_parser_lexer.specs.declared.escape.Escape.TheVariants as escape
 use Rattle.swc_ecma_parser_lexer.specs.declared.escape.Turn.{Turn}
-use Rattle.swc_ecma_parser_lexer.specs.Chars.{hex_digit, is_between, is_digit, is_line_break}
+use Rattle.swc_ecma_parser_scan.specs.Chars.{hex_digit, is_between, is_digit, is_line_break}
 
 unfoldable pub silent : Escape → Turn
 silent s = record { state = s; unit = None }

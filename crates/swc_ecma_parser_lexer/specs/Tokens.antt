@@ -6,12 +6,12 @@ use Rattle.swc_ecma_parser_common.specs.declared.span.Span.{Span}
 use Rattle.swc_ecma_parser_token.specs.declared.token.Token.{Token}
 use Rattle.swc_ecma_parser_token.specs.declared.token.TokenAndSpan.{TokenAndSpan}
 use Rattle.swc_ecma_parser_input.specs.TokenSource.{is_out_of_memory}
-use Rattle.swc_ecma_parser_lexer.specs.declared.state.State.{State}
-use Rattle.swc_ecma_parser_lexer.specs.declared.state.State.TheVariants as state
+use Rattle.swc_ecma_parser_scan.specs.declared.state.State.{State}
+use Rattle.swc_ecma_parser_scan.specs.declared.state.State.TheVariants as state
 use Rattle.swc_ecma_parser_lexer.specs.declared.place.Place.{Place}
-use Rattle.swc_ecma_parser_lexer.specs.declared.scan.Piece.{Piece}
+use Rattle.swc_ecma_parser_scan.specs.declared.piece.Piece.{Piece}
 use Rattle.swc_ecma_parser_lexer.specs.Make as make
-use Rattle.swc_ecma_parser_lexer.specs.Scan.{scan, IsFirstPiece}
+use Rattle.swc_ecma_parser_scan.specs.Scan.{scan, IsFirstPiece}
 pub use Rattle.swc_ecma_parser_lexer.specs.Make.{token_of}
 
 -- white space, line terminators and comments

@@ -1,30 +1,13 @@
 //! Comments: ECMA-262, section 12.4.
 
-ghost use Rattle.std.specs.Prelude.{◌≡◌, [], true, false, IfOk, MatchOption};
+ghost use Rattle.std.specs.Prelude.{◌≡◌, [], true, false, IfOk, OnErr, IsSome, MatchOption};
 ghost use Rattle.swc_ecma_parser_lexer.specs.Comments as read;
 
 use crate::make::behind_mark;
-use crate::state::State;
 use std::alloc::{AllocError, Global};
 use std::mem;
-use swc_ecma_parser_common::{Atom, Span};
-
-/// How a comment is written.
-#[derive(Clone, Copy, Debug, PartialEq, Eq)]
-pub enum CommentKind {
-    /// From `//` to the end of the line.
-    Line,
-    /// From `/*` to `*/`.
-    Block,
-}
-
-/// A comment. Its span covers the marks, and its text stands between them.
-#[derive(Debug, PartialEq, Eq, Drop)]
-pub struct Comment {
-    pub kind: CommentKind,
-    pub span: Span,
-    pub text: Atom,
-}
+use swc_ecma_parser_common::{Atom, Comment, CommentKind, Span};
+use swc_ecma_parser_scan::State;
 
 /// The comments that were read and not taken yet.
 #[derive(Debug, Drop)]
@@ -35,34 +18,36 @@ pub struct CommentList {
     is_lossy: bool,
 }
 
-impl Comment {
-    fn try_clone(&self) -> Result<Comment, AllocError>
-        ensures { IfOk result (λ comment. comment ≡ self.now) }
-    {
-        Ok(Comment {
-            kind: self.kind,
-            span: self.span,
-            text: self.text.try_clone()?,
-        })
+/// The text before its last character.
+fn before_last(text: &str) -> &str
+    ensures { result.now ≡ read.before_last text.now }
+{
+    let mut characters = text.chars();
+    match characters.next_back() {
+        Some(_) => characters.as_str(),
+        None => text,
     }
 }
 
-/// The text between the marks of a block comment: the mark at the end has two bytes.
-fn inner_text(comment: &str) -> &str {
-    let text = behind_mark(comment);
-    if text.len() < 2 {
-        return text;
-    }
-    text.get(..text.len() - 2).unwrap_or(text)
+/// The text between the marks of a block comment: each has two characters.
+#[tactic(auto, unfolding(crate::specs::Comments::inner_text))]
+fn inner_text(comment: &str) -> &str
+    ensures { result.now ≡ read.inner_text comment.now }
+{
+    before_last(before_last(behind_mark(comment)))
 }
 
 /// The comment that a piece is, if it is one.
+#[tactic(auto, unfolding(crate::specs::Comments::comment_of))]
 fn comment_of(
     alloc: Global,
     state: State,
     text: &str,
     span: Span,
-) -> Result<Option<Comment>, AllocError> {
+) -> Result<Option<Comment>, AllocError>
+    ensures found { IfOk result (λ found. found ≡ read.comment_of state text.now span) }
+    ensures lost { OnErr result (IsSome (read.comment_of state text.now span)) }
+{
     let (kind, text) = match state {
         State::LineComment => (CommentKind::Line, behind_mark(text)),
         State::BlockCommentEnd(_) => (CommentKind::Block, inner_text(text)),
@@ -79,6 +64,7 @@ impl CommentList {
     /// No comment. With `is_wanted` off, none will come.
     pub fn new(alloc: Global, is_wanted: bool) -> CommentList
         ensures comments { result.comments.items ≡ [] }
+        ensures wanted { result.is_wanted ≡ is_wanted }
         ensures lossy { result.is_lossy ≡ false }
     {
         CommentList {
@@ -89,7 +75,9 @@ impl CommentList {
     }
 
     /// Adds the comment that a piece is, if it is one, or notes that there is no memory for it.
-    pub fn note(&mut self, state: State, text: &str, span: Span) {
+    pub fn note(&mut self, state: State, text: &str, span: Span)
+        ensures { read.IsNoted self.old (read.comment_of state text.now span) self.new }
+    {
         if self.is_wanted {
             let alloc = *self.comments.allocator();
             match comment_of(alloc, state, text, span) {
@@ -106,6 +94,7 @@ impl CommentList {
     pub fn take(&mut self) -> Option<Vec<Comment>>
         ensures result { MatchOption result (self.old.is_lossy ≡ true) (λ comments. (self.old.is_lossy ≡ false) × (comments.items ≡ self.old.comments.items)) }
         ensures comments { self.new.comments.items ≡ [] }
+        ensures wanted { self.new.is_wanted ≡ self.old.is_wanted }
         ensures lossy { self.new.is_lossy ≡ false }
     {
         let alloc = *self.comments.allocator();

@@ -5,8 +5,8 @@ ghost use Rattle.std.specs.Str.{chars};
 ghost use Rattle.swc_ecma_parser_lexer.specs.declared.escape.Escape.TheVariants as escape;
 ghost use Rattle.swc_ecma_parser_lexer.specs.Strings as read;
 
-use crate::chars::{first_char, hex_digit, is_digit, is_line_break};
 use std::alloc::{AllocError, Global};
+use swc_ecma_parser_scan::{first_char, hex_digit, is_digit, is_line_break};
 
 /// Where in an escape sequence a string literal is.
 #[derive(Clone, Copy, Debug, PartialEq, Eq)]

@@ -1,15 +1,16 @@
-ghost use Rattle.std.specs.Prelude.{◌≡◌, ◌+◌, ◌<◌, [], length, true, false, MatchResult};
+ghost use Rattle.std.specs.Prelude.{◌≡◌, ◌+◌, ◌<◌, [], ◌++◌, if◌then◌else◌, length, true, false, IfOk, IfErr, MatchResult};
 ghost use Rattle.std.specs.Str.{chars};
 ghost use Rattle.swc_ecma_parser_error.specs.Kind.{IsOutOfMemory};
+ghost use Rattle.swc_ecma_parser_lexer.specs.Collected.{collected, comments as text_comments};
 ghost use Rattle.swc_ecma_parser_lexer.specs.Source.{source_of, outset};
 
-use crate::comment::{Comment, CommentList};
+use crate::comment::CommentList;
 use crate::input::StringInput;
 use crate::place::{Place, find, past, span_of, token_or_fault};
 use std::alloc::Global;
-use swc_ecma_parser_common::{BytePos, Span};
+use swc_ecma_parser_common::{BytePos, Comment, Span};
 use swc_ecma_parser_error::{Error, PResult, SyntaxError};
-use swc_ecma_parser_input::{Context, FaultLists, Syntax, Tokens};
+use swc_ecma_parser_input::{CommentSource, Context, FaultLists, Syntax, Tokens};
 use swc_ecma_parser_token::TokenAndSpan;
 
 /// A lexer: what it has still to read of its text, and what a source of tokens keeps.
@@ -40,7 +41,11 @@ impl<'a> Lexer<'a> {
     /// A lexer at the start of a text, in the default context. With `comments` on it keeps the comments that it reads.
     /// It takes no memory.
     pub fn new(alloc: Global, syntax: Syntax, input: StringInput<'a>, comments: bool) -> Lexer<'a>
-        ensures { source_of result.place result.context result.syntax result.faults ≡ outset syntax input.entry.start (chars input.entry.src.now) }
+        ensures source { source_of result.place result.context result.syntax result.faults ≡ outset syntax input.entry.start (chars input.entry.src.now) }
+        ensures comments { collected result.comments result.place ≡ (if comments then text_comments input.entry.start.0 0 (chars input.entry.src.now) else []) }
+        ensures none_yet { result.comments.comments.items ≡ [] }
+        ensures wanted { result.comments.is_wanted ≡ comments }
+        ensures lossy { result.comments.is_lossy ≡ false }
     {
         Lexer {
             alloc,
@@ -63,6 +68,8 @@ impl<'a> Lexer<'a> {
         ensures comments { MatchResult result (λ comments. comments.items ≡ self.old.comments.comments.items) IsOutOfMemory }
         ensures lossy { MatchResult result (λ _. self.old.comments.is_lossy ≡ false) (λ _. self.old.comments.is_lossy ≡ true) }
         ensures left { self.new.comments.comments.items ≡ [] }
+        ensures ahead { IfOk result (λ comments. collected self.old.comments self.old.place ≡ comments.items ++ collected self.new.comments self.new.place) }
+        ensures wanted { self.new.comments.is_wanted ≡ self.old.comments.is_wanted }
         ensures fresh { self.new.comments.is_lossy ≡ false }
         ensures source { source_of self.new.place self.new.context self.new.syntax self.new.faults ≡ source_of self.old.place self.old.context self.old.syntax self.old.faults }
     {
@@ -75,10 +82,17 @@ impl<'a> Lexer<'a> {
 
 impl<'a> Tokens for Lexer<'a> {
     ghost use Rattle.swc_ecma_parser_lexer.specs.Ordered.{ordered};
+    ghost use Rattle.swc_ecma_parser_lexer.specs.Collected.{IsReadOn};
+    ghost use Rattle.swc_ecma_parser_lexer.specs.Comments.{IsSameList};
+    ghost use Rattle.swc_ecma_parser_input.specs.TokenSource as source;
 
     ghost seen = { λ s. source_of s.place s.context s.syntax s.faults };
 
-    fn next(&mut self) -> Option<TokenAndSpan> {
+    // Beside the token: no comment on the way is missed, and none comes twice, or `take_comments` tells the loss.
+    fn next(&mut self) -> Option<TokenAndSpan>
+        ensures drawn { source.Draws (source_of self.old.place self.old.context self.old.syntax self.old.faults) result (source_of self.new.place self.new.context self.new.syntax self.new.faults) }
+        ensures comments { IsReadOn self.old.comments self.old.place self.new.comments self.new.place }
+    {
         let found = find(self.place, &mut self.comments);
         let Some(piece) = found.piece else {
             self.place = found.place;
@@ -134,7 +148,12 @@ impl<'a> Tokens for Lexer<'a> {
         self.faults.take()
     }
 
-    fn try_clone(&self) -> PResult<Lexer<'a>> {
+    // The copy has the same comments, too.
+    fn try_clone(&self) -> PResult<Lexer<'a>>
+        ensures ok { IfOk result (λ it. source_of it.place it.context it.syntax it.faults ≡ source_of self.now.place self.now.context self.now.syntax self.now.faults) }
+        ensures comments { IfOk result (λ it. IsSameList it.comments self.now.comments) }
+        ensures err { IfErr result IsOutOfMemory }
+    {
         let Ok(faults) = self.faults.try_clone() else {
             return Err(no_memory(self.place.start));
         };
@@ -152,4 +171,15 @@ impl<'a> Tokens for Lexer<'a> {
     }
 
     ghost ordered = { λ s. ordered s.place.start.0 s.place.at s.place.had_line_break (chars s.place.rest.now) };
+}
+
+impl<'a> CommentSource for Lexer<'a> {
+    fn take_comments(&mut self) -> PResult<Vec<Comment>>
+        ensures source { source_of self.new.place self.new.context self.new.syntax self.new.faults ≡ source_of self.old.place self.old.context self.old.syntax self.old.faults }
+        ensures comments { IfOk result (λ comments. comments.items ≡ self.old.comments.comments.items) }
+        ensures left { self.new.comments.comments.items ≡ [] }
+        ensures err { IfErr result IsOutOfMemory }
+    {
+        Lexer::take_comments(self)
+    }
 }

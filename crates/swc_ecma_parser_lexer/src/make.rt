@@ -3,12 +3,11 @@
 ghost use Rattle.std.specs.Prelude.{◌≡◌, IfOk};
 ghost use Rattle.swc_ecma_parser_lexer.specs.Make as read;
 
-use crate::chars::first_char;
 use crate::escape::{is_well_escaped, value_of};
-use crate::state::{Mark, Number, State};
 use std::alloc::{AllocError, Global};
 use swc_ecma_parser_common::{Atom, Span};
 use swc_ecma_parser_error::{Error, SyntaxError};
+use swc_ecma_parser_scan::{Mark, Number, State, first_char};
 use swc_ecma_parser_token::{Keyword, Token, Word};
 
 static KEYWORDS: [Keyword; 35] = [

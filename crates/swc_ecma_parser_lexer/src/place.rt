@@ -1,16 +1,16 @@
 //! Places in a text, and the next token from a place on.
 
 ghost use Rattle.std.specs.Prelude.{◌≡◌, [], ◌==◌, ◌+◌, false, length, MatchOption};
-ghost use Rattle.swc_ecma_parser_lexer.specs.Scan.{IsFirstPiece};
+ghost use Rattle.swc_ecma_parser_scan.specs.Scan.{IsFirstPiece};
+ghost use Rattle.swc_ecma_parser_lexer.specs.Collected.{IsReadOn};
 ghost use Rattle.swc_ecma_parser_lexer.specs.Tokens as read;
 
 use crate::comment::CommentList;
 use crate::make::{fault, token_of};
-use crate::scan::{Piece, scan};
-use crate::state::State;
 use std::alloc::Global;
 use swc_ecma_parser_common::{BytePos, Span};
 use swc_ecma_parser_error::SyntaxError;
+use swc_ecma_parser_scan::{Piece, State, scan};
 use swc_ecma_parser_token::{Token, TokenAndSpan};
 
 /// A place in a text.
@@ -93,6 +93,7 @@ pub fn find<'a>(first: Place<'a>, comments: &mut CommentList) -> Found<'a>
     ensures tokens { read.tokens_at first.entry ≡ read.tokens_at result.place }
     ensures start { result.place.start ≡ first.entry.start }
     ensures fits { read.Fits result.place }
+    ensures comments { IsReadOn comments.old first.entry comments.new result.place }
     ensures piece { MatchOption result.piece (read.tokens_at result.place ≡ []) (λ piece. read.IsToken result.place piece) }
 {
     let mut place = first;

@@ -1,98 +1,10 @@
--- A tree's size, and its code, from which the tree can be read back.
-use Rattle.std.specs.Prelude.{◌≡◌, ℕ, ◌+◌, Bool, true, false, [], ◌∷◌, Option, Some, None, refl}
+-- A tree's code, from which the tree can be read back: every part of every form shows in it.
+use Rattle.std.specs.Prelude.{◌≡◌, refl}
 use Rattle.std.proofs.Common.{ap, sym, ◌∙◌}
-use base.Stored.{Coded, Gv, gnil, gnum, gcons, num}
-use Rattle.swc_ecma_parser_common.specs.declared.span.Span.{Span}
-use Rattle.swc_ecma_parser_model.specs.declared.leaves.VarDeclKind.{VarDeclKind}
-use Rattle.swc_ecma_parser_model.specs.declared.leaves.VarDeclKind.TheVariants.{Var, Let, Const}
-use Rattle.swc_ecma_parser_model.specs.Tree.{Text, Tree, absent, list, ident, str, bool, null, num as number, big_int, paren, ident_pat, declarator, var, block, empty, debugger, expr_stmt, script, Trees, none, also}
-
-abbrev mutual
-  pub tree_size : Tree → ℕ
-  tree_size absent = 0
-  tree_size (list ts) = trees_size ts
-  tree_size (ident s t) = 0
-  tree_size (str s v r) = 0
-  tree_size (bool s b) = 0
-  tree_size (null s) = 0
-  tree_size (number s r) = 0
-  tree_size (big_int s r) = 0
-  tree_size (paren s e) = 1 + tree_size e
-  tree_size (ident_pat s t) = 0
-  tree_size (declarator s n i) = 1 + tree_size n + tree_size i
-  tree_size (var s k ds) = 1 + tree_size ds
-  tree_size (block s b) = 1 + tree_size b
-  tree_size (empty s) = 0
-  tree_size (debugger s) = 0
-  tree_size (expr_stmt s e) = 1 + tree_size e
-  tree_size (script s b t) = 1 + tree_size b
-
-  pub trees_size : Trees → ℕ
-  trees_size none = 0
-  trees_size (also t ts) = 1 + tree_size t + trees_size ts
-
--- Leaves: a code for each, the way back, and that it undoes the code.
-abbrev pub put_text : Text → Gv
-put_text [] = gnil
-put_text (n ∷ ns) = gcons (gnum n) (put_text ns)
-
-abbrev get_text : Gv → Text
-get_text gnil = []
-get_text (gnum n) = []
-get_text (gcons a b) = num a ∷ get_text b
-
-get-put_text : (t : Text) → get_text (put_text t) ≡ t
-get-put_text [] = refl
-get-put_text (n ∷ ns) = ap (λ r. n ∷ r) (get-put_text ns)
-
-abbrev pub put_span : Span → Gv
-put_span s = gcons (gnum s.lo.0) (gnum s.hi.0)
-
-abbrev get_span : Gv → Span
-get_span gnil = record { lo = record { 0 = 0 }; hi = record { 0 = 0 } }
-get_span (gnum n) = record { lo = record { 0 = 0 }; hi = record { 0 = 0 } }
-get_span (gcons a b) = record { lo = record { 0 = num a }; hi = record { 0 = num b } }
-
-abbrev pub put_bool : Bool → Gv
-put_bool true = gnum 0
-put_bool false = gnil
-
-abbrev get_bool : Gv → Bool
-get_bool gnil = false
-get_bool (gnum n) = true
-get_bool (gcons a b) = false
-
-get-put_bool : (b : Bool) → get_bool (put_bool b) ≡ b
-get-put_bool true = refl
-get-put_bool false = refl
-
-abbrev pub put_kind : VarDeclKind → Gv
-put_kind Var = gnil
-put_kind Let = gnum 0
-put_kind Const = gcons gnil gnil
-
-abbrev get_kind : Gv → VarDeclKind
-get_kind gnil = Var
-get_kind (gnum n) = Let
-get_kind (gcons a b) = Const
-
-get-put_kind : (k : VarDeclKind) → get_kind (put_kind k) ≡ k
-get-put_kind Var = refl
-get-put_kind Let = refl
-get-put_kind Const = refl
-
-abbrev pub put_option : Option Text → Gv
-put_option None = gnil
-put_option (Some t) = gcons gnil (put_text t)
-
-abbrev get_option : Gv → Option Text
-get_option gnil = None
-get_option (gnum n) = None
-get_option (gcons a b) = Some (get_text b)
-
-get-put_option : (o : Option Text) → get_option (put_option o) ≡ o
-get-put_option None = refl
-get-put_option (Some t) = ap Some (get-put_text t)
+use base.Stored.{Coded, Gv, gnil, gnum, gcons}
+use Rattle.swc_ecma_parser_model.specs.Tree as tree
+use Rattle.swc_ecma_parser_model.specs.Tree.{Tree, Trees, none, also}
+use Rattle.swc_ecma_parser_model.specs.Leaf.{put_span, put_text, put_bool, put_option, put_dots, put_kind, put_method, put_phase, put_meta, put_unary, put_update, put_binary, put_assign, get_span, get_text, get_bool, get_option, get_dots, get_kind, get_method, get_phase, get_meta, get_unary, get_update, get_binary, get_assign, get-put_text, get-put_bool, get-put_option, get-put_dots, get-put_kind, get-put_method, get-put_phase, get-put_meta, get-put_unary, get-put_update, get-put_binary, get-put_assign}
 
 -- A form's tag: two digits for its family and three for the form, each digit one of three values. After the tag come the form's parts in their order.
 abbrev d0 : Gv
@@ -104,7 +16,7 @@ d1 = gnum 0
 abbrev d2 : Gv
 d2 = gcons gnil gnil
 
--- what is no node by itself, and the root
+-- what is no node by itself, and the wholes
 abbrev part : Gv → Gv → Gv → Gv
 part a b c = gcons (gcons d0 d0) (gcons a (gcons b c))
 
@@ -114,31 +26,124 @@ expr a b c = gcons (gcons d0 d1) (gcons a (gcons b c))
 abbrev pat : Gv → Gv → Gv → Gv
 pat a b c = gcons (gcons d0 d2) (gcons a (gcons b c))
 
+-- declarations and functions
 abbrev decl : Gv → Gv → Gv → Gv
 decl a b c = gcons (gcons d1 d0) (gcons a (gcons b c))
 
 abbrev stmt : Gv → Gv → Gv → Gv
 stmt a b c = gcons (gcons d1 d1) (gcons a (gcons b c))
 
+-- classes and what stands in them
+abbrev member : Gv → Gv → Gv → Gv
+member a b c = gcons (gcons d1 d2) (gcons a (gcons b c))
+
+-- imports and exports
+abbrev item : Gv → Gv → Gv → Gv
+item a b c = gcons (gcons d2 d0) (gcons a (gcons b c))
+
 abbrev mutual
   pub code : Tree → Gv
-  code absent = gcons (part d0 d0 d0) gnil
-  code (list ts) = gcons (part d0 d0 d1) (codes ts)
-  code (script s b t) = gcons (part d0 d0 d2) (gcons (put_span s) (gcons (code b) (put_option t)))
-  code (ident s t) = gcons (expr d0 d0 d0) (gcons (put_span s) (put_text t))
-  code (str s v r) = gcons (expr d0 d0 d1) (gcons (put_span s) (gcons (put_text v) (put_text r)))
-  code (bool s b) = gcons (expr d0 d0 d2) (gcons (put_span s) (put_bool b))
-  code (null s) = gcons (expr d0 d1 d0) (put_span s)
-  code (number s r) = gcons (expr d0 d1 d1) (gcons (put_span s) (put_text r))
-  code (big_int s r) = gcons (expr d0 d1 d2) (gcons (put_span s) (put_text r))
-  code (paren s e) = gcons (expr d0 d2 d0) (gcons (put_span s) (code e))
-  code (ident_pat s t) = gcons (pat d0 d0 d0) (gcons (put_span s) (put_text t))
-  code (declarator s n i) = gcons (decl d0 d0 d0) (gcons (put_span s) (gcons (code n) (code i)))
-  code (var s k ds) = gcons (decl d0 d0 d1) (gcons (put_span s) (gcons (put_kind k) (code ds)))
-  code (block s b) = gcons (stmt d0 d0 d0) (gcons (put_span s) (code b))
-  code (empty s) = gcons (stmt d0 d0 d1) (put_span s)
-  code (debugger s) = gcons (stmt d0 d0 d2) (put_span s)
-  code (expr_stmt s e) = gcons (stmt d0 d1 d0) (gcons (put_span s) (code e))
+  code tree.absent = gcons (part d0 d0 d0) gnil
+  code (tree.list ts) = gcons (part d0 d0 d1) (codes ts)
+  code (tree.element spread e) = gcons (part d0 d0 d2) (gcons (put_dots spread) (code e))
+  code (tree.private_name s word text) = gcons (part d0 d1 d0) (gcons (put_span s) (gcons (put_span word) (put_text text)))
+  code (tree.computed s e) = gcons (part d0 d1 d1) (gcons (put_span s) (code e))
+  code (tree.super_callee s) = gcons (part d0 d1 d2) (put_span s)
+  code (tree.import_callee s) = gcons (part d0 d2 d0) (put_span s)
+  code (tree.spread_prop dots e) = gcons (part d0 d2 d1) (gcons (put_span dots) (code e))
+  code (tree.shorthand_prop s text) = gcons (part d0 d2 d2) (gcons (put_span s) (put_text text))
+  code (tree.key_value_prop s key value) = gcons (part d1 d0 d0) (gcons (put_span s) (gcons (code key) (code value)))
+  code (tree.assign_prop s key value) = gcons (part d1 d0 d1) (gcons (put_span s) (gcons (code key) (code value)))
+  code (tree.getter_prop s key body) = gcons (part d1 d0 d2) (gcons (put_span s) (gcons (code key) (code body)))
+  code (tree.setter_prop s key p body) = gcons (part d1 d1 d0) (gcons (put_span s) (gcons (code key) (gcons (code p) (code body))))
+  code (tree.method_prop s key fn) = gcons (part d1 d1 d1) (gcons (put_span s) (gcons (code key) (code fn)))
+  code (tree.script s body shebang) = gcons (part d1 d1 d2) (gcons (put_span s) (gcons (code body) (put_option shebang)))
+  code (tree.module_program s body shebang) = gcons (part d1 d2 d0) (gcons (put_span s) (gcons (code body) (put_option shebang)))
+  code (tree.ident s text) = gcons (expr d0 d0 d0) (gcons (put_span s) (put_text text))
+  code (tree.str s value raw) = gcons (expr d0 d0 d1) (gcons (put_span s) (gcons (put_text value) (put_text raw)))
+  code (tree.bool s b) = gcons (expr d0 d0 d2) (gcons (put_span s) (put_bool b))
+  code (tree.null s) = gcons (expr d0 d1 d0) (put_span s)
+  code (tree.num s raw) = gcons (expr d0 d1 d1) (gcons (put_span s) (put_text raw))
+  code (tree.big_int s raw) = gcons (expr d0 d1 d2) (gcons (put_span s) (put_text raw))
+  code (tree.this s) = gcons (expr d0 d2 d0) (put_span s)
+  code (tree.array s elems) = gcons (expr d0 d2 d1) (gcons (put_span s) (code elems))
+  code (tree.object s props) = gcons (expr d0 d2 d2) (gcons (put_span s) (code props))
+  code (tree.fn_expr s name fn) = gcons (expr d1 d0 d0) (gcons (put_span s) (gcons (code name) (code fn)))
+  code (tree.class_expr s name body) = gcons (expr d1 d0 d1) (gcons (put_span s) (gcons (code name) (code body)))
+  code (tree.paren s e) = gcons (expr d1 d0 d2) (gcons (put_span s) (code e))
+  code (tree.meta_prop s kind) = gcons (expr d1 d1 d0) (gcons (put_span s) (put_meta kind))
+  code (tree.invalid s) = gcons (expr d1 d1 d1) (put_span s)
+  code (tree.unary s op arg) = gcons (expr d1 d1 d2) (gcons (put_span s) (gcons (put_unary op) (code arg)))
+  code (tree.update s op prefix arg) = gcons (expr d1 d2 d0) (gcons (put_span s) (gcons (put_update op) (gcons (put_bool prefix) (code arg))))
+  code (tree.bin s op left right) = gcons (expr d1 d2 d1) (gcons (put_span s) (gcons (put_binary op) (gcons (code left) (code right))))
+  code (tree.assign s op left right) = gcons (expr d1 d2 d2) (gcons (put_span s) (gcons (put_assign op) (gcons (code left) (code right))))
+  code (tree.cond s test cons alt) = gcons (expr d2 d0 d0) (gcons (put_span s) (gcons (code test) (gcons (code cons) (code alt))))
+  code (tree.seq s exprs) = gcons (expr d2 d0 d1) (gcons (put_span s) (code exprs))
+  code (tree.member s obj prop) = gcons (expr d2 d0 d2) (gcons (put_span s) (gcons (code obj) (code prop)))
+  code (tree.super_prop s word prop) = gcons (expr d2 d1 d0) (gcons (put_span s) (gcons (put_span word) (code prop)))
+  code (tree.call s callee args) = gcons (expr d2 d1 d1) (gcons (put_span s) (gcons (code callee) (code args)))
+  code (tree.new s callee args) = gcons (expr d2 d1 d2) (gcons (put_span s) (gcons (code callee) (code args)))
+  code (tree.arrow s params body is_async) = gcons (expr d2 d2 d0) (gcons (put_span s) (gcons (code params) (gcons (code body) (put_bool is_async))))
+  code (tree.yield s arg delegate) = gcons (expr d2 d2 d1) (gcons (put_span s) (gcons (code arg) (put_bool delegate)))
+  code (tree.await s arg) = gcons (expr d2 d2 d2) (gcons (put_span s) (code arg))
+  code (tree.ident_pat s text) = gcons (pat d0 d0 d0) (gcons (put_span s) (put_text text))
+  code (tree.array_pat s elems) = gcons (pat d0 d0 d1) (gcons (put_span s) (code elems))
+  code (tree.rest_pat s arg) = gcons (pat d0 d0 d2) (gcons (put_span s) (code arg))
+  code (tree.object_pat s props) = gcons (pat d0 d1 d0) (gcons (put_span s) (code props))
+  code (tree.key_value_pat_prop s key value) = gcons (pat d0 d1 d1) (gcons (put_span s) (gcons (code key) (code value)))
+  code (tree.assign_pat_prop s key value) = gcons (pat d0 d1 d2) (gcons (put_span s) (gcons (code key) (code value)))
+  code (tree.assign_pat s left right) = gcons (pat d0 d2 d0) (gcons (put_span s) (gcons (code left) (code right)))
+  code (tree.expr_pat e) = gcons (pat d0 d2 d1) (code e)
+  code (tree.invalid_pat s) = gcons (pat d0 d2 d2) (put_span s)
+  code (tree.function s decorators params body is_async is_generator) = gcons (decl d0 d0 d0) (gcons (put_span s) (gcons (code decorators) (gcons (code params) (gcons (code body) (gcons (put_bool is_async) (put_bool is_generator))))))
+  code (tree.param s decorators p) = gcons (decl d0 d0 d1) (gcons (put_span s) (gcons (code decorators) (code p)))
+  code (tree.decorator s e) = gcons (decl d0 d0 d2) (gcons (put_span s) (code e))
+  code (tree.class_decl name body) = gcons (decl d0 d1 d0) (gcons (code name) (code body))
+  code (tree.fn_decl name fn) = gcons (decl d0 d1 d1) (gcons (code name) (code fn))
+  code (tree.var s kind ds) = gcons (decl d0 d1 d2) (gcons (put_span s) (gcons (put_kind kind) (code ds)))
+  code (tree.using s is_await ds) = gcons (decl d0 d2 d0) (gcons (put_span s) (gcons (put_bool is_await) (code ds)))
+  code (tree.declarator s name init) = gcons (decl d0 d2 d1) (gcons (put_span s) (gcons (code name) (code init)))
+  code (tree.block s stmts) = gcons (stmt d0 d0 d0) (gcons (put_span s) (code stmts))
+  code (tree.empty s) = gcons (stmt d0 d0 d1) (put_span s)
+  code (tree.debugger s) = gcons (stmt d0 d0 d2) (put_span s)
+  code (tree.with s obj body) = gcons (stmt d0 d1 d0) (gcons (put_span s) (gcons (code obj) (code body)))
+  code (tree.return s arg) = gcons (stmt d0 d1 d1) (gcons (put_span s) (code arg))
+  code (tree.labeled s label body) = gcons (stmt d0 d1 d2) (gcons (put_span s) (gcons (code label) (code body)))
+  code (tree.break s label) = gcons (stmt d0 d2 d0) (gcons (put_span s) (code label))
+  code (tree.continue s label) = gcons (stmt d0 d2 d1) (gcons (put_span s) (code label))
+  code (tree.if_stmt s test cons alt) = gcons (stmt d0 d2 d2) (gcons (put_span s) (gcons (code test) (gcons (code cons) (code alt))))
+  code (tree.switch s discriminant cases) = gcons (stmt d1 d0 d0) (gcons (put_span s) (gcons (code discriminant) (code cases)))
+  code (tree.case s test cons) = gcons (stmt d1 d0 d1) (gcons (put_span s) (gcons (code test) (code cons)))
+  code (tree.throw s arg) = gcons (stmt d1 d0 d2) (gcons (put_span s) (code arg))
+  code (tree.try s body handler finalizer) = gcons (stmt d1 d1 d0) (gcons (put_span s) (gcons (code body) (gcons (code handler) (code finalizer))))
+  code (tree.catch s p body) = gcons (stmt d1 d1 d1) (gcons (put_span s) (gcons (code p) (code body)))
+  code (tree.while s test body) = gcons (stmt d1 d1 d2) (gcons (put_span s) (gcons (code test) (code body)))
+  code (tree.do_while s test body) = gcons (stmt d1 d2 d0) (gcons (put_span s) (gcons (code test) (code body)))
+  code (tree.for s init test next body) = gcons (stmt d1 d2 d1) (gcons (put_span s) (gcons (code init) (gcons (code test) (gcons (code next) (code body)))))
+  code (tree.for_in s left right body) = gcons (stmt d1 d2 d2) (gcons (put_span s) (gcons (code left) (gcons (code right) (code body))))
+  code (tree.for_of s is_await left right body) = gcons (stmt d2 d0 d0) (gcons (put_span s) (gcons (put_bool is_await) (gcons (code left) (gcons (code right) (code body)))))
+  code (tree.expr_stmt s e) = gcons (stmt d2 d0 d1) (gcons (put_span s) (code e))
+  code (tree.class s decorators body super_class) = gcons (member d0 d0 d0) (gcons (put_span s) (gcons (code decorators) (gcons (code body) (code super_class))))
+  code (tree.constructor s key params body) = gcons (member d0 d0 d1) (gcons (put_span s) (gcons (code key) (gcons (code params) (code body))))
+  code (tree.method s key fn kind is_static) = gcons (member d0 d0 d2) (gcons (put_span s) (gcons (code key) (gcons (code fn) (gcons (put_method kind) (put_bool is_static)))))
+  code (tree.private_method s key fn kind is_static) = gcons (member d0 d1 d0) (gcons (put_span s) (gcons (code key) (gcons (code fn) (gcons (put_method kind) (put_bool is_static)))))
+  code (tree.class_prop s key value is_static decorators) = gcons (member d0 d1 d1) (gcons (put_span s) (gcons (code key) (gcons (code value) (gcons (put_bool is_static) (code decorators)))))
+  code (tree.private_prop s key value is_static decorators) = gcons (member d0 d1 d2) (gcons (put_span s) (gcons (code key) (gcons (code value) (gcons (put_bool is_static) (code decorators)))))
+  code (tree.auto_accessor s key value is_static decorators) = gcons (member d0 d2 d0) (gcons (put_span s) (gcons (code key) (gcons (code value) (gcons (put_bool is_static) (code decorators)))))
+  code (tree.static_block s body) = gcons (member d0 d2 d1) (gcons (put_span s) (code body))
+  code (tree.empty_member s) = gcons (member d0 d2 d2) (put_span s)
+  code (tree.import s specifiers src attributes phase) = gcons (item d0 d0 d0) (gcons (put_span s) (gcons (code specifiers) (gcons (code src) (gcons (code attributes) (put_phase phase)))))
+  code (tree.import_named s local imported) = gcons (item d0 d0 d1) (gcons (put_span s) (gcons (code local) (code imported)))
+  code (tree.import_default s local) = gcons (item d0 d0 d2) (gcons (put_span s) (code local))
+  code (tree.import_namespace s local) = gcons (item d0 d1 d0) (gcons (put_span s) (code local))
+  code (tree.export_decl s d) = gcons (item d0 d1 d1) (gcons (put_span s) (code d))
+  code (tree.export_named s specifiers src attributes) = gcons (item d0 d1 d2) (gcons (put_span s) (gcons (code specifiers) (gcons (code src) (code attributes))))
+  code (tree.export_default_decl s d) = gcons (item d0 d2 d0) (gcons (put_span s) (code d))
+  code (tree.export_default_expr s e) = gcons (item d0 d2 d1) (gcons (put_span s) (code e))
+  code (tree.export_all s src attributes) = gcons (item d0 d2 d2) (gcons (put_span s) (gcons (code src) (code attributes)))
+  code (tree.export_namespace s name) = gcons (item d1 d0 d0) (gcons (put_span s) (code name))
+  code (tree.export_default exported) = gcons (item d1 d0 d1) (code exported)
+  code (tree.export_specifier s orig exported) = gcons (item d1 d0 d2) (gcons (put_span s) (gcons (code orig) (code exported)))
 
   pub codes : Trees → Gv
   codes none = gnil
@@ -146,23 +151,107 @@ abbrev mutual
 
 abbrev mutual
   back : Gv → Tree
-  back (gcons (gcons (gcons gnil gnil) (gcons gnil (gcons gnil (gnum _)))) ts) = list (backs ts)
-  back (gcons (gcons (gcons gnil gnil) (gcons gnil (gcons gnil (gcons _ _)))) (gcons s (gcons b t))) = script (get_span s) (back b) (get_option t)
-  back (gcons (gcons (gcons gnil (gnum _)) (gcons gnil (gcons gnil gnil))) (gcons s t)) = ident (get_span s) (get_text t)
-  back (gcons (gcons (gcons gnil (gnum _)) (gcons gnil (gcons gnil (gnum _)))) (gcons s (gcons v r))) = str (get_span s) (get_text v) (get_text r)
-  back (gcons (gcons (gcons gnil (gnum _)) (gcons gnil (gcons gnil (gcons _ _)))) (gcons s b)) = bool (get_span s) (get_bool b)
-  back (gcons (gcons (gcons gnil (gnum _)) (gcons gnil (gcons (gnum _) gnil))) s) = null (get_span s)
-  back (gcons (gcons (gcons gnil (gnum _)) (gcons gnil (gcons (gnum _) (gnum _)))) (gcons s r)) = number (get_span s) (get_text r)
-  back (gcons (gcons (gcons gnil (gnum _)) (gcons gnil (gcons (gnum _) (gcons _ _)))) (gcons s r)) = big_int (get_span s) (get_text r)
-  back (gcons (gcons (gcons gnil (gnum _)) (gcons gnil (gcons (gcons _ _) gnil))) (gcons s e)) = paren (get_span s) (back e)
-  back (gcons (gcons (gcons gnil (gcons _ _)) (gcons gnil (gcons gnil gnil))) (gcons s t)) = ident_pat (get_span s) (get_text t)
-  back (gcons (gcons (gcons (gnum _) gnil) (gcons gnil (gcons gnil gnil))) (gcons s (gcons n i))) = declarator (get_span s) (back n) (back i)
-  back (gcons (gcons (gcons (gnum _) gnil) (gcons gnil (gcons gnil (gnum _)))) (gcons s (gcons k ds))) = var (get_span s) (get_kind k) (back ds)
-  back (gcons (gcons (gcons (gnum _) (gnum _)) (gcons gnil (gcons gnil gnil))) (gcons s b)) = block (get_span s) (back b)
-  back (gcons (gcons (gcons (gnum _) (gnum _)) (gcons gnil (gcons gnil (gnum _)))) s) = empty (get_span s)
-  back (gcons (gcons (gcons (gnum _) (gnum _)) (gcons gnil (gcons gnil (gcons _ _)))) s) = debugger (get_span s)
-  back (gcons (gcons (gcons (gnum _) (gnum _)) (gcons gnil (gcons (gnum _) gnil))) (gcons s e)) = expr_stmt (get_span s) (back e)
-  back _ = absent
+  back (gcons (gcons (gcons gnil gnil) (gcons gnil (gcons gnil (gnum _)))) ts) = tree.list (backs ts)
+  back (gcons (gcons (gcons gnil gnil) (gcons gnil (gcons gnil (gcons _ _)))) (gcons spread e)) = tree.element (get_dots spread) (back e)
+  back (gcons (gcons (gcons gnil gnil) (gcons gnil (gcons (gnum _) gnil))) (gcons s (gcons word text))) = tree.private_name (get_span s) (get_span word) (get_text text)
+  back (gcons (gcons (gcons gnil gnil) (gcons gnil (gcons (gnum _) (gnum _)))) (gcons s e)) = tree.computed (get_span s) (back e)
+  back (gcons (gcons (gcons gnil gnil) (gcons gnil (gcons (gnum _) (gcons _ _)))) s) = tree.super_callee (get_span s)
+  back (gcons (gcons (gcons gnil gnil) (gcons gnil (gcons (gcons _ _) gnil))) s) = tree.import_callee (get_span s)
+  back (gcons (gcons (gcons gnil gnil) (gcons gnil (gcons (gcons _ _) (gnum _)))) (gcons dots e)) = tree.spread_prop (get_span dots) (back e)
+  back (gcons (gcons (gcons gnil gnil) (gcons gnil (gcons (gcons _ _) (gcons _ _)))) (gcons s text)) = tree.shorthand_prop (get_span s) (get_text text)
+  back (gcons (gcons (gcons gnil gnil) (gcons (gnum _) (gcons gnil gnil))) (gcons s (gcons key value))) = tree.key_value_prop (get_span s) (back key) (back value)
+  back (gcons (gcons (gcons gnil gnil) (gcons (gnum _) (gcons gnil (gnum _)))) (gcons s (gcons key value))) = tree.assign_prop (get_span s) (back key) (back value)
+  back (gcons (gcons (gcons gnil gnil) (gcons (gnum _) (gcons gnil (gcons _ _)))) (gcons s (gcons key body))) = tree.getter_prop (get_span s) (back key) (back body)
+  back (gcons (gcons (gcons gnil gnil) (gcons (gnum _) (gcons (gnum _) gnil))) (gcons s (gcons key (gcons p body)))) = tree.setter_prop (get_span s) (back key) (back p) (back body)
+  back (gcons (gcons (gcons gnil gnil) (gcons (gnum _) (gcons (gnum _) (gnum _)))) (gcons s (gcons key fn))) = tree.method_prop (get_span s) (back key) (back fn)
+  back (gcons (gcons (gcons gnil gnil) (gcons (gnum _) (gcons (gnum _) (gcons _ _)))) (gcons s (gcons body shebang))) = tree.script (get_span s) (back body) (get_option shebang)
+  back (gcons (gcons (gcons gnil gnil) (gcons (gnum _) (gcons (gcons _ _) gnil))) (gcons s (gcons body shebang))) = tree.module_program (get_span s) (back body) (get_option shebang)
+  back (gcons (gcons (gcons gnil (gnum _)) (gcons gnil (gcons gnil gnil))) (gcons s text)) = tree.ident (get_span s) (get_text text)
+  back (gcons (gcons (gcons gnil (gnum _)) (gcons gnil (gcons gnil (gnum _)))) (gcons s (gcons value raw))) = tree.str (get_span s) (get_text value) (get_text raw)
+  back (gcons (gcons (gcons gnil (gnum _)) (gcons gnil (gcons gnil (gcons _ _)))) (gcons s b)) = tree.bool (get_span s) (get_bool b)
+  back (gcons (gcons (gcons gnil (gnum _)) (gcons gnil (gcons (gnum _) gnil))) s) = tree.null (get_span s)
+  back (gcons (gcons (gcons gnil (gnum _)) (gcons gnil (gcons (gnum _) (gnum _)))) (gcons s raw)) = tree.num (get_span s) (get_text raw)
+  back (gcons (gcons (gcons gnil (gnum _)) (gcons gnil (gcons (gnum _) (gcons _ _)))) (gcons s raw)) = tree.big_int (get_span s) (get_text raw)
+  back (gcons (gcons (gcons gnil (gnum _)) (gcons gnil (gcons (gcons _ _) gnil))) s) = tree.this (get_span s)
+  back (gcons (gcons (gcons gnil (gnum _)) (gcons gnil (gcons (gcons _ _) (gnum _)))) (gcons s elems)) = tree.array (get_span s) (back elems)
+  back (gcons (gcons (gcons gnil (gnum _)) (gcons gnil (gcons (gcons _ _) (gcons _ _)))) (gcons s props)) = tree.object (get_span s) (back props)
+  back (gcons (gcons (gcons gnil (gnum _)) (gcons (gnum _) (gcons gnil gnil))) (gcons s (gcons name fn))) = tree.fn_expr (get_span s) (back name) (back fn)
+  back (gcons (gcons (gcons gnil (gnum _)) (gcons (gnum _) (gcons gnil (gnum _)))) (gcons s (gcons name body))) = tree.class_expr (get_span s) (back name) (back body)
+  back (gcons (gcons (gcons gnil (gnum _)) (gcons (gnum _) (gcons gnil (gcons _ _)))) (gcons s e)) = tree.paren (get_span s) (back e)
+  back (gcons (gcons (gcons gnil (gnum _)) (gcons (gnum _) (gcons (gnum _) gnil))) (gcons s kind)) = tree.meta_prop (get_span s) (get_meta kind)
+  back (gcons (gcons (gcons gnil (gnum _)) (gcons (gnum _) (gcons (gnum _) (gnum _)))) s) = tree.invalid (get_span s)
+  back (gcons (gcons (gcons gnil (gnum _)) (gcons (gnum _) (gcons (gnum _) (gcons _ _)))) (gcons s (gcons op arg))) = tree.unary (get_span s) (get_unary op) (back arg)
+  back (gcons (gcons (gcons gnil (gnum _)) (gcons (gnum _) (gcons (gcons _ _) gnil))) (gcons s (gcons op (gcons prefix arg)))) = tree.update (get_span s) (get_update op) (get_bool prefix) (back arg)
+  back (gcons (gcons (gcons gnil (gnum _)) (gcons (gnum _) (gcons (gcons _ _) (gnum _)))) (gcons s (gcons op (gcons left right)))) = tree.bin (get_span s) (get_binary op) (back left) (back right)
+  back (gcons (gcons (gcons gnil (gnum _)) (gcons (gnum _) (gcons (gcons _ _) (gcons _ _)))) (gcons s (gcons op (gcons left right)))) = tree.assign (get_span s) (get_assign op) (back left) (back right)
+  back (gcons (gcons (gcons gnil (gnum _)) (gcons (gcons _ _) (gcons gnil gnil))) (gcons s (gcons test (gcons cons alt)))) = tree.cond (get_span s) (back test) (back cons) (back alt)
+  back (gcons (gcons (gcons gnil (gnum _)) (gcons (gcons _ _) (gcons gnil (gnum _)))) (gcons s exprs)) = tree.seq (get_span s) (back exprs)
+  back (gcons (gcons (gcons gnil (gnum _)) (gcons (gcons _ _) (gcons gnil (gcons _ _)))) (gcons s (gcons obj prop))) = tree.member (get_span s) (back obj) (back prop)
+  back (gcons (gcons (gcons gnil (gnum _)) (gcons (gcons _ _) (gcons (gnum _) gnil))) (gcons s (gcons word prop))) = tree.super_prop (get_span s) (get_span word) (back prop)
+  back (gcons (gcons (gcons gnil (gnum _)) (gcons (gcons _ _) (gcons (gnum _) (gnum _)))) (gcons s (gcons callee args))) = tree.call (get_span s) (back callee) (back args)
+  back (gcons (gcons (gcons gnil (gnum _)) (gcons (gcons _ _) (gcons (gnum _) (gcons _ _)))) (gcons s (gcons callee args))) = tree.new (get_span s) (back callee) (back args)
+  back (gcons (gcons (gcons gnil (gnum _)) (gcons (gcons _ _) (gcons (gcons _ _) gnil))) (gcons s (gcons params (gcons body is_async)))) = tree.arrow (get_span s) (back params) (back body) (get_bool is_async)
+  back (gcons (gcons (gcons gnil (gnum _)) (gcons (gcons _ _) (gcons (gcons _ _) (gnum _)))) (gcons s (gcons arg delegate))) = tree.yield (get_span s) (back arg) (get_bool delegate)
+  back (gcons (gcons (gcons gnil (gnum _)) (gcons (gcons _ _) (gcons (gcons _ _) (gcons _ _)))) (gcons s arg)) = tree.await (get_span s) (back arg)
+  back (gcons (gcons (gcons gnil (gcons _ _)) (gcons gnil (gcons gnil gnil))) (gcons s text)) = tree.ident_pat (get_span s) (get_text text)
+  back (gcons (gcons (gcons gnil (gcons _ _)) (gcons gnil (gcons gnil (gnum _)))) (gcons s elems)) = tree.array_pat (get_span s) (back elems)
+  back (gcons (gcons (gcons gnil (gcons _ _)) (gcons gnil (gcons gnil (gcons _ _)))) (gcons s arg)) = tree.rest_pat (get_span s) (back arg)
+  back (gcons (gcons (gcons gnil (gcons _ _)) (gcons gnil (gcons (gnum _) gnil))) (gcons s props)) = tree.object_pat (get_span s) (back props)
+  back (gcons (gcons (gcons gnil (gcons _ _)) (gcons gnil (gcons (gnum _) (gnum _)))) (gcons s (gcons key value))) = tree.key_value_pat_prop (get_span s) (back key) (back value)
+  back (gcons (gcons (gcons gnil (gcons _ _)) (gcons gnil (gcons (gnum _) (gcons _ _)))) (gcons s (gcons key value))) = tree.assign_pat_prop (get_span s) (back key) (back value)
+  back (gcons (gcons (gcons gnil (gcons _ _)) (gcons gnil (gcons (gcons _ _) gnil))) (gcons s (gcons left right))) = tree.assign_pat (get_span s) (back left) (back right)
+  back (gcons (gcons (gcons gnil (gcons _ _)) (gcons gnil (gcons (gcons _ _) (gnum _)))) e) = tree.expr_pat (back e)
+  back (gcons (gcons (gcons gnil (gcons _ _)) (gcons gnil (gcons (gcons _ _) (gcons _ _)))) s) = tree.invalid_pat (get_span s)
+  back (gcons (gcons (gcons (gnum _) gnil) (gcons gnil (gcons gnil gnil))) (gcons s (gcons decorators (gcons params (gcons body (gcons is_async is_generator)))))) = tree.function (get_span s) (back decorators) (back params) (back body) (get_bool is_async) (get_bool is_generator)
+  back (gcons (gcons (gcons (gnum _) gnil) (gcons gnil (gcons gnil (gnum _)))) (gcons s (gcons decorators p))) = tree.param (get_span s) (back decorators) (back p)
+  back (gcons (gcons (gcons (gnum _) gnil) (gcons gnil (gcons gnil (gcons _ _)))) (gcons s e)) = tree.decorator (get_span s) (back e)
+  back (gcons (gcons (gcons (gnum _) gnil) (gcons gnil (gcons (gnum _) gnil))) (gcons name body)) = tree.class_decl (back name) (back body)
+  back (gcons (gcons (gcons (gnum _) gnil) (gcons gnil (gcons (gnum _) (gnum _)))) (gcons name fn)) = tree.fn_decl (back name) (back fn)
+  back (gcons (gcons (gcons (gnum _) gnil) (gcons gnil (gcons (gnum _) (gcons _ _)))) (gcons s (gcons kind ds))) = tree.var (get_span s) (get_kind kind) (back ds)
+  back (gcons (gcons (gcons (gnum _) gnil) (gcons gnil (gcons (gcons _ _) gnil))) (gcons s (gcons is_await ds))) = tree.using (get_span s) (get_bool is_await) (back ds)
+  back (gcons (gcons (gcons (gnum _) gnil) (gcons gnil (gcons (gcons _ _) (gnum _)))) (gcons s (gcons name init))) = tree.declarator (get_span s) (back name) (back init)
+  back (gcons (gcons (gcons (gnum _) (gnum _)) (gcons gnil (gcons gnil gnil))) (gcons s stmts)) = tree.block (get_span s) (back stmts)
+  back (gcons (gcons (gcons (gnum _) (gnum _)) (gcons gnil (gcons gnil (gnum _)))) s) = tree.empty (get_span s)
+  back (gcons (gcons (gcons (gnum _) (gnum _)) (gcons gnil (gcons gnil (gcons _ _)))) s) = tree.debugger (get_span s)
+  back (gcons (gcons (gcons (gnum _) (gnum _)) (gcons gnil (gcons (gnum _) gnil))) (gcons s (gcons obj body))) = tree.with (get_span s) (back obj) (back body)
+  back (gcons (gcons (gcons (gnum _) (gnum _)) (gcons gnil (gcons (gnum _) (gnum _)))) (gcons s arg)) = tree.return (get_span s) (back arg)
+  back (gcons (gcons (gcons (gnum _) (gnum _)) (gcons gnil (gcons (gnum _) (gcons _ _)))) (gcons s (gcons label body))) = tree.labeled (get_span s) (back label) (back body)
+  back (gcons (gcons (gcons (gnum _) (gnum _)) (gcons gnil (gcons (gcons _ _) gnil))) (gcons s label)) = tree.break (get_span s) (back label)
+  back (gcons (gcons (gcons (gnum _) (gnum _)) (gcons gnil (gcons (gcons _ _) (gnum _)))) (gcons s label)) = tree.continue (get_span s) (back label)
+  back (gcons (gcons (gcons (gnum _) (gnum _)) (gcons gnil (gcons (gcons _ _) (gcons _ _)))) (gcons s (gcons test (gcons cons alt)))) = tree.if_stmt (get_span s) (back test) (back cons) (back alt)
+  back (gcons (gcons (gcons (gnum _) (gnum _)) (gcons (gnum _) (gcons gnil gnil))) (gcons s (gcons discriminant cases))) = tree.switch (get_span s) (back discriminant) (back cases)
+  back (gcons (gcons (gcons (gnum _) (gnum _)) (gcons (gnum _) (gcons gnil (gnum _)))) (gcons s (gcons test cons))) = tree.case (get_span s) (back test) (back cons)
+  back (gcons (gcons (gcons (gnum _) (gnum _)) (gcons (gnum _) (gcons gnil (gcons _ _)))) (gcons s arg)) = tree.throw (get_span s) (back arg)
+  back (gcons (gcons (gcons (gnum _) (gnum _)) (gcons (gnum _) (gcons (gnum _) gnil))) (gcons s (gcons body (gcons handler finalizer)))) = tree.try (get_span s) (back body) (back handler) (back finalizer)
+  back (gcons (gcons (gcons (gnum _) (gnum _)) (gcons (gnum _) (gcons (gnum _) (gnum _)))) (gcons s (gcons p body))) = tree.catch (get_span s) (back p) (back body)
+  back (gcons (gcons (gcons (gnum _) (gnum _)) (gcons (gnum _) (gcons (gnum _) (gcons _ _)))) (gcons s (gcons test body))) = tree.while (get_span s) (back test) (back body)
+  back (gcons (gcons (gcons (gnum _) (gnum _)) (gcons (gnum _) (gcons (gcons _ _) gnil))) (gcons s (gcons test body))) = tree.do_while (get_span s) (back test) (back body)
+  back (gcons (gcons (gcons (gnum _) (gnum _)) (gcons (gnum _) (gcons (gcons _ _) (gnum _)))) (gcons s (gcons init (gcons test (gcons next body))))) = tree.for (get_span s) (back init) (back test) (back next) (back body)
+  back (gcons (gcons (gcons (gnum _) (gnum _)) (gcons (gnum _) (gcons (gcons _ _) (gcons _ _)))) (gcons s (gcons left (gcons right body)))) = tree.for_in (get_span s) (back left) (back right) (back body)
+  back (gcons (gcons (gcons (gnum _) (gnum _)) (gcons (gcons _ _) (gcons gnil gnil))) (gcons s (gcons is_await (gcons left (gcons right body))))) = tree.for_of (get_span s) (get_bool is_await) (back left) (back right) (back body)
+  back (gcons (gcons (gcons (gnum _) (gnum _)) (gcons (gcons _ _) (gcons gnil (gnum _)))) (gcons s e)) = tree.expr_stmt (get_span s) (back e)
+  back (gcons (gcons (gcons (gnum _) (gcons _ _)) (gcons gnil (gcons gnil gnil))) (gcons s (gcons decorators (gcons body super_class)))) = tree.class (get_span s) (back decorators) (back body) (back super_class)
+  back (gcons (gcons (gcons (gnum _) (gcons _ _)) (gcons gnil (gcons gnil (gnum _)))) (gcons s (gcons key (gcons params body)))) = tree.constructor (get_span s) (back key) (back params) (back body)
+  back (gcons (gcons (gcons (gnum _) (gcons _ _)) (gcons gnil (gcons gnil (gcons _ _)))) (gcons s (gcons key (gcons fn (gcons kind is_static))))) = tree.method (get_span s) (back key) (back fn) (get_method kind) (get_bool is_static)
+  back (gcons (gcons (gcons (gnum _) (gcons _ _)) (gcons gnil (gcons (gnum _) gnil))) (gcons s (gcons key (gcons fn (gcons kind is_static))))) = tree.private_method (get_span s) (back key) (back fn) (get_method kind) (get_bool is_static)
+  back (gcons (gcons (gcons (gnum _) (gcons _ _)) (gcons gnil (gcons (gnum _) (gnum _)))) (gcons s (gcons key (gcons value (gcons is_static decorators))))) = tree.class_prop (get_span s) (back key) (back value) (get_bool is_static) (back decorators)
+  back (gcons (gcons (gcons (gnum _) (gcons _ _)) (gcons gnil (gcons (gnum _) (gcons _ _)))) (gcons s (gcons key (gcons value (gcons is_static decorators))))) = tree.private_prop (get_span s) (back key) (back value) (get_bool is_static) (back decorators)
+  back (gcons (gcons (gcons (gnum _) (gcons _ _)) (gcons gnil (gcons (gcons _ _) gnil))) (gcons s (gcons key (gcons value (gcons is_static decorators))))) = tree.auto_accessor (get_span s) (back key) (back value) (get_bool is_static) (back decorators)
+  back (gcons (gcons (gcons (gnum _) (gcons _ _)) (gcons gnil (gcons (gcons _ _) (gnum _)))) (gcons s body)) = tree.static_block (get_span s) (back body)
+  back (gcons (gcons (gcons (gnum _) (gcons _ _)) (gcons gnil (gcons (gcons _ _) (gcons _ _)))) s) = tree.empty_member (get_span s)
+  back (gcons (gcons (gcons (gcons _ _) gnil) (gcons gnil (gcons gnil gnil))) (gcons s (gcons specifiers (gcons src (gcons attributes phase))))) = tree.import (get_span s) (back specifiers) (back src) (back attributes) (get_phase phase)
+  back (gcons (gcons (gcons (gcons _ _) gnil) (gcons gnil (gcons gnil (gnum _)))) (gcons s (gcons local imported))) = tree.import_named (get_span s) (back local) (back imported)
+  back (gcons (gcons (gcons (gcons _ _) gnil) (gcons gnil (gcons gnil (gcons _ _)))) (gcons s local)) = tree.import_default (get_span s) (back local)
+  back (gcons (gcons (gcons (gcons _ _) gnil) (gcons gnil (gcons (gnum _) gnil))) (gcons s local)) = tree.import_namespace (get_span s) (back local)
+  back (gcons (gcons (gcons (gcons _ _) gnil) (gcons gnil (gcons (gnum _) (gnum _)))) (gcons s d)) = tree.export_decl (get_span s) (back d)
+  back (gcons (gcons (gcons (gcons _ _) gnil) (gcons gnil (gcons (gnum _) (gcons _ _)))) (gcons s (gcons specifiers (gcons src attributes)))) = tree.export_named (get_span s) (back specifiers) (back src) (back attributes)
+  back (gcons (gcons (gcons (gcons _ _) gnil) (gcons gnil (gcons (gcons _ _) gnil))) (gcons s d)) = tree.export_default_decl (get_span s) (back d)
+  back (gcons (gcons (gcons (gcons _ _) gnil) (gcons gnil (gcons (gcons _ _) (gnum _)))) (gcons s e)) = tree.export_default_expr (get_span s) (back e)
+  back (gcons (gcons (gcons (gcons _ _) gnil) (gcons gnil (gcons (gcons _ _) (gcons _ _)))) (gcons s (gcons src attributes))) = tree.export_all (get_span s) (back src) (back attributes)
+  back (gcons (gcons (gcons (gcons _ _) gnil) (gcons (gnum _) (gcons gnil gnil))) (gcons s name)) = tree.export_namespace (get_span s) (back name)
+  back (gcons (gcons (gcons (gcons _ _) gnil) (gcons (gnum _) (gcons gnil (gnum _)))) exported) = tree.export_default (back exported)
+  back (gcons (gcons (gcons (gcons _ _) gnil) (gcons (gnum _) (gcons gnil (gcons _ _)))) (gcons s (gcons orig exported))) = tree.export_specifier (get_span s) (back orig) (back exported)
+  back _ = tree.absent
 
   backs : Gv → Trees
   backs (gcons t ts) = also (back t) (backs ts)
@@ -170,23 +259,107 @@ abbrev mutual
 
 mutual
   back-code : (t : Tree) → back (code t) ≡ t
-  back-code absent = refl
-  back-code (list ts) = ap list (backs-codes ts)
-  back-code (script s b t) = λ k. script s (back-code b k) (get-put_option t k)
-  back-code (ident s t) = ap (ident s) (get-put_text t)
-  back-code (str s v r) = λ k. str s (get-put_text v k) (get-put_text r k)
-  back-code (bool s b) = ap (bool s) (get-put_bool b)
-  back-code (null s) = refl
-  back-code (number s r) = ap (number s) (get-put_text r)
-  back-code (big_int s r) = ap (big_int s) (get-put_text r)
-  back-code (paren s e) = ap (paren s) (back-code e)
-  back-code (ident_pat s t) = ap (ident_pat s) (get-put_text t)
-  back-code (declarator s n i) = λ k. declarator s (back-code n k) (back-code i k)
-  back-code (var s v ds) = λ k. var s (get-put_kind v k) (back-code ds k)
-  back-code (block s b) = ap (block s) (back-code b)
-  back-code (empty s) = refl
-  back-code (debugger s) = refl
-  back-code (expr_stmt s e) = ap (expr_stmt s) (back-code e)
+  back-code tree.absent = refl
+  back-code (tree.list ts) = λ k. tree.list (backs-codes ts k)
+  back-code (tree.element spread e) = λ k. tree.element (get-put_dots spread k) (back-code e k)
+  back-code (tree.private_name s word text) = λ k. tree.private_name s word (get-put_text text k)
+  back-code (tree.computed s e) = λ k. tree.computed s (back-code e k)
+  back-code (tree.super_callee s) = refl
+  back-code (tree.import_callee s) = refl
+  back-code (tree.spread_prop dots e) = λ k. tree.spread_prop dots (back-code e k)
+  back-code (tree.shorthand_prop s text) = λ k. tree.shorthand_prop s (get-put_text text k)
+  back-code (tree.key_value_prop s key value) = λ k. tree.key_value_prop s (back-code key k) (back-code value k)
+  back-code (tree.assign_prop s key value) = λ k. tree.assign_prop s (back-code key k) (back-code value k)
+  back-code (tree.getter_prop s key body) = λ k. tree.getter_prop s (back-code key k) (back-code body k)
+  back-code (tree.setter_prop s key p body) = λ k. tree.setter_prop s (back-code key k) (back-code p k) (back-code body k)
+  back-code (tree.method_prop s key fn) = λ k. tree.method_prop s (back-code key k) (back-code fn k)
+  back-code (tree.script s body shebang) = λ k. tree.script s (back-code body k) (get-put_option shebang k)
+  back-code (tree.module_program s body shebang) = λ k. tree.module_program s (back-code body k) (get-put_option shebang k)
+  back-code (tree.ident s text) = λ k. tree.ident s (get-put_text text k)
+  back-code (tree.str s value raw) = λ k. tree.str s (get-put_text value k) (get-put_text raw k)
+  back-code (tree.bool s b) = λ k. tree.bool s (get-put_bool b k)
+  back-code (tree.null s) = refl
+  back-code (tree.num s raw) = λ k. tree.num s (get-put_text raw k)
+  back-code (tree.big_int s raw) = λ k. tree.big_int s (get-put_text raw k)
+  back-code (tree.this s) = refl
+  back-code (tree.array s elems) = λ k. tree.array s (back-code elems k)
+  back-code (tree.object s props) = λ k. tree.object s (back-code props k)
+  back-code (tree.fn_expr s name fn) = λ k. tree.fn_expr s (back-code name k) (back-code fn k)
+  back-code (tree.class_expr s name body) = λ k. tree.class_expr s (back-code name k) (back-code body k)
+  back-code (tree.paren s e) = λ k. tree.paren s (back-code e k)
+  back-code (tree.meta_prop s kind) = λ k. tree.meta_prop s (get-put_meta kind k)
+  back-code (tree.invalid s) = refl
+  back-code (tree.unary s op arg) = λ k. tree.unary s (get-put_unary op k) (back-code arg k)
+  back-code (tree.update s op prefix arg) = λ k. tree.update s (get-put_update op k) (get-put_bool prefix k) (back-code arg k)
+  back-code (tree.bin s op left right) = λ k. tree.bin s (get-put_binary op k) (back-code left k) (back-code right k)
+  back-code (tree.assign s op left right) = λ k. tree.assign s (get-put_assign op k) (back-code left k) (back-code right k)
+  back-code (tree.cond s test cons alt) = λ k. tree.cond s (back-code test k) (back-code cons k) (back-code alt k)
+  back-code (tree.seq s exprs) = λ k. tree.seq s (back-code exprs k)
+  back-code (tree.member s obj prop) = λ k. tree.member s (back-code obj k) (back-code prop k)
+  back-code (tree.super_prop s word prop) = λ k. tree.super_prop s word (back-code prop k)
+  back-code (tree.call s callee args) = λ k. tree.call s (back-code callee k) (back-code args k)
+  back-code (tree.new s callee args) = λ k. tree.new s (back-code callee k) (back-code args k)
+  back-code (tree.arrow s params body is_async) = λ k. tree.arrow s (back-code params k) (back-code body k) (get-put_bool is_async k)
+  back-code (tree.yield s arg delegate) = λ k. tree.yield s (back-code arg k) (get-put_bool delegate k)
+  back-code (tree.await s arg) = λ k. tree.await s (back-code arg k)
+  back-code (tree.ident_pat s text) = λ k. tree.ident_pat s (get-put_text text k)
+  back-code (tree.array_pat s elems) = λ k. tree.array_pat s (back-code elems k)
+  back-code (tree.rest_pat s arg) = λ k. tree.rest_pat s (back-code arg k)
+  back-code (tree.object_pat s props) = λ k. tree.object_pat s (back-code props k)
+  back-code (tree.key_value_pat_prop s key value) = λ k. tree.key_value_pat_prop s (back-code key k) (back-code value k)
+  back-code (tree.assign_pat_prop s key value) = λ k. tree.assign_pat_prop s (back-code key k) (back-code value k)
+  back-code (tree.assign_pat s left right) = λ k. tree.assign_pat s (back-code left k) (back-code right k)
+  back-code (tree.expr_pat e) = λ k. tree.expr_pat (back-code e k)
+  back-code (tree.invalid_pat s) = refl
+  back-code (tree.function s decorators params body is_async is_generator) = λ k. tree.function s (back-code decorators k) (back-code params k) (back-code body k) (get-put_bool is_async k) (get-put_bool is_generator k)
+  back-code (tree.param s decorators p) = λ k. tree.param s (back-code decorators k) (back-code p k)
+  back-code (tree.decorator s e) = λ k. tree.decorator s (back-code e k)
+  back-code (tree.class_decl name body) = λ k. tree.class_decl (back-code name k) (back-code body k)
+  back-code (tree.fn_decl name fn) = λ k. tree.fn_decl (back-code name k) (back-code fn k)
+  back-code (tree.var s kind ds) = λ k. tree.var s (get-put_kind kind k) (back-code ds k)
+  back-code (tree.using s is_await ds) = λ k. tree.using s (get-put_bool is_await k) (back-code ds k)
+  back-code (tree.declarator s name init) = λ k. tree.declarator s (back-code name k) (back-code init k)
+  back-code (tree.block s stmts) = λ k. tree.block s (back-code stmts k)
+  back-code (tree.empty s) = refl
+  back-code (tree.debugger s) = refl
+  back-code (tree.with s obj body) = λ k. tree.with s (back-code obj k) (back-code body k)
+  back-code (tree.return s arg) = λ k. tree.return s (back-code arg k)
+  back-code (tree.labeled s label body) = λ k. tree.labeled s (back-code label k) (back-code body k)
+  back-code (tree.break s label) = λ k. tree.break s (back-code label k)
+  back-code (tree.continue s label) = λ k. tree.continue s (back-code label k)
+  back-code (tree.if_stmt s test cons alt) = λ k. tree.if_stmt s (back-code test k) (back-code cons k) (back-code alt k)
+  back-code (tree.switch s discriminant cases) = λ k. tree.switch s (back-code discriminant k) (back-code cases k)
+  back-code (tree.case s test cons) = λ k. tree.case s (back-code test k) (back-code cons k)
+  back-code (tree.throw s arg) = λ k. tree.throw s (back-code arg k)
+  back-code (tree.try s body handler finalizer) = λ k. tree.try s (back-code body k) (back-code handler k) (back-code finalizer k)
+  back-code (tree.catch s p body) = λ k. tree.catch s (back-code p k) (back-code body k)
+  back-code (tree.while s test body) = λ k. tree.while s (back-code test k) (back-code body k)
+  back-code (tree.do_while s test body) = λ k. tree.do_while s (back-code test k) (back-code body k)
+  back-code (tree.for s init test next body) = λ k. tree.for s (back-code init k) (back-code test k) (back-code next k) (back-code body k)
+  back-code (tree.for_in s left right body) = λ k. tree.for_in s (back-code left k) (back-code right k) (back-code body k)
+  back-code (tree.for_of s is_await left right body) = λ k. tree.for_of s (get-put_bool is_await k) (back-code left k) (back-code right k) (back-code body k)
+  back-code (tree.expr_stmt s e) = λ k. tree.expr_stmt s (back-code e k)
+  back-code (tree.class s decorators body super_class) = λ k. tree.class s (back-code decorators k) (back-code body k) (back-code super_class k)
+  back-code (tree.constructor s key params body) = λ k. tree.constructor s (back-code key k) (back-code params k) (back-code body k)
+  back-code (tree.method s key fn kind is_static) = λ k. tree.method s (back-code key k) (back-code fn k) (get-put_method kind k) (get-put_bool is_static k)
+  back-code (tree.private_method s key fn kind is_static) = λ k. tree.private_method s (back-code key k) (back-code fn k) (get-put_method kind k) (get-put_bool is_static k)
+  back-code (tree.class_prop s key value is_static decorators) = λ k. tree.class_prop s (back-code key k) (back-code value k) (get-put_bool is_static k) (back-code decorators k)
+  back-code (tree.private_prop s key value is_static decorators) = λ k. tree.private_prop s (back-code key k) (back-code value k) (get-put_bool is_static k) (back-code decorators k)
+  back-code (tree.auto_accessor s key value is_static decorators) = λ k. tree.auto_accessor s (back-code key k) (back-code value k) (get-put_bool is_static k) (back-code decorators k)
+  back-code (tree.static_block s body) = λ k. tree.static_block s (back-code body k)
+  back-code (tree.empty_member s) = refl
+  back-code (tree.import s specifiers src attributes phase) = λ k. tree.import s (back-code specifiers k) (back-code src k) (back-code attributes k) (get-put_phase phase k)
+  back-code (tree.import_named s local imported) = λ k. tree.import_named s (back-code local k) (back-code imported k)
+  back-code (tree.import_default s local) = λ k. tree.import_default s (back-code local k)
+  back-code (tree.import_namespace s local) = λ k. tree.import_namespace s (back-code local k)
+  back-code (tree.export_decl s d) = λ k. tree.export_decl s (back-code d k)
+  back-code (tree.export_named s specifiers src attributes) = λ k. tree.export_named s (back-code specifiers k) (back-code src k) (back-code attributes k)
+  back-code (tree.export_default_decl s d) = λ k. tree.export_default_decl s (back-code d k)
+  back-code (tree.export_default_expr s e) = λ k. tree.export_default_expr s (back-code e k)
+  back-code (tree.export_all s src attributes) = λ k. tree.export_all s (back-code src k) (back-code attributes k)
+  back-code (tree.export_namespace s name) = λ k. tree.export_namespace s (back-code name k)
+  back-code (tree.export_default exported) = λ k. tree.export_default (back-code exported k)
+  back-code (tree.export_specifier s orig exported) = λ k. tree.export_specifier s (back-code orig k) (back-code exported k)
 
   backs-codes : (ts : Trees) → backs (codes ts) ≡ ts
   backs-codes none = refl

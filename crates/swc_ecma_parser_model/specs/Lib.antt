@@ -2,6 +2,8 @@ pub mod Tree
 pub mod Directive
 pub mod Forms
 pub mod Kinds
+pub mod Size
+pub mod Leaf
 pub mod Code
 pub mod Same
 pub mod Held

@@ -1,13 +1,14 @@
 use swc_ecma_parser_common::{Atom, Span, Spanned};
 
-/// A name with its place.
+/// A name: ECMA-262, "Identifiers" (section 13.1). As in each leaf, `span` is the bytes that spell it, as byte offsets.
 #[derive(Debug, PartialEq, Eq, Drop)]
 pub struct Ident {
     pub span: Span,
     pub sym: Atom,
 }
 
-/// A string literal: what it says, and how it is written.
+/// A string literal: ECMA-262, "String Literals" (section 12.9.4). `value` is what it says, and `raw` how it is written,
+/// with its quotes.
 #[derive(Debug, PartialEq, Eq, Drop)]
 pub struct Str {
     pub span: Span,
@@ -15,39 +16,76 @@ pub struct Str {
     pub raw: Atom,
 }
 
-/// `true` or `false`.
+/// `true` or `false`: ECMA-262, "Boolean Literals" (section 12.9.2).
 #[derive(Clone, Copy, Debug, PartialEq, Eq)]
 pub struct Bool {
     pub span: Span,
     pub value: bool,
 }
 
-/// `null`.
+/// `null`: ECMA-262, "Null Literals" (section 12.9.1).
 #[derive(Clone, Copy, Debug, PartialEq, Eq)]
 pub struct Null {
     pub span: Span,
 }
 
-/// A number literal, as it is written.
+/// A number literal, as it is written: ECMA-262, "Numeric Literals" (section 12.9.3).
 #[derive(Debug, PartialEq, Eq, Drop)]
 pub struct Number {
     pub span: Span,
     pub raw: Atom,
 }
 
-/// A big integer literal, as it is written.
+/// A big integer literal, as it is written, with its `n`: ECMA-262, "Numeric Literals" (section 12.9.3).
 #[derive(Debug, PartialEq, Eq, Drop)]
 pub struct BigInt {
     pub span: Span,
     pub raw: Atom,
 }
 
-/// The word that begins a declaration of variables.
+/// `#` and a word: ECMA-262, "PrivateIdentifier" (section 12.7). `span` takes in the `#`, that of `id` the word alone.
+#[derive(Debug, PartialEq, Eq, Drop)]
+pub struct PrivateName {
+    pub span: Span,
+    pub id: Ident,
+}
+
+/// The word that begins a declaration of variables: ECMA-262, "Declarations and the Variable Statement" (section 14.3).
 #[derive(Clone, Copy, Debug, PartialEq, Eq)]
 pub enum VarDeclKind {
     Var,
     Let,
     Const,
+}
+
+/// What a method of a class is: ECMA-262, "Method Definitions" (section 15.4).
+#[derive(Clone, Copy, Debug, PartialEq, Eq)]
+pub enum MethodKind {
+    Method,
+    /// `get`
+    Getter,
+    /// `set`
+    Setter,
+}
+
+/// When an imported module is run.
+#[derive(Clone, Copy, Debug, PartialEq, Eq)]
+pub enum ImportPhase {
+    /// At once, where no word says otherwise: ECMA-262, "Imports" (section 16.2.2).
+    Evaluation,
+    /// `import source`: it is not run, and its source is what is imported.
+    Source,
+    /// `import defer`: with the first use of it.
+    Defer,
+}
+
+/// A property of a word of the language: ECMA-262, "Meta Properties" (section 13.3.12).
+#[derive(Clone, Copy, Debug, PartialEq, Eq)]
+pub enum MetaPropKind {
+    /// `new.target`, which no text spells in this grammar.
+    NewTarget,
+    /// `import.meta`
+    ImportMeta,
 }
 
 impl Spanned for Ident {
@@ -91,6 +129,14 @@ impl Spanned for Number {
 }
 
 impl Spanned for BigInt {
+    ghost span_of = { λ x. x.span };
+
+    fn span(&self) -> Span {
+        self.span
+    }
+}
+
+impl Spanned for PrivateName {
     ghost span_of = { λ x. x.span };
 
     fn span(&self) -> Span {

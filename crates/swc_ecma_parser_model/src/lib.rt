@@ -2,5 +2,10 @@
 #![tactic(auto)]
 
 mod leaves;
+mod operators;
 
-pub use leaves::{BigInt, Bool, Ident, Null, Number, Str, VarDeclKind};
+pub use leaves::{
+    BigInt, Bool, Ident, ImportPhase, MetaPropKind, MethodKind, Null, Number, PrivateName, Str,
+    VarDeclKind,
+};
+pub use operators::{AssignOp, BinaryOp, UnaryOp, UpdateOp};

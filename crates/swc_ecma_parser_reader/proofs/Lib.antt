@@ -3,6 +3,7 @@ pub mod Falls
 pub mod Loops
 pub mod Meets
 pub mod Between
+pub mod Spelled
 pub mod Sound
 pub mod Opens
 pub mod Complete

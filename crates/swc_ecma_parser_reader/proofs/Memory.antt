@@ -7,23 +7,16 @@ use Rattle.swc_ecma_parser_token.specs.declared.kind.TokenKind.{TokenKind}
 use Rattle.swc_ecma_parser_token.specs.declared.kind.TokenKind.TheVariants as kind
 use Rattle.swc_ecma_parser_token.specs.declared.token.Token.{Token}
 use Rattle.swc_ecma_parser_token.specs.declared.token.Token.TheVariants as token
-use Rattle.swc_ecma_parser_token.specs.declared.token.Word.{Word}
 use Rattle.swc_ecma_parser_token.specs.declared.token.Word.TheVariants as word
-use Rattle.swc_ecma_parser_token.specs.declared.keyword.Keyword.{Keyword}
-use Rattle.swc_ecma_parser_token.specs.declared.keyword.Keyword.TheVariants as keyword
-use Rattle.swc_ecma_parser_token.specs.declared.operator.BinOpToken.{BinOpToken}
-use Rattle.swc_ecma_parser_token.specs.declared.operator.BinOpToken.TheVariants as bin
-use Rattle.swc_ecma_parser_token.specs.declared.operator.AssignOp.{AssignOp}
-use Rattle.swc_ecma_parser_token.specs.declared.operator.AssignOp.TheVariants as assign
 use Rattle.swc_ecma_parser_token.specs.declared.token.TokenAndSpan.{TokenAndSpan}
-use Rattle.swc_ecma_parser_token.specs.Kind.{token_kind, word_kind, keyword_kind, bin_op_kind, assign_op_kind}
+use Rattle.swc_ecma_parser_token.specs.Kind.{token_kind}
 use Rattle.swc_ecma_parser_token.specs.Text.{word_text}
 use Rattle.swc_ecma_parser_input.specs.TokenSource.{means_out_of_memory, is_out_of_memory}
 use Rattle.swc_ecma_parser_input.specs.Place.{Place, after, past}
 use Rattle.swc_ecma_parser_model.specs.Tree.{Tree}
 use Rattle.swc_ecma_parser_model.specs.Forms.{is_ident, is_ident_named, span_of}
 use Rattle.swc_ecma_parser_grammar.specs.declared.position.Position.{Position}
-use Rattle.swc_ecma_parser_grammar.specs.Looks.{kind_at, first_kind, sees, span_at}
+use Rattle.swc_ecma_parser_grammar.specs.Looks.{kind_at, sees, span_at}
 use Rattle.swc_ecma_parser_grammar.specs.Names.{is_name, name_at}
 use Rattle.swc_ecma_parser_grammar.specs.Ends.{can_end}
 use Rattle.swc_ecma_parser_grammar.specs.Follows.{continues, may_begin_expression_statement}
@@ -33,6 +26,7 @@ use Rattle.swc_ecma_parser_reader.specs.State.{State, Outcome, Reader, moved, co
 use Rattle.swc_ecma_parser_reader.specs.Reader.{literal_of, literal_in, taken, literal, ident_expr, paren, literal_or, primary, closed, whole_expr, expr, binding, pat, empty, debugger, plain_declarator, declarator, declarators_turn, declarators, var, closes, at_end, close, items_turn, items, block, note_statement, no_label, expr_stmt, expr_stmt_at, stmt_by, stmt_level, stmt, shebang_of, shebang_in, shebang_taken, shebang, script_body, script}
 use Rattle.swc_ecma_parser_reader.specs.Limits.{has_out_of_memory_token}
 use Rattle.swc_ecma_parser_reader.proofs.Meets.{Meets, Refuses, meets_then, meets_if, loop_answers, wanted_meets, too_deep_meets, refuse_meets, saw, meant}
+use Rattle.swc_ecma_parser_reader.proofs.Spelled.{nothing_at_end}
 use Rattle.swc_ecma_parser_reader.proofs.Sound.{script_is_sound}
 
 -- what is left has such a token where what was there before had one
@@ -283,38 +277,6 @@ script_spares n s = meets_then _ (script_body n (coded (script_code s.code) s)) 
 
 -- ---- nothing is left behind a script
 
--- no token is of the kind that stands for the end
-keyword_no_end : (k : Keyword) → keyword_kind k ≢ kind.End
-keyword_no_end keyword.Await e = cc
-keyword_no_end _ e = cc
-
-bin_op_no_end : (o : BinOpToken) → bin_op_kind o ≢ kind.End
-bin_op_no_end bin.EqEq e = cc
-bin_op_no_end _ e = cc
-
-assign_op_no_end : (o : AssignOp) → assign_op_kind o ≢ kind.End
-assign_op_no_end assign.Assign e = cc
-assign_op_no_end _ e = cc
-
-word_no_end : (w : Word) → word_kind w ≢ kind.End
-word_no_end (word.Keyword k) e = keyword_no_end k e
-word_no_end _ e = cc
-
-token_no_end : (v : Token) → token_kind v ≢ kind.End
-token_no_end (token.Word w) e = word_no_end w e
-token_no_end (token.BinOp o) e = bin_op_no_end o e
-token_no_end (token.AssignOp o) e = assign_op_no_end o e
-token_no_end _ e = cc
-
--- so where that kind stands first no token is left
-none_in : (ts : List TokenAndSpan) → first_kind ts ≡ kind.End → has_out_of_memory_token ts ≡ false
-none_in [] e = refl
-none_in (u ∷ ts) e = absurd (token_no_end u.token e)
-
-none_at_end : (c : Place) → kind_at c ≡ kind.End → has_out_of_memory_token c.left ≡ false
-unfolding kind_at
-none_at_end c e = none_in c.left e
-
 -- a list with a token that says that memory ran out spells no script
 pub script_lacks_out_of_memory : (n : ℕ) (s : State) (x : Tree) (t : State) → script n s ≡ Ok (x, t) → has_out_of_memory_token s.at.left ≡ false
-script_lacks_out_of_memory n s x t e = meant (Kept s) Refuses (script n s) (Ok (x, t)) e (script_spares n s) (none_at_end t.at (script_is_sound n s x t e).whole)
+script_lacks_out_of_memory n s x t e = meant (Kept s) Refuses (script n s) (Ok (x, t)) e (script_spares n s) (ap has_out_of_memory_token (nothing_at_end t.at (script_is_sound n s x t e).whole))

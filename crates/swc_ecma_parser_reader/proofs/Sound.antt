@@ -32,14 +32,15 @@ use Rattle.swc_ecma_parser_grammar.specs.Names.{Code, is_name, name_at}
 use Rattle.swc_ecma_parser_grammar.specs.Ends.{Ends, by_semicolon, by_insertion, can_end}
 use Rattle.swc_ecma_parser_grammar.specs.Follows.{continues, may_begin_expression_statement}
 use Rattle.swc_ecma_parser_grammar.specs.Reads.{with_in, in_strict, directed, directs_on, nested_item, top_item, ReadsToken, PrimaryRule, name_rule, string_rule, number_rule, big_int_rule, null_rule, true_rule, false_rule, paren_rule, ReadsExpr, PatRule, binding_rule, ReadsPat, DeclaratorRule, plain_rule, ReadsSeparated, ReadsItems, StmtRule, block_rule, empty_rule, debugger_rule, var_rule, expr_rule, ReadsStmt}
-use Rattle.swc_ecma_parser_grammar.specs.Entries.{ReadsShebang, some_shebang, no_shebang, script_code, has_error_token}
+use Rattle.swc_ecma_parser_grammar.specs.Entries.{ReadsScript, ReadsShebang, some_shebang, no_shebang, script_code, has_error_token}
 use Rattle.swc_ecma_parser_grammar.specs.Walk as walks
-use Rattle.swc_ecma_parser_grammar.specs.Walk.{walk, env_of}
+use Rattle.swc_ecma_parser_grammar.specs.Walk.{walk, env_of, tabled, drops}
 use Rattle.swc_ecma_parser_grammar.specs.Notes.{notes, all_notes, statement_note}
 use Rattle.swc_ecma_parser_reader.specs.State.{State, Reader, moved, coded, flagged, within, noted, module_fault, fault, recorded_in, recorded_at, fault_at, expect, end, name, name_in, name_by}
 use Rattle.swc_ecma_parser_reader.specs.Reader.{literal_of, literal_in, taken, literal, ident_expr, paren, paren_or_none, literal_or, primary, closed, whole_expr, expr, binding, pat, empty, debugger, plain_declarator, declarator, declarators_turn, declarators, var, closes, at_end, close, directs, items_turn, items, block, note_statement, no_label, expr_stmt, expr_stmt_at, stmt_by, stmt_level, stmt, shebang_of, shebang_in, shebang_taken, shebang, script_body, script}
 use Rattle.swc_ecma_parser_reader.specs.Entry.{SoundScript}
 use Rattle.swc_ecma_parser_reader.proofs.Meets.{Meets, Refuses, meets_then, meets_if, wanted_meets, too_deep_meets, refuse_meets, Turned, loop_answers, saw, meant}
+use Rattle.swc_ecma_parser_reader.proofs.Spelled.{script_spares}
 use Rattle.swc_ecma_parser_reader.proofs.Between.{Sound, no_faults, same, sound_then, sound_more, sound_moved, sound_here, sound_as, sound_after, sound_coded, within_sound, flags_back, some_fault}
 
 -- a tree that a rule reads, with its walk and its notes
@@ -562,15 +563,17 @@ body_sound n s = meets_then _ (shebang s) _ (shebang_sound s) (λ o m p.
     (((λ k. code_after k true xs), (λ k. code_setting k true xs), sound_as s t refl refl refl (λ (i, r, z). record { shebang = o; first = i; reads_shebang = r; items = xs; reads_items = z; is = refl }) (sound_then p q.0)), at_end_seen t.at q.1)))
 
 script_is : (n : ℕ) (s : State) (x : Tree) (t : State) → SoundBody n (coded (script_code s.code) s) x t → SoundScript n s x (flagged (script_code s.code) t)
-script_is n s x t ((f, keeps, p), e) = record {
-  code = flags_back (script_code s.code) t.code (ap (λ k. k.setting) p.code ∙ keeps (script_code s.code));
-  scope = p.scope;
-  whole = e;
-  added = p.added;
-  faults = p.faults;
-  reads = λ h. let r = p.reads h in record { shebang = r.shebang; first = r.first; reads_shebang = r.reads_shebang; items = r.items; reads_items = r.reads_items; whole = e; is = r.is };
-  walked = p.walked;
-}
+script_is n s x t ((f, keeps, p), e) =
+    let spelled : p.added ≡ [] → ReadsScript n s.code x s.at t.at = λ h. let r = p.reads h in record { shebang = r.shebang; first = r.first; reads_shebang = r.reads_shebang; items = r.items; reads_items = r.reads_items; whole = e; is = r.is } in
+    record {
+      code = flags_back (script_code s.code) t.code (ap (λ k. k.setting) p.code ∙ keeps (script_code s.code));
+      scope = p.scope;
+      whole = e;
+      added = p.added;
+      faults = p.faults;
+      spells = λ h. (spelled h, sym (p.walked (script_spares n s.code x s.at t.at (spelled h)) (ap drops h)) ∙ ap tabled h);
+      walked = p.walked;
+    }
 
 -- the answer for a script is sound
 pub script_sound : (n : ℕ) (s : State) → Meets (λ x t. SoundScript n s x t) (script n s)

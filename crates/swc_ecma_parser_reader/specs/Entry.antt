@@ -7,7 +7,7 @@ use Rattle.swc_ecma_parser_input.specs.Place.{Place}
 use Rattle.swc_ecma_parser_model.specs.Tree.{Tree}
 use Rattle.swc_ecma_parser_grammar.specs.Looks.{kind_at}
 use Rattle.swc_ecma_parser_grammar.specs.Names.{Code}
-use Rattle.swc_ecma_parser_grammar.specs.Entries.{ReadsScript, script_code, has_error_token}
+use Rattle.swc_ecma_parser_grammar.specs.Entries.{ReadsScript, SpellsScript, script_code, has_error_token}
 use Rattle.swc_ecma_parser_grammar.specs.Notes.{notes}
 use Rattle.swc_ecma_parser_grammar.specs.Walk.{walk, env_of, tabled, drops}
 use Rattle.swc_ecma_parser_reader.specs.State.{State, GivesAs}
@@ -21,15 +21,15 @@ script_walk s x = walk (env_of (script_code s.code) s.scope.labels) x
 abbrev pub script_left : State → Tree → Place → State
 script_left s x d = record s { at = d; code = script_code s.code; faults = s.faults ++ script_walk s x; held_back = s.held_back ++ notes x }
 
--- An answer: it takes the whole list; where nothing was recorded it is in the grammar; and where no error token stands and
--- nothing was dropped, the faults of the table among those recorded are the walk's.
+-- An answer: it takes the whole list; where nothing was recorded the list spells it: it is in the grammar and its walk is
+-- empty; and where no error token stands and nothing was dropped, the faults of the table among those recorded are the walk's.
 pub record SoundScript (limit : ℕ) (s : State) (x : Tree) (t : State) : Type 0 where
   pub code : t.code ≡ script_code s.code
   pub scope : t.scope ≡ s.scope
   pub whole : kind_at t.at ≡ kind.End
   pub added : List Fault
   pub faults : t.faults ≡ s.faults ++ added
-  pub reads : added ≡ [] → ReadsScript limit s.code x s.at t.at
+  pub spells : added ≡ [] → SpellsScript limit s.code s.scope.labels x s.at t.at
   pub walked : has_error_token s.at.left ≡ false → drops added ≡ false → tabled added ≡ script_walk s x
 
 -- at most one tree within a limit spells a list, and it ends in one place

@@ -1,6 +1,6 @@
 //! How a state is made, given back and set right again.
 
-ghost use Rattle.std.specs.Prelude.{◌≡◌, false, [], None, length, drop, IfOk, IfErr};
+ghost use Rattle.std.specs.Prelude.{◌≡◌, ◌||◌, false, [], None, length, drop, IfOk, IfErr};
 ghost use Rattle.swc_ecma_parser_error.specs.Kind.{faults_of, IsOutOfMemory};
 ghost use Rattle.swc_ecma_parser_grammar.specs.Entries.{script_code};
 ghost use Rattle.swc_ecma_parser_input.specs.Place as place;
@@ -10,9 +10,9 @@ ghost use Rattle.swc_ecma_parser_state.specs.Opened.{opened};
 
 use crate::state::State;
 use std::alloc::{AllocError, Global};
-use swc_ecma_parser_common::Atom;
+use swc_ecma_parser_common::{Atom, Comment};
 use swc_ecma_parser_error::{Error, PResult};
-use swc_ecma_parser_input::{Buffer, Context, Tokens};
+use swc_ecma_parser_input::{Buffer, CommentSource, Context, Tokens};
 use swc_ecma_parser_reader::Mark;
 
 impl<I: Tokens> State<I> {
@@ -53,6 +53,13 @@ impl<I: Tokens> State<I> {
         ensures { result ≡ self.now.scope.mark }
     {
         self.mark
+    }
+
+    /// Whether memory ran out for one of the two tokens that were read ahead.
+    pub fn lacks_memory(&self) -> bool
+        ensures { result ≡ (place.lacks_memory (place.first self.now.at.left) || place.lacks_memory (place.second self.now.at.left)) }
+    {
+        self.buffer.cur_is_out_of_memory() || self.buffer.is_out_of_memory()
     }
 
     /// Hands out the recorded faults, in order.
@@ -129,6 +136,16 @@ impl<I: Tokens> State<I> {
         self.labels.clear();
         self.found_module_item = found_module_item;
         self.buffer.set_ctx(flags);
+    }
+}
+
+impl<I: CommentSource> State<I> {
+    /// Hands out the comments that the source has kept, or says that one of them found no memory.
+    pub fn take_comments(&mut self) -> PResult<Vec<Comment>>
+        ensures state { self.new ≡ self.old }
+        ensures err { IfErr result IsOutOfMemory }
+    {
+        self.buffer.take_comments()
     }
 }
 

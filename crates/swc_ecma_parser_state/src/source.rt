@@ -1,6 +1,6 @@
 //! What the rules read from.
 
-ghost use Rattle.std.specs.Prelude.{◌≡◌, ◌≢◌, Ok, Err, option_map};
+ghost use Rattle.std.specs.Prelude.{◌≡◌, ◌≢◌, [], Ok, Err, IsOk, option_map};
 ghost use Rattle.swc_ecma_parser_error.specs.Kind as kinds;
 ghost use Rattle.swc_ecma_parser_error.specs.Kind.{fault_of, kind_of, IsOutOfMemory};
 ghost use Rattle.swc_ecma_parser_grammar.specs.Follows as follows;
@@ -118,7 +118,8 @@ pub trait Source {
 
     /// The text of a shebang, if one stands here.
     fn shebang(&mut self) -> PResult<Option<Atom>>
-        ensures { Gives (rules.shebang (seen self.old)) result (seen self.new) };
+        ensures gives { Gives (rules.shebang (seen self.old)) result (seen self.new) }
+        ensures outright { (seen self.old).at.left ≡ [] → IsOk result };
 
     /// Sets the context to one of the same goal, script or module.
     fn set_flags(&mut self, flags: Context)

@@ -1,6 +1,6 @@
 //! The steps that every rule is made of.
 
-ghost use Rattle.std.specs.Prelude.{◌≡◌, ◌≢◌, true, false, Ok, Err, is_none, IfOk, IfErr, option_map};
+ghost use Rattle.std.specs.Prelude.{◌≡◌, ◌≢◌, true, false, [], Ok, Err, is_none, IfOk, IfErr, IsOk, option_map};
 ghost use Rattle.swc_ecma_parser_error.specs.Kind as kinds;
 ghost use Rattle.swc_ecma_parser_error.specs.Kind.{fault_of, kind_of, IsOutOfMemory};
 ghost use Rattle.swc_ecma_parser_input.specs.Place as place;
@@ -339,7 +339,8 @@ impl<I: Tokens> State<I> {
     /// The text of a shebang, if one stands here.
     #[tactic(auto, using(crate::proofs::Taken::shebang_none, crate::proofs::Taken::shebang_some))]
     pub fn shebang(&mut self) -> PResult<Option<Atom>>
-        ensures { Gives (rules.shebang self.old) result self.new }
+        ensures gives { Gives (rules.shebang self.old) result self.new }
+        ensures outright { self.old.at.left ≡ [] → IsOk result }
     {
         if !self.is_shebang_here() {
             return Ok(None);

@@ -1,6 +1,8 @@
-/// A token without what it holds, or the end of the list.
+/// A token without what it holds, or the end of the list. Each keyword and each operator is a kind of its own, under the
+/// name that it has in `Keyword`, `BinOpToken` or `AssignOp`; the others are named as in `Word` and `Token`.
 #[derive(Clone, Copy, Debug, PartialEq, Eq)]
 pub enum TokenKind {
+    /// No token: the list has ended.
     End,
     Error,
     Null,

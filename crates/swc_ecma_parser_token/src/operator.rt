@@ -1,6 +1,6 @@
 use crate::kind::TokenKind;
 
-/// The operators between two operands that are no words.
+/// The operators between two operands that are no words: of ECMA-262, "Punctuators" (section 12.8).
 #[derive(Clone, Copy, Debug, PartialEq, Eq)]
 pub enum BinOpToken {
     /// `==`
@@ -119,7 +119,7 @@ impl BinOpToken {
     }
 }
 
-/// The operators of an assignment.
+/// The operators of an assignment: of ECMA-262, "Punctuators" (section 12.8).
 #[derive(Clone, Copy, Debug, PartialEq, Eq)]
 pub enum AssignOp {
     /// `=`

@@ -4,19 +4,26 @@ use crate::operator::{AssignOp, BinOpToken};
 use swc_ecma_parser_common::{Atom, Span, Spanned};
 use swc_ecma_parser_error::{Error, PResult};
 
-/// A word: a keyword, one of the three word literals, or any other name.
+/// A word: ECMA-262, "Names and Keywords" (section 12.7), with the three literals that are words.
 #[derive(Debug, PartialEq, Eq, Drop)]
 pub enum Word {
+    /// A keyword.
     Keyword(Keyword),
+    /// `null`: "Null Literals" (section 12.9.1).
     Null,
+    /// `true`: "Boolean Literals" (section 12.9.2).
     True,
+    /// `false`: "Boolean Literals" (section 12.9.2).
     False,
+    /// Any other word, which it holds.
     Ident(Atom),
 }
 
-/// A token.
+/// A token: ECMA-262, "Lexical Grammar" (section 12). What is only a mark is of "Punctuators" (section 12.8); `#` begins a
+/// private name (section 12.7), and `@` a decorator.
 #[derive(Debug, PartialEq, Eq, Drop)]
 pub enum Token {
+    /// A keyword, a literal that is a word, or a name.
     Word(Word),
     /// `=>`
     Arrow,
@@ -56,21 +63,23 @@ pub enum Token {
     MinusMinus,
     /// `~`
     Tilde,
+    /// An operator between two operands.
     BinOp(BinOpToken),
+    /// An operator of an assignment.
     AssignOp(AssignOp),
-    /// A string literal: what it says, and how it is written.
+    /// A string literal, what it says and how it is written with its quotes: "String Literals" (section 12.9.4).
     Str { value: Atom, raw: Atom },
-    /// A number, as it is written.
+    /// A number, as it is written: "Numeric Literals" (section 12.9.3).
     Num { raw: Atom },
-    /// A big integer, as it is written, with its `n`.
+    /// A big integer, as it is written, with its `n`: "Numeric Literals" (section 12.9.3).
     BigInt { raw: Atom },
-    /// The first line of a text that begins with `#!`, without these two.
+    /// The first line of a text that begins with `#!`, without these two: "Hashbang Comments" (section 12.5).
     Shebang(Atom),
-    /// Where no token could be read.
+    /// Where no token could be read, and why.
     Error(Error),
 }
 
-/// A token with its place.
+/// A token with its place. Its span is the bytes that spell it, as byte offsets.
 #[derive(Debug, PartialEq, Eq, Drop)]
 pub struct TokenAndSpan {
     pub token: Token,
@@ -80,7 +89,8 @@ pub struct TokenAndSpan {
 }
 
 impl Word {
-    ghost use Rattle.std.specs.Prelude.{◌≡◌, IfOk};
+    ghost use Rattle.std.specs.Prelude.{◌≡◌, IfOk, IfErr};
+    ghost use Rattle.swc_ecma_parser_error.specs.Kind.{fault_of, no_memory};
     ghost use Rattle.swc_ecma_parser_token.specs.Kind.{word_kind};
     ghost use Rattle.swc_ecma_parser_token.specs.Text.{word_text};
 
@@ -112,7 +122,8 @@ impl Word {
 
     /// An equal word, or a fault of kind `OutOfMemory` at 0.
     pub fn try_clone(&self) -> PResult<Word>
-        ensures { IfOk result (λ w. w ≡ self.now) }
+        ensures ok { IfOk result (λ w. w ≡ self.now) }
+        ensures err { IfErr result (λ e. fault_of e ≡ no_memory) }
     {
         let copy = match self {
             Word::Keyword(keyword) => Word::Keyword(*keyword),
@@ -126,7 +137,8 @@ impl Word {
 }
 
 impl Token {
-    ghost use Rattle.std.specs.Prelude.{◌≡◌, IfOk};
+    ghost use Rattle.std.specs.Prelude.{◌≡◌, IfOk, IfErr};
+    ghost use Rattle.swc_ecma_parser_error.specs.Kind.{fault_of, no_memory};
     ghost use Rattle.swc_ecma_parser_token.specs.Kind.{token_kind};
 
     /// The kind of token that it is.
@@ -166,7 +178,8 @@ impl Token {
 
     /// An equal token, or a fault of kind `OutOfMemory` at 0.
     pub fn try_clone(&self) -> PResult<Token>
-        ensures { IfOk result (λ t. t ≡ self.now) }
+        ensures ok { IfOk result (λ t. t ≡ self.now) }
+        ensures err { IfErr result (λ e. fault_of e ≡ no_memory) }
     {
         let copy = match self {
             Token::Word(word) => Token::Word(word.try_clone()?),
@@ -209,11 +222,13 @@ impl Token {
 }
 
 impl TokenAndSpan {
-    ghost use Rattle.std.specs.Prelude.{◌≡◌, IfOk};
+    ghost use Rattle.std.specs.Prelude.{◌≡◌, IfOk, IfErr};
+    ghost use Rattle.swc_ecma_parser_error.specs.Kind.{fault_of, no_memory};
 
     /// An equal token, or a fault of kind `OutOfMemory` at 0.
     pub fn try_clone(&self) -> PResult<TokenAndSpan>
-        ensures { IfOk result (λ t. t ≡ self.now) }
+        ensures ok { IfOk result (λ t. t ≡ self.now) }
+        ensures err { IfErr result (λ e. fault_of e ≡ no_memory) }
     {
         let token = self.token.try_clone()?;
         Ok(TokenAndSpan {

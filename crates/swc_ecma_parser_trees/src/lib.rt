@@ -21,7 +21,9 @@ pub type MakerOf<T> = Maker<T, <T as Trees>::Expr, <T as Trees>::Pat, <T as Tree
 
 impl<T, E, P, S> Maker<T, E, P, S> {
     /// A maker that allocates so.
-    pub fn new(alloc: Global) -> Maker<T, E, P, S> {
+    pub fn new(alloc: Global) -> Maker<T, E, P, S>
+        ensures { result.alloc ≡ alloc }
+    {
         Maker {
             alloc,
             nodes: PhantomData,
@@ -41,14 +43,19 @@ pub trait Trees {
     ghost use Rattle.swc_ecma_parser_model.specs.Directive as directive;
     ghost use Rattle.swc_ecma_parser_model.specs.Forms as forms;
 
+    /// An expression.
     type Expr: Drop;
 
+    /// A pattern.
     type Pat: Drop;
 
+    /// A name that is declared, with what it is given.
     type Declarator: Drop;
 
+    /// A statement.
     type Stmt: Drop;
 
+    /// A whole script.
     type Script: Drop;
 
     ghost expr_of: { Self.Expr → Tree };
@@ -65,7 +72,7 @@ pub trait Trees {
     fn is_use_strict(stmt: &Self::Stmt) -> bool
         ensures { result ≡ directive.is_use_strict (stmt_of stmt.now) };
 
-    /// Where an expression stands.
+    /// Where an expression stands, in byte offsets.
     fn expr_span(expr: &Self::Expr) -> Span
         ensures { result ≡ forms.span_of (expr_of expr.now) };
 
@@ -82,45 +89,55 @@ pub trait Trees {
         ensures { result ≡ forms.is_paren (expr_of expr.now) };
 }
 
-/// Makes expressions.
+/// Makes expressions. Each function fails only where memory runs out.
 pub trait BuildsExpr: Trees {
     ghost use Rattle.swc_ecma_parser_model.specs.Tree as tree;
 
+    /// A name.
     fn ident(alloc: Global, ident: Ident) -> Result<Self::Expr, AllocError>
         ensures { IfOk result (λ x. Self.expr_of x ≡ tree.ident ident.span ident.sym) };
 
+    /// A string literal.
     fn str(alloc: Global, str: Str) -> Result<Self::Expr, AllocError>
         ensures { IfOk result (λ x. Self.expr_of x ≡ tree.str str.span str.value str.raw) };
 
+    /// `true` or `false`.
     fn bool(alloc: Global, bool: Bool) -> Result<Self::Expr, AllocError>
         ensures { IfOk result (λ x. Self.expr_of x ≡ tree.bool bool.span bool.value) };
 
+    /// `null`.
     fn null(alloc: Global, null: Null) -> Result<Self::Expr, AllocError>
         ensures { IfOk result (λ x. Self.expr_of x ≡ tree.null null.span) };
 
+    /// A number.
     fn num(alloc: Global, num: Number) -> Result<Self::Expr, AllocError>
         ensures { IfOk result (λ x. Self.expr_of x ≡ tree.num num.span num.raw) };
 
+    /// A big integer.
     fn big_int(alloc: Global, big_int: BigInt) -> Result<Self::Expr, AllocError>
         ensures { IfOk result (λ x. Self.expr_of x ≡ tree.big_int big_int.span big_int.raw) };
 
+    /// An expression in parentheses; the span covers them.
     fn paren(alloc: Global, span: Span, expr: Self::Expr) -> Result<Self::Expr, AllocError>
         ensures { IfOk result (λ x. Self.expr_of x ≡ tree.paren span (Self.expr_of expr)) };
 }
 
-/// Makes patterns.
+/// Makes patterns. Each function fails only where memory runs out.
 pub trait BuildsPat: Trees {
     ghost use Rattle.swc_ecma_parser_model.specs.Tree as tree;
 
+    /// A pattern that is a name.
     fn ident_pat(alloc: Global, ident: Ident) -> Result<Self::Pat, AllocError>
         ensures { IfOk result (λ x. Self.pat_of x ≡ tree.ident_pat ident.span ident.sym) };
 }
 
-/// Makes statements, and scripts of them.
+/// Makes statements, and scripts of them. A function that answers a `Result` fails only where memory runs out, and spans
+/// are in byte offsets.
 pub trait BuildsStmt: Trees {
     ghost use Rattle.swc_ecma_parser_model.specs.Tree as tree;
     ghost use Rattle.swc_ecma_parser_trees.specs.Parts as parts;
 
+    /// A name that is declared, with or without its initializer.
     fn declarator(
         alloc: Global,
         span: Span,
@@ -130,6 +147,7 @@ pub trait BuildsStmt: Trees {
         ensures { IfOk result (λ x. Self.declarator_of x
             ≡ tree.declarator span (Self.pat_of name) (parts.part_of Self.expr_of init)) };
 
+    /// A declaration of one or more names.
     fn var(
         alloc: Global,
         span: Span,
@@ -139,19 +157,24 @@ pub trait BuildsStmt: Trees {
         ensures { IfOk result (λ x. Self.stmt_of x
             ≡ tree.var span kind (tree.listed (map Self.declarator_of decls.items))) };
 
+    /// A block; the span covers its braces.
     fn block(alloc: Global, span: Span, stmts: Vec<Self::Stmt>) -> Result<Self::Stmt, AllocError>
         ensures { IfOk result (λ x. Self.stmt_of x
             ≡ tree.block span (tree.listed (map Self.stmt_of stmts.items))) };
 
+    /// `;` by itself.
     fn empty(alloc: Global, span: Span) -> Result<Self::Stmt, AllocError>
         ensures { IfOk result (λ x. Self.stmt_of x ≡ tree.empty span) };
 
+    /// `debugger`.
     fn debugger(alloc: Global, span: Span) -> Result<Self::Stmt, AllocError>
         ensures { IfOk result (λ x. Self.stmt_of x ≡ tree.debugger span) };
 
+    /// An expression as a statement.
     fn expr_stmt(alloc: Global, span: Span, expr: Self::Expr) -> Result<Self::Stmt, AllocError>
         ensures { IfOk result (λ x. Self.stmt_of x ≡ tree.expr_stmt span (Self.expr_of expr)) };
 
+    /// A whole script, with the text of a first line `#!` behind these two.
     fn script(span: Span, body: Vec<Self::Stmt>, shebang: Option<Atom>) -> Self::Script
         ensures { Self.script_of result
             ≡ tree.script span (tree.listed (map Self.stmt_of body.items)) shebang };

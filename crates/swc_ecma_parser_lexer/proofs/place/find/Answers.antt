@@ -1,4 +1,5 @@
 use Rattle.std.proofs.Common.{length, ap, sym, ◌∙◌, arith}
+use Rattle.swc_ecma_parser_lexer.proofs.Collections.{reads-noted}
 use Rattle.swc_ecma_parser_lexer.proofs.Texts.{past-skipped, nothing-left, piece-longer}
 use Rattle.swc_ecma_parser_lexer.proofs.place.find.Goals as goal
 
@@ -14,6 +15,8 @@ loop-piece-preserved c =
       tokens = c.loop-piece.invariant.tokens ∙ past-skipped c.loop-piece.place c.in-Some.piece c.past-place.result c.in-Some.ensures c.past-place.ensures skipped;
       start = c.past-place.ensures.start ∙ c.loop-piece.invariant.start;
       fits = c.past-place.ensures.fits;
+      comments = reads-noted _ _ _ _ c.loop-piece.place c.past-place.result c.in-Some.piece c.span_of.result c.loop-piece.invariant.comments c.in-Some.ensures
+          c.past-place.ensures c.span_of.ensures c.note.ensures;
     }
 
 pub returns-clause-piece : goal.returns-clause-piece

@@ -1,4 +1,5 @@
 use Rattle.std.proofs.Common.{◌≡◌, length}
+use Rattle.swc_ecma_parser_lexer.specs.Collected.{IsReadOn}
 use Rattle.swc_ecma_parser_lexer.specs.Tokens as read
 use Rattle.swc_ecma_parser_lexer.proofs.place.find.Given as goal
 
@@ -7,6 +8,7 @@ invariant-loop-piece l = record {
   tokens : read.tokens_at l.fn.first ≡ read.tokens_at l.place;
   start : l.place.start ≡ l.fn.first.start;
   fits : read.Fits l.place;
+  comments : IsReadOn l.fn.comments l.fn.first l.comments l.place;
 }
 
 abbrev pub decreases-loop-piece : goal.decreases-loop-piece

@@ -5,8 +5,9 @@ use Rattle.swc_ecma_parser_token.specs.declared.token.Token.{Token}
 use Rattle.swc_ecma_parser_token.specs.declared.token.TokenAndSpan.{TokenAndSpan}
 use Rattle.swc_ecma_parser_input.specs.TokenSource.{IsDrawn}
 use Rattle.swc_ecma_parser_lexer.specs.declared.place.Place.{Place}
-use Rattle.swc_ecma_parser_lexer.specs.declared.scan.Piece.{Piece}
+use Rattle.swc_ecma_parser_scan.specs.declared.piece.Piece.{Piece}
 use Rattle.swc_ecma_parser_lexer.specs.Tokens.{token_of, token_at, tokens_at, span_at, IsToken, IsPast, IsTokenOrFault}
+use Rattle.swc_ecma_parser_lexer.proofs.Collections.{reads-token}
 use Rattle.swc_ecma_parser_lexer.proofs.Texts.{past-token}
 use Rattle.swc_ecma_parser_lexer.proofs.lexer.LexerTokens.next.Goals as goal
 
@@ -21,8 +22,8 @@ drawn old p q piece t span e h k s m = record {
       ∙ ap (λ (x : Span). record { token = token_of piece.state piece.text.now x; had_line_break = p.had_line_break; span = x }) s;
 }
 
-pub returns : goal.returns
-returns c =
+pub returns-clause-drawn : goal.returns-clause-drawn
+returns-clause-drawn c =
     let self = c.args.self.now in
     let q = c.past-self.result in
     let found = rw c.in-Some.is at c.find-found.ensures.piece in
@@ -31,3 +32,8 @@ returns c =
           c.find-found.ensures.tokens found c.past-self.ensures c.span_of-span.ensures c.token_or_fault-token.ensures;
       rest = ap (λ (b : BytePos). record { left = tokens_at q; context = self.context; syntax = self.syntax; start = b; recorded = self.faults.recorded; held_back = self.faults.held_back }) (c.past-self.ensures.start ∙ c.find-found.ensures.start);
     }
+
+pub returns-clause-comments : goal.returns-clause-comments
+returns-clause-comments c =
+    let found = rw c.in-Some.is at c.find-found.ensures.piece in
+    reads-token _ _ _ c.find-found.result.place c.past-self.result c.in-Some.piece c.find-found.ensures.comments found c.past-self.ensures

@@ -1,0 +1,3 @@
+pub mod Joined
+mod Reported
+mod Statuses

@@ -1,0 +1,15 @@
+-- The status of a run.
+use Rattle.std.proofs.Common.{◌≡◌, ℕ, List, Option, Some, None, Result, Ok, Err, refl, ap, ◌⊎◌, inl, inr}
+use Rattle.std.specs.Prelude.{IfOk, IsErr, IfSome}
+use Rattle.ecma_parse.specs.declared.answer.Verdict.{Verdict}
+use Rattle.ecma_parse.specs.declared.answer.Verdict.TheVariants as verdict
+
+-- where it is known what there is to read
+pub where_known : {P Q : List ℕ → Type 0} (o : Option (List ℕ)) → IfSome o P → ((xs : List ℕ) → P xs → Q xs) → IfSome o Q
+where_known (Some xs) h f = f xs h
+where_known None h f = tt
+
+-- an outcome that can only be clean ends with 0, or with the status of a fault
+pub ends : {E : Type 0} (o : Result Verdict E) (n : ℕ) → (o ≡ Ok verdict.Clean → n ≡ 0) → (IsErr o → n ≡ 3) → IfOk o (λ v. v ≡ verdict.Clean) → (n ≡ 0) ⊎ (n ≡ 3)
+ends (Ok v) n z t h = inl (z (ap Ok h))
+ends (Err e) n z t h = inr (t refl)

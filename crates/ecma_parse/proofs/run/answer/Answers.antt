@@ -1,0 +1,9 @@
+-- The text is what the reader had left.
+use Rattle.std.proofs.Common.{sym, subst, ◌∙◌}
+use Rattle.ecma_parse.specs.Spelled.{Spells}
+use Rattle.ecma_parse.proofs.Statuses.{where_known}
+use Rattle.ecma_parse.proofs.run.answer.Goals as goal
+
+pub returns-clause-spelled : goal.returns-clause-spelled
+returns-clause-spelled g c = where_known (g.R.Read.remaining c.args.input.now) c.in_ok-bytes.ensures.whole (λ xs e x p.
+    (c.in_ok-verdict.ensures.spelled x (subst (λ z. Spells z x) (sym e ∙ sym c.as_slice.ensures.value ∙ sym c.in-Ok.ensures.cases.0) p)).0)

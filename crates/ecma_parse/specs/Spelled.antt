@@ -1,0 +1,30 @@
+-- The scripts that a text spells, in the settings and within the limit that the program reads with.
+use Rattle.std.specs.Prelude.{ℕ, false, List, []}
+use Rattle.std.specs.Str.{chars}
+use Rattle.swc_ecma_parser_input.specs.Setting.{plain_setting, plain}
+use Rattle.swc_ecma_parser_input.specs.Place as place
+use Rattle.swc_ecma_parser_input.specs.Place.{Place}
+use Rattle.swc_ecma_parser_model.specs.Tree.{Tree}
+use Rattle.swc_ecma_parser_grammar.specs.Names.{Code}
+use Rattle.swc_ecma_parser_grammar.specs.Entries.{SpellsScript}
+use Rattle.swc_ecma_parser_reader.specs.State.{State}
+use Rattle.swc_ecma_parser_state.specs.Opened.{opened}
+use Rattle.swc_ecma_parser_lexer.specs.Source as source
+use Rattle.swc_ecma_parser_lexer.specs.Source.{default_context}
+use Rattle.swc_ecma_parser_lexer.specs.Tokens.{tokens}
+
+-- what stands around a script
+abbrev pub outside : Code
+outside = record { flags = default_context; setting = plain_setting }
+
+-- a text's tokens, at the positions from 0 on
+abbrev pub first_place : List ℕ → Place
+first_place text = place.outset (record { 0 = 0 }) (tokens 0 0 false (chars text))
+
+-- a tree that a text spells, at most 1,000 levels deep
+abbrev pub Spells : List ℕ → Tree → Type 0
+Spells text x = (d : Place) × SpellsScript 1000 outside [] x (first_place text) d
+
+-- a parser of a text, before anything was read
+abbrev pub start_of : List ℕ → State
+start_of text = opened (source.outset plain (record { 0 = 0 }) (chars text))

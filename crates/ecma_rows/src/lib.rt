@@ -1,0 +1,17 @@
+//! Tests that cross crates: texts and what they parse to, and each public function of the parser once.
+#![tactic(auto)]
+
+#[cfg(test)]
+mod deep;
+#[cfg(test)]
+mod describe;
+#[cfg(test)]
+mod parsers;
+#[cfg(test)]
+mod rows;
+#[cfg(test)]
+mod spans;
+#[cfg(test)]
+mod texts;
+#[cfg(test)]
+mod trees;

@@ -1,0 +1,13 @@
+//! Tests of the values that a user of the parser meets: each public function once.
+#![tactic(auto)]
+
+#[cfg(test)]
+mod faults;
+#[cfg(test)]
+mod places;
+#[cfg(test)]
+mod sources;
+#[cfg(test)]
+mod tokens;
+#[cfg(test)]
+mod trees;

@@ -1,0 +1,5 @@
+pub mod Chars
+pub mod Numbers
+pub mod Step
+pub mod Scan
+pub mod Splits

@@ -1,0 +1,84 @@
+//! Pieces of a text: tokens, comments, white space and line breaks. Each character is looked at a bounded number of
+//! times, and nothing is allocated.
+
+ghost use Rattle.std.specs.Prelude.{◌≡◌, ◌++◌, [], List, ℕ, MatchOption};
+ghost use Rattle.std.specs.Str.{chars, IsUtf8};
+ghost use Rattle.swc_ecma_parser_scan.specs.Scan as read;
+
+use crate::chars::first_char;
+use crate::state::{Mark, State};
+use crate::step::{begin, step};
+
+/// How far a piece goes.
+#[derive(Clone, Copy)]
+pub struct Munched<'a> {
+    state: State,
+    /// The text behind the piece.
+    rest: &'a str,
+}
+
+/// A piece of the text and the text behind it.
+#[derive(Clone, Copy)]
+pub struct Piece<'a> {
+    pub state: State,
+    pub text: &'a str,
+    pub rest: &'a str,
+}
+
+/// Reads on, as far as the piece goes.
+fn munch(first: State, text: &str) -> Munched<'_>
+    ensures state { result.state ≡ (read.munch first (chars text.now)).state }
+    ensures rest { chars result.rest.now ≡ (read.munch first (chars text.now)).left }
+    ensures utf8 { IsUtf8 result.rest.now }
+{
+    let mut state = first;
+    let mut rest = text;
+    while let Some((c, behind)) = first_char(rest) {
+        match step(state, c) {
+            Some(next) => {
+                state = next;
+                rest = behind;
+            }
+            None => return Munched { state, rest },
+        }
+    }
+    Munched { state, rest }
+}
+
+/// Gives back the second dot of `..`, which is no token.
+#[tactic(auto, unfolding(crate::specs::Scan::settled))]
+fn settle<'a>(behind: &'a str, munched: Munched<'a>) -> Munched<'a>
+    ensures state { result.state ≡ (read.settled (chars behind.entry.now) (record { taken = []; left = chars munched.entry.rest.now; state = munched.entry.state })).state }
+    ensures rest { chars result.rest.now ≡ (read.settled (chars behind.entry.now) (record { taken = []; left = chars munched.entry.rest.now; state = munched.entry.state })).left }
+    ensures utf8 { IsUtf8 munched.entry.rest.now → IsUtf8 result.rest.now }
+{
+    match munched.state {
+        State::Mark(Mark::DotDot) => Munched {
+            state: State::Mark(Mark::Dot),
+            rest: behind,
+        },
+        _ => munched,
+    }
+}
+
+/// The text before the rest of it.
+fn before<'a>(text: &'a str, rest: &str) -> &'a str
+    requires { (taken : List ℕ) × (text.now ≡ taken ++ rest.now) }
+    ensures { text.entry.now ≡ result.now ++ rest.now }
+{
+    let length = text.len() - rest.len();
+    &text[..length]
+}
+
+/// The first piece of a text, if it is not empty. `is_first`: nothing stands before the text.
+pub fn scan(is_first: bool, text: &str) -> Option<Piece<'_>>
+    ensures { MatchOption result (chars text.now ≡ []) (λ piece. read.IsFirstPiece is_first text.now piece) }
+{
+    let (c, behind) = first_char(text)?;
+    let munched = settle(behind, munch(begin(is_first, c), behind));
+    Some(Piece {
+        state: munched.state,
+        text: before(text, munched.rest),
+        rest: munched.rest,
+    })
+}
