@@ -1,0 +1,314 @@
+//! `Node` holds what is on a way from a tree back to a tree: a boxed expression, or a list of statements.
+//! A handle such as `ExprBox` says which of them a node holds.
+
+ghost use Rattle.std.specs.Prelude.{◌≡◌, false, IfOk, MatchOption, map};
+ghost use Rattle.swc_ecma_parser_model.specs.Tree.{listed};
+ghost use Rattle.swc_ecma_parser_model.specs.Kinds.{is_expr, is_pat, is_stmt, is_list};
+ghost use Rattle.swc_ecma_parser_tree.specs.View.{view_expr, view_pat, view_stmt};
+ghost use Rattle.swc_ecma_parser_tree.specs.Equal as equal;
+
+use crate::expr::Expr;
+use crate::pat::Pat;
+use crate::stmt::Stmt;
+use std::alloc::{AllocError, Global};
+use std::marker::Model;
+use swc_ecma_parser_common::{BytePos, Span, Spanned};
+
+/// A boxed expression.
+#[derive(Debug, PartialEq, Eq, Drop)]
+pub struct ExprBox<N = Node> {
+    node: N,
+}
+
+/// A boxed pattern.
+#[derive(Debug, PartialEq, Eq, Drop)]
+pub struct PatBox<N = Node> {
+    node: N,
+}
+
+/// A boxed statement.
+#[derive(Debug, PartialEq, Eq, Drop)]
+pub struct StmtBox<N = Node> {
+    node: N,
+}
+
+/// A list of statements.
+#[derive(Debug, PartialEq, Eq, Drop)]
+pub struct StmtList<N = Node> {
+    node: N,
+}
+
+/// What a node may hold.
+#[cycle(ast)]
+#[derive(Debug, Drop)]
+pub enum Any {
+    Expr(Box<Expr<Node>>),
+    Pat(Box<Pat<Node>>),
+    Stmt(Box<Stmt<Node>>),
+    Stmts(Vec<Stmt<Node>>),
+}
+
+/// A part of a tree, of any kind. Contracts see it as the model's tree, which is never one that is left out.
+#[cycle(ast)]
+#[derive(Debug, Drop)]
+pub struct Node {
+    inner: Any,
+}
+
+impl Model for Node {
+    ghost use Rattle.swc_ecma_parser_model.specs.Size.{tree_size};
+    ghost use Rattle.swc_ecma_parser_model.specs.Held.{Held, coded_held};
+
+    ghost Value = { Held };
+
+    ghost coded = { coded_held };
+
+    ghost use Rattle.swc_ecma_parser_tree.specs.Nodes.{view_any};
+
+    ghost view = { λ b. view_any b.inner };
+
+    ghost size = { λ h. tree_size h.tree };
+
+    ghost use Rattle.swc_ecma_parser_tree.specs.Falls.{le_any};
+
+    ghost size_decreases = { λ a h. le_any a.inner };
+}
+
+impl PartialEq for Any {
+    ghost use Rattle.swc_ecma_parser_model.specs.Held.{same_held};
+    ghost use Rattle.swc_ecma_parser_tree.specs.Nodes.{view_any, same_any_laws};
+
+    ghost eq = { λ x y. same_held (view_any x) (view_any y) };
+
+    ghost laws = { same_any_laws };
+
+    #[cycle(ast)]
+    fn eq(&self, other: &Any) -> bool {
+        match self {
+            Any::Expr(a) => match other {
+                Any::Expr(b) => equal_exprs(a, b),
+                Any::Pat(_) => false,
+                Any::Stmt(_) => false,
+                Any::Stmts(_) => false,
+            },
+            Any::Pat(a) => match other {
+                Any::Pat(b) => equal_pats(a, b),
+                Any::Expr(_) => false,
+                Any::Stmt(_) => false,
+                Any::Stmts(_) => false,
+            },
+            Any::Stmt(a) => match other {
+                Any::Stmt(b) => equal_boxed_stmts(a, b),
+                Any::Expr(_) => false,
+                Any::Pat(_) => false,
+                Any::Stmts(_) => false,
+            },
+            Any::Stmts(a) => match other {
+                Any::Stmts(b) => equal_stmts(a, b),
+                Any::Expr(_) => false,
+                Any::Pat(_) => false,
+                Any::Stmt(_) => false,
+            },
+        }
+    }
+}
+
+/// `==`, in a contract that stays small: one that is derived, at `Node`, would be spelled out in the proof of `Any::eq`.
+fn equal_exprs<N: PartialEq>(a: &Box<Expr<N>>, b: &Box<Expr<N>>) -> bool
+    ensures { result ≡ equal.equal_expr N.eq a.now.value b.now.value }
+{
+    *a == *b
+}
+
+/// `==`, as `equal_exprs`.
+fn equal_pats<N: PartialEq>(a: &Box<Pat<N>>, b: &Box<Pat<N>>) -> bool
+    ensures { result ≡ equal.equal_pat N.eq a.now.value b.now.value }
+{
+    *a == *b
+}
+
+/// `==`, as `equal_exprs`.
+fn equal_boxed_stmts<N: PartialEq>(a: &Box<Stmt<N>>, b: &Box<Stmt<N>>) -> bool
+    ensures { result ≡ equal.equal_stmt N.eq a.now.value b.now.value }
+{
+    *a == *b
+}
+
+/// `==`, as `equal_exprs`.
+fn equal_stmts<N: PartialEq>(a: &Vec<Stmt<N>>, b: &Vec<Stmt<N>>) -> bool
+    ensures { result ≡ equal.equal_stmts N.eq a.now.items b.now.items }
+{
+    *a == *b
+}
+
+impl PartialEq for Node {
+    ghost use Rattle.swc_ecma_parser_model.specs.Held.{same_held, same_held_laws};
+
+    ghost eq = { same_held };
+
+    ghost laws = { same_held_laws };
+
+    #[cycle(ast)]
+    fn eq(&self, other: &Node) -> bool {
+        self.inner == other.inner
+    }
+}
+
+impl Eq for Node {
+    ghost use Rattle.swc_ecma_parser_model.specs.Held.{same_held_equivalence};
+
+    ghost laws = { same_held_equivalence };
+}
+
+impl ExprBox<Node> {
+    /// A handle of an expression; it fails only where memory runs out.
+    pub fn new(alloc: Global, value: Expr<Node>) -> Result<ExprBox<Node>, AllocError>
+        ensures { IfOk result (λ b. b.node.tree ≡ view_expr value) }
+    {
+        let inner = Any::Expr(Box::new(alloc, value)?);
+        Ok(ExprBox {
+            node: Node { inner },
+        })
+    }
+
+    /// The expression; none only of a handle that no function of this crate makes.
+    pub fn get(&self) -> Option<&Expr<Node>>
+        ensures { MatchOption result (is_expr self.now.node.tree ≡ false) (λ e. view_expr e.now ≡ self.now.node.tree) }
+    {
+        match &self.node.inner {
+            Any::Expr(e) => Some(e),
+            _ => None,
+        }
+    }
+
+    /// The expression itself, in place of the handle.
+    pub fn into_inner(self) -> Option<Expr<Node>>
+        ensures { MatchOption result (is_expr self.node.tree ≡ false) (λ e. view_expr e ≡ self.node.tree) }
+    {
+        let ExprBox { node } = self;
+        let Node { inner } = node;
+        match inner {
+            Any::Expr(e) => Some(Box::into_inner(e)),
+            _ => None,
+        }
+    }
+}
+
+impl PatBox<Node> {
+    /// A handle of a pattern; it fails only where memory runs out.
+    pub fn new(alloc: Global, value: Pat<Node>) -> Result<PatBox<Node>, AllocError>
+        ensures { IfOk result (λ b. b.node.tree ≡ view_pat value) }
+    {
+        let inner = Any::Pat(Box::new(alloc, value)?);
+        Ok(PatBox {
+            node: Node { inner },
+        })
+    }
+
+    /// The pattern; none only of a handle that no function of this crate makes.
+    pub fn get(&self) -> Option<&Pat<Node>>
+        ensures { MatchOption result (is_pat self.now.node.tree ≡ false) (λ e. view_pat e.now ≡ self.now.node.tree) }
+    {
+        match &self.node.inner {
+            Any::Pat(e) => Some(e),
+            _ => None,
+        }
+    }
+
+    /// The pattern itself, in place of the handle.
+    pub fn into_inner(self) -> Option<Pat<Node>>
+        ensures { MatchOption result (is_pat self.node.tree ≡ false) (λ e. view_pat e ≡ self.node.tree) }
+    {
+        let PatBox { node } = self;
+        let Node { inner } = node;
+        match inner {
+            Any::Pat(e) => Some(Box::into_inner(e)),
+            _ => None,
+        }
+    }
+}
+
+impl StmtBox<Node> {
+    /// A handle of a statement; it fails only where memory runs out.
+    pub fn new(alloc: Global, value: Stmt<Node>) -> Result<StmtBox<Node>, AllocError>
+        ensures { IfOk result (λ b. b.node.tree ≡ view_stmt value) }
+    {
+        let inner = Any::Stmt(Box::new(alloc, value)?);
+        Ok(StmtBox {
+            node: Node { inner },
+        })
+    }
+
+    /// The statement; none only of a handle that no function of this crate makes.
+    pub fn get(&self) -> Option<&Stmt<Node>>
+        ensures { MatchOption result (is_stmt self.now.node.tree ≡ false) (λ e. view_stmt e.now ≡ self.now.node.tree) }
+    {
+        match &self.node.inner {
+            Any::Stmt(e) => Some(e),
+            _ => None,
+        }
+    }
+
+    /// The statement itself, in place of the handle.
+    pub fn into_inner(self) -> Option<Stmt<Node>>
+        ensures { MatchOption result (is_stmt self.node.tree ≡ false) (λ e. view_stmt e ≡ self.node.tree) }
+    {
+        let StmtBox { node } = self;
+        let Node { inner } = node;
+        match inner {
+            Any::Stmt(e) => Some(Box::into_inner(e)),
+            _ => None,
+        }
+    }
+}
+
+impl StmtList<Node> {
+    /// A handle of a list of statements.
+    pub fn new(stmts: Vec<Stmt<Node>>) -> StmtList<Node>
+        ensures { result.node.tree ≡ listed (map view_stmt stmts.items) }
+    {
+        let inner = Any::Stmts(stmts);
+        StmtList {
+            node: Node { inner },
+        }
+    }
+
+    /// The statements; none only of a handle that no function of this crate makes.
+    pub fn get(&self) -> Option<&Vec<Stmt<Node>>>
+        ensures { MatchOption result (is_list self.now.node.tree ≡ false) (λ xs. listed (map view_stmt xs.now.items) ≡ self.now.node.tree) }
+    {
+        match &self.node.inner {
+            Any::Stmts(xs) => Some(xs),
+            _ => None,
+        }
+    }
+
+    /// The statements themselves, in place of the handle.
+    pub fn into_inner(self) -> Option<Vec<Stmt<Node>>>
+        ensures { MatchOption result (is_list self.node.tree ≡ false) (λ xs. listed (map view_stmt xs.items) ≡ self.node.tree) }
+    {
+        let StmtList { node } = self;
+        let Node { inner } = node;
+        match inner {
+            Any::Stmts(xs) => Some(xs),
+            _ => None,
+        }
+    }
+}
+
+impl Spanned for ExprBox {
+    ghost use Rattle.swc_ecma_parser_model.specs.Forms as model;
+    ghost use Rattle.swc_ecma_parser_tree.specs.Parts.{as_expr};
+
+    ghost span_of = { λ x. model.span_of (as_expr x.node.tree) };
+
+    fn span(&self) -> Span {
+        match self.get() {
+            Some(x) => x.span(),
+            None => Span {
+                lo: BytePos(0),
+                hi: BytePos(0),
+            },
+        }
+    }
+}
