@@ -8,7 +8,8 @@ use Rattle.swc_ecma_parser_model.specs.Held.{Held}
 use Rattle.swc_ecma_parser_model.specs.Tree.{Tree}
 use Rattle.swc_ecma_parser_ast.specs.declared.script.Script.{Script}
 use Rattle.swc_ecma_parser_ast.specs.View.{view_script}
-use Rattle.swc_ecma_parser_grammar.specs.Entries.{SpellsScript, script_code}
+use Rattle.swc_ecma_parser_grammar.specs.Entries.{script_code}
+use Rattle.swc_ecma_parser_grammar.specs.language.Programs as programs
 use Rattle.swc_ecma_parser_grammar.specs.Walk.{walk, env_of}
 use Rattle.swc_ecma_parser_reader.specs.State.{State, Outcome}
 use Rattle.swc_ecma_parser_reader.specs.Entry.{unmarked, SoundScript, CompleteScript, script_walk}
@@ -40,30 +41,32 @@ module _ (text : List ℕ) (t : State) where
   -- a clean report is of a tree that the text spells
   pub clean_is_spelled : (answer : Result (Script Held) Error) (s : State) → s ≡ start_of text → IfOk answer (λ x. SoundScript 1000 (unmarked s) (view_script x) t)
       → (fs : List Fault) → fs ≡ t.faults → verdict_of (seen answer) fs ≡ verdict.Clean → (x : Tree) × Spells text x × (answer_lines (seen answer) fs ≡ answer_lines (Ok x) [])
+  unfolding Spells
   clean_is_spelled (Ok script) s e h fs g v =
       let x = view_script script in
       let n = no_faults x fs v in
       let a : h.added ≡ [] = sym (h.faults ∙ ap (λ o. o.faults ++ h.added) e) ∙ sym g ∙ n in
-      (x, (t.at, subst (λ o. SpellsScript 1000 o.code o.scope.labels x o.at t.at) e (h.spells a)), ap (answer_lines (Ok x)) n)
+      (x, (t.at, subst (λ o. programs.Spells 1000 programs.script o.code o.scope.labels x o.at t.at) e (h.spells a), h.is_supported a), ap (answer_lines (Ok x)) n)
   clean_is_spelled (Err error) s e h fs g v = cc
 
   -- a tree that the text spells is reported, and nothing beside it
   pub spelled_is_clean : (answer : Result (Script Held) Error) (s : State) → s ≡ start_of text → CompleteScript view_script 1000 (unmarked s) answer t
       → IfErr answer (λ error. ¬ IsOutOfMemory error) → (fs : List Fault) → fs ≡ t.faults → (x : Tree) → Spells text x
       → (verdict_of (seen answer) fs ≡ verdict.Clean) × (answer_lines (seen answer) fs ≡ answer_lines (Ok x) [])
-  spelled_is_clean (Ok script) s e h m fs g x (d, p) =
-      let q : SpellsScript 1000 s.code [] x s.at d = subst (λ o. SpellsScript 1000 o.code [] x o.at d) (sym e) p in
+  unfolding Spells
+  spelled_is_clean (Ok script) s e h m fs g x (d, p, known) =
+      let q : programs.Spells 1000 programs.script s.code [] x s.at d = subst (λ o. programs.Spells 1000 programs.script o.code [] x o.at d) (sym e) p in
       let l : s.scope.labels ≡ [] = ap (λ o. o.scope.labels) e in
       let w : script_walk s x ≡ [] = ap (λ z. walk (env_of (script_code s.code) z) x) l ∙ q.1 in
-      let k = h x d q.0 (inl w) in
+      let k = h x d (q.0, known) (inl w) in
       let y : x ≡ view_script script = ap (tree_of x) k in
       let u : fs ≡ [] = g ∙ sym (ap (λ o. (state_of s o).faults) k) ∙ ap (λ z. s.faults ++ z) w ∙ append-nil s.faults ∙ ap (λ o. o.faults) e in
       (ap (verdict_of (Ok (view_script script))) u, ap (λ z. answer_lines (Ok (view_script script)) z) u ∙ ap (λ z. answer_lines (Ok z) []) (sym y))
-  spelled_is_clean (Err error) s e h m fs g x (d, p) =
-      let q : SpellsScript 1000 s.code [] x s.at d = subst (λ o. SpellsScript 1000 o.code [] x o.at d) (sym e) p in
+  spelled_is_clean (Err error) s e h m fs g x (d, p, known) =
+      let q : programs.Spells 1000 programs.script s.code [] x s.at d = subst (λ o. programs.Spells 1000 programs.script o.code [] x o.at d) (sym e) p in
       let l : s.scope.labels ≡ [] = ap (λ o. o.scope.labels) e in
       let w : script_walk s x ≡ [] = ap (λ z. walk (env_of (script_code s.code) z) x) l ∙ q.1 in
-      never (fault_of error) _ x _ (h x d q.0 (inl w) m)
+      never (fault_of error) _ x _ (h x d (q.0, known) (inl w) m)
 
 -- neither of two tests holds
 pub neither : (a b : Bool) → (a || b) ≡ false → (a ≡ false) × (b ≡ false)

@@ -1,12 +1,13 @@
 -- The scripts that a text spells, in the settings and within the limit that the program reads with.
-use Rattle.std.specs.Prelude.{ℕ, false, List, []}
+use Rattle.std.specs.Prelude.{◌≡◌, ℕ, true, false, List, []}
 use Rattle.std.specs.Str.{chars}
 use Rattle.swc_ecma_parser_input.specs.Setting.{plain_setting, plain}
 use Rattle.swc_ecma_parser_input.specs.Place as place
 use Rattle.swc_ecma_parser_input.specs.Place.{Place}
 use Rattle.swc_ecma_parser_model.specs.Tree.{Tree}
 use Rattle.swc_ecma_parser_grammar.specs.Names.{Code}
-use Rattle.swc_ecma_parser_grammar.specs.Entries.{SpellsScript}
+use Rattle.swc_ecma_parser_grammar.specs.Supported.{supported}
+use Rattle.swc_ecma_parser_grammar.specs.language.Programs as programs
 use Rattle.swc_ecma_parser_reader.specs.State.{State}
 use Rattle.swc_ecma_parser_state.specs.Opened.{opened}
 use Rattle.swc_ecma_parser_lexer.specs.Source as source
@@ -21,9 +22,9 @@ outside = record { flags = default_context; setting = plain_setting }
 abbrev pub first_place : List ℕ → Place
 first_place text = place.outset (record { 0 = 0 }) (tokens 0 0 false (chars text))
 
--- a tree that a text spells, at most 1,000 levels deep
-abbrev pub Spells : List ℕ → Tree → Type 0
-Spells text x = (d : Place) × SpellsScript 1000 outside [] x (first_place text) d
+-- a tree that a text spells as a script of the language, at most 1,000 levels deep, and of the forms that are read so far
+unfoldable pub Spells : List ℕ → Tree → Type 0
+Spells text x = (d : Place) × programs.Spells 1000 programs.script outside [] x (first_place text) d × (supported x ≡ true)
 
 -- a parser of a text, before anything was read
 abbrev pub start_of : List ℕ → State

@@ -91,8 +91,8 @@ fn parser_of(alloc: Global, text: &str) -> Parser<Lexer<'_>>
     Parser::new(alloc, Syntax::default(), input, false)
 }
 
-/// Parses a text as a script. The report is clean exactly where the text spells a tree, and then its lines are that tree's,
-/// unless memory runs out.
+/// Parses a text as a script. The report is clean exactly where the text spells a tree of the forms that are read so far, and
+/// then its lines are that tree's, unless memory runs out.
 pub fn parse(alloc: Global, text: &str) -> Result<Report, Fault>
     requires { length text.now < 2 ^ 32 }
     ensures clean { IfOk result (λ report. report.verdict ≡ Verdict.Clean

@@ -92,8 +92,8 @@ pub fn run<R: Read, W: Write, E: Write>(
     ensures end { result < 3 → IsAtEnd (R.remaining input.new) }
     ensures quiet { result < 3 → errors.new ≡ errors.old }
 
-    // Status 0 says that the text spells a tree and that its lines were written; a text that does ends with no other
-    // status, but that of a fault.
+    // Status 0 says that the text spells a tree of the forms that are read so far and that its lines were written; a text
+    // that does ends with no other status, but that of a fault.
     ensures clean { result ≡ 0 → IfSome (R.remaining input.old) (λ xs. (x : Tree) × Spells xs x
         × Appends (W.contents output.old) (W.contents output.new) (answer_lines (Ok x) [])) }
     ensures spelled { IfSome (R.remaining input.old) (λ xs. (x : Tree) → Spells xs x → (result ≡ 0) ⊎ (result ≡ 3)) }

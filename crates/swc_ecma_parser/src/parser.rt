@@ -77,11 +77,11 @@ impl<I: Tokens> Parser<I> {
     pub fn parse_script(&mut self) -> PResult<Script>
         ensures limit { self.new.limit ≡ self.old.limit }
 
-        // Of any answer: it takes the whole list; with no fault recorded it is in the grammar within the limit; and its
-        // tabled faults are its walk where no error token stands and nothing was dropped.
+        // Of any answer: it takes the whole list; with no fault recorded the list spells it within the limit, and it
+        // is supported; and its tabled faults are its walk where no error token stands and nothing was dropped.
         ensures sound { IfOk result (λ x. SoundScript self.old.limit (unmarked self.old.state) (view_script x) self.new.state) }
 
-        // Each tree within the limit that spells the list is the answer, and only it, with its walk recorded.
+        // Each supported tree within the limit that spells the list is the answer, and only it, with its walk recorded.
         ensures complete { CompleteScript view_script self.old.limit (unmarked self.old.state) result self.new.state }
 
         // No token of an answer is one that memory ran out for.

@@ -1,2 +1,26 @@
-pub mod Depths
+pub mod Stops
+pub mod Widens
+pub mod Narrows
+pub mod FewFlags
+pub mod Tabled
+pub mod language
 mod Examples
+mod Spelling
+mod SpellingParts
+mod SpelledExpressions
+mod SpelledPatterns
+mod SpelledFunctions
+mod Beginnings
+mod Inversions
+mod Unspelled
+mod UnspelledPatterns
+mod UnspelledAwait
+mod SpellingItems
+mod SpelledStatements
+mod SpelledLoops
+mod SpelledItems
+mod ReadWithFaults
+mod ExpressionBegins
+mod StatementBegins
+mod UnspelledStatements
+mod UnspelledItems

@@ -11,7 +11,6 @@ use Rattle.swc_ecma_parser_model.specs.Tree.{Tree, Text, listed}
 use Rattle.swc_ecma_parser_grammar.specs.Looks.{kind_at, sees, same_kind, spanned}
 use Rattle.swc_ecma_parser_grammar.specs.Names.{Code}
 use Rattle.swc_ecma_parser_grammar.specs.Reads.{ReadsToken, ReadsItems, ReadsStmt, top_item}
-use Rattle.swc_ecma_parser_grammar.specs.Walk.{walk, env_of}
 
 -- a script is no module code
 abbrev pub script_code : Code → Code
@@ -31,10 +30,6 @@ pub record ReadsScript (n : ℕ) (k : Code) (x : Tree) (c d : Place) : Type 0 wh
   pub reads_items : ReadsItems (λ j. ReadsStmt n j top_item) (script_code k) true items first d
   pub whole : kind_at d ≡ kind.End
   pub is : x ≡ tree.script (spanned c d) (listed items) shebang
-
--- it is read, and the walk finds nothing
-abbrev pub SpellsScript : ℕ → Code → List Text → Tree → Place → Place → Type 0
-SpellsScript n k labels x c d = ReadsScript n k x c d × (walk (env_of (script_code k) labels) x ≡ [])
 
 -- no error token stands in the list
 abbrev pub has_error_token : List TokenAndSpan → Bool

@@ -9,3 +9,5 @@ pub mod Notes
 pub mod Own
 pub mod Walk
 pub mod Levels
+pub mod Supported
+pub mod language

@@ -50,3 +50,23 @@ first_is_name c (t ∷ ts) = token_is_name c t.token
 
 unfoldable pub name_at : Context → Place → Bool
 name_at f c = first_is_name f c.left
+
+-- A word that is not reserved here: what stands where a name is asked for, and what begins an expression.
+unfoldable pub is_identifier : Context → Text → Bool
+is_identifier c text = not (is_reserved c text)
+
+-- A name that is no fault: `await` is none in module code, in async code and in static blocks.
+unfoldable pub is_clean_name : Context → Text → Bool
+is_clean_name c text = is_identifier c text && not (bytes_eq text (codes "await") && (c.module || (c.in_async || c.in_static_block)))
+
+-- whether a word that is not reserved stands first
+abbrev pub token_is_identifier : Context → Token → Bool
+token_is_identifier c (token.Word w) = is_identifier c (word_text w)
+token_is_identifier c _ = false
+
+abbrev pub first_is_identifier : Context → List TokenAndSpan → Bool
+first_is_identifier c [] = false
+first_is_identifier c (t ∷ ts) = token_is_identifier c t.token
+
+unfoldable pub identifier_at : Context → Place → Bool
+identifier_at f c = first_is_identifier f c.left

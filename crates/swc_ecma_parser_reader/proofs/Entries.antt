@@ -8,6 +8,7 @@ use Rattle.swc_ecma_parser_token.specs.declared.token.Token.TheVariants as token
 use Rattle.swc_ecma_parser_token.specs.declared.token.TokenAndSpan.{TokenAndSpan}
 use Rattle.swc_ecma_parser_model.specs.Tree.{Tree}
 use Rattle.swc_ecma_parser_grammar.specs.Entries.{script_code}
+use Rattle.swc_ecma_parser_grammar.proofs.Narrows.{script_narrows}
 use Rattle.swc_ecma_parser_reader.specs.State.{State, Outcome, coded}
 use Rattle.swc_ecma_parser_reader.specs.Reader.{script_body, script}
 use Rattle.swc_ecma_parser_reader.specs.Entry.{SoundScript, CompleteScript, AnswersScript}
@@ -37,8 +38,8 @@ module _ (X : Type 0) (view : X → Tree) (limit : ℕ) (s : State) where
   never_both f u x v h g = cc
 
   pub entry_complete : (r : Result X Error) (t : State) → AnswersScript view limit s r t → CompleteScript view limit s r t
-  entry_complete (Ok y) t h = λ x d k g. sym (script_reads limit s x d k) ∙ h
-  entry_complete (Err e) t h = λ x d k g n. never_both (fault_of e) _ x _ (h n).1 (script_reads limit s x d k)
+  entry_complete (Ok y) t h = λ x d k g. sym (script_reads limit s x d (script_narrows limit s.code x s.at d k.0 k.1)) ∙ h
+  entry_complete (Err e) t h = λ x d k g n. never_both (fault_of e) _ x _ (h n).1 (script_reads limit s x d (script_narrows limit s.code x s.at d k.0 k.1))
 
   -- an answer has read no token for which there was no memory
   pub entry_memory : (r : Result X Error) (t : State) → AnswersScript view limit s r t → IfOk r (λ x. has_out_of_memory_token s.at.left ≡ false)

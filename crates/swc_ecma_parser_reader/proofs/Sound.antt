@@ -36,6 +36,7 @@ use Rattle.swc_ecma_parser_grammar.specs.Entries.{ReadsScript, ReadsShebang, som
 use Rattle.swc_ecma_parser_grammar.specs.Walk as walks
 use Rattle.swc_ecma_parser_grammar.specs.Walk.{walk, env_of, tabled, drops}
 use Rattle.swc_ecma_parser_grammar.specs.Notes.{notes, all_notes, statement_note}
+use Rattle.swc_ecma_parser_grammar.proofs.Widens.{script_widens, script_supported}
 use Rattle.swc_ecma_parser_reader.specs.State.{State, Reader, moved, coded, flagged, within, noted, module_fault, fault, recorded_in, recorded_at, fault_at, expect, end, name, name_in, name_by}
 use Rattle.swc_ecma_parser_reader.specs.Reader.{literal_of, literal_in, taken, literal, ident_expr, paren, paren_or_none, literal_or, primary, closed, whole_expr, expr, binding, pat, empty, debugger, plain_declarator, declarator, declarators_turn, declarators, var, closes, at_end, close, directs, items_turn, items, block, note_statement, no_label, expr_stmt, expr_stmt_at, stmt_by, stmt_level, stmt, shebang_of, shebang_in, shebang_taken, shebang, script_body, script}
 use Rattle.swc_ecma_parser_reader.specs.Entry.{SoundScript}
@@ -571,7 +572,8 @@ script_is n s x t ((f, keeps, p), e) =
       whole = e;
       added = p.added;
       faults = p.faults;
-      spells = λ h. (spelled h, sym (p.walked (script_spares n s.code x s.at t.at (spelled h)) (ap drops h)) ∙ ap tabled h);
+      spells = λ h. (script_widens n s.code x s.at t.at (spelled h), sym (p.walked (script_spares n s.code x s.at t.at (spelled h)) (ap drops h)) ∙ ap tabled h);
+      is_supported = λ h. script_supported n s.code x s.at t.at (spelled h);
       walked = p.walked;
     }
 

@@ -1,5 +1,5 @@
 -- What an entry gives, by the grammar and the walk alone.
-use Rattle.std.specs.Prelude.{◌≡◌, ◌≢◌, ℕ, false, ◌⊎◌, List, [], ◌++◌, None, Result, Ok, Err}
+use Rattle.std.specs.Prelude.{◌≡◌, ◌≢◌, ℕ, true, false, ◌⊎◌, List, [], ◌++◌, None, Result, Ok, Err}
 use Rattle.swc_ecma_parser_error.specs.declared.error.Error.{Error}
 use Rattle.swc_ecma_parser_error.specs.Kind.{Fault, fault_of, kind_of, OutOfMemory}
 use Rattle.swc_ecma_parser_token.specs.declared.kind.TokenKind.TheVariants as kind
@@ -7,7 +7,10 @@ use Rattle.swc_ecma_parser_input.specs.Place.{Place}
 use Rattle.swc_ecma_parser_model.specs.Tree.{Tree}
 use Rattle.swc_ecma_parser_grammar.specs.Looks.{kind_at}
 use Rattle.swc_ecma_parser_grammar.specs.Names.{Code}
-use Rattle.swc_ecma_parser_grammar.specs.Entries.{ReadsScript, SpellsScript, script_code, has_error_token}
+use Rattle.swc_ecma_parser_grammar.specs.Entries.{script_code, has_error_token}
+use Rattle.swc_ecma_parser_grammar.specs.Supported.{supported}
+use Rattle.swc_ecma_parser_grammar.specs.language.Programs as programs
+use Rattle.swc_ecma_parser_grammar.specs.language.Programs.{ReadsEntry, Spells}
 use Rattle.swc_ecma_parser_grammar.specs.Notes.{notes}
 use Rattle.swc_ecma_parser_grammar.specs.Walk.{walk, env_of, tabled, drops}
 use Rattle.swc_ecma_parser_reader.specs.State.{State, GivesAs}
@@ -21,30 +24,36 @@ script_walk s x = walk (env_of (script_code s.code) s.scope.labels) x
 abbrev pub script_left : State → Tree → Place → State
 script_left s x d = record s { at = d; code = script_code s.code; faults = s.faults ++ script_walk s x; held_back = s.held_back ++ notes x }
 
--- An answer: it takes the whole list; where nothing was recorded the list spells it: it is in the grammar and its walk is
--- empty; and where no error token stands and nothing was dropped, the faults of the table among those recorded are the walk's.
+-- An answer: it takes the whole list; where nothing was recorded the list spells it as a script of the language, it has supported
+-- forms alone, and its walk is empty; and where no error token stands and nothing was dropped, the faults of the table among
+-- those recorded are the walk's.
 pub record SoundScript (limit : ℕ) (s : State) (x : Tree) (t : State) : Type 0 where
   pub code : t.code ≡ script_code s.code
   pub scope : t.scope ≡ s.scope
   pub whole : kind_at t.at ≡ kind.End
   pub added : List Fault
   pub faults : t.faults ≡ s.faults ++ added
-  pub spells : added ≡ [] → SpellsScript limit s.code s.scope.labels x s.at t.at
+  pub spells : added ≡ [] → Spells limit programs.script s.code s.scope.labels x s.at t.at
+  pub is_supported : added ≡ [] → supported x ≡ true
   pub walked : has_error_token s.at.left ≡ false → drops added ≡ false → tabled added ≡ script_walk s x
 
--- at most one tree within a limit spells a list, and it ends in one place
+-- a script of the language within a limit, of supported forms alone
+abbrev pub ReadsSupported : ℕ → Code → Tree → Place → Place → Type 0
+ReadsSupported limit k x c d = ReadsEntry limit programs.script k x c d × (supported x ≡ true)
+
+-- at most one supported tree within a limit spells a list, and it ends in one place
 abbrev pub IsOneScript : Type 0
-IsOneScript = (limit : ℕ) (k : Code) (x y : Tree) (c d e : Place) → ReadsScript limit k x c d → ReadsScript limit k y c e → (x ≡ y) × (d ≡ e)
+IsOneScript = (limit : ℕ) (k : Code) (x y : Tree) (c d e : Place) → ReadsSupported limit k x c d → ReadsSupported limit k y c e → (x ≡ y) × (d ≡ e)
 
 -- a state as a call begins: nothing is marked
 abbrev pub unmarked : State → State
 unmarked s = record s { scope = record s.scope { mark = None } }
 
--- A tree within the limit that spells the list is the answer, with the faults of the walk and no others, unless memory ran
+-- A supported tree within the limit that spells the list is the answer, with the faults of the walk and no others, unless memory ran
 -- out; where the walk finds some, no error token may stand in the list.
 abbrev pub CompleteScript : {X : Type 0} → (X → Tree) → ℕ → State → Result X Error → State → Type 0
 CompleteScript view limit s result t =
-    (x : Tree) (d : Place) → ReadsScript limit s.code x s.at d → (script_walk s x ≡ []) ⊎ (has_error_token s.at.left ≡ false) → GivesAs view (Ok (x, script_left s x d)) result t
+    (x : Tree) (d : Place) → ReadsSupported limit s.code x s.at d → (script_walk s x ≡ []) ⊎ (has_error_token s.at.left ≡ false) → GivesAs view (Ok (x, script_left s x d)) result t
 
 -- after a refusal: the context is as before the call, no label is left, and the note is as before
 pub record IsRestored (s t : State) : Type 0 where

@@ -8,7 +8,7 @@ ghost use Rattle.swc_ecma_parser_reader.specs.Entry.{IsOneScript};
 
 pub use mark::Mark;
 
-/// A law: at most one tree within a limit spells a list of tokens as a script, and it takes the same tokens.
+/// A law: at most one supported tree within a limit spells a list of tokens as a script, and it takes the same tokens.
 pub fn one_script()
     ensures { IsOneScript }
 {}

@@ -1,4 +1,4 @@
-use Rattle.swc_ecma_parser_grammar.proofs.Depths.{levels_are_depth}
+use Rattle.swc_ecma_parser_grammar.proofs.language.Depths.{levels_are_depth}
 use Rattle.swc_ecma_parser_grammar.proofs.within_levels.Goals as goal
 
 pub returns : goal.returns

@@ -1,0 +1,265 @@
+-- What the rules of the first forms read, the whole language reads, and it is supported.
+use Rattle.std.proofs.Common.{◌≡◌, ℕ, zero, suc, Bool, true, false, List, [], ◌∷◌, Option, refl, sym, ◌∙◌, ap}
+use Rattle.std.specs.Prelude.{not, ◌&&◌, ◌||◌, codes}
+use Rattle.std.specs.Str.{bytes_eq}
+use denote.Enum.Bare.{true_same}
+use Rattle.swc_ecma_parser_common.specs.declared.span.Span.{Span}
+use Rattle.swc_ecma_parser_token.specs.contracts.kind.TokenKind.{the_type}
+use Rattle.swc_ecma_parser_token.specs.declared.kind.TokenKind.{TokenKind}
+use Rattle.swc_ecma_parser_token.specs.declared.kind.TokenKind.TheVariants as kind
+use Rattle.swc_ecma_parser_token.specs.declared.keyword.Keyword.TheVariants as keyword
+use Rattle.swc_ecma_parser_token.specs.declared.token.Token.{Token}
+use Rattle.swc_ecma_parser_token.specs.declared.token.Token.TheVariants as token
+use Rattle.swc_ecma_parser_token.specs.declared.token.Word.{Word}
+use Rattle.swc_ecma_parser_token.specs.declared.token.Word.TheVariants as word
+use Rattle.swc_ecma_parser_token.specs.Kind.{token_kind, word_kind}
+use Rattle.swc_ecma_parser_token.specs.Text.{word_text}
+use Rattle.swc_ecma_parser_input.specs.declared.context.Context.{Context}
+use Rattle.swc_ecma_parser_input.specs.Place.{Place, after}
+use Rattle.swc_ecma_parser_model.specs.declared.leaves.VarDeclKind.TheVariants as decl
+use Rattle.swc_ecma_parser_model.specs.Tree.{Tree, Text, trees}
+use Rattle.swc_ecma_parser_model.specs.Forms.{is_ident_named, is_binding_name}
+use Rattle.swc_ecma_parser_grammar.specs.declared.position.Position.{Position}
+use Rattle.swc_ecma_parser_grammar.specs.Looks.{kind_at, breaks_at, sees, same_kind}
+use Rattle.swc_ecma_parser_grammar.specs.Names.{Code, is_reserved, is_name, is_identifier, is_clean_name}
+use Rattle.swc_ecma_parser_grammar.specs.Follows.{is_async_function, word_at}
+use Rattle.swc_ecma_parser_grammar.specs.Reads.{with_in, directed, directs_on, nested_item, top_item, ReadsToken, PrimaryRule, name_rule, string_rule, number_rule, big_int_rule, null_rule, true_rule, false_rule, paren_rule, ReadsExpr, binding_rule, ReadsPat, DeclaratorRule, plain_rule, ReadsSeparated, ReadsItems, StmtRule, block_rule, empty_rule, debugger_rule, var_rule, expr_rule, ReadsStmt}
+use Rattle.swc_ecma_parser_grammar.specs.Entries.{ReadsScript, ReadsShebang, some_shebang, no_shebang, script_code}
+use Rattle.swc_ecma_parser_grammar.specs.Supported.{supported, all_supported}
+use Rattle.swc_ecma_parser_grammar.specs.language.Goals.{Goal, expr_goal, expression, pattern_goal, binding, stmt_goal}
+use Rattle.swc_ecma_parser_grammar.specs.language.Begins.{awaits}
+use Rattle.swc_ecma_parser_grammar.specs.language.Parts.{ReadsName}
+use Rattle.swc_ecma_parser_grammar.specs.language.LeftSides as sides
+use Rattle.swc_ecma_parser_grammar.specs.language.Patterns as patterns
+use Rattle.swc_ecma_parser_grammar.specs.language.Expressions as expressions
+use Rattle.swc_ecma_parser_grammar.specs.language.Declarations as declarations
+use Rattle.swc_ecma_parser_grammar.specs.language.Items.{ItemsRule}
+use Rattle.swc_ecma_parser_grammar.specs.language.Statements as statements
+use Rattle.swc_ecma_parser_grammar.specs.language.Statements.{may_begin_at_top}
+use Rattle.swc_ecma_parser_grammar.specs.language.Reads.{Reads}
+use Rattle.swc_ecma_parser_grammar.specs.language.Programs as programs
+use Rattle.swc_ecma_parser_grammar.specs.language.Programs.{ReadsEntry}
+use Rattle.swc_ecma_parser_grammar.proofs.Stops.{and_yes, and_both, no_and, NoWord, paren_closes, ends_close, word_async, stops_whole, stops_function}
+
+-- ---- names
+
+clean_by : (r a m : Bool) → (not r && not a) ≡ true → (not r && not (a && m)) ≡ true
+clean_by true a m h = h
+clean_by false true m h = cc
+clean_by false false m h = refl
+
+-- a name other than `await` is no fault anywhere
+name_is_clean : (f : Context) (text : Text) → is_name f text ≡ true → is_clean_name f text ≡ true
+unfolding is_name is_clean_name is_identifier
+name_is_clean f text h = clean_by (is_reserved f text) (bytes_eq text (codes "await")) _ h
+
+name_supported : (f : Context) (text : Text) → is_name f text ≡ true → not (bytes_eq text (codes "await")) ≡ true
+unfolding is_name
+name_supported f text h = (and_yes (not (is_reserved f text)) _ h).1
+
+name_read : (k : Code) (w : Word) (s : Span) (c d : Place) → ReadsToken (token.Word w) s c d → is_name k.flags (word_text w) ≡ true → ReadsName k (word_text w) s c d
+name_read k w s c d r h = record { word = w; reads_word = r; is_text = refl; is_name = name_is_clean k.flags (word_text w) h }
+
+-- ---- what an expression begins with: neither `await` nor `import`
+
+abbrev pub Begins : TokenKind → Type 0
+Begins j = (same_kind j kind.Await ≡ false) × (same_kind j kind.Import ≡ false)
+
+word_begins : (f : Context) (w : Word) → is_name f (word_text w) ≡ true → Begins (word_kind w)
+unfolding is_name is_reserved same_kind
+word_begins f (word.Keyword keyword.Await) h = let g = name_supported f (codes "await") h in cc
+word_begins f (word.Keyword keyword.Import) h = cc
+word_begins f _ h = (refl, refl)
+
+token_begins : (t : Token) (s : Span) (c d : Place) → ReadsToken t s c d → Begins (token_kind t) → Begins (kind_at c)
+unfolding kind_at
+token_begins t s c d r h = rw r.is h
+
+pub primary_begins : (Inner : Code → Tree → Place → Place → Type 0) (k : Code) (x : Tree) (c d : Place) → PrimaryRule Inner k x c d → Begins (kind_at c)
+unfolding same_kind
+primary_begins Inner k x c d (name_rule w s r h e) = token_begins (token.Word w) s c d r (word_begins k.flags w h)
+primary_begins Inner k x c d (string_rule value raw s r e) = token_begins (token.Str value raw) s c d r (refl, refl)
+primary_begins Inner k x c d (number_rule raw s r e) = token_begins (token.Num raw) s c d r (refl, refl)
+primary_begins Inner k x c d (big_int_rule raw s r e) = token_begins (token.BigInt raw) s c d r (refl, refl)
+primary_begins Inner k x c d (null_rule s r e) = token_begins (token.Word word.Null) s c d r (refl, refl)
+primary_begins Inner k x c d (true_rule s r e) = token_begins (token.Word word.True) s c d r (refl, refl)
+primary_begins Inner k x c d (false_rule s r e) = token_begins (token.Word word.False) s c d r (refl, refl)
+primary_begins Inner k x c d (paren_rule y m h r g i e) = rw h (refl, refl)
+
+no_await : (f : Context) (c : Place) → sees kind.Await c ≡ false → awaits f c ≡ false
+unfolding awaits
+no_await f c h = no_and _ _ h
+
+-- ---- expressions
+
+-- no function begins at the word of a name
+no_function_here : (w : Word) (s : Span) (x : Tree) (c d : Place) → ReadsToken (token.Word w) s c d → is_ident_named (codes "async") x ≡ bytes_eq (word_text w) (codes "async")
+    → (is_ident_named (codes "async") x && (sees kind.Function d && not (breaks_at d))) ≡ false → is_async_function c ≡ false
+unfolding is_async_function word_at
+no_function_here w s x c d r e h = let a : word_at (codes "async") c ≡ is_ident_named (codes "async") x = rw r.is (sym (e ∙ word_async w)) in rw (a, ← r.next) h
+
+module _ (Inner : Code → Tree → Place → Place → Type 0) (small : (k : Code) (x : Tree) (c d : Place) → Inner k x c d → supported x ≡ true) where
+  primary_supported : (k : Code) (x : Tree) (c d : Place) → PrimaryRule Inner k x c d → supported x ≡ true
+  primary_supported k x c d (name_rule w s r h e) = ap supported e ∙ name_supported k.flags (word_text w) h
+  primary_supported k x c d (string_rule value raw s r e) = ap supported e
+  primary_supported k x c d (number_rule raw s r e) = ap supported e
+  primary_supported k x c d (big_int_rule raw s r e) = ap supported e
+  primary_supported k x c d (null_rule s r e) = ap supported e
+  primary_supported k x c d (true_rule s r e) = ap supported e
+  primary_supported k x c d (false_rule s r e) = ap supported e
+  primary_supported k x c d (paren_rule y m h r g i e) = ap supported e ∙ small (with_in k) y (after c) m r
+
+module _ (Inner : Code → Tree → Place → Place → Type 0) (In : Goal → Type 0)
+    (widen : (k : Code) (x : Tree) (c d : Place) → Inner k x c d → NoWord d → In (expr_goal expression k x c d)) where
+  primary_widens : (k : Code) (x : Tree) (c d : Place) → PrimaryRule Inner k x c d → (is_ident_named (codes "async") x && (sees kind.Function d && not (breaks_at d))) ≡ false
+      → sides.PrimaryRule In k x c d
+  primary_widens k x c d (name_rule w s r h e) f =
+      sides.name_rule (word_text w) s (name_read k w s c d r h) (no_function_here w s x c d r (ap (is_ident_named (codes "async")) e) f) e
+  primary_widens k x c d (string_rule value raw s r e) f = sides.string_rule value raw s r e
+  primary_widens k x c d (number_rule raw s r e) f = sides.number_rule raw s r e
+  primary_widens k x c d (big_int_rule raw s r e) f = sides.big_int_rule raw s r e
+  primary_widens k x c d (null_rule s r e) f = sides.null_rule s r e
+  primary_widens k x c d (true_rule s r e) f = sides.true_rule s r e
+  primary_widens k x c d (false_rule s r e) f = sides.false_rule s r e
+  primary_widens k x c d (paren_rule y m h r g i e) f = sides.paren_rule y m h (widen (with_in k) y (after c) m r (paren_closes m g)) g i e
+
+pub expr_supported : (n : ℕ) (k : Code) (x : Tree) (c d : Place) → ReadsExpr n k x c d → supported x ≡ true
+expr_supported zero k x c d h = absurd h
+expr_supported (suc n) k x c d h = primary_supported (ReadsExpr n) (expr_supported n) k x c d h.0
+
+expr_widens : (n : ℕ) (k : Code) (x : Tree) (c d : Place) → ReadsExpr n k x c d → NoWord d → Reads n (expr_goal expression k x c d)
+expr_widens zero k x c d h w = absurd h
+expr_widens (suc n) k x c d h w =
+    let stops = stops_whole k x c d (expr_supported (suc n) k x c d h) w h.1 in
+    let primary = primary_widens (ReadsExpr n) (Reads n) (expr_widens n) k x c d h.0 (stops_function k x d h.1) in
+    let begins = no_await k.flags c (primary_begins (ReadsExpr n) k x c d h.0).0 in
+    expressions.assignment_rule (expressions.operators_rule (expressions.single_rule (expressions.operand_rule (sides.primary_rule primary, begins))) stops.0) stops.1
+
+-- ---- binding patterns and declarators
+
+pat_supported : (n : ℕ) (k : Code) (x : Tree) (c d : Place) → ReadsPat n k x c d → supported x ≡ true
+pat_supported zero k x c d h = absurd h
+pat_supported (suc n) k x c d (binding_rule w s r h e) = ap supported e ∙ name_supported k.flags (word_text w) h
+
+pat_widens : (n : ℕ) (k : Code) (x : Tree) (c d : Place) → ReadsPat n k x c d → Reads n (pattern_goal binding k x c d)
+pat_widens zero k x c d h = absurd h
+pat_widens (suc n) k x c d (binding_rule w s r h e) = patterns.binding_name_rule (word_text w) s refl (name_read k w s c d r h) e
+
+pat_is_name : (n : ℕ) (k : Code) (x : Tree) (c d : Place) → ReadsPat n k x c d → is_binding_name x ≡ true
+pat_is_name zero k x c d h = absurd h
+pat_is_name (suc n) k x c d (binding_rule w s r h e) = ap is_binding_name e
+
+declarator_supported : (n : ℕ) (k : Code) (x : Tree) (c d : Place) → DeclaratorRule (ReadsPat n) k x c d → supported x ≡ true
+declarator_supported n k x c d (plain_rule p r h e) = ap supported e ∙ and_both _ _ (pat_supported n k p c d r) refl
+
+-- what stands behind `var`, with `in` read as an operator
+declarator_widens : (n : ℕ) (k : Code) (x : Tree) (c d : Place) → DeclaratorRule (ReadsPat n) (with_in k) x c d → declarations.DeclaratorRule (Reads n) (with_in k) false decl.Var x c d
+declarator_widens n k x c d (plain_rule p r h e) =
+    declarations.plain_rule p (pat_widens n (with_in k) p c d r) h (and_both _ _ (pat_is_name n (with_in k) p c d r) refl) e
+
+module _ (Rule Other : Tree → Place → Place → Type 0) (widen : (x : Tree) (c d : Place) → Rule x c d → Other x c d) where
+  -- with commas between, each by itself
+  separated_widen : (xs : List Tree) (c d : Place) → ReadsSeparated Rule xs c d → ReadsSeparated Other xs c d
+  separated_widen [] c d h = h
+  separated_widen (x ∷ []) c d (r, e) = (widen x c d r, e)
+  separated_widen (x ∷ y ∷ ys) c d (m, r, e, rs) = (m, widen x c m r, e, separated_widen (y ∷ ys) (after m) d rs)
+
+module _ (Rule : Tree → Place → Place → Type 0) (small : (x : Tree) (c d : Place) → Rule x c d → supported x ≡ true) where
+  separated_supported : (xs : List Tree) (c d : Place) → ReadsSeparated Rule xs c d → all_supported (trees xs) ≡ true
+  separated_supported [] c d h = absurd h
+  separated_supported (x ∷ []) c d (r, e) = and_both _ _ (small x c d r) refl
+  separated_supported (x ∷ y ∷ ys) c d (m, r, e, rs) = and_both _ _ (small x c m r) (separated_supported (y ∷ ys) (after m) d rs)
+
+-- ---- statements
+
+either : (b : Bool) → (b || true) ≡ true
+either true = refl
+either false = refl
+
+may_begin : (t a m : Bool) → a ≡ false → (not (t && a) || m) ≡ true
+may_begin true true m h = cc
+may_begin true false m h = refl
+may_begin false a m h = refl
+
+expr_begins : (n : ℕ) (k : Code) (x : Tree) (c d : Place) → ReadsExpr n k x c d → Begins (kind_at c)
+expr_begins zero k x c d h = absurd h
+expr_begins (suc n) k x c d h = primary_begins (ReadsExpr n) k x c d h.0
+
+seen : (c : Place) (j : TokenKind) → kind_at c ≡ j → sees j c ≡ true
+unfolding same_kind
+seen c j e = true_same the_type (kind_at c) j e
+
+module _ (n : ℕ) (small : (k : Code) (at : Position) (x : Tree) (c d : Place) → ReadsStmt n k at x c d → supported x ≡ true) where
+  items_supported : (k : Code) (directives : Bool) (at : Position) (xs : List Tree) (c d : Place) → ReadsItems (λ j. ReadsStmt n j at) k directives xs c d → all_supported (trees xs) ≡ true
+  items_supported k directives at [] c d h = refl
+  items_supported k directives at (x ∷ xs) c d (m, r, rs) = and_both _ _ (small k at x c m r) (items_supported (directed k directives x) (directs_on directives x) at xs m d rs)
+
+  rule_supported : (k : Code) (at : Position) (x : Tree) (c d : Place) → StmtRule (ReadsStmt n) (ReadsExpr n) (ReadsPat n) k at x c d → supported x ≡ true
+  rule_supported k at x c d (block_rule xs m h r g i e) = ap supported e ∙ items_supported k false nested_item xs (after c) m r
+  rule_supported k at x c d (empty_rule h g e) = ap supported e
+  rule_supported k at x c d (debugger_rule h g e) = ap supported e
+  rule_supported k at x c d (var_rule xs m h r g e) =
+      ap supported e ∙ separated_supported (DeclaratorRule (ReadsPat n) (with_in k)) (declarator_supported n (with_in k)) xs (after c) m r
+  rule_supported k at x c d (expr_rule y m h r a b g e) = ap supported e ∙ expr_supported n (with_in k) y c m r
+
+stmt_supported : (n : ℕ) (k : Code) (at : Position) (x : Tree) (c d : Place) → ReadsStmt n k at x c d → supported x ≡ true
+stmt_supported zero k at x c d h = absurd h
+stmt_supported (suc n) k at x c d h = rule_supported n (stmt_supported n) k at x c d h
+
+module _ (n : ℕ) (widen : (k : Code) (at : Position) (x : Tree) (c d : Place) → ReadsStmt n k at x c d → Reads n (stmt_goal k at x c d)) where
+  items_widen : (k : Code) (directives : Bool) (at : Position) (xs : List Tree) (c d : Place) → ReadsItems (λ j. ReadsStmt n j at) k directives xs c d → ItemsRule (Reads n) k directives at xs c d
+  items_widen k directives at [] c d h = h
+  items_widen k directives at (x ∷ xs) c d (m, r, rs) = (m, widen k at x c m r, items_widen (directed k directives x) (directs_on directives x) at xs m d rs)
+
+  form_widens : (k : Code) (at : Position) (x : Tree) (c d : Place) → StmtRule (ReadsStmt n) (ReadsExpr n) (ReadsPat n) k at x c d → statements.FormRule (Reads n) k at x c d
+  form_widens k at x c d (block_rule xs m h r g i e) =
+      statements.block_rule (record { items = xs; close = m; opens = h; reads_items = items_widen k false nested_item xs (after c) m r; closes = g; next = i; is = e })
+  form_widens k at x c d (empty_rule h g e) = statements.empty_rule h g e
+  form_widens k at x c d (debugger_rule h g e) = statements.debugger_rule h g e
+  form_widens k at x c d (var_rule xs m h r g e) =
+      statements.variables_rule decl.Var xs m (either at.include_decl)
+      (seen c kind.Var h, separated_widen (DeclaratorRule (ReadsPat n) (with_in k)) (declarations.DeclaratorRule (Reads n) (with_in k) false decl.Var) (declarator_widens n k) xs (after c) m r) g e
+  form_widens k at x c d (expr_rule y m h r a b g e) = statements.expr_rule y m h (expr_widens n (with_in k) y c m r (ends_close m d g)) a g e
+
+rule_begins : (n : ℕ) (k : Code) (at : Position) (x : Tree) (c d : Place) → StmtRule (ReadsStmt n) (ReadsExpr n) (ReadsPat n) k at x c d → sees kind.Await c ≡ false
+unfolding same_kind
+rule_begins n k at x c d (block_rule xs m h r g i e) = rw h refl
+rule_begins n k at x c d (empty_rule h g e) = rw h refl
+rule_begins n k at x c d (debugger_rule h g e) = rw h refl
+rule_begins n k at x c d (var_rule xs m h r g e) = rw h refl
+rule_begins n k at x c d (expr_rule y m h r a b g e) = (expr_begins n (with_in k) y c m r).0
+
+stmt_widens : (n : ℕ) (k : Code) (at : Position) (x : Tree) (c d : Place) → ReadsStmt n k at x c d → Reads n (stmt_goal k at x c d)
+unfolding may_begin_at_top
+stmt_widens zero k at x c d h = absurd h
+stmt_widens (suc n) k at x c d h = (may_begin at.top_level _ k.flags.can_be_module (rule_begins n k at x c d h), form_widens n (stmt_widens n) k at x c d h)
+
+-- ---- scripts
+
+shebang_widens : (c d : Place) (o : Option Text) → ReadsShebang c d o → programs.ShebangRule c d o
+shebang_widens c d _ (some_shebang text s r) = programs.some_shebang text s r
+shebang_widens c d _ (no_shebang h n) = programs.no_shebang h n
+
+-- a script is no module
+no_module : (n : ℕ) (k : Code) (x : Tree) (c d : Place) → ReadsScript n k x c d → programs.is_module_code (script_code k) x ≡ false
+no_module n k x c d r = ap (programs.is_module_code (script_code k)) r.is
+
+never : {X : Type 0} (b : Bool) → b ≡ false → b ≡ true → X
+never b h g = cc
+
+pub script_widens : (n : ℕ) (k : Code) (x : Tree) (c d : Place) → ReadsScript n k x c d → ReadsEntry n programs.script k x c d
+script_widens n k x c d r = (
+  record {
+    shebang = r.shebang;
+    first = r.first;
+    items = r.items;
+    reads_shebang = shebang_widens c r.first r.shebang r.reads_shebang;
+    reads_items = items_widen n (stmt_widens n) (script_code k) true top_item r.items r.first d r.reads_items;
+    to_the_end = r.whole;
+    is = r.is;
+  },
+  λ m. never (programs.is_module_code (script_code k) x) (no_module n k x c d r) m,
+)
+
+pub script_supported : (n : ℕ) (k : Code) (x : Tree) (c d : Place) → ReadsScript n k x c d → supported x ≡ true
+script_supported n k x c d r = ap supported r.is ∙ items_supported n (stmt_supported n) (script_code k) true top_item r.items r.first d r.reads_items

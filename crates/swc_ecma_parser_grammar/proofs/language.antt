@@ -1,0 +1,10 @@
+pub mod progress
+pub mod Local
+pub mod spans
+pub mod Asked
+pub mod Parts
+pub mod Expressions
+pub mod Statements
+pub mod ModuleItems
+pub mod Shapes
+pub mod Depths

@@ -1,0 +1,82 @@
+-- Variables and what is declared with `using`: ECMA-262, section 14.3, and the proposal on explicit resource management.
+use Rattle.std.specs.Prelude.{◌≡◌, Bool, true, false, not, ◌&&◌, ◌||◌, List, codes}
+use Rattle.swc_ecma_parser_token.specs.declared.kind.TokenKind.TheVariants as kind
+use Rattle.swc_ecma_parser_input.specs.Place.{Place, after}
+use Rattle.swc_ecma_parser_model.specs.declared.leaves.VarDeclKind.{VarDeclKind}
+use Rattle.swc_ecma_parser_model.specs.declared.leaves.VarDeclKind.TheVariants as decl
+use Rattle.swc_ecma_parser_model.specs.Tree as tree
+use Rattle.swc_ecma_parser_model.specs.Tree.{Tree, listed}
+use Rattle.swc_ecma_parser_model.specs.Forms.{is_binding_name}
+use Rattle.swc_ecma_parser_grammar.specs.declared.position.Position.{Position}
+use Rattle.swc_ecma_parser_grammar.specs.Looks.{kind_at, breaks_at, sees, spanned}
+use Rattle.swc_ecma_parser_grammar.specs.Names.{Code, identifier_at}
+use Rattle.swc_ecma_parser_grammar.specs.Follows.{word_at, is_let_declaration}
+use Rattle.swc_ecma_parser_grammar.specs.Reads.{with_in, ReadsSeparated}
+use Rattle.swc_ecma_parser_grammar.specs.language.Goals.{Goal, expr_goal, assignment, pattern_goal, binding}
+
+-- ---- variables: sections 14.3.1 and 14.3.2
+
+-- the word that begins a declaration of this kind; `let` does so before what can be declared
+abbrev pub begins_variables : VarDeclKind → Place → Bool
+begins_variables decl.Var c = sees kind.Var c
+begins_variables decl.Const c = sees kind.Const c
+begins_variables decl.Let c = is_let_declaration c
+
+abbrev pub is_var : VarDeclKind → Bool
+is_var decl.Var = true
+is_var _ = false
+
+abbrev pub is_const : VarDeclKind → Bool
+is_const decl.Const = true
+is_const _ = false
+
+-- A variable may go without initializer where it is a plain name, in strict code only if it is no `const`, and in the head of a
+-- loop before `in` and `of`. The crate asks for the initializer of a `const` in strict code alone.
+abbrev pub needs_no_initializer : Code → (loop : Bool) → VarDeclKind → Tree → Place → Bool
+needs_no_initializer k loop word name d =
+    (loop && (sees kind.In d || word_at (codes "of") d)) || (is_binding_name name && not (is_const word && k.flags.strict))
+
+-- VariableDeclaration and LexicalBinding. In a pattern `in` is an operator in any case.
+pub data DeclaratorRule (In : Goal → Type 0) (k : Code) (loop : Bool) (word : VarDeclKind) (x : Tree) (c d : Place) : Type 0 where
+  plain_rule : (name : Tree) → In (pattern_goal binding (with_in k) name c d) → sees kind.Assign d ≡ false → needs_no_initializer k loop word name d ≡ true
+      → x ≡ tree.declarator (spanned c d) name tree.absent → DeclaratorRule In k loop word x c d
+  initialized_rule : (name init : Tree) (m : Place) → In (pattern_goal binding (with_in k) name c m) → kind_at m ≡ kind.Assign
+      → In (expr_goal assignment k init (after m) d) → x ≡ tree.declarator (spanned c d) name init → DeclaratorRule In k loop word x c d
+
+-- the word and its declarators, without an end
+abbrev pub VariablesRule : (Goal → Type 0) → Code → (loop : Bool) → VarDeclKind → List Tree → Place → Place → Type 0
+VariablesRule In k loop word xs c d = (begins_variables word c ≡ true) × ReadsSeparated (DeclaratorRule In k loop word) xs (after c) d
+
+-- ---- `using` and `await using`
+
+pub data AwaitWord (is_await : Bool) (c d : Place) : Type 0 where
+  no_await : is_await ≡ false → d ≡ c → AwaitWord is_await c d
+  await_word : is_await ≡ true → kind_at c ≡ kind.Await → d ≡ after c → AwaitWord is_await c d
+
+-- `using` begins a declaration before a name on its line
+unfoldable pub is_using_declaration : Code → Place → Bool
+is_using_declaration k c = word_at (codes "using") c && (identifier_at k.flags (after c) && not (breaks_at (after c)))
+
+-- a plain name with its initializer
+pub record UsingDeclaratorRule (In : Goal → Type 0) (k : Code) (x : Tree) (c d : Place) : Type 0 where
+  pub name : Tree
+  pub init : Tree
+  pub equals : Place
+  pub reads_name : In (pattern_goal binding k name c equals)
+  pub is_name : is_binding_name name ≡ true
+  pub assigns : kind_at equals ≡ kind.Assign
+  pub reads_init : In (expr_goal assignment (with_in k) init (after equals) d)
+  pub is : x ≡ tree.declarator (spanned c d) name init
+
+-- Where declarations are read; behind `await` at the top level of any entry too. As in the crate it has no end: a `;` behind it
+-- is a statement of its own, and `await` and `using` may stand on two lines.
+pub record UsingRule (In : Goal → Type 0) (k : Code) (at : Position) (x : Tree) (c d : Place) : Type 0 where
+  pub is_await : Bool
+  pub word : Place
+  pub declarators : List Tree
+  pub is_read : k.setting.explicit_resource_management ≡ true
+  pub has_place : at.include_decl || (is_await && at.top_level) ≡ true
+  pub reads_await : AwaitWord is_await c word
+  pub begins : is_using_declaration k word ≡ true
+  pub reads : ReadsSeparated (UsingDeclaratorRule In k) declarators (after word) d
+  pub is : x ≡ tree.using (spanned c d) is_await (listed declarators)
