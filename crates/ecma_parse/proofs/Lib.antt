@@ -1,1 +1,3 @@
+pub mod Joined
+mod Reported
 mod Statuses

@@ -1,1 +1,4 @@
 pub mod Command
+pub mod Lines
+pub mod Verdicts
+pub mod Spelled

@@ -4,12 +4,14 @@
 #[cfg(test)]
 mod deep;
 #[cfg(test)]
-mod nodes;
+mod describe;
 #[cfg(test)]
 mod parsers;
 #[cfg(test)]
-mod report;
-#[cfg(test)]
 mod rows;
 #[cfg(test)]
+mod spans;
+#[cfg(test)]
 mod texts;
+#[cfg(test)]
+mod trees;

@@ -1,0 +1,55 @@
+-- The lines that say what a text parses to. Each ends with a line feed, 10.
+use Rattle.std.specs.Prelude.{ℕ, List, [], ◌∷◌, ◌++◌, Result, Ok, Err, codes, decimal}
+use Rattle.std.specs.List.{flat_map}
+use Rattle.swc_ecma_parser_common.specs.declared.span.Span.{Span}
+use Rattle.swc_ecma_parser_error.specs.declared.error.Error.{Error}
+use Rattle.swc_ecma_parser_error.specs.Kind.{Fault, fault_of, name_of}
+use Rattle.swc_ecma_parser_model.specs.Held.{Held}
+use Rattle.swc_ecma_parser_model.specs.Forms.{span_of}
+use Rattle.swc_ecma_parser_model.specs.Tree as tree
+use Rattle.swc_ecma_parser_model.specs.Tree.{Tree, Trees}
+use Rattle.swc_ecma_parser_ast.specs.declared.script.Script.{Script}
+use Rattle.swc_ecma_parser_ast.specs.View.{view_script}
+
+-- `low..high`
+abbrev pub place : Span → List ℕ
+place span = decimal span.lo.0 ++ (codes ".." ++ decimal span.hi.0)
+
+-- a node's line: its kind and its place
+abbrev pub node_line : List ℕ → Span → List ℕ
+node_line kind span = kind ++ (codes " " ++ (place span ++ 10 ∷ []))
+
+-- a fault's line: a word, its place and the name of its kind
+abbrev pub fault_line : List ℕ → Fault → List ℕ
+fault_line word fault = word ++ (codes " " ++ (place fault.span ++ (codes " " ++ (name_of fault.kind ++ 10 ∷ []))))
+
+-- the name of an item's form
+abbrev pub form_name : Tree → List ℕ
+form_name (tree.block s body) = codes "Block"
+form_name (tree.empty s) = codes "Empty"
+form_name (tree.debugger s) = codes "Debugger"
+form_name (tree.var s kind decls) = codes "Var"
+form_name (tree.expr_stmt s e) = codes "Expr"
+form_name _ = []
+
+-- an item's line, two spaces further in
+abbrev pub item_line : Tree → List ℕ
+item_line item = codes "  " ++ node_line (form_name item) (span_of item)
+
+abbrev pub item_lines : Trees → List ℕ
+item_lines tree.none = []
+item_lines (tree.also item items) = item_line item ++ item_lines items
+
+abbrev pub script_lines : Tree → List ℕ
+script_lines (tree.script span (tree.list items) shebang) = node_line (codes "Script") span ++ item_lines items
+script_lines _ = []
+
+-- a tree's lines and then its faults, or the faults and then why there is no tree
+abbrev pub answer_lines : Result Tree Fault → List Fault → List ℕ
+answer_lines (Ok x) faults = script_lines x ++ flat_map (fault_line (codes "fault")) faults
+answer_lines (Err fault) faults = flat_map (fault_line (codes "fault")) faults ++ fault_line (codes "refused") fault
+
+-- an answer as contracts see it
+abbrev pub seen : Result (Script Held) Error → Result Tree Fault
+seen (Ok x) = Ok (view_script x)
+seen (Err e) = Err (fault_of e)

@@ -1,0 +1,111 @@
+//! What a text comes to.
+
+ghost use Rattle.std.specs.Prelude.{◌≡◌, ◌<◌, ◌^◌, ◌||◌, false, IfOk, IfErr, IsErrOf, [], Ok, length, string_bytes};
+ghost use Rattle.swc_ecma_parser_error.specs.Kind.{faults_of, IsOutOfMemory};
+ghost use Rattle.swc_ecma_parser_input.specs.Place as place;
+ghost use Rattle.swc_ecma_parser_model.specs.Tree.{Tree};
+ghost use Rattle.ecma_parse.specs.Lines.{seen, answer_lines};
+ghost use Rattle.ecma_parse.specs.Spelled.{start_of, Spells};
+ghost use Rattle.ecma_parse.specs.Verdicts.{verdict_of};
+
+use crate::fault::Fault;
+use crate::lines::lines;
+use std::alloc::Global;
+use swc_ecma_parser::Parser;
+use swc_ecma_parser::ast::Script;
+use swc_ecma_parser::common::BytePos;
+use swc_ecma_parser::error::{Error, PResult, SyntaxError};
+use swc_ecma_parser::input::Syntax;
+use swc_ecma_parser::lexer::{Lexer, StringInput};
+
+/// How a parse ends.
+#[derive(Clone, Copy, Debug, PartialEq, Eq)]
+pub enum Verdict {
+    /// A tree.
+    Clean,
+    /// A tree, and faults beside it.
+    Faulty,
+    /// No tree.
+    Refused,
+}
+
+/// How a parse ends, and the lines that say what it found.
+#[derive(Debug, Drop)]
+pub struct Report {
+    pub verdict: Verdict,
+    pub lines: String,
+}
+
+/// How a parse with this answer and these faults beside it ends.
+fn judge(answer: &PResult<Script>, faults: &[Error]) -> Verdict
+    ensures { result ≡ verdict_of (seen answer.now) (faults_of faults.now) }
+{
+    match answer {
+        Ok(_) => {
+            if faults.is_empty() {
+                Verdict::Clean
+            } else {
+                Verdict::Faulty
+            }
+        }
+        Err(_) => Verdict::Refused,
+    }
+}
+
+/// Whether memory ran out on the way to an answer.
+fn lacks_memory(answer: &PResult<Script>) -> bool
+    ensures ok { IfOk answer.now (λ _. result ≡ false) }
+    ensures err { IfErr answer.now (λ error. result ≡ false → ¬ IsOutOfMemory error) }
+{
+    match answer {
+        Ok(_) => false,
+        Err(error) => matches!(error.kind(), SyntaxError::OutOfMemory),
+    }
+}
+
+/// Reports an answer and the faults beside it.
+fn reported(alloc: Global, answer: &PResult<Script>, faults: &[Error]) -> Result<Report, Fault>
+    ensures verdict { IfOk result (λ report. report.verdict ≡ verdict_of (seen answer.now) (faults_of faults.now)) }
+    ensures lines { IfOk result (λ report. string_bytes report.lines ≡ answer_lines (seen answer.now) (faults_of faults.now)) }
+    ensures found { IfOk result (λ _. IfErr answer.now (λ error. ¬ IsOutOfMemory error)) }
+    ensures err { IfErr result (λ fault. fault ≡ Fault.OutOfMemory) }
+{
+    if lacks_memory(answer) {
+        return Err(Fault::OutOfMemory);
+    }
+    Ok(Report {
+        verdict: judge(answer, faults),
+        lines: lines(alloc, answer, faults)?,
+    })
+}
+
+/// A parser of a text, in the default settings.
+fn parser_of(alloc: Global, text: &str) -> Parser<Lexer<'_>>
+    requires { length text.now < 2 ^ 32 }
+    ensures limit { result.limit ≡ 1000 }
+    ensures state { place.lacks_memory (place.first result.state.at.left) ≡ false
+        → place.lacks_memory (place.second result.state.at.left) ≡ false → result.state ≡ start_of text.now }
+{
+    let end = BytePos(text.len() as u32);
+    let input = StringInput::new(text, BytePos(0), end);
+    Parser::new(alloc, Syntax::default(), input, false)
+}
+
+/// Parses a text as a script. The report is clean exactly where the text spells a tree of the forms that are read so far, and
+/// then its lines are that tree's, unless memory runs out.
+pub fn parse(alloc: Global, text: &str) -> Result<Report, Fault>
+    requires { length text.now < 2 ^ 32 }
+    ensures clean { IfOk result (λ report. report.verdict ≡ Verdict.Clean
+        → (x : Tree) × Spells text.now x × (string_bytes report.lines ≡ answer_lines (Ok x) [])) }
+    ensures spelled { (x : Tree) → Spells text.now x
+        → IfOk result (λ report. (report.verdict ≡ Verdict.Clean) × (string_bytes report.lines ≡ answer_lines (Ok x) [])) }
+    ensures err { IfErr result (λ fault. fault ≡ Fault.OutOfMemory) }
+{
+    let mut parser = parser_of(alloc, text);
+    if parser.lacks_memory() {
+        return Err(Fault::OutOfMemory);
+    }
+    let answer = parser.parse_script();
+    let faults = parser.take_errors();
+    reported(alloc, &answer, faults.as_slice())
+}

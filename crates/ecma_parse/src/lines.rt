@@ -1,0 +1,115 @@
+//! The lines that say what a text parses to.
+
+ghost use Rattle.std.specs.Prelude.{◌≡◌, ◌++◌, OnOk, IfOk, Ok, Err, codes, map, string_bytes};
+ghost use Rattle.std.specs.List.{flat_map};
+ghost use Rattle.swc_ecma_parser_error.specs.Kind.{fault_of, faults_of};
+ghost use Rattle.swc_ecma_parser_model.specs.Tree.{trees};
+ghost use Rattle.swc_ecma_parser_ast.specs.View.{view_stmt, view_script};
+ghost use Rattle.ecma_parse.specs.Lines.{node_line, fault_line, form_name, item_line, item_lines, script_lines, answer_lines, seen};
+
+use std::alloc::{AllocError, Global};
+use swc_ecma_parser::ast::{Decl, Script, Stmt};
+use swc_ecma_parser::common::{Span, Spanned};
+use swc_ecma_parser::error::{Error, PResult};
+
+/// The name of a statement's variant, or of a declaration's.
+fn kind_name(stmt: &Stmt) -> &'static str
+    ensures { result.now ≡ form_name (view_stmt stmt.now) }
+{
+    match stmt {
+        Stmt::Block(_) => "Block",
+        Stmt::Empty(_) => "Empty",
+        Stmt::Debugger(_) => "Debugger",
+        Stmt::Decl(Decl::Var(_)) => "Var",
+        Stmt::Expr(_) => "Expr",
+    }
+}
+
+/// Writes a line of a kind and a place.
+fn write_node(out: &mut String, kind: &str, span: Span) -> Result<(), AllocError>
+    ensures { OnOk result (string_bytes out.new ≡ string_bytes out.old ++ node_line kind.now span) }
+{
+    let low = span.lo.0;
+    let high = span.hi.0;
+    writeln!(out, "{kind} {low}..{high}")
+}
+
+/// Writes a line of a word, a fault's place and the name of its kind.
+fn write_fault(out: &mut String, word: &str, error: &Error) -> Result<(), AllocError>
+    ensures { OnOk result (string_bytes out.new ≡ string_bytes out.old ++ fault_line word.now (fault_of error.now)) }
+{
+    let low = error.span.lo.0;
+    let high = error.span.hi.0;
+    let name = error.kind.name();
+    writeln!(out, "{word} {low}..{high} {name}")
+}
+
+/// Writes an item's line.
+fn write_item(out: &mut String, item: &Stmt) -> Result<(), AllocError>
+    ensures { OnOk result (string_bytes out.new ≡ string_bytes out.old ++ item_line (view_stmt item.now)) }
+{
+    out.push_str("  ")?;
+    write_node(out, kind_name(item), item.span())
+}
+
+/// Writes a line for each item.
+fn write_items(out: &mut String, items: &[Stmt]) -> Result<(), AllocError>
+    ensures { OnOk result (string_bytes out.new ≡ string_bytes out.old ++ item_lines (trees (map view_stmt items.now))) }
+{
+    for item in items {
+        write_item(out, item)?;
+    }
+    Ok(())
+}
+
+/// Writes a line for each fault.
+fn write_faults(out: &mut String, faults: &[Error]) -> Result<(), AllocError>
+    ensures { OnOk result (string_bytes out.new ≡ string_bytes out.old ++ flat_map (fault_line (codes "fault")) (faults_of faults.now)) }
+{
+    for fault in faults {
+        write_fault(out, "fault", fault)?;
+    }
+    Ok(())
+}
+
+/// Writes the lines of a tree: the script's, and its items'.
+fn write_script(out: &mut String, script: &Script) -> Result<(), AllocError>
+    ensures { OnOk result (string_bytes out.new ≡ string_bytes out.old ++ script_lines (view_script script.now)) }
+{
+    write_node(out, "Script", script.span)?;
+    write_items(out, script.body.as_slice())
+}
+
+/// The lines of a tree and of the faults beside it.
+fn tree_lines(alloc: Global, script: &Script, faults: &[Error]) -> Result<String, AllocError>
+    ensures { IfOk result (λ out. string_bytes out ≡ answer_lines (Ok (view_script script.now)) (faults_of faults.now)) }
+{
+    let mut out = String::new(alloc);
+    write_script(&mut out, script)?;
+    write_faults(&mut out, faults)?;
+    Ok(out)
+}
+
+/// The lines of the faults, and of why there is no tree.
+fn refusal_lines(alloc: Global, error: &Error, faults: &[Error]) -> Result<String, AllocError>
+    ensures { IfOk result (λ out. string_bytes out ≡ answer_lines (Err (fault_of error.now)) (faults_of faults.now)) }
+{
+    let mut out = String::new(alloc);
+    write_faults(&mut out, faults)?;
+    write_fault(&mut out, "refused", error)?;
+    Ok(out)
+}
+
+/// The lines of an answer and of the faults beside it.
+pub fn lines(
+    alloc: Global,
+    answer: &PResult<Script>,
+    faults: &[Error],
+) -> Result<String, AllocError>
+    ensures { IfOk result (λ out. string_bytes out ≡ answer_lines (seen answer.now) (faults_of faults.now)) }
+{
+    match answer {
+        Ok(script) => tree_lines(alloc, script, faults),
+        Err(error) => refusal_lines(alloc, error, faults),
+    }
+}
