@@ -1,3 +1,1 @@
-pub mod Joined
-mod Reported
 mod Statuses

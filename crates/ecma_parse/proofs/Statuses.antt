@@ -1,8 +1,8 @@
 -- The status of a run.
 use Rattle.std.proofs.Common.{◌≡◌, ℕ, List, Option, Some, None, Result, Ok, Err, refl, ap, ◌⊎◌, inl, inr}
 use Rattle.std.specs.Prelude.{IfOk, IsErr, IfSome}
-use Rattle.ecma_parse.specs.declared.answer.Verdict.{Verdict}
-use Rattle.ecma_parse.specs.declared.answer.Verdict.TheVariants as verdict
+use Rattle.ecma_report.specs.declared.answer.Verdict.{Verdict}
+use Rattle.ecma_report.specs.declared.answer.Verdict.TheVariants as verdict
 
 -- where it is known what there is to read
 pub where_known : {P Q : List ℕ → Type 0} (o : Option (List ℕ)) → IfSome o P → ((xs : List ℕ) → P xs → Q xs) → IfSome o Q

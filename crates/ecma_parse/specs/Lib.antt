@@ -1,4 +1,1 @@
 pub mod Command
-pub mod Lines
-pub mod Verdicts
-pub mod Spelled

@@ -1,10 +1,8 @@
 //! The program `ecma-parse`: it reads a text, parses it, and prints its items and its faults.
 #![tactic(auto)]
 
-mod answer;
 mod command;
 mod fault;
-mod lines;
 mod read;
 mod run;
 #[cfg(test)]

@@ -4,13 +4,13 @@ ghost use Rattle.std.specs.Prelude.{◌≡◌, ◌<◌, ◌≤◌, ◌⊎◌, []
 ghost use Rattle.std.specs.Io.KnownBytes.{Appends, IsAtEnd};
 ghost use Rattle.swc_ecma_parser_model.specs.Tree.{Tree};
 ghost use Rattle.ecma_parse.specs.Command.{IsCommand};
-ghost use Rattle.ecma_parse.specs.Lines.{answer_lines};
-ghost use Rattle.ecma_parse.specs.Spelled.{Spells};
+ghost use Rattle.ecma_report.specs.Lines.{answer_lines};
+ghost use Rattle.ecma_report.specs.Spelled.{Spells};
 
-use crate::answer::{Report, Verdict, parse};
 use crate::command::accept;
 use crate::fault::Fault;
 use crate::read::read_all;
+use ecma_report::{Report, Verdict, parse};
 use std::alloc::Global;
 use std::io::{Read, Write};
 use std::{io, str};

@@ -4,14 +4,12 @@
 #[cfg(test)]
 mod deep;
 #[cfg(test)]
-mod describe;
+mod nodes;
 #[cfg(test)]
 mod parsers;
 #[cfg(test)]
+mod report;
+#[cfg(test)]
 mod rows;
 #[cfg(test)]
-mod spans;
-#[cfg(test)]
 mod texts;
-#[cfg(test)]
-mod trees;

@@ -1,23 +1,17 @@
 //! Each public function of parsers once.
 
-use crate::describe::answer;
-use crate::texts::{input, lexer, list, tokens};
+use crate::texts::{input, lexed, lexer, listed, tokens};
+use ecma_report::show;
 use std::alloc::{AllocError, Global};
 use std::test::Fail;
 use swc_ecma_parser::Parser;
 use swc_ecma_parser::common::{BytePos, Comment, CommentKind, Span};
-use swc_ecma_parser::error::{Error, SyntaxError};
+use swc_ecma_parser::error::{Error, PResult, SyntaxError};
 use swc_ecma_parser::input::{Capturing, CommentSource, Syntax, Tokens, spans_ordered};
 use swc_ecma_parser::lexer::{Lexer, StringInput};
 use swc_ecma_parser::token::{Token, TokenAndSpan};
 
-/// What a list of tokens parses to.
-fn listed(alloc: Global, tokens: Vec<TokenAndSpan>) -> Result<String, Fail> {
-    let mut parser = Parser::new_from(alloc, list(alloc, tokens)?);
-    answer(alloc, &mut parser)
-}
-
-fn error_token(alloc: Global) -> Result<Vec<TokenAndSpan>, Fail> {
+fn error_token(alloc: Global) -> Result<Vec<TokenAndSpan>, AllocError> {
     let span = Span::new(BytePos(0), BytePos(1));
     let kind = SyntaxError::UnexpectedChar;
     let mut tokens = Vec::new(alloc);
@@ -31,87 +25,72 @@ fn error_token(alloc: Global) -> Result<Vec<TokenAndSpan>, Fail> {
 
 #[test]
 fn an_error_token_is_refused_with_its_error(rt: HostRuntime) -> Result<(), Fail> {
-    let found = listed(rt.alloc(), error_token(rt.alloc())?)?;
-    assert_eq!(rt; found.as_str(), "refused UnexpectedChar at 0..1");
+    let found = listed(rt.alloc(), error_token(rt.alloc())?, 1000)?;
+    assert_eq!(rt; found.lines.as_str(), "refused 0..1 UnexpectedChar\n");
     Ok(())
 }
 
 #[test]
 fn tokens_in_another_order_are_noticed(rt: HostRuntime) -> Result<(), Fail> {
-    let mut tokens = tokens(rt.alloc(), "a;")?;
+    let mut tokens = tokens(rt.alloc(), input("a;")?)?;
     assert!(rt; spans_ordered(tokens.as_slice()));
     tokens.reverse();
     assert!(rt; !spans_ordered(tokens.as_slice()));
     Ok(())
 }
 
-/// The tokens that a parser's source kept, and how many it has then.
-fn taken<I: Tokens>(parser: Parser<Capturing<I>>) -> (Vec<TokenAndSpan>, usize) {
+/// The tokens that a parser's source kept while its text was parsed, and how many it has then.
+fn captured<I: Tokens>(alloc: Global, parser: Parser<Capturing<I>>) -> (Vec<TokenAndSpan>, usize) {
+    let mut parser = parser;
+    let _ = show(alloc, &mut parser);
     let mut source = parser.into_input();
     let tokens = source.take();
     (tokens, source.take().len())
-}
-
-/// What a text parses to.
-fn lexed(alloc: Global, text: &str) -> Result<String, Fail> {
-    let mut parser = Parser::new_from(alloc, lexer(alloc, text)?);
-    answer(alloc, &mut parser)
-}
-
-/// The tokens that are kept while a text is parsed, and how many are kept then.
-fn captured(alloc: Global, text: &str) -> Result<(Vec<TokenAndSpan>, usize), Fail> {
-    let source = Capturing::new(alloc, lexer(alloc, text)?);
-    let mut parser = Parser::new_from(alloc, source);
-    let _ = parser.parse_script()?;
-    Ok(taken(parser))
 }
 
 #[test]
 fn captured_tokens_parse_to_the_same(rt: HostRuntime) -> Result<(), Fail> {
     let alloc = rt.alloc();
     let text = "'use strict'; { var a; (b) } 1n";
-    let (tokens, left) = captured(alloc, text)?;
+    let (tokens, left) = captured(alloc, capturing(alloc, lexer(alloc, input(text)?)));
     assert_eq!(rt; tokens.len(), 11);
     assert_eq!(rt; left, 0);
-    let found = listed(alloc, tokens)?;
-    let wanted = lexed(alloc, text)?;
-    assert_eq!(rt; found.as_str(), wanted.as_str());
+    let found = listed(alloc, tokens, 1000)?;
+    let wanted = lexed(alloc, input(text)?, 1000)?;
+    assert_eq!(rt; found.tree.as_str(), wanted.tree.as_str());
     Ok(())
 }
 
-/// How many faults a parser hands out.
-fn handed_out<I: Tokens>(parser: &mut Parser<I>) -> usize {
-    parser.take_errors().len()
+/// Writes the lines of a parser, and how many faults it hands out behind those.
+fn write_lines<I: Tokens>(
+    alloc: Global,
+    out: &mut String,
+    parser: &mut Parser<I>,
+) -> Result<(), AllocError> {
+    out.push_str(show(alloc, parser)?.lines.as_str())?;
+    let left = parser.take_errors().len();
+    writeln!(out, "{left}")
 }
 
-/// How many faults a parser hands out behind its call, and then.
-fn fault_counts(alloc: Global, text: &str) -> Result<(usize, usize), Fail> {
-    let mut parser = Parser::new_from(alloc, lexer(alloc, text)?);
-    let _ = parser.parse_script();
-    let count = handed_out(&mut parser);
-    Ok((count, handed_out(&mut parser)))
+/// Writes the lines of a parser's clone, and then its own.
+fn write_twice<I: Tokens>(alloc: Global, out: &mut String, parser: &mut Parser<I>) -> PResult<()> {
+    write_lines(alloc, out, &mut parser.try_clone()?)?;
+    Ok(write_lines(alloc, out, parser)?)
 }
 
-#[test]
-fn faults_are_handed_out_once(rt: HostRuntime) -> Result<(), Fail> {
-    assert_eq!(rt; fault_counts(rt.alloc(), "{ var a")?, (1, 0));
-    Ok(())
-}
-
-/// What a parser answers, and what its clone does.
-fn twice(alloc: Global, text: &str) -> Result<(String, String), Fail> {
-    let mut parser = Parser::new_from_limited(alloc, lexer(alloc, text)?, 3);
-    let mut copy = parser.try_clone()?;
-    let first = answer(alloc, &mut parser)?;
-    Ok((first, answer(alloc, &mut copy)?))
+/// A parser of a text, in three levels.
+fn flat_parser(alloc: Global, input: StringInput<'_>) -> Parser<Lexer<'_>> {
+    Parser::new_from_limited(alloc, lexer(alloc, input), 3)
 }
 
 #[test]
-fn a_clone_answers_the_same(rt: HostRuntime) -> Result<(), Fail> {
-    let (first, second) = twice(rt.alloc(), "{ var a")?;
-    let wanted = "Script 0..7 Block 0..7 [Var 2..7], fault Expected at 6..7";
-    assert_eq!(rt; first.as_str(), wanted);
-    assert_eq!(rt; second.as_str(), wanted);
+fn a_clone_answers_the_same_and_faults_are_handed_out_once(rt: HostRuntime) -> Result<(), Fail> {
+    let mut out = String::new(rt.alloc());
+    let mut parser = flat_parser(rt.alloc(), input("{ var a")?);
+    write_twice(rt.alloc(), &mut out, &mut parser)?;
+    let wanted = "Script 0..7\n  Block 0..7\nfault 6..7 Expected\n0\n\
+        Script 0..7\n  Block 0..7\nfault 6..7 Expected\n0\n";
+    assert_eq!(rt; out.as_str(), wanted);
     Ok(())
 }
 
@@ -123,120 +102,101 @@ fn write_comment(out: &mut String, comment: &Comment) -> Result<(), AllocError> 
     let low = comment.span.lo.0;
     let high = comment.span.hi.0;
     let text = comment.text.as_str();
-    write!(out, "{kind} {low}..{high} {text:?} ")
+    write!(out, "{kind} {low}..{high}:{text};")
 }
 
-/// The comments that a parser hands out.
-fn comments<I: CommentSource>(alloc: Global, parser: &mut Parser<I>) -> Result<String, Fail> {
-    let mut out = String::new(alloc);
+/// Writes the comments that a parser hands out.
+fn write_comments<I: CommentSource>(out: &mut String, parser: &mut Parser<I>) -> PResult<()> {
     let comments = parser.take_comments()?;
     for comment in comments.as_slice() {
-        write_comment(&mut out, comment)?;
+        write_comment(out, comment)?;
     }
-    Ok(out)
+    out.push('|')?;
+    Ok(())
 }
 
-/// A parser of a text with its comments.
-fn commented(alloc: Global, text: &str) -> Result<Parser<Lexer<'_>>, Fail> {
-    Ok(Parser::new(alloc, Syntax::default(), input(text)?, true))
+/// Writes the comments that a parser hands out before it parses, then, and behind its lines.
+fn write_story<I: CommentSource>(
+    alloc: Global,
+    out: &mut String,
+    parser: &mut Parser<I>,
+) -> PResult<()> {
+    write_comments(out, parser)?;
+    write_comments(out, parser)?;
+    write_lines(alloc, out, parser)?;
+    write_comments(out, parser)
 }
 
-/// The comments that a parser hands out before it parses, in two calls.
-fn comments_before(alloc: Global, text: &str) -> Result<(String, String), Fail> {
-    let mut parser = commented(alloc, text)?;
-    let first = comments(alloc, &mut parser)?;
-    Ok((first, comments(alloc, &mut parser)?))
+/// A parser of a text, whose comments may be wanted.
+fn parser(alloc: Global, input: StringInput<'_>, comments: bool) -> Parser<Lexer<'_>> {
+    Parser::new(alloc, Syntax::default(), input, comments)
+}
+
+/// A source of a text's tokens, whose comments are wanted.
+fn commented(alloc: Global, input: StringInput<'_>) -> Lexer<'_> {
+    Lexer::new(alloc, Syntax::default(), input, true)
+}
+
+/// A parser that keeps its tokens.
+fn capturing<I: Tokens>(alloc: Global, source: I) -> Parser<Capturing<I>> {
+    Parser::new_from(alloc, Capturing::new(alloc, source))
 }
 
 const COMMENTED: &str = "/* a */ a // b\n; /* c */";
 
 #[test]
 fn comments_are_handed_out_once(rt: HostRuntime) -> Result<(), Fail> {
-    let (first, second) = comments_before(rt.alloc(), COMMENTED)?;
+    let alloc = rt.alloc();
     // Two tokens are read ahead.
-    assert_eq!(rt; first.as_str(), "Block 0..7 \" a \" Line 10..14 \" b\" ");
-    assert_eq!(rt; second.as_str(), "");
+    let wanted =
+        "Block 0..7: a ;Line 10..14: b;||Script 8..16\n  Expr 8..16\n0\nBlock 17..24: c ;|";
+    let mut out = String::new(alloc);
+    write_story(alloc, &mut out, &mut parser(alloc, input(COMMENTED)?, true))?;
+    assert_eq!(rt; out.as_str(), wanted);
+    out.clear();
+    let source = commented(alloc, input(COMMENTED)?);
+    write_story(alloc, &mut out, &mut capturing(alloc, source))?;
+    assert_eq!(rt; out.as_str(), wanted);
+    out.clear();
+    write_story(
+        alloc,
+        &mut out,
+        &mut parser(alloc, input(COMMENTED)?, false),
+    )?;
+    assert_eq!(rt; out.as_str(), "||Script 8..16\n  Expr 8..16\n0\n|");
     Ok(())
 }
 
-/// The same parser, once it has handed out how many comments it has read.
-fn relieved(alloc: Global, text: &str, count: usize) -> Result<Parser<Lexer<'_>>, Fail> {
-    let mut parser = commented(alloc, text)?;
-    let found = parser.take_comments()?.len();
-    if found != count {
-        return Err("another count")?;
-    }
-    Ok(parser)
-}
-
-/// What such a parser answers, and the comments that it hands out then.
-fn comments_behind(alloc: Global, text: &str) -> Result<(String, String), Fail> {
-    let mut parser = relieved(alloc, text, 2)?;
-    let found = answer(alloc, &mut parser)?;
-    Ok((found, comments(alloc, &mut parser)?))
-}
-
-#[test]
-fn comments_go_on_behind_those_handed_out(rt: HostRuntime) -> Result<(), Fail> {
-    let (found, behind) = comments_behind(rt.alloc(), COMMENTED)?;
-    assert_eq!(rt; found.as_str(), "Script 8..16 Expr 8..16 [Ident 8..9 a]");
-    assert_eq!(rt; behind.as_str(), "Block 17..24 \" c \" ");
-    Ok(())
-}
-
-/// How many tokens and comments a source has that such a parser gives back.
-fn given_back(alloc: Global, text: &str, count: usize) -> Result<(usize, usize), Fail> {
-    let parser = relieved(alloc, text, count)?;
+/// How many comments a parser hands out, and how many tokens and comments the source has that it gives back then.
+fn given_back(alloc: Global, input: StringInput) -> PResult<(usize, usize, usize)> {
+    let mut parser = Parser::new_from(alloc, commented(alloc, input));
+    let taken = parser.take_comments()?.len();
     let mut lexer = parser.into_input();
     let tokens = lexer.next().iter().count();
-    Ok((tokens, lexer.take_comments()?.len()))
+    Ok((taken, tokens, lexer.take_comments()?.len()))
 }
 
 #[test]
 fn a_source_is_given_back(rt: HostRuntime) -> Result<(), Fail> {
-    assert_eq!(rt; given_back(rt.alloc(), COMMENTED, 2)?, (0, 1));
-    assert_eq!(rt; given_back(rt.alloc(), "a;b;", 0)?, (1, 0));
+    assert_eq!(rt; given_back(rt.alloc(), input(COMMENTED)?)?, (2, 0, 1));
+    assert_eq!(rt; given_back(rt.alloc(), input("a;b;")?)?, (0, 1, 0));
     Ok(())
 }
 
-/// The comments that a source hands out beside the tokens that it keeps.
-fn captured_comments(alloc: Global, text: &str) -> Result<String, Fail> {
-    let lexer = Lexer::new(alloc, Syntax::default(), input(text)?, true);
-    let mut parser = Parser::new_from(alloc, Capturing::new(alloc, lexer));
-    comments(alloc, &mut parser)
-}
-
-#[test]
-fn comments_are_handed_out_beside_captured_tokens(rt: HostRuntime) -> Result<(), Fail> {
-    let found = captured_comments(rt.alloc(), "a//")?;
-    assert_eq!(rt; found.as_str(), "Line 1..3 \"\" ");
-    Ok(())
-}
-
-/// A text that starts at 5.
-fn behind_others() -> StringInput<'static> {
-    StringInput::new("a;", BytePos(5), BytePos(7))
-}
-
-/// A text and its place.
-fn outline(alloc: Global, input: &StringInput) -> Result<String, AllocError> {
+/// A text that starts at 5, with its place, and what it parses to.
+fn behind_others(alloc: Global) -> Result<String, AllocError> {
+    let input = StringInput::new("a;", BytePos(5), BytePos(7));
     let text = input.text();
     let low = input.start().0;
     let high = input.end().0;
-    format!(in alloc; "{text} {low}..{high}")
-}
-
-/// What that text parses to.
-fn parsed_behind_others(alloc: Global) -> Result<String, Fail> {
-    let mut parser = Parser::new(alloc, Syntax::default(), behind_others(), false);
-    answer(alloc, &mut parser)
+    let mut out = format!(in alloc; "{text} {low}..{high} ")?;
+    out.push_str(lexed(alloc, input, 1000)?.lines.as_str())?;
+    Ok(out)
 }
 
 #[test]
 fn a_text_can_start_anywhere(rt: HostRuntime) -> Result<(), Fail> {
-    let found = outline(rt.alloc(), &behind_others())?;
-    assert_eq!(rt; found.as_str(), "a; 5..7");
-    let found = parsed_behind_others(rt.alloc())?;
-    assert_eq!(rt; found.as_str(), "Script 5..7 Expr 5..7 [Ident 5..6 a]");
+    let found = behind_others(rt.alloc())?;
+    assert_eq!(rt; found.as_str(), "a; 5..7 Script 5..7\n  Expr 5..7\n");
     Ok(())
 }

@@ -1,107 +1,58 @@
 //! Texts and what they parse to, by hand, from the rules of ECMA-262, sections 12 to 16.
 
-use crate::describe::answer;
-use crate::texts::{lexer, list, tokens};
-use std::alloc::Global;
+use crate::report::report;
 use std::test::Fail;
-use swc_ecma_parser::Parser;
 
-/// What a list of a text's tokens parses to.
-fn listed(alloc: Global, text: &str, limit: u32) -> Result<String, Fail> {
-    let tokens = list(alloc, tokens(alloc, text)?)?;
-    let mut parser = Parser::new_from_limited(alloc, tokens, limit);
-    answer(alloc, &mut parser)
-}
-
-/// What a text parses to.
-fn lexed(alloc: Global, text: &str, limit: u32) -> Result<String, Fail> {
-    let mut parser = Parser::new_from_limited(alloc, lexer(alloc, text)?, limit);
-    answer(alloc, &mut parser)
-}
-
-/// What a text parses to, from a list of its tokens and from its lexer, if these agree.
-fn outcome(alloc: Global, text: &str, limit: u32) -> Result<String, Fail> {
-    let listed = listed(alloc, text, limit)?;
-    let lexed = lexed(alloc, text, limit)?;
-    if listed != lexed {
-        return Ok(format!(in alloc; "{listed} from a list, {lexed} from the lexer")?);
-    }
-    Ok(lexed)
-}
+const TREES: &str = " → Script 0..0
+{ var a; } → Script 0..10, Block 0..10 → Var 2..8
+{} → Script 0..2, Block 0..2 → BlockStmt 0..2
+ ; → Script 1..2, Empty 1..2 → EmptyStmt 1..2
+var public; → Script 0..11, Var 0..11 → VarDecl 0..11
+var a, b → Script 0..8, Var 0..8 → VarDeclarator 4..5, Ident 4..5 a, VarDeclarator 7..8, Ident 7..8 b
+;'use strict'; var public; → Script 0..26, Empty 0..1, Expr 1..14, Var 15..26 → Str 1..13 use strict 'use strict'
+interface; → Script 0..10, Expr 0..10 → ExprStmt 0..10, Ident 0..9 interface
+debugger; → Script 0..9, Debugger 0..9 → DebuggerStmt 0..9
+debugger¶; → Script 0..10, Debugger 0..10
+debugger¶a → Script 0..10, Debugger 0..8, Expr 9..10 → Ident 9..10 a
+(a) → Script 0..3, Expr 0..3 → ParenExpr 0..3, Ident 1..2 a
+\"s\" → Script 0..3, Expr 0..3 → Str 0..3, raw: Atom { text: \"\\\"s\\\"\" }
+1_000 → Script 0..5, Expr 0..5 → Number 0..5 1_000
+1.5; → Script 0..4, Expr 0..4 → Number 0..3 1.5
+0x1Fn → Script 0..5, Expr 0..5 → BigInt 0..5 0x1Fn
+null → Script 0..4, Expr 0..4 → Null 0..4
+true → Script 0..4, Expr 0..4 → Bool 0..4, value: true
+false; → Script 0..6, Expr 0..6 → Bool 0..5, value: false";
 
 #[test]
 fn trees(rt: HostRuntime) -> Result<(), Fail> {
-    let rows = [
-        ("", "Script 0..0"),
-        ("{ var a; }", "Script 0..10 Block 0..10 [Var 2..8]"),
-        ("var public;", "Script 0..11 Var 0..11"),
-        (
-            ";'use strict'; var public;",
-            "Script 0..26 Empty 0..1 Expr 1..14 [Str 1..13 'use strict'] Var 15..26",
-        ),
-        (
-            "interface;",
-            "Script 0..10 Expr 0..10 [Ident 0..9 interface]",
-        ),
-        ("debugger\n;", "Script 0..10 Debugger 0..10"),
-        (
-            "debugger\na",
-            "Script 0..10 Debugger 0..8 Expr 9..10 [Ident 9..10 a]",
-        ),
-        ("(a)", "Script 0..3 Expr 0..3 [Paren 0..3 ()]"),
-        ("\"s\"", "Script 0..3 Expr 0..3 [Str 0..3 \"s\"]"),
-        ("1_000", "Script 0..5 Expr 0..5 [Num 0..5 1_000]"),
-        ("0x1Fn", "Script 0..5 Expr 0..5 [BigInt 0..5 0x1Fn]"),
-        ("null", "Script 0..4 Expr 0..4 [Null 0..4 null]"),
-        ("true", "Script 0..4 Expr 0..4 [Bool 0..4 true]"),
-        ("false", "Script 0..5 Expr 0..5 [Bool 0..5 false]"),
-    ];
-    for (text, wanted) in rows {
-        let found = outcome(rt.alloc(), text, 1000)?;
-        assert_eq!(rt; found.as_str(), wanted, "{text:?}");
-    }
+    assert_eq!(rt; report(rt.alloc(), TREES, 1000)?.as_str(), "19 rows");
     Ok(())
 }
 
+const FAULTS: &str = "{ var a → Script 0..7, Block 0..7, fault 6..7 Expected → Var 2..7
+a¶(b) → refused 2..3 Unexpected
+'use strict'; var public; → refused 18..24 ExpectedIdent
+var a b → refused 6..7 Unexpected
+a: b → refused 1..2 Unexpected
+await → refused 0..5 Unexpected
+a b → refused 2..3 ExpectedSemiForExprStmt
+a \\ → fault 2..3 UnexpectedChar, refused 2..3 ExpectedSemiForExprStmt";
+
 #[test]
 fn faults(rt: HostRuntime) -> Result<(), Fail> {
-    let rows = [
-        (
-            "{ var a",
-            "Script 0..7 Block 0..7 [Var 2..7], fault Expected at 6..7",
-        ),
-        ("a\n(b)", "refused Unexpected at 2..3"),
-        (
-            "'use strict'; var public;",
-            "refused ExpectedIdent at 18..24",
-        ),
-        ("var a b", "refused Unexpected at 6..7"),
-        ("a: b", "refused Unexpected at 1..2"),
-        ("await", "refused Unexpected at 0..5"),
-        ("a b", "refused ExpectedSemiForExprStmt at 2..3"),
-        (
-            "a \\",
-            "refused ExpectedSemiForExprStmt at 2..3, fault UnexpectedChar at 2..3",
-        ),
-    ];
-    for (text, wanted) in rows {
-        let found = outcome(rt.alloc(), text, 1000)?;
-        assert_eq!(rt; found.as_str(), wanted, "{text:?}");
-    }
+    assert_eq!(rt; report(rt.alloc(), FAULTS, 1000)?.as_str(), "8 rows");
     Ok(())
 }
 
 #[test]
 fn limits(rt: HostRuntime) -> Result<(), Fail> {
-    let rows = [
-        ("", 0, "Script 0..0"),
-        (";", 0, "refused TooDeep at 0..1"),
-        ("{{}}", 1, "refused TooDeep at 1..2"),
-        ("{{}}", 2, "Script 0..4 Block 0..4 [Block 1..3]"),
-    ];
-    for (text, limit, wanted) in rows {
-        let found = outcome(rt.alloc(), text, limit)?;
-        assert_eq!(rt; found.as_str(), wanted, "{text:?}");
+    for (rows, limit) in [
+        (" → Script 0..0", 0),
+        ("; → refused 0..1 TooDeep", 0),
+        ("{{}} → refused 1..2 TooDeep", 1),
+        ("{{}} → Script 0..4, Block 0..4 → Block 1..3", 2),
+    ] {
+        assert_eq!(rt; report(rt.alloc(), rows, limit)?.as_str(), "1 rows");
     }
     Ok(())
 }

@@ -1,10 +1,10 @@
-//! Lists of tokens as sources, buffers over them, and what a source keeps.
+//! Lists of tokens as sources, buffers over them, and what a source keeps. What a call finds is written into a text.
 
 use crate::places::span;
 use std::alloc::{AllocError, Global};
 use std::test::Fail;
 use swc_ecma_parser_common::BytePos;
-use swc_ecma_parser_error::{Error, SyntaxError};
+use swc_ecma_parser_error::{Error, PResult, SyntaxError};
 use swc_ecma_parser_input::{
     Buffer, Capturing, Context, EsSyntax, FaultLists, Syntax, Tokens, TokensInput,
     is_out_of_memory, out_of_memory, spans_ordered,
@@ -20,11 +20,17 @@ fn place(token: Token, low: u32, high: u32) -> TokenAndSpan {
 }
 
 /// The tokens of `;{}`, from 5 on.
+fn tokens(alloc: Global) -> Result<Vec<TokenAndSpan>, AllocError> {
+    vec![in alloc;
+        place(Token::Semi, 5, 6),
+        place(Token::LBrace, 6, 7),
+        place(Token::RBrace, 7, 8),
+    ]
+}
+
+/// A source of them.
 fn list(alloc: Global) -> Result<TokensInput, Fail> {
-    let mut tokens = Vec::new(alloc);
-    tokens.push(place(Token::Semi, 5, 6))?;
-    tokens.push(place(Token::LBrace, 6, 7))?;
-    tokens.push(place(Token::RBrace, 7, 8))?;
+    let tokens = tokens(alloc)?;
     if !spans_ordered(tokens.as_slice()) {
         return Err("out of order")?;
     }
@@ -38,31 +44,15 @@ fn write_token(out: &mut String, found: &TokenAndSpan) -> Result<(), AllocError>
     write!(out, "{kind:?} {low}..{high} ")
 }
 
-/// The kinds and places of the tokens of a source.
-fn drawn<I: Tokens>(alloc: Global, source: &mut I) -> Result<String, Fail> {
-    let mut out = String::new(alloc);
+/// Writes the kinds and places of the tokens of a source.
+fn write_drawn<I: Tokens>(out: &mut String, source: &mut I) -> Result<(), AllocError> {
     for _ in 0..10 {
-        let Some(found) = source.next() else {
-            return Ok(out);
-        };
-        write_token(&mut out, &found)?;
+        match source.next() {
+            Some(found) => write_token(out, &found)?,
+            None => break,
+        }
     }
-    Err("no end")?
-}
-
-const DRAWN: &str = "Semi 5..6 LBrace 6..7 RBrace 7..8 ";
-
-#[test]
-fn a_list_is_drawn_and_copied(rt: HostRuntime) -> Result<(), Fail> {
-    let alloc = rt.alloc();
-    let mut source = list(alloc)?;
-    assert_eq!(rt; source.start_pos(), BytePos(5));
-    assert!(rt; source.ctx() == Context::default());
-    assert!(rt; source.syntax() == Syntax::default());
-    let mut copy = source.try_clone()?;
-    assert_eq!(rt; drawn(alloc, &mut source)?.as_str(), DRAWN);
-    assert_eq!(rt; drawn(alloc, &mut copy)?.as_str(), DRAWN);
-    Ok(())
+    out.push('|')
 }
 
 fn fault(kind: SyntaxError) -> Error {
@@ -77,87 +67,124 @@ fn write_names(out: &mut String, faults: &[Error]) -> Result<(), AllocError> {
         let name = fault.kind.name();
         write!(out, "{name} ")?;
     }
-    write!(out, "| ")
+    out.push('|')
 }
 
-/// The faults that a source hands out while the code is a script's, and those more once it is a module's.
-fn recorded<I: Tokens>(alloc: Global, source: &mut I) -> Result<String, Fail> {
-    let mut out = String::new(alloc);
+/// Writes the faults that a source hands out while the code is a script's, and those more once it is a module's.
+fn write_recorded<I: Tokens>(out: &mut String, source: &mut I) -> PResult<()> {
     source.add_error(fault(SyntaxError::Eof))?;
     source.add_module_mode_error(fault(SyntaxError::TS1005))?;
-    write_names(&mut out, source.take_errors().as_slice())?;
+    write_names(out, source.take_errors().as_slice())?;
     let mut context = source.ctx();
     context.module = true;
     source.set_ctx(context);
     source.add_module_mode_error(fault(SyntaxError::TS1009))?;
-    write_names(&mut out, source.take_errors().as_slice())?;
-    Ok(out)
+    Ok(write_names(out, source.take_errors().as_slice())?)
 }
 
-const RECORDED: &str = "Eof | TS1005 TS1009 | ";
+/// Writes what a copy of a source hands out, and then the source.
+fn write_source<I: Tokens>(out: &mut String, source: &mut I) -> PResult<()> {
+    write_drawn(out, &mut source.try_clone()?)?;
+    write_drawn(out, source)?;
+    write_recorded(out, source)
+}
+
+const SOURCE: &str = "Semi 5..6 LBrace 6..7 RBrace 7..8 |Semi 5..6 LBrace 6..7 RBrace 7..8 |\
+    Eof |TS1005 TS1009 |";
 
 #[test]
-fn faults_are_held_back_from_a_script(rt: HostRuntime) -> Result<(), Fail> {
-    let alloc = rt.alloc();
-    let mut source = list(alloc)?;
-    assert_eq!(rt; recorded(alloc, &mut source)?.as_str(), RECORDED);
-    let mut source = Capturing::new(alloc, list(alloc)?);
-    assert_eq!(rt; recorded(alloc, &mut source)?.as_str(), RECORDED);
+fn a_list_is_drawn_and_copied(rt: HostRuntime) -> Result<(), Fail> {
+    let mut out = String::new(rt.alloc());
+    let mut source = list(rt.alloc())?;
+    assert_eq!(rt; source.start_pos(), BytePos(5));
+    assert!(rt; source.ctx() == Context::default());
+    assert!(rt; source.syntax() == Syntax::default());
+    write_source(&mut out, &mut source)?;
+    assert_eq!(rt; out.as_str(), SOURCE);
     Ok(())
+}
+
+/// Writes how many tokens a source has kept, how many it has then, and how many its copy.
+fn write_kept<I: Tokens>(out: &mut String, source: &mut Capturing<I>) -> PResult<()> {
+    let mut copy = source.try_clone()?;
+    let kept = source.take().len();
+    let left = source.take().len();
+    let copied = copy.take().len();
+    Ok(write!(out, "{kept} {left} {copied}")?)
 }
 
 #[test]
 fn copies_are_kept_of_what_is_drawn(rt: HostRuntime) -> Result<(), Fail> {
-    let alloc = rt.alloc();
-    let mut source = Capturing::new(alloc, list(alloc)?);
+    let mut out = String::new(rt.alloc());
+    let mut source = Capturing::new(rt.alloc(), list(rt.alloc())?);
     assert_eq!(rt; source.start_pos(), BytePos(5));
     assert!(rt; source.syntax() == Syntax::default());
-    assert_eq!(rt; drawn(alloc, &mut source)?.as_str(), DRAWN);
-    let mut copy = source.try_clone()?;
-    assert_eq!(rt; source.take().len(), 3);
-    assert_eq!(rt; source.take().len(), 0);
-    assert_eq!(rt; copy.take().len(), 3);
+    write_source(&mut out, &mut source)?;
+    assert_eq!(rt; out.as_str(), SOURCE);
+    out.clear();
+    write_kept(&mut out, &mut source)?;
+    assert_eq!(rt; out.as_str(), "3 0 3");
     Ok(())
 }
 
-/// The kinds of the two tokens ahead, and the place of the one behind.
-fn ahead<I: Tokens>(alloc: Global, buffer: &Buffer<I>) -> Result<String, Fail> {
-    let mut out = String::new(alloc);
-    for token in [buffer.cur(), buffer.peek()] {
-        match token {
-            Some(found) => {
-                let kind = found.token.kind();
-                write!(out, "{kind:?} ")?;
-            }
-            None => write!(out, "None ")?,
+fn write_kind(out: &mut String, token: Option<&TokenAndSpan>) -> Result<(), AllocError> {
+    match token {
+        Some(found) => {
+            let kind = found.token.kind();
+            write!(out, "{kind:?} ")
         }
+        None => out.push_str("None "),
     }
+}
+
+/// Writes the kinds of the two tokens ahead, and the place of the one behind.
+fn write_ahead<I: Tokens>(out: &mut String, buffer: &Buffer<I>) -> Result<(), AllocError> {
+    write_kind(out, buffer.cur())?;
+    write_kind(out, buffer.peek())?;
     let last = buffer.last_span();
     let low = last.lo.0;
     let high = last.hi.0;
-    write!(out, "{low}..{high}")?;
-    Ok(out)
+    write!(out, "{low}..{high}|")
+}
+
+/// Writes what is ahead of a buffer, then one token on, and in a copy.
+fn write_steps<I: Tokens>(out: &mut String, buffer: &mut Buffer<I>) -> PResult<()> {
+    write_ahead(out, buffer)?;
+    let _ = buffer.bump();
+    write_ahead(out, buffer)?;
+    Ok(write_ahead(out, &buffer.try_clone()?)?)
 }
 
 #[test]
 fn a_buffer_is_two_tokens_ahead(rt: HostRuntime) -> Result<(), Fail> {
-    let alloc = rt.alloc();
-    let mut buffer = Buffer::new(list(alloc)?);
-    assert_eq!(rt; ahead(alloc, &buffer)?.as_str(), "Semi LBrace 5..5");
+    let mut out = String::new(rt.alloc());
+    let mut buffer = Buffer::new(list(rt.alloc())?);
     assert!(rt; !buffer.is_out_of_memory());
     assert!(rt; !buffer.cur_is_out_of_memory());
-    let taken = buffer.bump().ok_or("no token")?;
-    assert_eq!(rt; taken.span, span(5, 6));
-    assert_eq!(rt; ahead(alloc, &buffer)?.as_str(), "LBrace RBrace 5..6");
-    let copy = buffer.try_clone()?;
-    assert_eq!(rt; ahead(alloc, &copy)?.as_str(), "LBrace RBrace 5..6");
+    write_steps(&mut out, &mut buffer)?;
+    assert_eq!(rt;
+        out.as_str(),
+        "Semi LBrace 5..5|LBrace RBrace 5..6|LBrace RBrace 5..6|"
+    );
     Ok(())
 }
 
+/// Writes how many faults a buffer hands out, and then.
+fn write_counts<I: Tokens>(out: &mut String, buffer: &mut Buffer<I>) -> PResult<()> {
+    buffer.add_error(fault(SyntaxError::Eof))?;
+    buffer.add_module_mode_error(fault(SyntaxError::TS1005))?;
+    let count = buffer.take_errors().len();
+    let left = buffer.take_errors().len();
+    Ok(write!(out, "{count} {left}")?)
+}
+
 #[test]
-fn a_buffer_gives_its_source_back(rt: HostRuntime) -> Result<(), Fail> {
-    let alloc = rt.alloc();
-    let mut buffer = Buffer::new(list(alloc)?);
+fn a_buffer_records_faults_and_gives_its_source_back(rt: HostRuntime) -> Result<(), Fail> {
+    let mut out = String::new(rt.alloc());
+    let mut buffer = Buffer::new(list(rt.alloc())?);
+    write_counts(&mut out, &mut buffer)?;
+    assert_eq!(rt; out.as_str(), "1 0");
+    out.clear();
     let mut context = buffer.ctx();
     context.strict = true;
     buffer.set_ctx(context);
@@ -166,30 +193,23 @@ fn a_buffer_gives_its_source_back(rt: HostRuntime) -> Result<(), Fail> {
     assert_eq!(rt; buffer.start_pos(), BytePos(5));
     let mut source = buffer.into_input();
     assert!(rt; source.ctx() == context);
-    assert_eq!(rt; drawn(alloc, &mut source)?.as_str(), "RBrace 7..8 ");
+    write_drawn(&mut out, &mut source)?;
+    assert_eq!(rt; out.as_str(), "RBrace 7..8 |");
     Ok(())
 }
 
-#[test]
-fn a_buffer_records_faults(rt: HostRuntime) -> Result<(), Fail> {
-    let alloc = rt.alloc();
-    let mut buffer = Buffer::new(list(alloc)?);
-    buffer.add_error(fault(SyntaxError::Eof))?;
-    buffer.add_module_mode_error(fault(SyntaxError::TS1005))?;
-    assert_eq!(rt; buffer.take_errors().len(), 1);
-    assert_eq!(rt; buffer.take_errors().len(), 0);
-    Ok(())
+/// How many faults a list hands out, and how many its copy does once the code is a module's.
+fn counts(lists: &mut FaultLists) -> Result<(usize, usize), AllocError> {
+    lists.add(fault(SyntaxError::Eof))?;
+    lists.hold_back(fault(SyntaxError::TS1005))?;
+    let mut copy = lists.try_clone()?;
+    copy.release();
+    Ok((lists.take().len(), copy.take().len()))
 }
 
 #[test]
 fn lists_of_faults_are_copied(rt: HostRuntime) -> Result<(), Fail> {
-    let mut lists = FaultLists::new(rt.alloc());
-    lists.add(fault(SyntaxError::Eof))?;
-    lists.hold_back(fault(SyntaxError::TS1005))?;
-    let mut copy = lists.try_clone()?;
-    assert_eq!(rt; lists.take().len(), 1);
-    copy.release();
-    assert_eq!(rt; copy.take().len(), 2);
+    assert_eq!(rt; counts(&mut FaultLists::new(rt.alloc()))?, (1, 2));
     Ok(())
 }
 

@@ -2,6 +2,7 @@
 #![tactic(auto)]
 
 mod decl;
+mod discard;
 mod expr;
 mod node;
 mod pat;

@@ -1,7 +1,7 @@
 -- The text is what the reader had left.
 use Rattle.std.proofs.Common.{sym, subst, ◌∙◌}
 use Rattle.std.specs.Io.KnownBytes.{Appends}
-use Rattle.ecma_parse.specs.Spelled.{Spells}
+use Rattle.ecma_report.specs.Spelled.{Spells}
 use Rattle.ecma_parse.proofs.Statuses.{where_known}
 use Rattle.ecma_parse.proofs.run.answer.Goals as goal
 

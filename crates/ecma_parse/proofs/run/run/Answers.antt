@@ -1,7 +1,7 @@
 -- A text that spells a tree ends with status 0, or with that of a fault.
 use Rattle.std.proofs.Common.{◌≡◌, ◌∙◌, sym, subst}
 use Rattle.std.specs.Prelude.{IfOk}
-use Rattle.ecma_parse.specs.declared.answer.Verdict.TheVariants as verdict
+use Rattle.ecma_report.specs.declared.answer.Verdict.TheVariants as verdict
 use Rattle.ecma_parse.proofs.Statuses.{where_known, ends}
 use Rattle.ecma_parse.proofs.run.run.Goals as goal
 use Rattle.ecma_parse.proofs.run.run.Goals.{in-Err, in_default}

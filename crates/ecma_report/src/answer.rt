@@ -1,16 +1,15 @@
-//! What a text comes to.
+//! How a parse ends.
 
-ghost use Rattle.std.specs.Prelude.{◌≡◌, ◌<◌, ◌^◌, ◌||◌, false, IfOk, IfErr, IsErrOf, [], Ok, length, string_bytes};
+ghost use Rattle.std.specs.Prelude.{◌≡◌, ◌<◌, ◌^◌, false, IfOk, IfErr, [], Ok, length, string_bytes};
 ghost use Rattle.swc_ecma_parser_error.specs.Kind.{faults_of, IsOutOfMemory};
 ghost use Rattle.swc_ecma_parser_input.specs.Place as place;
 ghost use Rattle.swc_ecma_parser_model.specs.Tree.{Tree};
-ghost use Rattle.ecma_parse.specs.Lines.{seen, answer_lines};
-ghost use Rattle.ecma_parse.specs.Spelled.{start_of, Spells};
-ghost use Rattle.ecma_parse.specs.Verdicts.{verdict_of};
+ghost use Rattle.ecma_report.specs.Lines.{seen, answer_lines};
+ghost use Rattle.ecma_report.specs.Spelled.{start_of, Spells};
+ghost use Rattle.ecma_report.specs.Verdicts.{verdict_of};
 
-use crate::fault::Fault;
 use crate::lines::lines;
-use std::alloc::Global;
+use std::alloc::{AllocError, Global};
 use swc_ecma_parser::Parser;
 use swc_ecma_parser::ast::Script;
 use swc_ecma_parser::common::BytePos;
@@ -64,19 +63,26 @@ fn lacks_memory(answer: &PResult<Script>) -> bool
 }
 
 /// Reports an answer and the faults beside it.
-fn reported(alloc: Global, answer: &PResult<Script>, faults: &[Error]) -> Result<Report, Fault>
+fn reported(alloc: Global, answer: &PResult<Script>, faults: &[Error]) -> Result<Report, AllocError>
     ensures verdict { IfOk result (λ report. report.verdict ≡ verdict_of (seen answer.now) (faults_of faults.now)) }
     ensures lines { IfOk result (λ report. string_bytes report.lines ≡ answer_lines (seen answer.now) (faults_of faults.now)) }
     ensures found { IfOk result (λ _. IfErr answer.now (λ error. ¬ IsOutOfMemory error)) }
-    ensures err { IfErr result (λ fault. fault ≡ Fault.OutOfMemory) }
 {
     if lacks_memory(answer) {
-        return Err(Fault::OutOfMemory);
+        return Err(AllocError);
     }
     Ok(Report {
         verdict: judge(answer, faults),
         lines: lines(alloc, answer, faults)?,
     })
+}
+
+/// Drops an answer.
+pub fn discard(answer: PResult<Script>) {
+    match answer {
+        Ok(script) => script.discard(),
+        Err(_error) => {}
+    }
 }
 
 /// A parser of a text, in the default settings.
@@ -93,19 +99,20 @@ fn parser_of(alloc: Global, text: &str) -> Parser<Lexer<'_>>
 
 /// Parses a text as a script. The report is clean exactly where the text spells a tree of the forms that are read so far, and
 /// then its lines are that tree's, unless memory runs out.
-pub fn parse(alloc: Global, text: &str) -> Result<Report, Fault>
+pub fn parse(alloc: Global, text: &str) -> Result<Report, AllocError>
     requires { length text.now < 2 ^ 32 }
     ensures clean { IfOk result (λ report. report.verdict ≡ Verdict.Clean
         → (x : Tree) × Spells text.now x × (string_bytes report.lines ≡ answer_lines (Ok x) [])) }
     ensures spelled { (x : Tree) → Spells text.now x
         → IfOk result (λ report. (report.verdict ≡ Verdict.Clean) × (string_bytes report.lines ≡ answer_lines (Ok x) [])) }
-    ensures err { IfErr result (λ fault. fault ≡ Fault.OutOfMemory) }
 {
     let mut parser = parser_of(alloc, text);
     if parser.lacks_memory() {
-        return Err(Fault::OutOfMemory);
+        return Err(AllocError);
     }
     let answer = parser.parse_script();
     let faults = parser.take_errors();
-    reported(alloc, &answer, faults.as_slice())
+    let report = reported(alloc, &answer, faults.as_slice());
+    discard(answer);
+    report
 }

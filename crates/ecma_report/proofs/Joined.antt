@@ -5,7 +5,7 @@ use Rattle.swc_ecma_parser_model.specs.Held.{Held}
 use Rattle.swc_ecma_parser_model.specs.Tree.{trees}
 use Rattle.swc_ecma_parser_ast.specs.declared.stmt.Stmt.{Stmt}
 use Rattle.swc_ecma_parser_ast.specs.View.{view_stmt}
-use Rattle.ecma_parse.specs.Lines.{item_line, item_lines}
+use Rattle.ecma_report.specs.Lines.{item_line, item_lines}
 
 pub item_lines_listed : (xs : List (Stmt Held)) → item_lines (trees (map view_stmt xs)) ≡ flat_map (λ item. item_line (view_stmt item)) xs
 item_lines_listed [] = refl

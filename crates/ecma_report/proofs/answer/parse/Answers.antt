@@ -4,10 +4,10 @@ use Rattle.std.specs.Prelude.{IfOk}
 use Rattle.swc_ecma_parser_ast.specs.View.{view_script}
 use Rattle.swc_ecma_parser_error.specs.Kind.{faults_of}
 use Rattle.swc_ecma_parser_reader.specs.Entry.{unmarked, SoundScript, CompleteScript}
-use Rattle.ecma_parse.specs.Lines.{seen}
-use Rattle.ecma_parse.specs.Spelled.{start_of}
-use Rattle.ecma_parse.proofs.Reported.{neither, clean_is_spelled, spelled_is_clean, clean_report, spelled_report, reported_with}
-use Rattle.ecma_parse.proofs.answer.parse.Goals as goal
+use Rattle.ecma_report.specs.Lines.{seen}
+use Rattle.ecma_report.specs.Spelled.{start_of}
+use Rattle.ecma_report.proofs.Reported.{neither, clean_is_spelled, spelled_is_clean, clean_report, spelled_report, reported_with}
+use Rattle.ecma_report.proofs.answer.parse.Goals as goal
 
 pub returns-clause-clean : goal.returns-clause-clean
 returns-clause-clean c =

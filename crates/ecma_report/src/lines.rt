@@ -5,7 +5,7 @@ ghost use Rattle.std.specs.List.{flat_map};
 ghost use Rattle.swc_ecma_parser_error.specs.Kind.{fault_of, faults_of};
 ghost use Rattle.swc_ecma_parser_model.specs.Tree.{trees};
 ghost use Rattle.swc_ecma_parser_ast.specs.View.{view_stmt, view_script};
-ghost use Rattle.ecma_parse.specs.Lines.{node_line, fault_line, form_name, item_line, item_lines, script_lines, answer_lines, seen};
+ghost use Rattle.ecma_report.specs.Lines.{node_line, fault_line, form_name, item_line, item_lines, script_lines, answer_lines, seen};
 
 use std::alloc::{AllocError, Global};
 use swc_ecma_parser::ast::{Decl, Script, Stmt};

@@ -2,8 +2,13 @@
 use Rattle.std.proofs.Common.{◌≡◌, Bool, true, false, List, [], ◌∷◌, ◌++◌, Result, Ok, Err, refl, sym, ◌∙◌, ap, subst, append-nil}
 use Rattle.std.proofs.Common.{inl}
 use Rattle.std.specs.Prelude.{◌||◌, IfOk, IfErr, ℕ, string_bytes}
+use Rattle.std.specs.Str.{chars}
+use Rattle.swc_ecma_parser_common.specs.declared.span.BytePos.{BytePos}
 use Rattle.swc_ecma_parser_error.specs.declared.error.Error.{Error}
 use Rattle.swc_ecma_parser_error.specs.Kind.{Fault, fault_of, IsOutOfMemory}
+use Rattle.swc_ecma_parser_input.specs.declared.syntax.Syntax.{Syntax}
+use Rattle.swc_ecma_parser_input.specs.Setting.{plain}
+use Rattle.swc_ecma_parser_lexer.specs.Source.{outset}
 use Rattle.swc_ecma_parser_model.specs.Held.{Held}
 use Rattle.swc_ecma_parser_model.specs.Tree.{Tree}
 use Rattle.swc_ecma_parser_ast.specs.declared.script.Script.{Script}
@@ -12,12 +17,13 @@ use Rattle.swc_ecma_parser_grammar.specs.Entries.{script_code}
 use Rattle.swc_ecma_parser_grammar.specs.language.Programs as programs
 use Rattle.swc_ecma_parser_grammar.specs.Walk.{walk, env_of}
 use Rattle.swc_ecma_parser_reader.specs.State.{State, Outcome}
+use Rattle.swc_ecma_parser_state.specs.Opened.{opened}
 use Rattle.swc_ecma_parser_reader.specs.Entry.{unmarked, SoundScript, CompleteScript, script_walk}
-use Rattle.ecma_parse.specs.declared.answer.Verdict.TheVariants as verdict
-use Rattle.ecma_parse.specs.declared.answer.Report.{Report}
-use Rattle.ecma_parse.specs.Lines.{seen, answer_lines}
-use Rattle.ecma_parse.specs.Spelled.{start_of, Spells}
-use Rattle.ecma_parse.specs.Verdicts.{verdict_of}
+use Rattle.ecma_report.specs.declared.answer.Verdict.TheVariants as verdict
+use Rattle.ecma_report.specs.declared.answer.Report.{Report}
+use Rattle.ecma_report.specs.Lines.{seen, answer_lines}
+use Rattle.ecma_report.specs.Spelled.{start_of, Spells}
+use Rattle.ecma_report.specs.Verdicts.{verdict_of}
 
 -- a tree and no faults beside it
 no_faults : (x : Tree) (fs : List Fault) → verdict_of (Ok x) fs ≡ verdict.Clean → fs ≡ []
@@ -91,3 +97,8 @@ module _ {E : Type 0} where
   pub reported_with : {P Q : Type 0} (r : Result Report E) → IfOk r (λ _. P) → (P → Q) → IfOk r (λ _. Q)
   reported_with (Ok p) h f = f h
   reported_with (Err e) h f = tt
+
+-- a parser in the plain settings begins at its text
+pub begins : (settings : Syntax) (start : BytePos) (text given : List ℕ) → settings ≡ plain → start ≡ record { 0 = 0 } → given ≡ text
+    → opened (outset settings start (chars given)) ≡ start_of text
+begins settings start text given e f g = rw (e, f, g) refl

@@ -23,13 +23,30 @@ node_line kind span = kind ++ (codes " " ++ (place span ++ 10 ∷ []))
 abbrev pub fault_line : List ℕ → Fault → List ℕ
 fault_line word fault = word ++ (codes " " ++ (place fault.span ++ (codes " " ++ (name_of fault.kind ++ 10 ∷ []))))
 
--- the name of an item's form
+-- the name of an item's form; of a declaration, that of its own form
 abbrev pub form_name : Tree → List ℕ
-form_name (tree.block s body) = codes "Block"
+form_name (tree.class_decl name body) = codes "Class"
+form_name (tree.fn_decl name fn) = codes "Fn"
+form_name (tree.var s kind decls) = codes "Var"
+form_name (tree.using s is_await decls) = codes "Using"
+form_name (tree.block s stmts) = codes "Block"
 form_name (tree.empty s) = codes "Empty"
 form_name (tree.debugger s) = codes "Debugger"
-form_name (tree.var s kind decls) = codes "Var"
-form_name (tree.expr_stmt s e) = codes "Expr"
+form_name (tree.with s obj body) = codes "With"
+form_name (tree.return s arg) = codes "Return"
+form_name (tree.labeled s label body) = codes "Labeled"
+form_name (tree.break s label) = codes "Break"
+form_name (tree.continue s label) = codes "Continue"
+form_name (tree.if_stmt s test cons alt) = codes "If"
+form_name (tree.switch s discriminant cases) = codes "Switch"
+form_name (tree.throw s arg) = codes "Throw"
+form_name (tree.try s body handler finalizer) = codes "Try"
+form_name (tree.while s test body) = codes "While"
+form_name (tree.do_while s test body) = codes "DoWhile"
+form_name (tree.for s init test next body) = codes "For"
+form_name (tree.for_in s left right body) = codes "ForIn"
+form_name (tree.for_of s is_await left right body) = codes "ForOf"
+form_name (tree.expr_stmt s expr) = codes "Expr"
 form_name _ = []
 
 -- an item's line, two spaces further in
