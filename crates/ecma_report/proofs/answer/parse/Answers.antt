@@ -18,7 +18,7 @@ returns-clause-clean c =
     let begins : s ≡ start_of c.args.text.now = c.parser_of-parser.ensures.state found.0 found.1 in
     let sound = subst (λ n. IfOk c.parse_script-answer.result (λ x. SoundScript n (unmarked s) (view_script x) t)) c.parser_of-parser.ensures.limit c.parse_script-answer.ensures.sound in
     let same : fs ≡ t.faults = ap faults_of c.as_slice.ensures.value ∙ c.take_errors-faults.ensures.errors in
-    clean_report c.args.text.now c.reported.result (seen c.parse_script-answer.result) fs c.reported.ensures.verdict c.reported.ensures.lines
+    clean_report c.args.text.now c.reported-report.result (seen c.parse_script-answer.result) fs c.reported-report.ensures.verdict c.reported-report.ensures.lines
     (clean_is_spelled c.args.text.now t c.parse_script-answer.result s begins sound fs same)
 
 pub returns-clause-spelled : goal.returns-clause-spelled
@@ -30,5 +30,5 @@ returns-clause-spelled c = λ x p.
     let begins : s ≡ start_of c.args.text.now = c.parser_of-parser.ensures.state found.0 found.1 in
     let complete = subst (λ n. CompleteScript view_script n (unmarked s) c.parse_script-answer.result t) c.parser_of-parser.ensures.limit c.parse_script-answer.ensures.complete in
     let same : fs ≡ t.faults = ap faults_of c.as_slice.ensures.value ∙ c.take_errors-faults.ensures.errors in
-    spelled_report x c.reported.result (seen c.parse_script-answer.result) fs c.reported.ensures.verdict c.reported.ensures.lines
-    (reported_with c.reported.result c.reported.ensures.found (λ m. spelled_is_clean c.args.text.now t c.parse_script-answer.result s begins complete m fs same x p))
+    spelled_report x c.reported-report.result (seen c.parse_script-answer.result) fs c.reported-report.ensures.verdict c.reported-report.ensures.lines
+    (reported_with c.reported-report.result c.reported-report.ensures.found (λ m. spelled_is_clean c.args.text.now t c.parse_script-answer.result s begins complete m fs same x p))
