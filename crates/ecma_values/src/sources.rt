@@ -21,11 +21,11 @@ fn place(token: Token, low: u32, high: u32) -> TokenAndSpan {
 
 /// The tokens of `;{}`, from 5 on.
 fn tokens(alloc: Global) -> Result<Vec<TokenAndSpan>, AllocError> {
-    vec![in alloc;
-        place(Token::Semi, 5, 6),
-        place(Token::LBrace, 6, 7),
-        place(Token::RBrace, 7, 8),
-    ]
+    let mut tokens = Vec::new(alloc);
+    tokens.push(place(Token::Semi, 5, 6))?;
+    tokens.push(place(Token::LBrace, 6, 7))?;
+    tokens.push(place(Token::RBrace, 7, 8))?;
+    Ok(tokens)
 }
 
 /// A source of them.
