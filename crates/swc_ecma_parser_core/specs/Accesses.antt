@@ -1,0 +1,19 @@
+-- What stands behind an object, as a part of the model's tree.
+use Rattle.swc_ecma_parser_common.specs.declared.span.Span.{Span}
+use Rattle.swc_ecma_parser_model.specs.declared.leaves.Ident.{Ident}
+use Rattle.swc_ecma_parser_model.specs.declared.leaves.PrivateName.{PrivateName}
+use Rattle.swc_ecma_parser_model.specs.Tree as tree
+use Rattle.swc_ecma_parser_model.specs.Tree.{Tree}
+use Rattle.swc_ecma_parser_core.specs.declared.access.Property.{Property}
+use Rattle.swc_ecma_parser_core.specs.declared.access.Property.TheVariants as access
+
+abbrev pub word_of : Ident → Tree
+word_of i = tree.ident i.span i.sym
+
+abbrev pub private_of : PrivateName → Tree
+private_of x = tree.private_name x.span x.id.span x.id.sym
+
+abbrev pub property_of : {E : Type 0} → (E → Tree) → Property E → Tree
+property_of view (access.Word i) = word_of i
+property_of view (access.Private x) = private_of x
+property_of view (access.Brackets s e) = tree.computed s (view e)
