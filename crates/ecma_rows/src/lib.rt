@@ -4,8 +4,6 @@
 #[cfg(test)]
 mod deep;
 #[cfg(test)]
-mod expressions;
-#[cfg(test)]
 mod nodes;
 #[cfg(test)]
 mod parsers;

@@ -9,3 +9,5 @@ mod places;
 mod sources;
 #[cfg(test)]
 mod tokens;
+#[cfg(test)]
+mod trees;

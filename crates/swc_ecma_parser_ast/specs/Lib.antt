@@ -1,5 +1,3 @@
-pub mod Parts
 pub mod View
-pub mod Nodes
 pub mod Equal
 pub mod Falls

@@ -1,5 +1,4 @@
-pub mod Tests
-pub mod SupportedBegins
+pub mod Stops
 pub mod Widens
 pub mod Narrows
 pub mod FewFlags

@@ -11,4 +11,3 @@ pub mod Walk
 pub mod Levels
 pub mod Supported
 pub mod language
-pub mod ReadsSupported

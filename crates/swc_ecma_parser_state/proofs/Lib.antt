@@ -1,5 +1,3 @@
 pub mod Primitives
 pub mod Taken
 pub mod Contexts
-pub mod Words
-pub mod Rejects
