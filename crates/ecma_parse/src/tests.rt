@@ -125,7 +125,8 @@ fn texts(rt: HostRuntime) -> Result<(), Fail> {
             "{ var a",
             "Script 0..7\n  Block 0..7\nfault 6..7 Expected\n||1",
         ),
-        ("a\n(b)", "refused 2..3 Unexpected\n||2"),
+        ("a\n(b)", "Script 0..5\n  Expr 0..5\n||0"),
+        ("{ if (a) b }", "refused 2..4 Unexpected\n||2"),
         (
             "a \\",
             "fault 2..3 UnexpectedChar\nrefused 2..3 ExpectedSemiForExprStmt\n||2",

@@ -98,6 +98,11 @@ module _ {E : Type 0} where
   reported_with (Ok p) h f = f h
   reported_with (Err e) h f = tt
 
+-- what holds of what is shown, says more of it
+pub shown_with : {X E : Type 0} {P Q : X → Type 0} (r : Result X E) → IfOk r P → ((x : X) → P x → Q x) → IfOk r Q
+shown_with (Ok x) h f = f x h
+shown_with (Err e) h f = tt
+
 -- a parser in the plain settings begins at its text
 pub begins : (settings : Syntax) (start : BytePos) (text given : List ℕ) → settings ≡ plain → start ≡ record { 0 = 0 } → given ≡ text
     → opened (outset settings start (chars given)) ≡ start_of text

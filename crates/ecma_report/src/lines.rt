@@ -4,13 +4,25 @@ ghost use Rattle.std.specs.Prelude.{◌≡◌, ◌++◌, OnOk, IfOk, Ok, Err, co
 ghost use Rattle.std.specs.List.{flat_map};
 ghost use Rattle.swc_ecma_parser_error.specs.Kind.{fault_of, faults_of};
 ghost use Rattle.swc_ecma_parser_model.specs.Tree.{trees};
-ghost use Rattle.swc_ecma_parser_ast.specs.View.{view_stmt, view_script};
+ghost use Rattle.swc_ecma_parser_ast.specs.View.{view_decl, view_stmt, view_script};
 ghost use Rattle.ecma_report.specs.Lines.{node_line, fault_line, form_name, item_line, item_lines, script_lines, answer_lines, seen};
 
 use std::alloc::{AllocError, Global};
 use swc_ecma_parser::ast::{Decl, Script, Stmt};
 use swc_ecma_parser::common::{Span, Spanned};
 use swc_ecma_parser::error::{Error, PResult};
+
+/// The name of a declaration's variant.
+fn declaration_kind(decl: &Decl) -> &'static str
+    ensures { result.now ≡ form_name (view_decl decl.now) }
+{
+    match decl {
+        Decl::Class(_) => "Class",
+        Decl::Fn(_) => "Fn",
+        Decl::Var(_) => "Var",
+        Decl::Using(_) => "Using",
+    }
+}
 
 /// The name of a statement's variant, or of a declaration's.
 fn kind_name(stmt: &Stmt) -> &'static str
@@ -20,7 +32,21 @@ fn kind_name(stmt: &Stmt) -> &'static str
         Stmt::Block(_) => "Block",
         Stmt::Empty(_) => "Empty",
         Stmt::Debugger(_) => "Debugger",
-        Stmt::Decl(Decl::Var(_)) => "Var",
+        Stmt::With(_) => "With",
+        Stmt::Return(_) => "Return",
+        Stmt::Labeled(_) => "Labeled",
+        Stmt::Break(_) => "Break",
+        Stmt::Continue(_) => "Continue",
+        Stmt::If(_) => "If",
+        Stmt::Switch(_) => "Switch",
+        Stmt::Throw(_) => "Throw",
+        Stmt::Try(_) => "Try",
+        Stmt::While(_) => "While",
+        Stmt::DoWhile(_) => "DoWhile",
+        Stmt::For(_) => "For",
+        Stmt::ForIn(_) => "ForIn",
+        Stmt::ForOf(_) => "ForOf",
+        Stmt::Decl(decl) => declaration_kind(decl),
         Stmt::Expr(_) => "Expr",
     }
 }

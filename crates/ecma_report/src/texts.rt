@@ -1,10 +1,13 @@
 //! What a parser answers, as texts.
 
 ghost use Rattle.std.specs.Prelude.{◌≡◌, [], IfOk, Result, string_bytes};
-ghost use Rattle.swc_ecma_parser_error.specs.Kind.{Fault, faults_of};
-ghost use Rattle.swc_ecma_parser_model.specs.Tree.{Tree};
+ghost use Rattle.swc_ecma_parser_ast.specs.View.{view_script};
+ghost use Rattle.swc_ecma_parser_ast.specs.declared.script.Script.{Script};
+ghost use Rattle.swc_ecma_parser_error.specs.Kind.{faults_of};
+ghost use Rattle.swc_ecma_parser_error.specs.declared.error.Error.{Error};
+ghost use Rattle.swc_ecma_parser_model.specs.Held.{Held};
 ghost use Rattle.swc_ecma_parser_reader.specs.State.{State};
-ghost use Rattle.swc_ecma_parser_reader.specs.Entry.{unmarked, SoundScript};
+ghost use Rattle.swc_ecma_parser_reader.specs.Entry.{unmarked, SoundScript, CompleteScript};
 ghost use Rattle.ecma_report.specs.Lines.{answer_lines, seen};
 
 use crate::answer::discard;
@@ -44,12 +47,14 @@ fn texts(alloc: Global, answer: &PResult<Script>, faults: &[Error]) -> Result<Sh
     })
 }
 
-/// Has a parser read a script, and takes the faults that it recorded. The lines are those of an answer `a` and of the faults
-/// of the state `t` behind it, in which the parser is left but for them.
+/// Has a parser read a script, and takes the faults that it recorded. The lines are those of an answer and of the faults of the
+/// state `t` behind it, in which the parser is left but for them. A tree among them is sound, and each supported tree within
+/// the limit that spells the parser's list is that answer.
 pub fn show<I: Tokens>(alloc: Global, parser: &mut Parser<I>) -> Result<Shown, AllocError>
-    ensures { IfOk result (λ shown. (a : Result Tree Fault) × (t : State) × (parser.new.state ≡ record t { faults = [] })
-        × (string_bytes shown.lines ≡ answer_lines a t.faults)
-        × IfOk a (λ x. SoundScript parser.old.limit (unmarked parser.old.state) x t)) }
+    ensures { IfOk result (λ shown. (answer : Result (Script Held) Error) × (t : State) × (parser.new.state ≡ record t { faults = [] })
+        × (string_bytes shown.lines ≡ answer_lines (seen answer) t.faults)
+        × IfOk answer (λ x. SoundScript parser.old.limit (unmarked parser.old.state) (view_script x) t)
+        × CompleteScript view_script parser.old.limit (unmarked parser.old.state) answer t) }
 {
     let answer = parser.parse_script();
     let faults = parser.take_errors();

@@ -18,6 +18,9 @@ fn texts_that_nest_too_deep(rt: HostRuntime) -> Result<(), Fail> {
     for (text, wanted) in [
         ("{", "refused 1000..1001 TooDeep\n"),
         ("(", "refused 999..1000 TooDeep\n"),
+        ("[", "refused 999..1000 TooDeep\n"),
+        ("~", "refused 999..1000 TooDeep\n"),
+        ("a=", "refused 1998..1999 TooDeep\n"),
     ] {
         let text = repeated(rt.alloc(), text)?;
         let found = outcome(rt.alloc(), text.as_str(), 1000)?;

@@ -4,6 +4,8 @@
 #[cfg(test)]
 mod deep;
 #[cfg(test)]
+mod expressions;
+#[cfg(test)]
 mod nodes;
 #[cfg(test)]
 mod parsers;

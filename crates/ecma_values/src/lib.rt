@@ -9,5 +9,3 @@ mod places;
 mod sources;
 #[cfg(test)]
 mod tokens;
-#[cfg(test)]
-mod trees;

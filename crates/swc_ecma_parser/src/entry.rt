@@ -1,23 +1,25 @@
 //! What every entry does around its rules: the context is set and set back, and what a call met is answered.
 
 ghost use Rattle.std.specs.Prelude.{◌≡◌, Some, None, [], IfErr, IfOk, OnErr, IsOk};
-ghost use Rattle.swc_ecma_parser_ast.specs.View.{view_script};
 ghost use Rattle.swc_ecma_parser_error.specs.Kind.{IsOutOfMemory};
 ghost use Rattle.swc_ecma_parser_reader.specs.Entry.{unmarked, AnswersScript, IsRestored};
 
 use std::alloc::Global;
-use swc_ecma_parser_ast::Script;
-use swc_ecma_parser_ast_trees::Ast;
 use swc_ecma_parser_core::script::script_body;
 use swc_ecma_parser_error::PResult;
 use swc_ecma_parser_input::Tokens;
 use swc_ecma_parser_state::State;
-use swc_ecma_parser_trees::{Maker, MakerOf};
+use swc_ecma_parser_trees::{
+    BuildsCall, BuildsExpr, BuildsObject, BuildsOperator, BuildsPat, BuildsStmt, Maker, MakerOf,
+};
 
 /// A script, whose items may stand so many levels deep.
 #[tactic(auto, unfolding(swc_ecma_parser_reader::specs::Reader::script))]
-pub fn script<I: Tokens>(alloc: Global, state: &mut State<I>, limit: usize) -> PResult<Script>
-    ensures answers { AnswersScript view_script limit (unmarked state.old) result state.new }
+pub fn script<
+    I: Tokens,
+    T: BuildsExpr + BuildsCall + BuildsObject + BuildsOperator + BuildsPat + BuildsStmt,
+>(alloc: Global, state: &mut State<I>, limit: usize) -> PResult<T::Script>
+    ensures answers { AnswersScript T.script_of limit (unmarked state.old) result state.new }
     ensures outright { state.old.at.left ≡ [] → IsOk result }
     ensures refused { OnErr result (IsRestored state.old state.new) }
 {
@@ -26,8 +28,8 @@ pub fn script<I: Tokens>(alloc: Global, state: &mut State<I>, limit: usize) -> P
     state.begin();
     state.enter_script();
     let inner = state.flags();
-    let maker: MakerOf<Ast> = Maker::new(alloc);
-    let read = script_body::<State<I>, Ast>(&maker, state, limit);
+    let maker: MakerOf<T> = Maker::new(alloc);
+    let read = script_body::<State<I>, T>(&maker, state, limit);
     maker.finish();
     match read {
         Ok(script) => {

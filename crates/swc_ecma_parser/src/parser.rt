@@ -16,6 +16,7 @@ use crate::entry::script;
 use std::alloc::Global;
 use std::marker::Model;
 use swc_ecma_parser_ast::Script;
+use swc_ecma_parser_ast_trees::Ast;
 use swc_ecma_parser_common::Comment;
 use swc_ecma_parser_error::{Error, PResult};
 use swc_ecma_parser_input::{CommentSource, Tokens};
@@ -101,7 +102,7 @@ impl<I: Tokens> Parser<I> {
         let alloc = self.alloc;
         let limit = self.limit as usize;
         let state = &mut self.state;
-        script(alloc, state, limit)
+        script::<I, Ast>(alloc, state, limit)
     }
 
     /// Whether memory ran out for one of the two tokens that were read ahead, as by the functions that make a parser. A call

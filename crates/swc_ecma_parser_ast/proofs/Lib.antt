@@ -1,4 +1,8 @@
 pub mod Derived
+pub mod DerivedItem
+pub mod Differ
+pub mod Apart
 pub mod Alike
+pub mod AlikeItem
 pub mod Measured
 pub mod Directive

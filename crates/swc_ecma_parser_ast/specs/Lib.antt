@@ -1,3 +1,5 @@
+pub mod Parts
 pub mod View
+pub mod Nodes
 pub mod Equal
 pub mod Falls

@@ -1,5 +1,7 @@
 ghost use Rattle.std.specs.Prelude.{◌≡◌};
 
+use crate::class::ClassDecl;
+use crate::function::FnDecl;
 use crate::node::{ExprBox, Node};
 use crate::pat::Pat;
 use swc_ecma_parser_common::{Span, Spanned};
@@ -8,7 +10,10 @@ use swc_ecma_parser_model::VarDeclKind;
 /// A declaration (ECMA-262, 14.3).
 #[derive(Debug, PartialEq, Eq, Drop)]
 pub enum Decl<N = Node> {
+    Class(ClassDecl<N>),
+    Fn(FnDecl<N>),
     Var(VarDecl<N>),
+    Using(UsingDecl<N>),
 }
 
 /// A declaration of variables (ECMA-262, 14.3.1 and 14.3.2). The span ends with its `;`, if it has one.
@@ -23,8 +28,16 @@ pub struct VarDecl<N = Node> {
 #[derive(Debug, PartialEq, Eq, Drop)]
 pub struct VarDeclarator<N = Node> {
     pub span: Span,
-    pub name: Pat,
+    pub name: Pat<N>,
     pub init: Option<ExprBox<N>>,
+}
+
+/// A declaration of resources that are disposed of at the end of their block (ECMA-262, 14.3.1). The span ends with its `;`, if it has one.
+#[derive(Debug, PartialEq, Eq, Drop)]
+pub struct UsingDecl<N = Node> {
+    pub span: Span,
+    pub is_await: bool,
+    pub decls: Vec<VarDeclarator<N>>,
 }
 
 impl Spanned for Decl {
@@ -35,7 +48,10 @@ impl Spanned for Decl {
 
     fn span(&self) -> Span {
         match self {
+            Decl::Class(x) => x.span(),
+            Decl::Fn(x) => x.span(),
             Decl::Var(x) => x.span(),
+            Decl::Using(x) => x.span(),
         }
     }
 }
@@ -49,6 +65,14 @@ impl<N> Spanned for VarDecl<N> {
 }
 
 impl<N> Spanned for VarDeclarator<N> {
+    ghost span_of = { λ x. x.span };
+
+    fn span(&self) -> Span {
+        self.span
+    }
+}
+
+impl<N> Spanned for UsingDecl<N> {
     ghost span_of = { λ x. x.span };
 
     fn span(&self) -> Span {

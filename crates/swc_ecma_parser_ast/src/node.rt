@@ -3,18 +3,32 @@
 
 ghost use Rattle.std.specs.Prelude.{◌≡◌, false, IfOk, MatchOption, map};
 ghost use Rattle.swc_ecma_parser_model.specs.Tree.{listed};
-ghost use Rattle.swc_ecma_parser_model.specs.Kinds.{is_expr, is_list};
-ghost use Rattle.swc_ecma_parser_ast.specs.View.{view_expr, view_stmt};
+ghost use Rattle.swc_ecma_parser_model.specs.Kinds.{is_expr, is_pat, is_stmt, is_list};
+ghost use Rattle.swc_ecma_parser_ast.specs.View.{view_expr, view_pat, view_stmt};
 ghost use Rattle.swc_ecma_parser_ast.specs.Equal as equal;
 
 use crate::expr::Expr;
+use crate::pat::Pat;
 use crate::stmt::Stmt;
 use std::alloc::{AllocError, Global};
 use std::marker::Model;
+use swc_ecma_parser_common::{BytePos, Span, Spanned};
 
 /// A boxed expression.
 #[derive(Debug, PartialEq, Eq, Drop)]
 pub struct ExprBox<N = Node> {
+    node: N,
+}
+
+/// A boxed pattern.
+#[derive(Debug, PartialEq, Eq, Drop)]
+pub struct PatBox<N = Node> {
+    node: N,
+}
+
+/// A boxed statement.
+#[derive(Debug, PartialEq, Eq, Drop)]
+pub struct StmtBox<N = Node> {
     node: N,
 }
 
@@ -29,6 +43,8 @@ pub struct StmtList<N = Node> {
 #[derive(Debug, Drop)]
 pub enum Any {
     Expr(Box<Expr<Node>>),
+    Pat(Box<Pat<Node>>),
+    Stmt(Box<Stmt<Node>>),
     Stmts(Vec<Stmt<Node>>),
 }
 
@@ -47,7 +63,7 @@ impl Model for Node {
 
     ghost coded = { coded_held };
 
-    ghost use Rattle.swc_ecma_parser_ast.specs.View.{view_any};
+    ghost use Rattle.swc_ecma_parser_ast.specs.Nodes.{view_any};
 
     ghost view = { λ b. view_any b.inner };
 
@@ -60,7 +76,7 @@ impl Model for Node {
 
 impl PartialEq for Any {
     ghost use Rattle.swc_ecma_parser_model.specs.Held.{same_held};
-    ghost use Rattle.swc_ecma_parser_ast.specs.View.{view_any, same_any_laws};
+    ghost use Rattle.swc_ecma_parser_ast.specs.Nodes.{view_any, same_any_laws};
 
     ghost eq = { λ x y. same_held (view_any x) (view_any y) };
 
@@ -71,11 +87,27 @@ impl PartialEq for Any {
         match self {
             Any::Expr(a) => match other {
                 Any::Expr(b) => equal_exprs(a, b),
+                Any::Pat(_) => false,
+                Any::Stmt(_) => false,
+                Any::Stmts(_) => false,
+            },
+            Any::Pat(a) => match other {
+                Any::Pat(b) => equal_pats(a, b),
+                Any::Expr(_) => false,
+                Any::Stmt(_) => false,
+                Any::Stmts(_) => false,
+            },
+            Any::Stmt(a) => match other {
+                Any::Stmt(b) => equal_boxed_stmts(a, b),
+                Any::Expr(_) => false,
+                Any::Pat(_) => false,
                 Any::Stmts(_) => false,
             },
             Any::Stmts(a) => match other {
                 Any::Stmts(b) => equal_stmts(a, b),
                 Any::Expr(_) => false,
+                Any::Pat(_) => false,
+                Any::Stmt(_) => false,
             },
         }
     }
@@ -84,6 +116,20 @@ impl PartialEq for Any {
 /// `==`, in a contract that stays small: one that is derived, at `Node`, would be spelled out in the proof of `Any::eq`.
 fn equal_exprs<N: PartialEq>(a: &Box<Expr<N>>, b: &Box<Expr<N>>) -> bool
     ensures { result ≡ equal.equal_expr N.eq a.now.value b.now.value }
+{
+    *a == *b
+}
+
+/// `==`, as `equal_exprs`.
+fn equal_pats<N: PartialEq>(a: &Box<Pat<N>>, b: &Box<Pat<N>>) -> bool
+    ensures { result ≡ equal.equal_pat N.eq a.now.value b.now.value }
+{
+    *a == *b
+}
+
+/// `==`, as `equal_exprs`.
+fn equal_boxed_stmts<N: PartialEq>(a: &Box<Stmt<N>>, b: &Box<Stmt<N>>) -> bool
+    ensures { result ≡ equal.equal_stmt N.eq a.now.value b.now.value }
 {
     *a == *b
 }
@@ -148,6 +194,74 @@ impl ExprBox<Node> {
     }
 }
 
+impl PatBox<Node> {
+    /// A handle of a pattern; it fails only where memory runs out.
+    pub fn new(alloc: Global, value: Pat<Node>) -> Result<PatBox<Node>, AllocError>
+        ensures { IfOk result (λ b. b.node.tree ≡ view_pat value) }
+    {
+        let inner = Any::Pat(Box::new(alloc, value)?);
+        Ok(PatBox {
+            node: Node { inner },
+        })
+    }
+
+    /// The pattern; none only of a handle that no function of this crate makes.
+    pub fn get(&self) -> Option<&Pat<Node>>
+        ensures { MatchOption result (is_pat self.now.node.tree ≡ false) (λ e. view_pat e.now ≡ self.now.node.tree) }
+    {
+        match &self.node.inner {
+            Any::Pat(e) => Some(e),
+            _ => None,
+        }
+    }
+
+    /// The pattern itself, in place of the handle.
+    pub fn into_inner(self) -> Option<Pat<Node>>
+        ensures { MatchOption result (is_pat self.node.tree ≡ false) (λ e. view_pat e ≡ self.node.tree) }
+    {
+        let PatBox { node } = self;
+        let Node { inner } = node;
+        match inner {
+            Any::Pat(e) => Some(Box::into_inner(e)),
+            _ => None,
+        }
+    }
+}
+
+impl StmtBox<Node> {
+    /// A handle of a statement; it fails only where memory runs out.
+    pub fn new(alloc: Global, value: Stmt<Node>) -> Result<StmtBox<Node>, AllocError>
+        ensures { IfOk result (λ b. b.node.tree ≡ view_stmt value) }
+    {
+        let inner = Any::Stmt(Box::new(alloc, value)?);
+        Ok(StmtBox {
+            node: Node { inner },
+        })
+    }
+
+    /// The statement; none only of a handle that no function of this crate makes.
+    pub fn get(&self) -> Option<&Stmt<Node>>
+        ensures { MatchOption result (is_stmt self.now.node.tree ≡ false) (λ e. view_stmt e.now ≡ self.now.node.tree) }
+    {
+        match &self.node.inner {
+            Any::Stmt(e) => Some(e),
+            _ => None,
+        }
+    }
+
+    /// The statement itself, in place of the handle.
+    pub fn into_inner(self) -> Option<Stmt<Node>>
+        ensures { MatchOption result (is_stmt self.node.tree ≡ false) (λ e. view_stmt e ≡ self.node.tree) }
+    {
+        let StmtBox { node } = self;
+        let Node { inner } = node;
+        match inner {
+            Any::Stmt(e) => Some(Box::into_inner(e)),
+            _ => None,
+        }
+    }
+}
+
 impl StmtList<Node> {
     /// A handle of a list of statements.
     pub fn new(stmts: Vec<Stmt<Node>>) -> StmtList<Node>
@@ -178,6 +292,23 @@ impl StmtList<Node> {
         match inner {
             Any::Stmts(xs) => Some(xs),
             _ => None,
+        }
+    }
+}
+
+impl Spanned for ExprBox {
+    ghost use Rattle.swc_ecma_parser_model.specs.Forms as model;
+    ghost use Rattle.swc_ecma_parser_ast.specs.Parts.{as_expr};
+
+    ghost span_of = { λ x. model.span_of (as_expr x.node.tree) };
+
+    fn span(&self) -> Span {
+        match self.get() {
+            Some(x) => x.span(),
+            None => Span {
+                lo: BytePos(0),
+                hi: BytePos(0),
+            },
         }
     }
 }

@@ -2,10 +2,13 @@ ghost use Rattle.std.specs.Prelude.{◌≡◌};
 ghost use Rattle.swc_ecma_parser_model.specs.Directive.{is_string_statement, is_use_strict};
 ghost use Rattle.swc_ecma_parser_ast.specs.View.{view_stmt};
 
+use crate::branch::{IfStmt, SwitchStmt, ThrowStmt, TryStmt};
 use crate::decl::Decl;
 use crate::expr::{Expr, Lit};
-use crate::node::{ExprBox, Node, StmtList};
+use crate::loops::{DoWhileStmt, ForInStmt, ForOfStmt, ForStmt, WhileStmt};
+use crate::node::{ExprBox, Node, StmtBox, StmtList};
 use swc_ecma_parser_common::{Span, Spanned};
+use swc_ecma_parser_model::Ident;
 
 /// A statement, or a declaration in its place (ECMA-262, 14).
 #[derive(Debug, PartialEq, Eq, Drop)]
@@ -13,6 +16,20 @@ pub enum Stmt<N = Node> {
     Block(BlockStmt<N>),
     Empty(EmptyStmt),
     Debugger(DebuggerStmt),
+    With(WithStmt<N>),
+    Return(ReturnStmt<N>),
+    Labeled(LabeledStmt<N>),
+    Break(BreakStmt),
+    Continue(ContinueStmt),
+    If(IfStmt<N>),
+    Switch(SwitchStmt<N>),
+    Throw(ThrowStmt<N>),
+    Try(TryStmt<N>),
+    While(WhileStmt<N>),
+    DoWhile(DoWhileStmt<N>),
+    For(ForStmt<N>),
+    ForIn(ForInStmt<N>),
+    ForOf(ForOfStmt<N>),
     Decl(Decl<N>),
     Expr(ExprStmt<N>),
 }
@@ -41,6 +58,43 @@ pub struct DebuggerStmt {
 pub struct ExprStmt<N = Node> {
     pub span: Span,
     pub expr: ExprBox<N>,
+}
+
+/// `with` (ECMA-262, 14.11).
+#[derive(Debug, PartialEq, Eq, Drop)]
+pub struct WithStmt<N = Node> {
+    pub span: Span,
+    pub obj: ExprBox<N>,
+    pub body: StmtBox<N>,
+}
+
+/// `return` (ECMA-262, 14.10). The span ends with its `;`, if it has one.
+#[derive(Debug, PartialEq, Eq, Drop)]
+pub struct ReturnStmt<N = Node> {
+    pub span: Span,
+    pub arg: Option<ExprBox<N>>,
+}
+
+/// A statement with a label (ECMA-262, 14.13).
+#[derive(Debug, PartialEq, Eq, Drop)]
+pub struct LabeledStmt<N = Node> {
+    pub span: Span,
+    pub label: Ident,
+    pub body: StmtBox<N>,
+}
+
+/// `break` (ECMA-262, 14.9). The span ends with its `;`, if it has one.
+#[derive(Debug, PartialEq, Eq, Drop)]
+pub struct BreakStmt {
+    pub span: Span,
+    pub label: Option<Ident>,
+}
+
+/// `continue` (ECMA-262, 14.8). The span ends with its `;`, if it has one.
+#[derive(Debug, PartialEq, Eq, Drop)]
+pub struct ContinueStmt {
+    pub span: Span,
+    pub label: Option<Ident>,
 }
 
 impl Stmt<Node> {
@@ -87,6 +141,20 @@ impl Spanned for Stmt {
             Stmt::Block(x) => x.span(),
             Stmt::Empty(x) => x.span(),
             Stmt::Debugger(x) => x.span(),
+            Stmt::With(x) => x.span(),
+            Stmt::Return(x) => x.span(),
+            Stmt::Labeled(x) => x.span(),
+            Stmt::Break(x) => x.span(),
+            Stmt::Continue(x) => x.span(),
+            Stmt::If(x) => x.span(),
+            Stmt::Switch(x) => x.span(),
+            Stmt::Throw(x) => x.span(),
+            Stmt::Try(x) => x.span(),
+            Stmt::While(x) => x.span(),
+            Stmt::DoWhile(x) => x.span(),
+            Stmt::For(x) => x.span(),
+            Stmt::ForIn(x) => x.span(),
+            Stmt::ForOf(x) => x.span(),
             Stmt::Decl(x) => x.span(),
             Stmt::Expr(x) => x.span(),
         }
@@ -118,6 +186,46 @@ impl Spanned for DebuggerStmt {
 }
 
 impl<N> Spanned for ExprStmt<N> {
+    ghost span_of = { λ x. x.span };
+
+    fn span(&self) -> Span {
+        self.span
+    }
+}
+
+impl<N> Spanned for WithStmt<N> {
+    ghost span_of = { λ x. x.span };
+
+    fn span(&self) -> Span {
+        self.span
+    }
+}
+
+impl<N> Spanned for ReturnStmt<N> {
+    ghost span_of = { λ x. x.span };
+
+    fn span(&self) -> Span {
+        self.span
+    }
+}
+
+impl<N> Spanned for LabeledStmt<N> {
+    ghost span_of = { λ x. x.span };
+
+    fn span(&self) -> Span {
+        self.span
+    }
+}
+
+impl Spanned for BreakStmt {
+    ghost span_of = { λ x. x.span };
+
+    fn span(&self) -> Span {
+        self.span
+    }
+}
+
+impl Spanned for ContinueStmt {
     ghost span_of = { λ x. x.span };
 
     fn span(&self) -> Span {

@@ -2,13 +2,32 @@
 #![tactic(auto)]
 
 ghost use Rattle.std.specs.Prelude.{◌≡◌, IfOk, map};
-ghost use Rattle.swc_ecma_parser_ast.specs.View.{view_expr, view_pat, view_declarator, view_stmt, view_script};
+ghost use Rattle.swc_ecma_parser_ast.specs.View.{view_pat, view_declarator, view_stmt, view_script};
+ghost use Rattle.swc_ecma_parser_ast_trees.specs.View.{view_made};
 
+mod block;
+mod boxes;
+mod call;
+mod class;
+mod control;
+mod decl;
+mod exports;
+mod function;
+mod imports;
+mod item;
+mod key;
+mod loops;
+mod made;
+mod object;
+mod operator;
+mod pattern;
+
+pub use made::Made;
 use std::alloc::{AllocError, Global};
 use swc_ecma_parser_ast::{
-    Atom, BigInt, BindingIdent, BlockStmt, Bool, DebuggerStmt, Decl, EmptyStmt, Expr, ExprBox,
-    ExprStmt, Ident, Lit, Null, Number, ParenExpr, Pat, Script, Span, Spanned, Stmt, StmtList, Str,
-    VarDecl, VarDeclKind, VarDeclarator,
+    Atom, BigInt, BindingIdent, BlockStmt, Bool, DebuggerStmt, Decl, EmptyStmt, Expr, ExprStmt,
+    Ident, Lit, Null, Number, ParenExpr, Pat, Script, Span, Spanned, Stmt, StmtList, Str, VarDecl,
+    VarDeclKind, VarDeclarator,
 };
 use swc_ecma_parser_trees::{BuildsExpr, BuildsPat, BuildsStmt, Trees};
 
@@ -16,7 +35,7 @@ use swc_ecma_parser_trees::{BuildsExpr, BuildsPat, BuildsStmt, Trees};
 pub struct Ast;
 
 impl Trees for Ast {
-    type Expr = Expr;
+    type Expr = Made;
 
     type Pat = Pat;
 
@@ -26,7 +45,7 @@ impl Trees for Ast {
 
     type Script = Script;
 
-    ghost expr_of = { view_expr };
+    ghost expr_of = { view_made };
 
     ghost pat_of = { view_pat };
 
@@ -40,26 +59,26 @@ impl Trees for Ast {
         stmt.is_use_strict()
     }
 
-    fn expr_span(expr: &Expr) -> Span {
-        expr.span()
+    fn expr_span(expr: &Made) -> Span {
+        expr.get().span()
     }
 
-    fn is_ident(expr: &Expr) -> bool {
-        match expr {
+    fn is_ident(expr: &Made) -> bool {
+        match expr.get() {
             Expr::Ident(_) => true,
             _ => false,
         }
     }
 
-    fn is_ident_named(expr: &Expr, name: &str) -> bool {
-        match expr {
+    fn is_ident_named(expr: &Made, name: &str) -> bool {
+        match expr.get() {
             Expr::Ident(ident) => ident.sym.as_str() == name,
             _ => false,
         }
     }
 
-    fn is_paren(expr: &Expr) -> bool {
-        match expr {
+    fn is_paren(expr: &Made) -> bool {
+        match expr.get() {
             Expr::Paren(_) => true,
             _ => false,
         }
@@ -67,33 +86,33 @@ impl Trees for Ast {
 }
 
 impl BuildsExpr for Ast {
-    fn ident(alloc: Global, ident: Ident) -> Result<Expr, AllocError> {
-        Ok(Expr::Ident(ident))
+    fn ident(alloc: Global, ident: Ident) -> Result<Made, AllocError> {
+        Made::new(alloc, Expr::Ident(ident))
     }
 
-    fn str(alloc: Global, str: Str) -> Result<Expr, AllocError> {
-        Ok(Expr::Lit(Lit::Str(str)))
+    fn str(alloc: Global, str: Str) -> Result<Made, AllocError> {
+        Made::new(alloc, Expr::Lit(Lit::Str(str)))
     }
 
-    fn bool(alloc: Global, bool: Bool) -> Result<Expr, AllocError> {
-        Ok(Expr::Lit(Lit::Bool(bool)))
+    fn bool(alloc: Global, bool: Bool) -> Result<Made, AllocError> {
+        Made::new(alloc, Expr::Lit(Lit::Bool(bool)))
     }
 
-    fn null(alloc: Global, null: Null) -> Result<Expr, AllocError> {
-        Ok(Expr::Lit(Lit::Null(null)))
+    fn null(alloc: Global, null: Null) -> Result<Made, AllocError> {
+        Made::new(alloc, Expr::Lit(Lit::Null(null)))
     }
 
-    fn num(alloc: Global, num: Number) -> Result<Expr, AllocError> {
-        Ok(Expr::Lit(Lit::Num(num)))
+    fn num(alloc: Global, num: Number) -> Result<Made, AllocError> {
+        Made::new(alloc, Expr::Lit(Lit::Num(num)))
     }
 
-    fn big_int(alloc: Global, big_int: BigInt) -> Result<Expr, AllocError> {
-        Ok(Expr::Lit(Lit::BigInt(big_int)))
+    fn big_int(alloc: Global, big_int: BigInt) -> Result<Made, AllocError> {
+        Made::new(alloc, Expr::Lit(Lit::BigInt(big_int)))
     }
 
-    fn paren(alloc: Global, span: Span, expr: Expr) -> Result<Expr, AllocError> {
-        let expr = ExprBox::new(alloc, expr)?;
-        Ok(Expr::Paren(ParenExpr { span, expr }))
+    fn paren(alloc: Global, span: Span, expr: Made) -> Result<Made, AllocError> {
+        let expr = expr.into_handle();
+        Made::new(alloc, Expr::Paren(ParenExpr { span, expr }))
     }
 }
 
@@ -111,14 +130,11 @@ impl BuildsStmt for Ast {
         alloc: Global,
         span: Span,
         name: Pat,
-        init: Option<Expr>,
+        init: Option<Made>,
     ) -> Result<VarDeclarator, AllocError>
-        ensures { IfOk result (λ x. view_declarator x ≡ tree.declarator span (view_pat name) (parts.part_of view_expr init)) }
+        ensures { IfOk result (λ x. view_declarator x ≡ tree.declarator span (view_pat name) (parts.part_of view_made init)) }
     {
-        let init = match init {
-            Some(expr) => Some(ExprBox::new(alloc, expr)?),
-            None => None,
-        };
+        let init = Made::optional(init);
         Ok(VarDeclarator { span, name, init })
     }
 
@@ -148,8 +164,8 @@ impl BuildsStmt for Ast {
         Ok(Stmt::Debugger(DebuggerStmt { span }))
     }
 
-    fn expr_stmt(alloc: Global, span: Span, expr: Expr) -> Result<Stmt, AllocError> {
-        let expr = ExprBox::new(alloc, expr)?;
+    fn expr_stmt(alloc: Global, span: Span, expr: Made) -> Result<Stmt, AllocError> {
+        let expr = expr.into_handle();
         Ok(Stmt::Expr(ExprStmt { span, expr }))
     }
 

@@ -1,15 +1,19 @@
 //! The readers that rules take as parameters, and the functions that tie rules and readers together, level by level.
 
+ghost use Rattle.swc_ecma_parser_reader.specs.Classes.{class_of};
+ghost use Rattle.swc_ecma_parser_reader.specs.Expressions as exprs;
 ghost use Rattle.swc_ecma_parser_reader.specs.Reader as rules;
 ghost use Rattle.swc_ecma_parser_reader.specs.State.{GivesAs};
 
-use crate::expr::whole_expr;
+use crate::operator::expr_level;
 use crate::pat::binding;
 use crate::stmt::level;
 use swc_ecma_parser_error::PResult;
-use swc_ecma_parser_grammar::Position;
+use swc_ecma_parser_grammar::{Class, Position};
 use swc_ecma_parser_state::Source;
-use swc_ecma_parser_trees::{BuildsExpr, BuildsPat, BuildsStmt, MakerOf};
+use swc_ecma_parser_trees::{
+    BuildsCall, BuildsExpr, BuildsObject, BuildsOperator, BuildsPat, BuildsStmt, MakerOf,
+};
 
 /// The readers of what stands one level deeper.
 #[derive(Clone, Copy)]
@@ -24,12 +28,10 @@ pub struct Grammar<S, E, N> {
 /// A statement in so many levels.
 #[cycle(knot)]
 #[tactic(auto, using(swc_ecma_parser_reader::proofs::Loops::stmt_lowest, swc_ecma_parser_reader::proofs::Loops::stmt_above))]
-pub fn stmt<P: Source, T: BuildsExpr + BuildsPat + BuildsStmt>(
-    t: &MakerOf<T>,
-    p: &mut P,
-    depth: usize,
-    at: Position,
-) -> PResult<T::Stmt>
+pub fn stmt<
+    P: Source,
+    T: BuildsExpr + BuildsCall + BuildsObject + BuildsOperator + BuildsPat + BuildsStmt,
+>(t: &MakerOf<T>, p: &mut P, depth: usize, at: Position) -> PResult<T::Stmt>
     ensures { GivesAs T.stmt_of (rules.stmt depth at (P.seen p.old)) result (P.seen p.new) }
 {
     if depth == 0 {
@@ -44,15 +46,14 @@ pub fn stmt<P: Source, T: BuildsExpr + BuildsPat + BuildsStmt>(
     level(&g, t, p, at)
 }
 
-/// An expression in so many levels.
+/// An expression of a class in so many levels.
 #[cycle(knot)]
-#[tactic(auto, using(swc_ecma_parser_reader::proofs::Loops::expr_lowest, swc_ecma_parser_reader::proofs::Loops::expr_above))]
-pub fn expr<P: Source, T: BuildsExpr + BuildsPat + BuildsStmt>(
-    t: &MakerOf<T>,
-    p: &mut P,
-    depth: usize,
-) -> PResult<T::Expr>
-    ensures { GivesAs T.expr_of (rules.expr depth (P.seen p.old)) result (P.seen p.new) }
+#[tactic(auto, using(swc_ecma_parser_reader::proofs::expressions::Loops::expr_lowest, swc_ecma_parser_reader::proofs::expressions::Loops::expr_above))]
+pub fn expr<
+    P: Source,
+    T: BuildsExpr + BuildsCall + BuildsObject + BuildsOperator + BuildsPat + BuildsStmt,
+>(t: &MakerOf<T>, p: &mut P, depth: usize, class: Class) -> PResult<T::Expr>
+    ensures { GivesAs T.expr_of (exprs.expr depth (class_of class) (P.seen p.old)) result (P.seen p.new) }
 {
     if depth == 0 {
         return Err(p.too_deep());
@@ -63,16 +64,15 @@ pub fn expr<P: Source, T: BuildsExpr + BuildsPat + BuildsStmt>(
         expr: expr::<P, T>,
         pat: pat::<P, T>,
     };
-    whole_expr(&g, t, p)
+    expr_level(&g, t, p, class)
 }
 
 /// A pattern in so many levels.
 #[tactic(auto, using(swc_ecma_parser_reader::proofs::Loops::pat_lowest, swc_ecma_parser_reader::proofs::Loops::pat_above))]
-pub fn pat<P: Source, T: BuildsExpr + BuildsPat + BuildsStmt>(
-    t: &MakerOf<T>,
-    p: &mut P,
-    depth: usize,
-) -> PResult<T::Pat>
+pub fn pat<
+    P: Source,
+    T: BuildsExpr + BuildsCall + BuildsObject + BuildsOperator + BuildsPat + BuildsStmt,
+>(t: &MakerOf<T>, p: &mut P, depth: usize) -> PResult<T::Pat>
     ensures { GivesAs T.pat_of (rules.pat depth (P.seen p.old)) result (P.seen p.new) }
 {
     if depth == 0 {

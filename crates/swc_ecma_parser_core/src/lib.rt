@@ -2,8 +2,12 @@
 //! their readers as parameters, so each is proved by itself; one function for each kind of node ties them together.
 #![tactic(auto)]
 
-pub mod expr;
+pub mod access;
+mod array;
 pub mod grammar;
+pub mod left;
+mod object;
+pub mod operator;
 pub mod pat;
 pub mod script;
 pub mod steps;

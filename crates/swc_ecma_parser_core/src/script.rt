@@ -12,7 +12,9 @@ use swc_ecma_parser_error::PResult;
 use swc_ecma_parser_grammar::Position;
 use swc_ecma_parser_state::Source;
 use swc_ecma_parser_token::TokenKind;
-use swc_ecma_parser_trees::{BuildsExpr, BuildsPat, BuildsStmt, MakerOf, Trees};
+use swc_ecma_parser_trees::{
+    BuildsCall, BuildsExpr, BuildsObject, BuildsOperator, BuildsPat, BuildsStmt, MakerOf, Trees,
+};
 
 /// A statement of the script itself.
 pub const TOP_ITEM: Position = Position {
@@ -40,11 +42,10 @@ fn direct<P: Source, T: Trees>(p: &mut P, directives: bool, x: &T::Stmt)
 
 /// The statements of a script, the first of which can be a directive.
 #[tactic(auto, unfolding(swc_ecma_parser_reader::specs::Reader::items), using(swc_ecma_parser_reader::proofs::Loops::items_stop, swc_ecma_parser_reader::proofs::Loops::items_err, crate::proofs::Items::script_more, swc_ecma_parser_reader::proofs::Loops::stmt_shorter, std::proofs::lemmas::List::map_push))]
-fn items<P: Source, T: BuildsExpr + BuildsPat + BuildsStmt>(
-    t: &MakerOf<T>,
-    p: &mut P,
-    limit: usize,
-) -> PResult<Vec<T::Stmt>>
+fn items<
+    P: Source,
+    T: BuildsExpr + BuildsCall + BuildsObject + BuildsOperator + BuildsPat + BuildsStmt,
+>(t: &MakerOf<T>, p: &mut P, limit: usize) -> PResult<Vec<T::Stmt>>
     ensures gives { GivesAs (λ found. map T.stmt_of found.items) (rules.items (rules.stmt limit top_item) rules.at_end true (P.seen p.old)) result (P.seen p.new) }
     ensures outright { (P.seen p.old).at.left ≡ [] → IsOk result }
 {
@@ -59,11 +60,10 @@ fn items<P: Source, T: BuildsExpr + BuildsPat + BuildsStmt>(
 
 /// A script, whose items may stand so many levels deep.
 #[tactic(auto, unfolding(swc_ecma_parser_reader::specs::Reader::script_body, swc_ecma_parser_grammar::specs::Looks::spanned))]
-pub fn script_body<P: Source, T: BuildsExpr + BuildsPat + BuildsStmt>(
-    t: &MakerOf<T>,
-    p: &mut P,
-    limit: usize,
-) -> PResult<T::Script>
+pub fn script_body<
+    P: Source,
+    T: BuildsExpr + BuildsCall + BuildsObject + BuildsOperator + BuildsPat + BuildsStmt,
+>(t: &MakerOf<T>, p: &mut P, limit: usize) -> PResult<T::Script>
     ensures gives { GivesAs T.script_of (rules.script_body limit (P.seen p.old)) result (P.seen p.new) }
     ensures outright { (P.seen p.old).at.left ≡ [] → IsOk result }
 {

@@ -5,6 +5,8 @@ ghost use Rattle.swc_ecma_parser_core.specs.Nests.{Nests};
 ghost use Rattle.swc_ecma_parser_error.specs.Kind as kinds;
 ghost use Rattle.swc_ecma_parser_error.specs.Kind.{kind_of, IsOutOfMemory};
 ghost use Rattle.swc_ecma_parser_grammar.specs.Reads.{nested_item};
+ghost use Rattle.swc_ecma_parser_grammar.specs.language.Goals.{expression};
+ghost use Rattle.swc_ecma_parser_reader.specs.Expressions as exprs;
 ghost use Rattle.swc_ecma_parser_reader.specs.Reader as rules;
 ghost use Rattle.swc_ecma_parser_reader.specs.State.{Gives, GivesAs};
 
@@ -13,7 +15,7 @@ use crate::steps::{grown, pushed, since, with_in};
 use std::alloc::Global;
 use swc_ecma_parser_common::Atom;
 use swc_ecma_parser_error::{PResult, SyntaxError};
-use swc_ecma_parser_grammar::Position;
+use swc_ecma_parser_grammar::{Class, Position};
 use swc_ecma_parser_model::VarDeclKind;
 use swc_ecma_parser_state::{Source, Wanted};
 use swc_ecma_parser_token::TokenKind;
@@ -48,22 +50,25 @@ fn debugger<P: Source, T: BuildsStmt>(alloc: Global, p: &mut P) -> PResult<T::St
     grown(p, T::debugger(alloc, span))
 }
 
-/// A declarator; no initializer is read yet.
-#[tactic(auto, unfolding(swc_ecma_parser_reader::specs::Reader::declarator, swc_ecma_parser_reader::specs::Reader::plain_declarator, swc_ecma_parser_grammar::specs::Looks::spanned))]
+/// A declarator: ECMA-262, section 14.3.2.
+#[tactic(auto, unfolding(swc_ecma_parser_reader::specs::Reader::declarator, swc_ecma_parser_reader::specs::Reader::initialized))]
 pub fn declarator<
     P: Source,
     T: BuildsStmt,
     S: Fn(&MakerOf<T>, &mut P, usize, Position) -> PResult<T::Stmt>,
-    E: Fn(&MakerOf<T>, &mut P, usize) -> PResult<T::Expr>,
+    E: Fn(&MakerOf<T>, &mut P, usize, Class) -> PResult<T::Expr>,
     N: Fn(&MakerOf<T>, &mut P, usize) -> PResult<T::Pat>,
 >(g: &Grammar<S, E, N>, t: &MakerOf<T>, p: &mut P) -> PResult<T::Declarator>
     requires { Nests P.seen T.expr_of T.pat_of T.stmt_of g.now.depth (S.pre g.now.stmt) (S.post g.now.stmt) (E.pre g.now.expr) (E.post g.now.expr) (N.pre g.now.pat) (N.post g.now.pat) }
-    ensures { GivesAs T.declarator_of (rules.declarator (rules.pat g.now.depth) (P.seen p.old)) result (P.seen p.new) }
+    ensures { GivesAs T.declarator_of (rules.declarator (exprs.expr g.now.depth) (rules.pat g.now.depth) (P.seen p.old)) result (P.seen p.new) }
 {
     let start = p.span();
     let name = (g.pat)(t, p, g.depth)?;
     if p.sees(TokenKind::Assign) {
-        return Err(p.wanted(Wanted::Expression));
+        p.skip()?;
+        let init = (g.expr)(t, p, g.depth, Class::Assignment)?;
+        let span = since(p, start);
+        return grown(p, T::declarator(t.alloc, span, name, Some(init)));
     }
     let span = since(p, start);
     grown(p, T::declarator(t.alloc, span, name, None))
@@ -75,11 +80,11 @@ pub fn declarators<
     P: Source,
     T: BuildsStmt,
     S: Fn(&MakerOf<T>, &mut P, usize, Position) -> PResult<T::Stmt>,
-    E: Fn(&MakerOf<T>, &mut P, usize) -> PResult<T::Expr>,
+    E: Fn(&MakerOf<T>, &mut P, usize, Class) -> PResult<T::Expr>,
     N: Fn(&MakerOf<T>, &mut P, usize) -> PResult<T::Pat>,
 >(g: &Grammar<S, E, N>, t: &MakerOf<T>, p: &mut P) -> PResult<Vec<T::Declarator>>
     requires { Nests P.seen T.expr_of T.pat_of T.stmt_of g.now.depth (S.pre g.now.stmt) (S.post g.now.stmt) (E.pre g.now.expr) (E.post g.now.expr) (N.pre g.now.pat) (N.post g.now.pat) }
-    ensures { GivesAs (λ found. map T.declarator_of found.items) (rules.declarators (rules.pat g.now.depth) (P.seen p.old)) result (P.seen p.new) }
+    ensures { GivesAs (λ found. map T.declarator_of found.items) (rules.declarators (exprs.expr g.now.depth) (rules.pat g.now.depth) (P.seen p.old)) result (P.seen p.new) }
 {
     let mut found = Vec::new(t.alloc);
     'declarators: loop {
@@ -98,11 +103,11 @@ pub fn var<
     P: Source,
     T: BuildsStmt,
     S: Fn(&MakerOf<T>, &mut P, usize, Position) -> PResult<T::Stmt>,
-    E: Fn(&MakerOf<T>, &mut P, usize) -> PResult<T::Expr>,
+    E: Fn(&MakerOf<T>, &mut P, usize, Class) -> PResult<T::Expr>,
     N: Fn(&MakerOf<T>, &mut P, usize) -> PResult<T::Pat>,
 >(g: &Grammar<S, E, N>, t: &MakerOf<T>, p: &mut P) -> PResult<T::Stmt>
     requires { Nests P.seen T.expr_of T.pat_of T.stmt_of g.now.depth (S.pre g.now.stmt) (S.post g.now.stmt) (E.pre g.now.expr) (E.post g.now.expr) (N.pre g.now.pat) (N.post g.now.pat) }
-    ensures { GivesAs T.stmt_of (rules.var (rules.pat g.now.depth) (P.seen p.old)) result (P.seen p.new) }
+    ensures { GivesAs T.stmt_of (rules.var (exprs.expr g.now.depth) (rules.pat g.now.depth) (P.seen p.old)) result (P.seen p.new) }
 {
     let start = p.span();
     p.skip()?;
@@ -153,7 +158,7 @@ pub fn block_items<
     P: Source,
     T: BuildsStmt,
     S: Fn(&MakerOf<T>, &mut P, usize, Position) -> PResult<T::Stmt>,
-    E: Fn(&MakerOf<T>, &mut P, usize) -> PResult<T::Expr>,
+    E: Fn(&MakerOf<T>, &mut P, usize, Class) -> PResult<T::Expr>,
     N: Fn(&MakerOf<T>, &mut P, usize) -> PResult<T::Pat>,
 >(g: &Grammar<S, E, N>, t: &MakerOf<T>, p: &mut P) -> PResult<Vec<T::Stmt>>
     requires { Nests P.seen T.expr_of T.pat_of T.stmt_of g.now.depth (S.pre g.now.stmt) (S.post g.now.stmt) (E.pre g.now.expr) (E.post g.now.expr) (N.pre g.now.pat) (N.post g.now.pat) }
@@ -173,7 +178,7 @@ pub fn block<
     P: Source,
     T: BuildsStmt,
     S: Fn(&MakerOf<T>, &mut P, usize, Position) -> PResult<T::Stmt>,
-    E: Fn(&MakerOf<T>, &mut P, usize) -> PResult<T::Expr>,
+    E: Fn(&MakerOf<T>, &mut P, usize, Class) -> PResult<T::Expr>,
     N: Fn(&MakerOf<T>, &mut P, usize) -> PResult<T::Pat>,
 >(g: &Grammar<S, E, N>, t: &MakerOf<T>, p: &mut P) -> PResult<T::Stmt>
     requires { Nests P.seen T.expr_of T.pat_of T.stmt_of g.now.depth (S.pre g.now.stmt) (S.post g.now.stmt) (E.pre g.now.expr) (E.post g.now.expr) (N.pre g.now.pat) (N.post g.now.pat) }
@@ -216,16 +221,16 @@ pub fn expr_stmt<
     P: Source,
     T: BuildsStmt,
     S: Fn(&MakerOf<T>, &mut P, usize, Position) -> PResult<T::Stmt>,
-    E: Fn(&MakerOf<T>, &mut P, usize) -> PResult<T::Expr>,
+    E: Fn(&MakerOf<T>, &mut P, usize, Class) -> PResult<T::Expr>,
     N: Fn(&MakerOf<T>, &mut P, usize) -> PResult<T::Pat>,
 >(g: &Grammar<S, E, N>, t: &MakerOf<T>, p: &mut P) -> PResult<T::Stmt>
     requires { Nests P.seen T.expr_of T.pat_of T.stmt_of g.now.depth (S.pre g.now.stmt) (S.post g.now.stmt) (E.pre g.now.expr) (E.post g.now.expr) (N.pre g.now.pat) (N.post g.now.pat) }
-    ensures { GivesAs T.stmt_of (rules.expr_stmt (rules.expr g.now.depth) (P.seen p.old)) result (P.seen p.new) }
+    ensures { GivesAs T.stmt_of (rules.expr_stmt (exprs.expr g.now.depth expression) (P.seen p.old)) result (P.seen p.new) }
 {
     let start = p.span();
     let outer = p.flags();
     p.set_flags(with_in(outer));
-    let x = (g.expr)(t, p, g.depth)?;
+    let x = (g.expr)(t, p, g.depth, Class::Expression)?;
     p.set_flags(outer);
     no_label::<P, T>(p, &x)?;
     note_statement::<P, T>(t.alloc, p, &x)?;
@@ -240,11 +245,11 @@ fn expr_stmt_at<
     P: Source,
     T: BuildsStmt,
     S: Fn(&MakerOf<T>, &mut P, usize, Position) -> PResult<T::Stmt>,
-    E: Fn(&MakerOf<T>, &mut P, usize) -> PResult<T::Expr>,
+    E: Fn(&MakerOf<T>, &mut P, usize, Class) -> PResult<T::Expr>,
     N: Fn(&MakerOf<T>, &mut P, usize) -> PResult<T::Pat>,
 >(g: &Grammar<S, E, N>, t: &MakerOf<T>, p: &mut P, at: Position) -> PResult<T::Stmt>
     requires { Nests P.seen T.expr_of T.pat_of T.stmt_of g.now.depth (S.pre g.now.stmt) (S.post g.now.stmt) (E.pre g.now.expr) (E.post g.now.expr) (N.pre g.now.pat) (N.post g.now.pat) }
-    ensures { GivesAs T.stmt_of (rules.expr_stmt_at (rules.expr g.now.depth) at (P.seen p.old)) result (P.seen p.new) }
+    ensures { GivesAs T.stmt_of (rules.expr_stmt_at (exprs.expr g.now.depth expression) at (P.seen p.old)) result (P.seen p.new) }
 {
     if !p.may_begin_expression_statement(at) {
         return Err(p.wanted(Wanted::Expression));
@@ -258,11 +263,11 @@ pub fn level<
     P: Source,
     T: BuildsStmt,
     S: Fn(&MakerOf<T>, &mut P, usize, Position) -> PResult<T::Stmt>,
-    E: Fn(&MakerOf<T>, &mut P, usize) -> PResult<T::Expr>,
+    E: Fn(&MakerOf<T>, &mut P, usize, Class) -> PResult<T::Expr>,
     N: Fn(&MakerOf<T>, &mut P, usize) -> PResult<T::Pat>,
 >(g: &Grammar<S, E, N>, t: &MakerOf<T>, p: &mut P, at: Position) -> PResult<T::Stmt>
     requires { Nests P.seen T.expr_of T.pat_of T.stmt_of g.now.depth (S.pre g.now.stmt) (S.post g.now.stmt) (E.pre g.now.expr) (E.post g.now.expr) (N.pre g.now.pat) (N.post g.now.pat) }
-    ensures { GivesAs T.stmt_of (rules.stmt_level (rules.stmt g.now.depth) (rules.expr g.now.depth) (rules.pat g.now.depth) at (P.seen p.old)) result (P.seen p.new) }
+    ensures { GivesAs T.stmt_of (rules.stmt_level (rules.stmt g.now.depth) (exprs.expr g.now.depth) (rules.pat g.now.depth) at (P.seen p.old)) result (P.seen p.new) }
 {
     match p.kind() {
         TokenKind::LBrace => block(g, t, p),

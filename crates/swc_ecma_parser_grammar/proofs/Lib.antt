@@ -1,4 +1,5 @@
-pub mod Stops
+pub mod Tests
+pub mod SupportedBegins
 pub mod Widens
 pub mod Narrows
 pub mod FewFlags

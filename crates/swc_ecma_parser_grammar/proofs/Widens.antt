@@ -1,5 +1,5 @@
 -- What the rules of the first forms read, the whole language reads, and it is supported.
-use Rattle.std.proofs.Common.{◌≡◌, ℕ, zero, suc, Bool, true, false, List, [], ◌∷◌, Option, refl, sym, ◌∙◌, ap}
+use Rattle.std.proofs.Common.{◌≡◌, ℕ, zero, suc, Bool, true, false, List, [], ◌∷◌, Option, refl, ◌∙◌, ap}
 use Rattle.std.specs.Prelude.{not, ◌&&◌, ◌||◌, codes}
 use Rattle.std.specs.Str.{bytes_eq}
 use denote.Enum.Bare.{true_same}
@@ -7,31 +7,24 @@ use Rattle.swc_ecma_parser_common.specs.declared.span.Span.{Span}
 use Rattle.swc_ecma_parser_token.specs.contracts.kind.TokenKind.{the_type}
 use Rattle.swc_ecma_parser_token.specs.declared.kind.TokenKind.{TokenKind}
 use Rattle.swc_ecma_parser_token.specs.declared.kind.TokenKind.TheVariants as kind
-use Rattle.swc_ecma_parser_token.specs.declared.keyword.Keyword.TheVariants as keyword
-use Rattle.swc_ecma_parser_token.specs.declared.token.Token.{Token}
 use Rattle.swc_ecma_parser_token.specs.declared.token.Token.TheVariants as token
 use Rattle.swc_ecma_parser_token.specs.declared.token.Word.{Word}
-use Rattle.swc_ecma_parser_token.specs.declared.token.Word.TheVariants as word
-use Rattle.swc_ecma_parser_token.specs.Kind.{token_kind, word_kind}
 use Rattle.swc_ecma_parser_token.specs.Text.{word_text}
 use Rattle.swc_ecma_parser_input.specs.declared.context.Context.{Context}
 use Rattle.swc_ecma_parser_input.specs.Place.{Place, after}
 use Rattle.swc_ecma_parser_model.specs.declared.leaves.VarDeclKind.TheVariants as decl
 use Rattle.swc_ecma_parser_model.specs.Tree.{Tree, Text, trees}
-use Rattle.swc_ecma_parser_model.specs.Forms.{is_ident_named, is_binding_name}
+use Rattle.swc_ecma_parser_model.specs.Forms.{is_binding_name}
 use Rattle.swc_ecma_parser_grammar.specs.declared.position.Position.{Position}
-use Rattle.swc_ecma_parser_grammar.specs.Looks.{kind_at, breaks_at, sees, same_kind}
+use Rattle.swc_ecma_parser_grammar.specs.Looks.{kind_at, sees, same_kind}
 use Rattle.swc_ecma_parser_grammar.specs.Names.{Code, is_reserved, is_name, is_identifier, is_clean_name}
-use Rattle.swc_ecma_parser_grammar.specs.Follows.{is_async_function, word_at}
-use Rattle.swc_ecma_parser_grammar.specs.Reads.{with_in, directed, directs_on, nested_item, top_item, ReadsToken, PrimaryRule, name_rule, string_rule, number_rule, big_int_rule, null_rule, true_rule, false_rule, paren_rule, ReadsExpr, binding_rule, ReadsPat, DeclaratorRule, plain_rule, ReadsSeparated, ReadsItems, StmtRule, block_rule, empty_rule, debugger_rule, var_rule, expr_rule, ReadsStmt}
+use Rattle.swc_ecma_parser_grammar.specs.Reads.{with_in, directed, directs_on, nested_item, top_item, ReadsToken, binding_rule, ReadsPat, DeclaratorRule, plain_rule, initialized_rule, ReadsSeparated, ReadsItems, StmtRule, block_rule, empty_rule, debugger_rule, var_rule, expr_rule}
 use Rattle.swc_ecma_parser_grammar.specs.Entries.{ReadsScript, ReadsShebang, some_shebang, no_shebang, script_code}
 use Rattle.swc_ecma_parser_grammar.specs.Supported.{supported, all_supported}
-use Rattle.swc_ecma_parser_grammar.specs.language.Goals.{Goal, expr_goal, expression, pattern_goal, binding, stmt_goal}
-use Rattle.swc_ecma_parser_grammar.specs.language.Begins.{awaits}
+use Rattle.swc_ecma_parser_grammar.specs.ReadsSupported.{ReadsClass, ReadsStmt}
+use Rattle.swc_ecma_parser_grammar.specs.language.Goals.{assignment, pattern_goal, binding, stmt_goal}
 use Rattle.swc_ecma_parser_grammar.specs.language.Parts.{ReadsName}
-use Rattle.swc_ecma_parser_grammar.specs.language.LeftSides as sides
 use Rattle.swc_ecma_parser_grammar.specs.language.Patterns as patterns
-use Rattle.swc_ecma_parser_grammar.specs.language.Expressions as expressions
 use Rattle.swc_ecma_parser_grammar.specs.language.Declarations as declarations
 use Rattle.swc_ecma_parser_grammar.specs.language.Items.{ItemsRule}
 use Rattle.swc_ecma_parser_grammar.specs.language.Statements as statements
@@ -39,7 +32,8 @@ use Rattle.swc_ecma_parser_grammar.specs.language.Statements.{may_begin_at_top}
 use Rattle.swc_ecma_parser_grammar.specs.language.Reads.{Reads}
 use Rattle.swc_ecma_parser_grammar.specs.language.Programs as programs
 use Rattle.swc_ecma_parser_grammar.specs.language.Programs.{ReadsEntry}
-use Rattle.swc_ecma_parser_grammar.proofs.Stops.{and_yes, and_both, no_and, NoWord, paren_closes, ends_close, word_async, stops_whole, stops_function}
+use Rattle.swc_ecma_parser_grammar.proofs.Tests.{and_yes, and_both}
+use Rattle.swc_ecma_parser_grammar.proofs.SupportedBegins.{expr_begins}
 
 -- ---- names
 
@@ -49,91 +43,16 @@ clean_by false true m h = cc
 clean_by false false m h = refl
 
 -- a name other than `await` is no fault anywhere
-name_is_clean : (f : Context) (text : Text) → is_name f text ≡ true → is_clean_name f text ≡ true
+pub name_is_clean : (f : Context) (text : Text) → is_name f text ≡ true → is_clean_name f text ≡ true
 unfolding is_name is_clean_name is_identifier
 name_is_clean f text h = clean_by (is_reserved f text) (bytes_eq text (codes "await")) _ h
 
-name_supported : (f : Context) (text : Text) → is_name f text ≡ true → not (bytes_eq text (codes "await")) ≡ true
+pub name_supported : (f : Context) (text : Text) → is_name f text ≡ true → not (bytes_eq text (codes "await")) ≡ true
 unfolding is_name
 name_supported f text h = (and_yes (not (is_reserved f text)) _ h).1
 
 name_read : (k : Code) (w : Word) (s : Span) (c d : Place) → ReadsToken (token.Word w) s c d → is_name k.flags (word_text w) ≡ true → ReadsName k (word_text w) s c d
 name_read k w s c d r h = record { word = w; reads_word = r; is_text = refl; is_name = name_is_clean k.flags (word_text w) h }
-
--- ---- what an expression begins with: neither `await` nor `import`
-
-abbrev pub Begins : TokenKind → Type 0
-Begins j = (same_kind j kind.Await ≡ false) × (same_kind j kind.Import ≡ false)
-
-word_begins : (f : Context) (w : Word) → is_name f (word_text w) ≡ true → Begins (word_kind w)
-unfolding is_name is_reserved same_kind
-word_begins f (word.Keyword keyword.Await) h = let g = name_supported f (codes "await") h in cc
-word_begins f (word.Keyword keyword.Import) h = cc
-word_begins f _ h = (refl, refl)
-
-token_begins : (t : Token) (s : Span) (c d : Place) → ReadsToken t s c d → Begins (token_kind t) → Begins (kind_at c)
-unfolding kind_at
-token_begins t s c d r h = rw r.is h
-
-pub primary_begins : (Inner : Code → Tree → Place → Place → Type 0) (k : Code) (x : Tree) (c d : Place) → PrimaryRule Inner k x c d → Begins (kind_at c)
-unfolding same_kind
-primary_begins Inner k x c d (name_rule w s r h e) = token_begins (token.Word w) s c d r (word_begins k.flags w h)
-primary_begins Inner k x c d (string_rule value raw s r e) = token_begins (token.Str value raw) s c d r (refl, refl)
-primary_begins Inner k x c d (number_rule raw s r e) = token_begins (token.Num raw) s c d r (refl, refl)
-primary_begins Inner k x c d (big_int_rule raw s r e) = token_begins (token.BigInt raw) s c d r (refl, refl)
-primary_begins Inner k x c d (null_rule s r e) = token_begins (token.Word word.Null) s c d r (refl, refl)
-primary_begins Inner k x c d (true_rule s r e) = token_begins (token.Word word.True) s c d r (refl, refl)
-primary_begins Inner k x c d (false_rule s r e) = token_begins (token.Word word.False) s c d r (refl, refl)
-primary_begins Inner k x c d (paren_rule y m h r g i e) = rw h (refl, refl)
-
-no_await : (f : Context) (c : Place) → sees kind.Await c ≡ false → awaits f c ≡ false
-unfolding awaits
-no_await f c h = no_and _ _ h
-
--- ---- expressions
-
--- no function begins at the word of a name
-no_function_here : (w : Word) (s : Span) (x : Tree) (c d : Place) → ReadsToken (token.Word w) s c d → is_ident_named (codes "async") x ≡ bytes_eq (word_text w) (codes "async")
-    → (is_ident_named (codes "async") x && (sees kind.Function d && not (breaks_at d))) ≡ false → is_async_function c ≡ false
-unfolding is_async_function word_at
-no_function_here w s x c d r e h = let a : word_at (codes "async") c ≡ is_ident_named (codes "async") x = rw r.is (sym (e ∙ word_async w)) in rw (a, ← r.next) h
-
-module _ (Inner : Code → Tree → Place → Place → Type 0) (small : (k : Code) (x : Tree) (c d : Place) → Inner k x c d → supported x ≡ true) where
-  primary_supported : (k : Code) (x : Tree) (c d : Place) → PrimaryRule Inner k x c d → supported x ≡ true
-  primary_supported k x c d (name_rule w s r h e) = ap supported e ∙ name_supported k.flags (word_text w) h
-  primary_supported k x c d (string_rule value raw s r e) = ap supported e
-  primary_supported k x c d (number_rule raw s r e) = ap supported e
-  primary_supported k x c d (big_int_rule raw s r e) = ap supported e
-  primary_supported k x c d (null_rule s r e) = ap supported e
-  primary_supported k x c d (true_rule s r e) = ap supported e
-  primary_supported k x c d (false_rule s r e) = ap supported e
-  primary_supported k x c d (paren_rule y m h r g i e) = ap supported e ∙ small (with_in k) y (after c) m r
-
-module _ (Inner : Code → Tree → Place → Place → Type 0) (In : Goal → Type 0)
-    (widen : (k : Code) (x : Tree) (c d : Place) → Inner k x c d → NoWord d → In (expr_goal expression k x c d)) where
-  primary_widens : (k : Code) (x : Tree) (c d : Place) → PrimaryRule Inner k x c d → (is_ident_named (codes "async") x && (sees kind.Function d && not (breaks_at d))) ≡ false
-      → sides.PrimaryRule In k x c d
-  primary_widens k x c d (name_rule w s r h e) f =
-      sides.name_rule (word_text w) s (name_read k w s c d r h) (no_function_here w s x c d r (ap (is_ident_named (codes "async")) e) f) e
-  primary_widens k x c d (string_rule value raw s r e) f = sides.string_rule value raw s r e
-  primary_widens k x c d (number_rule raw s r e) f = sides.number_rule raw s r e
-  primary_widens k x c d (big_int_rule raw s r e) f = sides.big_int_rule raw s r e
-  primary_widens k x c d (null_rule s r e) f = sides.null_rule s r e
-  primary_widens k x c d (true_rule s r e) f = sides.true_rule s r e
-  primary_widens k x c d (false_rule s r e) f = sides.false_rule s r e
-  primary_widens k x c d (paren_rule y m h r g i e) f = sides.paren_rule y m h (widen (with_in k) y (after c) m r (paren_closes m g)) g i e
-
-pub expr_supported : (n : ℕ) (k : Code) (x : Tree) (c d : Place) → ReadsExpr n k x c d → supported x ≡ true
-expr_supported zero k x c d h = absurd h
-expr_supported (suc n) k x c d h = primary_supported (ReadsExpr n) (expr_supported n) k x c d h.0
-
-expr_widens : (n : ℕ) (k : Code) (x : Tree) (c d : Place) → ReadsExpr n k x c d → NoWord d → Reads n (expr_goal expression k x c d)
-expr_widens zero k x c d h w = absurd h
-expr_widens (suc n) k x c d h w =
-    let stops = stops_whole k x c d (expr_supported (suc n) k x c d h) w h.1 in
-    let primary = primary_widens (ReadsExpr n) (Reads n) (expr_widens n) k x c d h.0 (stops_function k x d h.1) in
-    let begins = no_await k.flags c (primary_begins (ReadsExpr n) k x c d h.0).0 in
-    expressions.assignment_rule (expressions.operators_rule (expressions.single_rule (expressions.operand_rule (sides.primary_rule primary, begins))) stops.0) stops.1
 
 -- ---- binding patterns and declarators
 
@@ -149,13 +68,16 @@ pat_is_name : (n : ℕ) (k : Code) (x : Tree) (c d : Place) → ReadsPat n k x c
 pat_is_name zero k x c d h = absurd h
 pat_is_name (suc n) k x c d (binding_rule w s r h e) = ap is_binding_name e
 
-declarator_supported : (n : ℕ) (k : Code) (x : Tree) (c d : Place) → DeclaratorRule (ReadsPat n) k x c d → supported x ≡ true
+declarator_supported : (n : ℕ) (k : Code) (x : Tree) (c d : Place) → DeclaratorRule (ReadsClass n assignment) (ReadsPat n) k x c d → supported x ≡ true
 declarator_supported n k x c d (plain_rule p r h e) = ap supported e ∙ and_both _ _ (pat_supported n k p c d r) refl
+declarator_supported n k x c d (initialized_rule p y m r h s e) = ap supported e ∙ and_both _ _ (pat_supported n k p c m r) s.1
 
 -- what stands behind `var`, with `in` read as an operator
-declarator_widens : (n : ℕ) (k : Code) (x : Tree) (c d : Place) → DeclaratorRule (ReadsPat n) (with_in k) x c d → declarations.DeclaratorRule (Reads n) (with_in k) false decl.Var x c d
+declarator_widens : (n : ℕ) (k : Code) (x : Tree) (c d : Place) → DeclaratorRule (ReadsClass n assignment) (ReadsPat n) (with_in k) x c d
+    → declarations.DeclaratorRule (Reads n) (with_in k) false decl.Var x c d
 declarator_widens n k x c d (plain_rule p r h e) =
     declarations.plain_rule p (pat_widens n (with_in k) p c d r) h (and_both _ _ (pat_is_name n (with_in k) p c d r) refl) e
+declarator_widens n k x c d (initialized_rule p y m r h s e) = declarations.initialized_rule p y m (pat_widens n (with_in k) p c m r) h s.0 e
 
 module _ (Rule Other : Tree → Place → Place → Type 0) (widen : (x : Tree) (c d : Place) → Rule x c d → Other x c d) where
   -- with commas between, each by itself
@@ -181,10 +103,6 @@ may_begin true true m h = cc
 may_begin true false m h = refl
 may_begin false a m h = refl
 
-expr_begins : (n : ℕ) (k : Code) (x : Tree) (c d : Place) → ReadsExpr n k x c d → Begins (kind_at c)
-expr_begins zero k x c d h = absurd h
-expr_begins (suc n) k x c d h = primary_begins (ReadsExpr n) k x c d h.0
-
 seen : (c : Place) (j : TokenKind) → kind_at c ≡ j → sees j c ≡ true
 unfolding same_kind
 seen c j e = true_same the_type (kind_at c) j e
@@ -194,13 +112,13 @@ module _ (n : ℕ) (small : (k : Code) (at : Position) (x : Tree) (c d : Place) 
   items_supported k directives at [] c d h = refl
   items_supported k directives at (x ∷ xs) c d (m, r, rs) = and_both _ _ (small k at x c m r) (items_supported (directed k directives x) (directs_on directives x) at xs m d rs)
 
-  rule_supported : (k : Code) (at : Position) (x : Tree) (c d : Place) → StmtRule (ReadsStmt n) (ReadsExpr n) (ReadsPat n) k at x c d → supported x ≡ true
+  rule_supported : (k : Code) (at : Position) (x : Tree) (c d : Place) → StmtRule (ReadsStmt n) (ReadsClass n) (ReadsPat n) k at x c d → supported x ≡ true
   rule_supported k at x c d (block_rule xs m h r g i e) = ap supported e ∙ items_supported k false nested_item xs (after c) m r
   rule_supported k at x c d (empty_rule h g e) = ap supported e
   rule_supported k at x c d (debugger_rule h g e) = ap supported e
   rule_supported k at x c d (var_rule xs m h r g e) =
-      ap supported e ∙ separated_supported (DeclaratorRule (ReadsPat n) (with_in k)) (declarator_supported n (with_in k)) xs (after c) m r
-  rule_supported k at x c d (expr_rule y m h r a b g e) = ap supported e ∙ expr_supported n (with_in k) y c m r
+      ap supported e ∙ separated_supported (DeclaratorRule (ReadsClass n assignment) (ReadsPat n) (with_in k)) (declarator_supported n (with_in k)) xs (after c) m r
+  rule_supported k at x c d (expr_rule y m h r a b g e) = ap supported e ∙ r.1
 
 stmt_supported : (n : ℕ) (k : Code) (at : Position) (x : Tree) (c d : Place) → ReadsStmt n k at x c d → supported x ≡ true
 stmt_supported zero k at x c d h = absurd h
@@ -211,17 +129,19 @@ module _ (n : ℕ) (widen : (k : Code) (at : Position) (x : Tree) (c d : Place) 
   items_widen k directives at [] c d h = h
   items_widen k directives at (x ∷ xs) c d (m, r, rs) = (m, widen k at x c m r, items_widen (directed k directives x) (directs_on directives x) at xs m d rs)
 
-  form_widens : (k : Code) (at : Position) (x : Tree) (c d : Place) → StmtRule (ReadsStmt n) (ReadsExpr n) (ReadsPat n) k at x c d → statements.FormRule (Reads n) k at x c d
+  form_widens : (k : Code) (at : Position) (x : Tree) (c d : Place) → StmtRule (ReadsStmt n) (ReadsClass n) (ReadsPat n) k at x c d → statements.FormRule (Reads n) k at x c d
   form_widens k at x c d (block_rule xs m h r g i e) =
       statements.block_rule (record { items = xs; close = m; opens = h; reads_items = items_widen k false nested_item xs (after c) m r; closes = g; next = i; is = e })
   form_widens k at x c d (empty_rule h g e) = statements.empty_rule h g e
   form_widens k at x c d (debugger_rule h g e) = statements.debugger_rule h g e
   form_widens k at x c d (var_rule xs m h r g e) =
-      statements.variables_rule decl.Var xs m (either at.include_decl)
-      (seen c kind.Var h, separated_widen (DeclaratorRule (ReadsPat n) (with_in k)) (declarations.DeclaratorRule (Reads n) (with_in k) false decl.Var) (declarator_widens n k) xs (after c) m r) g e
-  form_widens k at x c d (expr_rule y m h r a b g e) = statements.expr_rule y m h (expr_widens n (with_in k) y c m r (ends_close m d g)) a g e
+      statements.variables_rule decl.Var xs m (either at.include_decl) (
+        seen c kind.Var h,
+        separated_widen (DeclaratorRule (ReadsClass n assignment) (ReadsPat n) (with_in k)) (declarations.DeclaratorRule (Reads n) (with_in k) false decl.Var) (declarator_widens n k) xs (after c) m r,
+      ) g e
+  form_widens k at x c d (expr_rule y m h r a b g e) = statements.expr_rule y m h r.0 a g e
 
-rule_begins : (n : ℕ) (k : Code) (at : Position) (x : Tree) (c d : Place) → StmtRule (ReadsStmt n) (ReadsExpr n) (ReadsPat n) k at x c d → sees kind.Await c ≡ false
+rule_begins : (n : ℕ) (k : Code) (at : Position) (x : Tree) (c d : Place) → StmtRule (ReadsStmt n) (ReadsClass n) (ReadsPat n) k at x c d → sees kind.Await c ≡ false
 unfolding same_kind
 rule_begins n k at x c d (block_rule xs m h r g i e) = rw h refl
 rule_begins n k at x c d (empty_rule h g e) = rw h refl

@@ -10,7 +10,8 @@ use Rattle.swc_ecma_parser_model.specs.Tree as tree
 use Rattle.swc_ecma_parser_model.specs.Tree.{Tree, Text, listed}
 use Rattle.swc_ecma_parser_grammar.specs.Looks.{kind_at, sees, same_kind, spanned}
 use Rattle.swc_ecma_parser_grammar.specs.Names.{Code}
-use Rattle.swc_ecma_parser_grammar.specs.Reads.{ReadsToken, ReadsItems, ReadsStmt, top_item}
+use Rattle.swc_ecma_parser_grammar.specs.Reads.{ReadsToken, ReadsItems, top_item}
+use Rattle.swc_ecma_parser_grammar.specs.ReadsSupported.{ReadsStmt}
 
 -- a script is no module code
 abbrev pub script_code : Code → Code

@@ -11,3 +11,4 @@ pub mod Walk
 pub mod Levels
 pub mod Supported
 pub mod language
+pub mod ReadsSupported

@@ -1,11 +1,10 @@
--- The grammar, as a relation between a tree and the two places that it stands between, within so many levels.
+-- What the rules of the first statements are made of. Their expressions are those of the whole language.
 use Rattle.std.specs.Prelude.{◌≡◌, ℕ, zero, suc, Bool, true, false, ◌&&◌, if◌then◌else◌, List, [], ◌∷◌, codes}
 use Rattle.swc_ecma_parser_common.specs.declared.span.Span.{Span}
 use Rattle.swc_ecma_parser_token.specs.declared.kind.TokenKind.TheVariants as kind
 use Rattle.swc_ecma_parser_token.specs.declared.token.Token.{Token}
 use Rattle.swc_ecma_parser_token.specs.declared.token.Token.TheVariants as token
 use Rattle.swc_ecma_parser_token.specs.declared.token.Word.{Word}
-use Rattle.swc_ecma_parser_token.specs.declared.token.Word.TheVariants as word
 use Rattle.swc_ecma_parser_token.specs.declared.token.TokenAndSpan.{TokenAndSpan}
 use Rattle.swc_ecma_parser_token.specs.Text.{word_text}
 use Rattle.swc_ecma_parser_input.specs.Place.{Place, after}
@@ -18,7 +17,8 @@ use Rattle.swc_ecma_parser_grammar.specs.declared.position.Position.{Position}
 use Rattle.swc_ecma_parser_grammar.specs.Looks.{kind_at, sees, spanned}
 use Rattle.swc_ecma_parser_grammar.specs.Names.{Code, is_name}
 use Rattle.swc_ecma_parser_grammar.specs.Ends.{Ends}
-use Rattle.swc_ecma_parser_grammar.specs.Follows.{continues, may_begin_expression_statement}
+use Rattle.swc_ecma_parser_grammar.specs.Follows.{may_begin_expression_statement}
+use Rattle.swc_ecma_parser_grammar.specs.language.Goals.{Class, expression, assignment}
 
 -- ---- contexts
 
@@ -44,26 +44,6 @@ pub record ReadsToken (t : Token) (span : Span) (c d : Place) : Type 0 where
   pub is : c.left ≡ record { token = t; had_line_break = had_line_break; span = span } ∷ rest
   pub next : d ≡ after c
 
--- ---- expressions: ECMA-262, section 13
-
--- Primary expressions, section 13.2: names, literals and parentheses.
-pub data PrimaryRule (Inner : Code → Tree → Place → Place → Type 0) (k : Code) (x : Tree) (c d : Place) : Type 0 where
-  name_rule : (w : Word) (s : Span) → ReadsToken (token.Word w) s c d → is_name k.flags (word_text w) ≡ true
-      → x ≡ tree.ident s (word_text w) → PrimaryRule Inner k x c d
-  string_rule : (value raw : Text) (s : Span) → ReadsToken (token.Str value raw) s c d → x ≡ tree.str s value raw → PrimaryRule Inner k x c d
-  number_rule : (raw : Text) (s : Span) → ReadsToken (token.Num raw) s c d → x ≡ tree.num s raw → PrimaryRule Inner k x c d
-  big_int_rule : (raw : Text) (s : Span) → ReadsToken (token.BigInt raw) s c d → x ≡ tree.big_int s raw → PrimaryRule Inner k x c d
-  null_rule : (s : Span) → ReadsToken (token.Word word.Null) s c d → x ≡ tree.null s → PrimaryRule Inner k x c d
-  true_rule : (s : Span) → ReadsToken (token.Word word.True) s c d → x ≡ tree.bool s true → PrimaryRule Inner k x c d
-  false_rule : (s : Span) → ReadsToken (token.Word word.False) s c d → x ≡ tree.bool s false → PrimaryRule Inner k x c d
-  paren_rule : (e : Tree) (m : Place) → kind_at c ≡ kind.LParen → Inner (with_in k) e (after c) m → kind_at m ≡ kind.RParen → d ≡ after m
-      → x ≡ tree.paren (spanned c d) e → PrimaryRule Inner k x c d
-
--- An expression within so many levels. No token stands behind it that goes on with it.
-abbrev pub ReadsExpr : ℕ → Code → Tree → Place → Place → Type 0
-ReadsExpr zero k x c d = ⊥
-ReadsExpr (suc n) k x c d = PrimaryRule (ReadsExpr n) k x c d × (continues k x d ≡ false)
-
 -- ---- binding patterns: section 14.3.3
 
 pub data PatRule (k : Code) (x : Tree) (c d : Place) : Type 0 where
@@ -77,8 +57,10 @@ ReadsPat (suc n) k x c d = PatRule k x c d
 -- ---- statements: section 14
 
 -- a declarator of section 14.3.2; one without initializer stands before no `=`
-pub data DeclaratorRule (Pat : Code → Tree → Place → Place → Type 0) (k : Code) (x : Tree) (c d : Place) : Type 0 where
-  plain_rule : (p : Tree) → Pat k p c d → sees kind.Assign d ≡ false → x ≡ tree.declarator (spanned c d) p tree.absent → DeclaratorRule Pat k x c d
+pub data DeclaratorRule (Expr Pat : Code → Tree → Place → Place → Type 0) (k : Code) (x : Tree) (c d : Place) : Type 0 where
+  plain_rule : (p : Tree) → Pat k p c d → sees kind.Assign d ≡ false → x ≡ tree.declarator (spanned c d) p tree.absent → DeclaratorRule Expr Pat k x c d
+  initialized_rule : (p e : Tree) (m : Place) → Pat k p c m → kind_at m ≡ kind.Assign → Expr k e (after m) d → x ≡ tree.declarator (spanned c d) p e
+      → DeclaratorRule Expr Pat k x c d
 
 -- at least one, with commas between and none behind
 abbrev pub ReadsSeparated : (Tree → Place → Place → Type 0) → List Tree → Place → Place → Type 0
@@ -99,7 +81,8 @@ abbrev pub ReadsItems : (Code → Tree → Place → Place → Type 0) → Code 
 ReadsItems Reads k directives [] c d = d ≡ c
 ReadsItems Reads k directives (x ∷ xs) c d = (m : Place) × Reads k x c m × ReadsItems Reads (directed k directives x) (directs_on directives x) xs m d
 
-pub data StmtRule (Stmt : Code → Position → Tree → Place → Place → Type 0) (Expr Pat : Code → Tree → Place → Place → Type 0) (k : Code) (at : Position) (x : Tree) (c d : Place) : Type 0 where
+pub data StmtRule (Stmt : Code → Position → Tree → Place → Place → Type 0) (Expr : Class → Code → Tree → Place → Place → Type 0) (Pat : Code → Tree → Place → Place → Type 0)
+    (k : Code) (at : Position) (x : Tree) (c d : Place) : Type 0 where
   -- section 14.2
   block_rule : (xs : List Tree) (m : Place) → kind_at c ≡ kind.LBrace → ReadsItems (λ j. Stmt j nested_item) k false xs (after c) m → kind_at m ≡ kind.RBrace
       → d ≡ after m → x ≡ tree.block (spanned c d) (listed xs) → StmtRule Stmt Expr Pat k at x c d
@@ -108,13 +91,8 @@ pub data StmtRule (Stmt : Code → Position → Tree → Place → Place → Typ
   -- section 14.16
   debugger_rule : kind_at c ≡ kind.Debugger → Ends (after c) d → x ≡ tree.debugger (spanned c d) → StmtRule Stmt Expr Pat k at x c d
   -- section 14.3.2
-  var_rule : (xs : List Tree) (m : Place) → kind_at c ≡ kind.Var → ReadsSeparated (DeclaratorRule Pat (with_in k)) xs (after c) m → Ends m d
+  var_rule : (xs : List Tree) (m : Place) → kind_at c ≡ kind.Var → ReadsSeparated (DeclaratorRule (Expr assignment) Pat (with_in k)) xs (after c) m → Ends m d
       → x ≡ tree.var (spanned c d) decl.Var (listed xs) → StmtRule Stmt Expr Pat k at x c d
   -- section 14.5. A bare name before `:` is a label; in module code the bare name `interface` is none.
-  expr_rule : (e : Tree) (m : Place) → may_begin_expression_statement at c ≡ true → Expr (with_in k) e c m → is_ident e && sees kind.Colon m ≡ false
+  expr_rule : (e : Tree) (m : Place) → may_begin_expression_statement at c ≡ true → Expr expression (with_in k) e c m → is_ident e && sees kind.Colon m ≡ false
       → k.flags.module && is_ident_named (codes "interface") e ≡ false → Ends m d → x ≡ tree.expr_stmt (spanned c d) e → StmtRule Stmt Expr Pat k at x c d
-
--- a statement within so many levels
-abbrev pub ReadsStmt : ℕ → Code → Position → Tree → Place → Place → Type 0
-ReadsStmt zero k at x c d = ⊥
-ReadsStmt (suc n) k at x c d = StmtRule (ReadsStmt n) (ReadsExpr n) (ReadsPat n) k at x c d

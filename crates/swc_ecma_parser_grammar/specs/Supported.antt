@@ -3,25 +3,45 @@ use Rattle.std.specs.Prelude.{Bool, true, false, not, ◌&&◌, codes}
 use Rattle.std.specs.Str.{bytes_eq}
 use Rattle.swc_ecma_parser_model.specs.Tree as tree
 use Rattle.swc_ecma_parser_model.specs.Tree.{Tree, Trees, none, also}
-use Rattle.swc_ecma_parser_model.specs.Forms.{is_absent}
 use Rattle.swc_ecma_parser_grammar.specs.language.Declarations.{is_var}
 
 -- whether a tree is made of these forms alone
 abbrev mutual
   pub supported : Tree → Bool
   supported (tree.list ts) = all_supported ts
-  -- names but `await`, literals and parentheses: ECMA-262, section 13.2
+  -- names but `await`, literals, arrays, objects without methods and parentheses: ECMA-262, section 13.2
   supported (tree.ident s text) = not (bytes_eq text (codes "await"))
   supported (tree.str s value raw) = true
   supported (tree.bool s b) = true
   supported (tree.null s) = true
   supported (tree.num s raw) = true
   supported (tree.big_int s raw) = true
+  supported (tree.array s elems) = supported elems
+  supported (tree.object s props) = supported props
+  supported (tree.spread_prop dots e) = supported e
+  supported (tree.shorthand_prop s text) = not (bytes_eq text (codes "await"))
+  supported (tree.key_value_prop s key value) = is_supported_key key && supported value
   supported (tree.paren s e) = supported e
-  -- `var` of plain names without initializers: section 14.3.2
+  supported (tree.this s) = true
+  -- accesses, calls and `new`: section 13.3
+  supported (tree.member s obj prop) = supported obj && is_supported_property prop
+  supported (tree.super_prop s word prop) = is_supported_property prop
+  supported (tree.call s f args) = supported f && supported args
+  supported (tree.super_callee s) = true
+  supported (tree.new s f args) = supported f && supported args
+  supported (tree.element spread e) = supported e
+  supported tree.absent = true
+  -- operators, conditionals and sequences: sections 13.4 to 13.16; what is assigned to is a name or a member
+  supported (tree.unary s op arg) = supported arg
+  supported (tree.update s op prefix arg) = supported arg
+  supported (tree.bin s op left right) = supported left && supported right
+  supported (tree.assign s op left right) = supported left && supported right
+  supported (tree.cond s test cons alt) = supported test && (supported cons && supported alt)
+  supported (tree.seq s exprs) = supported exprs
+  -- `var` of plain names, with initializers or without: section 14.3.2
   supported (tree.ident_pat s text) = not (bytes_eq text (codes "await"))
   supported (tree.var s word ds) = is_var word && supported ds
-  supported (tree.declarator s name init) = supported name && is_absent init
+  supported (tree.declarator s name init) = supported name && supported init
   -- blocks, empty statements, `debugger` and expression statements: sections 14.2, 14.4, 14.16 and 14.5
   supported (tree.block s stmts) = supported stmts
   supported (tree.empty s) = true
@@ -30,6 +50,22 @@ abbrev mutual
   -- section 16.1
   supported (tree.script s body shebang) = supported body
   supported _ = false
+
+  -- any word, a private name, or an expression in brackets
+  pub is_supported_property : Tree → Bool
+  is_supported_property (tree.ident s text) = true
+  is_supported_property (tree.private_name s word text) = true
+  is_supported_property (tree.computed s e) = supported e
+  is_supported_property _ = false
+
+  -- any word, a string, a number, or an expression in brackets
+  pub is_supported_key : Tree → Bool
+  is_supported_key (tree.ident s text) = true
+  is_supported_key (tree.str s value raw) = true
+  is_supported_key (tree.num s raw) = true
+  is_supported_key (tree.big_int s raw) = true
+  is_supported_key (tree.computed s e) = supported e
+  is_supported_key _ = false
 
   pub all_supported : Trees → Bool
   all_supported none = true

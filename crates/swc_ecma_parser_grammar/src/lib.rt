@@ -2,11 +2,13 @@
 //! tree that lists its faults. Every definition stands in `specs/`.
 #![tactic(auto)]
 
+mod class;
 mod position;
 
 ghost use Rattle.swc_ecma_parser_grammar.specs.Levels.{LevelsAreDepth};
 ghost use Rattle.swc_ecma_parser_grammar.specs.language.Laws.{FollowIsLocal, Progress, Shortens, SpansAreTokens, WalkIsTabled, WalkLooksAtFew};
 
+pub use class::Class;
 pub use position::Position;
 
 /// A number of levels limits how deep a tree of the language nests, and nothing else.

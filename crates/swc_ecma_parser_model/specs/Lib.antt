@@ -2,6 +2,7 @@ pub mod Tree
 pub mod Directive
 pub mod Forms
 pub mod Kinds
+pub mod Within
 pub mod Size
 pub mod Leaf
 pub mod Code

@@ -1,19 +1,19 @@
 -- What is read between two states: the scope and the code stay as said, faults and notes are added, and where no fault is
 -- added the grammar has it.
 use Rattle.std.proofs.Common.{◌≡◌, Bool, true, false, cond, List, [], ◌∷◌, ◌++◌, refl, sym, ◌∙◌, ap, subst, append_assoc, append-nil}
-use Rattle.std.specs.Prelude.{◌||◌}
 use Rattle.swc_ecma_parser_error.specs.Kind.{Fault}
-use Rattle.swc_ecma_parser_token.specs.declared.kind.TokenKind.TheVariants as kind
-use Rattle.swc_ecma_parser_token.specs.declared.token.TokenAndSpan.{TokenAndSpan}
-use Rattle.swc_ecma_parser_token.specs.Kind.{token_kind}
-use Rattle.swc_ecma_parser_input.specs.Place.{Place, after, past}
-use Rattle.swc_ecma_parser_model.specs.Tree.{Text}
-use Rattle.swc_ecma_parser_grammar.specs.Looks.{same_kind}
+use Rattle.swc_ecma_parser_token.specs.declared.kind.TokenKind.{TokenKind}
+use Rattle.swc_ecma_parser_input.specs.Place.{Place, after}
+use Rattle.swc_ecma_parser_model.specs.Tree.{Tree, Text}
+use Rattle.swc_ecma_parser_grammar.specs.Looks.{kind_at}
 use Rattle.swc_ecma_parser_grammar.specs.Names.{Code}
 use Rattle.swc_ecma_parser_grammar.specs.Entries.{has_error_token}
-use Rattle.swc_ecma_parser_grammar.specs.Walk.{is_tabled, is_dropping, tabled, drops}
+use Rattle.swc_ecma_parser_grammar.specs.Walk.{env_of, walk, is_tabled, is_dropping, tabled, drops}
+use Rattle.swc_ecma_parser_grammar.specs.Notes.{notes}
 use Rattle.swc_ecma_parser_reader.specs.State.{State, Reader, moved, coded, flagged, within}
+use Rattle.swc_ecma_parser_reader.specs.Limits.{has_out_of_memory_token}
 use Rattle.swc_ecma_parser_reader.proofs.Meets.{Meets, meets_then}
+use Rattle.swc_ecma_parser_reader.proofs.Errors.{Spares, spares_here, spares_after, after_keeps, is_error}
 
 -- ---- lists of faults
 
@@ -46,21 +46,6 @@ nil-split (x ∷ xs) ys e = (cc, cc)
 pub some_fault : {X : Type 0} (e : Fault) (es : List Fault) → e ∷ es ≡ [] → X
 some_fault e es h = cc
 
--- ---- no error token is ahead of what has none behind
-
-or_right : (a b : Bool) → (a || b) ≡ false → b ≡ false
-or_right true b h = cc
-or_right false b h = h
-
--- the rest of a list has no error token where the list has none
-past_keeps : (c : Place) (ts : List TokenAndSpan) → c.left ≡ ts → has_error_token c.left ≡ false → has_error_token (past c ts).left ≡ false
-past_keeps c [] e h = h
-past_keeps c (t ∷ ts) e h = or_right (same_kind (token_kind t.token) kind.Error) (has_error_token ts) (sym (ap has_error_token e) ∙ h)
-
-pub after_keeps : (c : Place) → has_error_token c.left ≡ false → has_error_token (after c).left ≡ false
-unfolding after
-after_keeps c h = past_keeps c c.left refl h
-
 -- ---- the record
 
 -- faults by the code and the labels around
@@ -82,6 +67,9 @@ pub record Sound (next : Code → Code) (w : Walk) (ns : List Fault) (P : Code �
   pub held_back : added ≡ [] → t.held_back ≡ s.held_back ++ ns
   pub walked : has_error_token s.at.left ≡ false → drops added ≡ false → tabled added ≡ w s.code s.scope.labels
   pub keeps : has_error_token s.at.left ≡ false → has_error_token t.at.left ≡ false
+  -- nothing that is read without a fault holds an error token, and no answer has taken a token that memory ran out for
+  pub spares : added ≡ [] → has_error_token t.at.left ≡ false → has_error_token s.at.left ≡ false
+  pub remembers : has_out_of_memory_token t.at.left ≡ false → has_out_of_memory_token s.at.left ≡ false
   pub reads : added ≡ [] → P s.code s.at t.at
 
 -- one behind another
@@ -97,30 +85,33 @@ sound_then {f = f} {g = g} {w = w} {v = v} {ns = ns} {ms = ms} {Q = Q} {s = s} {
       tabled-append p.added q.added ∙ ap (λ z. z ++ tabled q.added) (p.walked h e.0)
       ∙ ap (λ z. w s.code s.scope.labels ++ z) (q.walked (p.keeps h) e.1 ∙ ap (λ z. v z m.scope.labels) p.code ∙ ap (λ z. v (f s.code) z.labels) p.scope);
   keeps = λ h. q.keeps (p.keeps h);
+  spares = λ e h. let k = nil-split p.added q.added e in p.spares k.0 (q.spares k.1 h);
+  remembers = λ h. p.remembers (q.remembers h);
   reads = λ e. let h = nil-split p.added q.added e in (m.at, p.reads h.0, subst (λ k. Q k m.at t.at) p.code (q.reads h.1));
 }
 
 -- nothing is added
-pub sound_plain : {P : Code → Place → Place → Type 0} (s : State) (d : Place) → (has_error_token s.at.left ≡ false → has_error_token d.left ≡ false) → P s.code s.at d
-    → Sound same no_faults [] P s (record s { at = d })
-sound_plain s d h r = record {
+pub sound_plain : {P : Code → Place → Place → Type 0} (s : State) (d : Place) → Spares s.at d → P s.code s.at d → Sound same no_faults [] P s (record s { at = d })
+sound_plain s d p r = record {
   code = refl;
   scope = refl;
   added = [];
   faults = sym (append-nil s.faults);
   held_back = λ e. sym (append-nil s.held_back);
   walked = λ h d. refl;
-  keeps = h;
+  keeps = p.keeps;
+  spares = λ e h. p.spares h;
+  remembers = p.remembers;
   reads = λ e. r;
 }
 
--- a token is taken
-pub sound_moved : {P : Code → Place → Place → Type 0} (s : State) → P s.code s.at (after s.at) → Sound same no_faults [] P s (moved s)
-sound_moved s r = sound_plain s (after s.at) (after_keeps s.at) r
+-- a token of a kind that is no error's is taken
+pub sound_moved : {P : Code → Place → Place → Type 0} {j : TokenKind} (s : State) → kind_at s.at ≡ j → is_error j ≡ false → P s.code s.at (after s.at) → Sound same no_faults [] P s (moved s)
+sound_moved s e h r = sound_plain s (after s.at) (spares_after s.at e h) r
 
 -- nothing is taken
 pub sound_here : {P : Code → Place → Place → Type 0} (s : State) → P s.code s.at s.at → Sound same no_faults [] P s s
-sound_here s r = sound_plain s s.at (λ h. h) r
+sound_here s r = sound_plain s s.at (spares_here s.at) r
 
 -- under another rule, with the same walk and notes
 pub sound_as : {f g : Code → Code} {w v : Walk} {ns ms : List Fault} {P Q : Code → Place → Place → Type 0} (s t : State) → f s.code ≡ g s.code
@@ -133,13 +124,15 @@ sound_as s t k e n r p = record {
   held_back = λ h. p.held_back h ∙ ap (λ z. s.held_back ++ z) n;
   walked = λ h d. p.walked h d ∙ e;
   keeps = p.keeps;
+  spares = p.spares;
+  remembers = p.remembers;
   reads = λ h. r (p.reads h);
 }
 
--- from the place before a token
-pub sound_after : {f : Code → Code} {w v : Walk} {ns ms : List Fault} {P Q : Code → Place → Place → Type 0} (s t : State) → w s.code s.scope.labels ≡ v s.code s.scope.labels
-    → ns ≡ ms → (P s.code (after s.at) t.at → Q s.code s.at t.at) → Sound f w ns P (moved s) t → Sound f v ms Q s t
-sound_after s t e n r p = record {
+-- from the place before a token of a kind that is no error's
+pub sound_after : {f : Code → Code} {w v : Walk} {ns ms : List Fault} {P Q : Code → Place → Place → Type 0} {j : TokenKind} (s t : State) → kind_at s.at ≡ j → is_error j ≡ false
+    → w s.code s.scope.labels ≡ v s.code s.scope.labels → ns ≡ ms → (P s.code (after s.at) t.at → Q s.code s.at t.at) → Sound f w ns P (moved s) t → Sound f v ms Q s t
+sound_after s t k h e n r p = record {
   code = p.code;
   scope = p.scope;
   added = p.added;
@@ -147,6 +140,8 @@ sound_after s t e n r p = record {
   held_back = λ h. p.held_back h ∙ ap (λ z. s.held_back ++ z) n;
   walked = λ h d. p.walked (after_keeps s.at h) d ∙ e;
   keeps = λ h. p.keeps (after_keeps s.at h);
+  spares = λ i g. (spares_after s.at k h).spares (p.spares i g);
+  remembers = λ g. (spares_after s.at k h).remembers (p.remembers g);
   reads = λ h. r (p.reads h);
 }
 
@@ -166,6 +161,8 @@ sound_coded s t k e p = record {
   held_back = p.held_back;
   walked = p.walked;
   keeps = p.keeps;
+  spares = p.spares;
+  remembers = p.remembers;
   reads = p.reads;
 }
 
@@ -184,11 +181,24 @@ sound_under change keeps s t p = record {
   held_back = p.held_back;
   walked = p.walked;
   keeps = p.keeps;
+  spares = p.spares;
+  remembers = p.remembers;
   reads = p.reads;
 }
 
 -- a reader under other flags
-pub within_sound : {A : Type 0} (w : A → Walk) (ns : A → List Fault) (P : A → Code → Place → Place → Type 0) (change : Code → Code) → ((k : Code) → (change k).setting ≡ k.setting) → (p : Reader A) (s : State)
+pub within_sound : {A : Type 0} (w : A → Walk) (ns : A → List Fault) (P : A → Code → Place → Place → Type 0) (change : Code → Code)
+    → ((k : Code) → (change k).setting ≡ k.setting) → (p : Reader A) (s : State)
     → Meets (λ x t. Sound same (w x) (ns x) (P x) (coded (change s.code) s) t) (p (coded (change s.code) s))
     → Meets (λ x t. Sound same (λ k l. w x (change k) l) (ns x) (λ k. P x (change k)) s t) (within change p s)
 within_sound w ns P change keeps p s h = meets_then _ (p (coded (change s.code) s)) _ h (λ x t q. sound_under change keeps s t q)
+
+-- ---- what is read as a tree, and as a step
+
+-- a tree that a rule reads, with its walk and its notes
+abbrev pub SoundTree : (Code → Tree → Place → Place → Type 0) → State → Tree → State → Type 0
+SoundTree Reads s x t = Sound same (λ k l. walk (env_of k l) x) (notes x) (λ k. Reads k x) s t
+
+-- a step of no faults and no notes
+abbrev pub SoundStep : (Code → Place → Place → Type 0) → State → State → Type 0
+SoundStep Reads s t = Sound same no_faults [] Reads s t

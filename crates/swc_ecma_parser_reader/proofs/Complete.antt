@@ -11,7 +11,6 @@ use Rattle.swc_ecma_parser_token.specs.declared.kind.TokenKind.TheVariants as ki
 use Rattle.swc_ecma_parser_token.specs.declared.token.Token.{Token}
 use Rattle.swc_ecma_parser_token.specs.declared.token.Token.TheVariants as token
 use Rattle.swc_ecma_parser_token.specs.declared.token.Word.{Word}
-use Rattle.swc_ecma_parser_token.specs.declared.token.Word.TheVariants as word
 use Rattle.swc_ecma_parser_token.specs.declared.token.TokenAndSpan.{TokenAndSpan}
 use Rattle.swc_ecma_parser_token.specs.Text.{word_text}
 use Rattle.swc_ecma_parser_token.specs.Kind.{token_kind}
@@ -23,25 +22,24 @@ use Rattle.swc_ecma_parser_model.specs.Directive.{is_use_strict}
 use Rattle.swc_ecma_parser_model.specs.Forms.{is_ident, is_ident_named, span_of}
 use Rattle.swc_ecma_parser_grammar.specs.declared.position.Position.{Position}
 use Rattle.swc_ecma_parser_grammar.specs.Looks.{kind_at, sees, same_kind, spanned}
-use Rattle.swc_ecma_parser_grammar.specs.Names.{Code, is_name, name_at, token_is_name}
+use Rattle.swc_ecma_parser_grammar.specs.Names.{Code, is_name}
 use Rattle.swc_ecma_parser_grammar.specs.Ends.{Ends, by_semicolon, by_insertion}
-use Rattle.swc_ecma_parser_grammar.specs.Reads.{with_in, in_strict, nested_item, top_item, ReadsToken, PrimaryRule, name_rule, string_rule, number_rule, big_int_rule, null_rule, true_rule, false_rule, paren_rule, ReadsExpr, binding_rule, ReadsPat, DeclaratorRule, plain_rule, ReadsSeparated, directed, ReadsItems, StmtRule, block_rule, empty_rule, debugger_rule, var_rule, expr_rule, ReadsStmt}
+use Rattle.swc_ecma_parser_grammar.specs.Reads.{with_in, in_strict, nested_item, top_item, ReadsToken, binding_rule, ReadsPat, DeclaratorRule, plain_rule, initialized_rule, ReadsSeparated, directed, ReadsItems, StmtRule, block_rule, empty_rule, debugger_rule, var_rule, expr_rule}
+use Rattle.swc_ecma_parser_grammar.specs.ReadsSupported.{ReadsClass, ReadsStmt}
+use Rattle.swc_ecma_parser_grammar.specs.language.Goals.{expression, assignment}
 use Rattle.swc_ecma_parser_grammar.specs.Entries.{script_code, ReadsShebang, some_shebang, no_shebang, ReadsScript}
 use Rattle.swc_ecma_parser_grammar.specs.Notes.{notes, all_notes, statement_note}
 use Rattle.swc_ecma_parser_grammar.specs.Walk as walks_of
 use Rattle.swc_ecma_parser_grammar.specs.Walk.{Env, env_of, walk, walks}
 use Rattle.swc_ecma_parser_reader.specs.State.{Scope, State, Outcome, Reader, noted, expect, end, name, fault_at, loop}
-use Rattle.swc_ecma_parser_reader.specs.Reader.{literal, literal_of, literal_in, ident_expr, paren, primary, closed, whole_expr, expr, binding, pat, empty, debugger, plain_declarator, declarator, declarators_turn, declarators, var, closes, at_end, close, directs, items_turn, items, block, note_statement, no_label, expr_stmt, expr_stmt_at, stmt_level, stmt, shebang_of, shebang_in, shebang, script_body, script}
+use Rattle.swc_ecma_parser_reader.specs.Expressions.{expr}
+use Rattle.swc_ecma_parser_reader.specs.Reader.{binding, pat, empty, debugger, initialized, declarator, declarators_turn, declarators, var, closes, at_end, close, directs, items_turn, items, block, note_statement, no_label, expr_stmt, expr_stmt_at, stmt_level, stmt, shebang_of, shebang_in, shebang, script_body, script}
 use Rattle.swc_ecma_parser_reader.specs.Entry.{script_left}
+use Rattle.swc_ecma_parser_reader.proofs.Answered.{st, Reads}
+use Rattle.swc_ecma_parser_reader.proofs.expressions.Complete.{expr_reads}
 use Rattle.swc_ecma_parser_reader.proofs.Loops.{stmt_shorter, items_stop, items_more, declarators_done, declarators_more}
-use Rattle.swc_ecma_parser_reader.proofs.Opens.{expr_opens, opened, stmt_goes, paren_here, null_unnamed, true_unnamed, false_unnamed}
-
-abbrev pub st : Place → Code → Scope → List Fault → List Fault → State
-st c k w f h = record { at = c; code = k; scope = w; faults = f; held_back = h }
-
--- the answer of a reader that is complete: the tree, its end, the faults of its walk, and its notes held back
-abbrev pub Reads : Reader Tree → Code → Tree → Place → Place → Type 0
-Reads reader k x c d = (w : Scope) (f h : List Fault) → reader (st c k w f h) ≡ Ok (x, st d k w (f ++ walk (env_of k w.labels) x) (h ++ notes x))
+use Rattle.swc_ecma_parser_grammar.proofs.SupportedBegins.{expr_opens}
+use Rattle.swc_ecma_parser_reader.proofs.Opens.{opened, no_block, stmt_goes}
 
 seen : (c : Place) (k : TokenKind) → kind_at c ≡ k → sees k c ≡ true
 unfolding same_kind
@@ -67,56 +65,6 @@ name_reads : (missing : Kind) (v : Word) (sp : Span) (c d : Place) (k : Code) (w
 unfolding name
 name_reads missing v sp c d k w f h r e = rw (r.is, e, r.next) refl
 
--- ---- expressions
-
--- a token stands first that is a name, or none
-named : (u : Token) (sp : Span) (c d : Place) (k : Code) (b : Bool) → ReadsToken u sp c d → token_is_name k.flags u ≡ b → name_at k.flags c ≡ b
-unfolding name_at
-named u sp c d k b r e = rw r.is e
-
-literal_here : (u : Token) (sp : Span) (y : Tree) (c d : Place) → ReadsToken u sp c d → literal_of sp u ≡ Some y → literal_in c.left ≡ Some y
-literal_here u sp y c d r e = rw r.is e
-
-literal_reads : (u : Token) (sp : Span) (x y : Tree) (c d : Place) (k : Code) (w : Scope) (f h : List Fault) → ReadsToken u sp c d → literal_of sp u ≡ Some y → x ≡ y
-    → literal (st c k w f h) ≡ Ok (Some x, st d k w f h)
-unfolding literal
-literal_reads u sp x y c d k w f h r e g = rw (literal_here u sp y c d r e, r.next, g) refl
-
--- a literal as an expression
-literal_primary : (inner : Reader Tree) (u : Token) (sp : Span) (x y : Tree) (c d : Place) (k : Code) → ReadsToken u sp c d → token_is_name k.flags u ≡ false → literal_of sp u ≡ Some y
-    → x ≡ y → ((env : Env) → walk env y ≡ []) → notes y ≡ [] → Reads (primary inner) k x c d
-unfolding primary
-literal_primary inner u sp x y c d k r n e g z o w f h =
-    rw (named u sp c d k false r n, literal_reads u sp x y c d k w f h r e g, g, z (env_of k w.labels), o, append-nil f, append-nil h) refl
-
--- `(` leads to what stands in parentheses
-first_paren : (inner : Reader Tree) (k : Code) (x : Tree) (c d : Place) → kind_at c ≡ kind.LParen → Reads (paren inner) k x c d → Reads (primary inner) k x c d
-unfolding primary literal
-first_paren inner k x c d e reads w f h = rw ((paren_here k.flags c e).0, (paren_here k.flags c e).1, seen c kind.LParen e) (reads w f h)
-
-module _ (n : ℕ) (reads : (k : Code) (x : Tree) (c d : Place) → ReadsExpr n k x c d → Reads (expr n) k x c d) where
-  paren_reads : (e : Tree) (m : Place) (k : Code) (x : Tree) (c d : Place) → ReadsExpr n (with_in k) e (after c) m → kind_at m ≡ kind.RParen → d ≡ after m
-      → x ≡ tree.paren (spanned c d) e → Reads (paren (expr n)) k x c d
-  unfolding paren
-  paren_reads e m k x c d r g i j w f h = rw (reads (with_in k) e (after c) m r w f h, expect_reads kind.RParen m k w (f ++ walk (env_of k w.labels) e) (h ++ notes e) g, j, i) refl
-
-  primary_reads : (k : Code) (x : Tree) (c d : Place) → PrimaryRule (ReadsExpr n) k x c d → Reads (primary (expr n)) k x c d
-  unfolding primary ident_expr
-  primary_reads k x c d (name_rule v s r e g) w f h =
-      rw (named (token.Word v) s c d k true r e, name_reads faults.Unexpected v s c d k w f h r e, g, append-nil f, append-nil h) refl
-  primary_reads k x c d (string_rule value raw s r g) w f h = literal_primary (expr n) (token.Str value raw) s x (tree.str s value raw) c d k r refl refl g (λ env. refl) refl w f h
-  primary_reads k x c d (number_rule raw s r g) w f h = literal_primary (expr n) (token.Num raw) s x (tree.num s raw) c d k r refl refl g (λ env. refl) refl w f h
-  primary_reads k x c d (big_int_rule raw s r g) w f h = literal_primary (expr n) (token.BigInt raw) s x (tree.big_int s raw) c d k r refl refl g (λ env. refl) refl w f h
-  primary_reads k x c d (null_rule s r g) w f h = literal_primary (expr n) (token.Word word.Null) s x (tree.null s) c d k r (null_unnamed k.flags) refl g (λ env. refl) refl w f h
-  primary_reads k x c d (true_rule s r g) w f h = literal_primary (expr n) (token.Word word.True) s x (tree.bool s true) c d k r (true_unnamed k.flags) refl g (λ env. refl) refl w f h
-  primary_reads k x c d (false_rule s r g) w f h = literal_primary (expr n) (token.Word word.False) s x (tree.bool s false) c d k r (false_unnamed k.flags) refl g (λ env. refl) refl w f h
-  primary_reads k x c d (paren_rule e m o r g i j) w f h = first_paren (expr n) k x c d o (paren_reads e m k x c d r g i j) w f h
-
-pub expr_reads : (n : ℕ) (k : Code) (x : Tree) (c d : Place) → ReadsExpr n k x c d → Reads (expr n) k x c d
-unfolding expr whole_expr closed
-expr_reads zero k x c d r w f h = absurd r
-expr_reads (suc n) k x c d r w f h = rw (primary_reads n (expr_reads n) k x c d r.0 w f h, r.1) refl
-
 -- ---- binding patterns
 
 pub pat_reads : (n : ℕ) (k : Code) (x : Tree) (c d : Place) → ReadsPat n k x c d → Reads (pat n) k x c d
@@ -136,25 +84,35 @@ debugger_reads k x c d e g w f h = rw (ends_read faults.Expected (after c) d k w
 
 -- ---- declarators
 
-declarator_reads : (n : ℕ) (k : Code) (x : Tree) (c d : Place) → DeclaratorRule (ReadsPat n) k x c d → Reads (declarator (pat n)) k x c d
-unfolding declarator plain_declarator
-declarator_reads n k x c d (plain_rule p r e g) w f h = rw (pat_reads n k p c d r w f h, e, g, append-nil (walk (env_of k w.labels) p), append-nil (notes p)) refl
+module _ (n : ℕ) where
+  declarator_reads : (k : Code) (x : Tree) (c d : Place) → DeclaratorRule (ReadsClass n assignment) (ReadsPat n) k x c d → Reads (declarator (expr n) (pat n)) k x c d
+  unfolding declarator initialized spanned
+  declarator_reads k x c d (plain_rule p r e g) w f h = rw (pat_reads n k p c d r w f h, e, g, append-nil (walk (env_of k w.labels) p), append-nil (notes p)) refl
+  declarator_reads k x c d (initialized_rule p y m r e s g) w f h =
+      rw (
+        pat_reads n k p c m r w f h,
+        seen m kind.Assign e,
+        expr_reads n assignment k y (after m) d s w (f ++ walk (env_of k w.labels) p) (h ++ notes p),
+        g,
+        append_assoc f (walk (env_of k w.labels) p) (walk (env_of k w.labels) y),
+        append_assoc h (notes p) (notes y),
+      ) refl
 
-many_declarators : (n : ℕ) (xs found : List Tree) (k : Code) (c d : Place) (w : Scope) (f h : List Fault) → ReadsSeparated (DeclaratorRule (ReadsPat n) k) xs c d
-    → loop (declarators_turn (pat n)) found (st c k w f h) ≡ Ok (found ++ xs, st d k w (f ++ walks (env_of k w.labels) false (trees xs)) (h ++ all_notes (trees xs)))
-many_declarators n [] found k c d w f h r = absurd r
-many_declarators n (x ∷ []) found k c d w f h r =
-    rw (append-nil (walk (env_of k w.labels) x), append-nil (notes x))
-    (declarators_done n found (st c k w f h) x (st d k w (f ++ walk (env_of k w.labels) x) (h ++ notes x)) (declarator_reads n k x c d r.0 w f h) r.1)
-many_declarators n (x ∷ y ∷ ys) found k c d w f h (m, r, e, more) =
-    declarators_more n found (st c k w f h) x (st m k w (f ++ walk (env_of k w.labels) x) (h ++ notes x)) (declarator_reads n k x c m r w f h) (seen m kind.Comma e)
-    ∙ many_declarators n (y ∷ ys) (found ++ x ∷ []) k (after m) d w (f ++ walk (env_of k w.labels) x) (h ++ notes x) more ∙ simp append_assoc refl
+  many_declarators : (xs found : List Tree) (k : Code) (c d : Place) (w : Scope) (f h : List Fault) → ReadsSeparated (DeclaratorRule (ReadsClass n assignment) (ReadsPat n) k) xs c d
+      → loop (declarators_turn (expr n) (pat n)) found (st c k w f h) ≡ Ok (found ++ xs, st d k w (f ++ walks (env_of k w.labels) false (trees xs)) (h ++ all_notes (trees xs)))
+  many_declarators [] found k c d w f h r = absurd r
+  many_declarators (x ∷ []) found k c d w f h r =
+      rw (append-nil (walk (env_of k w.labels) x), append-nil (notes x))
+      (declarators_done n found (st c k w f h) x (st d k w (f ++ walk (env_of k w.labels) x) (h ++ notes x)) (declarator_reads k x c d r.0 w f h) r.1)
+  many_declarators (x ∷ y ∷ ys) found k c d w f h (m, r, e, more) =
+      declarators_more n found (st c k w f h) x (st m k w (f ++ walk (env_of k w.labels) x) (h ++ notes x)) (declarator_reads k x c m r w f h) (seen m kind.Comma e)
+      ∙ many_declarators (y ∷ ys) (found ++ x ∷ []) k (after m) d w (f ++ walk (env_of k w.labels) x) (h ++ notes x) more ∙ simp append_assoc refl
 
-var_reads : (n : ℕ) (xs : List Tree) (m : Place) (k : Code) (x : Tree) (c d : Place) → ReadsSeparated (DeclaratorRule (ReadsPat n) (with_in k)) xs (after c) m → Ends m d
-    → x ≡ tree.var (spanned c d) decl.Var (listed xs) → Reads (var (pat n)) k x c d
-unfolding var declarators
-var_reads n xs m k x c d r e g w f h =
-    rw (many_declarators n xs [] (with_in k) (after c) m w f h r, ends_read faults.Unexpected m d k w (f ++ walks (env_of k w.labels) false (trees xs)) (h ++ all_notes (trees xs)) e, g) refl
+  var_reads : (xs : List Tree) (m : Place) (k : Code) (x : Tree) (c d : Place) → ReadsSeparated (DeclaratorRule (ReadsClass n assignment) (ReadsPat n) (with_in k)) xs (after c) m → Ends m d
+      → x ≡ tree.var (spanned c d) decl.Var (listed xs) → Reads (var (expr n) (pat n)) k x c d
+  unfolding var declarators
+  var_reads xs m k x c d r e g w f h =
+      rw (many_declarators xs [] (with_in k) (after c) m w f h r, ends_read faults.Unexpected m d k w (f ++ walks (env_of k w.labels) false (trees xs)) (h ++ all_notes (trees xs)) e, g) refl
 
 -- ---- statements one behind another
 
@@ -233,48 +191,18 @@ note_reads : (e : Tree) (m : Place) (k : Code) (w : Scope) (f h : List Fault) �
 unfolding note_statement
 note_reads e m k w f h g = note_by (is_ident_named (codes "interface") e) k.flags.module (fault_at (span_of e) faults.InvalidIdentInStrict) (st m k w f h) g
 
-expr_stmt_reads : (n : ℕ) (e : Tree) (m : Place) (k : Code) (x : Tree) (c d : Place) → ReadsExpr n (with_in k) e c m → is_ident e && sees kind.Colon m ≡ false
-    → k.flags.module && is_ident_named (codes "interface") e ≡ false → Ends m d → x ≡ tree.expr_stmt (spanned c d) e → Reads (expr_stmt (expr n)) k x c d
+expr_stmt_reads : (n : ℕ) (e : Tree) (m : Place) (k : Code) (x : Tree) (c d : Place) → ReadsClass n expression (with_in k) e c m → is_ident e && sees kind.Colon m ≡ false
+    → k.flags.module && is_ident_named (codes "interface") e ≡ false → Ends m d → x ≡ tree.expr_stmt (spanned c d) e → Reads (expr_stmt (expr n expression)) k x c d
 unfolding expr_stmt no_label
 expr_stmt_reads n e m k x c d r l i g j w f h =
     rw (
-      expr_reads n (with_in k) e c m r w f h,
+      expr_reads n expression (with_in k) e c m r w f h,
       l,
       note_reads e m k w (f ++ walk (env_of k w.labels) e) (h ++ notes e) i,
       ends_read faults.ExpectedSemiForExprStmt m d k w (f ++ walk (env_of k w.labels) e) ((h ++ notes e) ++ statement_note e) g,
       j,
       append_assoc,
     ) refl
-
--- ---- statements
-
-module _ (n : ℕ) (reads : (at : Position) (k : Code) (x : Tree) (c d : Place) → ReadsStmt n k at x c d → Reads (stmt n at) k x c d) where
-  block_reads : (xs : List Tree) (m : Place) (k : Code) (x : Tree) (c d : Place) → ReadsItems (λ j. ReadsStmt n j nested_item) k false xs (after c) m → kind_at m ≡ kind.RBrace → d ≡ after m
-      → x ≡ tree.block (spanned c d) (listed xs) → Reads (block (stmt n nested_item)) k x c d
-  unfolding block
-  block_reads xs m k x c d r e g i w f h =
-      rw (
-        items_read (λ j. ReadsStmt n j nested_item) (stmt n nested_item) (reads nested_item) (stmt_shorter n nested_item) closes (λ j y a b q. (stmt_goes n j nested_item y a b q).0)
-            false xs k (after c) m w f h r (closes_at m e),
-        code_stays k xs,
-        close_reads m k w (f ++ walks (env_of k w.labels) false (trees xs)) (h ++ all_notes (trees xs)) e,
-        i,
-        g,
-      ) refl
-
-  by_rules : (at : Position) (k : Code) (x : Tree) (c d : Place) → StmtRule (ReadsStmt n) (ReadsExpr n) (ReadsPat n) k at x c d → Reads (stmt_level (stmt n) (expr n) (pat n) at) k x c d
-  unfolding stmt_level expr_stmt_at
-  by_rules at k x c d (block_rule xs m e r g i j) w f h = rw e (block_reads xs m k x c d r g i j w f h)
-  by_rules at k x c d (empty_rule e g i) w f h = rw e (empty_reads k x c d g i w f h)
-  by_rules at k x c d (debugger_rule e g i) w f h = rw e (debugger_reads k x c d g i w f h)
-  by_rules at k x c d (var_rule xs m e r g i) w f h = rw e (var_reads n xs m k x c d r g i w f h)
-  by_rules at k x c d (expr_rule e m b r l i g j) w f h =
-      opened (stmt n) (expr n) (pat n) at (st c k w f h) (kind_at c) (expr_opens n (with_in k) e c m r) ∙ rw b (expr_stmt_reads n e m k x c d r l i g j w f h)
-
-pub stmt_reads : (n : ℕ) (at : Position) (k : Code) (x : Tree) (c d : Place) → ReadsStmt n k at x c d → Reads (stmt n at) k x c d
-unfolding stmt
-stmt_reads zero at k x c d r w f h = absurd r
-stmt_reads (suc n) at k x c d r w f h = by_rules n (stmt_reads n) at k x c d r w f h
 
 -- ---- a script
 
@@ -296,6 +224,36 @@ shebang_reads : (first : Option Text) (c d : Place) (k : Code) (w : Scope) (f h 
 unfolding shebang
 shebang_reads first c d k w f h (some_shebang text s r) = rw (shebang_here text s c d r, r.next) refl
 shebang_reads first c d k w f h (no_shebang e g) = rw (no_shebang_in c c.left refl e, g) refl
+
+-- ---- all levels
+
+module _ (n : ℕ) (reads : (at : Position) (k : Code) (x : Tree) (c d : Place) → ReadsStmt n k at x c d → Reads (stmt n at) k x c d) where
+  block_reads : (xs : List Tree) (m : Place) (k : Code) (x : Tree) (c d : Place) → ReadsItems (λ j. ReadsStmt n j nested_item) k false xs (after c) m → kind_at m ≡ kind.RBrace → d ≡ after m
+      → x ≡ tree.block (spanned c d) (listed xs) → Reads (block (stmt n nested_item)) k x c d
+  unfolding block
+  block_reads xs m k x c d r e g i w f h =
+      rw (
+        items_read (λ j. ReadsStmt n j nested_item) (stmt n nested_item) (reads nested_item) (stmt_shorter n nested_item) closes (λ j y a b q. (stmt_goes n j nested_item y a b q).0)
+            false xs k (after c) m w f h r (closes_at m e),
+        code_stays k xs,
+        close_reads m k w (f ++ walks (env_of k w.labels) false (trees xs)) (h ++ all_notes (trees xs)) e,
+        i,
+        g,
+      ) refl
+
+  by_rules : (at : Position) (k : Code) (x : Tree) (c d : Place) → StmtRule (ReadsStmt n) (ReadsClass n) (ReadsPat n) k at x c d → Reads (stmt_level (stmt n) (expr n) (pat n) at) k x c d
+  unfolding stmt_level expr_stmt_at
+  by_rules at k x c d (block_rule xs m e r g i j) w f h = rw e (block_reads xs m k x c d r g i j w f h)
+  by_rules at k x c d (empty_rule e g i) w f h = rw e (empty_reads k x c d g i w f h)
+  by_rules at k x c d (debugger_rule e g i) w f h = rw e (debugger_reads k x c d g i w f h)
+  by_rules at k x c d (var_rule xs m e r g i) w f h = rw e (var_reads n xs m k x c d r g i w f h)
+  by_rules at k x c d (expr_rule e m b r l i g j) w f h =
+      opened (stmt n) (expr n) (pat n) at (st c k w f h) (kind_at c) (expr_opens n (with_in k) e c m r) (no_block at c b) ∙ rw b (expr_stmt_reads n e m k x c d r l i g j w f h)
+
+pub stmt_reads : (n : ℕ) (at : Position) (k : Code) (x : Tree) (c d : Place) → ReadsStmt n k at x c d → Reads (stmt n at) k x c d
+unfolding stmt
+stmt_reads zero at k x c d r w f h = absurd r
+stmt_reads (suc n) at k x c d r w f h = by_rules n (stmt_reads n) at k x c d r w f h
 
 pub script_reads : (n : ℕ) (s : State) (x : Tree) (d : Place) → ReadsScript n s.code x s.at d → script n s ≡ Ok (x, script_left s x d)
 unfolding script script_body

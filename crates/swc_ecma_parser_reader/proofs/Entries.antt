@@ -13,11 +13,10 @@ use Rattle.swc_ecma_parser_reader.specs.State.{State, Outcome, coded}
 use Rattle.swc_ecma_parser_reader.specs.Reader.{script_body, script}
 use Rattle.swc_ecma_parser_reader.specs.Entry.{SoundScript, CompleteScript, AnswersScript}
 use Rattle.swc_ecma_parser_reader.specs.Limits.{has_too_deep_token, has_out_of_memory_token}
-use Rattle.swc_ecma_parser_reader.proofs.Sound.{script_is_sound}
+use Rattle.swc_ecma_parser_reader.proofs.Sound.{script_is_sound, script_lacks_out_of_memory}
 use Rattle.swc_ecma_parser_reader.proofs.Complete.{script_reads}
 use Rattle.swc_ecma_parser_reader.proofs.Limits.{script_fits}
 use Rattle.swc_ecma_parser_reader.proofs.Refusals.{script_of_error_token}
-use Rattle.swc_ecma_parser_reader.proofs.Memory.{script_lacks_out_of_memory}
 
 -- a script whose body is refused is refused
 pub script_refused : (limit : ℕ) (s : State) (p : Fault × State) → script_body limit (coded (script_code s.code) s) ≡ Err p → script limit s ≡ Err p

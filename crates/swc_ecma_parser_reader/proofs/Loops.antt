@@ -8,9 +8,12 @@ use Rattle.swc_ecma_parser_grammar.specs.declared.position.Position.{Position}
 use Rattle.swc_ecma_parser_grammar.specs.Looks.{sees}
 use Rattle.swc_ecma_parser_grammar.specs.Reads.{directed}
 use Rattle.swc_ecma_parser_reader.specs.State.{State, Outcome, Reader, coded, moved, too_deep, loop}
-use Rattle.swc_ecma_parser_reader.specs.Reader.{whole_expr, expr, binding, pat, declarator, declarators_turn, directs, items_turn, stmt_level, stmt}
+use Rattle.swc_ecma_parser_reader.specs.Expressions.{expr}
+use Rattle.swc_ecma_parser_reader.specs.Reader.{binding, pat, declarator, declarators_turn, directs, items_turn, stmt_level, stmt}
 use Rattle.swc_ecma_parser_reader.proofs.Steps.{loop_more, loop_done, loop_err}
-use Rattle.swc_ecma_parser_reader.proofs.Falls.{Falls, moves, stmt_falls, expr_falls, pat_falls, declarator_falls}
+use Rattle.swc_ecma_parser_reader.proofs.Takes.{Falls, moves}
+use Rattle.swc_ecma_parser_reader.proofs.Falls.{stmt_falls, pat_falls, declarator_falls}
+use Rattle.swc_ecma_parser_reader.proofs.expressions.Falls.{expr_falls}
 
 -- ---- what takes a token leaves fewer
 
@@ -20,17 +23,14 @@ shorter_by n o x t e h = let k : Falls 1 n (Ok (x, t)) = subst (Falls 1 n) e h i
 pub stmt_shorter : (n : ℕ) (at : Position) (s : State) (x : Tree) (t : State) → stmt n at s ≡ Ok (x, t) → length t.at.left < length s.at.left
 stmt_shorter n at s x t e = shorter_by (length s.at.left) (stmt n at s) x t e (stmt_falls n at s)
 
-pub expr_shorter : (n : ℕ) (s : State) (x : Tree) (t : State) → expr n s ≡ Ok (x, t) → length t.at.left < length s.at.left
-expr_shorter n s x t e = shorter_by (length s.at.left) (expr n s) x t e (expr_falls n s)
-
 pub pat_shorter : (n : ℕ) (s : State) (x : Tree) (t : State) → pat n s ≡ Ok (x, t) → length t.at.left < length s.at.left
 pat_shorter n s x t e = shorter_by (length s.at.left) (pat n s) x t e (pat_falls n s)
 
-pub declarator_shorter : (n : ℕ) (s : State) (x : Tree) (t : State) → declarator (pat n) s ≡ Ok (x, t) → length t.at.left < length s.at.left
-declarator_shorter n s x t e = shorter_by (length s.at.left) (declarator (pat n) s) x t e (declarator_falls (pat n) (pat_falls n) s)
+pub declarator_shorter : (n : ℕ) (s : State) (x : Tree) (t : State) → declarator (expr n) (pat n) s ≡ Ok (x, t) → length t.at.left < length s.at.left
+declarator_shorter n s x t e = shorter_by (length s.at.left) (declarator (expr n) (pat n) s) x t e (declarator_falls (expr n) (expr_falls n) (pat n) (pat_falls n) s)
 
 -- a turn that takes a declarator and the comma behind it
-pub declarators_shorter : (n : ℕ) (s : State) (x : Tree) (t : State) → declarator (pat n) s ≡ Ok (x, t) → length (after t.at).left < length s.at.left
+pub declarators_shorter : (n : ℕ) (s : State) (x : Tree) (t : State) → declarator (expr n) (pat n) s ≡ Ok (x, t) → length (after t.at).left < length s.at.left
 declarators_shorter n s x t e = let a = declarator_shorter n s x t e in let b = moves t.at in omega arith
 
 -- ---- statements one behind another: the list ends, an item fails, an item is read
@@ -52,31 +52,23 @@ module _ (item : Reader Tree) (stops : Place → Bool) (directives : Bool) (foun
 -- ---- declarators with commas between
 
 module _ (n : ℕ) (found : List Tree) (s : State) where
-  pub declarators_err : (e : Fault × State) → declarator (pat n) s ≡ Err e → loop (declarators_turn (pat n)) found s ≡ Err e
+  pub declarators_err : (e : Fault × State) → declarator (expr n) (pat n) s ≡ Err e → loop (declarators_turn (expr n) (pat n)) found s ≡ Err e
   unfolding declarators_turn
-  declarators_err e h = loop_err (declarators_turn (pat n)) found s e (rw h refl)
+  declarators_err e h = loop_err (declarators_turn (expr n) (pat n)) found s e (rw h refl)
 
-  pub declarators_done : (x : Tree) (t : State) → declarator (pat n) s ≡ Ok (x, t) → sees kind.Comma t.at ≡ false → loop (declarators_turn (pat n)) found s ≡ Ok (found ++ x ∷ [], t)
+  pub declarators_done : (x : Tree) (t : State) → declarator (expr n) (pat n) s ≡ Ok (x, t) → sees kind.Comma t.at ≡ false → loop (declarators_turn (expr n) (pat n)) found s ≡ Ok (found ++ x ∷ [], t)
   unfolding declarators_turn
-  declarators_done x t h e = loop_done (declarators_turn (pat n)) found (found ++ x ∷ []) s t (rw (h, e) refl)
+  declarators_done x t h e = loop_done (declarators_turn (expr n) (pat n)) found (found ++ x ∷ []) s t (rw (h, e) refl)
 
-  pub declarators_more : (x : Tree) (t : State) → declarator (pat n) s ≡ Ok (x, t) → sees kind.Comma t.at ≡ true
-      → loop (declarators_turn (pat n)) found s ≡ loop (declarators_turn (pat n)) (found ++ x ∷ []) (moved t)
+  pub declarators_more : (x : Tree) (t : State) → declarator (expr n) (pat n) s ≡ Ok (x, t) → sees kind.Comma t.at ≡ true
+      → loop (declarators_turn (expr n) (pat n)) found s ≡ loop (declarators_turn (expr n) (pat n)) (found ++ x ∷ []) (moved t)
   unfolding declarators_turn
-  declarators_more x t h e = loop_more (declarators_turn (pat n)) found (found ++ x ∷ []) s (moved t) (rw (h, e) refl) (declarators_shorter n s x t h)
+  declarators_more x t h e = loop_more (declarators_turn (expr n) (pat n)) found (found ++ x ∷ []) s (moved t) (rw (h, e) refl) (declarators_shorter n s x t h)
 
 -- ---- levels, where a number is 0 or not
 
 deeper : {X : Type 0} (f : ℕ → X) (n : ℕ) → 0 < n → f n ≡ f (suc (n - 1))
 deeper f n some = let e : n ≡ suc (n - 1) = omega arith in ap f e
-
-pub expr_lowest : (n : ℕ) (s : State) → n ≡ 0 → expr n s ≡ too_deep s
-unfolding expr
-expr_lowest n s e = rw e refl
-
-pub expr_above : (n : ℕ) (s : State) → 0 < n → expr n s ≡ whole_expr (expr (n - 1)) s
-unfolding expr
-expr_above n s h = deeper (λ k. expr k s) n h
 
 pub pat_lowest : (n : ℕ) (s : State) → n ≡ 0 → pat n s ≡ too_deep s
 unfolding pat

@@ -1,5 +1,5 @@
 -- What is read is in the grammar where nothing was recorded, and the faults of the table are the walk's.
-use Rattle.std.proofs.Common.{◌≡◌, ℕ, zero, suc, Bool, true, false, cond, List, [], ◌∷◌, ◌++◌, Option, Some, None, Ok, refl, sym, ◌∙◌, ap, subst, append_assoc, append-nil}
+use Rattle.std.proofs.Common.{◌≡◌, ℕ, zero, suc, Bool, true, false, cond, List, [], ◌∷◌, ◌++◌, Option, Ok, refl, sym, ◌∙◌, ap, subst, append_assoc, append-nil}
 use Rattle.std.specs.Prelude.{◌&&◌, codes}
 use Rattle.swc_ecma_parser_error.specs.declared.error.Error.{Error}
 use Rattle.swc_ecma_parser_error.specs.Kind as faults
@@ -28,29 +28,26 @@ use Rattle.swc_ecma_parser_model.specs.Directive.{is_use_strict}
 use Rattle.swc_ecma_parser_model.specs.Forms.{is_ident, is_ident_named, span_of}
 use Rattle.swc_ecma_parser_grammar.specs.declared.position.Position.{Position}
 use Rattle.swc_ecma_parser_grammar.specs.Looks.{kind_at, sees, same_kind, span_at, spanned}
-use Rattle.swc_ecma_parser_grammar.specs.Names.{Code, is_name, name_at}
+use Rattle.swc_ecma_parser_grammar.specs.Names.{Code, is_name}
 use Rattle.swc_ecma_parser_grammar.specs.Ends.{Ends, by_semicolon, by_insertion, can_end}
-use Rattle.swc_ecma_parser_grammar.specs.Follows.{continues, may_begin_expression_statement}
-use Rattle.swc_ecma_parser_grammar.specs.Reads.{with_in, in_strict, directed, directs_on, nested_item, top_item, ReadsToken, PrimaryRule, name_rule, string_rule, number_rule, big_int_rule, null_rule, true_rule, false_rule, paren_rule, ReadsExpr, PatRule, binding_rule, ReadsPat, DeclaratorRule, plain_rule, ReadsSeparated, ReadsItems, StmtRule, block_rule, empty_rule, debugger_rule, var_rule, expr_rule, ReadsStmt}
+use Rattle.swc_ecma_parser_grammar.specs.Follows.{may_begin_expression_statement}
+use Rattle.swc_ecma_parser_grammar.specs.language.Goals.{Class, expression, assignment}
+use Rattle.swc_ecma_parser_grammar.specs.Reads.{with_in, in_strict, directed, directs_on, nested_item, top_item, ReadsToken, PatRule, binding_rule, ReadsPat, DeclaratorRule, plain_rule, initialized_rule, ReadsSeparated, ReadsItems, StmtRule, block_rule, empty_rule, debugger_rule, var_rule, expr_rule}
+use Rattle.swc_ecma_parser_grammar.specs.ReadsSupported.{ReadsClass, ReadsStmt}
 use Rattle.swc_ecma_parser_grammar.specs.Entries.{ReadsScript, ReadsShebang, some_shebang, no_shebang, script_code, has_error_token}
 use Rattle.swc_ecma_parser_grammar.specs.Walk as walks
 use Rattle.swc_ecma_parser_grammar.specs.Walk.{walk, env_of, tabled, drops}
 use Rattle.swc_ecma_parser_grammar.specs.Notes.{notes, all_notes, statement_note}
 use Rattle.swc_ecma_parser_grammar.proofs.Widens.{script_widens, script_supported}
 use Rattle.swc_ecma_parser_reader.specs.State.{State, Reader, moved, coded, flagged, within, noted, module_fault, fault, recorded_in, recorded_at, fault_at, expect, end, name, name_in, name_by}
-use Rattle.swc_ecma_parser_reader.specs.Reader.{literal_of, literal_in, taken, literal, ident_expr, paren, paren_or_none, literal_or, primary, closed, whole_expr, expr, binding, pat, empty, debugger, plain_declarator, declarator, declarators_turn, declarators, var, closes, at_end, close, directs, items_turn, items, block, note_statement, no_label, expr_stmt, expr_stmt_at, stmt_by, stmt_level, stmt, shebang_of, shebang_in, shebang_taken, shebang, script_body, script}
+use Rattle.swc_ecma_parser_reader.specs.Expressions.{expr}
+use Rattle.swc_ecma_parser_reader.specs.Reader.{binding, pat, empty, debugger, initialized, declarator, declarators_turn, declarators, var, closes, at_end, close, directs, items_turn, items, block, note_statement, no_label, expr_stmt, expr_stmt_at, stmt_by, stmt_level, stmt, shebang_of, shebang_in, shebang_taken, shebang, script_body, script}
 use Rattle.swc_ecma_parser_reader.specs.Entry.{SoundScript}
+use Rattle.swc_ecma_parser_reader.specs.Limits.{has_out_of_memory_token}
+use Rattle.swc_ecma_parser_reader.proofs.expressions.Sound.{expr_sound}
 use Rattle.swc_ecma_parser_reader.proofs.Meets.{Meets, Refuses, meets_then, meets_if, wanted_meets, too_deep_meets, refuse_meets, Turned, loop_answers, saw, meant}
-use Rattle.swc_ecma_parser_reader.proofs.Spelled.{script_spares}
-use Rattle.swc_ecma_parser_reader.proofs.Between.{Sound, no_faults, same, sound_then, sound_more, sound_moved, sound_here, sound_as, sound_after, sound_coded, within_sound, flags_back, some_fault}
-
--- a tree that a rule reads, with its walk and its notes
-abbrev pub SoundTree : (Code → Tree → Place → Place → Type 0) → State → Tree → State → Type 0
-SoundTree Reads s x t = Sound same (λ k l. walk (env_of k l) x) (notes x) (λ k. Reads k x) s t
-
--- a step of no faults and no notes
-abbrev pub SoundStep : (Code → Place → Place → Type 0) → State → State → Type 0
-SoundStep Reads s t = Sound same no_faults [] Reads s t
+use Rattle.swc_ecma_parser_reader.proofs.Errors.{is_error, word_is_none, kind_here, after_remembers, nothing_at_end}
+use Rattle.swc_ecma_parser_reader.proofs.Between.{Sound, SoundTree, SoundStep, no_faults, same, sound_then, sound_more, sound_moved, sound_here, sound_as, sound_after, sound_coded, within_sound, flags_back, some_fault}
 
 -- ---- ends, fixed tokens and names
 
@@ -58,16 +55,16 @@ SoundStep Reads s t = Sound same no_faults [] Reads s t
 end_sound : (missing : Kind) (s : State) → Meets (λ _ t. SoundStep (λ k. Ends) s t) (end missing s)
 unfolding end
 end_sound missing s = meets_if _ (sees kind.Semi s.at) _ _
-    (λ e. sound_moved s (by_semicolon (saw s.at kind.Semi e) refl))
+    (λ e. sound_moved s (saw s.at kind.Semi e) refl (by_semicolon (saw s.at kind.Semi e) refl))
     (λ e. meets_if _ (can_end s.at) _ _ (λ h. sound_here s (by_insertion e h refl)) (λ _. refuse_meets _ missing s))
 
 -- one token of a kind
 abbrev Takes : TokenKind → Place → Place → Type 0
 Takes j c d = (kind_at c ≡ j) × (d ≡ after c)
 
-expect_sound : (j : TokenKind) (s : State) → Meets (λ _ t. SoundStep (λ k. Takes j) s t) (expect j s)
+expect_sound : (j : TokenKind) (s : State) → is_error j ≡ false → Meets (λ _ t. SoundStep (λ k. Takes j) s t) (expect j s)
 unfolding expect
-expect_sound j s = meets_if _ (sees j s.at) _ _ (λ e. sound_moved s (saw s.at j e, refl)) (λ _. refuse_meets _ faults.Expected s)
+expect_sound j s h = meets_if _ (sees j s.at) _ _ (λ e. sound_moved s (saw s.at j e) h (saw s.at j e, refl)) (λ _. refuse_meets _ faults.Expected s)
 
 -- a name's token
 record ReadsName (i : Ident) (k : Code) (c d : Place) : Type 0 where
@@ -81,7 +78,8 @@ module _ (missing : Kind) (s : State) where
   name_by_sound : (u : TokenAndSpan) (ts : List TokenAndSpan) (v : Token) → s.at.left ≡ u ∷ ts → u.token ≡ v
       → Meets (λ i t. SoundStep (ReadsName i) s t) (name_by missing s v u.span)
   name_by_sound u ts (token.Word w) e h = meets_if _ (is_name s.code.flags (word_text w)) _ _
-      (λ g. sound_moved s (record { word = w; token = record { had_line_break = u.had_line_break; rest = ts; is = e ∙ rw (← h) refl; next = refl }; free = g; text = refl }))
+      (λ g. sound_moved s (kind_here s.at u ts (token.Word w) e h) (word_is_none w)
+      (record { word = w; token = record { had_line_break = u.had_line_break; rest = ts; is = e ∙ rw (← h) refl; next = refl }; free = g; text = refl }))
       (λ _. wanted_meets _ missing s)
   name_by_sound u ts _ e h = wanted_meets _ missing s
 
@@ -92,73 +90,6 @@ module _ (missing : Kind) (s : State) where
 name_sound : (missing : Kind) (s : State) → Meets (λ i t. SoundStep (ReadsName i) s t) (name missing s)
 unfolding name
 name_sound missing s = name_in_sound missing s s.at.left refl
-
--- ---- expressions
-
-module _ (Inner : Code → Tree → Place → Place → Type 0) where
-  -- a name as an expression
-  ident_sound : (s : State) → Meets (λ x t. SoundTree (PrimaryRule Inner) s x t) (ident_expr s)
-  unfolding ident_expr
-  ident_sound s = meets_then _ (name faults.Unexpected s) _ (name_sound faults.Unexpected s) (λ i t p.
-      sound_as s t refl refl refl (λ r. name_rule r.word i.span r.token r.free (ap (λ z. tree.ident i.span z) r.text)) p)
-
-  -- a literal was read, or nothing
-  abbrev Literal : State → Option Tree → State → Type 0
-  Literal s (Some x) t = SoundTree (PrimaryRule Inner) s x t
-  Literal s None t = t ≡ s
-
-  -- a literal is its rule's, and where none stands nothing is taken
-  literal_of_sound : (s : State) (u : TokenAndSpan) (ts : List TokenAndSpan) (v : Token) → s.at.left ≡ u ∷ ts → u.token ≡ v → Meets (Literal s) (taken (literal_of u.span v) s)
-  literal_of_sound s u ts (token.Str value raw) e h = sound_moved s (string_rule value raw u.span (record { had_line_break = u.had_line_break; rest = ts; is = e ∙ rw (← h) refl; next = refl }) refl)
-  literal_of_sound s u ts (token.Num raw) e h = sound_moved s (number_rule raw u.span (record { had_line_break = u.had_line_break; rest = ts; is = e ∙ rw (← h) refl; next = refl }) refl)
-  literal_of_sound s u ts (token.BigInt raw) e h = sound_moved s (big_int_rule raw u.span (record { had_line_break = u.had_line_break; rest = ts; is = e ∙ rw (← h) refl; next = refl }) refl)
-  literal_of_sound s u ts (token.Word word.Null) e h = sound_moved s (null_rule u.span (record { had_line_break = u.had_line_break; rest = ts; is = e ∙ rw (← h) refl; next = refl }) refl)
-  literal_of_sound s u ts (token.Word word.True) e h = sound_moved s (true_rule u.span (record { had_line_break = u.had_line_break; rest = ts; is = e ∙ rw (← h) refl; next = refl }) refl)
-  literal_of_sound s u ts (token.Word word.False) e h = sound_moved s (false_rule u.span (record { had_line_break = u.had_line_break; rest = ts; is = e ∙ rw (← h) refl; next = refl }) refl)
-  literal_of_sound s u ts _ e h = refl
-
-  literal_in_sound : (s : State) (ts : List TokenAndSpan) → s.at.left ≡ ts → Meets (Literal s) (taken (literal_in ts) s)
-  literal_in_sound s [] e = refl
-  literal_in_sound s (u ∷ ts) e = literal_of_sound s u ts u.token e refl
-
-  literal_sound : (s : State) → Meets (Literal s) (literal s)
-  unfolding literal
-  literal_sound s = literal_in_sound s s.at.left refl
-
-  module _ (inner : Reader Tree) (sound : (s : State) → Meets (λ x t. SoundTree Inner s x t) (inner s)) where
-    -- an expression in parentheses
-    paren_sound : (s : State) → kind_at s.at ≡ kind.LParen → Meets (λ x t. SoundTree (PrimaryRule Inner) s x t) (paren inner s)
-    unfolding paren
-    paren_sound s e = meets_then _ (within with_in inner (moved s)) _
-        (within_sound (λ x k l. walk (env_of k l) x) notes (λ x k. Inner k x) with_in (λ k. refl) inner (moved s) (sound (coded (with_in s.code) (moved s)))) (λ x m p.
-        meets_then _ (expect kind.RParen m) _ (expect_sound kind.RParen m) (λ _ t q.
-        sound_after s t refl refl (λ (i, r, z). paren_rule x i e r z.0 z.1 refl) (sound_more p q)))
-
-    paren_or_none_sound : (s : State) → Meets (λ x t. SoundTree (PrimaryRule Inner) s x t) (paren_or_none inner s)
-    paren_or_none_sound s = meets_if _ (sees kind.LParen s.at) _ _ (λ e. paren_sound s (saw s.at kind.LParen e)) (λ _. wanted_meets _ faults.Unexpected s)
-
-    -- a literal, or what else may begin an expression
-    literal_or_sound : (s : State) (o : Option Tree) (t : State) → Literal s o t → Meets (λ x u. SoundTree (PrimaryRule Inner) s x u) (literal_or inner o t)
-    literal_or_sound s (Some x) t p = p
-    literal_or_sound s None t e = subst (λ z. Meets (λ x u. SoundTree (PrimaryRule Inner) s x u) (paren_or_none inner z)) (sym e) (paren_or_none_sound s)
-
-    -- a name, a literal or parentheses
-    primary_sound : (s : State) → Meets (λ x t. SoundTree (PrimaryRule Inner) s x t) (primary inner s)
-    unfolding primary
-    primary_sound s = meets_if _ (name_at s.code.flags s.at) _ _ (λ _. ident_sound s)
-        (λ _. meets_then _ (literal s) _ (literal_sound s) (λ o t p. literal_or_sound s o t p))
-
-    -- nothing goes on with an expression that is read
-    whole_sound : (s : State) → Meets (λ x t. SoundTree (λ k x c d. PrimaryRule Inner k x c d × (continues k x d ≡ false)) s x t) (whole_expr inner s)
-    unfolding whole_expr closed
-    whole_sound s = meets_then _ (primary inner s) _ (primary_sound s) (λ x t p. meets_if _ (continues t.code x t.at) _ _ (λ _. wanted_meets _ faults.Unexpected t)
-        (λ e. sound_as s t refl refl refl (λ r. (r, subst (λ k. continues k x t.at ≡ false) p.code e)) p))
-
--- an expression is in the grammar within as many levels
-pub expr_sound : (n : ℕ) (s : State) → Meets (λ x t. SoundTree (ReadsExpr n) s x t) (expr n s)
-unfolding expr
-expr_sound zero s = too_deep_meets _ s
-expr_sound (suc n) s = whole_sound (ReadsExpr n) (expr n) (expr_sound n) s
 
 -- ---- binding patterns
 
@@ -203,46 +134,59 @@ module _ (Reads : Tree → Place → Place → Type 0) (x : Tree) where
   front_last c i d (y ∷ []) (m, a, b, e) r h = (m, a, b, front_last (after m) i d [] e r h)
   front_last c i d (y ∷ z ∷ zs) (m, a, b, more) r h = (m, a, b, front_last (after m) i d (z ∷ zs) more r h)
 
-module _ (Pat : Code → Tree → Place → Place → Type 0) (pat : Reader Tree) (sound : (s : State) → Meets (λ x t. SoundTree Pat s x t) (pat s)) where
-  -- a name before no `=`
-  declarator_sound : (s : State) → Meets (λ x t. SoundTree (DeclaratorRule Pat) s x t) (declarator pat s)
-  unfolding declarator plain_declarator
-  declarator_sound s = meets_then _ (pat s) _ (sound s) (λ p t q. meets_if _ (sees kind.Assign t.at) _ _ (λ _. wanted_meets _ faults.Unexpected t)
+module _ (Expr : Class → Code → Tree → Place → Place → Type 0) (Pat : Code → Tree → Place → Place → Type 0) (expr : Class → Reader Tree) (pat : Reader Tree)
+    (sound_expr : (class : Class) (s : State) → Meets (λ x t. SoundTree (Expr class) s x t) (expr class s))
+    (sound_pat : (s : State) → Meets (λ x t. SoundTree Pat s x t) (pat s)) where
+  -- a declarator of these expressions and patterns
+  abbrev pub Declared : Code → Tree → Place → Place → Type 0
+  Declared = DeclaratorRule (Expr assignment) Pat
+
+  -- what stands behind a name
+  initialized_sound : (s : State) (p : Tree) (t : State) → SoundTree Pat s p t → kind_at t.at ≡ kind.Assign → Meets (λ x u. SoundTree Declared s x u) (initialized expr pat (span_at s.at) p t)
+  unfolding initialized spanned
+  initialized_sound s p t q e = meets_then _ (expr assignment (moved t)) _ (sound_expr assignment (moved t)) (λ y u r.
+      let b : Sound same (λ k l. walk (env_of k l) y) (notes y) (λ k c d. (kind_at c ≡ kind.Assign) × Expr assignment k y (after c) d) t u =
+      sound_after t u e refl refl refl (λ z. (e, z)) r in
+      sound_as s u refl refl refl (λ (i, z, w). initialized_rule p y i z w.0 w.1 refl) (sound_then q b))
+
+  -- a name, and what it is given where `=` stands
+  declarator_sound : (s : State) → Meets (λ x t. SoundTree Declared s x t) (declarator expr pat s)
+  unfolding declarator spanned
+  declarator_sound s = meets_then _ (pat s) _ (sound_pat s) (λ p t q. meets_if _ (sees kind.Assign t.at) _ _ (λ e. initialized_sound s p t q (saw t.at kind.Assign e))
       (λ e. sound_as s t refl (sym (append-nil (walk (env_of s.code s.scope.labels) p))) (sym (append-nil (notes p))) (λ r. plain_rule p r e refl) q))
 
   -- the declarators so far, and all
   abbrev DeclaratorsSoFar : State → List Tree → State → Type 0
-  DeclaratorsSoFar s xs t = Sound same (λ k l. walks.walks (env_of k l) false (trees xs)) (all_notes (trees xs)) (λ k. Front (DeclaratorRule Pat k) xs) s t
+  DeclaratorsSoFar s xs t = Sound same (λ k l. walks.walks (env_of k l) false (trees xs)) (all_notes (trees xs)) (λ k. Front (Declared k) xs) s t
 
   abbrev Declarators : State → List Tree → State → Type 0
-  Declarators s xs t = Sound same (λ k l. walks.walks (env_of k l) false (trees xs)) (all_notes (trees xs)) (λ k. ReadsSeparated (DeclaratorRule Pat k) xs) s t
+  Declarators s xs t = Sound same (λ k l. walks.walks (env_of k l) false (trees xs)) (all_notes (trees xs)) (λ k. ReadsSeparated (Declared k) xs) s t
 
   -- each turn reads one declarator
   declarators_turn_sound : (s : State) (xs : List Tree) (t : State) → DeclaratorsSoFar s xs t
-      → Meets (Turned (declarators_turn pat) (DeclaratorsSoFar s) (Declarators s) Refuses) (declarators_turn pat xs t)
+      → Meets (Turned (declarators_turn expr pat) (DeclaratorsSoFar s) (Declarators s) Refuses) (declarators_turn expr pat xs t)
   unfolding declarators_turn
-  declarators_turn_sound s xs t p = meets_then _ (declarator pat t) _ (declarator_sound t) (λ x u q. meets_if _ (sees kind.Comma u.at) _ _
+  declarators_turn_sound s xs t p = meets_then _ (declarator expr pat t) _ (declarator_sound t) (λ x u q. meets_if _ (sees kind.Comma u.at) _ _
       (λ e. sound_as s (moved u) refl (walks_push (env_of s.code s.scope.labels) xs x) (notes_push xs x)
-      (λ (m, (i, a, b), z). subst (λ y. Front (DeclaratorRule Pat s.code) (xs ++ x ∷ []) s.at y) (sym z.1) (front_push (DeclaratorRule Pat s.code) x s.at i m xs a b z.0))
-      (sound_more (sound_then p q) (sound_moved {P = λ k. Takes kind.Comma} u (saw u.at kind.Comma e, refl))))
+      (λ (m, (i, a, b), z). subst (λ y. Front (Declared s.code) (xs ++ x ∷ []) s.at y) (sym z.1) (front_push (Declared s.code) x s.at i m xs a b z.0))
+      (sound_more (sound_then p q) (sound_moved {P = λ k. Takes kind.Comma} u (saw u.at kind.Comma e) refl (saw u.at kind.Comma e, refl))))
       (λ e. sound_as s u refl (walks_push (env_of s.code s.scope.labels) xs x) (notes_push xs x)
-      (λ (i, a, b). front_last (DeclaratorRule Pat s.code) x s.at i u.at xs a b e) (sound_then p q)))
+      (λ (i, a, b). front_last (Declared s.code) x s.at i u.at xs a b e) (sound_then p q)))
 
   -- declarators with commas between, and none behind
-  declarators_sound : (s : State) → Meets (Declarators s) (declarators pat s)
+  declarators_sound : (s : State) → Meets (Declarators s) (declarators expr pat s)
   unfolding declarators
-  declarators_sound s = loop_answers (declarators_turn pat) (DeclaratorsSoFar s) (Declarators s) Refuses (declarators_turn_sound s) (λ t. tt) [] s (sound_here s refl)
+  declarators_sound s = loop_answers (declarators_turn expr pat) (DeclaratorsSoFar s) (Declarators s) Refuses (declarators_turn_sound s) (λ t. tt) [] s (sound_here s refl)
 
-module _ (Pat : Code → Tree → Place → Place → Type 0) (pat : Reader Tree) (sound : (s : State) → Meets (λ x t. SoundTree Pat s x t) (pat s))
-    (Stmt : Code → Position → Tree → Place → Place → Type 0) (Expr : Code → Tree → Place → Place → Type 0) (at : Position) where
   -- a `var` statement
-  var_sound : (s : State) → kind_at s.at ≡ kind.Var → Meets (λ x t. SoundTree (λ k. StmtRule Stmt Expr Pat k at) s x t) (var pat s)
+  var_sound : (Stmt : Code → Position → Tree → Place → Place → Type 0) (at : Position) (s : State) → kind_at s.at ≡ kind.Var
+      → Meets (λ x t. SoundTree (λ k. StmtRule Stmt Expr Pat k at) s x t) (var expr pat s)
   unfolding var
-  var_sound s e = meets_then _ (within with_in (declarators pat) (moved s)) _
-      (within_sound (λ xs k l. walks.walks (env_of k l) false (trees xs)) (λ xs. all_notes (trees xs)) (λ xs k. ReadsSeparated (DeclaratorRule Pat k) xs) with_in (λ k. refl) (declarators pat) (moved s)
-      (declarators_sound Pat pat sound (coded (with_in s.code) (moved s)))) (λ xs m p.
+  var_sound Stmt at s e = meets_then _ (within with_in (declarators expr pat) (moved s)) _
+      (within_sound (λ xs k l. walks.walks (env_of k l) false (trees xs)) (λ xs. all_notes (trees xs)) (λ xs k. ReadsSeparated (Declared k) xs) with_in (λ k. refl) (declarators expr pat) (moved s)
+      (declarators_sound (coded (with_in s.code) (moved s)))) (λ xs m p.
       meets_then _ (end faults.Unexpected m) _ (end_sound faults.Unexpected m) (λ _ t q.
-      sound_after s t refl refl (λ (i, r, z). var_rule xs i e r z refl) (sound_more p q)))
+      sound_after s t e refl refl refl (λ (i, r, z). var_rule xs i e r z refl) (sound_more p q)))
 
 -- ---- statements one behind another
 
@@ -328,7 +272,8 @@ module _ (Reads : Code → Tree → Place → Place → Type 0) where
         let e : directed u.code (directs directives xs) x ≡ code_after s.code directives (xs ++ x ∷ []) =
         ap (λ j. directed j (directs directives xs) x) r.code ∙ ap (λ b. directed (code_after s.code directives xs) b x) (directs_agrees directives xs) ∙ code_push s.code directives xs x in
         sound_coded s u (directed u.code (directs directives xs) x) e
-        (sound_as {g = λ k. code_after k directives xs} s u refl (items_walk_push s.code s.scope.labels directives xs x) (notes_push xs x) (λ (i, a, b). items_push s.code directives xs x s.at i u.at a b) r)))
+        (sound_as {g = λ k. code_after k directives xs} s u refl (items_walk_push s.code s.scope.labels directives xs x) (notes_push xs x)
+        (λ (i, a, b). items_push s.code directives xs x s.at i u.at a b) r)))
 
     items_sound : (s : State) → Meets (Stopped s) (items stmt stops directives s)
     unfolding items
@@ -356,11 +301,13 @@ module _ (P : Code → Place → Place → Type 0) (f : Fault) (s : State) (unta
     held_back = λ i. some_fault f [] i;
     walked = λ i d. rw untabled refl;
     keeps = λ i. i;
+    spares = λ i g. g;
+    remembers = λ i. i;
     reads = λ i. some_fault f [] i;
   }
 
   recorded_at_sound : (u : TokenAndSpan) (ts : List TokenAndSpan) (v : Token) → s.at.left ≡ u ∷ ts → u.token ≡ v → Meets (λ _ t. SoundStep P s t) (recorded_at f s v)
-  recorded_at_sound u ts (token.Error e) h g = meets_if _ (means_out_of_memory e.kind) _ _ (λ _. tt) (λ _. record {
+  recorded_at_sound u ts (token.Error e) h g = meets_if _ (means_out_of_memory e.kind) _ _ (λ _. tt) (λ j. record {
     code = refl;
     scope = refl;
     added = fault_of e ∷ f ∷ [];
@@ -368,6 +315,8 @@ module _ (P : Code → Place → Place → Type 0) (f : Fault) (s : State) (unta
     held_back = λ i. some_fault (fault_of e) (f ∷ []) i;
     walked = λ i d. not_both (has_error_token s.at.left) (error_first s.at u ts e h g) i;
     keeps = λ i. not_both (has_error_token s.at.left) (error_first s.at u ts e h g) i;
+    spares = λ i. some_fault (fault_of e) (f ∷ []) i;
+    remembers = after_remembers s.at u ts h (rw g j);
     reads = λ i. some_fault (fault_of e) (f ∷ []) i;
   })
   recorded_at_sound u ts _ h g = noted_sound []
@@ -383,16 +332,16 @@ module _ (P : Code → Place → Place → Type 0) (f : Fault) (s : State) (unta
 -- a `}`, or a fault
 close_sound : (s : State) → Meets (λ _ t. SoundStep (λ k. Takes kind.RBrace) s t) (close s)
 unfolding close
-close_sound s = meets_if _ (sees kind.RBrace s.at) _ _ (λ e. sound_moved s (saw s.at kind.RBrace e, refl))
+close_sound s = meets_if _ (sees kind.RBrace s.at) _ _ (λ e. sound_moved s (saw s.at kind.RBrace e) refl (saw s.at kind.RBrace e, refl))
     (λ _. fault_sound (λ k. Takes kind.RBrace) (fault_at (span_at s.at) faults.Expected) s refl)
 
 -- a bare name before `:` is refused
 NoLabel : Tree → Code → Place → Place → Type 0
 NoLabel x k c d = (is_ident x && sees kind.Colon c ≡ false) × (d ≡ c)
 
-no_label_sound : (expr : Reader Tree) (x : Tree) (s : State) → Meets (λ _ t. SoundStep (NoLabel x) s t) (no_label x s)
+no_label_sound : (x : Tree) (s : State) → Meets (λ _ t. SoundStep (NoLabel x) s t) (no_label x s)
 unfolding no_label NoLabel
-no_label_sound expr x s = meets_if _ (is_ident x && sees kind.Colon s.at) _ _ (λ _. wanted_meets _ faults.Unexpected s) (λ e. sound_here s (e, refl))
+no_label_sound x s = meets_if _ (is_ident x && sees kind.Colon s.at) _ _ (λ _. wanted_meets _ faults.Unexpected s) (λ e. sound_here s (e, refl))
 
 -- the bare name `interface` is noted, or recorded in module code
 NoNote : Tree → Code → Place → Place → Type 0
@@ -419,6 +368,8 @@ module_fault_sound x s e = by_module s.code.flags.module refl
       held_back = λ i. rw e refl;
       walked = λ i d. refl;
       keeps = λ i. i;
+      spares = λ i g. g;
+      remembers = λ i. i;
       reads = λ i. (rw h refl, refl);
     }
 
@@ -432,9 +383,10 @@ unfolding note_statement SoundNote NoNote
 note_sound x s = meets_if _ (is_ident_named (codes "interface") x) _ _ (λ e. module_fault_sound x s e)
     (λ e. sound_as s s refl refl (rw e refl) (λ h. h) (sound_here {P = NoNote x} s (and_false s.code.flags.module (is_ident_named (codes "interface") x) e, refl)))
 
-module _ (Stmt : Code → Position → Tree → Place → Place → Type 0) (Expr Pat : Code → Tree → Place → Place → Type 0) (inner : Position → Reader Tree) (inner_expr inner_pat : Reader Tree)
+module _ (Stmt : Code → Position → Tree → Place → Place → Type 0) (Expr : Class → Code → Tree → Place → Place → Type 0) (Pat : Code → Tree → Place → Place → Type 0)
+    (inner : Position → Reader Tree) (inner_expr : Class → Reader Tree) (inner_pat : Reader Tree)
     (sound : (at : Position) (s : State) → Meets (λ x t. SoundTree (λ k. Stmt k at) s x t) (inner at s))
-    (sound_expr : (s : State) → Meets (λ x t. SoundTree Expr s x t) (inner_expr s))
+    (sound_expr : (class : Class) (s : State) → Meets (λ x t. SoundTree (Expr class) s x t) (inner_expr class s))
     (sound_pat : (s : State) → Meets (λ x t. SoundTree Pat s x t) (inner_pat s)) (at : Position) where
   -- a statement in its place
   abbrev SoundStmt : State → Tree → State → Type 0
@@ -442,32 +394,34 @@ module _ (Stmt : Code → Position → Tree → Place → Place → Type 0) (Exp
 
   empty_sound : (s : State) → kind_at s.at ≡ kind.Semi → Meets (SoundStmt s) (empty s)
   unfolding empty
-  empty_sound s e = sound_moved s (empty_rule e refl refl)
+  empty_sound s e = sound_moved s e refl (empty_rule e refl refl)
 
   debugger_sound : (s : State) → kind_at s.at ≡ kind.Debugger → Meets (SoundStmt s) (debugger s)
   unfolding debugger
-  debugger_sound s e = meets_then _ (end faults.Expected (moved s)) _ (end_sound faults.Expected (moved s)) (λ _ t p. sound_after s t refl refl (λ h. debugger_rule e h refl) p)
+  debugger_sound s e = meets_then _ (end faults.Expected (moved s)) _ (end_sound faults.Expected (moved s)) (λ _ t p. sound_after s t e refl refl refl (λ h. debugger_rule e h refl) p)
 
   block_sound : (s : State) → kind_at s.at ≡ kind.LBrace → Meets (SoundStmt s) (block (inner nested_item) s)
   unfolding block
-  block_sound s e = meets_then _ (items (inner nested_item) closes false (moved s)) _ (items_sound (λ j. Stmt j nested_item) (inner nested_item) (sound nested_item) closes false (moved s)) (λ xs m p.
+  block_sound s e = meets_then _ (items (inner nested_item) closes false (moved s)) _
+      (items_sound (λ j. Stmt j nested_item) (inner nested_item) (sound nested_item) closes false (moved s)) (λ xs m p.
       meets_then _ (close m) _ (close_sound m) (λ _ t q.
-      let b : Sound same (λ k l. walks.walks (env_of k l) false (trees xs)) (all_notes (trees xs)) (λ k c d. (i : Place) × ReadsItems (λ j. Stmt j nested_item) k false xs c i × Takes kind.RBrace i d) (moved s) t =
+      let b : Sound same (λ k l. walks.walks (env_of k l) false (trees xs)) (all_notes (trees xs))
+      (λ k c d. (i : Place) × ReadsItems (λ j. Stmt j nested_item) k false xs c i × Takes kind.RBrace i d) (moved s) t =
       sound_as (moved s) t (code_stays s.code xs) refl refl (λ h. h) (sound_more p.0 q) in
-      sound_after s t refl refl (λ (i, r, z). block_rule xs i e r z.0 z.1 refl) b))
+      sound_after s t e refl refl refl (λ (i, r, z). block_rule xs i e r z.0 z.1 refl) b))
 
-  expr_stmt_sound : (s : State) → may_begin_expression_statement at s.at ≡ true → Meets (SoundStmt s) (expr_stmt inner_expr s)
+  expr_stmt_sound : (s : State) → may_begin_expression_statement at s.at ≡ true → Meets (SoundStmt s) (expr_stmt (inner_expr expression) s)
   unfolding expr_stmt SoundNote NoNote NoLabel
-  expr_stmt_sound s e = meets_then _ (within with_in inner_expr s) _
-      (within_sound (λ x k l. walk (env_of k l) x) notes (λ x k. Expr k x) with_in (λ k. refl) inner_expr s (sound_expr (coded (with_in s.code) s))) (λ x i p.
-      meets_then _ (no_label x i) _ (no_label_sound inner_expr x i) (λ _ j q.
+  expr_stmt_sound s e = meets_then _ (within with_in (inner_expr expression) s) _
+      (within_sound (λ x k l. walk (env_of k l) x) notes (λ x k. Expr expression k x) with_in (λ k. refl) (inner_expr expression) s (sound_expr expression (coded (with_in s.code) s))) (λ x i p.
+      meets_then _ (no_label x i) _ (no_label_sound x i) (λ _ j q.
       meets_then _ (note_statement x j) _ (note_sound x j) (λ _ m r.
       meets_then _ (end faults.ExpectedSemiForExprStmt m) _ (end_sound faults.ExpectedSemiForExprStmt m) (λ _ t z.
       sound_as s t refl (append-nil (walk (env_of s.code s.scope.labels) x)) refl
       (λ (i, (j, (m, a, b), g), y). expr_rule x m e a b.0 g.0 (subst (λ v. Ends v t.at) (g.1 ∙ b.1) y) refl)
       (sound_more (sound_then (sound_more p q) r) z)))))
 
-  expr_stmt_at_sound : (s : State) → Meets (SoundStmt s) (expr_stmt_at inner_expr at s)
+  expr_stmt_at_sound : (s : State) → Meets (SoundStmt s) (expr_stmt_at (inner_expr expression) at s)
   unfolding expr_stmt_at
   expr_stmt_at_sound s = meets_if _ (may_begin_expression_statement at s.at) _ _ (λ h. expr_stmt_sound s h) (λ _. wanted_meets _ faults.Unexpected s)
 
@@ -476,18 +430,12 @@ module _ (Stmt : Code → Position → Tree → Place → Place → Type 0) (Exp
   by_sound kind.LBrace s e = block_sound s e
   by_sound kind.Semi s e = empty_sound s e
   by_sound kind.Debugger s e = debugger_sound s e
-  by_sound kind.Var s e = var_sound Pat inner_pat sound_pat Stmt Expr at s e
+  by_sound kind.Var s e = var_sound Expr Pat inner_expr inner_pat sound_expr sound_pat Stmt at s e
   by_sound _ s e = expr_stmt_at_sound s
 
   level_sound : (s : State) → Meets (SoundStmt s) (stmt_level inner inner_expr inner_pat at s)
   unfolding stmt_level
   level_sound s = by_sound (kind_at s.at) s refl
-
--- a statement is in the grammar within as many levels
-pub stmt_sound : (n : ℕ) (at : Position) (s : State) → Meets (λ x t. SoundTree (λ k. ReadsStmt n k at) s x t) (stmt n at s)
-unfolding stmt
-stmt_sound zero at s = too_deep_meets _ s
-stmt_sound (suc n) at s = level_sound (ReadsStmt n) (ReadsExpr n) (ReadsPat n) (stmt n) (expr n) (pat n) (stmt_sound n) (expr_sound n) (pat_sound n) at s
 
 -- ---- a script
 
@@ -523,7 +471,8 @@ sees_other c u ts j e h = rw e h
 
 shebang_of_sound : (s : State) (u : TokenAndSpan) (ts : List TokenAndSpan) (v : Token) → s.at.left ≡ u ∷ ts → u.token ≡ v → Meets (SoundShebang s) (shebang_taken (shebang_of v) s)
 unfolding same_kind SoundShebang
-shebang_of_sound s u ts (token.Shebang text) e h = sound_moved s (some_shebang text u.span (record { had_line_break = u.had_line_break; rest = ts; is = e ∙ rw (← h) refl; next = refl }))
+shebang_of_sound s u ts (token.Shebang text) e h =
+    sound_moved s (kind_here s.at u ts (token.Shebang text) e h) refl (some_shebang text u.span (record { had_line_break = u.had_line_break; rest = ts; is = e ∙ rw (← h) refl; next = refl }))
 shebang_of_sound s u ts (token.Word w) e h = sound_here s (no_shebang (sees_other s.at u ts kind.Shebang e (rw h (word_no_shebang w))) refl)
 shebang_of_sound s u ts (token.BinOp o) e h = sound_here s (no_shebang (sees_other s.at u ts kind.Shebang e (rw h (bin_op_no_shebang o))) refl)
 shebang_of_sound s u ts (token.AssignOp o) e h = sound_here s (no_shebang (sees_other s.at u ts kind.Shebang e (rw h (assign_op_no_shebang o))) refl)
@@ -556,26 +505,41 @@ record ReadsBody (n : ℕ) (x : Tree) (k : Code) (c d : Place) : Type 0 where
 abbrev SoundBody : ℕ → State → Tree → State → Type 0
 SoundBody n s x t = ((f : Code → Code) × ((k : Code) → (f k).setting ≡ k.setting) × Sound f (λ k l. walk (env_of k l) x) (notes x) (ReadsBody n x) s t) × (kind_at t.at ≡ kind.End)
 
--- a first line and statements up to the end
-body_sound : (n : ℕ) (s : State) → Meets (SoundBody n s) (script_body n s)
-unfolding script_body SoundShebang
-body_sound n s = meets_then _ (shebang s) _ (shebang_sound s) (λ o m p.
-    meets_then _ (items (stmt n top_item) at_end true m) _ (items_sound (λ k. ReadsStmt n k top_item) (stmt n top_item) (stmt_sound n top_item) at_end true m) (λ xs t q.
-    (((λ k. code_after k true xs), (λ k. code_setting k true xs), sound_as s t refl refl refl (λ (i, r, z). record { shebang = o; first = i; reads_shebang = r; items = xs; reads_items = z; is = refl }) (sound_then p q.0)), at_end_seen t.at q.1)))
-
 script_is : (n : ℕ) (s : State) (x : Tree) (t : State) → SoundBody n (coded (script_code s.code) s) x t → SoundScript n s x (flagged (script_code s.code) t)
 script_is n s x t ((f, keeps, p), e) =
-    let spelled : p.added ≡ [] → ReadsScript n s.code x s.at t.at = λ h. let r = p.reads h in record { shebang = r.shebang; first = r.first; reads_shebang = r.reads_shebang; items = r.items; reads_items = r.reads_items; whole = e; is = r.is } in
+    let spelled : p.added ≡ [] → ReadsScript n s.code x s.at t.at = λ h. let r = p.reads h in
+    record { shebang = r.shebang; first = r.first; reads_shebang = r.reads_shebang; items = r.items; reads_items = r.reads_items; whole = e; is = r.is } in
     record {
       code = flags_back (script_code s.code) t.code (ap (λ k. k.setting) p.code ∙ keeps (script_code s.code));
       scope = p.scope;
       whole = e;
       added = p.added;
       faults = p.faults;
-      spells = λ h. (script_widens n s.code x s.at t.at (spelled h), sym (p.walked (script_spares n s.code x s.at t.at (spelled h)) (ap drops h)) ∙ ap tabled h);
+      spells = λ h. (script_widens n s.code x s.at t.at (spelled h), sym (p.walked (p.spares h (ap has_error_token (nothing_at_end t.at e))) (ap drops h)) ∙ ap tabled h);
       is_supported = λ h. script_supported n s.code x s.at t.at (spelled h);
       walked = p.walked;
     }
+
+-- ---- all levels
+
+-- a statement is in the grammar within as many levels
+pub stmt_sound : (n : ℕ) (at : Position) (s : State) → Meets (λ x t. SoundTree (λ k. ReadsStmt n k at) s x t) (stmt n at s)
+unfolding stmt
+stmt_sound zero at s = too_deep_meets _ s
+stmt_sound (suc n) at s = level_sound (ReadsStmt n) (ReadsClass n) (ReadsPat n) (stmt n) (expr n) (pat n) (stmt_sound n) (expr_sound n) (pat_sound n) at s
+
+-- a first line and statements up to the end
+body_sound : (n : ℕ) (s : State) → Meets (SoundBody n s) (script_body n s)
+unfolding script_body SoundShebang
+body_sound n s = meets_then _ (shebang s) _ (shebang_sound s) (λ o m p.
+    meets_then _ (items (stmt n top_item) at_end true m) _ (items_sound (λ k. ReadsStmt n k top_item) (stmt n top_item) (stmt_sound n top_item) at_end true m) (λ xs t q. (
+      (
+        (λ k. code_after k true xs),
+        (λ k. code_setting k true xs),
+        sound_as s t refl refl refl (λ (i, r, z). record { shebang = o; first = i; reads_shebang = r; items = xs; reads_items = z; is = refl }) (sound_then p q.0),
+      ),
+      at_end_seen t.at q.1,
+    )))
 
 -- the answer for a script is sound
 pub script_sound : (n : ℕ) (s : State) → Meets (λ x t. SoundScript n s x t) (script n s)
@@ -591,10 +555,21 @@ pub script_notes : (n : ℕ) (s : State) → Meets (λ x t. (added : List Fault)
 unfolding script
 script_notes n s = meets_then _ (script_body n (coded (script_code s.code) s)) _ (body_sound n (coded (script_code s.code) s)) (λ x t ((f, keeps, p), e). (p.added, p.faults, p.held_back))
 
--- what is read leaves the code as it was
-pub expr_code : (n : ℕ) (s : State) (x : Tree) (t : State) → expr n s ≡ Ok (x, t) → t.code ≡ s.code
-expr_code n s x t e = let p : SoundTree (ReadsExpr n) s x t = meant (λ y u. SoundTree (ReadsExpr n) s y u) Refuses (expr n s) (Ok (x, t)) e (expr_sound n s) in p.code
+-- a list with a token that says that memory ran out spells no script
+script_remembers : (n : ℕ) (s : State) → Meets (λ x t. has_out_of_memory_token s.at.left ≡ false) (script n s)
+unfolding script
+script_remembers n s = meets_then _ (script_body n (coded (script_code s.code) s)) _ (body_sound n (coded (script_code s.code) s))
+    (λ x t ((f, keeps, p), e). p.remembers (ap has_out_of_memory_token (nothing_at_end t.at e)))
 
-pub declarators_code : (n : ℕ) (s : State) (xs : List Tree) (t : State) → declarators (pat n) s ≡ Ok (xs, t) → t.code ≡ s.code
+pub script_lacks_out_of_memory : (n : ℕ) (s : State) (x : Tree) (t : State) → script n s ≡ Ok (x, t) → has_out_of_memory_token s.at.left ≡ false
+script_lacks_out_of_memory n s x t e = meant (λ y u. has_out_of_memory_token s.at.left ≡ false) Refuses (script n s) (Ok (x, t)) e (script_remembers n s)
+
+-- what is read leaves the code as it was
+pub expr_code : (n : ℕ) (class : Class) (s : State) (x : Tree) (t : State) → expr n class s ≡ Ok (x, t) → t.code ≡ s.code
+expr_code n class s x t e =
+    let p : SoundTree (ReadsClass n class) s x t = meant (λ y u. SoundTree (ReadsClass n class) s y u) Refuses (expr n class s) (Ok (x, t)) e (expr_sound n class s) in p.code
+
+pub declarators_code : (n : ℕ) (s : State) (xs : List Tree) (t : State) → declarators (expr n) (pat n) s ≡ Ok (xs, t) → t.code ≡ s.code
 declarators_code n s xs t e =
-    let p : Declarators (ReadsPat n) (pat n) (pat_sound n) s xs t = meant (Declarators (ReadsPat n) (pat n) (pat_sound n) s) Refuses (declarators (pat n) s) (Ok (xs, t)) e (declarators_sound (ReadsPat n) (pat n) (pat_sound n) s) in p.code
+    let P : List Tree → State → Type 0 = Declarators (ReadsClass n) (ReadsPat n) (expr n) (pat n) (expr_sound n) (pat_sound n) s in
+    let p : P xs t = meant P Refuses (declarators (expr n) (pat n) s) (Ok (xs, t)) e (declarators_sound (ReadsClass n) (ReadsPat n) (expr n) (pat n) (expr_sound n) (pat_sound n) s) in p.code

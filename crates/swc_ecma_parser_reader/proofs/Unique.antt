@@ -5,7 +5,8 @@ use Rattle.swc_ecma_parser_grammar.proofs.Narrows.{script_narrows}
 use Rattle.swc_ecma_parser_reader.specs.State.{State, Scope, Outcome}
 use Rattle.swc_ecma_parser_reader.specs.Reader.{script}
 use Rattle.swc_ecma_parser_reader.specs.Entry.{script_left, IsOneScript}
-use Rattle.swc_ecma_parser_reader.proofs.Complete.{st, script_reads}
+use Rattle.swc_ecma_parser_reader.proofs.Answered.{st}
+use Rattle.swc_ecma_parser_reader.proofs.Complete.{script_reads}
 
 -- one answer is one tree and one place
 one_answer : (o : Outcome Tree) (x y : Tree) (t u : State) → o ≡ Ok (x, t) → o ≡ Ok (y, u) → (x ≡ y) × (t.at ≡ u.at)

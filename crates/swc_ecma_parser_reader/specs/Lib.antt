@@ -1,4 +1,6 @@
 pub mod State
+pub mod Classes
+pub mod Expressions
 pub mod Reader
 pub mod Entry
 pub mod Limits

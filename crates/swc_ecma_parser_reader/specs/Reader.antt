@@ -6,7 +6,6 @@ use Rattle.swc_ecma_parser_token.specs.declared.kind.TokenKind.{TokenKind}
 use Rattle.swc_ecma_parser_token.specs.declared.kind.TokenKind.TheVariants as kind
 use Rattle.swc_ecma_parser_token.specs.declared.token.Token.{Token}
 use Rattle.swc_ecma_parser_token.specs.declared.token.Token.TheVariants as token
-use Rattle.swc_ecma_parser_token.specs.declared.token.Word.TheVariants as word
 use Rattle.swc_ecma_parser_token.specs.declared.token.TokenAndSpan.{TokenAndSpan}
 use Rattle.swc_ecma_parser_input.specs.Place.{Place}
 use Rattle.swc_ecma_parser_model.specs.declared.leaves.VarDeclKind.TheVariants as decl
@@ -15,73 +14,12 @@ use Rattle.swc_ecma_parser_model.specs.Tree.{Tree, Text, listed}
 use Rattle.swc_ecma_parser_model.specs.Forms.{is_ident, is_ident_named, span_of}
 use Rattle.swc_ecma_parser_grammar.specs.declared.position.Position.{Position}
 use Rattle.swc_ecma_parser_grammar.specs.Looks.{kind_at, sees, span_at}
-use Rattle.swc_ecma_parser_grammar.specs.Names.{name_at}
-use Rattle.swc_ecma_parser_grammar.specs.Follows.{continues, may_begin_expression_statement}
+use Rattle.swc_ecma_parser_grammar.specs.Follows.{may_begin_expression_statement}
 use Rattle.swc_ecma_parser_grammar.specs.Reads.{with_in, directed, nested_item, top_item}
 use Rattle.swc_ecma_parser_grammar.specs.Entries.{script_code}
-use Rattle.swc_ecma_parser_reader.specs.State.{Reader, ◌>>=◌, ◌>>◌, pure, here, skip, moved, spanned_from, coded, flagged, within, fault, fault_at, module_fault, wanted, too_deep, expect, end, name, Step, More, Done, loop}
-
--- ---- expressions
-
-abbrev pub literal_of : Span → Token → Option Tree
-literal_of span (token.Str value raw) = Some (tree.str span value raw)
-literal_of span (token.Num raw) = Some (tree.num span raw)
-literal_of span (token.BigInt raw) = Some (tree.big_int span raw)
-literal_of span (token.Word word.Null) = Some (tree.null span)
-literal_of span (token.Word word.True) = Some (tree.bool span true)
-literal_of span (token.Word word.False) = Some (tree.bool span false)
-literal_of span _ = None
-
-abbrev pub literal_in : List TokenAndSpan → Option Tree
-literal_in [] = None
-literal_in (t ∷ ts) = literal_of t.span t.token
-
-abbrev pub taken : Option Tree → Reader (Option Tree)
-taken None = λ s. Ok (None, s)
-taken (Some x) = λ s. Ok (Some x, moved s)
-
--- a literal, if one stands here
-unfoldable pub literal : Reader (Option Tree)
-literal = λ s. taken (literal_in s.at.left) s
-
-unfoldable pub ident_expr : Reader Tree
-ident_expr = do
-  i ← name faults.Unexpected
-  pure (tree.ident i.span i.sym)
-
-module _ (expr : Reader Tree) where
-  unfoldable pub paren : Reader Tree
-  paren = do
-    start ← here
-    skip
-    inner ← within with_in expr
-    expect kind.RParen
-    span ← spanned_from start
-    pure (tree.paren span inner)
-
-  abbrev pub paren_or_none : Reader Tree
-  paren_or_none = λ s. if sees kind.LParen s.at then paren s else wanted faults.Unexpected s
-
-  abbrev pub literal_or : Option Tree → Reader Tree
-  literal_or (Some x) = pure x
-  literal_or None = paren_or_none
-
-  unfoldable pub primary : Reader Tree
-  primary = λ s. if name_at s.code.flags s.at then ident_expr s else (literal >>= literal_or) s
-
--- an expression that no token goes on with
-unfoldable pub closed : Tree → Reader Tree
-closed x = λ s. if continues s.code x s.at then wanted faults.Unexpected s else Ok (x, s)
-
-unfoldable pub whole_expr : Reader Tree → Reader Tree
-whole_expr expr = do
-  x ← primary expr
-  closed x
-
--- an expression in so many levels
-unfoldable pub expr : ℕ → Reader Tree
-expr zero = too_deep
-expr (suc n) = whole_expr (expr n)
+use Rattle.swc_ecma_parser_grammar.specs.language.Goals.{Class, expression, assignment}
+use Rattle.swc_ecma_parser_reader.specs.Expressions.{expr, span_here, since}
+use Rattle.swc_ecma_parser_reader.specs.State.{Reader, ◌>>=◌, ◌>>◌, pure, here, skip, moved, spanned_from, coded, flagged, within, fault, fault_at, module_fault, wanted, too_deep, end, name, Step, More, Done, loop}
 
 -- ---- binding patterns
 
@@ -111,18 +49,25 @@ debugger = do
   span ← spanned_from start
   pure (tree.debugger span)
 
-module _ (pat : Reader Tree) where
-  -- a declarator; no initializer is read yet
-  unfoldable pub plain_declarator : Place → Tree → Reader Tree
-  plain_declarator start p = λ s. if sees kind.Assign s.at then wanted faults.Unexpected s else (do
-    span ← spanned_from start
-    pure (tree.declarator span p tree.absent)) s
+abbrev pub bare_declarator : Span → Tree → Reader Tree
+bare_declarator start p = do
+  span ← since start
+  pure (tree.declarator span p tree.absent)
+
+module _ (expr : Class → Reader Tree) (pat : Reader Tree) where
+  -- `=` and what a name is given
+  unfoldable pub initialized : Span → Tree → Reader Tree
+  initialized start p = do
+    skip
+    e ← expr assignment
+    span ← since start
+    pure (tree.declarator span p e)
 
   unfoldable pub declarator : Reader Tree
   declarator = do
-    start ← here
+    start ← span_here
     p ← pat
-    plain_declarator start p
+    λ s. if sees kind.Assign s.at then initialized start p s else bare_declarator start p s
 
   unfoldable pub declarators_turn : List Tree → Reader (Step (List Tree) (List Tree))
   declarators_turn found = do
@@ -199,13 +144,13 @@ module _ (expr : Reader Tree) where
   unfoldable pub expr_stmt_at : Position → Reader Tree
   expr_stmt_at at = λ s. if may_begin_expression_statement at s.at then expr_stmt s else wanted faults.Unexpected s
 
-module _ (stmt : Position → Reader Tree) (expr pat : Reader Tree) where
+module _ (stmt : Position → Reader Tree) (expr : Class → Reader Tree) (pat : Reader Tree) where
   abbrev pub stmt_by : Position → TokenKind → Reader Tree
   stmt_by at kind.LBrace = block (stmt nested_item)
   stmt_by at kind.Semi = empty
   stmt_by at kind.Debugger = debugger
-  stmt_by at kind.Var = var pat
-  stmt_by at _ = expr_stmt_at expr at
+  stmt_by at kind.Var = var expr pat
+  stmt_by at _ = expr_stmt_at (expr expression) at
 
   unfoldable pub stmt_level : Position → Reader Tree
   stmt_level at = λ s. stmt_by at (kind_at s.at) s

@@ -159,6 +159,18 @@ refuse_in kind s (t ∷ ts) = refuse_at kind s t.token t.span
 unfoldable pub refuse : {A : Type 0} → Kind → Reader A
 refuse kind = λ s. refuse_in kind s s.at.left
 
+-- the parser's own refusal of what was read; an error token that stands here is read and recorded
+abbrev pub reject_at : {A : Type 0} → Fault → State → Token → Outcome A
+reject_at f s (token.Error e) = if means_out_of_memory e.kind then Err (fault_of e, moved s) else refused f (fault (fault_of e) (moved s))
+reject_at f s _ = Err (f, s)
+
+abbrev pub reject_in : {A : Type 0} → Fault → State → List TokenAndSpan → Outcome A
+reject_in f s [] = Err (f, s)
+reject_in f s (t ∷ ts) = reject_at f s t.token
+
+unfoldable pub reject : {A : Type 0} → Fault → Reader A
+reject f = λ s. reject_in f s s.at.left
+
 -- ---- fixed tokens, ends and names
 
 unfoldable pub expect : TokenKind → Reader (Unit {0})

@@ -1,3 +1,5 @@
 pub mod Primitives
 pub mod Taken
 pub mod Contexts
+pub mod Words
+pub mod Rejects

@@ -12,7 +12,8 @@ use Rattle.swc_ecma_parser_input.specs.Place.{first}
 use Rattle.swc_ecma_parser_grammar.specs.Names.{name_at, first_is_name, token_is_name, is_name}
 use Rattle.swc_ecma_parser_model.specs.Tree.{Tree, Text}
 use Rattle.swc_ecma_parser_reader.specs.State.{State, moved, name, name_in, name_by, wanted}
-use Rattle.swc_ecma_parser_reader.specs.Reader.{literal, literal_in, literal_of, taken, shebang, shebang_in, shebang_of, shebang_taken}
+use Rattle.swc_ecma_parser_reader.specs.Expressions.{literal, literal_in, literal_of, taken}
+use Rattle.swc_ecma_parser_reader.specs.Reader.{shebang, shebang_in, shebang_of, shebang_taken}
 use Rattle.swc_ecma_parser_state.specs.Taken.{is_literal, literal_first, is_shebang, shebang_first}
 
 -- ---- names

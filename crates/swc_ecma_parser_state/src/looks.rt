@@ -4,9 +4,11 @@ ghost use Rattle.std.specs.Prelude.{◌≡◌};
 ghost use Rattle.swc_ecma_parser_grammar.specs.Ends as ends;
 ghost use Rattle.swc_ecma_parser_grammar.specs.Follows as follows;
 ghost use Rattle.swc_ecma_parser_grammar.specs.Looks as looks;
+ghost use Rattle.swc_ecma_parser_grammar.specs.Names as names;
 ghost use Rattle.swc_ecma_parser_input.specs.Place as place;
+ghost use Rattle.swc_ecma_parser_reader.specs.Expressions as exprs;
 
-use crate::names::is_reserved_word;
+use crate::names::{is_identifier, is_reserved_word};
 use crate::state::State;
 use swc_ecma_parser_grammar::Position;
 use swc_ecma_parser_input::Tokens;
@@ -139,7 +141,7 @@ impl<I: Tokens> State<I> {
 
     /// Whether a line break stands before the token behind the current one.
     #[tactic(auto, unfolding(swc_ecma_parser_grammar::specs::Looks::breaks_at, swc_ecma_parser_input::specs::Place::after))]
-    fn next_had_line_break(&self) -> bool
+    pub fn next_had_line_break(&self) -> bool
         ensures { result ≡ looks.breaks_at (place.after self.now.at) }
     {
         match self.buffer.peek() {
@@ -148,8 +150,9 @@ impl<I: Tokens> State<I> {
         }
     }
 
+    /// Whether a token of this kind stands behind the current one.
     #[tactic(auto, unfolding(swc_ecma_parser_grammar::specs::Looks::same_kind))]
-    fn next_sees(&self, kind: TokenKind) -> bool
+    pub fn next_sees(&self, kind: TokenKind) -> bool
         ensures { result ≡ looks.sees kind (place.after self.now.at) }
     {
         self.next_kind() == kind
@@ -161,6 +164,30 @@ impl<I: Tokens> State<I> {
         ensures { result ≡ follows.is_async_function self.now.at }
     {
         self.word_at("async") && self.next_sees(TokenKind::Function) && !self.next_had_line_break()
+    }
+
+    /// Whether `async` and its arguments stand here on one line.
+    #[tactic(auto, unfolding(swc_ecma_parser_reader::specs::Expressions::begins_async_call))]
+    pub fn begins_async_call(&self) -> bool
+        ensures { result ≡ exprs.begins_async_call self.now.at }
+    {
+        self.word_at("async") && self.next_sees(TokenKind::LParen) && !self.next_had_line_break()
+    }
+
+    /// Whether a word that is not reserved stands here.
+    #[tactic(auto, unfolding(swc_ecma_parser_grammar::specs::Names::identifier_at))]
+    pub fn identifier_at(&self) -> bool
+        ensures { result ≡ names.identifier_at self.now.code.flags self.now.at }
+    {
+        match self.buffer.cur() {
+            Some(
+                TokenAndSpan {
+                    token: Token::Word(word),
+                    ..
+                },
+            ) => is_identifier(self.flags(), word.as_str()),
+            _ => false,
+        }
     }
 
     #[tactic(auto, unfolding(swc_ecma_parser_input::specs::Place::after))]

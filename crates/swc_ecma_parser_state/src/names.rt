@@ -91,3 +91,11 @@ pub fn is_name(flags: Context, text: &str) -> bool
 {
     !is_reserved(flags, text) && text != "await"
 }
+
+/// Whether a word is not reserved here.
+#[tactic(auto, unfolding(swc_ecma_parser_grammar::specs::Names::is_identifier))]
+pub fn is_identifier(flags: Context, text: &str) -> bool
+    ensures { result ≡ names.is_identifier flags text.now }
+{
+    !is_reserved(flags, text)
+}

@@ -8,6 +8,8 @@ ghost use Rattle.swc_ecma_parser_grammar.specs.Looks as looks;
 ghost use Rattle.swc_ecma_parser_grammar.specs.Names as names;
 ghost use Rattle.swc_ecma_parser_model.specs.Tree.{Tree};
 ghost use Rattle.swc_ecma_parser_model.specs.declared.leaves.Ident.{Ident};
+ghost use Rattle.swc_ecma_parser_input.specs.Place as place;
+ghost use Rattle.swc_ecma_parser_reader.specs.Expressions as exprs;
 ghost use Rattle.swc_ecma_parser_reader.specs.Reader as rules;
 ghost use Rattle.swc_ecma_parser_reader.specs.State as reader;
 ghost use Rattle.swc_ecma_parser_reader.specs.State.{Gives, GivesAs};
@@ -68,6 +70,26 @@ pub trait Source {
     fn continues_operand(&self) -> bool
         ensures { result ≡ follows.continues_operand (seen self.now).code (seen self.now).at };
 
+    /// Whether a word that is not reserved stands here.
+    fn identifier_at(&self) -> bool
+        ensures { result ≡ names.identifier_at (seen self.now).code.flags (seen self.now).at };
+
+    /// Whether a word stands here, reserved or not.
+    fn is_word_here(&self) -> bool
+        ensures { result ≡ exprs.is_word_at (seen self.now).at };
+
+    /// Whether a token of this kind stands behind the current one.
+    fn next_sees(&self, kind: TokenKind) -> bool
+        ensures { result ≡ looks.sees kind (place.after (seen self.now).at) };
+
+    /// Whether `async function` stands here on one line.
+    fn is_async_function(&self) -> bool
+        ensures { result ≡ follows.is_async_function (seen self.now).at };
+
+    /// Whether `async` and its arguments stand here on one line.
+    fn begins_async_call(&self) -> bool
+        ensures { result ≡ exprs.begins_async_call (seen self.now).at };
+
     /// The look-ahead of an expression statement.
     fn may_begin_expression_statement(&self, at: Position) -> bool
         ensures { result ≡ follows.may_begin_expression_statement at (seen self.now).at };
@@ -91,6 +113,13 @@ pub trait Source {
         ensures unit { kind_of result.kind ≢ kinds.OutOfMemory
             → reader.wanted {A = Unit {0}} (wanted_kind wanted) (seen self.old) ≡ Err (fault_of result, seen self.new) };
 
+    /// Refuses what was read at a place; an error token that stands here is read and recorded.
+    fn reject(&mut self, kind: SyntaxError, span: Span) -> Error
+        ensures tree { kind_of result.kind ≢ kinds.OutOfMemory
+            → reader.reject {A = Tree} (reader.fault_at span (kind_of kind)) (seen self.old) ≡ Err (fault_of result, seen self.new) }
+        ensures unit { kind_of result.kind ≢ kinds.OutOfMemory
+            → reader.reject {A = Unit {0}} (reader.fault_at span (kind_of kind)) (seen self.old) ≡ Err (fault_of result, seen self.new) };
+
     /// Refuses what would stand deeper than the limit, and marks it.
     fn too_deep(&mut self) -> Error
         ensures { kind_of result.kind ≢ kinds.OutOfMemory
@@ -112,9 +141,13 @@ pub trait Source {
     fn name(&mut self, wanted: Wanted) -> PResult<Ident>
         ensures { Gives (reader.name (wanted_kind wanted) (seen self.old)) result (seen self.new) };
 
+    /// A word, reserved or not.
+    fn any_word(&mut self) -> PResult<Ident>
+        ensures { Gives (exprs.any_word (seen self.old)) result (seen self.new) };
+
     /// A literal, if one stands here.
     fn literal(&mut self) -> PResult<Option<Literal>>
-        ensures { GivesAs (option_map literal_tree) (rules.literal (seen self.old)) result (seen self.new) };
+        ensures { GivesAs (option_map literal_tree) (exprs.literal (seen self.old)) result (seen self.new) };
 
     /// The text of a shebang, if one stands here.
     fn shebang(&mut self) -> PResult<Option<Atom>>
@@ -166,6 +199,26 @@ impl<I: Tokens> Source for State<I> {
         State::continues_operand(self)
     }
 
+    fn identifier_at(&self) -> bool {
+        State::identifier_at(self)
+    }
+
+    fn is_word_here(&self) -> bool {
+        State::is_word_here(self)
+    }
+
+    fn next_sees(&self, kind: TokenKind) -> bool {
+        State::next_sees(self, kind)
+    }
+
+    fn is_async_function(&self) -> bool {
+        State::is_async_function(self)
+    }
+
+    fn begins_async_call(&self) -> bool {
+        State::begins_async_call(self)
+    }
+
     fn may_begin_expression_statement(&self, at: Position) -> bool {
         State::may_begin_expression_statement(self, at)
     }
@@ -186,6 +239,10 @@ impl<I: Tokens> Source for State<I> {
         State::wanted(self, wanted)
     }
 
+    fn reject(&mut self, kind: SyntaxError, span: Span) -> Error {
+        State::reject(self, kind, span)
+    }
+
     fn too_deep(&mut self) -> Error {
         State::too_deep(self)
     }
@@ -204,6 +261,10 @@ impl<I: Tokens> Source for State<I> {
 
     fn name(&mut self, wanted: Wanted) -> PResult<Ident> {
         State::name(self, wanted)
+    }
+
+    fn any_word(&mut self) -> PResult<Ident> {
+        State::any_word(self)
     }
 
     fn literal(&mut self) -> PResult<Option<Literal>> {

@@ -6,6 +6,7 @@ ghost use Rattle.swc_ecma_parser_error.specs.Kind.{fault_of, kind_of, IsOutOfMem
 ghost use Rattle.swc_ecma_parser_input.specs.Place as place;
 ghost use Rattle.swc_ecma_parser_input.specs.TokenSource as source;
 ghost use Rattle.swc_ecma_parser_model.specs.Tree.{Tree};
+ghost use Rattle.swc_ecma_parser_reader.specs.Expressions as exprs;
 ghost use Rattle.swc_ecma_parser_reader.specs.Reader as rules;
 ghost use Rattle.swc_ecma_parser_reader.specs.State as reader;
 ghost use Rattle.swc_ecma_parser_reader.specs.State.{Gives, GivesAs};
@@ -220,6 +221,24 @@ impl<I: Tokens> State<I> {
         }
     }
 
+    /// The parser's own refusal of what was read at a place. An error token that stands here is read and recorded.
+    #[tactic(auto, using(crate::proofs::Rejects::reject_plain, crate::proofs::Rejects::reject_recorded, crate::proofs::Rejects::reject_failed))]
+    pub fn reject(&mut self, kind: SyntaxError, span: Span) -> Error
+        ensures tree { kind_of result.kind ≢ kinds.OutOfMemory
+            → reader.reject {A = Tree} (reader.fault_at span (kind_of kind)) self.old ≡ Err (fault_of result, self.new) }
+        ensures unit { kind_of result.kind ≢ kinds.OutOfMemory
+            → reader.reject {A = Unit {0}} (reader.fault_at span (kind_of kind)) self.old ≡ Err (fault_of result, self.new) }
+    {
+        match self.take_error() {
+            Err(error) => error,
+            Ok(None) => Error { span, kind },
+            Ok(Some(found)) => match self.fault_again(found) {
+                Err(error) => error,
+                Ok(()) => Error { span, kind },
+            },
+        }
+    }
+
     /// The parser's own refusal of what stands here. An error token is read and recorded.
     pub fn refuse(&mut self, wanted: Wanted) -> Error
         ensures { kind_of result.kind ≢ kinds.OutOfMemory
@@ -279,6 +298,43 @@ impl<I: Tokens> State<I> {
         }
     }
 
+    /// A word, reserved or not.
+    #[tactic(auto, using(crate::proofs::Words::word_none, crate::proofs::Words::word_taken))]
+    pub fn any_word(&mut self) -> PResult<Ident>
+        ensures { Gives (exprs.any_word self.old) result self.new }
+    {
+        if !self.is_word_here() {
+            return Err(self.wanted(Wanted::Expression));
+        }
+        let Some(taken) = self.take()? else {
+            return Err(self.out_of_memory());
+        };
+        let TokenAndSpan { token, span, .. } = taken;
+        let Token::Word(word) = token else {
+            return Err(self.out_of_memory());
+        };
+        match self.word_atom(word) {
+            Ok(sym) => Ok(Ident { span, sym }),
+            Err(error) => Err(error),
+        }
+    }
+
+    /// Whether a word stands here, reserved or not.
+    #[tactic(auto, unfolding(swc_ecma_parser_reader::specs::Expressions::is_word_at))]
+    pub fn is_word_here(&self) -> bool
+        ensures { result ≡ exprs.is_word_at self.now.at }
+    {
+        match self.buffer.cur() {
+            Some(
+                TokenAndSpan {
+                    token: Token::Word(_),
+                    ..
+                },
+            ) => true,
+            _ => false,
+        }
+    }
+
     /// The text of a word.
     fn word_atom(&mut self, word: Word) -> PResult<Atom>
         ensures ok { IfOk result (λ a. a ≡ word_text word) }
@@ -307,7 +363,7 @@ impl<I: Tokens> State<I> {
     /// A literal, if one stands here.
     #[tactic(auto, using(crate::proofs::Taken::literal_none, crate::proofs::Taken::literal_some))]
     pub fn literal(&mut self) -> PResult<Option<Literal>>
-        ensures { GivesAs (option_map literal_tree) (rules.literal self.old) result self.new }
+        ensures { GivesAs (option_map literal_tree) (exprs.literal self.old) result self.new }
     {
         if !self.is_literal_here() {
             return Ok(None);
@@ -391,7 +447,7 @@ fn is_literal(token: &Token) -> bool
 
 /// The literal that a token is.
 fn literal_of(token: Token, span: Span) -> Option<Literal>
-    ensures { option_map literal_tree result ≡ rules.literal_of span token }
+    ensures { option_map literal_tree result ≡ exprs.literal_of span token }
 {
     match token {
         Token::Str { value, raw } => Some(Literal::Str(Str { span, value, raw })),

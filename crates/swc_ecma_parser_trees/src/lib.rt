@@ -4,6 +4,35 @@
 
 ghost use Rattle.std.specs.Prelude.{◌≡◌, IfOk, map};
 
+mod block;
+mod call;
+mod class;
+mod control;
+mod decl;
+mod exports;
+mod function;
+mod imports;
+mod item;
+mod key;
+mod loops;
+mod object;
+mod operator;
+mod pattern;
+
+pub use block::BuildsBlock;
+pub use call::BuildsCall;
+pub use class::BuildsClass;
+pub use control::BuildsControl;
+pub use decl::BuildsDecl;
+pub use exports::BuildsExport;
+pub use function::BuildsFunction;
+pub use imports::BuildsImport;
+pub use item::BuildsItem;
+pub use key::BuildsKey;
+pub use loops::BuildsLoop;
+pub use object::BuildsObject;
+pub use operator::BuildsOperator;
+pub use pattern::BuildsPattern;
 use std::alloc::{AllocError, Global};
 use std::marker::PhantomData;
 use swc_ecma_parser_common::{Atom, Span};

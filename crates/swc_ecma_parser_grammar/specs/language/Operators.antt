@@ -12,6 +12,7 @@ use Rattle.swc_ecma_parser_model.specs.declared.operators.AssignOp.{AssignOp}
 use Rattle.swc_ecma_parser_model.specs.declared.operators.AssignOp.TheVariants as assign
 use Rattle.swc_ecma_parser_model.specs.Tree as tree
 use Rattle.swc_ecma_parser_model.specs.Tree.{Tree}
+use Rattle.swc_ecma_parser_model.specs.Within as within
 use Rattle.swc_ecma_parser_grammar.specs.Names.{Code}
 
 -- before an operand: section 13.5
@@ -128,12 +129,14 @@ abbrev pub is_nullish : BinaryOp → Bool
 is_nullish binary.NullishCoalescing = true
 is_nullish _ = false
 
+-- `??` beside `||` or `&&`
+abbrev pub mixed : BinaryOp → Option BinaryOp → Bool
+mixed op (Some inner) = (is_nullish op && is_logical inner) || (is_logical op && is_nullish inner)
+mixed op None = false
+
 abbrev pub mixes : BinaryOp → Tree → Bool
-mixes op (tree.bin s inner left right) = (is_nullish op && is_logical inner) || (is_logical op && is_nullish inner)
-mixes op _ = false
+mixes op x = mixed op (within.binary_operator x)
 
 -- what `**` does not take as its left operand without parentheses: section 13.6
 abbrev pub is_unary : Tree → Bool
-is_unary (tree.unary s op arg) = true
-is_unary (tree.await s arg) = true
-is_unary _ = false
+is_unary x = within.is_unary_expr x || within.is_await_expr x

@@ -1,0 +1,96 @@
+//! Expressions and what they parse to, by hand, from the rules of ECMA-262, section 13.
+
+use crate::report::report;
+use std::test::Fail;
+
+const OPERATORS: &str = "x¶/ y → Script 0..5, Expr 0..5 → BinExpr 0..5
+a¶++b → Script 0..5, Expr 0..1, Expr 2..5 → UpdateExpr 2..5
+a ** b ** c → Script 0..11, Expr 0..11 → BinExpr 0..11, BinExpr 5..11
+a - b - c → Script 0..9, Expr 0..9 → BinExpr 0..9, BinExpr 0..5
+a + b * c → Script 0..9, Expr 0..9 → BinExpr 0..9, BinExpr 4..9
+a * b + c → Script 0..9, Expr 0..9 → BinExpr 0..9, BinExpr 0..5
+a in b → Script 0..6, Expr 0..6 → BinExpr 0..6
+(a ?? b) || c → Script 0..13, Expr 0..13 → BinExpr 0..13, ParenExpr 0..8, BinExpr 1..7
+(-a) ** b → Script 0..9, Expr 0..9 → BinExpr 0..9, UnaryExpr 1..3
+typeof -a → Script 0..9, Expr 0..9 → UnaryExpr 0..9, UnaryExpr 7..9
+++a.b → Script 0..5, Expr 0..5 → UpdateExpr 0..5, MemberExpr 2..5
+a++ + b → Script 0..7, Expr 0..7 → BinExpr 0..7, UpdateExpr 0..3
+a = b += c → Script 0..10, Expr 0..10 → AssignExpr 0..10, AssignExpr 4..10
+a ? b : c ? d : e → Script 0..17, Expr 0..17 → CondExpr 0..17, CondExpr 8..17
+a, b, c → Script 0..7, Expr 0..7 → SeqExpr 0..7
+var a = b = 1, c; → Script 0..17, Var 0..17 → VarDeclarator 4..13, AssignExpr 8..13, VarDeclarator 15..16";
+
+#[test]
+fn operators(rt: HostRuntime) -> Result<(), Fail> {
+    assert_eq!(rt; report(rt.alloc(), OPERATORS, 1000)?.as_str(), "16 rows");
+    Ok(())
+}
+
+const CALLS: &str = "a¶(b) → Script 0..5, Expr 0..5 → CallExpr 0..5
+this.a[b] → Script 0..9, Expr 0..9 → MemberExpr 0..9, MemberExpr 0..6, ThisExpr 0..4
+a.if → Script 0..4, Expr 0..4 → MemberExpr 0..4
+f(a, ...b,) → Script 0..11, Expr 0..11 → CallExpr 0..11
+f(a)(b).c → Script 0..9, Expr 0..9 → MemberExpr 0..9, CallExpr 0..7, CallExpr 0..4
+new a → Script 0..5, Expr 0..5 → NewExpr 0..5
+new a.b(c).d → Script 0..12, Expr 0..12 → MemberExpr 0..12, NewExpr 0..10, MemberExpr 4..7
+new new a(b) → Script 0..12, Expr 0..12 → NewExpr 0..12, NewExpr 4..12";
+
+#[test]
+fn calls(rt: HostRuntime) -> Result<(), Fail> {
+    assert_eq!(rt; report(rt.alloc(), CALLS, 1000)?.as_str(), "8 rows");
+    Ok(())
+}
+
+const ARRAYS: &str = "[] → Script 0..2, Expr 0..2 → ArrayLit 0..2
+[a, , ...b,] → Script 0..12, Expr 0..12 → ArrayLit 0..12
+[[1], [2]][0] → Script 0..13, Expr 0..13 → MemberExpr 0..13, ArrayLit 0..10, ArrayLit 1..4, ArrayLit 6..9
+[a = b, c] → Script 0..10, Expr 0..10 → ArrayLit 0..10, AssignExpr 1..6
+[a, b] += c → refused 0..6 NotSimpleAssign
+[a b] → refused 3..4 Expected";
+
+#[test]
+fn arrays(rt: HostRuntime) -> Result<(), Fail> {
+    assert_eq!(rt; report(rt.alloc(), ARRAYS, 1000)?.as_str(), "6 rows");
+    Ok(())
+}
+
+const OBJECTS: &str = "({}) → Script 0..4, Expr 0..4 → ParenExpr 0..4, ObjectLit 1..3
+({a, b: 1, 'c': d, 2: e, [f]: g, ...h,}) → Script 0..40, Expr 0..40 → ObjectLit 1..39, KeyValueProp 5..9, KeyValueProp 11..17, KeyValueProp 19..23, ComputedPropName 25..28
+({if: 1, null: 2}) → Script 0..18, Expr 0..18 → KeyValueProp 2..7, KeyValueProp 9..16
+a = {b: {c}} → Script 0..12, Expr 0..12 → AssignExpr 0..12, ObjectLit 4..12, ObjectLit 8..11
+({if}) → refused 2..4 ExpectedIdent
+({1}) → refused 3..4 Unexpected
+({a} += b) → refused 1..4 NotSimpleAssign";
+
+#[test]
+fn objects(rt: HostRuntime) -> Result<(), Fail> {
+    assert_eq!(rt; report(rt.alloc(), OBJECTS, 1000)?.as_str(), "7 rows");
+    Ok(())
+}
+
+const REFUSED: &str = "a ?? b || c → refused 0..11 NullishCoalescingWithLogicalOp
+-a ** b → refused 0..2 UnaryInExp
+1 + f() = 2 → refused 0..7 InvalidPat
+1 + f() += 2 → refused 0..7 NotSimpleAssign
+1++ → refused 0..1 NotSimpleAssign
+++1 → refused 2..3 NotSimpleAssign
+(a) => b → refused 4..6 Unexpected
+a ? b → refused 4..5 Expected";
+
+#[test]
+fn refused(rt: HostRuntime) -> Result<(), Fail> {
+    assert_eq!(rt; report(rt.alloc(), REFUSED, 1000)?.as_str(), "8 rows");
+    Ok(())
+}
+
+#[test]
+fn levels(rt: HostRuntime) -> Result<(), Fail> {
+    for (rows, limit) in [
+        ("a ** b ** c → refused 10..11 TooDeep", 3),
+        ("a ** b ** c → Script 0..11, Expr 0..11", 4),
+        ("a + b + c → Script 0..9, Expr 0..9", 3),
+    ] {
+        assert_eq!(rt; report(rt.alloc(), rows, limit)?.as_str(), "1 rows");
+    }
+    Ok(())
+}

@@ -1,0 +1,185 @@
+-- With which tokens a supported expression begins: neither with `await` and `import`, nor, but for `{`, with what begins or
+-- ends a statement.
+use Rattle.std.proofs.Common.{◌≡◌, ℕ, zero, suc, Bool, true, false, ◌∷◌, Some, refl, sym, ◌∙◌, ap}
+use Rattle.std.specs.Prelude.{not, codes}
+use Rattle.std.specs.Str.{bytes_eq}
+use Rattle.swc_ecma_parser_common.specs.declared.span.Span.{Span}
+use Rattle.swc_ecma_parser_token.specs.declared.kind.TokenKind.{TokenKind}
+use Rattle.swc_ecma_parser_token.specs.declared.kind.TokenKind.TheVariants as kind
+use Rattle.swc_ecma_parser_token.specs.declared.keyword.Keyword.TheVariants as keyword
+use Rattle.swc_ecma_parser_token.specs.declared.token.Token.{Token}
+use Rattle.swc_ecma_parser_token.specs.declared.token.Token.TheVariants as token
+use Rattle.swc_ecma_parser_token.specs.declared.token.Word.{Word}
+use Rattle.swc_ecma_parser_token.specs.declared.token.Word.TheVariants as word
+use Rattle.swc_ecma_parser_token.specs.Kind.{token_kind, word_kind}
+use Rattle.swc_ecma_parser_token.specs.Text.{word_text}
+use Rattle.swc_ecma_parser_input.specs.declared.context.Context.{Context}
+use Rattle.swc_ecma_parser_input.specs.Place.{Place}
+use Rattle.swc_ecma_parser_model.specs.declared.operators.UnaryOp.{UnaryOp}
+use Rattle.swc_ecma_parser_model.specs.declared.operators.UpdateOp.{UpdateOp}
+use Rattle.swc_ecma_parser_model.specs.declared.operators.BinaryOp.TheVariants as binary
+use Rattle.swc_ecma_parser_model.specs.declared.operators.AssignOp.TheVariants as assign
+use Rattle.swc_ecma_parser_model.specs.Tree as tree
+use Rattle.swc_ecma_parser_model.specs.Tree.{Tree, Text, listed}
+use Rattle.swc_ecma_parser_model.specs.Forms.{is_pattern_target}
+use Rattle.swc_ecma_parser_grammar.specs.Looks.{kind_at, sees, spanned, same_kind}
+use Rattle.swc_ecma_parser_grammar.specs.Names.{Code, is_reserved, is_name, is_identifier, is_clean_name}
+use Rattle.swc_ecma_parser_grammar.specs.Reads.{ReadsToken}
+use Rattle.swc_ecma_parser_grammar.specs.Supported.{supported}
+use Rattle.swc_ecma_parser_grammar.specs.ReadsSupported.{ReadsClass}
+use Rattle.swc_ecma_parser_grammar.specs.language.Goals.{Goal, expression}
+use Rattle.swc_ecma_parser_grammar.specs.language.Operators.{unary_operator, update_operator}
+use Rattle.swc_ecma_parser_grammar.specs.language.Parts.{ReadsName}
+use Rattle.swc_ecma_parser_grammar.specs.language.LeftSides as sides
+use Rattle.swc_ecma_parser_grammar.specs.language.LeftSides.{LeftSideRule, primary_rule, import_meta_rule, member_rule, super_property_rule, call_rule, super_call_rule, import_call_rule, new_rule, bare_new_rule}
+use Rattle.swc_ecma_parser_grammar.specs.language.Expressions as expressions
+use Rattle.swc_ecma_parser_grammar.specs.language.Expressions.{BinaryRule, single_rule, left_rule, power_rule}
+use Rattle.swc_ecma_parser_grammar.specs.language.Reads.{Reads}
+use Rattle.swc_ecma_parser_grammar.proofs.Tests.{and_yes, and_both}
+
+-- ---- trees that are supported
+
+-- no tree is of a form that is not supported and is supported
+pub refuted : {X : Type 0} (x : Tree) → supported x ≡ false → supported x ≡ true → X
+refuted x e h = cc
+
+-- the form of a tree that is supported is
+pub supported_as : (x y : Tree) → x ≡ y → supported x ≡ true → supported y ≡ true
+supported_as x y e h = sym (ap supported e) ∙ h
+
+-- ---- tokens
+
+-- the first token decides for an expression, as far as it decides
+abbrev pub opens : TokenKind → Bool
+opens kind.Await = false
+opens kind.Import = false
+opens kind.Semi = false
+opens kind.Debugger = false
+opens kind.Var = false
+opens kind.RBrace = false
+opens kind.End = false
+opens _ = true
+
+word_opens : (f : Context) (w : Word) → is_name f (word_text w) ≡ true → opens (word_kind w) ≡ true
+unfolding is_name is_reserved
+word_opens f (word.Keyword keyword.Await) h = let g = (and_yes (not (is_reserved f (codes "await"))) _ h).1 in cc
+word_opens f (word.Keyword keyword.Import) h = cc
+word_opens f (word.Keyword keyword.Debugger) h = cc
+word_opens f (word.Keyword keyword.Var) h = cc
+word_opens f _ h = refl
+
+kind_opens : (c : Place) (j : TokenKind) → kind_at c ≡ j → opens j ≡ true → opens (kind_at c) ≡ true
+kind_opens c j e h = ap opens e ∙ h
+
+token_opens : (t : Token) (s : Span) (c d : Place) → ReadsToken t s c d → opens (token_kind t) ≡ true → opens (kind_at c) ≡ true
+unfolding kind_at
+token_opens t s c d r e = rw r.is e
+
+name_opens : (k : Code) (text : Text) (s : Span) (c d : Place) → ReadsName k text s c d → not (bytes_eq text (codes "await")) ≡ true → opens (kind_at c) ≡ true
+unfolding is_name is_clean_name is_identifier
+name_opens k text s c d r h =
+    token_opens (token.Word r.word) s c d r.reads_word (word_opens k.flags r.word (rw (← r.is_text) (and_both _ _ (and_yes (not (is_reserved k.flags text)) _ r.is_name).0 h)))
+
+unary_opens : (j : TokenKind) (op : UnaryOp) → unary_operator j ≡ Some op → opens j ≡ true
+unary_opens kind.Await op h = cc
+unary_opens kind.Import op h = cc
+unary_opens kind.Semi op h = cc
+unary_opens kind.Debugger op h = cc
+unary_opens kind.Var op h = cc
+unary_opens kind.RBrace op h = cc
+unary_opens kind.End op h = cc
+unary_opens _ op h = refl
+
+update_opens : (j : TokenKind) (op : UpdateOp) → update_operator j ≡ Some op → opens j ≡ true
+update_opens kind.Await op h = cc
+update_opens kind.Import op h = cc
+update_opens kind.Semi op h = cc
+update_opens kind.Debugger op h = cc
+update_opens kind.Var op h = cc
+update_opens kind.RBrace op h = cc
+update_opens kind.End op h = cc
+update_opens _ op h = refl
+
+-- ---- expressions
+
+module _ (In : Goal → Type 0) (k : Code) where
+  primary_opens : (x : Tree) (c d : Place) → sides.PrimaryRule In k x c d → supported x ≡ true → opens (kind_at c) ≡ true
+  primary_opens x c d (sides.name_rule text s r f e) h = name_opens k text s c d r (supported_as x (tree.ident s text) e h)
+  primary_opens x c d (sides.string_rule value raw s r e) h = token_opens (token.Str value raw) s c d r refl
+  primary_opens x c d (sides.true_rule s r e) h = token_opens (token.Word word.True) s c d r refl
+  primary_opens x c d (sides.false_rule s r e) h = token_opens (token.Word word.False) s c d r refl
+  primary_opens x c d (sides.null_rule s r e) h = token_opens (token.Word word.Null) s c d r refl
+  primary_opens x c d (sides.number_rule raw s r e) h = token_opens (token.Num raw) s c d r refl
+  primary_opens x c d (sides.big_int_rule raw s r e) h = token_opens (token.BigInt raw) s c d r refl
+  primary_opens x c d (sides.this_rule i n e) h = kind_opens c kind.This i refl
+  primary_opens x c d (sides.array_rule xs m i r j n e) h = kind_opens c kind.LBracket i refl
+  primary_opens x c d (sides.object_rule xs m i r j n e) h = kind_opens c kind.LBrace i refl
+  primary_opens x c d (sides.function_rule name y r e) h = refuted x (ap supported e) h
+  primary_opens x c d (sides.class_rule name y r e) h = refuted x (ap supported e) h
+  primary_opens x c d (sides.paren_rule y m i r j n e) h = kind_opens c kind.LParen i refl
+
+  left_side_opens : {x : Tree} {c d : Place} → LeftSideRule In k x c d → supported x ≡ true → opens (kind_at c) ≡ true
+  left_side_opens {x = x} {c = c} {d = d} (primary_rule r) h = primary_opens x c d r h
+  left_side_opens {x = x} (import_meta_rule i j w n m e) h = refuted x (ap supported e) h
+  left_side_opens {x = x} {c = c} {d = d} (member_rule y p m r a e) h =
+      left_side_opens r (and_yes (supported y) _ (supported_as x (tree.member (spanned c d) y p) e h)).0
+  left_side_opens {c = c} (super_property_rule p i a j e) h = kind_opens c kind.Super i refl
+  left_side_opens {x = x} {c = c} {d = d} (call_rule y z m r a e) h = left_side_opens r (and_yes (supported y) _ (supported_as x (tree.call (spanned c d) y z) e h)).0
+  left_side_opens {c = c} (super_call_rule z i a e) h = kind_opens c kind.Super i refl
+  left_side_opens {x = x} (import_call_rule z i a e) h = refuted x (ap supported e) h
+  left_side_opens {c = c} (new_rule y z m i r a e) h = kind_opens c kind.New i refl
+  left_side_opens {c = c} (bare_new_rule y i r e) h = kind_opens c kind.New i refl
+
+  unary_rule_opens : (x : Tree) (c d : Place) → expressions.UnaryRule In k x c d → supported x ≡ true → opens (kind_at c) ≡ true
+  unary_rule_opens x c d (expressions.operand_rule r) h = left_side_opens r.0 h
+  unary_rule_opens x c d (expressions.unary_rule op y i r e) h = unary_opens (kind_at c) op i
+  unary_rule_opens x c d (expressions.prefix_rule op y i r t e) h = update_opens (kind_at c) op i
+  unary_rule_opens x c d (expressions.postfix_rule op y m r t b i n e) h = left_side_opens r.0 (supported_as x (tree.update (spanned c d) op false y) e h)
+  unary_rule_opens x c d (expressions.await_rule y a m r e) h = refuted x (ap supported e) h
+
+  binary_opens : {n : ℕ} {x : Tree} {c d : Place} → BinaryRule In k n x c d → supported x ≡ true → opens (kind_at c) ≡ true
+  binary_opens {x = x} {c = c} {d = d} (single_rule r) h = unary_rule_opens x c d r h
+  binary_opens {x = x} {c = c} {d = d} (left_rule op y z m b g i r o s u v e) h = binary_opens r (and_yes (supported y) _ (supported_as x (tree.bin (spanned c d) op y z) e h)).0
+  binary_opens {x = x} {c = c} {d = d} (power_rule y z m b r u i s e) h =
+      unary_rule_opens y c m r (and_yes (supported y) _ (supported_as x (tree.bin (spanned c d) binary.Exp y z) e h)).0
+
+  -- a pattern that is assigned to is not supported
+  no_pattern : {X : Type 0} (x : Tree) → is_pattern_target x ≡ true → supported x ≡ true → X
+  no_pattern (tree.array_pat s elems) e h = cc
+  no_pattern (tree.object_pat s props) e h = cc
+  no_pattern _ e h = cc
+
+  assignment_opens : (x : Tree) (c d : Place) → expressions.AssignmentRule In k x c d → supported x ≡ true → opens (kind_at c) ≡ true
+  assignment_opens x c d (expressions.operators_rule r s) h = binary_opens r h
+  assignment_opens x c d (expressions.conditional_rule t y z i j r q a b s u e) h = binary_opens r (and_yes (supported t) _ (supported_as x (tree.cond (spanned c d) t y z) e h)).0
+  assignment_opens x c d (expressions.assign_rule op y z m r t a b e) h = left_side_opens r.0 (and_yes (supported y) _ (supported_as x (tree.assign (spanned c d) op y z) e h)).0
+  assignment_opens x c d (expressions.destructuring_rule y z m r t a b e) h =
+      no_pattern y t (and_yes (supported y) _ (supported_as x (tree.assign (spanned c d) assign.Assign y z) e h)).0
+  assignment_opens x c d (expressions.arrow_rule a ps y i j r s t b u e) h = refuted x (ap supported e) h
+  assignment_opens x c d (expressions.bare_yield_rule g i n s e) h = refuted x (ap supported e) h
+  assignment_opens x c d (expressions.yield_rule y g i b s r e) h = refuted x (ap supported e) h
+  assignment_opens x c d (expressions.delegate_rule y g i b m r e) h = refuted x (ap supported e) h
+
+  expression_opens : (x : Tree) (c d : Place) → expressions.ExpressionRule In k x c d → supported x ≡ true → opens (kind_at c) ≡ true
+  expression_opens x c d (expressions.assignment_rule r comma) h = assignment_opens x c d r h
+  expression_opens x c d (expressions.sequence_rule y z zs (m, r, i, rs) e) h =
+      assignment_opens y c m r (and_yes (supported y) _ (supported_as x (tree.seq (spanned c d) (listed (y ∷ z ∷ zs))) e h)).0
+
+pub expr_opens : (n : ℕ) (k : Code) (x : Tree) (c d : Place) → ReadsClass n expression k x c d → opens (kind_at c) ≡ true
+expr_opens zero k x c d r = absurd r.0
+expr_opens (suc n) k x c d r = expression_opens (Reads n) k x c d r.0 r.1
+
+-- so with neither `await` nor `import`
+opens_no_word : (j : TokenKind) → opens j ≡ true → (same_kind j kind.Await ≡ false) × (same_kind j kind.Import ≡ false)
+unfolding same_kind
+opens_no_word kind.Await h = cc
+opens_no_word kind.Import h = cc
+opens_no_word _ h = (refl, refl)
+
+pub expr_begins : (n : ℕ) (k : Code) (x : Tree) (c d : Place) → ReadsClass n expression k x c d → (sees kind.Await c ≡ false) × (sees kind.Import c ≡ false)
+expr_begins n k x c d r = opens_no_word (kind_at c) (expr_opens n k x c d r)
+
+-- nor does a name
+pub name_begins : (f : Context) (w : Word) (s : Span) (c d : Place) → ReadsToken (token.Word w) s c d → is_name f (word_text w) ≡ true
+    → (sees kind.Await c ≡ false) × (sees kind.Import c ≡ false)
+name_begins f w s c d r h = opens_no_word (kind_at c) (token_opens (token.Word w) s c d r (word_opens f w h))

@@ -1,0 +1,22 @@
+-- The part of the relation of the whole language that the parser reads so far.
+use Rattle.std.specs.Prelude.{◌≡◌, ℕ, zero, suc, true, false, ◌||◌}
+use Rattle.swc_ecma_parser_token.specs.declared.kind.TokenKind.TheVariants as kind
+use Rattle.swc_ecma_parser_input.specs.Place.{Place}
+use Rattle.swc_ecma_parser_model.specs.Tree.{Tree}
+use Rattle.swc_ecma_parser_grammar.specs.declared.position.Position.{Position}
+use Rattle.swc_ecma_parser_grammar.specs.Looks.{sees}
+use Rattle.swc_ecma_parser_grammar.specs.Names.{Code}
+use Rattle.swc_ecma_parser_grammar.specs.Reads.{ReadsPat, StmtRule}
+use Rattle.swc_ecma_parser_grammar.specs.Supported.{supported}
+use Rattle.swc_ecma_parser_grammar.specs.language.Goals.{Class, callee, expr_goal, callee_goal}
+use Rattle.swc_ecma_parser_grammar.specs.language.Reads.{Reads}
+
+-- An expression of a class within so many levels. Behind what `new` calls its arguments may stand.
+abbrev pub ReadsClass : ℕ → Class → Code → Tree → Place → Place → Type 0
+ReadsClass n callee k x c d = Reads n (callee_goal k x c d) × (sees kind.Dot d || sees kind.LBracket d ≡ false) × (supported x ≡ true)
+ReadsClass n class k x c d = Reads n (expr_goal class k x c d) × (supported x ≡ true)
+
+-- a statement within so many levels
+abbrev pub ReadsStmt : ℕ → Code → Position → Tree → Place → Place → Type 0
+ReadsStmt zero k at x c d = ⊥
+ReadsStmt (suc n) k at x c d = StmtRule (ReadsStmt n) (ReadsClass n) (ReadsPat n) k at x c d

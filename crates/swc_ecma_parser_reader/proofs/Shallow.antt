@@ -1,0 +1,181 @@
+-- What is never too deep: tokens that say nothing of the kind, and steps over them.
+use Rattle.std.proofs.Common.{◌≡◌, ◌≢◌, ℕ, zero, suc, ◌*◌, ◌≤◌, Bool, true, false, List, [], ◌∷◌, length, Option, Some, None, Ok, Err, refl, sym, ◌∙◌, ap, subst, arith}
+use Rattle.std.specs.Prelude.{◌||◌}
+use Rattle.swc_ecma_parser_common.specs.declared.span.Span.{Span}
+use Rattle.swc_ecma_parser_error.specs.declared.error.Error.{Error}
+use Rattle.swc_ecma_parser_error.specs.declared.kind.SyntaxError.{SyntaxError}
+use Rattle.swc_ecma_parser_error.specs.declared.kind.SyntaxError.TheVariants as says
+use Rattle.swc_ecma_parser_error.specs.Kind as faults
+use Rattle.swc_ecma_parser_error.specs.Kind.{Kind, Fault, fault_of, kind_of}
+use Rattle.swc_ecma_parser_token.specs.declared.kind.TokenKind.{TokenKind}
+use Rattle.swc_ecma_parser_token.specs.declared.kind.TokenKind.TheVariants as kind
+use Rattle.swc_ecma_parser_token.specs.declared.token.Token.{Token}
+use Rattle.swc_ecma_parser_token.specs.declared.token.Token.TheVariants as token
+use Rattle.swc_ecma_parser_token.specs.declared.token.TokenAndSpan.{TokenAndSpan}
+use Rattle.swc_ecma_parser_token.specs.Text.{word_text}
+use Rattle.swc_ecma_parser_input.specs.TokenSource.{means_out_of_memory}
+use Rattle.swc_ecma_parser_input.specs.Place.{Place, after, past}
+use Rattle.swc_ecma_parser_model.specs.Tree.{Text}
+use Rattle.swc_ecma_parser_grammar.specs.Looks.{kind_at, sees, span_at}
+use Rattle.swc_ecma_parser_grammar.specs.Names.{is_name}
+use Rattle.swc_ecma_parser_grammar.specs.Ends.{can_end}
+use Rattle.swc_ecma_parser_reader.specs.State.{State, Outcome, Reader, moved, fault, recorded_in, recorded_at, fault_at, expect, end, name, name_in, name_by, wanted, wanted_in, wanted_at, too_deep, too_deep_in, refuse, refuse_in, refuse_at, refused}
+use Rattle.swc_ecma_parser_reader.specs.Reader.{close, shebang_in, shebang_taken, shebang}
+use Rattle.swc_ecma_parser_reader.specs.Limits.{means_too_deep, is_too_deep, has_too_deep_token}
+use Rattle.swc_ecma_parser_reader.proofs.Meets.{Answers, answers_if}
+
+-- ---- tokens that say nothing of the kind
+
+-- an error token of another kind says something else
+shallow_kind : (k : SyntaxError) → means_too_deep k ≡ false → kind_of k ≢ faults.TooDeep
+shallow_kind says.TooDeep h e = cc
+shallow_kind _ h e = cc
+
+-- neither of two tests holds
+pub either_false : (a b : Bool) → (a || b) ≡ false → (a ≡ false) × (b ≡ false)
+either_false true b h = (cc, cc)
+either_false false b h = (refl, h)
+
+-- at most so many tokens, none of which says that something is too deep
+pub record Fine (m : ℕ) (ts : List TokenAndSpan) : Type 0 where
+  pub few : length ts ≤ m
+  pub shallow : has_too_deep_token ts ≡ false
+
+-- a greater number will do
+pub fine_more : (m n : ℕ) (ts : List TokenAndSpan) → m ≤ n → Fine m ts → Fine n ts
+fine_more m n ts h f = record { few = omega arith; shallow = f.shallow }
+
+-- what is left behind a token is fine
+fine_rest : (m : ℕ) (c : Place) (ts : List TokenAndSpan) → c.left ≡ ts → Fine m c.left → Fine m (past c ts).left
+fine_rest m c [] e f = f
+fine_rest m c (t ∷ ts) e f = let g : Fine m (t ∷ ts) = subst (Fine m) e f in record { few = omega arith; shallow = (either_false (is_too_deep t.token) (has_too_deep_token ts) g.shallow).1 }
+
+pub fine_after : (m : ℕ) (c : Place) → Fine m c.left → Fine m (after c).left
+unfolding after
+fine_after m c f = fine_rest m c c.left refl f
+
+-- one fewer where a token stands
+fine_taken_in : (m : ℕ) (c : Place) (ts : List TokenAndSpan) → c.left ≡ ts → kind_at c ≢ kind.End → Fine m c.left → (i : ℕ) × (m ≡ suc i) × Fine i (past c ts).left
+unfolding kind_at
+fine_taken_in m c [] e h f = absurd (h (rw e refl))
+fine_taken_in zero c (t ∷ ts) e h f = let g : Fine zero (t ∷ ts) = subst (Fine zero) e f in absurd (omega arith)
+fine_taken_in (suc i) c (t ∷ ts) e h f =
+    let g : Fine (suc i) (t ∷ ts) = subst (Fine (suc i)) e f in
+    (i, refl, record { few = omega arith; shallow = (either_false (is_too_deep t.token) (has_too_deep_token ts) g.shallow).1 })
+
+pub fine_taken : (m : ℕ) (c : Place) (k : TokenKind) → kind_at c ≡ k → k ≢ kind.End → Fine m c.left → (i : ℕ) × (m ≡ suc i) × Fine i (after c).left
+unfolding after
+fine_taken m c k e h f = fine_taken_in m c c.left refl (λ g. h (sym e ∙ g)) f
+
+-- ---- what is answered is fine, and no fault says too deep
+
+-- the fault says something else
+abbrev pub Shallow : Fault → State → Type 0
+Shallow e s = e.kind ≢ faults.TooDeep
+
+-- as many tokens at most are left
+abbrev pub Kept : {A : Type 0} → ℕ → A → State → Type 0
+Kept m x t = Fine m t.at.left
+
+-- the error tokens of such a list say nothing of the kind
+pub error_shallow : (m : ℕ) (s : State) (u : TokenAndSpan) (ts : List TokenAndSpan) (e : Error) → s.at.left ≡ u ∷ ts → u.token ≡ token.Error e → Fine m s.at.left → kind_of e.kind ≢ faults.TooDeep
+error_shallow m s u ts e h g f =
+    let k : is_too_deep u.token || has_too_deep_token ts ≡ false = sym (ap has_too_deep_token h) ∙ f.shallow in
+    shallow_kind e.kind (sym (ap is_too_deep g) ∙ (either_false (is_too_deep u.token) (has_too_deep_token ts) k).0)
+
+-- with no level left no token is left either, and the fault is another
+pub too_deep_shallow : {A : Type 0} (P : A → State → Type 0) (s : State) → length s.at.left ≤ 0 → Answers P Shallow (too_deep s)
+unfolding too_deep
+too_deep_shallow P s h = in_list s.at.left h
+  where
+    in_list : (ts : List TokenAndSpan) → length ts ≤ 0 → Answers P Shallow (too_deep_in s ts)
+    in_list [] h = λ e. cc
+    in_list (t ∷ ts) h = absurd (omega arith)
+
+module _ (m : ℕ) (s : State) (f : Fine m s.at.left) where
+  -- an error token that is recorded may be answered
+  recorded_at_shallow : (g : Fault) (u : TokenAndSpan) (ts : List TokenAndSpan) (v : Token) → s.at.left ≡ u ∷ ts → u.token ≡ v → Answers (Kept m) Shallow (recorded_at g s v)
+  recorded_at_shallow g u ts (token.Error e) h i = answers_if _ _ (means_out_of_memory e.kind) _ _ (λ _. error_shallow m s u ts e h i f) (λ _. fine_after m s.at f)
+  recorded_at_shallow g u ts _ h i = f
+
+  recorded_in_shallow : (g : Fault) (ts : List TokenAndSpan) → s.at.left ≡ ts → Answers (Kept m) Shallow (recorded_in g s ts)
+  recorded_in_shallow g [] h = f
+  recorded_in_shallow g (u ∷ ts) h = recorded_at_shallow g u ts u.token h refl
+
+  pub fault_shallow : (g : Fault) → Answers (Kept m) Shallow (fault g s)
+  unfolding fault
+  fault_shallow g = recorded_in_shallow g s.at.left refl
+
+-- refusals of another kind
+pub refused_shallow : {A : Type 0} (m : ℕ) (P : A → State → Type 0) (k : Kind) (span : Span) (o : Outcome (Unit {0})) → k ≢ faults.TooDeep → Answers (Kept m) Shallow o → Answers P Shallow (refused (fault_at span k) o)
+refused_shallow m P k span (Ok p) h g = h
+refused_shallow m P k span (Err e) h g = g
+
+module _ {A : Type 0} (P : A → State → Type 0) (k : Kind) (other : k ≢ faults.TooDeep) (m : ℕ) (s : State) (f : Fine m s.at.left) where
+  wanted_at_shallow : (u : TokenAndSpan) (ts : List TokenAndSpan) (v : Token) → s.at.left ≡ u ∷ ts → u.token ≡ v → Answers P Shallow (wanted_at k s v u.span)
+  wanted_at_shallow u ts (token.Error e) h i = error_shallow m s u ts e h i f
+  wanted_at_shallow u ts _ h i = other
+
+  wanted_in_shallow : (ts : List TokenAndSpan) → s.at.left ≡ ts → Answers P Shallow (wanted_in k s ts)
+  wanted_in_shallow [] h = λ e. cc
+  wanted_in_shallow (u ∷ ts) h = wanted_at_shallow u ts u.token h refl
+
+  pub wanted_shallow : Answers P Shallow (wanted k s)
+  unfolding wanted
+  wanted_shallow = wanted_in_shallow s.at.left refl
+
+  refuse_at_shallow : (u : TokenAndSpan) (ts : List TokenAndSpan) (v : Token) → s.at.left ≡ u ∷ ts → u.token ≡ v → Answers P Shallow (refuse_at k s v u.span)
+  refuse_at_shallow u ts (token.Error e) h i = answers_if _ _ (means_out_of_memory e.kind) _ _ (λ _. error_shallow m s u ts e h i f)
+      (λ _. refused_shallow m P k u.span (fault (fault_of e) (moved s)) other (fault_shallow m (moved s) (fine_after m s.at f) (fault_of e)))
+  refuse_at_shallow u ts _ h i = other
+
+  refuse_in_shallow : (ts : List TokenAndSpan) → s.at.left ≡ ts → Answers P Shallow (refuse_in k s ts)
+  refuse_in_shallow [] h = other
+  refuse_in_shallow (u ∷ ts) h = refuse_at_shallow u ts u.token h refl
+
+  refuse_shallow : Answers P Shallow (refuse k s)
+  unfolding refuse
+  refuse_shallow = refuse_in_shallow s.at.left refl
+
+-- ---- ends, fixed tokens and names
+
+module _ (m : ℕ) (s : State) (f : Fine m s.at.left) where
+  -- steps that take a token at most
+  pub end_shallow : (missing : Kind) → missing ≢ faults.TooDeep → Answers (Kept m) Shallow (end missing s)
+  unfolding end
+  end_shallow missing h = answers_if _ _ (sees kind.Semi s.at) _ _ (λ _. fine_after m s.at f) (λ _. answers_if _ _ (can_end s.at) _ _ (λ _. f) (λ _. refuse_shallow _ missing h m s f))
+
+  pub expect_shallow : (k : TokenKind) → Answers (Kept m) Shallow (expect k s)
+  unfolding expect
+  expect_shallow k = answers_if _ _ (sees k s.at) _ _ (λ _. fine_after m s.at f) (λ _. refuse_shallow _ faults.Expected (λ e. cc) m s f)
+
+  pub close_shallow : Answers (Kept m) Shallow (close s)
+  unfolding close
+  close_shallow = answers_if _ _ (sees kind.RBrace s.at) _ _ (λ _. fine_after m s.at f) (λ _. fault_shallow m s f (fault_at (span_at s.at) faults.Expected))
+
+  module _ (missing : Kind) (other : missing ≢ faults.TooDeep) where
+    name_by_shallow : (v : Token) (span : Span) → Answers (Kept m) Shallow (name_by missing s v span)
+    name_by_shallow (token.Word w) span = answers_if _ _ (is_name s.code.flags (word_text w)) _ _ (λ _. fine_after m s.at f) (λ _. wanted_shallow _ missing other m s f)
+    name_by_shallow _ span = wanted_shallow _ missing other m s f
+
+    name_in_shallow : (ts : List TokenAndSpan) → Answers (Kept m) Shallow (name_in missing s ts)
+    name_in_shallow [] = wanted_shallow _ missing other m s f
+    name_in_shallow (u ∷ ts) = name_by_shallow u.token u.span
+
+    pub name_shallow : Answers (Kept m) Shallow (name missing s)
+    unfolding name
+    name_shallow = name_in_shallow s.at.left
+
+  shebang_taken_shallow : (o : Option Text) → Answers (Kept m) Shallow (shebang_taken o s)
+  shebang_taken_shallow None = f
+  shebang_taken_shallow (Some x) = fine_after m s.at f
+
+  pub shebang_shallow : Answers (Kept m) Shallow (shebang s)
+  unfolding shebang
+  shebang_shallow = shebang_taken_shallow (shebang_in s.at.left)
+
+-- ---- expressions and patterns: two levels for each token
+
+-- a reader in so many levels for two
+abbrev pub Levels : {A : Type 0} → ℕ → Reader A → Type 0
+Levels n p = (m : ℕ) (s : State) → 2 * m ≤ n → Fine m s.at.left → Answers (Kept m) Shallow (p s)

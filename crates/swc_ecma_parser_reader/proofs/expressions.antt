@@ -1,0 +1,10 @@
+pub mod Falls
+pub mod Loops
+pub mod Limits
+pub mod CompleteKinds
+pub mod CompleteParts
+pub mod Complete
+pub mod SoundSteps
+pub mod SoundLefts
+pub mod SoundOperators
+pub mod Sound

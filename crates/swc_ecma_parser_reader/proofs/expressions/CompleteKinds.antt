@@ -1,0 +1,517 @@
+-- With which token an expression of the language begins, and which stands behind it, as far as the reader asks.
+use Rattle.std.proofs.Common.{◌≡◌, ℕ, zero, suc, Bool, true, false, cond, List, [], ◌∷◌, Option, Some, None, refl, sym, ◌∙◌, ap}
+use Rattle.std.specs.Prelude.{nat_eq, not, ◌&&◌, ◌||◌, is_some, codes}
+use Rattle.std.specs.Str.{bytes_eq}
+use Rattle.std.proofs.lemmas.Bool.{eq-eqb}
+use denote.Enum.Bare.{true_same}
+use Rattle.swc_ecma_parser_common.specs.declared.span.Span.{Span}
+use Rattle.swc_ecma_parser_token.specs.contracts.kind.TokenKind.{the_type}
+use Rattle.swc_ecma_parser_token.specs.declared.keyword.Keyword.{Keyword}
+use Rattle.swc_ecma_parser_token.specs.declared.keyword.Keyword.TheVariants as keyword
+use Rattle.swc_ecma_parser_token.specs.declared.kind.TokenKind.{TokenKind}
+use Rattle.swc_ecma_parser_token.specs.declared.kind.TokenKind.TheVariants as kind
+use Rattle.swc_ecma_parser_token.specs.declared.token.Token.{Token}
+use Rattle.swc_ecma_parser_token.specs.declared.token.Token.TheVariants as token
+use Rattle.swc_ecma_parser_token.specs.declared.token.Word.{Word}
+use Rattle.swc_ecma_parser_token.specs.declared.token.Word.TheVariants as word
+use Rattle.swc_ecma_parser_token.specs.declared.token.TokenAndSpan.{TokenAndSpan}
+use Rattle.swc_ecma_parser_token.specs.Kind.{token_kind, word_kind, keyword_kind}
+use Rattle.swc_ecma_parser_token.specs.Text.{word_text}
+use Rattle.swc_ecma_parser_input.specs.declared.context.Context.{Context}
+use Rattle.swc_ecma_parser_input.specs.Place.{Place, after, past}
+use Rattle.swc_ecma_parser_model.specs.declared.operators.UnaryOp.{UnaryOp}
+use Rattle.swc_ecma_parser_model.specs.declared.operators.UpdateOp.{UpdateOp}
+use Rattle.swc_ecma_parser_model.specs.declared.operators.BinaryOp.{BinaryOp}
+use Rattle.swc_ecma_parser_model.specs.declared.operators.AssignOp.{AssignOp}
+use Rattle.swc_ecma_parser_model.specs.Tree as tree
+use Rattle.swc_ecma_parser_model.specs.Tree.{Tree, Text}
+use Rattle.swc_ecma_parser_model.specs.Forms.{is_pattern_target}
+use Rattle.swc_ecma_parser_grammar.specs.Looks.{kind_at, first_kind, breaks_at, span_at, first_span, sees, same_kind, spanned}
+use Rattle.swc_ecma_parser_grammar.specs.Names.{Code, is_reserved, is_name, is_identifier, is_clean_name, token_is_name, first_is_name, name_at}
+use Rattle.swc_ecma_parser_grammar.specs.Follows.{continues_left_side}
+use Rattle.swc_ecma_parser_grammar.specs.Reads.{ReadsToken}
+use Rattle.swc_ecma_parser_grammar.specs.Supported.{supported}
+use Rattle.swc_ecma_parser_grammar.specs.language.Goals.{Goal, expr_goal, assignment}
+use Rattle.swc_ecma_parser_grammar.specs.language.Operators.{unary_operator, update_operator, binary_operator, assign_operator}
+use Rattle.swc_ecma_parser_grammar.specs.language.Continues.{continues_unary, is_operation}
+use Rattle.swc_ecma_parser_grammar.specs.language.Parts as parts
+use Rattle.swc_ecma_parser_grammar.specs.language.Parts.{ReadsName, ReadsWord, KeyRule}
+use Rattle.swc_ecma_parser_grammar.specs.language.LeftSides as sides
+use Rattle.swc_ecma_parser_grammar.specs.language.LeftSides.{PrimaryRule, LeftSideRule}
+use Rattle.swc_ecma_parser_grammar.specs.language.Expressions as rules
+use Rattle.swc_ecma_parser_grammar.specs.language.Expressions.{UnaryRule, BinaryRule, AssignmentRule}
+use Rattle.swc_ecma_parser_grammar.specs.language.Reads as language
+use Rattle.swc_ecma_parser_grammar.proofs.Tests.{or_no, and_yes, and_both, and_no}
+use Rattle.swc_ecma_parser_reader.specs.Expressions.{literal_of, literal_in, token_is_word, first_is_word, is_word_at, postfix_at}
+
+-- ---- supported forms
+
+-- no tree is of a form that is not supported and is supported
+pub refuted : {X : Type 0} (x : Tree) → supported x ≡ false → supported x ≡ true → X
+refuted x e h = cc
+
+-- the form of a tree that is supported is
+pub supported_as : (x y : Tree) → x ≡ y → supported x ≡ true → supported y ≡ true
+supported_as x y e h = sym (ap supported e) ∙ h
+
+-- no pattern is supported, so nothing is assigned to one
+pub no_pattern : {X : Type 0} (x : Tree) → is_pattern_target x ≡ true → supported x ≡ true → X
+no_pattern (tree.array_pat s elems) e h = cc
+no_pattern (tree.object_pat s props) e h = cc
+no_pattern _ e h = cc
+
+-- ---- one token
+
+pub seen : (c : Place) (k : TokenKind) → kind_at c ≡ k → sees k c ≡ true
+unfolding same_kind
+seen c k e = true_same the_type (kind_at c) k e
+
+pub token_first : (t : Token) (s : Span) (c d : Place) → ReadsToken t s c d → kind_at c ≡ token_kind t
+unfolding kind_at
+token_first t s c d r = rw r.is refl
+
+-- where a token stands, its span is what was read last behind it
+last_by : (c : Place) (ts : List TokenAndSpan) → first_kind ts ≡ kind.Hash → (past c ts).last ≡ first_span c.last ts
+last_by c [] e = cc
+last_by c (t ∷ ts) e = refl
+
+last_is : (c : Place) → kind_at c ≡ kind.Hash → (after c).last ≡ span_at c
+unfolding kind_at after span_at
+last_is c e = last_by c c.left e
+
+word_span : (text : Text) (s : Span) (c d : Place) → ReadsWord text s c d → span_at c ≡ s
+unfolding span_at
+word_span text s c d r = rw r.reads_word.is refl
+
+-- the word of a private name touches its `#`
+pub touching : (text : Text) (s : Span) (c d : Place) → kind_at c ≡ kind.Hash → ReadsWord text s (after c) d → (span_at c).hi ≡ s.lo
+    → nat_eq (after c).last.hi.0 (span_at (after c)).lo.0 ≡ true
+touching text s c d e r t = rw (word_span text s (after c) d r, last_is c e, t) (eq-eqb s.lo.0 s.lo.0 refl)
+
+-- no word is `#`
+keyword_no_hash : (k : Keyword) → same_kind (keyword_kind k) kind.Hash ≡ false
+unfolding same_kind
+keyword_no_hash keyword.Await = refl
+keyword_no_hash _ = refl
+
+word_no_hash : (w : Word) → same_kind (word_kind w) kind.Hash ≡ false
+unfolding same_kind
+word_no_hash (word.Keyword k) = keyword_no_hash k
+word_no_hash _ = refl
+
+pub no_hash : (text : Text) (s : Span) (c d : Place) → ReadsWord text s c d → sees kind.Hash c ≡ false
+no_hash text s c d r = rw (token_first (token.Word r.word) s c d r.reads_word) (word_no_hash r.word)
+
+-- ---- names and word literals
+
+-- a name that is no fault and not `await`
+clean_is_name : (f : Context) (text : Text) → is_clean_name f text ≡ true → not (bytes_eq text (codes "await")) ≡ true → is_name f text ≡ true
+unfolding is_name is_clean_name is_identifier
+clean_is_name f text h g = and_both _ _ (and_yes (not (is_reserved f text)) _ h).0 g
+
+pub name_is_name : (k : Code) (text : Text) (s : Span) (c d : Place) (r : ReadsName k text s c d) → not (bytes_eq text (codes "await")) ≡ true → is_name k.flags (word_text r.word) ≡ true
+name_is_name k text s c d r h = ap (is_name k.flags) (sym r.is_text) ∙ clean_is_name k.flags text r.is_name h
+
+-- a token stands first that is a name, or none
+pub named : (u : Token) (sp : Span) (c d : Place) (k : Code) (b : Bool) → ReadsToken u sp c d → token_is_name k.flags u ≡ b → name_at k.flags c ≡ b
+unfolding name_at
+named u sp c d k b r e = rw r.is e
+
+pub null_unnamed : (f : Context) → token_is_name f (token.Word word.Null) ≡ false
+unfolding is_name is_reserved
+null_unnamed f = refl
+
+pub true_unnamed : (f : Context) → token_is_name f (token.Word word.True) ≡ false
+unfolding is_name is_reserved
+true_unnamed f = refl
+
+pub false_unnamed : (f : Context) → token_is_name f (token.Word word.False) ≡ false
+unfolding is_name is_reserved
+false_unnamed f = refl
+
+-- `(`, `[`, `{` and `this` are no name and no literal
+abbrev is_marked : TokenKind → Bool
+is_marked kind.LParen = true
+is_marked kind.LBracket = true
+is_marked kind.LBrace = true
+is_marked kind.This = true
+is_marked _ = false
+
+marked_keyword : (f : Context) (k : Keyword) → is_marked (keyword_kind k) ≡ true → is_name f (word_text (word.Keyword k)) ≡ false
+unfolding is_name is_reserved
+marked_keyword f keyword.This e = refl
+marked_keyword f _ e = cc
+
+marked_word : (f : Context) (w : Word) (s : Span) → is_marked (word_kind w) ≡ true → (token_is_name f (token.Word w) ≡ false) × (literal_of s (token.Word w) ≡ None)
+marked_word f word.Null s e = cc
+marked_word f word.True s e = cc
+marked_word f word.False s e = cc
+marked_word f (word.Ident text) s e = cc
+marked_word f (word.Keyword k) s e = (marked_keyword f k e, refl)
+
+marked_token : (f : Context) (t : Token) (s : Span) → is_marked (token_kind t) ≡ true → (token_is_name f t ≡ false) × (literal_of s t ≡ None)
+marked_token f (token.Word w) s e = marked_word f w s e
+marked_token f (token.Str value raw) s e = cc
+marked_token f (token.Num raw) s e = cc
+marked_token f (token.BigInt raw) s e = cc
+marked_token f _ s e = (refl, refl)
+
+marked_first : (f : Context) (ts : List TokenAndSpan) → is_marked (first_kind ts) ≡ true → (first_is_name f ts ≡ false) × (literal_in ts ≡ None)
+marked_first f [] h = (refl, refl)
+marked_first f (t ∷ ts) h = marked_token f t.token t.span h
+
+marked_here : (f : Context) (c : Place) → is_marked (kind_at c) ≡ true → (name_at f c ≡ false) × (literal_in c.left ≡ None)
+unfolding name_at kind_at
+marked_here f c h = marked_first f c.left h
+
+pub paren_here : (f : Context) (c : Place) → kind_at c ≡ kind.LParen → (name_at f c ≡ false) × (literal_in c.left ≡ None)
+paren_here f c e = marked_here f c (rw e refl)
+
+pub array_here : (f : Context) (c : Place) → kind_at c ≡ kind.LBracket → (name_at f c ≡ false) × (literal_in c.left ≡ None)
+array_here f c e = marked_here f c (rw e refl)
+
+pub object_here : (f : Context) (c : Place) → kind_at c ≡ kind.LBrace → (name_at f c ≡ false) × (literal_in c.left ≡ None)
+object_here f c e = marked_here f c (rw e refl)
+
+pub this_here : (f : Context) (c : Place) → kind_at c ≡ kind.This → (name_at f c ≡ false) × (literal_in c.left ≡ None)
+this_here f c e = marked_here f c (rw e refl)
+
+-- ---- keys
+
+-- a token stands first that is a word, or none
+pub worded : (u : Token) (sp : Span) (c d : Place) (b : Bool) → ReadsToken u sp c d → token_is_word u ≡ b → is_word_at c ≡ b
+unfolding is_word_at
+worded u sp c d b r e = rw r.is e
+
+-- `[` is no word
+bracket_keyword : {X : Type 0} (k : Keyword) → keyword_kind k ≡ kind.LBracket → X
+bracket_keyword keyword.Await e = cc
+bracket_keyword _ e = cc
+
+bracket_word : {X : Type 0} (w : Word) → word_kind w ≡ kind.LBracket → X
+bracket_word (word.Keyword k) e = bracket_keyword k e
+bracket_word _ e = cc
+
+bracket_token : (t : Token) → token_kind t ≡ kind.LBracket → token_is_word t ≡ false
+bracket_token (token.Word w) e = bracket_word w e
+bracket_token _ e = refl
+
+bracket_first : (ts : List TokenAndSpan) → first_kind ts ≡ kind.LBracket → first_is_word ts ≡ false
+bracket_first [] e = refl
+bracket_first (t ∷ ts) e = bracket_token t.token e
+
+pub bracket_here : (c : Place) → kind_at c ≡ kind.LBracket → is_word_at c ≡ false
+unfolding is_word_at kind_at
+bracket_here c e = bracket_first c.left e
+
+-- a key begins neither as a spread nor as the end of an object
+abbrev pub KeyBegins : TokenKind → Type 0
+KeyBegins k = (same_kind k kind.RBrace ≡ false) × (same_kind k kind.DotDotDot ≡ false)
+
+keyword_begins_key : (k : Keyword) → KeyBegins (keyword_kind k)
+unfolding same_kind
+keyword_begins_key keyword.Await = (refl, refl)
+keyword_begins_key _ = (refl, refl)
+
+word_begins_key : (w : Word) → KeyBegins (word_kind w)
+unfolding same_kind
+word_begins_key (word.Keyword k) = keyword_begins_key k
+word_begins_key _ = (refl, refl)
+
+token_begins_key : (t : Token) (s : Span) (c d : Place) → ReadsToken t s c d → KeyBegins (token_kind t) → KeyBegins (kind_at c)
+token_begins_key t s c d r h = rw (token_first t s c d r) h
+
+pub key_begins : (In : Goal → Type 0) (k : Code) (x : Tree) (c d : Place) → KeyRule In k x c d → KeyBegins (kind_at c)
+unfolding same_kind
+key_begins In k x c d (parts.word_key text s r e) = token_begins_key (token.Word r.word) s c d r.reads_word (word_begins_key r.word)
+key_begins In k x c d (parts.string_key value raw s r e) = token_begins_key (token.Str value raw) s c d r (refl, refl)
+key_begins In k x c d (parts.number_key raw s r e) = token_begins_key (token.Num raw) s c d r (refl, refl)
+key_begins In k x c d (parts.big_int_key raw s r e) = token_begins_key (token.BigInt raw) s c d r (refl, refl)
+key_begins In k x c d (parts.computed_key r) = rw r.opens (refl, refl)
+
+-- ---- the first token
+
+-- neither an operator before an operand, nor what ends or opens an argument or an element
+abbrev pub operand_kind : TokenKind → Bool
+operand_kind kind.Delete = false
+operand_kind kind.Void = false
+operand_kind kind.TypeOf = false
+operand_kind kind.Add = false
+operand_kind kind.Sub = false
+operand_kind kind.Tilde = false
+operand_kind kind.Bang = false
+operand_kind kind.PlusPlus = false
+operand_kind kind.MinusMinus = false
+operand_kind kind.DotDotDot = false
+operand_kind kind.RParen = false
+operand_kind kind.RBracket = false
+operand_kind kind.Comma = false
+operand_kind _ = true
+
+-- nor `super` and `new`
+abbrev pub primary_kind : TokenKind → Bool
+primary_kind kind.Super = false
+primary_kind kind.New = false
+primary_kind kind.Delete = false
+primary_kind kind.Void = false
+primary_kind kind.TypeOf = false
+primary_kind kind.Add = false
+primary_kind kind.Sub = false
+primary_kind kind.Tilde = false
+primary_kind kind.Bang = false
+primary_kind kind.PlusPlus = false
+primary_kind kind.MinusMinus = false
+primary_kind kind.DotDotDot = false
+primary_kind kind.RParen = false
+primary_kind kind.RBracket = false
+primary_kind kind.Comma = false
+primary_kind _ = true
+
+abbrev pub begin_kind : TokenKind → Bool
+begin_kind kind.DotDotDot = false
+begin_kind kind.RParen = false
+begin_kind kind.RBracket = false
+begin_kind kind.Comma = false
+begin_kind _ = true
+
+primary_by : (k : TokenKind) → primary_kind k ≡ true → (same_kind k kind.Super ≡ false) × (same_kind k kind.New ≡ false)
+unfolding same_kind
+primary_by kind.Super e = cc
+primary_by kind.New e = cc
+primary_by _ e = (refl, refl)
+
+pub primary_seen : (c : Place) → primary_kind (kind_at c) ≡ true → (sees kind.Super c ≡ false) × (sees kind.New c ≡ false)
+primary_seen c e = primary_by (kind_at c) e
+
+primary_operand : (k : TokenKind) → primary_kind k ≡ true → operand_kind k ≡ true
+primary_operand kind.Super e = refl
+primary_operand kind.New e = refl
+primary_operand _ e = e
+
+pub operand_plain : (k : TokenKind) → operand_kind k ≡ true → unary_operator k ≡ None
+operand_plain kind.Delete e = cc
+operand_plain _ e = cc
+
+pub operand_update : (k : TokenKind) → operand_kind k ≡ true → update_operator k ≡ None
+operand_update kind.PlusPlus e = cc
+operand_update _ e = cc
+
+operand_begins : (k : TokenKind) → operand_kind k ≡ true → begin_kind k ≡ true
+operand_begins kind.DotDotDot e = cc
+operand_begins _ e = cc
+
+unary_begins : (k : TokenKind) (op : UnaryOp) → unary_operator k ≡ Some op → begin_kind k ≡ true
+unary_begins kind.DotDotDot op e = cc
+unary_begins kind.RParen op e = cc
+unary_begins kind.RBracket op e = cc
+unary_begins kind.Comma op e = cc
+unary_begins _ op e = refl
+
+update_begins : (k : TokenKind) (op : UpdateOp) → update_operator k ≡ Some op → begin_kind k ≡ true
+update_begins kind.DotDotDot op e = cc
+update_begins kind.RParen op e = cc
+update_begins kind.RBracket op e = cc
+update_begins kind.Comma op e = cc
+update_begins _ op e = refl
+
+begin_by : (k : TokenKind) → begin_kind k ≡ true
+    → (same_kind k kind.DotDotDot ≡ false) × (same_kind k kind.RParen ≡ false) × (same_kind k kind.RBracket ≡ false) × (same_kind k kind.Comma ≡ false)
+unfolding same_kind
+begin_by kind.DotDotDot e = cc
+begin_by kind.RParen e = cc
+begin_by kind.RBracket e = cc
+begin_by kind.Comma e = cc
+begin_by _ e = (refl, refl, refl, refl)
+
+pub begin_seen : (c : Place) → begin_kind (kind_at c) ≡ true
+    → (sees kind.DotDotDot c ≡ false) × (sees kind.RParen c ≡ false) × (sees kind.RBracket c ≡ false) × (sees kind.Comma c ≡ false)
+begin_seen c e = begin_by (kind_at c) e
+
+-- `++` and `--` are no unary operators
+pub update_plain : (k : TokenKind) (op : UpdateOp) → update_operator k ≡ Some op → unary_operator k ≡ None
+update_plain kind.PlusPlus op e = refl
+update_plain _ op e = cc
+
+keyword_primary : (f : Context) (k : Keyword) → is_name f (word_text (word.Keyword k)) ≡ true → primary_kind (keyword_kind k) ≡ true
+unfolding is_name is_reserved
+keyword_primary f keyword.Super e = cc
+keyword_primary f keyword.New e = cc
+keyword_primary f keyword.Delete e = cc
+keyword_primary f keyword.Void e = cc
+keyword_primary f keyword.TypeOf e = cc
+keyword_primary f _ e = refl
+
+word_primary : (f : Context) (w : Word) → is_name f (word_text w) ≡ true → primary_kind (word_kind w) ≡ true
+word_primary f (word.Keyword k) e = keyword_primary f k e
+word_primary f _ e = refl
+
+token_primary : (t : Token) (s : Span) (c d : Place) → ReadsToken t s c d → primary_kind (token_kind t) ≡ true → primary_kind (kind_at c) ≡ true
+token_primary t s c d r e = ap primary_kind (token_first t s c d r) ∙ e
+
+module _ (In : Goal → Type 0) where
+  pub primary_first : (k : Code) (x : Tree) (c d : Place) → PrimaryRule In k x c d → supported x ≡ true → primary_kind (kind_at c) ≡ true
+  primary_first k x c d (sides.name_rule text s r f e) h =
+      token_primary (token.Word r.word) s c d r.reads_word (word_primary k.flags r.word (name_is_name k text s c d r (supported_as x (tree.ident s text) e h)))
+  primary_first k x c d (sides.string_rule value raw s r e) h = token_primary (token.Str value raw) s c d r refl
+  primary_first k x c d (sides.true_rule s r e) h = token_primary (token.Word word.True) s c d r refl
+  primary_first k x c d (sides.false_rule s r e) h = token_primary (token.Word word.False) s c d r refl
+  primary_first k x c d (sides.null_rule s r e) h = token_primary (token.Word word.Null) s c d r refl
+  primary_first k x c d (sides.number_rule raw s r e) h = token_primary (token.Num raw) s c d r refl
+  primary_first k x c d (sides.big_int_rule raw s r e) h = token_primary (token.BigInt raw) s c d r refl
+  primary_first k x c d (sides.this_rule i n e) h = rw i refl
+  primary_first k x c d (sides.array_rule xs m i r j n e) h = rw i refl
+  primary_first k x c d (sides.object_rule xs m i r j n e) h = rw i refl
+  primary_first k x c d (sides.function_rule name y r e) h = refuted x (ap supported e) h
+  primary_first k x c d (sides.class_rule name y r e) h = refuted x (ap supported e) h
+  primary_first k x c d (sides.paren_rule y m i r j n e) h = rw i refl
+
+  pub left_first : (k : Code) (x : Tree) (c d : Place) → LeftSideRule In k x c d → supported x ≡ true → operand_kind (kind_at c) ≡ true
+  left_first k x c d (sides.primary_rule r) h = primary_operand (kind_at c) (primary_first k x c d r h)
+  left_first k x c d (sides.import_meta_rule i j w n m e) h = refuted x (ap supported e) h
+  left_first k x c d (sides.member_rule y p m r a e) h = left_first k y c m r (and_yes (supported y) _ (supported_as x (tree.member (spanned c d) y p) e h)).0
+  left_first k x c d (sides.super_property_rule p i a j e) h = rw i refl
+  left_first k x c d (sides.call_rule y z m r a e) h = left_first k y c m r (and_yes (supported y) _ (supported_as x (tree.call (spanned c d) y z) e h)).0
+  left_first k x c d (sides.super_call_rule z i a e) h = rw i refl
+  left_first k x c d (sides.import_call_rule z i a e) h = refuted x (ap supported e) h
+  left_first k x c d (sides.new_rule y z m i r a e) h = rw i refl
+  left_first k x c d (sides.bare_new_rule y i r e) h = rw i refl
+
+  unary_first : (k : Code) (x : Tree) (c d : Place) → UnaryRule In k x c d → supported x ≡ true → begin_kind (kind_at c) ≡ true
+  unary_first k x c d (rules.operand_rule r) h = operand_begins (kind_at c) (left_first k x c d r.0 h)
+  unary_first k x c d (rules.unary_rule op y i r e) h = unary_begins (kind_at c) op i
+  unary_first k x c d (rules.prefix_rule op y i r t e) h = update_begins (kind_at c) op i
+  unary_first k x c d (rules.postfix_rule op y m r t b i n e) h = operand_begins (kind_at c) (left_first k y c m r.0 (supported_as x (tree.update (spanned c d) op false y) e h))
+  unary_first k x c d (rules.await_rule y a m r e) h = refuted x (ap supported e) h
+
+  binary_first : (k : Code) (n : ℕ) (x : Tree) (c d : Place) → BinaryRule In k n x c d → supported x ≡ true → begin_kind (kind_at c) ≡ true
+  binary_first k n x c d (rules.single_rule r) h = unary_first k x c d r h
+  binary_first k n x c d (rules.left_rule op y z m b g i r o s u v e) h = binary_first k _ y c m r (and_yes (supported y) _ (supported_as x (tree.bin (spanned c d) op y z) e h)).0
+  binary_first k n x c d (rules.power_rule y z m b r u i s e) h = unary_first k y c m r (and_yes (supported y) _ (supported_as x (tree.bin (spanned c d) _ y z) e h)).0
+
+  assignment_first : (k : Code) (x : Tree) (c d : Place) → AssignmentRule In k x c d → supported x ≡ true → begin_kind (kind_at c) ≡ true
+  assignment_first k x c d (rules.operators_rule r s) h = binary_first k 1 x c d r h
+  assignment_first k x c d (rules.conditional_rule t y z i j r q a b s u e) h = binary_first k 1 t c i r (and_yes (supported t) _ (supported_as x (tree.cond (spanned c d) t y z) e h)).0
+  assignment_first k x c d (rules.assign_rule op y z m r t a b e) h =
+      operand_begins (kind_at c) (left_first k y c m r.0 (and_yes (supported y) _ (supported_as x (tree.assign (spanned c d) op y z) e h)).0)
+  assignment_first k x c d (rules.destructuring_rule y z m r t a b e) h = no_pattern y t (and_yes (supported y) _ (supported_as x (tree.assign (spanned c d) _ y z) e h)).0
+  assignment_first k x c d (rules.arrow_rule a ps y i j r s t b u e) h = refuted x (ap supported e) h
+  assignment_first k x c d (rules.bare_yield_rule g i n s e) h = refuted x (ap supported e) h
+  assignment_first k x c d (rules.yield_rule y g i b s r e) h = refuted x (ap supported e) h
+  assignment_first k x c d (rules.delegate_rule y g i b m r e) h = refuted x (ap supported e) h
+
+-- an argument or an element begins neither as a spread nor as the end of either, nor as a hole
+pub begins : (n : ℕ) (k : Code) (x : Tree) (c d : Place) → language.Reads n (expr_goal assignment k x c d) → supported x ≡ true → begin_kind (kind_at c) ≡ true
+begins zero k x c d r h = absurd r
+begins (suc n) k x c d r h = assignment_first (language.Reads n) k x c d r h
+
+-- ---- the token behind
+
+-- neither an access, arguments nor an operator behind an operand
+abbrev Quiet : TokenKind → Type 0
+Quiet k =
+    (same_kind k kind.Dot ≡ false) × (same_kind k kind.LBracket ≡ false) × (same_kind k kind.LParen ≡ false) × (same_kind k kind.PlusPlus ≡ false)
+    × (same_kind k kind.MinusMinus ≡ false)
+
+operator_quiet : (k : TokenKind) (op : BinaryOp) → binary_operator k ≡ Some op → Quiet k
+unfolding same_kind
+operator_quiet kind.Dot op e = cc
+operator_quiet kind.LBracket op e = cc
+operator_quiet kind.LParen op e = cc
+operator_quiet kind.PlusPlus op e = cc
+operator_quiet kind.MinusMinus op e = cc
+operator_quiet _ op e = (refl, refl, refl, refl, refl)
+
+assign_quiet : (k : TokenKind) (op : AssignOp) → assign_operator k ≡ Some op → Quiet k
+unfolding same_kind
+assign_quiet kind.Dot op e = cc
+assign_quiet kind.LBracket op e = cc
+assign_quiet kind.LParen op e = cc
+assign_quiet kind.PlusPlus op e = cc
+assign_quiet kind.MinusMinus op e = cc
+assign_quiet _ op e = (refl, refl, refl, refl, refl)
+
+question_quiet : (k : TokenKind) → k ≡ kind.QuestionMark → Quiet k
+unfolding same_kind
+question_quiet k e = rw e (refl, refl, refl, refl, refl)
+
+quiet_stops : (c : Place) → Quiet (kind_at c) → continues_left_side c ≡ false
+unfolding continues_left_side
+quiet_stops c q = rw (q.0, q.1, q.2, q.3, q.4) (and_no (not (breaks_at c)) _ refl)
+
+pub operator_stops : (c : Place) (op : BinaryOp) → binary_operator (kind_at c) ≡ Some op → continues_left_side c ≡ false
+operator_stops c op e = quiet_stops c (operator_quiet (kind_at c) op e)
+
+pub assign_stops : (c : Place) (op : AssignOp) → assign_operator (kind_at c) ≡ Some op → continues_left_side c ≡ false
+assign_stops c op e = quiet_stops c (assign_quiet (kind_at c) op e)
+
+pub question_stops : (c : Place) → kind_at c ≡ kind.QuestionMark → continues_left_side c ≡ false
+question_stops c e = quiet_stops c (question_quiet (kind_at c) e)
+
+-- what stops a left side stops each operand
+pub stops_unary : (x : Tree) (c : Place) → continues_left_side c ≡ false → continues_unary x c ≡ false
+unfolding continues_unary
+stops_unary x c e = and_no (not (is_operation x)) _ e
+
+-- and what stops an operand that is no operation stops a left side
+pub unary_stops : (x : Tree) (c : Place) → is_operation x ≡ false → continues_unary x c ≡ false → continues_left_side c ≡ false
+unfolding continues_unary
+unary_stops x c e h = rw e at h
+
+no_update : (k : TokenKind) → (same_kind k kind.PlusPlus || same_kind k kind.MinusMinus) ≡ false → update_operator k ≡ None
+unfolding same_kind
+no_update kind.PlusPlus e = cc
+no_update kind.MinusMinus e = cc
+no_update _ e = refl
+
+no_postfix : (b : Bool) (k : TokenKind) → (not b && (same_kind k kind.PlusPlus || same_kind k kind.MinusMinus)) ≡ false → cond b None (update_operator k) ≡ None
+no_postfix true k e = refl
+no_postfix false k e = no_update k e
+
+-- where a left side stops, neither an access, arguments nor a postfix operator stands
+pub record Stopped (c : Place) : Type 0 where
+  pub dot : sees kind.Dot c ≡ false
+  pub bracket : sees kind.LBracket c ≡ false
+  pub paren : sees kind.LParen c ≡ false
+  pub postfix : postfix_at c ≡ None
+
+pub stopped : (c : Place) → continues_left_side c ≡ false → Stopped c
+unfolding continues_left_side postfix_at
+stopped c h =
+    let (dot, more) = or_no (sees kind.Dot c) _ h in
+    let (bracket, others) = or_no (sees kind.LBracket c) _ more in
+    let (paren, postfix) = or_no (sees kind.LParen c) _ others in
+    record { dot = dot; bracket = bracket; paren = paren; postfix = no_postfix (breaks_at c) (kind_at c) postfix }
+
+-- a postfix operator is no access
+update_apart : (k : TokenKind) (op : UpdateOp) → update_operator k ≡ Some op → (same_kind k kind.Dot ≡ false) × (same_kind k kind.LBracket ≡ false) × (same_kind k kind.LParen ≡ false)
+unfolding same_kind
+update_apart kind.PlusPlus op e = (refl, refl, refl)
+update_apart kind.MinusMinus op e = (refl, refl, refl)
+update_apart _ op e = cc
+
+pub update_seen : (c : Place) (op : UpdateOp) → update_operator (kind_at c) ≡ Some op → (sees kind.Dot c ≡ false) × (sees kind.LBracket c ≡ false) × (sees kind.LParen c ≡ false)
+update_seen c op e = update_apart (kind_at c) op e
+
+pub postfix_seen : (c : Place) (op : UpdateOp) → breaks_at c ≡ false → update_operator (kind_at c) ≡ Some op → postfix_at c ≡ Some op
+unfolding postfix_at
+postfix_seen c op b e = rw (b, e) refl
+
+-- no assignment operator is an operator between operands or `?`
+assign_apart : (k : TokenKind) (op : AssignOp) → assign_operator k ≡ Some op → binary_operator k ≡ None
+assign_apart kind.Assign op e = refl
+assign_apart _ op e = cc
+
+assign_question : (k : TokenKind) (op : AssignOp) → assign_operator k ≡ Some op → same_kind k kind.QuestionMark ≡ false
+unfolding same_kind
+assign_question kind.QuestionMark op e = cc
+assign_question _ op e = refl
+
+pub assign_seen : (c : Place) (op : AssignOp) → assign_operator (kind_at c) ≡ Some op → (binary_operator (kind_at c) ≡ None) × (sees kind.QuestionMark c ≡ false)
+assign_seen c op e = (assign_apart (kind_at c) op e, assign_question (kind_at c) op e)
+
+none_of : {A : Type 0} (o : Option A) → is_some o ≡ false → o ≡ None
+none_of None e = refl
+none_of (Some a) e = cc
+
+pub unassigned_at : (c : Place) → is_some (assign_operator (kind_at c)) ≡ false → assign_operator (kind_at c) ≡ None
+unassigned_at c e = none_of (assign_operator (kind_at c)) e

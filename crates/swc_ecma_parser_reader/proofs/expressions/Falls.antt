@@ -1,0 +1,404 @@
+-- An expression takes a token at least, and no reader of one puts tokens back.
+use Rattle.std.proofs.Common.{◌≡◌, ◌≢◌, ℕ, zero, suc, ◌+◌, ◌≤◌, Bool, true, false, cond, List, [], ◌∷◌, ◌++◌, length, Option, Some, None, refl, sym, ◌∙◌, arith}
+use Rattle.std.specs.Prelude.{not, ◌&&◌, ◌||◌}
+use Rattle.swc_ecma_parser_common.specs.declared.span.Span.{Span}
+use Rattle.swc_ecma_parser_error.specs.Kind as faults
+use Rattle.swc_ecma_parser_error.specs.Kind.{Fault, fault_of}
+use Rattle.swc_ecma_parser_token.specs.declared.kind.TokenKind.{TokenKind}
+use Rattle.swc_ecma_parser_token.specs.declared.kind.TokenKind.TheVariants as kind
+use Rattle.swc_ecma_parser_token.specs.declared.token.Token.{Token}
+use Rattle.swc_ecma_parser_token.specs.declared.token.Token.TheVariants as token
+use Rattle.swc_ecma_parser_token.specs.declared.token.TokenAndSpan.{TokenAndSpan}
+use Rattle.swc_ecma_parser_input.specs.TokenSource.{means_out_of_memory}
+use Rattle.swc_ecma_parser_input.specs.Place.{after}
+use Rattle.swc_ecma_parser_model.specs.declared.leaves.Ident.{Ident}
+use Rattle.swc_ecma_parser_model.specs.declared.operators.UnaryOp.{UnaryOp}
+use Rattle.swc_ecma_parser_model.specs.declared.operators.UpdateOp.{UpdateOp}
+use Rattle.swc_ecma_parser_model.specs.declared.operators.BinaryOp.{BinaryOp}
+use Rattle.swc_ecma_parser_model.specs.declared.operators.AssignOp.{AssignOp}
+use Rattle.swc_ecma_parser_model.specs.Tree as tree
+use Rattle.swc_ecma_parser_model.specs.Tree.{Tree, Text}
+use Rattle.swc_ecma_parser_model.specs.Forms.{is_simple_target}
+use Rattle.swc_ecma_parser_grammar.specs.Looks.{kind_at, sees, span_at}
+use Rattle.swc_ecma_parser_grammar.specs.Names.{is_name, name_at}
+use Rattle.swc_ecma_parser_grammar.specs.Follows.{is_async_function, continues_left_side}
+use Rattle.swc_ecma_parser_grammar.specs.Reads.{with_in}
+use Rattle.swc_ecma_parser_grammar.specs.language.Goals.{Class, expression, assignment, operator, unary, left_side, callee}
+use Rattle.swc_ecma_parser_grammar.specs.language.Operators.{unary_operator, update_operator, assign_operator, groups_left, mixes, is_unary}
+use Rattle.swc_ecma_parser_grammar.specs.language.Continues.{continues_conditional}
+use Rattle.swc_ecma_parser_reader.specs.State.{State, Outcome, Reader, and_then, moved, coded, reject, reject_in, reject_at, fault, expect, name, loop}
+use Rattle.swc_ecma_parser_reader.specs.Expressions.{literal, literal_in, taken, any_word, word_in, word_by, touching_word, private_name, word_property, is_word_at, key_or, literal_key, shorthand_name, shorthand, dotted, ident_expr, this, bare_new, closed_left, simple, update_behind, behind_operand, postfix_at, right_class, operator_at, left_operand, unmixed, unassigned, unheaded, heads_arrow, begins_async_call, inside, brackets, access, spread_element, plain_element, element, behind_argument, arguments_turn, arguments, behind_element, array_turn, elements, array, computed_key, key, key_value, behind_key, keyed_property, spread_property, property, behind_property, object_turn, properties, object, paren, marked_primary, literal_or, primary, accessed, called, left_turn, left_from, super_call, super_access, has_private, behind_super, super_head, constructed, new_head, left_head, left, left_expr, prefixed, update_before, postfix, updated, unary_by, unary_expr, operated, binary_by, binary_turn, binary_from, binary_expr, conditional, assigned_to, assigned, assigned_or, behind_operators, assignment_expr, sequence_turn, sequence_from, expression_expr, expr_level, expr}
+use Rattle.swc_ecma_parser_reader.proofs.Takes.{Falls, falls_then, falls_last, falls_coded, falls_if, less, falls_next, moves, takes, takes_one, falls_past, falls_moved, wanted_falls, too_deep_falls, refused_falls, expect_falls, name_falls, loop_falls}
+use Rattle.swc_ecma_parser_reader.proofs.Meets.{saw}
+
+-- ---- refusals of what was read answer nothing
+
+reject_by : (A : Type 0) (j n : ℕ) (f : Fault) (s : State) (t : Token) → Falls j n (reject_at {A = A} f s t)
+reject_by A j n f s (token.Error e) = falls_if j n (means_out_of_memory e.kind) _ _ tt (refused_falls A j n _ (fault (fault_of e) (moved s)))
+reject_by A j n f s _ = tt
+
+reject_from : (A : Type 0) (j n : ℕ) (f : Fault) (s : State) (ts : List TokenAndSpan) → Falls j n (reject_in {A = A} f s ts)
+reject_from A j n f s [] = tt
+reject_from A j n f s (t ∷ ts) = reject_by A j n f s t.token
+
+pub reject_falls : (A : Type 0) (j n : ℕ) (f : Fault) (s : State) → Falls j n (reject {A = A} f s)
+unfolding reject
+reject_falls A j n f s = reject_from A j n f s s.at.left
+
+-- ---- a token of a known kind is taken
+
+no_end : (s : State) (k : TokenKind) → k ≢ kind.End → sees k s.at ≡ true → kind_at s.at ≢ kind.End
+no_end s k h e = λ g. h (sym (saw s.at k e) ∙ g)
+
+-- ---- words
+
+word_taken : (s : State) (t : TokenAndSpan) (ts : List TokenAndSpan) (u : Token) (span : Span) → s.at.left ≡ t ∷ ts → Falls 1 (length s.at.left) (word_by s u span)
+word_taken s t ts (token.Word w) span e = takes_one s.at t ts e
+word_taken s t ts _ span e = wanted_falls Ident 1 (length s.at.left) faults.Unexpected s
+
+word_from : (s : State) (ts : List TokenAndSpan) → s.at.left ≡ ts → Falls 1 (length s.at.left) (word_in s ts)
+word_from s [] e = wanted_falls Ident 1 (length s.at.left) faults.Unexpected s
+word_from s (t ∷ ts) e = word_taken s t ts t.token t.span e
+
+pub any_word_falls : (s : State) → Falls 1 (length s.at.left) (any_word s)
+unfolding any_word
+any_word_falls s = word_from s s.at.left refl
+
+touching_falls : (s : State) → Falls 1 (length s.at.left) (touching_word s)
+unfolding touching_word
+touching_falls s = falls_if 1 (length s.at.left) _ _ _ (any_word_falls s) (wanted_falls Ident 1 (length s.at.left) faults.Unexpected s)
+
+private_falls : (s : State) → Falls 1 (length s.at.left) (private_name s)
+unfolding private_name
+private_falls s = falls_moved 1 s _ (falls_last 1 (length (after s.at).left) (touching_word (moved s)) _ (touching_falls (moved s)))
+
+dotted_falls : (s : State) → Falls 1 (length s.at.left) (dotted s)
+unfolding dotted word_property
+dotted_falls s = falls_if 1 (length s.at.left) (sees kind.Hash s.at) _ _ (private_falls s) (falls_last 1 (length s.at.left) (any_word s) _ (any_word_falls s))
+
+-- ---- steps that read nothing further in
+
+pub ident_falls : (s : State) → Falls 1 (length s.at.left) (ident_expr s)
+unfolding ident_expr
+ident_falls s = falls_next (length s.at.left) (name faults.Unexpected s) _ (name_falls faults.Unexpected s) (λ i t.
+    falls_if 0 (length t.at.left) (is_async_function s.at) _ _ (wanted_falls Tree 0 (length t.at.left) faults.Unexpected t) (omega arith))
+
+this_falls : (s : State) → kind_at s.at ≢ kind.End → Falls 1 (length s.at.left) (this s)
+unfolding this
+this_falls s h = takes s.at h
+
+simple_falls : (x : Tree) (s : State) → Falls 0 (length s.at.left) (simple x s)
+unfolding simple
+simple_falls x s = falls_if 0 (length s.at.left) (is_simple_target x) _ _ (omega arith) (reject_falls (Unit {0}) 0 (length s.at.left) _ s)
+
+update_behind_falls : (start : Span) (x : Tree) (op : UpdateOp) (s : State) → Falls 0 (length s.at.left) (update_behind start x op s)
+unfolding update_behind
+update_behind_falls start x op s = falls_then 0 0 (length s.at.left) (simple x s) _ (simple_falls x s) (λ _ t. let m = moves t.at in omega arith)
+
+behind_operand_falls : (start : Span) (x : Tree) (o : Option UpdateOp) (s : State) → Falls 0 (length s.at.left) (behind_operand start x o s)
+behind_operand_falls start x None s = omega arith
+behind_operand_falls start x (Some op) s = update_behind_falls start x op s
+
+left_operand_falls : (op : BinaryOp) (x : Tree) (s : State) → Falls 0 (length s.at.left) (left_operand op x s)
+unfolding left_operand
+left_operand_falls op x s = falls_if 0 (length s.at.left) (not (groups_left op) && is_unary x) _ _ (reject_falls (Unit {0}) 0 (length s.at.left) _ s) (omega arith)
+
+unmixed_falls : (start : Span) (op : BinaryOp) (x y : Tree) (s : State) → Falls 0 (length s.at.left) (unmixed start op x y s)
+unfolding unmixed
+unmixed_falls start op x y s = falls_if 0 (length s.at.left) (mixes op x || mixes op y) _ _ (reject_falls Tree 0 (length s.at.left) _ s) (omega arith)
+
+unassigned_falls : (x : Tree) (s : State) → Falls 0 (length s.at.left) (unassigned x s)
+unfolding unassigned
+unassigned_falls x s = falls_if 0 (length s.at.left) (continues_conditional s.at) _ _ (wanted_falls Tree 0 (length s.at.left) faults.Unexpected s) (omega arith)
+
+unheaded_falls : (is_async : Bool) (x : Tree) (s : State) → Falls 0 (length s.at.left) (unheaded is_async x s)
+unfolding unheaded
+unheaded_falls is_async x s = falls_if 0 (length s.at.left) (heads_arrow is_async x s) _ _ (wanted_falls Tree 0 (length s.at.left) faults.Unexpected s) (omega arith)
+
+-- ---- what is read one level further in
+
+-- a literal that is taken is a token
+literal_takes : (s : State) (ts : List TokenAndSpan) (x : Tree) → s.at.left ≡ ts → literal_in ts ≡ Some x → length (after s.at).left + 1 ≤ length s.at.left
+literal_takes s [] x e h = cc
+literal_takes s (t ∷ ts) x e h = takes_one s.at t ts e
+
+key_or_falls : (s : State) (o : Option Tree) → literal_in s.at.left ≡ o → Falls 1 (length s.at.left) (and_then (taken o s) key_or)
+key_or_falls s None e = wanted_falls Tree 1 (length s.at.left) faults.Unexpected s
+key_or_falls s (Some x) e = literal_takes s s.at.left x refl e
+
+literal_key_falls : (s : State) → Falls 1 (length s.at.left) (literal_key s)
+unfolding literal_key literal
+literal_key_falls s = key_or_falls s (literal_in s.at.left) refl
+
+shorthand_name_falls : (span : Span) (text : Text) (s : State) → Falls 0 (length s.at.left) (shorthand_name span text s)
+unfolding shorthand_name
+shorthand_name_falls span text s = falls_if 0 (length s.at.left) (is_name s.code.flags text) _ _ (omega arith) (reject_falls Tree 0 (length s.at.left) _ s)
+
+shorthand_falls : (x : Tree) (s : State) → Falls 0 (length s.at.left) (shorthand x s)
+shorthand_falls (tree.ident span text) s = shorthand_name_falls span text s
+shorthand_falls _ s = wanted_falls Tree 0 (length s.at.left) faults.Unexpected s
+
+module _ (inner : Class → Reader Tree) (h : (class : Class) (s : State) → Falls 1 (length s.at.left) (inner class s)) where
+  pub inside_falls : (class : Class) (s : State) → Falls 1 (length s.at.left) (inside inner class s)
+  unfolding inside
+  inside_falls class s = falls_coded 1 (length s.at.left) (inner class (coded (with_in s.code) s)) _ _ (h class (coded (with_in s.code) s))
+
+  brackets_falls : (s : State) → Falls 1 (length s.at.left) (brackets inner s)
+  unfolding brackets
+  brackets_falls s = falls_moved 1 s _ (falls_next (length (after s.at).left) (inside inner expression (moved s)) _ (inside_falls expression (moved s)) (λ e t.
+      falls_last 0 (length t.at.left) (expect kind.RBracket t) _ (expect_falls kind.RBracket t)))
+
+  pub access_falls : (s : State) → Falls 1 (length s.at.left) (access inner s)
+  unfolding access
+  access_falls s = falls_if 1 (length s.at.left) (sees kind.Dot s.at) _ _ (falls_moved 1 s _ (dotted_falls (moved s))) (brackets_falls s)
+
+  pub element_falls : (s : State) → Falls 1 (length s.at.left) (element inner s)
+  unfolding element spread_element plain_element
+  element_falls s = falls_if 1 (length s.at.left) (sees kind.DotDotDot s.at) _ _
+      (falls_moved 1 s _ (falls_last 1 (length (after s.at).left) (inside inner assignment (moved s)) _ (inside_falls assignment (moved s))))
+      (falls_last 1 (length s.at.left) (inside inner assignment s) _ (inside_falls assignment s))
+
+  behind_argument_falls : (found : List Tree) (s : State) → Falls 0 (length s.at.left) (behind_argument inner found s)
+  behind_argument_falls found s = falls_if 0 (length s.at.left) (sees kind.RParen s.at) _ _ (omega arith) (falls_last 0 (length s.at.left) (expect kind.Comma s) _ (expect_falls kind.Comma s))
+
+  arguments_turn_falls : (found : List Tree) (s : State) → Falls 0 (length s.at.left) (arguments_turn inner found s)
+  unfolding arguments_turn
+  arguments_turn_falls found s = falls_if 0 (length s.at.left) (sees kind.RParen s.at) _ _ (let m = moves s.at in omega arith)
+      (falls_then 0 0 (length s.at.left) (element inner s) _ (less (length s.at.left) (element inner s) (element_falls s)) (λ x t. behind_argument_falls (found ++ x ∷ []) t))
+
+  pub arguments_fall : (s : State) → kind_at s.at ≢ kind.End → Falls 1 (length s.at.left) (arguments inner s)
+  unfolding arguments
+  arguments_fall s e = falls_past s _ e (loop_falls (arguments_turn inner) arguments_turn_falls [] (moved s))
+
+  behind_element_falls : (found : List Tree) (s : State) → Falls 0 (length s.at.left) (behind_element inner found s)
+  behind_element_falls found s = falls_if 0 (length s.at.left) (sees kind.RBracket s.at) _ _ (omega arith) (falls_last 0 (length s.at.left) (expect kind.Comma s) _ (expect_falls kind.Comma s))
+
+  array_turn_falls : (found : List Tree) (s : State) → Falls 0 (length s.at.left) (array_turn inner found s)
+  unfolding array_turn
+  array_turn_falls found s = falls_if 0 (length s.at.left) (sees kind.RBracket s.at) _ _ (let m = moves s.at in omega arith)
+      (falls_if 0 (length s.at.left) (sees kind.Comma s.at) _ _ (let m = moves s.at in omega arith)
+      (falls_then 0 0 (length s.at.left) (element inner s) _ (less (length s.at.left) (element inner s) (element_falls s)) (λ x t. behind_element_falls (found ++ x ∷ []) t)))
+
+  array_falls : (s : State) → kind_at s.at ≢ kind.End → Falls 1 (length s.at.left) (array inner s)
+  unfolding array elements
+  array_falls s e = falls_last 1 (length s.at.left) (elements inner s) _ (falls_past s _ e (loop_falls (array_turn inner) array_turn_falls [] (moved s)))
+
+  -- ---- objects
+
+  computed_key_falls : (s : State) → Falls 1 (length s.at.left) (computed_key inner s)
+  unfolding computed_key
+  computed_key_falls s = falls_moved 1 s _ (falls_next (length (after s.at).left) (inside inner assignment (moved s)) _ (inside_falls assignment (moved s)) (λ e t.
+      falls_last 0 (length t.at.left) (expect kind.RBracket t) _ (expect_falls kind.RBracket t)))
+
+  key_falls : (s : State) → Falls 1 (length s.at.left) (key inner s)
+  unfolding key word_property
+  key_falls s = falls_if 1 (length s.at.left) (is_word_at s.at) _ _ (falls_last 1 (length s.at.left) (any_word s) _ (any_word_falls s))
+      (falls_if 1 (length s.at.left) (sees kind.LBracket s.at) _ _ (computed_key_falls s) (literal_key_falls s))
+
+  behind_key_falls : (start : Span) (x : Tree) (s : State) → Falls 0 (length s.at.left) (behind_key inner start x s)
+  unfolding behind_key key_value
+  behind_key_falls start x s = falls_if 0 (length s.at.left) (sees kind.Colon s.at) _ _
+      (falls_moved 0 s _ (falls_last 0 (length (after s.at).left) (inside inner assignment (moved s)) _
+      (less (length (after s.at).left) (inside inner assignment (moved s)) (inside_falls assignment (moved s)))))
+      (shorthand_falls x s)
+
+  pub property_falls : (s : State) → Falls 1 (length s.at.left) (property inner s)
+  unfolding property spread_property keyed_property
+  property_falls s = falls_if 1 (length s.at.left) (sees kind.DotDotDot s.at) _ _
+      (falls_moved 1 s _ (falls_last 1 (length (after s.at).left) (inside inner assignment (moved s)) _ (inside_falls assignment (moved s))))
+      (falls_next (length s.at.left) (key inner s) _ (key_falls s) (λ x t. behind_key_falls (span_at s.at) x t))
+
+  behind_property_falls : (found : List Tree) (s : State) → Falls 0 (length s.at.left) (behind_property inner found s)
+  behind_property_falls found s = falls_if 0 (length s.at.left) (sees kind.RBrace s.at) _ _ (omega arith) (falls_last 0 (length s.at.left) (expect kind.Comma s) _ (expect_falls kind.Comma s))
+
+  object_turn_falls : (found : List Tree) (s : State) → Falls 0 (length s.at.left) (object_turn inner found s)
+  unfolding object_turn
+  object_turn_falls found s = falls_if 0 (length s.at.left) (sees kind.RBrace s.at) _ _ (let m = moves s.at in omega arith)
+      (falls_then 0 0 (length s.at.left) (property inner s) _ (less (length s.at.left) (property inner s) (property_falls s)) (λ x t. behind_property_falls (found ++ x ∷ []) t))
+
+  object_falls : (s : State) → kind_at s.at ≢ kind.End → Falls 1 (length s.at.left) (object inner s)
+  unfolding object properties
+  object_falls s e = falls_last 1 (length s.at.left) (properties inner s) _ (falls_past s _ e (loop_falls (object_turn inner) object_turn_falls [] (moved s)))
+
+  paren_falls : (s : State) → Falls 1 (length s.at.left) (paren inner s)
+  unfolding paren
+  paren_falls s = falls_moved 1 s _ (falls_next (length (after s.at).left) (inside inner expression (moved s)) _ (inside_falls expression (moved s)) (λ e t.
+      falls_last 0 (length t.at.left) (expect kind.RParen t) _ (expect_falls kind.RParen t)))
+
+  -- whether a kind was seen or not
+  sees_or : (s : State) (k : TokenKind) (b : Bool) (x y : Outcome Tree) → sees k s.at ≡ b → (b ≡ true → Falls 1 (length s.at.left) x) → Falls 1 (length s.at.left) y → Falls 1 (length s.at.left) (cond b x y)
+  sees_or s k true x y e f g = f refl
+  sees_or s k false x y e f g = g
+
+  marked_falls : (s : State) → Falls 1 (length s.at.left) (marked_primary inner s)
+  unfolding marked_primary
+  marked_falls s = falls_if 1 (length s.at.left) (sees kind.LParen s.at) _ _ (paren_falls s)
+      (sees_or s kind.LBracket (sees kind.LBracket s.at) _ _ refl (λ e. array_falls s (no_end s kind.LBracket (λ z. cc) e))
+      (sees_or s kind.LBrace (sees kind.LBrace s.at) _ _ refl (λ e. object_falls s (no_end s kind.LBrace (λ z. cc) e))
+      (sees_or s kind.This (sees kind.This s.at) _ _ refl (λ e. this_falls s (no_end s kind.This (λ z. cc) e)) (wanted_falls Tree 1 (length s.at.left) faults.Unexpected s))))
+
+  literal_or_falls : (s : State) (o : Option Tree) → literal_in s.at.left ≡ o → Falls 1 (length s.at.left) (and_then (taken o s) (literal_or inner))
+  literal_or_falls s None e = marked_falls s
+  literal_or_falls s (Some x) e = literal_takes s s.at.left x refl e
+
+  pub primary_falls : (s : State) → Falls 1 (length s.at.left) (primary inner s)
+  unfolding primary literal
+  primary_falls s = falls_if 1 (length s.at.left) (name_at s.code.flags s.at) _ _ (ident_falls s) (literal_or_falls s (literal_in s.at.left) refl)
+
+  pub accessed_falls : (start : Span) (x : Tree) (s : State) → Falls 1 (length s.at.left) (accessed inner start x s)
+  unfolding accessed
+  accessed_falls start x s = falls_last 1 (length s.at.left) (access inner s) _ (access_falls s)
+
+  pub called_falls : (start : Span) (x : Tree) (s : State) → kind_at s.at ≢ kind.End → Falls 1 (length s.at.left) (called inner start x s)
+  unfolding called
+  called_falls start x s e = falls_last 1 (length s.at.left) (arguments inner s) _ (arguments_fall s e)
+
+  arguments_any : (s : State) → Falls 0 (length s.at.left) (arguments inner s)
+  unfolding arguments
+  arguments_any s = falls_moved 0 s _ (loop_falls (arguments_turn inner) arguments_turn_falls [] (moved s))
+
+  left_turn_falls : (calls : Bool) (start : Span) (x : Tree) (s : State) → Falls 0 (length s.at.left) (left_turn inner calls start x s)
+  unfolding left_turn called
+  left_turn_falls calls start x s = falls_if 0 (length s.at.left) (sees kind.Dot s.at || sees kind.LBracket s.at) _ _
+      (falls_last 0 (length s.at.left) (accessed inner start x s) _ (less (length s.at.left) (accessed inner start x s) (accessed_falls start x s)))
+      (falls_if 0 (length s.at.left) (calls && sees kind.LParen s.at) _ _
+      (falls_last 0 (length s.at.left) (called inner start x s) _ (falls_last 0 (length s.at.left) (arguments inner s) _ (arguments_any s))) (omega arith))
+
+  pub left_from_falls : (calls : Bool) (start : Span) (x : Tree) (s : State) → Falls 0 (length s.at.left) (left_from inner calls start x s)
+  unfolding left_from
+  left_from_falls calls start x s = loop_falls (left_turn inner calls start) (left_turn_falls calls start) x s
+
+  behind_super_falls : (calls : Bool) (start : Span) (s : State) → Falls 0 (length s.at.left) (behind_super inner calls start s)
+  unfolding behind_super super_call super_access
+  behind_super_falls calls start s = falls_if 0 (length s.at.left) (calls && sees kind.LParen s.at) _ _
+      (falls_last 0 (length s.at.left) (arguments inner s) _ (arguments_any s))
+      (falls_if 0 (length s.at.left) (has_private s.at) _ _ (falls_moved 0 s _ (wanted_falls Tree 0 (length (after s.at).left) faults.Unexpected (moved s)))
+      (falls_if 0 (length s.at.left) (sees kind.Dot s.at || sees kind.LBracket s.at) _ _
+      (falls_last 0 (length s.at.left) (access inner s) _ (less (length s.at.left) (access inner s) (access_falls s))) (reject_falls Tree 0 (length s.at.left) _ s)))
+
+  super_falls : (calls : Bool) (s : State) → kind_at s.at ≢ kind.End → Falls 1 (length s.at.left) (super_head inner calls s)
+  unfolding super_head
+  super_falls calls s e = falls_past s _ e (behind_super_falls calls (span_at s.at) (moved s))
+
+  constructed_falls : (start : Span) (x : Tree) (s : State) → Falls 0 (length s.at.left) (constructed inner start x s)
+  unfolding constructed
+  constructed_falls start x s = falls_last 0 (length s.at.left) (arguments inner s) _ (arguments_any s)
+
+  new_falls : (s : State) → Falls 1 (length s.at.left) (new_head inner s)
+  unfolding new_head bare_new
+  new_falls s = falls_moved 1 s _ (falls_next (length (after s.at).left) (inner callee (moved s)) _ (h callee (moved s)) (λ x t.
+      falls_if 0 (length t.at.left) (sees kind.LParen t.at) _ _ (constructed_falls (span_at s.at) x t) (omega arith)))
+
+  left_head_falls : (calls : Bool) (s : State) → Falls 1 (length s.at.left) (left_head inner calls s)
+  unfolding left_head
+  left_head_falls calls s = sees_or s kind.Super (sees kind.Super s.at) _ _ refl (λ e. super_falls calls s (no_end s kind.Super (λ z. cc) e))
+      (falls_if 1 (length s.at.left) (sees kind.New s.at) _ _ (new_falls s) (primary_falls s))
+
+  pub left_falls : (calls : Bool) (s : State) → Falls 1 (length s.at.left) (left inner calls s)
+  unfolding left
+  left_falls calls s = falls_next (length s.at.left) (left_head inner calls s) _ (left_head_falls calls s) (λ x t. left_from_falls calls (span_at s.at) x t)
+
+  left_expr_falls : (s : State) → Falls 1 (length s.at.left) (left_expr inner s)
+  unfolding left_expr closed_left
+  left_expr_falls s = falls_next (length s.at.left) (left inner true s) _ (left_falls true s) (λ x t.
+      falls_if 0 (length t.at.left) (continues_left_side t.at) _ _ (wanted_falls Tree 0 (length t.at.left) faults.Unexpected t) (omega arith))
+
+  -- ---- operators
+
+  prefixed_falls : (op : UnaryOp) (s : State) → Falls 1 (length s.at.left) (prefixed inner op s)
+  unfolding prefixed
+  prefixed_falls op s = falls_moved 1 s _ (falls_last 1 (length (after s.at).left) (inner unary (moved s)) _ (h unary (moved s)))
+
+  update_before_falls : (op : UpdateOp) (s : State) → Falls 1 (length s.at.left) (update_before inner op s)
+  unfolding update_before
+  update_before_falls op s = falls_moved 1 s _ (falls_next (length (after s.at).left) (inner unary (moved s)) _ (h unary (moved s)) (λ x t.
+      falls_last 0 (length t.at.left) (simple x t) _ (simple_falls x t)))
+
+  postfix_falls : (s : State) → Falls 1 (length s.at.left) (postfix inner s)
+  unfolding postfix
+  postfix_falls s = falls_next (length s.at.left) (left inner true s) _ (left_falls true s) (λ x t. behind_operand_falls (span_at s.at) x (postfix_at t.at) t)
+
+  updated_falls : (o : Option UpdateOp) (s : State) → Falls 1 (length s.at.left) (updated inner o s)
+  updated_falls (Some op) s = update_before_falls op s
+  updated_falls None s = postfix_falls s
+
+  unary_by_falls : (o : Option UnaryOp) (s : State) → Falls 1 (length s.at.left) (unary_by inner o s)
+  unary_by_falls (Some op) s = prefixed_falls op s
+  unary_by_falls None s = updated_falls (update_operator (kind_at s.at)) s
+
+  pub unary_falls : (s : State) → Falls 1 (length s.at.left) (unary_expr inner s)
+  unfolding unary_expr
+  unary_falls s = unary_by_falls (unary_operator (kind_at s.at)) s
+
+  -- an operator and its operand take a token
+  pub operated_falls : (start : Span) (x : Tree) (op : BinaryOp) (s : State) → Falls 1 (length s.at.left) (operated inner start x op s)
+  unfolding operated
+  operated_falls start x op s = falls_then 0 1 (length s.at.left) (left_operand op x s) _ (left_operand_falls op x s) (λ _ t.
+      falls_moved 1 t _ (falls_next (length (after t.at).left) (inner (right_class op) (moved t)) _ (h (right_class op) (moved t)) (λ y u. unmixed_falls start op x y u)))
+
+  binary_by_falls : (start : Span) (x : Tree) (o : Option BinaryOp) (s : State) → Falls 0 (length s.at.left) (binary_by inner start x o s)
+  binary_by_falls start x None s = omega arith
+  binary_by_falls start x (Some op) s = falls_last 0 (length s.at.left) (operated inner start x op s) _ (less (length s.at.left) (operated inner start x op s) (operated_falls start x op s))
+
+  binary_turn_falls : (n : ℕ) (start : Span) (x : Tree) (s : State) → Falls 0 (length s.at.left) (binary_turn inner n start x s)
+  unfolding binary_turn
+  binary_turn_falls n start x s = binary_by_falls start x (operator_at n s) s
+
+  pub binary_falls : (n : ℕ) (s : State) → Falls 1 (length s.at.left) (binary_expr inner n s)
+  unfolding binary_expr binary_from
+  binary_falls n s = falls_next (length s.at.left) (unary_expr inner s) _ (unary_falls s) (λ x t. loop_falls (binary_turn inner n (span_at s.at)) (binary_turn_falls n (span_at s.at)) x t)
+
+  conditional_falls : (start : Span) (x : Tree) (s : State) → Falls 0 (length s.at.left) (conditional inner start x s)
+  unfolding conditional
+  conditional_falls start x s = falls_moved 0 s _ (falls_then 0 0 (length (after s.at).left) (inside inner assignment (moved s)) _
+      (less (length (after s.at).left) (inside inner assignment (moved s)) (inside_falls assignment (moved s))) (λ y t.
+      falls_then 0 0 (length t.at.left) (expect kind.Colon t) _ (expect_falls kind.Colon t) (λ _ u.
+      falls_then 0 0 (length u.at.left) (inner assignment u) _ (less (length u.at.left) (inner assignment u) (h assignment u)) (λ z v. unassigned_falls _ v))))
+
+  assigned_falls : (start : Span) (x : Tree) (op : AssignOp) (s : State) → Falls 0 (length s.at.left) (assigned inner start x op s)
+  unfolding assigned assigned_to
+  assigned_falls start x op s = falls_if 0 (length s.at.left) (is_simple_target x) _ _
+      (falls_moved 0 s _ (falls_last 0 (length (after s.at).left) (inner assignment (moved s)) _ (less (length (after s.at).left) (inner assignment (moved s)) (h assignment (moved s)))))
+      (reject_falls Tree 0 (length s.at.left) _ s)
+
+  assigned_or_falls : (is_async : Bool) (start : Span) (x : Tree) (o : Option AssignOp) (s : State) → Falls 0 (length s.at.left) (assigned_or inner is_async start x o s)
+  assigned_or_falls is_async start x (Some op) s = assigned_falls start x op s
+  assigned_or_falls is_async start x None s = unheaded_falls is_async x s
+
+  behind_operators_falls : (is_async : Bool) (start : Span) (x : Tree) (s : State) → Falls 0 (length s.at.left) (behind_operators inner is_async start x s)
+  unfolding behind_operators
+  behind_operators_falls is_async start x s = falls_if 0 (length s.at.left) (sees kind.QuestionMark s.at) _ _ (conditional_falls start x s) (assigned_or_falls is_async start x (assign_operator (kind_at s.at)) s)
+
+  pub assignment_falls : (s : State) → Falls 1 (length s.at.left) (assignment_expr inner s)
+  unfolding assignment_expr
+  assignment_falls s = falls_next (length s.at.left) (binary_expr inner 1 s) _ (binary_falls 1 s) (λ x t. behind_operators_falls (begins_async_call s.at) (span_at s.at) x t)
+
+  sequence_turn_falls : (found : List Tree) (s : State) → Falls 0 (length s.at.left) (sequence_turn inner found s)
+  unfolding sequence_turn
+  sequence_turn_falls found s = falls_moved 0 s _ (falls_then 0 0 (length (after s.at).left) (assignment_expr inner (moved s)) _
+      (less (length (after s.at).left) (assignment_expr inner (moved s)) (assignment_falls (moved s))) (λ x t.
+      falls_if 0 (length t.at.left) (sees kind.Comma t.at) _ _ (omega arith) (omega arith)))
+
+  sequence_falls : (start : Span) (x : Tree) (s : State) → Falls 0 (length s.at.left) (sequence_from inner start x s)
+  unfolding sequence_from
+  sequence_falls start x s = falls_last 0 (length s.at.left) (loop (sequence_turn inner) (x ∷ []) s) _ (loop_falls (sequence_turn inner) sequence_turn_falls (x ∷ []) s)
+
+  expression_falls : (s : State) → Falls 1 (length s.at.left) (expression_expr inner s)
+  unfolding expression_expr
+  expression_falls s = falls_next (length s.at.left) (assignment_expr inner s) _ (assignment_falls s) (λ x t.
+      falls_if 0 (length t.at.left) (sees kind.Comma t.at) _ _ (sequence_falls (span_at s.at) x t) (omega arith))
+
+  level_falls : (class : Class) (s : State) → Falls 1 (length s.at.left) (expr_level inner class s)
+  unfolding expr_level
+  level_falls expression s = expression_falls s
+  level_falls assignment s = assignment_falls s
+  level_falls (operator n) s = binary_falls n s
+  level_falls unary s = unary_falls s
+  level_falls left_side s = left_expr_falls s
+  level_falls callee s = left_falls false s
+
+-- an expression of any class takes a token
+pub expr_falls : (n : ℕ) (class : Class) (s : State) → Falls 1 (length s.at.left) (expr n class s)
+unfolding expr
+expr_falls zero class s = too_deep_falls Tree 1 (length s.at.left) s
+expr_falls (suc n) class s = level_falls (expr n) (expr_falls n) class s

@@ -1,0 +1,256 @@
+-- The steps of a sound reader of expressions: how parts are joined, fixed tokens, words and names, and lists of trees.
+use Rattle.std.proofs.Common.{◌≡◌, Bool, true, false, cond, List, [], ◌∷◌, ◌++◌, Ok, Err, refl, sym, ◌∙◌, ap, subst, append_assoc, append-nil, true≢false, eqb-true}
+use Rattle.std.specs.Prelude.{nat_eq, not, ◌&&◌, ◌||◌, codes}
+use Rattle.std.specs.Str.{bytes_eq}
+use Rattle.swc_ecma_parser_common.specs.declared.span.BytePos.{BytePos}
+use Rattle.swc_ecma_parser_common.specs.declared.span.Span.{Span}
+use Rattle.swc_ecma_parser_error.specs.Kind as faults
+use Rattle.swc_ecma_parser_error.specs.Kind.{Fault, fault_of}
+use Rattle.swc_ecma_parser_token.specs.declared.kind.TokenKind.{TokenKind}
+use Rattle.swc_ecma_parser_token.specs.declared.kind.TokenKind.TheVariants as kind
+use Rattle.swc_ecma_parser_token.specs.declared.token.Token.{Token}
+use Rattle.swc_ecma_parser_token.specs.declared.token.Token.TheVariants as token
+use Rattle.swc_ecma_parser_token.specs.declared.token.TokenAndSpan.{TokenAndSpan}
+use Rattle.swc_ecma_parser_token.specs.declared.token.Word.{Word}
+use Rattle.swc_ecma_parser_token.specs.Kind.{token_kind}
+use Rattle.swc_ecma_parser_token.specs.Text.{word_text}
+use Rattle.swc_ecma_parser_input.specs.declared.context.Context.{Context}
+use Rattle.swc_ecma_parser_input.specs.TokenSource.{means_out_of_memory}
+use Rattle.swc_ecma_parser_input.specs.Place.{Place, after, past}
+use Rattle.swc_ecma_parser_model.specs.declared.leaves.Ident.{Ident}
+use Rattle.swc_ecma_parser_model.specs.Tree as tree
+use Rattle.swc_ecma_parser_model.specs.Tree.{Tree, Text, trees}
+use Rattle.swc_ecma_parser_grammar.specs.Looks.{kind_at, sees, same_kind, span_at, first_span, spanned}
+use Rattle.swc_ecma_parser_grammar.specs.Names.{Code, is_name, is_reserved, is_identifier, is_clean_name}
+use Rattle.swc_ecma_parser_grammar.specs.Reads.{ReadsToken}
+use Rattle.swc_ecma_parser_grammar.specs.Supported.{supported, all_supported}
+use Rattle.swc_ecma_parser_grammar.specs.language.Parts.{ReadsWord, PrivateRule}
+use Rattle.swc_ecma_parser_grammar.specs.Walk as walks
+use Rattle.swc_ecma_parser_grammar.specs.Walk.{walk, tabled}
+use Rattle.swc_ecma_parser_grammar.specs.Notes.{notes, all_notes}
+use Rattle.swc_ecma_parser_grammar.proofs.Tests.{and_yes, and_both}
+use Rattle.swc_ecma_parser_grammar.proofs.SupportedBegins.{name_begins}
+use Rattle.swc_ecma_parser_reader.specs.State.{State, Outcome, Reader, and_then, moved, fault, refused, reject, reject_in, reject_at, expect, name, name_in, name_by}
+use Rattle.swc_ecma_parser_reader.specs.Expressions.{any_word, word_in, word_by, touching_word, private_name, word_property, dotted}
+use Rattle.swc_ecma_parser_reader.proofs.Meets.{Meets, meets_then, meets_if, wanted_meets, refuse_meets, saw}
+use Rattle.swc_ecma_parser_reader.proofs.Between.{SoundTree, SoundStep, Sound, Walk, no_faults, same, tabled-append, drops-split, nil-split, sound_moved, sound_as, sound_after}
+use Rattle.swc_ecma_parser_reader.proofs.Errors.{is_error, word_is_none, kind_here}
+
+-- ---- parts one behind another; what was read is said of the places that are known
+
+module _ {w v : Walk} {ns ms : List Fault} {P Q : Code → Place → Place → Type 0} {s m t : State} where
+  pub paired : Sound same w ns P s m → Sound same v ms Q m t → Sound same (λ k l. w k l ++ v k l) (ns ++ ms) (λ k c d. P k s.at m.at × Q k m.at t.at) s t
+  paired p q = record {
+    code = q.code ∙ p.code;
+    scope = q.scope ∙ p.scope;
+    added = p.added ++ q.added;
+    faults = q.faults ∙ ap (λ z. z ++ q.added) p.faults ∙ append_assoc s.faults p.added q.added;
+    held_back = λ e. let h = nil-split p.added q.added e in q.held_back h.1 ∙ ap (λ z. z ++ ms) (p.held_back h.0) ∙ append_assoc s.held_back ns ms;
+    walked = λ h d. let e = drops-split p.added q.added d in
+        tabled-append p.added q.added ∙ ap (λ z. z ++ tabled q.added) (p.walked h e.0)
+        ∙ ap (λ z. w s.code s.scope.labels ++ z) (q.walked (p.keeps h) e.1 ∙ ap (λ z. v z m.scope.labels) p.code ∙ ap (λ z. v s.code z.labels) p.scope);
+    keeps = λ h. q.keeps (p.keeps h);
+    spares = λ e h. let k = nil-split p.added q.added e in p.spares k.0 (q.spares k.1 h);
+    remembers = λ h. p.remembers (q.remembers h);
+    reads = λ e. let h = nil-split p.added q.added e in (p.reads h.0, subst (λ k. Q k m.at t.at) p.code (q.reads h.1));
+  }
+
+-- a step of no faults and no notes behind
+pub stepped : {w : Walk} {ns : List Fault} {P Q : Code → Place → Place → Type 0} {s m t : State} → Sound same w ns P s m → Sound same no_faults [] Q m t
+    → Sound same w ns (λ k c d. P k s.at m.at × Q k m.at t.at) s t
+stepped {w = w} {ns = ns} {s = s} {t = t} p q = sound_as s t refl (append-nil (w s.code s.scope.labels)) (append-nil ns) (λ h. h) (paired p q)
+
+-- from the place before a token of a kind that is no error's
+pub moved_back : {w : Walk} {ns : List Fault} {P : Code → Place → Place → Type 0} {j : TokenKind} {s t : State} → kind_at s.at ≡ j → is_error j ≡ false → Sound same w ns P (moved s) t
+    → Sound same w ns (λ k c d. P k (after s.at) t.at) s t
+moved_back {s = s} {t = t} e g p = sound_after s t e g refl refl (λ h. h) p
+
+-- ---- readers that answer or refuse
+
+-- what holds behind a reader, said otherwise
+pub meets_as : {A : Type 0} {P Q : A → State → Type 0} (o : Outcome A) → Meets P o → ((a : A) (t : State) → P a t → Q a t) → Meets Q o
+meets_as (Ok p) h g = g p.0 p.1 h
+meets_as (Err e) h g = tt
+
+module _ {A : Type 0} (P : A → State → Type 0) where
+  refused_meets : (f : Fault) (o : Outcome (Unit {0})) → Meets P (refused f o)
+  refused_meets f (Ok p) = tt
+  refused_meets f (Err e) = tt
+
+  reject_at_meets : (f : Fault) (s : State) (t : Token) → Meets P (reject_at f s t)
+  reject_at_meets f s (token.Error e) = meets_if P (means_out_of_memory e.kind) _ _ (λ _. tt) (λ _. refused_meets f (fault (fault_of e) (moved s)))
+  reject_at_meets f s _ = tt
+
+  reject_in_meets : (f : Fault) (s : State) (ts : List TokenAndSpan) → Meets P (reject_in f s ts)
+  reject_in_meets f s [] = tt
+  reject_in_meets f s (t ∷ ts) = reject_at_meets f s t.token
+
+  -- the parser's own refusal of what was read
+  pub reject_meets : (f : Fault) (s : State) → Meets P (reject f s)
+  unfolding reject
+  reject_meets f s = reject_in_meets f s s.at.left
+
+-- a test that refuses, or reads on from here
+module _ {A B : Type 0} (Q : B → State → Type 0) (f : A → Reader B) (a : A) (e : Fault) (s : State) where
+  pub when_true : (b : Bool) → (b ≡ true → Meets Q (f a s)) → Meets Q (and_then (cond b (Ok (a, s)) (reject e s)) f)
+  when_true true h = h refl
+  when_true false h = meets_then {P = λ _ _. ⊥} Q (reject e s) f (reject_meets (λ _ _. ⊥) e s) (λ _ _ z. absurd z)
+
+  pub when_false : (b : Bool) → (b ≡ false → Meets Q (f a s)) → Meets Q (and_then (cond b (reject e s) (Ok (a, s))) f)
+  when_false true h = meets_then {P = λ _ _. ⊥} Q (reject e s) f (reject_meets (λ _ _. ⊥) e s) (λ _ _ z. absurd z)
+  when_false false h = h refl
+
+-- ---- tests
+
+pub other : (a b : Bool) → (a || b) ≡ true → a ≡ false → b ≡ true
+other true b h e = cc
+other false b h e = h
+
+pub clash : {X : Type 0} (b : Bool) → b ≡ true → b ≡ false → X
+clash b h e = absurd (true≢false (sym h ∙ e))
+
+-- a kind that stands here is seen
+pub unseen : {X : Type 0} (c : Place) (j : TokenKind) → kind_at c ≡ j → same_kind j j ≡ true → sees j c ≡ false → X
+unseen c j h r e = clash (sees j c) (ap (λ z. same_kind z j) h ∙ r) e
+
+-- where this kind stands, that one does not
+pub elsewhere : (c : Place) (j i : TokenKind) → kind_at c ≡ j → same_kind j i ≡ false → sees i c ≡ false
+elsewhere c j i h e = ap (λ z. same_kind z i) h ∙ e
+
+-- ---- fixed tokens
+
+-- one token of a kind
+abbrev pub Takes : TokenKind → Place → Place → Type 0
+Takes j c d = (kind_at c ≡ j) × (d ≡ after c)
+
+pub expect_sound : (j : TokenKind) (s : State) → is_error j ≡ false → Meets (λ _ t. SoundStep (λ k. Takes j) s t) (expect j s)
+unfolding expect
+expect_sound j s h = meets_if _ (sees j s.at) _ _ (λ e. sound_moved s (saw s.at j e) h (saw s.at j e, refl)) (λ _. refuse_meets _ faults.Expected s)
+
+-- the token that stands first
+pub stands : (c : Place) (u : TokenAndSpan) (ts : List TokenAndSpan) (v : Token) → c.left ≡ u ∷ ts → u.token ≡ v → ReadsToken v u.span c (after c)
+stands c u ts v e h = record { had_line_break = u.had_line_break; rest = ts; is = e ∙ rw (← h) refl; next = refl }
+
+pub token_first : (v : Token) (i : TokenKind) (span : Span) (c d : Place) → ReadsToken v span c d → same_kind (token_kind v) i ≡ false → sees i c ≡ false
+unfolding kind_at
+token_first v i span c d r h = rw r.is h
+
+-- ---- names
+
+-- a word that is free
+pub record FreeWord (i : Ident) (k : Code) (c d : Place) : Type 0 where
+  pub word : Word
+  pub token : ReadsToken (token.Word word) i.span c d
+  pub free : is_name k.flags (word_text word) ≡ true
+  pub text : i.sym ≡ word_text word
+
+module _ (missing : faults.Kind) (s : State) where
+  name_by_sound : (u : TokenAndSpan) (ts : List TokenAndSpan) (v : Token) → s.at.left ≡ u ∷ ts → u.token ≡ v → Meets (λ i t. SoundStep (FreeWord i) s t) (name_by missing s v u.span)
+  name_by_sound u ts (token.Word w) e h = meets_if _ (is_name s.code.flags (word_text w)) _ _
+      (λ g. sound_moved s (kind_here s.at u ts (token.Word w) e h) (word_is_none w)
+      (record { word = w; token = stands s.at u ts (token.Word w) e h; free = g; text = refl })) (λ _. wanted_meets _ missing s)
+  name_by_sound u ts _ e h = wanted_meets _ missing s
+
+  name_in_sound : (ts : List TokenAndSpan) → s.at.left ≡ ts → Meets (λ i t. SoundStep (FreeWord i) s t) (name_in missing s ts)
+  name_in_sound [] e = wanted_meets _ missing s
+  name_in_sound (u ∷ ts) e = name_by_sound u ts u.token e refl
+
+pub name_sound : (missing : faults.Kind) (s : State) → Meets (λ i t. SoundStep (FreeWord i) s t) (name missing s)
+unfolding name
+name_sound missing s = name_in_sound missing s s.at.left refl
+
+-- a name is no fault anywhere
+clean_by : (r a m : Bool) → (not r && not a) ≡ true → (not r && not (a && m)) ≡ true
+clean_by true a m h = h
+clean_by false true m h = cc
+clean_by false false m h = refl
+
+pub name_is_clean : (f : Context) (text : Text) → is_name f text ≡ true → is_clean_name f text ≡ true
+unfolding is_name is_clean_name is_identifier
+name_is_clean f text h = clean_by (is_reserved f text) (bytes_eq text (codes "await")) _ h
+
+pub name_is_supported : (f : Context) (text : Text) → is_name f text ≡ true → not (bytes_eq text (codes "await")) ≡ true
+unfolding is_name
+name_is_supported f text h = (and_yes (not (is_reserved f text)) _ h).1
+
+-- nor is it `await`
+pub name_first : (i : Ident) (k : Code) (c d : Place) → FreeWord i k c d → sees kind.Await c ≡ false
+name_first i k c d r = (name_begins k.flags r.word i.span c d r.token r.free).0
+
+-- ---- words, reserved or not, and private names
+
+module _ (s : State) where
+  word_by_sound : (u : TokenAndSpan) (ts : List TokenAndSpan) (v : Token) → s.at.left ≡ u ∷ ts → u.token ≡ v
+      → Meets (λ i t. SoundStep (λ k. ReadsWord i.sym i.span) s t) (word_by s v u.span)
+  word_by_sound u ts (token.Word w) e h =
+      sound_moved s (kind_here s.at u ts (token.Word w) e h) (word_is_none w) (record { word = w; reads_word = stands s.at u ts (token.Word w) e h; is_text = refl })
+  word_by_sound u ts _ e h = wanted_meets _ faults.Unexpected s
+
+  word_in_sound : (ts : List TokenAndSpan) → s.at.left ≡ ts → Meets (λ i t. SoundStep (λ k. ReadsWord i.sym i.span) s t) (word_in s ts)
+  word_in_sound [] e = wanted_meets _ faults.Unexpected s
+  word_in_sound (u ∷ ts) e = word_by_sound u ts u.token e refl
+
+  pub any_word_sound : Meets (λ i t. SoundStep (λ k. ReadsWord i.sym i.span) s t) (any_word s)
+  unfolding any_word
+  any_word_sound = word_in_sound s.at.left refl
+
+same_position : (a b : BytePos) → nat_eq a.0 b.0 ≡ true → a ≡ b
+same_position a b h = let e : a.0 ≡ b.0 = eqb-true a.0 b.0 h in λ i. record { 0 = e i }
+
+word_span : (text : Text) (span : Span) (c d : Place) → ReadsWord text span c d → span_at c ≡ span
+unfolding span_at
+word_span text span c d r = rw r.reads_word.is refl
+
+-- a word that begins where the token before it ends
+abbrev Touching : Ident → Place → Place → Type 0
+Touching i c d = ReadsWord i.sym i.span c d × (c.last.hi ≡ i.span.lo)
+
+touching_sound : (s : State) → Meets (λ i t. SoundStep (λ k. Touching i) s t) (touching_word s)
+unfolding touching_word
+touching_sound s = meets_if _ (nat_eq s.at.last.hi.0 (span_at s.at).lo.0) _ _ (λ e. meets_as (any_word s) (any_word_sound s) (λ i t p.
+    sound_as s t refl refl refl (λ r. (r, same_position s.at.last.hi (span_at s.at).lo e ∙ ap (λ z. z.lo) (word_span i.sym i.span s.at t.at r))) p))
+    (λ _. wanted_meets _ faults.Unexpected s)
+
+-- behind a token its span is the last
+last_of : (c : Place) (ts : List TokenAndSpan) → (past c ts).last ≡ first_span c.last ts
+last_of c [] = refl
+last_of c (t ∷ ts) = refl
+
+last_span : (c : Place) → (after c).last ≡ span_at c
+unfolding after span_at
+last_span c = last_of c c.left
+
+-- what stands behind a dot
+pub data Dotted (x : Tree) (c d : Place) : Type 0 where
+  word_dotted : (text : Text) (span : Span) → ReadsWord text span c d → x ≡ tree.ident span text → Dotted x c d
+  private_dotted : PrivateRule x c d → Dotted x c d
+
+private_sound : (s : State) → kind_at s.at ≡ kind.Hash → Meets (λ x t. SoundTree (λ k. Dotted) s x t) (private_name s)
+unfolding private_name spanned
+private_sound s e = meets_then _ (touching_word (moved s)) _ (touching_sound (moved s)) (λ i t p. sound_after s t e refl refl refl (λ r. private_dotted (record {
+  text = i.sym;
+  span = i.span;
+  hash = e;
+  reads_word = r.0;
+  touches = sym (ap (λ z. z.hi) (last_span s.at)) ∙ r.1;
+  is = refl;
+})) p)
+
+pub dotted_sound : (s : State) → Meets (λ x t. SoundTree (λ k. Dotted) s x t) (dotted s)
+unfolding dotted word_property
+dotted_sound s = meets_if _ (sees kind.Hash s.at) _ _ (λ e. private_sound s (saw s.at kind.Hash e))
+    (λ _. meets_then _ (any_word s) _ (any_word_sound s) (λ i t p. sound_as s t refl refl refl (λ r. word_dotted i.sym i.span r refl) p))
+
+-- ---- lists of trees: one more
+
+pub walks_push : (env : walks.Env) (xs : List Tree) (x : Tree) → walks.walks env false (trees xs) ++ walk env x ≡ walks.walks env false (trees (xs ++ x ∷ []))
+walks_push env [] x = sym (append-nil (walk env x))
+walks_push env (y ∷ ys) x = append_assoc (walk env y) (walks.walks env false (trees ys)) (walk env x) ∙ ap (λ z. walk env y ++ z) (walks_push env ys x)
+
+pub notes_push : (xs : List Tree) (x : Tree) → all_notes (trees xs) ++ notes x ≡ all_notes (trees (xs ++ x ∷ []))
+notes_push [] x = sym (append-nil (notes x))
+notes_push (y ∷ ys) x = append_assoc (notes y) (all_notes (trees ys)) (notes x) ∙ ap (λ z. notes y ++ z) (notes_push ys x)
+
+pub supported_push : (xs : List Tree) (x : Tree) → all_supported (trees xs) ≡ true → supported x ≡ true → all_supported (trees (xs ++ x ∷ [])) ≡ true
+supported_push [] x a h = and_both (supported x) true h refl
+supported_push (y ∷ ys) x a h = let b = and_yes (supported y) (all_supported (trees ys)) a in and_both (supported y) _ b.0 (supported_push ys x b.1 h)

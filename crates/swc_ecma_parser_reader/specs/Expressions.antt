@@ -1,0 +1,606 @@
+-- The reader of expressions, rule by rule: ECMA-262, section 13. What is read one level further in is read by a reader for each
+-- class of expressions.
+use Rattle.std.specs.Prelude.{ℕ, zero, suc, Bool, true, false, not, ◌&&◌, ◌||◌, if◌then◌else◌, nat_le, nat_eq, List, [], ◌∷◌, ◌++◌, codes, Option, Some, None, Ok, Err}
+use Rattle.swc_ecma_parser_common.specs.declared.span.Span.{Span}
+use Rattle.swc_ecma_parser_error.specs.Kind as faults
+use Rattle.swc_ecma_parser_error.specs.Kind.{Kind}
+use Rattle.swc_ecma_parser_token.specs.declared.kind.TokenKind.{TokenKind}
+use Rattle.swc_ecma_parser_token.specs.declared.kind.TokenKind.TheVariants as kind
+use Rattle.swc_ecma_parser_token.specs.declared.token.Token.{Token}
+use Rattle.swc_ecma_parser_token.specs.declared.token.Token.TheVariants as token
+use Rattle.swc_ecma_parser_token.specs.declared.token.Word.TheVariants as word
+use Rattle.swc_ecma_parser_token.specs.declared.token.TokenAndSpan.{TokenAndSpan}
+use Rattle.swc_ecma_parser_token.specs.Text.{word_text}
+use Rattle.swc_ecma_parser_input.specs.Place.{Place, after}
+use Rattle.swc_ecma_parser_model.specs.declared.leaves.Ident.{Ident}
+use Rattle.swc_ecma_parser_model.specs.declared.operators.UnaryOp.{UnaryOp}
+use Rattle.swc_ecma_parser_model.specs.declared.operators.UpdateOp.{UpdateOp}
+use Rattle.swc_ecma_parser_model.specs.declared.operators.BinaryOp.{BinaryOp}
+use Rattle.swc_ecma_parser_model.specs.declared.operators.BinaryOp.TheVariants as binary
+use Rattle.swc_ecma_parser_model.specs.declared.operators.AssignOp.{AssignOp}
+use Rattle.swc_ecma_parser_model.specs.declared.operators.AssignOp.TheVariants as assign
+use Rattle.swc_ecma_parser_model.specs.Tree as tree
+use Rattle.swc_ecma_parser_model.specs.Tree.{Tree, Text, listed}
+use Rattle.swc_ecma_parser_model.specs.Forms.{is_ident_named, is_simple_target, span_of}
+use Rattle.swc_ecma_parser_grammar.specs.Looks.{kind_at, breaks_at, sees, span_at}
+use Rattle.swc_ecma_parser_grammar.specs.Names.{Code, is_name, name_at, identifier_at}
+use Rattle.swc_ecma_parser_grammar.specs.Follows.{word_at, is_async_function, continues_left_side}
+use Rattle.swc_ecma_parser_grammar.specs.Reads.{with_in}
+use Rattle.swc_ecma_parser_grammar.specs.language.Goals.{Class, expression, assignment, operator, unary, left_side, callee}
+use Rattle.swc_ecma_parser_grammar.specs.language.Operators.{unary_operator, update_operator, binary_operator, assign_operator, precedence, groups_left, is_operator, mixes, is_unary}
+use Rattle.swc_ecma_parser_grammar.specs.language.Continues.{continues_conditional}
+use Rattle.swc_ecma_parser_reader.specs.State.{State, Outcome, Reader, ◌>>=◌, ◌>>◌, pure, skip, moved, within, fault, fault_at, wanted, too_deep, reject, expect, name, Step, More, Done, loop}
+
+-- ---- places and spans
+
+abbrev pub span_here : Reader Span
+span_here = λ s. Ok (span_at s.at, s)
+
+-- from the start of a span to the end of what was read last
+abbrev pub since : Span → Reader Span
+since start = λ s. Ok (record { lo = start.lo; hi = s.at.last.hi }, s)
+
+-- ---- literals
+
+abbrev pub literal_of : Span → Token → Option Tree
+literal_of span (token.Str value raw) = Some (tree.str span value raw)
+literal_of span (token.Num raw) = Some (tree.num span raw)
+literal_of span (token.BigInt raw) = Some (tree.big_int span raw)
+literal_of span (token.Word word.Null) = Some (tree.null span)
+literal_of span (token.Word word.True) = Some (tree.bool span true)
+literal_of span (token.Word word.False) = Some (tree.bool span false)
+literal_of span _ = None
+
+abbrev pub literal_in : List TokenAndSpan → Option Tree
+literal_in [] = None
+literal_in (t ∷ ts) = literal_of t.span t.token
+
+abbrev pub taken : Option Tree → Reader (Option Tree)
+taken None = λ s. Ok (None, s)
+taken (Some x) = λ s. Ok (Some x, moved s)
+
+-- a literal, if one stands here
+unfoldable pub literal : Reader (Option Tree)
+literal = λ s. taken (literal_in s.at.left) s
+
+-- ---- words and private names
+
+-- a word, reserved or not
+abbrev pub word_by : State → Token → Span → Outcome Ident
+word_by s (token.Word w) span = Ok (record { span = span; sym = word_text w }, moved s)
+word_by s _ span = wanted faults.Unexpected s
+
+abbrev pub word_in : State → List TokenAndSpan → Outcome Ident
+word_in s [] = wanted faults.Unexpected s
+word_in s (t ∷ ts) = word_by s t.token t.span
+
+unfoldable pub any_word : Reader Ident
+any_word = λ s. word_in s s.at.left
+
+-- a word that begins where the token before it ends
+unfoldable pub touching_word : Reader Ident
+touching_word = λ s. if nat_eq s.at.last.hi.0 (span_at s.at).lo.0 then any_word s else wanted faults.Unexpected s
+
+-- `#` and its word
+unfoldable pub private_name : Reader Tree
+private_name = do
+  start ← span_here
+  skip
+  i ← touching_word
+  span ← since start
+  pure (tree.private_name span i.span i.sym)
+
+-- ---- heads of arrow functions
+
+-- `async` and its arguments on one line
+unfoldable pub begins_async_call : Place → Bool
+begins_async_call c = word_at (codes "async") c && (sees kind.LParen (after c) && not (breaks_at (after c)))
+
+-- what can stand before `=>`, read from a place where such a call begins or not
+abbrev pub is_head : Bool → Tree → Bool
+is_head is_async (tree.ident s text) = true
+is_head is_async (tree.paren s e) = true
+is_head is_async (tree.call s f args) = is_async && is_ident_named (codes "async") f
+is_head is_async _ = false
+
+unfoldable pub heads_arrow : Bool → Tree → State → Bool
+heads_arrow is_async x s = (is_head is_async x && sees kind.Arrow s.at) || (is_ident_named (codes "async") x && (not (breaks_at s.at) && identifier_at s.code.flags s.at))
+
+-- ---- steps that read nothing further in
+
+unfoldable pub word_property : Reader Tree
+word_property = do
+  i ← any_word
+  pure (tree.ident i.span i.sym)
+
+-- whether a word stands first, reserved or not
+abbrev pub token_is_word : Token → Bool
+token_is_word (token.Word w) = true
+token_is_word _ = false
+
+abbrev pub first_is_word : List TokenAndSpan → Bool
+first_is_word [] = false
+first_is_word (t ∷ ts) = token_is_word t.token
+
+unfoldable pub is_word_at : Place → Bool
+is_word_at c = first_is_word c.left
+
+-- a string or a number as a key
+abbrev pub key_or : Option Tree → Reader Tree
+key_or (Some x) = pure x
+key_or None = wanted faults.Unexpected
+
+unfoldable pub literal_key : Reader Tree
+literal_key = literal >>= key_or
+
+-- a key with nothing behind it: a name
+unfoldable pub shorthand_name : Span → Text → Reader Tree
+shorthand_name span text = λ s. if is_name s.code.flags text then Ok (tree.shorthand_prop span text, s) else reject (fault_at span faults.ExpectedIdent) s
+
+abbrev pub shorthand : Tree → Reader Tree
+shorthand (tree.ident span text) = shorthand_name span text
+shorthand _ = wanted faults.Unexpected
+
+-- what stands behind `.`
+unfoldable pub dotted : Reader Tree
+dotted = λ s. if sees kind.Hash s.at then private_name s else word_property s
+
+-- `async function` on one line is no name
+abbrev pub no_function : Bool → Tree → Reader Tree
+no_function begins x = λ s. if begins then wanted faults.Unexpected s else Ok (x, s)
+
+unfoldable pub ident_expr : Reader Tree
+ident_expr = λ s. (do
+  i ← name faults.Unexpected
+  no_function (is_async_function s.at) (tree.ident i.span i.sym)) s
+
+unfoldable pub this : Reader Tree
+this = do
+  start ← span_here
+  skip
+  span ← since start
+  pure (tree.this span)
+
+-- the loop goes on with it
+abbrev pub more : Tree → Reader (Step Tree Tree)
+more x = pure (More x)
+
+abbrev pub has_private : Place → Bool
+has_private c = sees kind.Dot c && sees kind.Hash (after c)
+
+unfoldable pub bare_new : Span → Tree → Reader Tree
+bare_new start x = do
+  span ← since start
+  pure (tree.new span x tree.absent)
+
+-- nothing goes on with it, a postfix operator either
+unfoldable pub closed_left : Tree → Reader Tree
+closed_left x = λ s. if continues_left_side s.at then wanted faults.Unexpected s else Ok (x, s)
+
+-- what `++` and `--` stand at
+unfoldable pub simple : Tree → Reader (Unit {0})
+simple e = λ s. if is_simple_target e then Ok (tt, s) else reject (fault_at (span_of e) faults.NotSimpleAssign) s
+
+unfoldable pub update_behind : Span → Tree → UpdateOp → Reader Tree
+update_behind start e op = do
+  simple e
+  skip
+  span ← since start
+  pure (tree.update span op false e)
+
+abbrev pub behind_operand : Span → Tree → Option UpdateOp → Reader Tree
+behind_operand start e None = pure e
+behind_operand start e (Some op) = update_behind start e op
+
+-- an operator behind an operand stands on its line
+unfoldable pub postfix_at : Place → Option UpdateOp
+postfix_at c = if breaks_at c then None else update_operator (kind_at c)
+
+-- the class of the right operand
+abbrev pub right_class : BinaryOp → Class
+right_class op = operator (if groups_left op then suc (precedence op) else precedence op)
+
+-- the operator that stands here, where it is read and binds at least so tightly
+abbrev pub read_operator : ℕ → Code → Option BinaryOp → Option BinaryOp
+read_operator n k None = None
+read_operator n k (Some op) = if is_operator k op && nat_le n (precedence op) then Some op else None
+
+unfoldable pub operator_at : ℕ → State → Option BinaryOp
+operator_at n s = read_operator n s.code (binary_operator (kind_at s.at))
+
+-- no unary operator stands left of `**`
+unfoldable pub left_operand : BinaryOp → Tree → Reader (Unit {0})
+left_operand op x = λ s. if not (groups_left op) && is_unary x then reject (fault_at (span_of x) faults.UnaryInExp) s else Ok (tt, s)
+
+-- `??` does not stand beside `||` and `&&`
+unfoldable pub unmixed : Span → BinaryOp → Tree → Tree → Reader Tree
+unmixed start op x y = do
+  span ← since start
+  λ s. if mixes op x || mixes op y then reject (fault_at span faults.NullishCoalescingWithLogicalOp) s else Ok (tree.bin span op x y, s)
+
+-- no assignment operator stands behind a conditional
+unfoldable pub unassigned : Tree → Reader Tree
+unassigned x = λ s. if continues_conditional s.at then wanted faults.Unexpected s else Ok (x, s)
+
+abbrev pub unassignable : AssignOp → Kind
+unassignable assign.Assign = faults.InvalidPat
+unassignable _ = faults.NotSimpleAssign
+
+-- the head of an arrow function is no expression
+unfoldable pub unheaded : Bool → Tree → Reader Tree
+unheaded is_async x = λ s. if heads_arrow is_async x s then wanted faults.Unexpected s else Ok (x, s)
+
+-- ---- what is read one level further in
+
+module _ (inner : Class → Reader Tree) where
+  -- in brackets, braces and parentheses `in` is an operator
+  unfoldable pub inside : Class → Reader Tree
+  inside class = within with_in (inner class)
+
+  -- ---- accesses and arguments
+
+  unfoldable pub brackets : Reader Tree
+  brackets = do
+    start ← span_here
+    skip
+    e ← inside expression
+    expect kind.RBracket
+    span ← since start
+    pure (tree.computed span e)
+
+  -- from `.` or `[` on
+  unfoldable pub access : Reader Tree
+  access = λ s. if sees kind.Dot s.at then (skip >> dotted) s else brackets s
+
+  -- an argument or an element, with the dots of a spread
+  unfoldable pub spread_element : Reader Tree
+  spread_element = λ s. (do
+    skip
+    e ← inside assignment
+    pure (tree.element (Some (span_at s.at)) e)) s
+
+  unfoldable pub plain_element : Reader Tree
+  plain_element = do
+    e ← inside assignment
+    pure (tree.element None e)
+
+  unfoldable pub element : Reader Tree
+  element = λ s. if sees kind.DotDotDot s.at then spread_element s else plain_element s
+
+  -- behind an argument a comma stands, or the end
+  abbrev pub behind_argument : List Tree → Reader (Step (List Tree) (List Tree))
+  behind_argument found = λ s. if sees kind.RParen s.at then Ok (More found, s) else (do
+    expect kind.Comma
+    pure (More found)) s
+
+  unfoldable pub arguments_turn : List Tree → Reader (Step (List Tree) (List Tree))
+  arguments_turn found = λ s. if sees kind.RParen s.at then Ok (Done found, moved s) else (do
+    x ← element
+    behind_argument (found ++ x ∷ [])) s
+
+  -- from `(` on
+  unfoldable pub arguments : Reader (List Tree)
+  arguments = skip >> loop arguments_turn []
+
+  -- ---- primary expressions: section 13.2
+
+  -- behind an element a comma stands, or the end
+  abbrev pub behind_element : List Tree → Reader (Step (List Tree) (List Tree))
+  behind_element found = λ s. if sees kind.RBracket s.at then Ok (More found, s) else (do
+    expect kind.Comma
+    pure (More found)) s
+
+  -- an element, or the comma behind a hole
+  unfoldable pub array_turn : List Tree → Reader (Step (List Tree) (List Tree))
+  array_turn found = λ s.
+      if sees kind.RBracket s.at then Ok (Done found, moved s)
+      else if sees kind.Comma s.at then Ok (More (found ++ tree.absent ∷ []), moved s)
+      else (do
+        x ← element
+        behind_element (found ++ x ∷ [])) s
+
+  -- from `[` on
+  unfoldable pub elements : Reader (List Tree)
+  elements = skip >> loop array_turn []
+
+  unfoldable pub array : Reader Tree
+  array = do
+    start ← span_here
+    xs ← elements
+    span ← since start
+    pure (tree.array span (listed xs))
+
+  -- ---- objects: section 13.2.5
+
+  unfoldable pub computed_key : Reader Tree
+  computed_key = do
+    start ← span_here
+    skip
+    e ← inside assignment
+    expect kind.RBracket
+    span ← since start
+    pure (tree.computed span e)
+
+  unfoldable pub key : Reader Tree
+  key = λ s.
+      if is_word_at s.at then word_property s
+      else if sees kind.LBracket s.at then computed_key s
+      else literal_key s
+
+  unfoldable pub key_value : Span → Tree → Reader Tree
+  key_value start x = do
+    skip
+    value ← inside assignment
+    span ← since start
+    pure (tree.key_value_prop span x value)
+
+  unfoldable pub behind_key : Span → Tree → Reader Tree
+  behind_key start x = λ s. if sees kind.Colon s.at then key_value start x s else shorthand x s
+
+  unfoldable pub keyed_property : Reader Tree
+  keyed_property = do
+    start ← span_here
+    x ← key
+    behind_key start x
+
+  unfoldable pub spread_property : Reader Tree
+  spread_property = λ s. (do
+    skip
+    e ← inside assignment
+    pure (tree.spread_prop (span_at s.at) e)) s
+
+  unfoldable pub property : Reader Tree
+  property = λ s. if sees kind.DotDotDot s.at then spread_property s else keyed_property s
+
+  -- behind a property a comma stands, or the end
+  abbrev pub behind_property : List Tree → Reader (Step (List Tree) (List Tree))
+  behind_property found = λ s. if sees kind.RBrace s.at then Ok (More found, s) else (do
+    expect kind.Comma
+    pure (More found)) s
+
+  unfoldable pub object_turn : List Tree → Reader (Step (List Tree) (List Tree))
+  object_turn found = λ s. if sees kind.RBrace s.at then Ok (Done found, moved s) else (do
+    x ← property
+    behind_property (found ++ x ∷ [])) s
+
+  -- from `{` on
+  unfoldable pub properties : Reader (List Tree)
+  properties = skip >> loop object_turn []
+
+  unfoldable pub object : Reader Tree
+  object = do
+    start ← span_here
+    xs ← properties
+    span ← since start
+    pure (tree.object span (listed xs))
+
+  unfoldable pub paren : Reader Tree
+  paren = do
+    start ← span_here
+    skip
+    e ← inside expression
+    expect kind.RParen
+    span ← since start
+    pure (tree.paren span e)
+
+  unfoldable pub marked_primary : Reader Tree
+  marked_primary = λ s.
+      if sees kind.LParen s.at then paren s
+      else if sees kind.LBracket s.at then array s
+      else if sees kind.LBrace s.at then object s
+      else if sees kind.This s.at then this s
+      else wanted faults.Unexpected s
+
+  abbrev pub literal_or : Option Tree → Reader Tree
+  literal_or (Some x) = pure x
+  literal_or None = marked_primary
+
+  unfoldable pub primary : Reader Tree
+  primary = λ s. if name_at s.code.flags s.at then ident_expr s else (literal >>= literal_or) s
+
+  -- ---- left-hand-side expressions: section 13.3
+
+  unfoldable pub accessed : Span → Tree → Reader Tree
+  accessed start x = do
+    property ← access
+    span ← since start
+    pure (tree.member span x property)
+
+  unfoldable pub called : Span → Tree → Reader Tree
+  called start x = do
+    xs ← arguments
+    span ← since start
+    pure (tree.call span x (listed xs))
+
+  unfoldable pub left_turn : Bool → Span → Tree → Reader (Step Tree Tree)
+  left_turn calls start x = λ s.
+      if sees kind.Dot s.at || sees kind.LBracket s.at then (accessed start x >>= more) s
+      else if calls && sees kind.LParen s.at then (called start x >>= more) s
+      else Ok (Done x, s)
+
+  -- what goes on with an expression that was read from a place on
+  unfoldable pub left_from : Bool → Span → Tree → Reader Tree
+  left_from calls start x = loop (left_turn calls start) x
+
+  -- `super`, before an access or, where calls are read, arguments; a private name is no property of it
+  unfoldable pub super_call : Span → Reader Tree
+  super_call start = do
+    xs ← arguments
+    span ← since start
+    pure (tree.call span (tree.super_callee start) (listed xs))
+
+  unfoldable pub super_access : Span → Reader Tree
+  super_access start = do
+    property ← access
+    span ← since start
+    pure (tree.super_prop span start property)
+
+  unfoldable pub behind_super : Bool → Span → Reader Tree
+  behind_super calls start = λ s.
+      if calls && sees kind.LParen s.at then super_call start s
+      else if has_private s.at then (skip >> wanted faults.Unexpected) s
+      else if sees kind.Dot s.at || sees kind.LBracket s.at then super_access start s
+      else reject (fault_at start faults.InvalidSuper) s
+
+  unfoldable pub super_head : Bool → Reader Tree
+  super_head calls = do
+    start ← span_here
+    skip
+    behind_super calls start
+
+  -- what `new` calls, and its arguments, if there are any
+  unfoldable pub constructed : Span → Tree → Reader Tree
+  constructed start x = do
+    xs ← arguments
+    span ← since start
+    pure (tree.new span x (listed xs))
+
+  unfoldable pub new_head : Reader Tree
+  new_head = do
+    start ← span_here
+    skip
+    x ← inner callee
+    λ s. if sees kind.LParen s.at then constructed start x s else bare_new start x s
+
+  unfoldable pub left_head : Bool → Reader Tree
+  left_head calls = λ s. if sees kind.Super s.at then super_head calls s else if sees kind.New s.at then new_head s else primary s
+
+  -- with calls, or as what `new` calls
+  unfoldable pub left : Bool → Reader Tree
+  left calls = do
+    start ← span_here
+    x ← left_head calls
+    left_from calls start x
+
+  unfoldable pub left_expr : Reader Tree
+  left_expr = left true >>= closed_left
+
+  -- ---- unary operators: sections 13.4 and 13.5
+
+  unfoldable pub prefixed : UnaryOp → Reader Tree
+  prefixed op = do
+    start ← span_here
+    skip
+    e ← inner unary
+    span ← since start
+    pure (tree.unary span op e)
+
+  unfoldable pub update_before : UpdateOp → Reader Tree
+  update_before op = do
+    start ← span_here
+    skip
+    e ← inner unary
+    simple e
+    span ← since start
+    pure (tree.update span op true e)
+
+  unfoldable pub postfix : Reader Tree
+  postfix = do
+    start ← span_here
+    e ← left true
+    λ s. behind_operand start e (postfix_at s.at) s
+
+  abbrev pub updated : Option UpdateOp → Reader Tree
+  updated (Some op) = update_before op
+  updated None = postfix
+
+  abbrev pub unary_by : Option UnaryOp → Reader Tree
+  unary_by (Some op) = prefixed op
+  unary_by None = λ s. updated (update_operator (kind_at s.at)) s
+
+  unfoldable pub unary_expr : Reader Tree
+  unary_expr = λ s. unary_by (unary_operator (kind_at s.at)) s
+
+  -- ---- binary operators: sections 13.6 to 13.13
+
+  unfoldable pub operated : Span → Tree → BinaryOp → Reader Tree
+  operated start x op = do
+    left_operand op x
+    skip
+    y ← inner (right_class op)
+    unmixed start op x y
+
+  abbrev pub binary_by : Span → Tree → Option BinaryOp → Reader (Step Tree Tree)
+  binary_by start x None = pure (Done x)
+  binary_by start x (Some op) = operated start x op >>= more
+
+  unfoldable pub binary_turn : ℕ → Span → Tree → Reader (Step Tree Tree)
+  binary_turn n start x = λ s. binary_by start x (operator_at n s) s
+
+  -- the operators that bind at least so tightly, behind an operand that was read from a place on
+  unfoldable pub binary_from : ℕ → Span → Tree → Reader Tree
+  binary_from n start x = loop (binary_turn n start) x
+
+  unfoldable pub binary_expr : ℕ → Reader Tree
+  binary_expr n = do
+    start ← span_here
+    x ← unary_expr
+    binary_from n start x
+
+  -- ---- AssignmentExpression: sections 13.14 and 13.15
+
+  unfoldable pub conditional : Span → Tree → Reader Tree
+  conditional start test = do
+    skip
+    yes_case ← inside assignment
+    expect kind.Colon
+    no_case ← inner assignment
+    span ← since start
+    unassigned (tree.cond span test yes_case no_case)
+
+  unfoldable pub assigned_to : Span → Tree → AssignOp → Reader Tree
+  assigned_to start x op = do
+    skip
+    y ← inner assignment
+    span ← since start
+    pure (tree.assign span op x y)
+
+  unfoldable pub assigned : Span → Tree → AssignOp → Reader Tree
+  assigned start x op = λ s. if is_simple_target x then assigned_to start x op s else reject (fault_at (span_of x) (unassignable op)) s
+
+  abbrev pub assigned_or : Bool → Span → Tree → Option AssignOp → Reader Tree
+  assigned_or is_async start x (Some op) = assigned start x op
+  assigned_or is_async start x None = unheaded is_async x
+
+  unfoldable pub behind_operators : Bool → Span → Tree → Reader Tree
+  behind_operators is_async start x = λ s. if sees kind.QuestionMark s.at then conditional start x s else assigned_or is_async start x (assign_operator (kind_at s.at)) s
+
+  unfoldable pub assignment_expr : Reader Tree
+  assignment_expr = λ s. (do
+    x ← binary_expr 1
+    behind_operators (begins_async_call s.at) (span_at s.at) x) s
+
+  -- ---- Expression: section 13.16
+
+  unfoldable pub sequence_turn : List Tree → Reader (Step (List Tree) (List Tree))
+  sequence_turn found = do
+    skip
+    x ← assignment_expr
+    λ s. if sees kind.Comma s.at then Ok (More (found ++ x ∷ []), s) else Ok (Done (found ++ x ∷ []), s)
+
+  unfoldable pub sequence_from : Span → Tree → Reader Tree
+  sequence_from start x = do
+    xs ← loop sequence_turn (x ∷ [])
+    span ← since start
+    pure (tree.seq span (listed xs))
+
+  unfoldable pub expression_expr : Reader Tree
+  expression_expr = do
+    start ← span_here
+    x ← assignment_expr
+    λ s. if sees kind.Comma s.at then sequence_from start x s else Ok (x, s)
+
+  -- ---- an expression of a class
+
+  unfoldable pub expr_level : Class → Reader Tree
+  expr_level expression = expression_expr
+  expr_level assignment = assignment_expr
+  expr_level (operator n) = binary_expr n
+  expr_level unary = unary_expr
+  expr_level left_side = left_expr
+  expr_level callee = left false
+
+-- an expression of a class in so many levels
+unfoldable pub expr : ℕ → Class → Reader Tree
+expr zero class = too_deep
+expr (suc n) class = expr_level (expr n) class
