@@ -1,28 +1,27 @@
-//! Letting go of trees. What is dropped at the end of a scope is proved in each crate where that happens, for every type of
-//! the tree; a call of `discard` costs such a crate nothing. Each costs this crate one to three minutes, so only these have it.
+//! Letting go of trees. What is dropped at the end of a scope is proved in each crate where that happens, for every type that
+//! stands there, as far as its nodes; a call of `discard` costs such a crate nothing.
 
 use crate::expr::Expr;
-use crate::node::Node;
 use crate::pat::Pat;
 use crate::script::Script;
 use crate::stmt::Stmt;
 
-impl Expr<Node> {
+impl<N: Drop> Expr<N> {
     /// Drops it.
     pub fn discard(self) {}
 }
 
-impl Pat<Node> {
+impl<N: Drop> Pat<N> {
     /// Drops it.
     pub fn discard(self) {}
 }
 
-impl Stmt<Node> {
+impl<N: Drop> Stmt<N> {
     /// Drops it.
     pub fn discard(self) {}
 }
 
-impl Script<Node> {
+impl<N: Drop> Script<N> {
     /// Drops it.
     pub fn discard(self) {}
 }

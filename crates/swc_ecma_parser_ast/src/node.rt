@@ -5,9 +5,11 @@ ghost use Rattle.std.specs.Prelude.{◌≡◌, false, IfOk, MatchOption, map};
 ghost use Rattle.swc_ecma_parser_model.specs.Tree.{listed};
 ghost use Rattle.swc_ecma_parser_model.specs.Kinds.{is_expr, is_pat, is_stmt, is_list};
 ghost use Rattle.swc_ecma_parser_ast.specs.View.{view_expr, view_pat, view_stmt};
+ghost use Rattle.swc_ecma_parser_ast.specs.Nodes.{view_any};
 ghost use Rattle.swc_ecma_parser_ast.specs.Equal as equal;
 
-use crate::expr::Expr;
+use crate::call::{CallExpr, Callee, ExprOrSpread, MemberExpr, MemberProp};
+use crate::expr::{BinExpr, Expr};
 use crate::pat::Pat;
 use crate::stmt::Stmt;
 use std::alloc::{AllocError, Global};
@@ -40,7 +42,7 @@ pub struct StmtList<N = Node> {
 
 /// What a node may hold.
 #[cycle(ast)]
-#[derive(Debug, Drop)]
+#[derive(Debug)]
 pub enum Any {
     Expr(Box<Expr<Node>>),
     Pat(Box<Pat<Node>>),
@@ -50,9 +52,68 @@ pub enum Any {
 
 /// A part of a tree, of any kind. Contracts see it as the model's tree, which is never one that is left out.
 #[cycle(ast)]
-#[derive(Debug, Drop)]
+#[derive(Debug)]
 pub struct Node {
     inner: Any,
+}
+
+impl Node {
+    /// What it holds.
+    fn into_any(self) -> Any
+        ensures { view_any result ≡ self }
+    {
+        let Node { inner } = self;
+        inner
+    }
+}
+
+/// Drops them: in its proof a node is known by its bound alone.
+fn discard_stmts<N: Drop>(_stmts: Vec<Stmt<N>>) {}
+
+/// As `discard_stmts`.
+fn discard_args<N: Drop>(_args: Vec<ExprOrSpread<N>>) {}
+
+/// As `discard_stmts`.
+fn discard_prop<N: Drop>(_prop: MemberProp<N>) {}
+
+impl Drop for Node {
+    /// A chain on the left (`a + a + ..`, `a.a.a..`, `f()()..`), which no limit on levels bounds, is dropped in a loop.
+    #[cycle(ast)]
+    fn drop(mut self) {
+        loop {
+            let Node { inner } = self;
+            match inner {
+                Any::Expr(expr) => match Box::into_inner(expr) {
+                    Expr::Bin(bin) => {
+                        let BinExpr { left, .. } = bin;
+                        let ExprBox { node } = left;
+                        self = node;
+                    }
+                    Expr::Member(member) => {
+                        let MemberExpr { obj, prop, .. } = member;
+                        discard_prop(prop);
+                        let ExprBox { node } = obj;
+                        self = node;
+                    }
+                    Expr::Call(call) => {
+                        let CallExpr { callee, args, .. } = call;
+                        discard_args(args);
+                        match callee {
+                            Callee::Expr(callee) => {
+                                let ExprBox { node } = callee;
+                                self = node;
+                            }
+                            Callee::Super(_) | Callee::Import(_) => return,
+                        }
+                    }
+                    other => return other.discard(),
+                },
+                Any::Pat(pat) => return Box::into_inner(pat).discard(),
+                Any::Stmt(stmt) => return Box::into_inner(stmt).discard(),
+                Any::Stmts(stmts) => return discard_stmts(stmts),
+            }
+        }
+    }
 }
 
 impl Model for Node {
@@ -186,10 +247,12 @@ impl ExprBox<Node> {
         ensures { MatchOption result (is_expr self.node.tree ≡ false) (λ e. view_expr e ≡ self.node.tree) }
     {
         let ExprBox { node } = self;
-        let Node { inner } = node;
-        match inner {
+        match node.into_any() {
             Any::Expr(e) => Some(Box::into_inner(e)),
-            _ => None,
+            inner => {
+                let _node = Node { inner };
+                None
+            }
         }
     }
 }
@@ -220,10 +283,12 @@ impl PatBox<Node> {
         ensures { MatchOption result (is_pat self.node.tree ≡ false) (λ e. view_pat e ≡ self.node.tree) }
     {
         let PatBox { node } = self;
-        let Node { inner } = node;
-        match inner {
+        match node.into_any() {
             Any::Pat(e) => Some(Box::into_inner(e)),
-            _ => None,
+            inner => {
+                let _node = Node { inner };
+                None
+            }
         }
     }
 }
@@ -254,10 +319,12 @@ impl StmtBox<Node> {
         ensures { MatchOption result (is_stmt self.node.tree ≡ false) (λ e. view_stmt e ≡ self.node.tree) }
     {
         let StmtBox { node } = self;
-        let Node { inner } = node;
-        match inner {
+        match node.into_any() {
             Any::Stmt(e) => Some(Box::into_inner(e)),
-            _ => None,
+            inner => {
+                let _node = Node { inner };
+                None
+            }
         }
     }
 }
@@ -288,10 +355,12 @@ impl StmtList<Node> {
         ensures { MatchOption result (is_list self.node.tree ≡ false) (λ xs. listed (map view_stmt xs.items) ≡ self.node.tree) }
     {
         let StmtList { node } = self;
-        let Node { inner } = node;
-        match inner {
+        match node.into_any() {
             Any::Stmts(xs) => Some(xs),
-            _ => None,
+            inner => {
+                let _node = Node { inner };
+                None
+            }
         }
     }
 }
