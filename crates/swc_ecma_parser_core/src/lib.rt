@@ -4,8 +4,6 @@
 
 pub mod access;
 mod array;
-pub mod assignment;
-pub mod cover;
 pub mod grammar;
 pub mod left;
 mod object;

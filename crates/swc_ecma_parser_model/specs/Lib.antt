@@ -8,4 +8,3 @@ pub mod Leaf
 pub mod Code
 pub mod Same
 pub mod Held
-pub mod Targets
