@@ -68,6 +68,34 @@ fn objects(rt: HostRuntime) -> Result<(), Fail> {
     Ok(())
 }
 
+const PATTERNS: &str = "[a, b] = c → Script 0..10, Expr 0..10 → AssignExpr 0..10, ArrayPat 0..6
+[[a], , b.c, ...d] = e → Script 0..22, Expr 0..22 → ArrayPat 0..18, ArrayPat 1..4, MemberExpr 8..11, RestPat 13..17
+[a = 1, [b] = c] = d → Script 0..20, Expr 0..20 → ArrayPat 0..16, AssignPat 1..6, AssignPat 8..15, ArrayPat 8..11
+({a, b: c, [d]: [e], f = 1, 'g': h = 2, ...i} = j) → Script 0..50, Expr 0..50 → AssignExpr 1..49, ObjectPat 1..45, AssignPatProp 2..3, KeyValuePatProp 5..9, KeyValuePatProp 11..19, ArrayPat 16..19, AssignPatProp 21..26, KeyValuePatProp 28..38, AssignPat 33..38, RestPat 40..44
+({a = 1} = b) → Script 0..13, Expr 0..13 → ObjectPat 1..8, AssignPatProp 2..7
+[(a), (b.c)] = d → Script 0..16, Expr 0..16 → ArrayPat 0..12, ParenExpr 1..4, ParenExpr 6..11
+[a] = [b] = c → Script 0..13, Expr 0..13 → ArrayPat 0..3, AssignExpr 6..13, ArrayPat 6..9
+[...[a, b]] = c → Script 0..15, Expr 0..15 → ArrayPat 0..11, RestPat 1..10, ArrayPat 4..10
+[a = 1] → Script 0..7, Expr 0..7 → ArrayLit 0..7, AssignExpr 1..6
+({a = 1}) → refused 2..7 AssignProperty
+[{a = 1}].b → refused 2..7 AssignProperty
+[{a = 1}, {b = 2}] → refused 2..7 AssignProperty
+[...a,] = b → refused 0..7 InvalidPat
+[...a, b] = c → refused 0..9 InvalidPat
+[a + 1] = b → refused 0..7 InvalidPat
+[f()] = a → refused 0..5 InvalidPat
+([a]) = b → refused 0..5 InvalidPat
+({...{a}} = b) → refused 1..9 InvalidPat
+({if} = a) → refused 2..4 ExpectedIdent
+({if = 1} = a) → refused 2..4 ExpectedIdent
+({'a' = 1} = b) → refused 6..7 Unexpected";
+
+#[test]
+fn patterns(rt: HostRuntime) -> Result<(), Fail> {
+    assert_eq!(rt; report(rt.alloc(), PATTERNS, 1000)?.as_str(), "21 rows");
+    Ok(())
+}
+
 const REFUSED: &str = "a ?? b || c → refused 0..11 NullishCoalescingWithLogicalOp
 -a ** b → refused 0..2 UnaryInExp
 1 + f() = 2 → refused 0..7 InvalidPat
@@ -89,6 +117,10 @@ fn levels(rt: HostRuntime) -> Result<(), Fail> {
         ("a ** b ** c → refused 10..11 TooDeep", 3),
         ("a ** b ** c → Script 0..11, Expr 0..11", 4),
         ("a + b + c → Script 0..9, Expr 0..9", 3),
+        ("[[a]] = b → Script 0..9, Expr 0..9", 4),
+        ("[[a]] = b → refused 2..3 TooDeep", 3),
+        ("({a: [b]} = c) → Script 0..14, Expr 0..14", 5),
+        ("({a: [b]} = c) → refused 6..7 TooDeep", 4),
     ] {
         assert_eq!(rt; report(rt.alloc(), rows, limit)?.as_str(), "1 rows");
     }

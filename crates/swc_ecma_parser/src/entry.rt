@@ -10,14 +10,21 @@ use swc_ecma_parser_error::PResult;
 use swc_ecma_parser_input::Tokens;
 use swc_ecma_parser_state::State;
 use swc_ecma_parser_trees::{
-    BuildsCall, BuildsExpr, BuildsObject, BuildsOperator, BuildsPat, BuildsStmt, Maker, MakerOf,
+    BuildsCall, BuildsExpr, BuildsObject, BuildsOperator, BuildsPat, BuildsPattern, BuildsStmt,
+    Maker, MakerOf,
 };
 
 /// A script, whose items may stand so many levels deep.
 #[tactic(auto, unfolding(swc_ecma_parser_reader::specs::Reader::script))]
 pub fn script<
     I: Tokens,
-    T: BuildsExpr + BuildsCall + BuildsObject + BuildsOperator + BuildsPat + BuildsStmt,
+    T: BuildsExpr
+        + BuildsCall
+        + BuildsObject
+        + BuildsOperator
+        + BuildsPat
+        + BuildsPattern
+        + BuildsStmt,
 >(alloc: Global, state: &mut State<I>, limit: usize) -> PResult<T::Script>
     ensures answers { AnswersScript T.script_of limit (unmarked state.old) result state.new }
     ensures outright { state.old.at.left ≡ [] → IsOk result }

@@ -21,6 +21,7 @@ mod made;
 mod object;
 mod operator;
 mod pattern;
+mod target;
 
 pub use made::Made;
 use std::alloc::{AllocError, Global};

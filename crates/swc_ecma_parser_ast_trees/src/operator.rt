@@ -205,7 +205,7 @@ fn pattern_target(pat: Pat) -> AssignTargetPat
 }
 
 /// Whether it is a name or a member, in any number of parentheses.
-fn is_simple(expr: &Expr) -> bool
+pub fn is_simple(expr: &Expr) -> bool
     ensures { result ≡ forms.is_simple_target (view_expr expr.now) }
 {
     match expr {

@@ -5,6 +5,7 @@ ghost use Rattle.swc_ecma_parser_ast_trees.specs.View.{view_made};
 use crate::Ast;
 use crate::boxes::{all, beside};
 use crate::made::Made;
+use crate::target::as_pattern;
 use std::alloc::{AllocError, Global};
 use swc_ecma_parser_ast::{
     ArrayPat, AssignPat, AssignPatProp, BindingIdent, Ident, Invalid, KeyValuePatProp, ObjectPat,
@@ -74,6 +75,10 @@ impl BuildsPattern for Ast {
 
     fn expr_pat(alloc: Global, expr: Made) -> Result<Pat, AllocError> {
         Ok(Pat::Expr(expr.into_handle()))
+    }
+
+    fn target(alloc: Global, expr: Made) -> Result<Option<Pat>, AllocError> {
+        as_pattern(alloc, expr.into_inner(), false)
     }
 
     fn invalid_pat(alloc: Global, span: Span) -> Result<Pat, AllocError> {

@@ -5,12 +5,12 @@ use denote.Ref.{MutBor}
 use Rattle.swc_ecma_parser_error.specs.declared.error.Error.{Error}
 use Rattle.swc_ecma_parser_model.specs.Tree.{Tree}
 use Rattle.swc_ecma_parser_trees.specs.declared.Maker.{Maker}
-use Rattle.swc_ecma_parser_grammar.specs.declared.class.Class.{Class}
 use Rattle.swc_ecma_parser_grammar.specs.declared.position.Position.{Position}
 use Rattle.swc_ecma_parser_reader.specs.State.{State, GivesAs}
-use Rattle.swc_ecma_parser_reader.specs.Classes.{class_of}
-use Rattle.swc_ecma_parser_reader.specs.Expressions.{expr}
 use Rattle.swc_ecma_parser_reader.specs.Reader.{stmt, pat}
+use Rattle.swc_ecma_parser_core.specs.declared.cover.Cover.{Cover}
+use Rattle.swc_ecma_parser_core.specs.declared.cover.Reading.{Reading}
+use Rattle.swc_ecma_parser_core.specs.Covers.{cover_of, read}
 
 -- what such a value asks for and answers, of a maker of trees and a source
 abbrev pub Pre : Type 0 → Type 0 → Type 1
@@ -20,10 +20,10 @@ abbrev pub Post : Type 0 → Type 0 → Type 0 → Type 1
 Post M P A = Bor M → MutBor P → ℕ → Result A Error → MutBor P → Type 0
 
 abbrev pub ExprPre : Type 0 → Type 0 → Type 1
-ExprPre M P = Bor M → MutBor P → ℕ → Class → Type 0
+ExprPre M P = Bor M → MutBor P → ℕ → Reading → Type 0
 
 abbrev pub ExprPost : Type 0 → Type 0 → Type 0 → Type 1
-ExprPost M P A = Bor M → MutBor P → ℕ → Class → Result A Error → MutBor P → Type 0
+ExprPost M P A = Bor M → MutBor P → ℕ → Reading → Result A Error → MutBor P → Type 0
 
 abbrev pub StmtPre : Type 0 → Type 0 → Type 1
 StmtPre M P = Bor M → MutBor P → ℕ → Position → Type 0
@@ -34,11 +34,11 @@ StmtPost M P A = Bor M → MutBor P → ℕ → Position → Result A Error → 
 -- they may be called, and give what the reader gives
 pub record Nests {P T X N S : Type 0} (seen : P → State) (expr_of : X → Tree) (pat_of : N → Tree) (stmt_of : S → Tree) (depth : ℕ)
     (stmt_pre : StmtPre (Maker T X N S) P) (stmt_post : StmtPost (Maker T X N S) P S)
-    (expr_pre : ExprPre (Maker T X N S) P) (expr_post : ExprPost (Maker T X N S) P X)
+    (expr_pre : ExprPre (Maker T X N S) P) (expr_post : ExprPost (Maker T X N S) P (Cover X))
     (pat_pre : Pre (Maker T X N S) P) (pat_post : Post (Maker T X N S) P N) : Type 0 where
   pub stmt_callable : (maker : Bor (Maker T X N S)) (old : MutBor P) (at : Position) → stmt_pre maker old depth at
   pub stmt_gives : (maker : Bor (Maker T X N S)) (old new : MutBor P) (at : Position) (r : Result S Error) → stmt_post maker old depth at r new → GivesAs stmt_of (stmt depth at (seen old.now)) r (seen new.now)
-  pub expr_callable : (maker : Bor (Maker T X N S)) (old : MutBor P) (class : Class) → expr_pre maker old depth class
-  pub expr_gives : (maker : Bor (Maker T X N S)) (old new : MutBor P) (class : Class) (r : Result X Error) → expr_post maker old depth class r new → GivesAs expr_of (expr depth (class_of class) (seen old.now)) r (seen new.now)
+  pub expr_callable : (maker : Bor (Maker T X N S)) (old : MutBor P) (asked : Reading) → expr_pre maker old depth asked
+  pub expr_gives : (maker : Bor (Maker T X N S)) (old new : MutBor P) (asked : Reading) (r : Result (Cover X) Error) → expr_post maker old depth asked r new → GivesAs (cover_of expr_of) (read depth asked (seen old.now)) r (seen new.now)
   pub pat_callable : (maker : Bor (Maker T X N S)) (old : MutBor P) → pat_pre maker old depth
   pub pat_gives : (maker : Bor (Maker T X N S)) (old new : MutBor P) (r : Result N Error) → pat_post maker old depth r new → GivesAs pat_of (pat depth (seen old.now)) r (seen new.now)

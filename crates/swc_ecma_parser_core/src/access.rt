@@ -10,6 +10,7 @@ ghost use Rattle.swc_ecma_parser_reader.specs.Expressions as exprs;
 ghost use Rattle.swc_ecma_parser_reader.specs.State.{Gives, GivesAs};
 ghost use Rattle.swc_ecma_parser_token.specs.declared.kind.TokenKind.TheVariants as kind;
 
+use crate::cover::{Cover, Reading, nested};
 use crate::grammar::Grammar;
 use crate::steps::{grown, pushed, since, with_in};
 use std::alloc::{AllocError, Global};
@@ -86,15 +87,15 @@ pub fn inside<
     P: Source,
     T: BuildsCall,
     S: Fn(&MakerOf<T>, &mut P, usize, Position) -> PResult<T::Stmt>,
-    E: Fn(&MakerOf<T>, &mut P, usize, Class) -> PResult<T::Expr>,
+    E: Fn(&MakerOf<T>, &mut P, usize, Reading) -> PResult<Cover<T::Expr>>,
     N: Fn(&MakerOf<T>, &mut P, usize) -> PResult<T::Pat>,
 >(g: &Grammar<S, E, N>, t: &MakerOf<T>, p: &mut P, class: Class) -> PResult<T::Expr>
     requires { Nests P.seen T.expr_of T.pat_of T.stmt_of g.now.depth (S.pre g.now.stmt) (S.post g.now.stmt) (E.pre g.now.expr) (E.post g.now.expr) (N.pre g.now.pat) (N.post g.now.pat) }
-    ensures { GivesAs (T.expr_of) (exprs.inside (exprs.expr g.now.depth) (class_of class) (P.seen p.old)) result (P.seen p.new) }
+    ensures { GivesAs (T.expr_of) (exprs.inside (exprs.expr g.now.depth) (exprs.cover g.now.depth) (class_of class) (P.seen p.old)) result (P.seen p.new) }
 {
     let outer = p.flags();
     p.set_flags(with_in(outer));
-    let inner = (g.expr)(t, p, g.depth, class)?;
+    let inner = nested(g, t, p, class)?;
     p.set_flags(outer);
     Ok(inner)
 }
@@ -105,11 +106,11 @@ fn brackets<
     P: Source,
     T: BuildsCall,
     S: Fn(&MakerOf<T>, &mut P, usize, Position) -> PResult<T::Stmt>,
-    E: Fn(&MakerOf<T>, &mut P, usize, Class) -> PResult<T::Expr>,
+    E: Fn(&MakerOf<T>, &mut P, usize, Reading) -> PResult<Cover<T::Expr>>,
     N: Fn(&MakerOf<T>, &mut P, usize) -> PResult<T::Pat>,
 >(g: &Grammar<S, E, N>, t: &MakerOf<T>, p: &mut P) -> PResult<Property<T::Expr>>
     requires { Nests P.seen T.expr_of T.pat_of T.stmt_of g.now.depth (S.pre g.now.stmt) (S.post g.now.stmt) (E.pre g.now.expr) (E.post g.now.expr) (N.pre g.now.pat) (N.post g.now.pat) }
-    ensures { GivesAs (property_of T.expr_of) (exprs.brackets (exprs.expr g.now.depth) (P.seen p.old)) result (P.seen p.new) }
+    ensures { GivesAs (property_of T.expr_of) (exprs.brackets (exprs.expr g.now.depth) (exprs.cover g.now.depth) (P.seen p.old)) result (P.seen p.new) }
 {
     let start = p.span();
     p.skip()?;
@@ -132,11 +133,11 @@ pub fn access<
     P: Source,
     T: BuildsCall,
     S: Fn(&MakerOf<T>, &mut P, usize, Position) -> PResult<T::Stmt>,
-    E: Fn(&MakerOf<T>, &mut P, usize, Class) -> PResult<T::Expr>,
+    E: Fn(&MakerOf<T>, &mut P, usize, Reading) -> PResult<Cover<T::Expr>>,
     N: Fn(&MakerOf<T>, &mut P, usize) -> PResult<T::Pat>,
 >(g: &Grammar<S, E, N>, t: &MakerOf<T>, p: &mut P) -> PResult<Property<T::Expr>>
     requires { Nests P.seen T.expr_of T.pat_of T.stmt_of g.now.depth (S.pre g.now.stmt) (S.post g.now.stmt) (E.pre g.now.expr) (E.post g.now.expr) (N.pre g.now.pat) (N.post g.now.pat) }
-    ensures { GivesAs (property_of T.expr_of) (exprs.access (exprs.expr g.now.depth) (P.seen p.old)) result (P.seen p.new) }
+    ensures { GivesAs (property_of T.expr_of) (exprs.access (exprs.expr g.now.depth) (exprs.cover g.now.depth) (P.seen p.old)) result (P.seen p.new) }
 {
     if p.sees(TokenKind::Dot) {
         p.skip()?;
@@ -151,11 +152,11 @@ fn spread_element<
     P: Source,
     T: BuildsCall,
     S: Fn(&MakerOf<T>, &mut P, usize, Position) -> PResult<T::Stmt>,
-    E: Fn(&MakerOf<T>, &mut P, usize, Class) -> PResult<T::Expr>,
+    E: Fn(&MakerOf<T>, &mut P, usize, Reading) -> PResult<Cover<T::Expr>>,
     N: Fn(&MakerOf<T>, &mut P, usize) -> PResult<T::Pat>,
 >(g: &Grammar<S, E, N>, t: &MakerOf<T>, p: &mut P) -> PResult<T::Arg>
     requires { Nests P.seen T.expr_of T.pat_of T.stmt_of g.now.depth (S.pre g.now.stmt) (S.post g.now.stmt) (E.pre g.now.expr) (E.post g.now.expr) (N.pre g.now.pat) (N.post g.now.pat) }
-    ensures { GivesAs (T.arg_of) (exprs.spread_element (exprs.expr g.now.depth) (P.seen p.old)) result (P.seen p.new) }
+    ensures { GivesAs (T.arg_of) (exprs.spread_element (exprs.expr g.now.depth) (exprs.cover g.now.depth) (P.seen p.old)) result (P.seen p.new) }
 {
     let dots = p.span();
     p.skip()?;
@@ -169,11 +170,11 @@ fn plain_element<
     P: Source,
     T: BuildsCall,
     S: Fn(&MakerOf<T>, &mut P, usize, Position) -> PResult<T::Stmt>,
-    E: Fn(&MakerOf<T>, &mut P, usize, Class) -> PResult<T::Expr>,
+    E: Fn(&MakerOf<T>, &mut P, usize, Reading) -> PResult<Cover<T::Expr>>,
     N: Fn(&MakerOf<T>, &mut P, usize) -> PResult<T::Pat>,
 >(g: &Grammar<S, E, N>, t: &MakerOf<T>, p: &mut P) -> PResult<T::Arg>
     requires { Nests P.seen T.expr_of T.pat_of T.stmt_of g.now.depth (S.pre g.now.stmt) (S.post g.now.stmt) (E.pre g.now.expr) (E.post g.now.expr) (N.pre g.now.pat) (N.post g.now.pat) }
-    ensures { GivesAs (T.arg_of) (exprs.plain_element (exprs.expr g.now.depth) (P.seen p.old)) result (P.seen p.new) }
+    ensures { GivesAs (T.arg_of) (exprs.plain_element (exprs.expr g.now.depth) (exprs.cover g.now.depth) (P.seen p.old)) result (P.seen p.new) }
 {
     let expr = inside(g, t, p, Class::Assignment)?;
     grown(p, T::element(t.alloc, None, expr))
@@ -185,11 +186,11 @@ pub fn element<
     P: Source,
     T: BuildsCall,
     S: Fn(&MakerOf<T>, &mut P, usize, Position) -> PResult<T::Stmt>,
-    E: Fn(&MakerOf<T>, &mut P, usize, Class) -> PResult<T::Expr>,
+    E: Fn(&MakerOf<T>, &mut P, usize, Reading) -> PResult<Cover<T::Expr>>,
     N: Fn(&MakerOf<T>, &mut P, usize) -> PResult<T::Pat>,
 >(g: &Grammar<S, E, N>, t: &MakerOf<T>, p: &mut P) -> PResult<T::Arg>
     requires { Nests P.seen T.expr_of T.pat_of T.stmt_of g.now.depth (S.pre g.now.stmt) (S.post g.now.stmt) (E.pre g.now.expr) (E.post g.now.expr) (N.pre g.now.pat) (N.post g.now.pat) }
-    ensures { GivesAs (T.arg_of) (exprs.element (exprs.expr g.now.depth) (P.seen p.old)) result (P.seen p.new) }
+    ensures { GivesAs (T.arg_of) (exprs.element (exprs.expr g.now.depth) (exprs.cover g.now.depth) (P.seen p.old)) result (P.seen p.new) }
 {
     if p.sees(TokenKind::DotDotDot) {
         return spread_element(g, t, p);
@@ -203,11 +204,11 @@ pub fn arguments<
     P: Source,
     T: BuildsCall,
     S: Fn(&MakerOf<T>, &mut P, usize, Position) -> PResult<T::Stmt>,
-    E: Fn(&MakerOf<T>, &mut P, usize, Class) -> PResult<T::Expr>,
+    E: Fn(&MakerOf<T>, &mut P, usize, Reading) -> PResult<Cover<T::Expr>>,
     N: Fn(&MakerOf<T>, &mut P, usize) -> PResult<T::Pat>,
 >(g: &Grammar<S, E, N>, t: &MakerOf<T>, p: &mut P) -> PResult<Vec<T::Arg>>
     requires { Nests P.seen T.expr_of T.pat_of T.stmt_of g.now.depth (S.pre g.now.stmt) (S.post g.now.stmt) (E.pre g.now.expr) (E.post g.now.expr) (N.pre g.now.pat) (N.post g.now.pat) }
-    ensures { GivesAs (λ found. map T.arg_of found.items) (exprs.arguments (exprs.expr g.now.depth) (P.seen p.old)) result (P.seen p.new) }
+    ensures { GivesAs (λ found. map T.arg_of found.items) (exprs.arguments (exprs.expr g.now.depth) (exprs.cover g.now.depth) (P.seen p.old)) result (P.seen p.new) }
 {
     p.skip()?;
     let mut found = Vec::new(t.alloc);

@@ -4,6 +4,8 @@
 
 pub mod access;
 mod array;
+pub mod assignment;
+pub mod cover;
 pub mod grammar;
 pub mod left;
 mod object;

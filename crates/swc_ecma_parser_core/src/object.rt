@@ -1,15 +1,17 @@
 //! Objects without methods: ECMA-262, section 13.2.5.
 
-ghost use Rattle.std.specs.Prelude.{◌≡◌, IfOk, map};
-ghost use Rattle.swc_ecma_parser_core.specs.Accesses.{key_of};
+ghost use Rattle.std.specs.Prelude.{◌≡◌, true, IfOk};
+ghost use Rattle.swc_ecma_parser_core.specs.Accesses.{key_of, word_of};
+ghost use Rattle.swc_ecma_parser_core.specs.Covers.{bare, cover_of, covers_of, is_literal};
 ghost use Rattle.swc_ecma_parser_core.specs.Nests.{Nests};
 ghost use Rattle.swc_ecma_parser_reader.specs.Classes.{class_of};
 ghost use Rattle.swc_ecma_parser_reader.specs.Expressions as exprs;
 ghost use Rattle.swc_ecma_parser_reader.specs.State.{GivesAs};
 
 use crate::access::{inside, word_property};
+use crate::cover::{Cover, Covers, Reading, behind_comma, covered, done, joined};
 use crate::grammar::Grammar;
-use crate::steps::{grown, pushed, since};
+use crate::steps::{grown, since};
 use std::alloc::{AllocError, Global};
 use swc_ecma_parser_common::Span;
 use swc_ecma_parser_error::{PResult, SyntaxError};
@@ -66,11 +68,11 @@ fn computed_key<
     P: Source,
     T: BuildsCall + BuildsObject,
     S: Fn(&MakerOf<T>, &mut P, usize, Position) -> PResult<T::Stmt>,
-    E: Fn(&MakerOf<T>, &mut P, usize, Class) -> PResult<T::Expr>,
+    E: Fn(&MakerOf<T>, &mut P, usize, Reading) -> PResult<Cover<T::Expr>>,
     N: Fn(&MakerOf<T>, &mut P, usize) -> PResult<T::Pat>,
 >(g: &Grammar<S, E, N>, t: &MakerOf<T>, p: &mut P) -> PResult<Key<T::Expr>>
     requires { Nests P.seen T.expr_of T.pat_of T.stmt_of g.now.depth (S.pre g.now.stmt) (S.post g.now.stmt) (E.pre g.now.expr) (E.post g.now.expr) (N.pre g.now.pat) (N.post g.now.pat) }
-    ensures { GivesAs (key_of T.expr_of) (exprs.computed_key (exprs.expr g.now.depth) (P.seen p.old)) result (P.seen p.new) }
+    ensures { GivesAs (key_of T.expr_of) (exprs.computed_key (exprs.expr g.now.depth) (exprs.cover g.now.depth) (P.seen p.old)) result (P.seen p.new) }
 {
     let start = p.span();
     p.skip()?;
@@ -86,11 +88,11 @@ fn property_key<
     P: Source,
     T: BuildsCall + BuildsObject,
     S: Fn(&MakerOf<T>, &mut P, usize, Position) -> PResult<T::Stmt>,
-    E: Fn(&MakerOf<T>, &mut P, usize, Class) -> PResult<T::Expr>,
+    E: Fn(&MakerOf<T>, &mut P, usize, Reading) -> PResult<Cover<T::Expr>>,
     N: Fn(&MakerOf<T>, &mut P, usize) -> PResult<T::Pat>,
 >(g: &Grammar<S, E, N>, t: &MakerOf<T>, p: &mut P) -> PResult<Key<T::Expr>>
     requires { Nests P.seen T.expr_of T.pat_of T.stmt_of g.now.depth (S.pre g.now.stmt) (S.post g.now.stmt) (E.pre g.now.expr) (E.post g.now.expr) (N.pre g.now.pat) (N.post g.now.pat) }
-    ensures { GivesAs (key_of T.expr_of) (exprs.key (exprs.expr g.now.depth) (P.seen p.old)) result (P.seen p.new) }
+    ensures { GivesAs (key_of T.expr_of) (exprs.key (exprs.expr g.now.depth) (exprs.cover g.now.depth) (P.seen p.old)) result (P.seen p.new) }
 {
     if p.is_word_here() {
         return Ok(Key::Word(word_property(p)?));
@@ -122,7 +124,7 @@ fn key_value<
     P: Source,
     T: BuildsCall + BuildsObject,
     S: Fn(&MakerOf<T>, &mut P, usize, Position) -> PResult<T::Stmt>,
-    E: Fn(&MakerOf<T>, &mut P, usize, Class) -> PResult<T::Expr>,
+    E: Fn(&MakerOf<T>, &mut P, usize, Reading) -> PResult<Cover<T::Expr>>,
     N: Fn(&MakerOf<T>, &mut P, usize) -> PResult<T::Pat>,
 >(
     g: &Grammar<S, E, N>,
@@ -130,24 +132,92 @@ fn key_value<
     p: &mut P,
     start: Span,
     key: Key<T::Expr>,
-) -> PResult<T::Prop>
+) -> PResult<Cover<T::Prop>>
     requires { Nests P.seen T.expr_of T.pat_of T.stmt_of g.now.depth (S.pre g.now.stmt) (S.post g.now.stmt) (E.pre g.now.expr) (E.post g.now.expr) (N.pre g.now.pat) (N.post g.now.pat) }
-    ensures { GivesAs T.prop_of (exprs.key_value (exprs.expr g.now.depth) start (key_of T.expr_of key) (P.seen p.old)) result (P.seen p.new) }
+    ensures { GivesAs (cover_of T.prop_of) (exprs.key_value (exprs.expr g.now.depth) (exprs.cover g.now.depth) start (key_of T.expr_of key) (P.seen p.old)) result (P.seen p.new) }
+{
+    p.skip()?;
+    let Cover { tree, mark, comma } = covered(g, t, p)?;
+    let span = since(p, start);
+    let key = grown(p, made_key::<T>(t.alloc, key))?;
+    let tree = grown(p, T::key_value_prop(t.alloc, span, key, tree))?;
+    Ok(Cover { tree, mark, comma })
+}
+
+/// A name and its default, from `=` on: a part that only a pattern has.
+#[tactic(auto, unfolding(swc_ecma_parser_reader::specs::Expressions::initialized))]
+fn initialized<
+    P: Source,
+    T: BuildsCall + BuildsObject,
+    S: Fn(&MakerOf<T>, &mut P, usize, Position) -> PResult<T::Stmt>,
+    E: Fn(&MakerOf<T>, &mut P, usize, Reading) -> PResult<Cover<T::Expr>>,
+    N: Fn(&MakerOf<T>, &mut P, usize) -> PResult<T::Pat>,
+>(
+    g: &Grammar<S, E, N>,
+    t: &MakerOf<T>,
+    p: &mut P,
+    start: Span,
+    name: Ident,
+) -> PResult<Cover<T::Prop>>
+    requires { Nests P.seen T.expr_of T.pat_of T.stmt_of g.now.depth (S.pre g.now.stmt) (S.post g.now.stmt) (E.pre g.now.expr) (E.post g.now.expr) (N.pre g.now.pat) (N.post g.now.pat) }
+    ensures { GivesAs (cover_of T.prop_of) (exprs.initialized (exprs.expr g.now.depth) (exprs.cover g.now.depth) start (word_of name) (P.seen p.old)) result (P.seen p.new) }
 {
     p.skip()?;
     let value = inside(g, t, p, Class::Assignment)?;
     let span = since(p, start);
-    let key = grown(p, made_key::<T>(t.alloc, key))?;
-    grown(p, T::key_value_prop(t.alloc, span, key, value))
+    let tree = grown(p, T::assign_prop(t.alloc, span, name, value))?;
+    Ok(Cover {
+        tree,
+        mark: Some(span),
+        comma: false,
+    })
 }
 
-/// What stands behind a key.
-#[tactic(auto, unfolding(swc_ecma_parser_reader::specs::Expressions::behind_key))]
-fn behind_key<
+/// The same where it is a name.
+#[tactic(auto, unfolding(swc_ecma_parser_reader::specs::Expressions::initialized_name), using(crate::proofs::Refusals::reject_cover))]
+fn initialized_name<
     P: Source,
     T: BuildsCall + BuildsObject,
     S: Fn(&MakerOf<T>, &mut P, usize, Position) -> PResult<T::Stmt>,
-    E: Fn(&MakerOf<T>, &mut P, usize, Class) -> PResult<T::Expr>,
+    E: Fn(&MakerOf<T>, &mut P, usize, Reading) -> PResult<Cover<T::Expr>>,
+    N: Fn(&MakerOf<T>, &mut P, usize) -> PResult<T::Pat>,
+>(
+    g: &Grammar<S, E, N>,
+    t: &MakerOf<T>,
+    p: &mut P,
+    start: Span,
+    name: Ident,
+) -> PResult<Cover<T::Prop>>
+    requires { Nests P.seen T.expr_of T.pat_of T.stmt_of g.now.depth (S.pre g.now.stmt) (S.post g.now.stmt) (E.pre g.now.expr) (E.post g.now.expr) (N.pre g.now.pat) (N.post g.now.pat) }
+    ensures { GivesAs (cover_of T.prop_of) (exprs.initialized_name (exprs.expr g.now.depth) (exprs.cover g.now.depth) start name.span name.sym (P.seen p.old)) result (P.seen p.new) }
+{
+    if !is_name(p.flags(), name.sym.as_str()) {
+        return Err(p.reject(SyntaxError::ExpectedIdent, name.span));
+    }
+    initialized(g, t, p, start, name)
+}
+
+/// A key by itself.
+fn bare_key<P: Source, T: BuildsObject>(
+    alloc: Global,
+    p: &mut P,
+    key: Key<T::Expr>,
+) -> PResult<Cover<T::Prop>>
+    ensures { GivesAs (cover_of T.prop_of) (bare (key_of T.expr_of key) (P.seen p.old)) result (P.seen p.new) }
+{
+    match key {
+        Key::Word(name) => Ok(done(shorthand_name::<P, T>(alloc, p, name)?)),
+        _ => Err(p.wanted(Wanted::Expression)),
+    }
+}
+
+/// A key and its default, from `=` on, which only a name has.
+#[tactic(auto, using(crate::proofs::Refusals::wanted_cover))]
+fn initialized_key<
+    P: Source,
+    T: BuildsCall + BuildsObject,
+    S: Fn(&MakerOf<T>, &mut P, usize, Position) -> PResult<T::Stmt>,
+    E: Fn(&MakerOf<T>, &mut P, usize, Reading) -> PResult<Cover<T::Expr>>,
     N: Fn(&MakerOf<T>, &mut P, usize) -> PResult<T::Pat>,
 >(
     g: &Grammar<S, E, N>,
@@ -155,17 +225,41 @@ fn behind_key<
     p: &mut P,
     start: Span,
     key: Key<T::Expr>,
-) -> PResult<T::Prop>
+) -> PResult<Cover<T::Prop>>
     requires { Nests P.seen T.expr_of T.pat_of T.stmt_of g.now.depth (S.pre g.now.stmt) (S.post g.now.stmt) (E.pre g.now.expr) (E.post g.now.expr) (N.pre g.now.pat) (N.post g.now.pat) }
-    ensures { GivesAs T.prop_of (exprs.behind_key (exprs.expr g.now.depth) start (key_of T.expr_of key) (P.seen p.old)) result (P.seen p.new) }
+    ensures { GivesAs (cover_of T.prop_of) (exprs.initialized_key (exprs.expr g.now.depth) (exprs.cover g.now.depth) start (key_of T.expr_of key) (P.seen p.old)) result (P.seen p.new) }
+{
+    match key {
+        Key::Word(name) => initialized_name(g, t, p, start, name),
+        _ => Err(p.wanted(Wanted::Expression)),
+    }
+}
+
+/// What stands behind a key.
+#[tactic(auto, unfolding(swc_ecma_parser_reader::specs::Expressions::behind_key, swc_ecma_parser_reader::specs::Expressions::bare_key))]
+fn behind_key<
+    P: Source,
+    T: BuildsCall + BuildsObject,
+    S: Fn(&MakerOf<T>, &mut P, usize, Position) -> PResult<T::Stmt>,
+    E: Fn(&MakerOf<T>, &mut P, usize, Reading) -> PResult<Cover<T::Expr>>,
+    N: Fn(&MakerOf<T>, &mut P, usize) -> PResult<T::Pat>,
+>(
+    g: &Grammar<S, E, N>,
+    t: &MakerOf<T>,
+    p: &mut P,
+    start: Span,
+    key: Key<T::Expr>,
+) -> PResult<Cover<T::Prop>>
+    requires { Nests P.seen T.expr_of T.pat_of T.stmt_of g.now.depth (S.pre g.now.stmt) (S.post g.now.stmt) (E.pre g.now.expr) (E.post g.now.expr) (N.pre g.now.pat) (N.post g.now.pat) }
+    ensures { GivesAs (cover_of T.prop_of) (exprs.behind_key (exprs.expr g.now.depth) (exprs.cover g.now.depth) start (key_of T.expr_of key) (P.seen p.old)) result (P.seen p.new) }
 {
     if p.sees(TokenKind::Colon) {
         return key_value(g, t, p, start, key);
     }
-    match key {
-        Key::Word(name) => shorthand_name::<P, T>(t.alloc, p, name),
-        _ => Err(p.wanted(Wanted::Expression)),
+    if p.sees(TokenKind::Assign) {
+        return initialized_key(g, t, p, start, key);
     }
+    bare_key::<P, T>(t.alloc, p, key)
 }
 
 /// A property that begins with a key.
@@ -174,11 +268,11 @@ fn keyed_property<
     P: Source,
     T: BuildsCall + BuildsObject,
     S: Fn(&MakerOf<T>, &mut P, usize, Position) -> PResult<T::Stmt>,
-    E: Fn(&MakerOf<T>, &mut P, usize, Class) -> PResult<T::Expr>,
+    E: Fn(&MakerOf<T>, &mut P, usize, Reading) -> PResult<Cover<T::Expr>>,
     N: Fn(&MakerOf<T>, &mut P, usize) -> PResult<T::Pat>,
->(g: &Grammar<S, E, N>, t: &MakerOf<T>, p: &mut P) -> PResult<T::Prop>
+>(g: &Grammar<S, E, N>, t: &MakerOf<T>, p: &mut P) -> PResult<Cover<T::Prop>>
     requires { Nests P.seen T.expr_of T.pat_of T.stmt_of g.now.depth (S.pre g.now.stmt) (S.post g.now.stmt) (E.pre g.now.expr) (E.post g.now.expr) (N.pre g.now.pat) (N.post g.now.pat) }
-    ensures { GivesAs T.prop_of (exprs.keyed_property (exprs.expr g.now.depth) (P.seen p.old)) result (P.seen p.new) }
+    ensures { GivesAs (cover_of T.prop_of) (exprs.keyed_property (exprs.expr g.now.depth) (exprs.cover g.now.depth) (P.seen p.old)) result (P.seen p.new) }
 {
     let start = p.span();
     let key = property_key(g, t, p)?;
@@ -191,16 +285,17 @@ fn spread_property<
     P: Source,
     T: BuildsCall + BuildsObject,
     S: Fn(&MakerOf<T>, &mut P, usize, Position) -> PResult<T::Stmt>,
-    E: Fn(&MakerOf<T>, &mut P, usize, Class) -> PResult<T::Expr>,
+    E: Fn(&MakerOf<T>, &mut P, usize, Reading) -> PResult<Cover<T::Expr>>,
     N: Fn(&MakerOf<T>, &mut P, usize) -> PResult<T::Pat>,
->(g: &Grammar<S, E, N>, t: &MakerOf<T>, p: &mut P) -> PResult<T::Prop>
+>(g: &Grammar<S, E, N>, t: &MakerOf<T>, p: &mut P) -> PResult<Cover<T::Prop>>
     requires { Nests P.seen T.expr_of T.pat_of T.stmt_of g.now.depth (S.pre g.now.stmt) (S.post g.now.stmt) (E.pre g.now.expr) (E.post g.now.expr) (N.pre g.now.pat) (N.post g.now.pat) }
-    ensures { GivesAs T.prop_of (exprs.spread_property (exprs.expr g.now.depth) (P.seen p.old)) result (P.seen p.new) }
+    ensures { GivesAs (cover_of T.prop_of) (exprs.spread_property (exprs.expr g.now.depth) (exprs.cover g.now.depth) (P.seen p.old)) result (P.seen p.new) }
 {
     let dots = p.span();
     p.skip()?;
-    let expr = inside(g, t, p, Class::Assignment)?;
-    grown(p, T::spread_prop(t.alloc, dots, expr))
+    let Cover { tree, mark, comma } = covered(g, t, p)?;
+    let tree = grown(p, T::spread_prop(t.alloc, dots, tree))?;
+    Ok(Cover { tree, mark, comma })
 }
 
 /// A property.
@@ -209,11 +304,11 @@ fn property<
     P: Source,
     T: BuildsCall + BuildsObject,
     S: Fn(&MakerOf<T>, &mut P, usize, Position) -> PResult<T::Stmt>,
-    E: Fn(&MakerOf<T>, &mut P, usize, Class) -> PResult<T::Expr>,
+    E: Fn(&MakerOf<T>, &mut P, usize, Reading) -> PResult<Cover<T::Expr>>,
     N: Fn(&MakerOf<T>, &mut P, usize) -> PResult<T::Pat>,
->(g: &Grammar<S, E, N>, t: &MakerOf<T>, p: &mut P) -> PResult<T::Prop>
+>(g: &Grammar<S, E, N>, t: &MakerOf<T>, p: &mut P) -> PResult<Cover<T::Prop>>
     requires { Nests P.seen T.expr_of T.pat_of T.stmt_of g.now.depth (S.pre g.now.stmt) (S.post g.now.stmt) (E.pre g.now.expr) (E.post g.now.expr) (N.pre g.now.pat) (N.post g.now.pat) }
-    ensures { GivesAs T.prop_of (exprs.property (exprs.expr g.now.depth) (P.seen p.old)) result (P.seen p.new) }
+    ensures { GivesAs (cover_of T.prop_of) (exprs.property (exprs.expr g.now.depth) (exprs.cover g.now.depth) (P.seen p.old)) result (P.seen p.new) }
 {
     if p.sees(TokenKind::DotDotDot) {
         return spread_property(g, t, p);
@@ -222,28 +317,34 @@ fn property<
 }
 
 /// Properties, from `{` on.
-#[tactic(auto, unfolding(swc_ecma_parser_reader::specs::Expressions::properties), using(swc_ecma_parser_reader::proofs::expressions::Loops::properties_done, swc_ecma_parser_reader::proofs::expressions::Loops::properties_err, swc_ecma_parser_reader::proofs::expressions::Loops::properties_last, swc_ecma_parser_reader::proofs::expressions::Loops::properties_more, swc_ecma_parser_reader::proofs::expressions::Loops::properties_comma_err, swc_ecma_parser_reader::proofs::expressions::Loops::property_shorter, swc_ecma_parser_reader::proofs::expressions::Loops::properties_shorter, std::proofs::lemmas::List::map_push))]
+#[tactic(auto, unfolding(swc_ecma_parser_reader::specs::Expressions::properties), using(swc_ecma_parser_reader::proofs::expressions::Loops::properties_done, swc_ecma_parser_reader::proofs::expressions::Loops::properties_err, swc_ecma_parser_reader::proofs::expressions::Loops::properties_last, swc_ecma_parser_reader::proofs::expressions::Loops::properties_more, swc_ecma_parser_reader::proofs::expressions::Loops::properties_comma_err, swc_ecma_parser_reader::proofs::expressions::Loops::property_shorter, swc_ecma_parser_reader::proofs::expressions::Loops::properties_shorter))]
 fn properties<
     P: Source,
     T: BuildsCall + BuildsObject,
     S: Fn(&MakerOf<T>, &mut P, usize, Position) -> PResult<T::Stmt>,
-    E: Fn(&MakerOf<T>, &mut P, usize, Class) -> PResult<T::Expr>,
+    E: Fn(&MakerOf<T>, &mut P, usize, Reading) -> PResult<Cover<T::Expr>>,
     N: Fn(&MakerOf<T>, &mut P, usize) -> PResult<T::Pat>,
->(g: &Grammar<S, E, N>, t: &MakerOf<T>, p: &mut P) -> PResult<Vec<T::Prop>>
+>(g: &Grammar<S, E, N>, t: &MakerOf<T>, p: &mut P) -> PResult<Covers<T::Prop>>
     requires { Nests P.seen T.expr_of T.pat_of T.stmt_of g.now.depth (S.pre g.now.stmt) (S.post g.now.stmt) (E.pre g.now.expr) (E.post g.now.expr) (N.pre g.now.pat) (N.post g.now.pat) }
-    ensures { GivesAs (λ found. map T.prop_of found.items) (exprs.properties (exprs.expr g.now.depth) (P.seen p.old)) result (P.seen p.new) }
+    ensures { GivesAs (covers_of T.prop_of) (exprs.properties (exprs.expr g.now.depth) (exprs.cover g.now.depth) (P.seen p.old)) result (P.seen p.new) }
 {
     p.skip()?;
-    let mut found = Vec::new(t.alloc);
+    let mut found = Covers {
+        parts: Vec::new(t.alloc),
+        mark: None,
+        comma: false,
+    };
     'properties: loop {
         if p.sees(TokenKind::RBrace) {
             p.skip()?;
             return Ok(found);
         }
-        let property = property(g, t, p)?;
-        pushed(p, &mut found, property)?;
+        let is_spread = p.sees(TokenKind::DotDotDot);
+        let part = property(g, t, p)?;
+        joined(p, &mut found, part)?;
         if !p.sees(TokenKind::RBrace) {
             p.expect(TokenKind::Comma, ",")?;
+            behind_comma(&mut found, is_spread);
         }
     }
 }
@@ -254,14 +355,16 @@ pub fn object<
     P: Source,
     T: BuildsCall + BuildsObject,
     S: Fn(&MakerOf<T>, &mut P, usize, Position) -> PResult<T::Stmt>,
-    E: Fn(&MakerOf<T>, &mut P, usize, Class) -> PResult<T::Expr>,
+    E: Fn(&MakerOf<T>, &mut P, usize, Reading) -> PResult<Cover<T::Expr>>,
     N: Fn(&MakerOf<T>, &mut P, usize) -> PResult<T::Pat>,
->(g: &Grammar<S, E, N>, t: &MakerOf<T>, p: &mut P) -> PResult<T::Expr>
+>(g: &Grammar<S, E, N>, t: &MakerOf<T>, p: &mut P) -> PResult<Cover<T::Expr>>
     requires { Nests P.seen T.expr_of T.pat_of T.stmt_of g.now.depth (S.pre g.now.stmt) (S.post g.now.stmt) (E.pre g.now.expr) (E.post g.now.expr) (N.pre g.now.pat) (N.post g.now.pat) }
-    ensures { GivesAs T.expr_of (exprs.object (exprs.expr g.now.depth) (P.seen p.old)) result (P.seen p.new) }
+    ensures gives { GivesAs (cover_of T.expr_of) (exprs.object (exprs.expr g.now.depth) (exprs.cover g.now.depth) (P.seen p.old)) result (P.seen p.new) }
+    ensures literal { IfOk result (λ v. is_literal (T.expr_of v.tree) ≡ true) }
 {
     let start = p.span();
-    let props = properties(g, t, p)?;
+    let Covers { parts, mark, comma } = properties(g, t, p)?;
     let span = since(p, start);
-    grown(p, T::object(t.alloc, span, props))
+    let tree = grown(p, T::object(t.alloc, span, parts))?;
+    Ok(Cover { tree, mark, comma })
 }

@@ -10,6 +10,8 @@ ghost use Rattle.swc_ecma_parser_reader.specs.Expressions as exprs;
 ghost use Rattle.swc_ecma_parser_reader.specs.State.{Gives, GivesAs};
 
 use crate::access::inside;
+use crate::assignment::assignment_expr;
+use crate::cover::{Cover, Reading, nested};
 use crate::grammar::Grammar;
 use crate::left::{left, left_expr};
 use crate::steps::{grown, pushed, since};
@@ -23,7 +25,9 @@ use swc_ecma_parser_state::{
     unary_operator, update_operator,
 };
 use swc_ecma_parser_token::TokenKind;
-use swc_ecma_parser_trees::{BuildsCall, BuildsExpr, BuildsObject, BuildsOperator, MakerOf};
+use swc_ecma_parser_trees::{
+    BuildsCall, BuildsExpr, BuildsObject, BuildsOperator, BuildsPattern, MakerOf,
+};
 
 /// An operator before its operand.
 #[tactic(auto, unfolding(swc_ecma_parser_reader::specs::Expressions::prefixed))]
@@ -31,15 +35,15 @@ fn prefixed<
     P: Source,
     T: BuildsExpr + BuildsCall + BuildsObject + BuildsOperator,
     S: Fn(&MakerOf<T>, &mut P, usize, Position) -> PResult<T::Stmt>,
-    E: Fn(&MakerOf<T>, &mut P, usize, Class) -> PResult<T::Expr>,
+    E: Fn(&MakerOf<T>, &mut P, usize, Reading) -> PResult<Cover<T::Expr>>,
     N: Fn(&MakerOf<T>, &mut P, usize) -> PResult<T::Pat>,
 >(g: &Grammar<S, E, N>, t: &MakerOf<T>, p: &mut P, op: UnaryOp) -> PResult<T::Expr>
     requires { Nests P.seen T.expr_of T.pat_of T.stmt_of g.now.depth (S.pre g.now.stmt) (S.post g.now.stmt) (E.pre g.now.expr) (E.post g.now.expr) (N.pre g.now.pat) (N.post g.now.pat) }
-    ensures { GivesAs (T.expr_of) (exprs.prefixed (exprs.expr g.now.depth) op (P.seen p.old)) result (P.seen p.new) }
+    ensures { GivesAs (T.expr_of) (exprs.prefixed (exprs.expr g.now.depth) (exprs.cover g.now.depth) op (P.seen p.old)) result (P.seen p.new) }
 {
     let start = p.span();
     p.skip()?;
-    let operand = (g.expr)(t, p, g.depth, Class::Unary)?;
+    let operand = nested(g, t, p, Class::Unary)?;
     let span = since(p, start);
     grown(p, T::unary(t.alloc, span, op, operand))
 }
@@ -61,15 +65,15 @@ fn update_before<
     P: Source,
     T: BuildsExpr + BuildsCall + BuildsObject + BuildsOperator,
     S: Fn(&MakerOf<T>, &mut P, usize, Position) -> PResult<T::Stmt>,
-    E: Fn(&MakerOf<T>, &mut P, usize, Class) -> PResult<T::Expr>,
+    E: Fn(&MakerOf<T>, &mut P, usize, Reading) -> PResult<Cover<T::Expr>>,
     N: Fn(&MakerOf<T>, &mut P, usize) -> PResult<T::Pat>,
 >(g: &Grammar<S, E, N>, t: &MakerOf<T>, p: &mut P, op: UpdateOp) -> PResult<T::Expr>
     requires { Nests P.seen T.expr_of T.pat_of T.stmt_of g.now.depth (S.pre g.now.stmt) (S.post g.now.stmt) (E.pre g.now.expr) (E.post g.now.expr) (N.pre g.now.pat) (N.post g.now.pat) }
-    ensures { GivesAs (T.expr_of) (exprs.update_before (exprs.expr g.now.depth) op (P.seen p.old)) result (P.seen p.new) }
+    ensures { GivesAs (T.expr_of) (exprs.update_before (exprs.expr g.now.depth) (exprs.cover g.now.depth) op (P.seen p.old)) result (P.seen p.new) }
 {
     let start = p.span();
     p.skip()?;
-    let operand = (g.expr)(t, p, g.depth, Class::Unary)?;
+    let operand = nested(g, t, p, Class::Unary)?;
     simple::<P, T>(p, &operand)?;
     let span = since(p, start);
     grown(p, T::update(t.alloc, span, op, true, operand))
@@ -103,24 +107,36 @@ fn postfix_here<P: Source>(p: &P) -> Option<UpdateOp>
     update_operator(p.kind())
 }
 
+/// `++` or `--`, if it stands on the line of an operand that was read from a place on.
+pub fn postfixed<P: Source, T: BuildsOperator>(
+    alloc: Global,
+    p: &mut P,
+    start: Span,
+    operand: T::Expr,
+) -> PResult<T::Expr>
+    ensures { GivesAs T.expr_of (exprs.behind_operand start (T.expr_of operand) (exprs.postfix_at (P.seen p.old).at) (P.seen p.old)) result (P.seen p.new) }
+{
+    match postfix_here(p) {
+        Some(op) => update_behind::<P, T>(alloc, p, start, operand, op),
+        None => Ok(operand),
+    }
+}
+
 /// An operand, and `++` or `--` behind it on its line.
 #[tactic(auto, unfolding(swc_ecma_parser_reader::specs::Expressions::postfix))]
 fn postfix<
     P: Source,
     T: BuildsExpr + BuildsCall + BuildsObject + BuildsOperator,
     S: Fn(&MakerOf<T>, &mut P, usize, Position) -> PResult<T::Stmt>,
-    E: Fn(&MakerOf<T>, &mut P, usize, Class) -> PResult<T::Expr>,
+    E: Fn(&MakerOf<T>, &mut P, usize, Reading) -> PResult<Cover<T::Expr>>,
     N: Fn(&MakerOf<T>, &mut P, usize) -> PResult<T::Pat>,
 >(g: &Grammar<S, E, N>, t: &MakerOf<T>, p: &mut P) -> PResult<T::Expr>
     requires { Nests P.seen T.expr_of T.pat_of T.stmt_of g.now.depth (S.pre g.now.stmt) (S.post g.now.stmt) (E.pre g.now.expr) (E.post g.now.expr) (N.pre g.now.pat) (N.post g.now.pat) }
-    ensures { GivesAs (T.expr_of) (exprs.postfix (exprs.expr g.now.depth) (P.seen p.old)) result (P.seen p.new) }
+    ensures { GivesAs (T.expr_of) (exprs.postfix (exprs.expr g.now.depth) (exprs.cover g.now.depth) (P.seen p.old)) result (P.seen p.new) }
 {
     let start = p.span();
     let operand = left(g, t, p, true)?;
-    match postfix_here(p) {
-        Some(op) => update_behind::<P, T>(t.alloc, p, start, operand, op),
-        None => Ok(operand),
-    }
+    postfixed::<P, T>(t.alloc, p, start, operand)
 }
 
 /// A unary expression: sections 13.4 and 13.5.
@@ -129,11 +145,11 @@ fn unary_expr<
     P: Source,
     T: BuildsExpr + BuildsCall + BuildsObject + BuildsOperator,
     S: Fn(&MakerOf<T>, &mut P, usize, Position) -> PResult<T::Stmt>,
-    E: Fn(&MakerOf<T>, &mut P, usize, Class) -> PResult<T::Expr>,
+    E: Fn(&MakerOf<T>, &mut P, usize, Reading) -> PResult<Cover<T::Expr>>,
     N: Fn(&MakerOf<T>, &mut P, usize) -> PResult<T::Pat>,
 >(g: &Grammar<S, E, N>, t: &MakerOf<T>, p: &mut P) -> PResult<T::Expr>
     requires { Nests P.seen T.expr_of T.pat_of T.stmt_of g.now.depth (S.pre g.now.stmt) (S.post g.now.stmt) (E.pre g.now.expr) (E.post g.now.expr) (N.pre g.now.pat) (N.post g.now.pat) }
-    ensures { GivesAs (T.expr_of) (exprs.unary_expr (exprs.expr g.now.depth) (P.seen p.old)) result (P.seen p.new) }
+    ensures { GivesAs (T.expr_of) (exprs.unary_expr (exprs.expr g.now.depth) (exprs.cover g.now.depth) (P.seen p.old)) result (P.seen p.new) }
 {
     if let Some(op) = unary_operator(p.kind()) {
         return prefixed(g, t, p, op);
@@ -202,7 +218,7 @@ fn operated<
     P: Source,
     T: BuildsExpr + BuildsCall + BuildsObject + BuildsOperator,
     S: Fn(&MakerOf<T>, &mut P, usize, Position) -> PResult<T::Stmt>,
-    E: Fn(&MakerOf<T>, &mut P, usize, Class) -> PResult<T::Expr>,
+    E: Fn(&MakerOf<T>, &mut P, usize, Reading) -> PResult<Cover<T::Expr>>,
     N: Fn(&MakerOf<T>, &mut P, usize) -> PResult<T::Pat>,
 >(
     g: &Grammar<S, E, N>,
@@ -213,17 +229,17 @@ fn operated<
     op: BinaryOp,
 ) -> PResult<T::Expr>
     requires { Nests P.seen T.expr_of T.pat_of T.stmt_of g.now.depth (S.pre g.now.stmt) (S.post g.now.stmt) (E.pre g.now.expr) (E.post g.now.expr) (N.pre g.now.pat) (N.post g.now.pat) }
-    ensures { GivesAs (T.expr_of) (exprs.operated (exprs.expr g.now.depth) start (T.expr_of x) op (P.seen p.old)) result (P.seen p.new) }
+    ensures { GivesAs (T.expr_of) (exprs.operated (exprs.expr g.now.depth) (exprs.cover g.now.depth) start (T.expr_of x) op (P.seen p.old)) result (P.seen p.new) }
 {
     left_operand::<P, T>(p, op, &x)?;
     p.skip()?;
-    let y = (g.expr)(t, p, g.depth, right_class(op))?;
+    let y = nested(g, t, p, right_class(op))?;
     unmixed::<P, T>(t.alloc, p, start, op, x, y)
 }
 
 /// The operator that stands here, where it is read and binds at least so tightly.
 #[tactic(auto, unfolding(swc_ecma_parser_reader::specs::Expressions::operator_at))]
-fn operator_here<P: Source>(p: &P, n: usize) -> Option<BinaryOp>
+pub fn operator_here<P: Source>(p: &P, n: usize) -> Option<BinaryOp>
     ensures { result ≡ exprs.operator_at n (P.seen p.now) }
 {
     match binary_operator(p.kind()) {
@@ -235,11 +251,11 @@ fn operator_here<P: Source>(p: &P, n: usize) -> Option<BinaryOp>
 
 /// The operators that bind at least so tightly, behind an operand that was read from a place on.
 #[tactic(auto, unfolding(swc_ecma_parser_reader::specs::Expressions::binary_from), using(swc_ecma_parser_reader::proofs::expressions::Loops::binary_done, swc_ecma_parser_reader::proofs::expressions::Loops::binary_more, swc_ecma_parser_reader::proofs::expressions::Loops::binary_err, swc_ecma_parser_reader::proofs::expressions::Loops::operated_shorter))]
-fn binary_from<
+pub fn binary_from<
     P: Source,
     T: BuildsExpr + BuildsCall + BuildsObject + BuildsOperator,
     S: Fn(&MakerOf<T>, &mut P, usize, Position) -> PResult<T::Stmt>,
-    E: Fn(&MakerOf<T>, &mut P, usize, Class) -> PResult<T::Expr>,
+    E: Fn(&MakerOf<T>, &mut P, usize, Reading) -> PResult<Cover<T::Expr>>,
     N: Fn(&MakerOf<T>, &mut P, usize) -> PResult<T::Pat>,
 >(
     g: &Grammar<S, E, N>,
@@ -250,7 +266,7 @@ fn binary_from<
     x: T::Expr,
 ) -> PResult<T::Expr>
     requires { Nests P.seen T.expr_of T.pat_of T.stmt_of g.now.depth (S.pre g.now.stmt) (S.post g.now.stmt) (E.pre g.now.expr) (E.post g.now.expr) (N.pre g.now.pat) (N.post g.now.pat) }
-    ensures { GivesAs (T.expr_of) (exprs.binary_from (exprs.expr g.now.depth) n start (T.expr_of x) (P.seen p.old)) result (P.seen p.new) }
+    ensures { GivesAs (T.expr_of) (exprs.binary_from (exprs.expr g.now.depth) (exprs.cover g.now.depth) n start (T.expr_of x) (P.seen p.old)) result (P.seen p.new) }
 {
     let mut x = x;
     'operators: loop {
@@ -267,11 +283,11 @@ fn binary_expr<
     P: Source,
     T: BuildsExpr + BuildsCall + BuildsObject + BuildsOperator,
     S: Fn(&MakerOf<T>, &mut P, usize, Position) -> PResult<T::Stmt>,
-    E: Fn(&MakerOf<T>, &mut P, usize, Class) -> PResult<T::Expr>,
+    E: Fn(&MakerOf<T>, &mut P, usize, Reading) -> PResult<Cover<T::Expr>>,
     N: Fn(&MakerOf<T>, &mut P, usize) -> PResult<T::Pat>,
 >(g: &Grammar<S, E, N>, t: &MakerOf<T>, p: &mut P, n: usize) -> PResult<T::Expr>
     requires { Nests P.seen T.expr_of T.pat_of T.stmt_of g.now.depth (S.pre g.now.stmt) (S.post g.now.stmt) (E.pre g.now.expr) (E.post g.now.expr) (N.pre g.now.pat) (N.post g.now.pat) }
-    ensures { GivesAs (T.expr_of) (exprs.binary_expr (exprs.expr g.now.depth) n (P.seen p.old)) result (P.seen p.new) }
+    ensures { GivesAs (T.expr_of) (exprs.binary_expr (exprs.expr g.now.depth) (exprs.cover g.now.depth) n (P.seen p.old)) result (P.seen p.new) }
 {
     let start = p.span();
     let x = unary_expr(g, t, p)?;
@@ -280,7 +296,7 @@ fn binary_expr<
 
 /// Whether an assignment operator stands here.
 #[tactic(auto, unfolding(swc_ecma_parser_grammar::specs::language::Continues::continues_conditional))]
-fn assigns_here<P: Source>(p: &P) -> bool
+pub fn assigns_here<P: Source>(p: &P) -> bool
     ensures { result ≡ continues_conditional (P.seen p.now).at }
 {
     assign_operator(p.kind()).is_some()
@@ -292,16 +308,16 @@ fn conditional<
     P: Source,
     T: BuildsExpr + BuildsCall + BuildsObject + BuildsOperator,
     S: Fn(&MakerOf<T>, &mut P, usize, Position) -> PResult<T::Stmt>,
-    E: Fn(&MakerOf<T>, &mut P, usize, Class) -> PResult<T::Expr>,
+    E: Fn(&MakerOf<T>, &mut P, usize, Reading) -> PResult<Cover<T::Expr>>,
     N: Fn(&MakerOf<T>, &mut P, usize) -> PResult<T::Pat>,
 >(g: &Grammar<S, E, N>, t: &MakerOf<T>, p: &mut P, start: Span, test: T::Expr) -> PResult<T::Expr>
     requires { Nests P.seen T.expr_of T.pat_of T.stmt_of g.now.depth (S.pre g.now.stmt) (S.post g.now.stmt) (E.pre g.now.expr) (E.post g.now.expr) (N.pre g.now.pat) (N.post g.now.pat) }
-    ensures { GivesAs (T.expr_of) (exprs.conditional (exprs.expr g.now.depth) start (T.expr_of test) (P.seen p.old)) result (P.seen p.new) }
+    ensures { GivesAs (T.expr_of) (exprs.conditional (exprs.expr g.now.depth) (exprs.cover g.now.depth) start (T.expr_of test) (P.seen p.old)) result (P.seen p.new) }
 {
     p.skip()?;
     let yes_case = inside(g, t, p, Class::Assignment)?;
     p.expect(TokenKind::Colon, ":")?;
-    let no_case = (g.expr)(t, p, g.depth, Class::Assignment)?;
+    let no_case = nested(g, t, p, Class::Assignment)?;
     let span = since(p, start);
     if assigns_here(p) {
         return Err(p.wanted(Wanted::Expression));
@@ -325,7 +341,7 @@ fn assigned<
     P: Source,
     T: BuildsExpr + BuildsCall + BuildsObject + BuildsOperator,
     S: Fn(&MakerOf<T>, &mut P, usize, Position) -> PResult<T::Stmt>,
-    E: Fn(&MakerOf<T>, &mut P, usize, Class) -> PResult<T::Expr>,
+    E: Fn(&MakerOf<T>, &mut P, usize, Reading) -> PResult<Cover<T::Expr>>,
     N: Fn(&MakerOf<T>, &mut P, usize) -> PResult<T::Pat>,
 >(
     g: &Grammar<S, E, N>,
@@ -336,13 +352,13 @@ fn assigned<
     op: AssignOp,
 ) -> PResult<T::Expr>
     requires { Nests P.seen T.expr_of T.pat_of T.stmt_of g.now.depth (S.pre g.now.stmt) (S.post g.now.stmt) (E.pre g.now.expr) (E.post g.now.expr) (N.pre g.now.pat) (N.post g.now.pat) }
-    ensures { GivesAs (T.expr_of) (exprs.assigned (exprs.expr g.now.depth) start (T.expr_of x) op (P.seen p.old)) result (P.seen p.new) }
+    ensures { GivesAs (T.expr_of) (exprs.assigned (exprs.expr g.now.depth) (exprs.cover g.now.depth) start (T.expr_of x) op (P.seen p.old)) result (P.seen p.new) }
 {
     if !T::is_simple_target(&x) {
         return Err(p.reject(unassignable(op), T::expr_span(&x)));
     }
     p.skip()?;
-    let y = (g.expr)(t, p, g.depth, Class::Assignment)?;
+    let y = nested(g, t, p, Class::Assignment)?;
     let span = since(p, start);
     grown(p, T::assign(t.alloc, span, op, x, y))
 }
@@ -360,11 +376,11 @@ fn heads_arrow<P: Source, T: BuildsExpr + BuildsCall>(p: &P, is_async: bool, x: 
 
 /// What stands behind operands and operators that were read from a place on.
 #[tactic(auto, unfolding(swc_ecma_parser_reader::specs::Expressions::behind_operators, swc_ecma_parser_reader::specs::Expressions::unheaded))]
-fn behind_operators<
+pub fn behind_operators<
     P: Source,
     T: BuildsExpr + BuildsCall + BuildsObject + BuildsOperator,
     S: Fn(&MakerOf<T>, &mut P, usize, Position) -> PResult<T::Stmt>,
-    E: Fn(&MakerOf<T>, &mut P, usize, Class) -> PResult<T::Expr>,
+    E: Fn(&MakerOf<T>, &mut P, usize, Reading) -> PResult<Cover<T::Expr>>,
     N: Fn(&MakerOf<T>, &mut P, usize) -> PResult<T::Pat>,
 >(
     g: &Grammar<S, E, N>,
@@ -375,7 +391,7 @@ fn behind_operators<
     x: T::Expr,
 ) -> PResult<T::Expr>
     requires { Nests P.seen T.expr_of T.pat_of T.stmt_of g.now.depth (S.pre g.now.stmt) (S.post g.now.stmt) (E.pre g.now.expr) (E.post g.now.expr) (N.pre g.now.pat) (N.post g.now.pat) }
-    ensures { GivesAs (T.expr_of) (exprs.behind_operators (exprs.expr g.now.depth) is_async start (T.expr_of x) (P.seen p.old)) result (P.seen p.new) }
+    ensures { GivesAs (T.expr_of) (exprs.behind_operators (exprs.expr g.now.depth) (exprs.cover g.now.depth) is_async start (T.expr_of x) (P.seen p.old)) result (P.seen p.new) }
 {
     if p.sees(TokenKind::QuestionMark) {
         return conditional(g, t, p, start, x);
@@ -389,17 +405,17 @@ fn behind_operators<
     Ok(x)
 }
 
-/// An assignment expression: section 13.15.
-#[tactic(auto, unfolding(swc_ecma_parser_reader::specs::Expressions::assignment_expr))]
-fn assignment_expr<
+/// Operands and operators, and what stands behind them.
+#[tactic(auto, unfolding(swc_ecma_parser_reader::specs::Expressions::operators_expr))]
+pub fn operators_expr<
     P: Source,
     T: BuildsExpr + BuildsCall + BuildsObject + BuildsOperator,
     S: Fn(&MakerOf<T>, &mut P, usize, Position) -> PResult<T::Stmt>,
-    E: Fn(&MakerOf<T>, &mut P, usize, Class) -> PResult<T::Expr>,
+    E: Fn(&MakerOf<T>, &mut P, usize, Reading) -> PResult<Cover<T::Expr>>,
     N: Fn(&MakerOf<T>, &mut P, usize) -> PResult<T::Pat>,
 >(g: &Grammar<S, E, N>, t: &MakerOf<T>, p: &mut P) -> PResult<T::Expr>
     requires { Nests P.seen T.expr_of T.pat_of T.stmt_of g.now.depth (S.pre g.now.stmt) (S.post g.now.stmt) (E.pre g.now.expr) (E.post g.now.expr) (N.pre g.now.pat) (N.post g.now.pat) }
-    ensures { GivesAs (T.expr_of) (exprs.assignment_expr (exprs.expr g.now.depth) (P.seen p.old)) result (P.seen p.new) }
+    ensures { GivesAs (T.expr_of) (exprs.operators_expr (exprs.expr g.now.depth) (exprs.cover g.now.depth) (P.seen p.old)) result (P.seen p.new) }
 {
     let is_async = p.begins_async_call();
     let start = p.span();
@@ -411,13 +427,13 @@ fn assignment_expr<
 #[tactic(auto, unfolding(swc_ecma_parser_reader::specs::Expressions::sequence_from), using(swc_ecma_parser_reader::proofs::expressions::Loops::sequence_done, swc_ecma_parser_reader::proofs::expressions::Loops::sequence_more, swc_ecma_parser_reader::proofs::expressions::Loops::sequence_err, swc_ecma_parser_reader::proofs::expressions::Loops::assignment_shorter, swc_ecma_parser_reader::proofs::expressions::Loops::sequence_shorter, std::proofs::lemmas::List::map_push))]
 fn sequence_from<
     P: Source,
-    T: BuildsExpr + BuildsCall + BuildsObject + BuildsOperator,
+    T: BuildsExpr + BuildsCall + BuildsObject + BuildsOperator + BuildsPattern,
     S: Fn(&MakerOf<T>, &mut P, usize, Position) -> PResult<T::Stmt>,
-    E: Fn(&MakerOf<T>, &mut P, usize, Class) -> PResult<T::Expr>,
+    E: Fn(&MakerOf<T>, &mut P, usize, Reading) -> PResult<Cover<T::Expr>>,
     N: Fn(&MakerOf<T>, &mut P, usize) -> PResult<T::Pat>,
 >(g: &Grammar<S, E, N>, t: &MakerOf<T>, p: &mut P, start: Span, x: T::Expr) -> PResult<T::Expr>
     requires { Nests P.seen T.expr_of T.pat_of T.stmt_of g.now.depth (S.pre g.now.stmt) (S.post g.now.stmt) (E.pre g.now.expr) (E.post g.now.expr) (N.pre g.now.pat) (N.post g.now.pat) }
-    ensures { GivesAs (T.expr_of) (exprs.sequence_from (exprs.expr g.now.depth) start (T.expr_of x) (P.seen p.old)) result (P.seen p.new) }
+    ensures { GivesAs (T.expr_of) (exprs.sequence_from (exprs.expr g.now.depth) (exprs.cover g.now.depth) start (T.expr_of x) (P.seen p.old)) result (P.seen p.new) }
 {
     let mut found = Vec::new(t.alloc);
     pushed(p, &mut found, x)?;
@@ -437,13 +453,13 @@ fn sequence_from<
 #[tactic(auto, unfolding(swc_ecma_parser_reader::specs::Expressions::expression_expr))]
 fn expression_expr<
     P: Source,
-    T: BuildsExpr + BuildsCall + BuildsObject + BuildsOperator,
+    T: BuildsExpr + BuildsCall + BuildsObject + BuildsOperator + BuildsPattern,
     S: Fn(&MakerOf<T>, &mut P, usize, Position) -> PResult<T::Stmt>,
-    E: Fn(&MakerOf<T>, &mut P, usize, Class) -> PResult<T::Expr>,
+    E: Fn(&MakerOf<T>, &mut P, usize, Reading) -> PResult<Cover<T::Expr>>,
     N: Fn(&MakerOf<T>, &mut P, usize) -> PResult<T::Pat>,
 >(g: &Grammar<S, E, N>, t: &MakerOf<T>, p: &mut P) -> PResult<T::Expr>
     requires { Nests P.seen T.expr_of T.pat_of T.stmt_of g.now.depth (S.pre g.now.stmt) (S.post g.now.stmt) (E.pre g.now.expr) (E.post g.now.expr) (N.pre g.now.pat) (N.post g.now.pat) }
-    ensures { GivesAs (T.expr_of) (exprs.expression_expr (exprs.expr g.now.depth) (P.seen p.old)) result (P.seen p.new) }
+    ensures { GivesAs (T.expr_of) (exprs.expression_expr (exprs.expr g.now.depth) (exprs.cover g.now.depth) (P.seen p.old)) result (P.seen p.new) }
 {
     let start = p.span();
     let x = assignment_expr(g, t, p)?;
@@ -457,13 +473,13 @@ fn expression_expr<
 #[tactic(auto, unfolding(swc_ecma_parser_reader::specs::Expressions::expr_level))]
 pub fn expr_level<
     P: Source,
-    T: BuildsExpr + BuildsCall + BuildsObject + BuildsOperator,
+    T: BuildsExpr + BuildsCall + BuildsObject + BuildsOperator + BuildsPattern,
     S: Fn(&MakerOf<T>, &mut P, usize, Position) -> PResult<T::Stmt>,
-    E: Fn(&MakerOf<T>, &mut P, usize, Class) -> PResult<T::Expr>,
+    E: Fn(&MakerOf<T>, &mut P, usize, Reading) -> PResult<Cover<T::Expr>>,
     N: Fn(&MakerOf<T>, &mut P, usize) -> PResult<T::Pat>,
 >(g: &Grammar<S, E, N>, t: &MakerOf<T>, p: &mut P, class: Class) -> PResult<T::Expr>
     requires { Nests P.seen T.expr_of T.pat_of T.stmt_of g.now.depth (S.pre g.now.stmt) (S.post g.now.stmt) (E.pre g.now.expr) (E.post g.now.expr) (N.pre g.now.pat) (N.post g.now.pat) }
-    ensures { GivesAs (T.expr_of) (exprs.expr_level (exprs.expr g.now.depth) (class_of class) (P.seen p.old)) result (P.seen p.new) }
+    ensures { GivesAs (T.expr_of) (exprs.expr_level (exprs.expr g.now.depth) (exprs.cover g.now.depth) (class_of class) (P.seen p.old)) result (P.seen p.new) }
 {
     match class {
         Class::Expression => expression_expr(g, t, p),

@@ -13,7 +13,8 @@ use swc_ecma_parser_grammar::Position;
 use swc_ecma_parser_state::Source;
 use swc_ecma_parser_token::TokenKind;
 use swc_ecma_parser_trees::{
-    BuildsCall, BuildsExpr, BuildsObject, BuildsOperator, BuildsPat, BuildsStmt, MakerOf, Trees,
+    BuildsCall, BuildsExpr, BuildsObject, BuildsOperator, BuildsPat, BuildsPattern, BuildsStmt,
+    MakerOf, Trees,
 };
 
 /// A statement of the script itself.
@@ -44,7 +45,13 @@ fn direct<P: Source, T: Trees>(p: &mut P, directives: bool, x: &T::Stmt)
 #[tactic(auto, unfolding(swc_ecma_parser_reader::specs::Reader::items), using(swc_ecma_parser_reader::proofs::Loops::items_stop, swc_ecma_parser_reader::proofs::Loops::items_err, crate::proofs::Items::script_more, swc_ecma_parser_reader::proofs::Loops::stmt_shorter, std::proofs::lemmas::List::map_push))]
 fn items<
     P: Source,
-    T: BuildsExpr + BuildsCall + BuildsObject + BuildsOperator + BuildsPat + BuildsStmt,
+    T: BuildsExpr
+        + BuildsCall
+        + BuildsObject
+        + BuildsOperator
+        + BuildsPattern
+        + BuildsPat
+        + BuildsStmt,
 >(t: &MakerOf<T>, p: &mut P, limit: usize) -> PResult<Vec<T::Stmt>>
     ensures gives { GivesAs (λ found. map T.stmt_of found.items) (rules.items (rules.stmt limit top_item) rules.at_end true (P.seen p.old)) result (P.seen p.new) }
     ensures outright { (P.seen p.old).at.left ≡ [] → IsOk result }
@@ -62,7 +69,13 @@ fn items<
 #[tactic(auto, unfolding(swc_ecma_parser_reader::specs::Reader::script_body, swc_ecma_parser_grammar::specs::Looks::spanned))]
 pub fn script_body<
     P: Source,
-    T: BuildsExpr + BuildsCall + BuildsObject + BuildsOperator + BuildsPat + BuildsStmt,
+    T: BuildsExpr
+        + BuildsCall
+        + BuildsObject
+        + BuildsOperator
+        + BuildsPattern
+        + BuildsPat
+        + BuildsStmt,
 >(t: &MakerOf<T>, p: &mut P, limit: usize) -> PResult<T::Script>
     ensures gives { GivesAs T.script_of (rules.script_body limit (P.seen p.old)) result (P.seen p.new) }
     ensures outright { (P.seen p.old).at.left ≡ [] → IsOk result }

@@ -10,6 +10,7 @@ ghost use Rattle.swc_ecma_parser_reader.specs.Expressions as exprs;
 ghost use Rattle.swc_ecma_parser_reader.specs.Reader as rules;
 ghost use Rattle.swc_ecma_parser_reader.specs.State.{Gives, GivesAs};
 
+use crate::cover::{Cover, Reading, nested};
 use crate::grammar::Grammar;
 use crate::steps::{grown, pushed, since, with_in};
 use std::alloc::Global;
@@ -56,7 +57,7 @@ pub fn declarator<
     P: Source,
     T: BuildsStmt,
     S: Fn(&MakerOf<T>, &mut P, usize, Position) -> PResult<T::Stmt>,
-    E: Fn(&MakerOf<T>, &mut P, usize, Class) -> PResult<T::Expr>,
+    E: Fn(&MakerOf<T>, &mut P, usize, Reading) -> PResult<Cover<T::Expr>>,
     N: Fn(&MakerOf<T>, &mut P, usize) -> PResult<T::Pat>,
 >(g: &Grammar<S, E, N>, t: &MakerOf<T>, p: &mut P) -> PResult<T::Declarator>
     requires { Nests P.seen T.expr_of T.pat_of T.stmt_of g.now.depth (S.pre g.now.stmt) (S.post g.now.stmt) (E.pre g.now.expr) (E.post g.now.expr) (N.pre g.now.pat) (N.post g.now.pat) }
@@ -66,7 +67,7 @@ pub fn declarator<
     let name = (g.pat)(t, p, g.depth)?;
     if p.sees(TokenKind::Assign) {
         p.skip()?;
-        let init = (g.expr)(t, p, g.depth, Class::Assignment)?;
+        let init = nested(g, t, p, Class::Assignment)?;
         let span = since(p, start);
         return grown(p, T::declarator(t.alloc, span, name, Some(init)));
     }
@@ -80,7 +81,7 @@ pub fn declarators<
     P: Source,
     T: BuildsStmt,
     S: Fn(&MakerOf<T>, &mut P, usize, Position) -> PResult<T::Stmt>,
-    E: Fn(&MakerOf<T>, &mut P, usize, Class) -> PResult<T::Expr>,
+    E: Fn(&MakerOf<T>, &mut P, usize, Reading) -> PResult<Cover<T::Expr>>,
     N: Fn(&MakerOf<T>, &mut P, usize) -> PResult<T::Pat>,
 >(g: &Grammar<S, E, N>, t: &MakerOf<T>, p: &mut P) -> PResult<Vec<T::Declarator>>
     requires { Nests P.seen T.expr_of T.pat_of T.stmt_of g.now.depth (S.pre g.now.stmt) (S.post g.now.stmt) (E.pre g.now.expr) (E.post g.now.expr) (N.pre g.now.pat) (N.post g.now.pat) }
@@ -103,7 +104,7 @@ pub fn var<
     P: Source,
     T: BuildsStmt,
     S: Fn(&MakerOf<T>, &mut P, usize, Position) -> PResult<T::Stmt>,
-    E: Fn(&MakerOf<T>, &mut P, usize, Class) -> PResult<T::Expr>,
+    E: Fn(&MakerOf<T>, &mut P, usize, Reading) -> PResult<Cover<T::Expr>>,
     N: Fn(&MakerOf<T>, &mut P, usize) -> PResult<T::Pat>,
 >(g: &Grammar<S, E, N>, t: &MakerOf<T>, p: &mut P) -> PResult<T::Stmt>
     requires { Nests P.seen T.expr_of T.pat_of T.stmt_of g.now.depth (S.pre g.now.stmt) (S.post g.now.stmt) (E.pre g.now.expr) (E.post g.now.expr) (N.pre g.now.pat) (N.post g.now.pat) }
@@ -158,7 +159,7 @@ pub fn block_items<
     P: Source,
     T: BuildsStmt,
     S: Fn(&MakerOf<T>, &mut P, usize, Position) -> PResult<T::Stmt>,
-    E: Fn(&MakerOf<T>, &mut P, usize, Class) -> PResult<T::Expr>,
+    E: Fn(&MakerOf<T>, &mut P, usize, Reading) -> PResult<Cover<T::Expr>>,
     N: Fn(&MakerOf<T>, &mut P, usize) -> PResult<T::Pat>,
 >(g: &Grammar<S, E, N>, t: &MakerOf<T>, p: &mut P) -> PResult<Vec<T::Stmt>>
     requires { Nests P.seen T.expr_of T.pat_of T.stmt_of g.now.depth (S.pre g.now.stmt) (S.post g.now.stmt) (E.pre g.now.expr) (E.post g.now.expr) (N.pre g.now.pat) (N.post g.now.pat) }
@@ -178,7 +179,7 @@ pub fn block<
     P: Source,
     T: BuildsStmt,
     S: Fn(&MakerOf<T>, &mut P, usize, Position) -> PResult<T::Stmt>,
-    E: Fn(&MakerOf<T>, &mut P, usize, Class) -> PResult<T::Expr>,
+    E: Fn(&MakerOf<T>, &mut P, usize, Reading) -> PResult<Cover<T::Expr>>,
     N: Fn(&MakerOf<T>, &mut P, usize) -> PResult<T::Pat>,
 >(g: &Grammar<S, E, N>, t: &MakerOf<T>, p: &mut P) -> PResult<T::Stmt>
     requires { Nests P.seen T.expr_of T.pat_of T.stmt_of g.now.depth (S.pre g.now.stmt) (S.post g.now.stmt) (E.pre g.now.expr) (E.post g.now.expr) (N.pre g.now.pat) (N.post g.now.pat) }
@@ -221,7 +222,7 @@ pub fn expr_stmt<
     P: Source,
     T: BuildsStmt,
     S: Fn(&MakerOf<T>, &mut P, usize, Position) -> PResult<T::Stmt>,
-    E: Fn(&MakerOf<T>, &mut P, usize, Class) -> PResult<T::Expr>,
+    E: Fn(&MakerOf<T>, &mut P, usize, Reading) -> PResult<Cover<T::Expr>>,
     N: Fn(&MakerOf<T>, &mut P, usize) -> PResult<T::Pat>,
 >(g: &Grammar<S, E, N>, t: &MakerOf<T>, p: &mut P) -> PResult<T::Stmt>
     requires { Nests P.seen T.expr_of T.pat_of T.stmt_of g.now.depth (S.pre g.now.stmt) (S.post g.now.stmt) (E.pre g.now.expr) (E.post g.now.expr) (N.pre g.now.pat) (N.post g.now.pat) }
@@ -230,7 +231,7 @@ pub fn expr_stmt<
     let start = p.span();
     let outer = p.flags();
     p.set_flags(with_in(outer));
-    let x = (g.expr)(t, p, g.depth, Class::Expression)?;
+    let x = nested(g, t, p, Class::Expression)?;
     p.set_flags(outer);
     no_label::<P, T>(p, &x)?;
     note_statement::<P, T>(t.alloc, p, &x)?;
@@ -245,7 +246,7 @@ fn expr_stmt_at<
     P: Source,
     T: BuildsStmt,
     S: Fn(&MakerOf<T>, &mut P, usize, Position) -> PResult<T::Stmt>,
-    E: Fn(&MakerOf<T>, &mut P, usize, Class) -> PResult<T::Expr>,
+    E: Fn(&MakerOf<T>, &mut P, usize, Reading) -> PResult<Cover<T::Expr>>,
     N: Fn(&MakerOf<T>, &mut P, usize) -> PResult<T::Pat>,
 >(g: &Grammar<S, E, N>, t: &MakerOf<T>, p: &mut P, at: Position) -> PResult<T::Stmt>
     requires { Nests P.seen T.expr_of T.pat_of T.stmt_of g.now.depth (S.pre g.now.stmt) (S.post g.now.stmt) (E.pre g.now.expr) (E.post g.now.expr) (N.pre g.now.pat) (N.post g.now.pat) }
@@ -263,7 +264,7 @@ pub fn level<
     P: Source,
     T: BuildsStmt,
     S: Fn(&MakerOf<T>, &mut P, usize, Position) -> PResult<T::Stmt>,
-    E: Fn(&MakerOf<T>, &mut P, usize, Class) -> PResult<T::Expr>,
+    E: Fn(&MakerOf<T>, &mut P, usize, Reading) -> PResult<Cover<T::Expr>>,
     N: Fn(&MakerOf<T>, &mut P, usize) -> PResult<T::Pat>,
 >(g: &Grammar<S, E, N>, t: &MakerOf<T>, p: &mut P, at: Position) -> PResult<T::Stmt>
     requires { Nests P.seen T.expr_of T.pat_of T.stmt_of g.now.depth (S.pre g.now.stmt) (S.post g.now.stmt) (E.pre g.now.expr) (E.post g.now.expr) (N.pre g.now.pat) (N.post g.now.pat) }

@@ -15,6 +15,7 @@ use Rattle.swc_ecma_parser_model.specs.declared.leaves.VarDeclKind.TheVariants a
 use Rattle.swc_ecma_parser_model.specs.Tree as tree
 use Rattle.swc_ecma_parser_model.specs.Tree.{Tree, Text, trees, listed}
 use Rattle.swc_ecma_parser_model.specs.Directive.{is_use_strict}
+use Rattle.swc_ecma_parser_model.specs.Forms.{is_binding_name}
 use Rattle.swc_ecma_parser_grammar.specs.declared.position.Position.{Position}
 use Rattle.swc_ecma_parser_grammar.specs.Looks.{kind_at, sees, same_kind, spanned}
 use Rattle.swc_ecma_parser_grammar.specs.Names.{Code, is_reserved, is_name, is_identifier, is_clean_name}
@@ -50,25 +51,30 @@ module _ (k : Code) (text : Text) (s : Span) (c d : Place) (r : ReadsName k text
 
 -- ---- binding patterns and declarators
 
-pattern_narrows : (In : Goal → Type 0) (k : Code) (x : Tree) (c d : Place) → patterns.PatternRule In binding k x c d → supported x ≡ true → PatRule k x c d
-pattern_narrows In k x c d (patterns.binding_name_rule text s p r e) h =
-    binding_rule r.word s r.reads_word (word_is_name k text s c d r (supported_as x (tree.ident_pat s text) e h)) (e ∙ ap (tree.ident_pat s) r.is_text)
-pattern_narrows In k x c d (patterns.target_name_rule text s p a r e) h = cc
-pattern_narrows In k x c d (patterns.target_rule y p r t i e) h = refuted x (ap supported e) h
-pattern_narrows In k x c d (patterns.array_rule xs m i r j n e) h = refuted x (ap supported e) h
-pattern_narrows In k x c d (patterns.object_rule xs m i r j n e) h = refuted x (ap supported e) h
+unnamed : {X : Type 0} (x : Tree) → is_binding_name x ≡ false → is_binding_name x ≡ true → X
+unnamed x e b = cc
 
-pat_narrows : (n : ℕ) (k : Code) (x : Tree) (c d : Place) → Reads n (pattern_goal binding k x c d) → supported x ≡ true → ReadsPat n k x c d
-pat_narrows zero k x c d r h = absurd r
-pat_narrows (suc n) k x c d r h = pattern_narrows (Reads n) k x c d r h
+pattern_narrows : (In : Goal → Type 0) (k : Code) (x : Tree) (c d : Place) → patterns.PatternRule In binding k x c d → is_binding_name x ≡ true → supported x ≡ true → PatRule k x c d
+pattern_narrows In k x c d (patterns.binding_name_rule text s p r e) b h =
+    binding_rule r.word s r.reads_word (word_is_name k text s c d r (supported_as x (tree.ident_pat s text) e h)) (e ∙ ap (tree.ident_pat s) r.is_text)
+pattern_narrows In k x c d (patterns.target_name_rule text s p a r e) b h = cc
+pattern_narrows In k x c d (patterns.target_rule y p r t i e) b h = unnamed x (ap is_binding_name e) b
+pattern_narrows In k x c d (patterns.array_rule xs m i r j n e) b h = unnamed x (ap is_binding_name e) b
+pattern_narrows In k x c d (patterns.object_rule xs m i r j n e) b h = unnamed x (ap is_binding_name e) b
+
+pat_narrows : (n : ℕ) (k : Code) (x : Tree) (c d : Place) → Reads n (pattern_goal binding k x c d) → is_binding_name x ≡ true → supported x ≡ true → ReadsPat n k x c d
+pat_narrows zero k x c d r b h = absurd r
+pat_narrows (suc n) k x c d r b h = pattern_narrows (Reads n) k x c d r b h
 
 declarator_narrows : (n : ℕ) (k : Code) (word : VarDeclKind) (x : Tree) (c d : Place) → declarations.DeclaratorRule (Reads n) (with_in k) false word x c d → supported x ≡ true
     → DeclaratorRule (ReadsClass n assignment) (ReadsPat n) (with_in k) x c d
 declarator_narrows n k word x c d (declarations.plain_rule name r a b e) h =
-    plain_rule name (pat_narrows n (with_in k) name c d r (and_yes (supported name) _ (supported_as x (tree.declarator (spanned c d) name tree.absent) e h)).0) a e
+    let g = and_yes (is_binding_name name) _ (supported_as x (tree.declarator (spanned c d) name tree.absent) e h) in
+    plain_rule name (pat_narrows n (with_in k) name c d r g.0 (and_yes (supported name) _ g.1).0) a e
 declarator_narrows n k word x c d (declarations.initialized_rule name init m r a s e) h =
-    let g = and_yes (supported name) _ (supported_as x (tree.declarator (spanned c d) name init) e h) in
-    initialized_rule name init m (pat_narrows n (with_in k) name c m r g.0) a (s, g.1) e
+    let b = and_yes (is_binding_name name) _ (supported_as x (tree.declarator (spanned c d) name init) e h) in
+    let g = and_yes (supported name) _ b.1 in
+    initialized_rule name init m (pat_narrows n (with_in k) name c m r b.0 g.0) a (s, g.1) e
 
 module _ (Rule Other : Tree → Place → Place → Type 0) (narrow : (x : Tree) (c d : Place) → Rule x c d → supported x ≡ true → Other x c d) where
   -- with commas between, each by itself

@@ -27,7 +27,8 @@ use Rattle.swc_ecma_parser_grammar.specs.Names.{Code, is_reserved, is_name, is_i
 use Rattle.swc_ecma_parser_grammar.specs.Reads.{ReadsToken}
 use Rattle.swc_ecma_parser_grammar.specs.Supported.{supported}
 use Rattle.swc_ecma_parser_grammar.specs.ReadsSupported.{ReadsClass}
-use Rattle.swc_ecma_parser_grammar.specs.language.Goals.{Goal, expression}
+use Rattle.swc_ecma_parser_grammar.specs.language.Goals.{Goal, expression, assigning}
+use Rattle.swc_ecma_parser_grammar.specs.language.Patterns as patterns
 use Rattle.swc_ecma_parser_grammar.specs.language.Operators.{unary_operator, update_operator}
 use Rattle.swc_ecma_parser_grammar.specs.language.Parts.{ReadsName}
 use Rattle.swc_ecma_parser_grammar.specs.language.LeftSides as sides
@@ -143,18 +144,19 @@ module _ (In : Goal → Type 0) (k : Code) where
   binary_opens {x = x} {c = c} {d = d} (power_rule y z m b r u i s e) h =
       unary_rule_opens y c m r (and_yes (supported y) _ (supported_as x (tree.bin (spanned c d) binary.Exp y z) e h)).0
 
-  -- a pattern that is assigned to is not supported
-  no_pattern : {X : Type 0} (x : Tree) → is_pattern_target x ≡ true → supported x ≡ true → X
-  no_pattern (tree.array_pat s elems) e h = cc
-  no_pattern (tree.object_pat s props) e h = cc
-  no_pattern _ e h = cc
+  -- a pattern that is assigned to begins with its bracket or brace
+  pattern_opens : (x : Tree) (c d : Place) → patterns.PatternRule In assigning k x c d → is_pattern_target x ≡ true → opens (kind_at c) ≡ true
+  pattern_opens x c d (patterns.binding_name_rule text s p r e) h = cc
+  pattern_opens x c d (patterns.target_name_rule text s p a r e) h = cc
+  pattern_opens x c d (patterns.target_rule y p r t i e) h = cc
+  pattern_opens x c d (patterns.array_rule xs m i r j n e) h = kind_opens c kind.LBracket i refl
+  pattern_opens x c d (patterns.object_rule xs m i r j n e) h = kind_opens c kind.LBrace i refl
 
   assignment_opens : (x : Tree) (c d : Place) → expressions.AssignmentRule In k x c d → supported x ≡ true → opens (kind_at c) ≡ true
   assignment_opens x c d (expressions.operators_rule r s) h = binary_opens r h
   assignment_opens x c d (expressions.conditional_rule t y z i j r q a b s u e) h = binary_opens r (and_yes (supported t) _ (supported_as x (tree.cond (spanned c d) t y z) e h)).0
   assignment_opens x c d (expressions.assign_rule op y z m r t a b e) h = left_side_opens r.0 (and_yes (supported y) _ (supported_as x (tree.assign (spanned c d) op y z) e h)).0
-  assignment_opens x c d (expressions.destructuring_rule y z m r t a b e) h =
-      no_pattern y t (and_yes (supported y) _ (supported_as x (tree.assign (spanned c d) assign.Assign y z) e h)).0
+  assignment_opens x c d (expressions.destructuring_rule y z m r t a b e) h = pattern_opens y c m r t
   assignment_opens x c d (expressions.arrow_rule a ps y i j r s t b u e) h = refuted x (ap supported e) h
   assignment_opens x c d (expressions.bare_yield_rule g i n s e) h = refuted x (ap supported e) h
   assignment_opens x c d (expressions.yield_rule y g i b s r e) h = refuted x (ap supported e) h

@@ -69,8 +69,8 @@ pat_is_name zero k x c d h = absurd h
 pat_is_name (suc n) k x c d (binding_rule w s r h e) = ap is_binding_name e
 
 declarator_supported : (n : ℕ) (k : Code) (x : Tree) (c d : Place) → DeclaratorRule (ReadsClass n assignment) (ReadsPat n) k x c d → supported x ≡ true
-declarator_supported n k x c d (plain_rule p r h e) = ap supported e ∙ and_both _ _ (pat_supported n k p c d r) refl
-declarator_supported n k x c d (initialized_rule p y m r h s e) = ap supported e ∙ and_both _ _ (pat_supported n k p c m r) s.1
+declarator_supported n k x c d (plain_rule p r h e) = ap supported e ∙ and_both _ _ (pat_is_name n k p c d r) (and_both _ _ (pat_supported n k p c d r) refl)
+declarator_supported n k x c d (initialized_rule p y m r h s e) = ap supported e ∙ and_both _ _ (pat_is_name n k p c m r) (and_both _ _ (pat_supported n k p c m r) s.1)
 
 -- what stands behind `var`, with `in` read as an operator
 declarator_widens : (n : ℕ) (k : Code) (x : Tree) (c d : Place) → DeclaratorRule (ReadsClass n assignment) (ReadsPat n) (with_in k) x c d

@@ -8,3 +8,4 @@ pub mod Leaf
 pub mod Code
 pub mod Same
 pub mod Held
+pub mod Targets

@@ -6,7 +6,7 @@ use Rattle.swc_ecma_parser_model.specs.Tree.{Tree}
 use Rattle.swc_ecma_parser_grammar.specs.Names.{Code}
 use Rattle.swc_ecma_parser_grammar.specs.Notes.{notes}
 use Rattle.swc_ecma_parser_grammar.specs.Walk.{env_of, walk}
-use Rattle.swc_ecma_parser_reader.specs.State.{Scope, State, Reader}
+use Rattle.swc_ecma_parser_reader.specs.State.{Scope, State, Outcome, Reader}
 
 abbrev pub st : Place → Code → Scope → List Fault → List Fault → State
 st c k w f h = record { at = c; code = k; scope = w; faults = f; held_back = h }
@@ -14,3 +14,19 @@ st c k w f h = record { at = c; code = k; scope = w; faults = f; held_back = h }
 -- the answer of a reader that is complete: the tree, its end, the faults of its walk, and its notes held back
 abbrev pub Reads : Reader Tree → Code → Tree → Place → Place → Type 0
 Reads reader k x c d = (w : Scope) (f h : List Fault) → reader (st c k w f h) ≡ Ok (x, st d k w (f ++ walk (env_of k w.labels) x) (h ++ notes x))
+
+-- ---- answers of which something holds
+
+-- an answer of which this holds, and the state behind it
+pub record Gets {A : Type 0} (P : A → Type 0) (o : Outcome A) (t : State) : Type 0 where
+  pub value : A
+  pub holds : P value
+  pub is : o ≡ Ok (value, t)
+
+-- the same answer, of which something else holds
+pub gets_also : {A : Type 0} (P Q : A → Type 0) (o : Outcome A) (t : State) → Gets P o t → ((a : A) → P a → Q a) → Gets Q o t
+gets_also P Q o t r g = record { value = r.value; holds = g r.value r.holds; is = r.is }
+
+-- a reader gets what this holds of, with the walk and the notes of a tree
+abbrev pub ReadsAs : {A : Type 0} → (A → Type 0) → Reader A → Code → Tree → Place → Place → Type 0
+ReadsAs P reader k x c d = (w : Scope) (f h : List Fault) → Gets P (reader (st c k w f h)) (st d k w (f ++ walk (env_of k w.labels) x) (h ++ notes x))

@@ -40,11 +40,12 @@ use Rattle.swc_ecma_parser_grammar.specs.Walk.{walk, env_of, tabled, drops}
 use Rattle.swc_ecma_parser_grammar.specs.Notes.{notes, all_notes, statement_note}
 use Rattle.swc_ecma_parser_grammar.proofs.Widens.{script_widens, script_supported}
 use Rattle.swc_ecma_parser_reader.specs.State.{State, Reader, moved, coded, flagged, within, noted, module_fault, fault, recorded_in, recorded_at, fault_at, expect, end, name, name_in, name_by}
-use Rattle.swc_ecma_parser_reader.specs.Expressions.{expr}
+use Rattle.swc_ecma_parser_reader.specs.Expressions.{Cover, expr, cover}
 use Rattle.swc_ecma_parser_reader.specs.Reader.{binding, pat, empty, debugger, initialized, declarator, declarators_turn, declarators, var, closes, at_end, close, directs, items_turn, items, block, note_statement, no_label, expr_stmt, expr_stmt_at, stmt_by, stmt_level, stmt, shebang_of, shebang_in, shebang_taken, shebang, script_body, script}
 use Rattle.swc_ecma_parser_reader.specs.Entry.{SoundScript}
 use Rattle.swc_ecma_parser_reader.specs.Limits.{has_out_of_memory_token}
-use Rattle.swc_ecma_parser_reader.proofs.expressions.Sound.{expr_sound}
+use Rattle.swc_ecma_parser_reader.proofs.expressions.SoundCovers.{SoundCover}
+use Rattle.swc_ecma_parser_reader.proofs.expressions.Sound.{expr_sound, cover_sound}
 use Rattle.swc_ecma_parser_reader.proofs.Meets.{Meets, Refuses, meets_then, meets_if, wanted_meets, too_deep_meets, refuse_meets, Turned, loop_answers, saw, meant}
 use Rattle.swc_ecma_parser_reader.proofs.Errors.{is_error, word_is_none, kind_here, after_remembers, nothing_at_end}
 use Rattle.swc_ecma_parser_reader.proofs.Between.{Sound, SoundTree, SoundStep, no_faults, same, sound_then, sound_more, sound_moved, sound_here, sound_as, sound_after, sound_coded, within_sound, flags_back, some_fault}
@@ -568,6 +569,9 @@ script_lacks_out_of_memory n s x t e = meant (λ y u. has_out_of_memory_token s.
 pub expr_code : (n : ℕ) (class : Class) (s : State) (x : Tree) (t : State) → expr n class s ≡ Ok (x, t) → t.code ≡ s.code
 expr_code n class s x t e =
     let p : SoundTree (ReadsClass n class) s x t = meant (λ y u. SoundTree (ReadsClass n class) s y u) Refuses (expr n class s) (Ok (x, t)) e (expr_sound n class s) in p.code
+
+pub cover_code : (n : ℕ) (s : State) (v : Cover) (t : State) → cover n s ≡ Ok (v, t) → t.code ≡ s.code
+cover_code n s v t e = let p : SoundCover n s v t = meant (λ y u. SoundCover n s y u) Refuses (cover n s) (Ok (v, t)) e (cover_sound n s) in p.code
 
 pub declarators_code : (n : ℕ) (s : State) (xs : List Tree) (t : State) → declarators (expr n) (pat n) s ≡ Ok (xs, t) → t.code ≡ s.code
 declarators_code n s xs t e =

@@ -2,9 +2,17 @@ pub mod Falls
 pub mod Loops
 pub mod Limits
 pub mod CompleteKinds
+pub mod Covers
+pub mod Targets
 pub mod CompleteParts
+pub mod CompleteCovers
+pub mod CompleteLefts
 pub mod Complete
 pub mod SoundSteps
+pub mod SoundLists
+pub mod SoundCovers
 pub mod SoundLefts
 pub mod SoundOperators
+pub mod SoundTargets
+pub mod Stays
 pub mod Sound

@@ -1,6 +1,6 @@
 -- The reader of expressions, rule by rule: ECMA-262, section 13. What is read one level further in is read by a reader for each
 -- class of expressions.
-use Rattle.std.specs.Prelude.{ℕ, zero, suc, Bool, true, false, not, ◌&&◌, ◌||◌, if◌then◌else◌, nat_le, nat_eq, List, [], ◌∷◌, ◌++◌, codes, Option, Some, None, Ok, Err}
+use Rattle.std.specs.Prelude.{ℕ, zero, suc, Bool, true, false, not, ◌&&◌, ◌||◌, if◌then◌else◌, nat_le, nat_eq, is_some, List, [], ◌∷◌, ◌++◌, codes, Option, Some, None, Ok, Err}
 use Rattle.swc_ecma_parser_common.specs.declared.span.Span.{Span}
 use Rattle.swc_ecma_parser_error.specs.Kind as faults
 use Rattle.swc_ecma_parser_error.specs.Kind.{Kind}
@@ -22,6 +22,7 @@ use Rattle.swc_ecma_parser_model.specs.declared.operators.AssignOp.TheVariants a
 use Rattle.swc_ecma_parser_model.specs.Tree as tree
 use Rattle.swc_ecma_parser_model.specs.Tree.{Tree, Text, listed}
 use Rattle.swc_ecma_parser_model.specs.Forms.{is_ident_named, is_simple_target, span_of}
+use Rattle.swc_ecma_parser_model.specs.Targets.{as_target}
 use Rattle.swc_ecma_parser_grammar.specs.Looks.{kind_at, breaks_at, sees, span_at}
 use Rattle.swc_ecma_parser_grammar.specs.Names.{Code, is_name, name_at, identifier_at}
 use Rattle.swc_ecma_parser_grammar.specs.Follows.{word_at, is_async_function, continues_left_side}
@@ -230,9 +231,69 @@ unassignable _ = faults.NotSimpleAssign
 unfoldable pub unheaded : Bool → Tree → Reader Tree
 unheaded is_async x = λ s. if heads_arrow is_async x s then wanted faults.Unexpected s else Ok (x, s)
 
--- ---- what is read one level further in
+-- ---- what may still become a pattern: sections 13.2.4, 13.2.5 and 13.15.5
 
-module _ (inner : Class → Reader Tree) where
+-- An expression, or an array or object that may still become a pattern. A part `name = value` stands in it as it was read, and
+-- `mark` says where the first is, since no expression has one; `comma` says whether one stands behind a spread, where no
+-- pattern has one.
+pub record Cover : Type 0 where
+  pub x : Tree
+  pub mark : Option Span
+  pub comma : Bool
+
+-- the parts of such an array or object
+pub record Covers : Type 0 where
+  pub xs : List Tree
+  pub mark : Option Span
+  pub comma : Bool
+
+abbrev pub first_mark : Option Span → Option Span → Option Span
+first_mark (Some m) later = Some m
+first_mark None later = later
+
+abbrev pub no_covers : Covers
+no_covers = record { xs = []; mark = None; comma = false }
+
+abbrev pub with_cover : Covers → Cover → Covers
+with_cover found v = record { xs = found.xs ++ v.x ∷ []; mark = first_mark found.mark v.mark; comma = found.comma || v.comma }
+
+abbrev pub with_comma : Bool → Covers → Covers
+with_comma is_spread found = record { xs = found.xs; mark = found.mark; comma = found.comma || is_spread }
+
+-- an expression, which stays one
+abbrev pub done : Tree → Cover
+done x = record { x = x; mark = None; comma = false }
+
+-- as a part of a form
+abbrev pub part_as : (Tree → Tree) → Cover → Cover
+part_as form v = record { x = form v.x; mark = v.mark; comma = v.comma }
+
+abbrev pub whole_of : (Tree → Tree) → Covers → Cover
+whole_of form found = record { x = form (listed found.xs); mark = found.mark; comma = found.comma }
+
+-- as an expression
+abbrev pub unmarked : Tree → Option Span → Reader Tree
+unmarked x (Some m) = reject (fault_at m faults.AssignProperty)
+unmarked x None = pure x
+
+unfoldable pub close : Cover → Reader Tree
+close v = unmarked v.x v.mark
+
+-- as what `=` assigns to
+abbrev pub target_or : Tree → Option Tree → Reader Tree
+target_or x (Some p) = pure p
+target_or x None = reject (fault_at (span_of x) faults.InvalidPat)
+
+unfoldable pub target : Cover → Reader Tree
+target v = target_or v.x (if v.comma then None else as_target v.x)
+
+-- what goes on with an array or object but `=`
+unfoldable pub goes_on : State → Bool
+goes_on s = continues_left_side s.at || (is_some (operator_at 1 s) || (sees kind.QuestionMark s.at || continues_conditional s.at))
+
+-- ---- what is read one level further in: expressions, and assignment expressions that may still become patterns
+
+module _ (inner : Class → Reader Tree) (cover : Reader Cover) where
   -- in brackets, braces and parentheses `in` is an operator
   unfoldable pub inside : Class → Reader Tree
   inside class = within with_in (inner class)
@@ -284,31 +345,49 @@ module _ (inner : Class → Reader Tree) where
 
   -- ---- primary expressions: section 13.2
 
+  unfoldable pub covered : Reader Cover
+  covered = within with_in cover
+
+  unfoldable pub spread_item : Reader Cover
+  spread_item = λ s. (do
+    skip
+    v ← covered
+    pure (part_as (tree.element (Some (span_at s.at))) v)) s
+
+  unfoldable pub plain_item : Reader Cover
+  plain_item = do
+    v ← covered
+    pure (part_as (tree.element None) v)
+
+  -- an element of an array, with the dots of a spread
+  unfoldable pub item : Reader Cover
+  item = λ s. if sees kind.DotDotDot s.at then spread_item s else plain_item s
+
   -- behind an element a comma stands, or the end
-  abbrev pub behind_element : List Tree → Reader (Step (List Tree) (List Tree))
-  behind_element found = λ s. if sees kind.RBracket s.at then Ok (More found, s) else (do
+  abbrev pub behind_item : Bool → Covers → Reader (Step Covers Covers)
+  behind_item is_spread found = λ s. if sees kind.RBracket s.at then Ok (More found, s) else (do
     expect kind.Comma
-    pure (More found)) s
+    pure (More (with_comma is_spread found))) s
 
   -- an element, or the comma behind a hole
-  unfoldable pub array_turn : List Tree → Reader (Step (List Tree) (List Tree))
+  unfoldable pub array_turn : Covers → Reader (Step Covers Covers)
   array_turn found = λ s.
       if sees kind.RBracket s.at then Ok (Done found, moved s)
-      else if sees kind.Comma s.at then Ok (More (found ++ tree.absent ∷ []), moved s)
+      else if sees kind.Comma s.at then Ok (More (with_cover found (done tree.absent)), moved s)
       else (do
-        x ← element
-        behind_element (found ++ x ∷ [])) s
+        v ← item
+        behind_item (sees kind.DotDotDot s.at) (with_cover found v)) s
 
   -- from `[` on
-  unfoldable pub elements : Reader (List Tree)
-  elements = skip >> loop array_turn []
+  unfoldable pub elements : Reader Covers
+  elements = skip >> loop array_turn no_covers
 
-  unfoldable pub array : Reader Tree
+  unfoldable pub array : Reader Cover
   array = do
     start ← span_here
-    xs ← elements
+    found ← elements
     span ← since start
-    pure (tree.array span (listed xs))
+    pure (whole_of (tree.array span) found)
 
   -- ---- objects: section 13.2.5
 
@@ -327,52 +406,75 @@ module _ (inner : Class → Reader Tree) where
       else if sees kind.LBracket s.at then computed_key s
       else literal_key s
 
-  unfoldable pub key_value : Span → Tree → Reader Tree
+  unfoldable pub key_value : Span → Tree → Reader Cover
   key_value start x = do
+    skip
+    v ← covered
+    span ← since start
+    pure (part_as (tree.key_value_prop span x) v)
+
+  -- a part that only a pattern has
+  unfoldable pub initialized : Span → Tree → Reader Cover
+  initialized start x = do
     skip
     value ← inside assignment
     span ← since start
-    pure (tree.key_value_prop span x value)
+    pure (record { x = tree.assign_prop span x value; mark = Some span; comma = false })
 
-  unfoldable pub behind_key : Span → Tree → Reader Tree
-  behind_key start x = λ s. if sees kind.Colon s.at then key_value start x s else shorthand x s
+  unfoldable pub initialized_name : Span → Span → Text → Reader Cover
+  initialized_name start span text = λ s. if is_name s.code.flags text then initialized start (tree.ident span text) s else reject (fault_at span faults.ExpectedIdent) s
 
-  unfoldable pub keyed_property : Reader Tree
+  abbrev pub initialized_key : Span → Tree → Reader Cover
+  initialized_key start (tree.ident span text) = initialized_name start span text
+  initialized_key start _ = wanted faults.Unexpected
+
+  unfoldable pub bare_key : Tree → Reader Cover
+  bare_key x = do
+    y ← shorthand x
+    pure (done y)
+
+  unfoldable pub behind_key : Span → Tree → Reader Cover
+  behind_key start x = λ s.
+      if sees kind.Colon s.at then key_value start x s
+      else if sees kind.Assign s.at then initialized_key start x s
+      else bare_key x s
+
+  unfoldable pub keyed_property : Reader Cover
   keyed_property = do
     start ← span_here
     x ← key
     behind_key start x
 
-  unfoldable pub spread_property : Reader Tree
+  unfoldable pub spread_property : Reader Cover
   spread_property = λ s. (do
     skip
-    e ← inside assignment
-    pure (tree.spread_prop (span_at s.at) e)) s
+    v ← covered
+    pure (part_as (tree.spread_prop (span_at s.at)) v)) s
 
-  unfoldable pub property : Reader Tree
+  unfoldable pub property : Reader Cover
   property = λ s. if sees kind.DotDotDot s.at then spread_property s else keyed_property s
 
   -- behind a property a comma stands, or the end
-  abbrev pub behind_property : List Tree → Reader (Step (List Tree) (List Tree))
-  behind_property found = λ s. if sees kind.RBrace s.at then Ok (More found, s) else (do
+  abbrev pub behind_property : Bool → Covers → Reader (Step Covers Covers)
+  behind_property is_spread found = λ s. if sees kind.RBrace s.at then Ok (More found, s) else (do
     expect kind.Comma
-    pure (More found)) s
+    pure (More (with_comma is_spread found))) s
 
-  unfoldable pub object_turn : List Tree → Reader (Step (List Tree) (List Tree))
+  unfoldable pub object_turn : Covers → Reader (Step Covers Covers)
   object_turn found = λ s. if sees kind.RBrace s.at then Ok (Done found, moved s) else (do
-    x ← property
-    behind_property (found ++ x ∷ [])) s
+    v ← property
+    behind_property (sees kind.DotDotDot s.at) (with_cover found v)) s
 
   -- from `{` on
-  unfoldable pub properties : Reader (List Tree)
-  properties = skip >> loop object_turn []
+  unfoldable pub properties : Reader Covers
+  properties = skip >> loop object_turn no_covers
 
-  unfoldable pub object : Reader Tree
+  unfoldable pub object : Reader Cover
   object = do
     start ← span_here
-    xs ← properties
+    found ← properties
     span ← since start
-    pure (tree.object span (listed xs))
+    pure (whole_of (tree.object span) found)
 
   unfoldable pub paren : Reader Tree
   paren = do
@@ -386,8 +488,8 @@ module _ (inner : Class → Reader Tree) where
   unfoldable pub marked_primary : Reader Tree
   marked_primary = λ s.
       if sees kind.LParen s.at then paren s
-      else if sees kind.LBracket s.at then array s
-      else if sees kind.LBrace s.at then object s
+      else if sees kind.LBracket s.at then (array >>= close) s
+      else if sees kind.LBrace s.at then (object >>= close) s
       else if sees kind.This s.at then this s
       else wanted faults.Unexpected s
 
@@ -565,10 +667,58 @@ module _ (inner : Class → Reader Tree) where
   unfoldable pub behind_operators : Bool → Span → Tree → Reader Tree
   behind_operators is_async start x = λ s. if sees kind.QuestionMark s.at then conditional start x s else assigned_or is_async start x (assign_operator (kind_at s.at)) s
 
-  unfoldable pub assignment_expr : Reader Tree
-  assignment_expr = λ s. (do
+  -- operands and operators, and what stands behind them
+  unfoldable pub operators_expr : Reader Tree
+  operators_expr = λ s. (do
     x ← binary_expr 1
     behind_operators (begins_async_call s.at) (span_at s.at) x) s
+
+  -- what goes on with an array or object that was read from a place on
+  unfoldable pub postfixed : Span → Tree → Reader Tree
+  postfixed start x = λ s. behind_operand start x (postfix_at s.at) s
+
+  unfoldable pub continued : Span → Tree → Reader Tree
+  continued start x = do
+    y ← left_from true start x
+    z ← postfixed start y
+    w ← binary_from 1 start z
+    behind_operators false start w
+
+  unfoldable pub closed : Span → Cover → Reader Cover
+  closed start v = do
+    x ← close v
+    y ← continued start x
+    pure (done y)
+
+  unfoldable pub assigned_pattern : Span → Cover → Reader Cover
+  assigned_pattern start v = do
+    p ← target v
+    y ← assigned_to start p assign.Assign
+    pure (done y)
+
+  -- it is left open where nothing goes on with it
+  unfoldable pub behind_literal : Span → Cover → Reader Cover
+  behind_literal start v = λ s.
+      if sees kind.Assign s.at then assigned_pattern start v s
+      else if goes_on s then closed start v s
+      else Ok (v, s)
+
+  unfoldable pub open_literal : Reader Cover
+  open_literal = do
+    start ← span_here
+    v ← (λ s. if sees kind.LBracket s.at then array s else object s)
+    behind_literal start v
+
+  unfoldable pub done_expr : Reader Cover
+  done_expr = do
+    x ← operators_expr
+    pure (done x)
+
+  unfoldable pub cover_expr : Reader Cover
+  cover_expr = λ s. if sees kind.LBracket s.at || sees kind.LBrace s.at then open_literal s else done_expr s
+
+  unfoldable pub assignment_expr : Reader Tree
+  assignment_expr = cover_expr >>= close
 
   -- ---- Expression: section 13.16
 
@@ -600,7 +750,13 @@ module _ (inner : Class → Reader Tree) where
   expr_level left_side = left_expr
   expr_level callee = left false
 
--- an expression of a class in so many levels
-unfoldable pub expr : ℕ → Class → Reader Tree
-expr zero class = too_deep
-expr (suc n) class = expr_level (expr n) class
+unfoldable mutual
+  -- an expression of a class in so many levels
+  pub expr : ℕ → Class → Reader Tree
+  expr zero class = too_deep
+  expr (suc n) class = expr_level (expr n) (cover n) class
+
+  -- an assignment expression that may still become a pattern
+  pub cover : ℕ → Reader Cover
+  cover zero = too_deep
+  cover (suc n) = cover_expr (expr n) (cover n)

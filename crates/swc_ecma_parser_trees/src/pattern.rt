@@ -1,6 +1,6 @@
 //! Patterns other than a name.
 
-ghost use Rattle.std.specs.Prelude.{◌≡◌, IfOk, map};
+ghost use Rattle.std.specs.Prelude.{◌≡◌, IfOk, map, option_map};
 
 use crate::key::BuildsKey;
 use std::alloc::{AllocError, Global};
@@ -11,6 +11,7 @@ use swc_ecma_parser_model::Ident;
 /// `Result` fails only where memory runs out, and spans are in byte offsets.
 pub trait BuildsPattern: BuildsKey {
     ghost use Rattle.swc_ecma_parser_model.specs.Forms as forms;
+    ghost use Rattle.swc_ecma_parser_model.specs.Targets as targets;
     ghost use Rattle.swc_ecma_parser_model.specs.Tree as tree;
     ghost use Rattle.swc_ecma_parser_model.specs.Tree.{Tree};
     ghost use Rattle.swc_ecma_parser_trees.specs.Parts as parts;
@@ -79,6 +80,10 @@ pub trait BuildsPattern: BuildsKey {
     /// An expression that a pattern assigns to.
     fn expr_pat(alloc: Global, expr: Self::Expr) -> Result<Self::Pat, AllocError>
         ensures { IfOk result (λ x. Self.pat_of x ≡ tree.expr_pat (Self.expr_of expr)) };
+
+    /// An expression as what `=` assigns to; an array or an object becomes a pattern. None where it is no target.
+    fn target(alloc: Global, expr: Self::Expr) -> Result<Option<Self::Pat>, AllocError>
+        ensures { IfOk result (λ x. targets.as_target (Self.expr_of expr) ≡ option_map Self.pat_of x) };
 
     /// What stands where no pattern was read.
     fn invalid_pat(alloc: Global, span: Span) -> Result<Self::Pat, AllocError>

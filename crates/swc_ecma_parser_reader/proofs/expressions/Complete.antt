@@ -1,6 +1,6 @@
 -- What the language allows of the forms that are read is read, with the faults of the walk and the notes held back, and no others:
--- expressions from operators on, and an expression of any class.
-use Rattle.std.proofs.Common.{◌≡◌, ℕ, zero, suc, ◌≤◌, Bool, true, false, List, [], ◌∷◌, ◌++◌, length, Option, Some, None, Ok, refl, ◌∙◌, ap, arith, append_assoc, append-nil}
+-- expressions from operators on, what may still become a pattern, and an expression of any class.
+use Rattle.std.proofs.Common.{◌≡◌, ℕ, zero, suc, ◌≤◌, Bool, true, false, List, [], ◌∷◌, ◌++◌, length, inl, inr, Option, Some, None, Ok, refl, sym, ◌∙◌, ap, arith, append_assoc, append-nil}
 use Rattle.std.specs.Prelude.{◌&&◌, ◌||◌, is_some, codes}
 use Rattle.std.proofs.lemmas.Bool.{le-leb}
 use Rattle.swc_ecma_parser_common.specs.declared.span.Span.{Span}
@@ -12,10 +12,12 @@ use Rattle.swc_ecma_parser_model.specs.declared.operators.UpdateOp.{UpdateOp}
 use Rattle.swc_ecma_parser_model.specs.declared.operators.BinaryOp.{BinaryOp}
 use Rattle.swc_ecma_parser_model.specs.declared.operators.BinaryOp.TheVariants as binary
 use Rattle.swc_ecma_parser_model.specs.declared.operators.AssignOp.{AssignOp}
+use Rattle.swc_ecma_parser_model.specs.declared.operators.AssignOp.TheVariants as assign
 use Rattle.swc_ecma_parser_model.specs.Tree as tree
 use Rattle.swc_ecma_parser_model.specs.Tree.{Tree, listed, trees}
-use Rattle.swc_ecma_parser_model.specs.Forms.{is_ident_named, is_simple_target}
-use Rattle.swc_ecma_parser_grammar.specs.Looks.{kind_at, breaks_at, sees, span_at, spanned}
+use Rattle.swc_ecma_parser_model.specs.Forms.{is_ident, is_ident_named, is_simple_target, is_pattern_target, span_of}
+use Rattle.swc_ecma_parser_model.specs.Targets.{leaf, as_target, as_element}
+use Rattle.swc_ecma_parser_grammar.specs.Looks.{kind_at, breaks_at, sees, same_kind, span_at, spanned}
 use Rattle.swc_ecma_parser_grammar.specs.Names.{Code}
 use Rattle.swc_ecma_parser_grammar.specs.Follows.{continues_left_side}
 use Rattle.swc_ecma_parser_grammar.specs.Reads.{with_in, ReadsSeparated}
@@ -23,24 +25,31 @@ use Rattle.swc_ecma_parser_grammar.specs.Notes.{notes, all_notes}
 use Rattle.swc_ecma_parser_grammar.specs.Walk.{env_of, walk, walks}
 use Rattle.swc_ecma_parser_grammar.specs.Supported.{supported, all_supported}
 use Rattle.swc_ecma_parser_grammar.specs.ReadsSupported.{ReadsClass}
-use Rattle.swc_ecma_parser_grammar.specs.language.Goals.{Goal, Class, expression, assignment, operator, unary, left_side, callee, expr_goal, callee_goal}
+use Rattle.swc_ecma_parser_grammar.specs.language.Goals.{Goal, Class, expression, assignment, operator, unary, left_side, callee, assigning, expr_goal, callee_goal, element_goal, pattern_goal}
 use Rattle.swc_ecma_parser_grammar.specs.language.Operators.{unary_operator, update_operator, binary_operator, assign_operator, precedence, groups_left, is_operator, mixes, is_unary}
 use Rattle.swc_ecma_parser_grammar.specs.language.Continues.{is_operation, is_arrow_head, binds, continues_callee, continues_unary, continues_operand, continues_head, continues_conditional, continues_assignment}
 use Rattle.swc_ecma_parser_grammar.specs.language.LeftSides as sides
 use Rattle.swc_ecma_parser_grammar.specs.language.LeftSides.{PrimaryRule, LeftSideRule}
-use Rattle.swc_ecma_parser_grammar.specs.language.Patterns.{OperandRule}
+use Rattle.swc_ecma_parser_grammar.specs.language.Patterns as patterns
+use Rattle.swc_ecma_parser_grammar.specs.language.Patterns.{OperandRule, PatternRule, PatternElementRule}
 use Rattle.swc_ecma_parser_grammar.specs.language.Expressions as rules
 use Rattle.swc_ecma_parser_grammar.specs.language.Expressions.{UnaryRule, BinaryRule, AssignmentRule, ExpressionRule}
 use Rattle.swc_ecma_parser_grammar.specs.language.Reads as language
 use Rattle.swc_ecma_parser_grammar.proofs.Tests.{or_no, or_none, and_yes}
-use Rattle.swc_ecma_parser_reader.specs.State.{Scope, State, Reader, loop}
-use Rattle.swc_ecma_parser_reader.specs.Expressions.{begins_async_call, is_head, heads_arrow, closed_left, simple, update_behind, read_operator, operator_at, left_operand, unmixed, unassigned, unheaded, left, left_expr, prefixed, update_before, postfix, unary_expr, operated, binary_turn, binary_from, binary_expr, conditional, assigned_to, assigned, behind_operators, assignment_expr, sequence_turn, sequence_from, expression_expr, expr_level, expr}
-use Rattle.swc_ecma_parser_reader.proofs.Answered.{st, Reads}
+use Rattle.swc_ecma_parser_grammar.proofs.language.spans.Expressions.{left_side_rule}
+use Rattle.swc_ecma_parser_reader.specs.State.{Scope, State, Outcome, Reader, loop}
+use Rattle.swc_ecma_parser_reader.specs.Expressions.{Cover, done, goes_on, begins_async_call, is_head, heads_arrow, closed_left, simple, update_behind, read_operator, operator_at, left_operand, unmixed, unassigned, unheaded, left, left_expr, prefixed, update_before, postfix, unary_expr, operated, binary_turn, binary_from, binary_expr, conditional, assigned_to, assigned, behind_operators, operators_expr, cover_expr, assignment_expr, sequence_turn, sequence_from, expression_expr, expr_level, expr, cover}
+use Rattle.swc_ecma_parser_reader.proofs.Answered.{st, Reads, Gets, gets_also, ReadsAs}
 use Rattle.swc_ecma_parser_reader.proofs.Takes.{moves}
 use Rattle.swc_ecma_parser_reader.proofs.Steps.{loop_more, loop_done}
-use Rattle.swc_ecma_parser_reader.proofs.expressions.Falls.{operated_falls, assignment_falls, expr_falls}
-use Rattle.swc_ecma_parser_reader.proofs.expressions.CompleteKinds.{refuted, supported_as, no_pattern, seen, begins, left_first, operand_plain, operand_update, update_plain, operator_stops, assign_stops, question_stops, stops_unary, unary_stops, stopped, update_seen, postfix_seen, assign_seen, unassigned_at}
-use Rattle.swc_ecma_parser_reader.proofs.expressions.CompleteParts.{shorter_by, expect_reads, IsRead, inside_reads, left_reads}
+use Rattle.swc_ecma_parser_reader.proofs.expressions.Falls.{operated_falls, assignment_falls, expr_falls, cover_falls}
+use Rattle.swc_ecma_parser_reader.proofs.expressions.Targets.{leaf_supported, left_target, left_leaf, pattern_alike}
+use Rattle.swc_ecma_parser_reader.proofs.expressions.Covers as covers
+use Rattle.swc_ecma_parser_reader.proofs.expressions.Covers.{met, begins_literal, is_literal, opened, opened_literal, Assigns, Becomes, cover_is, open_cover, assigns_cover, operators_cover}
+use Rattle.swc_ecma_parser_reader.proofs.expressions.CompleteKinds.{refuted, supported_as, seen, begins, element_begins, ends_part, ended_at, ended_stops, ended_continues, no_async_function, left_first, operand_plain, operand_update, update_plain, operator_stops, assign_stops, question_stops, stops_unary, unary_stops, stopped, update_seen, postfix_seen, assign_seen, unassigned_at}
+use Rattle.swc_ecma_parser_reader.proofs.expressions.CompleteParts.{shorter_by, expect_reads, AsExpr, AsElement, AsTarget, IsRead, inside_reads}
+use Rattle.swc_ecma_parser_reader.proofs.expressions.CompleteCovers.{AsLiteral, array_pattern, object_pattern}
+use Rattle.swc_ecma_parser_reader.proofs.expressions.CompleteLefts.{left_reads}
 
 -- ---- what is asked of trees and operators
 
@@ -108,15 +117,73 @@ headless : (x : Tree) (k : Code) (c d : Place) (w : Scope) (f h : List Fault) �
 unfolding heads_arrow continues_head
 headless x k c d w f h e = rw (head_same x c) e
 
-module _ (In : Goal → Type 0) (inner : Class → Reader Tree) (given : IsRead In inner) where
+-- ---- what may still become a pattern
+
+-- an expression; one that is no array or object has no comma behind a spread
+abbrev AsWhole : Tree → Cover → Type 0
+AsWhole x v = (v.x ≡ x) × (v.mark ≡ None) × (is_literal x ≡ false → v.comma ≡ false)
+
+-- a pattern without a default
+abbrev AsBare : Tree → Place → Cover → Type 0
+AsBare p d v = (as_target v.x ≡ Some p) × (as_element v.x ≡ Some p) × (v.comma ≡ false) × ((span_of v.x).hi ≡ d.last.hi)
+
+-- a name or a member, which is this pattern
+record LeafOf (In : Goal → Type 0) (k : Code) (p : Tree) (c d : Place) : Type 0 where
+  e : Tree
+  reads_leaf : OperandRule In k e c d
+  simple : is_simple_target e ≡ true
+  is : p ≡ leaf e
+
+leaf_member : (e : Tree) → is_ident e ≡ false → leaf e ≡ tree.expr_pat e
+leaf_member (tree.ident s text) h = cc
+leaf_member _ h = refl
+
+leaf_is_supported : (e p : Tree) → p ≡ leaf e → supported p ≡ true → supported e ≡ true
+leaf_is_supported e p i s = sym (leaf_supported e) ∙ ap supported (sym i) ∙ s
+
+leaf_target : (e : Tree) → is_simple_target e ≡ true → as_target e ≡ Some (leaf e)
+leaf_target (tree.ident s text) h = refl
+leaf_target (tree.member s obj prop) h = refl
+leaf_target (tree.super_prop s word prop) h = refl
+leaf_target (tree.paren s e) h = rw h refl
+leaf_target _ h = cc
+
+leaf_element : (e : Tree) → is_simple_target e ≡ true → as_element e ≡ Some (leaf e)
+leaf_element (tree.ident s text) h = refl
+leaf_element (tree.member s obj prop) h = refl
+leaf_element (tree.super_prop s word prop) h = refl
+leaf_element (tree.paren s e) h = rw h refl
+leaf_element _ h = cc
+
+leaf_no_literal : (e : Tree) → is_simple_target e ≡ true → is_literal e ≡ false
+leaf_no_literal (tree.array s elems) h = cc
+leaf_no_literal (tree.object s props) h = cc
+leaf_no_literal _ h = refl
+
+-- a pattern has the faults and the notes of the expression that it is
+pattern_end : (P : Cover → Type 0) (o : Outcome Cover) (x p : Tree) (k : Code) (d : Place) (w : Scope) (f h : List Fault) → as_element x ≡ Some p
+    → Gets P o (st d k w (f ++ walk (env_of k w.labels) x) (h ++ notes x)) → Gets P o (st d k w (f ++ walk (env_of k w.labels) p) (h ++ notes p))
+pattern_end P o x p k d w f h e g = let a = pattern_alike true x p e in rw (a.walked (env_of k w.labels), a.noted) g
+
+-- an expression that is no array or object, as this pattern
+as_whole : (reader : Reader Cover) (x p : Tree) (k : Code) (c d : Place) → as_element x ≡ Some p → is_literal x ≡ false → ReadsAs (AsWhole x) reader k x c d → ReadsAs (AsElement p) reader k p c d
+as_whole reader x p k c d e g r w f h =
+    pattern_end (AsElement p) (reader (st c k w f h)) x p k d w f h e (gets_also (AsWhole x) (AsElement p) _ _ (r w f h) (λ v q. (ap as_element q.0 ∙ e, q.2 g)))
+
+-- nothing goes on with an array or object where a part ends
+nothing_goes_on : (s : State) → ends_part (kind_at s.at) ≡ true → goes_on s ≡ false
+unfolding goes_on operator_at continues_conditional
+nothing_goes_on s e = let t = ended_at s.at e in or_none _ _ (ended_stops s.at e) (rw (t.binary, t.question, t.assigns) refl)
+
+module _ (In : Goal → Type 0) (inner : Class → Reader Tree) (cover : Reader Cover) (given : IsRead In inner cover) where
   -- ---- operands
 
   -- a left side, and no token that goes on with it
   side_reads : (k : Code) (x : Tree) (c d : Place) → LeftSideRule In k x c d → supported x ≡ true → sees kind.Dot d ≡ false → sees kind.LBracket d ≡ false → sees kind.LParen d ≡ false
-      → Reads (left inner true) k x c d
-  side_reads k x c d r s dot bracket paren w f h = left_reads In inner given true k x c d r s refl (or_none _ _ dot bracket) paren w f h
+      → Reads (left inner cover true) k x c d
+  side_reads k x c d r s dot bracket paren w f h = left_reads In inner cover given true k x c d r s refl (or_none _ _ dot bracket) paren w f h
 
-  operand_reads : (k : Code) (x : Tree) (c d : Place) → LeftSideRule In k x c d → supported x ≡ true → continues_left_side d ≡ false → Reads (unary_expr inner) k x c d
+  operand_reads : (k : Code) (x : Tree) (c d : Place) → LeftSideRule In k x c d → supported x ≡ true → continues_left_side d ≡ false → Reads (unary_expr inner cover) k x c d
   unfolding unary_expr postfix
   operand_reads k x c d r s e w f h =
       let first = left_first In k x c d r s in
@@ -124,24 +191,24 @@ module _ (In : Goal → Type 0) (inner : Class → Reader Tree) (given : IsRead 
       rw (operand_plain (kind_at c) first, operand_update (kind_at c) first, side_reads k x c d r s t.dot t.bracket t.paren w f h, t.postfix) refl
 
   prefixed_reads : (op : UnaryOp) (e : Tree) (k : Code) (x : Tree) (c d : Place) → unary_operator (kind_at c) ≡ Some op → In (expr_goal unary k e (after c) d) → supported e ≡ true
-      → x ≡ tree.unary (spanned c d) op e → Reads (unary_expr inner) k x c d
+      → x ≡ tree.unary (spanned c d) op e → Reads (unary_expr inner cover) k x c d
   unfolding unary_expr prefixed spanned
   prefixed_reads op e k x c d o r s j w f h = rw (o, given.reads unary k e (after c) d r s w f h, j) refl
 
   update_before_reads : (op : UpdateOp) (e : Tree) (k : Code) (x : Tree) (c d : Place) → update_operator (kind_at c) ≡ Some op → In (expr_goal unary k e (after c) d) → supported e ≡ true
-      → is_simple_target e ≡ true → x ≡ tree.update (spanned c d) op true e → Reads (unary_expr inner) k x c d
+      → is_simple_target e ≡ true → x ≡ tree.update (spanned c d) op true e → Reads (unary_expr inner cover) k x c d
   unfolding unary_expr update_before simple spanned
   update_before_reads op e k x c d o r s t j w f h = rw (update_plain (kind_at c) op o, o, given.reads unary k e (after c) d r s w f h, t, j) refl
 
   update_behind_reads : (op : UpdateOp) (e : Tree) (m : Place) (k : Code) (x : Tree) (c d : Place) → LeftSideRule In k e c m → supported e ≡ true → is_simple_target e ≡ true
-      → breaks_at m ≡ false → update_operator (kind_at m) ≡ Some op → d ≡ after m → x ≡ tree.update (spanned c d) op false e → Reads (unary_expr inner) k x c d
+      → breaks_at m ≡ false → update_operator (kind_at m) ≡ Some op → d ≡ after m → x ≡ tree.update (spanned c d) op false e → Reads (unary_expr inner cover) k x c d
   unfolding unary_expr postfix update_behind simple spanned
   update_behind_reads op e m k x c d r s t b o i j w f h =
       let first = left_first In k e c m r s in
       let apart = update_seen m op o in
       rw (operand_plain (kind_at c) first, operand_update (kind_at c) first, side_reads k e c m r s apart.0 apart.1 apart.2 w f h, postfix_seen m op b o, t, j, i) refl
 
-  unary_reads : (k : Code) (x : Tree) (c d : Place) → UnaryRule In k x c d → supported x ≡ true → continues_unary x d ≡ false → Reads (unary_expr inner) k x c d
+  unary_reads : (k : Code) (x : Tree) (c d : Place) → UnaryRule In k x c d → supported x ≡ true → continues_unary x d ≡ false → Reads (unary_expr inner cover) k x c d
   unary_reads k x c d (rules.operand_rule r) s e w f h = operand_reads k x c d r.0 s (unary_stops x d (left_simple In k x c d r.0) e) w f h
   unary_reads k x c d (rules.unary_rule op y i r j) s e w f h = prefixed_reads op y k x c d i r (supported_as x (tree.unary (spanned c d) op y) j s) j w f h
   unary_reads k x c d (rules.prefix_rule op y i r t j) s e w f h = update_before_reads op y k x c d i r (supported_as x (tree.update (spanned c d) op true y) j s) t j w f h
@@ -154,30 +221,30 @@ module _ (In : Goal → Type 0) (inner : Class → Reader Tree) (given : IsRead 
   -- an operator and its right operand
   left_grouped : (start : Span) (op : BinaryOp) (x y : Tree) (k : Code) (m d : Place) → groups_left op ≡ true → In (expr_goal (operator (suc (precedence op))) k y (after m) d)
       → supported y ≡ true → mixes op x ≡ false → mixes op y ≡ false → (w : Scope) (f h : List Fault)
-      → operated inner start x op (st m k w f h) ≡ Ok (tree.bin (record { lo = start.lo; hi = d.last.hi }) op x y, st d k w (f ++ walk (env_of k w.labels) y) (h ++ notes y))
+      → operated inner cover start x op (st m k w f h) ≡ Ok (tree.bin (record { lo = start.lo; hi = d.last.hi }) op x y, st d k w (f ++ walk (env_of k w.labels) y) (h ++ notes y))
   unfolding operated left_operand unmixed
   left_grouped start op x y k m d g r s a b w f h = rw (g, given.reads (operator (suc (precedence op))) k y (after m) d r s w f h, a, b) refl
 
   power_grouped : (start : Span) (x y : Tree) (k : Code) (m d : Place) → is_unary x ≡ false → In (expr_goal (operator (precedence binary.Exp)) k y (after m) d) → supported y ≡ true
       → (w : Scope) (f h : List Fault)
-      → operated inner start x binary.Exp (st m k w f h) ≡ Ok (tree.bin (record { lo = start.lo; hi = d.last.hi }) binary.Exp x y, st d k w (f ++ walk (env_of k w.labels) y) (h ++ notes y))
+      → operated inner cover start x binary.Exp (st m k w f h) ≡ Ok (tree.bin (record { lo = start.lo; hi = d.last.hi }) binary.Exp x y, st d k w (f ++ walk (env_of k w.labels) y) (h ++ notes y))
   unfolding operated left_operand unmixed
   power_grouped start x y k m d u r s w f h = rw (u, given.reads (operator (precedence binary.Exp)) k y (after m) d r s w f h, power_mixes x, power_mixes y) refl
 
   operator_more : (l : ℕ) (start : Span) (op : BinaryOp) (x y : Tree) (k : Code) (m d : Place) (w : Scope) (f h i j : List Fault) → operator_at l (st m k w f h) ≡ Some op
-      → operated inner start x op (st m k w f h) ≡ Ok (y, st d k w i j) → binary_from inner l start x (st m k w f h) ≡ binary_from inner l start y (st d k w i j)
+      → operated inner cover start x op (st m k w f h) ≡ Ok (y, st d k w i j) → binary_from inner cover l start x (st m k w f h) ≡ binary_from inner cover l start y (st d k w i j)
   unfolding binary_from binary_turn
   operator_more l start op x y k m d w f h i j o e =
-      loop_more (binary_turn inner l start) x y (st m k w f h) (st d k w i j) (rw (o, e) refl)
-      (shorter_by (length m.left) (operated inner start x op (st m k w f h)) y (st d k w i j) e (operated_falls inner given.falls start x op (st m k w f h)))
+      loop_more (binary_turn inner cover l start) x y (st m k w f h) (st d k w i j) (rw (o, e) refl)
+      (shorter_by (length m.left) (operated inner cover start x op (st m k w f h)) y (st d k w i j) e (operated_falls inner cover given.falls given.cover_falls start x op (st m k w f h)))
 
-  operators_stop : (l : ℕ) (start : Span) (x : Tree) (s : State) → operator_at l s ≡ None → binary_from inner l start x s ≡ Ok (x, s)
+  operators_stop : (l : ℕ) (start : Span) (x : Tree) (s : State) → operator_at l s ≡ None → binary_from inner cover l start x s ≡ Ok (x, s)
   unfolding binary_from binary_turn
-  operators_stop l start x s e = loop_done (binary_turn inner l start) x x s s (rw e refl)
+  operators_stop l start x s e = loop_done (binary_turn inner cover l start) x x s s (rw e refl)
 
   -- What was read so far is reached by the loop of any operators that bind no more tightly.
   binary_reached : (l : ℕ) (k : Code) (n : ℕ) (x : Tree) (c d : Place) → l ≤ n → BinaryRule In k n x c d → supported x ≡ true → continues_unary x d ≡ false → (w : Scope) (f h : List Fault)
-      → binary_expr inner l (st c k w f h) ≡ binary_from inner l (span_at c) x (st d k w (f ++ walk (env_of k w.labels) x) (h ++ notes x))
+      → binary_expr inner cover l (st c k w f h) ≡ binary_from inner cover l (span_at c) x (st d k w (f ++ walk (env_of k w.labels) x) (h ++ notes x))
   unfolding binary_expr spanned
   binary_reached l k n x c d b (rules.single_rule r) s e w f h = rw (unary_reads k x c d r s e w f h) refl
   binary_reached l k n x c d b (rules.left_rule op y z m p g o r i q u v j) s e w f h =
@@ -201,7 +268,7 @@ module _ (In : Goal → Type 0) (inner : Class → Reader Tree) (given : IsRead 
       ∙ rw (j, append_assoc f _ _, append_assoc h _ _) refl)
 
   binary_reads : (l : ℕ) (k : Code) (x : Tree) (c d : Place) → BinaryRule In k l x c d → supported x ≡ true → continues_unary x d ≡ false → binds k l (binary_operator (kind_at d)) ≡ false
-      → Reads (binary_expr inner l) k x c d
+      → Reads (binary_expr inner cover l) k x c d
   binary_reads l k x c d r s e b w f h =
       let f' = f ++ walk (env_of k w.labels) x in
       let h' = h ++ notes x in
@@ -209,8 +276,8 @@ module _ (In : Goal → Type 0) (inner : Class → Reader Tree) (given : IsRead 
 
   -- ---- AssignmentExpression
 
-  operators_read : (k : Code) (x : Tree) (c d : Place) → BinaryRule In k 1 x c d → supported x ≡ true → continues_assignment k x c d ≡ false → Reads (assignment_expr inner) k x c d
-  unfolding assignment_expr behind_operators unheaded continues_assignment continues_operand continues_conditional
+  operators_read : (k : Code) (x : Tree) (c d : Place) → BinaryRule In k 1 x c d → supported x ≡ true → continues_assignment k x c d ≡ false → Reads (operators_expr inner cover) k x c d
+  unfolding operators_expr behind_operators unheaded continues_assignment continues_operand continues_conditional
   operators_read k x c d r s e w f h =
       let (operand, more) = or_no _ _ e in
       let (unary_ends, operators) = or_no (continues_unary x d) _ operand in
@@ -225,14 +292,14 @@ module _ (In : Goal → Type 0) (inner : Class → Reader Tree) (given : IsRead 
 
   conditional_reads : (test yes_case no_case : Tree) (i j : Place) (k : Code) (x : Tree) (c d : Place) → BinaryRule In k 1 test c i → kind_at i ≡ kind.QuestionMark
       → In (expr_goal assignment (with_in k) yes_case (after i) j) → kind_at j ≡ kind.Colon → In (expr_goal assignment k no_case (after j) d) → continues_conditional d ≡ false
-      → supported test ≡ true → supported yes_case ≡ true → supported no_case ≡ true → x ≡ tree.cond (spanned c d) test yes_case no_case → Reads (assignment_expr inner) k x c d
-  unfolding assignment_expr behind_operators conditional unassigned spanned
+      → supported test ≡ true → supported yes_case ≡ true → supported no_case ≡ true → x ≡ tree.cond (spanned c d) test yes_case no_case → Reads (operators_expr inner cover) k x c d
+  unfolding operators_expr behind_operators conditional unassigned spanned
   conditional_reads test yes_case no_case i j k x c d r q a b o u s t v e w f h =
       let env = env_of k w.labels in
       rw (
         binary_reads 1 k test c i r s (stops_unary test i (question_stops i q)) (rw q refl) w f h,
         seen i kind.QuestionMark q,
-        inside_reads In inner given assignment k yes_case (after i) j a t w (f ++ walk env test) (h ++ notes test),
+        inside_reads In inner cover given assignment k yes_case (after i) j a t w (f ++ walk env test) (h ++ notes test),
         expect_reads kind.Colon j k w ((f ++ walk env test) ++ walk env yes_case) ((h ++ notes test) ++ notes yes_case) b,
         given.reads assignment k no_case (after j) d o v w ((f ++ walk env test) ++ walk env yes_case) ((h ++ notes test) ++ notes yes_case),
         u,
@@ -240,8 +307,8 @@ module _ (In : Goal → Type 0) (inner : Class → Reader Tree) (given : IsRead 
       ) (simp append_assoc refl)
 
   assigned_reads : (op : AssignOp) (x y : Tree) (m : Place) (k : Code) (z : Tree) (c d : Place) → OperandRule In k x c m → is_simple_target x ≡ true → assign_operator (kind_at m) ≡ Some op
-      → In (expr_goal assignment k y (after m) d) → supported x ≡ true → supported y ≡ true → z ≡ tree.assign (spanned c d) op x y → Reads (assignment_expr inner) k z c d
-  unfolding assignment_expr behind_operators assigned assigned_to spanned
+      → In (expr_goal assignment k y (after m) d) → supported x ≡ true → supported y ≡ true → z ≡ tree.assign (spanned c d) op x y → Reads (operators_expr inner cover) k z c d
+  unfolding operators_expr behind_operators assigned assigned_to spanned
   assigned_reads op x y m k z c d r g o q s t e w f h =
       let apart = assign_seen m op o in
       rw (
@@ -253,45 +320,190 @@ module _ (In : Goal → Type 0) (inner : Class → Reader Tree) (given : IsRead 
         e,
       ) (simp append_assoc refl)
 
-  assignment_reads : (k : Code) (x : Tree) (c d : Place) → AssignmentRule In k x c d → supported x ≡ true → Reads (assignment_expr inner) k x c d
-  assignment_reads k x c d (rules.operators_rule r e) s w f h = operators_read k x c d r s e w f h
-  assignment_reads k x c d (rules.conditional_rule t y z i j r q a b o u e) s w f h =
+  -- ---- what may still become a pattern
+
+  -- what is no array or object has no comma behind a spread
+  commaless : (s : State) (v : Cover) (t : State) → is_literal v.x ≡ false → Becomes inner cover s v t → v.comma ≡ false
+  commaless s v t g (inl o) = absurd (let h : is_literal v.x ≡ true = met (λ (u : Cover) (n : State). is_literal u.x ≡ true) (opened inner cover s) v t (opened_literal inner cover s) o.read in cc)
+  commaless s v t g (inr (inl o)) = ap (λ (u : Cover). u.comma) o.is
+  commaless s v t g (inr (inr o)) = ap (λ (u : Cover). u.comma) o.is
+
+  -- what is read with operands and operators is read as what may still become a pattern
+  kept : (k : Code) (x : Tree) (c d : Place) → Reads (operators_expr inner cover) k x c d → ReadsAs (AsWhole x) (cover_expr inner cover) k x c d
+  kept k x c d r w f h =
+      let s = st c k w f h in
+      let t = st d k w (f ++ walk (env_of k w.labels) x) (h ++ notes x) in
+      let o = operators_cover inner cover s x t (r w f h) in
+      record { value = o.v; holds = (o.is, o.unmarked, λ g. commaless s o.v t (ap is_literal o.is ∙ g) (cover_is inner cover s o.v t o.reads)); is = o.reads }
+
+  -- an array or object that is a pattern
+  literal_reads : (k : Code) (p : Tree) (c d : Place) → PatternRule In assigning k p c d → is_pattern_target p ≡ true → supported p ≡ true
+      → (begins_literal c ≡ true) × ReadsAs (AsLiteral p c d) (opened inner cover) k p c d
+  unfolding same_kind
+  literal_reads k p c d (patterns.binding_name_rule text sp b r e) g s = cc
+  literal_reads k p c d (patterns.target_name_rule text sp b a r e) g s = absurd (let i : is_pattern_target p ≡ false = ap is_pattern_target e in cc)
+  literal_reads k p c d (patterns.target_rule y b r t i e) g s = absurd (let i : is_pattern_target p ≡ false = ap is_pattern_target e in cc)
+  literal_reads k p c d (patterns.array_rule ps m i r j n e) g s =
+      (rw i refl, λ w f h. rw i (array_pattern In inner cover given ps m k p c d r (supported_as p (tree.array_pat (spanned c d) (listed ps)) e s) j n e w f h))
+  literal_reads k p c d (patterns.object_rule ps m i r j n e) g s =
+      (rw i refl, λ w f h. rw i (object_pattern In inner cover given ps m k p c d r (supported_as p (tree.object_pat (spanned c d) (listed ps)) e s) j n e w f h))
+
+  -- one that is assigned to
+  destructured : (p y : Tree) (m : Place) (k : Code) (c d : Place) → PatternRule In assigning k p c m → is_pattern_target p ≡ true → kind_at m ≡ kind.Assign
+      → In (expr_goal assignment k y (after m) d) → supported p ≡ true → supported y ≡ true
+      → ReadsAs (AsWhole (tree.assign (spanned c d) assign.Assign p y)) (cover_expr inner cover) k (tree.assign (spanned c d) assign.Assign p y) c d
+  unfolding assigned_to spanned
+  destructured p y m k c d r g e q s t w f h =
+      let (first, reads) = literal_reads k p c m r g s in
+      let v = reads w f h in
+      let f' = f ++ walk (env_of k w.labels) p in
+      let h' = h ++ notes p in
+      let x = tree.assign (spanned c d) assign.Assign p y in
+      let u : Assigns inner cover (st c k w f h) (done x) (st d k w (f' ++ walk (env_of k w.labels) y) (h' ++ notes y)) = record {
+        found = v.value;
+        behind = st m k w f' h';
+        p = p;
+        y = x;
+        first = first;
+        read = v.is;
+        equals = seen m kind.Assign e;
+        no_comma = v.holds.2;
+        is_target = v.holds.0;
+        value = rw (given.reads assignment k y (after m) d q t w f' h') refl;
+        is = refl;
+      } in
+      record {
+        value = done x;
+        holds = (refl, refl, λ _. refl);
+        is = assigns_cover inner cover (st c k w f h) (done x) (st d k w (f' ++ walk (env_of k w.labels) y) (h' ++ notes y)) u ∙ rw (append_assoc f _ _, append_assoc h _ _) refl;
+      }
+
+  whole_reads : (k : Code) (x : Tree) (c d : Place) → AssignmentRule In k x c d → supported x ≡ true → ReadsAs (AsWhole x) (cover_expr inner cover) k x c d
+  whole_reads k x c d (rules.operators_rule r e) s w f h = kept k x c d (operators_read k x c d r s e) w f h
+  whole_reads k x c d (rules.conditional_rule t y z i j r q a b o u e) s w f h =
       let p = and_yes (supported t) _ (supported_as x (tree.cond (spanned c d) t y z) e s) in
       let p' = and_yes (supported y) _ p.1 in
-      conditional_reads t y z i j k x c d r q a b o u p.0 p'.0 p'.1 e w f h
-  assignment_reads k x c d (rules.assign_rule op y z m r t o q e) s w f h =
+      kept k x c d (conditional_reads t y z i j k x c d r q a b o u p.0 p'.0 p'.1 e) w f h
+  whole_reads k x c d (rules.assign_rule op y z m r t o q e) s w f h =
       let p = and_yes (supported y) _ (supported_as x (tree.assign (spanned c d) op y z) e s) in
-      assigned_reads op y z m k x c d r t o q p.0 p.1 e w f h
-  assignment_reads k x c d (rules.destructuring_rule y z m r t a b e) s w f h = no_pattern y t (and_yes (supported y) _ (supported_as x (tree.assign (spanned c d) _ y z) e s)).0
-  assignment_reads k x c d (rules.arrow_rule a ps y i j r q t b u e) s w f h = refuted x (ap supported e) s
-  assignment_reads k x c d (rules.bare_yield_rule g i n t e) s w f h = refuted x (ap supported e) s
-  assignment_reads k x c d (rules.yield_rule y g i b t r e) s w f h = refuted x (ap supported e) s
-  assignment_reads k x c d (rules.delegate_rule y g i b m r e) s w f h = refuted x (ap supported e) s
+      kept k x c d (assigned_reads op y z m k x c d r t o q p.0 p.1 e) w f h
+  whole_reads k x c d (rules.destructuring_rule y z m r t a b e) s w f h =
+      let p = and_yes (supported y) _ (supported_as x (tree.assign (spanned c d) assign.Assign y z) e s) in
+      rw e (destructured y z m k c d r t a b p.0 p.1 w f h)
+  whole_reads k x c d (rules.arrow_rule a ps y i j r q t b u e) s w f h = refuted x (ap supported e) s
+  whole_reads k x c d (rules.bare_yield_rule g i n t e) s w f h = refuted x (ap supported e) s
+  whole_reads k x c d (rules.yield_rule y g i b t r e) s w f h = refuted x (ap supported e) s
+  whole_reads k x c d (rules.delegate_rule y g i b m r e) s w f h = refuted x (ap supported e) s
+
+  assignment_reads : (k : Code) (x : Tree) (c d : Place) → AssignmentRule In k x c d → supported x ≡ true → Reads (assignment_expr inner cover) k x c d
+  assignment_reads k x c d r s w f h =
+      let v = whole_reads k x c d r s w f h in
+      let t = st d k w (f ++ walk (env_of k w.labels) x) (h ++ notes x) in
+      covers.assignment_reads inner cover (st c k w f h) v.value t v.is v.holds.1 ∙ ap (λ z. Ok (z, t)) v.holds.0
+
+  -- ---- patterns without a default
+
+  -- a name or a member, in parentheses or not
+  leaf_of : (k : Code) (p : Tree) (c d : Place) → PatternRule In assigning k p c d → is_pattern_target p ≡ false → sees kind.Function d ≡ false → LeafOf In k p c d
+  leaf_of k p c d (patterns.binding_name_rule text sp b r e) g n = cc
+  leaf_of k p c d (patterns.target_name_rule text sp b a r e) g n = record {
+    e = tree.ident sp text;
+    reads_leaf = (sides.primary_rule (sides.name_rule text sp r (no_async_function c d r.reads_word.next n) refl), a);
+    simple = refl;
+    is = e;
+  }
+  leaf_of k p c d (patterns.target_rule y b r t i e) g n = record { e = y; reads_leaf = r; simple = t; is = e ∙ sym (leaf_member y i) }
+  leaf_of k p c d (patterns.array_rule ps m i r j n e) g q = absurd (let b : is_pattern_target p ≡ true = ap is_pattern_target e in cc)
+  leaf_of k p c d (patterns.object_rule ps m i r j n e) g q = absurd (let b : is_pattern_target p ≡ true = ap is_pattern_target e in cc)
+
+  bare_leaf : (k : Code) (p : Tree) (c d : Place) → LeafOf In k p c d → supported p ≡ true → ends_part (kind_at d) ≡ true → ReadsAs (AsBare p d) (cover_expr inner cover) k p c d
+  unfolding spanned
+  bare_leaf k p c d l s t w f h =
+      let r = operators_read k l.e c d (rules.single_rule (rules.operand_rule l.reads_leaf)) (leaf_is_supported l.e p l.is s) (ended_continues k l.e c d t) in
+      let e = leaf_element l.e l.simple ∙ ap Some (sym l.is) in
+      pattern_end (AsBare p d) (cover_expr inner cover (st c k w f h)) l.e p k d w f h e
+      (gets_also (AsWhole l.e) (AsBare p d) _ _ (kept k l.e c d r w f h) (λ v q. (
+        ap as_target q.0 ∙ leaf_target l.e l.simple ∙ ap Some (sym l.is),
+        ap as_element q.0 ∙ e,
+        q.2 (leaf_no_literal l.e l.simple),
+        ap (λ z. (span_of z).hi) q.0 ∙ ap (λ (z : Span). z.hi) (left_side_rule In l.reads_leaf.0),
+      )))
+
+  bare_literal : (k : Code) (p : Tree) (c d : Place) → PatternRule In assigning k p c d → is_pattern_target p ≡ true → supported p ≡ true → ends_part (kind_at d) ≡ true
+      → ReadsAs (AsBare p d) (cover_expr inner cover) k p c d
+  unfolding spanned
+  bare_literal k p c d r g s t w f h =
+      let (first, reads) = literal_reads k p c d r g s in
+      let v = reads w f h in
+      let behind = st d k w (f ++ walk (env_of k w.labels) p) (h ++ notes p) in
+      record {
+        value = v.value;
+        holds = (v.holds.0, v.holds.1, v.holds.2, ap (λ (z : Span). z.hi) v.holds.3);
+        is = open_cover inner cover (st c k w f h) v.value behind (record { first = first; read = v.is; unassigned = (ended_at d t).assign; ended = nothing_goes_on behind t });
+      }
+
+  bare_by : (b : Bool) (k : Code) (p : Tree) (c d : Place) → is_pattern_target p ≡ b → PatternRule In assigning k p c d → supported p ≡ true → ends_part (kind_at d) ≡ true
+      → ReadsAs (AsBare p d) (cover_expr inner cover) k p c d
+  bare_by true k p c d g r s t w f h = bare_literal k p c d r g s t w f h
+  bare_by false k p c d g r s t w f h = bare_leaf k p c d (leaf_of k p c d r g (ended_at d t).function) s t w f h
+
+  bare_reads : (k : Code) (p : Tree) (c d : Place) → PatternRule In assigning k p c d → supported p ≡ true → ends_part (kind_at d) ≡ true → ReadsAs (AsBare p d) (cover_expr inner cover) k p c d
+  bare_reads k p c d r s t w f h = bare_by (is_pattern_target p) k p c d refl r s t w f h
+
+  -- ---- patterns with a default
+
+  default_by : (b : Bool) (p y : Tree) (m : Place) (k : Code) (c d : Place) → is_pattern_target p ≡ b → PatternRule In assigning k p c m → kind_at m ≡ kind.Assign
+      → In (expr_goal assignment k y (after m) d) → supported p ≡ true → supported y ≡ true
+      → ReadsAs (AsElement (tree.assign_pat (spanned c d) p y)) (cover_expr inner cover) k (tree.assign_pat (spanned c d) p y) c d
+  unfolding same_kind
+  default_by true p y m k c d g r e q s t w f h =
+      as_whole (cover_expr inner cover) (tree.assign (spanned c d) assign.Assign p y) (tree.assign_pat (spanned c d) p y) k c d
+      (ap (λ z. Some (tree.assign_pat (spanned c d) z y)) (left_target p g)) refl (destructured p y m k c d r g e q s t) w f h
+  default_by false p y m k c d g r e q s t w f h =
+      let l = leaf_of k p c m r g (rw e refl) in
+      let x = tree.assign (spanned c d) assign.Assign l.e y in
+      as_whole (cover_expr inner cover) x (tree.assign_pat (spanned c d) p y) k c d
+      (ap (λ z. Some (tree.assign_pat (spanned c d) z y)) (left_leaf l.e l.simple ∙ sym l.is)) refl
+      (kept k x c d (assigned_reads assign.Assign l.e y m k x c d l.reads_leaf l.simple (rw e refl) q (leaf_is_supported l.e p l.is s) t refl)) w f h
+
+  -- an element of a pattern, where `in` is an operator
+  element_reads : (k : Code) (p : Tree) (c d : Place) → PatternElementRule In assigning (with_in k) p c d → supported p ≡ true → ends_part (kind_at d) ≡ true
+      → ReadsAs (AsElement p) (cover_expr inner cover) (with_in k) p c d
+  element_reads k p c d (patterns.bare_rule r e) s t w f h =
+      gets_also (AsBare p d) (AsElement p) _ _ (bare_reads (with_in k) p c d r s t w f h) (λ v a. (a.1, a.2))
+  element_reads k p c d (patterns.initialized_rule q y m r i v e) s t w f h =
+      let g = and_yes (supported q) _ (supported_as p (tree.assign_pat (spanned c d) q y) e s) in
+      rw e (default_by (is_pattern_target q) q y m (with_in k) c d refl r i v g.0 g.1 w f h)
+
+  target_reads : (k : Code) (p : Tree) (c d : Place) → PatternRule In assigning k p c d → supported p ≡ true → ends_part (kind_at d) ≡ true
+      → ReadsAs (AsTarget p d) (cover_expr inner cover) k p c d
+  target_reads k p c d r s t w f h = gets_also (AsBare p d) (AsTarget p d) _ _ (bare_reads k p c d r s t w f h) (λ v a. (a.0, a.2, a.3))
 
   -- ---- Expression
 
   -- the parts of a sequence, from a comma on
   many_parts : (xs found : List Tree) (k : Code) (c d : Place) (w : Scope) (f h : List Fault) → ReadsSeparated (AssignmentRule In k) xs (after c) d → all_supported (trees xs) ≡ true
-      → loop (sequence_turn inner) found (st c k w f h) ≡ Ok (found ++ xs, st d k w (f ++ walks (env_of k w.labels) false (trees xs)) (h ++ all_notes (trees xs)))
+      → loop (sequence_turn inner cover) found (st c k w f h) ≡ Ok (found ++ xs, st d k w (f ++ walks (env_of k w.labels) false (trees xs)) (h ++ all_notes (trees xs)))
   unfolding sequence_turn
   many_parts [] found k c d w f h r s = absurd r
   many_parts (x ∷ []) found k c d w f h (r, e) s =
       let t = (and_yes (supported x) _ s).0 in
       rw (append-nil (walk (env_of k w.labels) x), append-nil (notes x))
-      (loop_done (sequence_turn inner) found (found ++ x ∷ []) (st c k w f h) (st d k w (f ++ walk (env_of k w.labels) x) (h ++ notes x))
+      (loop_done (sequence_turn inner cover) found (found ++ x ∷ []) (st c k w f h) (st d k w (f ++ walk (env_of k w.labels) x) (h ++ notes x))
       (rw (assignment_reads k x (after c) d r t w f h, e) refl))
   many_parts (x ∷ y ∷ ys) found k c d w f h (m, r, e, more) s =
       let t = and_yes (supported x) _ s in
       let f' = f ++ walk (env_of k w.labels) x in
       let h' = h ++ notes x in
       let one = assignment_reads k x (after c) m r t.0 w f h in
-      let fewer = shorter_by (length (after c).left) (assignment_expr inner (st (after c) k w f h)) x (st m k w f' h') one (assignment_falls inner given.falls (st (after c) k w f h)) in
-      loop_more (sequence_turn inner) found (found ++ x ∷ []) (st c k w f h) (st m k w f' h') (rw (one, seen m kind.Comma e) refl) (let b = moves c in omega arith)
+      let falls = assignment_falls inner cover given.falls given.cover_falls (st (after c) k w f h) in
+      let fewer = shorter_by (length (after c).left) (assignment_expr inner cover (st (after c) k w f h)) x (st m k w f' h') one falls in
+      loop_more (sequence_turn inner cover) found (found ++ x ∷ []) (st c k w f h) (st m k w f' h') (rw (one, seen m kind.Comma e) refl) (let b = moves c in omega arith)
       ∙ many_parts (y ∷ ys) (found ++ x ∷ []) k m d w f' h' more t.1 ∙ simp append_assoc refl
 
   sequence_reads : (e : Tree) (es : List Tree) (m : Place) (k : Code) (x : Tree) (c d : Place) → AssignmentRule In k e c m → kind_at m ≡ kind.Comma
       → ReadsSeparated (AssignmentRule In k) es (after m) d → supported e ≡ true → all_supported (trees es) ≡ true → x ≡ tree.seq (spanned c d) (listed (e ∷ es))
-      → Reads (expression_expr inner) k x c d
+      → Reads (expression_expr inner cover) k x c d
   unfolding expression_expr sequence_from spanned
   sequence_reads e es m k x c d r g more s t j w f h =
       rw (
@@ -301,11 +513,11 @@ module _ (In : Goal → Type 0) (inner : Class → Reader Tree) (given : IsRead 
         j,
       ) (simp append_assoc refl)
 
-  single_reads : (k : Code) (x : Tree) (c d : Place) → AssignmentRule In k x c d → supported x ≡ true → sees kind.Comma d ≡ false → Reads (expression_expr inner) k x c d
+  single_reads : (k : Code) (x : Tree) (c d : Place) → AssignmentRule In k x c d → supported x ≡ true → sees kind.Comma d ≡ false → Reads (expression_expr inner cover) k x c d
   unfolding expression_expr
   single_reads k x c d r s e w f h = rw (assignment_reads k x c d r s w f h, e) refl
 
-  expression_reads : (k : Code) (x : Tree) (c d : Place) → ExpressionRule In k x c d → supported x ≡ true → Reads (expression_expr inner) k x c d
+  expression_reads : (k : Code) (x : Tree) (c d : Place) → ExpressionRule In k x c d → supported x ≡ true → Reads (expression_expr inner cover) k x c d
   expression_reads k x c d (rules.assignment_rule r e) s w f h = single_reads k x c d r s e w f h
   expression_reads k x c d (rules.sequence_rule y z zs (m, r, g, more) e) s w f h =
       let p = and_yes (supported y) _ (supported_as x (tree.seq (spanned c d) (listed (y ∷ z ∷ zs))) e s) in
@@ -313,17 +525,17 @@ module _ (In : Goal → Type 0) (inner : Class → Reader Tree) (given : IsRead 
 
   -- ---- an expression of a class
 
-  left_expr_reads : (k : Code) (x : Tree) (c d : Place) → LeftSideRule In k x c d → supported x ≡ true → continues_left_side d ≡ false → Reads (left_expr inner) k x c d
+  left_expr_reads : (k : Code) (x : Tree) (c d : Place) → LeftSideRule In k x c d → supported x ≡ true → continues_left_side d ≡ false → Reads (left_expr inner cover) k x c d
   unfolding left_expr closed_left
   left_expr_reads k x c d r s e w f h = let t = stopped d e in rw (side_reads k x c d r s t.dot t.bracket t.paren w f h, e) refl
 
-  operator_reads : (n : ℕ) (k : Code) (x : Tree) (c d : Place) → BinaryRule In k n x c d → supported x ≡ true → continues_operand k n x d ≡ false → Reads (binary_expr inner n) k x c d
+  operator_reads : (n : ℕ) (k : Code) (x : Tree) (c d : Place) → BinaryRule In k n x c d → supported x ≡ true → continues_operand k n x d ≡ false → Reads (binary_expr inner cover n) k x c d
   unfolding continues_operand
   operator_reads n k x c d r s e w f h = let (unary_ends, operators) = or_no (continues_unary x d) _ e in binary_reads n k x c d r s unary_ends operators w f h
 
   callee_reads : (k : Code) (x : Tree) (c d : Place) → sides.CalleeRule In k x c d → (sees kind.Dot d || sees kind.LBracket d) ≡ false → supported x ≡ true
-      → Reads (left inner false) k x c d
-  callee_reads k x c d r e s w f h = left_reads In inner given false k x c d r.0 s r.1 e refl w f h
+      → Reads (left inner cover false) k x c d
+  callee_reads k x c d r e s w f h = left_reads In inner cover given false k x c d r.0 s r.1 e refl w f h
 
 -- ---- within so many levels
 
@@ -340,40 +552,80 @@ bare_calls : (n : ℕ) (k : Code) (x : Tree) (c d : Place) → language.Reads n 
 bare_calls zero k x c d r = absurd r
 bare_calls (suc n) k x c d r = r.0
 
-module _ (n : ℕ) (reads : (class : Class) (k : Code) (x : Tree) (c d : Place) → ReadsClass n class k x c d → Reads (expr n class) k x c d) where
-  class_reads : (class : Class) (k : Code) (x : Tree) (c d : Place) → language.Reads n (expr_goal class k x c d) → supported x ≡ true → Reads (expr n class) k x c d
-  class_reads expression k x c d r s = reads expression k x c d (r, s)
-  class_reads assignment k x c d r s = reads assignment k x c d (r, s)
-  class_reads (operator m) k x c d r s = reads (operator m) k x c d (r, s)
-  class_reads unary k x c d r s = reads unary k x c d (r, s)
-  class_reads left_side k x c d r s = reads left_side k x c d (r, s)
-  class_reads callee k x c d r s = reads callee k x c d (bare_calls n k x c d r, (bare_ends n k x c d r).0, s)
-
-  inner_read : IsRead (language.Reads n) (expr n)
-  inner_read = record {
-    reads = class_reads;
-    calls = λ k x c d r e s. reads callee k x c d (r, e, s);
-    bare = λ k x c d r. (bare_ends n k x c d r).1;
-    begins = begins n;
-    falls = expr_falls n;
-  }
-
-  level_reads : (class : Class) (k : Code) (x : Tree) (c d : Place) → ReadsClass (suc n) class k x c d → Reads (expr_level (expr n) class) k x c d
-  unfolding expr_level
-  level_reads expression k x c d r = expression_reads (language.Reads n) (expr n) inner_read k x c d r.0 r.1
-  level_reads assignment k x c d r = assignment_reads (language.Reads n) (expr n) inner_read k x c d r.0 r.1
-  level_reads (operator m) k x c d r = operator_reads (language.Reads n) (expr n) inner_read m k x c d r.0.0 r.1 r.0.1
-  level_reads unary k x c d r = unary_reads (language.Reads n) (expr n) inner_read k x c d r.0.0 r.1 r.0.1
-  level_reads left_side k x c d r = left_expr_reads (language.Reads n) (expr n) inner_read k x c d r.0.0 r.1 r.0.1
-  level_reads callee k x c d r = callee_reads (language.Reads n) (expr n) inner_read k x c d r.0 r.1 r.2
-
 -- no expression is read within no levels
 none_read : {X : Type 0} (class : Class) (k : Code) (x : Tree) (c d : Place) → ReadsClass zero class k x c d → X
 none_read callee k x c d r = absurd r.0
 none_read _ k x c d r = absurd r.0
 
+module _ (n : ℕ) (given : IsRead (language.Reads n) (expr n) (cover n)) where
+  level_reads : (class : Class) (k : Code) (x : Tree) (c d : Place) → ReadsClass (suc n) class k x c d → Reads (expr (suc n) class) k x c d
+  unfolding expr expr_level
+  level_reads expression k x c d r w f h = expression_reads (language.Reads n) (expr n) (cover n) given k x c d r.0 r.1 w f h
+  level_reads assignment k x c d r w f h = assignment_reads (language.Reads n) (expr n) (cover n) given k x c d r.0 r.1 w f h
+  level_reads (operator m) k x c d r w f h = operator_reads (language.Reads n) (expr n) (cover n) given m k x c d r.0.0 r.1 r.0.1 w f h
+  level_reads unary k x c d r w f h = unary_reads (language.Reads n) (expr n) (cover n) given k x c d r.0.0 r.1 r.0.1 w f h
+  level_reads left_side k x c d r w f h = left_expr_reads (language.Reads n) (expr n) (cover n) given k x c d r.0.0 r.1 r.0.1 w f h
+  level_reads callee k x c d r w f h = callee_reads (language.Reads n) (expr n) (cover n) given k x c d r.0 r.1 r.2 w f h
+
+  class_reads : (class : Class) (k : Code) (x : Tree) (c d : Place) → language.Reads (suc n) (expr_goal class k x c d) → supported x ≡ true → Reads (expr (suc n) class) k x c d
+  class_reads expression k x c d r s = level_reads expression k x c d (r, s)
+  class_reads assignment k x c d r s = level_reads assignment k x c d (r, s)
+  class_reads (operator m) k x c d r s = level_reads (operator m) k x c d (r, s)
+  class_reads unary k x c d r s = level_reads unary k x c d (r, s)
+  class_reads left_side k x c d r s = level_reads left_side k x c d (r, s)
+  class_reads callee k x c d r s = level_reads callee k x c d (bare_calls (suc n) k x c d r, (bare_ends (suc n) k x c d r).0, s)
+
+  level_exprs : (k : Code) (x : Tree) (c d : Place) → language.Reads (suc n) (expr_goal assignment k x c d) → supported x ≡ true → ReadsAs (AsExpr x) (cover (suc n)) k x c d
+  unfolding cover
+  level_exprs k x c d r s w f h = gets_also (AsWhole x) (AsExpr x) _ _ (whole_reads (language.Reads n) (expr n) (cover n) given k x c d r s w f h) (λ v a. (a.0, a.1))
+
+  level_elements : (k : Code) (p : Tree) (c d : Place) → language.Reads (suc n) (element_goal assigning (with_in k) p c d) → supported p ≡ true → ends_part (kind_at d) ≡ true
+      → ReadsAs (AsElement p) (cover (suc n)) (with_in k) p c d
+  unfolding cover
+  level_elements k p c d r s t w f h = element_reads (language.Reads n) (expr n) (cover n) given k p c d r s t w f h
+
+  level_targets : (k : Code) (p : Tree) (c d : Place) → language.Reads (suc n) (pattern_goal assigning (with_in k) p c d) → supported p ≡ true → ends_part (kind_at d) ≡ true
+      → ReadsAs (AsTarget p d) (cover (suc n)) (with_in k) p c d
+  unfolding cover
+  level_targets k p c d r s t w f h = target_reads (language.Reads n) (expr n) (cover n) given (with_in k) p c d r s t w f h
+
+-- what is read within so many levels
+is_read : (n : ℕ) → IsRead (language.Reads n) (expr n) (cover n)
+is_read zero = record {
+  reads = λ class k x c d r s. absurd r;
+  calls = λ k x c d r e s. absurd r;
+  bare = λ k x c d r. absurd r;
+  begins = λ k x c d r s. absurd r;
+  falls = expr_falls zero;
+  exprs = λ k x c d r s. absurd r;
+  elements = λ k p c d r s t. absurd r;
+  targets = λ k p c d r s t. absurd r;
+  begins_element = λ k p c d r s. absurd r;
+  cover_falls = cover_falls zero;
+}
+is_read (suc n) = let given = is_read n in record {
+  reads = class_reads n given;
+  calls = λ k x c d r e s. level_reads n given callee k x c d (r, e, s);
+  bare = λ k x c d r. (bare_ends (suc n) k x c d r).1;
+  begins = begins (suc n);
+  falls = expr_falls (suc n);
+  exprs = level_exprs n given;
+  elements = level_elements n given;
+  targets = level_targets n given;
+  begins_element = element_begins (suc n);
+  cover_falls = cover_falls (suc n);
+}
+
 -- an expression of any class
 pub expr_reads : (n : ℕ) (class : Class) (k : Code) (x : Tree) (c d : Place) → ReadsClass n class k x c d → Reads (expr n class) k x c d
-unfolding expr
-expr_reads zero class k x c d r w f h = none_read class k x c d r
-expr_reads (suc n) class k x c d r w f h = level_reads n (expr_reads n) class k x c d r w f h
+expr_reads zero class k x c d r = none_read class k x c d r
+expr_reads (suc n) class k x c d r = level_reads n (is_read n) class k x c d r
+
+-- an assignment expression, as it may still become a pattern
+pub cover_reads : (n : ℕ) (k : Code) (x : Tree) (c d : Place) → ReadsClass n assignment k x c d → ReadsAs (AsExpr x) (cover n) k x c d
+cover_reads n k x c d r = (is_read n).exprs k x c d r.0 r.1
+
+-- an element of a pattern of an assignment
+pub cover_reads_pattern : (n : ℕ) (k : Code) (p : Tree) (c d : Place) → language.Reads n (element_goal assigning (with_in k) p c d) → supported p ≡ true → ends_part (kind_at d) ≡ true
+    → ReadsAs (AsElement p) (cover n) (with_in k) p c d
+cover_reads_pattern n k p c d r s t = (is_read n).elements k p c d r s t

@@ -25,23 +25,24 @@ use Rattle.swc_ecma_parser_model.specs.declared.operators.BinaryOp.{BinaryOp}
 use Rattle.swc_ecma_parser_model.specs.declared.operators.AssignOp.{AssignOp}
 use Rattle.swc_ecma_parser_model.specs.Tree as tree
 use Rattle.swc_ecma_parser_model.specs.Tree.{Tree, Text}
-use Rattle.swc_ecma_parser_model.specs.Forms.{is_pattern_target}
 use Rattle.swc_ecma_parser_grammar.specs.Looks.{kind_at, first_kind, breaks_at, span_at, first_span, sees, same_kind, spanned}
-use Rattle.swc_ecma_parser_grammar.specs.Names.{Code, is_reserved, is_name, is_identifier, is_clean_name, token_is_name, first_is_name, name_at}
-use Rattle.swc_ecma_parser_grammar.specs.Follows.{continues_left_side}
+use Rattle.swc_ecma_parser_grammar.specs.Names.{Code, is_reserved, is_name, is_identifier, is_clean_name, token_is_name, first_is_name, name_at, token_is_identifier, first_is_identifier, identifier_at}
+use Rattle.swc_ecma_parser_grammar.specs.Follows.{continues_left_side, word_at, is_async_function}
 use Rattle.swc_ecma_parser_grammar.specs.Reads.{ReadsToken}
 use Rattle.swc_ecma_parser_grammar.specs.Supported.{supported}
-use Rattle.swc_ecma_parser_grammar.specs.language.Goals.{Goal, expr_goal, assignment}
+use Rattle.swc_ecma_parser_grammar.specs.language.Goals.{Goal, assigning, expr_goal, element_goal, assignment}
 use Rattle.swc_ecma_parser_grammar.specs.language.Operators.{unary_operator, update_operator, binary_operator, assign_operator}
-use Rattle.swc_ecma_parser_grammar.specs.language.Continues.{continues_unary, is_operation}
+use Rattle.swc_ecma_parser_grammar.specs.language.Continues.{continues_unary, is_operation, continues_operand, continues_head, continues_conditional, continues_assignment}
 use Rattle.swc_ecma_parser_grammar.specs.language.Parts as parts
 use Rattle.swc_ecma_parser_grammar.specs.language.Parts.{ReadsName, ReadsWord, KeyRule}
 use Rattle.swc_ecma_parser_grammar.specs.language.LeftSides as sides
 use Rattle.swc_ecma_parser_grammar.specs.language.LeftSides.{PrimaryRule, LeftSideRule}
+use Rattle.swc_ecma_parser_grammar.specs.language.Patterns as patterns
+use Rattle.swc_ecma_parser_grammar.specs.language.Patterns.{PatternRule, PatternElementRule}
 use Rattle.swc_ecma_parser_grammar.specs.language.Expressions as rules
 use Rattle.swc_ecma_parser_grammar.specs.language.Expressions.{UnaryRule, BinaryRule, AssignmentRule}
 use Rattle.swc_ecma_parser_grammar.specs.language.Reads as language
-use Rattle.swc_ecma_parser_grammar.proofs.Tests.{or_no, and_yes, and_both, and_no}
+use Rattle.swc_ecma_parser_grammar.proofs.Tests.{or_no, or_none, and_yes, and_both, and_no}
 use Rattle.swc_ecma_parser_reader.specs.Expressions.{literal_of, literal_in, token_is_word, first_is_word, is_word_at, postfix_at}
 
 -- ---- supported forms
@@ -53,12 +54,6 @@ refuted x e h = cc
 -- the form of a tree that is supported is
 pub supported_as : (x y : Tree) → x ≡ y → supported x ≡ true → supported y ≡ true
 supported_as x y e h = sym (ap supported e) ∙ h
-
--- no pattern is supported, so nothing is assigned to one
-pub no_pattern : {X : Type 0} (x : Tree) → is_pattern_target x ≡ true → supported x ≡ true → X
-no_pattern (tree.array_pat s elems) e h = cc
-no_pattern (tree.object_pat s props) e h = cc
-no_pattern _ e h = cc
 
 -- ---- one token
 
@@ -388,12 +383,26 @@ module _ (In : Goal → Type 0) where
   binary_first k n x c d (rules.left_rule op y z m b g i r o s u v e) h = binary_first k _ y c m r (and_yes (supported y) _ (supported_as x (tree.bin (spanned c d) op y z) e h)).0
   binary_first k n x c d (rules.power_rule y z m b r u i s e) h = unary_first k y c m r (and_yes (supported y) _ (supported_as x (tree.bin (spanned c d) _ y z) e h)).0
 
+  -- a pattern begins as an operand does, or with its bracket or brace
+  pattern_first : (k : Code) (x : Tree) (c d : Place) → PatternRule In assigning k x c d → supported x ≡ true → begin_kind (kind_at c) ≡ true
+  pattern_first k x c d (patterns.binding_name_rule text s p r e) h = cc
+  pattern_first k x c d (patterns.target_name_rule text s p a r e) h =
+      let n = name_is_name k text s c d r (supported_as x (tree.ident_pat s text) e h) in
+      operand_begins (kind_at c) (primary_operand (kind_at c) (token_primary (token.Word r.word) s c d r.reads_word (word_primary k.flags r.word n)))
+  pattern_first k x c d (patterns.target_rule y p r t i e) h = operand_begins (kind_at c) (left_first k y c d r.0 (supported_as x (tree.expr_pat y) e h))
+  pattern_first k x c d (patterns.array_rule xs m i r j n e) h = rw i refl
+  pattern_first k x c d (patterns.object_rule xs m i r j n e) h = rw i refl
+
+  element_first : (k : Code) (x : Tree) (c d : Place) → PatternElementRule In assigning k x c d → supported x ≡ true → begin_kind (kind_at c) ≡ true
+  element_first k x c d (patterns.bare_rule r e) h = pattern_first k x c d r h
+  element_first k x c d (patterns.initialized_rule y z m r i v e) h = pattern_first k y c m r (and_yes (supported y) _ (supported_as x (tree.assign_pat (spanned c d) y z) e h)).0
+
   assignment_first : (k : Code) (x : Tree) (c d : Place) → AssignmentRule In k x c d → supported x ≡ true → begin_kind (kind_at c) ≡ true
   assignment_first k x c d (rules.operators_rule r s) h = binary_first k 1 x c d r h
   assignment_first k x c d (rules.conditional_rule t y z i j r q a b s u e) h = binary_first k 1 t c i r (and_yes (supported t) _ (supported_as x (tree.cond (spanned c d) t y z) e h)).0
   assignment_first k x c d (rules.assign_rule op y z m r t a b e) h =
       operand_begins (kind_at c) (left_first k y c m r.0 (and_yes (supported y) _ (supported_as x (tree.assign (spanned c d) op y z) e h)).0)
-  assignment_first k x c d (rules.destructuring_rule y z m r t a b e) h = no_pattern y t (and_yes (supported y) _ (supported_as x (tree.assign (spanned c d) _ y z) e h)).0
+  assignment_first k x c d (rules.destructuring_rule y z m r t a b e) h = pattern_first k y c m r (and_yes (supported y) _ (supported_as x (tree.assign (spanned c d) _ y z) e h)).0
   assignment_first k x c d (rules.arrow_rule a ps y i j r s t b u e) h = refuted x (ap supported e) h
   assignment_first k x c d (rules.bare_yield_rule g i n s e) h = refuted x (ap supported e) h
   assignment_first k x c d (rules.yield_rule y g i b s r e) h = refuted x (ap supported e) h
@@ -403,6 +412,10 @@ module _ (In : Goal → Type 0) where
 pub begins : (n : ℕ) (k : Code) (x : Tree) (c d : Place) → language.Reads n (expr_goal assignment k x c d) → supported x ≡ true → begin_kind (kind_at c) ≡ true
 begins zero k x c d r h = absurd r
 begins (suc n) k x c d r h = assignment_first (language.Reads n) k x c d r h
+
+pub element_begins : (n : ℕ) (k : Code) (x : Tree) (c d : Place) → language.Reads n (element_goal assigning k x c d) → supported x ≡ true → begin_kind (kind_at c) ≡ true
+element_begins zero k x c d r h = absurd r
+element_begins (suc n) k x c d r h = element_first (language.Reads n) k x c d r h
 
 -- ---- the token behind
 
@@ -515,3 +528,69 @@ none_of (Some a) e = cc
 
 pub unassigned_at : (c : Place) → is_some (assign_operator (kind_at c)) ≡ false → assign_operator (kind_at c) ≡ None
 unassigned_at c e = none_of (assign_operator (kind_at c)) e
+
+-- ---- the end of a part of an array or object
+
+abbrev pub ends_part : TokenKind → Bool
+ends_part kind.Comma = true
+ends_part kind.RBracket = true
+ends_part kind.RBrace = true
+ends_part _ = false
+
+-- no word ends one
+keyword_ends : {X : Type 0} (k : Keyword) → ends_part (keyword_kind k) ≡ true → X
+keyword_ends keyword.Await e = cc
+keyword_ends _ e = cc
+
+word_ends : {X : Type 0} (w : Word) → ends_part (word_kind w) ≡ true → X
+word_ends (word.Keyword k) e = keyword_ends k e
+word_ends _ e = cc
+
+token_ends : (f : Context) (t : Token) → ends_part (token_kind t) ≡ true → token_is_identifier f t ≡ false
+token_ends f (token.Word w) e = word_ends w e
+token_ends f _ e = refl
+
+first_ends : (f : Context) (ts : List TokenAndSpan) → ends_part (first_kind ts) ≡ true → first_is_identifier f ts ≡ false
+first_ends f [] e = refl
+first_ends f (t ∷ ts) e = token_ends f t.token e
+
+unnamed_end : (f : Context) (c : Place) → ends_part (kind_at c) ≡ true → identifier_at f c ≡ false
+unfolding identifier_at kind_at
+unnamed_end f c e = first_ends f c.left e
+
+-- what does not stand there
+pub record Ended (k : TokenKind) : Type 0 where
+  pub quiet : Quiet k
+  pub colon : same_kind k kind.Colon ≡ false
+  pub assign : same_kind k kind.Assign ≡ false
+  pub question : same_kind k kind.QuestionMark ≡ false
+  pub arrow : same_kind k kind.Arrow ≡ false
+  pub function : same_kind k kind.Function ≡ false
+  pub binary : binary_operator k ≡ None
+  pub assigns : assign_operator k ≡ None
+
+ended : (k : TokenKind) → ends_part k ≡ true → Ended k
+unfolding same_kind
+ended kind.Comma e = record { quiet = (refl, refl, refl, refl, refl); colon = refl; assign = refl; question = refl; arrow = refl; function = refl; binary = refl; assigns = refl }
+ended kind.RBracket e = record { quiet = (refl, refl, refl, refl, refl); colon = refl; assign = refl; question = refl; arrow = refl; function = refl; binary = refl; assigns = refl }
+ended kind.RBrace e = record { quiet = (refl, refl, refl, refl, refl); colon = refl; assign = refl; question = refl; arrow = refl; function = refl; binary = refl; assigns = refl }
+ended _ e = cc
+
+pub ended_at : (c : Place) → ends_part (kind_at c) ≡ true → Ended (kind_at c)
+ended_at c e = ended (kind_at c) e
+
+pub ended_stops : (c : Place) → ends_part (kind_at c) ≡ true → continues_left_side c ≡ false
+ended_stops c e = quiet_stops c (ended_at c e).quiet
+
+-- nothing there goes on with an expression
+pub ended_continues : (k : Code) (x : Tree) (c d : Place) → ends_part (kind_at d) ≡ true → continues_assignment k x c d ≡ false
+unfolding continues_assignment continues_operand continues_conditional continues_head
+ended_continues k x c d e =
+    let t = ended_at d e in
+    or_none _ _ (or_none _ _ (stops_unary x d (ended_stops d e)) (rw t.binary refl))
+    (or_none _ _ t.question (or_none _ _ (rw t.assigns refl) (or_none _ _ (and_no _ _ t.arrow) (and_no _ _ (and_no _ _ (unnamed_end k.flags d e))))))
+
+-- a name before no `function` is a name
+pub no_async_function : (c d : Place) → d ≡ after c → sees kind.Function d ≡ false → is_async_function c ≡ false
+unfolding is_async_function
+no_async_function c d e h = and_no (word_at (codes "async") c) (sees kind.Function (after c) && not (breaks_at (after c))) (rw (← e, h) refl)

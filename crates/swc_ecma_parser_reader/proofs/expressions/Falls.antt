@@ -16,9 +16,11 @@ use Rattle.swc_ecma_parser_model.specs.declared.operators.UnaryOp.{UnaryOp}
 use Rattle.swc_ecma_parser_model.specs.declared.operators.UpdateOp.{UpdateOp}
 use Rattle.swc_ecma_parser_model.specs.declared.operators.BinaryOp.{BinaryOp}
 use Rattle.swc_ecma_parser_model.specs.declared.operators.AssignOp.{AssignOp}
+use Rattle.swc_ecma_parser_model.specs.declared.operators.AssignOp.TheVariants as assign
 use Rattle.swc_ecma_parser_model.specs.Tree as tree
 use Rattle.swc_ecma_parser_model.specs.Tree.{Tree, Text}
 use Rattle.swc_ecma_parser_model.specs.Forms.{is_simple_target}
+use Rattle.swc_ecma_parser_model.specs.Targets.{as_target}
 use Rattle.swc_ecma_parser_grammar.specs.Looks.{kind_at, sees, span_at}
 use Rattle.swc_ecma_parser_grammar.specs.Names.{is_name, name_at}
 use Rattle.swc_ecma_parser_grammar.specs.Follows.{is_async_function, continues_left_side}
@@ -27,7 +29,7 @@ use Rattle.swc_ecma_parser_grammar.specs.language.Goals.{Class, expression, assi
 use Rattle.swc_ecma_parser_grammar.specs.language.Operators.{unary_operator, update_operator, assign_operator, groups_left, mixes, is_unary}
 use Rattle.swc_ecma_parser_grammar.specs.language.Continues.{continues_conditional}
 use Rattle.swc_ecma_parser_reader.specs.State.{State, Outcome, Reader, and_then, moved, coded, reject, reject_in, reject_at, fault, expect, name, loop}
-use Rattle.swc_ecma_parser_reader.specs.Expressions.{literal, literal_in, taken, any_word, word_in, word_by, touching_word, private_name, word_property, is_word_at, key_or, literal_key, shorthand_name, shorthand, dotted, ident_expr, this, bare_new, closed_left, simple, update_behind, behind_operand, postfix_at, right_class, operator_at, left_operand, unmixed, unassigned, unheaded, heads_arrow, begins_async_call, inside, brackets, access, spread_element, plain_element, element, behind_argument, arguments_turn, arguments, behind_element, array_turn, elements, array, computed_key, key, key_value, behind_key, keyed_property, spread_property, property, behind_property, object_turn, properties, object, paren, marked_primary, literal_or, primary, accessed, called, left_turn, left_from, super_call, super_access, has_private, behind_super, super_head, constructed, new_head, left_head, left, left_expr, prefixed, update_before, postfix, updated, unary_by, unary_expr, operated, binary_by, binary_turn, binary_from, binary_expr, conditional, assigned_to, assigned, assigned_or, behind_operators, assignment_expr, sequence_turn, sequence_from, expression_expr, expr_level, expr}
+use Rattle.swc_ecma_parser_reader.specs.Expressions.{Cover, Covers, no_covers, with_cover, unmarked, close, target_or, target, goes_on, literal, literal_in, taken, any_word, word_in, word_by, touching_word, private_name, word_property, is_word_at, key_or, literal_key, shorthand_name, shorthand, dotted, ident_expr, this, bare_new, closed_left, simple, update_behind, behind_operand, postfix_at, right_class, operator_at, left_operand, unmixed, unassigned, unheaded, heads_arrow, begins_async_call, inside, brackets, access, spread_element, plain_element, element, behind_argument, arguments_turn, arguments, covered, spread_item, plain_item, item, behind_item, array_turn, elements, array, computed_key, key, key_value, initialized, initialized_name, initialized_key, bare_key, behind_key, keyed_property, spread_property, property, behind_property, object_turn, properties, object, paren, marked_primary, literal_or, primary, accessed, called, left_turn, left_from, super_call, super_access, has_private, behind_super, super_head, constructed, new_head, left_head, left, left_expr, prefixed, update_before, postfix, updated, unary_by, unary_expr, operated, binary_by, binary_turn, binary_from, binary_expr, conditional, assigned_to, assigned, assigned_or, behind_operators, operators_expr, postfixed, continued, closed, assigned_pattern, behind_literal, open_literal, done_expr, cover_expr, assignment_expr, sequence_turn, sequence_from, expression_expr, expr_level, expr, cover}
 use Rattle.swc_ecma_parser_reader.proofs.Takes.{Falls, falls_then, falls_last, falls_coded, falls_if, less, falls_next, moves, takes, takes_one, falls_past, falls_moved, wanted_falls, too_deep_falls, refused_falls, expect_falls, name_falls, loop_falls}
 use Rattle.swc_ecma_parser_reader.proofs.Meets.{saw}
 
@@ -138,257 +140,350 @@ shorthand_falls : (x : Tree) (s : State) → Falls 0 (length s.at.left) (shortha
 shorthand_falls (tree.ident span text) s = shorthand_name_falls span text s
 shorthand_falls _ s = wanted_falls Tree 0 (length s.at.left) faults.Unexpected s
 
-module _ (inner : Class → Reader Tree) (h : (class : Class) (s : State) → Falls 1 (length s.at.left) (inner class s)) where
-  pub inside_falls : (class : Class) (s : State) → Falls 1 (length s.at.left) (inside inner class s)
+-- ---- what is closed, and what is a target
+
+unmarked_falls : (x : Tree) (o : Option Span) (s : State) → Falls 0 (length s.at.left) (unmarked x o s)
+unmarked_falls x None s = omega arith
+unmarked_falls x (Some m) s = reject_falls Tree 0 (length s.at.left) _ s
+
+close_falls : (v : Cover) (s : State) → Falls 0 (length s.at.left) (close v s)
+unfolding close
+close_falls v s = unmarked_falls v.x v.mark s
+
+target_or_falls : (x : Tree) (o : Option Tree) (s : State) → Falls 0 (length s.at.left) (target_or x o s)
+target_or_falls x (Some p) s = omega arith
+target_or_falls x None s = reject_falls Tree 0 (length s.at.left) _ s
+
+target_falls : (v : Cover) (s : State) → Falls 0 (length s.at.left) (target v s)
+unfolding target
+target_falls v s = target_or_falls v.x (cond v.comma None (as_target v.x)) s
+
+-- a test that says something of the token that stands first
+falls_when : {A : Type 0} (k n : ℕ) (b : Bool) (x y : Outcome A) → (b ≡ true → Falls k n x) → (b ≡ false → Falls k n y) → Falls k n (cond b x y)
+falls_when k n true x y f g = f refl
+falls_when k n false x y f g = g refl
+
+-- the second of two tests
+second : (a b : Bool) → (a || b) ≡ true → a ≡ false → b ≡ true
+second true b h e = cc
+second false b h e = h
+
+module _ (inner : Class → Reader Tree) (cover : Reader Cover) (h : (class : Class) (s : State) → Falls 1 (length s.at.left) (inner class s))
+    (hc : (s : State) → Falls 1 (length s.at.left) (cover s)) where
+  pub inside_falls : (class : Class) (s : State) → Falls 1 (length s.at.left) (inside inner cover class s)
   unfolding inside
   inside_falls class s = falls_coded 1 (length s.at.left) (inner class (coded (with_in s.code) s)) _ _ (h class (coded (with_in s.code) s))
 
-  brackets_falls : (s : State) → Falls 1 (length s.at.left) (brackets inner s)
+  brackets_falls : (s : State) → Falls 1 (length s.at.left) (brackets inner cover s)
   unfolding brackets
-  brackets_falls s = falls_moved 1 s _ (falls_next (length (after s.at).left) (inside inner expression (moved s)) _ (inside_falls expression (moved s)) (λ e t.
+  brackets_falls s = falls_moved 1 s _ (falls_next (length (after s.at).left) (inside inner cover expression (moved s)) _ (inside_falls expression (moved s)) (λ e t.
       falls_last 0 (length t.at.left) (expect kind.RBracket t) _ (expect_falls kind.RBracket t)))
 
-  pub access_falls : (s : State) → Falls 1 (length s.at.left) (access inner s)
+  pub access_falls : (s : State) → Falls 1 (length s.at.left) (access inner cover s)
   unfolding access
   access_falls s = falls_if 1 (length s.at.left) (sees kind.Dot s.at) _ _ (falls_moved 1 s _ (dotted_falls (moved s))) (brackets_falls s)
 
-  pub element_falls : (s : State) → Falls 1 (length s.at.left) (element inner s)
+  pub element_falls : (s : State) → Falls 1 (length s.at.left) (element inner cover s)
   unfolding element spread_element plain_element
   element_falls s = falls_if 1 (length s.at.left) (sees kind.DotDotDot s.at) _ _
-      (falls_moved 1 s _ (falls_last 1 (length (after s.at).left) (inside inner assignment (moved s)) _ (inside_falls assignment (moved s))))
-      (falls_last 1 (length s.at.left) (inside inner assignment s) _ (inside_falls assignment s))
+      (falls_moved 1 s _ (falls_last 1 (length (after s.at).left) (inside inner cover assignment (moved s)) _ (inside_falls assignment (moved s))))
+      (falls_last 1 (length s.at.left) (inside inner cover assignment s) _ (inside_falls assignment s))
 
-  behind_argument_falls : (found : List Tree) (s : State) → Falls 0 (length s.at.left) (behind_argument inner found s)
+  behind_argument_falls : (found : List Tree) (s : State) → Falls 0 (length s.at.left) (behind_argument inner cover found s)
   behind_argument_falls found s = falls_if 0 (length s.at.left) (sees kind.RParen s.at) _ _ (omega arith) (falls_last 0 (length s.at.left) (expect kind.Comma s) _ (expect_falls kind.Comma s))
 
-  arguments_turn_falls : (found : List Tree) (s : State) → Falls 0 (length s.at.left) (arguments_turn inner found s)
+  arguments_turn_falls : (found : List Tree) (s : State) → Falls 0 (length s.at.left) (arguments_turn inner cover found s)
   unfolding arguments_turn
   arguments_turn_falls found s = falls_if 0 (length s.at.left) (sees kind.RParen s.at) _ _ (let m = moves s.at in omega arith)
-      (falls_then 0 0 (length s.at.left) (element inner s) _ (less (length s.at.left) (element inner s) (element_falls s)) (λ x t. behind_argument_falls (found ++ x ∷ []) t))
+      (falls_then 0 0 (length s.at.left) (element inner cover s) _ (less (length s.at.left) (element inner cover s) (element_falls s)) (λ x t. behind_argument_falls (found ++ x ∷ []) t))
 
-  pub arguments_fall : (s : State) → kind_at s.at ≢ kind.End → Falls 1 (length s.at.left) (arguments inner s)
+  pub arguments_fall : (s : State) → kind_at s.at ≢ kind.End → Falls 1 (length s.at.left) (arguments inner cover s)
   unfolding arguments
-  arguments_fall s e = falls_past s _ e (loop_falls (arguments_turn inner) arguments_turn_falls [] (moved s))
+  arguments_fall s e = falls_past s _ e (loop_falls (arguments_turn inner cover) arguments_turn_falls [] (moved s))
 
-  behind_element_falls : (found : List Tree) (s : State) → Falls 0 (length s.at.left) (behind_element inner found s)
-  behind_element_falls found s = falls_if 0 (length s.at.left) (sees kind.RBracket s.at) _ _ (omega arith) (falls_last 0 (length s.at.left) (expect kind.Comma s) _ (expect_falls kind.Comma s))
+  covered_falls : (s : State) → Falls 1 (length s.at.left) (covered inner cover s)
+  unfolding covered
+  covered_falls s = falls_coded 1 (length s.at.left) (cover (coded (with_in s.code) s)) _ _ (hc (coded (with_in s.code) s))
 
-  array_turn_falls : (found : List Tree) (s : State) → Falls 0 (length s.at.left) (array_turn inner found s)
+  pub item_falls : (s : State) → Falls 1 (length s.at.left) (item inner cover s)
+  unfolding item spread_item plain_item
+  item_falls s = falls_if 1 (length s.at.left) (sees kind.DotDotDot s.at) _ _
+      (falls_moved 1 s _ (falls_last 1 (length (after s.at).left) (covered inner cover (moved s)) _ (covered_falls (moved s))))
+      (falls_last 1 (length s.at.left) (covered inner cover s) _ (covered_falls s))
+
+  behind_item_falls : (is_spread : Bool) (found : Covers) (s : State) → Falls 0 (length s.at.left) (behind_item inner cover is_spread found s)
+  behind_item_falls is_spread found s = falls_if 0 (length s.at.left) (sees kind.RBracket s.at) _ _ (omega arith) (falls_last 0 (length s.at.left) (expect kind.Comma s) _ (expect_falls kind.Comma s))
+
+  array_turn_falls : (found : Covers) (s : State) → Falls 0 (length s.at.left) (array_turn inner cover found s)
   unfolding array_turn
   array_turn_falls found s = falls_if 0 (length s.at.left) (sees kind.RBracket s.at) _ _ (let m = moves s.at in omega arith)
       (falls_if 0 (length s.at.left) (sees kind.Comma s.at) _ _ (let m = moves s.at in omega arith)
-      (falls_then 0 0 (length s.at.left) (element inner s) _ (less (length s.at.left) (element inner s) (element_falls s)) (λ x t. behind_element_falls (found ++ x ∷ []) t)))
+      (falls_then 0 0 (length s.at.left) (item inner cover s) _ (less (length s.at.left) (item inner cover s) (item_falls s)) (λ v t.
+      behind_item_falls (sees kind.DotDotDot s.at) (with_cover found v) t)))
 
-  array_falls : (s : State) → kind_at s.at ≢ kind.End → Falls 1 (length s.at.left) (array inner s)
+  array_falls : (s : State) → kind_at s.at ≢ kind.End → Falls 1 (length s.at.left) (array inner cover s)
   unfolding array elements
-  array_falls s e = falls_last 1 (length s.at.left) (elements inner s) _ (falls_past s _ e (loop_falls (array_turn inner) array_turn_falls [] (moved s)))
+  array_falls s e = falls_last 1 (length s.at.left) (elements inner cover s) _ (falls_past s _ e (loop_falls (array_turn inner cover) array_turn_falls no_covers (moved s)))
 
   -- ---- objects
 
-  computed_key_falls : (s : State) → Falls 1 (length s.at.left) (computed_key inner s)
+  computed_key_falls : (s : State) → Falls 1 (length s.at.left) (computed_key inner cover s)
   unfolding computed_key
-  computed_key_falls s = falls_moved 1 s _ (falls_next (length (after s.at).left) (inside inner assignment (moved s)) _ (inside_falls assignment (moved s)) (λ e t.
+  computed_key_falls s = falls_moved 1 s _ (falls_next (length (after s.at).left) (inside inner cover assignment (moved s)) _ (inside_falls assignment (moved s)) (λ e t.
       falls_last 0 (length t.at.left) (expect kind.RBracket t) _ (expect_falls kind.RBracket t)))
 
-  key_falls : (s : State) → Falls 1 (length s.at.left) (key inner s)
+  key_falls : (s : State) → Falls 1 (length s.at.left) (key inner cover s)
   unfolding key word_property
   key_falls s = falls_if 1 (length s.at.left) (is_word_at s.at) _ _ (falls_last 1 (length s.at.left) (any_word s) _ (any_word_falls s))
       (falls_if 1 (length s.at.left) (sees kind.LBracket s.at) _ _ (computed_key_falls s) (literal_key_falls s))
 
-  behind_key_falls : (start : Span) (x : Tree) (s : State) → Falls 0 (length s.at.left) (behind_key inner start x s)
-  unfolding behind_key key_value
-  behind_key_falls start x s = falls_if 0 (length s.at.left) (sees kind.Colon s.at) _ _
-      (falls_moved 0 s _ (falls_last 0 (length (after s.at).left) (inside inner assignment (moved s)) _
-      (less (length (after s.at).left) (inside inner assignment (moved s)) (inside_falls assignment (moved s)))))
-      (shorthand_falls x s)
+  initialized_falls : (start : Span) (x : Tree) (s : State) → Falls 0 (length s.at.left) (initialized inner cover start x s)
+  unfolding initialized
+  initialized_falls start x s = falls_moved 0 s _ (falls_last 0 (length (after s.at).left) (inside inner cover assignment (moved s)) _
+      (less (length (after s.at).left) (inside inner cover assignment (moved s)) (inside_falls assignment (moved s))))
 
-  pub property_falls : (s : State) → Falls 1 (length s.at.left) (property inner s)
+  initialized_name_falls : (start span : Span) (text : Text) (s : State) → Falls 0 (length s.at.left) (initialized_name inner cover start span text s)
+  unfolding initialized_name
+  initialized_name_falls start span text s = falls_if 0 (length s.at.left) (is_name s.code.flags text) _ _ (initialized_falls start (tree.ident span text) s) (reject_falls Cover 0 (length s.at.left) _ s)
+
+  initialized_key_falls : (start : Span) (x : Tree) (s : State) → Falls 0 (length s.at.left) (initialized_key inner cover start x s)
+  initialized_key_falls start (tree.ident span text) s = initialized_name_falls start span text s
+  initialized_key_falls start _ s = wanted_falls Cover 0 (length s.at.left) faults.Unexpected s
+
+  behind_key_falls : (start : Span) (x : Tree) (s : State) → Falls 0 (length s.at.left) (behind_key inner cover start x s)
+  unfolding behind_key key_value bare_key
+  behind_key_falls start x s = falls_if 0 (length s.at.left) (sees kind.Colon s.at) _ _
+      (falls_moved 0 s _ (falls_last 0 (length (after s.at).left) (covered inner cover (moved s)) _ (less (length (after s.at).left) (covered inner cover (moved s)) (covered_falls (moved s)))))
+      (falls_if 0 (length s.at.left) (sees kind.Assign s.at) _ _ (initialized_key_falls start x s)
+      (falls_last 0 (length s.at.left) (shorthand x s) _ (shorthand_falls x s)))
+
+  pub property_falls : (s : State) → Falls 1 (length s.at.left) (property inner cover s)
   unfolding property spread_property keyed_property
   property_falls s = falls_if 1 (length s.at.left) (sees kind.DotDotDot s.at) _ _
-      (falls_moved 1 s _ (falls_last 1 (length (after s.at).left) (inside inner assignment (moved s)) _ (inside_falls assignment (moved s))))
-      (falls_next (length s.at.left) (key inner s) _ (key_falls s) (λ x t. behind_key_falls (span_at s.at) x t))
+      (falls_moved 1 s _ (falls_last 1 (length (after s.at).left) (covered inner cover (moved s)) _ (covered_falls (moved s))))
+      (falls_next (length s.at.left) (key inner cover s) _ (key_falls s) (λ x t. behind_key_falls (span_at s.at) x t))
 
-  behind_property_falls : (found : List Tree) (s : State) → Falls 0 (length s.at.left) (behind_property inner found s)
-  behind_property_falls found s = falls_if 0 (length s.at.left) (sees kind.RBrace s.at) _ _ (omega arith) (falls_last 0 (length s.at.left) (expect kind.Comma s) _ (expect_falls kind.Comma s))
+  behind_property_falls : (is_spread : Bool) (found : Covers) (s : State) → Falls 0 (length s.at.left) (behind_property inner cover is_spread found s)
+  behind_property_falls is_spread found s = falls_if 0 (length s.at.left) (sees kind.RBrace s.at) _ _ (omega arith) (falls_last 0 (length s.at.left) (expect kind.Comma s) _ (expect_falls kind.Comma s))
 
-  object_turn_falls : (found : List Tree) (s : State) → Falls 0 (length s.at.left) (object_turn inner found s)
+  object_turn_falls : (found : Covers) (s : State) → Falls 0 (length s.at.left) (object_turn inner cover found s)
   unfolding object_turn
   object_turn_falls found s = falls_if 0 (length s.at.left) (sees kind.RBrace s.at) _ _ (let m = moves s.at in omega arith)
-      (falls_then 0 0 (length s.at.left) (property inner s) _ (less (length s.at.left) (property inner s) (property_falls s)) (λ x t. behind_property_falls (found ++ x ∷ []) t))
+      (falls_then 0 0 (length s.at.left) (property inner cover s) _ (less (length s.at.left) (property inner cover s) (property_falls s)) (λ v t.
+      behind_property_falls (sees kind.DotDotDot s.at) (with_cover found v) t))
 
-  object_falls : (s : State) → kind_at s.at ≢ kind.End → Falls 1 (length s.at.left) (object inner s)
+  object_falls : (s : State) → kind_at s.at ≢ kind.End → Falls 1 (length s.at.left) (object inner cover s)
   unfolding object properties
-  object_falls s e = falls_last 1 (length s.at.left) (properties inner s) _ (falls_past s _ e (loop_falls (object_turn inner) object_turn_falls [] (moved s)))
+  object_falls s e = falls_last 1 (length s.at.left) (properties inner cover s) _ (falls_past s _ e (loop_falls (object_turn inner cover) object_turn_falls no_covers (moved s)))
 
-  paren_falls : (s : State) → Falls 1 (length s.at.left) (paren inner s)
+  paren_falls : (s : State) → Falls 1 (length s.at.left) (paren inner cover s)
   unfolding paren
-  paren_falls s = falls_moved 1 s _ (falls_next (length (after s.at).left) (inside inner expression (moved s)) _ (inside_falls expression (moved s)) (λ e t.
+  paren_falls s = falls_moved 1 s _ (falls_next (length (after s.at).left) (inside inner cover expression (moved s)) _ (inside_falls expression (moved s)) (λ e t.
       falls_last 0 (length t.at.left) (expect kind.RParen t) _ (expect_falls kind.RParen t)))
 
-  -- whether a kind was seen or not
-  sees_or : (s : State) (k : TokenKind) (b : Bool) (x y : Outcome Tree) → sees k s.at ≡ b → (b ≡ true → Falls 1 (length s.at.left) x) → Falls 1 (length s.at.left) y → Falls 1 (length s.at.left) (cond b x y)
-  sees_or s k true x y e f g = f refl
-  sees_or s k false x y e f g = g
-
-  marked_falls : (s : State) → Falls 1 (length s.at.left) (marked_primary inner s)
+  marked_falls : (s : State) → Falls 1 (length s.at.left) (marked_primary inner cover s)
   unfolding marked_primary
   marked_falls s = falls_if 1 (length s.at.left) (sees kind.LParen s.at) _ _ (paren_falls s)
-      (sees_or s kind.LBracket (sees kind.LBracket s.at) _ _ refl (λ e. array_falls s (no_end s kind.LBracket (λ z. cc) e))
-      (sees_or s kind.LBrace (sees kind.LBrace s.at) _ _ refl (λ e. object_falls s (no_end s kind.LBrace (λ z. cc) e))
-      (sees_or s kind.This (sees kind.This s.at) _ _ refl (λ e. this_falls s (no_end s kind.This (λ z. cc) e)) (wanted_falls Tree 1 (length s.at.left) faults.Unexpected s))))
+      (falls_when 1 (length s.at.left) (sees kind.LBracket s.at) _ _
+      (λ e. falls_next (length s.at.left) (array inner cover s) _ (array_falls s (no_end s kind.LBracket (λ z. cc) e)) close_falls) (λ _.
+      falls_when 1 (length s.at.left) (sees kind.LBrace s.at) _ _
+      (λ e. falls_next (length s.at.left) (object inner cover s) _ (object_falls s (no_end s kind.LBrace (λ z. cc) e)) close_falls) (λ _.
+      falls_when 1 (length s.at.left) (sees kind.This s.at) _ _ (λ e. this_falls s (no_end s kind.This (λ z. cc) e)) (λ _. wanted_falls Tree 1 (length s.at.left) faults.Unexpected s))))
 
-  literal_or_falls : (s : State) (o : Option Tree) → literal_in s.at.left ≡ o → Falls 1 (length s.at.left) (and_then (taken o s) (literal_or inner))
+  literal_or_falls : (s : State) (o : Option Tree) → literal_in s.at.left ≡ o → Falls 1 (length s.at.left) (and_then (taken o s) (literal_or inner cover))
   literal_or_falls s None e = marked_falls s
   literal_or_falls s (Some x) e = literal_takes s s.at.left x refl e
 
-  pub primary_falls : (s : State) → Falls 1 (length s.at.left) (primary inner s)
+  pub primary_falls : (s : State) → Falls 1 (length s.at.left) (primary inner cover s)
   unfolding primary literal
   primary_falls s = falls_if 1 (length s.at.left) (name_at s.code.flags s.at) _ _ (ident_falls s) (literal_or_falls s (literal_in s.at.left) refl)
 
-  pub accessed_falls : (start : Span) (x : Tree) (s : State) → Falls 1 (length s.at.left) (accessed inner start x s)
+  pub accessed_falls : (start : Span) (x : Tree) (s : State) → Falls 1 (length s.at.left) (accessed inner cover start x s)
   unfolding accessed
-  accessed_falls start x s = falls_last 1 (length s.at.left) (access inner s) _ (access_falls s)
+  accessed_falls start x s = falls_last 1 (length s.at.left) (access inner cover s) _ (access_falls s)
 
-  pub called_falls : (start : Span) (x : Tree) (s : State) → kind_at s.at ≢ kind.End → Falls 1 (length s.at.left) (called inner start x s)
+  pub called_falls : (start : Span) (x : Tree) (s : State) → kind_at s.at ≢ kind.End → Falls 1 (length s.at.left) (called inner cover start x s)
   unfolding called
-  called_falls start x s e = falls_last 1 (length s.at.left) (arguments inner s) _ (arguments_fall s e)
+  called_falls start x s e = falls_last 1 (length s.at.left) (arguments inner cover s) _ (arguments_fall s e)
 
-  arguments_any : (s : State) → Falls 0 (length s.at.left) (arguments inner s)
+  arguments_any : (s : State) → Falls 0 (length s.at.left) (arguments inner cover s)
   unfolding arguments
-  arguments_any s = falls_moved 0 s _ (loop_falls (arguments_turn inner) arguments_turn_falls [] (moved s))
+  arguments_any s = falls_moved 0 s _ (loop_falls (arguments_turn inner cover) arguments_turn_falls [] (moved s))
 
-  left_turn_falls : (calls : Bool) (start : Span) (x : Tree) (s : State) → Falls 0 (length s.at.left) (left_turn inner calls start x s)
+  left_turn_falls : (calls : Bool) (start : Span) (x : Tree) (s : State) → Falls 0 (length s.at.left) (left_turn inner cover calls start x s)
   unfolding left_turn called
   left_turn_falls calls start x s = falls_if 0 (length s.at.left) (sees kind.Dot s.at || sees kind.LBracket s.at) _ _
-      (falls_last 0 (length s.at.left) (accessed inner start x s) _ (less (length s.at.left) (accessed inner start x s) (accessed_falls start x s)))
+      (falls_last 0 (length s.at.left) (accessed inner cover start x s) _ (less (length s.at.left) (accessed inner cover start x s) (accessed_falls start x s)))
       (falls_if 0 (length s.at.left) (calls && sees kind.LParen s.at) _ _
-      (falls_last 0 (length s.at.left) (called inner start x s) _ (falls_last 0 (length s.at.left) (arguments inner s) _ (arguments_any s))) (omega arith))
+      (falls_last 0 (length s.at.left) (called inner cover start x s) _ (falls_last 0 (length s.at.left) (arguments inner cover s) _ (arguments_any s))) (omega arith))
 
-  pub left_from_falls : (calls : Bool) (start : Span) (x : Tree) (s : State) → Falls 0 (length s.at.left) (left_from inner calls start x s)
+  pub left_from_falls : (calls : Bool) (start : Span) (x : Tree) (s : State) → Falls 0 (length s.at.left) (left_from inner cover calls start x s)
   unfolding left_from
-  left_from_falls calls start x s = loop_falls (left_turn inner calls start) (left_turn_falls calls start) x s
+  left_from_falls calls start x s = loop_falls (left_turn inner cover calls start) (left_turn_falls calls start) x s
 
-  behind_super_falls : (calls : Bool) (start : Span) (s : State) → Falls 0 (length s.at.left) (behind_super inner calls start s)
+  behind_super_falls : (calls : Bool) (start : Span) (s : State) → Falls 0 (length s.at.left) (behind_super inner cover calls start s)
   unfolding behind_super super_call super_access
   behind_super_falls calls start s = falls_if 0 (length s.at.left) (calls && sees kind.LParen s.at) _ _
-      (falls_last 0 (length s.at.left) (arguments inner s) _ (arguments_any s))
+      (falls_last 0 (length s.at.left) (arguments inner cover s) _ (arguments_any s))
       (falls_if 0 (length s.at.left) (has_private s.at) _ _ (falls_moved 0 s _ (wanted_falls Tree 0 (length (after s.at).left) faults.Unexpected (moved s)))
       (falls_if 0 (length s.at.left) (sees kind.Dot s.at || sees kind.LBracket s.at) _ _
-      (falls_last 0 (length s.at.left) (access inner s) _ (less (length s.at.left) (access inner s) (access_falls s))) (reject_falls Tree 0 (length s.at.left) _ s)))
+      (falls_last 0 (length s.at.left) (access inner cover s) _ (less (length s.at.left) (access inner cover s) (access_falls s))) (reject_falls Tree 0 (length s.at.left) _ s)))
 
-  super_falls : (calls : Bool) (s : State) → kind_at s.at ≢ kind.End → Falls 1 (length s.at.left) (super_head inner calls s)
+  super_falls : (calls : Bool) (s : State) → kind_at s.at ≢ kind.End → Falls 1 (length s.at.left) (super_head inner cover calls s)
   unfolding super_head
   super_falls calls s e = falls_past s _ e (behind_super_falls calls (span_at s.at) (moved s))
 
-  constructed_falls : (start : Span) (x : Tree) (s : State) → Falls 0 (length s.at.left) (constructed inner start x s)
+  constructed_falls : (start : Span) (x : Tree) (s : State) → Falls 0 (length s.at.left) (constructed inner cover start x s)
   unfolding constructed
-  constructed_falls start x s = falls_last 0 (length s.at.left) (arguments inner s) _ (arguments_any s)
+  constructed_falls start x s = falls_last 0 (length s.at.left) (arguments inner cover s) _ (arguments_any s)
 
-  new_falls : (s : State) → Falls 1 (length s.at.left) (new_head inner s)
+  new_falls : (s : State) → Falls 1 (length s.at.left) (new_head inner cover s)
   unfolding new_head bare_new
   new_falls s = falls_moved 1 s _ (falls_next (length (after s.at).left) (inner callee (moved s)) _ (h callee (moved s)) (λ x t.
       falls_if 0 (length t.at.left) (sees kind.LParen t.at) _ _ (constructed_falls (span_at s.at) x t) (omega arith)))
 
-  left_head_falls : (calls : Bool) (s : State) → Falls 1 (length s.at.left) (left_head inner calls s)
+  left_head_falls : (calls : Bool) (s : State) → Falls 1 (length s.at.left) (left_head inner cover calls s)
   unfolding left_head
-  left_head_falls calls s = sees_or s kind.Super (sees kind.Super s.at) _ _ refl (λ e. super_falls calls s (no_end s kind.Super (λ z. cc) e))
-      (falls_if 1 (length s.at.left) (sees kind.New s.at) _ _ (new_falls s) (primary_falls s))
+  left_head_falls calls s = falls_when 1 (length s.at.left) (sees kind.Super s.at) _ _ (λ e. super_falls calls s (no_end s kind.Super (λ z. cc) e)) (λ _.
+      falls_if 1 (length s.at.left) (sees kind.New s.at) _ _ (new_falls s) (primary_falls s))
 
-  pub left_falls : (calls : Bool) (s : State) → Falls 1 (length s.at.left) (left inner calls s)
+  pub left_falls : (calls : Bool) (s : State) → Falls 1 (length s.at.left) (left inner cover calls s)
   unfolding left
-  left_falls calls s = falls_next (length s.at.left) (left_head inner calls s) _ (left_head_falls calls s) (λ x t. left_from_falls calls (span_at s.at) x t)
+  left_falls calls s = falls_next (length s.at.left) (left_head inner cover calls s) _ (left_head_falls calls s) (λ x t. left_from_falls calls (span_at s.at) x t)
 
-  left_expr_falls : (s : State) → Falls 1 (length s.at.left) (left_expr inner s)
+  left_expr_falls : (s : State) → Falls 1 (length s.at.left) (left_expr inner cover s)
   unfolding left_expr closed_left
-  left_expr_falls s = falls_next (length s.at.left) (left inner true s) _ (left_falls true s) (λ x t.
+  left_expr_falls s = falls_next (length s.at.left) (left inner cover true s) _ (left_falls true s) (λ x t.
       falls_if 0 (length t.at.left) (continues_left_side t.at) _ _ (wanted_falls Tree 0 (length t.at.left) faults.Unexpected t) (omega arith))
 
   -- ---- operators
 
-  prefixed_falls : (op : UnaryOp) (s : State) → Falls 1 (length s.at.left) (prefixed inner op s)
+  prefixed_falls : (op : UnaryOp) (s : State) → Falls 1 (length s.at.left) (prefixed inner cover op s)
   unfolding prefixed
   prefixed_falls op s = falls_moved 1 s _ (falls_last 1 (length (after s.at).left) (inner unary (moved s)) _ (h unary (moved s)))
 
-  update_before_falls : (op : UpdateOp) (s : State) → Falls 1 (length s.at.left) (update_before inner op s)
+  update_before_falls : (op : UpdateOp) (s : State) → Falls 1 (length s.at.left) (update_before inner cover op s)
   unfolding update_before
   update_before_falls op s = falls_moved 1 s _ (falls_next (length (after s.at).left) (inner unary (moved s)) _ (h unary (moved s)) (λ x t.
       falls_last 0 (length t.at.left) (simple x t) _ (simple_falls x t)))
 
-  postfix_falls : (s : State) → Falls 1 (length s.at.left) (postfix inner s)
+  postfix_falls : (s : State) → Falls 1 (length s.at.left) (postfix inner cover s)
   unfolding postfix
-  postfix_falls s = falls_next (length s.at.left) (left inner true s) _ (left_falls true s) (λ x t. behind_operand_falls (span_at s.at) x (postfix_at t.at) t)
+  postfix_falls s = falls_next (length s.at.left) (left inner cover true s) _ (left_falls true s) (λ x t. behind_operand_falls (span_at s.at) x (postfix_at t.at) t)
 
-  updated_falls : (o : Option UpdateOp) (s : State) → Falls 1 (length s.at.left) (updated inner o s)
+  updated_falls : (o : Option UpdateOp) (s : State) → Falls 1 (length s.at.left) (updated inner cover o s)
   updated_falls (Some op) s = update_before_falls op s
   updated_falls None s = postfix_falls s
 
-  unary_by_falls : (o : Option UnaryOp) (s : State) → Falls 1 (length s.at.left) (unary_by inner o s)
+  unary_by_falls : (o : Option UnaryOp) (s : State) → Falls 1 (length s.at.left) (unary_by inner cover o s)
   unary_by_falls (Some op) s = prefixed_falls op s
   unary_by_falls None s = updated_falls (update_operator (kind_at s.at)) s
 
-  pub unary_falls : (s : State) → Falls 1 (length s.at.left) (unary_expr inner s)
+  pub unary_falls : (s : State) → Falls 1 (length s.at.left) (unary_expr inner cover s)
   unfolding unary_expr
   unary_falls s = unary_by_falls (unary_operator (kind_at s.at)) s
 
   -- an operator and its operand take a token
-  pub operated_falls : (start : Span) (x : Tree) (op : BinaryOp) (s : State) → Falls 1 (length s.at.left) (operated inner start x op s)
+  pub operated_falls : (start : Span) (x : Tree) (op : BinaryOp) (s : State) → Falls 1 (length s.at.left) (operated inner cover start x op s)
   unfolding operated
   operated_falls start x op s = falls_then 0 1 (length s.at.left) (left_operand op x s) _ (left_operand_falls op x s) (λ _ t.
       falls_moved 1 t _ (falls_next (length (after t.at).left) (inner (right_class op) (moved t)) _ (h (right_class op) (moved t)) (λ y u. unmixed_falls start op x y u)))
 
-  binary_by_falls : (start : Span) (x : Tree) (o : Option BinaryOp) (s : State) → Falls 0 (length s.at.left) (binary_by inner start x o s)
+  binary_by_falls : (start : Span) (x : Tree) (o : Option BinaryOp) (s : State) → Falls 0 (length s.at.left) (binary_by inner cover start x o s)
   binary_by_falls start x None s = omega arith
-  binary_by_falls start x (Some op) s = falls_last 0 (length s.at.left) (operated inner start x op s) _ (less (length s.at.left) (operated inner start x op s) (operated_falls start x op s))
+  binary_by_falls start x (Some op) s = falls_last 0 (length s.at.left) (operated inner cover start x op s) _ (less (length s.at.left) (operated inner cover start x op s) (operated_falls start x op s))
 
-  binary_turn_falls : (n : ℕ) (start : Span) (x : Tree) (s : State) → Falls 0 (length s.at.left) (binary_turn inner n start x s)
+  binary_turn_falls : (n : ℕ) (start : Span) (x : Tree) (s : State) → Falls 0 (length s.at.left) (binary_turn inner cover n start x s)
   unfolding binary_turn
   binary_turn_falls n start x s = binary_by_falls start x (operator_at n s) s
 
-  pub binary_falls : (n : ℕ) (s : State) → Falls 1 (length s.at.left) (binary_expr inner n s)
+  pub binary_falls : (n : ℕ) (s : State) → Falls 1 (length s.at.left) (binary_expr inner cover n s)
   unfolding binary_expr binary_from
-  binary_falls n s = falls_next (length s.at.left) (unary_expr inner s) _ (unary_falls s) (λ x t. loop_falls (binary_turn inner n (span_at s.at)) (binary_turn_falls n (span_at s.at)) x t)
+  binary_falls n s = falls_next (length s.at.left) (unary_expr inner cover s) _ (unary_falls s) (λ x t. loop_falls (binary_turn inner cover n (span_at s.at)) (binary_turn_falls n (span_at s.at)) x t)
 
-  conditional_falls : (start : Span) (x : Tree) (s : State) → Falls 0 (length s.at.left) (conditional inner start x s)
+  conditional_falls : (start : Span) (x : Tree) (s : State) → Falls 0 (length s.at.left) (conditional inner cover start x s)
   unfolding conditional
-  conditional_falls start x s = falls_moved 0 s _ (falls_then 0 0 (length (after s.at).left) (inside inner assignment (moved s)) _
-      (less (length (after s.at).left) (inside inner assignment (moved s)) (inside_falls assignment (moved s))) (λ y t.
+  conditional_falls start x s = falls_moved 0 s _ (falls_then 0 0 (length (after s.at).left) (inside inner cover assignment (moved s)) _
+      (less (length (after s.at).left) (inside inner cover assignment (moved s)) (inside_falls assignment (moved s))) (λ y t.
       falls_then 0 0 (length t.at.left) (expect kind.Colon t) _ (expect_falls kind.Colon t) (λ _ u.
       falls_then 0 0 (length u.at.left) (inner assignment u) _ (less (length u.at.left) (inner assignment u) (h assignment u)) (λ z v. unassigned_falls _ v))))
 
-  assigned_falls : (start : Span) (x : Tree) (op : AssignOp) (s : State) → Falls 0 (length s.at.left) (assigned inner start x op s)
-  unfolding assigned assigned_to
-  assigned_falls start x op s = falls_if 0 (length s.at.left) (is_simple_target x) _ _
-      (falls_moved 0 s _ (falls_last 0 (length (after s.at).left) (inner assignment (moved s)) _ (less (length (after s.at).left) (inner assignment (moved s)) (h assignment (moved s)))))
-      (reject_falls Tree 0 (length s.at.left) _ s)
+  assigned_to_falls : (start : Span) (x : Tree) (op : AssignOp) (s : State) → Falls 0 (length s.at.left) (assigned_to inner cover start x op s)
+  unfolding assigned_to
+  assigned_to_falls start x op s = falls_moved 0 s _ (falls_last 0 (length (after s.at).left) (inner assignment (moved s)) _
+      (less (length (after s.at).left) (inner assignment (moved s)) (h assignment (moved s))))
 
-  assigned_or_falls : (is_async : Bool) (start : Span) (x : Tree) (o : Option AssignOp) (s : State) → Falls 0 (length s.at.left) (assigned_or inner is_async start x o s)
+  assigned_falls : (start : Span) (x : Tree) (op : AssignOp) (s : State) → Falls 0 (length s.at.left) (assigned inner cover start x op s)
+  unfolding assigned
+  assigned_falls start x op s = falls_if 0 (length s.at.left) (is_simple_target x) _ _ (assigned_to_falls start x op s) (reject_falls Tree 0 (length s.at.left) _ s)
+
+  assigned_or_falls : (is_async : Bool) (start : Span) (x : Tree) (o : Option AssignOp) (s : State) → Falls 0 (length s.at.left) (assigned_or inner cover is_async start x o s)
   assigned_or_falls is_async start x (Some op) s = assigned_falls start x op s
   assigned_or_falls is_async start x None s = unheaded_falls is_async x s
 
-  behind_operators_falls : (is_async : Bool) (start : Span) (x : Tree) (s : State) → Falls 0 (length s.at.left) (behind_operators inner is_async start x s)
+  behind_operators_falls : (is_async : Bool) (start : Span) (x : Tree) (s : State) → Falls 0 (length s.at.left) (behind_operators inner cover is_async start x s)
   unfolding behind_operators
   behind_operators_falls is_async start x s = falls_if 0 (length s.at.left) (sees kind.QuestionMark s.at) _ _ (conditional_falls start x s) (assigned_or_falls is_async start x (assign_operator (kind_at s.at)) s)
 
-  pub assignment_falls : (s : State) → Falls 1 (length s.at.left) (assignment_expr inner s)
-  unfolding assignment_expr
-  assignment_falls s = falls_next (length s.at.left) (binary_expr inner 1 s) _ (binary_falls 1 s) (λ x t. behind_operators_falls (begins_async_call s.at) (span_at s.at) x t)
+  pub operators_falls : (s : State) → Falls 1 (length s.at.left) (operators_expr inner cover s)
+  unfolding operators_expr
+  operators_falls s = falls_next (length s.at.left) (binary_expr inner cover 1 s) _ (binary_falls 1 s) (λ x t. behind_operators_falls (begins_async_call s.at) (span_at s.at) x t)
 
-  sequence_turn_falls : (found : List Tree) (s : State) → Falls 0 (length s.at.left) (sequence_turn inner found s)
+  -- ---- what may still become a pattern
+
+  continued_falls : (start : Span) (x : Tree) (s : State) → Falls 0 (length s.at.left) (continued inner cover start x s)
+  unfolding continued postfixed binary_from
+  continued_falls start x s = falls_then 0 0 (length s.at.left) (left_from inner cover true start x s) _ (left_from_falls true start x s) (λ y t.
+      falls_then 0 0 (length t.at.left) (behind_operand start y (postfix_at t.at) t) _ (behind_operand_falls start y (postfix_at t.at) t) (λ z u.
+      falls_then 0 0 (length u.at.left) (loop (binary_turn inner cover 1 start) z u) _ (loop_falls (binary_turn inner cover 1 start) (binary_turn_falls 1 start) z u) (λ w v.
+      behind_operators_falls false start w v)))
+
+  closed_falls : (start : Span) (v : Cover) (s : State) → Falls 0 (length s.at.left) (closed inner cover start v s)
+  unfolding closed
+  closed_falls start v s = falls_then 0 0 (length s.at.left) (close v s) _ (close_falls v s) (λ x t.
+      falls_last 0 (length t.at.left) (continued inner cover start x t) _ (continued_falls start x t))
+
+  assigned_pattern_falls : (start : Span) (v : Cover) (s : State) → Falls 0 (length s.at.left) (assigned_pattern inner cover start v s)
+  unfolding assigned_pattern
+  assigned_pattern_falls start v s = falls_then 0 0 (length s.at.left) (target v s) _ (target_falls v s) (λ p t.
+      falls_last 0 (length t.at.left) (assigned_to inner cover start p assign.Assign t) _ (assigned_to_falls start p assign.Assign t))
+
+  behind_literal_falls : (start : Span) (v : Cover) (s : State) → Falls 0 (length s.at.left) (behind_literal inner cover start v s)
+  unfolding behind_literal
+  behind_literal_falls start v s = falls_if 0 (length s.at.left) (sees kind.Assign s.at) _ _ (assigned_pattern_falls start v s)
+      (falls_if 0 (length s.at.left) (goes_on s) _ _ (closed_falls start v s) (omega arith))
+
+  open_literal_falls : (s : State) → (sees kind.LBracket s.at || sees kind.LBrace s.at) ≡ true → Falls 1 (length s.at.left) (open_literal inner cover s)
+  unfolding open_literal
+  open_literal_falls s e = falls_next (length s.at.left) _ _
+      (falls_when 1 (length s.at.left) (sees kind.LBracket s.at) _ _ (λ i. array_falls s (no_end s kind.LBracket (λ z. cc) i)) (λ i.
+      object_falls s (no_end s kind.LBrace (λ z. cc) (second _ _ e i)))) (λ v t. behind_literal_falls (span_at s.at) v t)
+
+  pub cover_expr_falls : (s : State) → Falls 1 (length s.at.left) (cover_expr inner cover s)
+  unfolding cover_expr done_expr
+  cover_expr_falls s = falls_when 1 (length s.at.left) (sees kind.LBracket s.at || sees kind.LBrace s.at) _ _ (open_literal_falls s) (λ _.
+      falls_last 1 (length s.at.left) (operators_expr inner cover s) _ (operators_falls s))
+
+  pub assignment_falls : (s : State) → Falls 1 (length s.at.left) (assignment_expr inner cover s)
+  unfolding assignment_expr
+  assignment_falls s = falls_next (length s.at.left) (cover_expr inner cover s) _ (cover_expr_falls s) close_falls
+
+  sequence_turn_falls : (found : List Tree) (s : State) → Falls 0 (length s.at.left) (sequence_turn inner cover found s)
   unfolding sequence_turn
-  sequence_turn_falls found s = falls_moved 0 s _ (falls_then 0 0 (length (after s.at).left) (assignment_expr inner (moved s)) _
-      (less (length (after s.at).left) (assignment_expr inner (moved s)) (assignment_falls (moved s))) (λ x t.
+  sequence_turn_falls found s = falls_moved 0 s _ (falls_then 0 0 (length (after s.at).left) (assignment_expr inner cover (moved s)) _
+      (less (length (after s.at).left) (assignment_expr inner cover (moved s)) (assignment_falls (moved s))) (λ x t.
       falls_if 0 (length t.at.left) (sees kind.Comma t.at) _ _ (omega arith) (omega arith)))
 
-  sequence_falls : (start : Span) (x : Tree) (s : State) → Falls 0 (length s.at.left) (sequence_from inner start x s)
+  sequence_falls : (start : Span) (x : Tree) (s : State) → Falls 0 (length s.at.left) (sequence_from inner cover start x s)
   unfolding sequence_from
-  sequence_falls start x s = falls_last 0 (length s.at.left) (loop (sequence_turn inner) (x ∷ []) s) _ (loop_falls (sequence_turn inner) sequence_turn_falls (x ∷ []) s)
+  sequence_falls start x s = falls_last 0 (length s.at.left) (loop (sequence_turn inner cover) (x ∷ []) s) _ (loop_falls (sequence_turn inner cover) sequence_turn_falls (x ∷ []) s)
 
-  expression_falls : (s : State) → Falls 1 (length s.at.left) (expression_expr inner s)
+  expression_falls : (s : State) → Falls 1 (length s.at.left) (expression_expr inner cover s)
   unfolding expression_expr
-  expression_falls s = falls_next (length s.at.left) (assignment_expr inner s) _ (assignment_falls s) (λ x t.
+  expression_falls s = falls_next (length s.at.left) (assignment_expr inner cover s) _ (assignment_falls s) (λ x t.
       falls_if 0 (length t.at.left) (sees kind.Comma t.at) _ _ (sequence_falls (span_at s.at) x t) (omega arith))
 
-  level_falls : (class : Class) (s : State) → Falls 1 (length s.at.left) (expr_level inner class s)
+  level_falls : (class : Class) (s : State) → Falls 1 (length s.at.left) (expr_level inner cover class s)
   unfolding expr_level
   level_falls expression s = expression_falls s
   level_falls assignment s = assignment_falls s
@@ -397,8 +492,15 @@ module _ (inner : Class → Reader Tree) (h : (class : Class) (s : State) → Fa
   level_falls left_side s = left_expr_falls s
   level_falls callee s = left_falls false s
 
--- an expression of any class takes a token
-pub expr_falls : (n : ℕ) (class : Class) (s : State) → Falls 1 (length s.at.left) (expr n class s)
-unfolding expr
-expr_falls zero class s = too_deep_falls Tree 1 (length s.at.left) s
-expr_falls (suc n) class s = level_falls (expr n) (expr_falls n) class s
+mutual
+  unfolding expr cover
+
+  -- an expression of any class takes a token
+  pub expr_falls : (n : ℕ) (class : Class) (s : State) → Falls 1 (length s.at.left) (expr n class s)
+  expr_falls zero class s = too_deep_falls Tree 1 (length s.at.left) s
+  expr_falls (suc n) class s = level_falls (expr n) (cover n) (expr_falls n) (cover_falls n) class s
+
+  -- so does what may still become a pattern
+  pub cover_falls : (n : ℕ) (s : State) → Falls 1 (length s.at.left) (cover n s)
+  cover_falls zero s = too_deep_falls Cover 1 (length s.at.left) s
+  cover_falls (suc n) s = cover_expr_falls (expr n) (cover n) (expr_falls n) (cover_falls n) s

@@ -1,5 +1,5 @@
 -- With twice as many levels as tokens no expression is too deep, but for what an error token says: each level below needs a token.
-use Rattle.std.proofs.Common.{◌≡◌, ◌≢◌, ℕ, zero, suc, ◌*◌, ◌≤◌, Bool, true, false, List, [], ◌∷◌, Option, Some, None, Ok, Err, refl, sym, ◌∙◌, ap, arith}
+use Rattle.std.proofs.Common.{◌≡◌, ◌≢◌, ℕ, zero, suc, ◌*◌, ◌≤◌, Bool, true, false, cond, List, [], ◌∷◌, Option, Some, None, Ok, Err, refl, sym, ◌∙◌, ap, arith}
 use Rattle.std.specs.Prelude.{nat_eq, not, ◌&&◌, ◌||◌}
 use Rattle.std.proofs.lemmas.Bool.{and_parts}
 use Rattle.swc_ecma_parser_common.specs.declared.span.Span.{Span}
@@ -19,6 +19,7 @@ use Rattle.swc_ecma_parser_model.specs.declared.operators.AssignOp.TheVariants a
 use Rattle.swc_ecma_parser_model.specs.Tree as tree
 use Rattle.swc_ecma_parser_model.specs.Tree.{Tree, Text}
 use Rattle.swc_ecma_parser_model.specs.Forms.{is_simple_target, span_of}
+use Rattle.swc_ecma_parser_model.specs.Targets.{as_target}
 use Rattle.swc_ecma_parser_grammar.specs.Looks.{kind_at, sees, span_at}
 use Rattle.swc_ecma_parser_grammar.specs.Names.{is_name, name_at}
 use Rattle.swc_ecma_parser_grammar.specs.Follows.{is_async_function, continues_left_side}
@@ -27,7 +28,7 @@ use Rattle.swc_ecma_parser_grammar.specs.language.Goals.{Class, expression, assi
 use Rattle.swc_ecma_parser_grammar.specs.language.Operators.{unary_operator, update_operator, binary_operator, assign_operator, groups_left, mixes, is_unary}
 use Rattle.swc_ecma_parser_grammar.specs.language.Continues.{continues_conditional}
 use Rattle.swc_ecma_parser_reader.specs.State.{State, Outcome, Reader, ◌>>=◌, moved, coded, wanted, reject, reject_in, reject_at, fault_at, fault, expect, name, loop}
-use Rattle.swc_ecma_parser_reader.specs.Expressions.{literal, literal_in, taken, any_word, word_in, word_by, touching_word, private_name, word_property, is_word_at, key_or, literal_key, shorthand_name, shorthand, dotted, ident_expr, this, bare_new, closed_left, simple, update_behind, behind_operand, postfix_at, right_class, read_operator, operator_at, left_operand, unmixed, unassigned, unassignable, unheaded, heads_arrow, begins_async_call, inside, brackets, access, spread_element, plain_element, element, arguments_turn, arguments, array_turn, elements, array, computed_key, key, key_value, behind_key, keyed_property, spread_property, property, object_turn, properties, object, paren, marked_primary, literal_or, primary, accessed, called, left_turn, left_from, super_call, super_access, has_private, behind_super, super_head, constructed, new_head, left_head, left, left_expr, prefixed, update_before, postfix, updated, unary_by, unary_expr, operated, binary_by, binary_turn, binary_from, binary_expr, conditional, assigned_to, assigned, assigned_or, behind_operators, assignment_expr, sequence_turn, sequence_from, expression_expr, expr_level, expr}
+use Rattle.swc_ecma_parser_reader.specs.Expressions.{Cover, no_covers, unmarked, close, target_or, target, goes_on, literal, literal_in, taken, any_word, word_in, word_by, touching_word, private_name, word_property, is_word_at, key_or, literal_key, shorthand_name, shorthand, dotted, ident_expr, this, bare_new, closed_left, simple, update_behind, behind_operand, postfix_at, right_class, read_operator, operator_at, left_operand, unmixed, unassigned, unassignable, unheaded, heads_arrow, begins_async_call, inside, brackets, access, spread_element, plain_element, element, arguments_turn, arguments, covered, spread_item, plain_item, item, array_turn, elements, array, computed_key, key, key_value, initialized, initialized_name, initialized_key, bare_key, behind_key, keyed_property, spread_property, property, object_turn, properties, object, paren, marked_primary, literal_or, primary, accessed, called, left_turn, left_from, super_call, super_access, has_private, behind_super, super_head, constructed, new_head, left_head, left, left_expr, prefixed, update_before, postfix, updated, unary_by, unary_expr, operated, binary_by, binary_turn, binary_from, binary_expr, conditional, assigned_to, assigned, assigned_or, behind_operators, operators_expr, postfixed, continued, closed, assigned_pattern, behind_literal, open_literal, done_expr, cover_expr, assignment_expr, sequence_turn, sequence_from, expression_expr, expr_level, expr, cover}
 use Rattle.swc_ecma_parser_reader.proofs.Meets.{Answers, answers_then, answers_if, Turned, loop_answers, saw}
 use Rattle.swc_ecma_parser_reader.proofs.Shallow.{Fine, fine_more, fine_after, fine_taken, Shallow, Kept, error_shallow, too_deep_shallow, fault_shallow, refused_shallow, wanted_shallow, expect_shallow, name_shallow, Levels}
 
@@ -140,6 +141,25 @@ module _ (m : ℕ) (s : State) (f : Fine m s.at.left) where
   unfolding left_operand
   left_operand_shallow op x = answers_if _ _ (not (groups_left op) && is_unary x) _ _ (λ _. reject_shallow _ faults.UnaryInExp (span_of x) (λ e. cc) m s f) (λ _. refl)
 
+  -- ---- what is closed, and what is a target
+
+  unmarked_shallow : (x : Tree) (o : Option Span) → Answers (Kept m) Shallow (unmarked x o s)
+  unmarked_shallow x None = f
+  unmarked_shallow x (Some k) = reject_shallow _ faults.AssignProperty k (λ e. cc) m s f
+
+  close_shallow : (v : Cover) → Answers (Kept m) Shallow (close v s)
+  unfolding close
+  close_shallow v = unmarked_shallow v.x v.mark
+
+  -- a target is refused, or the state is as it is
+  target_or_shallow : (x : Tree) (o : Option Tree) → Answers (λ _ t. t ≡ s) Shallow (target_or x o s)
+  target_or_shallow x (Some p) = refl
+  target_or_shallow x None = reject_shallow _ faults.InvalidPat (span_of x) (λ e. cc) m s f
+
+  target_shallow : (v : Cover) → Answers (λ _ t. t ≡ s) Shallow (target v s)
+  unfolding target
+  target_shallow v = target_or_shallow v.x (cond v.comma None (as_target v.x))
+
 literal_key_shallow : (m : ℕ) (s : State) → Fine m s.at.left → Answers (Kept m) Shallow (literal_key s)
 unfolding literal_key
 literal_key_shallow m s f = answers_then _ _ (literal s) _ (literal_shallow m s f) by_key
@@ -166,165 +186,186 @@ behind_operand_shallow m start x (Some op) s f = update_behind_shallow m start x
 
 -- ---- what is read one level further in
 
-module _ (inner : Class → Reader Tree) (n : ℕ) (below : (class : Class) → Levels n (inner class)) where
-  inside_shallow : (class : Class) (i : ℕ) (s : State) → 2 * i ≤ n → Fine i s.at.left → Answers (Kept i) Shallow (inside inner class s)
+module _ (inner : Class → Reader Tree) (cover : Reader Cover) (n : ℕ) (below : (class : Class) → Levels n (inner class)) (below_cover : Levels n cover) where
+  inside_shallow : (class : Class) (i : ℕ) (s : State) → 2 * i ≤ n → Fine i s.at.left → Answers (Kept i) Shallow (inside inner cover class s)
   unfolding inside
   inside_shallow class i s h f = answers_then (Kept i) _ (inner class (coded (with_in s.code) s)) _ (below class i (coded (with_in s.code) s) h f) (λ x t k. k)
 
-  element_shallow : (i : ℕ) (s : State) → 2 * i ≤ n → Fine i s.at.left → Answers (Kept i) Shallow (element inner s)
+  element_shallow : (i : ℕ) (s : State) → 2 * i ≤ n → Fine i s.at.left → Answers (Kept i) Shallow (element inner cover s)
   unfolding element spread_element plain_element
   element_shallow i s h f = answers_if _ _ (sees kind.DotDotDot s.at) _ _
-      (λ _. answers_then _ _ (inside inner assignment (moved s)) _ (inside_shallow assignment i (moved s) h (fine_after i s.at f)) (λ x t k. k))
-      (λ _. answers_then _ _ (inside inner assignment s) _ (inside_shallow assignment i s h f) (λ x t k. k))
+      (λ _. answers_then _ _ (inside inner cover assignment (moved s)) _ (inside_shallow assignment i (moved s) h (fine_after i s.at f)) (λ x t k. k))
+      (λ _. answers_then _ _ (inside inner cover assignment s) _ (inside_shallow assignment i s h f) (λ x t k. k))
 
-  many_arguments_shallow : (i : ℕ) (s : State) → 2 * i ≤ n → Fine i s.at.left → Answers (Kept i) Shallow (loop (arguments_turn inner) [] s)
+  many_arguments_shallow : (i : ℕ) (s : State) → 2 * i ≤ n → Fine i s.at.left → Answers (Kept i) Shallow (loop (arguments_turn inner cover) [] s)
   unfolding arguments_turn
-  many_arguments_shallow i s h f = loop_answers (arguments_turn inner) (Kept i) (Kept i) Shallow
+  many_arguments_shallow i s h f = loop_answers (arguments_turn inner cover) (Kept i) (Kept i) Shallow
       (λ xs t g. answers_if _ _ (sees kind.RParen t.at) _ _ (λ _. fine_after i t.at g) (λ _.
-      answers_then _ _ (element inner t) _ (element_shallow i t h g) (λ x u k.
+      answers_then _ _ (element inner cover t) _ (element_shallow i t h g) (λ x u k.
       answers_if _ _ (sees kind.RParen u.at) _ _ (λ _. k) (λ _. answers_then _ _ (expect kind.Comma u) _ (expect_shallow i u k kind.Comma) (λ _ v j. j)))))
       (λ t e. cc) [] s f
 
-  many_elements_shallow : (i : ℕ) (s : State) → 2 * i ≤ n → Fine i s.at.left → Answers (Kept i) Shallow (loop (array_turn inner) [] s)
+  covered_shallow : (i : ℕ) (s : State) → 2 * i ≤ n → Fine i s.at.left → Answers (Kept i) Shallow (covered inner cover s)
+  unfolding covered
+  covered_shallow i s h f = answers_then (Kept i) _ (cover (coded (with_in s.code) s)) _ (below_cover i (coded (with_in s.code) s) h f) (λ v t k. k)
+
+  item_shallow : (i : ℕ) (s : State) → 2 * i ≤ n → Fine i s.at.left → Answers (Kept i) Shallow (item inner cover s)
+  unfolding item spread_item plain_item
+  item_shallow i s h f = answers_if _ _ (sees kind.DotDotDot s.at) _ _
+      (λ _. answers_then _ _ (covered inner cover (moved s)) _ (covered_shallow i (moved s) h (fine_after i s.at f)) (λ v t k. k))
+      (λ _. answers_then _ _ (covered inner cover s) _ (covered_shallow i s h f) (λ v t k. k))
+
+  many_elements_shallow : (i : ℕ) (s : State) → 2 * i ≤ n → Fine i s.at.left → Answers (Kept i) Shallow (loop (array_turn inner cover) no_covers s)
   unfolding array_turn
-  many_elements_shallow i s h f = loop_answers (array_turn inner) (Kept i) (Kept i) Shallow
-      (λ xs t g. answers_if _ _ (sees kind.RBracket t.at) _ _ (λ _. fine_after i t.at g) (λ _.
+  many_elements_shallow i s h f = loop_answers (array_turn inner cover) (Kept i) (Kept i) Shallow
+      (λ found t g. answers_if _ _ (sees kind.RBracket t.at) _ _ (λ _. fine_after i t.at g) (λ _.
       answers_if _ _ (sees kind.Comma t.at) _ _ (λ _. fine_after i t.at g) (λ _.
-      answers_then _ _ (element inner t) _ (element_shallow i t h g) (λ x u k.
-      answers_if _ _ (sees kind.RBracket u.at) _ _ (λ _. k) (λ _. answers_then _ _ (expect kind.Comma u) _ (expect_shallow i u k kind.Comma) (λ _ v j. j))))))
-      (λ t e. cc) [] s f
+      answers_then _ _ (item inner cover t) _ (item_shallow i t h g) (λ v u k.
+      answers_if _ _ (sees kind.RBracket u.at) _ _ (λ _. k) (λ _. answers_then _ _ (expect kind.Comma u) _ (expect_shallow i u k kind.Comma) (λ _ w j. j))))))
+      (λ t e. cc) no_covers s f
 
   -- ---- properties
 
-  computed_key_shallow : (i : ℕ) (s : State) → 2 * i ≤ n → Fine i s.at.left → Answers (Kept i) Shallow (computed_key inner s)
+  computed_key_shallow : (i : ℕ) (s : State) → 2 * i ≤ n → Fine i s.at.left → Answers (Kept i) Shallow (computed_key inner cover s)
   unfolding computed_key
-  computed_key_shallow i s h f = answers_then _ _ (inside inner assignment (moved s)) _ (inside_shallow assignment i (moved s) h (fine_after i s.at f)) (λ x t k.
+  computed_key_shallow i s h f = answers_then _ _ (inside inner cover assignment (moved s)) _ (inside_shallow assignment i (moved s) h (fine_after i s.at f)) (λ x t k.
       answers_then _ _ (expect kind.RBracket t) _ (expect_shallow i t k kind.RBracket) (λ _ u j. j))
 
-  key_shallow : (i : ℕ) (s : State) → 2 * i ≤ n → Fine i s.at.left → Answers (Kept i) Shallow (key inner s)
+  key_shallow : (i : ℕ) (s : State) → 2 * i ≤ n → Fine i s.at.left → Answers (Kept i) Shallow (key inner cover s)
   unfolding key word_property
   key_shallow i s h f = answers_if _ _ (is_word_at s.at) _ _ (λ _. answers_then _ _ (any_word s) _ (any_word_shallow i s f) (λ x t k. k))
       (λ _. answers_if _ _ (sees kind.LBracket s.at) _ _ (λ _. computed_key_shallow i s h f) (λ _. literal_key_shallow i s f))
 
-  behind_key_shallow : (i : ℕ) (start : Span) (x : Tree) (s : State) → 2 * i ≤ n → Fine i s.at.left → Answers (Kept i) Shallow (behind_key inner start x s)
-  unfolding behind_key key_value
-  behind_key_shallow i start x s h f = answers_if _ _ (sees kind.Colon s.at) _ _
-      (λ _. answers_then _ _ (inside inner assignment (moved s)) _ (inside_shallow assignment i (moved s) h (fine_after i s.at f)) (λ y t k. k))
-      (λ _. shorthand_shallow i s f x)
+  initialized_shallow : (i : ℕ) (start : Span) (x : Tree) (s : State) → 2 * i ≤ n → Fine i s.at.left → Answers (Kept i) Shallow (initialized inner cover start x s)
+  unfolding initialized
+  initialized_shallow i start x s h f = answers_then _ _ (inside inner cover assignment (moved s)) _ (inside_shallow assignment i (moved s) h (fine_after i s.at f)) (λ y t k. k)
 
-  property_shallow : (i : ℕ) (s : State) → 2 * i ≤ n → Fine i s.at.left → Answers (Kept i) Shallow (property inner s)
+  initialized_key_shallow : (i : ℕ) (start : Span) (x : Tree) (s : State) → 2 * i ≤ n → Fine i s.at.left → Answers (Kept i) Shallow (initialized_key inner cover start x s)
+  unfolding initialized_name
+  initialized_key_shallow i start (tree.ident span text) s h f = answers_if _ _ (is_name s.code.flags text) _ _ (λ _. initialized_shallow i start (tree.ident span text) s h f)
+      (λ _. reject_shallow _ faults.ExpectedIdent span (λ e. cc) i s f)
+  initialized_key_shallow i start _ s h f = unexpected_shallow i s f _
+
+  behind_key_shallow : (i : ℕ) (start : Span) (x : Tree) (s : State) → 2 * i ≤ n → Fine i s.at.left → Answers (Kept i) Shallow (behind_key inner cover start x s)
+  unfolding behind_key key_value bare_key
+  behind_key_shallow i start x s h f = answers_if _ _ (sees kind.Colon s.at) _ _
+      (λ _. answers_then _ _ (covered inner cover (moved s)) _ (covered_shallow i (moved s) h (fine_after i s.at f)) (λ v t k. k))
+      (λ _. answers_if _ _ (sees kind.Assign s.at) _ _ (λ _. initialized_key_shallow i start x s h f)
+      (λ _. answers_then _ _ (shorthand x s) _ (shorthand_shallow i s f x) (λ y t k. k)))
+
+  property_shallow : (i : ℕ) (s : State) → 2 * i ≤ n → Fine i s.at.left → Answers (Kept i) Shallow (property inner cover s)
   unfolding property spread_property keyed_property
   property_shallow i s h f = answers_if _ _ (sees kind.DotDotDot s.at) _ _
-      (λ _. answers_then _ _ (inside inner assignment (moved s)) _ (inside_shallow assignment i (moved s) h (fine_after i s.at f)) (λ x t k. k))
-      (λ _. answers_then _ _ (key inner s) _ (key_shallow i s h f) (λ x t k. behind_key_shallow i (span_at s.at) x t h k))
+      (λ _. answers_then _ _ (covered inner cover (moved s)) _ (covered_shallow i (moved s) h (fine_after i s.at f)) (λ v t k. k))
+      (λ _. answers_then _ _ (key inner cover s) _ (key_shallow i s h f) (λ x t k. behind_key_shallow i (span_at s.at) x t h k))
 
-  many_properties_shallow : (i : ℕ) (s : State) → 2 * i ≤ n → Fine i s.at.left → Answers (Kept i) Shallow (loop (object_turn inner) [] s)
+  many_properties_shallow : (i : ℕ) (s : State) → 2 * i ≤ n → Fine i s.at.left → Answers (Kept i) Shallow (loop (object_turn inner cover) no_covers s)
   unfolding object_turn
-  many_properties_shallow i s h f = loop_answers (object_turn inner) (Kept i) (Kept i) Shallow
-      (λ xs t g. answers_if _ _ (sees kind.RBrace t.at) _ _ (λ _. fine_after i t.at g) (λ _.
-      answers_then _ _ (property inner t) _ (property_shallow i t h g) (λ x u k.
-      answers_if _ _ (sees kind.RBrace u.at) _ _ (λ _. k) (λ _. answers_then _ _ (expect kind.Comma u) _ (expect_shallow i u k kind.Comma) (λ _ v j. j)))))
-      (λ t e. cc) [] s f
+  many_properties_shallow i s h f = loop_answers (object_turn inner cover) (Kept i) (Kept i) Shallow
+      (λ found t g. answers_if _ _ (sees kind.RBrace t.at) _ _ (λ _. fine_after i t.at g) (λ _.
+      answers_then _ _ (property inner cover t) _ (property_shallow i t h g) (λ v u k.
+      answers_if _ _ (sees kind.RBrace u.at) _ _ (λ _. k) (λ _. answers_then _ _ (expect kind.Comma u) _ (expect_shallow i u k kind.Comma) (λ _ w j. j)))))
+      (λ t e. cc) no_covers s f
 
   -- ---- what takes a token before the level below
 
   module _ (m : ℕ) (enough : 2 * m ≤ suc n) where
-    brackets_shallow : (s : State) → kind_at s.at ≡ kind.LBracket → Fine m s.at.left → Answers (Kept m) Shallow (brackets inner s)
+    brackets_shallow : (s : State) → kind_at s.at ≡ kind.LBracket → Fine m s.at.left → Answers (Kept m) Shallow (brackets inner cover s)
     unfolding brackets
     brackets_shallow s e f =
         let (i, h, g) = fine_taken m s.at kind.LBracket e (λ z. cc) f in
-        answers_then _ _ (inside inner expression (moved s)) _ (inside_shallow expression i (moved s) (omega arith) g) (λ x t k.
+        answers_then _ _ (inside inner cover expression (moved s)) _ (inside_shallow expression i (moved s) (omega arith) g) (λ x t k.
         answers_then _ _ (expect kind.RBracket t) _ (expect_shallow i t k kind.RBracket) (λ _ u j. fine_more i m u.at.left (omega arith) j))
 
-    access_shallow : (s : State) → (sees kind.Dot s.at || sees kind.LBracket s.at) ≡ true → Fine m s.at.left → Answers (Kept m) Shallow (access inner s)
+    access_shallow : (s : State) → (sees kind.Dot s.at || sees kind.LBracket s.at) ≡ true → Fine m s.at.left → Answers (Kept m) Shallow (access inner cover s)
     unfolding access
     access_shallow s h f = answers_if _ _ (sees kind.Dot s.at) _ _ (λ _. dotted_shallow m (moved s) (fine_after m s.at f))
         (λ e. brackets_shallow s (saw s.at kind.LBracket (other_test (sees kind.Dot s.at) (sees kind.LBracket s.at) h e)) f)
 
-    arguments_shallow : (s : State) → kind_at s.at ≡ kind.LParen → Fine m s.at.left → Answers (Kept m) Shallow (arguments inner s)
+    arguments_shallow : (s : State) → kind_at s.at ≡ kind.LParen → Fine m s.at.left → Answers (Kept m) Shallow (arguments inner cover s)
     unfolding arguments
     arguments_shallow s e f =
         let (i, h, g) = fine_taken m s.at kind.LParen e (λ z. cc) f in
-        kept_more i m (loop (arguments_turn inner) [] (moved s)) (omega arith) (many_arguments_shallow i (moved s) (omega arith) g)
+        kept_more i m (loop (arguments_turn inner cover) [] (moved s)) (omega arith) (many_arguments_shallow i (moved s) (omega arith) g)
 
-    elements_shallow : (s : State) → kind_at s.at ≡ kind.LBracket → Fine m s.at.left → Answers (Kept m) Shallow (elements inner s)
+    elements_shallow : (s : State) → kind_at s.at ≡ kind.LBracket → Fine m s.at.left → Answers (Kept m) Shallow (elements inner cover s)
     unfolding elements
     elements_shallow s e f =
         let (i, h, g) = fine_taken m s.at kind.LBracket e (λ z. cc) f in
-        kept_more i m (loop (array_turn inner) [] (moved s)) (omega arith) (many_elements_shallow i (moved s) (omega arith) g)
+        kept_more i m (loop (array_turn inner cover) no_covers (moved s)) (omega arith) (many_elements_shallow i (moved s) (omega arith) g)
 
-    array_shallow : (s : State) → kind_at s.at ≡ kind.LBracket → Fine m s.at.left → Answers (Kept m) Shallow (array inner s)
+    array_shallow : (s : State) → kind_at s.at ≡ kind.LBracket → Fine m s.at.left → Answers (Kept m) Shallow (array inner cover s)
     unfolding array
-    array_shallow s e f = answers_then _ _ (elements inner s) _ (elements_shallow s e f) (λ xs t g. g)
+    array_shallow s e f = answers_then _ _ (elements inner cover s) _ (elements_shallow s e f) (λ xs t g. g)
 
-    properties_shallow : (s : State) → kind_at s.at ≡ kind.LBrace → Fine m s.at.left → Answers (Kept m) Shallow (properties inner s)
+    properties_shallow : (s : State) → kind_at s.at ≡ kind.LBrace → Fine m s.at.left → Answers (Kept m) Shallow (properties inner cover s)
     unfolding properties
     properties_shallow s e f =
         let (i, h, g) = fine_taken m s.at kind.LBrace e (λ z. cc) f in
-        kept_more i m (loop (object_turn inner) [] (moved s)) (omega arith) (many_properties_shallow i (moved s) (omega arith) g)
+        kept_more i m (loop (object_turn inner cover) no_covers (moved s)) (omega arith) (many_properties_shallow i (moved s) (omega arith) g)
 
-    object_shallow : (s : State) → kind_at s.at ≡ kind.LBrace → Fine m s.at.left → Answers (Kept m) Shallow (object inner s)
+    object_shallow : (s : State) → kind_at s.at ≡ kind.LBrace → Fine m s.at.left → Answers (Kept m) Shallow (object inner cover s)
     unfolding object
-    object_shallow s e f = answers_then _ _ (properties inner s) _ (properties_shallow s e f) (λ xs t g. g)
+    object_shallow s e f = answers_then _ _ (properties inner cover s) _ (properties_shallow s e f) (λ xs t g. g)
 
-    paren_shallow : (s : State) → kind_at s.at ≡ kind.LParen → Fine m s.at.left → Answers (Kept m) Shallow (paren inner s)
+    paren_shallow : (s : State) → kind_at s.at ≡ kind.LParen → Fine m s.at.left → Answers (Kept m) Shallow (paren inner cover s)
     unfolding paren
     paren_shallow s e f =
         let (i, h, g) = fine_taken m s.at kind.LParen e (λ z. cc) f in
-        answers_then _ _ (inside inner expression (moved s)) _ (inside_shallow expression i (moved s) (omega arith) g) (λ x t k.
+        answers_then _ _ (inside inner cover expression (moved s)) _ (inside_shallow expression i (moved s) (omega arith) g) (λ x t k.
         answers_then _ _ (expect kind.RParen t) _ (expect_shallow i t k kind.RParen) (λ _ u j. fine_more i m u.at.left (omega arith) j))
 
-    marked_shallow : (s : State) → Fine m s.at.left → Answers (Kept m) Shallow (marked_primary inner s)
+    marked_shallow : (s : State) → Fine m s.at.left → Answers (Kept m) Shallow (marked_primary inner cover s)
     unfolding marked_primary
     marked_shallow s f = answers_if _ _ (sees kind.LParen s.at) _ _ (λ e. paren_shallow s (saw s.at kind.LParen e) f)
-        (λ _. answers_if _ _ (sees kind.LBracket s.at) _ _ (λ e. array_shallow s (saw s.at kind.LBracket e) f)
-        (λ _. answers_if _ _ (sees kind.LBrace s.at) _ _ (λ e. object_shallow s (saw s.at kind.LBrace e) f)
+        (λ _. answers_if _ _ (sees kind.LBracket s.at) _ _ (λ e. answers_then _ _ (array inner cover s) _ (array_shallow s (saw s.at kind.LBracket e) f) (λ v t g. close_shallow m t g v))
+        (λ _. answers_if _ _ (sees kind.LBrace s.at) _ _ (λ e. answers_then _ _ (object inner cover s) _ (object_shallow s (saw s.at kind.LBrace e) f) (λ v t g. close_shallow m t g v))
         (λ _. answers_if _ _ (sees kind.This s.at) _ _ (λ _. this_shallow m s f) (λ _. unexpected_shallow m s f _))))
 
-    literal_or_shallow : (o : Option Tree) (s : State) → Fine m s.at.left → Answers (Kept m) Shallow (literal_or inner o s)
+    literal_or_shallow : (o : Option Tree) (s : State) → Fine m s.at.left → Answers (Kept m) Shallow (literal_or inner cover o s)
     literal_or_shallow (Some x) s f = f
     literal_or_shallow None s f = marked_shallow s f
 
-    primary_shallow : (s : State) → Fine m s.at.left → Answers (Kept m) Shallow (primary inner s)
+    primary_shallow : (s : State) → Fine m s.at.left → Answers (Kept m) Shallow (primary inner cover s)
     unfolding primary
     primary_shallow s f = answers_if _ _ (name_at s.code.flags s.at) _ _ (λ _. ident_shallow m s f) (λ _. answers_then _ _ (literal s) _ (literal_shallow m s f) literal_or_shallow)
 
     -- ---- left-hand sides
 
-    accessed_shallow : (start : Span) (x : Tree) (s : State) → (sees kind.Dot s.at || sees kind.LBracket s.at) ≡ true → Fine m s.at.left → Answers (Kept m) Shallow (accessed inner start x s)
+    accessed_shallow : (start : Span) (x : Tree) (s : State) → (sees kind.Dot s.at || sees kind.LBracket s.at) ≡ true → Fine m s.at.left → Answers (Kept m) Shallow (accessed inner cover start x s)
     unfolding accessed
-    accessed_shallow start x s h f = answers_then _ _ (access inner s) _ (access_shallow s h f) (λ y t g. g)
+    accessed_shallow start x s h f = answers_then _ _ (access inner cover s) _ (access_shallow s h f) (λ y t g. g)
 
-    called_shallow : (start : Span) (x : Tree) (s : State) → kind_at s.at ≡ kind.LParen → Fine m s.at.left → Answers (Kept m) Shallow (called inner start x s)
+    called_shallow : (start : Span) (x : Tree) (s : State) → kind_at s.at ≡ kind.LParen → Fine m s.at.left → Answers (Kept m) Shallow (called inner cover start x s)
     unfolding called
-    called_shallow start x s e f = answers_then _ _ (arguments inner s) _ (arguments_shallow s e f) (λ xs t g. g)
+    called_shallow start x s e f = answers_then _ _ (arguments inner cover s) _ (arguments_shallow s e f) (λ xs t g. g)
 
-    left_from_shallow : (calls : Bool) (start : Span) (x : Tree) (s : State) → Fine m s.at.left → Answers (Kept m) Shallow (left_from inner calls start x s)
+    left_from_shallow : (calls : Bool) (start : Span) (x : Tree) (s : State) → Fine m s.at.left → Answers (Kept m) Shallow (left_from inner cover calls start x s)
     unfolding left_from left_turn
-    left_from_shallow calls start x s f = loop_answers (left_turn inner calls start) (Kept m) (Kept m) Shallow
+    left_from_shallow calls start x s f = loop_answers (left_turn inner cover calls start) (Kept m) (Kept m) Shallow
         (λ y t g. answers_if _ _ (sees kind.Dot t.at || sees kind.LBracket t.at) _ _
-        (λ h. answers_then _ _ (accessed inner start y t) _ (accessed_shallow start y t h g) (λ z u k. k))
+        (λ h. answers_then _ _ (accessed inner cover start y t) _ (accessed_shallow start y t h g) (λ z u k. k))
         (λ _. answers_if _ _ (calls && sees kind.LParen t.at) _ _
-        (λ h. answers_then _ _ (called inner start y t) _ (called_shallow start y t (saw t.at kind.LParen (and_parts calls (sees kind.LParen t.at) h).1) g) (λ z u k. k)) (λ _. g)))
+        (λ h. answers_then _ _ (called inner cover start y t) _ (called_shallow start y t (saw t.at kind.LParen (and_parts calls (sees kind.LParen t.at) h).1) g) (λ z u k. k)) (λ _. g)))
         (λ t e. cc) x s f
 
-    behind_super_shallow : (calls : Bool) (start : Span) (s : State) → Fine m s.at.left → Answers (Kept m) Shallow (behind_super inner calls start s)
+    behind_super_shallow : (calls : Bool) (start : Span) (s : State) → Fine m s.at.left → Answers (Kept m) Shallow (behind_super inner cover calls start s)
     unfolding behind_super super_call super_access
     behind_super_shallow calls start s f = answers_if _ _ (calls && sees kind.LParen s.at) _ _
-        (λ h. answers_then _ _ (arguments inner s) _ (arguments_shallow s (saw s.at kind.LParen (and_parts calls (sees kind.LParen s.at) h).1) f) (λ xs t g. g))
+        (λ h. answers_then _ _ (arguments inner cover s) _ (arguments_shallow s (saw s.at kind.LParen (and_parts calls (sees kind.LParen s.at) h).1) f) (λ xs t g. g))
         (λ _. answers_if _ _ (has_private s.at) _ _ (λ _. unexpected_shallow m (moved s) (fine_after m s.at f) _)
-        (λ _. answers_if _ _ (sees kind.Dot s.at || sees kind.LBracket s.at) _ _ (λ h. answers_then _ _ (access inner s) _ (access_shallow s h f) (λ x t g. g))
+        (λ _. answers_if _ _ (sees kind.Dot s.at || sees kind.LBracket s.at) _ _ (λ h. answers_then _ _ (access inner cover s) _ (access_shallow s h f) (λ x t g. g))
         (λ _. reject_shallow _ faults.InvalidSuper start (λ e. cc) m s f)))
 
-    super_shallow : (calls : Bool) (s : State) → Fine m s.at.left → Answers (Kept m) Shallow (super_head inner calls s)
+    super_shallow : (calls : Bool) (s : State) → Fine m s.at.left → Answers (Kept m) Shallow (super_head inner cover calls s)
     unfolding super_head
     super_shallow calls s f = behind_super_shallow calls (span_at s.at) (moved s) (fine_after m s.at f)
 
-    constructed_shallow : (start : Span) (x : Tree) (s : State) → kind_at s.at ≡ kind.LParen → Fine m s.at.left → Answers (Kept m) Shallow (constructed inner start x s)
+    constructed_shallow : (start : Span) (x : Tree) (s : State) → kind_at s.at ≡ kind.LParen → Fine m s.at.left → Answers (Kept m) Shallow (constructed inner cover start x s)
     unfolding constructed
-    constructed_shallow start x s e f = answers_then _ _ (arguments inner s) _ (arguments_shallow s e f) (λ xs t g. g)
+    constructed_shallow start x s e f = answers_then _ _ (arguments inner cover s) _ (arguments_shallow s e f) (λ xs t g. g)
 
-    new_shallow : (s : State) → kind_at s.at ≡ kind.New → Fine m s.at.left → Answers (Kept m) Shallow (new_head inner s)
+    new_shallow : (s : State) → kind_at s.at ≡ kind.New → Fine m s.at.left → Answers (Kept m) Shallow (new_head inner cover s)
     unfolding new_head bare_new
     new_shallow s e f =
         let (i, h, g) = fine_taken m s.at kind.New e (λ z. cc) f in
@@ -332,47 +373,47 @@ module _ (inner : Class → Reader Tree) (n : ℕ) (below : (class : Class) → 
         let j : Fine m t.at.left = fine_more i m t.at.left (omega arith) k in
         answers_if _ _ (sees kind.LParen t.at) _ _ (λ o. constructed_shallow (span_at s.at) x t (saw t.at kind.LParen o) j) (λ _. j))
 
-    left_head_shallow : (calls : Bool) (s : State) → Fine m s.at.left → Answers (Kept m) Shallow (left_head inner calls s)
+    left_head_shallow : (calls : Bool) (s : State) → Fine m s.at.left → Answers (Kept m) Shallow (left_head inner cover calls s)
     unfolding left_head
     left_head_shallow calls s f = answers_if _ _ (sees kind.Super s.at) _ _ (λ _. super_shallow calls s f)
         (λ _. answers_if _ _ (sees kind.New s.at) _ _ (λ e. new_shallow s (saw s.at kind.New e) f) (λ _. primary_shallow s f))
 
-    left_shallow : (calls : Bool) (s : State) → Fine m s.at.left → Answers (Kept m) Shallow (left inner calls s)
+    left_shallow : (calls : Bool) (s : State) → Fine m s.at.left → Answers (Kept m) Shallow (left inner cover calls s)
     unfolding left
-    left_shallow calls s f = answers_then _ _ (left_head inner calls s) _ (left_head_shallow calls s f) (λ x t g. left_from_shallow calls (span_at s.at) x t g)
+    left_shallow calls s f = answers_then _ _ (left_head inner cover calls s) _ (left_head_shallow calls s f) (λ x t g. left_from_shallow calls (span_at s.at) x t g)
 
-    left_expr_shallow : (s : State) → Fine m s.at.left → Answers (Kept m) Shallow (left_expr inner s)
+    left_expr_shallow : (s : State) → Fine m s.at.left → Answers (Kept m) Shallow (left_expr inner cover s)
     unfolding left_expr
-    left_expr_shallow s f = answers_then _ _ (left inner true s) _ (left_shallow true s f) (λ x t g. closed_shallow m t g x)
+    left_expr_shallow s f = answers_then _ _ (left inner cover true s) _ (left_shallow true s f) (λ x t g. closed_shallow m t g x)
 
     -- ---- operators before and behind an operand
 
-    prefixed_shallow : (op : UnaryOp) (s : State) → kind_at s.at ≢ kind.End → Fine m s.at.left → Answers (Kept m) Shallow (prefixed inner op s)
+    prefixed_shallow : (op : UnaryOp) (s : State) → kind_at s.at ≢ kind.End → Fine m s.at.left → Answers (Kept m) Shallow (prefixed inner cover op s)
     unfolding prefixed
     prefixed_shallow op s e f =
         let (i, h, g) = fine_taken m s.at (kind_at s.at) refl e f in
         answers_then _ _ (inner unary (moved s)) _ (below unary i (moved s) (omega arith) g) (λ x t k. fine_more i m t.at.left (omega arith) k)
 
-    update_before_shallow : (op : UpdateOp) (s : State) → kind_at s.at ≢ kind.End → Fine m s.at.left → Answers (Kept m) Shallow (update_before inner op s)
+    update_before_shallow : (op : UpdateOp) (s : State) → kind_at s.at ≢ kind.End → Fine m s.at.left → Answers (Kept m) Shallow (update_before inner cover op s)
     unfolding update_before
     update_before_shallow op s e f =
         let (i, h, g) = fine_taken m s.at (kind_at s.at) refl e f in
         answers_then _ _ (inner unary (moved s)) _ (below unary i (moved s) (omega arith) g) (λ x t k.
         answers_then _ _ (simple x t) _ (simple_shallow i t k x) (λ _ u j. fine_more i m u.at.left (omega arith) j))
 
-    postfix_shallow : (s : State) → Fine m s.at.left → Answers (Kept m) Shallow (postfix inner s)
+    postfix_shallow : (s : State) → Fine m s.at.left → Answers (Kept m) Shallow (postfix inner cover s)
     unfolding postfix
-    postfix_shallow s f = answers_then _ _ (left inner true s) _ (left_shallow true s f) (λ x t g. behind_operand_shallow m (span_at s.at) x (postfix_at t.at) t g)
+    postfix_shallow s f = answers_then _ _ (left inner cover true s) _ (left_shallow true s f) (λ x t g. behind_operand_shallow m (span_at s.at) x (postfix_at t.at) t g)
 
-    updated_shallow : (o : Option UpdateOp) (s : State) → update_operator (kind_at s.at) ≡ o → Fine m s.at.left → Answers (Kept m) Shallow (updated inner o s)
+    updated_shallow : (o : Option UpdateOp) (s : State) → update_operator (kind_at s.at) ≡ o → Fine m s.at.left → Answers (Kept m) Shallow (updated inner cover o s)
     updated_shallow (Some op) s e f = update_before_shallow op s (no_end_by update_operator (kind_at s.at) op refl e) f
     updated_shallow None s e f = postfix_shallow s f
 
-    unary_by_shallow : (o : Option UnaryOp) (s : State) → unary_operator (kind_at s.at) ≡ o → Fine m s.at.left → Answers (Kept m) Shallow (unary_by inner o s)
+    unary_by_shallow : (o : Option UnaryOp) (s : State) → unary_operator (kind_at s.at) ≡ o → Fine m s.at.left → Answers (Kept m) Shallow (unary_by inner cover o s)
     unary_by_shallow (Some op) s e f = prefixed_shallow op s (no_end_by unary_operator (kind_at s.at) op refl e) f
     unary_by_shallow None s e f = updated_shallow (update_operator (kind_at s.at)) s refl f
 
-    unary_shallow : (s : State) → Fine m s.at.left → Answers (Kept m) Shallow (unary_expr inner s)
+    unary_shallow : (s : State) → Fine m s.at.left → Answers (Kept m) Shallow (unary_expr inner cover s)
     unfolding unary_expr
     unary_shallow s f = unary_by_shallow (unary_operator (kind_at s.at)) s refl f
 
@@ -386,67 +427,114 @@ module _ (inner : Class → Reader Tree) (n : ℕ) (below : (class : Class) → 
         answers_then _ _ (inner (right_class op) (moved s)) _ (below (right_class op) i (moved s) (omega arith) g) (λ y t k.
         kept_more i m (unmixed start op x y t) (omega arith) (unmixed_shallow i t k start op x y))
 
-    operated_shallow : (start : Span) (x : Tree) (op : BinaryOp) (s : State) → kind_at s.at ≢ kind.End → Fine m s.at.left → Answers (Kept m) Shallow (operated inner start x op s)
+    operated_shallow : (start : Span) (x : Tree) (op : BinaryOp) (s : State) → kind_at s.at ≢ kind.End → Fine m s.at.left → Answers (Kept m) Shallow (operated inner cover start x op s)
     unfolding operated
     operated_shallow start x op s e f = answers_then _ _ (left_operand op x s) _ (left_operand_shallow m s f op x) (λ _ t g. right_shallow start x op t (rw g e) (rw g f))
 
     binary_by_shallow : (least : ℕ) (start : Span) (x : Tree) (o : Option BinaryOp) (s : State) → operator_at least s ≡ o → Fine m s.at.left
-        → Answers (Turned (binary_turn inner least start) (Kept m) (Kept m) Shallow) Shallow (binary_by inner start x o s)
+        → Answers (Turned (binary_turn inner cover least start) (Kept m) (Kept m) Shallow) Shallow (binary_by inner cover start x o s)
     unfolding operator_at
     binary_by_shallow least start x None s e f = f
-    binary_by_shallow least start x (Some op) s e f = answers_then _ _ (operated inner start x op s) _
+    binary_by_shallow least start x (Some op) s e f = answers_then _ _ (operated inner cover start x op s) _
         (operated_shallow start x op s (no_end_by (λ k. read_operator least s.code (binary_operator k)) (kind_at s.at) op refl e) f) (λ y t g. g)
 
-    binary_shallow : (least : ℕ) (s : State) → Fine m s.at.left → Answers (Kept m) Shallow (binary_expr inner least s)
-    unfolding binary_expr binary_from binary_turn
-    binary_shallow least s f = answers_then _ _ (unary_expr inner s) _ (unary_shallow s f) (λ x t g.
-        loop_answers (binary_turn inner least (span_at s.at)) (Kept m) (Kept m) Shallow (λ y u k. binary_by_shallow least (span_at s.at) y (operator_at least u) u refl k) (λ u e. cc) x t g)
+    binary_from_shallow : (least : ℕ) (start : Span) (x : Tree) (s : State) → Fine m s.at.left → Answers (Kept m) Shallow (binary_from inner cover least start x s)
+    unfolding binary_from binary_turn
+    binary_from_shallow least start x s f = loop_answers (binary_turn inner cover least start) (Kept m) (Kept m) Shallow
+        (λ y u k. binary_by_shallow least start y (operator_at least u) u refl k) (λ u e. cc) x s f
+
+    binary_shallow : (least : ℕ) (s : State) → Fine m s.at.left → Answers (Kept m) Shallow (binary_expr inner cover least s)
+    unfolding binary_expr
+    binary_shallow least s f = answers_then _ _ (unary_expr inner cover s) _ (unary_shallow s f) (λ x t g. binary_from_shallow least (span_at s.at) x t g)
 
     -- ---- conditionals, assignments and sequences
 
-    conditional_shallow : (start : Span) (x : Tree) (s : State) → kind_at s.at ≡ kind.QuestionMark → Fine m s.at.left → Answers (Kept m) Shallow (conditional inner start x s)
+    conditional_shallow : (start : Span) (x : Tree) (s : State) → kind_at s.at ≡ kind.QuestionMark → Fine m s.at.left → Answers (Kept m) Shallow (conditional inner cover start x s)
     unfolding conditional
     conditional_shallow start x s e f =
         let (i, h, g) = fine_taken m s.at kind.QuestionMark e (λ z. cc) f in
-        answers_then _ _ (inside inner assignment (moved s)) _ (inside_shallow assignment i (moved s) (omega arith) g) (λ y t k.
+        answers_then _ _ (inside inner cover assignment (moved s)) _ (inside_shallow assignment i (moved s) (omega arith) g) (λ y t k.
         answers_then _ _ (expect kind.Colon t) _ (expect_shallow i t k kind.Colon) (λ _ u j.
         answers_then _ _ (inner assignment u) _ (below assignment i u (omega arith) j) (λ z v l. kept_more i m (unassigned _ v) (omega arith) (unassigned_shallow i v l _))))
 
-    assigned_shallow : (start : Span) (x : Tree) (op : AssignOp) (s : State) → kind_at s.at ≢ kind.End → Fine m s.at.left → Answers (Kept m) Shallow (assigned inner start x op s)
-    unfolding assigned assigned_to
-    assigned_shallow start x op s e f =
+    assigned_to_shallow : (start : Span) (x : Tree) (op : AssignOp) (s : State) → kind_at s.at ≢ kind.End → Fine m s.at.left → Answers (Kept m) Shallow (assigned_to inner cover start x op s)
+    unfolding assigned_to
+    assigned_to_shallow start x op s e f =
         let (i, h, g) = fine_taken m s.at (kind_at s.at) refl e f in
-        answers_if _ _ (is_simple_target x) _ _
-        (λ _. answers_then _ _ (inner assignment (moved s)) _ (below assignment i (moved s) (omega arith) g) (λ y t k. fine_more i m t.at.left (omega arith) k))
+        answers_then _ _ (inner assignment (moved s)) _ (below assignment i (moved s) (omega arith) g) (λ y t k. fine_more i m t.at.left (omega arith) k)
+
+    assigned_shallow : (start : Span) (x : Tree) (op : AssignOp) (s : State) → kind_at s.at ≢ kind.End → Fine m s.at.left → Answers (Kept m) Shallow (assigned inner cover start x op s)
+    unfolding assigned
+    assigned_shallow start x op s e f = answers_if _ _ (is_simple_target x) _ _ (λ _. assigned_to_shallow start x op s e f)
         (λ _. reject_shallow _ (unassignable op) (span_of x) (unassignable_shallow op) m s f)
 
     assigned_or_shallow : (is_async : Bool) (start : Span) (x : Tree) (o : Option AssignOp) (s : State) → assign_operator (kind_at s.at) ≡ o → Fine m s.at.left
-        → Answers (Kept m) Shallow (assigned_or inner is_async start x o s)
+        → Answers (Kept m) Shallow (assigned_or inner cover is_async start x o s)
     assigned_or_shallow is_async start x (Some op) s e f = assigned_shallow start x op s (no_end_by assign_operator (kind_at s.at) op refl e) f
     assigned_or_shallow is_async start x None s e f = unheaded_shallow m s f is_async x
 
-    behind_operators_shallow : (is_async : Bool) (start : Span) (x : Tree) (s : State) → Fine m s.at.left → Answers (Kept m) Shallow (behind_operators inner is_async start x s)
+    behind_operators_shallow : (is_async : Bool) (start : Span) (x : Tree) (s : State) → Fine m s.at.left → Answers (Kept m) Shallow (behind_operators inner cover is_async start x s)
     unfolding behind_operators
     behind_operators_shallow is_async start x s f = answers_if _ _ (sees kind.QuestionMark s.at) _ _ (λ e. conditional_shallow start x s (saw s.at kind.QuestionMark e) f)
         (λ _. assigned_or_shallow is_async start x (assign_operator (kind_at s.at)) s refl f)
 
-    assignment_shallow : (s : State) → Fine m s.at.left → Answers (Kept m) Shallow (assignment_expr inner s)
+    operators_shallow : (s : State) → Fine m s.at.left → Answers (Kept m) Shallow (operators_expr inner cover s)
+    unfolding operators_expr
+    operators_shallow s f = answers_then _ _ (binary_expr inner cover 1 s) _ (binary_shallow 1 s f) (λ x t g. behind_operators_shallow (begins_async_call s.at) (span_at s.at) x t g)
+
+    -- ---- what may still become a pattern
+
+    continued_shallow : (start : Span) (x : Tree) (s : State) → Fine m s.at.left → Answers (Kept m) Shallow (continued inner cover start x s)
+    unfolding continued postfixed
+    continued_shallow start x s f = answers_then _ _ (left_from inner cover true start x s) _ (left_from_shallow true start x s f) (λ y t g.
+        answers_then _ _ (behind_operand start y (postfix_at t.at) t) _ (behind_operand_shallow m start y (postfix_at t.at) t g) (λ z u k.
+        answers_then _ _ (binary_from inner cover 1 start z u) _ (binary_from_shallow 1 start z u k) (λ w v j. behind_operators_shallow false start w v j)))
+
+    closed_literal_shallow : (start : Span) (v : Cover) (s : State) → Fine m s.at.left → Answers (Kept m) Shallow (closed inner cover start v s)
+    unfolding closed
+    closed_literal_shallow start v s f = answers_then _ _ (close v s) _ (close_shallow m s f v) (λ x t g.
+        answers_then _ _ (continued inner cover start x t) _ (continued_shallow start x t g) (λ y u k. k))
+
+    assigned_pattern_shallow : (start : Span) (v : Cover) (s : State) → kind_at s.at ≢ kind.End → Fine m s.at.left → Answers (Kept m) Shallow (assigned_pattern inner cover start v s)
+    unfolding assigned_pattern
+    assigned_pattern_shallow start v s e f = answers_then _ _ (target v s) _ (target_shallow m s f v) (λ p t g.
+        answers_then _ _ (assigned_to inner cover start p assign.Assign t) _ (assigned_to_shallow start p assign.Assign t (rw g e) (rw g f)) (λ y u k. k))
+
+    behind_literal_shallow : (start : Span) (v : Cover) (s : State) → Fine m s.at.left → Answers (Kept m) Shallow (behind_literal inner cover start v s)
+    unfolding behind_literal
+    behind_literal_shallow start v s f = answers_if _ _ (sees kind.Assign s.at) _ _
+        (λ e. assigned_pattern_shallow start v s (λ z. let k = sym z ∙ saw s.at kind.Assign e in cc) f)
+        (λ _. answers_if _ _ (goes_on s) _ _ (λ _. closed_literal_shallow start v s f) (λ _. f))
+
+    open_literal_shallow : (s : State) → (sees kind.LBracket s.at || sees kind.LBrace s.at) ≡ true → Fine m s.at.left → Answers (Kept m) Shallow (open_literal inner cover s)
+    unfolding open_literal
+    open_literal_shallow s h f = answers_then _ _ (cond (sees kind.LBracket s.at) (array inner cover s) (object inner cover s)) _
+        (answers_if _ _ (sees kind.LBracket s.at) _ _ (λ e. array_shallow s (saw s.at kind.LBracket e) f)
+        (λ e. object_shallow s (saw s.at kind.LBrace (other_test (sees kind.LBracket s.at) (sees kind.LBrace s.at) h e)) f))
+        (λ v t g. behind_literal_shallow (span_at s.at) v t g)
+
+    cover_expr_shallow : (s : State) → Fine m s.at.left → Answers (Kept m) Shallow (cover_expr inner cover s)
+    unfolding cover_expr done_expr
+    cover_expr_shallow s f = answers_if _ _ (sees kind.LBracket s.at || sees kind.LBrace s.at) _ _ (λ h. open_literal_shallow s h f)
+        (λ _. answers_then _ _ (operators_expr inner cover s) _ (operators_shallow s f) (λ x t g. g))
+
+    assignment_shallow : (s : State) → Fine m s.at.left → Answers (Kept m) Shallow (assignment_expr inner cover s)
     unfolding assignment_expr
-    assignment_shallow s f = answers_then _ _ (binary_expr inner 1 s) _ (binary_shallow 1 s f) (λ x t g. behind_operators_shallow (begins_async_call s.at) (span_at s.at) x t g)
+    assignment_shallow s f = answers_then _ _ (cover_expr inner cover s) _ (cover_expr_shallow s f) (λ v t g. close_shallow m t g v)
 
     -- the parts of a sequence are no level of their own
-    sequence_shallow : (start : Span) (x : Tree) (s : State) → Fine m s.at.left → Answers (Kept m) Shallow (sequence_from inner start x s)
+    sequence_shallow : (start : Span) (x : Tree) (s : State) → Fine m s.at.left → Answers (Kept m) Shallow (sequence_from inner cover start x s)
     unfolding sequence_from sequence_turn
-    sequence_shallow start x s f = answers_then _ _ (loop (sequence_turn inner) (x ∷ []) s) _ (loop_answers (sequence_turn inner) (Kept m) (Kept m) Shallow
-        (λ xs t g. answers_then _ _ (assignment_expr inner (moved t)) _ (assignment_shallow (moved t) (fine_after m t.at g)) (λ y u k.
+    sequence_shallow start x s f = answers_then _ _ (loop (sequence_turn inner cover) (x ∷ []) s) _ (loop_answers (sequence_turn inner cover) (Kept m) (Kept m) Shallow
+        (λ xs t g. answers_then _ _ (assignment_expr inner cover (moved t)) _ (assignment_shallow (moved t) (fine_after m t.at g)) (λ y u k.
         answers_if _ _ (sees kind.Comma u.at) _ _ (λ _. k) (λ _. k))) (λ t e. cc) (x ∷ []) s f) (λ xs t g. g)
 
-    expression_shallow : (s : State) → Fine m s.at.left → Answers (Kept m) Shallow (expression_expr inner s)
+    expression_shallow : (s : State) → Fine m s.at.left → Answers (Kept m) Shallow (expression_expr inner cover s)
     unfolding expression_expr
-    expression_shallow s f = answers_then _ _ (assignment_expr inner s) _ (assignment_shallow s f) (λ x t g.
+    expression_shallow s f = answers_then _ _ (assignment_expr inner cover s) _ (assignment_shallow s f) (λ x t g.
         answers_if _ _ (sees kind.Comma t.at) _ _ (λ _. sequence_shallow (span_at s.at) x t g) (λ _. g))
 
-    level_shallow : (class : Class) (s : State) → Fine m s.at.left → Answers (Kept m) Shallow (expr_level inner class s)
+    level_shallow : (class : Class) (s : State) → Fine m s.at.left → Answers (Kept m) Shallow (expr_level inner cover class s)
     unfolding expr_level
     level_shallow expression s f = expression_shallow s f
     level_shallow assignment s f = assignment_shallow s f
@@ -455,8 +543,15 @@ module _ (inner : Class → Reader Tree) (n : ℕ) (below : (class : Class) → 
     level_shallow left_side s f = left_expr_shallow s f
     level_shallow callee s f = left_shallow false s f
 
--- an expression of any class needs two levels for each token
-pub expr_shallow : (n : ℕ) (class : Class) → Levels n (expr n class)
-unfolding expr
-expr_shallow zero class m s h f = too_deep_shallow _ s (omega arith)
-expr_shallow (suc n) class m s h f = level_shallow (expr n) n (expr_shallow n) m h class s f
+mutual
+  unfolding expr cover
+
+  -- an expression of any class needs two levels for each token
+  pub expr_shallow : (n : ℕ) (class : Class) → Levels n (expr n class)
+  expr_shallow zero class m s h f = too_deep_shallow _ s (omega arith)
+  expr_shallow (suc n) class m s h f = level_shallow (expr n) (cover n) n (expr_shallow n) (cover_shallow n) m h class s f
+
+  -- so does what may still become a pattern
+  pub cover_shallow : (n : ℕ) → Levels n (cover n)
+  cover_shallow zero m s h f = too_deep_shallow _ s (omega arith)
+  cover_shallow (suc n) m s h f = cover_expr_shallow (expr n) (cover n) n (expr_shallow n) (cover_shallow n) m h s f

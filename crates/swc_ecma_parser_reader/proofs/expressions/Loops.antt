@@ -12,10 +12,10 @@ use Rattle.swc_ecma_parser_model.specs.Tree.{Tree}
 use Rattle.swc_ecma_parser_grammar.specs.Looks.{sees}
 use Rattle.swc_ecma_parser_grammar.specs.language.Goals.{Class}
 use Rattle.swc_ecma_parser_reader.specs.State.{State, Outcome, moved, too_deep, expect, loop}
-use Rattle.swc_ecma_parser_reader.specs.Expressions.{element, arguments_turn, array_turn, property, object_turn, accessed, called, left_turn, operator_at, operated, binary_turn, assignment_expr, sequence_turn, expr_level, expr}
+use Rattle.swc_ecma_parser_reader.specs.Expressions.{Cover, Covers, with_cover, with_comma, done, element, arguments_turn, item, array_turn, property, object_turn, accessed, called, left_turn, operator_at, operated, binary_turn, cover_expr, assignment_expr, sequence_turn, expr_level, expr, cover}
 use Rattle.swc_ecma_parser_reader.proofs.Steps.{loop_more, loop_done, loop_err}
 use Rattle.swc_ecma_parser_reader.proofs.Takes.{Falls, moves, takes, expect_falls}
-use Rattle.swc_ecma_parser_reader.proofs.expressions.Falls.{element_falls, property_falls, accessed_falls, called_falls, operated_falls, assignment_falls, expr_falls}
+use Rattle.swc_ecma_parser_reader.proofs.expressions.Falls.{element_falls, item_falls, property_falls, accessed_falls, called_falls, operated_falls, assignment_falls, expr_falls, cover_falls}
 use Rattle.swc_ecma_parser_reader.proofs.Meets.{saw}
 
 -- ---- what takes a token leaves fewer
@@ -27,42 +27,45 @@ shorter_by n o x t e h = let k : Falls 1 n (Ok (x, t)) = subst (Falls 1 n) e h i
 kept_by : {A : Type 0} (m n : ℕ) (o : Outcome A) (x : A) (t : State) → o ≡ Ok (x, t) → Falls 0 n o → n < m → length t.at.left < m
 kept_by m n o x t e h l = let k : Falls 0 n (Ok (x, t)) = subst (Falls 0 n) e h in omega arith
 
+pub cover_shorter : (n : ℕ) (s : State) (v : Cover) (t : State) → cover n s ≡ Ok (v, t) → length t.at.left < length s.at.left
+cover_shorter n s v t e = shorter_by (length s.at.left) (cover n s) v t e (cover_falls n s)
+
 pub expr_shorter : (n : ℕ) (class : Class) (s : State) (x : Tree) (t : State) → expr n class s ≡ Ok (x, t) → length t.at.left < length s.at.left
 expr_shorter n class s x t e = shorter_by (length s.at.left) (expr n class s) x t e (expr_falls n class s)
 
 -- ---- arguments: `)` ends them; behind each it stands, or a comma
 
-module _ (n : ℕ) (s : State) (x : Tree) (t : State) (found_element : element (expr n) s ≡ Ok (x, t)) where
+module _ (n : ℕ) (s : State) (x : Tree) (t : State) (found_element : element (expr n) (cover n) s ≡ Ok (x, t)) where
   pub element_shorter : length t.at.left < length s.at.left
-  element_shorter = shorter_by (length s.at.left) (element (expr n) s) x t found_element (element_falls (expr n) (expr_falls n) s)
+  element_shorter = shorter_by (length s.at.left) (element (expr n) (cover n) s) x t found_element (element_falls (expr n) (cover n) (expr_falls n) (cover_falls n) s)
 
-  -- an argument, or an element, and the comma behind it
+  -- an argument and the comma behind it
   pub arguments_shorter : (u : State) → expect kind.Comma t ≡ Ok (tt, u) → length u.at.left < length s.at.left
   arguments_shorter u e = kept_by (length s.at.left) (length t.at.left) (expect kind.Comma t) tt u e (expect_falls kind.Comma t) element_shorter
 
 module _ (n : ℕ) (found : List Tree) (s : State) where
-  pub arguments_done : sees kind.RParen s.at ≡ true → loop (arguments_turn (expr n)) found s ≡ Ok (found, moved s)
+  pub arguments_done : sees kind.RParen s.at ≡ true → loop (arguments_turn (expr n) (cover n)) found s ≡ Ok (found, moved s)
   unfolding arguments_turn
-  arguments_done e = loop_done (arguments_turn (expr n)) found found s (moved s) (rw e refl)
+  arguments_done e = loop_done (arguments_turn (expr n) (cover n)) found found s (moved s) (rw e refl)
 
-  pub arguments_err : (e : Fault × State) → sees kind.RParen s.at ≡ false → element (expr n) s ≡ Err e → loop (arguments_turn (expr n)) found s ≡ Err e
+  pub arguments_err : (e : Fault × State) → sees kind.RParen s.at ≡ false → element (expr n) (cover n) s ≡ Err e → loop (arguments_turn (expr n) (cover n)) found s ≡ Err e
   unfolding arguments_turn
-  arguments_err e h g = loop_err (arguments_turn (expr n)) found s e (rw (h, g) refl)
+  arguments_err e h g = loop_err (arguments_turn (expr n) (cover n)) found s e (rw (h, g) refl)
 
-  pub arguments_last : (x : Tree) (t : State) → sees kind.RParen s.at ≡ false → element (expr n) s ≡ Ok (x, t) → sees kind.RParen t.at ≡ true
-      → loop (arguments_turn (expr n)) found s ≡ loop (arguments_turn (expr n)) (found ++ x ∷ []) t
+  pub arguments_last : (x : Tree) (t : State) → sees kind.RParen s.at ≡ false → element (expr n) (cover n) s ≡ Ok (x, t) → sees kind.RParen t.at ≡ true
+      → loop (arguments_turn (expr n) (cover n)) found s ≡ loop (arguments_turn (expr n) (cover n)) (found ++ x ∷ []) t
   unfolding arguments_turn
-  arguments_last x t h g e = loop_more (arguments_turn (expr n)) found (found ++ x ∷ []) s t (rw (h, g, e) refl) (element_shorter n s x t g)
+  arguments_last x t h g e = loop_more (arguments_turn (expr n) (cover n)) found (found ++ x ∷ []) s t (rw (h, g, e) refl) (element_shorter n s x t g)
 
-  pub arguments_more : (x : Tree) (t u : State) → sees kind.RParen s.at ≡ false → element (expr n) s ≡ Ok (x, t) → sees kind.RParen t.at ≡ false → expect kind.Comma t ≡ Ok (tt, u)
-      → loop (arguments_turn (expr n)) found s ≡ loop (arguments_turn (expr n)) (found ++ x ∷ []) u
+  pub arguments_more : (x : Tree) (t u : State) → sees kind.RParen s.at ≡ false → element (expr n) (cover n) s ≡ Ok (x, t) → sees kind.RParen t.at ≡ false → expect kind.Comma t ≡ Ok (tt, u)
+      → loop (arguments_turn (expr n) (cover n)) found s ≡ loop (arguments_turn (expr n) (cover n)) (found ++ x ∷ []) u
   unfolding arguments_turn
-  arguments_more x t u h g e k = loop_more (arguments_turn (expr n)) found (found ++ x ∷ []) s u (rw (h, g, e, k) refl) (arguments_shorter n s x t g u k)
+  arguments_more x t u h g e k = loop_more (arguments_turn (expr n) (cover n)) found (found ++ x ∷ []) s u (rw (h, g, e, k) refl) (arguments_shorter n s x t g u k)
 
-  pub arguments_comma_err : (x : Tree) (t : State) (e : Fault × State) → sees kind.RParen s.at ≡ false → element (expr n) s ≡ Ok (x, t) → sees kind.RParen t.at ≡ false
-      → expect kind.Comma t ≡ Err e → loop (arguments_turn (expr n)) found s ≡ Err e
+  pub arguments_comma_err : (x : Tree) (t : State) (e : Fault × State) → sees kind.RParen s.at ≡ false → element (expr n) (cover n) s ≡ Ok (x, t) → sees kind.RParen t.at ≡ false
+      → expect kind.Comma t ≡ Err e → loop (arguments_turn (expr n) (cover n)) found s ≡ Err e
   unfolding arguments_turn
-  arguments_comma_err x t e h g i k = loop_err (arguments_turn (expr n)) found s e (rw (h, g, i, k) refl)
+  arguments_comma_err x t e h g i k = loop_err (arguments_turn (expr n) (cover n)) found s e (rw (h, g, i, k) refl)
 
 -- ---- elements: `]` ends them, and a comma with nothing before it stands behind a hole; behind each `]` stands, or a comma
 
@@ -70,141 +73,153 @@ module _ (n : ℕ) (found : List Tree) (s : State) where
 pub hole_shorter : (s : State) → sees kind.Comma s.at ≡ true → length (after s.at).left < length s.at.left
 hole_shorter s e = let a = takes s.at (λ g. let k = sym g ∙ saw s.at kind.Comma e in cc) in omega arith
 
-module _ (n : ℕ) (found : List Tree) (s : State) where
-  pub elements_done : sees kind.RBracket s.at ≡ true → loop (array_turn (expr n)) found s ≡ Ok (found, moved s)
-  unfolding array_turn
-  elements_done e = loop_done (array_turn (expr n)) found found s (moved s) (rw e refl)
+module _ (n : ℕ) (s : State) (v : Cover) (t : State) (found_item : item (expr n) (cover n) s ≡ Ok (v, t)) where
+  pub item_shorter : length t.at.left < length s.at.left
+  item_shorter = shorter_by (length s.at.left) (item (expr n) (cover n) s) v t found_item (item_falls (expr n) (cover n) (expr_falls n) (cover_falls n) s)
 
-  pub elements_hole : sees kind.RBracket s.at ≡ false → sees kind.Comma s.at ≡ true → loop (array_turn (expr n)) found s ≡ loop (array_turn (expr n)) (found ++ tree.absent ∷ []) (moved s)
-  unfolding array_turn
-  elements_hole h g = loop_more (array_turn (expr n)) found (found ++ tree.absent ∷ []) s (moved s) (rw (h, g) refl) (hole_shorter s g)
+  -- an element and the comma behind it
+  pub items_shorter : (u : State) → expect kind.Comma t ≡ Ok (tt, u) → length u.at.left < length s.at.left
+  items_shorter u e = kept_by (length s.at.left) (length t.at.left) (expect kind.Comma t) tt u e (expect_falls kind.Comma t) item_shorter
 
-  pub elements_err : (e : Fault × State) → sees kind.RBracket s.at ≡ false → sees kind.Comma s.at ≡ false → element (expr n) s ≡ Err e → loop (array_turn (expr n)) found s ≡ Err e
+module _ (n : ℕ) (found : Covers) (s : State) where
+  pub elements_done : sees kind.RBracket s.at ≡ true → loop (array_turn (expr n) (cover n)) found s ≡ Ok (found, moved s)
   unfolding array_turn
-  elements_err e h c g = loop_err (array_turn (expr n)) found s e (rw (h, c, g) refl)
+  elements_done e = loop_done (array_turn (expr n) (cover n)) found found s (moved s) (rw e refl)
 
-  pub elements_last : (x : Tree) (t : State) → sees kind.RBracket s.at ≡ false → sees kind.Comma s.at ≡ false → element (expr n) s ≡ Ok (x, t) → sees kind.RBracket t.at ≡ true
-      → loop (array_turn (expr n)) found s ≡ loop (array_turn (expr n)) (found ++ x ∷ []) t
+  pub elements_hole : sees kind.RBracket s.at ≡ false → sees kind.Comma s.at ≡ true
+      → loop (array_turn (expr n) (cover n)) found s ≡ loop (array_turn (expr n) (cover n)) (with_cover found (done tree.absent)) (moved s)
   unfolding array_turn
-  elements_last x t h c g e = loop_more (array_turn (expr n)) found (found ++ x ∷ []) s t (rw (h, c, g, e) refl) (element_shorter n s x t g)
+  elements_hole h g = loop_more (array_turn (expr n) (cover n)) found (with_cover found (done tree.absent)) s (moved s) (rw (h, g) refl) (hole_shorter s g)
 
-  pub elements_more : (x : Tree) (t u : State) → sees kind.RBracket s.at ≡ false → sees kind.Comma s.at ≡ false → element (expr n) s ≡ Ok (x, t) → sees kind.RBracket t.at ≡ false
-      → expect kind.Comma t ≡ Ok (tt, u) → loop (array_turn (expr n)) found s ≡ loop (array_turn (expr n)) (found ++ x ∷ []) u
+  pub elements_err : (e : Fault × State) → sees kind.RBracket s.at ≡ false → sees kind.Comma s.at ≡ false → item (expr n) (cover n) s ≡ Err e → loop (array_turn (expr n) (cover n)) found s ≡ Err e
   unfolding array_turn
-  elements_more x t u h c g e k = loop_more (array_turn (expr n)) found (found ++ x ∷ []) s u (rw (h, c, g, e, k) refl) (arguments_shorter n s x t g u k)
+  elements_err e h c g = loop_err (array_turn (expr n) (cover n)) found s e (rw (h, c, g) refl)
 
-  pub elements_comma_err : (x : Tree) (t : State) (e : Fault × State) → sees kind.RBracket s.at ≡ false → sees kind.Comma s.at ≡ false → element (expr n) s ≡ Ok (x, t)
-      → sees kind.RBracket t.at ≡ false → expect kind.Comma t ≡ Err e → loop (array_turn (expr n)) found s ≡ Err e
+  pub elements_last : (v : Cover) (t : State) → sees kind.RBracket s.at ≡ false → sees kind.Comma s.at ≡ false → item (expr n) (cover n) s ≡ Ok (v, t) → sees kind.RBracket t.at ≡ true
+      → loop (array_turn (expr n) (cover n)) found s ≡ loop (array_turn (expr n) (cover n)) (with_cover found v) t
   unfolding array_turn
-  elements_comma_err x t e h c g i k = loop_err (array_turn (expr n)) found s e (rw (h, c, g, i, k) refl)
+  elements_last v t h c g e = loop_more (array_turn (expr n) (cover n)) found (with_cover found v) s t (rw (h, c, g, e) refl) (item_shorter n s v t g)
+
+  pub elements_more : (v : Cover) (t u : State) → sees kind.RBracket s.at ≡ false → sees kind.Comma s.at ≡ false → item (expr n) (cover n) s ≡ Ok (v, t) → sees kind.RBracket t.at ≡ false
+      → expect kind.Comma t ≡ Ok (tt, u)
+      → loop (array_turn (expr n) (cover n)) found s ≡ loop (array_turn (expr n) (cover n)) (with_comma (sees kind.DotDotDot s.at) (with_cover found v)) u
+  unfolding array_turn
+  elements_more v t u h c g e k =
+      loop_more (array_turn (expr n) (cover n)) found (with_comma (sees kind.DotDotDot s.at) (with_cover found v)) s u (rw (h, c, g, e, k) refl) (items_shorter n s v t g u k)
+
+  pub elements_comma_err : (v : Cover) (t : State) (e : Fault × State) → sees kind.RBracket s.at ≡ false → sees kind.Comma s.at ≡ false → item (expr n) (cover n) s ≡ Ok (v, t)
+      → sees kind.RBracket t.at ≡ false → expect kind.Comma t ≡ Err e → loop (array_turn (expr n) (cover n)) found s ≡ Err e
+  unfolding array_turn
+  elements_comma_err v t e h c g i k = loop_err (array_turn (expr n) (cover n)) found s e (rw (h, c, g, i, k) refl)
 
 -- ---- properties: `}` ends them; behind each it stands, or a comma
 
-module _ (n : ℕ) (s : State) (x : Tree) (t : State) (found_property : property (expr n) s ≡ Ok (x, t)) where
+module _ (n : ℕ) (s : State) (v : Cover) (t : State) (found_property : property (expr n) (cover n) s ≡ Ok (v, t)) where
   pub property_shorter : length t.at.left < length s.at.left
-  property_shorter = shorter_by (length s.at.left) (property (expr n) s) x t found_property (property_falls (expr n) (expr_falls n) s)
+  property_shorter = shorter_by (length s.at.left) (property (expr n) (cover n) s) v t found_property (property_falls (expr n) (cover n) (expr_falls n) (cover_falls n) s)
 
   -- a property and the comma behind it
   pub properties_shorter : (u : State) → expect kind.Comma t ≡ Ok (tt, u) → length u.at.left < length s.at.left
   properties_shorter u e = kept_by (length s.at.left) (length t.at.left) (expect kind.Comma t) tt u e (expect_falls kind.Comma t) property_shorter
 
-module _ (n : ℕ) (found : List Tree) (s : State) where
-  pub properties_done : sees kind.RBrace s.at ≡ true → loop (object_turn (expr n)) found s ≡ Ok (found, moved s)
+module _ (n : ℕ) (found : Covers) (s : State) where
+  pub properties_done : sees kind.RBrace s.at ≡ true → loop (object_turn (expr n) (cover n)) found s ≡ Ok (found, moved s)
   unfolding object_turn
-  properties_done e = loop_done (object_turn (expr n)) found found s (moved s) (rw e refl)
+  properties_done e = loop_done (object_turn (expr n) (cover n)) found found s (moved s) (rw e refl)
 
-  pub properties_err : (e : Fault × State) → sees kind.RBrace s.at ≡ false → property (expr n) s ≡ Err e → loop (object_turn (expr n)) found s ≡ Err e
+  pub properties_err : (e : Fault × State) → sees kind.RBrace s.at ≡ false → property (expr n) (cover n) s ≡ Err e → loop (object_turn (expr n) (cover n)) found s ≡ Err e
   unfolding object_turn
-  properties_err e h g = loop_err (object_turn (expr n)) found s e (rw (h, g) refl)
+  properties_err e h g = loop_err (object_turn (expr n) (cover n)) found s e (rw (h, g) refl)
 
-  pub properties_last : (x : Tree) (t : State) → sees kind.RBrace s.at ≡ false → property (expr n) s ≡ Ok (x, t) → sees kind.RBrace t.at ≡ true
-      → loop (object_turn (expr n)) found s ≡ loop (object_turn (expr n)) (found ++ x ∷ []) t
+  pub properties_last : (v : Cover) (t : State) → sees kind.RBrace s.at ≡ false → property (expr n) (cover n) s ≡ Ok (v, t) → sees kind.RBrace t.at ≡ true
+      → loop (object_turn (expr n) (cover n)) found s ≡ loop (object_turn (expr n) (cover n)) (with_cover found v) t
   unfolding object_turn
-  properties_last x t h g e = loop_more (object_turn (expr n)) found (found ++ x ∷ []) s t (rw (h, g, e) refl) (property_shorter n s x t g)
+  properties_last v t h g e = loop_more (object_turn (expr n) (cover n)) found (with_cover found v) s t (rw (h, g, e) refl) (property_shorter n s v t g)
 
-  pub properties_more : (x : Tree) (t u : State) → sees kind.RBrace s.at ≡ false → property (expr n) s ≡ Ok (x, t) → sees kind.RBrace t.at ≡ false → expect kind.Comma t ≡ Ok (tt, u)
-      → loop (object_turn (expr n)) found s ≡ loop (object_turn (expr n)) (found ++ x ∷ []) u
+  pub properties_more : (v : Cover) (t u : State) → sees kind.RBrace s.at ≡ false → property (expr n) (cover n) s ≡ Ok (v, t) → sees kind.RBrace t.at ≡ false → expect kind.Comma t ≡ Ok (tt, u)
+      → loop (object_turn (expr n) (cover n)) found s ≡ loop (object_turn (expr n) (cover n)) (with_comma (sees kind.DotDotDot s.at) (with_cover found v)) u
   unfolding object_turn
-  properties_more x t u h g e k = loop_more (object_turn (expr n)) found (found ++ x ∷ []) s u (rw (h, g, e, k) refl) (properties_shorter n s x t g u k)
+  properties_more v t u h g e k =
+      loop_more (object_turn (expr n) (cover n)) found (with_comma (sees kind.DotDotDot s.at) (with_cover found v)) s u (rw (h, g, e, k) refl) (properties_shorter n s v t g u k)
 
-  pub properties_comma_err : (x : Tree) (t : State) (e : Fault × State) → sees kind.RBrace s.at ≡ false → property (expr n) s ≡ Ok (x, t) → sees kind.RBrace t.at ≡ false
-      → expect kind.Comma t ≡ Err e → loop (object_turn (expr n)) found s ≡ Err e
+  pub properties_comma_err : (v : Cover) (t : State) (e : Fault × State) → sees kind.RBrace s.at ≡ false → property (expr n) (cover n) s ≡ Ok (v, t) → sees kind.RBrace t.at ≡ false
+      → expect kind.Comma t ≡ Err e → loop (object_turn (expr n) (cover n)) found s ≡ Err e
   unfolding object_turn
-  properties_comma_err x t e h g i k = loop_err (object_turn (expr n)) found s e (rw (h, g, i, k) refl)
+  properties_comma_err v t e h g i k = loop_err (object_turn (expr n) (cover n)) found s e (rw (h, g, i, k) refl)
 
 -- ---- left-hand sides: an access, arguments where calls are read, or neither
 
 module _ (n : ℕ) (start : Span) (x : Tree) (s : State) (y : Tree) (t : State) where
-  pub accessed_shorter : accessed (expr n) start x s ≡ Ok (y, t) → length t.at.left < length s.at.left
-  accessed_shorter e = shorter_by (length s.at.left) (accessed (expr n) start x s) y t e (accessed_falls (expr n) (expr_falls n) start x s)
+  pub accessed_shorter : accessed (expr n) (cover n) start x s ≡ Ok (y, t) → length t.at.left < length s.at.left
+  accessed_shorter e = shorter_by (length s.at.left) (accessed (expr n) (cover n) start x s) y t e (accessed_falls (expr n) (cover n) (expr_falls n) (cover_falls n) start x s)
 
-  pub called_shorter : sees kind.LParen s.at ≡ true → called (expr n) start x s ≡ Ok (y, t) → length t.at.left < length s.at.left
-  called_shorter h e = shorter_by (length s.at.left) (called (expr n) start x s) y t e (called_falls (expr n) (expr_falls n) start x s (λ g. let k = sym g ∙ saw s.at kind.LParen h in cc))
+  pub called_shorter : sees kind.LParen s.at ≡ true → called (expr n) (cover n) start x s ≡ Ok (y, t) → length t.at.left < length s.at.left
+  called_shorter h e = shorter_by (length s.at.left) (called (expr n) (cover n) start x s) y t e (called_falls (expr n) (cover n) (expr_falls n) (cover_falls n) start x s (λ g. let k = sym g ∙ saw s.at kind.LParen h in cc))
 
 module _ (n : ℕ) (calls : Bool) (start : Span) (x : Tree) (s : State) where
-  pub left_done : (sees kind.Dot s.at || sees kind.LBracket s.at) ≡ false → (calls && sees kind.LParen s.at) ≡ false → loop (left_turn (expr n) calls start) x s ≡ Ok (x, s)
+  pub left_done : (sees kind.Dot s.at || sees kind.LBracket s.at) ≡ false → (calls && sees kind.LParen s.at) ≡ false → loop (left_turn (expr n) (cover n) calls start) x s ≡ Ok (x, s)
   unfolding left_turn
-  left_done h g = loop_done (left_turn (expr n) calls start) x x s s (rw (h, g) refl)
+  left_done h g = loop_done (left_turn (expr n) (cover n) calls start) x x s s (rw (h, g) refl)
 
-  pub left_accessed : (y : Tree) (t : State) → (sees kind.Dot s.at || sees kind.LBracket s.at) ≡ true → accessed (expr n) start x s ≡ Ok (y, t)
-      → loop (left_turn (expr n) calls start) x s ≡ loop (left_turn (expr n) calls start) y t
+  pub left_accessed : (y : Tree) (t : State) → (sees kind.Dot s.at || sees kind.LBracket s.at) ≡ true → accessed (expr n) (cover n) start x s ≡ Ok (y, t)
+      → loop (left_turn (expr n) (cover n) calls start) x s ≡ loop (left_turn (expr n) (cover n) calls start) y t
   unfolding left_turn
-  left_accessed y t h e = loop_more (left_turn (expr n) calls start) x y s t (rw (h, e) refl) (accessed_shorter n start x s y t e)
+  left_accessed y t h e = loop_more (left_turn (expr n) (cover n) calls start) x y s t (rw (h, e) refl) (accessed_shorter n start x s y t e)
 
-  pub left_access_err : (e : Fault × State) → (sees kind.Dot s.at || sees kind.LBracket s.at) ≡ true → accessed (expr n) start x s ≡ Err e → loop (left_turn (expr n) calls start) x s ≡ Err e
+  pub left_access_err : (e : Fault × State) → (sees kind.Dot s.at || sees kind.LBracket s.at) ≡ true → accessed (expr n) (cover n) start x s ≡ Err e → loop (left_turn (expr n) (cover n) calls start) x s ≡ Err e
   unfolding left_turn
-  left_access_err e h g = loop_err (left_turn (expr n) calls start) x s e (rw (h, g) refl)
+  left_access_err e h g = loop_err (left_turn (expr n) (cover n) calls start) x s e (rw (h, g) refl)
 
-  pub left_called : (y : Tree) (t : State) → (sees kind.Dot s.at || sees kind.LBracket s.at) ≡ false → (calls && sees kind.LParen s.at) ≡ true → called (expr n) start x s ≡ Ok (y, t)
-      → loop (left_turn (expr n) calls start) x s ≡ loop (left_turn (expr n) calls start) y t
+  pub left_called : (y : Tree) (t : State) → (sees kind.Dot s.at || sees kind.LBracket s.at) ≡ false → (calls && sees kind.LParen s.at) ≡ true → called (expr n) (cover n) start x s ≡ Ok (y, t)
+      → loop (left_turn (expr n) (cover n) calls start) x s ≡ loop (left_turn (expr n) (cover n) calls start) y t
   unfolding left_turn
-  left_called y t h g e = loop_more (left_turn (expr n) calls start) x y s t (rw (h, g, e) refl) (called_shorter n start x s y t (and_parts calls (sees kind.LParen s.at) g).1 e)
+  left_called y t h g e = loop_more (left_turn (expr n) (cover n) calls start) x y s t (rw (h, g, e) refl) (called_shorter n start x s y t (and_parts calls (sees kind.LParen s.at) g).1 e)
 
-  pub left_call_err : (e : Fault × State) → (sees kind.Dot s.at || sees kind.LBracket s.at) ≡ false → (calls && sees kind.LParen s.at) ≡ true → called (expr n) start x s ≡ Err e
-      → loop (left_turn (expr n) calls start) x s ≡ Err e
+  pub left_call_err : (e : Fault × State) → (sees kind.Dot s.at || sees kind.LBracket s.at) ≡ false → (calls && sees kind.LParen s.at) ≡ true → called (expr n) (cover n) start x s ≡ Err e
+      → loop (left_turn (expr n) (cover n) calls start) x s ≡ Err e
   unfolding left_turn
-  left_call_err e h g k = loop_err (left_turn (expr n) calls start) x s e (rw (h, g, k) refl)
+  left_call_err e h g k = loop_err (left_turn (expr n) (cover n) calls start) x s e (rw (h, g, k) refl)
 
 -- ---- operators that bind at least so tightly
 
-pub operated_shorter : (n : ℕ) (start : Span) (x : Tree) (op : BinaryOp) (s : State) (y : Tree) (t : State) → operated (expr n) start x op s ≡ Ok (y, t) → length t.at.left < length s.at.left
-operated_shorter n start x op s y t e = shorter_by (length s.at.left) (operated (expr n) start x op s) y t e (operated_falls (expr n) (expr_falls n) start x op s)
+pub operated_shorter : (n : ℕ) (start : Span) (x : Tree) (op : BinaryOp) (s : State) (y : Tree) (t : State) → operated (expr n) (cover n) start x op s ≡ Ok (y, t) → length t.at.left < length s.at.left
+operated_shorter n start x op s y t e = shorter_by (length s.at.left) (operated (expr n) (cover n) start x op s) y t e (operated_falls (expr n) (cover n) (expr_falls n) (cover_falls n) start x op s)
 
 module _ (n least : ℕ) (start : Span) (x : Tree) (s : State) where
-  pub binary_done : operator_at least s ≡ None → loop (binary_turn (expr n) least start) x s ≡ Ok (x, s)
+  pub binary_done : operator_at least s ≡ None → loop (binary_turn (expr n) (cover n) least start) x s ≡ Ok (x, s)
   unfolding binary_turn
-  binary_done e = loop_done (binary_turn (expr n) least start) x x s s (rw e refl)
+  binary_done e = loop_done (binary_turn (expr n) (cover n) least start) x x s s (rw e refl)
 
-  pub binary_more : (op : BinaryOp) (y : Tree) (t : State) → operator_at least s ≡ Some op → operated (expr n) start x op s ≡ Ok (y, t)
-      → loop (binary_turn (expr n) least start) x s ≡ loop (binary_turn (expr n) least start) y t
+  pub binary_more : (op : BinaryOp) (y : Tree) (t : State) → operator_at least s ≡ Some op → operated (expr n) (cover n) start x op s ≡ Ok (y, t)
+      → loop (binary_turn (expr n) (cover n) least start) x s ≡ loop (binary_turn (expr n) (cover n) least start) y t
   unfolding binary_turn
-  binary_more op y t h e = loop_more (binary_turn (expr n) least start) x y s t (rw (h, e) refl) (operated_shorter n start x op s y t e)
+  binary_more op y t h e = loop_more (binary_turn (expr n) (cover n) least start) x y s t (rw (h, e) refl) (operated_shorter n start x op s y t e)
 
-  pub binary_err : (op : BinaryOp) (e : Fault × State) → operator_at least s ≡ Some op → operated (expr n) start x op s ≡ Err e → loop (binary_turn (expr n) least start) x s ≡ Err e
+  pub binary_err : (op : BinaryOp) (e : Fault × State) → operator_at least s ≡ Some op → operated (expr n) (cover n) start x op s ≡ Err e → loop (binary_turn (expr n) (cover n) least start) x s ≡ Err e
   unfolding binary_turn
-  binary_err op e h g = loop_err (binary_turn (expr n) least start) x s e (rw (h, g) refl)
+  binary_err op e h g = loop_err (binary_turn (expr n) (cover n) least start) x s e (rw (h, g) refl)
 
 -- ---- sequences: a turn begins with the comma
 
-pub assignment_shorter : (n : ℕ) (s : State) (x : Tree) (t : State) → assignment_expr (expr n) s ≡ Ok (x, t) → length t.at.left < length s.at.left
-assignment_shorter n s x t e = shorter_by (length s.at.left) (assignment_expr (expr n) s) x t e (assignment_falls (expr n) (expr_falls n) s)
+pub assignment_shorter : (n : ℕ) (s : State) (x : Tree) (t : State) → assignment_expr (expr n) (cover n) s ≡ Ok (x, t) → length t.at.left < length s.at.left
+assignment_shorter n s x t e = shorter_by (length s.at.left) (assignment_expr (expr n) (cover n) s) x t e (assignment_falls (expr n) (cover n) (expr_falls n) (cover_falls n) s)
 
-pub sequence_shorter : (n : ℕ) (s : State) (x : Tree) (t : State) → assignment_expr (expr n) (moved s) ≡ Ok (x, t) → length t.at.left < length s.at.left
+pub sequence_shorter : (n : ℕ) (s : State) (x : Tree) (t : State) → assignment_expr (expr n) (cover n) (moved s) ≡ Ok (x, t) → length t.at.left < length s.at.left
 sequence_shorter n s x t e = let a : length t.at.left < length (after s.at).left = assignment_shorter n (moved s) x t e in let b = moves s.at in omega arith
 
 module _ (n : ℕ) (found : List Tree) (s : State) where
-  pub sequence_err : (e : Fault × State) → assignment_expr (expr n) (moved s) ≡ Err e → loop (sequence_turn (expr n)) found s ≡ Err e
+  pub sequence_err : (e : Fault × State) → assignment_expr (expr n) (cover n) (moved s) ≡ Err e → loop (sequence_turn (expr n) (cover n)) found s ≡ Err e
   unfolding sequence_turn
-  sequence_err e h = loop_err (sequence_turn (expr n)) found s e (rw h refl)
+  sequence_err e h = loop_err (sequence_turn (expr n) (cover n)) found s e (rw h refl)
 
-  pub sequence_done : (x : Tree) (t : State) → assignment_expr (expr n) (moved s) ≡ Ok (x, t) → sees kind.Comma t.at ≡ false → loop (sequence_turn (expr n)) found s ≡ Ok (found ++ x ∷ [], t)
+  pub sequence_done : (x : Tree) (t : State) → assignment_expr (expr n) (cover n) (moved s) ≡ Ok (x, t) → sees kind.Comma t.at ≡ false → loop (sequence_turn (expr n) (cover n)) found s ≡ Ok (found ++ x ∷ [], t)
   unfolding sequence_turn
-  sequence_done x t h e = loop_done (sequence_turn (expr n)) found (found ++ x ∷ []) s t (rw (h, e) refl)
+  sequence_done x t h e = loop_done (sequence_turn (expr n) (cover n)) found (found ++ x ∷ []) s t (rw (h, e) refl)
 
-  pub sequence_more : (x : Tree) (t : State) → assignment_expr (expr n) (moved s) ≡ Ok (x, t) → sees kind.Comma t.at ≡ true
-      → loop (sequence_turn (expr n)) found s ≡ loop (sequence_turn (expr n)) (found ++ x ∷ []) t
+  pub sequence_more : (x : Tree) (t : State) → assignment_expr (expr n) (cover n) (moved s) ≡ Ok (x, t) → sees kind.Comma t.at ≡ true
+      → loop (sequence_turn (expr n) (cover n)) found s ≡ loop (sequence_turn (expr n) (cover n)) (found ++ x ∷ []) t
   unfolding sequence_turn
-  sequence_more x t h e = loop_more (sequence_turn (expr n)) found (found ++ x ∷ []) s t (rw (h, e) refl) (sequence_shorter n s x t h)
+  sequence_more x t h e = loop_more (sequence_turn (expr n) (cover n)) found (found ++ x ∷ []) s t (rw (h, e) refl) (sequence_shorter n s x t h)
 
 -- ---- levels, where a number is 0 or not
 
@@ -215,6 +230,14 @@ pub expr_lowest : (n : ℕ) (class : Class) (s : State) → n ≡ 0 → expr n c
 unfolding expr
 expr_lowest n class s e = rw e refl
 
-pub expr_above : (n : ℕ) (class : Class) (s : State) → 0 < n → expr n class s ≡ expr_level (expr (n - 1)) class s
+pub expr_above : (n : ℕ) (class : Class) (s : State) → 0 < n → expr n class s ≡ expr_level (expr (n - 1)) (cover (n - 1)) class s
 unfolding expr
 expr_above n class s h = deeper (λ k. expr k class s) n h
+
+pub cover_lowest : (n : ℕ) (s : State) → n ≡ 0 → cover n s ≡ too_deep s
+unfolding cover
+cover_lowest n s e = rw e refl
+
+pub cover_above : (n : ℕ) (s : State) → 0 < n → cover n s ≡ cover_expr (expr (n - 1)) (cover (n - 1)) s
+unfolding cover
+cover_above n s h = deeper (λ k. cover k s) n h

@@ -1,16 +1,19 @@
 -- The reader of expressions is sound: what it reads is in the relation of the whole language, and supported, where nothing was
 -- recorded, and its faults of the table are the walk's.
-use Rattle.std.proofs.Common.{◌≡◌, ℕ, zero, suc, Bool, true, false, List, [], ◌∷◌, ◌++◌, Option, Some, None, refl, sym, ◌∙◌, ap, subst, append-nil}
+use Rattle.std.proofs.Common.{◌≡◌, ℕ, zero, suc, inl, inr, Bool, true, false, List, [], ◌∷◌, ◌++◌, Option, Some, None, Ok, refl, sym, ◌∙◌, ap, subst, append-nil}
 use Rattle.std.specs.Prelude.{not, ◌&&◌, ◌||◌, is_some, codes}
+use Rattle.swc_ecma_parser_common.specs.declared.span.Span.{Span}
 use Rattle.swc_ecma_parser_error.specs.Kind as faults
 use Rattle.swc_ecma_parser_token.specs.declared.kind.TokenKind.{TokenKind}
 use Rattle.swc_ecma_parser_token.specs.declared.kind.TokenKind.TheVariants as kind
 use Rattle.swc_ecma_parser_input.specs.Place.{Place, after}
 use Rattle.swc_ecma_parser_model.specs.declared.operators.AssignOp.{AssignOp}
+use Rattle.swc_ecma_parser_model.specs.declared.operators.AssignOp.TheVariants as assign
 use Rattle.swc_ecma_parser_model.specs.Tree as tree
 use Rattle.swc_ecma_parser_model.specs.Tree.{Tree, listed, trees}
 use Rattle.swc_ecma_parser_model.specs.Forms.{is_ident_named, is_simple_target}
-use Rattle.swc_ecma_parser_grammar.specs.Looks.{kind_at, breaks_at, sees, span_at, spanned}
+use Rattle.swc_ecma_parser_model.specs.Targets.{as_pattern}
+use Rattle.swc_ecma_parser_grammar.specs.Looks.{kind_at, breaks_at, sees, same_kind, span_at, spanned}
 use Rattle.swc_ecma_parser_grammar.specs.Names.{Code, identifier_at}
 use Rattle.swc_ecma_parser_grammar.specs.Follows.{word_at}
 use Rattle.swc_ecma_parser_grammar.specs.Reads.{ReadsSeparated}
@@ -19,20 +22,25 @@ use Rattle.swc_ecma_parser_grammar.specs.ReadsSupported.{ReadsClass}
 use Rattle.swc_ecma_parser_grammar.specs.language.Goals.{Goal, Class, expression, assignment, operator, unary, left_side, callee, expr_goal}
 use Rattle.swc_ecma_parser_grammar.specs.language.Operators.{binary_operator, assign_operator}
 use Rattle.swc_ecma_parser_grammar.specs.language.Continues.{binds, continues_operand, continues_conditional, continues_assignment, continues_head, is_arrow_head}
-use Rattle.swc_ecma_parser_grammar.specs.language.Expressions.{AssignmentRule, operators_rule, conditional_rule, assign_rule, ExpressionRule, assignment_rule, sequence_rule}
+use Rattle.swc_ecma_parser_grammar.specs.language.Expressions.{AssignmentRule, operators_rule, conditional_rule, assign_rule, destructuring_rule, ExpressionRule, assignment_rule, sequence_rule}
 use Rattle.swc_ecma_parser_grammar.specs.language.Reads.{Reads}
 use Rattle.swc_ecma_parser_grammar.specs.Walk as walks
 use Rattle.swc_ecma_parser_grammar.specs.Walk.{walk, env_of}
 use Rattle.swc_ecma_parser_grammar.specs.Notes.{notes, all_notes}
 use Rattle.swc_ecma_parser_grammar.proofs.Tests.{or_none, and_both}
-use Rattle.swc_ecma_parser_reader.specs.State.{State, Reader, moved, expect, loop}
-use Rattle.swc_ecma_parser_reader.specs.Expressions.{begins_async_call, is_head, heads_arrow, unassigned, unheaded, inside, binary_expr, conditional, assigned_to, assigned, assigned_or, behind_operators, assignment_expr, sequence_turn, sequence_from, expression_expr, expr_level, expr}
+use Rattle.swc_ecma_parser_reader.specs.State.{State, Reader, and_then, moved, expect, loop}
+use Rattle.swc_ecma_parser_reader.specs.Expressions.{Cover, done, unmarked, close, target, goes_on, begins_async_call, is_head, heads_arrow, unassigned, unheaded, inside, binary_expr, conditional, assigned_to, assigned, assigned_or, behind_operators, operators_expr, continued, closed, assigned_pattern, behind_literal, open_literal, done_expr, cover_expr, assignment_expr, sequence_turn, sequence_from, expression_expr, expr_level, expr, cover}
 use Rattle.swc_ecma_parser_reader.proofs.Meets.{Meets, Refuses, meets_then, meets_if, wanted_meets, too_deep_meets, Turned, loop_answers, saw}
 use Rattle.swc_ecma_parser_reader.proofs.Errors.{is_error}
 use Rattle.swc_ecma_parser_reader.proofs.Between.{SoundTree, Sound, same, sound_as}
-use Rattle.swc_ecma_parser_reader.proofs.expressions.SoundSteps.{paired, stepped, moved_back, reject_meets, expect_sound, walks_push, notes_push, supported_push}
-use Rattle.swc_ecma_parser_reader.proofs.expressions.SoundLefts.{inside_sound, callee_sound, left_side_sound}
+use Rattle.swc_ecma_parser_reader.proofs.expressions.SoundSteps.{paired, stepped, moved_back, reject_meets, other, clash, elsewhere, expect_sound, walks_push, notes_push, supported_push}
+use Rattle.swc_ecma_parser_reader.proofs.expressions.Targets.{pattern_alike, literal_target}
+use Rattle.swc_ecma_parser_reader.proofs.expressions.Covers.{meets_each, met, begins_literal, literal_kind, is_literal, close_is, close_reads, target_is, opened, opened_literal, operators_literal}
+use Rattle.swc_ecma_parser_reader.proofs.expressions.Stays.{Stays, continued_stays}
+use Rattle.swc_ecma_parser_reader.proofs.expressions.SoundCovers.{SoundCover, SoundLiteral, inside_sound, array_sound, object_sound}
+use Rattle.swc_ecma_parser_reader.proofs.expressions.SoundLefts.{callee_sound, left_side_sound}
 use Rattle.swc_ecma_parser_reader.proofs.expressions.SoundOperators.{Binary, simple_binary, binary_sound, unary_sound, operator_sound}
+use Rattle.swc_ecma_parser_reader.proofs.expressions.SoundTargets.{assignment_first, literal_stays, literal_stops, settled_read, open_read}
 
 -- ---- heads of arrow functions
 
@@ -106,7 +114,8 @@ parts_rule In k x [] c d h e = absurd h
 parts_rule In k x (y ∷ []) c d h e = absurd h
 parts_rule In k x (y ∷ z ∷ zs) c d h e = sequence_rule y z zs h e
 
-module _ (n : ℕ) (inner : Class → Reader Tree) (sound : (class : Class) (s : State) → Meets (λ x t. SoundTree (ReadsClass n class) s x t) (inner class s)) where
+module _ (n : ℕ) (inner : Class → Reader Tree) (cover : Reader Cover) (sound : (class : Class) (s : State) → Meets (λ x t. SoundTree (ReadsClass n class) s x t) (inner class s))
+    (covers : (s : State) → Meets (λ v t. SoundCover n s v t) (cover s)) where
   -- ---- AssignmentExpression
 
   abbrev Assignment : Code → Tree → Place → Place → Type 0
@@ -119,9 +128,9 @@ module _ (n : ℕ) (inner : Class → Reader Tree) (sound : (class : Class) (s :
     abbrev SoundOperands : Tree → State → Type 0
     SoundOperands x t = SoundTree (λ k y c d. Binary (Reads n) 1 k y c d × (binds k 1 (binary_operator (kind_at d)) ≡ false)) s x t
 
-    conditional_sound : (x : Tree) (t : State) → SoundOperands x t → kind_at t.at ≡ kind.QuestionMark → Meets SoundAssignment (conditional inner (span_at s.at) x t)
+    conditional_sound : (x : Tree) (t : State) → SoundOperands x t → kind_at t.at ≡ kind.QuestionMark → Meets SoundAssignment (conditional inner cover (span_at s.at) x t)
     unfolding conditional unassigned spanned continues_conditional
-    conditional_sound x t p e = meets_then _ (inside inner assignment (moved t)) _ (inside_sound n inner sound assignment (moved t)) (λ y m q.
+    conditional_sound x t p e = meets_then _ (inside inner cover assignment (moved t)) _ (inside_sound n inner cover sound covers assignment (moved t)) (λ y m q.
         meets_then _ (expect kind.Colon m) _ (expect_sound kind.Colon m refl) (λ _ u o.
         meets_then _ (inner assignment u) _ (sound assignment u) (λ z v r.
         meets_if _ (is_some (assign_operator (kind_at v.at))) _ _ (λ _. wanted_meets _ faults.Unexpected v)
@@ -130,7 +139,7 @@ module _ (n : ℕ) (inner : Class → Reader Tree) (sound : (class : Class) (s :
           and_both (supported x) _ a.0.supports (and_both (supported y) _ b.1 f.1),
         )) (paired (paired p (stepped (moved_back e refl q) o)) r)))))
 
-    assigned_sound : (x : Tree) (t : State) (op : AssignOp) → SoundOperands x t → assign_operator (kind_at t.at) ≡ Some op → Meets SoundAssignment (assigned inner (span_at s.at) x op t)
+    assigned_sound : (x : Tree) (t : State) (op : AssignOp) → SoundOperands x t → assign_operator (kind_at t.at) ≡ Some op → Meets SoundAssignment (assigned inner cover (span_at s.at) x op t)
     unfolding assigned assigned_to spanned
     assigned_sound x t op p e = meets_if _ (is_simple_target x) _ _
         (λ h. meets_then _ (inner assignment (moved t)) _ (sound assignment (moved t)) (λ y u q. sound_as s u refl refl refl (λ (a, b). (
@@ -149,18 +158,98 @@ module _ (n : ℕ) (inner : Class → Reader Tree) (sound : (class : Class) (s :
         )) p)
 
     assigned_or_sound : (x : Tree) (t : State) (o : Option AssignOp) → SoundOperands x t → sees kind.QuestionMark t.at ≡ false → assign_operator (kind_at t.at) ≡ o
-        → Meets SoundAssignment (assigned_or inner (begins_async_call s.at) (span_at s.at) x o t)
+        → Meets SoundAssignment (assigned_or inner cover (begins_async_call s.at) (span_at s.at) x o t)
     assigned_or_sound x t (Some op) p h e = assigned_sound x t op p e
     assigned_or_sound x t None p h e = unheaded_sound x t p h e
 
-    behind_operators_sound : (x : Tree) (t : State) → SoundOperands x t → Meets SoundAssignment (behind_operators inner (begins_async_call s.at) (span_at s.at) x t)
+    behind_operators_sound : (x : Tree) (t : State) → SoundOperands x t → Meets SoundAssignment (behind_operators inner cover (begins_async_call s.at) (span_at s.at) x t)
     unfolding behind_operators
     behind_operators_sound x t p = meets_if _ (sees kind.QuestionMark t.at) _ _ (λ e. conditional_sound x t p (saw t.at kind.QuestionMark e))
         (λ h. assigned_or_sound x t (assign_operator (kind_at t.at)) p h refl)
 
-    assignment_sound : Meets SoundAssignment (assignment_expr inner s)
-    unfolding assignment_expr
-    assignment_sound = meets_then _ (binary_expr inner 1 s) _ (binary_sound n inner sound 1 s) (λ x t p. behind_operators_sound x t p)
+    operators_sound : Meets SoundAssignment (operators_expr inner cover s)
+    unfolding operators_expr
+    operators_sound = meets_then _ (binary_expr inner cover 1 s) _ (binary_sound n inner cover sound covers 1 s) (λ x t p. behind_operators_sound x t p)
+
+    -- ---- what may still become a pattern
+
+    opened_sound : begins_literal s.at ≡ true → Meets (SoundLiteral n s) (opened inner cover s)
+    opened_sound h = meets_if _ (sees kind.LBracket s.at) _ _ (λ e. array_sound n inner cover sound covers s (saw s.at kind.LBracket e))
+        (λ e. object_sound n inner cover sound covers s (saw s.at kind.LBrace (other (sees kind.LBracket s.at) (sees kind.LBrace s.at) h e)))
+
+    no_await : begins_literal s.at ≡ true → sees kind.Await s.at ≡ false
+    unfolding same_kind
+    no_await h = elim (literal_kind s.at h) [ inl e ↦ elsewhere s.at kind.LBracket kind.Await e refl | inr e ↦ elsewhere s.at kind.LBrace kind.Await e refl ]
+
+    abbrev SoundNext : Cover → State → Type 0
+    SoundNext v t = SoundCover (suc n) s v t
+
+    -- a pattern before `=`
+    given_sound : (v : Cover) (t : State) (p : Tree) → SoundLiteral n s v t → kind_at t.at ≡ kind.Assign → v.comma ≡ false → as_pattern false v.x ≡ Some p → is_literal v.x ≡ true
+        → Meets (λ y u. SoundNext (done y) u) (assigned_to inner cover (span_at s.at) p assign.Assign t)
+    unfolding assigned_to spanned
+    given_sound v t p q e c i l = let same = pattern_alike false v.x p i in meets_then _ (inner assignment (moved t)) _ (sound assignment (moved t)) (λ y u r.
+        sound_as s u refl (ap (λ z. z ++ walk (env_of s.code s.scope.labels) y) (sym (same.walked (env_of s.code s.scope.labels)))) (ap (λ z. z ++ notes y) (sym same.noted))
+        (λ (a, b). let w = a.pattern c p i in settled_read n s.code _ s.at u.at refl (
+          destructuring_rule p y t.at w.0 (literal_target v.x p l i) e b.0 refl,
+          and_both (supported p) (supported y) w.1 b.1,
+        )) (paired q (moved_back e refl r)))
+
+    pattern_sound : (v : Cover) (t : State) → SoundLiteral n s v t → kind_at t.at ≡ kind.Assign → is_literal v.x ≡ true → Meets SoundNext (assigned_pattern inner cover (span_at s.at) v t)
+    unfolding assigned_pattern
+    pattern_sound v t q e l = meets_then _ (target v t) _ (meets_each (λ p u. (t ≡ u) × (v.comma ≡ false) × (as_pattern false v.x ≡ Some p)) (target v t)
+        (λ p u f. let (c, i, h) = target_is v t p u f in (h, c, i)))
+        (λ p u (h, c, i). subst (λ z. Meets SoundNext (and_then (assigned_to inner cover (span_at s.at) p assign.Assign z) (λ y m. Ok (done y, m)))) h
+        (meets_then _ (assigned_to inner cover (span_at s.at) p assign.Assign t) _ (given_sound v t p q e c i l) (λ y m r. r)))
+
+    -- what goes on with it is no array or object
+    moved_literal : (y : Tree) (u t : State) → SoundAssignment y u → (is_literal y ≡ true → u ≡ t) → goes_on t ≡ true → Assignment s.code y s.at u.at → (b : Bool) → is_literal y ≡ b → b ≡ false
+    moved_literal y u t p stays g r true h =
+        clash (goes_on t) g (ap goes_on (sym (stays h)) ∙ literal_stops s.code y s.at u h p.code (literal_stays y s.at u.at h r.0))
+    moved_literal y u t p stays g r false h = refl
+
+    continued_sound : (v : Cover) (t : State) → begins_literal s.at ≡ true → opened inner cover s ≡ Ok (v, t) → v.mark ≡ None → goes_on t ≡ true
+        → Meets SoundNext (and_then (continued inner cover (span_at s.at) v.x t) (λ y u. Ok (done y, u)))
+    continued_sound v t h r o g = meets_then _ (continued inner cover (span_at s.at) v.x t) _ (meets_each (λ y u. SoundNext (done y) u) (continued inner cover (span_at s.at) v.x t) (λ y u e.
+        let p : SoundAssignment y u = met SoundAssignment (operators_expr inner cover s) y u operators_sound (operators_literal inner cover s h ∙ rw (r, close_reads v t o) e) in
+        let stays : is_literal y ≡ true → u ≡ t = met (Stays inner cover t) (continued inner cover (span_at s.at) v.x t) y u (continued_stays inner cover t (span_at s.at) v.x) e in
+        sound_as s u refl refl refl (λ a. settled_read n s.code y s.at u.at (moved_literal y u t p stays g a (is_literal y) refl) a) p)) (λ y u p. p)
+
+    closed_sound : (v : Cover) (t : State) → begins_literal s.at ≡ true → opened inner cover s ≡ Ok (v, t) → goes_on t ≡ true → Meets SoundNext (closed inner cover (span_at s.at) v t)
+    unfolding closed
+    closed_sound v t h r g = meets_then _ (close v t) _ (meets_each (λ x u. (v.mark ≡ None) × (v.x ≡ x) × (t ≡ u)) (close v t) (λ x u e. close_is v t x u e))
+        (λ x u (o, i, j). subst (λ z. Meets SoundNext (and_then (continued inner cover (span_at s.at) z u) (λ y m. Ok (done y, m)))) i
+        (subst (λ z. Meets SoundNext (and_then (continued inner cover (span_at s.at) v.x z) (λ y m. Ok (done y, m)))) j (continued_sound v t h r o g)))
+
+    behind_literal_sound : (v : Cover) (t : State) → begins_literal s.at ≡ true → opened inner cover s ≡ Ok (v, t) → SoundLiteral n s v t → Meets SoundNext (behind_literal inner cover (span_at s.at) v t)
+    unfolding behind_literal
+    behind_literal_sound v t h r p = meets_if _ (sees kind.Assign t.at) _ _
+        (λ e. pattern_sound v t p (saw t.at kind.Assign e) (met (λ u _. is_literal u.x ≡ true) (opened inner cover s) v t (opened_literal inner cover s) r))
+        (λ a. meets_if _ (goes_on t) _ _ (λ g. closed_sound v t h r g)
+        (λ g. sound_as s t refl refl refl (λ q. open_read n s.code v s.at t q p.code (no_await h) a g) p))
+
+    open_sound : begins_literal s.at ≡ true → Meets SoundNext (open_literal inner cover s)
+    unfolding open_literal
+    open_sound h = meets_then _ (opened inner cover s) _ (meets_each (λ v t. SoundLiteral n s v t × (opened inner cover s ≡ Ok (v, t))) (opened inner cover s)
+        (λ v t e. (met (SoundLiteral n s) (opened inner cover s) v t (opened_sound h) e, e))) (λ v t (p, e). behind_literal_sound v t h e p)
+
+    unopened : (x : Tree) (t : State) → begins_literal s.at ≡ false → Assignment s.code x s.at t.at → (b : Bool) → is_literal x ≡ b → b ≡ false
+    unopened x t h r true e = clash (begins_literal s.at) (assignment_first r.0 e) h
+    unopened x t h r false e = refl
+
+    cover_expr_sound : Meets SoundNext (cover_expr inner cover s)
+    unfolding cover_expr done_expr
+    cover_expr_sound = meets_if _ (begins_literal s.at) _ _ open_sound
+        (λ h. meets_then _ (operators_expr inner cover s) _ operators_sound (λ x t p.
+        sound_as s t refl refl refl (λ r. settled_read n s.code x s.at t.at (unopened x t h r (is_literal x) refl) r) p))
+
+    closed_by : (v : Cover) (t : State) (o : Option Span) → v.mark ≡ o → SoundNext v t → Meets SoundAssignment (unmarked v.x o t)
+    closed_by v t None e p = sound_as s t refl refl refl (λ r. r.plain e) p
+    closed_by v t (Some m) e p = reject_meets _ _ t
+
+    assignment_sound : Meets SoundAssignment (assignment_expr inner cover s)
+    unfolding assignment_expr close
+    assignment_sound = meets_then _ (cover_expr inner cover s) _ cover_expr_sound (λ v t p. closed_by v t v.mark refl p)
 
   -- ---- Expression
 
@@ -174,9 +263,9 @@ module _ (n : ℕ) (inner : Class → Reader Tree) (sound : (class : Class) (s :
     AllParts xs t = Sound same (λ k l. walks.walks (env_of k l) false (trees xs)) (all_notes (trees xs))
         (λ k c d. Parts (AssignmentRule (Reads n) k) xs c d × (all_supported (trees xs) ≡ true)) s t
 
-    sequence_turn_sound : (xs : List Tree) (t : State) → PartsSoFar xs t → Meets (Turned (sequence_turn inner) PartsSoFar AllParts Refuses) (sequence_turn inner xs t)
+    sequence_turn_sound : (xs : List Tree) (t : State) → PartsSoFar xs t → Meets (Turned (sequence_turn inner cover) PartsSoFar AllParts Refuses) (sequence_turn inner cover xs t)
     unfolding sequence_turn
-    sequence_turn_sound xs t (c, p) = meets_then _ (assignment_expr inner (moved t)) _ (assignment_sound (moved t)) (λ x u q. meets_if _ (sees kind.Comma u.at) _ _
+    sequence_turn_sound xs t (c, p) = meets_then _ (assignment_expr inner cover (moved t)) _ (assignment_sound (moved t)) (λ x u q. meets_if _ (sees kind.Comma u.at) _ _
         (λ e. (
           saw u.at kind.Comma e,
           sound_as s u refl (walks_push (env_of s.code s.scope.labels) xs x) (notes_push xs x)
@@ -186,31 +275,42 @@ module _ (n : ℕ) (inner : Class → Reader Tree) (sound : (class : Class) (s :
         (λ (a, b). (parts_last (AssignmentRule (Reads n) s.code) x t.at u.at s.at xs a.0 b.0 e, supported_push xs x a.1 b.1)) (paired p (moved_back c refl q))))
 
     sequence_sound : (x : Tree) (t : State) → SoundTree Assignment s x t → kind_at t.at ≡ kind.Comma
-        → Meets (λ y u. SoundTree (ReadsClass (suc n) expression) s y u) (sequence_from inner (span_at s.at) x t)
+        → Meets (λ y u. SoundTree (ReadsClass (suc n) expression) s y u) (sequence_from inner cover (span_at s.at) x t)
     unfolding sequence_from spanned
-    sequence_sound x t p e = meets_then _ (loop (sequence_turn inner) (x ∷ []) t) _
-        (loop_answers (sequence_turn inner) PartsSoFar AllParts Refuses sequence_turn_sound (λ _. tt) (x ∷ []) t
+    sequence_sound x t p e = meets_then _ (loop (sequence_turn inner cover) (x ∷ []) t) _
+        (loop_answers (sequence_turn inner cover) PartsSoFar AllParts Refuses sequence_turn_sound (λ _. tt) (x ∷ []) t
         (e, sound_as s t refl (sym (append-nil (walk (env_of s.code s.scope.labels) x))) (sym (append-nil (notes x))) (λ r. ((r.0, e), and_both (supported x) true r.1 refl)) p))
         (λ xs u q. sound_as s u refl refl refl (λ r. (parts_rule (Reads n) s.code _ xs s.at u.at r.0 refl, r.1)) q)
 
-    expression_sound : Meets (λ x t. SoundTree (ReadsClass (suc n) expression) s x t) (expression_expr inner s)
+    expression_sound : Meets (λ x t. SoundTree (ReadsClass (suc n) expression) s x t) (expression_expr inner cover s)
     unfolding expression_expr
-    expression_sound = meets_then _ (assignment_expr inner s) _ (assignment_sound s) (λ x t p. meets_if _ (sees kind.Comma t.at) _ _
+    expression_sound = meets_then _ (assignment_expr inner cover s) _ (assignment_sound s) (λ x t p. meets_if _ (sees kind.Comma t.at) _ _
         (λ e. sequence_sound x t p (saw t.at kind.Comma e)) (λ e. sound_as s t refl refl refl (λ r. (assignment_rule r.0 e, r.1)) p))
 
   -- ---- an expression of a class
 
-  level_sound : (class : Class) (s : State) → Meets (λ x t. SoundTree (ReadsClass (suc n) class) s x t) (expr_level inner class s)
+  level_sound : (class : Class) (s : State) → Meets (λ x t. SoundTree (ReadsClass (suc n) class) s x t) (expr_level inner cover class s)
   unfolding expr_level
   level_sound expression s = expression_sound s
   level_sound assignment s = assignment_sound s
-  level_sound (operator m) s = operator_sound n inner sound m s
-  level_sound unary s = unary_sound n inner sound s
-  level_sound left_side s = left_side_sound n inner sound s
-  level_sound callee s = callee_sound n inner sound s
+  level_sound (operator m) s = operator_sound n inner cover sound covers m s
+  level_sound unary s = unary_sound n inner cover sound covers s
+  level_sound left_side s = left_side_sound n inner cover sound covers s
+  level_sound callee s = callee_sound n inner cover sound covers s
+
+-- by recursion on the level: expressions, and what may still become a pattern
+both_sound : (n : ℕ) → ((class : Class) (s : State) → Meets (λ x t. SoundTree (ReadsClass n class) s x t) (expr n class s)) × ((s : State) → Meets (λ v t. SoundCover n s v t) (cover n s))
+unfolding expr cover
+both_sound zero = (λ class s. too_deep_meets _ s, λ s. too_deep_meets _ s)
+both_sound (suc n) = (
+  λ class s. level_sound n (expr n) (cover n) (both_sound n).0 (both_sound n).1 class s,
+  λ s. cover_expr_sound n (expr n) (cover n) (both_sound n).0 (both_sound n).1 s,
+)
 
 -- an expression of a class is in the relation of the whole language within as many levels
 pub expr_sound : (n : ℕ) (class : Class) (s : State) → Meets (λ x t. SoundTree (ReadsClass n class) s x t) (expr n class s)
-unfolding expr
-expr_sound zero class s = too_deep_meets _ s
-expr_sound (suc n) class s = level_sound n (expr n) (expr_sound n) class s
+expr_sound n class s = (both_sound n).0 class s
+
+-- what may still become a pattern is an expression or a pattern within as many
+pub cover_sound : (n : ℕ) (s : State) → Meets (λ v t. SoundCover n s v t) (cover n s)
+cover_sound n s = (both_sound n).1 s

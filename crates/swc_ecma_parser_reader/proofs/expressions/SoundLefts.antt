@@ -1,5 +1,5 @@
 -- The reader of left-hand-side expressions is sound: accesses, arguments, primary expressions, calls, `new` and `super`.
-use Rattle.std.proofs.Common.{◌≡◌, ℕ, zero, suc, Bool, true, false, List, [], ◌∷◌, ◌++◌, Option, Some, None, refl, sym, ◌∙◌, ap, subst, append_assoc, append-nil}
+use Rattle.std.proofs.Common.{◌≡◌, ℕ, zero, suc, Bool, true, false, List, [], ◌∷◌, ◌++◌, Option, Some, None, refl, sym, ◌∙◌, ap, subst, append-nil}
 use Rattle.std.specs.Prelude.{◌&&◌, ◌||◌}
 use Rattle.swc_ecma_parser_common.specs.declared.span.Span.{Span}
 use Rattle.swc_ecma_parser_error.specs.Kind as faults
@@ -13,33 +13,33 @@ use Rattle.swc_ecma_parser_token.specs.Kind.{token_kind}
 use Rattle.swc_ecma_parser_input.specs.Place.{Place, after}
 use Rattle.swc_ecma_parser_model.specs.declared.leaves.Ident.{Ident}
 use Rattle.swc_ecma_parser_model.specs.Tree as tree
-use Rattle.swc_ecma_parser_model.specs.Tree.{Tree, Text, listed, trees}
+use Rattle.swc_ecma_parser_model.specs.Tree.{Tree, listed, trees}
 use Rattle.swc_ecma_parser_model.specs.Forms.{is_rest}
 use Rattle.swc_ecma_parser_grammar.specs.Looks.{kind_at, sees, same_kind, span_at, spanned}
 use Rattle.swc_ecma_parser_grammar.specs.Names.{Code, is_name, name_at}
 use Rattle.swc_ecma_parser_grammar.specs.Follows.{is_async_function, continues_left_side}
-use Rattle.swc_ecma_parser_grammar.specs.Reads.{with_in, ReadsToken}
-use Rattle.swc_ecma_parser_grammar.specs.Supported.{supported, is_supported_property, is_supported_key, all_supported}
+use Rattle.swc_ecma_parser_grammar.specs.Reads.{ReadsToken}
+use Rattle.swc_ecma_parser_grammar.specs.Supported.{supported, is_supported_property, all_supported}
 use Rattle.swc_ecma_parser_grammar.specs.ReadsSupported.{ReadsClass}
 use Rattle.swc_ecma_parser_grammar.specs.language.Goals.{Goal, Class, expression, assignment, left_side, callee, expr_goal, callee_goal}
-use Rattle.swc_ecma_parser_grammar.specs.language.Lists.{ReadsListed, LastComma, no_comma, last_comma, Elements, no_elements, hole, last_element, more_elements}
+use Rattle.swc_ecma_parser_grammar.specs.language.Lists.{ReadsListed, LastComma, no_comma, last_comma}
 use Rattle.swc_ecma_parser_grammar.specs.language.Continues.{continues_callee}
 use Rattle.swc_ecma_parser_grammar.specs.language.Parts as parts
-use Rattle.swc_ecma_parser_grammar.specs.language.Parts.{AccessRule, word_access, private_access, bracket_access, is_private, ElementRule, ArgumentsRule, ReadsWord, KeyRule}
-use Rattle.swc_ecma_parser_grammar.specs.language.Objects.{PropertyRule, spread_rule, shorthand_rule, key_value_rule}
-use Rattle.swc_ecma_parser_grammar.specs.language.LeftSides.{PrimaryRule, name_rule, string_rule, true_rule, false_rule, null_rule, number_rule, big_int_rule, this_rule, array_rule, object_rule, paren_rule, is_callee, LeftSideRule, primary_rule, member_rule, super_property_rule, call_rule, super_call_rule, new_rule, bare_new_rule}
+use Rattle.swc_ecma_parser_grammar.specs.language.Parts.{AccessRule, word_access, private_access, bracket_access, is_private, ElementRule, ArgumentsRule}
+use Rattle.swc_ecma_parser_grammar.specs.language.LeftSides.{PrimaryRule, name_rule, string_rule, true_rule, false_rule, null_rule, number_rule, big_int_rule, this_rule, paren_rule, is_callee, LeftSideRule, primary_rule, member_rule, super_property_rule, call_rule, super_call_rule, new_rule, bare_new_rule}
 use Rattle.swc_ecma_parser_grammar.specs.language.Reads.{Reads}
 use Rattle.swc_ecma_parser_grammar.specs.Walk as walks
 use Rattle.swc_ecma_parser_grammar.specs.Walk.{walk, env_of}
 use Rattle.swc_ecma_parser_grammar.specs.Notes.{notes, all_notes}
 use Rattle.swc_ecma_parser_grammar.proofs.Tests.{or_no, or_none, and_yes, and_both}
-use Rattle.swc_ecma_parser_reader.specs.State.{State, Reader, moved, coded, expect, name, loop}
-use Rattle.swc_ecma_parser_reader.specs.Expressions.{literal_of, literal_in, taken, literal, any_word, word_property, token_is_word, first_is_word, is_word_at, key_or, literal_key, shorthand_name, shorthand, dotted, ident_expr, this, has_private, bare_new, closed_left, inside, brackets, access, spread_element, plain_element, element, behind_argument, arguments_turn, arguments, behind_element, array_turn, elements, array, computed_key, key, key_value, behind_key, keyed_property, spread_property, property, behind_property, object_turn, properties, object, paren, marked_primary, literal_or, primary, accessed, called, left_turn, left_from, super_call, super_access, behind_super, super_head, constructed, new_head, left_head, left, left_expr}
+use Rattle.swc_ecma_parser_reader.specs.State.{State, Outcome, Reader, and_then, moved, expect, name, loop}
+use Rattle.swc_ecma_parser_reader.specs.Expressions.{Cover, literal_of, literal_in, taken, literal, ident_expr, this, has_private, bare_new, closed_left, unmarked, close, dotted, inside, brackets, access, spread_element, plain_element, element, behind_argument, arguments_turn, arguments, array, object, paren, marked_primary, literal_or, primary, accessed, called, left_turn, left_from, super_call, super_access, behind_super, super_head, constructed, new_head, left_head, left, left_expr}
 use Rattle.swc_ecma_parser_reader.proofs.Meets.{Meets, Refuses, meets_then, meets_if, wanted_meets, Turned, loop_answers, saw}
 use Rattle.swc_ecma_parser_reader.proofs.Errors.{kind_here}
-use Rattle.swc_ecma_parser_reader.proofs.Between.{SoundTree, SoundStep, Sound, same, sound_moved, sound_here, sound_as, sound_after, within_sound}
+use Rattle.swc_ecma_parser_reader.proofs.Between.{SoundTree, SoundStep, Sound, same, sound_moved, sound_here, sound_as, sound_after}
 use Rattle.swc_ecma_parser_reader.proofs.expressions.CompleteKinds.{seen}
-use Rattle.swc_ecma_parser_reader.proofs.expressions.SoundSteps.{paired, stepped, moved_back, meets_as, reject_meets, other, clash, unseen, elsewhere, Takes, expect_sound, stands, token_first, FreeWord, name_sound, name_is_clean, name_is_supported, name_first, any_word_sound, Dotted, word_dotted, private_dotted, dotted_sound, walks_push, notes_push, supported_push}
+use Rattle.swc_ecma_parser_reader.proofs.expressions.SoundSteps.{paired, stepped, moved_back, meets_as, reject_meets, other, clash, elsewhere, Takes, expect_sound, stands, token_first, FreeWord, name_sound, name_is_clean, name_is_supported, name_first, Dotted, word_dotted, private_dotted, dotted_sound, walks_push, notes_push, supported_push}
+use Rattle.swc_ecma_parser_reader.proofs.expressions.SoundCovers.{SoundCover, SoundLiteral, inside_sound, array_sound, object_sound}
 
 -- ---- arguments, elements and properties
 
@@ -72,42 +72,6 @@ module _ (Reads : Tree → Place → Place → Type 0) where
     front_listed c d (x ∷ []) (m, r, h, b) = (m, r, comma_last x m d h b)
     front_listed c d (x ∷ y ∷ ys) (m, r, h, e, l) = (m, r, h, e, front_listed (after m) d (y ∷ ys) l)
 
-  -- the elements so far: the end stands behind them, or more may
-  data Begun (xs : List Tree) (c d : Place) : Type 0 where
-    at_end : Elements Reads xs c d → kind_at d ≡ kind.RBracket → Begun xs c d
-    at_more : ((ys : List Tree) (e : Place) → Elements Reads ys d e → Elements Reads (xs ++ ys) c e) → Begun xs c d
-
-  begun_elements : (c d : Place) (xs : List Tree) → Begun xs c d → Elements Reads xs c d
-  begun_elements c d xs (at_end r e) = r
-  begun_elements c d xs (at_more more) = subst (λ z. Elements Reads z c d) (append-nil xs) (more [] d (no_elements refl refl))
-
-  -- one more behind those that were followed by a comma
-  one_more : (xs : List Tree) (x : Tree) (c m d : Place) → ((ys : List Tree) (e : Place) → Elements Reads ys m e → Elements Reads (xs ++ ys) c e)
-      → ((ys : List Tree) (e : Place) → Elements Reads ys d e → Elements Reads (x ∷ ys) m e) → Begun (xs ++ x ∷ []) c d
-  one_more xs x c m d more next = at_more (λ ys e r. subst (λ z. Elements Reads z c e) (sym (append_assoc xs (x ∷ []) ys)) (more (x ∷ ys) e (next ys e r)))
-
-  begun_hole : (c d : Place) (xs : List Tree) → Begun xs c d → sees kind.RBracket d ≡ false → kind_at d ≡ kind.Comma → Begun (xs ++ tree.absent ∷ []) c (after d)
-  unfolding same_kind
-  begun_hole c d xs (at_end r u) h e = unseen d kind.RBracket u refl h
-  begun_hole c d xs (at_more more) h e = one_more xs tree.absent c d (after d) more (λ ys i r. hole ys e r refl)
-
-  no_more : (c d : Place) (xs : List Tree) → xs ≡ [] → Elements Reads xs c d → d ≡ c
-  no_more c d xs e (no_elements j i) = i
-  no_more c d xs e (hole ys i r j) = let k = sym e ∙ j in cc
-  no_more c d xs e (last_element y m r l j) = let k = sym e ∙ j in cc
-  no_more c d xs e (more_elements y z zs m r a i more j) = let k = sym e ∙ j in cc
-
-  module _ (x : Tree) (i d : Place) where
-    comma_then : (m e : Place) (ys : List Tree) → Reads x m i → is_rest x ≡ false → kind_at i ≡ kind.Comma → d ≡ after i → Elements Reads ys d e → Elements Reads (x ∷ ys) m e
-    comma_then m e [] r g o u l = last_element x i r (last_comma (rw g refl) o (no_more d e [] refl l ∙ u)) refl
-    comma_then m e (y ∷ ys) r g o u l = more_elements x y ys i r g o (subst (λ z. Elements Reads (y ∷ ys) z e) u l) refl
-
-    begun_push : (c m : Place) (xs : List Tree) → Begun xs c m → sees kind.RBracket m ≡ false → Reads x m i → is_rest x ≡ false → Behind kind.RBracket i d → Begun (xs ++ x ∷ []) c d
-    unfolding same_kind
-    begun_push c m xs (at_end a u) h r g b = unseen m kind.RBracket u refl h
-    begun_push c m xs (at_more more) h r g (before_end o u) = at_end (more (x ∷ []) d (last_element x i r (no_comma o) refl)) u
-    begun_push c m xs (at_more more) h r g (before_more o u) = one_more xs x c m d more (λ ys e l. comma_then m e ys r g o u l)
-
 -- ---- what is read
 
 -- a left-hand-side expression, with calls or as what `new` calls
@@ -124,14 +88,6 @@ Access In k x c d = AccessRule In k x c d × (is_supported_property x ≡ true)
 dotted_access : (In : Goal → Type 0) (k : Code) (x : Tree) (c d : Place) → kind_at c ≡ kind.Dot → Dotted x (after c) d → Access In k x c d
 dotted_access In k x c d e (word_dotted text span r g) = (word_access text span e r g, ap is_supported_property g)
 dotted_access In k x c d e (private_dotted r) = (private_access e r, ap is_supported_property r.is)
-
--- a key that is a name is a word
-ident_key : (In : Goal → Type 0) (k : Code) (span : Span) (text : Text) (c d : Place) → KeyRule In k (tree.ident span text) c d → ReadsWord text span c d
-ident_key In k span text c d (parts.word_key v i r e) = let a : text ≡ v = cc in let b : span ≡ i = cc in rw (a, b) r
-ident_key In k span text c d (parts.string_key value raw i r e) = cc
-ident_key In k span text c d (parts.number_key raw i r e) = cc
-ident_key In k span text c d (parts.big_int_key raw i r e) = cc
-ident_key In k span text c d (parts.computed_key r) = let e = r.is in cc
 
 -- no private name stands behind `super`
 not_private : (In : Goal → Type 0) (k : Code) (x : Tree) (c d : Place) → has_private c ≡ false → AccessRule In k x c d → is_private x ≡ false
@@ -157,24 +113,20 @@ free_left In calls i k c d e r = let free : is_name k.flags i.sym ≡ true = ap 
   is_called = λ _. refl;
 }
 
-module _ (n : ℕ) (inner : Class → Reader Tree) (sound : (class : Class) (s : State) → Meets (λ x t. SoundTree (ReadsClass n class) s x t) (inner class s)) where
-  -- an expression where `in` is an operator
-  pub inside_sound : (class : Class) (s : State) → Meets (λ x t. SoundTree (λ k. ReadsClass n class (with_in k)) s x t) (inside inner class s)
-  unfolding inside
-  inside_sound class s = within_sound (λ x k l. walk (env_of k l) x) notes (λ x k. ReadsClass n class k x) with_in (λ k. refl) (inner class) s (sound class (coded (with_in s.code) s))
-
+module _ (n : ℕ) (inner : Class → Reader Tree) (cover : Reader Cover) (sound : (class : Class) (s : State) → Meets (λ x t. SoundTree (ReadsClass n class) s x t) (inner class s))
+    (covers : (s : State) → Meets (λ v t. SoundCover n s v t) (cover s)) where
   -- ---- accesses
 
   abbrev SoundAccess : State → Tree → State → Type 0
   SoundAccess s x t = SoundTree (Access (Reads n)) s x t
 
-  brackets_sound : (s : State) → kind_at s.at ≡ kind.LBracket → Meets (SoundAccess s) (brackets inner s)
+  brackets_sound : (s : State) → kind_at s.at ≡ kind.LBracket → Meets (SoundAccess s) (brackets inner cover s)
   unfolding brackets spanned
-  brackets_sound s e = meets_then _ (inside inner expression (moved s)) _ (inside_sound expression (moved s)) (λ x m p.
+  brackets_sound s e = meets_then _ (inside inner cover expression (moved s)) _ (inside_sound n inner cover sound covers expression (moved s)) (λ x m p.
       meets_then _ (expect kind.RBracket m) _ (expect_sound kind.RBracket m refl) (λ _ t q.
       sound_as s t refl refl refl (λ (a, b). (bracket_access x m.at e a.0 b.0 b.1 refl, a.1)) (stepped (moved_back e refl p) q)))
 
-  access_sound : (s : State) → (sees kind.Dot s.at || sees kind.LBracket s.at) ≡ true → Meets (SoundAccess s) (access inner s)
+  access_sound : (s : State) → (sees kind.Dot s.at || sees kind.LBracket s.at) ≡ true → Meets (SoundAccess s) (access inner cover s)
   unfolding access
   access_sound s h = meets_if _ (sees kind.Dot s.at) _ _
       (λ e. meets_as (dotted (moved s)) (dotted_sound (moved s))
@@ -186,12 +138,12 @@ module _ (n : ℕ) (inner : Class → Reader Tree) (sound : (class : Class) (s :
   abbrev Element : Code → Tree → Place → Place → Type 0
   Element k x c d = ElementRule (Reads n) k x c d × (supported x ≡ true) × (is_rest x ≡ false)
 
-  element_sound : (s : State) → Meets (λ x t. SoundTree Element s x t) (element inner s)
+  element_sound : (s : State) → Meets (λ x t. SoundTree Element s x t) (element inner cover s)
   unfolding element spread_element plain_element
   element_sound s = meets_if _ (sees kind.DotDotDot s.at) _ _
-      (λ e. meets_then _ (inside inner assignment (moved s)) _ (inside_sound assignment (moved s)) (λ x t p.
+      (λ e. meets_then _ (inside inner cover assignment (moved s)) _ (inside_sound n inner cover sound covers assignment (moved s)) (λ x t p.
       sound_after s t (saw s.at kind.DotDotDot e) refl refl refl (λ r. (parts.spread_element x (saw s.at kind.DotDotDot e) r.0 refl, r.1, refl)) p))
-      (λ _. meets_then _ (inside inner assignment s) _ (inside_sound assignment s) (λ x t p.
+      (λ _. meets_then _ (inside inner cover assignment s) _ (inside_sound n inner cover sound covers assignment s) (λ x t p.
       sound_as s t refl refl refl (λ r. (parts.plain_element x r.0 refl, r.1, refl)) p))
 
   -- the arguments so far, and all
@@ -206,15 +158,15 @@ module _ (n : ℕ) (inner : Class → Reader Tree) (sound : (class : Class) (s :
   SoundClosed s xs t = Sound same (λ k l. walks.walks (env_of k l) false (trees xs)) (all_notes (trees xs)) (Closed xs) s t
 
   arguments_turn_sound : (s : State) (xs : List Tree) (t : State) → ArgumentsSoFar s xs t
-      → Meets (Turned (arguments_turn inner) (ArgumentsSoFar s) (SoundClosed s) Refuses) (arguments_turn inner xs t)
+      → Meets (Turned (arguments_turn inner cover) (ArgumentsSoFar s) (SoundClosed s) Refuses) (arguments_turn inner cover xs t)
   unfolding arguments_turn
   arguments_turn_sound s xs t p = meets_if _ (sees kind.RParen t.at) _ _
       (λ e. sound_as s (moved t) refl refl refl (λ (a, b). (t.at, front_listed (ElementRule (Reads n) s.code) kind.RParen s.at t.at xs a.0, b.0, b.1, a.1))
       (stepped p (sound_moved {P = λ k. Takes kind.RParen} t (saw t.at kind.RParen e) refl (saw t.at kind.RParen e, refl))))
-      (λ e. meets_then _ (element inner t) _ (element_sound t) (λ x m q. next e x m q))
+      (λ e. meets_then _ (element inner cover t) _ (element_sound t) (λ x m q. next e x m q))
     where
       next : sees kind.RParen t.at ≡ false → (x : Tree) (m : State) → SoundTree Element t x m
-          → Meets (Turned (arguments_turn inner) (ArgumentsSoFar s) (SoundClosed s) Refuses) (behind_argument inner (xs ++ x ∷ []) m)
+          → Meets (Turned (arguments_turn inner cover) (ArgumentsSoFar s) (SoundClosed s) Refuses) (behind_argument inner cover (xs ++ x ∷ []) m)
       next e x m q = meets_if _ (sees kind.RParen m.at) _ _ (λ h. pushed m (sound_here {P = λ k. Behind kind.RParen} m (before_end refl (saw m.at kind.RParen h))))
           (λ _. meets_then _ (expect kind.Comma m) _ (expect_sound kind.Comma m refl) (λ _ u r. pushed u (sound_as m u refl refl refl (λ z. before_more z.0 z.1) r)))
         where
@@ -226,175 +178,12 @@ module _ (n : ℕ) (inner : Class → Reader Tree) (sound : (class : Class) (s :
   abbrev Arguments : List Tree → Code → Place → Place → Type 0
   Arguments xs k c d = ArgumentsRule (Reads n) k true (listed xs) c d × (all_supported (trees xs) ≡ true)
 
-  arguments_sound : (s : State) → kind_at s.at ≡ kind.LParen → Meets (λ xs t. Sound same (λ k l. walk (env_of k l) (listed xs)) (notes (listed xs)) (Arguments xs) s t) (arguments inner s)
+  arguments_sound : (s : State) → kind_at s.at ≡ kind.LParen → Meets (λ xs t. Sound same (λ k l. walk (env_of k l) (listed xs)) (notes (listed xs)) (Arguments xs) s t) (arguments inner cover s)
   unfolding arguments
-  arguments_sound s e = meets_as (loop (arguments_turn inner) [] (moved s))
-      (loop_answers (arguments_turn inner) (ArgumentsSoFar (moved s)) (SoundClosed (moved s)) Refuses (arguments_turn_sound (moved s)) (λ t. tt) [] (moved s)
+  arguments_sound s e = meets_as (loop (arguments_turn inner cover) [] (moved s))
+      (loop_answers (arguments_turn inner cover) (ArgumentsSoFar (moved s)) (SoundClosed (moved s)) Refuses (arguments_turn_sound (moved s)) (λ t. tt) [] (moved s)
       (sound_here (moved s) (refl, refl)))
       (λ xs t p. sound_after s t e refl refl refl (λ (m, r, h, g, a). (record { elements = xs; close = m; opens = e; reads_elements = r; closes = h; next = g; is = refl }, a)) p)
-
-  -- ---- elements
-
-  -- the elements so far, and all
-  abbrev ElementsSoFar : State → List Tree → State → Type 0
-  ElementsSoFar s xs t = Sound same (λ k l. walks.walks (env_of k l) false (trees xs)) (all_notes (trees xs))
-      (λ k c d. Begun (ElementRule (Reads n) k) xs c d × (all_supported (trees xs) ≡ true)) s t
-
-  abbrev ClosedElements : List Tree → Code → Place → Place → Type 0
-  ClosedElements xs k c d = (m : Place) × Elements (ElementRule (Reads n) k) xs c m × (kind_at m ≡ kind.RBracket) × (d ≡ after m) × (all_supported (trees xs) ≡ true)
-
-  abbrev SoundElements : State → List Tree → State → Type 0
-  SoundElements s xs t = Sound same (λ k l. walks.walks (env_of k l) false (trees xs)) (all_notes (trees xs)) (ClosedElements xs) s t
-
-  array_turn_sound : (s : State) (xs : List Tree) (t : State) → ElementsSoFar s xs t
-      → Meets (Turned (array_turn inner) (ElementsSoFar s) (SoundElements s) Refuses) (array_turn inner xs t)
-  unfolding array_turn
-  array_turn_sound s xs t p = meets_if _ (sees kind.RBracket t.at) _ _
-      (λ e. sound_as s (moved t) refl refl refl (λ (a, b). (t.at, begun_elements (ElementRule (Reads n) s.code) s.at t.at xs a.0, b.0, b.1, a.1))
-      (stepped p (sound_moved {P = λ k. Takes kind.RBracket} t (saw t.at kind.RBracket e) refl (saw t.at kind.RBracket e, refl))))
-      (λ e. meets_if _ (sees kind.Comma t.at) _ _
-      (λ h. sound_as s (moved t) refl (walks_push (env_of s.code s.scope.labels) xs tree.absent) (notes_push xs tree.absent)
-      (λ ((f, a), b). (begun_hole (ElementRule (Reads n) s.code) s.at t.at xs f e (saw t.at kind.Comma h), supported_push xs tree.absent a refl))
-      (paired p (sound_moved {P = λ k. Takes kind.Comma} t (saw t.at kind.Comma h) refl (saw t.at kind.Comma h, refl))))
-      (λ _. meets_then _ (element inner t) _ (element_sound t) (λ x m q. next e x m q)))
-    where
-      next : sees kind.RBracket t.at ≡ false → (x : Tree) (m : State) → SoundTree Element t x m
-          → Meets (Turned (array_turn inner) (ElementsSoFar s) (SoundElements s) Refuses) (behind_element inner (xs ++ x ∷ []) m)
-      next e x m q = meets_if _ (sees kind.RBracket m.at) _ _ (λ h. pushed m (sound_here {P = λ k. Behind kind.RBracket} m (before_end refl (saw m.at kind.RBracket h))))
-          (λ _. meets_then _ (expect kind.Comma m) _ (expect_sound kind.Comma m refl) (λ _ u r. pushed u (sound_as m u refl refl refl (λ z. before_more z.0 z.1) r)))
-        where
-          pushed : (u : State) → SoundStep (λ k. Behind kind.RBracket) m u → ElementsSoFar s (xs ++ x ∷ []) u
-          pushed u r = sound_as s u refl (walks_push (env_of s.code s.scope.labels) xs x) (notes_push xs x)
-              (λ (((f, a), (b, g, h)), o). (begun_push (ElementRule (Reads n) s.code) x m.at u.at s.at t.at xs f e b h o, supported_push xs x a g)) (stepped (paired p q) r)
-
-  -- all of them, from `[` on
-  elements_sound : (s : State) → kind_at s.at ≡ kind.LBracket
-      → Meets (λ xs t. Sound same (λ k l. walk (env_of k l) (listed xs)) (notes (listed xs)) (λ k c d. ClosedElements xs k (after c) d) s t) (elements inner s)
-  unfolding elements
-  elements_sound s e = meets_as (loop (array_turn inner) [] (moved s))
-      (loop_answers (array_turn inner) (ElementsSoFar (moved s)) (SoundElements (moved s)) Refuses (array_turn_sound (moved s)) (λ t. tt) [] (moved s)
-      (sound_here (moved s) (at_more (λ ys d r. r), refl)))
-      (λ xs t p. sound_after s t e refl refl refl (λ r. r) p)
-
-  -- ---- properties
-
-  abbrev Key : Code → Tree → Place → Place → Type 0
-  Key k x c d = KeyRule (Reads n) k x c d × (is_supported_key x ≡ true)
-
-  abbrev SoundKey : State → Tree → State → Type 0
-  SoundKey s x t = SoundTree Key s x t
-
-  computed_key_sound : (s : State) → kind_at s.at ≡ kind.LBracket → Meets (SoundKey s) (computed_key inner s)
-  unfolding computed_key spanned
-  computed_key_sound s e = meets_then _ (inside inner assignment (moved s)) _ (inside_sound assignment (moved s)) (λ x m p.
-      meets_then _ (expect kind.RBracket m) _ (expect_sound kind.RBracket m refl) (λ _ t q.
-      sound_as s t refl refl refl (λ (a, b). (parts.computed_key (record { key = x; close = m.at; opens = e; reads_key = a.0; closes = b.0; next = b.1; is = refl }), a.1))
-      (stepped (moved_back e refl p) q)))
-
-  -- a string or a number was read, or nothing
-  abbrev KeyOr : State → Option Tree → State → Type 0
-  KeyOr s (Some x) t = SoundKey s x t
-  KeyOr s None t = Unit {0}
-
-  key_of_sound : (s : State) (u : TokenAndSpan) (ts : List TokenAndSpan) (v : Token) → s.at.left ≡ u ∷ ts → u.token ≡ v → token_is_word v ≡ false
-      → Meets (KeyOr s) (taken (literal_of u.span v) s)
-  key_of_sound s u ts (token.Str value raw) e h g = let r = stands s.at u ts (token.Str value raw) e h in
-      sound_moved s (kind_here s.at u ts (token.Str value raw) e h) refl (parts.string_key value raw u.span r refl, refl)
-  key_of_sound s u ts (token.Num raw) e h g = let r = stands s.at u ts (token.Num raw) e h in
-      sound_moved s (kind_here s.at u ts (token.Num raw) e h) refl (parts.number_key raw u.span r refl, refl)
-  key_of_sound s u ts (token.BigInt raw) e h g = let r = stands s.at u ts (token.BigInt raw) e h in
-      sound_moved s (kind_here s.at u ts (token.BigInt raw) e h) refl (parts.big_int_key raw u.span r refl, refl)
-  key_of_sound s u ts (token.Word w) e h g = cc
-  key_of_sound s u ts _ e h g = tt
-
-  key_in_sound : (s : State) (ts : List TokenAndSpan) → s.at.left ≡ ts → first_is_word ts ≡ false → Meets (KeyOr s) (taken (literal_in ts) s)
-  key_in_sound s [] e g = tt
-  key_in_sound s (u ∷ ts) e g = key_of_sound s u ts u.token e refl g
-
-  key_or_sound : (s : State) (o : Option Tree) (t : State) → KeyOr s o t → Meets (SoundKey s) (key_or o t)
-  key_or_sound s (Some x) t p = p
-  key_or_sound s None t p = wanted_meets _ faults.Unexpected t
-
-  literal_key_sound : (s : State) → is_word_at s.at ≡ false → Meets (SoundKey s) (literal_key s)
-  unfolding literal_key literal is_word_at
-  literal_key_sound s g = meets_then _ (taken (literal_in s.at.left) s) _ (key_in_sound s s.at.left refl g) (λ o t p. key_or_sound s o t p)
-
-  key_sound : (s : State) → Meets (SoundKey s) (key inner s)
-  unfolding key word_property
-  key_sound s = meets_if _ (is_word_at s.at) _ _
-      (λ _. meets_then _ (any_word s) _ (any_word_sound s) (λ i t p. sound_as s t refl refl refl (λ r. (parts.word_key i.sym i.span r refl, refl)) p))
-      (λ g. meets_if _ (sees kind.LBracket s.at) _ _ (λ e. computed_key_sound s (saw s.at kind.LBracket e)) (λ _. literal_key_sound s g))
-
-  abbrev Property : Code → Tree → Place → Place → Type 0
-  Property k x c d = PropertyRule (Reads n) k x c d × (supported x ≡ true) × (is_rest x ≡ false)
-
-  abbrev SoundProperty : State → Tree → State → Type 0
-  SoundProperty s x t = SoundTree Property s x t
-
-  shorthand_name_sound : (s : State) (span : Span) (text : Text) (t : State) → SoundKey s (tree.ident span text) t → Meets (SoundProperty s) (shorthand_name span text t)
-  unfolding shorthand_name
-  shorthand_name_sound s span text t p = meets_if _ (is_name t.code.flags text) _ _
-      (λ e. let free : is_name s.code.flags text ≡ true = sym (ap (λ z. is_name z.flags text) p.code) ∙ e in
-      sound_as s t refl refl refl (λ (a, _). let r = ident_key (Reads n) s.code span text s.at t.at a in (
-        shorthand_rule text span (record { word = r.word; reads_word = r.reads_word; is_text = r.is_text; is_name = name_is_clean s.code.flags text free }) refl,
-        name_is_supported s.code.flags text free,
-        refl,
-      )) p)
-      (λ _. reject_meets _ _ t)
-
-  shorthand_sound : (s : State) (x : Tree) (t : State) → SoundKey s x t → Meets (SoundProperty s) (shorthand x t)
-  shorthand_sound s (tree.ident span text) t p = shorthand_name_sound s span text t p
-  shorthand_sound s _ t p = wanted_meets _ faults.Unexpected t
-
-  key_value_sound : (s : State) (x : Tree) (m : State) → SoundKey s x m → kind_at m.at ≡ kind.Colon → Meets (SoundProperty s) (key_value inner (span_at s.at) x m)
-  unfolding key_value spanned
-  key_value_sound s x m p e = meets_then _ (inside inner assignment (moved m)) _ (inside_sound assignment (moved m)) (λ y t q.
-      sound_as s t refl refl refl (λ (a, b). (key_value_rule x y m.at a.0 e b.0 refl, and_both (is_supported_key x) (supported y) a.1 b.1, refl)) (paired p (moved_back e refl q)))
-
-  property_sound : (s : State) → Meets (SoundProperty s) (property inner s)
-  unfolding property spread_property keyed_property behind_key
-  property_sound s = meets_if _ (sees kind.DotDotDot s.at) _ _
-      (λ e. meets_then _ (inside inner assignment (moved s)) _ (inside_sound assignment (moved s)) (λ x t p.
-      sound_after s t (saw s.at kind.DotDotDot e) refl refl refl (λ r. (spread_rule x (saw s.at kind.DotDotDot e) r.0 refl, r.1, refl)) p))
-      (λ _. meets_then _ (key inner s) _ (key_sound s) (λ x m p.
-      meets_if _ (sees kind.Colon m.at) _ _ (λ e. key_value_sound s x m p (saw m.at kind.Colon e)) (λ _. shorthand_sound s x m p)))
-
-  -- the properties so far, and all
-  abbrev PropertiesSoFar : State → List Tree → State → Type 0
-  PropertiesSoFar s xs t = Sound same (λ k l. walks.walks (env_of k l) false (trees xs)) (all_notes (trees xs))
-      (λ k c d. Front (PropertyRule (Reads n) k) kind.RBrace xs c d × (all_supported (trees xs) ≡ true)) s t
-
-  abbrev ClosedProperties : List Tree → Code → Place → Place → Type 0
-  ClosedProperties xs k c d = (m : Place) × ReadsListed true (PropertyRule (Reads n) k) xs c m × (kind_at m ≡ kind.RBrace) × (d ≡ after m) × (all_supported (trees xs) ≡ true)
-
-  abbrev SoundProperties : State → List Tree → State → Type 0
-  SoundProperties s xs t = Sound same (λ k l. walks.walks (env_of k l) false (trees xs)) (all_notes (trees xs)) (ClosedProperties xs) s t
-
-  object_turn_sound : (s : State) (xs : List Tree) (t : State) → PropertiesSoFar s xs t
-      → Meets (Turned (object_turn inner) (PropertiesSoFar s) (SoundProperties s) Refuses) (object_turn inner xs t)
-  unfolding object_turn
-  object_turn_sound s xs t p = meets_if _ (sees kind.RBrace t.at) _ _
-      (λ e. sound_as s (moved t) refl refl refl (λ (a, b). (t.at, front_listed (PropertyRule (Reads n) s.code) kind.RBrace s.at t.at xs a.0, b.0, b.1, a.1))
-      (stepped p (sound_moved {P = λ k. Takes kind.RBrace} t (saw t.at kind.RBrace e) refl (saw t.at kind.RBrace e, refl))))
-      (λ e. meets_then _ (property inner t) _ (property_sound t) (λ x m q. next e x m q))
-    where
-      next : sees kind.RBrace t.at ≡ false → (x : Tree) (m : State) → SoundProperty t x m
-          → Meets (Turned (object_turn inner) (PropertiesSoFar s) (SoundProperties s) Refuses) (behind_property inner (xs ++ x ∷ []) m)
-      next e x m q = meets_if _ (sees kind.RBrace m.at) _ _ (λ h. pushed m (sound_here {P = λ k. Behind kind.RBrace} m (before_end refl (saw m.at kind.RBrace h))))
-          (λ _. meets_then _ (expect kind.Comma m) _ (expect_sound kind.Comma m refl) (λ _ u r. pushed u (sound_as m u refl refl refl (λ z. before_more z.0 z.1) r)))
-        where
-          pushed : (u : State) → SoundStep (λ k. Behind kind.RBrace) m u → PropertiesSoFar s (xs ++ x ∷ []) u
-          pushed u r = sound_as s u refl (walks_push (env_of s.code s.scope.labels) xs x) (notes_push xs x)
-              (λ (((f, a), (b, g, h)), o). (front_push (PropertyRule (Reads n) s.code) kind.RBrace x m.at u.at s.at t.at xs f e b h o, supported_push xs x a g)) (stepped (paired p q) r)
-
-  -- all of them, from `{` on
-  properties_sound : (s : State) → kind_at s.at ≡ kind.LBrace
-      → Meets (λ xs t. Sound same (λ k l. walk (env_of k l) (listed xs)) (notes (listed xs)) (λ k c d. ClosedProperties xs k (after c) d) s t) (properties inner s)
-  unfolding properties
-  properties_sound s e = meets_as (loop (object_turn inner) [] (moved s))
-      (loop_answers (object_turn inner) (PropertiesSoFar (moved s)) (SoundProperties (moved s)) Refuses (object_turn_sound (moved s)) (λ t. tt) [] (moved s)
-      (sound_here (moved s) (refl, refl)))
-      (λ xs t p. sound_after s t e refl refl refl (λ r. r) p)
 
   -- ---- primary expressions
 
@@ -447,27 +236,31 @@ module _ (n : ℕ) (inner : Class → Reader Tree) (sound : (class : Class) (s :
     this_sound e =
         sound_moved s e refl (record { rule = primary_rule (this_rule e refl refl); supports = refl; no_await = elsewhere s.at kind.This kind.Await e refl; is_called = λ _. refl })
 
-    array_sound : kind_at s.at ≡ kind.LBracket → Meets (SoundLeft calls s) (array inner s)
-    unfolding array spanned same_kind
-    array_sound e = meets_then _ (elements inner s) _ (elements_sound s e) (λ xs t p. sound_as s t refl refl refl (λ (m, r, h, g, a). record {
-      rule = primary_rule (array_rule xs m e r h g refl);
-      supports = a;
-      no_await = elsewhere s.at kind.LBracket kind.Await e refl;
-      is_called = λ _. refl;
-    }) p)
+    -- an array or object that is closed
+    closed_by : (v : Cover) (t : State) (o : Option Span) → v.mark ≡ o → SoundLiteral n s v t → sees kind.Await s.at ≡ false → Meets (SoundLeft calls s) (unmarked v.x o t)
+    closed_by v t None e p h = sound_as s t refl refl refl (λ r. let w = r.plain e in record {
+      rule = primary_rule w.0;
+      supports = w.1;
+      no_await = h;
+      is_called = λ _. r.called;
+    }) p
+    closed_by v t (Some m) e p h = reject_meets _ _ t
 
-    object_sound : kind_at s.at ≡ kind.LBrace → Meets (SoundLeft calls s) (object inner s)
-    unfolding object spanned same_kind
-    object_sound e = meets_then _ (properties inner s) _ (properties_sound s e) (λ xs t p. sound_as s t refl refl refl (λ (m, r, h, g, a). record {
-      rule = primary_rule (object_rule xs m e r h g refl);
-      supports = a;
-      no_await = elsewhere s.at kind.LBrace kind.Await e refl;
-      is_called = λ _. refl;
-    }) p)
+    literal_left : (o : Outcome Cover) → Meets (SoundLiteral n s) o → sees kind.Await s.at ≡ false → Meets (SoundLeft calls s) (and_then o close)
+    unfolding close
+    literal_left o p h = meets_then _ o _ p (λ v t q. closed_by v t v.mark refl q h)
 
-    paren_sound : kind_at s.at ≡ kind.LParen → Meets (SoundLeft calls s) (paren inner s)
+    array_left : kind_at s.at ≡ kind.LBracket → Meets (SoundLeft calls s) (and_then (array inner cover s) close)
+    unfolding same_kind
+    array_left e = literal_left (array inner cover s) (array_sound n inner cover sound covers s e) (elsewhere s.at kind.LBracket kind.Await e refl)
+
+    object_left : kind_at s.at ≡ kind.LBrace → Meets (SoundLeft calls s) (and_then (object inner cover s) close)
+    unfolding same_kind
+    object_left e = literal_left (object inner cover s) (object_sound n inner cover sound covers s e) (elsewhere s.at kind.LBrace kind.Await e refl)
+
+    paren_sound : kind_at s.at ≡ kind.LParen → Meets (SoundLeft calls s) (paren inner cover s)
     unfolding paren spanned same_kind
-    paren_sound e = meets_then _ (inside inner expression (moved s)) _ (inside_sound expression (moved s)) (λ x m p.
+    paren_sound e = meets_then _ (inside inner cover expression (moved s)) _ (inside_sound n inner cover sound covers expression (moved s)) (λ x m p.
         meets_then _ (expect kind.RParen m) _ (expect_sound kind.RParen m refl) (λ _ t q.
         sound_as s t refl refl refl (λ (a, b). record {
           rule = primary_rule (paren_rule x m.at e a.0 b.0 b.1 refl);
@@ -476,18 +269,18 @@ module _ (n : ℕ) (inner : Class → Reader Tree) (sound : (class : Class) (s :
           is_called = λ _. refl;
         }) (stepped (moved_back e refl p) q)))
 
-    marked_sound : Meets (SoundLeft calls s) (marked_primary inner s)
+    marked_sound : Meets (SoundLeft calls s) (marked_primary inner cover s)
     unfolding marked_primary
     marked_sound = meets_if _ (sees kind.LParen s.at) _ _ (λ e. paren_sound (saw s.at kind.LParen e))
-        (λ _. meets_if _ (sees kind.LBracket s.at) _ _ (λ e. array_sound (saw s.at kind.LBracket e))
-        (λ _. meets_if _ (sees kind.LBrace s.at) _ _ (λ e. object_sound (saw s.at kind.LBrace e))
+        (λ _. meets_if _ (sees kind.LBracket s.at) _ _ (λ e. array_left (saw s.at kind.LBracket e))
+        (λ _. meets_if _ (sees kind.LBrace s.at) _ _ (λ e. object_left (saw s.at kind.LBrace e))
         (λ _. meets_if _ (sees kind.This s.at) _ _ (λ e. this_sound (saw s.at kind.This e)) (λ _. wanted_meets _ faults.Unexpected s))))
 
-    literal_or_sound : (o : Option Tree) (t : State) → Literal calls s o t → Meets (SoundLeft calls s) (literal_or inner o t)
+    literal_or_sound : (o : Option Tree) (t : State) → Literal calls s o t → Meets (SoundLeft calls s) (literal_or inner cover o t)
     literal_or_sound (Some x) t p = p
-    literal_or_sound None t e = subst (λ z. Meets (SoundLeft calls s) (marked_primary inner z)) (sym e) marked_sound
+    literal_or_sound None t e = subst (λ z. Meets (SoundLeft calls s) (marked_primary inner cover z)) (sym e) marked_sound
 
-    primary_sound : Meets (SoundLeft calls s) (primary inner s)
+    primary_sound : Meets (SoundLeft calls s) (primary inner cover s)
     unfolding primary
     primary_sound = meets_if _ (name_at s.code.flags s.at) _ _ (λ _. ident_sound calls s)
         (λ _. meets_then _ (literal s) _ literal_sound (λ o t p. literal_or_sound o t p))
@@ -495,19 +288,19 @@ module _ (n : ℕ) (inner : Class → Reader Tree) (sound : (class : Class) (s :
   -- ---- accesses and calls one behind another
 
   module _ (calls : Bool) (s : State) where
-    accessed_sound : (x : Tree) (t : State) → SoundLeft calls s x t → (sees kind.Dot t.at || sees kind.LBracket t.at) ≡ true → Meets (SoundLeft calls s) (accessed inner (span_at s.at) x t)
+    accessed_sound : (x : Tree) (t : State) → SoundLeft calls s x t → (sees kind.Dot t.at || sees kind.LBracket t.at) ≡ true → Meets (SoundLeft calls s) (accessed inner cover (span_at s.at) x t)
     unfolding accessed spanned
-    accessed_sound x t p e = meets_then _ (access inner t) _ (access_sound t e) (λ y u q. sound_as s u refl refl refl (λ (a, b). record {
+    accessed_sound x t p e = meets_then _ (access inner cover t) _ (access_sound t e) (λ y u q. sound_as s u refl refl refl (λ (a, b). record {
       rule = member_rule x y t.at a.rule b.0 refl;
       supports = and_both (supported x) (is_supported_property y) a.supports b.1;
       no_await = a.no_await;
       is_called = a.is_called;
     }) (paired p q))
 
-    called_sound : (x : Tree) (t : State) → SoundLeft calls s x t → (calls && sees kind.LParen t.at) ≡ true → Meets (SoundLeft calls s) (called inner (span_at s.at) x t)
+    called_sound : (x : Tree) (t : State) → SoundLeft calls s x t → (calls && sees kind.LParen t.at) ≡ true → Meets (SoundLeft calls s) (called inner cover (span_at s.at) x t)
     unfolding called spanned
     called_sound x t p e = let h = and_yes calls (sees kind.LParen t.at) e in
-        meets_then _ (arguments inner t) _ (arguments_sound t (saw t.at kind.LParen h.1)) (λ xs u q. sound_as s u refl refl refl (λ (a, b). record {
+        meets_then _ (arguments inner cover t) _ (arguments_sound t (saw t.at kind.LParen h.1)) (λ xs u q. sound_as s u refl refl refl (λ (a, b). record {
           rule = call_rule x (listed xs) t.at a.rule b.0 refl;
           supports = and_both (supported x) (all_supported (trees xs)) a.supports b.1;
           no_await = a.no_await;
@@ -519,27 +312,27 @@ module _ (n : ℕ) (inner : Class → Reader Tree) (sound : (class : Class) (s :
     Ended k x c d = Left (Reads n) calls k x c d × ((sees kind.Dot d || sees kind.LBracket d) ≡ false) × ((calls && sees kind.LParen d) ≡ false)
 
     left_turn_sound : (x : Tree) (t : State) → SoundLeft calls s x t
-        → Meets (Turned (left_turn inner calls (span_at s.at)) (SoundLeft calls s) (λ y u. SoundTree Ended s y u) Refuses) (left_turn inner calls (span_at s.at) x t)
+        → Meets (Turned (left_turn inner cover calls (span_at s.at)) (SoundLeft calls s) (λ y u. SoundTree Ended s y u) Refuses) (left_turn inner cover calls (span_at s.at) x t)
     unfolding left_turn
     left_turn_sound x t p = meets_if _ (sees kind.Dot t.at || sees kind.LBracket t.at) _ _
-        (λ e. meets_then _ (accessed inner (span_at s.at) x t) _ (accessed_sound x t p e) (λ y u q. q))
+        (λ e. meets_then _ (accessed inner cover (span_at s.at) x t) _ (accessed_sound x t p e) (λ y u q. q))
         (λ e. meets_if _ (calls && sees kind.LParen t.at) _ _
-        (λ h. meets_then _ (called inner (span_at s.at) x t) _ (called_sound x t p h) (λ y u q. q))
+        (λ h. meets_then _ (called inner cover (span_at s.at) x t) _ (called_sound x t p h) (λ y u q. q))
         (λ h. sound_as s t refl refl refl (λ r. (r, e, h)) p))
 
-    left_from_sound : (x : Tree) (t : State) → SoundLeft calls s x t → Meets (λ y u. SoundTree Ended s y u) (left_from inner calls (span_at s.at) x t)
+    left_from_sound : (x : Tree) (t : State) → SoundLeft calls s x t → Meets (λ y u. SoundTree Ended s y u) (left_from inner cover calls (span_at s.at) x t)
     unfolding left_from
     left_from_sound x t p =
-        loop_answers (left_turn inner calls (span_at s.at)) (SoundLeft calls s) (λ y u. SoundTree Ended s y u) Refuses left_turn_sound (λ _. tt) x t p
+        loop_answers (left_turn inner cover calls (span_at s.at)) (SoundLeft calls s) (λ y u. SoundTree Ended s y u) Refuses left_turn_sound (λ _. tt) x t p
 
     -- ---- `super` and `new`
 
-    super_sound : kind_at s.at ≡ kind.Super → Meets (SoundLeft calls s) (super_head inner calls s)
+    super_sound : kind_at s.at ≡ kind.Super → Meets (SoundLeft calls s) (super_head inner cover calls s)
     unfolding super_head behind_super super_call super_access spanned same_kind
     super_sound e = let w : sees kind.Await s.at ≡ false = elsewhere s.at kind.Super kind.Await e refl in
         meets_if _ (calls && sees kind.LParen (after s.at)) _ _
         (λ h. let g = and_yes calls (sees kind.LParen (after s.at)) h in
-        meets_then _ (arguments inner (moved s)) _ (arguments_sound (moved s) (saw (after s.at) kind.LParen g.1)) (λ xs t p. sound_after s t e refl refl refl (λ r. record {
+        meets_then _ (arguments inner cover (moved s)) _ (arguments_sound (moved s) (saw (after s.at) kind.LParen g.1)) (λ xs t p. sound_after s t e refl refl refl (λ r. record {
           rule = super_call_rule (listed xs) e r.0 refl;
           supports = r.1;
           no_await = w;
@@ -547,7 +340,7 @@ module _ (n : ℕ) (inner : Class → Reader Tree) (sound : (class : Class) (s :
         }) p))
         (λ _. meets_if _ (has_private (after s.at)) _ _ (λ _. wanted_meets _ faults.Unexpected (moved (moved s)))
         (λ h. meets_if _ (sees kind.Dot (after s.at) || sees kind.LBracket (after s.at)) _ _
-        (λ g. meets_then _ (access inner (moved s)) _ (access_sound (moved s) g) (λ x t p. sound_after s t e refl refl refl (λ r. record {
+        (λ g. meets_then _ (access inner cover (moved s)) _ (access_sound (moved s) g) (λ x t p. sound_after s t e refl refl refl (λ r. record {
           rule = super_property_rule x e r.0 (not_private (Reads n) s.code x (after s.at) t.at h r.0) refl;
           supports = r.1;
           no_await = w;
@@ -555,11 +348,11 @@ module _ (n : ℕ) (inner : Class → Reader Tree) (sound : (class : Class) (s :
         }) p))
         (λ _. reject_meets _ _ (moved s))))
 
-    new_sound : kind_at s.at ≡ kind.New → Meets (SoundLeft calls s) (new_head inner s)
+    new_sound : kind_at s.at ≡ kind.New → Meets (SoundLeft calls s) (new_head inner cover s)
     unfolding new_head constructed bare_new spanned same_kind
     new_sound e = let w : sees kind.Await s.at ≡ false = elsewhere s.at kind.New kind.Await e refl in
         meets_then _ (inner callee (moved s)) _ (sound callee (moved s)) (λ x m p. meets_if _ (sees kind.LParen m.at) _ _
-        (λ h. meets_then _ (arguments inner m) _ (arguments_sound m (saw m.at kind.LParen h)) (λ xs t q. sound_as s t refl refl refl (λ (a, b). record {
+        (λ h. meets_then _ (arguments inner cover m) _ (arguments_sound m (saw m.at kind.LParen h)) (λ xs t q. sound_as s t refl refl refl (λ (a, b). record {
           rule = new_rule x (listed xs) m.at e a.0 b.0 refl;
           supports = and_both (supported x) (all_supported (trees xs)) a.2 b.1;
           no_await = w;
@@ -572,22 +365,22 @@ module _ (n : ℕ) (inner : Class → Reader Tree) (sound : (class : Class) (s :
           is_called = λ _. refl;
         }) p))
 
-    left_head_sound : Meets (SoundLeft calls s) (left_head inner calls s)
+    left_head_sound : Meets (SoundLeft calls s) (left_head inner cover calls s)
     unfolding left_head
     left_head_sound = meets_if _ (sees kind.Super s.at) _ _ (λ e. super_sound (saw s.at kind.Super e))
         (λ _. meets_if _ (sees kind.New s.at) _ _ (λ e. new_sound (saw s.at kind.New e)) (λ _. primary_sound calls s))
 
     -- a left-hand-side expression that nothing goes on with
-    pub left_sound : Meets (λ x t. SoundTree Ended s x t) (left inner calls s)
+    pub left_sound : Meets (λ x t. SoundTree Ended s x t) (left inner cover calls s)
     unfolding left
-    left_sound = meets_then _ (left_head inner calls s) _ left_head_sound (λ x t p. left_from_sound x t p)
+    left_sound = meets_then _ (left_head inner cover calls s) _ left_head_sound (λ x t p. left_from_sound x t p)
 
   -- ---- of the class
 
-  pub callee_sound : (s : State) → Meets (λ x t. SoundTree (ReadsClass (suc n) callee) s x t) (left inner false s)
-  callee_sound s = meets_as (left inner false s) (left_sound false s) (λ x t p. sound_as s t refl refl refl (λ r. ((r.0.rule, r.0.is_called refl), r.1, r.0.supports)) p)
+  pub callee_sound : (s : State) → Meets (λ x t. SoundTree (ReadsClass (suc n) callee) s x t) (left inner cover false s)
+  callee_sound s = meets_as (left inner cover false s) (left_sound false s) (λ x t p. sound_as s t refl refl refl (λ r. ((r.0.rule, r.0.is_called refl), r.1, r.0.supports)) p)
 
-  pub left_side_sound : (s : State) → Meets (λ x t. SoundTree (ReadsClass (suc n) left_side) s x t) (left_expr inner s)
+  pub left_side_sound : (s : State) → Meets (λ x t. SoundTree (ReadsClass (suc n) left_side) s x t) (left_expr inner cover s)
   unfolding left_expr closed_left
-  left_side_sound s = meets_then _ (left inner true s) _ (left_sound true s) (λ x t p. meets_if _ (continues_left_side t.at) _ _ (λ _. wanted_meets _ faults.Unexpected t)
+  left_side_sound s = meets_then _ (left inner cover true s) _ (left_sound true s) (λ x t p. meets_if _ (continues_left_side t.at) _ _ (λ _. wanted_meets _ faults.Unexpected t)
       (λ e. sound_as s t refl refl refl (λ r. ((r.0.rule, e), r.0.supports)) p))

@@ -25,11 +25,12 @@ use Rattle.swc_ecma_parser_grammar.specs.language.Expressions.{UnaryRule, operan
 use Rattle.swc_ecma_parser_grammar.specs.language.Reads.{Reads}
 use Rattle.swc_ecma_parser_grammar.proofs.Tests.{or_no, or_none, and_yes, and_both, and_no, no_and}
 use Rattle.swc_ecma_parser_reader.specs.State.{State, Reader, moved}
-use Rattle.swc_ecma_parser_reader.specs.Expressions.{simple, update_behind, behind_operand, postfix_at, right_class, read_operator, operator_at, left_operand, unmixed, left, prefixed, update_before, postfix, updated, unary_by, unary_expr, operated, binary_by, binary_turn, binary_from, binary_expr}
+use Rattle.swc_ecma_parser_reader.specs.Expressions.{Cover, simple, update_behind, behind_operand, postfix_at, right_class, read_operator, operator_at, left_operand, unmixed, left, prefixed, update_before, postfix, updated, unary_by, unary_expr, operated, binary_by, binary_turn, binary_from, binary_expr}
 use Rattle.swc_ecma_parser_reader.proofs.Meets.{Meets, Refuses, meets_then, meets_if, Turned, loop_answers}
 use Rattle.swc_ecma_parser_reader.proofs.Errors.{is_error}
 use Rattle.swc_ecma_parser_reader.proofs.Between.{SoundTree, sound_moved, sound_as, sound_after}
 use Rattle.swc_ecma_parser_reader.proofs.expressions.SoundSteps.{paired, stepped, moved_back, meets_as, reject_meets, when_true, when_false, clash}
+use Rattle.swc_ecma_parser_reader.proofs.expressions.SoundCovers.{SoundCover}
 use Rattle.swc_ecma_parser_reader.proofs.expressions.SoundLefts.{Left, left_sound}
 
 -- ---- what is read
@@ -140,7 +141,7 @@ is_power kind.Exp h = refl
 is_power _ h = cc
 
 -- a simple target is read by the rule of an operand
-other_form : {X : Type 0} (x y : Tree) → is_simple_target x ≡ true → x ≡ y → is_simple_target y ≡ false → X
+pub other_form : {X : Type 0} (x y : Tree) → is_simple_target x ≡ true → x ≡ y → is_simple_target y ≡ false → X
 other_form x y h e g = clash (is_simple_target x) h (ap is_simple_target e ∙ g)
 
 module _ {In : Goal → Type 0} {k : Code} where
@@ -192,13 +193,14 @@ module _ (n : ℕ) (k : Code) (op : BinaryOp) (x y : Tree) (c i d : Place) (h : 
         (λ _. made (precedence o) (groups_left op) refl a r.0, λ z. clash (groups_left o) b z);
   }
 
-module _ (n : ℕ) (inner : Class → Reader Tree) (sound : (class : Class) (s : State) → Meets (λ x t. SoundTree (ReadsClass n class) s x t) (inner class s)) where
+module _ (n : ℕ) (inner : Class → Reader Tree) (cover : Reader Cover) (sound : (class : Class) (s : State) → Meets (λ x t. SoundTree (ReadsClass n class) s x t) (inner class s))
+    (covers : (s : State) → Meets (λ v t. SoundCover n s v t) (cover s)) where
   -- ---- unary and update operators
 
   abbrev pub SoundUnary : State → Tree → State → Type 0
   SoundUnary s x t = SoundTree (Unary (Reads n)) s x t
 
-  prefixed_sound : (op : UnaryOp) (s : State) → unary_operator (kind_at s.at) ≡ Some op → Meets (SoundUnary s) (prefixed inner op s)
+  prefixed_sound : (op : UnaryOp) (s : State) → unary_operator (kind_at s.at) ≡ Some op → Meets (SoundUnary s) (prefixed inner cover op s)
   unfolding prefixed spanned
   prefixed_sound op s e = meets_then _ (inner unary (moved s)) _ (sound unary (moved s)) (λ x t p. sound_after s t refl (unary_is_none (kind_at s.at) op e) refl refl (λ r. record {
     rule = unary_rule op x e r.0 refl;
@@ -206,7 +208,7 @@ module _ (n : ℕ) (inner : Class → Reader Tree) (sound : (class : Class) (s :
     ends = operation_ends _ t.at refl;
   }) p)
 
-  update_before_sound : (op : UpdateOp) (s : State) → update_operator (kind_at s.at) ≡ Some op → Meets (SoundUnary s) (update_before inner op s)
+  update_before_sound : (op : UpdateOp) (s : State) → update_operator (kind_at s.at) ≡ Some op → Meets (SoundUnary s) (update_before inner cover op s)
   unfolding update_before simple spanned
   update_before_sound op s e = meets_then _ (inner unary (moved s)) _ (sound unary (moved s)) (λ x t p.
       when_true (SoundUnary s) _ tt _ t (is_simple_target x) (λ h. sound_after s t refl (update_is_none (kind_at s.at) op e) refl refl (λ r. record {
@@ -236,19 +238,19 @@ module _ (n : ℕ) (inner : Class → Reader Tree) (sound : (class : Class) (s :
         ends = operation_ends _ (after t.at) refl;
       }) (stepped p (sound_moved {P = λ k c d. Unit {0}} t refl (update_is_none (kind_at t.at) op f) tt)))
 
-  postfix_sound : (s : State) → Meets (SoundUnary s) (postfix inner s)
+  postfix_sound : (s : State) → Meets (SoundUnary s) (postfix inner cover s)
   unfolding postfix
-  postfix_sound s = meets_then _ (left inner true s) _ (left_sound n inner sound true s) (λ x t p. behind_operand_sound s x t (postfix_at t.at) refl p)
+  postfix_sound s = meets_then _ (left inner cover true s) _ (left_sound n inner cover sound covers true s) (λ x t p. behind_operand_sound s x t (postfix_at t.at) refl p)
 
-  updated_sound : (s : State) (o : Option UpdateOp) → update_operator (kind_at s.at) ≡ o → Meets (SoundUnary s) (updated inner o s)
+  updated_sound : (s : State) (o : Option UpdateOp) → update_operator (kind_at s.at) ≡ o → Meets (SoundUnary s) (updated inner cover o s)
   updated_sound s (Some op) e = update_before_sound op s e
   updated_sound s None e = postfix_sound s
 
-  unary_by_sound : (s : State) (o : Option UnaryOp) → unary_operator (kind_at s.at) ≡ o → Meets (SoundUnary s) (unary_by inner o s)
+  unary_by_sound : (s : State) (o : Option UnaryOp) → unary_operator (kind_at s.at) ≡ o → Meets (SoundUnary s) (unary_by inner cover o s)
   unary_by_sound s (Some op) e = prefixed_sound op s e
   unary_by_sound s None e = updated_sound s (update_operator (kind_at s.at)) refl
 
-  unary_expr_sound : (s : State) → Meets (SoundUnary s) (unary_expr inner s)
+  unary_expr_sound : (s : State) → Meets (SoundUnary s) (unary_expr inner cover s)
   unfolding unary_expr
   unary_expr_sound s = unary_by_sound s (unary_operator (kind_at s.at)) refl
 
@@ -271,7 +273,7 @@ module _ (n : ℕ) (inner : Class → Reader Tree) (sound : (class : Class) (s :
     unfolding operator_at
     operator_nowhere x t p e = nothing_binds m s.code (binary_operator (kind_at t.at)) (ap (λ k. read_operator m k (binary_operator (kind_at t.at))) (sym p.code) ∙ e)
 
-    operated_sound : (x : Tree) (t : State) (op : BinaryOp) → SoundBinary x t → operator_at m t ≡ Some op → Meets SoundBinary (operated inner (span_at s.at) x op t)
+    operated_sound : (x : Tree) (t : State) (op : BinaryOp) → SoundBinary x t → operator_at m t ≡ Some op → Meets SoundBinary (operated inner cover (span_at s.at) x op t)
     unfolding operated left_operand unmixed spanned
     operated_sound x t op p e = let h = operator_there x t op p e in when_false SoundBinary _ tt _ t (not (groups_left op) && is_unary x) (λ f.
         meets_then _ (inner (right_class op) (moved t)) _ (sound (right_class op) (moved t)) (λ y u q. meets_if _ (mixes op x || mixes op y) _ _ (λ _. reject_meets _ _ u)
@@ -279,28 +281,28 @@ module _ (n : ℕ) (inner : Class → Reader Tree) (sound : (class : Class) (s :
         (paired p (moved_back refl (binary_is_none (kind_at t.at) op h.0) q)))))
 
     binary_by_sound : (x : Tree) (t : State) (o : Option BinaryOp) → SoundBinary x t → operator_at m t ≡ o
-        → Meets (Turned (binary_turn inner m (span_at s.at)) SoundBinary (λ y u. SoundTree BinaryEnd s y u) Refuses) (binary_by inner (span_at s.at) x o t)
+        → Meets (Turned (binary_turn inner cover m (span_at s.at)) SoundBinary (λ y u. SoundTree BinaryEnd s y u) Refuses) (binary_by inner cover (span_at s.at) x o t)
     binary_by_sound x t None p e = sound_as s t refl refl refl (λ r. (r, operator_nowhere x t p e)) p
-    binary_by_sound x t (Some op) p e = meets_then _ (operated inner (span_at s.at) x op t) _ (operated_sound x t op p e) (λ y u q. q)
+    binary_by_sound x t (Some op) p e = meets_then _ (operated inner cover (span_at s.at) x op t) _ (operated_sound x t op p e) (λ y u q. q)
 
     binary_turn_sound : (x : Tree) (t : State) → SoundBinary x t
-        → Meets (Turned (binary_turn inner m (span_at s.at)) SoundBinary (λ y u. SoundTree BinaryEnd s y u) Refuses) (binary_turn inner m (span_at s.at) x t)
+        → Meets (Turned (binary_turn inner cover m (span_at s.at)) SoundBinary (λ y u. SoundTree BinaryEnd s y u) Refuses) (binary_turn inner cover m (span_at s.at) x t)
     unfolding binary_turn
     binary_turn_sound x t p = binary_by_sound x t (operator_at m t) p refl
 
     -- operands with the operators between that bind so tightly
-    pub binary_sound : Meets (λ x t. SoundTree BinaryEnd s x t) (binary_expr inner m s)
+    pub binary_sound : Meets (λ x t. SoundTree BinaryEnd s x t) (binary_expr inner cover m s)
     unfolding binary_expr binary_from
-    binary_sound = meets_then _ (unary_expr inner s) _ (unary_expr_sound s) (λ x t p.
-        loop_answers (binary_turn inner m (span_at s.at)) SoundBinary (λ y u. SoundTree BinaryEnd s y u) Refuses binary_turn_sound (λ _. tt) x t
+    binary_sound = meets_then _ (unary_expr inner cover s) _ (unary_expr_sound s) (λ x t p.
+        loop_answers (binary_turn inner cover m (span_at s.at)) SoundBinary (λ y u. SoundTree BinaryEnd s y u) Refuses binary_turn_sound (λ _. tt) x t
         (sound_as s t refl refl refl (λ r. fresh r) p))
 
   -- ---- of the class
 
-  pub unary_sound : (s : State) → Meets (λ x t. SoundTree (ReadsClass (suc n) unary) s x t) (unary_expr inner s)
-  unary_sound s = meets_as (unary_expr inner s) (unary_expr_sound s) (λ x t p. sound_as s t refl refl refl (λ r. ((r.rule, r.ends), r.supports)) p)
+  pub unary_sound : (s : State) → Meets (λ x t. SoundTree (ReadsClass (suc n) unary) s x t) (unary_expr inner cover s)
+  unary_sound s = meets_as (unary_expr inner cover s) (unary_expr_sound s) (λ x t p. sound_as s t refl refl refl (λ r. ((r.rule, r.ends), r.supports)) p)
 
-  pub operator_sound : (m : ℕ) (s : State) → Meets (λ x t. SoundTree (ReadsClass (suc n) (operator m)) s x t) (binary_expr inner m s)
+  pub operator_sound : (m : ℕ) (s : State) → Meets (λ x t. SoundTree (ReadsClass (suc n) (operator m)) s x t) (binary_expr inner cover m s)
   unfolding continues_operand
-  operator_sound m s = meets_as (binary_expr inner m s) (binary_sound m s) (λ x t p. sound_as s t refl refl refl (λ r.
+  operator_sound m s = meets_as (binary_expr inner cover m s) (binary_sound m s) (λ x t p. sound_as s t refl refl refl (λ r.
       ((r.0.rule, or_none (continues_unary x t.at) _ r.0.ends r.1), r.0.supports)) p)

@@ -197,7 +197,7 @@ module _ (s : State) where
 same_position : (a b : BytePos) → nat_eq a.0 b.0 ≡ true → a ≡ b
 same_position a b h = let e : a.0 ≡ b.0 = eqb-true a.0 b.0 h in λ i. record { 0 = e i }
 
-word_span : (text : Text) (span : Span) (c d : Place) → ReadsWord text span c d → span_at c ≡ span
+pub word_span : (text : Text) (span : Span) (c d : Place) → ReadsWord text span c d → span_at c ≡ span
 unfolding span_at
 word_span text span c d r = rw r.reads_word.is refl
 
@@ -216,7 +216,7 @@ last_of : (c : Place) (ts : List TokenAndSpan) → (past c ts).last ≡ first_sp
 last_of c [] = refl
 last_of c (t ∷ ts) = refl
 
-last_span : (c : Place) → (after c).last ≡ span_at c
+pub last_span : (c : Place) → (after c).last ≡ span_at c
 unfolding after span_at
 last_span c = last_of c c.left
 

@@ -7,7 +7,8 @@ use Rattle.swc_ecma_parser_core.proofs.operator.binary_from.Given as goal
 abbrev pub invariant-operators : goal.invariant-operators
 invariant-operators g l =
     let expr = exprs.expr l.g.depth in
-    exprs.binary_from expr l.n l.start (g.T.Trees.expr_of l.fn.x) (g.P.Source.seen l.fn.p) ≡ loop (exprs.binary_turn expr l.n l.start) (g.T.Trees.expr_of l.x) (g.P.Source.seen l.p)
+    let cover = exprs.cover l.g.depth in
+    exprs.binary_from expr cover l.n l.start (g.T.Trees.expr_of l.fn.x) (g.P.Source.seen l.fn.p) ≡ loop (exprs.binary_turn expr cover l.n l.start) (g.T.Trees.expr_of l.x) (g.P.Source.seen l.p)
 
 abbrev pub decreases-operators : goal.decreases-operators
 decreases-operators g l = length (g.P.Source.seen l.p).at.left

@@ -7,7 +7,8 @@ use Rattle.swc_ecma_parser_core.proofs.operator.sequence_from.Given as goal
 abbrev pub invariant-sequence : goal.invariant-sequence
 invariant-sequence g l =
     let expr = exprs.expr l.g.depth in
-    loop (exprs.sequence_turn expr) (g.T.Trees.expr_of l.fn.x ∷ []) (g.P.Source.seen l.fn.p) ≡ loop (exprs.sequence_turn expr) (map g.T.Trees.expr_of l.found.items) (g.P.Source.seen l.p)
+    let cover = exprs.cover l.g.depth in
+    loop (exprs.sequence_turn expr cover) (g.T.Trees.expr_of l.fn.x ∷ []) (g.P.Source.seen l.fn.p) ≡ loop (exprs.sequence_turn expr cover) (map g.T.Trees.expr_of l.found.items) (g.P.Source.seen l.p)
 
 abbrev pub decreases-sequence : goal.decreases-sequence
 decreases-sequence g l = length (g.P.Source.seen l.p).at.left

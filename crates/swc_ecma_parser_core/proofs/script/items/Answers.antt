@@ -31,3 +31,6 @@ items-preserved g c =
           ∙ script_more (stmt d top_item) at_end found c.is_empty.result s _ _ first (sym c.at_end.ensures ∙ c.items-test.true) c.in_ok-stmt.ensures (stmt_shorter d top_item s _ _ c.in_ok-stmt.ensures)),
       λ h. never_more s.at (c.items.invariant.1 h) (sym c.at_end.ensures ∙ c.items-test.true),
     )
+
+pub items-smaller : goal.items-smaller
+items-smaller g c = rw (c.in_ok-pushed.ensures.state, c.direct.ensures) (stmt_shorter c.args.limit top_item (g.P.Source.seen c.items.p) _ _ c.in_ok-stmt.ensures)

@@ -1,0 +1,27 @@
+use Rattle.std.proofs.Common.{◌≡◌, ◌-◌, ◌<◌, Ok, Err, arith, sym, ap, subst, ◌∙◌}
+use Rattle.std.proofs.lemmas.Result.{err_from_is_err_and}
+use Rattle.swc_ecma_parser_reader.specs.State.{GivesAs}
+use Rattle.swc_ecma_parser_reader.proofs.expressions.Loops.{cover_above}
+use Rattle.swc_ecma_parser_core.specs.Covers.{cover_of}
+use Rattle.swc_ecma_parser_core.proofs.Covers.{read_lowest, read_expr, read_expr_err, at_asked}
+use Rattle.swc_ecma_parser_core.proofs.grammar.+knot.Goals as goal
+
+pub expr-returns-then-depth-eq0 : goal.expr-returns-then-depth-eq0
+expr-returns-then-depth-eq0 g t c = λ h. read_lowest c.args.depth (g.P.Source.seen c.args.p.now) c.args.asked _ c.if-depth-eq0.true (c.too_deep.ensures h)
+
+pub expr-returns-in_err-expr_level-in-Expr : goal.expr-returns-in_err-expr_level-in-Expr
+expr-returns-in_err-expr_level-in-Expr g t c =
+    let p = err_from_is_err_and c.from_residual.result c.from_residual.ensures.1 in
+    rw (p.1, p.2) (λ h. at_asked c.args.depth (g.P.Source.seen c.args.p.now) c.args.asked _ _ c.in-Expr.is
+    (read_expr_err c.args.depth (g.P.Source.seen c.args.p.now) c.in-Expr.class _ (omega arith) (c.in_err-expr_level-in-Expr.ensures h)))
+
+pub expr-returns-in_ok-expr_level-in-Expr : goal.expr-returns-in_ok-expr_level-in-Expr
+expr-returns-in_ok-expr_level-in-Expr g t c =
+    at_asked c.args.depth (g.P.Source.seen c.args.p.now) c.args.asked _ _ c.in-Expr.is
+    (read_expr c.args.depth (g.P.Source.seen c.args.p.now) c.in-Expr.class _ (g.P.Source.seen c.expr_level.new.p) (omega arith) c.in_ok-expr_level-in-Expr.ensures)
+    ∙ ap (λ v. Ok (cover_of g.T.Trees.expr_of v, g.P.Source.seen c.expr_level.new.p)) (sym c.done.ensures)
+
+pub expr-returns-in-Cover : goal.expr-returns-in-Cover
+expr-returns-in-Cover g t c =
+    subst (λ o. GivesAs (cover_of g.T.Trees.expr_of) o c.cover_expr.result (g.P.Source.seen c.cover_expr.new.p))
+    (sym (at_asked c.args.depth (g.P.Source.seen c.args.p.now) c.args.asked _ _ c.in-Cover.is (cover_above c.args.depth (g.P.Source.seen c.args.p.now) (omega arith)))) c.cover_expr.ensures

@@ -1,0 +1,507 @@
+-- The reader of arrays and objects is sound: as expressions, and as the patterns that they may still become.
+use Rattle.std.proofs.Common.{◌≡◌, ℕ, Bool, true, false, List, [], ◌∷◌, Option, Some, None, refl, sym, ◌∙◌, ap, subst}
+use Rattle.swc_ecma_parser_common.specs.declared.span.BytePos.{BytePos}
+use Rattle.swc_ecma_parser_common.specs.declared.span.Span.{Span}
+use Rattle.swc_ecma_parser_error.specs.Kind as faults
+use Rattle.swc_ecma_parser_token.specs.declared.kind.TokenKind.{TokenKind}
+use Rattle.swc_ecma_parser_token.specs.declared.kind.TokenKind.TheVariants as kind
+use Rattle.swc_ecma_parser_token.specs.declared.token.Token.{Token}
+use Rattle.swc_ecma_parser_token.specs.declared.token.Token.TheVariants as token
+use Rattle.swc_ecma_parser_token.specs.declared.token.TokenAndSpan.{TokenAndSpan}
+use Rattle.swc_ecma_parser_input.specs.Place.{Place, after}
+use Rattle.swc_ecma_parser_model.specs.Tree as tree
+use Rattle.swc_ecma_parser_model.specs.Tree.{Tree, Trees, none, also, Text, listed, trees}
+use Rattle.swc_ecma_parser_model.specs.Forms.{is_rest, is_pattern_target, span_of}
+use Rattle.swc_ecma_parser_model.specs.Targets.{rest_span, simple_target, as_pattern, as_elements, as_properties}
+use Rattle.swc_ecma_parser_grammar.specs.Looks.{kind_at, sees, span_at, spanned}
+use Rattle.swc_ecma_parser_grammar.specs.Names.{Code, is_name, is_reserved, is_identifier, is_clean_name}
+use Rattle.swc_ecma_parser_grammar.specs.Reads.{with_in}
+use Rattle.swc_ecma_parser_grammar.specs.Supported.{supported, is_supported_key, all_supported}
+use Rattle.swc_ecma_parser_grammar.specs.ReadsSupported.{ReadsClass}
+use Rattle.swc_ecma_parser_grammar.specs.language.Goals.{Goal, Class, assignment, assigning, pattern_goal, element_goal}
+use Rattle.swc_ecma_parser_grammar.specs.language.Lists.{ReadsListed, Elements, hole}
+use Rattle.swc_ecma_parser_grammar.specs.language.Parts as parts
+use Rattle.swc_ecma_parser_grammar.specs.language.Parts.{ElementRule, ReadsWord, ReadsName, KeyRule}
+use Rattle.swc_ecma_parser_grammar.specs.language.Objects.{PropertyRule, spread_rule, shorthand_rule, key_value_rule}
+use Rattle.swc_ecma_parser_grammar.specs.language.Functions.{PatternItemRule, element_rule, rest_rule}
+use Rattle.swc_ecma_parser_grammar.specs.language.LeftSides.{PrimaryRule, array_rule, object_rule, is_callee}
+use Rattle.swc_ecma_parser_grammar.specs.language.Patterns as patterns
+use Rattle.swc_ecma_parser_grammar.specs.language.Patterns.{PatternRule, PatternPropertyRule}
+use Rattle.swc_ecma_parser_grammar.specs.language.Reads.{Reads}
+use Rattle.swc_ecma_parser_grammar.specs.Walk as walks
+use Rattle.swc_ecma_parser_grammar.specs.Walk.{walk, env_of}
+use Rattle.swc_ecma_parser_grammar.specs.Notes.{notes, all_notes}
+use Rattle.swc_ecma_parser_grammar.proofs.Tests.{or_no, and_both}
+use Rattle.swc_ecma_parser_reader.specs.State.{State, Reader, moved, coded, expect, loop}
+use Rattle.swc_ecma_parser_reader.specs.Expressions.{Cover, Covers, no_covers, with_cover, with_comma, done, literal_of, literal_in, taken, literal, any_word, word_property, token_is_word, first_is_word, is_word_at, key_or, literal_key, shorthand_name, shorthand, inside, covered, spread_item, plain_item, item, behind_item, array_turn, elements, array, computed_key, key, key_value, initialized, initialized_name, initialized_key, bare_key, behind_key, keyed_property, spread_property, property, behind_property, object_turn, properties, object}
+use Rattle.swc_ecma_parser_reader.proofs.Meets.{Meets, Refuses, meets_then, meets_if, wanted_meets, Turned, loop_answers, saw}
+use Rattle.swc_ecma_parser_reader.proofs.Errors.{kind_here}
+use Rattle.swc_ecma_parser_reader.proofs.Between.{SoundTree, Sound, same, sound_moved, sound_here, sound_as, sound_after, within_sound}
+use Rattle.swc_ecma_parser_reader.proofs.expressions.Covers.{is_literal}
+use Rattle.swc_ecma_parser_reader.proofs.expressions.Targets.{some_array, some_object, some_key_value, some_before, some_alone, some_rest, simple_is, simple_as, leaf_no_pattern, pattern_no_rest}
+use Rattle.swc_ecma_parser_reader.proofs.expressions.SoundSteps.{paired, stepped, moved_back, meets_as, reject_meets, clash, Takes, expect_sound, stands, name_is_clean, name_is_supported, any_word_sound, word_span, last_span, walks_push, notes_push}
+use Rattle.swc_ecma_parser_reader.proofs.expressions.SoundLists.{elements_list, properties_list, begun_next, at_more, Plain, Pattern, Target, Part, PartRead, no_marks, SoFar, AllRead, all_read, push_last, push_next}
+
+-- ---- what is read
+
+-- as an expression where no part is one of a pattern alone, and as a pattern where no comma stands behind a rest
+pub record CoverRead (n : ℕ) (v : Cover) (k : Code) (c d : Place) : Type 0 where
+  pub plain : v.mark ≡ None → ReadsClass n assignment k v.x c d
+  pub pattern : v.comma ≡ false → (p : Tree) → as_pattern false v.x ≡ Some p → Reads n (pattern_goal assigning k p c d) × (supported p ≡ true) × ((span_of v.x).hi ≡ d.last.hi)
+  -- with a default or without one
+  pub element : v.comma ≡ false → with_in k ≡ k → (p : Tree) → as_pattern true v.x ≡ Some p → Reads n (element_goal assigning k p c d) × (supported p ≡ true)
+
+abbrev pub SoundCover : ℕ → State → Cover → State → Type 0
+SoundCover n s v t = Sound same (λ k l. walk (env_of k l) v.x) (notes v.x) (CoverRead n v) s t
+
+-- an array or object by itself
+pub record LiteralRead (n : ℕ) (v : Cover) (k : Code) (c d : Place) : Type 0 where
+  pub plain : v.mark ≡ None → PrimaryRule (Reads n) k v.x c d × (supported v.x ≡ true)
+  pub pattern : v.comma ≡ false → (p : Tree) → as_pattern false v.x ≡ Some p → PatternRule (Reads n) assigning k p c d × (supported p ≡ true)
+  pub no_default : as_pattern true v.x ≡ as_pattern false v.x
+  pub literal : is_literal v.x ≡ true
+  pub called : is_callee v.x ≡ true
+  pub ends : (span_of v.x).hi ≡ d.last.hi
+
+abbrev pub SoundLiteral : ℕ → State → Cover → State → Type 0
+SoundLiteral n s v t = Sound same (λ k l. walk (env_of k l) v.x) (notes v.x) (LiteralRead n v) s t
+
+-- ---- rests, keys and names
+
+-- a rest ends where what it stands before does
+rest_spanned : (c d : Place) (x p : Tree) → (span_of x).hi ≡ d.last.hi → tree.rest_pat (rest_span (span_at c) x) p ≡ tree.rest_pat (spanned c d) p
+unfolding spanned
+rest_spanned c d x p e = ap (λ (z : BytePos). tree.rest_pat (record { lo = (span_at c).lo; hi = z }) p) e
+
+-- a word by itself is as long as what it spells
+pub word_spanned : (text : Text) (span : Span) (c d : Place) → ReadsWord text span c d → span ≡ spanned c d
+unfolding spanned
+word_spanned text span c d r =
+    let a : span_at c ≡ span = word_span text span c d r in
+    let b : d.last ≡ span = ap (λ z. z.last) r.reads_word.next ∙ last_span c ∙ a in
+    sym (λ i. record { lo = (a i).lo; hi = (b i).hi })
+
+-- a key that is a name is a word
+ident_key : (In : Goal → Type 0) (k : Code) (span : Span) (text : Text) (c d : Place) → KeyRule In k (tree.ident span text) c d → ReadsWord text span c d
+ident_key In k span text c d (parts.word_key v i r e) = let a : text ≡ v = cc in let b : span ≡ i = cc in rw (a, b) r
+ident_key In k span text c d (parts.string_key value raw i r e) = cc
+ident_key In k span text c d (parts.number_key raw i r e) = cc
+ident_key In k span text c d (parts.big_int_key raw i r e) = cc
+ident_key In k span text c d (parts.computed_key r) = let e = r.is in cc
+
+-- a key is read alike where `in` is an operator
+key_inside : (In : Goal → Type 0) (k : Code) (x : Tree) (c d : Place) → KeyRule In k x c d → KeyRule In (with_in k) x c d
+key_inside In k x c d (parts.word_key text s r e) = parts.word_key text s r e
+key_inside In k x c d (parts.string_key value raw s r e) = parts.string_key value raw s r e
+key_inside In k x c d (parts.number_key raw s r e) = parts.number_key raw s r e
+key_inside In k x c d (parts.big_int_key raw s r e) = parts.big_int_key raw s r e
+key_inside In k x c d (parts.computed_key r) =
+    parts.computed_key (record { key = r.key; close = r.close; opens = r.opens; reads_key = r.reads_key; closes = r.closes; next = r.next; is = r.is })
+
+-- a word that is free is a name
+free_name : (k : Code) (text : Text) (span : Span) (c d : Place) → ReadsWord text span c d → is_name k.flags text ≡ true → ReadsName k text span c d
+free_name k text span c d r e = record { word = r.word; reads_word = r.reads_word; is_text = r.is_text; is_name = name_is_clean k.flags text e }
+
+name_inside : (k : Code) (text : Text) (span : Span) (c d : Place) → ReadsName k text span c d → ReadsName (with_in k) text span c d
+unfolding is_clean_name is_identifier is_reserved
+name_inside k text span c d r = record { word = r.word; reads_word = r.reads_word; is_text = r.is_text; is_name = r.is_name }
+
+-- ---- parts of patterns
+
+no_elements_left : (qs : Trees) → as_elements none ≡ Some qs → qs ≡ none
+no_elements_left qs h = cc
+
+no_properties_left : (qs : Trees) → as_properties none ≡ Some qs → qs ≡ none
+no_properties_left qs h = cc
+
+-- a part that others may follow
+abbrev Follows : (Trees → Option Trees) → (Tree → Place → Place → Type 0) → Tree → Place → Place → Type 0
+Follows change Rule x c d = (ys qs : Trees) → change (also x ys) ≡ Some qs → (q : Tree) × (rs : Trees) × (change ys ≡ Some rs) × (qs ≡ also q rs) × Target Rule q c d × (is_rest q ≡ false)
+
+any_part : (change : Trees → Option Trees) (empty : (qs : Trees) → change none ≡ Some qs → qs ≡ none) (Rule : Tree → Place → Place → Type 0) (is_spread : Bool) (x : Tree) (c d : Place)
+    → Follows change Rule x c d → Part change Rule is_spread x c d
+any_part change empty Rule is_spread x c d f = record {
+  before_others = λ _. f;
+  alone = λ qs h. let (q, rs, a, b, t, i) = f none qs h in (q, b ∙ ap (also q) (empty rs a), t);
+}
+
+-- a rest is the last
+rest_part : (change : Trees → Option Trees) (Rule : Tree → Place → Place → Type 0) (is_spread : Bool) (x : Tree) (c d : Place) → is_spread ≡ true
+    → ((qs : Trees) → change (also x none) ≡ Some qs → (q : Tree) × (qs ≡ also q none) × Target Rule q c d) → Part change Rule is_spread x c d
+rest_part change Rule is_spread x c d e f = record { before_others = λ h. clash is_spread e h; alone = f }
+
+-- a target of a rule, said otherwise
+target_as : (Rule : Tree → Place → Place → Type 0) (p q : Tree) (c d : Place) → q ≡ p → Rule q c d → supported p ≡ true → Target Rule q c d
+target_as Rule p q c d e r s = record { rule = r; supports = ap supported e ∙ s }
+
+module _ (n : ℕ) (k : Code) (v : Cover) where
+  abbrev ItemRule : Tree → Place → Place → Type 0
+  ItemRule = PatternItemRule (Reads n) assigning (with_in k)
+
+  abbrev PartRule : Tree → Place → Place → Type 0
+  PartRule = PatternPropertyRule (Reads n) assigning (with_in k)
+
+  -- elements
+  item_follows : (c d : Place) → CoverRead n v (with_in k) c d → v.comma ≡ false → Follows as_elements ItemRule (tree.element None v.x) c d
+  item_follows c d r h ys qs e = let (q, rs, a, b, u) = some_before (as_pattern true v.x) (as_elements ys) qs e in let w = r.element h refl q a in
+      (q, rs, b, u, record { rule = element_rule w.0; supports = w.1 }, pattern_no_rest true v.x q a)
+
+  item_rest : (c d : Place) → kind_at c ≡ kind.DotDotDot → CoverRead n v (with_in k) (after c) d → v.comma ≡ false → (qs : Trees) → as_elements (also (tree.element (Some (span_at c)) v.x) none) ≡ Some qs
+      → (q : Tree) × (qs ≡ also q none) × Target ItemRule q c d
+  item_rest c d e r h qs g =
+      let (q, a, b) = some_alone _ qs g in
+      let (p, i, u) = some_rest (span_at c) v.x (as_pattern false v.x) q a in
+      let w = r.pattern h p i in
+      (q, b, target_as ItemRule _ q c d u (rest_rule p e w.0 (u ∙ rest_spanned c d v.x p w.2)) w.1)
+
+  -- properties
+  value_follows : (x : Tree) (c m d : Place) → KeyRule (Reads n) k x c m → is_supported_key x ≡ true → kind_at m ≡ kind.Colon → CoverRead n v (with_in k) (after m) d → v.comma ≡ false
+      → Follows as_properties PartRule (tree.key_value_prop (spanned c d) x v.x) c d
+  value_follows x c m d key s e r h ys qs g =
+      let (q, rs, a, b, u) = some_before _ (as_properties ys) qs g in
+      let (p, i, j) = some_key_value (spanned c d) x (as_pattern true v.x) q a in
+      let w = r.element h refl p i in
+      (q, rs, b, u, target_as PartRule _ q c d j (patterns.key_value_rule x p m (key_inside (Reads n) k x c m key) e w.0 j) (and_both (is_supported_key x) (supported p) s w.1), ap is_rest j)
+
+  property_rest : (c d : Place) → kind_at c ≡ kind.DotDotDot → CoverRead n v (with_in k) (after c) d → v.comma ≡ false → (qs : Trees) → as_properties (also (tree.spread_prop (span_at c) v.x) none) ≡ Some qs
+      → (q : Tree) × (qs ≡ also q none) × Target PartRule q c d
+  property_rest c d e r h qs g =
+      let (q, a, b) = some_alone _ qs g in
+      let (p, i, u) = some_rest (span_at c) v.x (simple_target v.x) q a in
+      let w = r.pattern h p (simple_as v.x p i) in
+      (q, b, target_as PartRule _ q c d u (patterns.rest_rule p e w.0 (ap is_pattern_target (simple_is v.x p i).1 ∙ leaf_no_pattern v.x) (u ∙ rest_spanned c d v.x p w.2)) w.1)
+
+module _ (n : ℕ) (k : Code) (text : Text) (span : Span) where
+  abbrev NamedRule : Tree → Place → Place → Type 0
+  NamedRule = PatternPropertyRule (Reads n) assigning (with_in k)
+
+  name_follows : (c d : Place) → ReadsWord text span c d → is_name k.flags text ≡ true → sees kind.Assign d ≡ false → Follows as_properties NamedRule (tree.shorthand_prop span text) c d
+  name_follows c d r e h ys qs g =
+      let (q, rs, a, b, u) = some_before (Some (tree.assign_pat_prop span (tree.ident_pat span text) tree.absent)) (as_properties ys) qs g in
+      let i : q ≡ tree.assign_pat_prop span (tree.ident_pat span text) tree.absent = cc in (
+        q,
+        rs,
+        b,
+        u,
+        target_as NamedRule _ q c d i (patterns.shorthand_rule text span (name_inside k text span c d (free_name k text span c d r e)) h
+            (i ∙ ap (λ z. tree.assign_pat_prop z (tree.ident_pat span text) tree.absent) (word_spanned text span c d r))) (and_both _ true (name_is_supported k.flags text e) refl),
+        ap is_rest i,
+      )
+
+  default_follows : (value : Tree) (c m d : Place) → ReadsWord text span c m → is_name k.flags text ≡ true → kind_at m ≡ kind.Assign → ReadsClass n assignment (with_in k) value (after m) d
+      → Follows as_properties NamedRule (tree.assign_prop (spanned c d) (tree.ident span text) value) c d
+  default_follows value c m d r e h w ys qs g =
+      let (q, rs, a, b, u) = some_before (Some (tree.assign_pat_prop (spanned c d) (tree.ident_pat span text) value)) (as_properties ys) qs g in
+      let i : q ≡ tree.assign_pat_prop (spanned c d) (tree.ident_pat span text) value = cc in (
+        q,
+        rs,
+        b,
+        u,
+        target_as NamedRule _ q c d i (patterns.default_rule text span value m (name_inside k text span c m (free_name k text span c m r e)) h w.0 i)
+            (and_both _ (supported value) (name_is_supported k.flags text e) w.1),
+        ap is_rest i,
+      )
+
+module _ (n : ℕ) (inner : Class → Reader Tree) (cover : Reader Cover) (sound : (class : Class) (s : State) → Meets (λ x t. SoundTree (ReadsClass n class) s x t) (inner class s))
+    (covers : (s : State) → Meets (λ v t. SoundCover n s v t) (cover s)) where
+  -- an expression where `in` is an operator
+  pub inside_sound : (class : Class) (s : State) → Meets (λ x t. SoundTree (λ k. ReadsClass n class (with_in k)) s x t) (inside inner cover class s)
+  unfolding inside
+  inside_sound class s = within_sound (λ x k l. walk (env_of k l) x) notes (λ x k. ReadsClass n class k x) with_in (λ k. refl) (inner class) s (sound class (coded (with_in s.code) s))
+
+  -- the same of what may still become a pattern
+  covered_sound : (s : State) → Meets (λ v t. Sound same (λ k l. walk (env_of k l) v.x) (notes v.x) (λ k. CoverRead n v (with_in k)) s t) (covered inner cover s)
+  unfolding covered
+  covered_sound s = within_sound (λ v k l. walk (env_of k l) v.x) (λ v. notes v.x) (λ v. CoverRead n v) with_in (λ k. refl) cover s (covers (coded (with_in s.code) s))
+
+  -- ---- elements
+
+  abbrev ItemRead : Bool → Cover → Code → Place → Place → Type 0
+  ItemRead is_spread v k = PartRead (ElementRule (Reads n) k) as_elements (ItemRule n k v) is_spread v
+
+  abbrev SoundItem : State → Cover → State → Type 0
+  SoundItem s v t = Sound same (λ k l. walk (env_of k l) v.x) (notes v.x) (ItemRead (sees kind.DotDotDot s.at) v) s t
+
+  item_sound : (s : State) → Meets (SoundItem s) (item inner cover s)
+  unfolding item spread_item plain_item
+  item_sound s = meets_if _ (sees kind.DotDotDot s.at) _ _
+      (λ e. meets_then _ (covered inner cover (moved s)) _ (covered_sound (moved s)) (λ v t p.
+      sound_after s t (saw s.at kind.DotDotDot e) refl refl refl (λ r. record {
+        plain = λ h. let w = r.plain h in (record { rule = parts.spread_element v.x (saw s.at kind.DotDotDot e) w.0 refl; supports = w.1 }, refl);
+        pattern = λ h. rest_part as_elements (ItemRule n s.code v) (sees kind.DotDotDot s.at) _ s.at t.at e (item_rest n s.code v s.at t.at (saw s.at kind.DotDotDot e) r h);
+      }) p))
+      (λ _. meets_then _ (covered inner cover s) _ (covered_sound s) (λ v t p.
+      sound_as s t refl refl refl (λ r. record {
+        plain = λ h. let w = r.plain h in (record { rule = parts.plain_element v.x w.0 refl; supports = w.1 }, refl);
+        pattern = λ h. any_part as_elements no_elements_left (ItemRule n s.code v) (sees kind.DotDotDot s.at) _ s.at t.at (item_follows n s.code v s.at t.at r h);
+      }) p))
+
+  abbrev pub Elems : Code → List Tree → Place → Place → Type 0
+  Elems k = Elements (ElementRule (Reads n) k)
+
+  abbrev pub Items : Code → List Tree → Place → Place → Type 0
+  Items k = Elements (PatternItemRule (Reads n) assigning (with_in k))
+
+  -- the elements so far, and all
+  abbrev ElementsSoFar : State → Covers → State → Type 0
+  ElementsSoFar s found t = Sound same (λ k l. walks.walks (env_of k l) false (trees found.xs)) (all_notes (trees found.xs))
+      (λ k. SoFar (Elems k) as_elements (Items k) kind.RBracket found) s t
+
+  abbrev ClosedElements : Covers → Code → Place → Place → Type 0
+  ClosedElements found k c d = (m : Place) × AllRead (Elems k) as_elements (Items k) found c m × (kind_at m ≡ kind.RBracket) × (d ≡ after m)
+
+  abbrev SoundElements : State → Covers → State → Type 0
+  SoundElements s found t = Sound same (λ k l. walks.walks (env_of k l) false (trees found.xs)) (all_notes (trees found.xs)) (ClosedElements found) s t
+
+  -- the comma behind a hole
+  hole_next : (k : Code) (c m : Place) (found : Covers) → SoFar (Elems k) as_elements (Items k) kind.RBracket found c m → sees kind.RBracket m ≡ false → kind_at m ≡ kind.Comma
+      → SoFar (Elems k) as_elements (Items k) kind.RBracket (with_cover found (done tree.absent)) c (after m)
+  hole_next k c m found r h g = record {
+    plain = λ e. begun_next (Plain (Elems k)) kind.RBracket c m (after m) found.xs tree.absent (r.plain (no_marks found.mark None e).0) h (λ ys d (l, s). (hole ys g l refl, s));
+    pattern = λ e. begun_next (Pattern as_elements (Items k)) kind.RBracket c m (after m) found.xs tree.absent (r.pattern (or_no found.comma false e).0) h (λ ys d l qs u. behind ys d l qs u);
+  }
+    where
+      behind : (ys : List Tree) (d : Place) → Pattern as_elements (Items k) ys (after m) d → Pattern as_elements (Items k) (tree.absent ∷ ys) m d
+      behind ys d l qs u = let (q, rs, a, b, i) = some_before (Some tree.absent) (as_elements (trees ys)) qs u in let w = l rs b in let j : qs ≡ also tree.absent rs = cc in record {
+        patterns = tree.absent ∷ w.patterns;
+        are = j ∙ ap (also tree.absent) w.are;
+        reads = hole w.patterns g w.reads refl;
+        supports = ap all_supported j ∙ w.supports;
+      }
+
+  array_turn_sound : (s : State) (found : Covers) (t : State) → ElementsSoFar s found t
+      → Meets (Turned (array_turn inner cover) (ElementsSoFar s) (SoundElements s) Refuses) (array_turn inner cover found t)
+  unfolding array_turn
+  array_turn_sound s found t p = meets_if _ (sees kind.RBracket t.at) _ _
+      (λ e. sound_as s (moved t) refl refl refl (λ (a, b). (
+        t.at,
+        all_read (ElementRule (Reads n) s.code) (PatternItemRule (Reads n) assigning (with_in s.code)) as_elements no_elements_left
+            (Elems s.code) (Items s.code) kind.RBracket (elements_list _) (elements_list _) s.at t.at found a,
+        b.0,
+        b.1,
+      ))
+      (stepped p (sound_moved {P = λ k. Takes kind.RBracket} t (saw t.at kind.RBracket e) refl (saw t.at kind.RBracket e, refl))))
+      (λ e. meets_if _ (sees kind.Comma t.at) _ _
+      (λ h. sound_as s (moved t) refl (walks_push (env_of s.code s.scope.labels) found.xs tree.absent) (notes_push found.xs tree.absent)
+      (λ (a, b). hole_next s.code s.at t.at found a e (saw t.at kind.Comma h))
+      (paired p (sound_moved {P = λ k. Takes kind.Comma} t (saw t.at kind.Comma h) refl (saw t.at kind.Comma h, refl))))
+      (λ _. meets_then _ (item inner cover t) _ (item_sound t) (λ v m q. next e v m q)))
+    where
+      next : sees kind.RBracket t.at ≡ false → (v : Cover) (m : State) → SoundItem t v m
+          → Meets (Turned (array_turn inner cover) (ElementsSoFar s) (SoundElements s) Refuses) (behind_item inner cover (sees kind.DotDotDot t.at) (with_cover found v) m)
+      next e v m q = meets_if _ (sees kind.RBracket m.at) _ _
+          (λ h. sound_as s m refl (walks_push (env_of s.code s.scope.labels) found.xs v.x) (notes_push found.xs v.x)
+          (λ (a, b). push_last (ElementRule (Reads n) s.code) (PatternItemRule (Reads n) assigning (with_in s.code)) as_elements no_elements_left (Elems s.code) (Items s.code) kind.RBracket
+          (elements_list _) (elements_list _) s.at t.at m.at found v (sees kind.DotDotDot t.at) a e b (saw m.at kind.RBracket h)) (paired p q))
+          (λ _. meets_then _ (expect kind.Comma m) _ (expect_sound kind.Comma m refl) (λ _ u r.
+          sound_as s u refl (walks_push (env_of s.code s.scope.labels) found.xs v.x) (notes_push found.xs v.x)
+          (λ ((a, b), o). subst (SoFar (Elems s.code) as_elements (Items s.code) kind.RBracket (with_comma (sees kind.DotDotDot t.at) (with_cover found v)) s.at) (sym o.1)
+          (push_next (ElementRule (Reads n) s.code) (PatternItemRule (Reads n) assigning (with_in s.code)) as_elements no_elements_left (Elems s.code) (Items s.code) kind.RBracket
+          (elements_list _) (elements_list _) s.at t.at m.at found v (sees kind.DotDotDot t.at) a e b o.0)) (stepped (paired p q) r)))
+
+  -- none so far
+  nothing_yet : (L K : List Tree → Place → Place → Type 0) (change : Trees → Option Trees) (j : TokenKind) (c : Place) → SoFar L change K j no_covers c c
+  nothing_yet L K change j c = record { plain = λ _. at_more (λ ys d r. r); pattern = λ _. at_more (λ ys d r. r) }
+
+  -- all of them, from `[` on
+  elements_sound : (s : State) → kind_at s.at ≡ kind.LBracket
+      → Meets (λ found t. Sound same (λ k l. walk (env_of k l) (listed found.xs)) (notes (listed found.xs)) (λ k c d. ClosedElements found k (after c) d) s t) (elements inner cover s)
+  unfolding elements
+  elements_sound s e = meets_as (loop (array_turn inner cover) no_covers (moved s))
+      (loop_answers (array_turn inner cover) (ElementsSoFar (moved s)) (SoundElements (moved s)) Refuses (array_turn_sound (moved s)) (λ t. tt) no_covers (moved s)
+      (sound_here (moved s) (nothing_yet _ _ as_elements kind.RBracket (after s.at))))
+      (λ found t p. sound_after s t e refl refl refl (λ r. r) p)
+
+  pub array_sound : (s : State) → kind_at s.at ≡ kind.LBracket → Meets (SoundLiteral n s) (array inner cover s)
+  unfolding array spanned
+  array_sound s e = meets_then _ (elements inner cover s) _ (elements_sound s e) (λ found t p. sound_as s t refl refl refl (λ (m, r, h, g). record {
+    plain = λ i. let w = r.plain i in (array_rule found.xs m e w.0 h g refl, w.1);
+    pattern = λ i q j. let (ps, a, b) = some_array (spanned s.at t.at) (as_elements (trees found.xs)) q j in let w = r.pattern i ps a in
+        (patterns.array_rule w.patterns m e w.reads h g (b ∙ ap (λ z. tree.array_pat (spanned s.at t.at) (tree.list z)) w.are), ap supported b ∙ w.supports);
+    no_default = refl;
+    literal = refl;
+    called = refl;
+    ends = refl;
+  }) p)
+
+  -- ---- properties
+
+  abbrev Key : Code → Tree → Place → Place → Type 0
+  Key k x c d = KeyRule (Reads n) k x c d × (is_supported_key x ≡ true)
+
+  abbrev SoundKey : State → Tree → State → Type 0
+  SoundKey s x t = SoundTree Key s x t
+
+  computed_key_sound : (s : State) → kind_at s.at ≡ kind.LBracket → Meets (SoundKey s) (computed_key inner cover s)
+  unfolding computed_key spanned
+  computed_key_sound s e = meets_then _ (inside inner cover assignment (moved s)) _ (inside_sound assignment (moved s)) (λ x m p.
+      meets_then _ (expect kind.RBracket m) _ (expect_sound kind.RBracket m refl) (λ _ t q.
+      sound_as s t refl refl refl (λ (a, b). (parts.computed_key (record { key = x; close = m.at; opens = e; reads_key = a.0; closes = b.0; next = b.1; is = refl }), a.1))
+      (stepped (moved_back e refl p) q)))
+
+  -- a string or a number was read, or nothing
+  abbrev KeyOr : State → Option Tree → State → Type 0
+  KeyOr s (Some x) t = SoundKey s x t
+  KeyOr s None t = Unit {0}
+
+  key_of_sound : (s : State) (u : TokenAndSpan) (ts : List TokenAndSpan) (v : Token) → s.at.left ≡ u ∷ ts → u.token ≡ v → token_is_word v ≡ false
+      → Meets (KeyOr s) (taken (literal_of u.span v) s)
+  key_of_sound s u ts (token.Str value raw) e h g = let r = stands s.at u ts (token.Str value raw) e h in
+      sound_moved s (kind_here s.at u ts (token.Str value raw) e h) refl (parts.string_key value raw u.span r refl, refl)
+  key_of_sound s u ts (token.Num raw) e h g = let r = stands s.at u ts (token.Num raw) e h in
+      sound_moved s (kind_here s.at u ts (token.Num raw) e h) refl (parts.number_key raw u.span r refl, refl)
+  key_of_sound s u ts (token.BigInt raw) e h g = let r = stands s.at u ts (token.BigInt raw) e h in
+      sound_moved s (kind_here s.at u ts (token.BigInt raw) e h) refl (parts.big_int_key raw u.span r refl, refl)
+  key_of_sound s u ts (token.Word w) e h g = cc
+  key_of_sound s u ts _ e h g = tt
+
+  key_in_sound : (s : State) (ts : List TokenAndSpan) → s.at.left ≡ ts → first_is_word ts ≡ false → Meets (KeyOr s) (taken (literal_in ts) s)
+  key_in_sound s [] e g = tt
+  key_in_sound s (u ∷ ts) e g = key_of_sound s u ts u.token e refl g
+
+  key_or_sound : (s : State) (o : Option Tree) (t : State) → KeyOr s o t → Meets (SoundKey s) (key_or o t)
+  key_or_sound s (Some x) t p = p
+  key_or_sound s None t p = wanted_meets _ faults.Unexpected t
+
+  literal_key_sound : (s : State) → is_word_at s.at ≡ false → Meets (SoundKey s) (literal_key s)
+  unfolding literal_key literal is_word_at
+  literal_key_sound s g = meets_then _ (taken (literal_in s.at.left) s) _ (key_in_sound s s.at.left refl g) (λ o t p. key_or_sound s o t p)
+
+  key_sound : (s : State) → Meets (SoundKey s) (key inner cover s)
+  unfolding key word_property
+  key_sound s = meets_if _ (is_word_at s.at) _ _
+      (λ _. meets_then _ (any_word s) _ (any_word_sound s) (λ i t p. sound_as s t refl refl refl (λ r. (parts.word_key i.sym i.span r refl, refl)) p))
+      (λ g. meets_if _ (sees kind.LBracket s.at) _ _ (λ e. computed_key_sound s (saw s.at kind.LBracket e)) (λ _. literal_key_sound s g))
+
+  abbrev PropertyRead : Bool → Cover → Code → Place → Place → Type 0
+  PropertyRead is_spread v k = PartRead (PropertyRule (Reads n) k) as_properties (PatternPropertyRule (Reads n) assigning (with_in k)) is_spread v
+
+  abbrev SoundProperty : State → Cover → State → Type 0
+  SoundProperty s v t = Sound same (λ k l. walk (env_of k l) v.x) (notes v.x) (PropertyRead (sees kind.DotDotDot s.at) v) s t
+
+  module _ (s : State) where
+    abbrev is_spread : Bool
+    is_spread = sees kind.DotDotDot s.at
+
+    key_value_sound : (x : Tree) (m : State) → SoundKey s x m → kind_at m.at ≡ kind.Colon → Meets (SoundProperty s) (key_value inner cover (span_at s.at) x m)
+    unfolding key_value spanned
+    key_value_sound x m p e = meets_then _ (covered inner cover (moved m)) _ (covered_sound (moved m)) (λ v t q.
+        sound_as s t refl refl refl (λ (a, b). record {
+          plain = λ h. let w = b.plain h in (record { rule = key_value_rule x v.x m.at a.0 e w.0 refl; supports = and_both (is_supported_key x) (supported v.x) a.1 w.1 }, refl);
+          pattern = λ h. any_part as_properties no_properties_left (PartRule n s.code v) is_spread _ s.at t.at (value_follows n s.code v x s.at m.at t.at a.0 a.1 e b h);
+        }) (paired p (moved_back e refl q)))
+
+    shorthand_name_sound : (span : Span) (text : Text) (t : State) → SoundKey s (tree.ident span text) t → sees kind.Assign t.at ≡ false
+        → Meets (λ y u. SoundProperty s (done y) u) (shorthand_name span text t)
+    unfolding shorthand_name
+    shorthand_name_sound span text t p h = meets_if _ (is_name t.code.flags text) _ _
+        (λ e. let free : is_name s.code.flags text ≡ true = sym (ap (λ z. is_name z.flags text) p.code) ∙ e in
+        sound_as s t refl refl refl (λ (a, _). let r = ident_key (Reads n) s.code span text s.at t.at a in record {
+          plain = λ _. (record { rule = shorthand_rule text span (free_name s.code text span s.at t.at r free) refl; supports = name_is_supported s.code.flags text free }, refl);
+          pattern = λ _. any_part as_properties no_properties_left (NamedRule n s.code text span) is_spread _ s.at t.at (name_follows n s.code text span s.at t.at r free h);
+        }) p)
+        (λ _. reject_meets _ _ t)
+
+    shorthand_sound : (x : Tree) (t : State) → SoundKey s x t → sees kind.Assign t.at ≡ false → Meets (λ y u. SoundProperty s (done y) u) (shorthand x t)
+    shorthand_sound (tree.ident span text) t p h = shorthand_name_sound span text t p h
+    shorthand_sound _ t p h = wanted_meets _ faults.Unexpected t
+
+    bare_key_sound : (x : Tree) (t : State) → SoundKey s x t → sees kind.Assign t.at ≡ false → Meets (SoundProperty s) (bare_key inner cover x t)
+    unfolding bare_key
+    bare_key_sound x t p h = meets_then _ (shorthand x t) _ (shorthand_sound x t p h) (λ y u q. q)
+
+    initialized_name_sound : (span : Span) (text : Text) (m : State) → SoundKey s (tree.ident span text) m → kind_at m.at ≡ kind.Assign
+        → Meets (SoundProperty s) (initialized_name inner cover (span_at s.at) span text m)
+    unfolding initialized_name initialized spanned
+    initialized_name_sound span text m p h = meets_if _ (is_name m.code.flags text) _ _
+        (λ e. let free : is_name s.code.flags text ≡ true = sym (ap (λ z. is_name z.flags text) p.code) ∙ e in
+        meets_then _ (inside inner cover assignment (moved m)) _ (inside_sound assignment (moved m)) (λ y t q.
+        sound_as s t refl refl refl (λ (a, b). record {
+          plain = λ i. cc;
+          pattern = λ _. any_part as_properties no_properties_left (NamedRule n s.code text span) is_spread _ s.at t.at
+              (default_follows n s.code text span y s.at m.at t.at (ident_key (Reads n) s.code span text s.at m.at a.0) free h b);
+        }) (paired p (moved_back h refl q))))
+        (λ _. reject_meets _ _ m)
+
+    initialized_key_sound : (x : Tree) (m : State) → SoundKey s x m → kind_at m.at ≡ kind.Assign → Meets (SoundProperty s) (initialized_key inner cover (span_at s.at) x m)
+    initialized_key_sound (tree.ident span text) m p h = initialized_name_sound span text m p h
+    initialized_key_sound _ m p h = wanted_meets _ faults.Unexpected m
+
+    behind_key_sound : (x : Tree) (m : State) → SoundKey s x m → Meets (SoundProperty s) (behind_key inner cover (span_at s.at) x m)
+    unfolding behind_key
+    behind_key_sound x m p = meets_if _ (sees kind.Colon m.at) _ _ (λ e. key_value_sound x m p (saw m.at kind.Colon e))
+        (λ _. meets_if _ (sees kind.Assign m.at) _ _ (λ e. initialized_key_sound x m p (saw m.at kind.Assign e)) (λ h. bare_key_sound x m p h))
+
+  property_sound : (s : State) → Meets (SoundProperty s) (property inner cover s)
+  unfolding property spread_property keyed_property
+  property_sound s = meets_if _ (sees kind.DotDotDot s.at) _ _
+      (λ e. meets_then _ (covered inner cover (moved s)) _ (covered_sound (moved s)) (λ v t p.
+      sound_after s t (saw s.at kind.DotDotDot e) refl refl refl (λ r. record {
+        plain = λ h. let w = r.plain h in (record { rule = spread_rule v.x (saw s.at kind.DotDotDot e) w.0 refl; supports = w.1 }, refl);
+        pattern = λ h. rest_part as_properties (PartRule n s.code v) (sees kind.DotDotDot s.at) _ s.at t.at e (property_rest n s.code v s.at t.at (saw s.at kind.DotDotDot e) r h);
+      }) p))
+      (λ _. meets_then _ (key inner cover s) _ (key_sound s) (λ x m p. behind_key_sound s x m p))
+
+  abbrev pub Props : Code → List Tree → Place → Place → Type 0
+  Props k = ReadsListed true (PropertyRule (Reads n) k)
+
+  abbrev pub Targets : Code → List Tree → Place → Place → Type 0
+  Targets k = ReadsListed true (PatternPropertyRule (Reads n) assigning (with_in k))
+
+  -- the properties so far, and all
+  abbrev PropertiesSoFar : State → Covers → State → Type 0
+  PropertiesSoFar s found t = Sound same (λ k l. walks.walks (env_of k l) false (trees found.xs)) (all_notes (trees found.xs))
+      (λ k. SoFar (Props k) as_properties (Targets k) kind.RBrace found) s t
+
+  abbrev ClosedProperties : Covers → Code → Place → Place → Type 0
+  ClosedProperties found k c d = (m : Place) × AllRead (Props k) as_properties (Targets k) found c m × (kind_at m ≡ kind.RBrace) × (d ≡ after m)
+
+  abbrev SoundProperties : State → Covers → State → Type 0
+  SoundProperties s found t = Sound same (λ k l. walks.walks (env_of k l) false (trees found.xs)) (all_notes (trees found.xs)) (ClosedProperties found) s t
+
+  object_turn_sound : (s : State) (found : Covers) (t : State) → PropertiesSoFar s found t
+      → Meets (Turned (object_turn inner cover) (PropertiesSoFar s) (SoundProperties s) Refuses) (object_turn inner cover found t)
+  unfolding object_turn
+  object_turn_sound s found t p = meets_if _ (sees kind.RBrace t.at) _ _
+      (λ e. sound_as s (moved t) refl refl refl (λ (a, b). (
+        t.at,
+        all_read (PropertyRule (Reads n) s.code) (PatternPropertyRule (Reads n) assigning (with_in s.code)) as_properties no_properties_left
+            (Props s.code) (Targets s.code) kind.RBrace (properties_list _) (properties_list _) s.at t.at found a,
+        b.0,
+        b.1,
+      ))
+      (stepped p (sound_moved {P = λ k. Takes kind.RBrace} t (saw t.at kind.RBrace e) refl (saw t.at kind.RBrace e, refl))))
+      (λ e. meets_then _ (property inner cover t) _ (property_sound t) (λ v m q. next e v m q))
+    where
+      next : sees kind.RBrace t.at ≡ false → (v : Cover) (m : State) → SoundProperty t v m
+          → Meets (Turned (object_turn inner cover) (PropertiesSoFar s) (SoundProperties s) Refuses) (behind_property inner cover (sees kind.DotDotDot t.at) (with_cover found v) m)
+      next e v m q = meets_if _ (sees kind.RBrace m.at) _ _
+          (λ h. sound_as s m refl (walks_push (env_of s.code s.scope.labels) found.xs v.x) (notes_push found.xs v.x)
+          (λ (a, b). push_last (PropertyRule (Reads n) s.code) (PatternPropertyRule (Reads n) assigning (with_in s.code)) as_properties no_properties_left (Props s.code) (Targets s.code) kind.RBrace
+          (properties_list _) (properties_list _) s.at t.at m.at found v (sees kind.DotDotDot t.at) a e b (saw m.at kind.RBrace h)) (paired p q))
+          (λ _. meets_then _ (expect kind.Comma m) _ (expect_sound kind.Comma m refl) (λ _ u r.
+          sound_as s u refl (walks_push (env_of s.code s.scope.labels) found.xs v.x) (notes_push found.xs v.x)
+          (λ ((a, b), o). subst (SoFar (Props s.code) as_properties (Targets s.code) kind.RBrace (with_comma (sees kind.DotDotDot t.at) (with_cover found v)) s.at) (sym o.1)
+          (push_next (PropertyRule (Reads n) s.code) (PatternPropertyRule (Reads n) assigning (with_in s.code)) as_properties no_properties_left (Props s.code) (Targets s.code) kind.RBrace
+          (properties_list _) (properties_list _) s.at t.at m.at found v (sees kind.DotDotDot t.at) a e b o.0)) (stepped (paired p q) r)))
+
+  -- all of them, from `{` on
+  properties_sound : (s : State) → kind_at s.at ≡ kind.LBrace
+      → Meets (λ found t. Sound same (λ k l. walk (env_of k l) (listed found.xs)) (notes (listed found.xs)) (λ k c d. ClosedProperties found k (after c) d) s t) (properties inner cover s)
+  unfolding properties
+  properties_sound s e = meets_as (loop (object_turn inner cover) no_covers (moved s))
+      (loop_answers (object_turn inner cover) (PropertiesSoFar (moved s)) (SoundProperties (moved s)) Refuses (object_turn_sound (moved s)) (λ t. tt) no_covers (moved s)
+      (sound_here (moved s) (nothing_yet _ _ as_properties kind.RBrace (after s.at))))
+      (λ found t p. sound_after s t e refl refl refl (λ r. r) p)
+
+  pub object_sound : (s : State) → kind_at s.at ≡ kind.LBrace → Meets (SoundLiteral n s) (object inner cover s)
+  unfolding object spanned
+  object_sound s e = meets_then _ (properties inner cover s) _ (properties_sound s e) (λ found t p. sound_as s t refl refl refl (λ (m, r, h, g). record {
+    plain = λ i. let w = r.plain i in (object_rule found.xs m e w.0 h g refl, w.1);
+    pattern = λ i q j. let (ps, a, b) = some_object (spanned s.at t.at) (as_properties (trees found.xs)) q j in let w = r.pattern i ps a in
+        (patterns.object_rule w.patterns m e w.reads h g (b ∙ ap (λ z. tree.object_pat (spanned s.at t.at) (tree.list z)) w.are), ap supported b ∙ w.supports);
+    no_default = refl;
+    literal = refl;
+    called = refl;
+    ends = refl;
+  }) p)
