@@ -96,6 +96,32 @@ fn patterns(rt: HostRuntime) -> Result<(), Fail> {
     Ok(())
 }
 
+const BINDINGS: &str =
+    "var [a, , b = c, ...d] = e → Script 0..26, Var 0..26 → VarDeclarator 4..26, ArrayPat 4..22, AssignPat 10..15, RestPat 17..21
+var {f, g: [h], i = j, 'k': l, [m]: n = o, ...p} = q → Script 0..52, Var 0..52 → ObjectPat 4..48, AssignPatProp 5..6, KeyValuePatProp 8..14, ArrayPat 11..14, AssignPatProp 16..21, KeyValuePatProp 23..29, KeyValuePatProp 31..41, ComputedPropName 31..34, AssignPat 36..41, RestPat 43..47
+var [[a] = b, ...[c]] = d, e; → Script 0..29, Var 0..29 → VarDeclarator 4..25, ArrayPat 4..21, AssignPat 5..12, ArrayPat 5..8, RestPat 14..20, ArrayPat 17..20, VarDeclarator 27..28
+var {a, b,} = c → Script 0..15, Var 0..15 → ObjectPat 4..11
+var [] = a, {} = b → Script 0..18, Var 0..18 → ArrayPat 4..6, ObjectPat 12..14
+var [a = b in c] = d → Script 0..20, Var 0..20 → AssignPat 5..15, BinExpr 9..15
+var [a]; → refused 4..7 PatVarWithoutInit
+var {a}; → refused 4..7 PatVarWithoutInit
+var [...a,] = b → refused 9..10 Expected
+var [...a = b] = c → refused 10..11 Expected
+var {...a, b} = c → refused 9..10 Expected
+var {...[a]} = b → refused 8..9 ExpectedIdent
+var {if} = a → refused 5..7 ExpectedIdent
+var {'a'} = b → refused 8..9 Unexpected
+var {a: b.c} = d → refused 9..10 Expected
+var [a.b] = c → refused 6..7 Expected
+var [1] = a → refused 5..6 ExpectedIdent
+var (a) = b → refused 4..5 ExpectedIdent";
+
+#[test]
+fn bindings(rt: HostRuntime) -> Result<(), Fail> {
+    assert_eq!(rt; report(rt.alloc(), BINDINGS, 1000)?.as_str(), "18 rows");
+    Ok(())
+}
+
 const REFUSED: &str = "a ?? b || c → refused 0..11 NullishCoalescingWithLogicalOp
 -a ** b → refused 0..2 UnaryInExp
 1 + f() = 2 → refused 0..7 InvalidPat
@@ -121,6 +147,10 @@ fn levels(rt: HostRuntime) -> Result<(), Fail> {
         ("[[a]] = b → refused 2..3 TooDeep", 3),
         ("({a: [b]} = c) → Script 0..14, Expr 0..14", 5),
         ("({a: [b]} = c) → refused 6..7 TooDeep", 4),
+        ("var [[a]] = b → Script 0..13, Var 0..13", 4),
+        ("var [[a]] = b → refused 6..7 TooDeep", 3),
+        ("var [a = b] = c → Script 0..15, Var 0..15", 4),
+        ("var [a = b] = c → refused 9..10 TooDeep", 3),
     ] {
         assert_eq!(rt; report(rt.alloc(), rows, limit)?.as_str(), "1 rows");
     }

@@ -7,17 +7,19 @@ use Rattle.swc_ecma_parser_model.specs.Tree.{Tree}
 use Rattle.swc_ecma_parser_trees.specs.declared.Maker.{Maker}
 use Rattle.swc_ecma_parser_grammar.specs.declared.position.Position.{Position}
 use Rattle.swc_ecma_parser_reader.specs.State.{State, GivesAs}
-use Rattle.swc_ecma_parser_reader.specs.Reader.{stmt, pat}
+use Rattle.swc_ecma_parser_reader.specs.Reader.{stmt}
 use Rattle.swc_ecma_parser_core.specs.declared.cover.Cover.{Cover}
 use Rattle.swc_ecma_parser_core.specs.declared.cover.Reading.{Reading}
+use Rattle.swc_ecma_parser_core.specs.declared.pat.Part.{Part}
 use Rattle.swc_ecma_parser_core.specs.Covers.{cover_of, read}
+use Rattle.swc_ecma_parser_core.specs.Patterns.{read_pat}
 
 -- what such a value asks for and answers, of a maker of trees and a source
-abbrev pub Pre : Type 0 → Type 0 → Type 1
-Pre M P = Bor M → MutBor P → ℕ → Type 0
+abbrev pub PatPre : Type 0 → Type 0 → Type 1
+PatPre M P = Bor M → MutBor P → ℕ → Part → Type 0
 
-abbrev pub Post : Type 0 → Type 0 → Type 0 → Type 1
-Post M P A = Bor M → MutBor P → ℕ → Result A Error → MutBor P → Type 0
+abbrev pub PatPost : Type 0 → Type 0 → Type 0 → Type 1
+PatPost M P A = Bor M → MutBor P → ℕ → Part → Result A Error → MutBor P → Type 0
 
 abbrev pub ExprPre : Type 0 → Type 0 → Type 1
 ExprPre M P = Bor M → MutBor P → ℕ → Reading → Type 0
@@ -35,10 +37,10 @@ StmtPost M P A = Bor M → MutBor P → ℕ → Position → Result A Error → 
 pub record Nests {P T X N S : Type 0} (seen : P → State) (expr_of : X → Tree) (pat_of : N → Tree) (stmt_of : S → Tree) (depth : ℕ)
     (stmt_pre : StmtPre (Maker T X N S) P) (stmt_post : StmtPost (Maker T X N S) P S)
     (expr_pre : ExprPre (Maker T X N S) P) (expr_post : ExprPost (Maker T X N S) P (Cover X))
-    (pat_pre : Pre (Maker T X N S) P) (pat_post : Post (Maker T X N S) P N) : Type 0 where
+    (pat_pre : PatPre (Maker T X N S) P) (pat_post : PatPost (Maker T X N S) P N) : Type 0 where
   pub stmt_callable : (maker : Bor (Maker T X N S)) (old : MutBor P) (at : Position) → stmt_pre maker old depth at
   pub stmt_gives : (maker : Bor (Maker T X N S)) (old new : MutBor P) (at : Position) (r : Result S Error) → stmt_post maker old depth at r new → GivesAs stmt_of (stmt depth at (seen old.now)) r (seen new.now)
   pub expr_callable : (maker : Bor (Maker T X N S)) (old : MutBor P) (asked : Reading) → expr_pre maker old depth asked
   pub expr_gives : (maker : Bor (Maker T X N S)) (old new : MutBor P) (asked : Reading) (r : Result (Cover X) Error) → expr_post maker old depth asked r new → GivesAs (cover_of expr_of) (read depth asked (seen old.now)) r (seen new.now)
-  pub pat_callable : (maker : Bor (Maker T X N S)) (old : MutBor P) → pat_pre maker old depth
-  pub pat_gives : (maker : Bor (Maker T X N S)) (old new : MutBor P) (r : Result N Error) → pat_post maker old depth r new → GivesAs pat_of (pat depth (seen old.now)) r (seen new.now)
+  pub pat_callable : (maker : Bor (Maker T X N S)) (old : MutBor P) (part : Part) → pat_pre maker old depth part
+  pub pat_gives : (maker : Bor (Maker T X N S)) (old new : MutBor P) (part : Part) (r : Result N Error) → pat_post maker old depth part r new → GivesAs pat_of (read_pat depth part (seen old.now)) r (seen new.now)

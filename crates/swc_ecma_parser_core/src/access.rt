@@ -12,6 +12,7 @@ ghost use Rattle.swc_ecma_parser_token.specs.declared.kind.TokenKind.TheVariants
 
 use crate::cover::{Cover, Reading, nested};
 use crate::grammar::Grammar;
+use crate::pat::Part;
 use crate::steps::{grown, pushed, since, with_in};
 use std::alloc::{AllocError, Global};
 use swc_ecma_parser_common::Span;
@@ -88,7 +89,7 @@ pub fn inside<
     T: BuildsCall,
     S: Fn(&MakerOf<T>, &mut P, usize, Position) -> PResult<T::Stmt>,
     E: Fn(&MakerOf<T>, &mut P, usize, Reading) -> PResult<Cover<T::Expr>>,
-    N: Fn(&MakerOf<T>, &mut P, usize) -> PResult<T::Pat>,
+    N: Fn(&MakerOf<T>, &mut P, usize, Part) -> PResult<T::Pat>,
 >(g: &Grammar<S, E, N>, t: &MakerOf<T>, p: &mut P, class: Class) -> PResult<T::Expr>
     requires { Nests P.seen T.expr_of T.pat_of T.stmt_of g.now.depth (S.pre g.now.stmt) (S.post g.now.stmt) (E.pre g.now.expr) (E.post g.now.expr) (N.pre g.now.pat) (N.post g.now.pat) }
     ensures { GivesAs (T.expr_of) (exprs.inside (exprs.expr g.now.depth) (exprs.cover g.now.depth) (class_of class) (P.seen p.old)) result (P.seen p.new) }
@@ -107,7 +108,7 @@ fn brackets<
     T: BuildsCall,
     S: Fn(&MakerOf<T>, &mut P, usize, Position) -> PResult<T::Stmt>,
     E: Fn(&MakerOf<T>, &mut P, usize, Reading) -> PResult<Cover<T::Expr>>,
-    N: Fn(&MakerOf<T>, &mut P, usize) -> PResult<T::Pat>,
+    N: Fn(&MakerOf<T>, &mut P, usize, Part) -> PResult<T::Pat>,
 >(g: &Grammar<S, E, N>, t: &MakerOf<T>, p: &mut P) -> PResult<Property<T::Expr>>
     requires { Nests P.seen T.expr_of T.pat_of T.stmt_of g.now.depth (S.pre g.now.stmt) (S.post g.now.stmt) (E.pre g.now.expr) (E.post g.now.expr) (N.pre g.now.pat) (N.post g.now.pat) }
     ensures { GivesAs (property_of T.expr_of) (exprs.brackets (exprs.expr g.now.depth) (exprs.cover g.now.depth) (P.seen p.old)) result (P.seen p.new) }
@@ -134,7 +135,7 @@ pub fn access<
     T: BuildsCall,
     S: Fn(&MakerOf<T>, &mut P, usize, Position) -> PResult<T::Stmt>,
     E: Fn(&MakerOf<T>, &mut P, usize, Reading) -> PResult<Cover<T::Expr>>,
-    N: Fn(&MakerOf<T>, &mut P, usize) -> PResult<T::Pat>,
+    N: Fn(&MakerOf<T>, &mut P, usize, Part) -> PResult<T::Pat>,
 >(g: &Grammar<S, E, N>, t: &MakerOf<T>, p: &mut P) -> PResult<Property<T::Expr>>
     requires { Nests P.seen T.expr_of T.pat_of T.stmt_of g.now.depth (S.pre g.now.stmt) (S.post g.now.stmt) (E.pre g.now.expr) (E.post g.now.expr) (N.pre g.now.pat) (N.post g.now.pat) }
     ensures { GivesAs (property_of T.expr_of) (exprs.access (exprs.expr g.now.depth) (exprs.cover g.now.depth) (P.seen p.old)) result (P.seen p.new) }
@@ -153,7 +154,7 @@ fn spread_element<
     T: BuildsCall,
     S: Fn(&MakerOf<T>, &mut P, usize, Position) -> PResult<T::Stmt>,
     E: Fn(&MakerOf<T>, &mut P, usize, Reading) -> PResult<Cover<T::Expr>>,
-    N: Fn(&MakerOf<T>, &mut P, usize) -> PResult<T::Pat>,
+    N: Fn(&MakerOf<T>, &mut P, usize, Part) -> PResult<T::Pat>,
 >(g: &Grammar<S, E, N>, t: &MakerOf<T>, p: &mut P) -> PResult<T::Arg>
     requires { Nests P.seen T.expr_of T.pat_of T.stmt_of g.now.depth (S.pre g.now.stmt) (S.post g.now.stmt) (E.pre g.now.expr) (E.post g.now.expr) (N.pre g.now.pat) (N.post g.now.pat) }
     ensures { GivesAs (T.arg_of) (exprs.spread_element (exprs.expr g.now.depth) (exprs.cover g.now.depth) (P.seen p.old)) result (P.seen p.new) }
@@ -171,7 +172,7 @@ fn plain_element<
     T: BuildsCall,
     S: Fn(&MakerOf<T>, &mut P, usize, Position) -> PResult<T::Stmt>,
     E: Fn(&MakerOf<T>, &mut P, usize, Reading) -> PResult<Cover<T::Expr>>,
-    N: Fn(&MakerOf<T>, &mut P, usize) -> PResult<T::Pat>,
+    N: Fn(&MakerOf<T>, &mut P, usize, Part) -> PResult<T::Pat>,
 >(g: &Grammar<S, E, N>, t: &MakerOf<T>, p: &mut P) -> PResult<T::Arg>
     requires { Nests P.seen T.expr_of T.pat_of T.stmt_of g.now.depth (S.pre g.now.stmt) (S.post g.now.stmt) (E.pre g.now.expr) (E.post g.now.expr) (N.pre g.now.pat) (N.post g.now.pat) }
     ensures { GivesAs (T.arg_of) (exprs.plain_element (exprs.expr g.now.depth) (exprs.cover g.now.depth) (P.seen p.old)) result (P.seen p.new) }
@@ -187,7 +188,7 @@ pub fn element<
     T: BuildsCall,
     S: Fn(&MakerOf<T>, &mut P, usize, Position) -> PResult<T::Stmt>,
     E: Fn(&MakerOf<T>, &mut P, usize, Reading) -> PResult<Cover<T::Expr>>,
-    N: Fn(&MakerOf<T>, &mut P, usize) -> PResult<T::Pat>,
+    N: Fn(&MakerOf<T>, &mut P, usize, Part) -> PResult<T::Pat>,
 >(g: &Grammar<S, E, N>, t: &MakerOf<T>, p: &mut P) -> PResult<T::Arg>
     requires { Nests P.seen T.expr_of T.pat_of T.stmt_of g.now.depth (S.pre g.now.stmt) (S.post g.now.stmt) (E.pre g.now.expr) (E.post g.now.expr) (N.pre g.now.pat) (N.post g.now.pat) }
     ensures { GivesAs (T.arg_of) (exprs.element (exprs.expr g.now.depth) (exprs.cover g.now.depth) (P.seen p.old)) result (P.seen p.new) }
@@ -205,7 +206,7 @@ pub fn arguments<
     T: BuildsCall,
     S: Fn(&MakerOf<T>, &mut P, usize, Position) -> PResult<T::Stmt>,
     E: Fn(&MakerOf<T>, &mut P, usize, Reading) -> PResult<Cover<T::Expr>>,
-    N: Fn(&MakerOf<T>, &mut P, usize) -> PResult<T::Pat>,
+    N: Fn(&MakerOf<T>, &mut P, usize, Part) -> PResult<T::Pat>,
 >(g: &Grammar<S, E, N>, t: &MakerOf<T>, p: &mut P) -> PResult<Vec<T::Arg>>
     requires { Nests P.seen T.expr_of T.pat_of T.stmt_of g.now.depth (S.pre g.now.stmt) (S.post g.now.stmt) (E.pre g.now.expr) (E.post g.now.expr) (N.pre g.now.pat) (N.post g.now.pat) }
     ensures { GivesAs (λ found. map T.arg_of found.items) (exprs.arguments (exprs.expr g.now.depth) (exprs.cover g.now.depth) (P.seen p.old)) result (P.seen p.new) }

@@ -15,6 +15,7 @@ use crate::object::object;
 use crate::operator::{
     assigns_here, behind_operators, binary_from, operator_here, operators_expr, postfixed,
 };
+use crate::pat::Part;
 use crate::steps::{grown, since};
 use swc_ecma_parser_common::Span;
 use swc_ecma_parser_error::{PResult, SyntaxError};
@@ -65,7 +66,7 @@ fn continued<
     T: BuildsExpr + BuildsCall + BuildsObject + BuildsOperator,
     S: Fn(&MakerOf<T>, &mut P, usize, Position) -> PResult<T::Stmt>,
     E: Fn(&MakerOf<T>, &mut P, usize, Reading) -> PResult<Cover<T::Expr>>,
-    N: Fn(&MakerOf<T>, &mut P, usize) -> PResult<T::Pat>,
+    N: Fn(&MakerOf<T>, &mut P, usize, Part) -> PResult<T::Pat>,
 >(g: &Grammar<S, E, N>, t: &MakerOf<T>, p: &mut P, start: Span, x: T::Expr) -> PResult<T::Expr>
     requires { Nests P.seen T.expr_of T.pat_of T.stmt_of g.now.depth (S.pre g.now.stmt) (S.post g.now.stmt) (E.pre g.now.expr) (E.post g.now.expr) (N.pre g.now.pat) (N.post g.now.pat) }
     ensures { GivesAs (T.expr_of) (exprs.continued (exprs.expr g.now.depth) (exprs.cover g.now.depth) start (T.expr_of x) (P.seen p.old)) result (P.seen p.new) }
@@ -83,7 +84,7 @@ fn closed<
     T: BuildsExpr + BuildsCall + BuildsObject + BuildsOperator,
     S: Fn(&MakerOf<T>, &mut P, usize, Position) -> PResult<T::Stmt>,
     E: Fn(&MakerOf<T>, &mut P, usize, Reading) -> PResult<Cover<T::Expr>>,
-    N: Fn(&MakerOf<T>, &mut P, usize) -> PResult<T::Pat>,
+    N: Fn(&MakerOf<T>, &mut P, usize, Part) -> PResult<T::Pat>,
 >(
     g: &Grammar<S, E, N>,
     t: &MakerOf<T>,
@@ -105,7 +106,7 @@ fn assigned_pattern<
     T: BuildsExpr + BuildsCall + BuildsObject + BuildsOperator + BuildsPattern,
     S: Fn(&MakerOf<T>, &mut P, usize, Position) -> PResult<T::Stmt>,
     E: Fn(&MakerOf<T>, &mut P, usize, Reading) -> PResult<Cover<T::Expr>>,
-    N: Fn(&MakerOf<T>, &mut P, usize) -> PResult<T::Pat>,
+    N: Fn(&MakerOf<T>, &mut P, usize, Part) -> PResult<T::Pat>,
 >(
     g: &Grammar<S, E, N>,
     t: &MakerOf<T>,
@@ -135,7 +136,7 @@ fn behind_literal<
     T: BuildsExpr + BuildsCall + BuildsObject + BuildsOperator + BuildsPattern,
     S: Fn(&MakerOf<T>, &mut P, usize, Position) -> PResult<T::Stmt>,
     E: Fn(&MakerOf<T>, &mut P, usize, Reading) -> PResult<Cover<T::Expr>>,
-    N: Fn(&MakerOf<T>, &mut P, usize) -> PResult<T::Pat>,
+    N: Fn(&MakerOf<T>, &mut P, usize, Part) -> PResult<T::Pat>,
 >(
     g: &Grammar<S, E, N>,
     t: &MakerOf<T>,
@@ -163,7 +164,7 @@ fn open_literal<
     T: BuildsExpr + BuildsCall + BuildsObject + BuildsOperator + BuildsPattern,
     S: Fn(&MakerOf<T>, &mut P, usize, Position) -> PResult<T::Stmt>,
     E: Fn(&MakerOf<T>, &mut P, usize, Reading) -> PResult<Cover<T::Expr>>,
-    N: Fn(&MakerOf<T>, &mut P, usize) -> PResult<T::Pat>,
+    N: Fn(&MakerOf<T>, &mut P, usize, Part) -> PResult<T::Pat>,
 >(g: &Grammar<S, E, N>, t: &MakerOf<T>, p: &mut P) -> PResult<Cover<T::Expr>>
     requires { Nests P.seen T.expr_of T.pat_of T.stmt_of g.now.depth (S.pre g.now.stmt) (S.post g.now.stmt) (E.pre g.now.expr) (E.post g.now.expr) (N.pre g.now.pat) (N.post g.now.pat) }
     ensures { GivesAs (cover_of T.expr_of) (exprs.open_literal (exprs.expr g.now.depth) (exprs.cover g.now.depth) (P.seen p.old)) result (P.seen p.new) }
@@ -184,7 +185,7 @@ pub fn cover_expr<
     T: BuildsExpr + BuildsCall + BuildsObject + BuildsOperator + BuildsPattern,
     S: Fn(&MakerOf<T>, &mut P, usize, Position) -> PResult<T::Stmt>,
     E: Fn(&MakerOf<T>, &mut P, usize, Reading) -> PResult<Cover<T::Expr>>,
-    N: Fn(&MakerOf<T>, &mut P, usize) -> PResult<T::Pat>,
+    N: Fn(&MakerOf<T>, &mut P, usize, Part) -> PResult<T::Pat>,
 >(g: &Grammar<S, E, N>, t: &MakerOf<T>, p: &mut P) -> PResult<Cover<T::Expr>>
     requires { Nests P.seen T.expr_of T.pat_of T.stmt_of g.now.depth (S.pre g.now.stmt) (S.post g.now.stmt) (E.pre g.now.expr) (E.post g.now.expr) (N.pre g.now.pat) (N.post g.now.pat) }
     ensures { GivesAs (cover_of T.expr_of) (exprs.cover_expr (exprs.expr g.now.depth) (exprs.cover g.now.depth) (P.seen p.old)) result (P.seen p.new) }
@@ -202,7 +203,7 @@ pub fn assignment_expr<
     T: BuildsExpr + BuildsCall + BuildsObject + BuildsOperator + BuildsPattern,
     S: Fn(&MakerOf<T>, &mut P, usize, Position) -> PResult<T::Stmt>,
     E: Fn(&MakerOf<T>, &mut P, usize, Reading) -> PResult<Cover<T::Expr>>,
-    N: Fn(&MakerOf<T>, &mut P, usize) -> PResult<T::Pat>,
+    N: Fn(&MakerOf<T>, &mut P, usize, Part) -> PResult<T::Pat>,
 >(g: &Grammar<S, E, N>, t: &MakerOf<T>, p: &mut P) -> PResult<T::Expr>
     requires { Nests P.seen T.expr_of T.pat_of T.stmt_of g.now.depth (S.pre g.now.stmt) (S.post g.now.stmt) (E.pre g.now.expr) (E.post g.now.expr) (N.pre g.now.pat) (N.post g.now.pat) }
     ensures { GivesAs (T.expr_of) (exprs.assignment_expr (exprs.expr g.now.depth) (exprs.cover g.now.depth) (P.seen p.old)) result (P.seen p.new) }

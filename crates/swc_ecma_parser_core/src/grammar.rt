@@ -1,13 +1,14 @@
 //! The readers that rules take as parameters, and the functions that tie rules and readers together, level by level.
 
 ghost use Rattle.swc_ecma_parser_core.specs.Covers.{cover_of, read};
+ghost use Rattle.swc_ecma_parser_core.specs.Patterns.{read_pat};
 ghost use Rattle.swc_ecma_parser_reader.specs.Reader as rules;
 ghost use Rattle.swc_ecma_parser_reader.specs.State.{GivesAs};
 
 use crate::assignment::cover_expr;
 use crate::cover::{Cover, Reading, done};
 use crate::operator::expr_level;
-use crate::pat::binding;
+use crate::pat::{Part, element_level, pattern_level};
 use crate::stmt::level;
 use swc_ecma_parser_error::PResult;
 use swc_ecma_parser_grammar::Position;
@@ -85,7 +86,7 @@ pub fn expr<
 }
 
 /// A pattern in so many levels.
-#[tactic(auto, using(swc_ecma_parser_reader::proofs::Loops::pat_lowest, swc_ecma_parser_reader::proofs::Loops::pat_above))]
+#[cycle(knot)]
 pub fn pat<
     P: Source,
     T: BuildsExpr
@@ -95,11 +96,20 @@ pub fn pat<
         + BuildsPattern
         + BuildsPat
         + BuildsStmt,
->(t: &MakerOf<T>, p: &mut P, depth: usize) -> PResult<T::Pat>
-    ensures { GivesAs T.pat_of (rules.pat depth (P.seen p.old)) result (P.seen p.new) }
+>(t: &MakerOf<T>, p: &mut P, depth: usize, part: Part) -> PResult<T::Pat>
+    ensures { GivesAs T.pat_of (read_pat depth part (P.seen p.old)) result (P.seen p.new) }
 {
     if depth == 0 {
         return Err(p.too_deep());
     }
-    binding::<P, T>(t.alloc, p)
+    let g = Grammar {
+        depth: depth - 1,
+        stmt: stmt::<P, T>,
+        expr: expr::<P, T>,
+        pat: pat::<P, T>,
+    };
+    match part {
+        Part::Pattern => pattern_level(&g, t, p),
+        Part::Element => element_level(&g, t, p),
+    }
 }

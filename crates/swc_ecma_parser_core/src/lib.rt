@@ -9,6 +9,7 @@ pub mod cover;
 pub mod grammar;
 pub mod left;
 mod object;
+mod object_pat;
 pub mod operator;
 pub mod pat;
 pub mod script;

@@ -14,6 +14,7 @@ use crate::assignment::assignment_expr;
 use crate::cover::{Cover, Reading, nested};
 use crate::grammar::Grammar;
 use crate::left::{left, left_expr};
+use crate::pat::Part;
 use crate::steps::{grown, pushed, since};
 use std::alloc::Global;
 use swc_ecma_parser_common::Span;
@@ -36,7 +37,7 @@ fn prefixed<
     T: BuildsExpr + BuildsCall + BuildsObject + BuildsOperator,
     S: Fn(&MakerOf<T>, &mut P, usize, Position) -> PResult<T::Stmt>,
     E: Fn(&MakerOf<T>, &mut P, usize, Reading) -> PResult<Cover<T::Expr>>,
-    N: Fn(&MakerOf<T>, &mut P, usize) -> PResult<T::Pat>,
+    N: Fn(&MakerOf<T>, &mut P, usize, Part) -> PResult<T::Pat>,
 >(g: &Grammar<S, E, N>, t: &MakerOf<T>, p: &mut P, op: UnaryOp) -> PResult<T::Expr>
     requires { Nests P.seen T.expr_of T.pat_of T.stmt_of g.now.depth (S.pre g.now.stmt) (S.post g.now.stmt) (E.pre g.now.expr) (E.post g.now.expr) (N.pre g.now.pat) (N.post g.now.pat) }
     ensures { GivesAs (T.expr_of) (exprs.prefixed (exprs.expr g.now.depth) (exprs.cover g.now.depth) op (P.seen p.old)) result (P.seen p.new) }
@@ -66,7 +67,7 @@ fn update_before<
     T: BuildsExpr + BuildsCall + BuildsObject + BuildsOperator,
     S: Fn(&MakerOf<T>, &mut P, usize, Position) -> PResult<T::Stmt>,
     E: Fn(&MakerOf<T>, &mut P, usize, Reading) -> PResult<Cover<T::Expr>>,
-    N: Fn(&MakerOf<T>, &mut P, usize) -> PResult<T::Pat>,
+    N: Fn(&MakerOf<T>, &mut P, usize, Part) -> PResult<T::Pat>,
 >(g: &Grammar<S, E, N>, t: &MakerOf<T>, p: &mut P, op: UpdateOp) -> PResult<T::Expr>
     requires { Nests P.seen T.expr_of T.pat_of T.stmt_of g.now.depth (S.pre g.now.stmt) (S.post g.now.stmt) (E.pre g.now.expr) (E.post g.now.expr) (N.pre g.now.pat) (N.post g.now.pat) }
     ensures { GivesAs (T.expr_of) (exprs.update_before (exprs.expr g.now.depth) (exprs.cover g.now.depth) op (P.seen p.old)) result (P.seen p.new) }
@@ -129,7 +130,7 @@ fn postfix<
     T: BuildsExpr + BuildsCall + BuildsObject + BuildsOperator,
     S: Fn(&MakerOf<T>, &mut P, usize, Position) -> PResult<T::Stmt>,
     E: Fn(&MakerOf<T>, &mut P, usize, Reading) -> PResult<Cover<T::Expr>>,
-    N: Fn(&MakerOf<T>, &mut P, usize) -> PResult<T::Pat>,
+    N: Fn(&MakerOf<T>, &mut P, usize, Part) -> PResult<T::Pat>,
 >(g: &Grammar<S, E, N>, t: &MakerOf<T>, p: &mut P) -> PResult<T::Expr>
     requires { Nests P.seen T.expr_of T.pat_of T.stmt_of g.now.depth (S.pre g.now.stmt) (S.post g.now.stmt) (E.pre g.now.expr) (E.post g.now.expr) (N.pre g.now.pat) (N.post g.now.pat) }
     ensures { GivesAs (T.expr_of) (exprs.postfix (exprs.expr g.now.depth) (exprs.cover g.now.depth) (P.seen p.old)) result (P.seen p.new) }
@@ -146,7 +147,7 @@ fn unary_expr<
     T: BuildsExpr + BuildsCall + BuildsObject + BuildsOperator,
     S: Fn(&MakerOf<T>, &mut P, usize, Position) -> PResult<T::Stmt>,
     E: Fn(&MakerOf<T>, &mut P, usize, Reading) -> PResult<Cover<T::Expr>>,
-    N: Fn(&MakerOf<T>, &mut P, usize) -> PResult<T::Pat>,
+    N: Fn(&MakerOf<T>, &mut P, usize, Part) -> PResult<T::Pat>,
 >(g: &Grammar<S, E, N>, t: &MakerOf<T>, p: &mut P) -> PResult<T::Expr>
     requires { Nests P.seen T.expr_of T.pat_of T.stmt_of g.now.depth (S.pre g.now.stmt) (S.post g.now.stmt) (E.pre g.now.expr) (E.post g.now.expr) (N.pre g.now.pat) (N.post g.now.pat) }
     ensures { GivesAs (T.expr_of) (exprs.unary_expr (exprs.expr g.now.depth) (exprs.cover g.now.depth) (P.seen p.old)) result (P.seen p.new) }
@@ -219,7 +220,7 @@ fn operated<
     T: BuildsExpr + BuildsCall + BuildsObject + BuildsOperator,
     S: Fn(&MakerOf<T>, &mut P, usize, Position) -> PResult<T::Stmt>,
     E: Fn(&MakerOf<T>, &mut P, usize, Reading) -> PResult<Cover<T::Expr>>,
-    N: Fn(&MakerOf<T>, &mut P, usize) -> PResult<T::Pat>,
+    N: Fn(&MakerOf<T>, &mut P, usize, Part) -> PResult<T::Pat>,
 >(
     g: &Grammar<S, E, N>,
     t: &MakerOf<T>,
@@ -256,7 +257,7 @@ pub fn binary_from<
     T: BuildsExpr + BuildsCall + BuildsObject + BuildsOperator,
     S: Fn(&MakerOf<T>, &mut P, usize, Position) -> PResult<T::Stmt>,
     E: Fn(&MakerOf<T>, &mut P, usize, Reading) -> PResult<Cover<T::Expr>>,
-    N: Fn(&MakerOf<T>, &mut P, usize) -> PResult<T::Pat>,
+    N: Fn(&MakerOf<T>, &mut P, usize, Part) -> PResult<T::Pat>,
 >(
     g: &Grammar<S, E, N>,
     t: &MakerOf<T>,
@@ -284,7 +285,7 @@ fn binary_expr<
     T: BuildsExpr + BuildsCall + BuildsObject + BuildsOperator,
     S: Fn(&MakerOf<T>, &mut P, usize, Position) -> PResult<T::Stmt>,
     E: Fn(&MakerOf<T>, &mut P, usize, Reading) -> PResult<Cover<T::Expr>>,
-    N: Fn(&MakerOf<T>, &mut P, usize) -> PResult<T::Pat>,
+    N: Fn(&MakerOf<T>, &mut P, usize, Part) -> PResult<T::Pat>,
 >(g: &Grammar<S, E, N>, t: &MakerOf<T>, p: &mut P, n: usize) -> PResult<T::Expr>
     requires { Nests P.seen T.expr_of T.pat_of T.stmt_of g.now.depth (S.pre g.now.stmt) (S.post g.now.stmt) (E.pre g.now.expr) (E.post g.now.expr) (N.pre g.now.pat) (N.post g.now.pat) }
     ensures { GivesAs (T.expr_of) (exprs.binary_expr (exprs.expr g.now.depth) (exprs.cover g.now.depth) n (P.seen p.old)) result (P.seen p.new) }
@@ -309,7 +310,7 @@ fn conditional<
     T: BuildsExpr + BuildsCall + BuildsObject + BuildsOperator,
     S: Fn(&MakerOf<T>, &mut P, usize, Position) -> PResult<T::Stmt>,
     E: Fn(&MakerOf<T>, &mut P, usize, Reading) -> PResult<Cover<T::Expr>>,
-    N: Fn(&MakerOf<T>, &mut P, usize) -> PResult<T::Pat>,
+    N: Fn(&MakerOf<T>, &mut P, usize, Part) -> PResult<T::Pat>,
 >(g: &Grammar<S, E, N>, t: &MakerOf<T>, p: &mut P, start: Span, test: T::Expr) -> PResult<T::Expr>
     requires { Nests P.seen T.expr_of T.pat_of T.stmt_of g.now.depth (S.pre g.now.stmt) (S.post g.now.stmt) (E.pre g.now.expr) (E.post g.now.expr) (N.pre g.now.pat) (N.post g.now.pat) }
     ensures { GivesAs (T.expr_of) (exprs.conditional (exprs.expr g.now.depth) (exprs.cover g.now.depth) start (T.expr_of test) (P.seen p.old)) result (P.seen p.new) }
@@ -342,7 +343,7 @@ fn assigned<
     T: BuildsExpr + BuildsCall + BuildsObject + BuildsOperator,
     S: Fn(&MakerOf<T>, &mut P, usize, Position) -> PResult<T::Stmt>,
     E: Fn(&MakerOf<T>, &mut P, usize, Reading) -> PResult<Cover<T::Expr>>,
-    N: Fn(&MakerOf<T>, &mut P, usize) -> PResult<T::Pat>,
+    N: Fn(&MakerOf<T>, &mut P, usize, Part) -> PResult<T::Pat>,
 >(
     g: &Grammar<S, E, N>,
     t: &MakerOf<T>,
@@ -381,7 +382,7 @@ pub fn behind_operators<
     T: BuildsExpr + BuildsCall + BuildsObject + BuildsOperator,
     S: Fn(&MakerOf<T>, &mut P, usize, Position) -> PResult<T::Stmt>,
     E: Fn(&MakerOf<T>, &mut P, usize, Reading) -> PResult<Cover<T::Expr>>,
-    N: Fn(&MakerOf<T>, &mut P, usize) -> PResult<T::Pat>,
+    N: Fn(&MakerOf<T>, &mut P, usize, Part) -> PResult<T::Pat>,
 >(
     g: &Grammar<S, E, N>,
     t: &MakerOf<T>,
@@ -412,7 +413,7 @@ pub fn operators_expr<
     T: BuildsExpr + BuildsCall + BuildsObject + BuildsOperator,
     S: Fn(&MakerOf<T>, &mut P, usize, Position) -> PResult<T::Stmt>,
     E: Fn(&MakerOf<T>, &mut P, usize, Reading) -> PResult<Cover<T::Expr>>,
-    N: Fn(&MakerOf<T>, &mut P, usize) -> PResult<T::Pat>,
+    N: Fn(&MakerOf<T>, &mut P, usize, Part) -> PResult<T::Pat>,
 >(g: &Grammar<S, E, N>, t: &MakerOf<T>, p: &mut P) -> PResult<T::Expr>
     requires { Nests P.seen T.expr_of T.pat_of T.stmt_of g.now.depth (S.pre g.now.stmt) (S.post g.now.stmt) (E.pre g.now.expr) (E.post g.now.expr) (N.pre g.now.pat) (N.post g.now.pat) }
     ensures { GivesAs (T.expr_of) (exprs.operators_expr (exprs.expr g.now.depth) (exprs.cover g.now.depth) (P.seen p.old)) result (P.seen p.new) }
@@ -430,7 +431,7 @@ fn sequence_from<
     T: BuildsExpr + BuildsCall + BuildsObject + BuildsOperator + BuildsPattern,
     S: Fn(&MakerOf<T>, &mut P, usize, Position) -> PResult<T::Stmt>,
     E: Fn(&MakerOf<T>, &mut P, usize, Reading) -> PResult<Cover<T::Expr>>,
-    N: Fn(&MakerOf<T>, &mut P, usize) -> PResult<T::Pat>,
+    N: Fn(&MakerOf<T>, &mut P, usize, Part) -> PResult<T::Pat>,
 >(g: &Grammar<S, E, N>, t: &MakerOf<T>, p: &mut P, start: Span, x: T::Expr) -> PResult<T::Expr>
     requires { Nests P.seen T.expr_of T.pat_of T.stmt_of g.now.depth (S.pre g.now.stmt) (S.post g.now.stmt) (E.pre g.now.expr) (E.post g.now.expr) (N.pre g.now.pat) (N.post g.now.pat) }
     ensures { GivesAs (T.expr_of) (exprs.sequence_from (exprs.expr g.now.depth) (exprs.cover g.now.depth) start (T.expr_of x) (P.seen p.old)) result (P.seen p.new) }
@@ -456,7 +457,7 @@ fn expression_expr<
     T: BuildsExpr + BuildsCall + BuildsObject + BuildsOperator + BuildsPattern,
     S: Fn(&MakerOf<T>, &mut P, usize, Position) -> PResult<T::Stmt>,
     E: Fn(&MakerOf<T>, &mut P, usize, Reading) -> PResult<Cover<T::Expr>>,
-    N: Fn(&MakerOf<T>, &mut P, usize) -> PResult<T::Pat>,
+    N: Fn(&MakerOf<T>, &mut P, usize, Part) -> PResult<T::Pat>,
 >(g: &Grammar<S, E, N>, t: &MakerOf<T>, p: &mut P) -> PResult<T::Expr>
     requires { Nests P.seen T.expr_of T.pat_of T.stmt_of g.now.depth (S.pre g.now.stmt) (S.post g.now.stmt) (E.pre g.now.expr) (E.post g.now.expr) (N.pre g.now.pat) (N.post g.now.pat) }
     ensures { GivesAs (T.expr_of) (exprs.expression_expr (exprs.expr g.now.depth) (exprs.cover g.now.depth) (P.seen p.old)) result (P.seen p.new) }
@@ -476,7 +477,7 @@ pub fn expr_level<
     T: BuildsExpr + BuildsCall + BuildsObject + BuildsOperator + BuildsPattern,
     S: Fn(&MakerOf<T>, &mut P, usize, Position) -> PResult<T::Stmt>,
     E: Fn(&MakerOf<T>, &mut P, usize, Reading) -> PResult<Cover<T::Expr>>,
-    N: Fn(&MakerOf<T>, &mut P, usize) -> PResult<T::Pat>,
+    N: Fn(&MakerOf<T>, &mut P, usize, Part) -> PResult<T::Pat>,
 >(g: &Grammar<S, E, N>, t: &MakerOf<T>, p: &mut P, class: Class) -> PResult<T::Expr>
     requires { Nests P.seen T.expr_of T.pat_of T.stmt_of g.now.depth (S.pre g.now.stmt) (S.post g.now.stmt) (E.pre g.now.expr) (E.post g.now.expr) (N.pre g.now.pat) (N.post g.now.pat) }
     ensures { GivesAs (T.expr_of) (exprs.expr_level (exprs.expr g.now.depth) (exprs.cover g.now.depth) (class_of class) (P.seen p.old)) result (P.seen p.new) }

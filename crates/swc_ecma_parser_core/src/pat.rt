@@ -1,19 +1,195 @@
 //! Binding patterns: ECMA-262, section 14.3.3.
 
-ghost use Rattle.swc_ecma_parser_reader.specs.Reader as rules;
+ghost use Rattle.std.specs.Prelude.{map};
+ghost use Rattle.swc_ecma_parser_core.specs.Nests.{Nests};
+ghost use Rattle.swc_ecma_parser_core.specs.Patterns.{read_pat};
+ghost use Rattle.swc_ecma_parser_grammar.specs.Reads as language;
+ghost use Rattle.swc_ecma_parser_reader.specs.Expressions as exprs;
+ghost use Rattle.swc_ecma_parser_reader.specs.Patterns as patterns;
+ghost use Rattle.swc_ecma_parser_reader.specs.State as reader;
 ghost use Rattle.swc_ecma_parser_reader.specs.State.{GivesAs};
+ghost use Rattle.swc_ecma_parser_trees.specs.Parts.{part_of};
 
-use crate::steps::grown;
+use crate::access::inside;
+use crate::cover::{Cover, Reading};
+use crate::grammar::Grammar;
+use crate::object_pat::object_pat;
+use crate::steps::{grown, pushed, since, with_in};
 use std::alloc::Global;
+use swc_ecma_parser_common::Span;
 use swc_ecma_parser_error::PResult;
+use swc_ecma_parser_grammar::{Class, Position};
 use swc_ecma_parser_state::{Source, Wanted};
-use swc_ecma_parser_trees::BuildsPat;
+use swc_ecma_parser_token::TokenKind;
+use swc_ecma_parser_trees::{BuildsCall, BuildsPat, BuildsPattern, MakerOf, Trees};
+
+/// What is asked of a reader of patterns.
+#[derive(Clone, Copy)]
+pub enum Part {
+    /// A pattern without default.
+    Pattern,
+    /// A pattern, with its default if it has one.
+    Element,
+}
 
 /// A name that is bound.
-#[tactic(auto, unfolding(swc_ecma_parser_reader::specs::Reader::binding))]
-pub fn binding<P: Source, T: BuildsPat>(alloc: Global, p: &mut P) -> PResult<T::Pat>
-    ensures { GivesAs T.pat_of (rules.binding (P.seen p.old)) result (P.seen p.new) }
+#[tactic(auto, unfolding(swc_ecma_parser_reader::specs::Patterns::binding))]
+fn binding<P: Source, T: BuildsPat>(alloc: Global, p: &mut P) -> PResult<T::Pat>
+    ensures { GivesAs T.pat_of (patterns.binding (P.seen p.old)) result (P.seen p.new) }
 {
     let name = p.name(Wanted::Name)?;
     grown(p, T::ident_pat(alloc, name))
+}
+
+/// A pattern one level further in, where `in` is an operator.
+pub fn inner_pat<
+    P: Source,
+    T: Trees,
+    S: Fn(&MakerOf<T>, &mut P, usize, Position) -> PResult<T::Stmt>,
+    E: Fn(&MakerOf<T>, &mut P, usize, Reading) -> PResult<Cover<T::Expr>>,
+    N: Fn(&MakerOf<T>, &mut P, usize, Part) -> PResult<T::Pat>,
+>(g: &Grammar<S, E, N>, t: &MakerOf<T>, p: &mut P, part: Part) -> PResult<T::Pat>
+    requires { Nests P.seen T.expr_of T.pat_of T.stmt_of g.now.depth (S.pre g.now.stmt) (S.post g.now.stmt) (E.pre g.now.expr) (E.post g.now.expr) (N.pre g.now.pat) (N.post g.now.pat) }
+    ensures { GivesAs T.pat_of (reader.within language.with_in (read_pat g.now.depth part) (P.seen p.old)) result (P.seen p.new) }
+{
+    let outer = p.flags();
+    p.set_flags(with_in(outer));
+    let inner = (g.pat)(t, p, g.depth, part)?;
+    p.set_flags(outer);
+    Ok(inner)
+}
+
+/// The rest of an array.
+#[tactic(auto, unfolding(swc_ecma_parser_reader::specs::Patterns::rest))]
+fn rest<
+    P: Source,
+    T: BuildsPattern,
+    S: Fn(&MakerOf<T>, &mut P, usize, Position) -> PResult<T::Stmt>,
+    E: Fn(&MakerOf<T>, &mut P, usize, Reading) -> PResult<Cover<T::Expr>>,
+    N: Fn(&MakerOf<T>, &mut P, usize, Part) -> PResult<T::Pat>,
+>(g: &Grammar<S, E, N>, t: &MakerOf<T>, p: &mut P) -> PResult<T::Pat>
+    requires { Nests P.seen T.expr_of T.pat_of T.stmt_of g.now.depth (S.pre g.now.stmt) (S.post g.now.stmt) (E.pre g.now.expr) (E.post g.now.expr) (N.pre g.now.pat) (N.post g.now.pat) }
+    ensures { GivesAs T.pat_of (patterns.rest (exprs.expr g.now.depth) (exprs.cover g.now.depth) (patterns.pattern g.now.depth) (patterns.element g.now.depth) (P.seen p.old)) result (P.seen p.new) }
+{
+    let start = p.span();
+    p.skip()?;
+    let pat = inner_pat(g, t, p, Part::Pattern)?;
+    let span = since(p, start);
+    grown(p, T::rest_pat(t.alloc, span, pat))
+}
+
+/// Elements, from `[` on. A comma with nothing before it makes a hole, and nothing stands behind the rest.
+#[tactic(auto, unfolding(swc_ecma_parser_reader::specs::Patterns::elements), using(swc_ecma_parser_reader::proofs::patterns::Loops::elements_done, swc_ecma_parser_reader::proofs::patterns::Loops::elements_hole, swc_ecma_parser_reader::proofs::patterns::Loops::elements_last, swc_ecma_parser_reader::proofs::patterns::Loops::elements_more, swc_ecma_parser_reader::proofs::expressions::Loops::hole_shorter, std::proofs::lemmas::List::map_push))]
+fn elements<
+    P: Source,
+    T: BuildsPattern,
+    S: Fn(&MakerOf<T>, &mut P, usize, Position) -> PResult<T::Stmt>,
+    E: Fn(&MakerOf<T>, &mut P, usize, Reading) -> PResult<Cover<T::Expr>>,
+    N: Fn(&MakerOf<T>, &mut P, usize, Part) -> PResult<T::Pat>,
+>(g: &Grammar<S, E, N>, t: &MakerOf<T>, p: &mut P) -> PResult<Vec<Option<T::Pat>>>
+    requires { Nests P.seen T.expr_of T.pat_of T.stmt_of g.now.depth (S.pre g.now.stmt) (S.post g.now.stmt) (E.pre g.now.expr) (E.post g.now.expr) (N.pre g.now.pat) (N.post g.now.pat) }
+    ensures { GivesAs (λ found. map (part_of T.pat_of) found.items) (patterns.elements (exprs.expr g.now.depth) (exprs.cover g.now.depth) (patterns.pattern g.now.depth) (patterns.element g.now.depth) (P.seen p.old)) result (P.seen p.new) }
+{
+    p.skip()?;
+    let mut found = Vec::new(t.alloc);
+    'elements: loop {
+        if p.sees(TokenKind::RBracket) {
+            p.skip()?;
+            return Ok(found);
+        }
+        if p.sees(TokenKind::Comma) {
+            p.skip()?;
+            pushed(p, &mut found, None)?;
+            continue;
+        }
+        if p.sees(TokenKind::DotDotDot) {
+            let rest = rest(g, t, p)?;
+            pushed(p, &mut found, Some(rest))?;
+            p.expect(TokenKind::RBracket, "]")?;
+            return Ok(found);
+        }
+        let element = inner_pat(g, t, p, Part::Element)?;
+        pushed(p, &mut found, Some(element))?;
+        if p.sees(TokenKind::RBracket) {
+            continue;
+        }
+        p.expect(TokenKind::Comma, ",")?;
+    }
+}
+
+/// An array pattern.
+#[tactic(auto, unfolding(swc_ecma_parser_reader::specs::Patterns::array))]
+fn array_pat<
+    P: Source,
+    T: BuildsPattern,
+    S: Fn(&MakerOf<T>, &mut P, usize, Position) -> PResult<T::Stmt>,
+    E: Fn(&MakerOf<T>, &mut P, usize, Reading) -> PResult<Cover<T::Expr>>,
+    N: Fn(&MakerOf<T>, &mut P, usize, Part) -> PResult<T::Pat>,
+>(g: &Grammar<S, E, N>, t: &MakerOf<T>, p: &mut P) -> PResult<T::Pat>
+    requires { Nests P.seen T.expr_of T.pat_of T.stmt_of g.now.depth (S.pre g.now.stmt) (S.post g.now.stmt) (E.pre g.now.expr) (E.post g.now.expr) (N.pre g.now.pat) (N.post g.now.pat) }
+    ensures { GivesAs T.pat_of (patterns.array (exprs.expr g.now.depth) (exprs.cover g.now.depth) (patterns.pattern g.now.depth) (patterns.element g.now.depth) (P.seen p.old)) result (P.seen p.new) }
+{
+    let start = p.span();
+    let found = elements(g, t, p)?;
+    let span = since(p, start);
+    grown(p, T::array_pat(t.alloc, span, found))
+}
+
+/// A pattern without default.
+#[tactic(auto, unfolding(swc_ecma_parser_reader::specs::Patterns::pattern_level))]
+pub fn pattern_level<
+    P: Source,
+    T: BuildsCall + BuildsPattern + BuildsPat,
+    S: Fn(&MakerOf<T>, &mut P, usize, Position) -> PResult<T::Stmt>,
+    E: Fn(&MakerOf<T>, &mut P, usize, Reading) -> PResult<Cover<T::Expr>>,
+    N: Fn(&MakerOf<T>, &mut P, usize, Part) -> PResult<T::Pat>,
+>(g: &Grammar<S, E, N>, t: &MakerOf<T>, p: &mut P) -> PResult<T::Pat>
+    requires { Nests P.seen T.expr_of T.pat_of T.stmt_of g.now.depth (S.pre g.now.stmt) (S.post g.now.stmt) (E.pre g.now.expr) (E.post g.now.expr) (N.pre g.now.pat) (N.post g.now.pat) }
+    ensures { GivesAs T.pat_of (patterns.pattern_level (exprs.expr g.now.depth) (exprs.cover g.now.depth) (patterns.pattern g.now.depth) (patterns.element g.now.depth) (P.seen p.old)) result (P.seen p.new) }
+{
+    if p.sees(TokenKind::LBracket) {
+        return array_pat(g, t, p);
+    }
+    if p.sees(TokenKind::LBrace) {
+        return object_pat(g, t, p);
+    }
+    binding::<P, T>(t.alloc, p)
+}
+
+/// A pattern with its default, from `=` on.
+#[tactic(auto, unfolding(swc_ecma_parser_reader::specs::Patterns::initialized))]
+fn initialized<
+    P: Source,
+    T: BuildsCall + BuildsPattern,
+    S: Fn(&MakerOf<T>, &mut P, usize, Position) -> PResult<T::Stmt>,
+    E: Fn(&MakerOf<T>, &mut P, usize, Reading) -> PResult<Cover<T::Expr>>,
+    N: Fn(&MakerOf<T>, &mut P, usize, Part) -> PResult<T::Pat>,
+>(g: &Grammar<S, E, N>, t: &MakerOf<T>, p: &mut P, start: Span, left: T::Pat) -> PResult<T::Pat>
+    requires { Nests P.seen T.expr_of T.pat_of T.stmt_of g.now.depth (S.pre g.now.stmt) (S.post g.now.stmt) (E.pre g.now.expr) (E.post g.now.expr) (N.pre g.now.pat) (N.post g.now.pat) }
+    ensures { GivesAs T.pat_of (patterns.initialized (exprs.expr g.now.depth) (exprs.cover g.now.depth) (patterns.pattern g.now.depth) (patterns.element g.now.depth) start (T.pat_of left) (P.seen p.old)) result (P.seen p.new) }
+{
+    p.skip()?;
+    let value = inside(g, t, p, Class::Assignment)?;
+    let span = since(p, start);
+    grown(p, T::assign_pat(t.alloc, span, left, value))
+}
+
+/// A pattern with its default, if one stands there.
+#[tactic(auto, unfolding(swc_ecma_parser_reader::specs::Patterns::element_level))]
+pub fn element_level<
+    P: Source,
+    T: BuildsCall + BuildsPattern + BuildsPat,
+    S: Fn(&MakerOf<T>, &mut P, usize, Position) -> PResult<T::Stmt>,
+    E: Fn(&MakerOf<T>, &mut P, usize, Reading) -> PResult<Cover<T::Expr>>,
+    N: Fn(&MakerOf<T>, &mut P, usize, Part) -> PResult<T::Pat>,
+>(g: &Grammar<S, E, N>, t: &MakerOf<T>, p: &mut P) -> PResult<T::Pat>
+    requires { Nests P.seen T.expr_of T.pat_of T.stmt_of g.now.depth (S.pre g.now.stmt) (S.post g.now.stmt) (E.pre g.now.expr) (E.post g.now.expr) (N.pre g.now.pat) (N.post g.now.pat) }
+    ensures { GivesAs T.pat_of (patterns.element_level (exprs.expr g.now.depth) (exprs.cover g.now.depth) (patterns.pattern g.now.depth) (patterns.element g.now.depth) (P.seen p.old)) result (P.seen p.new) }
+{
+    let start = p.span();
+    let pat = pattern_level(g, t, p)?;
+    if p.sees(TokenKind::Assign) {
+        return initialized(g, t, p, start, pat);
+    }
+    Ok(pat)
 }

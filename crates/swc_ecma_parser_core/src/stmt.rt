@@ -7,11 +7,13 @@ ghost use Rattle.swc_ecma_parser_error.specs.Kind.{kind_of, IsOutOfMemory};
 ghost use Rattle.swc_ecma_parser_grammar.specs.Reads.{nested_item};
 ghost use Rattle.swc_ecma_parser_grammar.specs.language.Goals.{expression};
 ghost use Rattle.swc_ecma_parser_reader.specs.Expressions as exprs;
+ghost use Rattle.swc_ecma_parser_reader.specs.Patterns as patterns;
 ghost use Rattle.swc_ecma_parser_reader.specs.Reader as rules;
 ghost use Rattle.swc_ecma_parser_reader.specs.State.{Gives, GivesAs};
 
 use crate::cover::{Cover, Reading, nested};
 use crate::grammar::Grammar;
+use crate::pat::Part;
 use crate::steps::{grown, pushed, since, with_in};
 use std::alloc::Global;
 use swc_ecma_parser_common::Atom;
@@ -20,7 +22,7 @@ use swc_ecma_parser_grammar::{Class, Position};
 use swc_ecma_parser_model::VarDeclKind;
 use swc_ecma_parser_state::{Source, Wanted};
 use swc_ecma_parser_token::TokenKind;
-use swc_ecma_parser_trees::{BuildsStmt, MakerOf};
+use swc_ecma_parser_trees::{BuildsPattern, BuildsStmt, MakerOf};
 
 /// A statement in a block or a body.
 pub const NESTED_ITEM: Position = Position {
@@ -55,16 +57,16 @@ fn debugger<P: Source, T: BuildsStmt>(alloc: Global, p: &mut P) -> PResult<T::St
 #[tactic(auto, unfolding(swc_ecma_parser_reader::specs::Reader::declarator, swc_ecma_parser_reader::specs::Reader::initialized))]
 pub fn declarator<
     P: Source,
-    T: BuildsStmt,
+    T: BuildsStmt + BuildsPattern,
     S: Fn(&MakerOf<T>, &mut P, usize, Position) -> PResult<T::Stmt>,
     E: Fn(&MakerOf<T>, &mut P, usize, Reading) -> PResult<Cover<T::Expr>>,
-    N: Fn(&MakerOf<T>, &mut P, usize) -> PResult<T::Pat>,
+    N: Fn(&MakerOf<T>, &mut P, usize, Part) -> PResult<T::Pat>,
 >(g: &Grammar<S, E, N>, t: &MakerOf<T>, p: &mut P) -> PResult<T::Declarator>
     requires { Nests P.seen T.expr_of T.pat_of T.stmt_of g.now.depth (S.pre g.now.stmt) (S.post g.now.stmt) (E.pre g.now.expr) (E.post g.now.expr) (N.pre g.now.pat) (N.post g.now.pat) }
-    ensures { GivesAs T.declarator_of (rules.declarator (exprs.expr g.now.depth) (rules.pat g.now.depth) (P.seen p.old)) result (P.seen p.new) }
+    ensures { GivesAs T.declarator_of (rules.declarator (exprs.expr g.now.depth) (patterns.pattern g.now.depth) (P.seen p.old)) result (P.seen p.new) }
 {
     let start = p.span();
-    let name = (g.pat)(t, p, g.depth)?;
+    let name = (g.pat)(t, p, g.depth, Part::Pattern)?;
     if p.sees(TokenKind::Assign) {
         p.skip()?;
         let init = nested(g, t, p, Class::Assignment)?;
@@ -72,6 +74,9 @@ pub fn declarator<
         return grown(p, T::declarator(t.alloc, span, name, Some(init)));
     }
     let span = since(p, start);
+    if !T::is_binding_name(&name) {
+        return Err(p.reject(SyntaxError::PatVarWithoutInit, span));
+    }
     grown(p, T::declarator(t.alloc, span, name, None))
 }
 
@@ -79,13 +84,13 @@ pub fn declarator<
 #[tactic(auto, unfolding(swc_ecma_parser_reader::specs::Reader::declarators), using(swc_ecma_parser_reader::proofs::Loops::declarators_done, swc_ecma_parser_reader::proofs::Loops::declarators_err, swc_ecma_parser_reader::proofs::Loops::declarators_more, swc_ecma_parser_reader::proofs::Loops::declarators_shorter, std::proofs::lemmas::List::map_push))]
 pub fn declarators<
     P: Source,
-    T: BuildsStmt,
+    T: BuildsStmt + BuildsPattern,
     S: Fn(&MakerOf<T>, &mut P, usize, Position) -> PResult<T::Stmt>,
     E: Fn(&MakerOf<T>, &mut P, usize, Reading) -> PResult<Cover<T::Expr>>,
-    N: Fn(&MakerOf<T>, &mut P, usize) -> PResult<T::Pat>,
+    N: Fn(&MakerOf<T>, &mut P, usize, Part) -> PResult<T::Pat>,
 >(g: &Grammar<S, E, N>, t: &MakerOf<T>, p: &mut P) -> PResult<Vec<T::Declarator>>
     requires { Nests P.seen T.expr_of T.pat_of T.stmt_of g.now.depth (S.pre g.now.stmt) (S.post g.now.stmt) (E.pre g.now.expr) (E.post g.now.expr) (N.pre g.now.pat) (N.post g.now.pat) }
-    ensures { GivesAs (λ found. map T.declarator_of found.items) (rules.declarators (exprs.expr g.now.depth) (rules.pat g.now.depth) (P.seen p.old)) result (P.seen p.new) }
+    ensures { GivesAs (λ found. map T.declarator_of found.items) (rules.declarators (exprs.expr g.now.depth) (patterns.pattern g.now.depth) (P.seen p.old)) result (P.seen p.new) }
 {
     let mut found = Vec::new(t.alloc);
     'declarators: loop {
@@ -102,13 +107,13 @@ pub fn declarators<
 #[tactic(auto, unfolding(swc_ecma_parser_reader::specs::Reader::var, swc_ecma_parser_grammar::specs::Looks::spanned))]
 pub fn var<
     P: Source,
-    T: BuildsStmt,
+    T: BuildsStmt + BuildsPattern,
     S: Fn(&MakerOf<T>, &mut P, usize, Position) -> PResult<T::Stmt>,
     E: Fn(&MakerOf<T>, &mut P, usize, Reading) -> PResult<Cover<T::Expr>>,
-    N: Fn(&MakerOf<T>, &mut P, usize) -> PResult<T::Pat>,
+    N: Fn(&MakerOf<T>, &mut P, usize, Part) -> PResult<T::Pat>,
 >(g: &Grammar<S, E, N>, t: &MakerOf<T>, p: &mut P) -> PResult<T::Stmt>
     requires { Nests P.seen T.expr_of T.pat_of T.stmt_of g.now.depth (S.pre g.now.stmt) (S.post g.now.stmt) (E.pre g.now.expr) (E.post g.now.expr) (N.pre g.now.pat) (N.post g.now.pat) }
-    ensures { GivesAs T.stmt_of (rules.var (exprs.expr g.now.depth) (rules.pat g.now.depth) (P.seen p.old)) result (P.seen p.new) }
+    ensures { GivesAs T.stmt_of (rules.var (exprs.expr g.now.depth) (patterns.pattern g.now.depth) (P.seen p.old)) result (P.seen p.new) }
 {
     let start = p.span();
     p.skip()?;
@@ -160,7 +165,7 @@ pub fn block_items<
     T: BuildsStmt,
     S: Fn(&MakerOf<T>, &mut P, usize, Position) -> PResult<T::Stmt>,
     E: Fn(&MakerOf<T>, &mut P, usize, Reading) -> PResult<Cover<T::Expr>>,
-    N: Fn(&MakerOf<T>, &mut P, usize) -> PResult<T::Pat>,
+    N: Fn(&MakerOf<T>, &mut P, usize, Part) -> PResult<T::Pat>,
 >(g: &Grammar<S, E, N>, t: &MakerOf<T>, p: &mut P) -> PResult<Vec<T::Stmt>>
     requires { Nests P.seen T.expr_of T.pat_of T.stmt_of g.now.depth (S.pre g.now.stmt) (S.post g.now.stmt) (E.pre g.now.expr) (E.post g.now.expr) (N.pre g.now.pat) (N.post g.now.pat) }
     ensures { GivesAs (λ found. map T.stmt_of found.items) (rules.items (rules.stmt g.now.depth nested_item) rules.closes false (P.seen p.old)) result (P.seen p.new) }
@@ -180,7 +185,7 @@ pub fn block<
     T: BuildsStmt,
     S: Fn(&MakerOf<T>, &mut P, usize, Position) -> PResult<T::Stmt>,
     E: Fn(&MakerOf<T>, &mut P, usize, Reading) -> PResult<Cover<T::Expr>>,
-    N: Fn(&MakerOf<T>, &mut P, usize) -> PResult<T::Pat>,
+    N: Fn(&MakerOf<T>, &mut P, usize, Part) -> PResult<T::Pat>,
 >(g: &Grammar<S, E, N>, t: &MakerOf<T>, p: &mut P) -> PResult<T::Stmt>
     requires { Nests P.seen T.expr_of T.pat_of T.stmt_of g.now.depth (S.pre g.now.stmt) (S.post g.now.stmt) (E.pre g.now.expr) (E.post g.now.expr) (N.pre g.now.pat) (N.post g.now.pat) }
     ensures { GivesAs T.stmt_of (rules.block (rules.stmt g.now.depth nested_item) (P.seen p.old)) result (P.seen p.new) }
@@ -223,7 +228,7 @@ pub fn expr_stmt<
     T: BuildsStmt,
     S: Fn(&MakerOf<T>, &mut P, usize, Position) -> PResult<T::Stmt>,
     E: Fn(&MakerOf<T>, &mut P, usize, Reading) -> PResult<Cover<T::Expr>>,
-    N: Fn(&MakerOf<T>, &mut P, usize) -> PResult<T::Pat>,
+    N: Fn(&MakerOf<T>, &mut P, usize, Part) -> PResult<T::Pat>,
 >(g: &Grammar<S, E, N>, t: &MakerOf<T>, p: &mut P) -> PResult<T::Stmt>
     requires { Nests P.seen T.expr_of T.pat_of T.stmt_of g.now.depth (S.pre g.now.stmt) (S.post g.now.stmt) (E.pre g.now.expr) (E.post g.now.expr) (N.pre g.now.pat) (N.post g.now.pat) }
     ensures { GivesAs T.stmt_of (rules.expr_stmt (exprs.expr g.now.depth expression) (P.seen p.old)) result (P.seen p.new) }
@@ -247,7 +252,7 @@ fn expr_stmt_at<
     T: BuildsStmt,
     S: Fn(&MakerOf<T>, &mut P, usize, Position) -> PResult<T::Stmt>,
     E: Fn(&MakerOf<T>, &mut P, usize, Reading) -> PResult<Cover<T::Expr>>,
-    N: Fn(&MakerOf<T>, &mut P, usize) -> PResult<T::Pat>,
+    N: Fn(&MakerOf<T>, &mut P, usize, Part) -> PResult<T::Pat>,
 >(g: &Grammar<S, E, N>, t: &MakerOf<T>, p: &mut P, at: Position) -> PResult<T::Stmt>
     requires { Nests P.seen T.expr_of T.pat_of T.stmt_of g.now.depth (S.pre g.now.stmt) (S.post g.now.stmt) (E.pre g.now.expr) (E.post g.now.expr) (N.pre g.now.pat) (N.post g.now.pat) }
     ensures { GivesAs T.stmt_of (rules.expr_stmt_at (exprs.expr g.now.depth expression) at (P.seen p.old)) result (P.seen p.new) }
@@ -262,13 +267,13 @@ fn expr_stmt_at<
 #[tactic(auto, unfolding(swc_ecma_parser_reader::specs::Reader::stmt_level))]
 pub fn level<
     P: Source,
-    T: BuildsStmt,
+    T: BuildsStmt + BuildsPattern,
     S: Fn(&MakerOf<T>, &mut P, usize, Position) -> PResult<T::Stmt>,
     E: Fn(&MakerOf<T>, &mut P, usize, Reading) -> PResult<Cover<T::Expr>>,
-    N: Fn(&MakerOf<T>, &mut P, usize) -> PResult<T::Pat>,
+    N: Fn(&MakerOf<T>, &mut P, usize, Part) -> PResult<T::Pat>,
 >(g: &Grammar<S, E, N>, t: &MakerOf<T>, p: &mut P, at: Position) -> PResult<T::Stmt>
     requires { Nests P.seen T.expr_of T.pat_of T.stmt_of g.now.depth (S.pre g.now.stmt) (S.post g.now.stmt) (E.pre g.now.expr) (E.post g.now.expr) (N.pre g.now.pat) (N.post g.now.pat) }
-    ensures { GivesAs T.stmt_of (rules.stmt_level (rules.stmt g.now.depth) (exprs.expr g.now.depth) (rules.pat g.now.depth) at (P.seen p.old)) result (P.seen p.new) }
+    ensures { GivesAs T.stmt_of (rules.stmt_level (rules.stmt g.now.depth) (exprs.expr g.now.depth) (patterns.pattern g.now.depth) at (P.seen p.old)) result (P.seen p.new) }
 {
     match p.kind() {
         TokenKind::LBrace => block(g, t, p),

@@ -2,7 +2,7 @@
 use Rattle.std.proofs.Common.{◌≡◌, List, ap, ◌∙◌}
 use Rattle.std.specs.Prelude.{Bool}
 use Rattle.swc_ecma_parser_input.specs.declared.syntax.EsSyntax.{EsSyntax}
-use Rattle.swc_ecma_parser_model.specs.Tree.{Text, Tree}
+use Rattle.swc_ecma_parser_model.specs.Tree.{Text}
 use Rattle.swc_ecma_parser_grammar.specs.Names.{Code}
 use Rattle.swc_ecma_parser_grammar.specs.Walk.{Env, env_of, walk}
 use Rattle.swc_ecma_parser_grammar.specs.language.Laws.{WalkedAlike, WalkLooksAtFew}

@@ -1,14 +1,10 @@
 -- What the whole language reads and is supported, the rules of the first forms read.
-use Rattle.std.proofs.Common.{◌≡◌, ℕ, zero, suc, Bool, true, false, cond, rules, List, [], ◌∷◌, Option, refl, sym, ◌∙◌, ap}
-use Rattle.std.specs.Prelude.{not, ◌&&◌, codes}
-use Rattle.std.specs.Str.{bytes_eq}
+use Rattle.std.proofs.Common.{◌≡◌, ℕ, zero, suc, Bool, true, false, cond, rules, List, [], ◌∷◌, Option, refl, ◌∙◌, ap}
+use Rattle.std.specs.Prelude.{◌&&◌}
 use denote.Enum.Bare.{same_true}
-use Rattle.swc_ecma_parser_common.specs.declared.span.Span.{Span}
 use Rattle.swc_ecma_parser_token.specs.contracts.kind.TokenKind.{the_type}
 use Rattle.swc_ecma_parser_token.specs.declared.kind.TokenKind.{TokenKind}
 use Rattle.swc_ecma_parser_token.specs.declared.kind.TokenKind.TheVariants as kind
-use Rattle.swc_ecma_parser_token.specs.Text.{word_text}
-use Rattle.swc_ecma_parser_input.specs.declared.context.Context.{Context}
 use Rattle.swc_ecma_parser_input.specs.Place.{Place, after}
 use Rattle.swc_ecma_parser_model.specs.declared.leaves.VarDeclKind.{VarDeclKind}
 use Rattle.swc_ecma_parser_model.specs.declared.leaves.VarDeclKind.TheVariants as decl
@@ -18,15 +14,13 @@ use Rattle.swc_ecma_parser_model.specs.Directive.{is_use_strict}
 use Rattle.swc_ecma_parser_model.specs.Forms.{is_binding_name}
 use Rattle.swc_ecma_parser_grammar.specs.declared.position.Position.{Position}
 use Rattle.swc_ecma_parser_grammar.specs.Looks.{kind_at, sees, same_kind, spanned}
-use Rattle.swc_ecma_parser_grammar.specs.Names.{Code, is_reserved, is_name, is_identifier, is_clean_name}
+use Rattle.swc_ecma_parser_grammar.specs.Names.{Code}
 use Rattle.swc_ecma_parser_grammar.specs.Ends.{Ends}
-use Rattle.swc_ecma_parser_grammar.specs.Reads.{with_in, in_strict, directed, directs_on, nested_item, top_item, PatRule, binding_rule, ReadsPat, DeclaratorRule, plain_rule, initialized_rule, ReadsSeparated, ReadsItems, StmtRule, block_rule, empty_rule, debugger_rule, var_rule, expr_rule}
+use Rattle.swc_ecma_parser_grammar.specs.Reads.{with_in, in_strict, directed, directs_on, nested_item, top_item, DeclaratorRule, plain_rule, initialized_rule, ReadsSeparated, ReadsItems, StmtRule, block_rule, empty_rule, debugger_rule, var_rule, expr_rule}
 use Rattle.swc_ecma_parser_grammar.specs.Entries.{ReadsScript, ReadsShebang, some_shebang, no_shebang, script_code}
 use Rattle.swc_ecma_parser_grammar.specs.Supported.{supported, all_supported}
-use Rattle.swc_ecma_parser_grammar.specs.ReadsSupported.{ReadsClass, ReadsStmt}
-use Rattle.swc_ecma_parser_grammar.specs.language.Goals.{Goal, assignment, pattern_goal, binding, stmt_goal}
-use Rattle.swc_ecma_parser_grammar.specs.language.Parts.{ReadsName}
-use Rattle.swc_ecma_parser_grammar.specs.language.Patterns as patterns
+use Rattle.swc_ecma_parser_grammar.specs.ReadsSupported.{ReadsClass, ReadsPat, ReadsStmt}
+use Rattle.swc_ecma_parser_grammar.specs.language.Goals.{Goal, assignment, stmt_goal}
 use Rattle.swc_ecma_parser_grammar.specs.language.Declarations as declarations
 use Rattle.swc_ecma_parser_grammar.specs.language.Declarations.{is_var, begins_variables}
 use Rattle.swc_ecma_parser_grammar.specs.language.Items.{ItemsRule}
@@ -35,46 +29,19 @@ use Rattle.swc_ecma_parser_grammar.specs.language.Statements.{begins_import_expr
 use Rattle.swc_ecma_parser_grammar.specs.language.Reads.{Reads}
 use Rattle.swc_ecma_parser_grammar.specs.language.Programs as programs
 use Rattle.swc_ecma_parser_grammar.specs.language.Programs.{ReadsEntry}
-use Rattle.swc_ecma_parser_grammar.proofs.Tests.{and_yes, and_both, no_and}
+use Rattle.swc_ecma_parser_grammar.proofs.Tests.{and_yes, no_and}
 use Rattle.swc_ecma_parser_grammar.proofs.SupportedBegins.{refuted, supported_as, expr_begins}
 
--- ---- names
-
--- a name that is no fault and not `await`
-clean_is_name : (f : Context) (text : Text) → is_clean_name f text ≡ true → not (bytes_eq text (codes "await")) ≡ true → is_name f text ≡ true
-unfolding is_name is_clean_name is_identifier
-clean_is_name f text h g = and_both _ _ (and_yes (not (is_reserved f text)) _ h).0 g
-
-module _ (k : Code) (text : Text) (s : Span) (c d : Place) (r : ReadsName k text s c d) where
-  word_is_name : not (bytes_eq text (codes "await")) ≡ true → is_name k.flags (word_text r.word) ≡ true
-  word_is_name h = ap (is_name k.flags) (sym r.is_text) ∙ clean_is_name k.flags text r.is_name h
-
--- ---- binding patterns and declarators
-
-unnamed : {X : Type 0} (x : Tree) → is_binding_name x ≡ false → is_binding_name x ≡ true → X
-unnamed x e b = cc
-
-pattern_narrows : (In : Goal → Type 0) (k : Code) (x : Tree) (c d : Place) → patterns.PatternRule In binding k x c d → is_binding_name x ≡ true → supported x ≡ true → PatRule k x c d
-pattern_narrows In k x c d (patterns.binding_name_rule text s p r e) b h =
-    binding_rule r.word s r.reads_word (word_is_name k text s c d r (supported_as x (tree.ident_pat s text) e h)) (e ∙ ap (tree.ident_pat s) r.is_text)
-pattern_narrows In k x c d (patterns.target_name_rule text s p a r e) b h = cc
-pattern_narrows In k x c d (patterns.target_rule y p r t i e) b h = unnamed x (ap is_binding_name e) b
-pattern_narrows In k x c d (patterns.array_rule xs m i r j n e) b h = unnamed x (ap is_binding_name e) b
-pattern_narrows In k x c d (patterns.object_rule xs m i r j n e) b h = unnamed x (ap is_binding_name e) b
-
-pat_narrows : (n : ℕ) (k : Code) (x : Tree) (c d : Place) → Reads n (pattern_goal binding k x c d) → is_binding_name x ≡ true → supported x ≡ true → ReadsPat n k x c d
-pat_narrows zero k x c d r b h = absurd r
-pat_narrows (suc n) k x c d r b h = pattern_narrows (Reads n) k x c d r b h
+-- ---- declarators
 
 declarator_narrows : (n : ℕ) (k : Code) (word : VarDeclKind) (x : Tree) (c d : Place) → declarations.DeclaratorRule (Reads n) (with_in k) false word x c d → supported x ≡ true
     → DeclaratorRule (ReadsClass n assignment) (ReadsPat n) (with_in k) x c d
 declarator_narrows n k word x c d (declarations.plain_rule name r a b e) h =
-    let g = and_yes (is_binding_name name) _ (supported_as x (tree.declarator (spanned c d) name tree.absent) e h) in
-    plain_rule name (pat_narrows n (with_in k) name c d r g.0 (and_yes (supported name) _ g.1).0) a e
+    let g = and_yes (supported name) _ (supported_as x (tree.declarator (spanned c d) name tree.absent) e h) in
+    plain_rule name (r, g.0) a (and_yes (is_binding_name name) _ b).0 e
 declarator_narrows n k word x c d (declarations.initialized_rule name init m r a s e) h =
-    let b = and_yes (is_binding_name name) _ (supported_as x (tree.declarator (spanned c d) name init) e h) in
-    let g = and_yes (supported name) _ b.1 in
-    initialized_rule name init m (pat_narrows n (with_in k) name c m r b.0 g.0) a (s, g.1) e
+    let g = and_yes (supported name) _ (supported_as x (tree.declarator (spanned c d) name init) e h) in
+    initialized_rule name init m (r, g.0) a (s, g.1) e
 
 module _ (Rule Other : Tree → Place → Place → Type 0) (narrow : (x : Tree) (c d : Place) → Rule x c d → supported x ≡ true → Other x c d) where
   -- with commas between, each by itself

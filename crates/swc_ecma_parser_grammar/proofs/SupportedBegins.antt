@@ -18,7 +18,6 @@ use Rattle.swc_ecma_parser_input.specs.Place.{Place}
 use Rattle.swc_ecma_parser_model.specs.declared.operators.UnaryOp.{UnaryOp}
 use Rattle.swc_ecma_parser_model.specs.declared.operators.UpdateOp.{UpdateOp}
 use Rattle.swc_ecma_parser_model.specs.declared.operators.BinaryOp.TheVariants as binary
-use Rattle.swc_ecma_parser_model.specs.declared.operators.AssignOp.TheVariants as assign
 use Rattle.swc_ecma_parser_model.specs.Tree as tree
 use Rattle.swc_ecma_parser_model.specs.Tree.{Tree, Text, listed}
 use Rattle.swc_ecma_parser_model.specs.Forms.{is_pattern_target}

@@ -1,30 +1,21 @@
 -- What the rules of the first forms read, the whole language reads, and it is supported.
 use Rattle.std.proofs.Common.{◌≡◌, ℕ, zero, suc, Bool, true, false, List, [], ◌∷◌, Option, refl, ◌∙◌, ap}
-use Rattle.std.specs.Prelude.{not, ◌&&◌, ◌||◌, codes}
-use Rattle.std.specs.Str.{bytes_eq}
+use Rattle.std.specs.Prelude.{not, ◌&&◌, ◌||◌}
 use denote.Enum.Bare.{true_same}
-use Rattle.swc_ecma_parser_common.specs.declared.span.Span.{Span}
 use Rattle.swc_ecma_parser_token.specs.contracts.kind.TokenKind.{the_type}
 use Rattle.swc_ecma_parser_token.specs.declared.kind.TokenKind.{TokenKind}
 use Rattle.swc_ecma_parser_token.specs.declared.kind.TokenKind.TheVariants as kind
-use Rattle.swc_ecma_parser_token.specs.declared.token.Token.TheVariants as token
-use Rattle.swc_ecma_parser_token.specs.declared.token.Word.{Word}
-use Rattle.swc_ecma_parser_token.specs.Text.{word_text}
-use Rattle.swc_ecma_parser_input.specs.declared.context.Context.{Context}
 use Rattle.swc_ecma_parser_input.specs.Place.{Place, after}
 use Rattle.swc_ecma_parser_model.specs.declared.leaves.VarDeclKind.TheVariants as decl
 use Rattle.swc_ecma_parser_model.specs.Tree.{Tree, Text, trees}
-use Rattle.swc_ecma_parser_model.specs.Forms.{is_binding_name}
 use Rattle.swc_ecma_parser_grammar.specs.declared.position.Position.{Position}
 use Rattle.swc_ecma_parser_grammar.specs.Looks.{kind_at, sees, same_kind}
-use Rattle.swc_ecma_parser_grammar.specs.Names.{Code, is_reserved, is_name, is_identifier, is_clean_name}
-use Rattle.swc_ecma_parser_grammar.specs.Reads.{with_in, directed, directs_on, nested_item, top_item, ReadsToken, binding_rule, ReadsPat, DeclaratorRule, plain_rule, initialized_rule, ReadsSeparated, ReadsItems, StmtRule, block_rule, empty_rule, debugger_rule, var_rule, expr_rule}
+use Rattle.swc_ecma_parser_grammar.specs.Names.{Code}
+use Rattle.swc_ecma_parser_grammar.specs.Reads.{with_in, directed, directs_on, nested_item, top_item, DeclaratorRule, plain_rule, initialized_rule, ReadsSeparated, ReadsItems, StmtRule, block_rule, empty_rule, debugger_rule, var_rule, expr_rule}
 use Rattle.swc_ecma_parser_grammar.specs.Entries.{ReadsScript, ReadsShebang, some_shebang, no_shebang, script_code}
 use Rattle.swc_ecma_parser_grammar.specs.Supported.{supported, all_supported}
-use Rattle.swc_ecma_parser_grammar.specs.ReadsSupported.{ReadsClass, ReadsStmt}
-use Rattle.swc_ecma_parser_grammar.specs.language.Goals.{assignment, pattern_goal, binding, stmt_goal}
-use Rattle.swc_ecma_parser_grammar.specs.language.Parts.{ReadsName}
-use Rattle.swc_ecma_parser_grammar.specs.language.Patterns as patterns
+use Rattle.swc_ecma_parser_grammar.specs.ReadsSupported.{ReadsClass, ReadsPat, ReadsStmt}
+use Rattle.swc_ecma_parser_grammar.specs.language.Goals.{assignment, stmt_goal}
 use Rattle.swc_ecma_parser_grammar.specs.language.Declarations as declarations
 use Rattle.swc_ecma_parser_grammar.specs.language.Items.{ItemsRule}
 use Rattle.swc_ecma_parser_grammar.specs.language.Statements as statements
@@ -32,52 +23,20 @@ use Rattle.swc_ecma_parser_grammar.specs.language.Statements.{may_begin_at_top}
 use Rattle.swc_ecma_parser_grammar.specs.language.Reads.{Reads}
 use Rattle.swc_ecma_parser_grammar.specs.language.Programs as programs
 use Rattle.swc_ecma_parser_grammar.specs.language.Programs.{ReadsEntry}
-use Rattle.swc_ecma_parser_grammar.proofs.Tests.{and_yes, and_both}
+use Rattle.swc_ecma_parser_grammar.proofs.Tests.{and_both}
 use Rattle.swc_ecma_parser_grammar.proofs.SupportedBegins.{expr_begins}
 
--- ---- names
-
-clean_by : (r a m : Bool) → (not r && not a) ≡ true → (not r && not (a && m)) ≡ true
-clean_by true a m h = h
-clean_by false true m h = cc
-clean_by false false m h = refl
-
--- a name other than `await` is no fault anywhere
-pub name_is_clean : (f : Context) (text : Text) → is_name f text ≡ true → is_clean_name f text ≡ true
-unfolding is_name is_clean_name is_identifier
-name_is_clean f text h = clean_by (is_reserved f text) (bytes_eq text (codes "await")) _ h
-
-pub name_supported : (f : Context) (text : Text) → is_name f text ≡ true → not (bytes_eq text (codes "await")) ≡ true
-unfolding is_name
-name_supported f text h = (and_yes (not (is_reserved f text)) _ h).1
-
-name_read : (k : Code) (w : Word) (s : Span) (c d : Place) → ReadsToken (token.Word w) s c d → is_name k.flags (word_text w) ≡ true → ReadsName k (word_text w) s c d
-name_read k w s c d r h = record { word = w; reads_word = r; is_text = refl; is_name = name_is_clean k.flags (word_text w) h }
-
--- ---- binding patterns and declarators
-
-pat_supported : (n : ℕ) (k : Code) (x : Tree) (c d : Place) → ReadsPat n k x c d → supported x ≡ true
-pat_supported zero k x c d h = absurd h
-pat_supported (suc n) k x c d (binding_rule w s r h e) = ap supported e ∙ name_supported k.flags (word_text w) h
-
-pat_widens : (n : ℕ) (k : Code) (x : Tree) (c d : Place) → ReadsPat n k x c d → Reads n (pattern_goal binding k x c d)
-pat_widens zero k x c d h = absurd h
-pat_widens (suc n) k x c d (binding_rule w s r h e) = patterns.binding_name_rule (word_text w) s refl (name_read k w s c d r h) e
-
-pat_is_name : (n : ℕ) (k : Code) (x : Tree) (c d : Place) → ReadsPat n k x c d → is_binding_name x ≡ true
-pat_is_name zero k x c d h = absurd h
-pat_is_name (suc n) k x c d (binding_rule w s r h e) = ap is_binding_name e
+-- ---- declarators
 
 declarator_supported : (n : ℕ) (k : Code) (x : Tree) (c d : Place) → DeclaratorRule (ReadsClass n assignment) (ReadsPat n) k x c d → supported x ≡ true
-declarator_supported n k x c d (plain_rule p r h e) = ap supported e ∙ and_both _ _ (pat_is_name n k p c d r) (and_both _ _ (pat_supported n k p c d r) refl)
-declarator_supported n k x c d (initialized_rule p y m r h s e) = ap supported e ∙ and_both _ _ (pat_is_name n k p c m r) (and_both _ _ (pat_supported n k p c m r) s.1)
+declarator_supported n k x c d (plain_rule p r h b e) = ap supported e ∙ and_both _ _ r.1 refl
+declarator_supported n k x c d (initialized_rule p y m r h s e) = ap supported e ∙ and_both _ _ r.1 s.1
 
 -- what stands behind `var`, with `in` read as an operator
 declarator_widens : (n : ℕ) (k : Code) (x : Tree) (c d : Place) → DeclaratorRule (ReadsClass n assignment) (ReadsPat n) (with_in k) x c d
     → declarations.DeclaratorRule (Reads n) (with_in k) false decl.Var x c d
-declarator_widens n k x c d (plain_rule p r h e) =
-    declarations.plain_rule p (pat_widens n (with_in k) p c d r) h (and_both _ _ (pat_is_name n (with_in k) p c d r) refl) e
-declarator_widens n k x c d (initialized_rule p y m r h s e) = declarations.initialized_rule p y m (pat_widens n (with_in k) p c m r) h s.0 e
+declarator_widens n k x c d (plain_rule p r h b e) = declarations.plain_rule p r.0 h (and_both _ _ b refl) e
+declarator_widens n k x c d (initialized_rule p y m r h s e) = declarations.initialized_rule p y m r.0 h s.0 e
 
 module _ (Rule Other : Tree → Place → Place → Type 0) (widen : (x : Tree) (c d : Place) → Rule x c d → Other x c d) where
   -- with commas between, each by itself

@@ -1,21 +1,18 @@
--- What the rules of the first statements are made of. Their expressions are those of the whole language.
-use Rattle.std.specs.Prelude.{◌≡◌, ℕ, zero, suc, Bool, true, false, ◌&&◌, if◌then◌else◌, List, [], ◌∷◌, codes}
+-- What the rules of the first statements are made of. Their expressions and patterns are those of the whole language.
+use Rattle.std.specs.Prelude.{◌≡◌, Bool, true, false, ◌&&◌, if◌then◌else◌, List, [], ◌∷◌, codes}
 use Rattle.swc_ecma_parser_common.specs.declared.span.Span.{Span}
 use Rattle.swc_ecma_parser_token.specs.declared.kind.TokenKind.TheVariants as kind
 use Rattle.swc_ecma_parser_token.specs.declared.token.Token.{Token}
-use Rattle.swc_ecma_parser_token.specs.declared.token.Token.TheVariants as token
-use Rattle.swc_ecma_parser_token.specs.declared.token.Word.{Word}
 use Rattle.swc_ecma_parser_token.specs.declared.token.TokenAndSpan.{TokenAndSpan}
-use Rattle.swc_ecma_parser_token.specs.Text.{word_text}
 use Rattle.swc_ecma_parser_input.specs.Place.{Place, after}
 use Rattle.swc_ecma_parser_model.specs.declared.leaves.VarDeclKind.TheVariants as decl
 use Rattle.swc_ecma_parser_model.specs.Tree as tree
 use Rattle.swc_ecma_parser_model.specs.Tree.{Tree, Text, listed}
 use Rattle.swc_ecma_parser_model.specs.Directive.{is_use_strict}
-use Rattle.swc_ecma_parser_model.specs.Forms.{is_ident, is_ident_named}
+use Rattle.swc_ecma_parser_model.specs.Forms.{is_ident, is_ident_named, is_binding_name}
 use Rattle.swc_ecma_parser_grammar.specs.declared.position.Position.{Position}
 use Rattle.swc_ecma_parser_grammar.specs.Looks.{kind_at, sees, spanned}
-use Rattle.swc_ecma_parser_grammar.specs.Names.{Code, is_name}
+use Rattle.swc_ecma_parser_grammar.specs.Names.{Code}
 use Rattle.swc_ecma_parser_grammar.specs.Ends.{Ends}
 use Rattle.swc_ecma_parser_grammar.specs.Follows.{may_begin_expression_statement}
 use Rattle.swc_ecma_parser_grammar.specs.language.Goals.{Class, expression, assignment}
@@ -44,21 +41,11 @@ pub record ReadsToken (t : Token) (span : Span) (c d : Place) : Type 0 where
   pub is : c.left ≡ record { token = t; had_line_break = had_line_break; span = span } ∷ rest
   pub next : d ≡ after c
 
--- ---- binding patterns: section 14.3.3
-
-pub data PatRule (k : Code) (x : Tree) (c d : Place) : Type 0 where
-  binding_rule : (w : Word) (s : Span) → ReadsToken (token.Word w) s c d → is_name k.flags (word_text w) ≡ true
-      → x ≡ tree.ident_pat s (word_text w) → PatRule k x c d
-
-abbrev pub ReadsPat : ℕ → Code → Tree → Place → Place → Type 0
-ReadsPat zero k x c d = ⊥
-ReadsPat (suc n) k x c d = PatRule k x c d
-
 -- ---- statements: section 14
 
--- a declarator of section 14.3.2; one without initializer stands before no `=`
+-- a declarator of section 14.3.2; one without initializer is a plain name, and stands before no `=`
 pub data DeclaratorRule (Expr Pat : Code → Tree → Place → Place → Type 0) (k : Code) (x : Tree) (c d : Place) : Type 0 where
-  plain_rule : (p : Tree) → Pat k p c d → sees kind.Assign d ≡ false → x ≡ tree.declarator (spanned c d) p tree.absent → DeclaratorRule Expr Pat k x c d
+  plain_rule : (p : Tree) → Pat k p c d → sees kind.Assign d ≡ false → is_binding_name p ≡ true → x ≡ tree.declarator (spanned c d) p tree.absent → DeclaratorRule Expr Pat k x c d
   initialized_rule : (p e : Tree) (m : Place) → Pat k p c m → kind_at m ≡ kind.Assign → Expr k e (after m) d → x ≡ tree.declarator (spanned c d) p e
       → DeclaratorRule Expr Pat k x c d
 

@@ -3,7 +3,6 @@ use Rattle.std.specs.Prelude.{Bool, true, false, not, ◌&&◌, codes}
 use Rattle.std.specs.Str.{bytes_eq}
 use Rattle.swc_ecma_parser_model.specs.Tree as tree
 use Rattle.swc_ecma_parser_model.specs.Tree.{Tree, Trees, none, also}
-use Rattle.swc_ecma_parser_model.specs.Forms.{is_binding_name}
 use Rattle.swc_ecma_parser_grammar.specs.language.Declarations.{is_var}
 
 -- whether a tree is made of these forms alone
@@ -39,7 +38,7 @@ abbrev mutual
   supported (tree.assign s op left right) = supported left && supported right
   supported (tree.cond s test cons alt) = supported test && (supported cons && supported alt)
   supported (tree.seq s exprs) = supported exprs
-  -- what `=` assigns to: section 13.15.5
+  -- what `=` assigns to, and what `var` binds: sections 13.15.5 and 14.3.3
   supported (tree.ident_pat s text) = not (bytes_eq text (codes "await"))
   supported (tree.array_pat s elems) = supported elems
   supported (tree.object_pat s props) = supported props
@@ -48,9 +47,9 @@ abbrev mutual
   supported (tree.assign_pat_prop s key value) = supported key && supported value
   supported (tree.assign_pat s left right) = supported left && supported right
   supported (tree.expr_pat e) = supported e
-  -- `var` of plain names, with initializers or without: section 14.3.2
+  -- `var`, with initializers or without: section 14.3.2
   supported (tree.var s word ds) = is_var word && supported ds
-  supported (tree.declarator s name init) = is_binding_name name && (supported name && supported init)
+  supported (tree.declarator s name init) = supported name && supported init
   -- blocks, empty statements, `debugger` and expression statements: sections 14.2, 14.4, 14.16 and 14.5
   supported (tree.block s stmts) = supported stmts
   supported (tree.empty s) = true

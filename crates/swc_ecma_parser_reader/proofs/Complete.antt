@@ -1,18 +1,13 @@
 -- What the grammar allows is read, with the faults of the walk and the notes held back, and no others.
 use Rattle.std.proofs.Common.{◌≡◌, ℕ, zero, suc, ◌<◌, Bool, true, false, cond, List, [], ◌∷◌, ◌++◌, length, Option, Some, None, Ok, refl, ◌∙◌, append_assoc, append-nil}
 use Rattle.std.specs.Prelude.{◌&&◌, codes}
-use denote.Enum.Bare.{true_same}
 use Rattle.swc_ecma_parser_common.specs.declared.span.Span.{Span}
 use Rattle.swc_ecma_parser_error.specs.Kind as faults
 use Rattle.swc_ecma_parser_error.specs.Kind.{Kind, Fault}
-use Rattle.swc_ecma_parser_token.specs.contracts.kind.TokenKind.{the_type}
-use Rattle.swc_ecma_parser_token.specs.declared.kind.TokenKind.{TokenKind}
 use Rattle.swc_ecma_parser_token.specs.declared.kind.TokenKind.TheVariants as kind
 use Rattle.swc_ecma_parser_token.specs.declared.token.Token.{Token}
 use Rattle.swc_ecma_parser_token.specs.declared.token.Token.TheVariants as token
-use Rattle.swc_ecma_parser_token.specs.declared.token.Word.{Word}
 use Rattle.swc_ecma_parser_token.specs.declared.token.TokenAndSpan.{TokenAndSpan}
-use Rattle.swc_ecma_parser_token.specs.Text.{word_text}
 use Rattle.swc_ecma_parser_token.specs.Kind.{token_kind}
 use Rattle.swc_ecma_parser_input.specs.Place.{Place, after}
 use Rattle.swc_ecma_parser_model.specs.declared.leaves.VarDeclKind.TheVariants as decl
@@ -22,55 +17,38 @@ use Rattle.swc_ecma_parser_model.specs.Directive.{is_use_strict}
 use Rattle.swc_ecma_parser_model.specs.Forms.{is_ident, is_ident_named, span_of}
 use Rattle.swc_ecma_parser_grammar.specs.declared.position.Position.{Position}
 use Rattle.swc_ecma_parser_grammar.specs.Looks.{kind_at, sees, same_kind, spanned}
-use Rattle.swc_ecma_parser_grammar.specs.Names.{Code, is_name}
+use Rattle.swc_ecma_parser_grammar.specs.Names.{Code}
 use Rattle.swc_ecma_parser_grammar.specs.Ends.{Ends, by_semicolon, by_insertion}
-use Rattle.swc_ecma_parser_grammar.specs.Reads.{with_in, in_strict, nested_item, top_item, ReadsToken, binding_rule, ReadsPat, DeclaratorRule, plain_rule, initialized_rule, ReadsSeparated, directed, ReadsItems, StmtRule, block_rule, empty_rule, debugger_rule, var_rule, expr_rule}
-use Rattle.swc_ecma_parser_grammar.specs.ReadsSupported.{ReadsClass, ReadsStmt}
+use Rattle.swc_ecma_parser_grammar.specs.Reads.{with_in, in_strict, nested_item, top_item, ReadsToken, DeclaratorRule, plain_rule, initialized_rule, ReadsSeparated, directed, ReadsItems, StmtRule, block_rule, empty_rule, debugger_rule, var_rule, expr_rule}
+use Rattle.swc_ecma_parser_grammar.specs.ReadsSupported.{ReadsClass, ReadsPat, ReadsStmt}
 use Rattle.swc_ecma_parser_grammar.specs.language.Goals.{expression, assignment}
 use Rattle.swc_ecma_parser_grammar.specs.Entries.{script_code, ReadsShebang, some_shebang, no_shebang, ReadsScript}
 use Rattle.swc_ecma_parser_grammar.specs.Notes.{notes, all_notes, statement_note}
 use Rattle.swc_ecma_parser_grammar.specs.Walk as walks_of
 use Rattle.swc_ecma_parser_grammar.specs.Walk.{Env, env_of, walk, walks}
-use Rattle.swc_ecma_parser_reader.specs.State.{Scope, State, Outcome, Reader, noted, expect, end, name, fault_at, loop}
+use Rattle.swc_ecma_parser_reader.specs.State.{Scope, State, Outcome, Reader, noted, end, fault_at, loop}
 use Rattle.swc_ecma_parser_reader.specs.Expressions.{expr}
-use Rattle.swc_ecma_parser_reader.specs.Reader.{binding, pat, empty, debugger, initialized, declarator, declarators_turn, declarators, var, closes, at_end, close, directs, items_turn, items, block, note_statement, no_label, expr_stmt, expr_stmt_at, stmt_level, stmt, shebang_of, shebang_in, shebang, script_body, script}
+use Rattle.swc_ecma_parser_reader.specs.Patterns.{pattern}
+use Rattle.swc_ecma_parser_reader.specs.Reader.{empty, debugger, initialized, declarator, declarators_turn, declarators, var, closes, at_end, close, directs, items_turn, items, block, note_statement, no_label, expr_stmt, expr_stmt_at, stmt_level, stmt, shebang_of, shebang_in, shebang, script_body, script}
 use Rattle.swc_ecma_parser_reader.specs.Entry.{script_left}
 use Rattle.swc_ecma_parser_reader.proofs.Answered.{st, Reads}
+use Rattle.swc_ecma_parser_reader.proofs.expressions.CompleteKinds.{seen}
 use Rattle.swc_ecma_parser_reader.proofs.expressions.Complete.{expr_reads}
+use Rattle.swc_ecma_parser_reader.proofs.patterns.Complete.{pattern_reads}
 use Rattle.swc_ecma_parser_reader.proofs.Loops.{stmt_shorter, items_stop, items_more, declarators_done, declarators_more}
 use Rattle.swc_ecma_parser_grammar.proofs.SupportedBegins.{expr_opens}
 use Rattle.swc_ecma_parser_reader.proofs.Opens.{opened, no_block, stmt_goes}
 
-seen : (c : Place) (k : TokenKind) → kind_at c ≡ k → sees k c ≡ true
-unfolding same_kind
-seen c k e = true_same the_type (kind_at c) k e
-
--- ---- fixed tokens, ends and names
+-- ---- fixed tokens and ends
 
 ends_read : (missing : Kind) (c d : Place) (k : Code) (w : Scope) (f h : List Fault) → Ends c d → end missing (st c k w f h) ≡ Ok (tt, st d k w f h)
 unfolding end
 ends_read missing c d k w f h (by_semicolon e g) = rw (seen c kind.Semi e, g) refl
 ends_read missing c d k w f h (by_insertion e i g) = rw (e, i, g) refl
 
-expect_reads : (want : TokenKind) (c : Place) (k : Code) (w : Scope) (f h : List Fault) → kind_at c ≡ want → expect want (st c k w f h) ≡ Ok (tt, st (after c) k w f h)
-unfolding expect
-expect_reads want c k w f h e = rw (seen c want e) refl
-
 close_reads : (c : Place) (k : Code) (w : Scope) (f h : List Fault) → kind_at c ≡ kind.RBrace → close (st c k w f h) ≡ Ok (tt, st (after c) k w f h)
 unfolding close
 close_reads c k w f h e = rw (seen c kind.RBrace e) refl
-
-name_reads : (missing : Kind) (v : Word) (sp : Span) (c d : Place) (k : Code) (w : Scope) (f h : List Fault) → ReadsToken (token.Word v) sp c d → is_name k.flags (word_text v) ≡ true
-    → name missing (st c k w f h) ≡ Ok (record { span = sp; sym = word_text v }, st d k w f h)
-unfolding name
-name_reads missing v sp c d k w f h r e = rw (r.is, e, r.next) refl
-
--- ---- binding patterns
-
-pub pat_reads : (n : ℕ) (k : Code) (x : Tree) (c d : Place) → ReadsPat n k x c d → Reads (pat n) k x c d
-unfolding pat binding
-pat_reads zero k x c d r w f h = absurd r
-pat_reads (suc n) k x c d (binding_rule v s r e g) w f h = rw (name_reads faults.ExpectedIdent v s c d k w f h r e, g, append-nil f, append-nil h) refl
 
 -- ---- statements that hold none
 
@@ -85,12 +63,12 @@ debugger_reads k x c d e g w f h = rw (ends_read faults.Expected (after c) d k w
 -- ---- declarators
 
 module _ (n : ℕ) where
-  declarator_reads : (k : Code) (x : Tree) (c d : Place) → DeclaratorRule (ReadsClass n assignment) (ReadsPat n) k x c d → Reads (declarator (expr n) (pat n)) k x c d
+  declarator_reads : (k : Code) (x : Tree) (c d : Place) → DeclaratorRule (ReadsClass n assignment) (ReadsPat n) k x c d → Reads (declarator (expr n) (pattern n)) k x c d
   unfolding declarator initialized spanned
-  declarator_reads k x c d (plain_rule p r e g) w f h = rw (pat_reads n k p c d r w f h, e, g, append-nil (walk (env_of k w.labels) p), append-nil (notes p)) refl
+  declarator_reads k x c d (plain_rule p r e b g) w f h = rw (pattern_reads n k p c d r w f h, e, b, g, append-nil (walk (env_of k w.labels) p), append-nil (notes p)) refl
   declarator_reads k x c d (initialized_rule p y m r e s g) w f h =
       rw (
-        pat_reads n k p c m r w f h,
+        pattern_reads n k p c m r w f h,
         seen m kind.Assign e,
         expr_reads n assignment k y (after m) d s w (f ++ walk (env_of k w.labels) p) (h ++ notes p),
         g,
@@ -99,7 +77,7 @@ module _ (n : ℕ) where
       ) refl
 
   many_declarators : (xs found : List Tree) (k : Code) (c d : Place) (w : Scope) (f h : List Fault) → ReadsSeparated (DeclaratorRule (ReadsClass n assignment) (ReadsPat n) k) xs c d
-      → loop (declarators_turn (expr n) (pat n)) found (st c k w f h) ≡ Ok (found ++ xs, st d k w (f ++ walks (env_of k w.labels) false (trees xs)) (h ++ all_notes (trees xs)))
+      → loop (declarators_turn (expr n) (pattern n)) found (st c k w f h) ≡ Ok (found ++ xs, st d k w (f ++ walks (env_of k w.labels) false (trees xs)) (h ++ all_notes (trees xs)))
   many_declarators [] found k c d w f h r = absurd r
   many_declarators (x ∷ []) found k c d w f h r =
       rw (append-nil (walk (env_of k w.labels) x), append-nil (notes x))
@@ -109,7 +87,7 @@ module _ (n : ℕ) where
       ∙ many_declarators (y ∷ ys) (found ++ x ∷ []) k (after m) d w (f ++ walk (env_of k w.labels) x) (h ++ notes x) more ∙ simp append_assoc refl
 
   var_reads : (xs : List Tree) (m : Place) (k : Code) (x : Tree) (c d : Place) → ReadsSeparated (DeclaratorRule (ReadsClass n assignment) (ReadsPat n) (with_in k)) xs (after c) m → Ends m d
-      → x ≡ tree.var (spanned c d) decl.Var (listed xs) → Reads (var (expr n) (pat n)) k x c d
+      → x ≡ tree.var (spanned c d) decl.Var (listed xs) → Reads (var (expr n) (pattern n)) k x c d
   unfolding var declarators
   var_reads xs m k x c d r e g w f h =
       rw (many_declarators xs [] (with_in k) (after c) m w f h r, ends_read faults.Unexpected m d k w (f ++ walks (env_of k w.labels) false (trees xs)) (h ++ all_notes (trees xs)) e, g) refl
@@ -241,14 +219,14 @@ module _ (n : ℕ) (reads : (at : Position) (k : Code) (x : Tree) (c d : Place) 
         g,
       ) refl
 
-  by_rules : (at : Position) (k : Code) (x : Tree) (c d : Place) → StmtRule (ReadsStmt n) (ReadsClass n) (ReadsPat n) k at x c d → Reads (stmt_level (stmt n) (expr n) (pat n) at) k x c d
+  by_rules : (at : Position) (k : Code) (x : Tree) (c d : Place) → StmtRule (ReadsStmt n) (ReadsClass n) (ReadsPat n) k at x c d → Reads (stmt_level (stmt n) (expr n) (pattern n) at) k x c d
   unfolding stmt_level expr_stmt_at
   by_rules at k x c d (block_rule xs m e r g i j) w f h = rw e (block_reads xs m k x c d r g i j w f h)
   by_rules at k x c d (empty_rule e g i) w f h = rw e (empty_reads k x c d g i w f h)
   by_rules at k x c d (debugger_rule e g i) w f h = rw e (debugger_reads k x c d g i w f h)
   by_rules at k x c d (var_rule xs m e r g i) w f h = rw e (var_reads n xs m k x c d r g i w f h)
   by_rules at k x c d (expr_rule e m b r l i g j) w f h =
-      opened (stmt n) (expr n) (pat n) at (st c k w f h) (kind_at c) (expr_opens n (with_in k) e c m r) (no_block at c b) ∙ rw b (expr_stmt_reads n e m k x c d r l i g j w f h)
+      opened (stmt n) (expr n) (pattern n) at (st c k w f h) (kind_at c) (expr_opens n (with_in k) e c m r) (no_block at c b) ∙ rw b (expr_stmt_reads n e m k x c d r l i g j w f h)
 
 pub stmt_reads : (n : ℕ) (at : Position) (k : Code) (x : Tree) (c d : Place) → ReadsStmt n k at x c d → Reads (stmt n at) k x c d
 unfolding stmt

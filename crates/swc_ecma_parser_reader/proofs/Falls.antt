@@ -1,4 +1,4 @@
--- A statement and a pattern take a token at least.
+-- A statement takes a token at least.
 use Rattle.std.proofs.Common.{◌≡◌, ◌≢◌, ℕ, zero, suc, ◌+◌, ◌≤◌, Bool, true, false, cond, List, [], length, Option, Some, None, refl, arith}
 use Rattle.std.specs.Prelude.{◌&&◌, codes}
 use Rattle.swc_ecma_parser_common.specs.declared.span.Span.{Span}
@@ -8,29 +8,20 @@ use Rattle.swc_ecma_parser_token.specs.declared.kind.TokenKind.{TokenKind}
 use Rattle.swc_ecma_parser_token.specs.declared.kind.TokenKind.TheVariants as kind
 use Rattle.swc_ecma_parser_input.specs.Place.{Place, after}
 use Rattle.swc_ecma_parser_model.specs.Tree.{Tree, Text}
-use Rattle.swc_ecma_parser_model.specs.Forms.{is_ident, is_ident_named}
+use Rattle.swc_ecma_parser_model.specs.Forms.{is_ident, is_ident_named, is_binding_name}
 use Rattle.swc_ecma_parser_grammar.specs.declared.position.Position.{Position}
 use Rattle.swc_ecma_parser_grammar.specs.Looks.{kind_at, sees, span_at}
 use Rattle.swc_ecma_parser_grammar.specs.Follows.{may_begin_expression_statement}
 use Rattle.swc_ecma_parser_grammar.specs.Reads.{with_in, nested_item, top_item}
 use Rattle.swc_ecma_parser_grammar.specs.Entries.{script_code}
 use Rattle.swc_ecma_parser_grammar.specs.language.Goals.{Class, expression, assignment}
-use Rattle.swc_ecma_parser_reader.specs.State.{State, Reader, moved, coded, within, end, name}
+use Rattle.swc_ecma_parser_reader.specs.State.{State, Reader, moved, coded, within, end}
 use Rattle.swc_ecma_parser_reader.specs.Expressions.{expr}
-use Rattle.swc_ecma_parser_reader.specs.Reader.{binding, pat, empty, debugger, initialized, declarator, declarators_turn, declarators, var, closes, at_end, close, items_turn, items, block, note_statement, no_label, expr_stmt, expr_stmt_at, stmt_by, stmt_level, stmt, shebang_in, shebang_taken, shebang, script_body, script}
-use Rattle.swc_ecma_parser_reader.proofs.Takes.{Falls, falls_then, falls_last, falls_coded, falls_if, less, falls_next, moves, takes, falls_past, falls_moved, wanted_falls, too_deep_falls, end_falls, close_falls, name_falls, loop_falls}
-use Rattle.swc_ecma_parser_reader.proofs.expressions.Falls.{expr_falls}
-
--- ---- binding patterns
-
-binding_falls : (s : State) → Falls 1 (length s.at.left) (binding s)
-unfolding binding
-binding_falls s = falls_last 1 (length s.at.left) (name faults.ExpectedIdent s) _ (name_falls faults.ExpectedIdent s)
-
-pub pat_falls : (n : ℕ) (s : State) → Falls 1 (length s.at.left) (pat n s)
-unfolding pat
-pat_falls zero s = too_deep_falls Tree 1 (length s.at.left) s
-pat_falls (suc n) s = binding_falls s
+use Rattle.swc_ecma_parser_reader.specs.Patterns.{pattern}
+use Rattle.swc_ecma_parser_reader.specs.Reader.{empty, debugger, uninitialized, initialized, declarator, declarators_turn, declarators, var, closes, at_end, close, items_turn, items, block, note_statement, no_label, expr_stmt, expr_stmt_at, stmt_by, stmt_level, stmt, shebang_in, shebang_taken, shebang, script_body, script}
+use Rattle.swc_ecma_parser_reader.proofs.Takes.{Falls, falls_then, falls_last, falls_coded, falls_if, less, falls_next, moves, takes, falls_past, falls_moved, wanted_falls, too_deep_falls, end_falls, close_falls, loop_falls}
+use Rattle.swc_ecma_parser_reader.proofs.expressions.Falls.{reject_falls, expr_falls}
+use Rattle.swc_ecma_parser_reader.proofs.patterns.Falls.{pattern_falls}
 
 -- ---- statements
 
@@ -42,6 +33,10 @@ debugger_falls : (s : State) → kind_at s.at ≢ kind.End → Falls 1 (length s
 unfolding debugger
 debugger_falls s h = falls_past s _ h (falls_last 0 (length (after s.at).left) (end faults.Expected (moved s)) _ (end_falls faults.Expected (moved s)))
 
+-- without initializer nothing more is taken
+uninitialized_falls : (span : Span) (p : Tree) (s : State) → Falls 0 (length s.at.left) (uninitialized span p s)
+uninitialized_falls span p s = falls_if 0 (length s.at.left) (is_binding_name p) _ _ (omega arith) (reject_falls Tree 0 (length s.at.left) _ s)
+
 module _ (inner_expr : Class → Reader Tree) (g : (class : Class) (s : State) → Falls 1 (length s.at.left) (inner_expr class s))
     (inner : Reader Tree) (h : (s : State) → Falls 1 (length s.at.left) (inner s)) where
   -- `=` is a token, and nothing else is asked of it
@@ -52,7 +47,8 @@ module _ (inner_expr : Class → Reader Tree) (g : (class : Class) (s : State) �
 
   pub declarator_falls : (s : State) → Falls 1 (length s.at.left) (declarator inner_expr inner s)
   unfolding declarator
-  declarator_falls s = falls_next (length s.at.left) (inner s) _ (h s) (λ p t. falls_if 0 (length t.at.left) (sees kind.Assign t.at) _ _ (initialized_falls (span_at s.at) p t) (omega arith))
+  declarator_falls s = falls_next (length s.at.left) (inner s) _ (h s) (λ p t. falls_if 0 (length t.at.left) (sees kind.Assign t.at) _ _ (initialized_falls (span_at s.at) p t)
+      (uninitialized_falls _ p t))
 
   declarators_turn_falls : (found : List Tree) (s : State) → Falls 0 (length s.at.left) (declarators_turn inner_expr inner found s)
   unfolding declarators_turn
@@ -139,7 +135,7 @@ shebang_falls s = shebang_taken_falls s (shebang_in s.at.left)
 pub stmt_falls : (n : ℕ) (at : Position) (s : State) → Falls 1 (length s.at.left) (stmt n at s)
 unfolding stmt
 stmt_falls zero at s = too_deep_falls Tree 1 (length s.at.left) s
-stmt_falls (suc n) at s = stmt_level_falls (stmt n) (stmt_falls n) (expr n) (expr_falls n) (pat n) (pat_falls n) at s
+stmt_falls (suc n) at s = stmt_level_falls (stmt n) (stmt_falls n) (expr n) (expr_falls n) (pattern n) (pattern_falls n) at s
 
 script_body_falls : (n : ℕ) (s : State) → Falls 0 (length s.at.left) (script_body n s)
 unfolding script_body

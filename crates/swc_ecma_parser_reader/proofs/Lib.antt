@@ -2,6 +2,7 @@ pub mod Steps
 pub mod Takes
 pub mod Falls
 pub mod expressions
+pub mod patterns
 pub mod Loops
 pub mod Meets
 pub mod Errors

@@ -8,28 +8,22 @@ use Rattle.swc_ecma_parser_token.specs.declared.kind.TokenKind.{TokenKind}
 use Rattle.swc_ecma_parser_token.specs.declared.kind.TokenKind.TheVariants as kind
 use Rattle.swc_ecma_parser_input.specs.Place.{Place}
 use Rattle.swc_ecma_parser_model.specs.Tree.{Tree}
-use Rattle.swc_ecma_parser_model.specs.Forms.{is_ident, is_ident_named, span_of}
+use Rattle.swc_ecma_parser_model.specs.Forms.{is_ident, is_ident_named, is_binding_name, span_of}
 use Rattle.swc_ecma_parser_grammar.specs.declared.position.Position.{Position}
 use Rattle.swc_ecma_parser_grammar.specs.Looks.{kind_at, sees}
 use Rattle.swc_ecma_parser_grammar.specs.Follows.{may_begin_expression_statement}
 use Rattle.swc_ecma_parser_grammar.specs.Reads.{with_in, nested_item, top_item}
 use Rattle.swc_ecma_parser_grammar.specs.Entries.{script_code}
 use Rattle.swc_ecma_parser_grammar.specs.language.Goals.{Class, expression, assignment}
-use Rattle.swc_ecma_parser_reader.specs.State.{State, Reader, moved, coded, within, noted, module_fault, fault_at, end, name}
+use Rattle.swc_ecma_parser_reader.specs.State.{State, Reader, moved, coded, within, noted, module_fault, fault_at, end}
 use Rattle.swc_ecma_parser_reader.specs.Expressions.{expr}
-use Rattle.swc_ecma_parser_reader.specs.Reader.{binding, pat, empty, debugger, initialized, declarator, declarators_turn, declarators, var, closes, at_end, close, items_turn, items, block, note_statement, no_label, expr_stmt, expr_stmt_at, stmt_by, stmt_level, stmt, shebang, script_body, script}
+use Rattle.swc_ecma_parser_reader.specs.Patterns.{pattern}
+use Rattle.swc_ecma_parser_reader.specs.Reader.{empty, debugger, initialized, declarator, declarators_turn, declarators, var, closes, at_end, close, items_turn, items, block, note_statement, no_label, expr_stmt, expr_stmt_at, stmt_by, stmt_level, stmt, shebang, script_body, script}
 use Rattle.swc_ecma_parser_reader.specs.Limits.{has_too_deep_token}
 use Rattle.swc_ecma_parser_reader.proofs.Meets.{Answers, answers_then, answers_if, loop_answers, meant}
-use Rattle.swc_ecma_parser_reader.proofs.Shallow.{Fine, fine_more, fine_after, fine_taken, Shallow, Kept, too_deep_shallow, wanted_shallow, end_shallow, close_shallow, name_shallow, shebang_shallow, Levels}
-use Rattle.swc_ecma_parser_reader.proofs.expressions.Limits.{expr_shallow}
-
--- ---- patterns
-
--- a pattern needs two levels for each token
-pat_shallow : (n : ℕ) → Levels n (pat n)
-unfolding pat binding
-pat_shallow zero m s h f = too_deep_shallow _ s (omega arith)
-pat_shallow (suc n) m s h f = answers_then _ _ (name faults.ExpectedIdent s) _ (name_shallow m s f faults.ExpectedIdent (λ e. cc)) (λ i t g. g)
+use Rattle.swc_ecma_parser_reader.proofs.Shallow.{Fine, fine_more, fine_after, fine_taken, Shallow, Kept, wanted_shallow, end_shallow, close_shallow, shebang_shallow, Levels}
+use Rattle.swc_ecma_parser_reader.proofs.expressions.Limits.{reject_shallow, expr_shallow}
+use Rattle.swc_ecma_parser_reader.proofs.patterns.Limits.{pattern_shallow}
 
 -- ---- statements: one level more, for an expression that begins with the same token
 
@@ -42,7 +36,8 @@ module _ (inner_expr : Class → Reader Tree) (inner_pat : Reader Tree) (n : ℕ
   declarator_shallow : (s : State) → Fine m s.at.left → Answers (Kept m) Shallow (declarator inner_expr inner_pat s)
   unfolding declarator initialized
   declarator_shallow s f = answers_then _ _ (inner_pat s) _ (below_pat m s enough f) (λ p t g. answers_if _ _ (sees kind.Assign t.at) _ _
-      (λ _. answers_then _ _ (inner_expr assignment (moved t)) _ (below_expr assignment m (moved t) enough (fine_after m t.at g)) (λ x u h. h)) (λ _. g))
+      (λ _. answers_then _ _ (inner_expr assignment (moved t)) _ (below_expr assignment m (moved t) enough (fine_after m t.at g)) (λ x u h. h))
+      (λ _. answers_if _ _ (is_binding_name p) _ _ (λ _. g) (λ _. reject_shallow _ faults.PatVarWithoutInit _ (λ e. cc) m t g)))
 
   -- declarators are no level of their own
   declarators_shallow : (s : State) → Fine m s.at.left → Answers (Kept m) Shallow (declarators inner_expr inner_pat s)
@@ -121,7 +116,7 @@ module _ (inner : Position → Reader Tree) (inner_expr : Class → Reader Tree)
 stmt_shallow : (n : ℕ) (at : Position) → StmtLevels n (stmt n at)
 unfolding stmt
 stmt_shallow zero at m s h f = absurd (omega arith)
-stmt_shallow (suc n) at m s h f = level_shallow (stmt n) (expr n) (pat n) n (stmt_shallow n) (expr_shallow n) (pat_shallow n) at m h s f
+stmt_shallow (suc n) at m s h f = level_shallow (stmt n) (expr n) (pattern n) n (stmt_shallow n) (expr_shallow n) (pattern_shallow n) at m h s f
 
 -- a script needs no more
 script_shallow : (n m : ℕ) (s : State) → 2 * m + 2 ≤ n → Fine m s.at.left → Answers (Kept m) Shallow (script n s)

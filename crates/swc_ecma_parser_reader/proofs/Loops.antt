@@ -1,5 +1,5 @@
 -- The turns of the loops, and the levels, in the shapes that a loop over tokens and a recursion meet them.
-use Rattle.std.proofs.Common.{◌≡◌, ℕ, suc, ◌-◌, ◌<◌, Bool, true, false, List, [], ◌∷◌, ◌++◌, length, Ok, Err, refl, ap, subst, arith}
+use Rattle.std.proofs.Common.{◌≡◌, ℕ, ◌-◌, ◌<◌, Bool, true, false, List, [], ◌∷◌, ◌++◌, length, Ok, Err, refl, arith}
 use Rattle.swc_ecma_parser_error.specs.Kind.{Fault}
 use Rattle.swc_ecma_parser_token.specs.declared.kind.TokenKind.TheVariants as kind
 use Rattle.swc_ecma_parser_input.specs.Place.{Place, after}
@@ -7,30 +7,27 @@ use Rattle.swc_ecma_parser_model.specs.Tree.{Tree}
 use Rattle.swc_ecma_parser_grammar.specs.declared.position.Position.{Position}
 use Rattle.swc_ecma_parser_grammar.specs.Looks.{sees}
 use Rattle.swc_ecma_parser_grammar.specs.Reads.{directed}
-use Rattle.swc_ecma_parser_reader.specs.State.{State, Outcome, Reader, coded, moved, too_deep, loop}
+use Rattle.swc_ecma_parser_reader.specs.State.{State, Reader, coded, moved, too_deep, loop}
 use Rattle.swc_ecma_parser_reader.specs.Expressions.{expr}
-use Rattle.swc_ecma_parser_reader.specs.Reader.{binding, pat, declarator, declarators_turn, directs, items_turn, stmt_level, stmt}
+use Rattle.swc_ecma_parser_reader.specs.Patterns.{pattern}
+use Rattle.swc_ecma_parser_reader.specs.Reader.{declarator, declarators_turn, directs, items_turn, stmt_level, stmt}
 use Rattle.swc_ecma_parser_reader.proofs.Steps.{loop_more, loop_done, loop_err}
-use Rattle.swc_ecma_parser_reader.proofs.Takes.{Falls, moves}
-use Rattle.swc_ecma_parser_reader.proofs.Falls.{stmt_falls, pat_falls, declarator_falls}
+use Rattle.swc_ecma_parser_reader.proofs.Takes.{moves}
+use Rattle.swc_ecma_parser_reader.proofs.Falls.{stmt_falls, declarator_falls}
 use Rattle.swc_ecma_parser_reader.proofs.expressions.Falls.{expr_falls}
+use Rattle.swc_ecma_parser_reader.proofs.expressions.Loops.{shorter_by, deeper}
+use Rattle.swc_ecma_parser_reader.proofs.patterns.Falls.{pattern_falls}
 
 -- ---- what takes a token leaves fewer
-
-shorter_by : {A : Type 0} (n : ℕ) (o : Outcome A) (x : A) (t : State) → o ≡ Ok (x, t) → Falls 1 n o → length t.at.left < n
-shorter_by n o x t e h = let k : Falls 1 n (Ok (x, t)) = subst (Falls 1 n) e h in omega arith
 
 pub stmt_shorter : (n : ℕ) (at : Position) (s : State) (x : Tree) (t : State) → stmt n at s ≡ Ok (x, t) → length t.at.left < length s.at.left
 stmt_shorter n at s x t e = shorter_by (length s.at.left) (stmt n at s) x t e (stmt_falls n at s)
 
-pub pat_shorter : (n : ℕ) (s : State) (x : Tree) (t : State) → pat n s ≡ Ok (x, t) → length t.at.left < length s.at.left
-pat_shorter n s x t e = shorter_by (length s.at.left) (pat n s) x t e (pat_falls n s)
-
-pub declarator_shorter : (n : ℕ) (s : State) (x : Tree) (t : State) → declarator (expr n) (pat n) s ≡ Ok (x, t) → length t.at.left < length s.at.left
-declarator_shorter n s x t e = shorter_by (length s.at.left) (declarator (expr n) (pat n) s) x t e (declarator_falls (expr n) (expr_falls n) (pat n) (pat_falls n) s)
+pub declarator_shorter : (n : ℕ) (s : State) (x : Tree) (t : State) → declarator (expr n) (pattern n) s ≡ Ok (x, t) → length t.at.left < length s.at.left
+declarator_shorter n s x t e = shorter_by (length s.at.left) (declarator (expr n) (pattern n) s) x t e (declarator_falls (expr n) (expr_falls n) (pattern n) (pattern_falls n) s)
 
 -- a turn that takes a declarator and the comma behind it
-pub declarators_shorter : (n : ℕ) (s : State) (x : Tree) (t : State) → declarator (expr n) (pat n) s ≡ Ok (x, t) → length (after t.at).left < length s.at.left
+pub declarators_shorter : (n : ℕ) (s : State) (x : Tree) (t : State) → declarator (expr n) (pattern n) s ≡ Ok (x, t) → length (after t.at).left < length s.at.left
 declarators_shorter n s x t e = let a = declarator_shorter n s x t e in let b = moves t.at in omega arith
 
 -- ---- statements one behind another: the list ends, an item fails, an item is read
@@ -52,36 +49,25 @@ module _ (item : Reader Tree) (stops : Place → Bool) (directives : Bool) (foun
 -- ---- declarators with commas between
 
 module _ (n : ℕ) (found : List Tree) (s : State) where
-  pub declarators_err : (e : Fault × State) → declarator (expr n) (pat n) s ≡ Err e → loop (declarators_turn (expr n) (pat n)) found s ≡ Err e
+  pub declarators_err : (e : Fault × State) → declarator (expr n) (pattern n) s ≡ Err e → loop (declarators_turn (expr n) (pattern n)) found s ≡ Err e
   unfolding declarators_turn
-  declarators_err e h = loop_err (declarators_turn (expr n) (pat n)) found s e (rw h refl)
+  declarators_err e h = loop_err (declarators_turn (expr n) (pattern n)) found s e (rw h refl)
 
-  pub declarators_done : (x : Tree) (t : State) → declarator (expr n) (pat n) s ≡ Ok (x, t) → sees kind.Comma t.at ≡ false → loop (declarators_turn (expr n) (pat n)) found s ≡ Ok (found ++ x ∷ [], t)
+  pub declarators_done : (x : Tree) (t : State) → declarator (expr n) (pattern n) s ≡ Ok (x, t) → sees kind.Comma t.at ≡ false → loop (declarators_turn (expr n) (pattern n)) found s ≡ Ok (found ++ x ∷ [], t)
   unfolding declarators_turn
-  declarators_done x t h e = loop_done (declarators_turn (expr n) (pat n)) found (found ++ x ∷ []) s t (rw (h, e) refl)
+  declarators_done x t h e = loop_done (declarators_turn (expr n) (pattern n)) found (found ++ x ∷ []) s t (rw (h, e) refl)
 
-  pub declarators_more : (x : Tree) (t : State) → declarator (expr n) (pat n) s ≡ Ok (x, t) → sees kind.Comma t.at ≡ true
-      → loop (declarators_turn (expr n) (pat n)) found s ≡ loop (declarators_turn (expr n) (pat n)) (found ++ x ∷ []) (moved t)
+  pub declarators_more : (x : Tree) (t : State) → declarator (expr n) (pattern n) s ≡ Ok (x, t) → sees kind.Comma t.at ≡ true
+      → loop (declarators_turn (expr n) (pattern n)) found s ≡ loop (declarators_turn (expr n) (pattern n)) (found ++ x ∷ []) (moved t)
   unfolding declarators_turn
-  declarators_more x t h e = loop_more (declarators_turn (expr n) (pat n)) found (found ++ x ∷ []) s (moved t) (rw (h, e) refl) (declarators_shorter n s x t h)
+  declarators_more x t h e = loop_more (declarators_turn (expr n) (pattern n)) found (found ++ x ∷ []) s (moved t) (rw (h, e) refl) (declarators_shorter n s x t h)
 
 -- ---- levels, where a number is 0 or not
-
-deeper : {X : Type 0} (f : ℕ → X) (n : ℕ) → 0 < n → f n ≡ f (suc (n - 1))
-deeper f n some = let e : n ≡ suc (n - 1) = omega arith in ap f e
-
-pub pat_lowest : (n : ℕ) (s : State) → n ≡ 0 → pat n s ≡ too_deep s
-unfolding pat
-pat_lowest n s e = rw e refl
-
-pub pat_above : (n : ℕ) (s : State) → 0 < n → pat n s ≡ binding s
-unfolding pat
-pat_above n s h = deeper (λ k. pat k s) n h
 
 pub stmt_lowest : (n : ℕ) (at : Position) (s : State) → n ≡ 0 → stmt n at s ≡ too_deep s
 unfolding stmt
 stmt_lowest n at s e = rw e refl
 
-pub stmt_above : (n : ℕ) (at : Position) (s : State) → 0 < n → stmt n at s ≡ stmt_level (stmt (n - 1)) (expr (n - 1)) (pat (n - 1)) at s
+pub stmt_above : (n : ℕ) (at : Position) (s : State) → 0 < n → stmt n at s ≡ stmt_level (stmt (n - 1)) (expr (n - 1)) (pattern (n - 1)) at s
 unfolding stmt
 stmt_above n at s h = deeper (λ k. stmt k at s) n h

@@ -18,39 +18,40 @@ use Rattle.swc_ecma_parser_token.specs.declared.token.Word.{Word}
 use Rattle.swc_ecma_parser_token.specs.declared.token.Word.TheVariants as word
 use Rattle.swc_ecma_parser_token.specs.declared.token.TokenAndSpan.{TokenAndSpan}
 use Rattle.swc_ecma_parser_token.specs.Kind.{token_kind, word_kind, keyword_kind, bin_op_kind, assign_op_kind}
-use Rattle.swc_ecma_parser_token.specs.Text.{word_text}
 use Rattle.swc_ecma_parser_input.specs.TokenSource.{means_out_of_memory}
 use Rattle.swc_ecma_parser_input.specs.Place.{Place, after}
-use Rattle.swc_ecma_parser_model.specs.declared.leaves.Ident.{Ident}
 use Rattle.swc_ecma_parser_model.specs.Tree as tree
 use Rattle.swc_ecma_parser_model.specs.Tree.{Tree, Text, listed, trees}
 use Rattle.swc_ecma_parser_model.specs.Directive.{is_use_strict}
-use Rattle.swc_ecma_parser_model.specs.Forms.{is_ident, is_ident_named, span_of}
+use Rattle.swc_ecma_parser_model.specs.Forms.{is_ident, is_ident_named, is_binding_name, span_of}
 use Rattle.swc_ecma_parser_grammar.specs.declared.position.Position.{Position}
 use Rattle.swc_ecma_parser_grammar.specs.Looks.{kind_at, sees, same_kind, span_at, spanned}
-use Rattle.swc_ecma_parser_grammar.specs.Names.{Code, is_name}
+use Rattle.swc_ecma_parser_grammar.specs.Names.{Code}
 use Rattle.swc_ecma_parser_grammar.specs.Ends.{Ends, by_semicolon, by_insertion, can_end}
 use Rattle.swc_ecma_parser_grammar.specs.Follows.{may_begin_expression_statement}
 use Rattle.swc_ecma_parser_grammar.specs.language.Goals.{Class, expression, assignment}
-use Rattle.swc_ecma_parser_grammar.specs.Reads.{with_in, in_strict, directed, directs_on, nested_item, top_item, ReadsToken, PatRule, binding_rule, ReadsPat, DeclaratorRule, plain_rule, initialized_rule, ReadsSeparated, ReadsItems, StmtRule, block_rule, empty_rule, debugger_rule, var_rule, expr_rule}
-use Rattle.swc_ecma_parser_grammar.specs.ReadsSupported.{ReadsClass, ReadsStmt}
+use Rattle.swc_ecma_parser_grammar.specs.Reads.{with_in, in_strict, directed, directs_on, nested_item, top_item, DeclaratorRule, plain_rule, initialized_rule, ReadsSeparated, ReadsItems, StmtRule, block_rule, empty_rule, debugger_rule, var_rule, expr_rule}
+use Rattle.swc_ecma_parser_grammar.specs.ReadsSupported.{ReadsClass, ReadsPat, ReadsElement, ReadsStmt}
 use Rattle.swc_ecma_parser_grammar.specs.Entries.{ReadsScript, ReadsShebang, some_shebang, no_shebang, script_code, has_error_token}
 use Rattle.swc_ecma_parser_grammar.specs.Walk as walks
 use Rattle.swc_ecma_parser_grammar.specs.Walk.{walk, env_of, tabled, drops}
 use Rattle.swc_ecma_parser_grammar.specs.Notes.{notes, all_notes, statement_note}
 use Rattle.swc_ecma_parser_grammar.proofs.Widens.{script_widens, script_supported}
-use Rattle.swc_ecma_parser_reader.specs.State.{State, Reader, moved, coded, flagged, within, noted, module_fault, fault, recorded_in, recorded_at, fault_at, expect, end, name, name_in, name_by}
+use Rattle.swc_ecma_parser_reader.specs.State.{State, Reader, moved, coded, flagged, within, noted, module_fault, fault, recorded_in, recorded_at, fault_at, end}
 use Rattle.swc_ecma_parser_reader.specs.Expressions.{Cover, expr, cover}
-use Rattle.swc_ecma_parser_reader.specs.Reader.{binding, pat, empty, debugger, initialized, declarator, declarators_turn, declarators, var, closes, at_end, close, directs, items_turn, items, block, note_statement, no_label, expr_stmt, expr_stmt_at, stmt_by, stmt_level, stmt, shebang_of, shebang_in, shebang_taken, shebang, script_body, script}
+use Rattle.swc_ecma_parser_reader.specs.Patterns.{pattern, element}
+use Rattle.swc_ecma_parser_reader.specs.Reader.{empty, debugger, initialized, declarator, declarators_turn, declarators, var, closes, at_end, close, directs, items_turn, items, block, note_statement, no_label, expr_stmt, expr_stmt_at, stmt_by, stmt_level, stmt, shebang_of, shebang_in, shebang_taken, shebang, script_body, script}
 use Rattle.swc_ecma_parser_reader.specs.Entry.{SoundScript}
 use Rattle.swc_ecma_parser_reader.specs.Limits.{has_out_of_memory_token}
 use Rattle.swc_ecma_parser_reader.proofs.expressions.SoundCovers.{SoundCover}
 use Rattle.swc_ecma_parser_reader.proofs.expressions.Sound.{expr_sound, cover_sound}
+use Rattle.swc_ecma_parser_reader.proofs.expressions.SoundSteps.{Takes, reject_meets, walks_push, notes_push}
+use Rattle.swc_ecma_parser_reader.proofs.patterns.Sound.{pattern_sound, element_sound}
 use Rattle.swc_ecma_parser_reader.proofs.Meets.{Meets, Refuses, meets_then, meets_if, wanted_meets, too_deep_meets, refuse_meets, Turned, loop_answers, saw, meant}
-use Rattle.swc_ecma_parser_reader.proofs.Errors.{is_error, word_is_none, kind_here, after_remembers, nothing_at_end}
+use Rattle.swc_ecma_parser_reader.proofs.Errors.{kind_here, after_remembers, nothing_at_end}
 use Rattle.swc_ecma_parser_reader.proofs.Between.{Sound, SoundTree, SoundStep, no_faults, same, sound_then, sound_more, sound_moved, sound_here, sound_as, sound_after, sound_coded, within_sound, flags_back, some_fault}
 
--- ---- ends, fixed tokens and names
+-- ---- ends
 
 -- the end of a statement is one by the grammar
 end_sound : (missing : Kind) (s : State) → Meets (λ _ t. SoundStep (λ k. Ends) s t) (end missing s)
@@ -58,64 +59,6 @@ unfolding end
 end_sound missing s = meets_if _ (sees kind.Semi s.at) _ _
     (λ e. sound_moved s (saw s.at kind.Semi e) refl (by_semicolon (saw s.at kind.Semi e) refl))
     (λ e. meets_if _ (can_end s.at) _ _ (λ h. sound_here s (by_insertion e h refl)) (λ _. refuse_meets _ missing s))
-
--- one token of a kind
-abbrev Takes : TokenKind → Place → Place → Type 0
-Takes j c d = (kind_at c ≡ j) × (d ≡ after c)
-
-expect_sound : (j : TokenKind) (s : State) → is_error j ≡ false → Meets (λ _ t. SoundStep (λ k. Takes j) s t) (expect j s)
-unfolding expect
-expect_sound j s h = meets_if _ (sees j s.at) _ _ (λ e. sound_moved s (saw s.at j e) h (saw s.at j e, refl)) (λ _. refuse_meets _ faults.Expected s)
-
--- a name's token
-record ReadsName (i : Ident) (k : Code) (c d : Place) : Type 0 where
-  word : Word
-  token : ReadsToken (token.Word word) i.span c d
-  free : is_name k.flags (word_text word) ≡ true
-  text : i.sym ≡ word_text word
-
-module _ (missing : Kind) (s : State) where
-  -- a name that is read is a word that is free
-  name_by_sound : (u : TokenAndSpan) (ts : List TokenAndSpan) (v : Token) → s.at.left ≡ u ∷ ts → u.token ≡ v
-      → Meets (λ i t. SoundStep (ReadsName i) s t) (name_by missing s v u.span)
-  name_by_sound u ts (token.Word w) e h = meets_if _ (is_name s.code.flags (word_text w)) _ _
-      (λ g. sound_moved s (kind_here s.at u ts (token.Word w) e h) (word_is_none w)
-      (record { word = w; token = record { had_line_break = u.had_line_break; rest = ts; is = e ∙ rw (← h) refl; next = refl }; free = g; text = refl }))
-      (λ _. wanted_meets _ missing s)
-  name_by_sound u ts _ e h = wanted_meets _ missing s
-
-  name_in_sound : (ts : List TokenAndSpan) → s.at.left ≡ ts → Meets (λ i t. SoundStep (ReadsName i) s t) (name_in missing s ts)
-  name_in_sound [] e = wanted_meets _ missing s
-  name_in_sound (u ∷ ts) e = name_by_sound u ts u.token e refl
-
-name_sound : (missing : Kind) (s : State) → Meets (λ i t. SoundStep (ReadsName i) s t) (name missing s)
-unfolding name
-name_sound missing s = name_in_sound missing s s.at.left refl
-
--- ---- binding patterns
-
--- a name as a pattern
-binding_sound : (s : State) → Meets (λ x t. SoundTree PatRule s x t) (binding s)
-unfolding binding
-binding_sound s = meets_then _ (name faults.ExpectedIdent s) _ (name_sound faults.ExpectedIdent s) (λ i t p.
-    sound_as s t refl refl refl (λ r. binding_rule r.word i.span r.token r.free (ap (λ z. tree.ident_pat i.span z) r.text)) p)
-
--- a pattern is in the grammar within as many levels
-pub pat_sound : (n : ℕ) (s : State) → Meets (λ x t. SoundTree (ReadsPat n) s x t) (pat n s)
-unfolding pat
-pat_sound zero s = too_deep_meets _ s
-pat_sound (suc n) s = binding_sound s
-
--- ---- lists of trees
-
--- the walk of one tree more, and its notes
-walks_push : (env : walks.Env) (xs : List Tree) (x : Tree) → walks.walks env false (trees xs) ++ walk env x ≡ walks.walks env false (trees (xs ++ x ∷ []))
-walks_push env [] x = sym (append-nil (walk env x))
-walks_push env (y ∷ ys) x = append_assoc (walk env y) (walks.walks env false (trees ys)) (walk env x) ∙ ap (λ z. walk env y ++ z) (walks_push env ys x)
-
-notes_push : (xs : List Tree) (x : Tree) → all_notes (trees xs) ++ notes x ≡ all_notes (trees (xs ++ x ∷ []))
-notes_push [] x = sym (append-nil (notes x))
-notes_push (y ∷ ys) x = append_assoc (notes y) (all_notes (trees ys)) (notes x) ∙ ap (λ z. notes y ++ z) (notes_push ys x)
 
 -- ---- declarations
 
@@ -154,7 +97,9 @@ module _ (Expr : Class → Code → Tree → Place → Place → Type 0) (Pat : 
   declarator_sound : (s : State) → Meets (λ x t. SoundTree Declared s x t) (declarator expr pat s)
   unfolding declarator spanned
   declarator_sound s = meets_then _ (pat s) _ (sound_pat s) (λ p t q. meets_if _ (sees kind.Assign t.at) _ _ (λ e. initialized_sound s p t q (saw t.at kind.Assign e))
-      (λ e. sound_as s t refl (sym (append-nil (walk (env_of s.code s.scope.labels) p))) (sym (append-nil (notes p))) (λ r. plain_rule p r e refl) q))
+      (λ e. meets_if _ (is_binding_name p) _ _
+      (λ b. sound_as s t refl (sym (append-nil (walk (env_of s.code s.scope.labels) p))) (sym (append-nil (notes p))) (λ r. plain_rule p r e b refl) q)
+      (λ _. reject_meets _ _ t)))
 
   -- the declarators so far, and all
   abbrev DeclaratorsSoFar : State → List Tree → State → Type 0
@@ -527,7 +472,7 @@ script_is n s x t ((f, keeps, p), e) =
 pub stmt_sound : (n : ℕ) (at : Position) (s : State) → Meets (λ x t. SoundTree (λ k. ReadsStmt n k at) s x t) (stmt n at s)
 unfolding stmt
 stmt_sound zero at s = too_deep_meets _ s
-stmt_sound (suc n) at s = level_sound (ReadsStmt n) (ReadsClass n) (ReadsPat n) (stmt n) (expr n) (pat n) (stmt_sound n) (expr_sound n) (pat_sound n) at s
+stmt_sound (suc n) at s = level_sound (ReadsStmt n) (ReadsClass n) (ReadsPat n) (stmt n) (expr n) (pattern n) (stmt_sound n) (expr_sound n) (pattern_sound n) at s
 
 -- a first line and statements up to the end
 body_sound : (n : ℕ) (s : State) → Meets (SoundBody n s) (script_body n s)
@@ -573,7 +518,13 @@ expr_code n class s x t e =
 pub cover_code : (n : ℕ) (s : State) (v : Cover) (t : State) → cover n s ≡ Ok (v, t) → t.code ≡ s.code
 cover_code n s v t e = let p : SoundCover n s v t = meant (λ y u. SoundCover n s y u) Refuses (cover n s) (Ok (v, t)) e (cover_sound n s) in p.code
 
-pub declarators_code : (n : ℕ) (s : State) (xs : List Tree) (t : State) → declarators (expr n) (pat n) s ≡ Ok (xs, t) → t.code ≡ s.code
+pub pattern_code : (n : ℕ) (s : State) (x : Tree) (t : State) → pattern n s ≡ Ok (x, t) → t.code ≡ s.code
+pattern_code n s x t e = let p : SoundTree (ReadsPat n) s x t = meant (λ y u. SoundTree (ReadsPat n) s y u) Refuses (pattern n s) (Ok (x, t)) e (pattern_sound n s) in p.code
+
+pub element_code : (n : ℕ) (s : State) (x : Tree) (t : State) → element n s ≡ Ok (x, t) → t.code ≡ s.code
+element_code n s x t e = let p : SoundTree (ReadsElement n) s x t = meant (λ y u. SoundTree (ReadsElement n) s y u) Refuses (element n s) (Ok (x, t)) e (element_sound n s) in p.code
+
+pub declarators_code : (n : ℕ) (s : State) (xs : List Tree) (t : State) → declarators (expr n) (pattern n) s ≡ Ok (xs, t) → t.code ≡ s.code
 declarators_code n s xs t e =
-    let P : List Tree → State → Type 0 = Declarators (ReadsClass n) (ReadsPat n) (expr n) (pat n) (expr_sound n) (pat_sound n) s in
-    let p : P xs t = meant P Refuses (declarators (expr n) (pat n) s) (Ok (xs, t)) e (declarators_sound (ReadsClass n) (ReadsPat n) (expr n) (pat n) (expr_sound n) (pat_sound n) s) in p.code
+    let P : List Tree → State → Type 0 = Declarators (ReadsClass n) (ReadsPat n) (expr n) (pattern n) (expr_sound n) (pattern_sound n) s in
+    let p : P xs t = meant P Refuses (declarators (expr n) (pattern n) s) (Ok (xs, t)) e (declarators_sound (ReadsClass n) (ReadsPat n) (expr n) (pattern n) (expr_sound n) (pattern_sound n) s) in p.code

@@ -11,7 +11,7 @@ use Rattle.swc_ecma_parser_input.specs.Place.{Place}
 use Rattle.swc_ecma_parser_model.specs.declared.leaves.VarDeclKind.TheVariants as decl
 use Rattle.swc_ecma_parser_model.specs.Tree as tree
 use Rattle.swc_ecma_parser_model.specs.Tree.{Tree, Text, listed}
-use Rattle.swc_ecma_parser_model.specs.Forms.{is_ident, is_ident_named, span_of}
+use Rattle.swc_ecma_parser_model.specs.Forms.{is_ident, is_ident_named, is_binding_name, span_of}
 use Rattle.swc_ecma_parser_grammar.specs.declared.position.Position.{Position}
 use Rattle.swc_ecma_parser_grammar.specs.Looks.{kind_at, sees, span_at}
 use Rattle.swc_ecma_parser_grammar.specs.Follows.{may_begin_expression_statement}
@@ -19,18 +19,8 @@ use Rattle.swc_ecma_parser_grammar.specs.Reads.{with_in, directed, nested_item, 
 use Rattle.swc_ecma_parser_grammar.specs.Entries.{script_code}
 use Rattle.swc_ecma_parser_grammar.specs.language.Goals.{Class, expression, assignment}
 use Rattle.swc_ecma_parser_reader.specs.Expressions.{expr, span_here, since}
-use Rattle.swc_ecma_parser_reader.specs.State.{Reader, ◌>>=◌, ◌>>◌, pure, here, skip, moved, spanned_from, coded, flagged, within, fault, fault_at, module_fault, wanted, too_deep, end, name, Step, More, Done, loop}
-
--- ---- binding patterns
-
-unfoldable pub binding : Reader Tree
-binding = do
-  i ← name faults.ExpectedIdent
-  pure (tree.ident_pat i.span i.sym)
-
-unfoldable pub pat : ℕ → Reader Tree
-pat zero = too_deep
-pat (suc n) = binding
+use Rattle.swc_ecma_parser_reader.specs.Patterns.{pattern}
+use Rattle.swc_ecma_parser_reader.specs.State.{Reader, ◌>>=◌, ◌>>◌, pure, here, skip, moved, spanned_from, coded, flagged, within, fault, fault_at, module_fault, wanted, too_deep, reject, end, Step, More, Done, loop}
 
 -- ---- statements
 
@@ -49,10 +39,14 @@ debugger = do
   span ← spanned_from start
   pure (tree.debugger span)
 
+-- without initializer a plain name alone may stand
+abbrev pub uninitialized : Span → Tree → Reader Tree
+uninitialized span p = λ s. if is_binding_name p then Ok (tree.declarator span p tree.absent, s) else reject (fault_at span faults.PatVarWithoutInit) s
+
 abbrev pub bare_declarator : Span → Tree → Reader Tree
 bare_declarator start p = do
   span ← since start
-  pure (tree.declarator span p tree.absent)
+  uninitialized span p
 
 module _ (expr : Class → Reader Tree) (pat : Reader Tree) where
   -- `=` and what a name is given
@@ -158,7 +152,7 @@ module _ (stmt : Position → Reader Tree) (expr : Class → Reader Tree) (pat :
 -- a statement in so many levels
 unfoldable pub stmt : ℕ → Position → Reader Tree
 stmt zero at = too_deep
-stmt (suc n) at = stmt_level (stmt n) (expr n) (pat n) at
+stmt (suc n) at = stmt_level (stmt n) (expr n) (pattern n) at
 
 -- ---- a script
 

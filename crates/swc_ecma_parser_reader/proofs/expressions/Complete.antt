@@ -47,7 +47,8 @@ use Rattle.swc_ecma_parser_reader.proofs.expressions.Targets.{leaf_supported, le
 use Rattle.swc_ecma_parser_reader.proofs.expressions.Covers as covers
 use Rattle.swc_ecma_parser_reader.proofs.expressions.Covers.{met, begins_literal, is_literal, opened, opened_literal, Assigns, Becomes, cover_is, open_cover, assigns_cover, operators_cover}
 use Rattle.swc_ecma_parser_reader.proofs.expressions.CompleteKinds.{refuted, supported_as, seen, begins, element_begins, ends_part, ended_at, ended_stops, ended_continues, no_async_function, left_first, operand_plain, operand_update, update_plain, operator_stops, assign_stops, question_stops, stops_unary, unary_stops, stopped, update_seen, postfix_seen, assign_seen, unassigned_at}
-use Rattle.swc_ecma_parser_reader.proofs.expressions.CompleteParts.{shorter_by, expect_reads, AsExpr, AsElement, AsTarget, IsRead, inside_reads}
+use Rattle.swc_ecma_parser_reader.proofs.expressions.Loops.{shorter_by}
+use Rattle.swc_ecma_parser_reader.proofs.expressions.CompleteParts.{expect_reads, AsExpr, AsElement, AsTarget, IsRead, inside_reads}
 use Rattle.swc_ecma_parser_reader.proofs.expressions.CompleteCovers.{AsLiteral, array_pattern, object_pattern}
 use Rattle.swc_ecma_parser_reader.proofs.expressions.CompleteLefts.{left_reads}
 
@@ -590,7 +591,7 @@ module _ (n : ℕ) (given : IsRead (language.Reads n) (expr n) (cover n)) where
   level_targets k p c d r s t w f h = target_reads (language.Reads n) (expr n) (cover n) given (with_in k) p c d r s t w f h
 
 -- what is read within so many levels
-is_read : (n : ℕ) → IsRead (language.Reads n) (expr n) (cover n)
+pub is_read : (n : ℕ) → IsRead (language.Reads n) (expr n) (cover n)
 is_read zero = record {
   reads = λ class k x c d r s. absurd r;
   calls = λ k x c d r e s. absurd r;
@@ -612,7 +613,7 @@ is_read (suc n) = let given = is_read n in record {
   exprs = level_exprs n given;
   elements = level_elements n given;
   targets = level_targets n given;
-  begins_element = element_begins (suc n);
+  begins_element = element_begins assigning (suc n);
   cover_falls = cover_falls (suc n);
 }
 

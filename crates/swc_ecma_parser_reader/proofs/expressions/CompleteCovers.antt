@@ -17,7 +17,7 @@ use Rattle.swc_ecma_parser_grammar.specs.Reads.{with_in}
 use Rattle.swc_ecma_parser_grammar.specs.Notes.{notes, all_notes}
 use Rattle.swc_ecma_parser_grammar.specs.Walk.{env_of, walk, walks}
 use Rattle.swc_ecma_parser_grammar.specs.Supported.{supported, is_supported_key, all_supported}
-use Rattle.swc_ecma_parser_grammar.specs.language.Goals.{Goal, Class, assignment, assigning, expr_goal, element_goal, pattern_goal}
+use Rattle.swc_ecma_parser_grammar.specs.language.Goals.{Goal, Class, assignment, Purpose, assigning, expr_goal, element_goal, pattern_goal}
 use Rattle.swc_ecma_parser_grammar.specs.language.Lists.{ReadsListed, LastComma, no_comma, last_comma, Elements, no_elements, hole, last_element, more_elements}
 use Rattle.swc_ecma_parser_grammar.specs.language.Parts as parts
 use Rattle.swc_ecma_parser_grammar.specs.language.Parts.{ReadsName, ReadsWord, ElementRule, KeyRule}
@@ -36,7 +36,8 @@ use Rattle.swc_ecma_parser_reader.proofs.Takes.{moves, takes}
 use Rattle.swc_ecma_parser_reader.proofs.Steps.{loop_more, loop_done}
 use Rattle.swc_ecma_parser_reader.proofs.expressions.Falls.{item_falls, property_falls}
 use Rattle.swc_ecma_parser_reader.proofs.expressions.CompleteKinds.{refuted, supported_as, seen, name_is_name, key_begins, begin_seen, ends_part, ended_at}
-use Rattle.swc_ecma_parser_reader.proofs.expressions.CompleteParts.{shorter_by, expect_reads, AsExpr, AsElement, AsTarget, IsRead, Behind, behind_last, inside_reads, element_begins, key_reads, shorthand_reads}
+use Rattle.swc_ecma_parser_reader.proofs.expressions.Loops.{shorter_by}
+use Rattle.swc_ecma_parser_reader.proofs.expressions.CompleteParts.{expect_reads, AsExpr, AsElement, AsTarget, IsRead, Behind, behind_last, inside_reads, element_begins, key_reads, shorthand_reads}
 
 -- ---- what is found so far
 
@@ -99,7 +100,7 @@ AsLiteral p c d v = (as_target v.x ≡ Some p) × (as_element v.x ≡ Some p) ×
 
 -- ---- the last part, which may be a rest
 
-rest_ends : (x : Tree) (m d : Place) → is_rest x ≡ true → LastComma true x m d → d ≡ m
+pub rest_ends : (x : Tree) (m d : Place) → is_rest x ≡ true → LastComma true x m d → d ≡ m
 rest_ends x m d e (no_comma i) = i
 rest_ends x m d e (last_comma a i j) = absurd (let h : (true && not (is_rest x)) ≡ false = rw e refl in cc)
 
@@ -434,7 +435,7 @@ module _ (In : Goal → Type 0) (inner : Class → Reader Tree) (cover : Reader 
         is = rw (seen c kind.DotDotDot o, v.is) refl;
       }
 
-  word_of : (k : Code) (text : Text) (sp : Span) (c d : Place) → ReadsName k text sp c d → ReadsWord text sp c d
+  pub word_of : (k : Code) (text : Text) (sp : Span) (c d : Place) → ReadsName k text sp c d → ReadsWord text sp c d
   word_of k text sp c d r = record { word = r.word; reads_word = r.reads_word; is_text = r.is_text }
 
   property_reads : (k : Code) (x : Tree) (c d : Place) → PropertyRule In k x c d → supported x ≡ true → ends_part (kind_at d) ≡ true → ReadsAs (AsExpr x) (property inner cover) k x c d
@@ -577,7 +578,7 @@ module _ (In : Goal → Type 0) (inner : Class → Reader Tree) (cover : Reader 
   rest_property_or k p c d (patterns.rest_rule y o r n e) = inr (record { y = y; dots = o; reads_rest = r; plain = n; is = e })
 
   -- brackets, braces and parentheses in a key change nothing
-  key_outside : (k : Code) (y : Tree) (c d : Place) → KeyRule In (with_in k) y c d → KeyRule In k y c d
+  pub key_outside : (k : Code) (y : Tree) (c d : Place) → KeyRule In (with_in k) y c d → KeyRule In k y c d
   key_outside k y c d (parts.word_key text sp r e) = parts.word_key text sp r e
   key_outside k y c d (parts.string_key value raw sp r e) = parts.string_key value raw sp r e
   key_outside k y c d (parts.number_key raw sp r e) = parts.number_key raw sp r e
@@ -586,7 +587,7 @@ module _ (In : Goal → Type 0) (inner : Class → Reader Tree) (cover : Reader 
       parts.computed_key (record { key = r.key; close = r.close; opens = r.opens; reads_key = r.reads_key; closes = r.closes; next = r.next; is = r.is })
 
   -- a name that stands there
-  name_there : (k : Code) (text : Text) (sp : Span) (c d : Place) → ReadsName (with_in k) text sp c d → supported (tree.ident sp text) ≡ true → is_name k.flags text ≡ true
+  pub name_there : (k : Code) (text : Text) (sp : Span) (c d : Place) → ReadsName (with_in k) text sp c d → supported (tree.ident sp text) ≡ true → is_name k.flags text ≡ true
   name_there k text sp c d r s = sym (name_inside k text) ∙ ap (is_name (with_in k).flags) r.is_text ∙ name_is_name (with_in k) text sp c d r s
 
   part_property : (k : Code) (p : Tree) (c d : Place) → PatternPropertyRule In assigning (with_in k) p c d → is_rest p ≡ false → supported p ≡ true → ends_part (kind_at d) ≡ true
@@ -607,7 +608,8 @@ module _ (In : Goal → Type 0) (inner : Class → Reader Tree) (cover : Reader 
       rw g (initialized_part text sp z m k c d (word_of (with_in k) text sp c m r) (name_there k text sp c m r t.0) i v t.1 w f h)
   part_property k p c d (patterns.rest_rule y o r n e) a s q w f h = absurd (let b : is_rest p ≡ true = ap is_rest e in cc)
 
-  part_begins : (k : Code) (p : Tree) (c d : Place) → PatternPropertyRule In assigning k p c d → is_rest p ≡ false → (sees kind.RBrace c ≡ false) × (sees kind.DotDotDot c ≡ false)
+  pub part_begins : {purpose : Purpose} (k : Code) (p : Tree) (c d : Place) → PatternPropertyRule In purpose k p c d → is_rest p ≡ false
+      → (sees kind.RBrace c ≡ false) × (sees kind.DotDotDot c ≡ false)
   part_begins k p c d (patterns.key_value_rule y z m r i v g) a = key_begins In k y c m r
   part_begins k p c d (patterns.shorthand_rule text sp r n g) a = key_begins In k (tree.ident sp text) c d (parts.word_key text sp (word_of k text sp c d r) refl)
   part_begins k p c d (patterns.default_rule text sp z m r i v g) a = key_begins In k (tree.ident sp text) c m (parts.word_key text sp (word_of k text sp c m r) refl)

@@ -30,7 +30,7 @@ use Rattle.swc_ecma_parser_grammar.specs.Names.{Code, is_reserved, is_name, is_i
 use Rattle.swc_ecma_parser_grammar.specs.Follows.{continues_left_side, word_at, is_async_function}
 use Rattle.swc_ecma_parser_grammar.specs.Reads.{ReadsToken}
 use Rattle.swc_ecma_parser_grammar.specs.Supported.{supported}
-use Rattle.swc_ecma_parser_grammar.specs.language.Goals.{Goal, assigning, expr_goal, element_goal, assignment}
+use Rattle.swc_ecma_parser_grammar.specs.language.Goals.{Goal, Purpose, expr_goal, element_goal, assignment}
 use Rattle.swc_ecma_parser_grammar.specs.language.Operators.{unary_operator, update_operator, binary_operator, assign_operator}
 use Rattle.swc_ecma_parser_grammar.specs.language.Continues.{continues_unary, is_operation, continues_operand, continues_head, continues_conditional, continues_assignment}
 use Rattle.swc_ecma_parser_grammar.specs.language.Parts as parts
@@ -383,17 +383,21 @@ module _ (In : Goal → Type 0) where
   binary_first k n x c d (rules.left_rule op y z m b g i r o s u v e) h = binary_first k _ y c m r (and_yes (supported y) _ (supported_as x (tree.bin (spanned c d) op y z) e h)).0
   binary_first k n x c d (rules.power_rule y z m b r u i s e) h = unary_first k y c m r (and_yes (supported y) _ (supported_as x (tree.bin (spanned c d) _ y z) e h)).0
 
-  -- a pattern begins as an operand does, or with its bracket or brace
-  pattern_first : (k : Code) (x : Tree) (c d : Place) → PatternRule In assigning k x c d → supported x ≡ true → begin_kind (kind_at c) ≡ true
-  pattern_first k x c d (patterns.binding_name_rule text s p r e) h = cc
-  pattern_first k x c d (patterns.target_name_rule text s p a r e) h =
+  -- a name that is bound or assigned to begins as an operand does
+  name_first : (k : Code) (x : Tree) (text : Text) (s : Span) (c d : Place) → ReadsName k text s c d → x ≡ tree.ident_pat s text → supported x ≡ true → begin_kind (kind_at c) ≡ true
+  name_first k x text s c d r e h =
       let n = name_is_name k text s c d r (supported_as x (tree.ident_pat s text) e h) in
       operand_begins (kind_at c) (primary_operand (kind_at c) (token_primary (token.Word r.word) s c d r.reads_word (word_primary k.flags r.word n)))
+
+  -- a pattern begins as an operand does, or with its bracket or brace
+  pattern_first : {purpose : Purpose} (k : Code) (x : Tree) (c d : Place) → PatternRule In purpose k x c d → supported x ≡ true → begin_kind (kind_at c) ≡ true
+  pattern_first k x c d (patterns.binding_name_rule text s p r e) h = name_first k x text s c d r e h
+  pattern_first k x c d (patterns.target_name_rule text s p a r e) h = name_first k x text s c d r e h
   pattern_first k x c d (patterns.target_rule y p r t i e) h = operand_begins (kind_at c) (left_first k y c d r.0 (supported_as x (tree.expr_pat y) e h))
   pattern_first k x c d (patterns.array_rule xs m i r j n e) h = rw i refl
   pattern_first k x c d (patterns.object_rule xs m i r j n e) h = rw i refl
 
-  element_first : (k : Code) (x : Tree) (c d : Place) → PatternElementRule In assigning k x c d → supported x ≡ true → begin_kind (kind_at c) ≡ true
+  element_first : {purpose : Purpose} (k : Code) (x : Tree) (c d : Place) → PatternElementRule In purpose k x c d → supported x ≡ true → begin_kind (kind_at c) ≡ true
   element_first k x c d (patterns.bare_rule r e) h = pattern_first k x c d r h
   element_first k x c d (patterns.initialized_rule y z m r i v e) h = pattern_first k y c m r (and_yes (supported y) _ (supported_as x (tree.assign_pat (spanned c d) y z) e h)).0
 
@@ -413,9 +417,9 @@ pub begins : (n : ℕ) (k : Code) (x : Tree) (c d : Place) → language.Reads n 
 begins zero k x c d r h = absurd r
 begins (suc n) k x c d r h = assignment_first (language.Reads n) k x c d r h
 
-pub element_begins : (n : ℕ) (k : Code) (x : Tree) (c d : Place) → language.Reads n (element_goal assigning k x c d) → supported x ≡ true → begin_kind (kind_at c) ≡ true
-element_begins zero k x c d r h = absurd r
-element_begins (suc n) k x c d r h = element_first (language.Reads n) k x c d r h
+pub element_begins : (purpose : Purpose) (n : ℕ) (k : Code) (x : Tree) (c d : Place) → language.Reads n (element_goal purpose k x c d) → supported x ≡ true → begin_kind (kind_at c) ≡ true
+element_begins purpose zero k x c d r h = absurd r
+element_begins purpose (suc n) k x c d r h = element_first (language.Reads n) k x c d r h
 
 -- ---- the token behind
 

@@ -1,6 +1,6 @@
 -- The parts of the language that expressions share are read, with the faults of the walk and the notes held back, and no others:
 -- tokens, accesses, arguments and keys.
-use Rattle.std.proofs.Common.{◌≡◌, ℕ, ◌<◌, ◌⊎◌, inl, inr, true, false, List, [], ◌∷◌, ◌++◌, length, Some, None, Ok, refl, sym, ◌∙◌, ap, subst, arith, append_assoc, append-nil}
+use Rattle.std.proofs.Common.{◌≡◌, ◌<◌, ◌⊎◌, inl, inr, true, false, List, [], ◌∷◌, ◌++◌, length, Some, None, Ok, refl, sym, ◌∙◌, ap, arith, append_assoc, append-nil}
 use Rattle.std.specs.Prelude.{◌||◌}
 use Rattle.swc_ecma_parser_common.specs.declared.span.Span.{Span}
 use Rattle.swc_ecma_parser_error.specs.Kind.{Kind, Fault}
@@ -27,18 +27,14 @@ use Rattle.swc_ecma_parser_grammar.specs.language.Lists.{ReadsListed, LastComma,
 use Rattle.swc_ecma_parser_grammar.specs.language.Parts as parts
 use Rattle.swc_ecma_parser_grammar.specs.language.Parts.{ReadsWord, PrivateRule, AccessRule, is_private, ElementRule, ArgumentsRule, ComputedRule, KeyRule}
 use Rattle.swc_ecma_parser_grammar.proofs.Tests.{and_yes, and_no}
-use Rattle.swc_ecma_parser_reader.specs.State.{Scope, State, Outcome, Reader, expect, name, loop}
-use Rattle.swc_ecma_parser_reader.specs.Expressions.{Cover, literal_of, literal_in, literal, any_word, touching_word, private_name, word_property, token_is_word, literal_key, shorthand_name, shorthand, dotted, has_private, inside, brackets, access, spread_element, plain_element, element, arguments_turn, arguments, elements, computed_key, key, left}
+use Rattle.swc_ecma_parser_reader.specs.State.{Scope, State, Reader, expect, name, loop}
+use Rattle.swc_ecma_parser_reader.specs.Expressions.{Cover, literal_of, literal_in, literal, any_word, touching_word, private_name, word_property, token_is_word, literal_key, shorthand_name, shorthand, dotted, has_private, inside, brackets, access, spread_element, plain_element, element, arguments_turn, arguments, computed_key, key}
 use Rattle.swc_ecma_parser_reader.proofs.Answered.{st, Reads, ReadsAs}
 use Rattle.swc_ecma_parser_reader.proofs.Takes.{Falls, moves}
 use Rattle.swc_ecma_parser_reader.proofs.Steps.{loop_more, loop_done}
 use Rattle.swc_ecma_parser_reader.proofs.expressions.Falls.{element_falls}
+use Rattle.swc_ecma_parser_reader.proofs.expressions.Loops.{shorter_by}
 use Rattle.swc_ecma_parser_reader.proofs.expressions.CompleteKinds.{supported_as, seen, token_first, touching, no_hash, worded, bracket_here, begin_kind, begin_seen, ends_part}
-
--- ---- what takes a token leaves fewer
-
-pub shorter_by : {A : Type 0} (n : ℕ) (o : Outcome A) (x : A) (t : State) → o ≡ Ok (x, t) → Falls 1 n o → length t.at.left < n
-shorter_by n o x t e h = let k : Falls 1 n (Ok (x, t)) = subst (Falls 1 n) e h in omega arith
 
 -- ---- fixed tokens, names and words
 

@@ -6,7 +6,6 @@ use Rattle.swc_ecma_parser_token.specs.declared.kind.TokenKind.{TokenKind}
 use Rattle.swc_ecma_parser_token.specs.declared.kind.TokenKind.TheVariants as kind
 use Rattle.swc_ecma_parser_token.specs.declared.token.Token.{Token}
 use Rattle.swc_ecma_parser_token.specs.declared.token.Token.TheVariants as token
-use Rattle.swc_ecma_parser_token.specs.declared.token.Word.{Word}
 use Rattle.swc_ecma_parser_token.specs.declared.token.Word.TheVariants as word
 use Rattle.swc_ecma_parser_token.specs.declared.token.TokenAndSpan.{TokenAndSpan}
 use Rattle.swc_ecma_parser_token.specs.Kind.{token_kind}

@@ -49,7 +49,7 @@ reject_falls A j n f s = reject_from A j n f s s.at.left
 
 -- ---- a token of a known kind is taken
 
-no_end : (s : State) (k : TokenKind) → k ≢ kind.End → sees k s.at ≡ true → kind_at s.at ≢ kind.End
+pub no_end : (s : State) (k : TokenKind) → k ≢ kind.End → sees k s.at ≡ true → kind_at s.at ≢ kind.End
 no_end s k h e = λ g. h (sym (saw s.at k e) ∙ g)
 
 -- ---- words
@@ -159,7 +159,7 @@ unfolding target
 target_falls v s = target_or_falls v.x (cond v.comma None (as_target v.x)) s
 
 -- a test that says something of the token that stands first
-falls_when : {A : Type 0} (k n : ℕ) (b : Bool) (x y : Outcome A) → (b ≡ true → Falls k n x) → (b ≡ false → Falls k n y) → Falls k n (cond b x y)
+pub falls_when : {A : Type 0} (k n : ℕ) (b : Bool) (x y : Outcome A) → (b ≡ true → Falls k n x) → (b ≡ false → Falls k n y) → Falls k n (cond b x y)
 falls_when k n true x y f g = f refl
 falls_when k n false x y f g = g refl
 
@@ -232,7 +232,7 @@ module _ (inner : Class → Reader Tree) (cover : Reader Cover) (h : (class : Cl
   computed_key_falls s = falls_moved 1 s _ (falls_next (length (after s.at).left) (inside inner cover assignment (moved s)) _ (inside_falls assignment (moved s)) (λ e t.
       falls_last 0 (length t.at.left) (expect kind.RBracket t) _ (expect_falls kind.RBracket t)))
 
-  key_falls : (s : State) → Falls 1 (length s.at.left) (key inner cover s)
+  pub key_falls : (s : State) → Falls 1 (length s.at.left) (key inner cover s)
   unfolding key word_property
   key_falls s = falls_if 1 (length s.at.left) (is_word_at s.at) _ _ (falls_last 1 (length s.at.left) (any_word s) _ (any_word_falls s))
       (falls_if 1 (length s.at.left) (sees kind.LBracket s.at) _ _ (computed_key_falls s) (literal_key_falls s))

@@ -45,7 +45,7 @@ no_end_by f k x n h = λ e. let g : Some x ≡ None = sym h ∙ ap f e ∙ n in 
 
 -- ---- answers with fewer tokens are answers with more
 
-kept_more : {A : Type 0} (i m : ℕ) (o : Outcome A) → i ≤ m → Answers (Kept i) Shallow o → Answers (Kept m) Shallow o
+pub kept_more : {A : Type 0} (i m : ℕ) (o : Outcome A) → i ≤ m → Answers (Kept i) Shallow o → Answers (Kept m) Shallow o
 kept_more i m (Ok p) h g = fine_more i m p.1.at.left h g
 kept_more i m (Err e) h g = g
 
@@ -61,7 +61,7 @@ module _ {A : Type 0} (P : A → State → Type 0) (k : Kind) (span : Span) (oth
   reject_in_shallow [] h = other
   reject_in_shallow (u ∷ ts) h = reject_at_shallow u ts u.token h refl
 
-  reject_shallow : Answers P Shallow (reject (fault_at span k) s)
+  pub reject_shallow : Answers P Shallow (reject (fault_at span k) s)
   unfolding reject
   reject_shallow = reject_in_shallow s.at.left refl
 
@@ -72,7 +72,7 @@ unassignable_shallow _ e = cc
 -- ---- steps that read nothing further in
 
 module _ (m : ℕ) (s : State) (f : Fine m s.at.left) where
-  unexpected_shallow : {A : Type 0} (P : A → State → Type 0) → Answers P Shallow (wanted faults.Unexpected s)
+  pub unexpected_shallow : {A : Type 0} (P : A → State → Type 0) → Answers P Shallow (wanted faults.Unexpected s)
   unexpected_shallow P = wanted_shallow P faults.Unexpected (λ e. cc) m s f
 
   taken_shallow : (o : Option Tree) → Answers (Kept m) Shallow (taken o s)
@@ -187,7 +187,7 @@ behind_operand_shallow m start x (Some op) s f = update_behind_shallow m start x
 -- ---- what is read one level further in
 
 module _ (inner : Class → Reader Tree) (cover : Reader Cover) (n : ℕ) (below : (class : Class) → Levels n (inner class)) (below_cover : Levels n cover) where
-  inside_shallow : (class : Class) (i : ℕ) (s : State) → 2 * i ≤ n → Fine i s.at.left → Answers (Kept i) Shallow (inside inner cover class s)
+  pub inside_shallow : (class : Class) (i : ℕ) (s : State) → 2 * i ≤ n → Fine i s.at.left → Answers (Kept i) Shallow (inside inner cover class s)
   unfolding inside
   inside_shallow class i s h f = answers_then (Kept i) _ (inner class (coded (with_in s.code) s)) _ (below class i (coded (with_in s.code) s) h f) (λ x t k. k)
 
@@ -231,7 +231,7 @@ module _ (inner : Class → Reader Tree) (cover : Reader Cover) (n : ℕ) (below
   computed_key_shallow i s h f = answers_then _ _ (inside inner cover assignment (moved s)) _ (inside_shallow assignment i (moved s) h (fine_after i s.at f)) (λ x t k.
       answers_then _ _ (expect kind.RBracket t) _ (expect_shallow i t k kind.RBracket) (λ _ u j. j))
 
-  key_shallow : (i : ℕ) (s : State) → 2 * i ≤ n → Fine i s.at.left → Answers (Kept i) Shallow (key inner cover s)
+  pub key_shallow : (i : ℕ) (s : State) → 2 * i ≤ n → Fine i s.at.left → Answers (Kept i) Shallow (key inner cover s)
   unfolding key word_property
   key_shallow i s h f = answers_if _ _ (is_word_at s.at) _ _ (λ _. answers_then _ _ (any_word s) _ (any_word_shallow i s f) (λ x t k. k))
       (λ _. answers_if _ _ (sees kind.LBracket s.at) _ _ (λ _. computed_key_shallow i s h f) (λ _. literal_key_shallow i s f))

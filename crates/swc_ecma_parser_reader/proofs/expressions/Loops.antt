@@ -20,11 +20,11 @@ use Rattle.swc_ecma_parser_reader.proofs.Meets.{saw}
 
 -- ---- what takes a token leaves fewer
 
-shorter_by : {A : Type 0} (n : ℕ) (o : Outcome A) (x : A) (t : State) → o ≡ Ok (x, t) → Falls 1 n o → length t.at.left < n
+pub shorter_by : {A : Type 0} (n : ℕ) (o : Outcome A) (x : A) (t : State) → o ≡ Ok (x, t) → Falls 1 n o → length t.at.left < n
 shorter_by n o x t e h = let k : Falls 1 n (Ok (x, t)) = subst (Falls 1 n) e h in omega arith
 
 -- what puts none back leaves no more
-kept_by : {A : Type 0} (m n : ℕ) (o : Outcome A) (x : A) (t : State) → o ≡ Ok (x, t) → Falls 0 n o → n < m → length t.at.left < m
+pub kept_by : {A : Type 0} (m n : ℕ) (o : Outcome A) (x : A) (t : State) → o ≡ Ok (x, t) → Falls 0 n o → n < m → length t.at.left < m
 kept_by m n o x t e h l = let k : Falls 0 n (Ok (x, t)) = subst (Falls 0 n) e h in omega arith
 
 pub cover_shorter : (n : ℕ) (s : State) (v : Cover) (t : State) → cover n s ≡ Ok (v, t) → length t.at.left < length s.at.left
@@ -223,7 +223,7 @@ module _ (n : ℕ) (found : List Tree) (s : State) where
 
 -- ---- levels, where a number is 0 or not
 
-deeper : {X : Type 0} (f : ℕ → X) (n : ℕ) → 0 < n → f n ≡ f (suc (n - 1))
+pub deeper : {X : Type 0} (f : ℕ → X) (n : ℕ) → 0 < n → f n ≡ f (suc (n - 1))
 deeper f n some = let e : n ≡ suc (n - 1) = omega arith in ap f e
 
 pub expr_lowest : (n : ℕ) (class : Class) (s : State) → n ≡ 0 → expr n class s ≡ too_deep s

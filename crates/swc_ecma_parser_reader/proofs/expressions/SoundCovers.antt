@@ -82,7 +82,7 @@ word_spanned text span c d r =
     sym (λ i. record { lo = (a i).lo; hi = (b i).hi })
 
 -- a key that is a name is a word
-ident_key : (In : Goal → Type 0) (k : Code) (span : Span) (text : Text) (c d : Place) → KeyRule In k (tree.ident span text) c d → ReadsWord text span c d
+pub ident_key : (In : Goal → Type 0) (k : Code) (span : Span) (text : Text) (c d : Place) → KeyRule In k (tree.ident span text) c d → ReadsWord text span c d
 ident_key In k span text c d (parts.word_key v i r e) = let a : text ≡ v = cc in let b : span ≡ i = cc in rw (a, b) r
 ident_key In k span text c d (parts.string_key value raw i r e) = cc
 ident_key In k span text c d (parts.number_key raw i r e) = cc
@@ -90,7 +90,7 @@ ident_key In k span text c d (parts.big_int_key raw i r e) = cc
 ident_key In k span text c d (parts.computed_key r) = let e = r.is in cc
 
 -- a key is read alike where `in` is an operator
-key_inside : (In : Goal → Type 0) (k : Code) (x : Tree) (c d : Place) → KeyRule In k x c d → KeyRule In (with_in k) x c d
+pub key_inside : (In : Goal → Type 0) (k : Code) (x : Tree) (c d : Place) → KeyRule In k x c d → KeyRule In (with_in k) x c d
 key_inside In k x c d (parts.word_key text s r e) = parts.word_key text s r e
 key_inside In k x c d (parts.string_key value raw s r e) = parts.string_key value raw s r e
 key_inside In k x c d (parts.number_key raw s r e) = parts.number_key raw s r e
@@ -99,10 +99,10 @@ key_inside In k x c d (parts.computed_key r) =
     parts.computed_key (record { key = r.key; close = r.close; opens = r.opens; reads_key = r.reads_key; closes = r.closes; next = r.next; is = r.is })
 
 -- a word that is free is a name
-free_name : (k : Code) (text : Text) (span : Span) (c d : Place) → ReadsWord text span c d → is_name k.flags text ≡ true → ReadsName k text span c d
+pub free_name : (k : Code) (text : Text) (span : Span) (c d : Place) → ReadsWord text span c d → is_name k.flags text ≡ true → ReadsName k text span c d
 free_name k text span c d r e = record { word = r.word; reads_word = r.reads_word; is_text = r.is_text; is_name = name_is_clean k.flags text e }
 
-name_inside : (k : Code) (text : Text) (span : Span) (c d : Place) → ReadsName k text span c d → ReadsName (with_in k) text span c d
+pub name_inside : (k : Code) (text : Text) (span : Span) (c d : Place) → ReadsName k text span c d → ReadsName (with_in k) text span c d
 unfolding is_clean_name is_identifier is_reserved
 name_inside k text span c d r = record { word = r.word; reads_word = r.reads_word; is_text = r.is_text; is_name = r.is_name }
 
@@ -326,10 +326,10 @@ module _ (n : ℕ) (inner : Class → Reader Tree) (cover : Reader Cover) (sound
 
   -- ---- properties
 
-  abbrev Key : Code → Tree → Place → Place → Type 0
+  abbrev pub Key : Code → Tree → Place → Place → Type 0
   Key k x c d = KeyRule (Reads n) k x c d × (is_supported_key x ≡ true)
 
-  abbrev SoundKey : State → Tree → State → Type 0
+  abbrev pub SoundKey : State → Tree → State → Type 0
   SoundKey s x t = SoundTree Key s x t
 
   computed_key_sound : (s : State) → kind_at s.at ≡ kind.LBracket → Meets (SoundKey s) (computed_key inner cover s)
@@ -367,7 +367,7 @@ module _ (n : ℕ) (inner : Class → Reader Tree) (cover : Reader Cover) (sound
   unfolding literal_key literal is_word_at
   literal_key_sound s g = meets_then _ (taken (literal_in s.at.left) s) _ (key_in_sound s s.at.left refl g) (λ o t p. key_or_sound s o t p)
 
-  key_sound : (s : State) → Meets (SoundKey s) (key inner cover s)
+  pub key_sound : (s : State) → Meets (SoundKey s) (key inner cover s)
   unfolding key word_property
   key_sound s = meets_if _ (is_word_at s.at) _ _
       (λ _. meets_then _ (any_word s) _ (any_word_sound s) (λ i t p. sound_as s t refl refl refl (λ r. (parts.word_key i.sym i.span r refl, refl)) p))

@@ -82,6 +82,22 @@ module _ (L : List Tree → Place → Place → Type 0) (j : TokenKind) where
 abbrev pub Plain : (List Tree → Place → Place → Type 0) → List Tree → Place → Place → Type 0
 Plain L xs c d = L xs c d × (all_supported (trees xs) ≡ true)
 
+-- a part of a rule
+pub record Target (Rule : Tree → Place → Place → Type 0) (q : Tree) (c d : Place) : Type 0 where
+  pub rule : Rule q c d
+  pub supports : supported q ≡ true
+
+module _ (Rule : Tree → Place → Place → Type 0) (L : List Tree → Place → Place → Type 0) (lists : Lists Rule L) where
+  pub nothing_plain : (c : Place) → Plain L [] c c
+  nothing_plain c = (lists.nothing c, refl)
+
+  module _ (x : Tree) (m i : Place) (r : Target Rule x m i) where
+    pub plain_next : is_rest x ≡ false → kind_at i ≡ kind.Comma → (ys : List Tree) (e : Place) → Plain L ys (after i) e → Plain L (x ∷ ys) m e
+    plain_next h g ys e (l, s) = (lists.next x ys m i e r.rule h g l, and_both (supported x) (all_supported (trees ys)) r.supports s)
+
+    pub plain_last : Plain L (x ∷ []) m i
+    plain_last = (lists.final x m i r.rule, and_both (supported x) true r.supports refl)
+
 -- what they are as patterns
 pub record Changed (L : List Tree → Place → Place → Type 0) (c d : Place) (qs : Trees) : Type 0 where
   pub patterns : List Tree
@@ -91,11 +107,6 @@ pub record Changed (L : List Tree → Place → Place → Type 0) (c d : Place) 
 
 abbrev pub Pattern : (Trees → Option Trees) → (List Tree → Place → Place → Type 0) → List Tree → Place → Place → Type 0
 Pattern change L xs c d = (qs : Trees) → change (trees xs) ≡ Some qs → Changed L c d qs
-
--- a pattern of a rule
-pub record Target (Rule : Tree → Place → Place → Type 0) (q : Tree) (c d : Place) : Type 0 where
-  pub rule : Rule q c d
-  pub supports : supported q ≡ true
 
 -- a part before others is no rest; the last may be
 pub record Part (change : Trees → Option Trees) (Rule : Tree → Place → Place → Type 0) (is_spread : Bool) (x : Tree) (c d : Place) : Type 0 where
@@ -124,25 +135,16 @@ pub record AllRead (L : List Tree → Place → Place → Type 0) (change : Tree
 
 module _ (Rule Other : Tree → Place → Place → Type 0) (change : Trees → Option Trees) (empty : (qs : Trees) → change none ≡ Some qs → qs ≡ none)
     (L K : List Tree → Place → Place → Type 0) (j : TokenKind) (lists : Lists Rule L) (others : Lists Other K) where
-  nothing_plain : (c : Place) → Plain L [] c c
-  nothing_plain c = (lists.nothing c, refl)
-
   nothing_pattern : (c : Place) → Pattern change K [] c c
   nothing_pattern c qs h = record { patterns = []; are = empty qs h; reads = others.nothing c; supports = ap all_supported (empty qs h) }
 
   pub all_read : (c d : Place) (found : Covers) → SoFar L change K j found c d → AllRead L change K found c d
   all_read c d found r = record {
-    plain = λ h. begun_all (Plain L) j c d found.xs (nothing_plain d) (r.plain h);
+    plain = λ h. begun_all (Plain L) j c d found.xs (nothing_plain Rule L lists d) (r.plain h);
     pattern = λ h. begun_all (Pattern change K) j c d found.xs (nothing_pattern d) (r.pattern h);
   }
 
   module _ (x : Tree) (m i : Place) where
-    plain_next : Target Rule x m i → is_rest x ≡ false → kind_at i ≡ kind.Comma → (ys : List Tree) (e : Place) → Plain L ys (after i) e → Plain L (x ∷ ys) m e
-    plain_next r h g ys e (l, s) = (lists.next x ys m i e r.rule h g l, and_both (supported x) (all_supported (trees ys)) r.supports s)
-
-    plain_last : Target Rule x m i → Plain L (x ∷ []) m i
-    plain_last r = (lists.final x m i r.rule, and_both (supported x) true r.supports refl)
-
     pattern_next : Part change Other false x m i → kind_at i ≡ kind.Comma → (ys : List Tree) (e : Place) → Pattern change K ys (after i) e → Pattern change K (x ∷ ys) m e
     pattern_next r g ys e l qs h = let (q, rs, a, b, t, f) = r.before_others refl (trees ys) qs h in let u = l rs a in record {
       patterns = q ∷ u.patterns;
@@ -163,7 +165,7 @@ module _ (Rule Other : Tree → Place → Place → Type 0) (change : Trees → 
   pub push_last : (c m i : Place) (found : Covers) (v : Cover) (is_spread : Bool) → SoFar L change K j found c m → sees j m ≡ false → PartRead Rule change Other is_spread v m i → kind_at i ≡ j
       → SoFar L change K j (with_cover found v) c i
   push_last c m i found v is_spread r h p g = record {
-    plain = λ e. let (a, b) = no_marks found.mark v.mark e in begun_last (Plain L) j c m i found.xs v.x (r.plain a) h (plain_last v.x m i (p.plain b).0) g;
+    plain = λ e. let (a, b) = no_marks found.mark v.mark e in begun_last (Plain L) j c m i found.xs v.x (r.plain a) h (plain_last Rule L lists v.x m i (p.plain b).0) g;
     pattern = λ e. let (a, b) = or_no found.comma v.comma e in begun_last (Pattern change K) j c m i found.xs v.x (r.pattern a) h (pattern_last v.x m i (p.pattern b)) g;
   }
 
@@ -171,7 +173,7 @@ module _ (Rule Other : Tree → Place → Place → Type 0) (change : Trees → 
   pub push_next : (c m i : Place) (found : Covers) (v : Cover) (is_spread : Bool) → SoFar L change K j found c m → sees j m ≡ false → PartRead Rule change Other is_spread v m i → kind_at i ≡ kind.Comma
       → SoFar L change K j (with_comma is_spread (with_cover found v)) c (after i)
   push_next c m i found v is_spread r h p g = record {
-    plain = λ e. let (a, b) = no_marks found.mark v.mark e in let z = p.plain b in begun_next (Plain L) j c m (after i) found.xs v.x (r.plain a) h (plain_next v.x m i z.0 z.1 g);
+    plain = λ e. let (a, b) = no_marks found.mark v.mark e in let z = p.plain b in begun_next (Plain L) j c m (after i) found.xs v.x (r.plain a) h (plain_next Rule L lists v.x m i z.0 z.1 g);
     pattern = λ e. let (f, s) = or_no (found.comma || v.comma) is_spread e in let (a, b) = or_no found.comma v.comma f in
         begun_next (Pattern change K) j c m (after i) found.xs v.x (r.pattern a) h (pattern_next v.x m i (subst (λ z. Part change Other z v.x m i) s (p.pattern b)) g);
   }

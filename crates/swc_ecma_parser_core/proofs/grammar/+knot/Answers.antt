@@ -2,8 +2,10 @@ use Rattle.std.proofs.Common.{◌≡◌, ◌-◌, ◌<◌, Ok, Err, arith, sym, 
 use Rattle.std.proofs.lemmas.Result.{err_from_is_err_and}
 use Rattle.swc_ecma_parser_reader.specs.State.{GivesAs}
 use Rattle.swc_ecma_parser_reader.proofs.expressions.Loops.{cover_above}
+use Rattle.swc_ecma_parser_reader.proofs.patterns.Loops.{pattern_above, element_above}
 use Rattle.swc_ecma_parser_core.specs.Covers.{cover_of}
 use Rattle.swc_ecma_parser_core.proofs.Covers.{read_lowest, read_expr, read_expr_err, at_asked}
+use Rattle.swc_ecma_parser_core.proofs.Patterns.{read_pat_lowest, as_asked}
 use Rattle.swc_ecma_parser_core.proofs.grammar.+knot.Goals as goal
 
 pub expr-returns-then-depth-eq0 : goal.expr-returns-then-depth-eq0
@@ -25,3 +27,18 @@ pub expr-returns-in-Cover : goal.expr-returns-in-Cover
 expr-returns-in-Cover g t c =
     subst (λ o. GivesAs (cover_of g.T.Trees.expr_of) o c.cover_expr.result (g.P.Source.seen c.cover_expr.new.p))
     (sym (at_asked c.args.depth (g.P.Source.seen c.args.p.now) c.args.asked _ _ c.in-Cover.is (cover_above c.args.depth (g.P.Source.seen c.args.p.now) (omega arith)))) c.cover_expr.ensures
+
+pub pat-returns-then-depth-eq0 : goal.pat-returns-then-depth-eq0
+pat-returns-then-depth-eq0 g t c = λ h. read_pat_lowest c.args.depth c.args.part (g.P.Source.seen c.args.p.now) _ c.if-depth-eq0.true (c.too_deep.ensures h)
+
+pub pat-returns-in-Pattern : goal.pat-returns-in-Pattern
+pat-returns-in-Pattern g t c =
+    subst (λ o. GivesAs g.T.Trees.pat_of o c.pattern_level.result (g.P.Source.seen c.pattern_level.new.p))
+    (sym (as_asked c.args.depth (g.P.Source.seen c.args.p.now) c.args.part _ _ c.in-Pattern.is (pattern_above c.args.depth (g.P.Source.seen c.args.p.now) (omega arith))))
+    c.pattern_level.ensures
+
+pub pat-returns-in-Element : goal.pat-returns-in-Element
+pat-returns-in-Element g t c =
+    subst (λ o. GivesAs g.T.Trees.pat_of o c.element_level.result (g.P.Source.seen c.element_level.new.p))
+    (sym (as_asked c.args.depth (g.P.Source.seen c.args.p.now) c.args.part _ _ c.in-Element.is (element_above c.args.depth (g.P.Source.seen c.args.p.now) (omega arith))))
+    c.element_level.ensures

@@ -5,3 +5,6 @@ decreases-stmt g l = l.depth
 
 abbrev pub decreases-expr : goal.decreases-expr
 decreases-expr g l = l.depth
+
+abbrev pub decreases-pat : goal.decreases-pat
+decreases-pat g l = l.depth

@@ -1,0 +1,28 @@
+//! The program `ecma-bench`: it makes a text of a shape, parses it once as a script, and prints what that took.
+#![tactic(auto)]
+
+mod command;
+mod count;
+mod fault;
+mod measure;
+mod memory;
+mod parse;
+mod report;
+mod run;
+mod shape;
+#[cfg(test)]
+mod tests;
+
+use std::process::ExitCode;
+use std::rt::Env;
+use std::{env, io};
+
+/// The arguments without the program's name.
+fn words(rt: &(impl Env + AllocGlobal)) -> io::Result<Vec<String>> {
+    Ok(env::args(rt)?.skip(1).collect(rt.alloc())?)
+}
+
+fn main(rt: HostRuntime) -> ExitCode {
+    let status = run::run(&rt, &words(&rt), &mut rt.stdout(), &mut rt.stderr());
+    ExitCode::from(status)
+}

@@ -1,0 +1,17 @@
+//! How much memory the process has had.
+
+use std::fs;
+use std::rt::Files;
+
+/// The number of bytes in what the system says of the process, in kilobytes.
+pub fn peak_in(status: &str) -> Option<u64> {
+    let peak = status.lines().find_map(|line| line.strip_prefix("VmHWM:"))?;
+    let kilobytes: u64 = peak.trim().strip_suffix(" kB")?.parse().ok()?;
+    kilobytes.checked_mul(1024)
+}
+
+/// The most memory that the process has had so far, in bytes, where the system tells it.
+pub fn peak<R: Files + AllocGlobal>(rt: &R) -> Option<u64> {
+    let status = fs::read_to_string(rt, "/proc/self/status").ok()?;
+    peak_in(status.as_str())
+}

@@ -1,0 +1,239 @@
+//! Object patterns of bindings: ECMA-262, section 14.3.3.
+
+ghost use Rattle.std.specs.Prelude.{map};
+ghost use Rattle.swc_ecma_parser_core.specs.Accesses.{key_of};
+ghost use Rattle.swc_ecma_parser_core.specs.Nests.{Nests};
+ghost use Rattle.swc_ecma_parser_reader.specs.Expressions as exprs;
+ghost use Rattle.swc_ecma_parser_reader.specs.Patterns as patterns;
+ghost use Rattle.swc_ecma_parser_reader.specs.State.{GivesAs};
+
+use crate::access::inside;
+use crate::cover::{Cover, Reading};
+use crate::grammar::Grammar;
+use crate::object::{Key, made_key, property_key};
+use crate::pat::{Part, inner_pat};
+use crate::steps::{grown, pushed, since};
+use swc_ecma_parser_common::Span;
+use swc_ecma_parser_error::{PResult, SyntaxError};
+use swc_ecma_parser_grammar::{Class, Position};
+use swc_ecma_parser_model::Ident;
+use swc_ecma_parser_state::{Source, Wanted, is_name};
+use swc_ecma_parser_token::TokenKind;
+use swc_ecma_parser_trees::{BuildsCall, BuildsPattern, MakerOf};
+
+/// The rest of an object, which is a name.
+#[tactic(auto, unfolding(swc_ecma_parser_reader::specs::Patterns::rest_name))]
+fn rest_name<
+    P: Source,
+    T: BuildsPattern,
+    S: Fn(&MakerOf<T>, &mut P, usize, Position) -> PResult<T::Stmt>,
+    E: Fn(&MakerOf<T>, &mut P, usize, Reading) -> PResult<Cover<T::Expr>>,
+    N: Fn(&MakerOf<T>, &mut P, usize, Part) -> PResult<T::Pat>,
+>(g: &Grammar<S, E, N>, t: &MakerOf<T>, p: &mut P) -> PResult<T::Pat>
+    requires { Nests P.seen T.expr_of T.pat_of T.stmt_of g.now.depth (S.pre g.now.stmt) (S.post g.now.stmt) (E.pre g.now.expr) (E.post g.now.expr) (N.pre g.now.pat) (N.post g.now.pat) }
+    ensures { GivesAs T.pat_of (patterns.rest_name (exprs.expr g.now.depth) (exprs.cover g.now.depth) (patterns.pattern g.now.depth) (patterns.element g.now.depth) (P.seen p.old)) result (P.seen p.new) }
+{
+    if p.sees(TokenKind::LBracket) || p.sees(TokenKind::LBrace) {
+        return Err(p.wanted(Wanted::Name));
+    }
+    inner_pat(g, t, p, Part::Pattern)
+}
+
+/// `...` and the rest of an object.
+#[tactic(auto, unfolding(swc_ecma_parser_reader::specs::Patterns::rest_property))]
+fn rest_property<
+    P: Source,
+    T: BuildsPattern,
+    S: Fn(&MakerOf<T>, &mut P, usize, Position) -> PResult<T::Stmt>,
+    E: Fn(&MakerOf<T>, &mut P, usize, Reading) -> PResult<Cover<T::Expr>>,
+    N: Fn(&MakerOf<T>, &mut P, usize, Part) -> PResult<T::Pat>,
+>(g: &Grammar<S, E, N>, t: &MakerOf<T>, p: &mut P) -> PResult<T::PatProp>
+    requires { Nests P.seen T.expr_of T.pat_of T.stmt_of g.now.depth (S.pre g.now.stmt) (S.post g.now.stmt) (E.pre g.now.expr) (E.post g.now.expr) (N.pre g.now.pat) (N.post g.now.pat) }
+    ensures { GivesAs T.pat_prop_of (patterns.rest_property (exprs.expr g.now.depth) (exprs.cover g.now.depth) (patterns.pattern g.now.depth) (patterns.element g.now.depth) (P.seen p.old)) result (P.seen p.new) }
+{
+    let start = p.span();
+    p.skip()?;
+    let name = rest_name(g, t, p)?;
+    let span = since(p, start);
+    grown(p, T::rest_pat_prop(t.alloc, span, name))
+}
+
+/// A key and its pattern, from `:` on.
+#[tactic(auto, unfolding(swc_ecma_parser_reader::specs::Patterns::key_value))]
+fn key_value<
+    P: Source,
+    T: BuildsPattern,
+    S: Fn(&MakerOf<T>, &mut P, usize, Position) -> PResult<T::Stmt>,
+    E: Fn(&MakerOf<T>, &mut P, usize, Reading) -> PResult<Cover<T::Expr>>,
+    N: Fn(&MakerOf<T>, &mut P, usize, Part) -> PResult<T::Pat>,
+>(
+    g: &Grammar<S, E, N>,
+    t: &MakerOf<T>,
+    p: &mut P,
+    start: Span,
+    key: Key<T::Expr>,
+) -> PResult<T::PatProp>
+    requires { Nests P.seen T.expr_of T.pat_of T.stmt_of g.now.depth (S.pre g.now.stmt) (S.post g.now.stmt) (E.pre g.now.expr) (E.post g.now.expr) (N.pre g.now.pat) (N.post g.now.pat) }
+    ensures { GivesAs T.pat_prop_of (patterns.key_value (exprs.expr g.now.depth) (exprs.cover g.now.depth) (patterns.pattern g.now.depth) (patterns.element g.now.depth) start (key_of T.expr_of key) (P.seen p.old)) result (P.seen p.new) }
+{
+    p.skip()?;
+    let value = inner_pat(g, t, p, Part::Element)?;
+    let span = since(p, start);
+    let key = grown(p, made_key::<T>(t.alloc, key))?;
+    grown(p, T::key_value_pat_prop(t.alloc, span, key, value))
+}
+
+/// A name that is its own key and its default, from `=` on.
+#[tactic(auto, unfolding(swc_ecma_parser_reader::specs::Patterns::initialized_name))]
+fn initialized_name<
+    P: Source,
+    T: BuildsCall + BuildsPattern,
+    S: Fn(&MakerOf<T>, &mut P, usize, Position) -> PResult<T::Stmt>,
+    E: Fn(&MakerOf<T>, &mut P, usize, Reading) -> PResult<Cover<T::Expr>>,
+    N: Fn(&MakerOf<T>, &mut P, usize, Part) -> PResult<T::Pat>,
+>(g: &Grammar<S, E, N>, t: &MakerOf<T>, p: &mut P, start: Span, name: Ident) -> PResult<T::PatProp>
+    requires { Nests P.seen T.expr_of T.pat_of T.stmt_of g.now.depth (S.pre g.now.stmt) (S.post g.now.stmt) (E.pre g.now.expr) (E.post g.now.expr) (N.pre g.now.pat) (N.post g.now.pat) }
+    ensures { GivesAs T.pat_prop_of (patterns.initialized_name (exprs.expr g.now.depth) (exprs.cover g.now.depth) (patterns.pattern g.now.depth) (patterns.element g.now.depth) start name.span name.sym (P.seen p.old)) result (P.seen p.new) }
+{
+    p.skip()?;
+    let value = inside(g, t, p, Class::Assignment)?;
+    let span = since(p, start);
+    grown(p, T::assign_pat_prop(t.alloc, span, name, Some(value)))
+}
+
+/// A word that is its own key, with its default if one stands there: a name.
+#[tactic(auto, unfolding(swc_ecma_parser_reader::specs::Patterns::named, swc_ecma_parser_reader::specs::Patterns::bare_name))]
+fn named<
+    P: Source,
+    T: BuildsCall + BuildsPattern,
+    S: Fn(&MakerOf<T>, &mut P, usize, Position) -> PResult<T::Stmt>,
+    E: Fn(&MakerOf<T>, &mut P, usize, Reading) -> PResult<Cover<T::Expr>>,
+    N: Fn(&MakerOf<T>, &mut P, usize, Part) -> PResult<T::Pat>,
+>(g: &Grammar<S, E, N>, t: &MakerOf<T>, p: &mut P, start: Span, name: Ident) -> PResult<T::PatProp>
+    requires { Nests P.seen T.expr_of T.pat_of T.stmt_of g.now.depth (S.pre g.now.stmt) (S.post g.now.stmt) (E.pre g.now.expr) (E.post g.now.expr) (N.pre g.now.pat) (N.post g.now.pat) }
+    ensures { GivesAs T.pat_prop_of (patterns.named (exprs.expr g.now.depth) (exprs.cover g.now.depth) (patterns.pattern g.now.depth) (patterns.element g.now.depth) start name.span name.sym (P.seen p.old)) result (P.seen p.new) }
+{
+    if !is_name(p.flags(), name.sym.as_str()) {
+        return Err(p.reject(SyntaxError::ExpectedIdent, name.span));
+    }
+    if p.sees(TokenKind::Assign) {
+        return initialized_name(g, t, p, start, name);
+    }
+    let span = since(p, start);
+    grown(p, T::assign_pat_prop(t.alloc, span, name, None))
+}
+
+/// A key with no pattern behind it, which is a name.
+fn bare_key<
+    P: Source,
+    T: BuildsCall + BuildsPattern,
+    S: Fn(&MakerOf<T>, &mut P, usize, Position) -> PResult<T::Stmt>,
+    E: Fn(&MakerOf<T>, &mut P, usize, Reading) -> PResult<Cover<T::Expr>>,
+    N: Fn(&MakerOf<T>, &mut P, usize, Part) -> PResult<T::Pat>,
+>(
+    g: &Grammar<S, E, N>,
+    t: &MakerOf<T>,
+    p: &mut P,
+    start: Span,
+    key: Key<T::Expr>,
+) -> PResult<T::PatProp>
+    requires { Nests P.seen T.expr_of T.pat_of T.stmt_of g.now.depth (S.pre g.now.stmt) (S.post g.now.stmt) (E.pre g.now.expr) (E.post g.now.expr) (N.pre g.now.pat) (N.post g.now.pat) }
+    ensures { GivesAs T.pat_prop_of (patterns.bare_key (exprs.expr g.now.depth) (exprs.cover g.now.depth) (patterns.pattern g.now.depth) (patterns.element g.now.depth) start (key_of T.expr_of key) (P.seen p.old)) result (P.seen p.new) }
+{
+    match key {
+        Key::Word(name) => named(g, t, p, start, name),
+        _ => Err(p.wanted(Wanted::Expression)),
+    }
+}
+
+/// What stands behind a key.
+#[tactic(auto, unfolding(swc_ecma_parser_reader::specs::Patterns::behind_key))]
+fn behind_key<
+    P: Source,
+    T: BuildsCall + BuildsPattern,
+    S: Fn(&MakerOf<T>, &mut P, usize, Position) -> PResult<T::Stmt>,
+    E: Fn(&MakerOf<T>, &mut P, usize, Reading) -> PResult<Cover<T::Expr>>,
+    N: Fn(&MakerOf<T>, &mut P, usize, Part) -> PResult<T::Pat>,
+>(
+    g: &Grammar<S, E, N>,
+    t: &MakerOf<T>,
+    p: &mut P,
+    start: Span,
+    key: Key<T::Expr>,
+) -> PResult<T::PatProp>
+    requires { Nests P.seen T.expr_of T.pat_of T.stmt_of g.now.depth (S.pre g.now.stmt) (S.post g.now.stmt) (E.pre g.now.expr) (E.post g.now.expr) (N.pre g.now.pat) (N.post g.now.pat) }
+    ensures { GivesAs T.pat_prop_of (patterns.behind_key (exprs.expr g.now.depth) (exprs.cover g.now.depth) (patterns.pattern g.now.depth) (patterns.element g.now.depth) start (key_of T.expr_of key) (P.seen p.old)) result (P.seen p.new) }
+{
+    if p.sees(TokenKind::Colon) {
+        return key_value(g, t, p, start, key);
+    }
+    bare_key(g, t, p, start, key)
+}
+
+/// A property.
+#[tactic(auto, unfolding(swc_ecma_parser_reader::specs::Patterns::property))]
+fn property<
+    P: Source,
+    T: BuildsCall + BuildsPattern,
+    S: Fn(&MakerOf<T>, &mut P, usize, Position) -> PResult<T::Stmt>,
+    E: Fn(&MakerOf<T>, &mut P, usize, Reading) -> PResult<Cover<T::Expr>>,
+    N: Fn(&MakerOf<T>, &mut P, usize, Part) -> PResult<T::Pat>,
+>(g: &Grammar<S, E, N>, t: &MakerOf<T>, p: &mut P) -> PResult<T::PatProp>
+    requires { Nests P.seen T.expr_of T.pat_of T.stmt_of g.now.depth (S.pre g.now.stmt) (S.post g.now.stmt) (E.pre g.now.expr) (E.post g.now.expr) (N.pre g.now.pat) (N.post g.now.pat) }
+    ensures { GivesAs T.pat_prop_of (patterns.property (exprs.expr g.now.depth) (exprs.cover g.now.depth) (patterns.pattern g.now.depth) (patterns.element g.now.depth) (P.seen p.old)) result (P.seen p.new) }
+{
+    let start = p.span();
+    let key = property_key(g, t, p)?;
+    behind_key(g, t, p, start, key)
+}
+
+/// Properties, from `{` on. Nothing stands behind the rest.
+#[tactic(auto, unfolding(swc_ecma_parser_reader::specs::Patterns::properties), using(swc_ecma_parser_reader::proofs::patterns::Loops::properties_done, swc_ecma_parser_reader::proofs::patterns::Loops::properties_rest, swc_ecma_parser_reader::proofs::patterns::Loops::properties_last, swc_ecma_parser_reader::proofs::patterns::Loops::properties_more, swc_ecma_parser_reader::proofs::patterns::Loops::property_shorter, swc_ecma_parser_reader::proofs::patterns::Loops::properties_shorter, std::proofs::lemmas::List::map_push))]
+fn properties<
+    P: Source,
+    T: BuildsCall + BuildsPattern,
+    S: Fn(&MakerOf<T>, &mut P, usize, Position) -> PResult<T::Stmt>,
+    E: Fn(&MakerOf<T>, &mut P, usize, Reading) -> PResult<Cover<T::Expr>>,
+    N: Fn(&MakerOf<T>, &mut P, usize, Part) -> PResult<T::Pat>,
+>(g: &Grammar<S, E, N>, t: &MakerOf<T>, p: &mut P) -> PResult<Vec<T::PatProp>>
+    requires { Nests P.seen T.expr_of T.pat_of T.stmt_of g.now.depth (S.pre g.now.stmt) (S.post g.now.stmt) (E.pre g.now.expr) (E.post g.now.expr) (N.pre g.now.pat) (N.post g.now.pat) }
+    ensures { GivesAs (λ found. map T.pat_prop_of found.items) (patterns.properties (exprs.expr g.now.depth) (exprs.cover g.now.depth) (patterns.pattern g.now.depth) (patterns.element g.now.depth) (P.seen p.old)) result (P.seen p.new) }
+{
+    p.skip()?;
+    let mut found = Vec::new(t.alloc);
+    'properties: loop {
+        if p.sees(TokenKind::RBrace) {
+            p.skip()?;
+            return Ok(found);
+        }
+        if p.sees(TokenKind::DotDotDot) {
+            let rest = rest_property(g, t, p)?;
+            pushed(p, &mut found, rest)?;
+            p.expect(TokenKind::RBrace, "}")?;
+            return Ok(found);
+        }
+        let property = property(g, t, p)?;
+        pushed(p, &mut found, property)?;
+        if !p.sees(TokenKind::RBrace) {
+            p.expect(TokenKind::Comma, ",")?;
+        }
+    }
+}
+
+/// An object pattern.
+#[tactic(auto, unfolding(swc_ecma_parser_reader::specs::Patterns::object))]
+pub fn object_pat<
+    P: Source,
+    T: BuildsCall + BuildsPattern,
+    S: Fn(&MakerOf<T>, &mut P, usize, Position) -> PResult<T::Stmt>,
+    E: Fn(&MakerOf<T>, &mut P, usize, Reading) -> PResult<Cover<T::Expr>>,
+    N: Fn(&MakerOf<T>, &mut P, usize, Part) -> PResult<T::Pat>,
+>(g: &Grammar<S, E, N>, t: &MakerOf<T>, p: &mut P) -> PResult<T::Pat>
+    requires { Nests P.seen T.expr_of T.pat_of T.stmt_of g.now.depth (S.pre g.now.stmt) (S.post g.now.stmt) (E.pre g.now.expr) (E.post g.now.expr) (N.pre g.now.pat) (N.post g.now.pat) }
+    ensures { GivesAs T.pat_of (patterns.object (exprs.expr g.now.depth) (exprs.cover g.now.depth) (patterns.pattern g.now.depth) (patterns.element g.now.depth) (P.seen p.old)) result (P.seen p.new) }
+{
+    let start = p.span();
+    let found = properties(g, t, p)?;
+    let span = since(p, start);
+    grown(p, T::object_pat(t.alloc, span, found))
+}

@@ -1,0 +1,5 @@
+pub mod Falls
+pub mod Loops
+pub mod Limits
+pub mod Sound
+pub mod Complete

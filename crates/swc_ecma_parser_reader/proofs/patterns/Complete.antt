@@ -1,0 +1,395 @@
+-- Binding patterns of the language are read, with the faults of the walk and the notes held back, and no others.
+use Rattle.std.proofs.Common.{◌≡◌, ℕ, zero, suc, ◌<◌, Bool, true, false, List, [], ◌∷◌, ◌++◌, length, inl, inr, Ok, refl, sym, ◌∙◌, ap, arith, append_assoc, append-nil}
+use Rattle.swc_ecma_parser_common.specs.declared.span.Span.{Span}
+use Rattle.swc_ecma_parser_error.specs.Kind as faults
+use Rattle.swc_ecma_parser_error.specs.Kind.{Fault}
+use Rattle.swc_ecma_parser_token.specs.declared.kind.TokenKind.TheVariants as kind
+use Rattle.swc_ecma_parser_token.specs.declared.token.Token.TheVariants as token
+use Rattle.swc_ecma_parser_input.specs.declared.context.Context.{Context}
+use Rattle.swc_ecma_parser_input.specs.Place.{Place, after}
+use Rattle.swc_ecma_parser_model.specs.Tree as tree
+use Rattle.swc_ecma_parser_model.specs.Tree.{Tree, Text, listed, trees}
+use Rattle.swc_ecma_parser_model.specs.Forms.{is_pattern_target, is_rest}
+use Rattle.swc_ecma_parser_grammar.specs.Looks.{kind_at, sees, same_kind, spanned}
+use Rattle.swc_ecma_parser_grammar.specs.Names.{Code, name_at}
+use Rattle.swc_ecma_parser_grammar.specs.Reads.{with_in}
+use Rattle.swc_ecma_parser_grammar.specs.Notes.{notes, all_notes}
+use Rattle.swc_ecma_parser_grammar.specs.Walk.{env_of, walk, walks}
+use Rattle.swc_ecma_parser_grammar.specs.Supported.{supported, is_supported_key, all_supported}
+use Rattle.swc_ecma_parser_grammar.specs.ReadsSupported.{ReadsPat, ReadsElement}
+use Rattle.swc_ecma_parser_grammar.specs.language.Goals.{Goal, Class, assignment, binding, expr_goal, pattern_goal, element_goal}
+use Rattle.swc_ecma_parser_grammar.specs.language.Lists.{ReadsListed, LastComma, Elements, no_elements, hole, last_element, more_elements}
+use Rattle.swc_ecma_parser_grammar.specs.language.Parts as parts
+use Rattle.swc_ecma_parser_grammar.specs.language.Parts.{ReadsName, KeyRule}
+use Rattle.swc_ecma_parser_grammar.specs.language.Functions as functions
+use Rattle.swc_ecma_parser_grammar.specs.language.Functions.{PatternItemRule}
+use Rattle.swc_ecma_parser_grammar.specs.language.Patterns as patterns
+use Rattle.swc_ecma_parser_grammar.specs.language.Patterns.{PatternRule, PatternPropertyRule, PatternElementRule}
+use Rattle.swc_ecma_parser_grammar.specs.language.Reads as language
+use Rattle.swc_ecma_parser_grammar.proofs.Tests.{or_no, and_yes}
+use Rattle.swc_ecma_parser_reader.specs.State.{Scope, State, Reader, loop}
+use Rattle.swc_ecma_parser_reader.specs.Expressions.{Cover, expr, cover}
+use Rattle.swc_ecma_parser_reader.specs.Patterns as reader
+use Rattle.swc_ecma_parser_reader.specs.Patterns.{rest, array_turn, elements, array, rest_name, rest_property, key_value, initialized_name, bare_name, named, behind_key, property, object_turn, properties, object, pattern_level, initialized, element_level, pattern, element}
+use Rattle.swc_ecma_parser_reader.proofs.Answered.{st, Reads}
+use Rattle.swc_ecma_parser_reader.proofs.Takes.{Falls, moves, takes}
+use Rattle.swc_ecma_parser_reader.proofs.Steps.{loop_more, loop_done}
+use Rattle.swc_ecma_parser_reader.proofs.expressions.Covers.{begins_literal, literal_kind}
+use Rattle.swc_ecma_parser_reader.proofs.expressions.CompleteKinds as kinds
+use Rattle.swc_ecma_parser_reader.proofs.expressions.CompleteKinds.{supported_as, seen, name_is_name, array_here, object_here, KeyBegins, key_begins, begin_kind, begin_seen, element_begins, ends_part, ended_at}
+use Rattle.swc_ecma_parser_reader.proofs.expressions.Loops.{shorter_by}
+use Rattle.swc_ecma_parser_reader.proofs.expressions.CompleteParts.{expect_reads, name_reads, IsRead, Behind, behind_last, inside_reads, key_reads}
+use Rattle.swc_ecma_parser_reader.proofs.expressions.CompleteCovers.{rest_ends, part_begins, word_of, key_outside, name_there}
+use Rattle.swc_ecma_parser_reader.proofs.expressions.Complete.{is_read}
+use Rattle.swc_ecma_parser_reader.proofs.patterns.Falls.{property_falls, pattern_falls, element_falls}
+
+-- ---- the first token
+
+-- no name opens an array or an object
+unopened_by : (f : Context) (c : Place) (b : Bool) → begins_literal c ≡ b → name_at f c ≡ true → b ≡ false
+unopened_by f c true e h = absurd (elim (literal_kind c e) [ inl i ↦ (let n = (array_here f c i).0 in cc) | inr i ↦ (let n = (object_here f c i).0 in cc) ])
+unopened_by f c false e h = refl
+
+unopened : (k : Code) (text : Text) (s : Span) (c d : Place) → ReadsName k text s c d → supported (tree.ident_pat s text) ≡ true → begins_literal c ≡ false
+unopened k text s c d r h =
+    unopened_by k.flags c (begins_literal c) refl (kinds.named (token.Word r.word) s c d k true r.reads_word (name_is_name k text s c d r h))
+
+-- what is no pattern in brackets or braces is a name
+plain_first : (In : Goal → Type 0) (k : Code) (x : Tree) (c d : Place) → PatternRule In binding k x c d → is_pattern_target x ≡ false → supported x ≡ true → begins_literal c ≡ false
+plain_first In k x c d (patterns.binding_name_rule text s p r e) n h = unopened k text s c d r (supported_as x (tree.ident_pat s text) e h)
+plain_first In k x c d (patterns.target_name_rule text s p a r e) n h = cc
+plain_first In k x c d (patterns.target_rule y p r t i e) n h = cc
+plain_first In k x c d (patterns.array_rule xs m i r j q e) n h = absurd (let b : is_pattern_target x ≡ true = ap is_pattern_target e in cc)
+plain_first In k x c d (patterns.object_rule xs m i r j q e) n h = absurd (let b : is_pattern_target x ≡ true = ap is_pattern_target e in cc)
+
+-- ---- what is read one level further in
+
+-- what these goals ask for is read, and takes a token
+record IsPatternRead (In : Goal → Type 0) (pattern element : Reader Tree) : Type 0 where
+  reads_pattern : (k : Code) (x : Tree) (c d : Place) → In (pattern_goal binding k x c d) → supported x ≡ true → Reads pattern k x c d
+  reads_element : (k : Code) (x : Tree) (c d : Place) → In (element_goal binding k x c d) → supported x ≡ true → Reads element k x c d
+  plain : (k : Code) (x : Tree) (c d : Place) → In (pattern_goal binding k x c d) → is_pattern_target x ≡ false → supported x ≡ true → begins_literal c ≡ false
+  begins : (k : Code) (x : Tree) (c d : Place) → In (element_goal binding k x c d) → supported x ≡ true → begin_kind (kind_at c) ≡ true
+  pattern_falls : (s : State) → Falls 1 (length s.at.left) (pattern s)
+  element_falls : (s : State) → Falls 1 (length s.at.left) (element s)
+
+module _ (In : Goal → Type 0) (inner : Class → Reader Tree) (cover : Reader Cover) (given : IsRead In inner cover) (pattern element : Reader Tree)
+    (within : IsPatternRead In pattern element) where
+  -- ---- the elements of an array
+
+  rest_reads : (y : Tree) (k : Code) (x : Tree) (c d : Place) → In (pattern_goal binding (with_in k) y (after c) d) → supported y ≡ true → x ≡ tree.rest_pat (spanned c d) y
+      → Reads (rest inner cover pattern element) k x c d
+  unfolding rest spanned
+  rest_reads y k x c d r s e w f h = rw (within.reads_pattern (with_in k) y (after c) d r s w f h, e) refl
+
+  element_shorter : (k : Code) (x : Tree) (c d : Place) (w : Scope) → In (element_goal binding (with_in k) x c d) → supported x ≡ true → length d.left < length c.left
+  element_shorter k x c d w r s =
+      let t = st d (with_in k) w (walk (env_of k w.labels) x) (notes x) in
+      shorter_by (length c.left) (element (st c (with_in k) w [] [])) x t (within.reads_element (with_in k) x c d r s w [] []) (within.element_falls (st c (with_in k) w [] []))
+
+  -- an element, and what stands behind it
+  element_more : (found : List Tree) (k : Code) (x : Tree) (c m d : Place) (w : Scope) (f h : List Fault) → In (element_goal binding (with_in k) x c m) → supported x ≡ true
+      → Behind kind.RBracket m d
+      → loop (array_turn inner cover pattern element) found (st c k w f h)
+      ≡ loop (array_turn inner cover pattern element) (found ++ x ∷ []) (st d k w (f ++ walk (env_of k w.labels) x) (h ++ notes x))
+  unfolding array_turn same_kind
+  element_more found k x c m d w f h r s (inl (e, i)) =
+      let (dots, parenthesis, bracket, comma) = begin_seen c (within.begins (with_in k) x c m r s) in
+      loop_more (array_turn inner cover pattern element) found (found ++ x ∷ []) (st c k w f h) (st d k w (f ++ walk (env_of k w.labels) x) (h ++ notes x))
+      (rw (bracket, comma, dots, within.reads_element (with_in k) x c m r s w f h, e, i) refl) (rw i (element_shorter k x c m w r s))
+  element_more found k x c m d w f h r s (inr (e, i)) =
+      let (dots, parenthesis, bracket, comma) = begin_seen c (within.begins (with_in k) x c m r s) in
+      loop_more (array_turn inner cover pattern element) found (found ++ x ∷ []) (st c k w f h) (st d k w (f ++ walk (env_of k w.labels) x) (h ++ notes x))
+      (rw (
+        bracket,
+        comma,
+        dots,
+        within.reads_element (with_in k) x c m r s w f h,
+        e,
+        expect_reads kind.Comma m k w (f ++ walk (env_of k w.labels) x) (h ++ notes x) e,
+        i,
+      ) refl)
+      (rw i (let a = element_shorter k x c m w r s in let b = moves m in omega arith))
+
+  -- a hole, and the comma behind it
+  hole_more : (found : List Tree) (k : Code) (c : Place) (w : Scope) (f h : List Fault) → kind_at c ≡ kind.Comma
+      → loop (array_turn inner cover pattern element) found (st c k w f h) ≡ loop (array_turn inner cover pattern element) (found ++ tree.absent ∷ []) (st (after c) k w f h)
+  unfolding array_turn same_kind
+  hole_more found k c w f h e =
+      loop_more (array_turn inner cover pattern element) found (found ++ tree.absent ∷ []) (st c k w f h) (st (after c) k w f h) (rw e refl)
+      (let a = takes c (λ g. let i = sym g ∙ e in cc) in omega arith)
+
+  elements_end : (found : List Tree) (k : Code) (c : Place) (w : Scope) (f h : List Fault) → kind_at c ≡ kind.RBracket
+      → loop (array_turn inner cover pattern element) found (st c k w f h) ≡ Ok (found, st (after c) k w f h)
+  unfolding array_turn
+  elements_end found k c w f h e = loop_done (array_turn inner cover pattern element) found found (st c k w f h) (st (after c) k w f h) (rw (seen c kind.RBracket e) refl)
+
+  -- a rest, behind which the array ends
+  rest_last : (found : List Tree) (y : Tree) (k : Code) (x : Tree) (c m : Place) (w : Scope) (f h : List Fault) → kind_at c ≡ kind.DotDotDot
+      → In (pattern_goal binding (with_in k) y (after c) m) → supported y ≡ true → x ≡ tree.rest_pat (spanned c m) y → kind_at m ≡ kind.RBracket
+      → loop (array_turn inner cover pattern element) found (st c k w f h) ≡ Ok (found ++ x ∷ [], st (after m) k w (f ++ walk (env_of k w.labels) x) (h ++ notes x))
+  unfolding array_turn same_kind
+  rest_last found y k x c m w f h o r s e i =
+      loop_done (array_turn inner cover pattern element) found (found ++ x ∷ []) (st c k w f h) (st (after m) k w (f ++ walk (env_of k w.labels) x) (h ++ notes x))
+      (rw (o, rest_reads y k x c m r s e w f h, expect_reads kind.RBracket m k w (f ++ walk (env_of k w.labels) x) (h ++ notes x) i) refl)
+
+  last_item : (found : List Tree) (k : Code) (x : Tree) (c m d : Place) (w : Scope) (f h : List Fault) → PatternItemRule In binding (with_in k) x c m → LastComma true x m d
+      → supported x ≡ true → kind_at d ≡ kind.RBracket
+      → loop (array_turn inner cover pattern element) found (st c k w f h) ≡ Ok (found ++ x ∷ [], st (after d) k w (f ++ walk (env_of k w.labels) x) (h ++ notes x))
+  last_item found k x c m d w f h (functions.element_rule r) l s e =
+      element_more found k x c m d w f h r s (behind_last kind.RBracket x m d l e)
+      ∙ elements_end (found ++ x ∷ []) k d w (f ++ walk (env_of k w.labels) x) (h ++ notes x) e
+  last_item found k x c m d w f h (functions.rest_rule y o r i) l s e =
+      let g = rest_ends x m d (ap is_rest i) l in
+      rw g (rest_last found y k x c m w f h o r (supported_as x (tree.rest_pat (spanned c m) y) i s) i (ap kind_at (sym g) ∙ e))
+
+  -- the rest is the last
+  no_rest : (k : Code) (x : Tree) (c d : Place) → PatternItemRule In binding k x c d → is_rest x ≡ false → In (element_goal binding k x c d)
+  no_rest k x c d (functions.element_rule r) n = r
+  no_rest k x c d (functions.rest_rule y o r i) n = absurd (let h : is_rest x ≡ true = ap is_rest i in cc)
+
+  many_elements : (k : Code) (xs found : List Tree) (c d : Place) (w : Scope) (f h : List Fault) → Elements (PatternItemRule In binding (with_in k)) xs c d
+      → all_supported (trees xs) ≡ true → kind_at d ≡ kind.RBracket
+      → loop (array_turn inner cover pattern element) found (st c k w f h)
+      ≡ Ok (found ++ xs, st (after d) k w (f ++ walks (env_of k w.labels) false (trees xs)) (h ++ all_notes (trees xs)))
+  many_elements k xs found c d w f h (no_elements j i) s e = rw (j, append-nil found, append-nil f, append-nil h, i) (elements_end found k c w f h (ap kind_at (sym i) ∙ e))
+  many_elements k xs found c d w f h (hole ys i more j) s e =
+      let t : all_supported (trees ys) ≡ true = sym (ap (λ z. all_supported (trees z)) j) ∙ s in
+      rw j (hole_more found k c w f h i ∙ many_elements k ys (found ++ tree.absent ∷ []) (after c) d w f h more t e ∙ simp append_assoc refl)
+  many_elements k xs found c d w f h (last_element x m r l j) s e =
+      let t : all_supported (trees (x ∷ [])) ≡ true = sym (ap (λ z. all_supported (trees z)) j) ∙ s in
+      rw (j, append-nil (walk (env_of k w.labels) x), append-nil (notes x)) (last_item found k x c m d w f h r l (and_yes (supported x) _ t).0 e)
+  many_elements k xs found c d w f h (more_elements x y ys m r a i more j) s e =
+      let q : all_supported (trees (x ∷ y ∷ ys)) ≡ true = sym (ap (λ z. all_supported (trees z)) j) ∙ s in
+      let t = and_yes (supported x) _ q in
+      rw j (
+      element_more found k x c m (after m) w f h (no_rest (with_in k) x c m r a) t.0 (inr (i, refl))
+      ∙ many_elements k (y ∷ ys) (found ++ x ∷ []) (after m) d w (f ++ walk (env_of k w.labels) x) (h ++ notes x) more t.1 e ∙ simp append_assoc refl
+      )
+
+  array_reads : (xs : List Tree) (m : Place) (k : Code) (x : Tree) (c d : Place) → Elements (PatternItemRule In binding (with_in k)) xs (after c) m → all_supported (trees xs) ≡ true
+      → kind_at m ≡ kind.RBracket → d ≡ after m → x ≡ tree.array_pat (spanned c d) (listed xs) → Reads (array inner cover pattern element) k x c d
+  unfolding array elements spanned
+  array_reads xs m k x c d r s g i j w f h = rw (many_elements k xs [] (after c) m w f h r s g, j, i) refl
+
+  -- ---- the properties of an object
+
+  -- a key and its pattern
+  valued_reads : (y z : Tree) (m : Place) (k : Code) (x : Tree) (c d : Place) → KeyRule In (with_in k) y c m → is_supported_key y ≡ true → kind_at m ≡ kind.Colon
+      → In (element_goal binding (with_in k) z (after m) d) → supported z ≡ true → x ≡ tree.key_value_pat_prop (spanned c d) y z → Reads (property inner cover pattern element) k x c d
+  unfolding property behind_key key_value spanned
+  valued_reads y z m k x c d r s i g t e w f h =
+      rw (
+        key_reads In inner cover given k y c m (key_outside In inner cover given k y c m r) s w f h,
+        seen m kind.Colon i,
+        within.reads_element (with_in k) z (after m) d g t w (f ++ walk (env_of k w.labels) y) (h ++ notes y),
+        append_assoc f (walk (env_of k w.labels) y) (walk (env_of k w.labels) z),
+        append_assoc h (notes y) (notes z),
+        e,
+      ) refl
+
+  -- a name that is its own key, and one with a default
+  shorthand_reads : (text : Text) (sp : Span) (k : Code) (x : Tree) (c d : Place) → ReadsName (with_in k) text sp c d → supported (tree.ident_pat sp text) ≡ true
+      → ends_part (kind_at d) ≡ true → x ≡ tree.assign_pat_prop (spanned c d) (tree.ident_pat sp text) tree.absent → Reads (property inner cover pattern element) k x c d
+  unfolding property behind_key named bare_name spanned
+  shorthand_reads text sp k x c d r s g e w f h =
+      let t = ended_at d g in
+      rw (
+        key_reads In inner cover given k (tree.ident sp text) c d (parts.word_key text sp (word_of In inner cover given (with_in k) text sp c d r) refl) refl w f h,
+        t.colon,
+        name_there In inner cover given k text sp c d r s,
+        t.assign,
+        e,
+        append-nil f,
+        append-nil h,
+      ) refl
+
+  initialized_reads : (text : Text) (sp : Span) (z : Tree) (m : Place) (k : Code) (x : Tree) (c d : Place) → ReadsName (with_in k) text sp c m → supported (tree.ident_pat sp text) ≡ true
+      → kind_at m ≡ kind.Assign → In (expr_goal assignment (with_in k) z (after m) d) → supported z ≡ true → x ≡ tree.assign_pat_prop (spanned c d) (tree.ident_pat sp text) z
+      → Reads (property inner cover pattern element) k x c d
+  unfolding property behind_key named initialized_name spanned same_kind
+  initialized_reads text sp z m k x c d r s i g t e w f h =
+      rw (
+        key_reads In inner cover given k (tree.ident sp text) c m (parts.word_key text sp (word_of In inner cover given (with_in k) text sp c m r) refl) refl w f h,
+        i,
+        name_there In inner cover given k text sp c m r s,
+        append-nil f,
+        append-nil h,
+        inside_reads In inner cover given assignment k z (after m) d g t w f h,
+        e,
+      ) refl
+
+  property_reads : (k : Code) (x : Tree) (c d : Place) → PatternPropertyRule In binding (with_in k) x c d → is_rest x ≡ false → supported x ≡ true → ends_part (kind_at d) ≡ true
+      → Reads (property inner cover pattern element) k x c d
+  property_reads k x c d (patterns.key_value_rule y z m r i v g) a s q w f h =
+      let t = and_yes (is_supported_key y) _ (supported_as x (tree.key_value_pat_prop (spanned c d) y z) g s) in
+      valued_reads y z m k x c d r t.0 i v t.1 g w f h
+  property_reads k x c d (patterns.shorthand_rule text sp r n g) a s q w f h =
+      let t = and_yes (supported (tree.ident_pat sp text)) _ (supported_as x (tree.assign_pat_prop (spanned c d) (tree.ident_pat sp text) tree.absent) g s) in
+      shorthand_reads text sp k x c d r t.0 q g w f h
+  property_reads k x c d (patterns.default_rule text sp z m r i v g) a s q w f h =
+      let t = and_yes (supported (tree.ident_pat sp text)) _ (supported_as x (tree.assign_pat_prop (spanned c d) (tree.ident_pat sp text) z) g s) in
+      initialized_reads text sp z m k x c d r t.0 i v t.1 g w f h
+  property_reads k x c d (patterns.rest_rule y o r n e) a s q w f h = absurd (let b : is_rest x ≡ true = ap is_rest e in cc)
+
+  -- a property, and what stands behind it
+  property_shorter : (k : Code) (x : Tree) (c d : Place) (w : Scope) → Reads (property inner cover pattern element) k x c d → length d.left < length c.left
+  property_shorter k x c d w r =
+      let t = st d k w (walk (env_of k w.labels) x) (notes x) in
+      shorter_by (length c.left) (property inner cover pattern element (st c k w [] [])) x t (r w [] [])
+      (property_falls inner given.falls cover given.cover_falls pattern within.pattern_falls element within.element_falls (st c k w [] []))
+
+  property_more : (found : List Tree) (k : Code) (x : Tree) (c m d : Place) (w : Scope) (f h : List Fault) → PatternPropertyRule In binding (with_in k) x c m → is_rest x ≡ false
+      → supported x ≡ true → Behind kind.RBrace m d
+      → loop (object_turn inner cover pattern element) found (st c k w f h)
+      ≡ loop (object_turn inner cover pattern element) (found ++ x ∷ []) (st d k w (f ++ walk (env_of k w.labels) x) (h ++ notes x))
+  unfolding object_turn same_kind
+  property_more found k x c m d w f h r a s (inl (e, i)) =
+      let (brace, dots) = part_begins In inner cover given (with_in k) x c m r a in
+      let reads = property_reads k x c m r a s (rw e refl) in
+      loop_more (object_turn inner cover pattern element) found (found ++ x ∷ []) (st c k w f h) (st d k w (f ++ walk (env_of k w.labels) x) (h ++ notes x))
+      (rw (brace, dots, reads w f h, e, i) refl) (rw i (property_shorter k x c m w reads))
+  property_more found k x c m d w f h r a s (inr (e, i)) =
+      let (brace, dots) = part_begins In inner cover given (with_in k) x c m r a in
+      let reads = property_reads k x c m r a s (rw e refl) in
+      loop_more (object_turn inner cover pattern element) found (found ++ x ∷ []) (st c k w f h) (st d k w (f ++ walk (env_of k w.labels) x) (h ++ notes x))
+      (rw (brace, dots, reads w f h, e, expect_reads kind.Comma m k w (f ++ walk (env_of k w.labels) x) (h ++ notes x) e, i) refl)
+      (rw i (let n = property_shorter k x c m w reads in let b = moves m in omega arith))
+
+  properties_end : (found : List Tree) (k : Code) (c : Place) (w : Scope) (f h : List Fault) → kind_at c ≡ kind.RBrace
+      → loop (object_turn inner cover pattern element) found (st c k w f h) ≡ Ok (found, st (after c) k w f h)
+  unfolding object_turn
+  properties_end found k c w f h e = loop_done (object_turn inner cover pattern element) found found (st c k w f h) (st (after c) k w f h) (rw (seen c kind.RBrace e) refl)
+
+  -- a rest, which is a name, and behind which the object ends
+  rest_property_reads : (y : Tree) (k : Code) (x : Tree) (c d : Place) → In (pattern_goal binding (with_in k) y (after c) d) → is_pattern_target y ≡ false → supported y ≡ true
+      → x ≡ tree.rest_pat (spanned c d) y → Reads (rest_property inner cover pattern element) k x c d
+  unfolding rest_property rest_name spanned
+  rest_property_reads y k x c d r n s e w f h =
+      rw (within.plain (with_in k) y (after c) d r n s, within.reads_pattern (with_in k) y (after c) d r s w f h, e) refl
+
+  rest_property_last : (found : List Tree) (y : Tree) (k : Code) (x : Tree) (c m : Place) (w : Scope) (f h : List Fault) → kind_at c ≡ kind.DotDotDot
+      → In (pattern_goal binding (with_in k) y (after c) m) → is_pattern_target y ≡ false → supported y ≡ true → x ≡ tree.rest_pat (spanned c m) y → kind_at m ≡ kind.RBrace
+      → loop (object_turn inner cover pattern element) found (st c k w f h) ≡ Ok (found ++ x ∷ [], st (after m) k w (f ++ walk (env_of k w.labels) x) (h ++ notes x))
+  unfolding object_turn same_kind
+  rest_property_last found y k x c m w f h o r n s e i =
+      loop_done (object_turn inner cover pattern element) found (found ++ x ∷ []) (st c k w f h) (st (after m) k w (f ++ walk (env_of k w.labels) x) (h ++ notes x))
+      (rw (o, rest_property_reads y k x c m r n s e w f h, expect_reads kind.RBrace m k w (f ++ walk (env_of k w.labels) x) (h ++ notes x) i) refl)
+
+  plain_last : (found : List Tree) (k : Code) (x : Tree) (c m d : Place) (w : Scope) (f h : List Fault) → PatternPropertyRule In binding (with_in k) x c m → is_rest x ≡ false
+      → LastComma true x m d → supported x ≡ true → kind_at d ≡ kind.RBrace
+      → loop (object_turn inner cover pattern element) found (st c k w f h) ≡ Ok (found ++ x ∷ [], st (after d) k w (f ++ walk (env_of k w.labels) x) (h ++ notes x))
+  plain_last found k x c m d w f h r a l s e =
+      property_more found k x c m d w f h r a s (behind_last kind.RBrace x m d l e)
+      ∙ properties_end (found ++ x ∷ []) k d w (f ++ walk (env_of k w.labels) x) (h ++ notes x) e
+
+  last_property : (found : List Tree) (k : Code) (x : Tree) (c m d : Place) (w : Scope) (f h : List Fault) → PatternPropertyRule In binding (with_in k) x c m → LastComma true x m d
+      → supported x ≡ true → kind_at d ≡ kind.RBrace
+      → loop (object_turn inner cover pattern element) found (st c k w f h) ≡ Ok (found ++ x ∷ [], st (after d) k w (f ++ walk (env_of k w.labels) x) (h ++ notes x))
+  last_property found k x c m d w f h (patterns.rest_rule y o r n i) l s e =
+      let g = rest_ends x m d (ap is_rest i) l in
+      rw g (rest_property_last found y k x c m w f h o r n (supported_as x (tree.rest_pat (spanned c m) y) i s) i (ap kind_at (sym g) ∙ e))
+  last_property found k x c m d w f h (patterns.key_value_rule y z a r i v g) l s e =
+      plain_last found k x c m d w f h (patterns.key_value_rule y z a r i v g) (ap is_rest g) l s e
+  last_property found k x c m d w f h (patterns.shorthand_rule text sp r n g) l s e =
+      plain_last found k x c m d w f h (patterns.shorthand_rule text sp r n g) (ap is_rest g) l s e
+  last_property found k x c m d w f h (patterns.default_rule text sp z a r i v g) l s e =
+      plain_last found k x c m d w f h (patterns.default_rule text sp z a r i v g) (ap is_rest g) l s e
+
+  many_properties : (xs found : List Tree) (k : Code) (c d : Place) (w : Scope) (f h : List Fault) → ReadsListed true (PatternPropertyRule In binding (with_in k)) xs c d
+      → all_supported (trees xs) ≡ true → kind_at d ≡ kind.RBrace
+      → loop (object_turn inner cover pattern element) found (st c k w f h)
+      ≡ Ok (found ++ xs, st (after d) k w (f ++ walks (env_of k w.labels) false (trees xs)) (h ++ all_notes (trees xs)))
+  many_properties [] found k c d w f h r s e = rw (append-nil found, append-nil f, append-nil h, r) (properties_end found k c w f h (ap kind_at (sym r) ∙ e))
+  many_properties (x ∷ []) found k c d w f h (m, r, l) s e =
+      rw (append-nil (walk (env_of k w.labels) x), append-nil (notes x)) (last_property found k x c m d w f h r l (and_yes (supported x) _ s).0 e)
+  many_properties (x ∷ y ∷ ys) found k c d w f h (m, r, a, i, more) s e =
+      let t = and_yes (supported x) _ s in
+      property_more found k x c m (after m) w f h r a t.0 (inr (i, refl))
+      ∙ many_properties (y ∷ ys) (found ++ x ∷ []) k (after m) d w (f ++ walk (env_of k w.labels) x) (h ++ notes x) more t.1 e ∙ simp append_assoc refl
+
+  object_reads : (xs : List Tree) (m : Place) (k : Code) (x : Tree) (c d : Place) → ReadsListed true (PatternPropertyRule In binding (with_in k)) xs (after c) m
+      → all_supported (trees xs) ≡ true → kind_at m ≡ kind.RBrace → d ≡ after m → x ≡ tree.object_pat (spanned c d) (listed xs) → Reads (object inner cover pattern element) k x c d
+  unfolding object properties spanned
+  object_reads xs m k x c d r s g i j w f h = rw (many_properties xs [] k (after c) m w f h r s g, j, i) refl
+
+  -- ---- patterns without and with a default
+
+  bound_reads : (text : Text) (sp : Span) (k : Code) (x : Tree) (c d : Place) → ReadsName k text sp c d → supported (tree.ident_pat sp text) ≡ true → x ≡ tree.ident_pat sp text
+      → Reads (pattern_level inner cover pattern element) k x c d
+  unfolding pattern_level reader.binding
+  bound_reads text sp k x c d r s e w f h =
+      let (bracket, brace) = or_no (sees kind.LBracket c) _ (unopened k text sp c d r s) in
+      rw (
+        bracket,
+        brace,
+        name_reads faults.ExpectedIdent r.word sp c d k w f h r.reads_word (name_is_name k text sp c d r s),
+        e ∙ ap (tree.ident_pat sp) r.is_text,
+        append-nil f,
+        append-nil h,
+      ) refl
+
+  pattern_reads_by : (k : Code) (x : Tree) (c d : Place) → PatternRule In binding k x c d → supported x ≡ true → Reads (pattern_level inner cover pattern element) k x c d
+  unfolding pattern_level same_kind
+  pattern_reads_by k x c d (patterns.binding_name_rule text sp p r e) s w f h = bound_reads text sp k x c d r (supported_as x (tree.ident_pat sp text) e s) e w f h
+  pattern_reads_by k x c d (patterns.target_name_rule text sp p a r e) s w f h = cc
+  pattern_reads_by k x c d (patterns.target_rule y p r t i e) s w f h = cc
+  pattern_reads_by k x c d (patterns.array_rule xs m i r j n e) s w f h =
+      rw i (array_reads xs m k x c d r (supported_as x (tree.array_pat (spanned c d) (listed xs)) e s) j n e w f h)
+  pattern_reads_by k x c d (patterns.object_rule xs m i r j n e) s w f h =
+      rw i (object_reads xs m k x c d r (supported_as x (tree.object_pat (spanned c d) (listed xs)) e s) j n e w f h)
+
+  element_reads_by : (k : Code) (x : Tree) (c d : Place) → PatternElementRule In binding k x c d → supported x ≡ true → Reads (element_level inner cover pattern element) k x c d
+  unfolding element_level initialized spanned same_kind
+  element_reads_by k x c d (patterns.bare_rule r e) s w f h = rw (pattern_reads_by k x c d r s w f h, e) refl
+  element_reads_by k x c d (patterns.initialized_rule y z m r i v e) s w f h =
+      let t = and_yes (supported y) _ (supported_as x (tree.assign_pat (spanned c d) y z) e s) in
+      rw (
+        pattern_reads_by k y c m r t.0 w f h,
+        i,
+        inside_reads In inner cover given assignment k z (after m) d v t.1 w (f ++ walk (env_of k w.labels) y) (h ++ notes y),
+        append_assoc f (walk (env_of k w.labels) y) (walk (env_of k w.labels) z),
+        append_assoc h (notes y) (notes z),
+        e,
+      ) refl
+
+-- ---- within so many levels
+
+level_plain : (n : ℕ) (k : Code) (x : Tree) (c d : Place) → language.Reads n (pattern_goal binding k x c d) → is_pattern_target x ≡ false → supported x ≡ true → begins_literal c ≡ false
+level_plain zero k x c d r n s = absurd r
+level_plain (suc n) k x c d r a s = plain_first (language.Reads n) k x c d r a s
+
+module _ (n : ℕ) (within : IsPatternRead (language.Reads n) (pattern n) (element n)) where
+  level_pattern : (k : Code) (x : Tree) (c d : Place) → language.Reads (suc n) (pattern_goal binding k x c d) → supported x ≡ true → Reads (pattern (suc n)) k x c d
+  unfolding pattern
+  level_pattern k x c d r s w f h = pattern_reads_by (language.Reads n) (expr n) (cover n) (is_read n) (pattern n) (element n) within k x c d r s w f h
+
+  level_element : (k : Code) (x : Tree) (c d : Place) → language.Reads (suc n) (element_goal binding k x c d) → supported x ≡ true → Reads (element (suc n)) k x c d
+  unfolding element
+  level_element k x c d r s w f h = element_reads_by (language.Reads n) (expr n) (cover n) (is_read n) (pattern n) (element n) within k x c d r s w f h
+
+-- what is read within so many levels
+is_pattern_read : (n : ℕ) → IsPatternRead (language.Reads n) (pattern n) (element n)
+is_pattern_read zero = record {
+  reads_pattern = λ k x c d r s. absurd r;
+  reads_element = λ k x c d r s. absurd r;
+  plain = level_plain zero;
+  begins = element_begins binding zero;
+  pattern_falls = pattern_falls zero;
+  element_falls = element_falls zero;
+}
+is_pattern_read (suc n) = record {
+  reads_pattern = level_pattern n (is_pattern_read n);
+  reads_element = level_element n (is_pattern_read n);
+  plain = level_plain (suc n);
+  begins = element_begins binding (suc n);
+  pattern_falls = pattern_falls (suc n);
+  element_falls = element_falls (suc n);
+}
+
+-- a pattern without a default, and one with its default, if it has one
+pub pattern_reads : (n : ℕ) (k : Code) (x : Tree) (c d : Place) → ReadsPat n k x c d → Reads (pattern n) k x c d
+pattern_reads n k x c d r = (is_pattern_read n).reads_pattern k x c d r.0 r.1
+
+pub element_reads : (n : ℕ) (k : Code) (x : Tree) (c d : Place) → ReadsElement n k x c d → Reads (element n) k x c d
+element_reads n k x c d r = (is_pattern_read n).reads_element k x c d r.0 r.1
