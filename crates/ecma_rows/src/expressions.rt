@@ -122,6 +122,36 @@ fn bindings(rt: HostRuntime) -> Result<(), Fail> {
     Ok(())
 }
 
+const IMPORTS: &str =
+    "a = import(b, c) → Script 0..16, Expr 0..16 → AssignExpr 0..16, CallExpr 4..16, Import 4..10, Ident 11..12 b, Ident 14..15 c
+import() → Script 0..8, Expr 0..8 → CallExpr 0..8, Import 0..6
+import(...a); → Script 0..13, Expr 0..13 → CallExpr 0..12, Import 0..6
+import(a).then(b) → Script 0..17, Expr 0..17 → CallExpr 0..17, MemberExpr 0..14, CallExpr 0..9, Import 0..6
+import(a), b → Script 0..12, Expr 0..12 → SeqExpr 0..12, CallExpr 0..9
+import(a) b → Script 0..11, Expr 0..9, Expr 10..11
+{ import(a) } → Script 0..13, Block 0..13 → ExprStmt 2..11, CallExpr 2..11
+new (import(a)) → Script 0..15, Expr 0..15 → NewExpr 0..15, ParenExpr 4..15, CallExpr 5..14
+new a(import(b)) → Script 0..16, Expr 0..16 → NewExpr 0..16, CallExpr 6..15
+a = import(b,) → Script 0..14, Expr 0..14, fault 12..13 TrailingCommaInsideImport → AssignExpr 0..14, CallExpr 4..14
+import(a, b,) → Script 0..13, Expr 0..13, fault 11..12 TrailingCommaInsideImport → CallExpr 0..13
+import(a(b,)) → Script 0..13, Expr 0..13 → CallExpr 0..13, CallExpr 7..12
+import(a b) → refused 9..10 Expected
+import 'foo'; → refused 0..6 ImportExportInScript
+import → refused 0..6 ImportExportInScript
+import.meta → Script 0..11, Expr 0..11, fault 0..11 ImportMetaInScript → MetaPropExpr 0..11
+import.meta.url = a → Script 0..19, Expr 0..19, fault 0..11 ImportMetaInScript → AssignExpr 0..19, MemberExpr 0..15, MetaPropExpr 0..11
+import.other → refused 7..12 Unexpected
+new import.meta → refused 4..10 Unexpected
+new import(a) → refused 4..10 Unexpected
+a = import b → refused 11..12 Unexpected
+a = import.meta; → Script 0..16, Expr 0..16, fault 4..15 ImportMetaInScript → MetaPropExpr 4..15";
+
+#[test]
+fn imports(rt: HostRuntime) -> Result<(), Fail> {
+    assert_eq!(rt; report(rt.alloc(), IMPORTS, 1000)?.as_str(), "22 rows");
+    Ok(())
+}
+
 const REFUSED: &str = "a ?? b || c → refused 0..11 NullishCoalescingWithLogicalOp
 -a ** b → refused 0..2 UnaryInExp
 1 + f() = 2 → refused 0..7 InvalidPat

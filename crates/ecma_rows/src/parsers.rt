@@ -1,13 +1,13 @@
 //! Each public function of parsers once.
 
 use crate::texts::{input, lexed, lexer, listed, tokens};
-use ecma_report::show;
+use ecma_report::{Shown, show};
 use std::alloc::{AllocError, Global};
 use std::test::Fail;
 use swc_ecma_parser::Parser;
 use swc_ecma_parser::common::{BytePos, Comment, CommentKind, Span};
 use swc_ecma_parser::error::{Error, PResult, SyntaxError};
-use swc_ecma_parser::input::{Capturing, CommentSource, Syntax, Tokens, spans_ordered};
+use swc_ecma_parser::input::{Capturing, CommentSource, EsSyntax, Syntax, Tokens, spans_ordered};
 use swc_ecma_parser::lexer::{Lexer, StringInput};
 use swc_ecma_parser::token::{Token, TokenAndSpan};
 
@@ -198,5 +198,24 @@ fn behind_others(alloc: Global) -> Result<String, AllocError> {
 fn a_text_can_start_anywhere(rt: HostRuntime) -> Result<(), Fail> {
     let found = behind_others(rt.alloc())?;
     assert_eq!(rt; found.as_str(), "a; 5..7 Script 5..7\n  Expr 5..7\n");
+    Ok(())
+}
+
+/// What a text parses to where attributes of imports are read.
+fn attributed(alloc: Global, input: StringInput<'_>) -> Result<Shown, AllocError> {
+    let settings = EsSyntax {
+        import_attributes: true,
+        ..EsSyntax::default()
+    };
+    show(
+        alloc,
+        &mut Parser::new(alloc, Syntax::Es(settings), input, false),
+    )
+}
+
+#[test]
+fn a_comma_may_end_the_arguments_of_import(rt: HostRuntime) -> Result<(), Fail> {
+    let found = attributed(rt.alloc(), input("import(a, b,)")?)?;
+    assert_eq!(rt; found.lines.as_str(), "Script 0..13\n  Expr 0..13\n");
     Ok(())
 }

@@ -1,6 +1,6 @@
 //! Accesses and arguments: ECMA-262, sections 13.3.2 and 13.3.8.
 
-ghost use Rattle.std.specs.Prelude.{◌≡◌, ◌||◌, IfOk, map, nat_eq};
+ghost use Rattle.std.specs.Prelude.{◌≡◌, ◌&&◌, ◌||◌, not, IfOk, map, nat_eq};
 ghost use Rattle.swc_ecma_parser_core.specs.Nests.{Nests};
 ghost use Rattle.swc_ecma_parser_core.specs.Accesses.{private_of, property_of, word_of};
 ghost use Rattle.swc_ecma_parser_grammar.specs.Looks.{sees, span_at};
@@ -16,7 +16,7 @@ use crate::pat::Part;
 use crate::steps::{grown, pushed, since, with_in};
 use std::alloc::{AllocError, Global};
 use swc_ecma_parser_common::Span;
-use swc_ecma_parser_error::PResult;
+use swc_ecma_parser_error::{PResult, SyntaxError};
 use swc_ecma_parser_grammar::{Class, Position};
 use swc_ecma_parser_model::{Ident, PrivateName};
 use swc_ecma_parser_state::{Source, Wanted};
@@ -199,17 +199,24 @@ pub fn element<
     plain_element(g, t, p)
 }
 
-/// Arguments, from `(` on.
-#[tactic(auto, unfolding(swc_ecma_parser_reader::specs::Expressions::arguments), using(swc_ecma_parser_reader::proofs::expressions::Loops::arguments_done, swc_ecma_parser_reader::proofs::expressions::Loops::arguments_err, swc_ecma_parser_reader::proofs::expressions::Loops::arguments_last, swc_ecma_parser_reader::proofs::expressions::Loops::arguments_more, swc_ecma_parser_reader::proofs::expressions::Loops::arguments_comma_err, swc_ecma_parser_reader::proofs::expressions::Loops::element_shorter, swc_ecma_parser_reader::proofs::expressions::Loops::arguments_shorter, std::proofs::lemmas::List::map_push))]
+/// Whether `)` stands here behind a comma, where none may stand before it.
+fn ends_behind_comma<P: Source>(p: &P, commas: bool) -> bool
+    ensures { result ≡ (not commas && sees kind.RParen (P.seen p.now).at) }
+{
+    !commas && p.sees(TokenKind::RParen)
+}
+
+/// Arguments, from `(` on. A comma may stand behind the last one, or is recorded there.
+#[tactic(auto, unfolding(swc_ecma_parser_reader::specs::Expressions::arguments), using(swc_ecma_parser_reader::proofs::expressions::Loops::arguments_done, swc_ecma_parser_reader::proofs::expressions::Loops::arguments_err, swc_ecma_parser_reader::proofs::expressions::Loops::arguments_last, swc_ecma_parser_reader::proofs::expressions::Loops::arguments_more, swc_ecma_parser_reader::proofs::expressions::Loops::arguments_noted, swc_ecma_parser_reader::proofs::expressions::Loops::arguments_note_err, swc_ecma_parser_reader::proofs::expressions::Loops::arguments_comma_err, swc_ecma_parser_reader::proofs::expressions::Loops::element_shorter, swc_ecma_parser_reader::proofs::expressions::Loops::arguments_shorter, swc_ecma_parser_reader::proofs::expressions::Loops::arguments_noted_shorter, std::proofs::lemmas::List::map_push))]
 pub fn arguments<
     P: Source,
     T: BuildsCall,
     S: Fn(&MakerOf<T>, &mut P, usize, Position) -> PResult<T::Stmt>,
     E: Fn(&MakerOf<T>, &mut P, usize, Reading) -> PResult<Cover<T::Expr>>,
     N: Fn(&MakerOf<T>, &mut P, usize, Part) -> PResult<T::Pat>,
->(g: &Grammar<S, E, N>, t: &MakerOf<T>, p: &mut P) -> PResult<Vec<T::Arg>>
+>(g: &Grammar<S, E, N>, t: &MakerOf<T>, p: &mut P, commas: bool) -> PResult<Vec<T::Arg>>
     requires { Nests P.seen T.expr_of T.pat_of T.stmt_of g.now.depth (S.pre g.now.stmt) (S.post g.now.stmt) (E.pre g.now.expr) (E.post g.now.expr) (N.pre g.now.pat) (N.post g.now.pat) }
-    ensures { GivesAs (λ found. map T.arg_of found.items) (exprs.arguments (exprs.expr g.now.depth) (exprs.cover g.now.depth) (P.seen p.old)) result (P.seen p.new) }
+    ensures { GivesAs (λ found. map T.arg_of found.items) (exprs.arguments (exprs.expr g.now.depth) (exprs.cover g.now.depth) commas (P.seen p.old)) result (P.seen p.new) }
 {
     p.skip()?;
     let mut found = Vec::new(t.alloc);
@@ -222,6 +229,10 @@ pub fn arguments<
         pushed(p, &mut found, argument)?;
         if !p.sees(TokenKind::RParen) {
             p.expect(TokenKind::Comma, ",")?;
+            if ends_behind_comma(p, commas) {
+                let comma = p.last_span();
+                p.fault(SyntaxError::TrailingCommaInsideImport, comma)?;
+            }
         }
     }
 }

@@ -22,6 +22,7 @@ use std::alloc::{AllocError, Global};
 use swc_ecma_parser_common::Span;
 use swc_ecma_parser_error::{PResult, SyntaxError};
 use swc_ecma_parser_grammar::{Class, Position};
+use swc_ecma_parser_model::MetaPropKind;
 use swc_ecma_parser_state::{Literal, Source, Wanted};
 use swc_ecma_parser_token::TokenKind;
 use swc_ecma_parser_trees::{BuildsCall, BuildsExpr, BuildsObject, BuildsOperator, MakerOf};
@@ -48,6 +49,24 @@ fn this<P: Source, T: BuildsOperator>(alloc: Global, p: &mut P) -> PResult<T::Ex
     p.skip()?;
     let span = since(p, start);
     grown(p, T::this(alloc, span))
+}
+
+/// `import.meta` from its word on: a fault in code that cannot be a module's; where it can be it is not read yet.
+#[tactic(auto, unfolding(swc_ecma_parser_reader::specs::Expressions::import_meta))]
+fn import_meta<P: Source, T: BuildsOperator>(
+    alloc: Global,
+    p: &mut P,
+    start: Span,
+) -> PResult<T::Expr>
+    ensures { GivesAs T.expr_of (exprs.import_meta start (P.seen p.old)) result (P.seen p.new) }
+{
+    if p.word_at("meta") && !p.flags().can_be_module {
+        p.skip()?;
+        let span = since(p, start);
+        p.fault(SyntaxError::ImportMetaInScript, span)?;
+        return grown(p, T::meta_prop(alloc, span, MetaPropKind::ImportMeta));
+    }
+    Err(p.wanted(Wanted::Expression))
 }
 
 /// The expression that a literal is.
@@ -180,7 +199,7 @@ fn called<
     requires { Nests P.seen T.expr_of T.pat_of T.stmt_of g.now.depth (S.pre g.now.stmt) (S.post g.now.stmt) (E.pre g.now.expr) (E.post g.now.expr) (N.pre g.now.pat) (N.post g.now.pat) }
     ensures { GivesAs (T.expr_of) (exprs.called (exprs.expr g.now.depth) (exprs.cover g.now.depth) start (T.expr_of x) (P.seen p.old)) result (P.seen p.new) }
 {
-    let arguments = arguments(g, t, p)?;
+    let arguments = arguments(g, t, p, true)?;
     let span = since(p, start);
     grown(p, T::call(t.alloc, span, x, arguments))
 }
@@ -235,7 +254,7 @@ fn super_call<
     requires { Nests P.seen T.expr_of T.pat_of T.stmt_of g.now.depth (S.pre g.now.stmt) (S.post g.now.stmt) (E.pre g.now.expr) (E.post g.now.expr) (N.pre g.now.pat) (N.post g.now.pat) }
     ensures { GivesAs (T.expr_of) (exprs.super_call (exprs.expr g.now.depth) (exprs.cover g.now.depth) start (P.seen p.old)) result (P.seen p.new) }
 {
-    let arguments = arguments(g, t, p)?;
+    let arguments = arguments(g, t, p, true)?;
     let span = since(p, start);
     grown(p, T::super_call(t.alloc, span, start, arguments))
 }
@@ -321,7 +340,7 @@ fn constructed<
     requires { Nests P.seen T.expr_of T.pat_of T.stmt_of g.now.depth (S.pre g.now.stmt) (S.post g.now.stmt) (E.pre g.now.expr) (E.post g.now.expr) (N.pre g.now.pat) (N.post g.now.pat) }
     ensures { GivesAs (T.expr_of) (exprs.constructed (exprs.expr g.now.depth) (exprs.cover g.now.depth) start (T.expr_of x) (P.seen p.old)) result (P.seen p.new) }
 {
-    let arguments = arguments(g, t, p)?;
+    let arguments = arguments(g, t, p, true)?;
     let span = since(p, start);
     grown(p, T::new_expr(t.alloc, span, x, Some(arguments)))
 }
@@ -361,7 +380,56 @@ fn new_head<
     bare_new::<P, T>(t.alloc, p, start, x)
 }
 
-/// What a left-hand-side expression begins with.
+/// The arguments of `import`, which stands at a place.
+#[tactic(auto, unfolding(swc_ecma_parser_reader::specs::Expressions::import_call))]
+fn import_call<
+    P: Source,
+    T: BuildsExpr + BuildsCall + BuildsObject + BuildsOperator,
+    S: Fn(&MakerOf<T>, &mut P, usize, Position) -> PResult<T::Stmt>,
+    E: Fn(&MakerOf<T>, &mut P, usize, Reading) -> PResult<Cover<T::Expr>>,
+    N: Fn(&MakerOf<T>, &mut P, usize, Part) -> PResult<T::Pat>,
+>(g: &Grammar<S, E, N>, t: &MakerOf<T>, p: &mut P, start: Span) -> PResult<T::Expr>
+    requires { Nests P.seen T.expr_of T.pat_of T.stmt_of g.now.depth (S.pre g.now.stmt) (S.post g.now.stmt) (E.pre g.now.expr) (E.post g.now.expr) (N.pre g.now.pat) (N.post g.now.pat) }
+    ensures { GivesAs (T.expr_of) (exprs.import_call (exprs.expr g.now.depth) (exprs.cover g.now.depth) start (P.seen p.old)) result (P.seen p.new) }
+{
+    let commas = p.import_attributes();
+    let arguments = arguments(g, t, p, commas)?;
+    let span = since(p, start);
+    grown(p, T::import_call(t.alloc, span, start, arguments))
+}
+
+/// `import` and its arguments, or `import.meta`.
+#[tactic(auto, unfolding(swc_ecma_parser_reader::specs::Expressions::import_head))]
+fn import_head<
+    P: Source,
+    T: BuildsExpr + BuildsCall + BuildsObject + BuildsOperator,
+    S: Fn(&MakerOf<T>, &mut P, usize, Position) -> PResult<T::Stmt>,
+    E: Fn(&MakerOf<T>, &mut P, usize, Reading) -> PResult<Cover<T::Expr>>,
+    N: Fn(&MakerOf<T>, &mut P, usize, Part) -> PResult<T::Pat>,
+>(g: &Grammar<S, E, N>, t: &MakerOf<T>, p: &mut P) -> PResult<T::Expr>
+    requires { Nests P.seen T.expr_of T.pat_of T.stmt_of g.now.depth (S.pre g.now.stmt) (S.post g.now.stmt) (E.pre g.now.expr) (E.post g.now.expr) (N.pre g.now.pat) (N.post g.now.pat) }
+    ensures { GivesAs (T.expr_of) (exprs.import_head (exprs.expr g.now.depth) (exprs.cover g.now.depth) (P.seen p.old)) result (P.seen p.new) }
+{
+    let start = p.span();
+    p.skip()?;
+    if p.sees(TokenKind::LParen) {
+        return import_call(g, t, p, start);
+    }
+    if p.sees(TokenKind::Dot) {
+        p.skip()?;
+        return import_meta::<P, T>(t.alloc, p, start);
+    }
+    Err(p.wanted(Wanted::Expression))
+}
+
+/// Whether `import` stands here, where calls are read.
+fn begins_import<P: Source>(p: &P, calls: bool) -> bool
+    ensures { result ≡ (calls && sees kind.Import (P.seen p.now).at) }
+{
+    calls && p.sees(TokenKind::Import)
+}
+
+/// What a left-hand-side expression begins with; `new` does not call what `import` calls.
 #[tactic(auto, unfolding(swc_ecma_parser_reader::specs::Expressions::left_head))]
 fn left_head<
     P: Source,
@@ -378,6 +446,9 @@ fn left_head<
     }
     if p.sees(TokenKind::New) {
         return new_head(g, t, p);
+    }
+    if begins_import(p, calls) {
+        return import_head(g, t, p);
     }
     primary(g, t, p)
 }

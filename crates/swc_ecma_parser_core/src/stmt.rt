@@ -4,6 +4,7 @@ ghost use Rattle.std.specs.Prelude.{◌≡◌, false, map, IfOk, IfErr};
 ghost use Rattle.swc_ecma_parser_core.specs.Nests.{Nests};
 ghost use Rattle.swc_ecma_parser_error.specs.Kind as kinds;
 ghost use Rattle.swc_ecma_parser_error.specs.Kind.{kind_of, IsOutOfMemory};
+ghost use Rattle.swc_ecma_parser_grammar.specs.Follows as follows;
 ghost use Rattle.swc_ecma_parser_grammar.specs.Reads.{nested_item};
 ghost use Rattle.swc_ecma_parser_grammar.specs.language.Goals.{expression};
 ghost use Rattle.swc_ecma_parser_reader.specs.Expressions as exprs;
@@ -263,6 +264,65 @@ fn expr_stmt_at<
     expr_stmt(g, t, p)
 }
 
+/// An end that nothing demands.
+#[tactic(auto, unfolding(swc_ecma_parser_reader::specs::Reader::optional_end))]
+fn optional_end<P: Source>(p: &mut P) -> PResult<()>
+    ensures { Gives (rules.optional_end (P.seen p.old)) result (P.seen p.new) }
+{
+    if p.sees(TokenKind::Semi) {
+        return p.skip();
+    }
+    Ok(())
+}
+
+/// An expression statement that begins with `import`.
+#[tactic(auto, unfolding(swc_ecma_parser_reader::specs::Reader::import_stmt, swc_ecma_parser_grammar::specs::Looks::spanned))]
+fn import_stmt<
+    P: Source,
+    T: BuildsStmt,
+    S: Fn(&MakerOf<T>, &mut P, usize, Position) -> PResult<T::Stmt>,
+    E: Fn(&MakerOf<T>, &mut P, usize, Reading) -> PResult<Cover<T::Expr>>,
+    N: Fn(&MakerOf<T>, &mut P, usize, Part) -> PResult<T::Pat>,
+>(g: &Grammar<S, E, N>, t: &MakerOf<T>, p: &mut P) -> PResult<T::Stmt>
+    requires { Nests P.seen T.expr_of T.pat_of T.stmt_of g.now.depth (S.pre g.now.stmt) (S.post g.now.stmt) (E.pre g.now.expr) (E.post g.now.expr) (N.pre g.now.pat) (N.post g.now.pat) }
+    ensures { GivesAs T.stmt_of (rules.import_stmt (exprs.expr g.now.depth expression) (P.seen p.old)) result (P.seen p.new) }
+{
+    let start = p.span();
+    let outer = p.flags();
+    p.set_flags(with_in(outer));
+    let x = nested(g, t, p, Class::Expression)?;
+    p.set_flags(outer);
+    optional_end(p)?;
+    let span = since(p, start);
+    grown(p, T::expr_stmt(t.alloc, span, x))
+}
+
+/// Whether `import(` or `import.` stands here.
+#[tactic(auto, unfolding(swc_ecma_parser_grammar::specs::Follows::begins_import_expression))]
+fn begins_import_expression<P: Source>(p: &P) -> bool
+    ensures { result ≡ follows.begins_import_expression (P.seen p.now).at }
+{
+    p.sees(TokenKind::Import) && (p.next_sees(TokenKind::LParen) || p.next_sees(TokenKind::Dot))
+}
+
+/// An expression statement, where `import` begins one; it begins no other statement.
+#[tactic(auto, unfolding(swc_ecma_parser_reader::specs::Reader::import_stmt_at))]
+fn import_stmt_at<
+    P: Source,
+    T: BuildsStmt,
+    S: Fn(&MakerOf<T>, &mut P, usize, Position) -> PResult<T::Stmt>,
+    E: Fn(&MakerOf<T>, &mut P, usize, Reading) -> PResult<Cover<T::Expr>>,
+    N: Fn(&MakerOf<T>, &mut P, usize, Part) -> PResult<T::Pat>,
+>(g: &Grammar<S, E, N>, t: &MakerOf<T>, p: &mut P) -> PResult<T::Stmt>
+    requires { Nests P.seen T.expr_of T.pat_of T.stmt_of g.now.depth (S.pre g.now.stmt) (S.post g.now.stmt) (E.pre g.now.expr) (E.post g.now.expr) (N.pre g.now.pat) (N.post g.now.pat) }
+    ensures { GivesAs T.stmt_of (rules.import_stmt_at (exprs.expr g.now.depth expression) (P.seen p.old)) result (P.seen p.new) }
+{
+    if begins_import_expression(p) {
+        return import_stmt(g, t, p);
+    }
+    Err(p.refuse_as(SyntaxError::ImportExportInScript))
+}
+
 /// A statement, by its first token.
 #[tactic(auto, unfolding(swc_ecma_parser_reader::specs::Reader::stmt_level))]
 pub fn level<
@@ -280,6 +340,7 @@ pub fn level<
         TokenKind::Semi => empty::<P, T>(t.alloc, p),
         TokenKind::Debugger => debugger::<P, T>(t.alloc, p),
         TokenKind::Var => var(g, t, p),
+        TokenKind::Import => import_stmt_at(g, t, p),
         _ => expr_stmt_at(g, t, p, at),
     }
 }

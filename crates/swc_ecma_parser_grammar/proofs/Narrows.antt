@@ -16,7 +16,7 @@ use Rattle.swc_ecma_parser_grammar.specs.declared.position.Position.{Position}
 use Rattle.swc_ecma_parser_grammar.specs.Looks.{kind_at, sees, same_kind, spanned}
 use Rattle.swc_ecma_parser_grammar.specs.Names.{Code}
 use Rattle.swc_ecma_parser_grammar.specs.Ends.{Ends}
-use Rattle.swc_ecma_parser_grammar.specs.Reads.{with_in, in_strict, directed, directs_on, nested_item, top_item, DeclaratorRule, plain_rule, initialized_rule, ReadsSeparated, ReadsItems, StmtRule, block_rule, empty_rule, debugger_rule, var_rule, expr_rule}
+use Rattle.swc_ecma_parser_grammar.specs.Reads.{with_in, in_strict, directed, directs_on, nested_item, top_item, DeclaratorRule, plain_rule, initialized_rule, ReadsSeparated, ReadsItems, StmtRule, block_rule, empty_rule, debugger_rule, var_rule, expr_rule, import_rule}
 use Rattle.swc_ecma_parser_grammar.specs.Entries.{ReadsScript, ReadsShebang, some_shebang, no_shebang, script_code}
 use Rattle.swc_ecma_parser_grammar.specs.Supported.{supported, all_supported}
 use Rattle.swc_ecma_parser_grammar.specs.ReadsSupported.{ReadsClass, ReadsPat, ReadsStmt}
@@ -25,12 +25,11 @@ use Rattle.swc_ecma_parser_grammar.specs.language.Declarations as declarations
 use Rattle.swc_ecma_parser_grammar.specs.language.Declarations.{is_var, begins_variables}
 use Rattle.swc_ecma_parser_grammar.specs.language.Items.{ItemsRule}
 use Rattle.swc_ecma_parser_grammar.specs.language.Statements as statements
-use Rattle.swc_ecma_parser_grammar.specs.language.Statements.{begins_import_expression}
 use Rattle.swc_ecma_parser_grammar.specs.language.Reads.{Reads}
 use Rattle.swc_ecma_parser_grammar.specs.language.Programs as programs
 use Rattle.swc_ecma_parser_grammar.specs.language.Programs.{ReadsEntry}
 use Rattle.swc_ecma_parser_grammar.proofs.Tests.{and_yes, no_and}
-use Rattle.swc_ecma_parser_grammar.proofs.SupportedBegins.{refuted, supported_as, expr_begins}
+use Rattle.swc_ecma_parser_grammar.proofs.SupportedBegins.{refuted, supported_as}
 
 -- ---- declarators
 
@@ -60,11 +59,6 @@ saw c j e = same_true the_type (search rules) (kind_at c) j e
 strict_module : (b : Bool) (k : Code) → (cond b (in_strict k) k).flags.module ≡ k.flags.module
 strict_module true k = refl
 strict_module false k = refl
-
--- no supported expression begins with `import`
-no_import : {X : Type 0} (c : Place) → begins_import_expression c ≡ true → sees kind.Import c ≡ false → X
-unfolding begins_import_expression
-no_import c h g = let i = (and_yes (sees kind.Import c) _ h).0 in cc
 
 if_unsupported : (In : Goal → Type 0) (k : Code) (x : Tree) (c d : Place) → statements.IfRule In k x c d → supported x ≡ false
 if_unsupported In k x c d (statements.if_rule t y z m n i r s o e) = ap supported e
@@ -115,8 +109,7 @@ module _ (n : ℕ) (narrow : (k : Code) (at : Position) (x : Tree) (c d : Place)
   form_narrows k at x c d o (statements.for_of_rule w a b y l m p i j q r t s u v e) h = refuted x (ap supported e) h
   form_narrows k at x c d o (statements.expr_rule y m i r l g e) h =
       expr_rule y m i (r, supported_as x (tree.expr_stmt (spanned c d) y) e h) l (no_and _ _ o) g e
-  form_narrows k at x c d o (statements.import_expr_rule y m i r g e) h =
-      no_import c i (expr_begins n (with_in k) y c m (r, supported_as x (tree.expr_stmt (spanned c d) y) e h)).1
+  form_narrows k at x c d o (statements.import_expr_rule y m i r g e) h = import_rule y m i (r, supported_as x (tree.expr_stmt (spanned c d) y) e h) g e
 
 stmt_narrows : (n : ℕ) (k : Code) (at : Position) (x : Tree) (c d : Place) → k.flags.module ≡ false → Reads n (stmt_goal k at x c d) → supported x ≡ true → ReadsStmt n k at x c d
 stmt_narrows zero k at x c d o r h = absurd r

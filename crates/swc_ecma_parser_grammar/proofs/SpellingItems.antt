@@ -13,13 +13,13 @@ use Rattle.swc_ecma_parser_model.specs.Tree.{Tree, Text, listed}
 use Rattle.swc_ecma_parser_grammar.specs.Looks.{kind_at, sees, spanned}
 use Rattle.swc_ecma_parser_grammar.specs.Names.{Code}
 use Rattle.swc_ecma_parser_grammar.specs.Ends.{ends_at}
-use Rattle.swc_ecma_parser_grammar.specs.Follows.{is_let_declaration, may_begin_expression_statement}
+use Rattle.swc_ecma_parser_grammar.specs.Follows.{is_let_declaration, may_begin_expression_statement, begins_import_expression}
 use Rattle.swc_ecma_parser_grammar.specs.Walk.{walk, env_of}
 use Rattle.swc_ecma_parser_grammar.specs.language.Goals.{Goal}
 use Rattle.swc_ecma_parser_grammar.specs.language.Items.{top_item, ItemsRule}
 use Rattle.swc_ecma_parser_grammar.specs.language.Declarations.{is_using_declaration}
 use Rattle.swc_ecma_parser_grammar.specs.language.ForHeads.{may_begin_head, is_async_of}
-use Rattle.swc_ecma_parser_grammar.specs.language.Statements.{may_begin_at_top, begins_import_expression}
+use Rattle.swc_ecma_parser_grammar.specs.language.Statements.{may_begin_at_top}
 use Rattle.swc_ecma_parser_grammar.specs.language.ModuleParts.{begins_attributes}
 use Rattle.swc_ecma_parser_grammar.specs.language.Imports.{follows_phase, begins_phase}
 use Rattle.swc_ecma_parser_grammar.specs.language.Exports.{may_begin_default}

@@ -1,5 +1,5 @@
--- With which tokens a supported expression begins: neither with `await` and `import`, nor, but for `{`, with what begins or
--- ends a statement.
+-- With which tokens a supported expression begins: neither with `await`, nor, but for `{` and `import`, with what begins or ends
+-- a statement.
 use Rattle.std.proofs.Common.{◌≡◌, ℕ, zero, suc, Bool, true, false, ◌∷◌, Some, refl, sym, ◌∙◌, ap}
 use Rattle.std.specs.Prelude.{not, codes}
 use Rattle.std.specs.Str.{bytes_eq}
@@ -52,7 +52,6 @@ supported_as x y e h = sym (ap supported e) ∙ h
 -- the first token decides for an expression, as far as it decides
 abbrev pub opens : TokenKind → Bool
 opens kind.Await = false
-opens kind.Import = false
 opens kind.Semi = false
 opens kind.Debugger = false
 opens kind.Var = false
@@ -63,7 +62,6 @@ opens _ = true
 word_opens : (f : Context) (w : Word) → is_name f (word_text w) ≡ true → opens (word_kind w) ≡ true
 unfolding is_name is_reserved
 word_opens f (word.Keyword keyword.Await) h = let g = (and_yes (not (is_reserved f (codes "await"))) _ h).1 in cc
-word_opens f (word.Keyword keyword.Import) h = cc
 word_opens f (word.Keyword keyword.Debugger) h = cc
 word_opens f (word.Keyword keyword.Var) h = cc
 word_opens f _ h = refl
@@ -82,7 +80,6 @@ name_opens k text s c d r h =
 
 unary_opens : (j : TokenKind) (op : UnaryOp) → unary_operator j ≡ Some op → opens j ≡ true
 unary_opens kind.Await op h = cc
-unary_opens kind.Import op h = cc
 unary_opens kind.Semi op h = cc
 unary_opens kind.Debugger op h = cc
 unary_opens kind.Var op h = cc
@@ -92,7 +89,6 @@ unary_opens _ op h = refl
 
 update_opens : (j : TokenKind) (op : UpdateOp) → update_operator j ≡ Some op → opens j ≡ true
 update_opens kind.Await op h = cc
-update_opens kind.Import op h = cc
 update_opens kind.Semi op h = cc
 update_opens kind.Debugger op h = cc
 update_opens kind.Var op h = cc
@@ -126,7 +122,7 @@ module _ (In : Goal → Type 0) (k : Code) where
   left_side_opens {c = c} (super_property_rule p i a j e) h = kind_opens c kind.Super i refl
   left_side_opens {x = x} {c = c} {d = d} (call_rule y z m r a e) h = left_side_opens r (and_yes (supported y) _ (supported_as x (tree.call (spanned c d) y z) e h)).0
   left_side_opens {c = c} (super_call_rule z i a e) h = kind_opens c kind.Super i refl
-  left_side_opens {x = x} (import_call_rule z i a e) h = refuted x (ap supported e) h
+  left_side_opens {c = c} (import_call_rule z i a e) h = kind_opens c kind.Import i refl
   left_side_opens {c = c} (new_rule y z m i r a e) h = kind_opens c kind.New i refl
   left_side_opens {c = c} (bare_new_rule y i r e) h = kind_opens c kind.New i refl
 
@@ -170,17 +166,28 @@ pub expr_opens : (n : ℕ) (k : Code) (x : Tree) (c d : Place) → ReadsClass n 
 expr_opens zero k x c d r = absurd r.0
 expr_opens (suc n) k x c d r = expression_opens (Reads n) k x c d r.0 r.1
 
--- so with neither `await` nor `import`
-opens_no_word : (j : TokenKind) → opens j ≡ true → (same_kind j kind.Await ≡ false) × (same_kind j kind.Import ≡ false)
+-- so not with `await`
+opens_no_await : (j : TokenKind) → opens j ≡ true → same_kind j kind.Await ≡ false
 unfolding same_kind
-opens_no_word kind.Await h = cc
-opens_no_word kind.Import h = cc
-opens_no_word _ h = (refl, refl)
+opens_no_await kind.Await h = cc
+opens_no_await _ h = refl
 
-pub expr_begins : (n : ℕ) (k : Code) (x : Tree) (c d : Place) → ReadsClass n expression k x c d → (sees kind.Await c ≡ false) × (sees kind.Import c ≡ false)
-expr_begins n k x c d r = opens_no_word (kind_at c) (expr_opens n k x c d r)
+pub expr_begins : (n : ℕ) (k : Code) (x : Tree) (c d : Place) → ReadsClass n expression k x c d → sees kind.Await c ≡ false
+expr_begins n k x c d r = opens_no_await (kind_at c) (expr_opens n k x c d r)
 
--- nor does a name
+-- nor does a name, which is no `import` either
+word_no_import : (f : Context) (w : Word) → is_name f (word_text w) ≡ true → same_kind (word_kind w) kind.Import ≡ false
+unfolding is_name is_reserved same_kind
+word_no_import f (word.Keyword keyword.Import) h = cc
+word_no_import f _ h = refl
+
+token_no_import : (t : Token) (s : Span) (c d : Place) → ReadsToken t s c d → same_kind (token_kind t) kind.Import ≡ false → sees kind.Import c ≡ false
+unfolding kind_at
+token_no_import t s c d r e = rw r.is e
+
 pub name_begins : (f : Context) (w : Word) (s : Span) (c d : Place) → ReadsToken (token.Word w) s c d → is_name f (word_text w) ≡ true
     → (sees kind.Await c ≡ false) × (sees kind.Import c ≡ false)
-name_begins f w s c d r h = opens_no_word (kind_at c) (token_opens (token.Word w) s c d r (word_opens f w h))
+name_begins f w s c d r h = (
+  opens_no_await (kind_at c) (token_opens (token.Word w) s c d r (word_opens f w h)),
+  token_no_import (token.Word w) s c d r (word_no_import f w h),
+)

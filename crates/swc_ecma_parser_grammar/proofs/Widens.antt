@@ -11,7 +11,7 @@ use Rattle.swc_ecma_parser_model.specs.Tree.{Tree, Text, trees}
 use Rattle.swc_ecma_parser_grammar.specs.declared.position.Position.{Position}
 use Rattle.swc_ecma_parser_grammar.specs.Looks.{kind_at, sees, same_kind}
 use Rattle.swc_ecma_parser_grammar.specs.Names.{Code}
-use Rattle.swc_ecma_parser_grammar.specs.Reads.{with_in, directed, directs_on, nested_item, top_item, DeclaratorRule, plain_rule, initialized_rule, ReadsSeparated, ReadsItems, StmtRule, block_rule, empty_rule, debugger_rule, var_rule, expr_rule}
+use Rattle.swc_ecma_parser_grammar.specs.Reads.{with_in, directed, directs_on, nested_item, top_item, DeclaratorRule, plain_rule, initialized_rule, ReadsSeparated, ReadsItems, StmtRule, block_rule, empty_rule, debugger_rule, var_rule, expr_rule, import_rule}
 use Rattle.swc_ecma_parser_grammar.specs.Entries.{ReadsScript, ReadsShebang, some_shebang, no_shebang, script_code}
 use Rattle.swc_ecma_parser_grammar.specs.Supported.{supported, all_supported}
 use Rattle.swc_ecma_parser_grammar.specs.ReadsSupported.{ReadsClass, ReadsPat, ReadsStmt}
@@ -78,6 +78,7 @@ module _ (n : ℕ) (small : (k : Code) (at : Position) (x : Tree) (c d : Place) 
   rule_supported k at x c d (var_rule xs m h r g e) =
       ap supported e ∙ separated_supported (DeclaratorRule (ReadsClass n assignment) (ReadsPat n) (with_in k)) (declarator_supported n (with_in k)) xs (after c) m r
   rule_supported k at x c d (expr_rule y m h r a b g e) = ap supported e ∙ r.1
+  rule_supported k at x c d (import_rule y m h r g e) = ap supported e ∙ r.1
 
 stmt_supported : (n : ℕ) (k : Code) (at : Position) (x : Tree) (c d : Place) → ReadsStmt n k at x c d → supported x ≡ true
 stmt_supported zero k at x c d h = absurd h
@@ -99,6 +100,7 @@ module _ (n : ℕ) (widen : (k : Code) (at : Position) (x : Tree) (c d : Place) 
         separated_widen (DeclaratorRule (ReadsClass n assignment) (ReadsPat n) (with_in k)) (declarations.DeclaratorRule (Reads n) (with_in k) false decl.Var) (declarator_widens n k) xs (after c) m r,
       ) g e
   form_widens k at x c d (expr_rule y m h r a b g e) = statements.expr_rule y m h r.0 a g e
+  form_widens k at x c d (import_rule y m h r g e) = statements.import_expr_rule y m h r.0 g e
 
 rule_begins : (n : ℕ) (k : Code) (at : Position) (x : Tree) (c d : Place) → StmtRule (ReadsStmt n) (ReadsClass n) (ReadsPat n) k at x c d → sees kind.Await c ≡ false
 unfolding same_kind
@@ -106,7 +108,8 @@ rule_begins n k at x c d (block_rule xs m h r g i e) = rw h refl
 rule_begins n k at x c d (empty_rule h g e) = rw h refl
 rule_begins n k at x c d (debugger_rule h g e) = rw h refl
 rule_begins n k at x c d (var_rule xs m h r g e) = rw h refl
-rule_begins n k at x c d (expr_rule y m h r a b g e) = (expr_begins n (with_in k) y c m r).0
+rule_begins n k at x c d (expr_rule y m h r a b g e) = expr_begins n (with_in k) y c m r
+rule_begins n k at x c d (import_rule y m h r g e) = expr_begins n (with_in k) y c m r
 
 stmt_widens : (n : ℕ) (k : Code) (at : Position) (x : Tree) (c d : Place) → ReadsStmt n k at x c d → Reads n (stmt_goal k at x c d)
 unfolding may_begin_at_top

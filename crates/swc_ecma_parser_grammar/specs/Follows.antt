@@ -116,3 +116,7 @@ is_let_declaration c = sees kind.Let c && first_follows_let (after c).left
 unfoldable pub may_begin_expression_statement : Position → Place → Bool
 may_begin_expression_statement at c =
     not (sees kind.LBrace c || (sees kind.Function c || (sees kind.Class c || (sees kind.Import c || (is_async_function c || (at.include_decl && is_let_declaration c))))))
+
+-- `import(` and `import.` begin an expression, also a statement's
+unfoldable pub begins_import_expression : Place → Bool
+begins_import_expression c = sees kind.Import c && (sees kind.LParen (after c) || sees kind.Dot (after c))

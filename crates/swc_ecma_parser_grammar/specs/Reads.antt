@@ -13,8 +13,8 @@ use Rattle.swc_ecma_parser_model.specs.Forms.{is_ident, is_ident_named, is_bindi
 use Rattle.swc_ecma_parser_grammar.specs.declared.position.Position.{Position}
 use Rattle.swc_ecma_parser_grammar.specs.Looks.{kind_at, sees, spanned}
 use Rattle.swc_ecma_parser_grammar.specs.Names.{Code}
-use Rattle.swc_ecma_parser_grammar.specs.Ends.{Ends}
-use Rattle.swc_ecma_parser_grammar.specs.Follows.{may_begin_expression_statement}
+use Rattle.swc_ecma_parser_grammar.specs.Ends.{Ends, OptionalEnds}
+use Rattle.swc_ecma_parser_grammar.specs.Follows.{may_begin_expression_statement, begins_import_expression}
 use Rattle.swc_ecma_parser_grammar.specs.language.Goals.{Class, expression, assignment}
 
 -- ---- contexts
@@ -83,3 +83,6 @@ pub data StmtRule (Stmt : Code → Position → Tree → Place → Place → Typ
   -- section 14.5. A bare name before `:` is a label; in module code the bare name `interface` is none.
   expr_rule : (e : Tree) (m : Place) → may_begin_expression_statement at c ≡ true → Expr expression (with_in k) e c m → is_ident e && sees kind.Colon m ≡ false
       → k.flags.module && is_ident_named (codes "interface") e ≡ false → Ends m d → x ≡ tree.expr_stmt (spanned c d) e → StmtRule Stmt Expr Pat k at x c d
+  -- as in the crate, one that begins with `import` has an end that nothing demands
+  import_rule : (e : Tree) (m : Place) → begins_import_expression c ≡ true → Expr expression (with_in k) e c m → OptionalEnds m d → x ≡ tree.expr_stmt (spanned c d) e
+      → StmtRule Stmt Expr Pat k at x c d

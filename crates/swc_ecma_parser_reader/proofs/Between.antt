@@ -129,6 +129,21 @@ sound_as s t k e n r p = record {
   reads = λ h. r (p.reads h);
 }
 
+-- with notes that are the same where it was read
+pub sound_notes : {f : Code → Code} {w : Walk} {ns ms : List Fault} {P : Code → Place → Place → Type 0} (s t : State) → (P s.code s.at t.at → ns ≡ ms) → Sound f w ns P s t → Sound f w ms P s t
+sound_notes s t n p = record {
+  code = p.code;
+  scope = p.scope;
+  added = p.added;
+  faults = p.faults;
+  held_back = λ h. p.held_back h ∙ ap (λ z. s.held_back ++ z) (n (p.reads h));
+  walked = p.walked;
+  keeps = p.keeps;
+  spares = p.spares;
+  remembers = p.remembers;
+  reads = p.reads;
+}
+
 -- from the place before a token of a kind that is no error's
 pub sound_after : {f : Code → Code} {w v : Walk} {ns ms : List Fault} {P Q : Code → Place → Place → Type 0} {j : TokenKind} (s t : State) → kind_at s.at ≡ j → is_error j ≡ false
     → w s.code s.scope.labels ≡ v s.code s.scope.labels → ns ≡ ms → (P s.code (after s.at) t.at → Q s.code s.at t.at) → Sound f w ns P (moved s) t → Sound f v ms Q s t

@@ -18,8 +18,9 @@ use Rattle.swc_ecma_parser_model.specs.Forms.{is_ident, is_ident_named, span_of}
 use Rattle.swc_ecma_parser_grammar.specs.declared.position.Position.{Position}
 use Rattle.swc_ecma_parser_grammar.specs.Looks.{kind_at, sees, same_kind, spanned}
 use Rattle.swc_ecma_parser_grammar.specs.Names.{Code}
-use Rattle.swc_ecma_parser_grammar.specs.Ends.{Ends, by_semicolon, by_insertion}
-use Rattle.swc_ecma_parser_grammar.specs.Reads.{with_in, in_strict, nested_item, top_item, ReadsToken, DeclaratorRule, plain_rule, initialized_rule, ReadsSeparated, directed, ReadsItems, StmtRule, block_rule, empty_rule, debugger_rule, var_rule, expr_rule}
+use Rattle.swc_ecma_parser_grammar.specs.Ends.{Ends, by_semicolon, by_insertion, OptionalEnds, by_a_semicolon, by_nothing}
+use Rattle.swc_ecma_parser_grammar.specs.Follows.{begins_import_expression}
+use Rattle.swc_ecma_parser_grammar.specs.Reads.{with_in, in_strict, nested_item, top_item, ReadsToken, DeclaratorRule, plain_rule, initialized_rule, ReadsSeparated, directed, ReadsItems, StmtRule, block_rule, empty_rule, debugger_rule, var_rule, expr_rule, import_rule}
 use Rattle.swc_ecma_parser_grammar.specs.ReadsSupported.{ReadsClass, ReadsPat, ReadsStmt}
 use Rattle.swc_ecma_parser_grammar.specs.language.Goals.{expression, assignment}
 use Rattle.swc_ecma_parser_grammar.specs.Entries.{script_code, ReadsShebang, some_shebang, no_shebang, ReadsScript}
@@ -29,7 +30,7 @@ use Rattle.swc_ecma_parser_grammar.specs.Walk.{Env, env_of, walk, walks}
 use Rattle.swc_ecma_parser_reader.specs.State.{Scope, State, Outcome, Reader, noted, end, fault_at, loop}
 use Rattle.swc_ecma_parser_reader.specs.Expressions.{expr}
 use Rattle.swc_ecma_parser_reader.specs.Patterns.{pattern}
-use Rattle.swc_ecma_parser_reader.specs.Reader.{empty, debugger, initialized, declarator, declarators_turn, declarators, var, closes, at_end, close, directs, items_turn, items, block, note_statement, no_label, expr_stmt, expr_stmt_at, stmt_level, stmt, shebang_of, shebang_in, shebang, script_body, script}
+use Rattle.swc_ecma_parser_reader.specs.Reader.{empty, debugger, initialized, declarator, declarators_turn, declarators, var, closes, at_end, close, directs, items_turn, items, block, note_statement, no_label, expr_stmt, expr_stmt_at, optional_end, import_stmt, import_stmt_at, stmt_level, stmt, shebang_of, shebang_in, shebang, script_body, script}
 use Rattle.swc_ecma_parser_reader.specs.Entry.{script_left}
 use Rattle.swc_ecma_parser_reader.proofs.Answered.{st, Reads}
 use Rattle.swc_ecma_parser_reader.proofs.expressions.CompleteKinds.{seen}
@@ -37,7 +38,7 @@ use Rattle.swc_ecma_parser_reader.proofs.expressions.Complete.{expr_reads}
 use Rattle.swc_ecma_parser_reader.proofs.patterns.Complete.{pattern_reads}
 use Rattle.swc_ecma_parser_reader.proofs.Loops.{stmt_shorter, items_stop, items_more, declarators_done, declarators_more}
 use Rattle.swc_ecma_parser_grammar.proofs.SupportedBegins.{expr_opens}
-use Rattle.swc_ecma_parser_reader.proofs.Opens.{opened, no_block, stmt_goes}
+use Rattle.swc_ecma_parser_reader.proofs.Opens.{opened, no_block_or_import, import_stands, import_unnoted, stmt_goes}
 
 -- ---- fixed tokens and ends
 
@@ -45,6 +46,12 @@ ends_read : (missing : Kind) (c d : Place) (k : Code) (w : Scope) (f h : List Fa
 unfolding end
 ends_read missing c d k w f h (by_semicolon e g) = rw (seen c kind.Semi e, g) refl
 ends_read missing c d k w f h (by_insertion e i g) = rw (e, i, g) refl
+
+-- one that nothing demands
+optional_end_reads : (c d : Place) (k : Code) (w : Scope) (f h : List Fault) → OptionalEnds c d → optional_end (st c k w f h) ≡ Ok (tt, st d k w f h)
+unfolding optional_end
+optional_end_reads c d k w f h (by_a_semicolon e g) = rw (seen c kind.Semi e, g) refl
+optional_end_reads c d k w f h (by_nothing e g) = rw (e, g) refl
 
 close_reads : (c : Place) (k : Code) (w : Scope) (f h : List Fault) → kind_at c ≡ kind.RBrace → close (st c k w f h) ≡ Ok (tt, st (after c) k w f h)
 unfolding close
@@ -182,6 +189,18 @@ expr_stmt_reads n e m k x c d r l i g j w f h =
       append_assoc,
     ) refl
 
+import_stmt_reads : (n : ℕ) (e : Tree) (m : Place) (k : Code) (x : Tree) (c d : Place) → begins_import_expression c ≡ true → ReadsClass n expression (with_in k) e c m → OptionalEnds m d
+    → x ≡ tree.expr_stmt (spanned c d) e → Reads (import_stmt (expr n expression)) k x c d
+unfolding import_stmt
+import_stmt_reads n e m k x c d b r g j w f h =
+    rw (
+      expr_reads n expression (with_in k) e c m r w f h,
+      optional_end_reads m d k w (f ++ walk (env_of k w.labels) e) (h ++ notes e) g,
+      j,
+      import_unnoted n (with_in k) e c m r b,
+      append-nil (notes e),
+    ) refl
+
 -- ---- a script
 
 -- no `#!` stands where no such token is seen
@@ -220,13 +239,15 @@ module _ (n : ℕ) (reads : (at : Position) (k : Code) (x : Tree) (c d : Place) 
       ) refl
 
   by_rules : (at : Position) (k : Code) (x : Tree) (c d : Place) → StmtRule (ReadsStmt n) (ReadsClass n) (ReadsPat n) k at x c d → Reads (stmt_level (stmt n) (expr n) (pattern n) at) k x c d
-  unfolding stmt_level expr_stmt_at
+  unfolding stmt_level expr_stmt_at import_stmt_at
   by_rules at k x c d (block_rule xs m e r g i j) w f h = rw e (block_reads xs m k x c d r g i j w f h)
   by_rules at k x c d (empty_rule e g i) w f h = rw e (empty_reads k x c d g i w f h)
   by_rules at k x c d (debugger_rule e g i) w f h = rw e (debugger_reads k x c d g i w f h)
   by_rules at k x c d (var_rule xs m e r g i) w f h = rw e (var_reads n xs m k x c d r g i w f h)
   by_rules at k x c d (expr_rule e m b r l i g j) w f h =
-      opened (stmt n) (expr n) (pattern n) at (st c k w f h) (kind_at c) (expr_opens n (with_in k) e c m r) (no_block at c b) ∙ rw b (expr_stmt_reads n e m k x c d r l i g j w f h)
+      let q = no_block_or_import at c b in
+      opened (stmt n) (expr n) (pattern n) at (st c k w f h) (kind_at c) (expr_opens n (with_in k) e c m r) q.0 q.1 ∙ rw b (expr_stmt_reads n e m k x c d r l i g j w f h)
+  by_rules at k x c d (import_rule e m b r g j) w f h = rw (import_stands c b, b) (import_stmt_reads n e m k x c d b r g j w f h)
 
 pub stmt_reads : (n : ℕ) (at : Position) (k : Code) (x : Tree) (c d : Place) → ReadsStmt n k at x c d → Reads (stmt n at) k x c d
 unfolding stmt

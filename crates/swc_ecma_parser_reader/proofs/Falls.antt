@@ -11,15 +11,15 @@ use Rattle.swc_ecma_parser_model.specs.Tree.{Tree, Text}
 use Rattle.swc_ecma_parser_model.specs.Forms.{is_ident, is_ident_named, is_binding_name}
 use Rattle.swc_ecma_parser_grammar.specs.declared.position.Position.{Position}
 use Rattle.swc_ecma_parser_grammar.specs.Looks.{kind_at, sees, span_at}
-use Rattle.swc_ecma_parser_grammar.specs.Follows.{may_begin_expression_statement}
+use Rattle.swc_ecma_parser_grammar.specs.Follows.{may_begin_expression_statement, begins_import_expression}
 use Rattle.swc_ecma_parser_grammar.specs.Reads.{with_in, nested_item, top_item}
 use Rattle.swc_ecma_parser_grammar.specs.Entries.{script_code}
 use Rattle.swc_ecma_parser_grammar.specs.language.Goals.{Class, expression, assignment}
 use Rattle.swc_ecma_parser_reader.specs.State.{State, Reader, moved, coded, within, end}
 use Rattle.swc_ecma_parser_reader.specs.Expressions.{expr}
 use Rattle.swc_ecma_parser_reader.specs.Patterns.{pattern}
-use Rattle.swc_ecma_parser_reader.specs.Reader.{empty, debugger, uninitialized, initialized, declarator, declarators_turn, declarators, var, closes, at_end, close, items_turn, items, block, note_statement, no_label, expr_stmt, expr_stmt_at, stmt_by, stmt_level, stmt, shebang_in, shebang_taken, shebang, script_body, script}
-use Rattle.swc_ecma_parser_reader.proofs.Takes.{Falls, falls_then, falls_last, falls_coded, falls_if, less, falls_next, moves, takes, falls_past, falls_moved, wanted_falls, too_deep_falls, end_falls, close_falls, loop_falls}
+use Rattle.swc_ecma_parser_reader.specs.Reader.{empty, debugger, uninitialized, initialized, declarator, declarators_turn, declarators, var, closes, at_end, close, items_turn, items, block, note_statement, no_label, expr_stmt, expr_stmt_at, optional_end, import_stmt, import_stmt_at, stmt_by, stmt_level, stmt, shebang_in, shebang_taken, shebang, script_body, script}
+use Rattle.swc_ecma_parser_reader.proofs.Takes.{Falls, falls_then, falls_last, falls_coded, falls_if, less, falls_next, moves, takes, falls_past, falls_moved, wanted_falls, too_deep_falls, refuse_falls, end_falls, close_falls, loop_falls}
 use Rattle.swc_ecma_parser_reader.proofs.expressions.Falls.{reject_falls, expr_falls}
 use Rattle.swc_ecma_parser_reader.proofs.patterns.Falls.{pattern_falls}
 
@@ -89,15 +89,22 @@ note_falls : (x : Tree) (s : State) → Falls 0 (length s.at.left) (note_stateme
 unfolding note_statement
 note_falls x s = falls_if 0 (length s.at.left) (is_ident_named (codes "interface") x) _ _ (noted_either s.code.flags.module (length s.at.left) _ _ (omega arith) (omega arith)) (omega arith)
 
+optional_end_falls : (s : State) → Falls 0 (length s.at.left) (optional_end s)
+unfolding optional_end
+optional_end_falls s = falls_if 0 (length s.at.left) (sees kind.Semi s.at) _ _ (let m = moves s.at in omega arith) (omega arith)
+
 module _ (inner : Reader Tree) (h : (s : State) → Falls 1 (length s.at.left) (inner s)) where
   no_label_falls : (x : Tree) (s : State) → Falls 0 (length s.at.left) (no_label x s)
   unfolding no_label
   no_label_falls x s = falls_if 0 (length s.at.left) (is_ident x && sees kind.Colon s.at) _ _ (wanted_falls (Unit {0}) 0 (length s.at.left) faults.Unexpected s) (omega arith)
 
+  -- the expression of a statement
+  whole_falls : (s : State) → Falls 1 (length s.at.left) (within with_in inner s)
+  whole_falls s = falls_coded 1 (length s.at.left) (inner (coded (with_in s.code) s)) _ _ (h (coded (with_in s.code) s))
+
   expr_stmt_falls : (s : State) → Falls 1 (length s.at.left) (expr_stmt inner s)
   unfolding expr_stmt
-  expr_stmt_falls s = falls_next (length s.at.left) (within with_in inner s) _
-      (falls_coded 1 (length s.at.left) (inner (coded (with_in s.code) s)) _ _ (h (coded (with_in s.code) s))) (λ x t.
+  expr_stmt_falls s = falls_next (length s.at.left) (within with_in inner s) _ (whole_falls s) (λ x t.
       falls_then 0 0 (length t.at.left) (no_label x t) _ (no_label_falls x t) (λ _ u.
       falls_then 0 0 (length u.at.left) (note_statement x u) _ (note_falls x u) (λ _ v.
       falls_last 0 (length v.at.left) (end faults.ExpectedSemiForExprStmt v) _ (end_falls faults.ExpectedSemiForExprStmt v))))
@@ -105,6 +112,16 @@ module _ (inner : Reader Tree) (h : (s : State) → Falls 1 (length s.at.left) (
   expr_stmt_at_falls : (at : Position) (s : State) → Falls 1 (length s.at.left) (expr_stmt_at inner at s)
   unfolding expr_stmt_at
   expr_stmt_at_falls at s = falls_if 1 (length s.at.left) (may_begin_expression_statement at s.at) _ _ (expr_stmt_falls s) (wanted_falls Tree 1 (length s.at.left) faults.Unexpected s)
+
+  import_stmt_falls : (s : State) → Falls 1 (length s.at.left) (import_stmt inner s)
+  unfolding import_stmt
+  import_stmt_falls s = falls_next (length s.at.left) (within with_in inner s) _ (whole_falls s) (λ x t.
+      falls_last 0 (length t.at.left) (optional_end t) _ (optional_end_falls t))
+
+  import_stmt_at_falls : (s : State) → Falls 1 (length s.at.left) (import_stmt_at inner s)
+  unfolding import_stmt_at
+  import_stmt_at_falls s = falls_if 1 (length s.at.left) (begins_import_expression s.at) _ _ (import_stmt_falls s)
+      (refuse_falls Tree 1 (length s.at.left) faults.ImportExportInScript s)
 
 module _ (inner : Position → Reader Tree) (h : (at : Position) (s : State) → Falls 1 (length s.at.left) (inner at s))
     (inner_expr : Class → Reader Tree) (g : (class : Class) (s : State) → Falls 1 (length s.at.left) (inner_expr class s))
@@ -114,6 +131,7 @@ module _ (inner : Position → Reader Tree) (h : (at : Position) (s : State) →
   stmt_by_falls at kind.Semi s e = empty_falls s (λ h. cc)
   stmt_by_falls at kind.Debugger s e = debugger_falls s (λ h. cc)
   stmt_by_falls at kind.Var s e = var_falls inner_expr g inner_pat i s (λ h. cc)
+  stmt_by_falls at kind.Import s e = import_stmt_at_falls (inner_expr expression) (g expression) s
   stmt_by_falls at _ s e = expr_stmt_at_falls (inner_expr expression) (g expression) at s
 
   stmt_level_falls : (at : Position) (s : State) → Falls 1 (length s.at.left) (stmt_level inner inner_expr inner_pat at s)

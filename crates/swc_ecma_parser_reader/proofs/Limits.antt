@@ -11,17 +11,17 @@ use Rattle.swc_ecma_parser_model.specs.Tree.{Tree}
 use Rattle.swc_ecma_parser_model.specs.Forms.{is_ident, is_ident_named, is_binding_name, span_of}
 use Rattle.swc_ecma_parser_grammar.specs.declared.position.Position.{Position}
 use Rattle.swc_ecma_parser_grammar.specs.Looks.{kind_at, sees}
-use Rattle.swc_ecma_parser_grammar.specs.Follows.{may_begin_expression_statement}
+use Rattle.swc_ecma_parser_grammar.specs.Follows.{may_begin_expression_statement, begins_import_expression}
 use Rattle.swc_ecma_parser_grammar.specs.Reads.{with_in, nested_item, top_item}
 use Rattle.swc_ecma_parser_grammar.specs.Entries.{script_code}
 use Rattle.swc_ecma_parser_grammar.specs.language.Goals.{Class, expression, assignment}
 use Rattle.swc_ecma_parser_reader.specs.State.{State, Reader, moved, coded, within, noted, module_fault, fault_at, end}
 use Rattle.swc_ecma_parser_reader.specs.Expressions.{expr}
 use Rattle.swc_ecma_parser_reader.specs.Patterns.{pattern}
-use Rattle.swc_ecma_parser_reader.specs.Reader.{empty, debugger, initialized, declarator, declarators_turn, declarators, var, closes, at_end, close, items_turn, items, block, note_statement, no_label, expr_stmt, expr_stmt_at, stmt_by, stmt_level, stmt, shebang, script_body, script}
+use Rattle.swc_ecma_parser_reader.specs.Reader.{empty, debugger, initialized, declarator, declarators_turn, declarators, var, closes, at_end, close, items_turn, items, block, note_statement, no_label, expr_stmt, expr_stmt_at, optional_end, import_stmt, import_stmt_at, stmt_by, stmt_level, stmt, shebang, script_body, script}
 use Rattle.swc_ecma_parser_reader.specs.Limits.{has_too_deep_token}
 use Rattle.swc_ecma_parser_reader.proofs.Meets.{Answers, answers_then, answers_if, loop_answers, meant}
-use Rattle.swc_ecma_parser_reader.proofs.Shallow.{Fine, fine_more, fine_after, fine_taken, Shallow, Kept, wanted_shallow, end_shallow, close_shallow, shebang_shallow, Levels}
+use Rattle.swc_ecma_parser_reader.proofs.Shallow.{Fine, fine_more, fine_after, fine_taken, Shallow, Kept, wanted_shallow, refuse_shallow, end_shallow, close_shallow, shebang_shallow, Levels}
 use Rattle.swc_ecma_parser_reader.proofs.expressions.Limits.{reject_shallow, expr_shallow}
 use Rattle.swc_ecma_parser_reader.proofs.patterns.Limits.{pattern_shallow}
 
@@ -84,11 +84,13 @@ module _ (inner : Position → Reader Tree) (inner_expr : Class → Reader Tree)
       (declarators_shallow inner_expr inner_pat n below_expr below_pat m (omega arith) (coded (with_in s.code) (moved s)) (fine_after m s.at f)) (λ x t k. k)) (λ x t k.
       answers_then _ _ (end faults.Unexpected t) _ (end_shallow m t k faults.Unexpected (λ e. cc)) (λ _ u j. j))
 
-  -- an expression statement takes none, which is why there is one level more
+  -- no token stands before a statement's expression, which is why there is one level more
+  whole_shallow : Answers (Kept m) Shallow (within with_in (inner_expr expression) s)
+  whole_shallow = answers_then (Kept m) _ (inner_expr expression (coded (with_in s.code) s)) _ (below_expr expression m (coded (with_in s.code) s) (omega arith) f) (λ x t k. k)
+
   expr_stmt_shallow : Answers (Kept m) Shallow (expr_stmt (inner_expr expression) s)
   unfolding expr_stmt no_label note_statement
-  expr_stmt_shallow = answers_then _ _ (within with_in (inner_expr expression) s) _
-      (answers_then (Kept m) _ (inner_expr expression (coded (with_in s.code) s)) _ (below_expr expression m (coded (with_in s.code) s) (omega arith) f) (λ x t k. k)) (λ x t k.
+  expr_stmt_shallow = answers_then _ _ (within with_in (inner_expr expression) s) _ whole_shallow (λ x t k.
       answers_then _ _ (no_label x t) _ (answers_if (Kept m) _ (is_ident x && sees kind.Colon t.at) _ _ (λ _. wanted_shallow _ faults.Unexpected (λ e. cc) m t k) (λ _. k)) (λ _ u j.
       answers_then _ _ (note_statement x u) _ (answers_if (Kept m) _ (is_ident_named (codes "interface") x) _ _
       (λ _. module_fault_fine m (fault_at (span_of x) faults.InvalidIdentInStrict) u j) (λ _. j)) (λ _ v g.
@@ -98,12 +100,22 @@ module _ (inner : Position → Reader Tree) (inner_expr : Class → Reader Tree)
   unfolding expr_stmt_at
   expr_stmt_at_shallow = answers_if _ _ (may_begin_expression_statement at s.at) _ _ (λ _. expr_stmt_shallow) (λ _. wanted_shallow _ faults.Unexpected (λ e. cc) m s f)
 
+  import_stmt_shallow : Answers (Kept m) Shallow (import_stmt (inner_expr expression) s)
+  unfolding import_stmt optional_end
+  import_stmt_shallow = answers_then _ _ (within with_in (inner_expr expression) s) _ whole_shallow (λ x t k.
+      answers_then _ _ (optional_end t) _ (answers_if (Kept m) _ (sees kind.Semi t.at) _ _ (λ _. fine_after m t.at k) (λ _. k)) (λ _ u j. j))
+
+  import_stmt_at_shallow : Answers (Kept m) Shallow (import_stmt_at (inner_expr expression) s)
+  unfolding import_stmt_at
+  import_stmt_at_shallow = answers_if _ _ (begins_import_expression s.at) _ _ (λ _. import_stmt_shallow) (λ _. refuse_shallow _ faults.ImportExportInScript (λ e. cc) m s f)
+
   by_shallow : (k : TokenKind) → kind_at s.at ≡ k → Answers (Kept m) Shallow (stmt_by inner inner_expr inner_pat at k s)
   unfolding empty
   by_shallow kind.LBrace e = block_shallow e
   by_shallow kind.Semi e = fine_after m s.at f
   by_shallow kind.Debugger e = debugger_shallow
   by_shallow kind.Var e = var_shallow
+  by_shallow kind.Import e = import_stmt_at_shallow
   by_shallow _ e = expr_stmt_at_shallow
 
   level_shallow : Answers (Kept m) Shallow (stmt_level inner inner_expr inner_pat at s)

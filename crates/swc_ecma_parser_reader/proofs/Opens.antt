@@ -1,40 +1,64 @@
--- What the first token decides: an expression statement, and that a body does not end there.
-use Rattle.std.proofs.Common.{◌≡◌, ℕ, zero, suc, Bool, true, false, refl}
+-- What the first token decides: an expression statement, one that begins with `import`, and that a body does not end there.
+use Rattle.std.proofs.Common.{◌≡◌, ℕ, zero, suc, Bool, true, false, [], refl}
 use Rattle.std.specs.Prelude.{not, ◌||◌}
 use Rattle.swc_ecma_parser_token.specs.declared.kind.TokenKind.{TokenKind}
 use Rattle.swc_ecma_parser_token.specs.declared.kind.TokenKind.TheVariants as kind
 use Rattle.swc_ecma_parser_input.specs.Place.{Place}
+use Rattle.swc_ecma_parser_model.specs.Tree as tree
 use Rattle.swc_ecma_parser_model.specs.Tree.{Tree}
+use Rattle.swc_ecma_parser_model.specs.Forms.{is_ident}
 use Rattle.swc_ecma_parser_grammar.specs.declared.position.Position.{Position}
 use Rattle.swc_ecma_parser_grammar.specs.Looks.{kind_at, sees, same_kind}
 use Rattle.swc_ecma_parser_grammar.specs.Names.{Code}
-use Rattle.swc_ecma_parser_grammar.specs.Follows.{may_begin_expression_statement}
-use Rattle.swc_ecma_parser_grammar.specs.Reads.{with_in, StmtRule, block_rule, empty_rule, debugger_rule, var_rule, expr_rule}
+use Rattle.swc_ecma_parser_grammar.specs.Follows.{may_begin_expression_statement, begins_import_expression}
+use Rattle.swc_ecma_parser_grammar.specs.Reads.{with_in, StmtRule, block_rule, empty_rule, debugger_rule, var_rule, expr_rule, import_rule}
+use Rattle.swc_ecma_parser_grammar.specs.Notes.{statement_note}
 use Rattle.swc_ecma_parser_grammar.specs.ReadsSupported.{ReadsClass, ReadsPat, ReadsStmt}
 use Rattle.swc_ecma_parser_grammar.specs.language.Goals.{Class, expression}
+use Rattle.swc_ecma_parser_grammar.proofs.Tests.{and_yes}
 use Rattle.swc_ecma_parser_grammar.proofs.SupportedBegins.{opens, expr_opens}
 use Rattle.swc_ecma_parser_reader.specs.State.{State, Reader}
 use Rattle.swc_ecma_parser_reader.specs.Reader.{closes, at_end, stmt_by, expr_stmt_at}
+use Rattle.swc_ecma_parser_reader.proofs.Meets.{saw}
+use Rattle.swc_ecma_parser_reader.proofs.expressions.CompleteKinds.{import_unnamed}
 
 -- ---- an expression statement is read by its first token
 
 pub opened : (stmt : Position → Reader Tree) (expr : Class → Reader Tree) (pat : Reader Tree) (at : Position) (s : State) (k : TokenKind) → opens k ≡ true → same_kind k kind.LBrace ≡ false
-    → stmt_by stmt expr pat at k s ≡ expr_stmt_at (expr expression) at s
+    → same_kind k kind.Import ≡ false → stmt_by stmt expr pat at k s ≡ expr_stmt_at (expr expression) at s
 unfolding same_kind
-opened stmt expr pat at s kind.LBrace e h = cc
-opened stmt expr pat at s kind.Semi e h = cc
-opened stmt expr pat at s kind.Debugger e h = cc
-opened stmt expr pat at s kind.Var e h = cc
-opened stmt expr pat at s _ e h = refl
+opened stmt expr pat at s kind.LBrace e h g = cc
+opened stmt expr pat at s kind.Semi e h g = cc
+opened stmt expr pat at s kind.Debugger e h g = cc
+opened stmt expr pat at s kind.Var e h g = cc
+opened stmt expr pat at s kind.Import e h g = cc
+opened stmt expr pat at s _ e h g = refl
 
--- where one may begin no block does
-no_block_by : (a b : Bool) → not (a || b) ≡ true → a ≡ false
-no_block_by true b h = cc
-no_block_by false b h = refl
+-- where one may begin neither a block does nor `import`
+neither_by : (block function class import others : Bool) → not (block || (function || (class || (import || others)))) ≡ true → (block ≡ false) × (import ≡ false)
+neither_by true function class import others h = cc
+neither_by false true class import others h = cc
+neither_by false false true import others h = cc
+neither_by false false false true others h = cc
+neither_by false false false false others h = (refl, refl)
 
-pub no_block : (at : Position) (c : Place) → may_begin_expression_statement at c ≡ true → sees kind.LBrace c ≡ false
+pub no_block_or_import : (at : Position) (c : Place) → may_begin_expression_statement at c ≡ true → (sees kind.LBrace c ≡ false) × (sees kind.Import c ≡ false)
 unfolding may_begin_expression_statement
-no_block at c h = no_block_by (sees kind.LBrace c) _ h
+no_block_or_import at c h = neither_by (sees kind.LBrace c) (sees kind.Function c) (sees kind.Class c) (sees kind.Import c) _ h
+
+-- ---- a statement that begins with `import`
+
+pub import_stands : (c : Place) → begins_import_expression c ≡ true → kind_at c ≡ kind.Import
+unfolding begins_import_expression
+import_stands c h = saw c kind.Import (and_yes (sees kind.Import c) _ h).0
+
+-- it is no bare name, so nothing is noted
+unnoted : (x : Tree) → is_ident x ≡ false → statement_note x ≡ []
+unnoted (tree.ident s text) h = cc
+unnoted _ h = refl
+
+pub import_unnoted : (n : ℕ) (k : Code) (x : Tree) (c d : Place) → ReadsClass n expression k x c d → begins_import_expression c ≡ true → statement_note x ≡ []
+import_unnoted n k x c d r h = unnoted x (import_unnamed n k x c d r (import_stands c h))
 
 -- ---- no statement begins where a block or a script ends
 
@@ -60,6 +84,7 @@ rule_goes Stmt Expr Pat h k at x c d (empty_rule e g i) = goes_by c kind.Semi e 
 rule_goes Stmt Expr Pat h k at x c d (debugger_rule e g i) = goes_by c kind.Debugger e (refl, refl)
 rule_goes Stmt Expr Pat h k at x c d (var_rule xs m e r g i) = goes_by c kind.Var e (refl, refl)
 rule_goes Stmt Expr Pat h k at x c d (expr_rule e m b r l i g j) = goes_by c (kind_at c) refl (goes_open (kind_at c) (h (with_in k) e c m r))
+rule_goes Stmt Expr Pat h k at x c d (import_rule e m b r g i) = goes_by c (kind_at c) refl (goes_open (kind_at c) (h (with_in k) e c m r))
 
 pub stmt_goes : (n : ℕ) (k : Code) (at : Position) (x : Tree) (c d : Place) → ReadsStmt n k at x c d → Goes c
 stmt_goes zero k at x c d h = absurd h

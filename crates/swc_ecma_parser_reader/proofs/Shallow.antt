@@ -133,7 +133,7 @@ module _ {A : Type 0} (P : A → State → Type 0) (k : Kind) (other : k ≢ fau
   refuse_in_shallow [] h = other
   refuse_in_shallow (u ∷ ts) h = refuse_at_shallow u ts u.token h refl
 
-  refuse_shallow : Answers P Shallow (refuse k s)
+  pub refuse_shallow : Answers P Shallow (refuse k s)
   unfolding refuse
   refuse_shallow = refuse_in_shallow s.at.left refl
 

@@ -1,9 +1,8 @@
 -- What is read is in the grammar where nothing was recorded, and the faults of the table are the walk's.
 use Rattle.std.proofs.Common.{◌≡◌, ℕ, zero, suc, Bool, true, false, cond, List, [], ◌∷◌, ◌++◌, Option, Ok, refl, sym, ◌∙◌, ap, subst, append_assoc, append-nil}
 use Rattle.std.specs.Prelude.{◌&&◌, codes}
-use Rattle.swc_ecma_parser_error.specs.declared.error.Error.{Error}
 use Rattle.swc_ecma_parser_error.specs.Kind as faults
-use Rattle.swc_ecma_parser_error.specs.Kind.{Kind, Fault, fault_of}
+use Rattle.swc_ecma_parser_error.specs.Kind.{Kind, Fault}
 use Rattle.swc_ecma_parser_token.specs.declared.keyword.Keyword.{Keyword}
 use Rattle.swc_ecma_parser_token.specs.declared.keyword.Keyword.TheVariants as keyword
 use Rattle.swc_ecma_parser_token.specs.declared.operator.BinOpToken.{BinOpToken}
@@ -18,7 +17,6 @@ use Rattle.swc_ecma_parser_token.specs.declared.token.Word.{Word}
 use Rattle.swc_ecma_parser_token.specs.declared.token.Word.TheVariants as word
 use Rattle.swc_ecma_parser_token.specs.declared.token.TokenAndSpan.{TokenAndSpan}
 use Rattle.swc_ecma_parser_token.specs.Kind.{token_kind, word_kind, keyword_kind, bin_op_kind, assign_op_kind}
-use Rattle.swc_ecma_parser_input.specs.TokenSource.{means_out_of_memory}
 use Rattle.swc_ecma_parser_input.specs.Place.{Place, after}
 use Rattle.swc_ecma_parser_model.specs.Tree as tree
 use Rattle.swc_ecma_parser_model.specs.Tree.{Tree, Text, listed, trees}
@@ -27,29 +25,30 @@ use Rattle.swc_ecma_parser_model.specs.Forms.{is_ident, is_ident_named, is_bindi
 use Rattle.swc_ecma_parser_grammar.specs.declared.position.Position.{Position}
 use Rattle.swc_ecma_parser_grammar.specs.Looks.{kind_at, sees, same_kind, span_at, spanned}
 use Rattle.swc_ecma_parser_grammar.specs.Names.{Code}
-use Rattle.swc_ecma_parser_grammar.specs.Ends.{Ends, by_semicolon, by_insertion, can_end}
-use Rattle.swc_ecma_parser_grammar.specs.Follows.{may_begin_expression_statement}
+use Rattle.swc_ecma_parser_grammar.specs.Ends.{Ends, by_semicolon, by_insertion, OptionalEnds, by_a_semicolon, by_nothing, can_end}
+use Rattle.swc_ecma_parser_grammar.specs.Follows.{may_begin_expression_statement, begins_import_expression}
 use Rattle.swc_ecma_parser_grammar.specs.language.Goals.{Class, expression, assignment}
-use Rattle.swc_ecma_parser_grammar.specs.Reads.{with_in, in_strict, directed, directs_on, nested_item, top_item, DeclaratorRule, plain_rule, initialized_rule, ReadsSeparated, ReadsItems, StmtRule, block_rule, empty_rule, debugger_rule, var_rule, expr_rule}
+use Rattle.swc_ecma_parser_grammar.specs.Reads.{with_in, in_strict, directed, directs_on, nested_item, top_item, DeclaratorRule, plain_rule, initialized_rule, ReadsSeparated, ReadsItems, StmtRule, block_rule, empty_rule, debugger_rule, var_rule, expr_rule, import_rule}
 use Rattle.swc_ecma_parser_grammar.specs.ReadsSupported.{ReadsClass, ReadsPat, ReadsElement, ReadsStmt}
 use Rattle.swc_ecma_parser_grammar.specs.Entries.{ReadsScript, ReadsShebang, some_shebang, no_shebang, script_code, has_error_token}
 use Rattle.swc_ecma_parser_grammar.specs.Walk as walks
 use Rattle.swc_ecma_parser_grammar.specs.Walk.{walk, env_of, tabled, drops}
 use Rattle.swc_ecma_parser_grammar.specs.Notes.{notes, all_notes, statement_note}
 use Rattle.swc_ecma_parser_grammar.proofs.Widens.{script_widens, script_supported}
-use Rattle.swc_ecma_parser_reader.specs.State.{State, Reader, moved, coded, flagged, within, noted, module_fault, fault, recorded_in, recorded_at, fault_at, end}
+use Rattle.swc_ecma_parser_reader.specs.State.{State, Reader, moved, coded, flagged, within, noted, module_fault, fault_at, end}
 use Rattle.swc_ecma_parser_reader.specs.Expressions.{Cover, expr, cover}
 use Rattle.swc_ecma_parser_reader.specs.Patterns.{pattern, element}
-use Rattle.swc_ecma_parser_reader.specs.Reader.{empty, debugger, initialized, declarator, declarators_turn, declarators, var, closes, at_end, close, directs, items_turn, items, block, note_statement, no_label, expr_stmt, expr_stmt_at, stmt_by, stmt_level, stmt, shebang_of, shebang_in, shebang_taken, shebang, script_body, script}
+use Rattle.swc_ecma_parser_reader.specs.Reader.{empty, debugger, initialized, declarator, declarators_turn, declarators, var, closes, at_end, close, directs, items_turn, items, block, note_statement, no_label, expr_stmt, expr_stmt_at, optional_end, import_stmt, import_stmt_at, stmt_by, stmt_level, stmt, shebang_of, shebang_in, shebang_taken, shebang, script_body, script}
 use Rattle.swc_ecma_parser_reader.specs.Entry.{SoundScript}
 use Rattle.swc_ecma_parser_reader.specs.Limits.{has_out_of_memory_token}
 use Rattle.swc_ecma_parser_reader.proofs.expressions.SoundCovers.{SoundCover}
 use Rattle.swc_ecma_parser_reader.proofs.expressions.Sound.{expr_sound, cover_sound}
-use Rattle.swc_ecma_parser_reader.proofs.expressions.SoundSteps.{Takes, reject_meets, walks_push, notes_push}
+use Rattle.swc_ecma_parser_reader.proofs.expressions.SoundSteps.{reject_meets, Takes, noted_sound, fault_sound, walks_push, notes_push}
 use Rattle.swc_ecma_parser_reader.proofs.patterns.Sound.{pattern_sound, element_sound}
 use Rattle.swc_ecma_parser_reader.proofs.Meets.{Meets, Refuses, meets_then, meets_if, wanted_meets, too_deep_meets, refuse_meets, Turned, loop_answers, saw, meant}
-use Rattle.swc_ecma_parser_reader.proofs.Errors.{kind_here, after_remembers, nothing_at_end}
-use Rattle.swc_ecma_parser_reader.proofs.Between.{Sound, SoundTree, SoundStep, no_faults, same, sound_then, sound_more, sound_moved, sound_here, sound_as, sound_after, sound_coded, within_sound, flags_back, some_fault}
+use Rattle.swc_ecma_parser_reader.proofs.Errors.{kind_here, nothing_at_end}
+use Rattle.swc_ecma_parser_reader.proofs.Opens.{import_unnoted}
+use Rattle.swc_ecma_parser_reader.proofs.Between.{Sound, SoundTree, SoundStep, no_faults, same, sound_then, sound_more, sound_moved, sound_here, sound_as, sound_notes, sound_after, sound_coded, within_sound, flags_back}
 
 -- ---- ends
 
@@ -59,6 +58,12 @@ unfolding end
 end_sound missing s = meets_if _ (sees kind.Semi s.at) _ _
     (λ e. sound_moved s (saw s.at kind.Semi e) refl (by_semicolon (saw s.at kind.Semi e) refl))
     (λ e. meets_if _ (can_end s.at) _ _ (λ h. sound_here s (by_insertion e h refl)) (λ _. refuse_meets _ missing s))
+
+-- an end that nothing demands
+optional_end_sound : (s : State) → Meets (λ _ t. SoundStep (λ k. OptionalEnds) s t) (optional_end s)
+unfolding optional_end
+optional_end_sound s = meets_if _ (sees kind.Semi s.at) _ _ (λ e. sound_moved s (saw s.at kind.Semi e) refl (by_a_semicolon (saw s.at kind.Semi e) refl))
+    (λ e. sound_here s (by_nothing e refl))
 
 -- ---- declarations
 
@@ -227,54 +232,6 @@ module _ (Reads : Code → Tree → Place → Place → Type 0) where
 
 -- ---- statements
 
--- an error token in first place is one of the list
-error_first : (c : Place) (u : TokenAndSpan) (ts : List TokenAndSpan) (e : Error) → c.left ≡ u ∷ ts → u.token ≡ token.Error e → has_error_token c.left ≡ true
-unfolding same_kind
-error_first c u ts e h g = rw (h, g) refl
-
--- a test has one outcome
-not_both : {X : Type 0} (b : Bool) → b ≡ true → b ≡ false → X
-not_both b e h = cc
-
--- a recorded fault that is not of the table; an error token before it is recorded too
-module _ (P : Code → Place → Place → Type 0) (f : Fault) (s : State) (untabled : walks.is_tabled f.kind ≡ false) where
-  noted_sound : (ns : List Fault) → Sound same no_faults ns P s (noted f s)
-  noted_sound ns = record {
-    code = refl;
-    scope = refl;
-    added = f ∷ [];
-    faults = refl;
-    held_back = λ i. some_fault f [] i;
-    walked = λ i d. rw untabled refl;
-    keeps = λ i. i;
-    spares = λ i g. g;
-    remembers = λ i. i;
-    reads = λ i. some_fault f [] i;
-  }
-
-  recorded_at_sound : (u : TokenAndSpan) (ts : List TokenAndSpan) (v : Token) → s.at.left ≡ u ∷ ts → u.token ≡ v → Meets (λ _ t. SoundStep P s t) (recorded_at f s v)
-  recorded_at_sound u ts (token.Error e) h g = meets_if _ (means_out_of_memory e.kind) _ _ (λ _. tt) (λ j. record {
-    code = refl;
-    scope = refl;
-    added = fault_of e ∷ f ∷ [];
-    faults = append_assoc s.faults (fault_of e ∷ []) (f ∷ []);
-    held_back = λ i. some_fault (fault_of e) (f ∷ []) i;
-    walked = λ i d. not_both (has_error_token s.at.left) (error_first s.at u ts e h g) i;
-    keeps = λ i. not_both (has_error_token s.at.left) (error_first s.at u ts e h g) i;
-    spares = λ i. some_fault (fault_of e) (f ∷ []) i;
-    remembers = after_remembers s.at u ts h (rw g j);
-    reads = λ i. some_fault (fault_of e) (f ∷ []) i;
-  })
-  recorded_at_sound u ts _ h g = noted_sound []
-
-  recorded_in_sound : (ts : List TokenAndSpan) → s.at.left ≡ ts → Meets (λ _ t. SoundStep P s t) (recorded_in f s ts)
-  recorded_in_sound [] h = noted_sound []
-  recorded_in_sound (u ∷ ts) h = recorded_at_sound u ts u.token h refl
-
-  fault_sound : Meets (λ _ t. SoundStep P s t) (fault f s)
-  unfolding fault
-  fault_sound = recorded_in_sound s.at.left refl
-
 -- a `}`, or a fault
 close_sound : (s : State) → Meets (λ _ t. SoundStep (λ k. Takes kind.RBrace) s t) (close s)
 unfolding close
@@ -333,7 +290,8 @@ module _ (Stmt : Code → Position → Tree → Place → Place → Type 0) (Exp
     (inner : Position → Reader Tree) (inner_expr : Class → Reader Tree) (inner_pat : Reader Tree)
     (sound : (at : Position) (s : State) → Meets (λ x t. SoundTree (λ k. Stmt k at) s x t) (inner at s))
     (sound_expr : (class : Class) (s : State) → Meets (λ x t. SoundTree (Expr class) s x t) (inner_expr class s))
-    (sound_pat : (s : State) → Meets (λ x t. SoundTree Pat s x t) (inner_pat s)) (at : Position) where
+    (sound_pat : (s : State) → Meets (λ x t. SoundTree Pat s x t) (inner_pat s))
+    (unnoted : (k : Code) (x : Tree) (c d : Place) → begins_import_expression c ≡ true → Expr expression k x c d → statement_note x ≡ []) (at : Position) where
   -- a statement in its place
   abbrev SoundStmt : State → Tree → State → Type 0
   SoundStmt s x t = SoundTree (λ k. StmtRule Stmt Expr Pat k at) s x t
@@ -371,12 +329,25 @@ module _ (Stmt : Code → Position → Tree → Place → Place → Type 0) (Exp
   unfolding expr_stmt_at
   expr_stmt_at_sound s = meets_if _ (may_begin_expression_statement at s.at) _ _ (λ h. expr_stmt_sound s h) (λ _. wanted_meets _ faults.Unexpected s)
 
+  import_stmt_sound : (s : State) → begins_import_expression s.at ≡ true → Meets (SoundStmt s) (import_stmt (inner_expr expression) s)
+  unfolding import_stmt
+  import_stmt_sound s h = meets_then _ (within with_in (inner_expr expression) s) _
+      (within_sound (λ x k l. walk (env_of k l) x) notes (λ x k. Expr expression k x) with_in (λ k. refl) (inner_expr expression) s (sound_expr expression (coded (with_in s.code) s))) (λ x m p.
+      meets_then _ (optional_end m) _ (optional_end_sound m) (λ _ t q.
+      sound_as s t refl refl refl (λ (i, a, b). import_rule x i h a b refl)
+      (sound_notes s t (λ (i, a, b). sym (append-nil (notes x)) ∙ ap (λ z. notes x ++ z) (sym (unnoted (with_in s.code) x s.at i h a))) (sound_more p q))))
+
+  import_stmt_at_sound : (s : State) → Meets (SoundStmt s) (import_stmt_at (inner_expr expression) s)
+  unfolding import_stmt_at
+  import_stmt_at_sound s = meets_if _ (begins_import_expression s.at) _ _ (λ h. import_stmt_sound s h) (λ _. refuse_meets _ faults.ImportExportInScript s)
+
   -- each kind of token begins its statement
   by_sound : (j : TokenKind) (s : State) → kind_at s.at ≡ j → Meets (SoundStmt s) (stmt_by inner inner_expr inner_pat at j s)
   by_sound kind.LBrace s e = block_sound s e
   by_sound kind.Semi s e = empty_sound s e
   by_sound kind.Debugger s e = debugger_sound s e
   by_sound kind.Var s e = var_sound Expr Pat inner_expr inner_pat sound_expr sound_pat Stmt at s e
+  by_sound kind.Import s e = import_stmt_at_sound s
   by_sound _ s e = expr_stmt_at_sound s
 
   level_sound : (s : State) → Meets (SoundStmt s) (stmt_level inner inner_expr inner_pat at s)
@@ -472,7 +443,7 @@ script_is n s x t ((f, keeps, p), e) =
 pub stmt_sound : (n : ℕ) (at : Position) (s : State) → Meets (λ x t. SoundTree (λ k. ReadsStmt n k at) s x t) (stmt n at s)
 unfolding stmt
 stmt_sound zero at s = too_deep_meets _ s
-stmt_sound (suc n) at s = level_sound (ReadsStmt n) (ReadsClass n) (ReadsPat n) (stmt n) (expr n) (pattern n) (stmt_sound n) (expr_sound n) (pattern_sound n) at s
+stmt_sound (suc n) at s = level_sound (ReadsStmt n) (ReadsClass n) (ReadsPat n) (stmt n) (expr n) (pattern n) (stmt_sound n) (expr_sound n) (pattern_sound n) (λ k x c d h r. import_unnoted n k x c d r h) at s
 
 -- a first line and statements up to the end
 body_sound : (n : ℕ) (s : State) → Meets (SoundBody n s) (script_body n s)

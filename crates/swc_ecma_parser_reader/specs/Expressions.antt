@@ -12,6 +12,7 @@ use Rattle.swc_ecma_parser_token.specs.declared.token.TokenAndSpan.{TokenAndSpan
 use Rattle.swc_ecma_parser_token.specs.Text.{word_text}
 use Rattle.swc_ecma_parser_input.specs.Place.{Place, after}
 use Rattle.swc_ecma_parser_model.specs.declared.leaves.Ident.{Ident}
+use Rattle.swc_ecma_parser_model.specs.declared.leaves.MetaPropKind.TheVariants as meta
 use Rattle.swc_ecma_parser_model.specs.declared.operators.UnaryOp.{UnaryOp}
 use Rattle.swc_ecma_parser_model.specs.declared.operators.UpdateOp.{UpdateOp}
 use Rattle.swc_ecma_parser_model.specs.declared.operators.BinaryOp.{BinaryOp}
@@ -28,7 +29,7 @@ use Rattle.swc_ecma_parser_grammar.specs.Reads.{with_in}
 use Rattle.swc_ecma_parser_grammar.specs.language.Goals.{Class, expression, assignment, operator, unary, left_side, callee}
 use Rattle.swc_ecma_parser_grammar.specs.language.Operators.{unary_operator, update_operator, binary_operator, assign_operator, precedence, groups_left, is_operator, mixes, is_unary}
 use Rattle.swc_ecma_parser_grammar.specs.language.Continues.{continues_conditional}
-use Rattle.swc_ecma_parser_reader.specs.State.{State, Outcome, Reader, ◌>>=◌, ◌>>◌, pure, skip, moved, within, fault_at, wanted, too_deep, reject, expect, name, Step, More, Done, loop}
+use Rattle.swc_ecma_parser_reader.specs.State.{State, Outcome, Reader, ◌>>=◌, ◌>>◌, pure, skip, moved, within, fault, fault_at, wanted, too_deep, reject, expect, name, Step, More, Done, loop}
 
 -- ---- places and spans
 
@@ -159,6 +160,14 @@ this = do
   skip
   span ← since start
   pure (tree.this span)
+
+-- `import.meta` is a fault in code that cannot be a module's; where it can be it is not read yet
+unfoldable pub import_meta : Span → Reader Tree
+import_meta start = λ s. if word_at (codes "meta") s.at && not s.code.flags.can_be_module then (do
+  skip
+  span ← since start
+  fault (fault_at span faults.ImportMetaInScript)
+  pure (tree.meta_prop span meta.ImportMeta)) s else wanted faults.Unexpected s
 
 -- the loop goes on with it
 abbrev pub more : Tree → Reader (Step Tree Tree)
@@ -326,20 +335,26 @@ module _ (inner : Class → Reader Tree) (cover : Reader Cover) where
   unfoldable pub element : Reader Tree
   element = λ s. if sees kind.DotDotDot s.at then spread_element s else plain_element s
 
+  -- a comma before the end is recorded where none may stand there
+  abbrev pub behind_comma : Bool → List Tree → Reader (Step (List Tree) (List Tree))
+  behind_comma commas found = λ s. if not commas && sees kind.RParen s.at then (do
+    fault (fault_at s.at.last faults.TrailingCommaInsideImport)
+    pure (More found)) s else Ok (More found, s)
+
   -- behind an argument a comma stands, or the end
-  abbrev pub behind_argument : List Tree → Reader (Step (List Tree) (List Tree))
-  behind_argument found = λ s. if sees kind.RParen s.at then Ok (More found, s) else (do
+  abbrev pub behind_argument : Bool → List Tree → Reader (Step (List Tree) (List Tree))
+  behind_argument commas found = λ s. if sees kind.RParen s.at then Ok (More found, s) else (do
     expect kind.Comma
-    pure (More found)) s
+    behind_comma commas found) s
 
-  unfoldable pub arguments_turn : List Tree → Reader (Step (List Tree) (List Tree))
-  arguments_turn found = λ s. if sees kind.RParen s.at then Ok (Done found, moved s) else (do
+  unfoldable pub arguments_turn : Bool → List Tree → Reader (Step (List Tree) (List Tree))
+  arguments_turn commas found = λ s. if sees kind.RParen s.at then Ok (Done found, moved s) else (do
     x ← element
-    behind_argument (found ++ x ∷ [])) s
+    behind_argument commas (found ++ x ∷ [])) s
 
-  -- from `(` on
-  unfoldable pub arguments : Reader (List Tree)
-  arguments = skip >> loop arguments_turn []
+  -- from `(` on; a comma may stand behind the last one, or is recorded there
+  unfoldable pub arguments : Bool → Reader (List Tree)
+  arguments commas = skip >> loop (arguments_turn commas) []
 
   -- ---- primary expressions: section 13.2
 
@@ -508,7 +523,7 @@ module _ (inner : Class → Reader Tree) (cover : Reader Cover) where
 
   unfoldable pub called : Span → Tree → Reader Tree
   called start x = do
-    xs ← arguments
+    xs ← arguments true
     span ← since start
     pure (tree.call span x (listed xs))
 
@@ -525,7 +540,7 @@ module _ (inner : Class → Reader Tree) (cover : Reader Cover) where
   -- `super`, before an access or, where calls are read, arguments; a private name is no property of it
   unfoldable pub super_call : Span → Reader Tree
   super_call start = do
-    xs ← arguments
+    xs ← arguments true
     span ← since start
     pure (tree.call span (tree.super_callee start) (listed xs))
 
@@ -551,7 +566,7 @@ module _ (inner : Class → Reader Tree) (cover : Reader Cover) where
   -- what `new` calls, and its arguments, if there are any
   unfoldable pub constructed : Span → Tree → Reader Tree
   constructed start x = do
-    xs ← arguments
+    xs ← arguments true
     span ← since start
     pure (tree.new span x (listed xs))
 
@@ -562,8 +577,29 @@ module _ (inner : Class → Reader Tree) (cover : Reader Cover) where
     x ← inner callee
     λ s. if sees kind.LParen s.at then constructed start x s else bare_new start x s
 
+  -- `import` and its arguments
+  unfoldable pub import_call : Span → Reader Tree
+  import_call start = λ s. (do
+    xs ← arguments s.code.setting.import_attributes
+    span ← since start
+    pure (tree.call span (tree.import_callee start) (listed xs))) s
+
+  unfoldable pub import_head : Reader Tree
+  import_head = do
+    start ← span_here
+    skip
+    λ s.
+        if sees kind.LParen s.at then import_call start s
+        else if sees kind.Dot s.at then (skip >> import_meta start) s
+        else wanted faults.Unexpected s
+
+  -- `new` does not call what `import` calls
   unfoldable pub left_head : Bool → Reader Tree
-  left_head calls = λ s. if sees kind.Super s.at then super_head calls s else if sees kind.New s.at then new_head s else primary s
+  left_head calls = λ s.
+      if sees kind.Super s.at then super_head calls s
+      else if sees kind.New s.at then new_head s
+      else if calls && sees kind.Import s.at then import_head s
+      else primary s
 
   -- with calls, or as what `new` calls
   unfoldable pub left : Bool → Reader Tree

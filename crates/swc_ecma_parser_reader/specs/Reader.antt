@@ -14,13 +14,13 @@ use Rattle.swc_ecma_parser_model.specs.Tree.{Tree, Text, listed}
 use Rattle.swc_ecma_parser_model.specs.Forms.{is_ident, is_ident_named, is_binding_name, span_of}
 use Rattle.swc_ecma_parser_grammar.specs.declared.position.Position.{Position}
 use Rattle.swc_ecma_parser_grammar.specs.Looks.{kind_at, sees, span_at}
-use Rattle.swc_ecma_parser_grammar.specs.Follows.{may_begin_expression_statement}
+use Rattle.swc_ecma_parser_grammar.specs.Follows.{may_begin_expression_statement, begins_import_expression}
 use Rattle.swc_ecma_parser_grammar.specs.Reads.{with_in, directed, nested_item, top_item}
 use Rattle.swc_ecma_parser_grammar.specs.Entries.{script_code}
 use Rattle.swc_ecma_parser_grammar.specs.language.Goals.{Class, expression, assignment}
 use Rattle.swc_ecma_parser_reader.specs.Expressions.{expr, span_here, since}
 use Rattle.swc_ecma_parser_reader.specs.Patterns.{pattern}
-use Rattle.swc_ecma_parser_reader.specs.State.{Reader, ◌>>=◌, ◌>>◌, pure, here, skip, moved, spanned_from, coded, flagged, within, fault, fault_at, module_fault, wanted, too_deep, reject, end, Step, More, Done, loop}
+use Rattle.swc_ecma_parser_reader.specs.State.{Reader, ◌>>=◌, ◌>>◌, pure, here, skip, moved, spanned_from, coded, flagged, within, fault, fault_at, module_fault, wanted, too_deep, refuse, reject, end, Step, More, Done, loop}
 
 -- ---- statements
 
@@ -138,12 +138,30 @@ module _ (expr : Reader Tree) where
   unfoldable pub expr_stmt_at : Position → Reader Tree
   expr_stmt_at at = λ s. if may_begin_expression_statement at s.at then expr_stmt s else wanted faults.Unexpected s
 
+-- an end that nothing demands
+unfoldable pub optional_end : Reader (Unit {0})
+optional_end = λ s. if sees kind.Semi s.at then Ok (tt, moved s) else Ok (tt, s)
+
+module _ (expr : Reader Tree) where
+  unfoldable pub import_stmt : Reader Tree
+  import_stmt = do
+    start ← here
+    x ← within with_in expr
+    optional_end
+    span ← spanned_from start
+    pure (tree.expr_stmt span x)
+
+  -- `import` begins no other statement
+  unfoldable pub import_stmt_at : Reader Tree
+  import_stmt_at = λ s. if begins_import_expression s.at then import_stmt s else refuse faults.ImportExportInScript s
+
 module _ (stmt : Position → Reader Tree) (expr : Class → Reader Tree) (pat : Reader Tree) where
   abbrev pub stmt_by : Position → TokenKind → Reader Tree
   stmt_by at kind.LBrace = block (stmt nested_item)
   stmt_by at kind.Semi = empty
   stmt_by at kind.Debugger = debugger
   stmt_by at kind.Var = var expr pat
+  stmt_by at kind.Import = import_stmt_at (expr expression)
   stmt_by at _ = expr_stmt_at (expr expression) at
 
   unfoldable pub stmt_level : Position → Reader Tree

@@ -58,6 +58,10 @@ pub trait Source {
     fn flags(&self) -> Context
         ensures { result ≡ (seen self.now).code.flags };
 
+    /// Whether attributes of imports are read.
+    fn import_attributes(&self) -> bool
+        ensures { result ≡ (seen self.now).code.setting.import_attributes };
+
     /// Whether a name stands here.
     fn name_at(&self) -> bool
         ensures { result ≡ names.name_at (seen self.now).code.flags (seen self.now).at };
@@ -77,6 +81,10 @@ pub trait Source {
     /// Whether a word stands here, reserved or not.
     fn is_word_here(&self) -> bool
         ensures { result ≡ exprs.is_word_at (seen self.now).at };
+
+    /// Whether a word that is no keyword stands here and has this text.
+    fn word_at(&self, text: &'static str) -> bool
+        ensures { result ≡ follows.word_at text.now (seen self.now).at };
 
     /// Whether a token of this kind stands behind the current one.
     fn next_sees(&self, kind: TokenKind) -> bool
@@ -119,6 +127,11 @@ pub trait Source {
             → reader.reject {A = Tree} (reader.fault_at span (kind_of kind)) (seen self.old) ≡ Err (fault_of result, seen self.new) }
         ensures unit { kind_of result.kind ≢ kinds.OutOfMemory
             → reader.reject {A = Unit {0}} (reader.fault_at span (kind_of kind)) (seen self.old) ≡ Err (fault_of result, seen self.new) };
+
+    /// Refuses what stands here with this kind; an error token that stands here is read and recorded.
+    fn refuse_as(&mut self, kind: SyntaxError) -> Error
+        ensures { kind_of result.kind ≢ kinds.OutOfMemory
+            → reader.refuse {A = Tree} (kind_of kind) (seen self.old) ≡ Err (fault_of result, seen self.new) };
 
     /// Refuses what would stand deeper than the limit, and marks it.
     fn too_deep(&mut self) -> Error
@@ -187,6 +200,10 @@ impl<I: Tokens> Source for State<I> {
         State::flags(self)
     }
 
+    fn import_attributes(&self) -> bool {
+        State::import_attributes(self)
+    }
+
     fn name_at(&self) -> bool {
         State::name_at(self)
     }
@@ -205,6 +222,10 @@ impl<I: Tokens> Source for State<I> {
 
     fn is_word_here(&self) -> bool {
         State::is_word_here(self)
+    }
+
+    fn word_at(&self, text: &'static str) -> bool {
+        State::word_at(self, text)
     }
 
     fn next_sees(&self, kind: TokenKind) -> bool {
@@ -241,6 +262,10 @@ impl<I: Tokens> Source for State<I> {
 
     fn reject(&mut self, kind: SyntaxError, span: Span) -> Error {
         State::reject(self, kind, span)
+    }
+
+    fn refuse_as(&mut self, kind: SyntaxError) -> Error {
+        State::refuse_as(self, kind)
     }
 
     fn too_deep(&mut self) -> Error {

@@ -112,6 +112,13 @@ impl<I: Tokens> State<I> {
         self.buffer.ctx()
     }
 
+    /// Whether attributes of imports are read.
+    pub fn import_attributes(&self) -> bool
+        ensures { result ≡ self.now.code.setting.import_attributes }
+    {
+        self.buffer.syntax().es().import_attributes
+    }
+
     /// Whether a name stands here.
     #[tactic(auto, unfolding(swc_ecma_parser_grammar::specs::Names::name_at))]
     pub fn name_at(&self) -> bool

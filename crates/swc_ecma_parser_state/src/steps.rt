@@ -206,8 +206,10 @@ impl<I: Tokens> State<I> {
 
     /// Refuses what stands here with this kind. An error token is read and recorded.
     #[tactic(auto, using(crate::proofs::Primitives::refuse_plain, crate::proofs::Primitives::refuse_recorded, crate::proofs::Primitives::refuse_failed))]
-    fn refuse_as(&mut self, kind: SyntaxError) -> Error
-        ensures { kind_of result.kind ≢ kinds.OutOfMemory
+    pub fn refuse_as(&mut self, kind: SyntaxError) -> Error
+        ensures tree { kind_of result.kind ≢ kinds.OutOfMemory
+            → reader.refuse {A = Tree} (kind_of kind) self.old ≡ Err (fault_of result, self.new) }
+        ensures unit { kind_of result.kind ≢ kinds.OutOfMemory
             → reader.refuse {A = Unit {0}} (kind_of kind) self.old ≡ Err (fault_of result, self.new) }
     {
         let span = self.span();

@@ -12,7 +12,7 @@ use Rattle.swc_ecma_parser_grammar.specs.declared.position.Position.{Position}
 use Rattle.swc_ecma_parser_grammar.specs.Looks.{kind_at, breaks_at, sees, spanned}
 use Rattle.swc_ecma_parser_grammar.specs.Names.{Code}
 use Rattle.swc_ecma_parser_grammar.specs.Ends.{Ends, OptionalEnds, ends_at}
-use Rattle.swc_ecma_parser_grammar.specs.Follows.{word_at, is_async_function, may_begin_expression_statement}
+use Rattle.swc_ecma_parser_grammar.specs.Follows.{word_at, is_async_function, may_begin_expression_statement, begins_import_expression}
 use Rattle.swc_ecma_parser_grammar.specs.Reads.{with_in}
 use Rattle.swc_ecma_parser_grammar.specs.language.Goals.{Goal, expr_goal, expression, assignment, pattern_goal, binding, stmt_goal}
 use Rattle.swc_ecma_parser_grammar.specs.language.Contexts.{in_with, in_loop, in_breakable}
@@ -29,10 +29,6 @@ use Rattle.swc_ecma_parser_grammar.specs.language.ForHeads.{InitRule, PartRule, 
 -- At the top level a statement begins with `await` only in what may be a module's code.
 unfoldable pub may_begin_at_top : Code → Position → Place → Bool
 may_begin_at_top k at c = not (at.top_level && sees kind.Await c) || k.flags.can_be_module
-
--- `import(` and `import.` begin an expression
-unfoldable pub begins_import_expression : Place → Bool
-begins_import_expression c = sees kind.Import c && (sees kind.LParen (after c) || sees kind.Dot (after c))
 
 -- what stands behind a label: LabelledItem, section 14.13. A function that begins with its word is a declaration there.
 abbrev pub labelled_item : Place → Position

@@ -25,12 +25,14 @@ use Rattle.swc_ecma_parser_model.specs.declared.operators.BinaryOp.{BinaryOp}
 use Rattle.swc_ecma_parser_model.specs.declared.operators.AssignOp.{AssignOp}
 use Rattle.swc_ecma_parser_model.specs.Tree as tree
 use Rattle.swc_ecma_parser_model.specs.Tree.{Tree, Text}
+use Rattle.swc_ecma_parser_model.specs.Forms.{is_ident}
 use Rattle.swc_ecma_parser_grammar.specs.Looks.{kind_at, first_kind, breaks_at, span_at, first_span, sees, same_kind, spanned}
 use Rattle.swc_ecma_parser_grammar.specs.Names.{Code, is_reserved, is_name, is_identifier, is_clean_name, token_is_name, first_is_name, name_at, token_is_identifier, first_is_identifier, identifier_at}
 use Rattle.swc_ecma_parser_grammar.specs.Follows.{continues_left_side, word_at, is_async_function}
 use Rattle.swc_ecma_parser_grammar.specs.Reads.{ReadsToken}
 use Rattle.swc_ecma_parser_grammar.specs.Supported.{supported}
-use Rattle.swc_ecma_parser_grammar.specs.language.Goals.{Goal, Purpose, expr_goal, element_goal, assignment}
+use Rattle.swc_ecma_parser_grammar.specs.ReadsSupported.{ReadsClass}
+use Rattle.swc_ecma_parser_grammar.specs.language.Goals.{Goal, Purpose, expr_goal, element_goal, expression, assignment}
 use Rattle.swc_ecma_parser_grammar.specs.language.Operators.{unary_operator, update_operator, binary_operator, assign_operator}
 use Rattle.swc_ecma_parser_grammar.specs.language.Continues.{continues_unary, is_operation, continues_operand, continues_head, continues_conditional, continues_assignment}
 use Rattle.swc_ecma_parser_grammar.specs.language.Parts as parts
@@ -40,7 +42,7 @@ use Rattle.swc_ecma_parser_grammar.specs.language.LeftSides.{PrimaryRule, LeftSi
 use Rattle.swc_ecma_parser_grammar.specs.language.Patterns as patterns
 use Rattle.swc_ecma_parser_grammar.specs.language.Patterns.{PatternRule, PatternElementRule}
 use Rattle.swc_ecma_parser_grammar.specs.language.Expressions as rules
-use Rattle.swc_ecma_parser_grammar.specs.language.Expressions.{UnaryRule, BinaryRule, AssignmentRule}
+use Rattle.swc_ecma_parser_grammar.specs.language.Expressions.{UnaryRule, BinaryRule, AssignmentRule, ExpressionRule}
 use Rattle.swc_ecma_parser_grammar.specs.language.Reads as language
 use Rattle.swc_ecma_parser_grammar.proofs.Tests.{or_no, or_none, and_yes, and_both, and_no}
 use Rattle.swc_ecma_parser_reader.specs.Expressions.{literal_of, literal_in, token_is_word, first_is_word, is_word_at, postfix_at}
@@ -243,10 +245,11 @@ operand_kind kind.RBracket = false
 operand_kind kind.Comma = false
 operand_kind _ = true
 
--- nor `super` and `new`
+-- nor `super`, `new` and `import`
 abbrev pub primary_kind : TokenKind → Bool
 primary_kind kind.Super = false
 primary_kind kind.New = false
+primary_kind kind.Import = false
 primary_kind kind.Delete = false
 primary_kind kind.Void = false
 primary_kind kind.TypeOf = false
@@ -269,18 +272,20 @@ begin_kind kind.RBracket = false
 begin_kind kind.Comma = false
 begin_kind _ = true
 
-primary_by : (k : TokenKind) → primary_kind k ≡ true → (same_kind k kind.Super ≡ false) × (same_kind k kind.New ≡ false)
+primary_by : (k : TokenKind) → primary_kind k ≡ true → (same_kind k kind.Super ≡ false) × (same_kind k kind.New ≡ false) × (same_kind k kind.Import ≡ false)
 unfolding same_kind
 primary_by kind.Super e = cc
 primary_by kind.New e = cc
-primary_by _ e = (refl, refl)
+primary_by kind.Import e = cc
+primary_by _ e = (refl, refl, refl)
 
-pub primary_seen : (c : Place) → primary_kind (kind_at c) ≡ true → (sees kind.Super c ≡ false) × (sees kind.New c ≡ false)
+pub primary_seen : (c : Place) → primary_kind (kind_at c) ≡ true → (sees kind.Super c ≡ false) × (sees kind.New c ≡ false) × (sees kind.Import c ≡ false)
 primary_seen c e = primary_by (kind_at c) e
 
 primary_operand : (k : TokenKind) → primary_kind k ≡ true → operand_kind k ≡ true
 primary_operand kind.Super e = refl
 primary_operand kind.New e = refl
+primary_operand kind.Import e = refl
 primary_operand _ e = e
 
 pub operand_plain : (k : TokenKind) → operand_kind k ≡ true → unary_operator k ≡ None
@@ -331,6 +336,7 @@ keyword_primary : (f : Context) (k : Keyword) → is_name f (word_text (word.Key
 unfolding is_name is_reserved
 keyword_primary f keyword.Super e = cc
 keyword_primary f keyword.New e = cc
+keyword_primary f keyword.Import e = cc
 keyword_primary f keyword.Delete e = cc
 keyword_primary f keyword.Void e = cc
 keyword_primary f keyword.TypeOf e = cc
@@ -367,7 +373,7 @@ module _ (In : Goal → Type 0) where
   left_first k x c d (sides.super_property_rule p i a j e) h = rw i refl
   left_first k x c d (sides.call_rule y z m r a e) h = left_first k y c m r (and_yes (supported y) _ (supported_as x (tree.call (spanned c d) y z) e h)).0
   left_first k x c d (sides.super_call_rule z i a e) h = rw i refl
-  left_first k x c d (sides.import_call_rule z i a e) h = refuted x (ap supported e) h
+  left_first k x c d (sides.import_call_rule z i a e) h = rw i refl
   left_first k x c d (sides.new_rule y z m i r a e) h = rw i refl
   left_first k x c d (sides.bare_new_rule y i r e) h = rw i refl
 
@@ -420,6 +426,53 @@ begins (suc n) k x c d r h = assignment_first (language.Reads n) k x c d r h
 pub element_begins : (purpose : Purpose) (n : ℕ) (k : Code) (x : Tree) (c d : Place) → language.Reads n (element_goal purpose k x c d) → supported x ≡ true → begin_kind (kind_at c) ≡ true
 element_begins purpose zero k x c d r h = absurd r
 element_begins purpose (suc n) k x c d r h = element_first (language.Reads n) k x c d r h
+
+-- ---- no expression that begins with `import` is a bare name
+
+module _ (In : Goal → Type 0) where
+  primary_unnamed : (k : Code) (x : Tree) (c d : Place) → PrimaryRule In k x c d → supported x ≡ true → kind_at c ≡ kind.Import → is_ident x ≡ false
+  primary_unnamed k x c d r h i = absurd (let e : false ≡ true = sym (ap primary_kind i) ∙ primary_first In k x c d r h in cc)
+
+  left_unnamed : (k : Code) (x : Tree) (c d : Place) → LeftSideRule In k x c d → supported x ≡ true → kind_at c ≡ kind.Import → is_ident x ≡ false
+  left_unnamed k x c d (sides.primary_rule r) h i = primary_unnamed k x c d r h i
+  left_unnamed k x c d (sides.import_meta_rule a j w n m e) h i = ap is_ident e
+  left_unnamed k x c d (sides.member_rule y p m r a e) h i = ap is_ident e
+  left_unnamed k x c d (sides.super_property_rule p a r j e) h i = ap is_ident e
+  left_unnamed k x c d (sides.call_rule y z m r a e) h i = ap is_ident e
+  left_unnamed k x c d (sides.super_call_rule z a r e) h i = ap is_ident e
+  left_unnamed k x c d (sides.import_call_rule z a r e) h i = ap is_ident e
+  left_unnamed k x c d (sides.new_rule y z m a r b e) h i = ap is_ident e
+  left_unnamed k x c d (sides.bare_new_rule y a r e) h i = ap is_ident e
+
+  unary_unnamed : (k : Code) (x : Tree) (c d : Place) → UnaryRule In k x c d → supported x ≡ true → kind_at c ≡ kind.Import → is_ident x ≡ false
+  unary_unnamed k x c d (rules.operand_rule r) h i = left_unnamed k x c d r.0 h i
+  unary_unnamed k x c d (rules.unary_rule op y a r e) h i = ap is_ident e
+  unary_unnamed k x c d (rules.prefix_rule op y a r t e) h i = ap is_ident e
+  unary_unnamed k x c d (rules.postfix_rule op y m r t b a n e) h i = ap is_ident e
+  unary_unnamed k x c d (rules.await_rule y a m r e) h i = ap is_ident e
+
+  binary_unnamed : (k : Code) (n : ℕ) (x : Tree) (c d : Place) → BinaryRule In k n x c d → supported x ≡ true → kind_at c ≡ kind.Import → is_ident x ≡ false
+  binary_unnamed k n x c d (rules.single_rule r) h i = unary_unnamed k x c d r h i
+  binary_unnamed k n x c d (rules.left_rule op y z m b g a r o s u v e) h i = ap is_ident e
+  binary_unnamed k n x c d (rules.power_rule y z m b r u a s e) h i = ap is_ident e
+
+  assignment_unnamed : (k : Code) (x : Tree) (c d : Place) → AssignmentRule In k x c d → supported x ≡ true → kind_at c ≡ kind.Import → is_ident x ≡ false
+  assignment_unnamed k x c d (rules.operators_rule r s) h i = binary_unnamed k 1 x c d r h i
+  assignment_unnamed k x c d (rules.conditional_rule t y z a j r q o b s u e) h i = ap is_ident e
+  assignment_unnamed k x c d (rules.assign_rule op y z m r t a b e) h i = ap is_ident e
+  assignment_unnamed k x c d (rules.destructuring_rule y z m r t a b e) h i = ap is_ident e
+  assignment_unnamed k x c d (rules.arrow_rule a ps y o j r s t b u e) h i = ap is_ident e
+  assignment_unnamed k x c d (rules.bare_yield_rule g a n s e) h i = ap is_ident e
+  assignment_unnamed k x c d (rules.yield_rule y g a b s r e) h i = ap is_ident e
+  assignment_unnamed k x c d (rules.delegate_rule y g a b m r e) h i = ap is_ident e
+
+  expression_unnamed : (k : Code) (x : Tree) (c d : Place) → ExpressionRule In k x c d → supported x ≡ true → kind_at c ≡ kind.Import → is_ident x ≡ false
+  expression_unnamed k x c d (rules.assignment_rule r e) h i = assignment_unnamed k x c d r h i
+  expression_unnamed k x c d (rules.sequence_rule y z zs r e) h i = ap is_ident e
+
+pub import_unnamed : (n : ℕ) (k : Code) (x : Tree) (c d : Place) → ReadsClass n expression k x c d → kind_at c ≡ kind.Import → is_ident x ≡ false
+import_unnamed zero k x c d r i = absurd r.0
+import_unnamed (suc n) k x c d r i = expression_unnamed (language.Reads n) k x c d r.0 r.1 i
 
 -- ---- the token behind
 

@@ -26,7 +26,7 @@ use Rattle.swc_ecma_parser_grammar.specs.language.LeftSides as sides
 use Rattle.swc_ecma_parser_grammar.specs.language.LeftSides.{PrimaryRule, LeftSideRule, is_callee}
 use Rattle.swc_ecma_parser_grammar.proofs.Tests.{and_yes, and_no}
 use Rattle.swc_ecma_parser_reader.specs.State.{and_then, ◌>>=◌, Scope, State, Reader, name}
-use Rattle.swc_ecma_parser_reader.specs.Expressions.{Cover, close, literal_of, literal, ident_expr, this, bare_new, access, arguments, array, property, object, paren, marked_primary, primary, accessed, called, left_turn, left_from, super_call, super_access, behind_super, super_head, constructed, new_head, left_head, left}
+use Rattle.swc_ecma_parser_reader.specs.Expressions.{Cover, close, literal_of, literal, ident_expr, this, bare_new, access, arguments, array, property, object, paren, marked_primary, primary, accessed, called, left_turn, left_from, super_call, super_access, behind_super, super_head, constructed, new_head, import_call, import_head, left_head, left}
 use Rattle.swc_ecma_parser_reader.proofs.Answered.{st, Reads, ReadsAs}
 use Rattle.swc_ecma_parser_reader.proofs.Steps.{loop_more, loop_done}
 use Rattle.swc_ecma_parser_reader.proofs.expressions.Falls.{access_falls, arguments_fall}
@@ -128,7 +128,7 @@ module _ (In : Goal → Type 0) (inner : Class → Reader Tree) (cover : Reader 
       → x ≡ tree.call (spanned c d) (tree.super_callee (span_at c)) args → Reads (left_head inner cover true) k x c d
   unfolding left_head super_head behind_super super_call spanned
   super_call_reads args k x c d g r s e w f h =
-      rw (seen c kind.Super g, seen (after c) kind.LParen r.opens, arguments_read In inner cover given k args (after c) d w f h r s, e, ← r.is) refl
+      rw (seen c kind.Super g, seen (after c) kind.LParen r.opens, arguments_read In inner cover given true k args (after c) d w f h r s, e, ← r.is) refl
 
   new_reads : (calls : Bool) (what args : Tree) (m : Place) (k : Code) (x : Tree) (c d : Place) → kind_at c ≡ kind.New → In (callee_goal k what (after c) m) → supported what ≡ true
       → (r : ArgumentsRule In k true args m d) → supported args ≡ true → x ≡ tree.new (spanned c d) what args → Reads (left_head inner cover calls) k x c d
@@ -138,7 +138,7 @@ module _ (In : Goal → Type 0) (inner : Class → Reader Tree) (cover : Reader 
         g,
         given.calls k what (after c) m q (rw r.opens refl) t w f h,
         seen m kind.LParen r.opens,
-        arguments_read In inner cover given k args m d w (f ++ walk (env_of k w.labels) what) (h ++ notes what) r s,
+        arguments_read In inner cover given true k args m d w (f ++ walk (env_of k w.labels) what) (h ++ notes what) r s,
         e,
         ← r.is,
       ) (simp append_assoc refl)
@@ -156,11 +156,17 @@ module _ (In : Goal → Type 0) (inner : Class → Reader Tree) (cover : Reader 
         append-nil (notes what),
       ) refl
 
+  import_call_reads : (args : Tree) (k : Code) (x : Tree) (c d : Place) → kind_at c ≡ kind.Import → (r : ArgumentsRule In k k.setting.import_attributes args (after c) d)
+      → supported args ≡ true → x ≡ tree.call (spanned c d) (tree.import_callee (span_at c)) args → Reads (left_head inner cover true) k x c d
+  unfolding left_head import_head import_call spanned same_kind
+  import_call_reads args k x c d g r s e w f h =
+      rw (g, seen (after c) kind.LParen r.opens, arguments_read In inner cover given k.setting.import_attributes k args (after c) d w f h r s, e, ← r.is) refl
+
   primary_head : (calls : Bool) (k : Code) (x : Tree) (c d : Place) → PrimaryRule In k x c d → supported x ≡ true → Reads (left_head inner cover calls) k x c d
   unfolding left_head
   primary_head calls k x c d r s w f h =
       let q = primary_seen c (primary_first In k x c d r s) in
-      rw (q.0, q.1) (primary_reads k x c d r s w f h)
+      rw (q.0, q.1, and_no calls _ q.2) (primary_reads k x c d r s w f h)
 
   -- ---- what goes on with it
 
@@ -180,10 +186,10 @@ module _ (In : Goal → Type 0) (inner : Class → Reader Tree) (cover : Reader 
   unfolding left_from left_turn called same_kind
   call_more start what args k m d r s w f h =
       let o = r.opens in
-      let e = arguments_read In inner cover given k args m d w f h r s in
+      let e = arguments_read In inner cover given true k args m d w f h r s in
       loop_more (left_turn inner cover true start) what (tree.call (record { lo = start.lo; hi = d.last.hi }) what args) (st m k w f h)
       (st d k w (f ++ walk (env_of k w.labels) args) (h ++ notes args)) (rw (o, e, ← r.is) refl)
-      (shorter_by (length m.left) (arguments inner cover (st m k w f h)) r.elements _ e (arguments_fall inner cover given.falls given.cover_falls (st m k w f h) (λ z. cc)))
+      (shorter_by (length m.left) (arguments inner cover true (st m k w f h)) r.elements _ e (arguments_fall inner cover given.falls given.cover_falls true (st m k w f h) (λ z. cc)))
 
   -- a call stands where calls are read
   calls_read : (calls : Bool) (x y : Tree) → x ≡ y → is_callee y ≡ false → (calls || is_callee x) ≡ true → calls ≡ true
@@ -211,7 +217,9 @@ module _ (In : Goal → Type 0) (inner : Class → Reader Tree) (cover : Reader 
   left_reached k calls x c d (sides.super_call_rule z i a e) s g w f h =
       let b : calls ≡ true = calls_read calls x (tree.call (spanned c d) (tree.super_callee (span_at c)) z) e refl g in
       rw (b, super_call_reads z k x c d i a (supported_as x (tree.call (spanned c d) (tree.super_callee (span_at c)) z) e s) e w f h) refl
-  left_reached k calls x c d (sides.import_call_rule z i a e) s g w f h = refuted x (ap supported e) s
+  left_reached k calls x c d (sides.import_call_rule z i a e) s g w f h =
+      let b : calls ≡ true = calls_read calls x (tree.call (spanned c d) (tree.import_callee (span_at c)) z) e refl g in
+      rw (b, import_call_reads z k x c d i a (supported_as x (tree.call (spanned c d) (tree.import_callee (span_at c)) z) e s) e w f h) refl
   left_reached k calls x c d (sides.new_rule y z m i r a e) s g w f h =
       let t = and_yes (supported y) _ (supported_as x (tree.new (spanned c d) y z) e s) in
       rw (new_reads calls y z m k x c d i r t.0 a t.1 e w f h) refl

@@ -1,7 +1,7 @@
 -- The parts of the language that expressions share are read, with the faults of the walk and the notes held back, and no others:
 -- tokens, accesses, arguments and keys.
-use Rattle.std.proofs.Common.{◌≡◌, ◌<◌, ◌⊎◌, inl, inr, true, false, List, [], ◌∷◌, ◌++◌, length, Some, None, Ok, refl, sym, ◌∙◌, ap, arith, append_assoc, append-nil}
-use Rattle.std.specs.Prelude.{◌||◌}
+use Rattle.std.proofs.Common.{◌≡◌, ◌<◌, ◌⊎◌, inl, inr, Bool, true, false, List, [], ◌∷◌, ◌++◌, length, Some, None, Ok, refl, sym, ◌∙◌, ap, arith, append_assoc, append-nil}
+use Rattle.std.specs.Prelude.{not, ◌&&◌, ◌||◌}
 use Rattle.swc_ecma_parser_common.specs.declared.span.Span.{Span}
 use Rattle.swc_ecma_parser_error.specs.Kind.{Kind, Fault}
 use Rattle.swc_ecma_parser_token.specs.declared.kind.TokenKind.{TokenKind}
@@ -126,6 +126,14 @@ pub behind_last : (j : TokenKind) (x : Tree) (m d : Place) → LastComma true x 
 behind_last j x m d (no_comma e) h = inl (ap kind_at (sym e) ∙ h, e)
 behind_last j x m d (last_comma a e i) h = inr (e, i)
 
+-- behind an argument too, but before the end a comma stands only where one may
+abbrev BehindArgument : Bool → Place → Place → Type 0
+BehindArgument commas m d = ((kind_at m ≡ kind.RParen) × (d ≡ m)) ⊎ ((kind_at m ≡ kind.Comma) × (d ≡ after m) × ((not commas && sees kind.RParen d) ≡ false))
+
+argument_last : (commas : Bool) (x : Tree) (m d : Place) → LastComma commas x m d → kind_at d ≡ kind.RParen → BehindArgument commas m d
+argument_last commas x m d (no_comma e) h = inl (ap kind_at (sym e) ∙ h, e)
+argument_last commas x m d (last_comma a e i) h = inr (e, i, rw (and_yes commas _ a).0 refl)
+
 module _ (In : Goal → Type 0) (inner : Class → Reader Tree) (cover : Reader Cover) (given : IsRead In inner cover) where
   pub inside_reads : (class : Class) (k : Code) (x : Tree) (c d : Place) → In (expr_goal class (with_in k) x c d) → supported x ≡ true → Reads (inside inner cover class) k x c d
   unfolding inside
@@ -183,40 +191,47 @@ module _ (In : Goal → Type 0) (inner : Class → Reader Tree) (cover : Reader 
       shorter_by (length c.left) (element inner cover (st c k w [] [])) x _ (element_reads k x c d r s w [] []) (element_falls inner cover given.falls given.cover_falls (st c k w [] []))
 
   -- an argument, and what stands behind it
-  argument_more : (found : List Tree) (k : Code) (x : Tree) (c m d : Place) → ElementRule In k x c m → supported x ≡ true → Behind kind.RParen m d
+  argument_more : (commas : Bool) (found : List Tree) (k : Code) (x : Tree) (c m d : Place) → ElementRule In k x c m → supported x ≡ true → BehindArgument commas m d
       → (w : Scope) (f h : List Fault)
-      → loop (arguments_turn inner cover) found (st c k w f h) ≡ loop (arguments_turn inner cover) (found ++ x ∷ []) (st d k w (f ++ walk (env_of k w.labels) x) (h ++ notes x))
+      → loop (arguments_turn inner cover commas) found (st c k w f h)
+      ≡ loop (arguments_turn inner cover commas) (found ++ x ∷ []) (st d k w (f ++ walk (env_of k w.labels) x) (h ++ notes x))
   unfolding arguments_turn same_kind
-  argument_more found k x c m d r s (inl (e, i)) w f h =
-      loop_more (arguments_turn inner cover) found (found ++ x ∷ []) (st c k w f h) (st d k w (f ++ walk (env_of k w.labels) x) (h ++ notes x))
+  argument_more commas found k x c m d r s (inl (e, i)) w f h =
+      loop_more (arguments_turn inner cover commas) found (found ++ x ∷ []) (st c k w f h) (st d k w (f ++ walk (env_of k w.labels) x) (h ++ notes x))
       (rw ((element_begins k x c m r s).0, element_reads k x c m r s w f h, e, i) refl) (rw i (element_shorter k x c m r s w))
-  argument_more found k x c m d r s (inr (e, i)) w f h =
-      loop_more (arguments_turn inner cover) found (found ++ x ∷ []) (st c k w f h) (st d k w (f ++ walk (env_of k w.labels) x) (h ++ notes x))
-      (rw ((element_begins k x c m r s).0, element_reads k x c m r s w f h, e, expect_reads kind.Comma m k w (f ++ walk (env_of k w.labels) x) (h ++ notes x) e, i) refl)
+  argument_more commas found k x c m d r s (inr (e, i, g)) w f h =
+      loop_more (arguments_turn inner cover commas) found (found ++ x ∷ []) (st c k w f h) (st d k w (f ++ walk (env_of k w.labels) x) (h ++ notes x))
+      (rw ((element_begins k x c m r s).0, element_reads k x c m r s w f h, e, expect_reads kind.Comma m k w (f ++ walk (env_of k w.labels) x) (h ++ notes x) e, ← i, g) refl)
       (rw i (let a = element_shorter k x c m r s w in let b = moves m in omega arith))
 
-  arguments_end : (found : List Tree) (k : Code) (c : Place) (w : Scope) (f h : List Fault) → kind_at c ≡ kind.RParen
-      → loop (arguments_turn inner cover) found (st c k w f h) ≡ Ok (found, st (after c) k w f h)
+  -- no list of arguments that has one begins with its end
+  argument_begins : (commas : Bool) (x : Tree) (xs : List Tree) (k : Code) (c d : Place) → ReadsListed commas (ElementRule In k) (x ∷ xs) c d → supported x ≡ true → sees kind.RParen c ≡ false
+  argument_begins commas x [] k c d (m, r, l) s = (element_begins k x c m r s).0
+  argument_begins commas x (y ∷ ys) k c d (m, r, a, i, more) s = (element_begins k x c m r s).0
+
+  arguments_end : (commas : Bool) (found : List Tree) (k : Code) (c : Place) (w : Scope) (f h : List Fault) → kind_at c ≡ kind.RParen
+      → loop (arguments_turn inner cover commas) found (st c k w f h) ≡ Ok (found, st (after c) k w f h)
   unfolding arguments_turn
-  arguments_end found k c w f h e = loop_done (arguments_turn inner cover) found found (st c k w f h) (st (after c) k w f h) (rw (seen c kind.RParen e) refl)
+  arguments_end commas found k c w f h e = loop_done (arguments_turn inner cover commas) found found (st c k w f h) (st (after c) k w f h) (rw (seen c kind.RParen e) refl)
 
-  many_arguments : (xs found : List Tree) (k : Code) (c d : Place) (w : Scope) (f h : List Fault) → ReadsListed true (ElementRule In k) xs c d → all_supported (trees xs) ≡ true
-      → kind_at d ≡ kind.RParen
-      → loop (arguments_turn inner cover) found (st c k w f h) ≡ Ok (found ++ xs, st (after d) k w (f ++ walks (env_of k w.labels) false (trees xs)) (h ++ all_notes (trees xs)))
-  many_arguments [] found k c d w f h r s e = rw (append-nil found, append-nil f, append-nil h, r) (arguments_end found k c w f h (ap kind_at (sym r) ∙ e))
-  many_arguments (x ∷ []) found k c d w f h (m, r, l) s e =
-      argument_more found k x c m d r (and_yes (supported x) _ s).0 (behind_last kind.RParen x m d l e) w f h
-      ∙ rw (append-nil (walk (env_of k w.labels) x), append-nil (notes x)) (arguments_end (found ++ x ∷ []) k d w (f ++ walk (env_of k w.labels) x) (h ++ notes x) e)
-  many_arguments (x ∷ y ∷ ys) found k c d w f h (m, r, a, i, more) s e =
+  many_arguments : (commas : Bool) (xs found : List Tree) (k : Code) (c d : Place) (w : Scope) (f h : List Fault) → ReadsListed commas (ElementRule In k) xs c d
+      → all_supported (trees xs) ≡ true → kind_at d ≡ kind.RParen
+      → loop (arguments_turn inner cover commas) found (st c k w f h) ≡ Ok (found ++ xs, st (after d) k w (f ++ walks (env_of k w.labels) false (trees xs)) (h ++ all_notes (trees xs)))
+  many_arguments commas [] found k c d w f h r s e = rw (append-nil found, append-nil f, append-nil h, r) (arguments_end commas found k c w f h (ap kind_at (sym r) ∙ e))
+  many_arguments commas (x ∷ []) found k c d w f h (m, r, l) s e =
+      argument_more commas found k x c m d r (and_yes (supported x) _ s).0 (argument_last commas x m d l e) w f h
+      ∙ rw (append-nil (walk (env_of k w.labels) x), append-nil (notes x)) (arguments_end commas (found ++ x ∷ []) k d w (f ++ walk (env_of k w.labels) x) (h ++ notes x) e)
+  many_arguments commas (x ∷ y ∷ ys) found k c d w f h (m, r, a, i, more) s e =
       let t = and_yes (supported x) _ s in
-      argument_more found k x c m (after m) r t.0 (inr (i, refl)) w f h
-      ∙ many_arguments (y ∷ ys) (found ++ x ∷ []) k (after m) d w (f ++ walk (env_of k w.labels) x) (h ++ notes x) more t.1 e ∙ simp append_assoc refl
+      let g = and_no (not commas) (sees kind.RParen (after m)) (argument_begins commas y ys k (after m) d more (and_yes (supported y) (all_supported (trees ys)) t.1).0) in
+      argument_more commas found k x c m (after m) r t.0 (inr (i, refl, g)) w f h
+      ∙ many_arguments commas (y ∷ ys) (found ++ x ∷ []) k (after m) d w (f ++ walk (env_of k w.labels) x) (h ++ notes x) more t.1 e ∙ simp append_assoc refl
 
-  pub arguments_read : (k : Code) (args : Tree) (c d : Place) (w : Scope) (f h : List Fault) (r : ArgumentsRule In k true args c d) → supported args ≡ true
-      → arguments inner cover (st c k w f h) ≡ Ok (r.elements, st d k w (f ++ walk (env_of k w.labels) args) (h ++ notes args))
+  pub arguments_read : (commas : Bool) (k : Code) (args : Tree) (c d : Place) (w : Scope) (f h : List Fault) (r : ArgumentsRule In k commas args c d) → supported args ≡ true
+      → arguments inner cover commas (st c k w f h) ≡ Ok (r.elements, st d k w (f ++ walk (env_of k w.labels) args) (h ++ notes args))
   unfolding arguments
-  arguments_read k args c d w f h r s =
-      many_arguments r.elements [] k (after c) r.close w f h r.reads_elements (supported_as args (listed r.elements) r.is s) r.closes ∙ rw (r.next, r.is) refl
+  arguments_read commas k args c d w f h r s =
+      many_arguments commas r.elements [] k (after c) r.close w f h r.reads_elements (supported_as args (listed r.elements) r.is s) r.closes ∙ rw (r.next, r.is) refl
 
   -- ---- keys
 

@@ -173,22 +173,22 @@ module _ (inner : Class → Reader Tree) (cover : Reader Cover) where
 
   -- with an operand that is read first
   operators_from : (s : State) (o : Outcome Tree) → unary_operator (kind_at s.at) ≡ None → update_operator (kind_at s.at) ≡ None → sees kind.Super s.at ≡ false → sees kind.New s.at ≡ false
-      → begins_async_call s.at ≡ false → primary inner cover s ≡ o → operators_expr inner cover s ≡ and_then o (continued inner cover (span_at s.at))
+      → sees kind.Import s.at ≡ false → begins_async_call s.at ≡ false → primary inner cover s ≡ o → operators_expr inner cover s ≡ and_then o (continued inner cover (span_at s.at))
   unfolding operators_expr binary_expr unary_expr postfix left left_head continued postfixed
-  operators_from s o plain update super new call h = rw (plain, update, super, new, call, h)
+  operators_from s o plain update super new imports call h = rw (plain, update, super, new, imports, call, h)
       (four_steps o (left_from inner cover true (span_at s.at)) (postfixed inner cover (span_at s.at)) (binary_from inner cover 1 (span_at s.at)) (behind_operators inner cover false (span_at s.at)))
 
   operators_at : (s : State) (k : TokenKind) → kind_at s.at ≡ k → unary_operator k ≡ None → update_operator k ≡ None → same_kind k kind.Super ≡ false → same_kind k kind.New ≡ false
-      → opens k ≡ true → begins_literal s.at ≡ true → operators_expr inner cover s ≡ and_then (and_then (opened s) close) (continued inner cover (span_at s.at))
-  operators_at s k e plain update super new o h =
+      → same_kind k kind.Import ≡ false → opens k ≡ true → begins_literal s.at ≡ true → operators_expr inner cover s ≡ and_then (and_then (opened s) close) (continued inner cover (span_at s.at))
+  operators_at s k e plain update super new imports o h =
       operators_from s _ (ap unary_operator e ∙ plain) (ap update_operator e ∙ update) (ap (λ j. same_kind j kind.Super) e ∙ super) (ap (λ j. same_kind j kind.New) e ∙ new)
-      (calls_nothing s.at (ap opens e ∙ o)) (primary_literal s h)
+      (ap (λ j. same_kind j kind.Import) e ∙ imports) (calls_nothing s.at (ap opens e ∙ o)) (primary_literal s h)
 
   pub operators_literal : (s : State) → begins_literal s.at ≡ true → operators_expr inner cover s ≡ and_then (and_then (opened s) close) (continued inner cover (span_at s.at))
   unfolding same_kind
   operators_literal s h = elim (literal_kind s.at h) [
-    | inl e ↦ operators_at s kind.LBracket e refl refl refl refl refl h
-    | inr e ↦ operators_at s kind.LBrace e refl refl refl refl refl h
+    | inl e ↦ operators_at s kind.LBracket e refl refl refl refl refl refl h
+    | inr e ↦ operators_at s kind.LBrace e refl refl refl refl refl refl h
   ]
 
   -- ---- nothing goes on with it

@@ -1,6 +1,7 @@
 -- An expression takes a token at least, and no reader of one puts tokens back.
 use Rattle.std.proofs.Common.{◌≡◌, ◌≢◌, ℕ, zero, suc, ◌+◌, ◌≤◌, Bool, true, false, cond, List, [], ◌∷◌, ◌++◌, length, Option, Some, None, refl, sym, ◌∙◌, arith}
-use Rattle.std.specs.Prelude.{not, ◌&&◌, ◌||◌}
+use Rattle.std.specs.Prelude.{not, ◌&&◌, ◌||◌, codes}
+use Rattle.std.proofs.lemmas.Bool.{and_parts}
 use Rattle.swc_ecma_parser_common.specs.declared.span.Span.{Span}
 use Rattle.swc_ecma_parser_error.specs.Kind as faults
 use Rattle.swc_ecma_parser_error.specs.Kind.{Fault, fault_of}
@@ -23,14 +24,14 @@ use Rattle.swc_ecma_parser_model.specs.Forms.{is_simple_target}
 use Rattle.swc_ecma_parser_model.specs.Targets.{as_target}
 use Rattle.swc_ecma_parser_grammar.specs.Looks.{kind_at, sees, span_at}
 use Rattle.swc_ecma_parser_grammar.specs.Names.{is_name, name_at}
-use Rattle.swc_ecma_parser_grammar.specs.Follows.{is_async_function, continues_left_side}
+use Rattle.swc_ecma_parser_grammar.specs.Follows.{word_at, is_async_function, continues_left_side}
 use Rattle.swc_ecma_parser_grammar.specs.Reads.{with_in}
 use Rattle.swc_ecma_parser_grammar.specs.language.Goals.{Class, expression, assignment, operator, unary, left_side, callee}
 use Rattle.swc_ecma_parser_grammar.specs.language.Operators.{unary_operator, update_operator, assign_operator, groups_left, mixes, is_unary}
 use Rattle.swc_ecma_parser_grammar.specs.language.Continues.{continues_conditional}
-use Rattle.swc_ecma_parser_reader.specs.State.{State, Outcome, Reader, and_then, moved, coded, reject, reject_in, reject_at, fault, expect, name, loop}
-use Rattle.swc_ecma_parser_reader.specs.Expressions.{Cover, Covers, no_covers, with_cover, unmarked, close, target_or, target, goes_on, literal, literal_in, taken, any_word, word_in, word_by, touching_word, private_name, word_property, is_word_at, key_or, literal_key, shorthand_name, shorthand, dotted, ident_expr, this, bare_new, closed_left, simple, update_behind, behind_operand, postfix_at, right_class, operator_at, left_operand, unmixed, unassigned, unheaded, heads_arrow, begins_async_call, inside, brackets, access, spread_element, plain_element, element, behind_argument, arguments_turn, arguments, covered, spread_item, plain_item, item, behind_item, array_turn, elements, array, computed_key, key, key_value, initialized, initialized_name, initialized_key, bare_key, behind_key, keyed_property, spread_property, property, behind_property, object_turn, properties, object, paren, marked_primary, literal_or, primary, accessed, called, left_turn, left_from, super_call, super_access, has_private, behind_super, super_head, constructed, new_head, left_head, left, left_expr, prefixed, update_before, postfix, updated, unary_by, unary_expr, operated, binary_by, binary_turn, binary_from, binary_expr, conditional, assigned_to, assigned, assigned_or, behind_operators, operators_expr, postfixed, continued, closed, assigned_pattern, behind_literal, open_literal, done_expr, cover_expr, assignment_expr, sequence_turn, sequence_from, expression_expr, expr_level, expr, cover}
-use Rattle.swc_ecma_parser_reader.proofs.Takes.{Falls, falls_then, falls_last, falls_coded, falls_if, less, falls_next, moves, takes, takes_one, falls_past, falls_moved, wanted_falls, too_deep_falls, refused_falls, expect_falls, name_falls, loop_falls}
+use Rattle.swc_ecma_parser_reader.specs.State.{State, Outcome, Reader, and_then, moved, coded, reject, reject_in, reject_at, fault, fault_at, expect, name, loop}
+use Rattle.swc_ecma_parser_reader.specs.Expressions.{Cover, Covers, no_covers, with_cover, unmarked, close, target_or, target, goes_on, literal, literal_in, taken, any_word, word_in, word_by, touching_word, private_name, word_property, is_word_at, key_or, literal_key, shorthand_name, shorthand, dotted, ident_expr, this, bare_new, closed_left, simple, update_behind, behind_operand, postfix_at, right_class, operator_at, left_operand, unmixed, unassigned, unheaded, heads_arrow, begins_async_call, inside, brackets, access, spread_element, plain_element, element, behind_comma, behind_argument, arguments_turn, arguments, covered, spread_item, plain_item, item, behind_item, array_turn, elements, array, computed_key, key, key_value, initialized, initialized_name, initialized_key, bare_key, behind_key, keyed_property, spread_property, property, behind_property, object_turn, properties, object, paren, marked_primary, literal_or, primary, accessed, called, left_turn, left_from, super_call, super_access, has_private, behind_super, super_head, constructed, new_head, import_call, import_meta, import_head, left_head, left, left_expr, prefixed, update_before, postfix, updated, unary_by, unary_expr, operated, binary_by, binary_turn, binary_from, binary_expr, conditional, assigned_to, assigned, assigned_or, behind_operators, operators_expr, postfixed, continued, closed, assigned_pattern, behind_literal, open_literal, done_expr, cover_expr, assignment_expr, sequence_turn, sequence_from, expression_expr, expr_level, expr, cover}
+use Rattle.swc_ecma_parser_reader.proofs.Takes.{Falls, falls_then, falls_last, falls_coded, falls_if, less, falls_next, moves, takes, takes_one, falls_past, falls_moved, wanted_falls, too_deep_falls, refused_falls, fault_falls, expect_falls, name_falls, loop_falls}
 use Rattle.swc_ecma_parser_reader.proofs.Meets.{saw}
 
 -- ---- refusals of what was read answer nothing
@@ -189,17 +190,23 @@ module _ (inner : Class → Reader Tree) (cover : Reader Cover) (h : (class : Cl
       (falls_moved 1 s _ (falls_last 1 (length (after s.at).left) (inside inner cover assignment (moved s)) _ (inside_falls assignment (moved s))))
       (falls_last 1 (length s.at.left) (inside inner cover assignment s) _ (inside_falls assignment s))
 
-  behind_argument_falls : (found : List Tree) (s : State) → Falls 0 (length s.at.left) (behind_argument inner cover found s)
-  behind_argument_falls found s = falls_if 0 (length s.at.left) (sees kind.RParen s.at) _ _ (omega arith) (falls_last 0 (length s.at.left) (expect kind.Comma s) _ (expect_falls kind.Comma s))
+  behind_comma_falls : (commas : Bool) (found : List Tree) (s : State) → Falls 0 (length s.at.left) (behind_comma inner cover commas found s)
+  behind_comma_falls commas found s = falls_if 0 (length s.at.left) (not commas && sees kind.RParen s.at) _ _
+      (falls_last 0 (length s.at.left) (fault (fault_at s.at.last faults.TrailingCommaInsideImport) s) _ (fault_falls _ s)) (omega arith)
 
-  arguments_turn_falls : (found : List Tree) (s : State) → Falls 0 (length s.at.left) (arguments_turn inner cover found s)
+  behind_argument_falls : (commas : Bool) (found : List Tree) (s : State) → Falls 0 (length s.at.left) (behind_argument inner cover commas found s)
+  behind_argument_falls commas found s = falls_if 0 (length s.at.left) (sees kind.RParen s.at) _ _ (omega arith)
+      (falls_then 0 0 (length s.at.left) (expect kind.Comma s) _ (expect_falls kind.Comma s) (λ _ t. behind_comma_falls commas found t))
+
+  arguments_turn_falls : (commas : Bool) (found : List Tree) (s : State) → Falls 0 (length s.at.left) (arguments_turn inner cover commas found s)
   unfolding arguments_turn
-  arguments_turn_falls found s = falls_if 0 (length s.at.left) (sees kind.RParen s.at) _ _ (let m = moves s.at in omega arith)
-      (falls_then 0 0 (length s.at.left) (element inner cover s) _ (less (length s.at.left) (element inner cover s) (element_falls s)) (λ x t. behind_argument_falls (found ++ x ∷ []) t))
+  arguments_turn_falls commas found s = falls_if 0 (length s.at.left) (sees kind.RParen s.at) _ _ (let m = moves s.at in omega arith)
+      (falls_then 0 0 (length s.at.left) (element inner cover s) _ (less (length s.at.left) (element inner cover s) (element_falls s)) (λ x t.
+      behind_argument_falls commas (found ++ x ∷ []) t))
 
-  pub arguments_fall : (s : State) → kind_at s.at ≢ kind.End → Falls 1 (length s.at.left) (arguments inner cover s)
+  pub arguments_fall : (commas : Bool) (s : State) → kind_at s.at ≢ kind.End → Falls 1 (length s.at.left) (arguments inner cover commas s)
   unfolding arguments
-  arguments_fall s e = falls_past s _ e (loop_falls (arguments_turn inner cover) arguments_turn_falls [] (moved s))
+  arguments_fall commas s e = falls_past s _ e (loop_falls (arguments_turn inner cover commas) (arguments_turn_falls commas) [] (moved s))
 
   covered_falls : (s : State) → Falls 1 (length s.at.left) (covered inner cover s)
   unfolding covered
@@ -304,18 +311,18 @@ module _ (inner : Class → Reader Tree) (cover : Reader Cover) (h : (class : Cl
 
   pub called_falls : (start : Span) (x : Tree) (s : State) → kind_at s.at ≢ kind.End → Falls 1 (length s.at.left) (called inner cover start x s)
   unfolding called
-  called_falls start x s e = falls_last 1 (length s.at.left) (arguments inner cover s) _ (arguments_fall s e)
+  called_falls start x s e = falls_last 1 (length s.at.left) (arguments inner cover true s) _ (arguments_fall true s e)
 
-  arguments_any : (s : State) → Falls 0 (length s.at.left) (arguments inner cover s)
+  arguments_any : (commas : Bool) (s : State) → Falls 0 (length s.at.left) (arguments inner cover commas s)
   unfolding arguments
-  arguments_any s = falls_moved 0 s _ (loop_falls (arguments_turn inner cover) arguments_turn_falls [] (moved s))
+  arguments_any commas s = falls_moved 0 s _ (loop_falls (arguments_turn inner cover commas) (arguments_turn_falls commas) [] (moved s))
 
   left_turn_falls : (calls : Bool) (start : Span) (x : Tree) (s : State) → Falls 0 (length s.at.left) (left_turn inner cover calls start x s)
   unfolding left_turn called
   left_turn_falls calls start x s = falls_if 0 (length s.at.left) (sees kind.Dot s.at || sees kind.LBracket s.at) _ _
       (falls_last 0 (length s.at.left) (accessed inner cover start x s) _ (less (length s.at.left) (accessed inner cover start x s) (accessed_falls start x s)))
       (falls_if 0 (length s.at.left) (calls && sees kind.LParen s.at) _ _
-      (falls_last 0 (length s.at.left) (called inner cover start x s) _ (falls_last 0 (length s.at.left) (arguments inner cover s) _ (arguments_any s))) (omega arith))
+      (falls_last 0 (length s.at.left) (called inner cover start x s) _ (falls_last 0 (length s.at.left) (arguments inner cover true s) _ (arguments_any true s))) (omega arith))
 
   pub left_from_falls : (calls : Bool) (start : Span) (x : Tree) (s : State) → Falls 0 (length s.at.left) (left_from inner cover calls start x s)
   unfolding left_from
@@ -324,7 +331,7 @@ module _ (inner : Class → Reader Tree) (cover : Reader Cover) (h : (class : Cl
   behind_super_falls : (calls : Bool) (start : Span) (s : State) → Falls 0 (length s.at.left) (behind_super inner cover calls start s)
   unfolding behind_super super_call super_access
   behind_super_falls calls start s = falls_if 0 (length s.at.left) (calls && sees kind.LParen s.at) _ _
-      (falls_last 0 (length s.at.left) (arguments inner cover s) _ (arguments_any s))
+      (falls_last 0 (length s.at.left) (arguments inner cover true s) _ (arguments_any true s))
       (falls_if 0 (length s.at.left) (has_private s.at) _ _ (falls_moved 0 s _ (wanted_falls Tree 0 (length (after s.at).left) faults.Unexpected (moved s)))
       (falls_if 0 (length s.at.left) (sees kind.Dot s.at || sees kind.LBracket s.at) _ _
       (falls_last 0 (length s.at.left) (access inner cover s) _ (less (length s.at.left) (access inner cover s) (access_falls s))) (reject_falls Tree 0 (length s.at.left) _ s)))
@@ -335,17 +342,34 @@ module _ (inner : Class → Reader Tree) (cover : Reader Cover) (h : (class : Cl
 
   constructed_falls : (start : Span) (x : Tree) (s : State) → Falls 0 (length s.at.left) (constructed inner cover start x s)
   unfolding constructed
-  constructed_falls start x s = falls_last 0 (length s.at.left) (arguments inner cover s) _ (arguments_any s)
+  constructed_falls start x s = falls_last 0 (length s.at.left) (arguments inner cover true s) _ (arguments_any true s)
 
   new_falls : (s : State) → Falls 1 (length s.at.left) (new_head inner cover s)
   unfolding new_head bare_new
   new_falls s = falls_moved 1 s _ (falls_next (length (after s.at).left) (inner callee (moved s)) _ (h callee (moved s)) (λ x t.
       falls_if 0 (length t.at.left) (sees kind.LParen t.at) _ _ (constructed_falls (span_at s.at) x t) (omega arith)))
 
+  import_call_falls : (start : Span) (s : State) → Falls 0 (length s.at.left) (import_call inner cover start s)
+  unfolding import_call
+  import_call_falls start s = falls_last 0 (length s.at.left) (arguments inner cover s.code.setting.import_attributes s) _ (arguments_any s.code.setting.import_attributes s)
+
+  import_meta_falls : (start : Span) (s : State) → Falls 0 (length s.at.left) (import_meta start s)
+  unfolding import_meta
+  import_meta_falls start s = falls_if 0 (length s.at.left) (word_at (codes "meta") s.at && not s.code.flags.can_be_module) _ _
+      (falls_moved 0 s _ (falls_last 0 (length (after s.at).left) (fault _ (moved s)) _ (fault_falls _ (moved s)))) (wanted_falls Tree 0 (length s.at.left) faults.Unexpected s)
+
+  import_falls : (s : State) → kind_at s.at ≢ kind.End → Falls 1 (length s.at.left) (import_head inner cover s)
+  unfolding import_head
+  import_falls s e = falls_past s _ e (falls_if 0 (length (after s.at).left) (sees kind.LParen (after s.at)) _ _ (import_call_falls (span_at s.at) (moved s))
+      (falls_if 0 (length (after s.at).left) (sees kind.Dot (after s.at)) _ _ (falls_moved 0 (moved s) _ (import_meta_falls (span_at s.at) (moved (moved s))))
+      (wanted_falls Tree 0 (length (after s.at).left) faults.Unexpected (moved s))))
+
   left_head_falls : (calls : Bool) (s : State) → Falls 1 (length s.at.left) (left_head inner cover calls s)
   unfolding left_head
   left_head_falls calls s = falls_when 1 (length s.at.left) (sees kind.Super s.at) _ _ (λ e. super_falls calls s (no_end s kind.Super (λ z. cc) e)) (λ _.
-      falls_if 1 (length s.at.left) (sees kind.New s.at) _ _ (new_falls s) (primary_falls s))
+      falls_if 1 (length s.at.left) (sees kind.New s.at) _ _ (new_falls s)
+      (falls_when 1 (length s.at.left) (calls && sees kind.Import s.at) _ _
+      (λ e. import_falls s (no_end s kind.Import (λ z. cc) (and_parts calls (sees kind.Import s.at) e).1)) (λ _. primary_falls s)))
 
   pub left_falls : (calls : Bool) (s : State) → Falls 1 (length s.at.left) (left inner cover calls s)
   unfolding left

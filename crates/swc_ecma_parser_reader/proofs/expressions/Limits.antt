@@ -1,6 +1,6 @@
 -- With twice as many levels as tokens no expression is too deep, but for what an error token says: each level below needs a token.
 use Rattle.std.proofs.Common.{◌≡◌, ◌≢◌, ℕ, zero, suc, ◌*◌, ◌≤◌, Bool, true, false, cond, List, [], ◌∷◌, Option, Some, None, Ok, Err, refl, sym, ◌∙◌, ap, arith}
-use Rattle.std.specs.Prelude.{nat_eq, not, ◌&&◌, ◌||◌}
+use Rattle.std.specs.Prelude.{nat_eq, not, ◌&&◌, ◌||◌, codes}
 use Rattle.std.proofs.lemmas.Bool.{and_parts}
 use Rattle.swc_ecma_parser_common.specs.declared.span.Span.{Span}
 use Rattle.swc_ecma_parser_error.specs.Kind as faults
@@ -11,6 +11,7 @@ use Rattle.swc_ecma_parser_token.specs.declared.token.Token.{Token}
 use Rattle.swc_ecma_parser_token.specs.declared.token.Token.TheVariants as token
 use Rattle.swc_ecma_parser_token.specs.declared.token.TokenAndSpan.{TokenAndSpan}
 use Rattle.swc_ecma_parser_input.specs.TokenSource.{means_out_of_memory}
+use Rattle.swc_ecma_parser_input.specs.Place.{after}
 use Rattle.swc_ecma_parser_model.specs.declared.operators.UnaryOp.{UnaryOp}
 use Rattle.swc_ecma_parser_model.specs.declared.operators.UpdateOp.{UpdateOp}
 use Rattle.swc_ecma_parser_model.specs.declared.operators.BinaryOp.{BinaryOp}
@@ -22,13 +23,13 @@ use Rattle.swc_ecma_parser_model.specs.Forms.{is_simple_target, span_of}
 use Rattle.swc_ecma_parser_model.specs.Targets.{as_target}
 use Rattle.swc_ecma_parser_grammar.specs.Looks.{kind_at, sees, span_at}
 use Rattle.swc_ecma_parser_grammar.specs.Names.{is_name, name_at}
-use Rattle.swc_ecma_parser_grammar.specs.Follows.{is_async_function, continues_left_side}
+use Rattle.swc_ecma_parser_grammar.specs.Follows.{word_at, is_async_function, continues_left_side}
 use Rattle.swc_ecma_parser_grammar.specs.Reads.{with_in}
 use Rattle.swc_ecma_parser_grammar.specs.language.Goals.{Class, expression, assignment, operator, unary, left_side, callee}
 use Rattle.swc_ecma_parser_grammar.specs.language.Operators.{unary_operator, update_operator, binary_operator, assign_operator, groups_left, mixes, is_unary}
 use Rattle.swc_ecma_parser_grammar.specs.language.Continues.{continues_conditional}
 use Rattle.swc_ecma_parser_reader.specs.State.{State, Outcome, Reader, ◌>>=◌, moved, coded, wanted, reject, reject_in, reject_at, fault_at, fault, expect, name, loop}
-use Rattle.swc_ecma_parser_reader.specs.Expressions.{Cover, no_covers, unmarked, close, target_or, target, goes_on, literal, literal_in, taken, any_word, word_in, word_by, touching_word, private_name, word_property, is_word_at, key_or, literal_key, shorthand_name, shorthand, dotted, ident_expr, this, bare_new, closed_left, simple, update_behind, behind_operand, postfix_at, right_class, read_operator, operator_at, left_operand, unmixed, unassigned, unassignable, unheaded, heads_arrow, begins_async_call, inside, brackets, access, spread_element, plain_element, element, arguments_turn, arguments, covered, spread_item, plain_item, item, array_turn, elements, array, computed_key, key, key_value, initialized, initialized_name, initialized_key, bare_key, behind_key, keyed_property, spread_property, property, object_turn, properties, object, paren, marked_primary, literal_or, primary, accessed, called, left_turn, left_from, super_call, super_access, has_private, behind_super, super_head, constructed, new_head, left_head, left, left_expr, prefixed, update_before, postfix, updated, unary_by, unary_expr, operated, binary_by, binary_turn, binary_from, binary_expr, conditional, assigned_to, assigned, assigned_or, behind_operators, operators_expr, postfixed, continued, closed, assigned_pattern, behind_literal, open_literal, done_expr, cover_expr, assignment_expr, sequence_turn, sequence_from, expression_expr, expr_level, expr, cover}
+use Rattle.swc_ecma_parser_reader.specs.Expressions.{Cover, no_covers, unmarked, close, target_or, target, goes_on, literal, literal_in, taken, any_word, word_in, word_by, touching_word, private_name, word_property, is_word_at, key_or, literal_key, shorthand_name, shorthand, dotted, ident_expr, this, bare_new, closed_left, simple, update_behind, behind_operand, postfix_at, right_class, read_operator, operator_at, left_operand, unmixed, unassigned, unassignable, unheaded, heads_arrow, begins_async_call, inside, brackets, access, spread_element, plain_element, element, arguments_turn, arguments, covered, spread_item, plain_item, item, array_turn, elements, array, computed_key, key, key_value, initialized, initialized_name, initialized_key, bare_key, behind_key, keyed_property, spread_property, property, object_turn, properties, object, paren, marked_primary, literal_or, primary, accessed, called, left_turn, left_from, super_call, super_access, has_private, behind_super, super_head, constructed, new_head, import_call, import_meta, import_head, left_head, left, left_expr, prefixed, update_before, postfix, updated, unary_by, unary_expr, operated, binary_by, binary_turn, binary_from, binary_expr, conditional, assigned_to, assigned, assigned_or, behind_operators, operators_expr, postfixed, continued, closed, assigned_pattern, behind_literal, open_literal, done_expr, cover_expr, assignment_expr, sequence_turn, sequence_from, expression_expr, expr_level, expr, cover}
 use Rattle.swc_ecma_parser_reader.proofs.Meets.{Answers, answers_then, answers_if, Turned, loop_answers, saw}
 use Rattle.swc_ecma_parser_reader.proofs.Shallow.{Fine, fine_more, fine_after, fine_taken, Shallow, Kept, error_shallow, too_deep_shallow, fault_shallow, refused_shallow, wanted_shallow, expect_shallow, name_shallow, Levels}
 
@@ -197,12 +198,14 @@ module _ (inner : Class → Reader Tree) (cover : Reader Cover) (n : ℕ) (below
       (λ _. answers_then _ _ (inside inner cover assignment (moved s)) _ (inside_shallow assignment i (moved s) h (fine_after i s.at f)) (λ x t k. k))
       (λ _. answers_then _ _ (inside inner cover assignment s) _ (inside_shallow assignment i s h f) (λ x t k. k))
 
-  many_arguments_shallow : (i : ℕ) (s : State) → 2 * i ≤ n → Fine i s.at.left → Answers (Kept i) Shallow (loop (arguments_turn inner cover) [] s)
+  many_arguments_shallow : (commas : Bool) (i : ℕ) (s : State) → 2 * i ≤ n → Fine i s.at.left → Answers (Kept i) Shallow (loop (arguments_turn inner cover commas) [] s)
   unfolding arguments_turn
-  many_arguments_shallow i s h f = loop_answers (arguments_turn inner cover) (Kept i) (Kept i) Shallow
+  many_arguments_shallow commas i s h f = loop_answers (arguments_turn inner cover commas) (Kept i) (Kept i) Shallow
       (λ xs t g. answers_if _ _ (sees kind.RParen t.at) _ _ (λ _. fine_after i t.at g) (λ _.
       answers_then _ _ (element inner cover t) _ (element_shallow i t h g) (λ x u k.
-      answers_if _ _ (sees kind.RParen u.at) _ _ (λ _. k) (λ _. answers_then _ _ (expect kind.Comma u) _ (expect_shallow i u k kind.Comma) (λ _ v j. j)))))
+      answers_if _ _ (sees kind.RParen u.at) _ _ (λ _. k) (λ _. answers_then _ _ (expect kind.Comma u) _ (expect_shallow i u k kind.Comma) (λ _ v j.
+      answers_if _ _ (not commas && sees kind.RParen v.at) _ _
+      (λ _. answers_then _ _ (fault (fault_at v.at.last faults.TrailingCommaInsideImport) v) _ (fault_shallow i v j _) (λ _ w l. l)) (λ _. j))))))
       (λ t e. cc) [] s f
 
   covered_shallow : (i : ℕ) (s : State) → 2 * i ≤ n → Fine i s.at.left → Answers (Kept i) Shallow (covered inner cover s)
@@ -282,11 +285,11 @@ module _ (inner : Class → Reader Tree) (cover : Reader Cover) (n : ℕ) (below
     access_shallow s h f = answers_if _ _ (sees kind.Dot s.at) _ _ (λ _. dotted_shallow m (moved s) (fine_after m s.at f))
         (λ e. brackets_shallow s (saw s.at kind.LBracket (other_test (sees kind.Dot s.at) (sees kind.LBracket s.at) h e)) f)
 
-    arguments_shallow : (s : State) → kind_at s.at ≡ kind.LParen → Fine m s.at.left → Answers (Kept m) Shallow (arguments inner cover s)
+    arguments_shallow : (commas : Bool) (s : State) → kind_at s.at ≡ kind.LParen → Fine m s.at.left → Answers (Kept m) Shallow (arguments inner cover commas s)
     unfolding arguments
-    arguments_shallow s e f =
+    arguments_shallow commas s e f =
         let (i, h, g) = fine_taken m s.at kind.LParen e (λ z. cc) f in
-        kept_more i m (loop (arguments_turn inner cover) [] (moved s)) (omega arith) (many_arguments_shallow i (moved s) (omega arith) g)
+        kept_more i m (loop (arguments_turn inner cover commas) [] (moved s)) (omega arith) (many_arguments_shallow commas i (moved s) (omega arith) g)
 
     elements_shallow : (s : State) → kind_at s.at ≡ kind.LBracket → Fine m s.at.left → Answers (Kept m) Shallow (elements inner cover s)
     unfolding elements
@@ -338,7 +341,7 @@ module _ (inner : Class → Reader Tree) (cover : Reader Cover) (n : ℕ) (below
 
     called_shallow : (start : Span) (x : Tree) (s : State) → kind_at s.at ≡ kind.LParen → Fine m s.at.left → Answers (Kept m) Shallow (called inner cover start x s)
     unfolding called
-    called_shallow start x s e f = answers_then _ _ (arguments inner cover s) _ (arguments_shallow s e f) (λ xs t g. g)
+    called_shallow start x s e f = answers_then _ _ (arguments inner cover true s) _ (arguments_shallow true s e f) (λ xs t g. g)
 
     left_from_shallow : (calls : Bool) (start : Span) (x : Tree) (s : State) → Fine m s.at.left → Answers (Kept m) Shallow (left_from inner cover calls start x s)
     unfolding left_from left_turn
@@ -352,7 +355,7 @@ module _ (inner : Class → Reader Tree) (cover : Reader Cover) (n : ℕ) (below
     behind_super_shallow : (calls : Bool) (start : Span) (s : State) → Fine m s.at.left → Answers (Kept m) Shallow (behind_super inner cover calls start s)
     unfolding behind_super super_call super_access
     behind_super_shallow calls start s f = answers_if _ _ (calls && sees kind.LParen s.at) _ _
-        (λ h. answers_then _ _ (arguments inner cover s) _ (arguments_shallow s (saw s.at kind.LParen (and_parts calls (sees kind.LParen s.at) h).1) f) (λ xs t g. g))
+        (λ h. answers_then _ _ (arguments inner cover true s) _ (arguments_shallow true s (saw s.at kind.LParen (and_parts calls (sees kind.LParen s.at) h).1) f) (λ xs t g. g))
         (λ _. answers_if _ _ (has_private s.at) _ _ (λ _. unexpected_shallow m (moved s) (fine_after m s.at f) _)
         (λ _. answers_if _ _ (sees kind.Dot s.at || sees kind.LBracket s.at) _ _ (λ h. answers_then _ _ (access inner cover s) _ (access_shallow s h f) (λ x t g. g))
         (λ _. reject_shallow _ faults.InvalidSuper start (λ e. cc) m s f)))
@@ -363,7 +366,7 @@ module _ (inner : Class → Reader Tree) (cover : Reader Cover) (n : ℕ) (below
 
     constructed_shallow : (start : Span) (x : Tree) (s : State) → kind_at s.at ≡ kind.LParen → Fine m s.at.left → Answers (Kept m) Shallow (constructed inner cover start x s)
     unfolding constructed
-    constructed_shallow start x s e f = answers_then _ _ (arguments inner cover s) _ (arguments_shallow s e f) (λ xs t g. g)
+    constructed_shallow start x s e f = answers_then _ _ (arguments inner cover true s) _ (arguments_shallow true s e f) (λ xs t g. g)
 
     new_shallow : (s : State) → kind_at s.at ≡ kind.New → Fine m s.at.left → Answers (Kept m) Shallow (new_head inner cover s)
     unfolding new_head bare_new
@@ -373,10 +376,29 @@ module _ (inner : Class → Reader Tree) (cover : Reader Cover) (n : ℕ) (below
         let j : Fine m t.at.left = fine_more i m t.at.left (omega arith) k in
         answers_if _ _ (sees kind.LParen t.at) _ _ (λ o. constructed_shallow (span_at s.at) x t (saw t.at kind.LParen o) j) (λ _. j))
 
+    import_call_shallow : (start : Span) (s : State) → kind_at s.at ≡ kind.LParen → Fine m s.at.left → Answers (Kept m) Shallow (import_call inner cover start s)
+    unfolding import_call
+    import_call_shallow start s e f =
+        answers_then _ _ (arguments inner cover s.code.setting.import_attributes s) _ (arguments_shallow s.code.setting.import_attributes s e f) (λ xs t g. g)
+
+    import_meta_shallow : (start : Span) (s : State) → Fine m s.at.left → Answers (Kept m) Shallow (import_meta start s)
+    unfolding import_meta
+    import_meta_shallow start s f = answers_if _ _ (word_at (codes "meta") s.at && not s.code.flags.can_be_module) _ _
+        (λ _. answers_then _ _ (fault _ (moved s)) _ (fault_shallow m (moved s) (fine_after m s.at f) _) (λ _ t g. g)) (λ _. unexpected_shallow m s f _)
+
+    import_shallow : (s : State) → Fine m s.at.left → Answers (Kept m) Shallow (import_head inner cover s)
+    unfolding import_head
+    import_shallow s f =
+        let g : Fine m (after s.at).left = fine_after m s.at f in
+        answers_if _ _ (sees kind.LParen (after s.at)) _ _ (λ o. import_call_shallow (span_at s.at) (moved s) (saw (after s.at) kind.LParen o) g)
+        (λ _. answers_if _ _ (sees kind.Dot (after s.at)) _ _ (λ _. import_meta_shallow (span_at s.at) (moved (moved s)) (fine_after m (after s.at) g))
+        (λ _. unexpected_shallow m (moved s) g _))
+
     left_head_shallow : (calls : Bool) (s : State) → Fine m s.at.left → Answers (Kept m) Shallow (left_head inner cover calls s)
     unfolding left_head
     left_head_shallow calls s f = answers_if _ _ (sees kind.Super s.at) _ _ (λ _. super_shallow calls s f)
-        (λ _. answers_if _ _ (sees kind.New s.at) _ _ (λ e. new_shallow s (saw s.at kind.New e) f) (λ _. primary_shallow s f))
+        (λ _. answers_if _ _ (sees kind.New s.at) _ _ (λ e. new_shallow s (saw s.at kind.New e) f)
+        (λ _. answers_if _ _ (calls && sees kind.Import s.at) _ _ (λ _. import_shallow s f) (λ _. primary_shallow s f)))
 
     left_shallow : (calls : Bool) (s : State) → Fine m s.at.left → Answers (Kept m) Shallow (left inner cover calls s)
     unfolding left

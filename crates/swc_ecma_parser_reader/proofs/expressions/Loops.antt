@@ -1,8 +1,9 @@
 -- The turns of the loops of expressions, and their levels, in the shapes that a loop over tokens and a recursion meet them.
 use Rattle.std.proofs.Common.{◌≡◌, ℕ, suc, ◌-◌, ◌<◌, Bool, true, false, List, [], ◌∷◌, ◌++◌, length, Some, None, Ok, Err, refl, sym, ◌∙◌, ap, subst, arith}
-use Rattle.std.specs.Prelude.{◌&&◌, ◌||◌}
+use Rattle.std.specs.Prelude.{not, ◌&&◌, ◌||◌}
 use Rattle.std.proofs.lemmas.Bool.{and_parts}
 use Rattle.swc_ecma_parser_common.specs.declared.span.Span.{Span}
+use Rattle.swc_ecma_parser_error.specs.Kind as faults
 use Rattle.swc_ecma_parser_error.specs.Kind.{Fault}
 use Rattle.swc_ecma_parser_token.specs.declared.kind.TokenKind.TheVariants as kind
 use Rattle.swc_ecma_parser_input.specs.Place.{after}
@@ -11,10 +12,10 @@ use Rattle.swc_ecma_parser_model.specs.Tree as tree
 use Rattle.swc_ecma_parser_model.specs.Tree.{Tree}
 use Rattle.swc_ecma_parser_grammar.specs.Looks.{sees}
 use Rattle.swc_ecma_parser_grammar.specs.language.Goals.{Class}
-use Rattle.swc_ecma_parser_reader.specs.State.{State, Outcome, moved, too_deep, expect, loop}
-use Rattle.swc_ecma_parser_reader.specs.Expressions.{Cover, Covers, with_cover, with_comma, done, element, arguments_turn, item, array_turn, property, object_turn, accessed, called, left_turn, operator_at, operated, binary_turn, cover_expr, assignment_expr, sequence_turn, expr_level, expr, cover}
+use Rattle.swc_ecma_parser_reader.specs.State.{State, Outcome, moved, too_deep, fault, fault_at, expect, loop}
+use Rattle.swc_ecma_parser_reader.specs.Expressions.{Cover, Covers, with_cover, with_comma, done, element, behind_comma, arguments_turn, item, array_turn, property, object_turn, accessed, called, left_turn, operator_at, operated, binary_turn, cover_expr, assignment_expr, sequence_turn, expr_level, expr, cover}
 use Rattle.swc_ecma_parser_reader.proofs.Steps.{loop_more, loop_done, loop_err}
-use Rattle.swc_ecma_parser_reader.proofs.Takes.{Falls, moves, takes, expect_falls}
+use Rattle.swc_ecma_parser_reader.proofs.Takes.{Falls, moves, takes, fault_falls, expect_falls}
 use Rattle.swc_ecma_parser_reader.proofs.expressions.Falls.{element_falls, item_falls, property_falls, accessed_falls, called_falls, operated_falls, assignment_falls, expr_falls, cover_falls}
 use Rattle.swc_ecma_parser_reader.proofs.Meets.{saw}
 
@@ -33,7 +34,7 @@ cover_shorter n s v t e = shorter_by (length s.at.left) (cover n s) v t e (cover
 pub expr_shorter : (n : ℕ) (class : Class) (s : State) (x : Tree) (t : State) → expr n class s ≡ Ok (x, t) → length t.at.left < length s.at.left
 expr_shorter n class s x t e = shorter_by (length s.at.left) (expr n class s) x t e (expr_falls n class s)
 
--- ---- arguments: `)` ends them; behind each it stands, or a comma
+-- ---- arguments: `)` ends them; behind each it stands, or a comma, which is recorded before `)` where none may stand there
 
 module _ (n : ℕ) (s : State) (x : Tree) (t : State) (found_element : element (expr n) (cover n) s ≡ Ok (x, t)) where
   pub element_shorter : length t.at.left < length s.at.left
@@ -43,29 +44,51 @@ module _ (n : ℕ) (s : State) (x : Tree) (t : State) (found_element : element (
   pub arguments_shorter : (u : State) → expect kind.Comma t ≡ Ok (tt, u) → length u.at.left < length s.at.left
   arguments_shorter u e = kept_by (length s.at.left) (length t.at.left) (expect kind.Comma t) tt u e (expect_falls kind.Comma t) element_shorter
 
-module _ (n : ℕ) (found : List Tree) (s : State) where
-  pub arguments_done : sees kind.RParen s.at ≡ true → loop (arguments_turn (expr n) (cover n)) found s ≡ Ok (found, moved s)
-  unfolding arguments_turn
-  arguments_done e = loop_done (arguments_turn (expr n) (cover n)) found found s (moved s) (rw e refl)
+  -- the same, where the comma is recorded
+  pub arguments_noted_shorter : (u v : State) (f : Fault) → expect kind.Comma t ≡ Ok (tt, u) → fault f u ≡ Ok (tt, v) → length v.at.left < length s.at.left
+  arguments_noted_shorter u v f e k = kept_by (length s.at.left) (length u.at.left) (fault f u) tt v k (fault_falls f u) (arguments_shorter u e)
 
-  pub arguments_err : (e : Fault × State) → sees kind.RParen s.at ≡ false → element (expr n) (cover n) s ≡ Err e → loop (arguments_turn (expr n) (cover n)) found s ≡ Err e
+module _ (n : ℕ) (commas : Bool) (found : List Tree) (s : State) where
+  pub arguments_done : sees kind.RParen s.at ≡ true → loop (arguments_turn (expr n) (cover n) commas) found s ≡ Ok (found, moved s)
   unfolding arguments_turn
-  arguments_err e h g = loop_err (arguments_turn (expr n) (cover n)) found s e (rw (h, g) refl)
+  arguments_done e = loop_done (arguments_turn (expr n) (cover n) commas) found found s (moved s) (rw e refl)
+
+  pub arguments_err : (e : Fault × State) → sees kind.RParen s.at ≡ false → element (expr n) (cover n) s ≡ Err e → loop (arguments_turn (expr n) (cover n) commas) found s ≡ Err e
+  unfolding arguments_turn
+  arguments_err e h g = loop_err (arguments_turn (expr n) (cover n) commas) found s e (rw (h, g) refl)
 
   pub arguments_last : (x : Tree) (t : State) → sees kind.RParen s.at ≡ false → element (expr n) (cover n) s ≡ Ok (x, t) → sees kind.RParen t.at ≡ true
-      → loop (arguments_turn (expr n) (cover n)) found s ≡ loop (arguments_turn (expr n) (cover n)) (found ++ x ∷ []) t
+      → loop (arguments_turn (expr n) (cover n) commas) found s ≡ loop (arguments_turn (expr n) (cover n) commas) (found ++ x ∷ []) t
   unfolding arguments_turn
-  arguments_last x t h g e = loop_more (arguments_turn (expr n) (cover n)) found (found ++ x ∷ []) s t (rw (h, g, e) refl) (element_shorter n s x t g)
-
-  pub arguments_more : (x : Tree) (t u : State) → sees kind.RParen s.at ≡ false → element (expr n) (cover n) s ≡ Ok (x, t) → sees kind.RParen t.at ≡ false → expect kind.Comma t ≡ Ok (tt, u)
-      → loop (arguments_turn (expr n) (cover n)) found s ≡ loop (arguments_turn (expr n) (cover n)) (found ++ x ∷ []) u
-  unfolding arguments_turn
-  arguments_more x t u h g e k = loop_more (arguments_turn (expr n) (cover n)) found (found ++ x ∷ []) s u (rw (h, g, e, k) refl) (arguments_shorter n s x t g u k)
+  arguments_last x t h g e = loop_more (arguments_turn (expr n) (cover n) commas) found (found ++ x ∷ []) s t (rw (h, g, e) refl) (element_shorter n s x t g)
 
   pub arguments_comma_err : (x : Tree) (t : State) (e : Fault × State) → sees kind.RParen s.at ≡ false → element (expr n) (cover n) s ≡ Ok (x, t) → sees kind.RParen t.at ≡ false
-      → expect kind.Comma t ≡ Err e → loop (arguments_turn (expr n) (cover n)) found s ≡ Err e
+      → expect kind.Comma t ≡ Err e → loop (arguments_turn (expr n) (cover n) commas) found s ≡ Err e
   unfolding arguments_turn
-  arguments_comma_err x t e h g i k = loop_err (arguments_turn (expr n) (cover n)) found s e (rw (h, g, i, k) refl)
+  arguments_comma_err x t e h g i k = loop_err (arguments_turn (expr n) (cover n) commas) found s e (rw (h, g, i, k) refl)
+
+  -- behind an argument and a comma
+  module _ (x : Tree) (t u : State) (no_end : sees kind.RParen s.at ≡ false) (found_element : element (expr n) (cover n) s ≡ Ok (x, t)) (no_end_behind : sees kind.RParen t.at ≡ false)
+      (found_comma : expect kind.Comma t ≡ Ok (tt, u)) where
+    comma_turn : arguments_turn (expr n) (cover n) commas found s ≡ behind_comma (expr n) (cover n) commas (found ++ x ∷ []) u
+    unfolding arguments_turn
+    comma_turn = rw (no_end, found_element, no_end_behind, found_comma) refl
+
+    -- which may stand there
+    pub arguments_more : (not commas && sees kind.RParen u.at) ≡ false
+        → loop (arguments_turn (expr n) (cover n) commas) found s ≡ loop (arguments_turn (expr n) (cover n) commas) (found ++ x ∷ []) u
+    arguments_more h = loop_more (arguments_turn (expr n) (cover n) commas) found (found ++ x ∷ []) s u (comma_turn ∙ (rw h refl)) (arguments_shorter n s x t found_element u found_comma)
+
+    -- which is recorded
+    module _ (out_of_place : (not commas && sees kind.RParen u.at) ≡ true) where
+      pub arguments_noted : (v : State) → fault (fault_at u.at.last faults.TrailingCommaInsideImport) u ≡ Ok (tt, v)
+          → loop (arguments_turn (expr n) (cover n) commas) found s ≡ loop (arguments_turn (expr n) (cover n) commas) (found ++ x ∷ []) v
+      arguments_noted v k = loop_more (arguments_turn (expr n) (cover n) commas) found (found ++ x ∷ []) s v (comma_turn ∙ (rw (out_of_place, k) refl))
+          (arguments_noted_shorter n s x t found_element u v _ found_comma k)
+
+      pub arguments_note_err : (e : Fault × State) → fault (fault_at u.at.last faults.TrailingCommaInsideImport) u ≡ Err e
+          → loop (arguments_turn (expr n) (cover n) commas) found s ≡ Err e
+      arguments_note_err e k = loop_err (arguments_turn (expr n) (cover n) commas) found s e (comma_turn ∙ (rw (out_of_place, k) refl))
 
 -- ---- elements: `]` ends them, and a comma with nothing before it stands behind a hole; behind each `]` stands, or a comma
 

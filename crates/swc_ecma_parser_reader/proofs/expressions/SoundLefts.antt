@@ -1,8 +1,9 @@
 -- The reader of left-hand-side expressions is sound: accesses, arguments, primary expressions, calls, `new` and `super`.
 use Rattle.std.proofs.Common.{◌≡◌, ℕ, zero, suc, Bool, true, false, List, [], ◌∷◌, ◌++◌, Option, Some, None, refl, sym, ◌∙◌, ap, subst, append-nil}
-use Rattle.std.specs.Prelude.{◌&&◌, ◌||◌}
+use Rattle.std.specs.Prelude.{not, ◌&&◌, ◌||◌, codes}
 use Rattle.swc_ecma_parser_common.specs.declared.span.Span.{Span}
 use Rattle.swc_ecma_parser_error.specs.Kind as faults
+use Rattle.swc_ecma_parser_error.specs.Kind.{Fault}
 use Rattle.swc_ecma_parser_token.specs.declared.kind.TokenKind.{TokenKind}
 use Rattle.swc_ecma_parser_token.specs.declared.kind.TokenKind.TheVariants as kind
 use Rattle.swc_ecma_parser_token.specs.declared.token.Token.{Token}
@@ -13,11 +14,11 @@ use Rattle.swc_ecma_parser_token.specs.Kind.{token_kind}
 use Rattle.swc_ecma_parser_input.specs.Place.{Place, after}
 use Rattle.swc_ecma_parser_model.specs.declared.leaves.Ident.{Ident}
 use Rattle.swc_ecma_parser_model.specs.Tree as tree
-use Rattle.swc_ecma_parser_model.specs.Tree.{Tree, listed, trees}
+use Rattle.swc_ecma_parser_model.specs.Tree.{Tree, Text, listed, trees}
 use Rattle.swc_ecma_parser_model.specs.Forms.{is_rest}
-use Rattle.swc_ecma_parser_grammar.specs.Looks.{kind_at, sees, same_kind, span_at, spanned}
+use Rattle.swc_ecma_parser_grammar.specs.Looks.{first_kind, kind_at, sees, same_kind, span_at, spanned}
 use Rattle.swc_ecma_parser_grammar.specs.Names.{Code, is_name, name_at}
-use Rattle.swc_ecma_parser_grammar.specs.Follows.{is_async_function, continues_left_side}
+use Rattle.swc_ecma_parser_grammar.specs.Follows.{token_is, first_is, word_at, is_async_function, continues_left_side}
 use Rattle.swc_ecma_parser_grammar.specs.Reads.{ReadsToken}
 use Rattle.swc_ecma_parser_grammar.specs.Supported.{supported, is_supported_property, all_supported}
 use Rattle.swc_ecma_parser_grammar.specs.ReadsSupported.{ReadsClass}
@@ -26,51 +27,72 @@ use Rattle.swc_ecma_parser_grammar.specs.language.Lists.{ReadsListed, LastComma,
 use Rattle.swc_ecma_parser_grammar.specs.language.Continues.{continues_callee}
 use Rattle.swc_ecma_parser_grammar.specs.language.Parts as parts
 use Rattle.swc_ecma_parser_grammar.specs.language.Parts.{AccessRule, word_access, private_access, bracket_access, is_private, ElementRule, ArgumentsRule}
-use Rattle.swc_ecma_parser_grammar.specs.language.LeftSides.{PrimaryRule, name_rule, string_rule, true_rule, false_rule, null_rule, number_rule, big_int_rule, this_rule, paren_rule, is_callee, LeftSideRule, primary_rule, member_rule, super_property_rule, call_rule, super_call_rule, new_rule, bare_new_rule}
+use Rattle.swc_ecma_parser_grammar.specs.language.LeftSides.{PrimaryRule, name_rule, string_rule, true_rule, false_rule, null_rule, number_rule, big_int_rule, this_rule, paren_rule, is_callee, LeftSideRule, primary_rule, member_rule, super_property_rule, call_rule, super_call_rule, import_call_rule, new_rule, bare_new_rule}
 use Rattle.swc_ecma_parser_grammar.specs.language.Reads.{Reads}
 use Rattle.swc_ecma_parser_grammar.specs.Walk as walks
 use Rattle.swc_ecma_parser_grammar.specs.Walk.{walk, env_of}
 use Rattle.swc_ecma_parser_grammar.specs.Notes.{notes, all_notes}
 use Rattle.swc_ecma_parser_grammar.proofs.Tests.{or_no, or_none, and_yes, and_both}
-use Rattle.swc_ecma_parser_reader.specs.State.{State, Outcome, Reader, and_then, moved, expect, name, loop}
-use Rattle.swc_ecma_parser_reader.specs.Expressions.{Cover, literal_of, literal_in, taken, literal, ident_expr, this, has_private, bare_new, closed_left, unmarked, close, dotted, inside, brackets, access, spread_element, plain_element, element, behind_argument, arguments_turn, arguments, array, object, paren, marked_primary, literal_or, primary, accessed, called, left_turn, left_from, super_call, super_access, behind_super, super_head, constructed, new_head, left_head, left, left_expr}
+use Rattle.swc_ecma_parser_reader.specs.State.{State, Outcome, Reader, and_then, moved, fault, fault_at, expect, name, loop}
+use Rattle.swc_ecma_parser_reader.specs.Expressions.{Cover, literal_of, literal_in, taken, literal, ident_expr, this, has_private, bare_new, closed_left, unmarked, close, dotted, inside, brackets, access, spread_element, plain_element, element, behind_argument, arguments_turn, arguments, array, object, paren, marked_primary, literal_or, primary, accessed, called, left_turn, left_from, super_call, super_access, behind_super, super_head, constructed, new_head, import_call, import_meta, import_head, left_head, left, left_expr}
 use Rattle.swc_ecma_parser_reader.proofs.Meets.{Meets, Refuses, meets_then, meets_if, wanted_meets, Turned, loop_answers, saw}
 use Rattle.swc_ecma_parser_reader.proofs.Errors.{kind_here}
-use Rattle.swc_ecma_parser_reader.proofs.Between.{SoundTree, SoundStep, Sound, same, sound_moved, sound_here, sound_as, sound_after}
+use Rattle.swc_ecma_parser_reader.proofs.Between.{SoundTree, SoundStep, Sound, same, no_faults, sound_moved, sound_here, sound_as, sound_after}
 use Rattle.swc_ecma_parser_reader.proofs.expressions.CompleteKinds.{seen}
-use Rattle.swc_ecma_parser_reader.proofs.expressions.SoundSteps.{paired, stepped, moved_back, meets_as, reject_meets, other, clash, elsewhere, Takes, expect_sound, stands, token_first, FreeWord, name_sound, name_is_clean, name_is_supported, name_first, Dotted, word_dotted, private_dotted, dotted_sound, walks_push, notes_push, supported_push}
+use Rattle.swc_ecma_parser_reader.proofs.expressions.SoundSteps.{paired, stepped, moved_back, meets_as, reject_meets, other, clash, elsewhere, Takes, expect_sound, fault_sound, stands, token_first, FreeWord, name_sound, name_is_clean, name_is_supported, name_first, Dotted, word_dotted, private_dotted, dotted_sound, walks_push, notes_push, supported_push}
 use Rattle.swc_ecma_parser_reader.proofs.expressions.SoundCovers.{SoundCover, SoundLiteral, inside_sound, array_sound, object_sound}
+
+-- ---- words
+
+token_word : (text : Text) (v : Token) → token_is text v ≡ true → token_kind v ≡ kind.Ident
+token_word text (token.Word (word.Ident t)) h = refl
+token_word text (token.Word _) h = cc
+token_word text _ h = cc
+
+-- a word of this text is no keyword
+word_stands : (text : Text) (c : Place) → word_at text c ≡ true → kind_at c ≡ kind.Ident
+unfolding word_at kind_at
+word_stands text c h = by_first c.left h
+  where
+    by_first : (ts : List TokenAndSpan) → first_is text ts ≡ true → first_kind ts ≡ kind.Ident
+    by_first [] e = cc
+    by_first (t ∷ ts) e = token_word text t.token e
 
 -- ---- arguments, elements and properties
 
--- behind an argument, an element or a property that was read a comma stands, or the end
-data Behind (j : TokenKind) (c d : Place) : Type 0 where
-  before_end : d ≡ c → kind_at d ≡ j → Behind j c d
-  before_more : kind_at c ≡ kind.Comma → d ≡ after c → Behind j c d
+-- behind an argument that was read a comma stands, or the end; a comma before the end stands only where one may
+data Behind (commas : Bool) (j : TokenKind) (c d : Place) : Type 0 where
+  before_end : d ≡ c → kind_at d ≡ j → Behind commas j c d
+  before_more : kind_at c ≡ kind.Comma → d ≡ after c → not commas && sees j d ≡ false → Behind commas j c d
 
-module _ (Reads : Tree → Place → Place → Type 0) where
-  -- the arguments or the properties so far
+-- a comma that stands before the end is one that may stand there
+may_stand : (commas closes : Bool) → not commas && closes ≡ false → closes ≡ true → commas ≡ true
+may_stand true closes h e = refl
+may_stand false closes h e = clash closes e h
+
+module _ (commas : Bool) (Reads : Tree → Place → Place → Type 0) where
+  -- the arguments so far
   module _ (j : TokenKind) where
     abbrev Front : List Tree → Place → Place → Type 0
     Front [] c d = d ≡ c
-    Front (x ∷ []) c d = (m : Place) × Reads x c m × (is_rest x ≡ false) × Behind j m d
+    Front (x ∷ []) c d = (m : Place) × Reads x c m × (is_rest x ≡ false) × Behind commas j m d
     Front (x ∷ y ∷ ys) c d = (m : Place) × Reads x c m × (is_rest x ≡ false) × (kind_at m ≡ kind.Comma) × Front (y ∷ ys) (after m) d
 
     module _ (x : Tree) (i d : Place) where
-      front_push : (c m : Place) (xs : List Tree) → Front xs c m → sees j m ≡ false → Reads x m i → is_rest x ≡ false → Behind j i d → Front (xs ++ x ∷ []) c d
+      front_push : (c m : Place) (xs : List Tree) → Front xs c m → sees j m ≡ false → Reads x m i → is_rest x ≡ false → Behind commas j i d → Front (xs ++ x ∷ []) c d
       front_push c m [] e h r g b = (i, subst (λ z. Reads x z i) e r, g, b)
       front_push c m (y ∷ []) (l, a, f, before_end o u) h r g b = clash (sees j m) (seen m j u) h
-      front_push c m (y ∷ []) (l, a, f, before_more o u) h r g b = (l, a, f, o, (i, subst (λ z. Reads x z i) u r, g, b))
+      front_push c m (y ∷ []) (l, a, f, before_more o u v) h r g b = (l, a, f, o, (i, subst (λ z. Reads x z i) u r, g, b))
       front_push c m (y ∷ z ∷ zs) (l, a, f, o, t) h r g b = (l, a, f, o, front_push (after l) m (z ∷ zs) t h r g b)
 
-    comma_last : (x : Tree) (c d : Place) → is_rest x ≡ false → Behind j c d → LastComma true x c d
-    comma_last x c d h (before_end e g) = no_comma e
-    comma_last x c d h (before_more e g) = last_comma (rw h refl) e g
+    comma_last : (x : Tree) (c d : Place) → sees j d ≡ true → is_rest x ≡ false → Behind commas j c d → LastComma commas x c d
+    comma_last x c d i h (before_end e g) = no_comma e
+    comma_last x c d i h (before_more e g k) = last_comma (rw (may_stand commas (sees j d) k i, h) refl) e g
 
-    front_listed : (c d : Place) (xs : List Tree) → Front xs c d → ReadsListed true Reads xs c d
-    front_listed c d [] e = e
-    front_listed c d (x ∷ []) (m, r, h, b) = (m, r, comma_last x m d h b)
-    front_listed c d (x ∷ y ∷ ys) (m, r, h, e, l) = (m, r, h, e, front_listed (after m) d (y ∷ ys) l)
+    front_listed : (c d : Place) (xs : List Tree) → sees j d ≡ true → Front xs c d → ReadsListed commas Reads xs c d
+    front_listed c d [] i e = e
+    front_listed c d (x ∷ []) i (m, r, h, b) = (m, r, comma_last x m d i h b)
+    front_listed c d (x ∷ y ∷ ys) i (m, r, h, e, l) = (m, r, h, e, front_listed (after m) d (y ∷ ys) i l)
 
 -- ---- what is read
 
@@ -146,44 +168,56 @@ module _ (n : ℕ) (inner : Class → Reader Tree) (cover : Reader Cover) (sound
       (λ _. meets_then _ (inside inner cover assignment s) _ (inside_sound n inner cover sound covers assignment s) (λ x t p.
       sound_as s t refl refl refl (λ r. (parts.plain_element x r.0 refl, r.1, refl)) p))
 
-  -- the arguments so far, and all
-  abbrev ArgumentsSoFar : State → List Tree → State → Type 0
-  ArgumentsSoFar s xs t = Sound same (λ k l. walks.walks (env_of k l) false (trees xs)) (all_notes (trees xs))
-      (λ k c d. Front (ElementRule (Reads n) k) kind.RParen xs c d × (all_supported (trees xs) ≡ true)) s t
+  module _ (commas : Bool) where
+    -- the arguments so far, and all
+    abbrev ArgumentsSoFar : State → List Tree → State → Type 0
+    ArgumentsSoFar s xs t = Sound same (λ k l. walks.walks (env_of k l) false (trees xs)) (all_notes (trees xs))
+        (λ k c d. Front commas (ElementRule (Reads n) k) kind.RParen xs c d × (all_supported (trees xs) ≡ true)) s t
 
-  abbrev Closed : List Tree → Code → Place → Place → Type 0
-  Closed xs k c d = (m : Place) × ReadsListed true (ElementRule (Reads n) k) xs c m × (kind_at m ≡ kind.RParen) × (d ≡ after m) × (all_supported (trees xs) ≡ true)
+    abbrev Closed : List Tree → Code → Place → Place → Type 0
+    Closed xs k c d = (m : Place) × ReadsListed commas (ElementRule (Reads n) k) xs c m × (kind_at m ≡ kind.RParen) × (d ≡ after m) × (all_supported (trees xs) ≡ true)
 
-  abbrev SoundClosed : State → List Tree → State → Type 0
-  SoundClosed s xs t = Sound same (λ k l. walks.walks (env_of k l) false (trees xs)) (all_notes (trees xs)) (Closed xs) s t
+    abbrev SoundClosed : State → List Tree → State → Type 0
+    SoundClosed s xs t = Sound same (λ k l. walks.walks (env_of k l) false (trees xs)) (all_notes (trees xs)) (Closed xs) s t
 
-  arguments_turn_sound : (s : State) (xs : List Tree) (t : State) → ArgumentsSoFar s xs t
-      → Meets (Turned (arguments_turn inner cover) (ArgumentsSoFar s) (SoundClosed s) Refuses) (arguments_turn inner cover xs t)
-  unfolding arguments_turn
-  arguments_turn_sound s xs t p = meets_if _ (sees kind.RParen t.at) _ _
-      (λ e. sound_as s (moved t) refl refl refl (λ (a, b). (t.at, front_listed (ElementRule (Reads n) s.code) kind.RParen s.at t.at xs a.0, b.0, b.1, a.1))
-      (stepped p (sound_moved {P = λ k. Takes kind.RParen} t (saw t.at kind.RParen e) refl (saw t.at kind.RParen e, refl))))
-      (λ e. meets_then _ (element inner cover t) _ (element_sound t) (λ x m q. next e x m q))
-    where
-      next : sees kind.RParen t.at ≡ false → (x : Tree) (m : State) → SoundTree Element t x m
-          → Meets (Turned (arguments_turn inner cover) (ArgumentsSoFar s) (SoundClosed s) Refuses) (behind_argument inner cover (xs ++ x ∷ []) m)
-      next e x m q = meets_if _ (sees kind.RParen m.at) _ _ (λ h. pushed m (sound_here {P = λ k. Behind kind.RParen} m (before_end refl (saw m.at kind.RParen h))))
-          (λ _. meets_then _ (expect kind.Comma m) _ (expect_sound kind.Comma m refl) (λ _ u r. pushed u (sound_as m u refl refl refl (λ z. before_more z.0 z.1) r)))
-        where
-          pushed : (u : State) → SoundStep (λ k. Behind kind.RParen) m u → ArgumentsSoFar s (xs ++ x ∷ []) u
-          pushed u r = sound_as s u refl (walks_push (env_of s.code s.scope.labels) xs x) (notes_push xs x)
-              (λ (((f, a), (b, g, h)), o). (front_push (ElementRule (Reads n) s.code) kind.RParen x m.at u.at s.at t.at xs f e b h o, supported_push xs x a g)) (stepped (paired p q) r)
+    -- behind a comma the end stands only where a comma may stand before it
+    abbrev MayStand : Code → Place → Place → Type 0
+    MayStand k c d = (not commas && sees kind.RParen d ≡ false) × (d ≡ c)
 
-  -- all of them, from `(` on
-  abbrev Arguments : List Tree → Code → Place → Place → Type 0
-  Arguments xs k c d = ArgumentsRule (Reads n) k true (listed xs) c d × (all_supported (trees xs) ≡ true)
+    behind_comma_sound : (m u v : State) → SoundStep (λ k. Takes kind.Comma) m u → SoundStep MayStand u v → SoundStep (λ k. Behind commas kind.RParen) m v
+    behind_comma_sound m u v p q = sound_as m v refl refl refl (λ ((a, b), (c, d)). before_more a (d ∙ b) c) (stepped p q)
 
-  arguments_sound : (s : State) → kind_at s.at ≡ kind.LParen → Meets (λ xs t. Sound same (λ k l. walk (env_of k l) (listed xs)) (notes (listed xs)) (Arguments xs) s t) (arguments inner cover s)
-  unfolding arguments
-  arguments_sound s e = meets_as (loop (arguments_turn inner cover) [] (moved s))
-      (loop_answers (arguments_turn inner cover) (ArgumentsSoFar (moved s)) (SoundClosed (moved s)) Refuses (arguments_turn_sound (moved s)) (λ t. tt) [] (moved s)
-      (sound_here (moved s) (refl, refl)))
-      (λ xs t p. sound_after s t e refl refl refl (λ (m, r, h, g, a). (record { elements = xs; close = m; opens = e; reads_elements = r; closes = h; next = g; is = refl }, a)) p)
+    arguments_turn_sound : (s : State) (xs : List Tree) (t : State) → ArgumentsSoFar s xs t
+        → Meets (Turned (arguments_turn inner cover commas) (ArgumentsSoFar s) (SoundClosed s) Refuses) (arguments_turn inner cover commas xs t)
+    unfolding arguments_turn
+    arguments_turn_sound s xs t p = meets_if _ (sees kind.RParen t.at) _ _
+        (λ e. sound_as s (moved t) refl refl refl (λ (a, b). (t.at, front_listed commas (ElementRule (Reads n) s.code) kind.RParen s.at t.at xs e a.0, b.0, b.1, a.1))
+        (stepped p (sound_moved {P = λ k. Takes kind.RParen} t (saw t.at kind.RParen e) refl (saw t.at kind.RParen e, refl))))
+        (λ e. meets_then _ (element inner cover t) _ (element_sound t) (λ x m q. next e x m q))
+      where
+        next : sees kind.RParen t.at ≡ false → (x : Tree) (m : State) → SoundTree Element t x m
+            → Meets (Turned (arguments_turn inner cover commas) (ArgumentsSoFar s) (SoundClosed s) Refuses) (behind_argument inner cover commas (xs ++ x ∷ []) m)
+        next e x m q = meets_if _ (sees kind.RParen m.at) _ _ (λ h. pushed m (sound_here {P = λ k. Behind commas kind.RParen} m (before_end refl (saw m.at kind.RParen h))))
+            (λ _. meets_then _ (expect kind.Comma m) _ (expect_sound kind.Comma m refl) (λ _ u r. meets_if _ (not commas && sees kind.RParen u.at) _ _
+            (λ _. let f = fault_at u.at.last faults.TrailingCommaInsideImport in
+            meets_then _ (fault f u) _ (fault_sound MayStand f u refl) (λ _ v z. pushed v (behind_comma_sound m u v r z)))
+            (λ h. pushed u (behind_comma_sound m u u r (sound_here u (h, refl))))))
+          where
+            pushed : (u : State) → SoundStep (λ k. Behind commas kind.RParen) m u → ArgumentsSoFar s (xs ++ x ∷ []) u
+            pushed u r = sound_as s u refl (walks_push (env_of s.code s.scope.labels) xs x) (notes_push xs x)
+                (λ (((f, a), (b, g, h)), o). (front_push commas (ElementRule (Reads n) s.code) kind.RParen x m.at u.at s.at t.at xs f e b h o, supported_push xs x a g)) (stepped (paired p q) r)
+
+    -- all of them, from `(` on
+    abbrev Arguments : List Tree → Code → Place → Place → Type 0
+    Arguments xs k c d = ArgumentsRule (Reads n) k commas (listed xs) c d × (all_supported (trees xs) ≡ true)
+
+    arguments_sound : (s : State) → kind_at s.at ≡ kind.LParen
+        → Meets (λ xs t. Sound same (λ k l. walk (env_of k l) (listed xs)) (notes (listed xs)) (Arguments xs) s t) (arguments inner cover commas s)
+    unfolding arguments
+    arguments_sound s e = meets_as (loop (arguments_turn inner cover commas) [] (moved s))
+        (loop_answers (arguments_turn inner cover commas) (ArgumentsSoFar (moved s)) (SoundClosed (moved s)) Refuses (arguments_turn_sound (moved s)) (λ t. tt) [] (moved s)
+        (sound_here (moved s) (refl, refl)))
+        (λ xs t p. sound_after s t e refl refl refl (λ (m, r, h, g, a). (record { elements = xs; close = m; opens = e; reads_elements = r; closes = h; next = g; is = refl }, a)) p)
 
   -- ---- primary expressions
 
@@ -300,7 +334,7 @@ module _ (n : ℕ) (inner : Class → Reader Tree) (cover : Reader Cover) (sound
     called_sound : (x : Tree) (t : State) → SoundLeft calls s x t → (calls && sees kind.LParen t.at) ≡ true → Meets (SoundLeft calls s) (called inner cover (span_at s.at) x t)
     unfolding called spanned
     called_sound x t p e = let h = and_yes calls (sees kind.LParen t.at) e in
-        meets_then _ (arguments inner cover t) _ (arguments_sound t (saw t.at kind.LParen h.1)) (λ xs u q. sound_as s u refl refl refl (λ (a, b). record {
+        meets_then _ (arguments inner cover true t) _ (arguments_sound true t (saw t.at kind.LParen h.1)) (λ xs u q. sound_as s u refl refl refl (λ (a, b). record {
           rule = call_rule x (listed xs) t.at a.rule b.0 refl;
           supports = and_both (supported x) (all_supported (trees xs)) a.supports b.1;
           no_await = a.no_await;
@@ -325,14 +359,14 @@ module _ (n : ℕ) (inner : Class → Reader Tree) (cover : Reader Cover) (sound
     left_from_sound x t p =
         loop_answers (left_turn inner cover calls (span_at s.at)) (SoundLeft calls s) (λ y u. SoundTree Ended s y u) Refuses left_turn_sound (λ _. tt) x t p
 
-    -- ---- `super` and `new`
+    -- ---- `super`, `new` and `import`
 
     super_sound : kind_at s.at ≡ kind.Super → Meets (SoundLeft calls s) (super_head inner cover calls s)
     unfolding super_head behind_super super_call super_access spanned same_kind
     super_sound e = let w : sees kind.Await s.at ≡ false = elsewhere s.at kind.Super kind.Await e refl in
         meets_if _ (calls && sees kind.LParen (after s.at)) _ _
         (λ h. let g = and_yes calls (sees kind.LParen (after s.at)) h in
-        meets_then _ (arguments inner cover (moved s)) _ (arguments_sound (moved s) (saw (after s.at) kind.LParen g.1)) (λ xs t p. sound_after s t e refl refl refl (λ r. record {
+        meets_then _ (arguments inner cover true (moved s)) _ (arguments_sound true (moved s) (saw (after s.at) kind.LParen g.1)) (λ xs t p. sound_after s t e refl refl refl (λ r. record {
           rule = super_call_rule (listed xs) e r.0 refl;
           supports = r.1;
           no_await = w;
@@ -352,7 +386,7 @@ module _ (n : ℕ) (inner : Class → Reader Tree) (cover : Reader Cover) (sound
     unfolding new_head constructed bare_new spanned same_kind
     new_sound e = let w : sees kind.Await s.at ≡ false = elsewhere s.at kind.New kind.Await e refl in
         meets_then _ (inner callee (moved s)) _ (sound callee (moved s)) (λ x m p. meets_if _ (sees kind.LParen m.at) _ _
-        (λ h. meets_then _ (arguments inner cover m) _ (arguments_sound m (saw m.at kind.LParen h)) (λ xs t q. sound_as s t refl refl refl (λ (a, b). record {
+        (λ h. meets_then _ (arguments inner cover true m) _ (arguments_sound true m (saw m.at kind.LParen h)) (λ xs t q. sound_as s t refl refl refl (λ (a, b). record {
           rule = new_rule x (listed xs) m.at e a.0 b.0 refl;
           supports = and_both (supported x) (all_supported (trees xs)) a.2 b.1;
           no_await = w;
@@ -365,10 +399,39 @@ module _ (n : ℕ) (inner : Class → Reader Tree) (cover : Reader Cover) (sound
           is_called = λ _. refl;
         }) p))
 
+    -- a recorded fault: no tree of the relation is answered
+    import_meta_sound : kind_at s.at ≡ kind.Import → kind_at (after s.at) ≡ kind.Dot → Meets (SoundLeft calls s) (import_meta (span_at s.at) (moved (moved s)))
+    unfolding import_meta
+    import_meta_sound e h = meets_if _ (word_at (codes "meta") c && not s.code.flags.can_be_module) _ _
+        (λ g. let f : Fault = fault_at (record { lo = (span_at s.at).lo; hi = (after c).last.hi }) faults.ImportMetaInScript in
+        meets_then _ (fault f u) _ (fault_sound (λ k i j. ⊥) f u refl) (λ _ t p. let w = word_stands (codes "meta") c (and_yes (word_at (codes "meta") c) _ g).0 in
+        sound_after {w = no_faults} {P = λ k i j. ⊥} s t e refl refl refl (λ z. absurd z) (sound_after {w = no_faults} {P = λ k i j. ⊥} (moved s) t h refl refl refl (λ z. z)
+        (sound_after {w = no_faults} {P = λ k i j. ⊥} (moved (moved s)) t w refl refl refl (λ z. z) p))))
+        (λ _. wanted_meets _ faults.Unexpected (moved (moved s)))
+      where
+        c : Place
+        c = after (after s.at)
+
+        u : State
+        u = moved (moved (moved s))
+
+    import_sound : calls ≡ true → kind_at s.at ≡ kind.Import → Meets (SoundLeft calls s) (import_head inner cover s)
+    unfolding import_head import_call spanned same_kind
+    import_sound g e = meets_if _ (sees kind.LParen (after s.at)) _ _
+        (λ h. meets_then _ (arguments inner cover s.code.setting.import_attributes (moved s)) _ (arguments_sound s.code.setting.import_attributes (moved s) (saw (after s.at) kind.LParen h)) (λ xs t p.
+        sound_after s t e refl refl refl (λ r. record {
+          rule = import_call_rule (listed xs) e r.0 refl;
+          supports = r.1;
+          no_await = elsewhere s.at kind.Import kind.Await e refl;
+          is_called = λ z. clash calls g z;
+        }) p))
+        (λ _. meets_if _ (sees kind.Dot (after s.at)) _ _ (λ h. import_meta_sound e (saw (after s.at) kind.Dot h)) (λ _. wanted_meets _ faults.Unexpected (moved s)))
+
     left_head_sound : Meets (SoundLeft calls s) (left_head inner cover calls s)
     unfolding left_head
     left_head_sound = meets_if _ (sees kind.Super s.at) _ _ (λ e. super_sound (saw s.at kind.Super e))
-        (λ _. meets_if _ (sees kind.New s.at) _ _ (λ e. new_sound (saw s.at kind.New e)) (λ _. primary_sound calls s))
+        (λ _. meets_if _ (sees kind.New s.at) _ _ (λ e. new_sound (saw s.at kind.New e))
+        (λ _. meets_if _ (calls && sees kind.Import s.at) _ _ (λ e. let g = and_yes calls (sees kind.Import s.at) e in import_sound g.0 (saw s.at kind.Import g.1)) (λ _. primary_sound calls s)))
 
     -- a left-hand-side expression that nothing goes on with
     pub left_sound : Meets (λ x t. SoundTree Ended s x t) (left inner cover calls s)

@@ -1,9 +1,11 @@
--- The steps of a sound reader of expressions: how parts are joined, fixed tokens, words and names, and lists of trees.
+-- The steps of a sound reader of expressions: how parts are joined, fixed tokens, recorded faults, words and names, and lists of
+-- trees.
 use Rattle.std.proofs.Common.{◌≡◌, Bool, true, false, cond, List, [], ◌∷◌, ◌++◌, Ok, Err, refl, sym, ◌∙◌, ap, subst, append_assoc, append-nil, true≢false, eqb-true}
 use Rattle.std.specs.Prelude.{nat_eq, not, ◌&&◌, ◌||◌, codes}
 use Rattle.std.specs.Str.{bytes_eq}
 use Rattle.swc_ecma_parser_common.specs.declared.span.BytePos.{BytePos}
 use Rattle.swc_ecma_parser_common.specs.declared.span.Span.{Span}
+use Rattle.swc_ecma_parser_error.specs.declared.error.Error.{Error}
 use Rattle.swc_ecma_parser_error.specs.Kind as faults
 use Rattle.swc_ecma_parser_error.specs.Kind.{Fault, fault_of}
 use Rattle.swc_ecma_parser_token.specs.declared.kind.TokenKind.{TokenKind}
@@ -24,17 +26,18 @@ use Rattle.swc_ecma_parser_grammar.specs.Looks.{kind_at, sees, same_kind, span_a
 use Rattle.swc_ecma_parser_grammar.specs.Names.{Code, is_name, is_reserved, is_identifier, is_clean_name}
 use Rattle.swc_ecma_parser_grammar.specs.Reads.{ReadsToken}
 use Rattle.swc_ecma_parser_grammar.specs.Supported.{supported, all_supported}
+use Rattle.swc_ecma_parser_grammar.specs.Entries.{has_error_token}
 use Rattle.swc_ecma_parser_grammar.specs.language.Parts.{ReadsWord, PrivateRule}
 use Rattle.swc_ecma_parser_grammar.specs.Walk as walks
 use Rattle.swc_ecma_parser_grammar.specs.Walk.{walk, tabled}
 use Rattle.swc_ecma_parser_grammar.specs.Notes.{notes, all_notes}
 use Rattle.swc_ecma_parser_grammar.proofs.Tests.{and_yes, and_both}
 use Rattle.swc_ecma_parser_grammar.proofs.SupportedBegins.{name_begins}
-use Rattle.swc_ecma_parser_reader.specs.State.{State, Outcome, Reader, and_then, moved, fault, refused, reject, reject_in, reject_at, expect, name, name_in, name_by}
+use Rattle.swc_ecma_parser_reader.specs.State.{State, Outcome, Reader, and_then, moved, noted, recorded_in, recorded_at, fault, refused, reject, reject_in, reject_at, expect, name, name_in, name_by}
 use Rattle.swc_ecma_parser_reader.specs.Expressions.{any_word, word_in, word_by, touching_word, private_name, word_property, dotted}
 use Rattle.swc_ecma_parser_reader.proofs.Meets.{Meets, meets_then, meets_if, wanted_meets, refuse_meets, saw}
-use Rattle.swc_ecma_parser_reader.proofs.Between.{SoundTree, SoundStep, Sound, Walk, no_faults, same, tabled-append, drops-split, nil-split, sound_moved, sound_as, sound_after}
-use Rattle.swc_ecma_parser_reader.proofs.Errors.{is_error, word_is_none, kind_here}
+use Rattle.swc_ecma_parser_reader.proofs.Between.{SoundTree, SoundStep, Sound, Walk, no_faults, same, tabled-append, drops-split, nil-split, some_fault, sound_moved, sound_as, sound_after}
+use Rattle.swc_ecma_parser_reader.proofs.Errors.{is_error, word_is_none, kind_here, after_remembers}
 
 -- ---- parts one behind another; what was read is said of the places that are known
 
@@ -134,6 +137,52 @@ stands c u ts v e h = record { had_line_break = u.had_line_break; rest = ts; is 
 pub token_first : (v : Token) (i : TokenKind) (span : Span) (c d : Place) → ReadsToken v span c d → same_kind (token_kind v) i ≡ false → sees i c ≡ false
 unfolding kind_at
 token_first v i span c d r h = rw r.is h
+
+-- ---- recorded faults
+
+-- an error token in first place is one of the list
+error_first : (c : Place) (u : TokenAndSpan) (ts : List TokenAndSpan) (e : Error) → c.left ≡ u ∷ ts → u.token ≡ token.Error e → has_error_token c.left ≡ true
+unfolding same_kind
+error_first c u ts e h g = rw (h, g) refl
+
+-- a recorded fault that is not of the table; an error token before it is recorded too
+module _ (P : Code → Place → Place → Type 0) (f : Fault) (s : State) (untabled : walks.is_tabled f.kind ≡ false) where
+  pub noted_sound : (ns : List Fault) → Sound same no_faults ns P s (noted f s)
+  noted_sound ns = record {
+    code = refl;
+    scope = refl;
+    added = f ∷ [];
+    faults = refl;
+    held_back = λ i. some_fault f [] i;
+    walked = λ i d. rw untabled refl;
+    keeps = λ i. i;
+    spares = λ i g. g;
+    remembers = λ i. i;
+    reads = λ i. some_fault f [] i;
+  }
+
+  recorded_at_sound : (u : TokenAndSpan) (ts : List TokenAndSpan) (v : Token) → s.at.left ≡ u ∷ ts → u.token ≡ v → Meets (λ _ t. SoundStep P s t) (recorded_at f s v)
+  recorded_at_sound u ts (token.Error e) h g = meets_if _ (means_out_of_memory e.kind) _ _ (λ _. tt) (λ j. record {
+    code = refl;
+    scope = refl;
+    added = fault_of e ∷ f ∷ [];
+    faults = append_assoc s.faults (fault_of e ∷ []) (f ∷ []);
+    held_back = λ i. some_fault (fault_of e) (f ∷ []) i;
+    walked = λ i d. clash (has_error_token s.at.left) (error_first s.at u ts e h g) i;
+    keeps = λ i. clash (has_error_token s.at.left) (error_first s.at u ts e h g) i;
+    spares = λ i. some_fault (fault_of e) (f ∷ []) i;
+    remembers = after_remembers s.at u ts h (rw g j);
+    reads = λ i. some_fault (fault_of e) (f ∷ []) i;
+  })
+  recorded_at_sound u ts _ h g = noted_sound []
+
+  recorded_in_sound : (ts : List TokenAndSpan) → s.at.left ≡ ts → Meets (λ _ t. SoundStep P s t) (recorded_in f s ts)
+  recorded_in_sound [] h = noted_sound []
+  recorded_in_sound (u ∷ ts) h = recorded_at_sound u ts u.token h refl
+
+  pub fault_sound : Meets (λ _ t. SoundStep P s t) (fault f s)
+  unfolding fault
+  fault_sound = recorded_in_sound s.at.left refl
 
 -- ---- names
 

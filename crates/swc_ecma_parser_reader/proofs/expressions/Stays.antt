@@ -39,7 +39,7 @@ module _ (inner : Class → Reader Tree) (cover : Reader Cover) (t : State) wher
 
   called_stays : (start : Span) (x : Tree) (u : State) → Meets Stays (called inner cover start x u)
   unfolding called
-  called_stays start x u = meets_then _ (arguments inner cover u) _ (read (arguments inner cover u)) (λ _ _ _ h. moved_on h)
+  called_stays start x u = meets_then _ (arguments inner cover true u) _ (read (arguments inner cover true u)) (λ _ _ _ h. moved_on h)
 
   left_turn_stays : (start : Span) (x : Tree) (u : State) → Stays x u → Meets (Turned (left_turn inner cover true start) Stays Stays Refuses) (left_turn inner cover true start x u)
   unfolding left_turn
