@@ -8,7 +8,7 @@ use std::io;
 use std::io::ErrorKind;
 
 /// What is measured: a text of this shape and of at least so many bytes.
-#[derive(Clone, Copy, Debug, PartialEq, Eq)]
+#[derive(Clone, Copy)]
 pub struct Command {
     pub shape: Shape,
     pub bytes: u32,

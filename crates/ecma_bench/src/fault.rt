@@ -7,7 +7,7 @@ use std::alloc::AllocError;
 use thiserror::Error;
 
 /// Why a run comes to no figures. Each is one line on standard error.
-#[derive(Clone, Copy, Debug, PartialEq, Eq, Error)]
+#[derive(Clone, Copy, Debug, Error)]
 pub enum Fault {
     /// The words are none of those that the program knows.
     #[error("usage: ecma-bench expressions|nests|patterns BYTES")]

@@ -5,7 +5,7 @@ use std::fmt;
 use std::time::Duration;
 
 /// What a run found.
-#[derive(Clone, Copy, Debug, PartialEq, Eq)]
+#[derive(Clone, Copy)]
 pub struct Report {
     pub shape: Shape,
     /// The bytes of the text.

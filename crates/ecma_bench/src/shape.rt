@@ -8,7 +8,7 @@ use std::fmt;
 use std::str::FromStr;
 
 /// What a text is made of.
-#[derive(Clone, Copy, Debug, PartialEq, Eq)]
+#[derive(Clone, Copy)]
 pub enum Shape {
     /// Statements of many forms, one a line.
     Expressions,

@@ -3,25 +3,51 @@
 use crate::command::Command;
 use crate::measure::measure;
 use crate::memory::peak_in;
+use crate::parse::{discard, parse};
 use crate::run::run;
 use crate::shape::Shape;
-use std::alloc::Global;
+use std::alloc::{AllocError, Global};
 use std::io;
 use std::test::Fail;
 
 #[test]
 fn each_shape_is_parsed_clean(rt: HostRuntime) -> Result<(), Fail> {
     for (shape, bytes, tokens) in [
-        (Shape::Expressions, 1, None),
-        (Shape::Nests(50), 1, Some(101)),
-        (Shape::Nests(50), 103, Some(202)),
-        (Shape::Patterns(50), 1, Some(104)),
+        (Shape::Nests(50), 1, 101),
+        (Shape::Nests(50), 103, 202),
+        (Shape::Patterns(50), 1, 104),
     ] {
         let report = measure(&rt, Command { shape, bytes })?;
-        assert!(rt; report.bytes >= bytes as usize, "{shape}");
-        if let Some(tokens) = tokens {
-            assert_eq!(rt; report.tokens, tokens, "{shape}");
-        }
+        assert_eq!(rt; report.tokens, tokens, "{shape}");
+    }
+    let expressions = Command {
+        shape: Shape::Expressions,
+        bytes: 1,
+    };
+    measure(&rt, expressions)?;
+    Ok(())
+}
+
+/// The line of the fault that a text comes to; empty where it is clean.
+fn fault_line(alloc: Global, text: &str) -> Result<String, AllocError> {
+    match discard(parse(alloc, text)) {
+        Ok(()) => Ok(String::new(alloc)),
+        Err(fault) => format!(in alloc; "{fault}"),
+    }
+}
+
+#[test]
+fn texts_with_faults(rt: HostRuntime) -> Result<(), Fail> {
+    for (text, line) in [
+        ("a = b;", ""),
+        ("a = ;", "the text is refused at 4..5: Unexpected"),
+        (
+            "a = import.meta;",
+            "a fault is recorded at 4..15: ImportMetaInScript",
+        ),
+    ] {
+        let found = fault_line(rt.alloc(), text)?;
+        assert_eq!(rt; found.as_str(), line);
     }
     Ok(())
 }

@@ -3,6 +3,8 @@
 #![tactic(auto)]
 
 mod entry;
+#[cfg(test)]
+mod expressions;
 mod lexing;
 mod parser;
 

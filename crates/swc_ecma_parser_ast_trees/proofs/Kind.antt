@@ -17,10 +17,6 @@ use Rattle.swc_ecma_parser_ast.specs.declared.program.ModuleDecl.TheVariants as 
 use Rattle.swc_ecma_parser_ast.specs.declared.stmt.Stmt.{Stmt}
 use Rattle.swc_ecma_parser_ast.specs.declared.stmt.Stmt.TheVariants as v_stmt
 
--- a node of an expression, in a place where other forms may stand as well
-pub as_expr_view : (x : Expr Held) → as_expr (view_expr x) ≡ view_expr x
-as_expr_view x = ap (λ b. marked b (view_expr x)) (kind_expr x)
-
 pub as_expr_not_name : (t : Tree) (name : Text) → is_expr t ≡ false → is_ident_named name (as_expr t) ≡ false
 as_expr_not_name t name h = ap (λ b. is_ident_named name (marked b t)) h
 

@@ -1,14 +1,14 @@
 ghost use Rattle.std.specs.Prelude.{◌≡◌, IfOk, map};
 ghost use Rattle.swc_ecma_parser_ast.specs.View.{view_expr_or_spread};
-ghost use Rattle.swc_ecma_parser_ast_trees.specs.View.{view_made};
+ghost use Rattle.swc_ecma_parser_ast_parts.specs.View.{view_made};
 
 use crate::Ast;
-use crate::made::Made;
 use std::alloc::{AllocError, Global};
 use swc_ecma_parser_ast::{
     ArrayLit, CallExpr, Callee, ComputedPropName, Expr, ExprOrSpread, Ident, Import, MemberExpr,
     MemberProp, NewExpr, PrivateName, Span, Super, SuperProp, SuperPropExpr,
 };
+use swc_ecma_parser_ast_parts::made::Made;
 use swc_ecma_parser_trees::BuildsCall;
 
 impl BuildsCall for Ast {
@@ -147,7 +147,7 @@ impl BuildsCall for Ast {
         }
     }
 
-    #[tactic(auto, using(crate::proofs::Kind::as_expr_view, crate::proofs::Kind::as_expr_not_name))]
+    #[tactic(auto, using(swc_ecma_parser_ast_parts::proofs::Kind::as_expr_view, crate::proofs::Kind::as_expr_not_name))]
     fn is_async_call(expr: &Made) -> bool {
         match expr.get() {
             Expr::Call(x) => match &x.callee {

@@ -1,16 +1,16 @@
 ghost use Rattle.std.specs.Prelude.{◌≡◌, IfOk, map};
 ghost use Rattle.swc_ecma_parser_ast.specs.View.{view_block_stmt, view_class, view_class_member, view_decorator, view_param, view_prop_name};
-ghost use Rattle.swc_ecma_parser_ast_trees.specs.View.{view_made};
+ghost use Rattle.swc_ecma_parser_ast_parts.specs.View.{view_made};
 
 use crate::Ast;
-use crate::boxes::{all, beside};
-use crate::made::Made;
 use std::alloc::{AllocError, Global};
 use swc_ecma_parser_ast::{
     AutoAccessor, BlockStmt, Class, ClassExpr, ClassMember, ClassMethod, ClassProp, Constructor,
     Decorator, EmptyStmt, Expr, Function, Ident, Key, MethodKind, Param, ParamOrTsParamProp,
     PrivateMethod, PrivateName, PrivateProp, PropName, Span, Spanned, StaticBlock,
 };
+use swc_ecma_parser_ast_parts::boxes::{all, beside};
+use swc_ecma_parser_ast_parts::made::Made;
 use swc_ecma_parser_trees::BuildsClass;
 
 impl BuildsClass for Ast {

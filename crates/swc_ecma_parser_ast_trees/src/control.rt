@@ -1,15 +1,15 @@
 ghost use Rattle.std.specs.Prelude.{◌≡◌, IfOk, map};
 ghost use Rattle.swc_ecma_parser_ast.specs.View.{view_block_stmt, view_catch_clause, view_pat, view_stmt, view_switch_case};
-ghost use Rattle.swc_ecma_parser_ast_trees.specs.View.{view_made};
+ghost use Rattle.swc_ecma_parser_ast_parts.specs.View.{view_made};
 
 use crate::Ast;
-use crate::boxes::{Part, beside, both};
-use crate::made::Made;
 use std::alloc::{AllocError, Global};
 use swc_ecma_parser_ast::{
     BlockStmt, BreakStmt, CatchClause, ContinueStmt, Ident, IfStmt, LabeledStmt, Pat, ReturnStmt,
     Span, Stmt, StmtBox, StmtList, SwitchCase, SwitchStmt, ThrowStmt, TryStmt, WithStmt,
 };
+use swc_ecma_parser_ast_parts::boxes::{Part, beside, both};
+use swc_ecma_parser_ast_parts::made::Made;
 use swc_ecma_parser_trees::BuildsControl;
 
 impl BuildsControl for Ast {

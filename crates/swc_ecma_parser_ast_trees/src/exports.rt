@@ -4,7 +4,6 @@ ghost use Rattle.swc_ecma_parser_model.specs.Forms as forms;
 ghost use Rattle.swc_ecma_parser_model.specs.Kinds as kinds;
 
 use crate::Ast;
-use crate::made::Made;
 use std::alloc::{AllocError, Global};
 use swc_ecma_parser_ast::{
     Class, ClassExpr, Decl, DefaultDecl, ExportAll, ExportDecl, ExportDefaultDecl,
@@ -12,6 +11,7 @@ use swc_ecma_parser_ast::{
     ExportSpecifier, FnExpr, Function, Ident, ModuleDecl, ModuleExportName, ModuleItem,
     NamedExport, ObjectLit, Span, Spanned, Str,
 };
+use swc_ecma_parser_ast_parts::made::Made;
 use swc_ecma_parser_trees::BuildsExport;
 
 impl BuildsExport for Ast {

@@ -1,14 +1,14 @@
 ghost use Rattle.std.specs.Prelude.{◌≡◌, IfOk, map};
 ghost use Rattle.swc_ecma_parser_ast.specs.View.{view_block_stmt, view_decorator, view_function, view_param, view_pat};
-ghost use Rattle.swc_ecma_parser_ast_trees.specs.View.{view_made};
+ghost use Rattle.swc_ecma_parser_ast_parts.specs.View.{view_made};
 
 use crate::Ast;
-use crate::made::Made;
 use std::alloc::{AllocError, Global};
 use swc_ecma_parser_ast::{
     ArrowExpr, BlockStmt, BlockStmtOrExpr, Decorator, Expr, FnExpr, Function, Ident, Param, Pat,
     Span, Spanned,
 };
+use swc_ecma_parser_ast_parts::made::Made;
 use swc_ecma_parser_trees::BuildsFunction;
 
 impl BuildsFunction for Ast {

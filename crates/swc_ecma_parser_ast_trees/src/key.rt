@@ -1,9 +1,9 @@
 ghost use Rattle.swc_ecma_parser_ast.specs.View.{view_prop_name};
 
 use crate::Ast;
-use crate::made::Made;
 use std::alloc::{AllocError, Global};
 use swc_ecma_parser_ast::{BigInt, ComputedPropName, Ident, Number, PropName, Span, Spanned, Str};
+use swc_ecma_parser_ast_parts::made::Made;
 use swc_ecma_parser_trees::BuildsKey;
 
 impl BuildsKey for Ast {

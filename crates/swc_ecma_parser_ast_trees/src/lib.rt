@@ -3,10 +3,9 @@
 
 ghost use Rattle.std.specs.Prelude.{◌≡◌, IfOk, map};
 ghost use Rattle.swc_ecma_parser_ast.specs.View.{view_pat, view_declarator, view_stmt, view_script};
-ghost use Rattle.swc_ecma_parser_ast_trees.specs.View.{view_made};
+ghost use Rattle.swc_ecma_parser_ast_parts.specs.View.{view_made};
 
 mod block;
-mod boxes;
 mod call;
 mod class;
 mod control;
@@ -17,19 +16,17 @@ mod imports;
 mod item;
 mod key;
 mod loops;
-mod made;
 mod object;
 mod operator;
 mod pattern;
-mod target;
 
-pub use made::Made;
 use std::alloc::{AllocError, Global};
 use swc_ecma_parser_ast::{
     Atom, BigInt, BindingIdent, BlockStmt, Bool, DebuggerStmt, Decl, EmptyStmt, Expr, ExprStmt,
     Ident, Lit, Null, Number, ParenExpr, Pat, Script, Span, Spanned, Stmt, StmtList, Str, VarDecl,
     VarDeclKind, VarDeclarator,
 };
+use swc_ecma_parser_ast_parts::made::Made;
 use swc_ecma_parser_trees::{BuildsExpr, BuildsPat, BuildsStmt, Trees};
 
 /// The trees of `swc_ecma_parser_ast`.

@@ -1,15 +1,15 @@
 ghost use Rattle.std.specs.Prelude.{◌≡◌, IfOk, map};
 ghost use Rattle.swc_ecma_parser_ast.specs.View.{view_declarator, view_for_head, view_stmt, view_var_decl_or_expr};
-ghost use Rattle.swc_ecma_parser_ast_trees.specs.View.{view_made};
+ghost use Rattle.swc_ecma_parser_ast_parts.specs.View.{view_made};
 
 use crate::Ast;
-use crate::boxes::beside;
-use crate::made::Made;
 use std::alloc::{AllocError, Global};
 use swc_ecma_parser_ast::{
     DoWhileStmt, ForHead, ForInStmt, ForOfStmt, ForStmt, Pat, Span, Spanned, Stmt, StmtBox,
     UsingDecl, VarDecl, VarDeclKind, VarDeclOrExpr, VarDeclarator, WhileStmt,
 };
+use swc_ecma_parser_ast_parts::boxes::beside;
+use swc_ecma_parser_ast_parts::made::Made;
 use swc_ecma_parser_trees::BuildsLoop;
 
 impl BuildsLoop for Ast {

@@ -1,14 +1,14 @@
 ghost use Rattle.std.specs.Prelude.{◌≡◌, IfOk, map};
 ghost use Rattle.swc_ecma_parser_ast.specs.View.{view_prop_or_spread};
-ghost use Rattle.swc_ecma_parser_ast_trees.specs.View.{view_made};
+ghost use Rattle.swc_ecma_parser_ast_parts.specs.View.{view_made};
 
 use crate::Ast;
-use crate::made::Made;
 use std::alloc::{AllocError, Global};
 use swc_ecma_parser_ast::{
     AssignProp, BlockStmt, Expr, Function, GetterProp, Ident, KeyValueProp, MethodProp, ObjectLit,
     Pat, Prop, PropName, PropOrSpread, SetterProp, Span, SpreadElement,
 };
+use swc_ecma_parser_ast_parts::made::Made;
 use swc_ecma_parser_trees::BuildsObject;
 
 impl BuildsObject for Ast {

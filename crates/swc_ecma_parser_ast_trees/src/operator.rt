@@ -1,11 +1,9 @@
 ghost use Rattle.std.specs.Prelude.{◌≡◌, true, IfOk, map};
 ghost use Rattle.swc_ecma_parser_ast.specs.View.{view_expr, view_pat, view_simple_assign_target, view_assign_target_pat};
-ghost use Rattle.swc_ecma_parser_ast_trees.specs.View.{view_made};
+ghost use Rattle.swc_ecma_parser_ast_parts.specs.View.{view_made};
 ghost use Rattle.swc_ecma_parser_model.specs.Forms as forms;
 
 use crate::Ast;
-use crate::boxes::all;
-use crate::made::Made;
 use std::alloc::{AllocError, Global};
 use swc_ecma_parser_ast::{
     AssignExpr, AssignOp, AssignTarget, AssignTargetPat, AwaitExpr, BinExpr, BinaryOp,
@@ -13,6 +11,9 @@ use swc_ecma_parser_ast::{
     SeqExpr, SimpleAssignTarget, Span, ThisExpr, UnaryExpr, UnaryOp, UpdateExpr, UpdateOp,
     YieldExpr,
 };
+use swc_ecma_parser_ast_parts::boxes::all;
+use swc_ecma_parser_ast_parts::made::Made;
+use swc_ecma_parser_ast_parts::target::is_simple;
 use swc_ecma_parser_trees::BuildsOperator;
 
 impl BuildsOperator for Ast {
@@ -201,21 +202,5 @@ fn pattern_target(pat: Pat) -> AssignTargetPat
         Pat::Array(x) => AssignTargetPat::Array(x),
         Pat::Object(x) => AssignTargetPat::Object(x),
         _ => unreachable!(),
-    }
-}
-
-/// Whether it is a name or a member, in any number of parentheses.
-pub fn is_simple(expr: &Expr) -> bool
-    ensures { result ≡ forms.is_simple_target (view_expr expr.now) }
-{
-    match expr {
-        Expr::Ident(_) => true,
-        Expr::Member(_) => true,
-        Expr::SuperProp(_) => true,
-        Expr::Paren(x) => match x.expr.get() {
-            Some(inner) => is_simple(inner),
-            None => false,
-        },
-        _ => false,
     }
 }

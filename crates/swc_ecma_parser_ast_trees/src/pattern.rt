@@ -1,16 +1,16 @@
 ghost use Rattle.std.specs.Prelude.{◌≡◌, IfOk, map};
 ghost use Rattle.swc_ecma_parser_ast.specs.View.{view_object_pat_prop, view_pat};
-ghost use Rattle.swc_ecma_parser_ast_trees.specs.View.{view_made};
+ghost use Rattle.swc_ecma_parser_ast_parts.specs.View.{view_made};
 
 use crate::Ast;
-use crate::boxes::{all, beside};
-use crate::made::Made;
-use crate::target::as_pattern;
 use std::alloc::{AllocError, Global};
 use swc_ecma_parser_ast::{
     ArrayPat, AssignPat, AssignPatProp, BindingIdent, Ident, Invalid, KeyValuePatProp, ObjectPat,
     ObjectPatProp, Pat, PatBox, PropName, RestPat, Span, Spanned,
 };
+use swc_ecma_parser_ast_parts::boxes::{all, beside};
+use swc_ecma_parser_ast_parts::made::Made;
+use swc_ecma_parser_ast_parts::target::as_pattern;
 use swc_ecma_parser_trees::BuildsPattern;
 
 impl BuildsPattern for Ast {

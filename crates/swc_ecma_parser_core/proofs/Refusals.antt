@@ -1,28 +1,12 @@
--- A refusal is the same whatever would have been read.
-use Rattle.std.proofs.Common.{◌≡◌, Bool, true, false, if◌then◌else◌, List, [], ◌∷◌, Ok, Err, refl, sym, ap, subst}
+-- A refusal of what stands too deep is the same whatever would have been read.
+use Rattle.std.proofs.Common.{◌≡◌, List, [], ◌∷◌, Err}
 use Rattle.swc_ecma_parser_common.specs.declared.span.Span.{Span}
-use Rattle.swc_ecma_parser_error.specs.Kind.{Fault, Kind, fault_of}
+use Rattle.swc_ecma_parser_error.specs.Kind.{Fault}
 use Rattle.swc_ecma_parser_token.specs.declared.token.Token.{Token}
 use Rattle.swc_ecma_parser_token.specs.declared.token.Token.TheVariants as token
 use Rattle.swc_ecma_parser_token.specs.declared.token.TokenAndSpan.{TokenAndSpan}
-use Rattle.swc_ecma_parser_input.specs.TokenSource.{means_out_of_memory}
-use Rattle.swc_ecma_parser_reader.specs.State.{State, Outcome, Reader, and_then, pure, moved, wanted_at, wanted_in, wanted, fault, refused, reject_at, reject_in, reject, too_deep_at, too_deep_in, too_deep}
-use Rattle.swc_ecma_parser_reader.specs.Expressions as exprs
+use Rattle.swc_ecma_parser_reader.specs.State.{State, Outcome, too_deep_at, too_deep_in, too_deep}
 
-module _ {A B : Type 0} (kind : Kind) (s : State) (f : Fault) (t : State) where
-  wanted_at_as : (x : Token) (span : Span) → ◌≡◌ {A = Outcome A} (wanted_at kind s x span) (Err (f, t)) → ◌≡◌ {A = Outcome B} (wanted_at kind s x span) (Err (f, t))
-  wanted_at_as (token.Error e) span h = cc
-  wanted_at_as _ span h = cc
-
-  wanted_in_as : (ts : List TokenAndSpan) → ◌≡◌ {A = Outcome A} (wanted_in kind s ts) (Err (f, t)) → ◌≡◌ {A = Outcome B} (wanted_in kind s ts) (Err (f, t))
-  wanted_in_as [] h = cc
-  wanted_in_as (x ∷ xs) h = wanted_at_as x.token x.span h
-
-  pub wanted_as : ◌≡◌ {A = Outcome A} (wanted kind s) (Err (f, t)) → ◌≡◌ {A = Outcome B} (wanted kind s) (Err (f, t))
-  unfolding wanted
-  wanted_as h = wanted_in_as s.at.left h
-
--- so is one of what stands too deep
 module _ {A B : Type 0} (s : State) (e : Fault × State) where
   too_deep_at_as : (x : Token) (span : Span) → ◌≡◌ {A = Outcome A} (too_deep_at s x span) (Err e) → ◌≡◌ {A = Outcome B} (too_deep_at s x span) (Err e)
   too_deep_at_as (token.Error x) span h = cc
@@ -35,47 +19,3 @@ module _ {A B : Type 0} (s : State) (e : Fault × State) where
   pub too_deep_as : ◌≡◌ {A = Outcome A} (too_deep s) (Err e) → ◌≡◌ {A = Outcome B} (too_deep s) (Err e)
   unfolding too_deep
   too_deep_as h = too_deep_in_as s.at.left h
-
--- ---- the same, of what may still become a pattern
-
-module _ (kind : Kind) (s : State) where
-  wanted_at_cover : (x : Token) (span : Span) → wanted_at kind s x span ≡ and_then (wanted_at kind s x span) (λ y. pure (exprs.done y))
-  wanted_at_cover (token.Error e) span = refl
-  wanted_at_cover _ span = refl
-
-  wanted_in_cover : (ts : List TokenAndSpan) → wanted_in kind s ts ≡ and_then (wanted_in kind s ts) (λ y. pure (exprs.done y))
-  wanted_in_cover [] = refl
-  wanted_in_cover (x ∷ xs) = wanted_at_cover x.token x.span
-
-  pub wanted_cover : wanted kind s ≡ and_then (wanted kind s) (λ y. pure (exprs.done y))
-  unfolding wanted
-  wanted_cover = wanted_in_cover s.at.left
-
-module _ (f : Fault) (s : State) where
-  refused_cover : (o : Outcome (Unit {0})) → refused f o ≡ and_then (refused f o) (λ y. pure (exprs.done y))
-  refused_cover (Ok p) = refl
-  refused_cover (Err g) = refl
-
-  reject_by_cover : (b : Bool) (g : Fault × State) (o : Outcome (Unit {0})) → (if b then Err g else refused f o) ≡ and_then (if b then Err g else refused f o) (λ y. pure (exprs.done y))
-  reject_by_cover true g o = refl
-  reject_by_cover false g o = refused_cover o
-
-  reject_at_cover : (x : Token) → reject_at f s x ≡ and_then (reject_at f s x) (λ y. pure (exprs.done y))
-  reject_at_cover (token.Error x) = reject_by_cover (means_out_of_memory x.kind) (fault_of x, moved s) (fault (fault_of x) (moved s))
-  reject_at_cover _ = refl
-
-  reject_in_cover : (ts : List TokenAndSpan) → reject_in f s ts ≡ and_then (reject_in f s ts) (λ y. pure (exprs.done y))
-  reject_in_cover [] = refl
-  reject_in_cover (x ∷ xs) = reject_at_cover x.token
-
-  pub reject_cover : reject f s ≡ and_then (reject f s) (λ y. pure (exprs.done y))
-  unfolding reject
-  reject_cover = reject_in_cover s.at.left
-
--- what is read behind a token, is read there
-abbrev behind : State → Outcome (Unit {0}) → State
-behind s (Ok p) = p.1
-behind s (Err e) = s
-
-pub after_skip : {A : Type 0} (read : Reader A) (s t : State) (o : Outcome A) → ◌≡◌ {A = Outcome (Unit {0})} (Ok (tt, moved s)) (Ok (tt, t)) → read t ≡ o → read (moved s) ≡ o
-after_skip read s t o h g = subst (λ u. read u ≡ o) (sym (ap (behind s) h)) g

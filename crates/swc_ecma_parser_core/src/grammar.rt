@@ -1,37 +1,28 @@
-//! The readers that rules take as parameters, and the functions that tie rules and readers together, level by level.
+//! The functions that tie together the rules and the readers that they take, level by level.
 
-ghost use Rattle.swc_ecma_parser_core.specs.Covers.{cover_of, read};
-ghost use Rattle.swc_ecma_parser_core.specs.Patterns.{read_pat};
+ghost use Rattle.swc_ecma_parser_left.specs.Covers.{cover_of, read};
+ghost use Rattle.swc_ecma_parser_left.specs.Patterns.{read_pat};
 ghost use Rattle.swc_ecma_parser_reader.specs.Reader as rules;
 ghost use Rattle.swc_ecma_parser_reader.specs.State.{GivesAs};
 
-use crate::assignment::cover_expr;
-use crate::cover::{Cover, Reading, done};
-use crate::operator::expr_level;
-use crate::pat::{Part, element_level, pattern_level};
+use crate::pat::{element_level, pattern_level};
 use crate::stmt::level;
 use swc_ecma_parser_error::PResult;
 use swc_ecma_parser_grammar::Position;
+use swc_ecma_parser_left::cover::{Cover, Reading, done};
+use swc_ecma_parser_left::grammar::{Grammar, Part};
+use swc_ecma_parser_operators::assignment::cover_expr;
+use swc_ecma_parser_operators::operator::expr_level;
 use swc_ecma_parser_state::Source;
 use swc_ecma_parser_trees::{
     BuildsCall, BuildsExpr, BuildsObject, BuildsOperator, BuildsPat, BuildsPattern, BuildsStmt,
     MakerOf,
 };
 
-/// The readers of what stands one level deeper.
-#[derive(Clone, Copy)]
-pub struct Grammar<S, E, N> {
-    /// How many levels are left there.
-    pub depth: usize,
-    pub stmt: S,
-    pub expr: E,
-    pub pat: N,
-}
-
 /// A statement in so many levels.
 #[cycle(knot)]
 #[tactic(auto, using(swc_ecma_parser_reader::proofs::Loops::stmt_lowest, swc_ecma_parser_reader::proofs::Loops::stmt_above))]
-pub fn stmt<
+pub(crate) fn stmt<
     P: Source,
     T: BuildsExpr
         + BuildsCall
@@ -87,7 +78,7 @@ pub fn expr<
 
 /// A pattern in so many levels.
 #[cycle(knot)]
-pub fn pat<
+fn pat<
     P: Source,
     T: BuildsExpr
         + BuildsCall

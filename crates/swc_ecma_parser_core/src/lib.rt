@@ -1,17 +1,10 @@
-//! The rules: expressions, patterns and statements, over any source of tokens and any tree. A rule that holds others takes
-//! their readers as parameters, so each is proved by itself; one function for each kind of node ties them together.
+//! The rules of binding patterns, statements and scripts, over any source of tokens and any tree: ECMA-262, sections 14 and
+//! 16.1. A rule that holds others takes their readers as parameters, so each is proved by itself; one function for each kind of
+//! node, of expressions too, ties the rules together.
 #![tactic(auto)]
 
-pub mod access;
-mod array;
-pub mod assignment;
-pub mod cover;
 pub mod grammar;
-pub mod left;
-mod object;
 mod object_pat;
-pub mod operator;
-pub mod pat;
+mod pat;
 pub mod script;
-pub mod steps;
-pub mod stmt;
+mod stmt;

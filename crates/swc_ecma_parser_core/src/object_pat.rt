@@ -1,21 +1,21 @@
 //! Object patterns of bindings: ECMA-262, section 14.3.3.
 
 ghost use Rattle.std.specs.Prelude.{map};
-ghost use Rattle.swc_ecma_parser_core.specs.Accesses.{key_of};
-ghost use Rattle.swc_ecma_parser_core.specs.Nests.{Nests};
+ghost use Rattle.swc_ecma_parser_left.specs.Accesses.{key_of};
+ghost use Rattle.swc_ecma_parser_left.specs.Nests.{Nests};
 ghost use Rattle.swc_ecma_parser_reader.specs.Expressions as exprs;
 ghost use Rattle.swc_ecma_parser_reader.specs.Patterns as patterns;
 ghost use Rattle.swc_ecma_parser_reader.specs.State.{GivesAs};
 
-use crate::access::inside;
-use crate::cover::{Cover, Reading};
-use crate::grammar::Grammar;
-use crate::object::{Key, made_key, property_key};
-use crate::pat::{Part, inner_pat};
-use crate::steps::{grown, pushed, since};
+use crate::pat::inner_pat;
 use swc_ecma_parser_common::Span;
 use swc_ecma_parser_error::{PResult, SyntaxError};
 use swc_ecma_parser_grammar::{Class, Position};
+use swc_ecma_parser_left::access::inside;
+use swc_ecma_parser_left::cover::{Cover, Reading};
+use swc_ecma_parser_left::grammar::{Grammar, Part};
+use swc_ecma_parser_left::object::{Key, made_key, property_key};
+use swc_ecma_parser_left::steps::{grown, pushed, since};
 use swc_ecma_parser_model::Ident;
 use swc_ecma_parser_state::{Source, Wanted, is_name};
 use swc_ecma_parser_token::TokenKind;
@@ -222,7 +222,7 @@ fn properties<
 
 /// An object pattern.
 #[tactic(auto, unfolding(swc_ecma_parser_reader::specs::Patterns::object))]
-pub fn object_pat<
+pub(crate) fn object_pat<
     P: Source,
     T: BuildsCall + BuildsPattern,
     S: Fn(&MakerOf<T>, &mut P, usize, Position) -> PResult<T::Stmt>,

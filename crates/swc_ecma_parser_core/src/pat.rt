@@ -1,36 +1,27 @@
 //! Binding patterns: ECMA-262, section 14.3.3.
 
 ghost use Rattle.std.specs.Prelude.{map};
-ghost use Rattle.swc_ecma_parser_core.specs.Nests.{Nests};
-ghost use Rattle.swc_ecma_parser_core.specs.Patterns.{read_pat};
 ghost use Rattle.swc_ecma_parser_grammar.specs.Reads as language;
+ghost use Rattle.swc_ecma_parser_left.specs.Nests.{Nests};
+ghost use Rattle.swc_ecma_parser_left.specs.Patterns.{read_pat};
 ghost use Rattle.swc_ecma_parser_reader.specs.Expressions as exprs;
 ghost use Rattle.swc_ecma_parser_reader.specs.Patterns as patterns;
 ghost use Rattle.swc_ecma_parser_reader.specs.State as reader;
 ghost use Rattle.swc_ecma_parser_reader.specs.State.{GivesAs};
 ghost use Rattle.swc_ecma_parser_trees.specs.Parts.{part_of};
 
-use crate::access::inside;
-use crate::cover::{Cover, Reading};
-use crate::grammar::Grammar;
 use crate::object_pat::object_pat;
-use crate::steps::{grown, pushed, since, with_in};
 use std::alloc::Global;
 use swc_ecma_parser_common::Span;
 use swc_ecma_parser_error::PResult;
 use swc_ecma_parser_grammar::{Class, Position};
+use swc_ecma_parser_left::access::inside;
+use swc_ecma_parser_left::cover::{Cover, Reading};
+use swc_ecma_parser_left::grammar::{Grammar, Part};
+use swc_ecma_parser_left::steps::{grown, pushed, since, with_in};
 use swc_ecma_parser_state::{Source, Wanted};
 use swc_ecma_parser_token::TokenKind;
 use swc_ecma_parser_trees::{BuildsCall, BuildsPat, BuildsPattern, MakerOf, Trees};
-
-/// What is asked of a reader of patterns.
-#[derive(Clone, Copy)]
-pub enum Part {
-    /// A pattern without default.
-    Pattern,
-    /// A pattern, with its default if it has one.
-    Element,
-}
 
 /// A name that is bound.
 #[tactic(auto, unfolding(swc_ecma_parser_reader::specs::Patterns::binding))]
@@ -42,7 +33,7 @@ fn binding<P: Source, T: BuildsPat>(alloc: Global, p: &mut P) -> PResult<T::Pat>
 }
 
 /// A pattern one level further in, where `in` is an operator.
-pub fn inner_pat<
+pub(crate) fn inner_pat<
     P: Source,
     T: Trees,
     S: Fn(&MakerOf<T>, &mut P, usize, Position) -> PResult<T::Stmt>,
@@ -137,7 +128,7 @@ fn array_pat<
 
 /// A pattern without default.
 #[tactic(auto, unfolding(swc_ecma_parser_reader::specs::Patterns::pattern_level))]
-pub fn pattern_level<
+pub(crate) fn pattern_level<
     P: Source,
     T: BuildsCall + BuildsPattern + BuildsPat,
     S: Fn(&MakerOf<T>, &mut P, usize, Position) -> PResult<T::Stmt>,
@@ -176,7 +167,7 @@ fn initialized<
 
 /// A pattern with its default, if one stands there.
 #[tactic(auto, unfolding(swc_ecma_parser_reader::specs::Patterns::element_level))]
-pub fn element_level<
+pub(crate) fn element_level<
     P: Source,
     T: BuildsCall + BuildsPattern + BuildsPat,
     S: Fn(&MakerOf<T>, &mut P, usize, Position) -> PResult<T::Stmt>,

@@ -7,9 +7,10 @@ ghost use Rattle.swc_ecma_parser_reader.specs.State as reader;
 ghost use Rattle.swc_ecma_parser_reader.specs.State.{GivesAs};
 
 use crate::grammar::stmt;
-use crate::steps::{in_strict, pushed, since};
 use swc_ecma_parser_error::PResult;
 use swc_ecma_parser_grammar::Position;
+use swc_ecma_parser_input::Context;
+use swc_ecma_parser_left::steps::{pushed, since};
 use swc_ecma_parser_state::Source;
 use swc_ecma_parser_token::TokenKind;
 use swc_ecma_parser_trees::{
@@ -18,7 +19,7 @@ use swc_ecma_parser_trees::{
 };
 
 /// A statement of the script itself.
-pub const TOP_ITEM: Position = Position {
+const TOP_ITEM: Position = Position {
     include_decl: true,
     top_level: true,
 };
@@ -29,6 +30,16 @@ fn at_end<P: Source>(p: &P) -> bool
     ensures { result ≡ rules.at_end (P.seen p.now).at }
 {
     p.sees(TokenKind::End)
+}
+
+/// The context of strict mode code.
+fn in_strict(flags: Context) -> Context
+    ensures { result ≡ record flags { strict = true } }
+{
+    Context {
+        strict: true,
+        ..flags
+    }
 }
 
 /// Turns strict what follows a directive.

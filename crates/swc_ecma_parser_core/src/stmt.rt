@@ -1,32 +1,31 @@
 //! Statements: ECMA-262, section 14.
 
 ghost use Rattle.std.specs.Prelude.{◌≡◌, false, map, IfOk, IfErr};
-ghost use Rattle.swc_ecma_parser_core.specs.Nests.{Nests};
 ghost use Rattle.swc_ecma_parser_error.specs.Kind as kinds;
 ghost use Rattle.swc_ecma_parser_error.specs.Kind.{kind_of, IsOutOfMemory};
 ghost use Rattle.swc_ecma_parser_grammar.specs.Follows as follows;
 ghost use Rattle.swc_ecma_parser_grammar.specs.Reads.{nested_item};
 ghost use Rattle.swc_ecma_parser_grammar.specs.language.Goals.{expression};
+ghost use Rattle.swc_ecma_parser_left.specs.Nests.{Nests};
 ghost use Rattle.swc_ecma_parser_reader.specs.Expressions as exprs;
 ghost use Rattle.swc_ecma_parser_reader.specs.Patterns as patterns;
 ghost use Rattle.swc_ecma_parser_reader.specs.Reader as rules;
 ghost use Rattle.swc_ecma_parser_reader.specs.State.{Gives, GivesAs};
 
-use crate::cover::{Cover, Reading, nested};
-use crate::grammar::Grammar;
-use crate::pat::Part;
-use crate::steps::{grown, pushed, since, with_in};
 use std::alloc::Global;
 use swc_ecma_parser_common::Atom;
 use swc_ecma_parser_error::{PResult, SyntaxError};
 use swc_ecma_parser_grammar::{Class, Position};
+use swc_ecma_parser_left::cover::{Cover, Reading, nested};
+use swc_ecma_parser_left::grammar::{Grammar, Part};
+use swc_ecma_parser_left::steps::{grown, pushed, since, with_in};
 use swc_ecma_parser_model::VarDeclKind;
 use swc_ecma_parser_state::{Source, Wanted};
 use swc_ecma_parser_token::TokenKind;
 use swc_ecma_parser_trees::{BuildsPattern, BuildsStmt, MakerOf};
 
 /// A statement in a block or a body.
-pub const NESTED_ITEM: Position = Position {
+const NESTED_ITEM: Position = Position {
     include_decl: true,
     top_level: false,
 };
@@ -56,7 +55,7 @@ fn debugger<P: Source, T: BuildsStmt>(alloc: Global, p: &mut P) -> PResult<T::St
 
 /// A declarator: ECMA-262, section 14.3.2.
 #[tactic(auto, unfolding(swc_ecma_parser_reader::specs::Reader::declarator, swc_ecma_parser_reader::specs::Reader::initialized))]
-pub fn declarator<
+fn declarator<
     P: Source,
     T: BuildsStmt + BuildsPattern,
     S: Fn(&MakerOf<T>, &mut P, usize, Position) -> PResult<T::Stmt>,
@@ -83,7 +82,7 @@ pub fn declarator<
 
 /// Declarators with commas between.
 #[tactic(auto, unfolding(swc_ecma_parser_reader::specs::Reader::declarators), using(swc_ecma_parser_reader::proofs::Loops::declarators_done, swc_ecma_parser_reader::proofs::Loops::declarators_err, swc_ecma_parser_reader::proofs::Loops::declarators_more, swc_ecma_parser_reader::proofs::Loops::declarators_shorter, std::proofs::lemmas::List::map_push))]
-pub fn declarators<
+fn declarators<
     P: Source,
     T: BuildsStmt + BuildsPattern,
     S: Fn(&MakerOf<T>, &mut P, usize, Position) -> PResult<T::Stmt>,
@@ -106,7 +105,7 @@ pub fn declarators<
 
 /// A `var` statement.
 #[tactic(auto, unfolding(swc_ecma_parser_reader::specs::Reader::var, swc_ecma_parser_grammar::specs::Looks::spanned))]
-pub fn var<
+fn var<
     P: Source,
     T: BuildsStmt + BuildsPattern,
     S: Fn(&MakerOf<T>, &mut P, usize, Position) -> PResult<T::Stmt>,
@@ -161,7 +160,7 @@ fn close<P: Source>(alloc: Global, p: &mut P) -> PResult<()>
 
 /// The statements of a block.
 #[tactic(auto, unfolding(swc_ecma_parser_reader::specs::Reader::items), using(swc_ecma_parser_reader::proofs::Loops::items_stop, swc_ecma_parser_reader::proofs::Loops::items_err, crate::proofs::Items::nested_more, swc_ecma_parser_reader::proofs::Loops::stmt_shorter, std::proofs::lemmas::List::map_push))]
-pub fn block_items<
+fn block_items<
     P: Source,
     T: BuildsStmt,
     S: Fn(&MakerOf<T>, &mut P, usize, Position) -> PResult<T::Stmt>,
@@ -181,7 +180,7 @@ pub fn block_items<
 
 /// A block.
 #[tactic(auto, unfolding(swc_ecma_parser_reader::specs::Reader::block, swc_ecma_parser_grammar::specs::Looks::spanned))]
-pub fn block<
+fn block<
     P: Source,
     T: BuildsStmt,
     S: Fn(&MakerOf<T>, &mut P, usize, Position) -> PResult<T::Stmt>,
@@ -224,7 +223,7 @@ fn no_label<P: Source, T: BuildsStmt>(p: &mut P, x: &T::Expr) -> PResult<()>
 
 /// An expression statement.
 #[tactic(auto, unfolding(swc_ecma_parser_reader::specs::Reader::expr_stmt, swc_ecma_parser_grammar::specs::Looks::spanned))]
-pub fn expr_stmt<
+fn expr_stmt<
     P: Source,
     T: BuildsStmt,
     S: Fn(&MakerOf<T>, &mut P, usize, Position) -> PResult<T::Stmt>,
@@ -325,7 +324,7 @@ fn import_stmt_at<
 
 /// A statement, by its first token.
 #[tactic(auto, unfolding(swc_ecma_parser_reader::specs::Reader::stmt_level))]
-pub fn level<
+pub(crate) fn level<
     P: Source,
     T: BuildsStmt + BuildsPattern,
     S: Fn(&MakerOf<T>, &mut P, usize, Position) -> PResult<T::Stmt>,

@@ -3,7 +3,7 @@ use Rattle.std.proofs.lemmas.Result.{err_from_is_err_and}
 use Rattle.swc_ecma_parser_reader.specs.State.{GivesAs}
 use Rattle.swc_ecma_parser_reader.proofs.expressions.Loops.{cover_above}
 use Rattle.swc_ecma_parser_reader.proofs.patterns.Loops.{pattern_above, element_above}
-use Rattle.swc_ecma_parser_core.specs.Covers.{cover_of}
+use Rattle.swc_ecma_parser_left.specs.Covers.{cover_of}
 use Rattle.swc_ecma_parser_core.proofs.Covers.{read_lowest, read_expr, read_expr_err, at_asked}
 use Rattle.swc_ecma_parser_core.proofs.Patterns.{read_pat_lowest, as_asked}
 use Rattle.swc_ecma_parser_core.proofs.grammar.+knot.Goals as goal

@@ -1,0 +1,2 @@
+mod Parsed
+mod Measured

@@ -1,0 +1,237 @@
+//! Accesses and arguments: ECMA-262, sections 13.3.2 and 13.3.8.
+
+ghost use Rattle.std.specs.Prelude.{◌≡◌, ◌&&◌, ◌||◌, not, IfOk, map, nat_eq};
+ghost use Rattle.swc_ecma_parser_grammar.specs.Looks.{sees, span_at};
+ghost use Rattle.swc_ecma_parser_left.specs.Accesses.{private_of, property_of, word_of};
+ghost use Rattle.swc_ecma_parser_left.specs.Nests.{Nests};
+ghost use Rattle.swc_ecma_parser_model.specs.Tree as tree;
+ghost use Rattle.swc_ecma_parser_reader.specs.Classes.{class_of};
+ghost use Rattle.swc_ecma_parser_reader.specs.Expressions as exprs;
+ghost use Rattle.swc_ecma_parser_reader.specs.State.{Gives, GivesAs};
+ghost use Rattle.swc_ecma_parser_token.specs.declared.kind.TokenKind.TheVariants as kind;
+
+use crate::cover::{Cover, Reading, nested};
+use crate::grammar::{Grammar, Part};
+use crate::steps::{grown, pushed, since, with_in};
+use std::alloc::{AllocError, Global};
+use swc_ecma_parser_common::Span;
+use swc_ecma_parser_error::{PResult, SyntaxError};
+use swc_ecma_parser_grammar::{Class, Position};
+use swc_ecma_parser_model::{Ident, PrivateName};
+use swc_ecma_parser_state::{Source, Wanted};
+use swc_ecma_parser_token::TokenKind;
+use swc_ecma_parser_trees::{BuildsCall, MakerOf};
+
+/// What stands behind an object.
+pub enum Property<E> {
+    /// `.name`
+    Word(Ident),
+    /// `.#name`
+    Private(PrivateName),
+    /// An expression in brackets, which stand there.
+    Brackets(Span, E),
+}
+
+/// Whether what stands here begins where the token before it ends.
+fn touches<P: Source>(p: &P) -> bool
+    ensures { result ≡ nat_eq (P.seen p.now).at.last.hi.0 (span_at (P.seen p.now).at).lo.0 }
+{
+    p.last_span().hi.0 == p.span().lo.0
+}
+
+/// A word that begins where the token before it ends.
+#[tactic(auto, unfolding(swc_ecma_parser_reader::specs::Expressions::touching_word))]
+fn touching_word<P: Source>(p: &mut P) -> PResult<Ident>
+    ensures { Gives (exprs.touching_word (P.seen p.old)) result (P.seen p.new) }
+{
+    if touches(p) {
+        return p.any_word();
+    }
+    Err(p.wanted(Wanted::Expression))
+}
+
+/// `#` and its word.
+#[tactic(auto, unfolding(swc_ecma_parser_reader::specs::Expressions::private_name))]
+fn private_name<P: Source>(p: &mut P) -> PResult<PrivateName>
+    ensures { GivesAs private_of (exprs.private_name (P.seen p.old)) result (P.seen p.new) }
+{
+    let start = p.span();
+    p.skip()?;
+    let id = touching_word(p)?;
+    let span = since(p, start);
+    Ok(PrivateName { span, id })
+}
+
+/// A word as a property.
+#[tactic(auto, unfolding(swc_ecma_parser_reader::specs::Expressions::word_property))]
+pub(crate) fn word_property<P: Source>(p: &mut P) -> PResult<Ident>
+    ensures { GivesAs word_of (exprs.word_property (P.seen p.old)) result (P.seen p.new) }
+{
+    p.any_word()
+}
+
+/// What stands behind `.`.
+#[tactic(auto, unfolding(swc_ecma_parser_reader::specs::Expressions::dotted))]
+fn dotted<P: Source, T: BuildsCall>(p: &mut P) -> PResult<Property<T::Expr>>
+    ensures { GivesAs (property_of T.expr_of) (exprs.dotted (P.seen p.old)) result (P.seen p.new) }
+{
+    if p.sees(TokenKind::Hash) {
+        return Ok(Property::Private(private_name(p)?));
+    }
+    Ok(Property::Word(word_property(p)?))
+}
+
+/// An expression of a class, where `in` is an operator.
+#[tactic(auto, unfolding(swc_ecma_parser_reader::specs::Expressions::inside))]
+pub fn inside<
+    P: Source,
+    T: BuildsCall,
+    S: Fn(&MakerOf<T>, &mut P, usize, Position) -> PResult<T::Stmt>,
+    E: Fn(&MakerOf<T>, &mut P, usize, Reading) -> PResult<Cover<T::Expr>>,
+    N: Fn(&MakerOf<T>, &mut P, usize, Part) -> PResult<T::Pat>,
+>(g: &Grammar<S, E, N>, t: &MakerOf<T>, p: &mut P, class: Class) -> PResult<T::Expr>
+    requires { Nests P.seen T.expr_of T.pat_of T.stmt_of g.now.depth (S.pre g.now.stmt) (S.post g.now.stmt) (E.pre g.now.expr) (E.post g.now.expr) (N.pre g.now.pat) (N.post g.now.pat) }
+    ensures { GivesAs (T.expr_of) (exprs.inside (exprs.expr g.now.depth) (exprs.cover g.now.depth) (class_of class) (P.seen p.old)) result (P.seen p.new) }
+{
+    let outer = p.flags();
+    p.set_flags(with_in(outer));
+    let inner = nested(g, t, p, class)?;
+    p.set_flags(outer);
+    Ok(inner)
+}
+
+/// An expression in brackets, with their place.
+#[tactic(auto, unfolding(swc_ecma_parser_reader::specs::Expressions::brackets))]
+fn brackets<
+    P: Source,
+    T: BuildsCall,
+    S: Fn(&MakerOf<T>, &mut P, usize, Position) -> PResult<T::Stmt>,
+    E: Fn(&MakerOf<T>, &mut P, usize, Reading) -> PResult<Cover<T::Expr>>,
+    N: Fn(&MakerOf<T>, &mut P, usize, Part) -> PResult<T::Pat>,
+>(g: &Grammar<S, E, N>, t: &MakerOf<T>, p: &mut P) -> PResult<Property<T::Expr>>
+    requires { Nests P.seen T.expr_of T.pat_of T.stmt_of g.now.depth (S.pre g.now.stmt) (S.post g.now.stmt) (E.pre g.now.expr) (E.post g.now.expr) (N.pre g.now.pat) (N.post g.now.pat) }
+    ensures { GivesAs (property_of T.expr_of) (exprs.brackets (exprs.expr g.now.depth) (exprs.cover g.now.depth) (P.seen p.old)) result (P.seen p.new) }
+{
+    let start = p.span();
+    p.skip()?;
+    let expr = inside(g, t, p, Class::Expression)?;
+    p.expect(TokenKind::RBracket, "]")?;
+    let span = since(p, start);
+    Ok(Property::Brackets(span, expr))
+}
+
+/// Whether an access begins here.
+pub(crate) fn begins_access<P: Source>(p: &P) -> bool
+    ensures { result ≡ (sees kind.Dot (P.seen p.now).at || sees kind.LBracket (P.seen p.now).at) }
+{
+    p.sees(TokenKind::Dot) || p.sees(TokenKind::LBracket)
+}
+
+/// An access, from `.` or `[` on.
+#[tactic(auto, unfolding(swc_ecma_parser_reader::specs::Expressions::access))]
+pub(crate) fn access<
+    P: Source,
+    T: BuildsCall,
+    S: Fn(&MakerOf<T>, &mut P, usize, Position) -> PResult<T::Stmt>,
+    E: Fn(&MakerOf<T>, &mut P, usize, Reading) -> PResult<Cover<T::Expr>>,
+    N: Fn(&MakerOf<T>, &mut P, usize, Part) -> PResult<T::Pat>,
+>(g: &Grammar<S, E, N>, t: &MakerOf<T>, p: &mut P) -> PResult<Property<T::Expr>>
+    requires { Nests P.seen T.expr_of T.pat_of T.stmt_of g.now.depth (S.pre g.now.stmt) (S.post g.now.stmt) (E.pre g.now.expr) (E.post g.now.expr) (N.pre g.now.pat) (N.post g.now.pat) }
+    ensures { GivesAs (property_of T.expr_of) (exprs.access (exprs.expr g.now.depth) (exprs.cover g.now.depth) (P.seen p.old)) result (P.seen p.new) }
+{
+    if p.sees(TokenKind::Dot) {
+        p.skip()?;
+        return dotted::<P, T>(p);
+    }
+    brackets(g, t, p)
+}
+
+/// A spread argument or element, with the place of its dots.
+#[tactic(auto, unfolding(swc_ecma_parser_reader::specs::Expressions::spread_element))]
+fn spread_element<
+    P: Source,
+    T: BuildsCall,
+    S: Fn(&MakerOf<T>, &mut P, usize, Position) -> PResult<T::Stmt>,
+    E: Fn(&MakerOf<T>, &mut P, usize, Reading) -> PResult<Cover<T::Expr>>,
+    N: Fn(&MakerOf<T>, &mut P, usize, Part) -> PResult<T::Pat>,
+>(g: &Grammar<S, E, N>, t: &MakerOf<T>, p: &mut P) -> PResult<T::Arg>
+    requires { Nests P.seen T.expr_of T.pat_of T.stmt_of g.now.depth (S.pre g.now.stmt) (S.post g.now.stmt) (E.pre g.now.expr) (E.post g.now.expr) (N.pre g.now.pat) (N.post g.now.pat) }
+    ensures { GivesAs (T.arg_of) (exprs.spread_element (exprs.expr g.now.depth) (exprs.cover g.now.depth) (P.seen p.old)) result (P.seen p.new) }
+{
+    let dots = p.span();
+    p.skip()?;
+    let expr = inside(g, t, p, Class::Assignment)?;
+    grown(p, T::element(t.alloc, Some(dots), expr))
+}
+
+/// An argument or element that is not spread.
+#[tactic(auto, unfolding(swc_ecma_parser_reader::specs::Expressions::plain_element))]
+fn plain_element<
+    P: Source,
+    T: BuildsCall,
+    S: Fn(&MakerOf<T>, &mut P, usize, Position) -> PResult<T::Stmt>,
+    E: Fn(&MakerOf<T>, &mut P, usize, Reading) -> PResult<Cover<T::Expr>>,
+    N: Fn(&MakerOf<T>, &mut P, usize, Part) -> PResult<T::Pat>,
+>(g: &Grammar<S, E, N>, t: &MakerOf<T>, p: &mut P) -> PResult<T::Arg>
+    requires { Nests P.seen T.expr_of T.pat_of T.stmt_of g.now.depth (S.pre g.now.stmt) (S.post g.now.stmt) (E.pre g.now.expr) (E.post g.now.expr) (N.pre g.now.pat) (N.post g.now.pat) }
+    ensures { GivesAs (T.arg_of) (exprs.plain_element (exprs.expr g.now.depth) (exprs.cover g.now.depth) (P.seen p.old)) result (P.seen p.new) }
+{
+    let expr = inside(g, t, p, Class::Assignment)?;
+    grown(p, T::element(t.alloc, None, expr))
+}
+
+/// An argument or an element.
+#[tactic(auto, unfolding(swc_ecma_parser_reader::specs::Expressions::element))]
+fn element<
+    P: Source,
+    T: BuildsCall,
+    S: Fn(&MakerOf<T>, &mut P, usize, Position) -> PResult<T::Stmt>,
+    E: Fn(&MakerOf<T>, &mut P, usize, Reading) -> PResult<Cover<T::Expr>>,
+    N: Fn(&MakerOf<T>, &mut P, usize, Part) -> PResult<T::Pat>,
+>(g: &Grammar<S, E, N>, t: &MakerOf<T>, p: &mut P) -> PResult<T::Arg>
+    requires { Nests P.seen T.expr_of T.pat_of T.stmt_of g.now.depth (S.pre g.now.stmt) (S.post g.now.stmt) (E.pre g.now.expr) (E.post g.now.expr) (N.pre g.now.pat) (N.post g.now.pat) }
+    ensures { GivesAs (T.arg_of) (exprs.element (exprs.expr g.now.depth) (exprs.cover g.now.depth) (P.seen p.old)) result (P.seen p.new) }
+{
+    if p.sees(TokenKind::DotDotDot) {
+        return spread_element(g, t, p);
+    }
+    plain_element(g, t, p)
+}
+
+/// Whether `)` stands here behind a comma, where none may stand before it.
+fn ends_behind_comma<P: Source>(p: &P, commas: bool) -> bool
+    ensures { result ≡ (not commas && sees kind.RParen (P.seen p.now).at) }
+{
+    !commas && p.sees(TokenKind::RParen)
+}
+
+/// Arguments, from `(` on. A comma may stand behind the last one, or is recorded there.
+#[tactic(auto, unfolding(swc_ecma_parser_reader::specs::Expressions::arguments), using(swc_ecma_parser_reader::proofs::expressions::Loops::arguments_done, swc_ecma_parser_reader::proofs::expressions::Loops::arguments_err, swc_ecma_parser_reader::proofs::expressions::Loops::arguments_last, swc_ecma_parser_reader::proofs::expressions::Loops::arguments_more, swc_ecma_parser_reader::proofs::expressions::Loops::arguments_noted, swc_ecma_parser_reader::proofs::expressions::Loops::arguments_note_err, swc_ecma_parser_reader::proofs::expressions::Loops::arguments_comma_err, swc_ecma_parser_reader::proofs::expressions::Loops::element_shorter, swc_ecma_parser_reader::proofs::expressions::Loops::arguments_shorter, swc_ecma_parser_reader::proofs::expressions::Loops::arguments_noted_shorter, std::proofs::lemmas::List::map_push))]
+pub(crate) fn arguments<
+    P: Source,
+    T: BuildsCall,
+    S: Fn(&MakerOf<T>, &mut P, usize, Position) -> PResult<T::Stmt>,
+    E: Fn(&MakerOf<T>, &mut P, usize, Reading) -> PResult<Cover<T::Expr>>,
+    N: Fn(&MakerOf<T>, &mut P, usize, Part) -> PResult<T::Pat>,
+>(g: &Grammar<S, E, N>, t: &MakerOf<T>, p: &mut P, commas: bool) -> PResult<Vec<T::Arg>>
+    requires { Nests P.seen T.expr_of T.pat_of T.stmt_of g.now.depth (S.pre g.now.stmt) (S.post g.now.stmt) (E.pre g.now.expr) (E.post g.now.expr) (N.pre g.now.pat) (N.post g.now.pat) }
+    ensures { GivesAs (λ found. map T.arg_of found.items) (exprs.arguments (exprs.expr g.now.depth) (exprs.cover g.now.depth) commas (P.seen p.old)) result (P.seen p.new) }
+{
+    p.skip()?;
+    let mut found = Vec::new(t.alloc);
+    'arguments: loop {
+        if p.sees(TokenKind::RParen) {
+            p.skip()?;
+            return Ok(found);
+        }
+        let argument = element(g, t, p)?;
+        pushed(p, &mut found, argument)?;
+        if !p.sees(TokenKind::RParen) {
+            p.expect(TokenKind::Comma, ",")?;
+            if ends_behind_comma(p, commas) {
+                let comma = p.last_span();
+                p.fault(SyntaxError::TrailingCommaInsideImport, comma)?;
+            }
+        }
+    }
+}

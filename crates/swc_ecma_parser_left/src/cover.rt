@@ -1,0 +1,134 @@
+//! What may still become a pattern: ECMA-262, sections 13.2.4, 13.2.5 and 13.15.5.
+
+ghost use Rattle.std.specs.Prelude.{◌≡◌, false, None, IfErr, OnOk};
+ghost use Rattle.swc_ecma_parser_error.specs.Kind.{IsOutOfMemory};
+ghost use Rattle.swc_ecma_parser_left.specs.Covers.{cover_of, covers_of};
+ghost use Rattle.swc_ecma_parser_left.specs.Nests.{Nests};
+ghost use Rattle.swc_ecma_parser_model.specs.Tree.{Tree};
+ghost use Rattle.swc_ecma_parser_reader.specs.Classes.{class_of};
+ghost use Rattle.swc_ecma_parser_reader.specs.Expressions as exprs;
+ghost use Rattle.swc_ecma_parser_reader.specs.State.{GivesAs};
+
+use crate::grammar::{Grammar, Part};
+use crate::steps::{pushed, with_in};
+use swc_ecma_parser_common::Span;
+use swc_ecma_parser_error::{PResult, SyntaxError};
+use swc_ecma_parser_grammar::{Class, Position};
+use swc_ecma_parser_state::Source;
+use swc_ecma_parser_trees::{MakerOf, Trees};
+
+/// An expression, or an array or object that may still become a pattern; or a part of one.
+#[derive(Drop)]
+pub struct Cover<A> {
+    pub tree: A,
+    /// Where the first part `name = value` stands, which no expression has.
+    pub mark: Option<Span>,
+    /// Whether a comma stands behind a spread, where no pattern has one.
+    pub comma: bool,
+}
+
+/// The parts of such an array or object.
+#[derive(Drop)]
+pub struct Covers<A> {
+    pub parts: Vec<A>,
+    pub mark: Option<Span>,
+    pub comma: bool,
+}
+
+/// What is asked of a reader of expressions.
+#[derive(Clone, Copy)]
+pub enum Reading {
+    /// An expression of a class.
+    Expr(Class),
+    /// An assignment expression that may still become a pattern.
+    Cover,
+}
+
+/// An expression, which stays one.
+pub fn done<A>(tree: A) -> Cover<A>
+    ensures { result ≡ record { tree = tree; mark = None; comma = false } }
+{
+    Cover {
+        tree,
+        mark: None,
+        comma: false,
+    }
+}
+
+/// The first of two marks.
+fn first_mark(first: Option<Span>, later: Option<Span>) -> Option<Span>
+    ensures { result ≡ exprs.first_mark first later }
+{
+    match first {
+        Some(mark) => Some(mark),
+        None => later,
+    }
+}
+
+/// Puts a part behind the others.
+pub(crate) fn joined<P: Source, A: Drop>(
+    p: &mut P,
+    found: &mut Covers<A>,
+    part: Cover<A>,
+) -> PResult<()>
+    ensures found { OnOk result ((view : A → Tree) → covers_of view found.new ≡ exprs.with_cover (covers_of view found.old) (cover_of view part)) }
+    ensures state { OnOk result (P.seen p.new ≡ P.seen p.old) }
+    ensures err { IfErr result IsOutOfMemory }
+{
+    let Cover { tree, mark, comma } = part;
+    found.mark = first_mark(found.mark, mark);
+    found.comma = found.comma || comma;
+    pushed(p, &mut found.parts, tree)
+}
+
+/// A comma stands behind a part, which can be a spread.
+pub(crate) fn behind_comma<A>(found: &mut Covers<A>, is_spread: bool)
+    ensures { (view : A → Tree) → covers_of view found.new ≡ exprs.with_comma is_spread (covers_of view found.old) }
+{
+    found.comma = found.comma || is_spread;
+}
+
+/// It as an expression.
+#[tactic(auto, unfolding(swc_ecma_parser_reader::specs::Expressions::close))]
+pub fn close<P: Source, T: Trees>(p: &mut P, v: Cover<T::Expr>) -> PResult<T::Expr>
+    ensures { GivesAs T.expr_of (exprs.close (cover_of T.expr_of v) (P.seen p.old)) result (P.seen p.new) }
+{
+    match v.mark {
+        Some(mark) => Err(p.reject(SyntaxError::AssignProperty, mark)),
+        None => Ok(v.tree),
+    }
+}
+
+/// An expression of a class, one level further in.
+pub fn nested<
+    P: Source,
+    T: Trees,
+    S: Fn(&MakerOf<T>, &mut P, usize, Position) -> PResult<T::Stmt>,
+    E: Fn(&MakerOf<T>, &mut P, usize, Reading) -> PResult<Cover<T::Expr>>,
+    N: Fn(&MakerOf<T>, &mut P, usize, Part) -> PResult<T::Pat>,
+>(g: &Grammar<S, E, N>, t: &MakerOf<T>, p: &mut P, class: Class) -> PResult<T::Expr>
+    requires { Nests P.seen T.expr_of T.pat_of T.stmt_of g.now.depth (S.pre g.now.stmt) (S.post g.now.stmt) (E.pre g.now.expr) (E.post g.now.expr) (N.pre g.now.pat) (N.post g.now.pat) }
+    ensures { GivesAs T.expr_of (exprs.expr g.now.depth (class_of class) (P.seen p.old)) result (P.seen p.new) }
+{
+    let found = (g.expr)(t, p, g.depth, Reading::Expr(class))?;
+    Ok(found.tree)
+}
+
+/// An assignment expression that may still become a pattern, where `in` is an operator.
+#[tactic(auto, unfolding(swc_ecma_parser_reader::specs::Expressions::covered))]
+pub(crate) fn covered<
+    P: Source,
+    T: Trees,
+    S: Fn(&MakerOf<T>, &mut P, usize, Position) -> PResult<T::Stmt>,
+    E: Fn(&MakerOf<T>, &mut P, usize, Reading) -> PResult<Cover<T::Expr>>,
+    N: Fn(&MakerOf<T>, &mut P, usize, Part) -> PResult<T::Pat>,
+>(g: &Grammar<S, E, N>, t: &MakerOf<T>, p: &mut P) -> PResult<Cover<T::Expr>>
+    requires { Nests P.seen T.expr_of T.pat_of T.stmt_of g.now.depth (S.pre g.now.stmt) (S.post g.now.stmt) (E.pre g.now.expr) (E.post g.now.expr) (N.pre g.now.pat) (N.post g.now.pat) }
+    ensures { GivesAs (cover_of T.expr_of) (exprs.covered (exprs.expr g.now.depth) (exprs.cover g.now.depth) (P.seen p.old)) result (P.seen p.new) }
+{
+    let outer = p.flags();
+    p.set_flags(with_in(outer));
+    let inner = (g.expr)(t, p, g.depth, Reading::Cover)?;
+    p.set_flags(outer);
+    Ok(inner)
+}

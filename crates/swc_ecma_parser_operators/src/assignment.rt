@@ -1,0 +1,212 @@
+//! Assignment expressions, and arrays and objects that may become patterns: ECMA-262, section 13.15.
+
+ghost use Rattle.std.specs.Prelude.{◌≡◌, true, IfOk};
+ghost use Rattle.swc_ecma_parser_left.specs.Covers.{cover_of, is_literal};
+ghost use Rattle.swc_ecma_parser_left.specs.Nests.{Nests};
+ghost use Rattle.swc_ecma_parser_model.specs.Forms.{is_pattern_target};
+ghost use Rattle.swc_ecma_parser_reader.specs.Expressions as exprs;
+ghost use Rattle.swc_ecma_parser_reader.specs.State.{GivesAs};
+
+use crate::operator::{
+    assigns_here, behind_operators, binary_from, operator_here, operators_expr, postfixed,
+};
+use swc_ecma_parser_common::Span;
+use swc_ecma_parser_error::{PResult, SyntaxError};
+use swc_ecma_parser_grammar::{Class, Position};
+use swc_ecma_parser_left::array::array;
+use swc_ecma_parser_left::cover::{Cover, Reading, close, done, nested};
+use swc_ecma_parser_left::grammar::{Grammar, Part};
+use swc_ecma_parser_left::left::left_from;
+use swc_ecma_parser_left::object::object;
+use swc_ecma_parser_left::steps::{grown, since};
+use swc_ecma_parser_model::AssignOp;
+use swc_ecma_parser_state::Source;
+use swc_ecma_parser_token::TokenKind;
+use swc_ecma_parser_trees::{
+    BuildsCall, BuildsExpr, BuildsObject, BuildsOperator, BuildsPattern, MakerOf,
+};
+
+/// Whether anything but `=` goes on with an array or object here.
+#[tactic(auto, unfolding(swc_ecma_parser_reader::specs::Expressions::goes_on))]
+fn goes_on<P: Source>(p: &P) -> bool
+    ensures { result ≡ exprs.goes_on (P.seen p.now) }
+{
+    p.continues_left_side()
+        || operator_here(p, 1).is_some()
+        || p.sees(TokenKind::QuestionMark)
+        || assigns_here(p)
+}
+
+/// An array or object as what `=` assigns to.
+#[tactic(auto, unfolding(swc_ecma_parser_reader::specs::Expressions::target))]
+fn target<P: Source, T: BuildsExpr + BuildsPattern>(
+    t: &MakerOf<T>,
+    p: &mut P,
+    v: Cover<T::Expr>,
+) -> PResult<T::Pat>
+    requires { is_literal (T.expr_of v.tree) ≡ true }
+    ensures gives { GivesAs T.pat_of (exprs.target (cover_of T.expr_of v) (P.seen p.old)) result (P.seen p.new) }
+    ensures pattern { IfOk result (λ x. is_pattern_target (T.pat_of x) ≡ true) }
+{
+    let span = T::expr_span(&v.tree);
+    if v.comma {
+        return Err(p.reject(SyntaxError::InvalidPat, span));
+    }
+    match grown(p, T::target(t.alloc, v.tree))? {
+        Some(pattern) => Ok(pattern),
+        None => Err(p.reject(SyntaxError::InvalidPat, span)),
+    }
+}
+
+/// What goes on with an array or object that was read from a place on.
+#[tactic(auto, unfolding(swc_ecma_parser_reader::specs::Expressions::continued, swc_ecma_parser_reader::specs::Expressions::postfixed))]
+fn continued<
+    P: Source,
+    T: BuildsExpr + BuildsCall + BuildsObject + BuildsOperator,
+    S: Fn(&MakerOf<T>, &mut P, usize, Position) -> PResult<T::Stmt>,
+    E: Fn(&MakerOf<T>, &mut P, usize, Reading) -> PResult<Cover<T::Expr>>,
+    N: Fn(&MakerOf<T>, &mut P, usize, Part) -> PResult<T::Pat>,
+>(g: &Grammar<S, E, N>, t: &MakerOf<T>, p: &mut P, start: Span, x: T::Expr) -> PResult<T::Expr>
+    requires { Nests P.seen T.expr_of T.pat_of T.stmt_of g.now.depth (S.pre g.now.stmt) (S.post g.now.stmt) (E.pre g.now.expr) (E.post g.now.expr) (N.pre g.now.pat) (N.post g.now.pat) }
+    ensures { GivesAs (T.expr_of) (exprs.continued (exprs.expr g.now.depth) (exprs.cover g.now.depth) start (T.expr_of x) (P.seen p.old)) result (P.seen p.new) }
+{
+    let x = left_from(g, t, p, true, start, x)?;
+    let x = postfixed::<P, T>(t.alloc, p, start, x)?;
+    let x = binary_from(g, t, p, 1, start, x)?;
+    behind_operators(g, t, p, false, start, x)
+}
+
+/// An array or object, and what goes on with it.
+#[tactic(auto, unfolding(swc_ecma_parser_reader::specs::Expressions::closed))]
+fn closed<
+    P: Source,
+    T: BuildsExpr + BuildsCall + BuildsObject + BuildsOperator,
+    S: Fn(&MakerOf<T>, &mut P, usize, Position) -> PResult<T::Stmt>,
+    E: Fn(&MakerOf<T>, &mut P, usize, Reading) -> PResult<Cover<T::Expr>>,
+    N: Fn(&MakerOf<T>, &mut P, usize, Part) -> PResult<T::Pat>,
+>(
+    g: &Grammar<S, E, N>,
+    t: &MakerOf<T>,
+    p: &mut P,
+    start: Span,
+    v: Cover<T::Expr>,
+) -> PResult<Cover<T::Expr>>
+    requires { Nests P.seen T.expr_of T.pat_of T.stmt_of g.now.depth (S.pre g.now.stmt) (S.post g.now.stmt) (E.pre g.now.expr) (E.post g.now.expr) (N.pre g.now.pat) (N.post g.now.pat) }
+    ensures { GivesAs (cover_of T.expr_of) (exprs.closed (exprs.expr g.now.depth) (exprs.cover g.now.depth) start (cover_of T.expr_of v) (P.seen p.old)) result (P.seen p.new) }
+{
+    let x = close::<P, T>(p, v)?;
+    Ok(done(continued(g, t, p, start, x)?))
+}
+
+/// An array or object pattern, and what it is assigned.
+#[tactic(auto, unfolding(swc_ecma_parser_reader::specs::Expressions::assigned_pattern, swc_ecma_parser_reader::specs::Expressions::assigned_to))]
+fn assigned_pattern<
+    P: Source,
+    T: BuildsExpr + BuildsCall + BuildsObject + BuildsOperator + BuildsPattern,
+    S: Fn(&MakerOf<T>, &mut P, usize, Position) -> PResult<T::Stmt>,
+    E: Fn(&MakerOf<T>, &mut P, usize, Reading) -> PResult<Cover<T::Expr>>,
+    N: Fn(&MakerOf<T>, &mut P, usize, Part) -> PResult<T::Pat>,
+>(
+    g: &Grammar<S, E, N>,
+    t: &MakerOf<T>,
+    p: &mut P,
+    start: Span,
+    v: Cover<T::Expr>,
+) -> PResult<Cover<T::Expr>>
+    requires readers { Nests P.seen T.expr_of T.pat_of T.stmt_of g.now.depth (S.pre g.now.stmt) (S.post g.now.stmt) (E.pre g.now.expr) (E.post g.now.expr) (N.pre g.now.pat) (N.post g.now.pat) }
+    requires literal { is_literal (T.expr_of v.tree) ≡ true }
+    ensures { GivesAs (cover_of T.expr_of) (exprs.assigned_pattern (exprs.expr g.now.depth) (exprs.cover g.now.depth) start (cover_of T.expr_of v) (P.seen p.old)) result (P.seen p.new) }
+{
+    let left = target::<P, T>(t, p, v)?;
+    p.skip()?;
+    let right = nested(g, t, p, Class::Assignment)?;
+    let span = since(p, start);
+    let tree = grown(
+        p,
+        T::assign_to_pat(t.alloc, span, AssignOp::Assign, left, right),
+    )?;
+    Ok(done(tree))
+}
+
+/// What stands behind an array or object, which is left open where nothing goes on with it.
+#[tactic(auto, unfolding(swc_ecma_parser_reader::specs::Expressions::behind_literal))]
+fn behind_literal<
+    P: Source,
+    T: BuildsExpr + BuildsCall + BuildsObject + BuildsOperator + BuildsPattern,
+    S: Fn(&MakerOf<T>, &mut P, usize, Position) -> PResult<T::Stmt>,
+    E: Fn(&MakerOf<T>, &mut P, usize, Reading) -> PResult<Cover<T::Expr>>,
+    N: Fn(&MakerOf<T>, &mut P, usize, Part) -> PResult<T::Pat>,
+>(
+    g: &Grammar<S, E, N>,
+    t: &MakerOf<T>,
+    p: &mut P,
+    start: Span,
+    v: Cover<T::Expr>,
+) -> PResult<Cover<T::Expr>>
+    requires readers { Nests P.seen T.expr_of T.pat_of T.stmt_of g.now.depth (S.pre g.now.stmt) (S.post g.now.stmt) (E.pre g.now.expr) (E.post g.now.expr) (N.pre g.now.pat) (N.post g.now.pat) }
+    requires literal { is_literal (T.expr_of v.tree) ≡ true }
+    ensures { GivesAs (cover_of T.expr_of) (exprs.behind_literal (exprs.expr g.now.depth) (exprs.cover g.now.depth) start (cover_of T.expr_of v) (P.seen p.old)) result (P.seen p.new) }
+{
+    if p.sees(TokenKind::Assign) {
+        return assigned_pattern(g, t, p, start, v);
+    }
+    if goes_on(p) {
+        return closed(g, t, p, start, v);
+    }
+    Ok(v)
+}
+
+/// An array or object, and what stands behind it.
+#[tactic(auto, unfolding(swc_ecma_parser_reader::specs::Expressions::open_literal))]
+fn open_literal<
+    P: Source,
+    T: BuildsExpr + BuildsCall + BuildsObject + BuildsOperator + BuildsPattern,
+    S: Fn(&MakerOf<T>, &mut P, usize, Position) -> PResult<T::Stmt>,
+    E: Fn(&MakerOf<T>, &mut P, usize, Reading) -> PResult<Cover<T::Expr>>,
+    N: Fn(&MakerOf<T>, &mut P, usize, Part) -> PResult<T::Pat>,
+>(g: &Grammar<S, E, N>, t: &MakerOf<T>, p: &mut P) -> PResult<Cover<T::Expr>>
+    requires { Nests P.seen T.expr_of T.pat_of T.stmt_of g.now.depth (S.pre g.now.stmt) (S.post g.now.stmt) (E.pre g.now.expr) (E.post g.now.expr) (N.pre g.now.pat) (N.post g.now.pat) }
+    ensures { GivesAs (cover_of T.expr_of) (exprs.open_literal (exprs.expr g.now.depth) (exprs.cover g.now.depth) (P.seen p.old)) result (P.seen p.new) }
+{
+    let start = p.span();
+    if p.sees(TokenKind::LBracket) {
+        let v = array(g, t, p)?;
+        return behind_literal(g, t, p, start, v);
+    }
+    let v = object(g, t, p)?;
+    behind_literal(g, t, p, start, v)
+}
+
+/// An assignment expression that may still become a pattern.
+#[tactic(auto, unfolding(swc_ecma_parser_reader::specs::Expressions::cover_expr, swc_ecma_parser_reader::specs::Expressions::done_expr))]
+pub fn cover_expr<
+    P: Source,
+    T: BuildsExpr + BuildsCall + BuildsObject + BuildsOperator + BuildsPattern,
+    S: Fn(&MakerOf<T>, &mut P, usize, Position) -> PResult<T::Stmt>,
+    E: Fn(&MakerOf<T>, &mut P, usize, Reading) -> PResult<Cover<T::Expr>>,
+    N: Fn(&MakerOf<T>, &mut P, usize, Part) -> PResult<T::Pat>,
+>(g: &Grammar<S, E, N>, t: &MakerOf<T>, p: &mut P) -> PResult<Cover<T::Expr>>
+    requires { Nests P.seen T.expr_of T.pat_of T.stmt_of g.now.depth (S.pre g.now.stmt) (S.post g.now.stmt) (E.pre g.now.expr) (E.post g.now.expr) (N.pre g.now.pat) (N.post g.now.pat) }
+    ensures { GivesAs (cover_of T.expr_of) (exprs.cover_expr (exprs.expr g.now.depth) (exprs.cover g.now.depth) (P.seen p.old)) result (P.seen p.new) }
+{
+    if p.sees(TokenKind::LBracket) || p.sees(TokenKind::LBrace) {
+        return open_literal(g, t, p);
+    }
+    Ok(done(operators_expr(g, t, p)?))
+}
+
+/// An assignment expression: section 13.15.
+#[tactic(auto, unfolding(swc_ecma_parser_reader::specs::Expressions::assignment_expr))]
+pub(crate) fn assignment_expr<
+    P: Source,
+    T: BuildsExpr + BuildsCall + BuildsObject + BuildsOperator + BuildsPattern,
+    S: Fn(&MakerOf<T>, &mut P, usize, Position) -> PResult<T::Stmt>,
+    E: Fn(&MakerOf<T>, &mut P, usize, Reading) -> PResult<Cover<T::Expr>>,
+    N: Fn(&MakerOf<T>, &mut P, usize, Part) -> PResult<T::Pat>,
+>(g: &Grammar<S, E, N>, t: &MakerOf<T>, p: &mut P) -> PResult<T::Expr>
+    requires { Nests P.seen T.expr_of T.pat_of T.stmt_of g.now.depth (S.pre g.now.stmt) (S.post g.now.stmt) (E.pre g.now.expr) (E.post g.now.expr) (N.pre g.now.pat) (N.post g.now.pat) }
+    ensures { GivesAs (T.expr_of) (exprs.assignment_expr (exprs.expr g.now.depth) (exprs.cover g.now.depth) (P.seen p.old)) result (P.seen p.new) }
+{
+    let v = cover_expr(g, t, p)?;
+    close::<P, T>(p, v)
+}

@@ -1,0 +1,492 @@
+//! Operators, assignments and sequences: ECMA-262, sections 13.4 to 13.16.
+
+ghost use Rattle.std.specs.Prelude.{◌≡◌, ◌&&◌, IfOk, map};
+ghost use Rattle.swc_ecma_parser_error.specs.Kind.{kind_of};
+ghost use Rattle.swc_ecma_parser_grammar.specs.language.Continues.{continues_conditional};
+ghost use Rattle.swc_ecma_parser_grammar.specs.language.Operators as operators;
+ghost use Rattle.swc_ecma_parser_left.specs.Nests.{Nests};
+ghost use Rattle.swc_ecma_parser_reader.specs.Classes.{class_of};
+ghost use Rattle.swc_ecma_parser_reader.specs.Expressions as exprs;
+ghost use Rattle.swc_ecma_parser_reader.specs.State.{Gives, GivesAs};
+
+use crate::assignment::assignment_expr;
+use std::alloc::Global;
+use swc_ecma_parser_common::Span;
+use swc_ecma_parser_error::{PResult, SyntaxError};
+use swc_ecma_parser_grammar::{Class, Position};
+use swc_ecma_parser_left::access::inside;
+use swc_ecma_parser_left::cover::{Cover, Reading, nested};
+use swc_ecma_parser_left::grammar::{Grammar, Part};
+use swc_ecma_parser_left::left::{left, left_expr};
+use swc_ecma_parser_left::steps::{grown, pushed, since};
+use swc_ecma_parser_model::{AssignOp, BinaryOp, UnaryOp, UpdateOp};
+use swc_ecma_parser_state::{
+    Source, Wanted, assign_operator, binary_operator, groups_left, mixes, precedence,
+    unary_operator, update_operator,
+};
+use swc_ecma_parser_token::TokenKind;
+use swc_ecma_parser_trees::{
+    BuildsCall, BuildsExpr, BuildsObject, BuildsOperator, BuildsPattern, MakerOf,
+};
+
+/// An operator before its operand.
+#[tactic(auto, unfolding(swc_ecma_parser_reader::specs::Expressions::prefixed))]
+fn prefixed<
+    P: Source,
+    T: BuildsExpr + BuildsCall + BuildsObject + BuildsOperator,
+    S: Fn(&MakerOf<T>, &mut P, usize, Position) -> PResult<T::Stmt>,
+    E: Fn(&MakerOf<T>, &mut P, usize, Reading) -> PResult<Cover<T::Expr>>,
+    N: Fn(&MakerOf<T>, &mut P, usize, Part) -> PResult<T::Pat>,
+>(g: &Grammar<S, E, N>, t: &MakerOf<T>, p: &mut P, op: UnaryOp) -> PResult<T::Expr>
+    requires { Nests P.seen T.expr_of T.pat_of T.stmt_of g.now.depth (S.pre g.now.stmt) (S.post g.now.stmt) (E.pre g.now.expr) (E.post g.now.expr) (N.pre g.now.pat) (N.post g.now.pat) }
+    ensures { GivesAs (T.expr_of) (exprs.prefixed (exprs.expr g.now.depth) (exprs.cover g.now.depth) op (P.seen p.old)) result (P.seen p.new) }
+{
+    let start = p.span();
+    p.skip()?;
+    let operand = nested(g, t, p, Class::Unary)?;
+    let span = since(p, start);
+    grown(p, T::unary(t.alloc, span, op, operand))
+}
+
+/// Refuses what `++` and `--` do not stand at.
+#[tactic(auto, unfolding(swc_ecma_parser_reader::specs::Expressions::simple))]
+fn simple<P: Source, T: BuildsOperator>(p: &mut P, x: &T::Expr) -> PResult<()>
+    ensures { Gives (exprs.simple (T.expr_of x.now) (P.seen p.old)) result (P.seen p.new) }
+{
+    if T::is_simple_target(x) {
+        return Ok(());
+    }
+    Err(p.reject(SyntaxError::NotSimpleAssign, T::expr_span(x)))
+}
+
+/// `++` or `--` before its operand.
+#[tactic(auto, unfolding(swc_ecma_parser_reader::specs::Expressions::update_before))]
+fn update_before<
+    P: Source,
+    T: BuildsExpr + BuildsCall + BuildsObject + BuildsOperator,
+    S: Fn(&MakerOf<T>, &mut P, usize, Position) -> PResult<T::Stmt>,
+    E: Fn(&MakerOf<T>, &mut P, usize, Reading) -> PResult<Cover<T::Expr>>,
+    N: Fn(&MakerOf<T>, &mut P, usize, Part) -> PResult<T::Pat>,
+>(g: &Grammar<S, E, N>, t: &MakerOf<T>, p: &mut P, op: UpdateOp) -> PResult<T::Expr>
+    requires { Nests P.seen T.expr_of T.pat_of T.stmt_of g.now.depth (S.pre g.now.stmt) (S.post g.now.stmt) (E.pre g.now.expr) (E.post g.now.expr) (N.pre g.now.pat) (N.post g.now.pat) }
+    ensures { GivesAs (T.expr_of) (exprs.update_before (exprs.expr g.now.depth) (exprs.cover g.now.depth) op (P.seen p.old)) result (P.seen p.new) }
+{
+    let start = p.span();
+    p.skip()?;
+    let operand = nested(g, t, p, Class::Unary)?;
+    simple::<P, T>(p, &operand)?;
+    let span = since(p, start);
+    grown(p, T::update(t.alloc, span, op, true, operand))
+}
+
+/// `++` or `--` behind its operand.
+#[tactic(auto, unfolding(swc_ecma_parser_reader::specs::Expressions::update_behind))]
+fn update_behind<P: Source, T: BuildsOperator>(
+    alloc: Global,
+    p: &mut P,
+    start: Span,
+    operand: T::Expr,
+    op: UpdateOp,
+) -> PResult<T::Expr>
+    ensures { GivesAs T.expr_of (exprs.update_behind start (T.expr_of operand) op (P.seen p.old)) result (P.seen p.new) }
+{
+    simple::<P, T>(p, &operand)?;
+    p.skip()?;
+    let span = since(p, start);
+    grown(p, T::update(alloc, span, op, false, operand))
+}
+
+/// The operator that stands here, on the line of what was read.
+#[tactic(auto, unfolding(swc_ecma_parser_reader::specs::Expressions::postfix_at))]
+fn postfix_here<P: Source>(p: &P) -> Option<UpdateOp>
+    ensures { result ≡ exprs.postfix_at (P.seen p.now).at }
+{
+    if p.had_line_break() {
+        return None;
+    }
+    update_operator(p.kind())
+}
+
+/// `++` or `--`, if it stands on the line of an operand that was read from a place on.
+pub(crate) fn postfixed<P: Source, T: BuildsOperator>(
+    alloc: Global,
+    p: &mut P,
+    start: Span,
+    operand: T::Expr,
+) -> PResult<T::Expr>
+    ensures { GivesAs T.expr_of (exprs.behind_operand start (T.expr_of operand) (exprs.postfix_at (P.seen p.old).at) (P.seen p.old)) result (P.seen p.new) }
+{
+    match postfix_here(p) {
+        Some(op) => update_behind::<P, T>(alloc, p, start, operand, op),
+        None => Ok(operand),
+    }
+}
+
+/// An operand, and `++` or `--` behind it on its line.
+#[tactic(auto, unfolding(swc_ecma_parser_reader::specs::Expressions::postfix))]
+fn postfix<
+    P: Source,
+    T: BuildsExpr + BuildsCall + BuildsObject + BuildsOperator,
+    S: Fn(&MakerOf<T>, &mut P, usize, Position) -> PResult<T::Stmt>,
+    E: Fn(&MakerOf<T>, &mut P, usize, Reading) -> PResult<Cover<T::Expr>>,
+    N: Fn(&MakerOf<T>, &mut P, usize, Part) -> PResult<T::Pat>,
+>(g: &Grammar<S, E, N>, t: &MakerOf<T>, p: &mut P) -> PResult<T::Expr>
+    requires { Nests P.seen T.expr_of T.pat_of T.stmt_of g.now.depth (S.pre g.now.stmt) (S.post g.now.stmt) (E.pre g.now.expr) (E.post g.now.expr) (N.pre g.now.pat) (N.post g.now.pat) }
+    ensures { GivesAs (T.expr_of) (exprs.postfix (exprs.expr g.now.depth) (exprs.cover g.now.depth) (P.seen p.old)) result (P.seen p.new) }
+{
+    let start = p.span();
+    let operand = left(g, t, p, true)?;
+    postfixed::<P, T>(t.alloc, p, start, operand)
+}
+
+/// A unary expression: sections 13.4 and 13.5.
+#[tactic(auto, unfolding(swc_ecma_parser_reader::specs::Expressions::unary_expr))]
+fn unary_expr<
+    P: Source,
+    T: BuildsExpr + BuildsCall + BuildsObject + BuildsOperator,
+    S: Fn(&MakerOf<T>, &mut P, usize, Position) -> PResult<T::Stmt>,
+    E: Fn(&MakerOf<T>, &mut P, usize, Reading) -> PResult<Cover<T::Expr>>,
+    N: Fn(&MakerOf<T>, &mut P, usize, Part) -> PResult<T::Pat>,
+>(g: &Grammar<S, E, N>, t: &MakerOf<T>, p: &mut P) -> PResult<T::Expr>
+    requires { Nests P.seen T.expr_of T.pat_of T.stmt_of g.now.depth (S.pre g.now.stmt) (S.post g.now.stmt) (E.pre g.now.expr) (E.post g.now.expr) (N.pre g.now.pat) (N.post g.now.pat) }
+    ensures { GivesAs (T.expr_of) (exprs.unary_expr (exprs.expr g.now.depth) (exprs.cover g.now.depth) (P.seen p.old)) result (P.seen p.new) }
+{
+    if let Some(op) = unary_operator(p.kind()) {
+        return prefixed(g, t, p, op);
+    }
+    if let Some(op) = update_operator(p.kind()) {
+        return update_before(g, t, p, op);
+    }
+    postfix(g, t, p)
+}
+
+/// Refuses a unary operator left of `**`.
+#[tactic(auto, unfolding(swc_ecma_parser_reader::specs::Expressions::left_operand))]
+fn left_operand<P: Source, T: BuildsOperator>(p: &mut P, op: BinaryOp, x: &T::Expr) -> PResult<()>
+    ensures { Gives (exprs.left_operand op (T.expr_of x.now) (P.seen p.old)) result (P.seen p.new) }
+{
+    if !groups_left(op) && (T::is_unary(x) || T::is_await(x)) {
+        return Err(p.reject(SyntaxError::UnaryInExp, T::expr_span(x)));
+    }
+    Ok(())
+}
+
+/// Whether an operator does not stand beside that of an operand.
+fn mixes_with<T: BuildsOperator>(op: BinaryOp, x: &T::Expr) -> bool
+    ensures { result ≡ operators.mixes op (T.expr_of x.now) }
+{
+    match T::binary_operator(x) {
+        Some(inner) => mixes(op, inner),
+        None => false,
+    }
+}
+
+/// An operator between two operands that were read from a place on.
+#[tactic(auto, unfolding(swc_ecma_parser_reader::specs::Expressions::unmixed))]
+fn unmixed<P: Source, T: BuildsOperator>(
+    alloc: Global,
+    p: &mut P,
+    start: Span,
+    op: BinaryOp,
+    x: T::Expr,
+    y: T::Expr,
+) -> PResult<T::Expr>
+    ensures { GivesAs T.expr_of (exprs.unmixed start op (T.expr_of x) (T.expr_of y) (P.seen p.old)) result (P.seen p.new) }
+{
+    let span = since(p, start);
+    if mixes_with::<T>(op, &x) || mixes_with::<T>(op, &y) {
+        return Err(p.reject(SyntaxError::NullishCoalescingWithLogicalOp, span));
+    }
+    grown(p, T::bin(alloc, span, op, x, y))
+}
+
+/// The class of the right operand.
+fn right_class(op: BinaryOp) -> Class
+    ensures { class_of result ≡ exprs.right_class op }
+{
+    let tightness = precedence(op);
+    Class::Operator(if groups_left(op) {
+        tightness + 1
+    } else {
+        tightness
+    })
+}
+
+/// An operator and its right operand, behind what was read from a place on.
+#[tactic(auto, unfolding(swc_ecma_parser_reader::specs::Expressions::operated))]
+fn operated<
+    P: Source,
+    T: BuildsExpr + BuildsCall + BuildsObject + BuildsOperator,
+    S: Fn(&MakerOf<T>, &mut P, usize, Position) -> PResult<T::Stmt>,
+    E: Fn(&MakerOf<T>, &mut P, usize, Reading) -> PResult<Cover<T::Expr>>,
+    N: Fn(&MakerOf<T>, &mut P, usize, Part) -> PResult<T::Pat>,
+>(
+    g: &Grammar<S, E, N>,
+    t: &MakerOf<T>,
+    p: &mut P,
+    start: Span,
+    x: T::Expr,
+    op: BinaryOp,
+) -> PResult<T::Expr>
+    requires { Nests P.seen T.expr_of T.pat_of T.stmt_of g.now.depth (S.pre g.now.stmt) (S.post g.now.stmt) (E.pre g.now.expr) (E.post g.now.expr) (N.pre g.now.pat) (N.post g.now.pat) }
+    ensures { GivesAs (T.expr_of) (exprs.operated (exprs.expr g.now.depth) (exprs.cover g.now.depth) start (T.expr_of x) op (P.seen p.old)) result (P.seen p.new) }
+{
+    left_operand::<P, T>(p, op, &x)?;
+    p.skip()?;
+    let y = nested(g, t, p, right_class(op))?;
+    unmixed::<P, T>(t.alloc, p, start, op, x, y)
+}
+
+/// The operator that stands here, where it is read and binds at least so tightly.
+#[tactic(auto, unfolding(swc_ecma_parser_reader::specs::Expressions::operator_at))]
+pub(crate) fn operator_here<P: Source>(p: &P, n: usize) -> Option<BinaryOp>
+    ensures { result ≡ exprs.operator_at n (P.seen p.now) }
+{
+    match binary_operator(p.kind()) {
+        Some(BinaryOp::In) if !p.flags().include_in_expr => None,
+        Some(op) if n <= precedence(op) => Some(op),
+        _ => None,
+    }
+}
+
+/// The operators that bind at least so tightly, behind an operand that was read from a place on.
+#[tactic(auto, unfolding(swc_ecma_parser_reader::specs::Expressions::binary_from), using(swc_ecma_parser_reader::proofs::expressions::Loops::binary_done, swc_ecma_parser_reader::proofs::expressions::Loops::binary_more, swc_ecma_parser_reader::proofs::expressions::Loops::binary_err, swc_ecma_parser_reader::proofs::expressions::Loops::operated_shorter))]
+pub(crate) fn binary_from<
+    P: Source,
+    T: BuildsExpr + BuildsCall + BuildsObject + BuildsOperator,
+    S: Fn(&MakerOf<T>, &mut P, usize, Position) -> PResult<T::Stmt>,
+    E: Fn(&MakerOf<T>, &mut P, usize, Reading) -> PResult<Cover<T::Expr>>,
+    N: Fn(&MakerOf<T>, &mut P, usize, Part) -> PResult<T::Pat>,
+>(
+    g: &Grammar<S, E, N>,
+    t: &MakerOf<T>,
+    p: &mut P,
+    n: usize,
+    start: Span,
+    x: T::Expr,
+) -> PResult<T::Expr>
+    requires { Nests P.seen T.expr_of T.pat_of T.stmt_of g.now.depth (S.pre g.now.stmt) (S.post g.now.stmt) (E.pre g.now.expr) (E.post g.now.expr) (N.pre g.now.pat) (N.post g.now.pat) }
+    ensures { GivesAs (T.expr_of) (exprs.binary_from (exprs.expr g.now.depth) (exprs.cover g.now.depth) n start (T.expr_of x) (P.seen p.old)) result (P.seen p.new) }
+{
+    let mut x = x;
+    'operators: loop {
+        match operator_here(p, n) {
+            Some(op) => x = operated(g, t, p, start, x, op)?,
+            None => return Ok(x),
+        }
+    }
+}
+
+/// Operands and operators that bind at least so tightly: sections 13.6 to 13.13.
+#[tactic(auto, unfolding(swc_ecma_parser_reader::specs::Expressions::binary_expr))]
+fn binary_expr<
+    P: Source,
+    T: BuildsExpr + BuildsCall + BuildsObject + BuildsOperator,
+    S: Fn(&MakerOf<T>, &mut P, usize, Position) -> PResult<T::Stmt>,
+    E: Fn(&MakerOf<T>, &mut P, usize, Reading) -> PResult<Cover<T::Expr>>,
+    N: Fn(&MakerOf<T>, &mut P, usize, Part) -> PResult<T::Pat>,
+>(g: &Grammar<S, E, N>, t: &MakerOf<T>, p: &mut P, n: usize) -> PResult<T::Expr>
+    requires { Nests P.seen T.expr_of T.pat_of T.stmt_of g.now.depth (S.pre g.now.stmt) (S.post g.now.stmt) (E.pre g.now.expr) (E.post g.now.expr) (N.pre g.now.pat) (N.post g.now.pat) }
+    ensures { GivesAs (T.expr_of) (exprs.binary_expr (exprs.expr g.now.depth) (exprs.cover g.now.depth) n (P.seen p.old)) result (P.seen p.new) }
+{
+    let start = p.span();
+    let x = unary_expr(g, t, p)?;
+    binary_from(g, t, p, n, start, x)
+}
+
+/// Whether an assignment operator stands here.
+#[tactic(auto, unfolding(swc_ecma_parser_grammar::specs::language::Continues::continues_conditional))]
+pub(crate) fn assigns_here<P: Source>(p: &P) -> bool
+    ensures { result ≡ continues_conditional (P.seen p.now).at }
+{
+    assign_operator(p.kind()).is_some()
+}
+
+/// The rest of a conditional, behind its test, which was read from a place on: section 13.14.
+#[tactic(auto, unfolding(swc_ecma_parser_reader::specs::Expressions::conditional, swc_ecma_parser_reader::specs::Expressions::unassigned))]
+fn conditional<
+    P: Source,
+    T: BuildsExpr + BuildsCall + BuildsObject + BuildsOperator,
+    S: Fn(&MakerOf<T>, &mut P, usize, Position) -> PResult<T::Stmt>,
+    E: Fn(&MakerOf<T>, &mut P, usize, Reading) -> PResult<Cover<T::Expr>>,
+    N: Fn(&MakerOf<T>, &mut P, usize, Part) -> PResult<T::Pat>,
+>(g: &Grammar<S, E, N>, t: &MakerOf<T>, p: &mut P, start: Span, test: T::Expr) -> PResult<T::Expr>
+    requires { Nests P.seen T.expr_of T.pat_of T.stmt_of g.now.depth (S.pre g.now.stmt) (S.post g.now.stmt) (E.pre g.now.expr) (E.post g.now.expr) (N.pre g.now.pat) (N.post g.now.pat) }
+    ensures { GivesAs (T.expr_of) (exprs.conditional (exprs.expr g.now.depth) (exprs.cover g.now.depth) start (T.expr_of test) (P.seen p.old)) result (P.seen p.new) }
+{
+    p.skip()?;
+    let yes_case = inside(g, t, p, Class::Assignment)?;
+    p.expect(TokenKind::Colon, ":")?;
+    let no_case = nested(g, t, p, Class::Assignment)?;
+    let span = since(p, start);
+    if assigns_here(p) {
+        return Err(p.wanted(Wanted::Expression));
+    }
+    grown(p, T::cond(t.alloc, span, test, yes_case, no_case))
+}
+
+/// The fault of what an operator does not assign to.
+fn unassignable(op: AssignOp) -> SyntaxError
+    ensures { kind_of result ≡ exprs.unassignable op }
+{
+    match op {
+        AssignOp::Assign => SyntaxError::InvalidPat,
+        _ => SyntaxError::NotSimpleAssign,
+    }
+}
+
+/// An assignment to what was read from a place on: section 13.15.
+#[tactic(auto, unfolding(swc_ecma_parser_reader::specs::Expressions::assigned, swc_ecma_parser_reader::specs::Expressions::assigned_to))]
+fn assigned<
+    P: Source,
+    T: BuildsExpr + BuildsCall + BuildsObject + BuildsOperator,
+    S: Fn(&MakerOf<T>, &mut P, usize, Position) -> PResult<T::Stmt>,
+    E: Fn(&MakerOf<T>, &mut P, usize, Reading) -> PResult<Cover<T::Expr>>,
+    N: Fn(&MakerOf<T>, &mut P, usize, Part) -> PResult<T::Pat>,
+>(
+    g: &Grammar<S, E, N>,
+    t: &MakerOf<T>,
+    p: &mut P,
+    start: Span,
+    x: T::Expr,
+    op: AssignOp,
+) -> PResult<T::Expr>
+    requires { Nests P.seen T.expr_of T.pat_of T.stmt_of g.now.depth (S.pre g.now.stmt) (S.post g.now.stmt) (E.pre g.now.expr) (E.post g.now.expr) (N.pre g.now.pat) (N.post g.now.pat) }
+    ensures { GivesAs (T.expr_of) (exprs.assigned (exprs.expr g.now.depth) (exprs.cover g.now.depth) start (T.expr_of x) op (P.seen p.old)) result (P.seen p.new) }
+{
+    if !T::is_simple_target(&x) {
+        return Err(p.reject(unassignable(op), T::expr_span(&x)));
+    }
+    p.skip()?;
+    let y = nested(g, t, p, Class::Assignment)?;
+    let span = since(p, start);
+    grown(p, T::assign(t.alloc, span, op, x, y))
+}
+
+/// Whether what was read, and the token that stands here, begin an arrow function; `is_async` where it was read from `async` and
+/// `(` on.
+#[tactic(auto, unfolding(swc_ecma_parser_reader::specs::Expressions::heads_arrow), using(crate::proofs::Heads::is_head_by))]
+fn heads_arrow<P: Source, T: BuildsExpr + BuildsCall>(p: &P, is_async: bool, x: &T::Expr) -> bool
+    ensures { result ≡ exprs.heads_arrow is_async (T.expr_of x.now) (P.seen p.now) }
+{
+    (T::is_ident(x) || T::is_paren(x) || is_async && T::is_async_call(x))
+        && p.sees(TokenKind::Arrow)
+        || T::is_ident_named(x, "async") && !p.had_line_break() && p.identifier_at()
+}
+
+/// What stands behind operands and operators that were read from a place on.
+#[tactic(auto, unfolding(swc_ecma_parser_reader::specs::Expressions::behind_operators, swc_ecma_parser_reader::specs::Expressions::unheaded))]
+pub(crate) fn behind_operators<
+    P: Source,
+    T: BuildsExpr + BuildsCall + BuildsObject + BuildsOperator,
+    S: Fn(&MakerOf<T>, &mut P, usize, Position) -> PResult<T::Stmt>,
+    E: Fn(&MakerOf<T>, &mut P, usize, Reading) -> PResult<Cover<T::Expr>>,
+    N: Fn(&MakerOf<T>, &mut P, usize, Part) -> PResult<T::Pat>,
+>(
+    g: &Grammar<S, E, N>,
+    t: &MakerOf<T>,
+    p: &mut P,
+    is_async: bool,
+    start: Span,
+    x: T::Expr,
+) -> PResult<T::Expr>
+    requires { Nests P.seen T.expr_of T.pat_of T.stmt_of g.now.depth (S.pre g.now.stmt) (S.post g.now.stmt) (E.pre g.now.expr) (E.post g.now.expr) (N.pre g.now.pat) (N.post g.now.pat) }
+    ensures { GivesAs (T.expr_of) (exprs.behind_operators (exprs.expr g.now.depth) (exprs.cover g.now.depth) is_async start (T.expr_of x) (P.seen p.old)) result (P.seen p.new) }
+{
+    if p.sees(TokenKind::QuestionMark) {
+        return conditional(g, t, p, start, x);
+    }
+    if let Some(op) = assign_operator(p.kind()) {
+        return assigned(g, t, p, start, x, op);
+    }
+    if heads_arrow::<P, T>(p, is_async, &x) {
+        return Err(p.wanted(Wanted::Expression));
+    }
+    Ok(x)
+}
+
+/// Operands and operators, and what stands behind them.
+#[tactic(auto, unfolding(swc_ecma_parser_reader::specs::Expressions::operators_expr))]
+pub(crate) fn operators_expr<
+    P: Source,
+    T: BuildsExpr + BuildsCall + BuildsObject + BuildsOperator,
+    S: Fn(&MakerOf<T>, &mut P, usize, Position) -> PResult<T::Stmt>,
+    E: Fn(&MakerOf<T>, &mut P, usize, Reading) -> PResult<Cover<T::Expr>>,
+    N: Fn(&MakerOf<T>, &mut P, usize, Part) -> PResult<T::Pat>,
+>(g: &Grammar<S, E, N>, t: &MakerOf<T>, p: &mut P) -> PResult<T::Expr>
+    requires { Nests P.seen T.expr_of T.pat_of T.stmt_of g.now.depth (S.pre g.now.stmt) (S.post g.now.stmt) (E.pre g.now.expr) (E.post g.now.expr) (N.pre g.now.pat) (N.post g.now.pat) }
+    ensures { GivesAs (T.expr_of) (exprs.operators_expr (exprs.expr g.now.depth) (exprs.cover g.now.depth) (P.seen p.old)) result (P.seen p.new) }
+{
+    let is_async = p.begins_async_call();
+    let start = p.span();
+    let x = binary_expr(g, t, p, 1)?;
+    behind_operators(g, t, p, is_async, start, x)
+}
+
+/// The rest of a sequence, behind what was read from a place on: section 13.16.
+#[tactic(auto, unfolding(swc_ecma_parser_reader::specs::Expressions::sequence_from), using(swc_ecma_parser_reader::proofs::expressions::Loops::sequence_done, swc_ecma_parser_reader::proofs::expressions::Loops::sequence_more, swc_ecma_parser_reader::proofs::expressions::Loops::sequence_err, swc_ecma_parser_reader::proofs::expressions::Loops::assignment_shorter, swc_ecma_parser_reader::proofs::expressions::Loops::sequence_shorter, std::proofs::lemmas::List::map_push))]
+fn sequence_from<
+    P: Source,
+    T: BuildsExpr + BuildsCall + BuildsObject + BuildsOperator + BuildsPattern,
+    S: Fn(&MakerOf<T>, &mut P, usize, Position) -> PResult<T::Stmt>,
+    E: Fn(&MakerOf<T>, &mut P, usize, Reading) -> PResult<Cover<T::Expr>>,
+    N: Fn(&MakerOf<T>, &mut P, usize, Part) -> PResult<T::Pat>,
+>(g: &Grammar<S, E, N>, t: &MakerOf<T>, p: &mut P, start: Span, x: T::Expr) -> PResult<T::Expr>
+    requires { Nests P.seen T.expr_of T.pat_of T.stmt_of g.now.depth (S.pre g.now.stmt) (S.post g.now.stmt) (E.pre g.now.expr) (E.post g.now.expr) (N.pre g.now.pat) (N.post g.now.pat) }
+    ensures { GivesAs (T.expr_of) (exprs.sequence_from (exprs.expr g.now.depth) (exprs.cover g.now.depth) start (T.expr_of x) (P.seen p.old)) result (P.seen p.new) }
+{
+    let mut found = Vec::new(t.alloc);
+    pushed(p, &mut found, x)?;
+    'sequence: loop {
+        p.skip()?;
+        let part = assignment_expr(g, t, p)?;
+        pushed(p, &mut found, part)?;
+        if !p.sees(TokenKind::Comma) {
+            break 'sequence;
+        }
+    }
+    let span = since(p, start);
+    grown(p, T::seq(t.alloc, span, found))
+}
+
+/// An expression: section 13.16.
+#[tactic(auto, unfolding(swc_ecma_parser_reader::specs::Expressions::expression_expr))]
+fn expression_expr<
+    P: Source,
+    T: BuildsExpr + BuildsCall + BuildsObject + BuildsOperator + BuildsPattern,
+    S: Fn(&MakerOf<T>, &mut P, usize, Position) -> PResult<T::Stmt>,
+    E: Fn(&MakerOf<T>, &mut P, usize, Reading) -> PResult<Cover<T::Expr>>,
+    N: Fn(&MakerOf<T>, &mut P, usize, Part) -> PResult<T::Pat>,
+>(g: &Grammar<S, E, N>, t: &MakerOf<T>, p: &mut P) -> PResult<T::Expr>
+    requires { Nests P.seen T.expr_of T.pat_of T.stmt_of g.now.depth (S.pre g.now.stmt) (S.post g.now.stmt) (E.pre g.now.expr) (E.post g.now.expr) (N.pre g.now.pat) (N.post g.now.pat) }
+    ensures { GivesAs (T.expr_of) (exprs.expression_expr (exprs.expr g.now.depth) (exprs.cover g.now.depth) (P.seen p.old)) result (P.seen p.new) }
+{
+    let start = p.span();
+    let x = assignment_expr(g, t, p)?;
+    if p.sees(TokenKind::Comma) {
+        return sequence_from(g, t, p, start, x);
+    }
+    Ok(x)
+}
+
+/// An expression of a class.
+#[tactic(auto, unfolding(swc_ecma_parser_reader::specs::Expressions::expr_level))]
+pub fn expr_level<
+    P: Source,
+    T: BuildsExpr + BuildsCall + BuildsObject + BuildsOperator + BuildsPattern,
+    S: Fn(&MakerOf<T>, &mut P, usize, Position) -> PResult<T::Stmt>,
+    E: Fn(&MakerOf<T>, &mut P, usize, Reading) -> PResult<Cover<T::Expr>>,
+    N: Fn(&MakerOf<T>, &mut P, usize, Part) -> PResult<T::Pat>,
+>(g: &Grammar<S, E, N>, t: &MakerOf<T>, p: &mut P, class: Class) -> PResult<T::Expr>
+    requires { Nests P.seen T.expr_of T.pat_of T.stmt_of g.now.depth (S.pre g.now.stmt) (S.post g.now.stmt) (E.pre g.now.expr) (E.post g.now.expr) (N.pre g.now.pat) (N.post g.now.pat) }
+    ensures { GivesAs (T.expr_of) (exprs.expr_level (exprs.expr g.now.depth) (exprs.cover g.now.depth) (class_of class) (P.seen p.old)) result (P.seen p.new) }
+{
+    match class {
+        Class::Expression => expression_expr(g, t, p),
+        Class::Assignment => assignment_expr(g, t, p),
+        Class::Operator(n) => binary_expr(g, t, p, n),
+        Class::Unary => unary_expr(g, t, p),
+        Class::LeftSide => left_expr(g, t, p),
+        Class::Callee => left(g, t, p, false),
+    }
+}
