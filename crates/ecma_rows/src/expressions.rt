@@ -122,6 +122,36 @@ fn bindings(rt: HostRuntime) -> Result<(), Fail> {
     Ok(())
 }
 
+const SUPERS: &str = "super.a → Script 0..7, Expr 0..7 → SuperPropExpr 0..7
+super[b](c) → Script 0..11, Expr 0..11 → CallExpr 0..11, SuperPropExpr 0..8
+super(a, b).c → Script 0..13, Expr 0..13 → MemberExpr 0..13, CallExpr 0..11, Super 0..5
+new super.a(b) → Script 0..14, Expr 0..14 → NewExpr 0..14, SuperPropExpr 4..11
+super.a = b → Script 0..11, Expr 0..11 → AssignExpr 0..11, SuperPropExpr 0..7
+a = super; → refused 4..9 InvalidSuper
+super + a → refused 0..5 InvalidSuper
+new super(a) → refused 4..9 InvalidSuper
+super.#a → refused 6..7 Unexpected";
+
+#[test]
+fn supers(rt: HostRuntime) -> Result<(), Fail> {
+    assert_eq!(rt; report(rt.alloc(), SUPERS, 1000)?.as_str(), "9 rows");
+    Ok(())
+}
+
+const PRIVATE_NAMES: &str = "a.#b → Script 0..4, Expr 0..4 → MemberExpr 0..4, PrivateName 2..4
+a.b.#if(c) → Script 0..10, Expr 0..10 → CallExpr 0..10, MemberExpr 0..7, MemberExpr 0..3, PrivateName 4..7
+a.#b = c → Script 0..8, Expr 0..8 → AssignExpr 0..8, MemberExpr 0..4
+new a.#b(c) → Script 0..11, Expr 0..11 → NewExpr 0..11, MemberExpr 4..8
+a.# b → refused 4..5 Unexpected
+a.#1 → refused 3..4 Unexpected
+#a → refused 0..1 Unexpected";
+
+#[test]
+fn private_names(rt: HostRuntime) -> Result<(), Fail> {
+    assert_eq!(rt; report(rt.alloc(), PRIVATE_NAMES, 1000)?.as_str(), "7 rows");
+    Ok(())
+}
+
 const IMPORTS: &str =
     "a = import(b, c) → Script 0..16, Expr 0..16 → AssignExpr 0..16, CallExpr 4..16, Import 4..10, Ident 11..12 b, Ident 14..15 c
 import() → Script 0..8, Expr 0..8 → CallExpr 0..8, Import 0..6

@@ -7,7 +7,9 @@ use std::test::Fail;
 use swc_ecma_parser::Parser;
 use swc_ecma_parser::common::{BytePos, Comment, CommentKind, Span};
 use swc_ecma_parser::error::{Error, PResult, SyntaxError};
-use swc_ecma_parser::input::{Capturing, CommentSource, EsSyntax, Syntax, Tokens, spans_ordered};
+use swc_ecma_parser::input::{
+    Capturing, CommentSource, Context, EsSyntax, Syntax, Tokens, spans_ordered,
+};
 use swc_ecma_parser::lexer::{Lexer, StringInput};
 use swc_ecma_parser::token::{Token, TokenAndSpan};
 
@@ -217,5 +219,25 @@ fn attributed(alloc: Global, input: StringInput<'_>) -> Result<Shown, AllocError
 fn a_comma_may_end_the_arguments_of_import(rt: HostRuntime) -> Result<(), Fail> {
     let found = attributed(rt.alloc(), input("import(a, b,)")?)?;
     assert_eq!(rt; found.lines.as_str(), "Script 0..13\n  Expr 0..13\n");
+    Ok(())
+}
+
+/// What a text parses to in code that can be a module's.
+fn undecided(alloc: Global, input: StringInput<'_>) -> Result<Shown, AllocError> {
+    let mut lexer = lexer(alloc, input);
+    lexer.set_ctx(Context {
+        can_be_module: true,
+        ..Context::default()
+    });
+    show(alloc, &mut Parser::new_from(alloc, lexer))
+}
+
+#[test]
+fn import_meta_is_no_fault_where_code_can_be_a_modules(rt: HostRuntime) -> Result<(), Fail> {
+    let alloc = rt.alloc();
+    let found = undecided(alloc, input("const_foo = import.meta.url;")?)?;
+    assert_eq!(rt; found.lines.as_str(), "Script 0..28\n  Expr 0..28\n");
+    let found = undecided(alloc, input("new import.meta")?)?;
+    assert_eq!(rt; found.lines.as_str(), "refused 4..10 Unexpected\n");
     Ok(())
 }

@@ -139,7 +139,7 @@ impl<I: Tokens> Parser<I> {
         ensures left { (I.seen result).left ≡ drop 2 self.state.at.left }
         ensures context { (I.seen result).context ≡ self.state.code.flags }
         ensures faults { faults_of (I.seen result).recorded ≡ self.state.faults }
-        ensures held_back { faults_of (I.seen result).held_back ≡ self.state.held_back }
+        ensures held_back { faults_of (I.seen result).held_back ≡ self.state.notes.held_back }
     {
         let Parser {
             alloc: _,

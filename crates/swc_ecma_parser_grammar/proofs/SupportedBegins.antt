@@ -116,7 +116,7 @@ module _ (In : Goal → Type 0) (k : Code) where
 
   left_side_opens : {x : Tree} {c d : Place} → LeftSideRule In k x c d → supported x ≡ true → opens (kind_at c) ≡ true
   left_side_opens {x = x} {c = c} {d = d} (primary_rule r) h = primary_opens x c d r h
-  left_side_opens {x = x} (import_meta_rule i j w n m e) h = refuted x (ap supported e) h
+  left_side_opens {c = c} (import_meta_rule i j w n m e) h = kind_opens c kind.Import i refl
   left_side_opens {x = x} {c = c} {d = d} (member_rule y p m r a e) h =
       left_side_opens r (and_yes (supported y) _ (supported_as x (tree.member (spanned c d) y p) e h)).0
   left_side_opens {c = c} (super_property_rule p i a j e) h = kind_opens c kind.Super i refl

@@ -23,7 +23,8 @@ abbrev mutual
   supported (tree.key_value_prop s key value) = is_supported_key key && supported value
   supported (tree.paren s e) = supported e
   supported (tree.this s) = true
-  -- accesses, calls, `import(..)` and `new`: section 13.3
+  -- accesses, calls, `import(..)`, `import.meta` and `new`: section 13.3
+  supported (tree.meta_prop s kind) = true
   supported (tree.member s obj prop) = supported obj && is_supported_property prop
   supported (tree.super_prop s word prop) = is_supported_property prop
   supported (tree.call s f args) = supported f && supported args

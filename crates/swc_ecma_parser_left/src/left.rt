@@ -50,8 +50,8 @@ fn this<P: Source, T: BuildsOperator>(alloc: Global, p: &mut P) -> PResult<T::Ex
     grown(p, T::this(alloc, span))
 }
 
-/// `import.meta` from its word on: a fault in code that cannot be a module's; where it can be it is not read yet.
-#[tactic(auto, unfolding(swc_ecma_parser_reader::specs::Expressions::import_meta))]
+/// `import.meta` from its word on, which makes a program a module: a fault in code that cannot be a module's.
+#[tactic(auto, unfolding(swc_ecma_parser_reader::specs::Expressions::import_meta, swc_ecma_parser_reader::specs::Expressions::meta_fault))]
 fn import_meta<P: Source, T: BuildsOperator>(
     alloc: Global,
     p: &mut P,
@@ -59,13 +59,16 @@ fn import_meta<P: Source, T: BuildsOperator>(
 ) -> PResult<T::Expr>
     ensures { GivesAs T.expr_of (exprs.import_meta start (P.seen p.old)) result (P.seen p.new) }
 {
-    if p.word_at("meta") && !p.flags().can_be_module {
-        p.skip()?;
-        let span = since(p, start);
-        p.fault(SyntaxError::ImportMetaInScript, span)?;
-        return grown(p, T::meta_prop(alloc, span, MetaPropKind::ImportMeta));
+    if !p.word_at("meta") {
+        return Err(p.wanted(Wanted::Expression));
     }
-    Err(p.wanted(Wanted::Expression))
+    p.skip()?;
+    let span = since(p, start);
+    p.note_module_item();
+    if !p.flags().can_be_module {
+        p.fault(SyntaxError::ImportMetaInScript, span)?;
+    }
+    grown(p, T::meta_prop(alloc, span, MetaPropKind::ImportMeta))
 }
 
 /// The expression that a literal is.

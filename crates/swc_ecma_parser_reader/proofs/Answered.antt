@@ -4,16 +4,16 @@ use Rattle.swc_ecma_parser_error.specs.Kind.{Fault}
 use Rattle.swc_ecma_parser_input.specs.Place.{Place}
 use Rattle.swc_ecma_parser_model.specs.Tree.{Tree}
 use Rattle.swc_ecma_parser_grammar.specs.Names.{Code}
-use Rattle.swc_ecma_parser_grammar.specs.Notes.{notes}
 use Rattle.swc_ecma_parser_grammar.specs.Walk.{env_of, walk}
+use Rattle.swc_ecma_parser_reader.specs.Notes.{Notes, ◌⊕◌, notes_of}
 use Rattle.swc_ecma_parser_reader.specs.State.{Scope, State, Outcome, Reader}
 
-abbrev pub st : Place → Code → Scope → List Fault → List Fault → State
-st c k w f h = record { at = c; code = k; scope = w; faults = f; held_back = h }
+abbrev pub st : Place → Code → Scope → List Fault → Notes → State
+st c k w f h = record { at = c; code = k; scope = w; faults = f; notes = h }
 
 -- the answer of a reader that is complete: the tree, its end, the faults of its walk, and its notes held back
 abbrev pub Reads : Reader Tree → Code → Tree → Place → Place → Type 0
-Reads reader k x c d = (w : Scope) (f h : List Fault) → reader (st c k w f h) ≡ Ok (x, st d k w (f ++ walk (env_of k w.labels) x) (h ++ notes x))
+Reads reader k x c d = (w : Scope) (f : List Fault) (h : Notes) → reader (st c k w f h) ≡ Ok (x, st d k w (f ++ walk (env_of k w.labels) x) (h ⊕ notes_of x))
 
 -- ---- answers of which something holds
 
@@ -29,4 +29,4 @@ gets_also P Q o t r g = record { value = r.value; holds = g r.value r.holds; is 
 
 -- a reader gets what this holds of, with the walk and the notes of a tree
 abbrev pub ReadsAs : {A : Type 0} → (A → Type 0) → Reader A → Code → Tree → Place → Place → Type 0
-ReadsAs P reader k x c d = (w : Scope) (f h : List Fault) → Gets P (reader (st c k w f h)) (st d k w (f ++ walk (env_of k w.labels) x) (h ++ notes x))
+ReadsAs P reader k x c d = (w : Scope) (f : List Fault) (h : Notes) → Gets P (reader (st c k w f h)) (st d k w (f ++ walk (env_of k w.labels) x) (h ⊕ notes_of x))

@@ -9,9 +9,10 @@ use Rattle.swc_ecma_parser_grammar.specs.Looks.{kind_at}
 use Rattle.swc_ecma_parser_grammar.specs.Names.{Code}
 use Rattle.swc_ecma_parser_grammar.specs.Entries.{has_error_token}
 use Rattle.swc_ecma_parser_grammar.specs.Walk.{env_of, walk, is_tabled, is_dropping, tabled, drops}
-use Rattle.swc_ecma_parser_grammar.specs.Notes.{notes}
+use Rattle.swc_ecma_parser_reader.specs.Notes.{Notes, no_notes, ◌⊕◌, notes_of}
 use Rattle.swc_ecma_parser_reader.specs.State.{State, Reader, moved, coded, flagged, within}
 use Rattle.swc_ecma_parser_reader.specs.Limits.{has_out_of_memory_token}
+use Rattle.swc_ecma_parser_reader.proofs.Notes.{notes_nil, notes_assoc}
 use Rattle.swc_ecma_parser_reader.proofs.Meets.{Meets, meets_then}
 use Rattle.swc_ecma_parser_reader.proofs.Errors.{Spares, spares_here, spares_after, after_keeps, is_error}
 
@@ -59,12 +60,12 @@ no_faults k labels = []
 abbrev pub same : Code → Code
 same k = k
 
-pub record Sound (next : Code → Code) (w : Walk) (ns : List Fault) (P : Code → Place → Place → Type 0) (s t : State) : Type 0 where
+pub record Sound (next : Code → Code) (w : Walk) (ns : Notes) (P : Code → Place → Place → Type 0) (s t : State) : Type 0 where
   pub code : t.code ≡ next s.code
   pub scope : t.scope ≡ s.scope
   pub added : List Fault
   pub faults : t.faults ≡ s.faults ++ added
-  pub held_back : added ≡ [] → t.held_back ≡ s.held_back ++ ns
+  pub notes : added ≡ [] → t.notes ≡ s.notes ⊕ ns
   pub walked : has_error_token s.at.left ≡ false → drops added ≡ false → tabled added ≡ w s.code s.scope.labels
   pub keeps : has_error_token s.at.left ≡ false → has_error_token t.at.left ≡ false
   -- nothing that is read without a fault holds an error token, and no answer has taken a token that memory ran out for
@@ -73,14 +74,14 @@ pub record Sound (next : Code → Code) (w : Walk) (ns : List Fault) (P : Code �
   pub reads : added ≡ [] → P s.code s.at t.at
 
 -- one behind another
-pub sound_then : {f g : Code → Code} {w v : Walk} {ns ms : List Fault} {P Q : Code → Place → Place → Type 0} {s m t : State} → Sound f w ns P s m → Sound g v ms Q m t
-    → Sound (λ k. g (f k)) (λ k l. w k l ++ v (f k) l) (ns ++ ms) (λ k c d. (i : Place) × P k c i × Q (f k) i d) s t
+pub sound_then : {f g : Code → Code} {w v : Walk} {ns ms : Notes} {P Q : Code → Place → Place → Type 0} {s m t : State} → Sound f w ns P s m → Sound g v ms Q m t
+    → Sound (λ k. g (f k)) (λ k l. w k l ++ v (f k) l) (ns ⊕ ms) (λ k c d. (i : Place) × P k c i × Q (f k) i d) s t
 sound_then {f = f} {g = g} {w = w} {v = v} {ns = ns} {ms = ms} {Q = Q} {s = s} {m = m} {t = t} p q = record {
   code = q.code ∙ ap g p.code;
   scope = q.scope ∙ p.scope;
   added = p.added ++ q.added;
   faults = q.faults ∙ ap (λ z. z ++ q.added) p.faults ∙ append_assoc s.faults p.added q.added;
-  held_back = λ e. let h = nil-split p.added q.added e in q.held_back h.1 ∙ ap (λ z. z ++ ms) (p.held_back h.0) ∙ append_assoc s.held_back ns ms;
+  notes = λ e. let h = nil-split p.added q.added e in q.notes h.1 ∙ ap (λ z. z ⊕ ms) (p.notes h.0) ∙ notes_assoc s.notes ns ms;
   walked = λ h d. let e = drops-split p.added q.added d in
       tabled-append p.added q.added ∙ ap (λ z. z ++ tabled q.added) (p.walked h e.0)
       ∙ ap (λ z. w s.code s.scope.labels ++ z) (q.walked (p.keeps h) e.1 ∙ ap (λ z. v z m.scope.labels) p.code ∙ ap (λ z. v (f s.code) z.labels) p.scope);
@@ -91,13 +92,13 @@ sound_then {f = f} {g = g} {w = w} {v = v} {ns = ns} {ms = ms} {Q = Q} {s = s} {
 }
 
 -- nothing is added
-pub sound_plain : {P : Code → Place → Place → Type 0} (s : State) (d : Place) → Spares s.at d → P s.code s.at d → Sound same no_faults [] P s (record s { at = d })
+pub sound_plain : {P : Code → Place → Place → Type 0} (s : State) (d : Place) → Spares s.at d → P s.code s.at d → Sound same no_faults no_notes P s (record s { at = d })
 sound_plain s d p r = record {
   code = refl;
   scope = refl;
   added = [];
   faults = sym (append-nil s.faults);
-  held_back = λ e. sym (append-nil s.held_back);
+  notes = λ e. sym (notes_nil s.notes);
   walked = λ h d. refl;
   keeps = p.keeps;
   spares = λ e h. p.spares h;
@@ -106,22 +107,22 @@ sound_plain s d p r = record {
 }
 
 -- a token of a kind that is no error's is taken
-pub sound_moved : {P : Code → Place → Place → Type 0} {j : TokenKind} (s : State) → kind_at s.at ≡ j → is_error j ≡ false → P s.code s.at (after s.at) → Sound same no_faults [] P s (moved s)
+pub sound_moved : {P : Code → Place → Place → Type 0} {j : TokenKind} (s : State) → kind_at s.at ≡ j → is_error j ≡ false → P s.code s.at (after s.at) → Sound same no_faults no_notes P s (moved s)
 sound_moved s e h r = sound_plain s (after s.at) (spares_after s.at e h) r
 
 -- nothing is taken
-pub sound_here : {P : Code → Place → Place → Type 0} (s : State) → P s.code s.at s.at → Sound same no_faults [] P s s
+pub sound_here : {P : Code → Place → Place → Type 0} (s : State) → P s.code s.at s.at → Sound same no_faults no_notes P s s
 sound_here s r = sound_plain s s.at (spares_here s.at) r
 
 -- under another rule, with the same walk and notes
-pub sound_as : {f g : Code → Code} {w v : Walk} {ns ms : List Fault} {P Q : Code → Place → Place → Type 0} (s t : State) → f s.code ≡ g s.code
+pub sound_as : {f g : Code → Code} {w v : Walk} {ns ms : Notes} {P Q : Code → Place → Place → Type 0} (s t : State) → f s.code ≡ g s.code
     → w s.code s.scope.labels ≡ v s.code s.scope.labels → ns ≡ ms → (P s.code s.at t.at → Q s.code s.at t.at) → Sound f w ns P s t → Sound g v ms Q s t
 sound_as s t k e n r p = record {
   code = p.code ∙ k;
   scope = p.scope;
   added = p.added;
   faults = p.faults;
-  held_back = λ h. p.held_back h ∙ ap (λ z. s.held_back ++ z) n;
+  notes = λ h. p.notes h ∙ ap (λ z. s.notes ⊕ z) n;
   walked = λ h d. p.walked h d ∙ e;
   keeps = p.keeps;
   spares = p.spares;
@@ -130,13 +131,13 @@ sound_as s t k e n r p = record {
 }
 
 -- with notes that are the same where it was read
-pub sound_notes : {f : Code → Code} {w : Walk} {ns ms : List Fault} {P : Code → Place → Place → Type 0} (s t : State) → (P s.code s.at t.at → ns ≡ ms) → Sound f w ns P s t → Sound f w ms P s t
+pub sound_notes : {f : Code → Code} {w : Walk} {ns ms : Notes} {P : Code → Place → Place → Type 0} (s t : State) → (P s.code s.at t.at → ns ≡ ms) → Sound f w ns P s t → Sound f w ms P s t
 sound_notes s t n p = record {
   code = p.code;
   scope = p.scope;
   added = p.added;
   faults = p.faults;
-  held_back = λ h. p.held_back h ∙ ap (λ z. s.held_back ++ z) (n (p.reads h));
+  notes = λ h. p.notes h ∙ ap (λ z. s.notes ⊕ z) (n (p.reads h));
   walked = p.walked;
   keeps = p.keeps;
   spares = p.spares;
@@ -145,14 +146,14 @@ sound_notes s t n p = record {
 }
 
 -- from the place before a token of a kind that is no error's
-pub sound_after : {f : Code → Code} {w v : Walk} {ns ms : List Fault} {P Q : Code → Place → Place → Type 0} {j : TokenKind} (s t : State) → kind_at s.at ≡ j → is_error j ≡ false
+pub sound_after : {f : Code → Code} {w v : Walk} {ns ms : Notes} {P Q : Code → Place → Place → Type 0} {j : TokenKind} (s t : State) → kind_at s.at ≡ j → is_error j ≡ false
     → w s.code s.scope.labels ≡ v s.code s.scope.labels → ns ≡ ms → (P s.code (after s.at) t.at → Q s.code s.at t.at) → Sound f w ns P (moved s) t → Sound f v ms Q s t
 sound_after s t k h e n r p = record {
   code = p.code;
   scope = p.scope;
   added = p.added;
   faults = p.faults;
-  held_back = λ h. p.held_back h ∙ ap (λ z. s.held_back ++ z) n;
+  notes = λ h. p.notes h ∙ ap (λ z. s.notes ⊕ z) n;
   walked = λ h d. p.walked (after_keeps s.at h) d ∙ e;
   keeps = λ h. p.keeps (after_keeps s.at h);
   spares = λ i g. (spares_after s.at k h).spares (p.spares i g);
@@ -161,19 +162,19 @@ sound_after s t k h e n r p = record {
 }
 
 -- with a step behind it that has no faults and no notes of its own
-pub sound_more : {f g : Code → Code} {w : Walk} {ns : List Fault} {P Q : Code → Place → Place → Type 0} {s m t : State} → Sound f w ns P s m → Sound g no_faults [] Q m t
+pub sound_more : {f g : Code → Code} {w : Walk} {ns : Notes} {P Q : Code → Place → Place → Type 0} {s m t : State} → Sound f w ns P s m → Sound g no_faults no_notes Q m t
     → Sound (λ k. g (f k)) w ns (λ k c d. (i : Place) × P k c i × Q (f k) i d) s t
-sound_more {f = f} {g = g} {w = w} {ns = ns} {s = s} {t = t} p q = sound_as s t refl (append-nil (w s.code s.scope.labels)) (append-nil ns) (λ h. h) (sound_then p q)
+sound_more {f = f} {g = g} {w = w} {ns = ns} {s = s} {t = t} p q = sound_as s t refl (append-nil (w s.code s.scope.labels)) (notes_nil ns) (λ h. h) (sound_then p q)
 
 -- code that is set afterwards
-pub sound_coded : {f g : Code → Code} {w : Walk} {ns : List Fault} {P : Code → Place → Place → Type 0} (s t : State) (k : Code) → k ≡ g s.code → Sound f w ns P s t
+pub sound_coded : {f g : Code → Code} {w : Walk} {ns : Notes} {P : Code → Place → Place → Type 0} (s t : State) (k : Code) → k ≡ g s.code → Sound f w ns P s t
     → Sound g w ns P s (coded k t)
 sound_coded s t k e p = record {
   code = e;
   scope = p.scope;
   added = p.added;
   faults = p.faults;
-  held_back = p.held_back;
+  notes = p.notes;
   walked = p.walked;
   keeps = p.keeps;
   spares = p.spares;
@@ -186,14 +187,14 @@ pub flags_back : (k j : Code) → j.setting ≡ k.setting → ◌≡◌ {A = Cod
 flags_back k j e = λ i. record { flags = k.flags; setting = e i }
 
 -- under other flags
-pub sound_under : {w : Walk} {ns : List Fault} {P : Code → Place → Place → Type 0} (change : Code → Code) → ((k : Code) → (change k).setting ≡ k.setting) → (s t : State)
+pub sound_under : {w : Walk} {ns : Notes} {P : Code → Place → Place → Type 0} (change : Code → Code) → ((k : Code) → (change k).setting ≡ k.setting) → (s t : State)
     → Sound same w ns P (coded (change s.code) s) t → Sound same (λ k l. w (change k) l) ns (λ k. P (change k)) s (flagged s.code t)
 sound_under change keeps s t p = record {
   code = flags_back s.code t.code (ap (λ k. k.setting) p.code ∙ keeps s.code);
   scope = p.scope;
   added = p.added;
   faults = p.faults;
-  held_back = p.held_back;
+  notes = p.notes;
   walked = p.walked;
   keeps = p.keeps;
   spares = p.spares;
@@ -202,7 +203,7 @@ sound_under change keeps s t p = record {
 }
 
 -- a reader under other flags
-pub within_sound : {A : Type 0} (w : A → Walk) (ns : A → List Fault) (P : A → Code → Place → Place → Type 0) (change : Code → Code)
+pub within_sound : {A : Type 0} (w : A → Walk) (ns : A → Notes) (P : A → Code → Place → Place → Type 0) (change : Code → Code)
     → ((k : Code) → (change k).setting ≡ k.setting) → (p : Reader A) (s : State)
     → Meets (λ x t. Sound same (w x) (ns x) (P x) (coded (change s.code) s) t) (p (coded (change s.code) s))
     → Meets (λ x t. Sound same (λ k l. w x (change k) l) (ns x) (λ k. P x (change k)) s t) (within change p s)
@@ -212,8 +213,8 @@ within_sound w ns P change keeps p s h = meets_then _ (p (coded (change s.code) 
 
 -- a tree that a rule reads, with its walk and its notes
 abbrev pub SoundTree : (Code → Tree → Place → Place → Type 0) → State → Tree → State → Type 0
-SoundTree Reads s x t = Sound same (λ k l. walk (env_of k l) x) (notes x) (λ k. Reads k x) s t
+SoundTree Reads s x t = Sound same (λ k l. walk (env_of k l) x) (notes_of x) (λ k. Reads k x) s t
 
 -- a step of no faults and no notes
 abbrev pub SoundStep : (Code → Place → Place → Type 0) → State → State → Type 0
-SoundStep Reads s t = Sound same no_faults [] Reads s t
+SoundStep Reads s t = Sound same no_faults no_notes Reads s t

@@ -25,13 +25,16 @@ use Rattle.swc_ecma_parser_grammar.specs.ReadsSupported.{ReadsClass, ReadsPat, R
 use Rattle.swc_ecma_parser_grammar.specs.language.Goals.{expression, assignment}
 use Rattle.swc_ecma_parser_grammar.specs.Entries.{script_code, ReadsShebang, some_shebang, no_shebang, ReadsScript}
 use Rattle.swc_ecma_parser_grammar.specs.Notes.{notes, all_notes, statement_note}
+use Rattle.swc_ecma_parser_grammar.specs.language.Noted.{has_meta}
 use Rattle.swc_ecma_parser_grammar.specs.Walk as walks_of
 use Rattle.swc_ecma_parser_grammar.specs.Walk.{Env, env_of, walk, walks}
+use Rattle.swc_ecma_parser_reader.specs.Notes.{Notes, no_notes, held, ◌⊕◌, notes_of, all_notes_of}
 use Rattle.swc_ecma_parser_reader.specs.State.{Scope, State, Outcome, Reader, noted, end, fault_at, loop}
 use Rattle.swc_ecma_parser_reader.specs.Expressions.{expr}
 use Rattle.swc_ecma_parser_reader.specs.Patterns.{pattern}
 use Rattle.swc_ecma_parser_reader.specs.Reader.{empty, debugger, initialized, declarator, declarators_turn, declarators, var, closes, at_end, close, directs, items_turn, items, block, note_statement, no_label, expr_stmt, expr_stmt_at, optional_end, import_stmt, import_stmt_at, stmt_level, stmt, shebang_of, shebang_in, shebang, script_body, script}
 use Rattle.swc_ecma_parser_reader.specs.Entry.{script_left}
+use Rattle.swc_ecma_parser_reader.proofs.Notes.{or_nil, or_assoc}
 use Rattle.swc_ecma_parser_reader.proofs.Answered.{st, Reads}
 use Rattle.swc_ecma_parser_reader.proofs.expressions.CompleteKinds.{seen}
 use Rattle.swc_ecma_parser_reader.proofs.expressions.Complete.{expr_reads}
@@ -42,18 +45,18 @@ use Rattle.swc_ecma_parser_reader.proofs.Opens.{opened, no_block_or_import, impo
 
 -- ---- fixed tokens and ends
 
-ends_read : (missing : Kind) (c d : Place) (k : Code) (w : Scope) (f h : List Fault) → Ends c d → end missing (st c k w f h) ≡ Ok (tt, st d k w f h)
+ends_read : (missing : Kind) (c d : Place) (k : Code) (w : Scope) (f : List Fault) (h : Notes) → Ends c d → end missing (st c k w f h) ≡ Ok (tt, st d k w f h)
 unfolding end
 ends_read missing c d k w f h (by_semicolon e g) = rw (seen c kind.Semi e, g) refl
 ends_read missing c d k w f h (by_insertion e i g) = rw (e, i, g) refl
 
 -- one that nothing demands
-optional_end_reads : (c d : Place) (k : Code) (w : Scope) (f h : List Fault) → OptionalEnds c d → optional_end (st c k w f h) ≡ Ok (tt, st d k w f h)
+optional_end_reads : (c d : Place) (k : Code) (w : Scope) (f : List Fault) (h : Notes) → OptionalEnds c d → optional_end (st c k w f h) ≡ Ok (tt, st d k w f h)
 unfolding optional_end
 optional_end_reads c d k w f h (by_a_semicolon e g) = rw (seen c kind.Semi e, g) refl
 optional_end_reads c d k w f h (by_nothing e g) = rw (e, g) refl
 
-close_reads : (c : Place) (k : Code) (w : Scope) (f h : List Fault) → kind_at c ≡ kind.RBrace → close (st c k w f h) ≡ Ok (tt, st (after c) k w f h)
+close_reads : (c : Place) (k : Code) (w : Scope) (f : List Fault) (h : Notes) → kind_at c ≡ kind.RBrace → close (st c k w f h) ≡ Ok (tt, st (after c) k w f h)
 unfolding close
 close_reads c k w f h e = rw (seen c kind.RBrace e) refl
 
@@ -61,43 +64,44 @@ close_reads c k w f h e = rw (seen c kind.RBrace e) refl
 
 empty_reads : (k : Code) (x : Tree) (c d : Place) → d ≡ after c → x ≡ tree.empty (spanned c d) → Reads empty k x c d
 unfolding empty
-empty_reads k x c d e g w f h = rw (g, e, append-nil f, append-nil h) refl
+empty_reads k x c d e g w f h = rw (g, e, append-nil f, append-nil h.held_back, or_nil h.found_module_item) refl
 
 debugger_reads : (k : Code) (x : Tree) (c d : Place) → Ends (after c) d → x ≡ tree.debugger (spanned c d) → Reads debugger k x c d
 unfolding debugger
-debugger_reads k x c d e g w f h = rw (ends_read faults.Expected (after c) d k w f h e, g, append-nil f, append-nil h) refl
+debugger_reads k x c d e g w f h = rw (ends_read faults.Expected (after c) d k w f h e, g, append-nil f, append-nil h.held_back, or_nil h.found_module_item) refl
 
 -- ---- declarators
 
 module _ (n : ℕ) where
   declarator_reads : (k : Code) (x : Tree) (c d : Place) → DeclaratorRule (ReadsClass n assignment) (ReadsPat n) k x c d → Reads (declarator (expr n) (pattern n)) k x c d
   unfolding declarator initialized spanned
-  declarator_reads k x c d (plain_rule p r e b g) w f h = rw (pattern_reads n k p c d r w f h, e, b, g, append-nil (walk (env_of k w.labels) p), append-nil (notes p)) refl
+  declarator_reads k x c d (plain_rule p r e b g) w f h = rw (pattern_reads n k p c d r w f h, e, b, g, append-nil (walk (env_of k w.labels) p), append-nil (notes p), or_nil (has_meta p)) refl
   declarator_reads k x c d (initialized_rule p y m r e s g) w f h =
       rw (
         pattern_reads n k p c m r w f h,
         seen m kind.Assign e,
-        expr_reads n assignment k y (after m) d s w (f ++ walk (env_of k w.labels) p) (h ++ notes p),
+        expr_reads n assignment k y (after m) d s w (f ++ walk (env_of k w.labels) p) (h ⊕ notes_of p),
         g,
         append_assoc f (walk (env_of k w.labels) p) (walk (env_of k w.labels) y),
-        append_assoc h (notes p) (notes y),
+        append_assoc h.held_back (notes p) (notes y),
+        or_assoc h.found_module_item (has_meta p) (has_meta y),
       ) refl
 
-  many_declarators : (xs found : List Tree) (k : Code) (c d : Place) (w : Scope) (f h : List Fault) → ReadsSeparated (DeclaratorRule (ReadsClass n assignment) (ReadsPat n) k) xs c d
-      → loop (declarators_turn (expr n) (pattern n)) found (st c k w f h) ≡ Ok (found ++ xs, st d k w (f ++ walks (env_of k w.labels) false (trees xs)) (h ++ all_notes (trees xs)))
+  many_declarators : (xs found : List Tree) (k : Code) (c d : Place) (w : Scope) (f : List Fault) (h : Notes) → ReadsSeparated (DeclaratorRule (ReadsClass n assignment) (ReadsPat n) k) xs c d
+      → loop (declarators_turn (expr n) (pattern n)) found (st c k w f h) ≡ Ok (found ++ xs, st d k w (f ++ walks (env_of k w.labels) false (trees xs)) (h ⊕ all_notes_of (trees xs)))
   many_declarators [] found k c d w f h r = absurd r
   many_declarators (x ∷ []) found k c d w f h r =
-      rw (append-nil (walk (env_of k w.labels) x), append-nil (notes x))
-      (declarators_done n found (st c k w f h) x (st d k w (f ++ walk (env_of k w.labels) x) (h ++ notes x)) (declarator_reads k x c d r.0 w f h) r.1)
+      rw (append-nil (walk (env_of k w.labels) x), append-nil (notes x), or_nil (has_meta x))
+      (declarators_done n found (st c k w f h) x (st d k w (f ++ walk (env_of k w.labels) x) (h ⊕ notes_of x)) (declarator_reads k x c d r.0 w f h) r.1)
   many_declarators (x ∷ y ∷ ys) found k c d w f h (m, r, e, more) =
-      declarators_more n found (st c k w f h) x (st m k w (f ++ walk (env_of k w.labels) x) (h ++ notes x)) (declarator_reads k x c m r w f h) (seen m kind.Comma e)
-      ∙ many_declarators (y ∷ ys) (found ++ x ∷ []) k (after m) d w (f ++ walk (env_of k w.labels) x) (h ++ notes x) more ∙ simp append_assoc refl
+      declarators_more n found (st c k w f h) x (st m k w (f ++ walk (env_of k w.labels) x) (h ⊕ notes_of x)) (declarator_reads k x c m r w f h) (seen m kind.Comma e)
+      ∙ many_declarators (y ∷ ys) (found ++ x ∷ []) k (after m) d w (f ++ walk (env_of k w.labels) x) (h ⊕ notes_of x) more ∙ simp (append_assoc, or_assoc) refl
 
   var_reads : (xs : List Tree) (m : Place) (k : Code) (x : Tree) (c d : Place) → ReadsSeparated (DeclaratorRule (ReadsClass n assignment) (ReadsPat n) (with_in k)) xs (after c) m → Ends m d
       → x ≡ tree.var (spanned c d) decl.Var (listed xs) → Reads (var (expr n) (pattern n)) k x c d
   unfolding var declarators
   var_reads xs m k x c d r e g w f h =
-      rw (many_declarators xs [] (with_in k) (after c) m w f h r, ends_read faults.Unexpected m d k w (f ++ walks (env_of k w.labels) false (trees xs)) (h ++ all_notes (trees xs)) e, g) refl
+      rw (many_declarators xs [] (with_in k) (after c) m w f h r, ends_read faults.Unexpected m d k w (f ++ walks (env_of k w.labels) false (trees xs)) (h ⊕ all_notes_of (trees xs)) e, g) refl
 
 -- ---- statements one behind another
 
@@ -137,20 +141,20 @@ module _ (Inner : Code → Tree → Place → Place → Type 0) (inner : Reader 
     (reads : (k : Code) (x : Tree) (c d : Place) → Inner k x c d → Reads inner k x c d)
     (shorter : (s : State) (x : Tree) (t : State) → inner s ≡ Ok (x, t) → length t.at.left < length s.at.left)
     (stops : Place → Bool) (goes : (k : Code) (x : Tree) (c d : Place) → Inner k x c d → stops c ≡ false) where
-  many_items : (directives : Bool) (xs found : List Tree) (b : Bool) (k : Code) (c d : Place) (w : Scope) (f h : List Fault) → directs directives found ≡ b → ReadsItems Inner k b xs c d → stops d ≡ true
-      → loop (items_turn inner stops directives) found (st c k w f h) ≡ Ok (found ++ xs, st d (code_behind k b xs) w (f ++ walks (env_of k w.labels) b (trees xs)) (h ++ all_notes (trees xs)))
+  many_items : (directives : Bool) (xs found : List Tree) (b : Bool) (k : Code) (c d : Place) (w : Scope) (f : List Fault) (h : Notes) → directs directives found ≡ b → ReadsItems Inner k b xs c d → stops d ≡ true
+      → loop (items_turn inner stops directives) found (st c k w f h) ≡ Ok (found ++ xs, st d (code_behind k b xs) w (f ++ walks (env_of k w.labels) b (trees xs)) (h ⊕ all_notes_of (trees xs)))
   many_items directives [] found b k c d w f h p r e =
-      rw (append-nil found, append-nil f, append-nil h, r) (items_stop inner stops directives found (st c k w f h) (rw (← r) e))
+      rw (append-nil found, append-nil f, append-nil h.held_back, or_nil h.found_module_item, r) (items_stop inner stops directives found (st c k w f h) (rw (← r) e))
   many_items directives (x ∷ xs) found b k c d w f h p (m, r, more) e =
       let one = reads k x c m r w f h in
-      let first = items_more inner stops directives found (st c k w f h) x (st m k w (f ++ walk (env_of k w.labels) x) (h ++ notes x)) (goes k x c m r) one
-      (shorter (st c k w f h) x (st m k w (f ++ walk (env_of k w.labels) x) (h ++ notes x)) one) in
-      let rest = many_items directives xs (found ++ x ∷ []) false (directed k b x) m d w (f ++ walk (env_of k w.labels) x) (h ++ notes x) (directs_behind directives found x) more e in
+      let first = items_more inner stops directives found (st c k w f h) x (st m k w (f ++ walk (env_of k w.labels) x) (h ⊕ notes_of x)) (goes k x c m r) one
+      (shorter (st c k w f h) x (st m k w (f ++ walk (env_of k w.labels) x) (h ⊕ notes_of x)) one) in
+      let rest = many_items directives xs (found ++ x ∷ []) false (directed k b x) m d w (f ++ walk (env_of k w.labels) x) (h ⊕ notes_of x) (directs_behind directives found x) more e in
       let turn = rw p at first in
-      turn ∙ rest ∙ rw (directed_walk k b x w.labels) (simp append_assoc refl)
+      turn ∙ rest ∙ rw (directed_walk k b x w.labels) (simp (append_assoc, or_assoc) refl)
 
-  items_read : (directives : Bool) (xs : List Tree) (k : Code) (c d : Place) (w : Scope) (f h : List Fault) → ReadsItems Inner k directives xs c d → stops d ≡ true
-      → items inner stops directives (st c k w f h) ≡ Ok (xs, st d (code_behind k directives xs) w (f ++ walks (env_of k w.labels) directives (trees xs)) (h ++ all_notes (trees xs)))
+  items_read : (directives : Bool) (xs : List Tree) (k : Code) (c d : Place) (w : Scope) (f : List Fault) (h : Notes) → ReadsItems Inner k directives xs c d → stops d ≡ true
+      → items inner stops directives (st c k w f h) ≡ Ok (xs, st d (code_behind k directives xs) w (f ++ walks (env_of k w.labels) directives (trees xs)) (h ⊕ all_notes_of (trees xs)))
   unfolding items
   items_read directives xs k c d w f h r e = many_items directives xs [] directives k c d w f h refl r e
 
@@ -166,13 +170,13 @@ at_end_at c e = rw e refl
 
 -- what a bare name `interface` leaves behind: the grammar has none in module code, and elsewhere its fault is held back
 note_by : (b in_module : Bool) (e : Fault) (s : State) → in_module && b ≡ false
-    → ◌≡◌ {A = Outcome (Unit {0})} (cond b (Ok (tt, cond in_module (noted e s) (record s { held_back = s.held_back ++ e ∷ [] }))) (Ok (tt, s))) (Ok (tt, record s { held_back = s.held_back ++ cond b (e ∷ []) [] }))
-note_by false in_module e s g = rw (append-nil s.held_back) refl
-note_by true false e s g = refl
+    → ◌≡◌ {A = Outcome (Unit {0})} (cond b (Ok (tt, cond in_module (noted e s) (record s { notes = record s.notes { held_back = s.notes.held_back ++ e ∷ [] } }))) (Ok (tt, s))) (Ok (tt, record s { notes = s.notes ⊕ held (cond b (e ∷ []) []) }))
+note_by false in_module e s g = rw (append-nil s.notes.held_back, or_nil s.notes.found_module_item) refl
+note_by true false e s g = rw (or_nil s.notes.found_module_item) refl
 note_by true true e s g = cc
 
-note_reads : (e : Tree) (m : Place) (k : Code) (w : Scope) (f h : List Fault) → k.flags.module && is_ident_named (codes "interface") e ≡ false
-    → note_statement e (st m k w f h) ≡ Ok (tt, st m k w f (h ++ statement_note e))
+note_reads : (e : Tree) (m : Place) (k : Code) (w : Scope) (f : List Fault) (h : Notes) → k.flags.module && is_ident_named (codes "interface") e ≡ false
+    → note_statement e (st m k w f h) ≡ Ok (tt, st m k w f (h ⊕ held (statement_note e)))
 unfolding note_statement
 note_reads e m k w f h g = note_by (is_ident_named (codes "interface") e) k.flags.module (fault_at (span_of e) faults.InvalidIdentInStrict) (st m k w f h) g
 
@@ -183,10 +187,12 @@ expr_stmt_reads n e m k x c d r l i g j w f h =
     rw (
       expr_reads n expression (with_in k) e c m r w f h,
       l,
-      note_reads e m k w (f ++ walk (env_of k w.labels) e) (h ++ notes e) i,
-      ends_read faults.ExpectedSemiForExprStmt m d k w (f ++ walk (env_of k w.labels) e) ((h ++ notes e) ++ statement_note e) g,
+      note_reads e m k w (f ++ walk (env_of k w.labels) e) (h ⊕ notes_of e) i,
+      ends_read faults.ExpectedSemiForExprStmt m d k w (f ++ walk (env_of k w.labels) e) ((h ⊕ notes_of e) ⊕ held (statement_note e)) g,
       j,
       append_assoc,
+      or_assoc,
+      or_nil (has_meta e),
     ) refl
 
 import_stmt_reads : (n : ℕ) (e : Tree) (m : Place) (k : Code) (x : Tree) (c d : Place) → begins_import_expression c ≡ true → ReadsClass n expression (with_in k) e c m → OptionalEnds m d
@@ -195,7 +201,7 @@ unfolding import_stmt
 import_stmt_reads n e m k x c d b r g j w f h =
     rw (
       expr_reads n expression (with_in k) e c m r w f h,
-      optional_end_reads m d k w (f ++ walk (env_of k w.labels) e) (h ++ notes e) g,
+      optional_end_reads m d k w (f ++ walk (env_of k w.labels) e) (h ⊕ notes_of e) g,
       j,
       import_unnoted n (with_in k) e c m r b,
       append-nil (notes e),
@@ -217,7 +223,7 @@ no_shebang_in c (t ∷ ts) e h = no_shebang_by t.token (rw e at h)
 shebang_here : (text : Text) (sp : Span) (c d : Place) → ReadsToken (token.Shebang text) sp c d → shebang_in c.left ≡ Some text
 shebang_here text sp c d r = rw r.is refl
 
-shebang_reads : (first : Option Text) (c d : Place) (k : Code) (w : Scope) (f h : List Fault) → ReadsShebang c d first → shebang (st c k w f h) ≡ Ok (first, st d k w f h)
+shebang_reads : (first : Option Text) (c d : Place) (k : Code) (w : Scope) (f : List Fault) (h : Notes) → ReadsShebang c d first → shebang (st c k w f h) ≡ Ok (first, st d k w f h)
 unfolding shebang
 shebang_reads first c d k w f h (some_shebang text s r) = rw (shebang_here text s c d r, r.next) refl
 shebang_reads first c d k w f h (no_shebang e g) = rw (no_shebang_in c c.left refl e, g) refl
@@ -233,7 +239,7 @@ module _ (n : ℕ) (reads : (at : Position) (k : Code) (x : Tree) (c d : Place) 
         items_read (λ j. ReadsStmt n j nested_item) (stmt n nested_item) (reads nested_item) (stmt_shorter n nested_item) closes (λ j y a b q. (stmt_goes n j nested_item y a b q).0)
             false xs k (after c) m w f h r (closes_at m e),
         code_stays k xs,
-        close_reads m k w (f ++ walks (env_of k w.labels) false (trees xs)) (h ++ all_notes (trees xs)) e,
+        close_reads m k w (f ++ walks (env_of k w.labels) false (trees xs)) (h ⊕ all_notes_of (trees xs)) e,
         i,
         g,
       ) refl
@@ -258,9 +264,9 @@ pub script_reads : (n : ℕ) (s : State) (x : Tree) (d : Place) → ReadsScript 
 unfolding script script_body
 script_reads n s x d r =
     rw (
-      shebang_reads r.shebang s.at r.first (script_code s.code) s.scope s.faults s.held_back r.reads_shebang,
+      shebang_reads r.shebang s.at r.first (script_code s.code) s.scope s.faults s.notes r.reads_shebang,
       items_read (λ j. ReadsStmt n j top_item) (stmt n top_item) (stmt_reads n top_item) (stmt_shorter n top_item) at_end (λ j y a b q. (stmt_goes n j top_item y a b q).1)
-          true r.items (script_code s.code) r.first d s.scope s.faults s.held_back r.reads_items (at_end_at d r.whole),
+          true r.items (script_code s.code) r.first d s.scope s.faults s.notes r.reads_items (at_end_at d r.whole),
       r.is,
       behind_setting (script_code s.code) true r.items,
     ) refl

@@ -7,6 +7,7 @@ use Rattle.swc_ecma_parser_model.specs.Tree.{Tree, Text, listed}
 use Rattle.swc_ecma_parser_grammar.specs.Looks.{kind_at, sees, same_kind, spanned}
 use Rattle.swc_ecma_parser_grammar.specs.Names.{Code}
 use Rattle.swc_ecma_parser_grammar.specs.Entries.{script_code, ReadsScript, no_shebang}
+use Rattle.swc_ecma_parser_reader.proofs.Notes.{notes_nil}
 use Rattle.swc_ecma_parser_reader.specs.State.{State, Outcome, coded}
 use Rattle.swc_ecma_parser_reader.specs.Reader.{at_end, shebang, script}
 use Rattle.swc_ecma_parser_reader.proofs.Complete.{script_reads}
@@ -52,4 +53,4 @@ nothing_reads n k c e = record {
 }
 
 pub script_of_nothing : (n : ℕ) (s : State) → s.at.left ≡ [] → script n s ≡ Ok (tree.script (spanned s.at s.at) (listed []) None, coded (script_code s.code) s)
-script_of_nothing n s e = script_reads n s (nothing s.at) s.at (nothing_reads n s.code s.at e) ∙ rw (append-nil s.faults, append-nil s.held_back) refl
+script_of_nothing n s e = script_reads n s (nothing s.at) s.at (nothing_reads n s.code s.at e) ∙ rw (append-nil s.faults, notes_nil s.notes) refl

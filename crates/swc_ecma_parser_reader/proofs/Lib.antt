@@ -1,3 +1,4 @@
+pub mod Notes
 pub mod Steps
 pub mod Takes
 pub mod Falls

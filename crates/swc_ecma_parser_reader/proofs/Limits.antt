@@ -58,7 +58,7 @@ items_shallow inner n below stops directives m h s f = loop_answers (items_turn 
 module_fault_fine : (m : ℕ) (g : Fault) (s : State) → Fine m s.at.left → Fine m (module_fault g s).at.left
 module_fault_fine m g s f = by_module s.code.flags.module
   where
-    by_module : (b : Bool) → Fine m (cond b (noted g s) (record s { held_back = s.held_back ++ g ∷ [] })).at.left
+    by_module : (b : Bool) → Fine m (cond b (noted g s) (record s { notes = record s.notes { held_back = s.notes.held_back ++ g ∷ [] } })).at.left
     by_module true = f
     by_module false = f
 

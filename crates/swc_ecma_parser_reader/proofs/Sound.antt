@@ -33,8 +33,10 @@ use Rattle.swc_ecma_parser_grammar.specs.ReadsSupported.{ReadsClass, ReadsPat, R
 use Rattle.swc_ecma_parser_grammar.specs.Entries.{ReadsScript, ReadsShebang, some_shebang, no_shebang, script_code, has_error_token}
 use Rattle.swc_ecma_parser_grammar.specs.Walk as walks
 use Rattle.swc_ecma_parser_grammar.specs.Walk.{walk, env_of, tabled, drops}
-use Rattle.swc_ecma_parser_grammar.specs.Notes.{notes, all_notes, statement_note}
+use Rattle.swc_ecma_parser_grammar.specs.Notes.{notes, statement_note}
+use Rattle.swc_ecma_parser_grammar.specs.language.Noted.{has_meta}
 use Rattle.swc_ecma_parser_grammar.proofs.Widens.{script_widens, script_supported}
+use Rattle.swc_ecma_parser_reader.specs.Notes.{Notes, no_notes, held, ◌⊕◌, notes_of, all_notes_of}
 use Rattle.swc_ecma_parser_reader.specs.State.{State, Reader, moved, coded, flagged, within, noted, module_fault, fault_at, end}
 use Rattle.swc_ecma_parser_reader.specs.Expressions.{Cover, expr, cover}
 use Rattle.swc_ecma_parser_reader.specs.Patterns.{pattern, element}
@@ -45,6 +47,7 @@ use Rattle.swc_ecma_parser_reader.proofs.expressions.SoundCovers.{SoundCover}
 use Rattle.swc_ecma_parser_reader.proofs.expressions.Sound.{expr_sound, cover_sound}
 use Rattle.swc_ecma_parser_reader.proofs.expressions.SoundSteps.{reject_meets, Takes, noted_sound, fault_sound, walks_push, notes_push}
 use Rattle.swc_ecma_parser_reader.proofs.patterns.Sound.{pattern_sound, element_sound}
+use Rattle.swc_ecma_parser_reader.proofs.Notes.{or_nil, or_true, notes_nil}
 use Rattle.swc_ecma_parser_reader.proofs.Meets.{Meets, Refuses, meets_then, meets_if, wanted_meets, too_deep_meets, refuse_meets, Turned, loop_answers, saw, meant}
 use Rattle.swc_ecma_parser_reader.proofs.Errors.{kind_here, nothing_at_end}
 use Rattle.swc_ecma_parser_reader.proofs.Opens.{import_unnoted}
@@ -94,7 +97,7 @@ module _ (Expr : Class → Code → Tree → Place → Place → Type 0) (Pat : 
   initialized_sound : (s : State) (p : Tree) (t : State) → SoundTree Pat s p t → kind_at t.at ≡ kind.Assign → Meets (λ x u. SoundTree Declared s x u) (initialized expr pat (span_at s.at) p t)
   unfolding initialized spanned
   initialized_sound s p t q e = meets_then _ (expr assignment (moved t)) _ (sound_expr assignment (moved t)) (λ y u r.
-      let b : Sound same (λ k l. walk (env_of k l) y) (notes y) (λ k c d. (kind_at c ≡ kind.Assign) × Expr assignment k y (after c) d) t u =
+      let b : Sound same (λ k l. walk (env_of k l) y) (notes_of y) (λ k c d. (kind_at c ≡ kind.Assign) × Expr assignment k y (after c) d) t u =
       sound_after t u e refl refl refl (λ z. (e, z)) r in
       sound_as s u refl refl refl (λ (i, z, w). initialized_rule p y i z w.0 w.1 refl) (sound_then q b))
 
@@ -103,15 +106,15 @@ module _ (Expr : Class → Code → Tree → Place → Place → Type 0) (Pat : 
   unfolding declarator spanned
   declarator_sound s = meets_then _ (pat s) _ (sound_pat s) (λ p t q. meets_if _ (sees kind.Assign t.at) _ _ (λ e. initialized_sound s p t q (saw t.at kind.Assign e))
       (λ e. meets_if _ (is_binding_name p) _ _
-      (λ b. sound_as s t refl (sym (append-nil (walk (env_of s.code s.scope.labels) p))) (sym (append-nil (notes p))) (λ r. plain_rule p r e b refl) q)
+      (λ b. sound_as s t refl (sym (append-nil (walk (env_of s.code s.scope.labels) p))) (sym (notes_nil (notes_of p))) (λ r. plain_rule p r e b refl) q)
       (λ _. reject_meets _ _ t)))
 
   -- the declarators so far, and all
   abbrev DeclaratorsSoFar : State → List Tree → State → Type 0
-  DeclaratorsSoFar s xs t = Sound same (λ k l. walks.walks (env_of k l) false (trees xs)) (all_notes (trees xs)) (λ k. Front (Declared k) xs) s t
+  DeclaratorsSoFar s xs t = Sound same (λ k l. walks.walks (env_of k l) false (trees xs)) (all_notes_of (trees xs)) (λ k. Front (Declared k) xs) s t
 
   abbrev Declarators : State → List Tree → State → Type 0
-  Declarators s xs t = Sound same (λ k l. walks.walks (env_of k l) false (trees xs)) (all_notes (trees xs)) (λ k. ReadsSeparated (Declared k) xs) s t
+  Declarators s xs t = Sound same (λ k l. walks.walks (env_of k l) false (trees xs)) (all_notes_of (trees xs)) (λ k. ReadsSeparated (Declared k) xs) s t
 
   -- each turn reads one declarator
   declarators_turn_sound : (s : State) (xs : List Tree) (t : State) → DeclaratorsSoFar s xs t
@@ -134,7 +137,7 @@ module _ (Expr : Class → Code → Tree → Place → Place → Type 0) (Pat : 
       → Meets (λ x t. SoundTree (λ k. StmtRule Stmt Expr Pat k at) s x t) (var expr pat s)
   unfolding var
   var_sound Stmt at s e = meets_then _ (within with_in (declarators expr pat) (moved s)) _
-      (within_sound (λ xs k l. walks.walks (env_of k l) false (trees xs)) (λ xs. all_notes (trees xs)) (λ xs k. ReadsSeparated (Declared k) xs) with_in (λ k. refl) (declarators expr pat) (moved s)
+      (within_sound (λ xs k l. walks.walks (env_of k l) false (trees xs)) (λ xs. all_notes_of (trees xs)) (λ xs k. ReadsSeparated (Declared k) xs) with_in (λ k. refl) (declarators expr pat) (moved s)
       (declarators_sound (coded (with_in s.code) (moved s)))) (λ xs m p.
       meets_then _ (end faults.Unexpected m) _ (end_sound faults.Unexpected m) (λ _ t q.
       sound_after s t e refl refl refl (λ (i, r, z). var_rule xs i e r z refl) (sound_more p q)))
@@ -207,7 +210,7 @@ module _ (Reads : Code → Tree → Place → Place → Type 0) where
 
   -- statements that were read, from the state before the first
   abbrev pub SoundItems : Bool → State → List Tree → State → Type 0
-  SoundItems directives s xs t = Sound (λ k. code_after k directives xs) (λ k l. walks.walks (env_of k l) directives (trees xs)) (all_notes (trees xs)) (λ k. ReadsItems Reads k directives xs) s t
+  SoundItems directives s xs t = Sound (λ k. code_after k directives xs) (λ k l. walks.walks (env_of k l) directives (trees xs)) (all_notes_of (trees xs)) (λ k. ReadsItems Reads k directives xs) s t
 
   module _ (stmt : Reader Tree) (sound : (s : State) → Meets (λ x t. SoundTree Reads s x t) (stmt s)) (stops : Place → Bool) (directives : Bool) where
     -- up to a place where they stop
@@ -251,7 +254,7 @@ NoNote : Tree → Code → Place → Place → Type 0
 NoNote x k c d = (k.flags.module && is_ident_named (codes "interface") x ≡ false) × (d ≡ c)
 
 SoundNote : Tree → State → State → Type 0
-SoundNote x s t = Sound same no_faults (statement_note x) (NoNote x) s t
+SoundNote x s t = Sound same no_faults (held (statement_note x)) (NoNote x) s t
 
 -- in module code it is a fault, and else held back
 module_fault_sound : (x : Tree) (s : State) → is_ident_named (codes "interface") x ≡ true → SoundNote x s (module_fault (fault_at (span_of x) faults.InvalidIdentInStrict) s)
@@ -261,14 +264,14 @@ module_fault_sound x s e = by_module s.code.flags.module refl
     f : Fault
     f = fault_at (span_of x) faults.InvalidIdentInStrict
 
-    by_module : (b : Bool) → s.code.flags.module ≡ b → Sound same no_faults (statement_note x) (NoNote x) s (cond b (noted f s) (record s { held_back = s.held_back ++ f ∷ [] }))
-    by_module true h = noted_sound (NoNote x) f s refl (statement_note x)
+    by_module : (b : Bool) → s.code.flags.module ≡ b → Sound same no_faults (held (statement_note x)) (NoNote x) s (cond b (noted f s) (record s { notes = record s.notes { held_back = s.notes.held_back ++ f ∷ [] } }))
+    by_module true h = noted_sound (NoNote x) f s refl (held (statement_note x))
     by_module false h = record {
       code = refl;
       scope = refl;
       added = [];
       faults = sym (append-nil s.faults);
-      held_back = λ i. rw e refl;
+      notes = λ i. rw (e, or_nil s.notes.found_module_item) refl;
       walked = λ i d. refl;
       keeps = λ i. i;
       spares = λ i g. g;
@@ -309,7 +312,7 @@ module _ (Stmt : Code → Position → Tree → Place → Place → Type 0) (Exp
   block_sound s e = meets_then _ (items (inner nested_item) closes false (moved s)) _
       (items_sound (λ j. Stmt j nested_item) (inner nested_item) (sound nested_item) closes false (moved s)) (λ xs m p.
       meets_then _ (close m) _ (close_sound m) (λ _ t q.
-      let b : Sound same (λ k l. walks.walks (env_of k l) false (trees xs)) (all_notes (trees xs))
+      let b : Sound same (λ k l. walks.walks (env_of k l) false (trees xs)) (all_notes_of (trees xs))
       (λ k c d. (i : Place) × ReadsItems (λ j. Stmt j nested_item) k false xs c i × Takes kind.RBrace i d) (moved s) t =
       sound_as (moved s) t (code_stays s.code xs) refl refl (λ h. h) (sound_more p.0 q) in
       sound_after s t e refl refl refl (λ (i, r, z). block_rule xs i e r z.0 z.1 refl) b))
@@ -317,11 +320,11 @@ module _ (Stmt : Code → Position → Tree → Place → Place → Type 0) (Exp
   expr_stmt_sound : (s : State) → may_begin_expression_statement at s.at ≡ true → Meets (SoundStmt s) (expr_stmt (inner_expr expression) s)
   unfolding expr_stmt SoundNote NoNote NoLabel
   expr_stmt_sound s e = meets_then _ (within with_in (inner_expr expression) s) _
-      (within_sound (λ x k l. walk (env_of k l) x) notes (λ x k. Expr expression k x) with_in (λ k. refl) (inner_expr expression) s (sound_expr expression (coded (with_in s.code) s))) (λ x i p.
+      (within_sound (λ x k l. walk (env_of k l) x) notes_of (λ x k. Expr expression k x) with_in (λ k. refl) (inner_expr expression) s (sound_expr expression (coded (with_in s.code) s))) (λ x i p.
       meets_then _ (no_label x i) _ (no_label_sound x i) (λ _ j q.
       meets_then _ (note_statement x j) _ (note_sound x j) (λ _ m r.
       meets_then _ (end faults.ExpectedSemiForExprStmt m) _ (end_sound faults.ExpectedSemiForExprStmt m) (λ _ t z.
-      sound_as s t refl (append-nil (walk (env_of s.code s.scope.labels) x)) refl
+      sound_as s t refl (append-nil (walk (env_of s.code s.scope.labels) x)) (λ l. record { held_back = notes x ++ statement_note x; found_module_item = or_nil (has_meta x) l })
       (λ (i, (j, (m, a, b), g), y). expr_rule x m e a b.0 g.0 (subst (λ v. Ends v t.at) (g.1 ∙ b.1) y) refl)
       (sound_more (sound_then (sound_more p q) r) z)))))
 
@@ -332,10 +335,13 @@ module _ (Stmt : Code → Position → Tree → Place → Place → Type 0) (Exp
   import_stmt_sound : (s : State) → begins_import_expression s.at ≡ true → Meets (SoundStmt s) (import_stmt (inner_expr expression) s)
   unfolding import_stmt
   import_stmt_sound s h = meets_then _ (within with_in (inner_expr expression) s) _
-      (within_sound (λ x k l. walk (env_of k l) x) notes (λ x k. Expr expression k x) with_in (λ k. refl) (inner_expr expression) s (sound_expr expression (coded (with_in s.code) s))) (λ x m p.
+      (within_sound (λ x k l. walk (env_of k l) x) notes_of (λ x k. Expr expression k x) with_in (λ k. refl) (inner_expr expression) s (sound_expr expression (coded (with_in s.code) s))) (λ x m p.
       meets_then _ (optional_end m) _ (optional_end_sound m) (λ _ t q.
       sound_as s t refl refl refl (λ (i, a, b). import_rule x i h a b refl)
-      (sound_notes s t (λ (i, a, b). sym (append-nil (notes x)) ∙ ap (λ z. notes x ++ z) (sym (unnoted (with_in s.code) x s.at i h a))) (sound_more p q))))
+      (sound_notes s t (λ (i, a, b) l. record {
+        held_back = (sym (append-nil (notes x)) ∙ ap (λ z. notes x ++ z) (sym (unnoted (with_in s.code) x s.at i h a))) l;
+        found_module_item = has_meta x;
+      }) (sound_more p q))))
 
   import_stmt_at_sound : (s : State) → Meets (SoundStmt s) (import_stmt_at (inner_expr expression) s)
   unfolding import_stmt_at
@@ -420,7 +426,7 @@ record ReadsBody (n : ℕ) (x : Tree) (k : Code) (c d : Place) : Type 0 where
 
 -- ends where the list does
 abbrev SoundBody : ℕ → State → Tree → State → Type 0
-SoundBody n s x t = ((f : Code → Code) × ((k : Code) → (f k).setting ≡ k.setting) × Sound f (λ k l. walk (env_of k l) x) (notes x) (ReadsBody n x) s t) × (kind_at t.at ≡ kind.End)
+SoundBody n s x t = ((f : Code → Code) × ((k : Code) → (f k).setting ≡ k.setting) × Sound f (λ k l. walk (env_of k l) x) (notes_of x) (ReadsBody n x) s t) × (kind_at t.at ≡ kind.End)
 
 script_is : (n : ℕ) (s : State) (x : Tree) (t : State) → SoundBody n (coded (script_code s.code) s) x t → SoundScript n s x (flagged (script_code s.code) t)
 script_is n s x t ((f, keeps, p), e) =
@@ -467,10 +473,10 @@ script_sound n s = meets_then _ (script_body n (coded (script_code s.code) s)) _
 pub script_is_sound : (n : ℕ) (s : State) (x : Tree) (t : State) → script n s ≡ Ok (x, t) → SoundScript n s x t
 script_is_sound n s x t e = meant (λ y u. SoundScript n s y u) Refuses (script n s) (Ok (x, t)) e (script_sound n s)
 
--- where nothing is recorded, what is held back for module code are the tree's notes
-pub script_notes : (n : ℕ) (s : State) → Meets (λ x t. (added : List Fault) × (t.faults ≡ s.faults ++ added) × (added ≡ [] → t.held_back ≡ s.held_back ++ notes x)) (script n s)
+-- where nothing is recorded, what is noted are the tree's notes
+pub script_notes : (n : ℕ) (s : State) → Meets (λ x t. (added : List Fault) × (t.faults ≡ s.faults ++ added) × (added ≡ [] → t.notes ≡ s.notes ⊕ notes_of x)) (script n s)
 unfolding script
-script_notes n s = meets_then _ (script_body n (coded (script_code s.code) s)) _ (body_sound n (coded (script_code s.code) s)) (λ x t ((f, keeps, p), e). (p.added, p.faults, p.held_back))
+script_notes n s = meets_then _ (script_body n (coded (script_code s.code) s)) _ (body_sound n (coded (script_code s.code) s)) (λ x t ((f, keeps, p), e). (p.added, p.faults, p.notes))
 
 -- a list with a token that says that memory ran out spells no script
 script_remembers : (n : ℕ) (s : State) → Meets (λ x t. has_out_of_memory_token s.at.left ≡ false) (script n s)

@@ -1,7 +1,8 @@
 -- A list spells one supported tree at most: the reader answers each that it spells, and answers once.
-use Rattle.std.proofs.Common.{◌≡◌, false, [], None, Ok, ap}
+use Rattle.std.proofs.Common.{◌≡◌, [], None, Ok, ap}
 use Rattle.swc_ecma_parser_model.specs.Tree.{Tree}
 use Rattle.swc_ecma_parser_grammar.proofs.Narrows.{script_narrows}
+use Rattle.swc_ecma_parser_reader.specs.Notes.{no_notes}
 use Rattle.swc_ecma_parser_reader.specs.State.{State, Scope, Outcome}
 use Rattle.swc_ecma_parser_reader.specs.Reader.{script}
 use Rattle.swc_ecma_parser_reader.specs.Entry.{script_left, IsOneScript}
@@ -14,9 +15,9 @@ one_answer o x y t u e h = let q : ◌≡◌ {A = Tree × State} (x, t) (y, u) =
 
 -- no label stands around, and nothing is marked
 abbrev unmarked : Scope
-unmarked = record { labels = []; found_module_item = false; mark = None }
+unmarked = record { labels = []; mark = None }
 
 pub script_is_one : IsOneScript
 script_is_one limit k x y c d e r q =
-    let s : State = st c k unmarked [] [] in
+    let s : State = st c k unmarked [] no_notes in
     one_answer (script limit s) x y (script_left s x d) (script_left s y e) (script_reads limit s x d (script_narrows limit k x c d r.0 r.1)) (script_reads limit s y e (script_narrows limit k y c e q.0 q.1))

@@ -11,8 +11,8 @@ use Rattle.swc_ecma_parser_grammar.specs.Entries.{script_code, has_error_token}
 use Rattle.swc_ecma_parser_grammar.specs.Supported.{supported}
 use Rattle.swc_ecma_parser_grammar.specs.language.Programs as programs
 use Rattle.swc_ecma_parser_grammar.specs.language.Programs.{ReadsEntry, Spells}
-use Rattle.swc_ecma_parser_grammar.specs.Notes.{notes}
 use Rattle.swc_ecma_parser_grammar.specs.Walk.{walk, env_of, tabled, drops}
+use Rattle.swc_ecma_parser_reader.specs.Notes.{notes_of, ◌⊕◌}
 use Rattle.swc_ecma_parser_reader.specs.State.{State, GivesAs}
 use Rattle.swc_ecma_parser_reader.specs.Reader.{script}
 
@@ -22,7 +22,7 @@ script_walk s x = walk (env_of (script_code s.code) s.scope.labels) x
 
 -- the state after a script
 abbrev pub script_left : State → Tree → Place → State
-script_left s x d = record s { at = d; code = script_code s.code; faults = s.faults ++ script_walk s x; held_back = s.held_back ++ notes x }
+script_left s x d = record s { at = d; code = script_code s.code; faults = s.faults ++ script_walk s x; notes = s.notes ⊕ notes_of x }
 
 -- An answer: it takes the whole list; where nothing was recorded the list spells it as a script of the language, it has supported
 -- forms alone, and its walk is empty; and where no error token stands and nothing was dropped, the faults of the table among
@@ -59,7 +59,7 @@ CompleteScript view limit s result t =
 pub record IsRestored (s t : State) : Type 0 where
   pub flags : t.code.flags ≡ s.code.flags
   pub labels : t.scope.labels ≡ []
-  pub found_module_item : t.scope.found_module_item ≡ s.scope.found_module_item
+  pub found_module_item : t.notes.found_module_item ≡ s.notes.found_module_item
 
 -- what the reader answers; of the state after a refusal nothing is said
 abbrev pub AnswersScript : {X : Type 0} → (X → Tree) → ℕ → State → Result X Error → State → Type 0

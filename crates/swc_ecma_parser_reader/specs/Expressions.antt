@@ -29,16 +29,7 @@ use Rattle.swc_ecma_parser_grammar.specs.Reads.{with_in}
 use Rattle.swc_ecma_parser_grammar.specs.language.Goals.{Class, expression, assignment, operator, unary, left_side, callee}
 use Rattle.swc_ecma_parser_grammar.specs.language.Operators.{unary_operator, update_operator, binary_operator, assign_operator, precedence, groups_left, is_operator, mixes, is_unary}
 use Rattle.swc_ecma_parser_grammar.specs.language.Continues.{continues_conditional}
-use Rattle.swc_ecma_parser_reader.specs.State.{State, Outcome, Reader, ◌>>=◌, ◌>>◌, pure, skip, moved, within, fault, fault_at, wanted, too_deep, reject, expect, name, Step, More, Done, loop}
-
--- ---- places and spans
-
-abbrev pub span_here : Reader Span
-span_here = λ s. Ok (span_at s.at, s)
-
--- from the start of a span to the end of what was read last
-abbrev pub since : Span → Reader Span
-since start = λ s. Ok (record { lo = start.lo; hi = s.at.last.hi }, s)
+use Rattle.swc_ecma_parser_reader.specs.State.{State, Outcome, Reader, ◌>>=◌, ◌>>◌, pure, span_here, since, skip, moved, note_module_item, within, fault, fault_at, wanted, too_deep, reject, expect, name, Step, More, Done, loop}
 
 -- ---- literals
 
@@ -161,12 +152,16 @@ this = do
   span ← since start
   pure (tree.this span)
 
--- `import.meta` is a fault in code that cannot be a module's; where it can be it is not read yet
+-- `import.meta` makes a program a module; it is a fault in code that cannot be a module's
+unfoldable pub meta_fault : Span → Reader (Unit {0})
+meta_fault span = λ s. if s.code.flags.can_be_module then Ok (tt, s) else fault (fault_at span faults.ImportMetaInScript) s
+
 unfoldable pub import_meta : Span → Reader Tree
-import_meta start = λ s. if word_at (codes "meta") s.at && not s.code.flags.can_be_module then (do
+import_meta start = λ s. if word_at (codes "meta") s.at then (do
   skip
   span ← since start
-  fault (fault_at span faults.ImportMetaInScript)
+  note_module_item
+  meta_fault span
   pure (tree.meta_prop span meta.ImportMeta)) s else wanted faults.Unexpected s
 
 -- the loop goes on with it

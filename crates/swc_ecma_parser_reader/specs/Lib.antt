@@ -1,3 +1,4 @@
+pub mod Notes
 pub mod State
 pub mod Classes
 pub mod Expressions

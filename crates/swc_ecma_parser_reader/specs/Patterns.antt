@@ -10,8 +10,8 @@ use Rattle.swc_ecma_parser_grammar.specs.Looks.{sees}
 use Rattle.swc_ecma_parser_grammar.specs.Names.{is_name}
 use Rattle.swc_ecma_parser_grammar.specs.Reads.{with_in}
 use Rattle.swc_ecma_parser_grammar.specs.language.Goals.{Class, assignment}
-use Rattle.swc_ecma_parser_reader.specs.State.{Reader, ◌>>=◌, ◌>>◌, pure, skip, moved, within, fault_at, wanted, too_deep, reject, expect, name, Step, More, Done, loop}
-use Rattle.swc_ecma_parser_reader.specs.Expressions.{Cover, span_here, since, inside, key, expr, cover}
+use Rattle.swc_ecma_parser_reader.specs.State.{Reader, ◌>>=◌, ◌>>◌, pure, span_here, since, skip, moved, within, fault_at, wanted, too_deep, reject, expect, name, Step, More, Done, loop}
+use Rattle.swc_ecma_parser_reader.specs.Expressions.{Cover, inside, key, expr, cover}
 
 -- a name
 unfoldable pub binding : Reader Tree

@@ -18,9 +18,9 @@ use Rattle.swc_ecma_parser_grammar.specs.Follows.{may_begin_expression_statement
 use Rattle.swc_ecma_parser_grammar.specs.Reads.{with_in, directed, nested_item, top_item}
 use Rattle.swc_ecma_parser_grammar.specs.Entries.{script_code}
 use Rattle.swc_ecma_parser_grammar.specs.language.Goals.{Class, expression, assignment}
-use Rattle.swc_ecma_parser_reader.specs.Expressions.{expr, span_here, since}
+use Rattle.swc_ecma_parser_reader.specs.Expressions.{expr}
 use Rattle.swc_ecma_parser_reader.specs.Patterns.{pattern}
-use Rattle.swc_ecma_parser_reader.specs.State.{Reader, ◌>>=◌, ◌>>◌, pure, here, skip, moved, spanned_from, coded, flagged, within, fault, fault_at, module_fault, wanted, too_deep, refuse, reject, end, Step, More, Done, loop}
+use Rattle.swc_ecma_parser_reader.specs.State.{Reader, ◌>>=◌, ◌>>◌, pure, here, span_here, since, skip, moved, spanned_from, coded, flagged, within, fault, fault_at, module_fault, wanted, too_deep, refuse, reject, end, Step, More, Done, loop}
 
 -- ---- statements
 

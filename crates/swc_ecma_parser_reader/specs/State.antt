@@ -1,5 +1,5 @@
 -- What a reader reads from, and the steps that every rule is made of.
-use Rattle.std.specs.Prelude.{◌≡◌, ◌≢◌, ℕ, zero, suc, Bool, if◌then◌else◌, nat_lt, List, [], ◌∷◌, ◌++◌, length, Option, Some, Result, Ok, Err}
+use Rattle.std.specs.Prelude.{◌≡◌, ◌≢◌, ℕ, zero, suc, Bool, true, if◌then◌else◌, nat_lt, List, [], ◌∷◌, ◌++◌, length, Option, Some, Result, Ok, Err}
 use Rattle.swc_ecma_parser_common.specs.declared.span.Span.{Span}
 use Rattle.swc_ecma_parser_error.specs.declared.error.Error.{Error}
 use Rattle.swc_ecma_parser_error.specs.Kind as faults
@@ -14,25 +14,25 @@ use Rattle.swc_ecma_parser_input.specs.TokenSource.{means_out_of_memory}
 use Rattle.swc_ecma_parser_input.specs.Place.{Place, after}
 use Rattle.swc_ecma_parser_model.specs.declared.leaves.Ident.{Ident}
 use Rattle.swc_ecma_parser_model.specs.Tree.{Text}
-use Rattle.swc_ecma_parser_grammar.specs.Looks.{sees, spanned}
+use Rattle.swc_ecma_parser_grammar.specs.Looks.{sees, span_at, spanned}
 use Rattle.swc_ecma_parser_grammar.specs.Names.{Code, is_name}
 use Rattle.swc_ecma_parser_grammar.specs.Ends.{can_end}
+use Rattle.swc_ecma_parser_reader.specs.Notes.{Notes}
 use Rattle.swc_ecma_parser_reader.specs.declared.mark.Mark.{Mark}
 use Rattle.swc_ecma_parser_reader.specs.declared.mark.Mark.TheVariants as mark
 
--- the labels around, whether the code is known to be a module's, and the mark
+-- the labels around, and the mark
 pub record Scope : Type 0 where
   pub labels : List Text
-  pub found_module_item : Bool
   pub mark : Option Mark
 
 pub record State : Type 0 where
   pub at : Place
   pub code : Code
   pub scope : Scope
-  -- the faults recorded, and those held back until the code is a module's
+  -- the faults recorded, and what was noted
   pub faults : List Fault
-  pub held_back : List Fault
+  pub notes : Notes
 
 -- ---- readers
 
@@ -66,6 +66,13 @@ f <$> p = p >>= (λ x. pure (f x))
 abbrev pub here : Reader Place
 here = λ s. Ok (s.at, s)
 
+abbrev pub span_here : Reader Span
+span_here = λ s. Ok (span_at s.at, s)
+
+-- from the start of a span to the end of what was read last
+abbrev pub since : Span → Reader Span
+since start = λ s. Ok (record { lo = start.lo; hi = s.at.last.hi }, s)
+
 abbrev pub moved : State → State
 moved s = record s { at = after s.at }
 
@@ -90,9 +97,16 @@ within change p = λ s. and_then (p (coded (change s.code) s)) (λ a t. Ok (a, f
 abbrev pub noted : Fault → State → State
 noted f s = record s { faults = s.faults ++ f ∷ [] }
 
+-- what makes a program a module was read
+abbrev pub module_found : State → State
+module_found s = record s { notes = record s.notes { found_module_item = true } }
+
+abbrev pub note_module_item : Reader (Unit {0})
+note_module_item = λ s. Ok (tt, module_found s)
+
 -- a fault that counts in module code alone
 abbrev pub module_fault : Fault → State → State
-module_fault f s = if s.code.flags.module then noted f s else record s { held_back = s.held_back ++ f ∷ [] }
+module_fault f s = if s.code.flags.module then noted f s else record s { notes = record s.notes { held_back = s.notes.held_back ++ f ∷ [] } }
 
 -- ---- recording: an error token that stands here is read and recorded first, and one for want of memory answered
 

@@ -11,7 +11,7 @@ abbrev pub opened : TokenSource → State
 opened s = record {
   at = outset s.start s.left;
   code = record { flags = s.context; setting = setting_of s.syntax };
-  scope = record { labels = []; found_module_item = false; mark = None };
+  scope = record { labels = []; mark = None };
   faults = faults_of (with_context s.context s).recorded;
-  held_back = faults_of (with_context s.context s).held_back;
+  notes = record { held_back = faults_of (with_context s.context s).held_back; found_module_item = false };
 }

@@ -9,9 +9,9 @@ abbrev pub view_of : {I : Type 0} → Inside I → reader.State
 view_of s = record {
   at = s.buffer.place;
   code = record { flags = s.buffer.context; setting = setting_of s.buffer.syntax };
-  scope = record { labels = s.labels.items; found_module_item = s.found_module_item; mark = s.mark };
+  scope = record { labels = s.labels.items; mark = s.mark };
   faults = faults_of s.buffer.recorded;
-  held_back = faults_of s.buffer.held_back;
+  notes = record { held_back = faults_of s.buffer.held_back; found_module_item = s.found_module_item };
 }
 
 -- in module code nothing is held back

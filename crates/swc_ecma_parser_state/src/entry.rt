@@ -41,9 +41,9 @@ impl<I: Tokens> State<I> {
         self.labels.as_slice()
     }
 
-    /// Whether the code is known to be a module's.
+    /// Whether something was read that makes a program a module.
     pub fn found_module_item(&self) -> bool
-        ensures { result ≡ self.now.scope.found_module_item }
+        ensures { result ≡ self.now.notes.found_module_item }
     {
         self.found_module_item
     }
@@ -90,7 +90,7 @@ impl<I: Tokens> State<I> {
         ensures left { (I.seen result).left ≡ drop 2 self.at.left }
         ensures context { (I.seen result).context ≡ self.code.flags }
         ensures faults { faults_of (I.seen result).recorded ≡ self.faults }
-        ensures held_back { faults_of (I.seen result).held_back ≡ self.held_back }
+        ensures held_back { faults_of (I.seen result).held_back ≡ self.notes.held_back }
     {
         let State {
             buffer,
@@ -130,7 +130,8 @@ impl<I: Tokens> State<I> {
     /// After a refusal: this context and note, and no labels.
     pub fn restore(&mut self, flags: Context, found_module_item: bool)
         ensures flags { self.new.code.flags ≡ flags }
-        ensures scope { self.new.scope ≡ record self.old.scope { labels = []; found_module_item = found_module_item } }
+        ensures scope { self.new.scope ≡ record self.old.scope { labels = [] } }
+        ensures noted { self.new.notes.found_module_item ≡ found_module_item }
         ensures at { self.new.at ≡ self.old.at }
     {
         self.labels.clear();

@@ -114,6 +114,10 @@ pub trait Source {
     fn module_fault(&mut self, kind: SyntaxError, span: Span) -> PResult<()>
         ensures { Gives (Ok (tt, reader.module_fault (reader.fault_at span (kind_of kind)) (seen self.old))) result (seen self.new) };
 
+    /// Notes that what was read makes a program a module.
+    fn note_module_item(&mut self)
+        ensures { seen self.new ≡ reader.module_found (seen self.old) };
+
     /// Refuses what stands here in the place of a part.
     fn wanted(&mut self, wanted: Wanted) -> Error
         ensures tree { kind_of result.kind ≢ kinds.OutOfMemory
@@ -254,6 +258,10 @@ impl<I: Tokens> Source for State<I> {
 
     fn module_fault(&mut self, kind: SyntaxError, span: Span) -> PResult<()> {
         State::module_fault(self, kind, span)
+    }
+
+    fn note_module_item(&mut self) {
+        State::note_module_item(self);
     }
 
     fn wanted(&mut self, wanted: Wanted) -> Error {

@@ -421,6 +421,13 @@ impl<I: Tokens> State<I> {
         self.buffer.set_ctx(flags);
     }
 
+    /// Notes that what was read makes a program a module.
+    pub fn note_module_item(&mut self)
+        ensures { self.new ≡ reader.module_found self.old }
+    {
+        self.found_module_item = true;
+    }
+
     /// Adds a fault that counts in module code alone.
     pub fn module_fault(&mut self, kind: SyntaxError, span: Span) -> PResult<()>
         ensures { Gives (Ok (tt, reader.module_fault (reader.fault_at span (kind_of kind)) self.old)) result self.new }

@@ -22,6 +22,7 @@ use Rattle.swc_ecma_parser_grammar.specs.Names.{Code}
 use Rattle.swc_ecma_parser_grammar.specs.Follows.{continues_left_side}
 use Rattle.swc_ecma_parser_grammar.specs.Reads.{with_in, ReadsSeparated}
 use Rattle.swc_ecma_parser_grammar.specs.Notes.{notes, all_notes}
+use Rattle.swc_ecma_parser_grammar.specs.language.Noted.{has_meta}
 use Rattle.swc_ecma_parser_grammar.specs.Walk.{env_of, walk, walks}
 use Rattle.swc_ecma_parser_grammar.specs.Supported.{supported, all_supported}
 use Rattle.swc_ecma_parser_grammar.specs.ReadsSupported.{ReadsClass}
@@ -37,8 +38,10 @@ use Rattle.swc_ecma_parser_grammar.specs.language.Expressions.{UnaryRule, Binary
 use Rattle.swc_ecma_parser_grammar.specs.language.Reads as language
 use Rattle.swc_ecma_parser_grammar.proofs.Tests.{or_no, or_none, and_yes}
 use Rattle.swc_ecma_parser_grammar.proofs.language.spans.Expressions.{left_side_rule}
+use Rattle.swc_ecma_parser_reader.specs.Notes.{Notes, no_notes, held, ◌⊕◌, notes_of, all_notes_of}
 use Rattle.swc_ecma_parser_reader.specs.State.{Scope, State, Outcome, Reader, loop}
 use Rattle.swc_ecma_parser_reader.specs.Expressions.{Cover, done, goes_on, begins_async_call, is_head, heads_arrow, closed_left, simple, update_behind, read_operator, operator_at, left_operand, unmixed, unassigned, unheaded, left, left_expr, prefixed, update_before, postfix, unary_expr, operated, binary_turn, binary_from, binary_expr, conditional, assigned_to, assigned, behind_operators, operators_expr, cover_expr, assignment_expr, sequence_turn, sequence_from, expression_expr, expr_level, expr, cover}
+use Rattle.swc_ecma_parser_reader.proofs.Notes.{or_nil, or_assoc}
 use Rattle.swc_ecma_parser_reader.proofs.Answered.{st, Reads, Gets, gets_also, ReadsAs}
 use Rattle.swc_ecma_parser_reader.proofs.Takes.{moves}
 use Rattle.swc_ecma_parser_reader.proofs.Steps.{loop_more, loop_done}
@@ -87,12 +90,12 @@ unbound_by : (n : ℕ) (k : Code) (o : Option BinaryOp) → binds k n o ≡ fals
 unbound_by n k None e = refl
 unbound_by n k (Some op) e = rw e refl
 
-unbound : (n : ℕ) (c : Place) (k : Code) (w : Scope) (f h : List Fault) → binds k n (binary_operator (kind_at c)) ≡ false → operator_at n (st c k w f h) ≡ None
+unbound : (n : ℕ) (c : Place) (k : Code) (w : Scope) (f : List Fault) (h : Notes) → binds k n (binary_operator (kind_at c)) ≡ false → operator_at n (st c k w f h) ≡ None
 unfolding operator_at
 unbound n c k w f h e = unbound_by n k (binary_operator (kind_at c)) e
 
 -- one that binds at least so tightly is
-bound : (n : ℕ) (op : BinaryOp) (c : Place) (k : Code) (w : Scope) (f h : List Fault) → binary_operator (kind_at c) ≡ Some op → is_operator k op ≡ true → n ≤ precedence op
+bound : (n : ℕ) (op : BinaryOp) (c : Place) (k : Code) (w : Scope) (f : List Fault) (h : Notes) → binary_operator (kind_at c) ≡ Some op → is_operator k op ≡ true → n ≤ precedence op
     → operator_at n (st c k w f h) ≡ Some op
 unfolding operator_at
 bound n op c k w f h e o l = rw (e, o, le-leb n (precedence op) l) refl
@@ -114,7 +117,7 @@ unfolding begins_async_call
 head_same (tree.call s f args) c = and_swap _ (is_ident_named (codes "async") f)
 head_same _ c = refl
 
-headless : (x : Tree) (k : Code) (c d : Place) (w : Scope) (f h : List Fault) → continues_head k x c d ≡ false → heads_arrow (begins_async_call c) x (st d k w f h) ≡ false
+headless : (x : Tree) (k : Code) (c d : Place) (w : Scope) (f : List Fault) (h : Notes) → continues_head k x c d ≡ false → heads_arrow (begins_async_call c) x (st d k w f h) ≡ false
 unfolding heads_arrow continues_head
 headless x k c d w f h e = rw (head_same x c) e
 
@@ -162,9 +165,9 @@ leaf_no_literal (tree.object s props) h = cc
 leaf_no_literal _ h = refl
 
 -- a pattern has the faults and the notes of the expression that it is
-pattern_end : (P : Cover → Type 0) (o : Outcome Cover) (x p : Tree) (k : Code) (d : Place) (w : Scope) (f h : List Fault) → as_element x ≡ Some p
-    → Gets P o (st d k w (f ++ walk (env_of k w.labels) x) (h ++ notes x)) → Gets P o (st d k w (f ++ walk (env_of k w.labels) p) (h ++ notes p))
-pattern_end P o x p k d w f h e g = let a = pattern_alike true x p e in rw (a.walked (env_of k w.labels), a.noted) g
+pattern_end : (P : Cover → Type 0) (o : Outcome Cover) (x p : Tree) (k : Code) (d : Place) (w : Scope) (f : List Fault) (h : Notes) → as_element x ≡ Some p
+    → Gets P o (st d k w (f ++ walk (env_of k w.labels) x) (h ⊕ notes_of x)) → Gets P o (st d k w (f ++ walk (env_of k w.labels) p) (h ⊕ notes_of p))
+pattern_end P o x p k d w f h e g = let a = pattern_alike true x p e in rw (a.walked (env_of k w.labels), ap (λ n. n.held_back) a.noted, ap (λ n. n.found_module_item) a.noted) g
 
 -- an expression that is no array or object, as this pattern
 as_whole : (reader : Reader Cover) (x p : Tree) (k : Code) (c d : Place) → as_element x ≡ Some p → is_literal x ≡ false → ReadsAs (AsWhole x) reader k x c d → ReadsAs (AsElement p) reader k p c d
@@ -221,18 +224,18 @@ module _ (In : Goal → Type 0) (inner : Class → Reader Tree) (cover : Reader 
 
   -- an operator and its right operand
   left_grouped : (start : Span) (op : BinaryOp) (x y : Tree) (k : Code) (m d : Place) → groups_left op ≡ true → In (expr_goal (operator (suc (precedence op))) k y (after m) d)
-      → supported y ≡ true → mixes op x ≡ false → mixes op y ≡ false → (w : Scope) (f h : List Fault)
-      → operated inner cover start x op (st m k w f h) ≡ Ok (tree.bin (record { lo = start.lo; hi = d.last.hi }) op x y, st d k w (f ++ walk (env_of k w.labels) y) (h ++ notes y))
+      → supported y ≡ true → mixes op x ≡ false → mixes op y ≡ false → (w : Scope) (f : List Fault) (h : Notes)
+      → operated inner cover start x op (st m k w f h) ≡ Ok (tree.bin (record { lo = start.lo; hi = d.last.hi }) op x y, st d k w (f ++ walk (env_of k w.labels) y) (h ⊕ notes_of y))
   unfolding operated left_operand unmixed
   left_grouped start op x y k m d g r s a b w f h = rw (g, given.reads (operator (suc (precedence op))) k y (after m) d r s w f h, a, b) refl
 
   power_grouped : (start : Span) (x y : Tree) (k : Code) (m d : Place) → is_unary x ≡ false → In (expr_goal (operator (precedence binary.Exp)) k y (after m) d) → supported y ≡ true
-      → (w : Scope) (f h : List Fault)
-      → operated inner cover start x binary.Exp (st m k w f h) ≡ Ok (tree.bin (record { lo = start.lo; hi = d.last.hi }) binary.Exp x y, st d k w (f ++ walk (env_of k w.labels) y) (h ++ notes y))
+      → (w : Scope) (f : List Fault) (h : Notes)
+      → operated inner cover start x binary.Exp (st m k w f h) ≡ Ok (tree.bin (record { lo = start.lo; hi = d.last.hi }) binary.Exp x y, st d k w (f ++ walk (env_of k w.labels) y) (h ⊕ notes_of y))
   unfolding operated left_operand unmixed
   power_grouped start x y k m d u r s w f h = rw (u, given.reads (operator (precedence binary.Exp)) k y (after m) d r s w f h, power_mixes x, power_mixes y) refl
 
-  operator_more : (l : ℕ) (start : Span) (op : BinaryOp) (x y : Tree) (k : Code) (m d : Place) (w : Scope) (f h i j : List Fault) → operator_at l (st m k w f h) ≡ Some op
+  operator_more : (l : ℕ) (start : Span) (op : BinaryOp) (x y : Tree) (k : Code) (m d : Place) (w : Scope) (f : List Fault) (h : Notes) (i : List Fault) (j : Notes) → operator_at l (st m k w f h) ≡ Some op
       → operated inner cover start x op (st m k w f h) ≡ Ok (y, st d k w i j) → binary_from inner cover l start x (st m k w f h) ≡ binary_from inner cover l start y (st d k w i j)
   unfolding binary_from binary_turn
   operator_more l start op x y k m d w f h i j o e =
@@ -244,35 +247,35 @@ module _ (In : Goal → Type 0) (inner : Class → Reader Tree) (cover : Reader 
   operators_stop l start x s e = loop_done (binary_turn inner cover l start) x x s s (rw e refl)
 
   -- What was read so far is reached by the loop of any operators that bind no more tightly.
-  binary_reached : (l : ℕ) (k : Code) (n : ℕ) (x : Tree) (c d : Place) → l ≤ n → BinaryRule In k n x c d → supported x ≡ true → continues_unary x d ≡ false → (w : Scope) (f h : List Fault)
-      → binary_expr inner cover l (st c k w f h) ≡ binary_from inner cover l (span_at c) x (st d k w (f ++ walk (env_of k w.labels) x) (h ++ notes x))
+  binary_reached : (l : ℕ) (k : Code) (n : ℕ) (x : Tree) (c d : Place) → l ≤ n → BinaryRule In k n x c d → supported x ≡ true → continues_unary x d ≡ false → (w : Scope) (f : List Fault) (h : Notes)
+      → binary_expr inner cover l (st c k w f h) ≡ binary_from inner cover l (span_at c) x (st d k w (f ++ walk (env_of k w.labels) x) (h ⊕ notes_of x))
   unfolding binary_expr spanned
   binary_reached l k n x c d b (rules.single_rule r) s e w f h = rw (unary_reads k x c d r s e w f h) refl
   binary_reached l k n x c d b (rules.left_rule op y z m p g o r i q u v j) s e w f h =
       let t = and_yes (supported y) _ (supported_as x (tree.bin (spanned c d) op y z) j s) in
       let below : l ≤ precedence op = omega arith in
       let f' = f ++ walk (env_of k w.labels) y in
-      let h' = h ++ notes y in
+      let h' = h ⊕ notes_of y in
       binary_reached l k (precedence op) y c m below r t.0 (stops_unary y m (operator_stops m op i)) w f h
-      ∙ operator_more l (span_at c) op y (tree.bin (spanned c d) op y z) k m d w f' h' (f' ++ walk (env_of k w.labels) z) (h' ++ notes z)
+      ∙ operator_more l (span_at c) op y (tree.bin (spanned c d) op y z) k m d w f' h' (f' ++ walk (env_of k w.labels) z) (h' ⊕ notes_of z)
       (bound l op m k w f' h' i o below) (left_grouped (span_at c) op y z k m d g q t.1 u v w f' h')
-      ∙ rw (j, append_assoc f _ _, append_assoc h _ _) refl
+      ∙ rw (j, append_assoc f _ _, append_assoc h.held_back _ _, or_assoc h.found_module_item _ _) refl
   binary_reached l k n x c d b (rules.power_rule y z m p r a i q j) s e w f h =
       let t = and_yes (supported y) _ (supported_as x (tree.bin (spanned c d) binary.Exp y z) j s) in
       let below : l ≤ precedence binary.Exp = omega arith in
       let o : binary_operator (kind_at m) ≡ Some binary.Exp = rw i refl in
       let f' = f ++ walk (env_of k w.labels) y in
-      let h' = h ++ notes y in
+      let h' = h ⊕ notes_of y in
       rw (unary_reads k y c m r t.0 (stops_unary y m (operator_stops m binary.Exp o)) w f h)
-      (operator_more l (span_at c) binary.Exp y (tree.bin (spanned c d) binary.Exp y z) k m d w f' h' (f' ++ walk (env_of k w.labels) z) (h' ++ notes z)
+      (operator_more l (span_at c) binary.Exp y (tree.bin (spanned c d) binary.Exp y z) k m d w f' h' (f' ++ walk (env_of k w.labels) z) (h' ⊕ notes_of z)
       (bound l binary.Exp m k w f' h' o refl below) (power_grouped (span_at c) y z k m d a q t.1 w f' h')
-      ∙ rw (j, append_assoc f _ _, append_assoc h _ _) refl)
+      ∙ rw (j, append_assoc f _ _, append_assoc h.held_back _ _, or_assoc h.found_module_item _ _) refl)
 
   binary_reads : (l : ℕ) (k : Code) (x : Tree) (c d : Place) → BinaryRule In k l x c d → supported x ≡ true → continues_unary x d ≡ false → binds k l (binary_operator (kind_at d)) ≡ false
       → Reads (binary_expr inner cover l) k x c d
   binary_reads l k x c d r s e b w f h =
       let f' = f ++ walk (env_of k w.labels) x in
-      let h' = h ++ notes x in
+      let h' = h ⊕ notes_of x in
       binary_reached l k l x c d (omega arith) r s e w f h ∙ operators_stop l (span_at c) x (st d k w f' h') (unbound l d k w f' h' b)
 
   -- ---- AssignmentExpression
@@ -288,7 +291,7 @@ module _ (In : Goal → Type 0) (inner : Class → Reader Tree) (cover : Reader 
         binary_reads 1 k x c d r s unary_ends operators w f h,
         question,
         unassigned_at d assigns,
-        headless x k c d w (f ++ walk (env_of k w.labels) x) (h ++ notes x) heads,
+        headless x k c d w (f ++ walk (env_of k w.labels) x) (h ⊕ notes_of x) heads,
       ) refl
 
   conditional_reads : (test yes_case no_case : Tree) (i j : Place) (k : Code) (x : Tree) (c d : Place) → BinaryRule In k 1 test c i → kind_at i ≡ kind.QuestionMark
@@ -300,12 +303,12 @@ module _ (In : Goal → Type 0) (inner : Class → Reader Tree) (cover : Reader 
       rw (
         binary_reads 1 k test c i r s (stops_unary test i (question_stops i q)) (rw q refl) w f h,
         seen i kind.QuestionMark q,
-        inside_reads In inner cover given assignment k yes_case (after i) j a t w (f ++ walk env test) (h ++ notes test),
-        expect_reads kind.Colon j k w ((f ++ walk env test) ++ walk env yes_case) ((h ++ notes test) ++ notes yes_case) b,
-        given.reads assignment k no_case (after j) d o v w ((f ++ walk env test) ++ walk env yes_case) ((h ++ notes test) ++ notes yes_case),
+        inside_reads In inner cover given assignment k yes_case (after i) j a t w (f ++ walk env test) (h ⊕ notes_of test),
+        expect_reads kind.Colon j k w ((f ++ walk env test) ++ walk env yes_case) ((h ⊕ notes_of test) ⊕ notes_of yes_case) b,
+        given.reads assignment k no_case (after j) d o v w ((f ++ walk env test) ++ walk env yes_case) ((h ⊕ notes_of test) ⊕ notes_of yes_case),
         u,
         e,
-      ) (simp append_assoc refl)
+      ) (simp (append_assoc, or_assoc) refl)
 
   assigned_reads : (op : AssignOp) (x y : Tree) (m : Place) (k : Code) (z : Tree) (c d : Place) → OperandRule In k x c m → is_simple_target x ≡ true → assign_operator (kind_at m) ≡ Some op
       → In (expr_goal assignment k y (after m) d) → supported x ≡ true → supported y ≡ true → z ≡ tree.assign (spanned c d) op x y → Reads (operators_expr inner cover) k z c d
@@ -317,9 +320,9 @@ module _ (In : Goal → Type 0) (inner : Class → Reader Tree) (cover : Reader 
         apart.1,
         o,
         g,
-        given.reads assignment k y (after m) d q t w (f ++ walk (env_of k w.labels) x) (h ++ notes x),
+        given.reads assignment k y (after m) d q t w (f ++ walk (env_of k w.labels) x) (h ⊕ notes_of x),
         e,
-      ) (simp append_assoc refl)
+      ) (simp (append_assoc, or_assoc) refl)
 
   -- ---- what may still become a pattern
 
@@ -333,7 +336,7 @@ module _ (In : Goal → Type 0) (inner : Class → Reader Tree) (cover : Reader 
   kept : (k : Code) (x : Tree) (c d : Place) → Reads (operators_expr inner cover) k x c d → ReadsAs (AsWhole x) (cover_expr inner cover) k x c d
   kept k x c d r w f h =
       let s = st c k w f h in
-      let t = st d k w (f ++ walk (env_of k w.labels) x) (h ++ notes x) in
+      let t = st d k w (f ++ walk (env_of k w.labels) x) (h ⊕ notes_of x) in
       let o = operators_cover inner cover s x t (r w f h) in
       record { value = o.v; holds = (o.is, o.unmarked, λ g. commaless s o.v t (ap is_literal o.is ∙ g) (cover_is inner cover s o.v t o.reads)); is = o.reads }
 
@@ -358,9 +361,9 @@ module _ (In : Goal → Type 0) (inner : Class → Reader Tree) (cover : Reader 
       let (first, reads) = literal_reads k p c m r g s in
       let v = reads w f h in
       let f' = f ++ walk (env_of k w.labels) p in
-      let h' = h ++ notes p in
+      let h' = h ⊕ notes_of p in
       let x = tree.assign (spanned c d) assign.Assign p y in
-      let u : Assigns inner cover (st c k w f h) (done x) (st d k w (f' ++ walk (env_of k w.labels) y) (h' ++ notes y)) = record {
+      let u : Assigns inner cover (st c k w f h) (done x) (st d k w (f' ++ walk (env_of k w.labels) y) (h' ⊕ notes_of y)) = record {
         found = v.value;
         behind = st m k w f' h';
         p = p;
@@ -376,7 +379,7 @@ module _ (In : Goal → Type 0) (inner : Class → Reader Tree) (cover : Reader 
       record {
         value = done x;
         holds = (refl, refl, λ _. refl);
-        is = assigns_cover inner cover (st c k w f h) (done x) (st d k w (f' ++ walk (env_of k w.labels) y) (h' ++ notes y)) u ∙ rw (append_assoc f _ _, append_assoc h _ _) refl;
+        is = assigns_cover inner cover (st c k w f h) (done x) (st d k w (f' ++ walk (env_of k w.labels) y) (h' ⊕ notes_of y)) u ∙ rw (append_assoc f _ _, append_assoc h.held_back _ _, or_assoc h.found_module_item _ _) refl;
       }
 
   whole_reads : (k : Code) (x : Tree) (c d : Place) → AssignmentRule In k x c d → supported x ≡ true → ReadsAs (AsWhole x) (cover_expr inner cover) k x c d
@@ -399,7 +402,7 @@ module _ (In : Goal → Type 0) (inner : Class → Reader Tree) (cover : Reader 
   assignment_reads : (k : Code) (x : Tree) (c d : Place) → AssignmentRule In k x c d → supported x ≡ true → Reads (assignment_expr inner cover) k x c d
   assignment_reads k x c d r s w f h =
       let v = whole_reads k x c d r s w f h in
-      let t = st d k w (f ++ walk (env_of k w.labels) x) (h ++ notes x) in
+      let t = st d k w (f ++ walk (env_of k w.labels) x) (h ⊕ notes_of x) in
       covers.assignment_reads inner cover (st c k w f h) v.value t v.is v.holds.1 ∙ ap (λ z. Ok (z, t)) v.holds.0
 
   -- ---- patterns without a default
@@ -436,7 +439,7 @@ module _ (In : Goal → Type 0) (inner : Class → Reader Tree) (cover : Reader 
   bare_literal k p c d r g s t w f h =
       let (first, reads) = literal_reads k p c d r g s in
       let v = reads w f h in
-      let behind = st d k w (f ++ walk (env_of k w.labels) p) (h ++ notes p) in
+      let behind = st d k w (f ++ walk (env_of k w.labels) p) (h ⊕ notes_of p) in
       record {
         value = v.value;
         holds = (v.holds.0, v.holds.1, v.holds.2, ap (λ (z : Span). z.hi) v.holds.3);
@@ -483,24 +486,24 @@ module _ (In : Goal → Type 0) (inner : Class → Reader Tree) (cover : Reader 
   -- ---- Expression
 
   -- the parts of a sequence, from a comma on
-  many_parts : (xs found : List Tree) (k : Code) (c d : Place) (w : Scope) (f h : List Fault) → ReadsSeparated (AssignmentRule In k) xs (after c) d → all_supported (trees xs) ≡ true
-      → loop (sequence_turn inner cover) found (st c k w f h) ≡ Ok (found ++ xs, st d k w (f ++ walks (env_of k w.labels) false (trees xs)) (h ++ all_notes (trees xs)))
+  many_parts : (xs found : List Tree) (k : Code) (c d : Place) (w : Scope) (f : List Fault) (h : Notes) → ReadsSeparated (AssignmentRule In k) xs (after c) d → all_supported (trees xs) ≡ true
+      → loop (sequence_turn inner cover) found (st c k w f h) ≡ Ok (found ++ xs, st d k w (f ++ walks (env_of k w.labels) false (trees xs)) (h ⊕ all_notes_of (trees xs)))
   unfolding sequence_turn
   many_parts [] found k c d w f h r s = absurd r
   many_parts (x ∷ []) found k c d w f h (r, e) s =
       let t = (and_yes (supported x) _ s).0 in
-      rw (append-nil (walk (env_of k w.labels) x), append-nil (notes x))
-      (loop_done (sequence_turn inner cover) found (found ++ x ∷ []) (st c k w f h) (st d k w (f ++ walk (env_of k w.labels) x) (h ++ notes x))
+      rw (append-nil (walk (env_of k w.labels) x), append-nil (notes x), or_nil (has_meta x))
+      (loop_done (sequence_turn inner cover) found (found ++ x ∷ []) (st c k w f h) (st d k w (f ++ walk (env_of k w.labels) x) (h ⊕ notes_of x))
       (rw (assignment_reads k x (after c) d r t w f h, e) refl))
   many_parts (x ∷ y ∷ ys) found k c d w f h (m, r, e, more) s =
       let t = and_yes (supported x) _ s in
       let f' = f ++ walk (env_of k w.labels) x in
-      let h' = h ++ notes x in
+      let h' = h ⊕ notes_of x in
       let one = assignment_reads k x (after c) m r t.0 w f h in
       let falls = assignment_falls inner cover given.falls given.cover_falls (st (after c) k w f h) in
       let fewer = shorter_by (length (after c).left) (assignment_expr inner cover (st (after c) k w f h)) x (st m k w f' h') one falls in
       loop_more (sequence_turn inner cover) found (found ++ x ∷ []) (st c k w f h) (st m k w f' h') (rw (one, seen m kind.Comma e) refl) (let b = moves c in omega arith)
-      ∙ many_parts (y ∷ ys) (found ++ x ∷ []) k m d w f' h' more t.1 ∙ simp append_assoc refl
+      ∙ many_parts (y ∷ ys) (found ++ x ∷ []) k m d w f' h' more t.1 ∙ simp (append_assoc, or_assoc) refl
 
   sequence_reads : (e : Tree) (es : List Tree) (m : Place) (k : Code) (x : Tree) (c d : Place) → AssignmentRule In k e c m → kind_at m ≡ kind.Comma
       → ReadsSeparated (AssignmentRule In k) es (after m) d → supported e ≡ true → all_supported (trees es) ≡ true → x ≡ tree.seq (spanned c d) (listed (e ∷ es))
@@ -510,9 +513,9 @@ module _ (In : Goal → Type 0) (inner : Class → Reader Tree) (cover : Reader 
       rw (
         assignment_reads k e c m r s w f h,
         seen m kind.Comma g,
-        many_parts es (e ∷ []) k m d w (f ++ walk (env_of k w.labels) e) (h ++ notes e) more t,
+        many_parts es (e ∷ []) k m d w (f ++ walk (env_of k w.labels) e) (h ⊕ notes_of e) more t,
         j,
-      ) (simp append_assoc refl)
+      ) (simp (append_assoc, or_assoc) refl)
 
   single_reads : (k : Code) (x : Tree) (c d : Place) → AssignmentRule In k x c d → supported x ≡ true → sees kind.Comma d ≡ false → Reads (expression_expr inner cover) k x c d
   unfolding expression_expr

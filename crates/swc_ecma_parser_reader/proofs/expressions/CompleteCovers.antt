@@ -15,6 +15,7 @@ use Rattle.swc_ecma_parser_grammar.specs.Looks.{kind_at, sees, same_kind, span_a
 use Rattle.swc_ecma_parser_grammar.specs.Names.{Code, is_name, is_reserved}
 use Rattle.swc_ecma_parser_grammar.specs.Reads.{with_in}
 use Rattle.swc_ecma_parser_grammar.specs.Notes.{notes, all_notes}
+use Rattle.swc_ecma_parser_grammar.specs.language.Noted.{has_meta}
 use Rattle.swc_ecma_parser_grammar.specs.Walk.{env_of, walk, walks}
 use Rattle.swc_ecma_parser_grammar.specs.Supported.{supported, is_supported_key, all_supported}
 use Rattle.swc_ecma_parser_grammar.specs.language.Goals.{Goal, Class, assignment, Purpose, assigning, expr_goal, element_goal, pattern_goal}
@@ -29,8 +30,10 @@ use Rattle.swc_ecma_parser_grammar.specs.language.Patterns as patterns
 use Rattle.swc_ecma_parser_grammar.specs.language.Patterns.{PatternPropertyRule}
 use Rattle.swc_ecma_parser_grammar.proofs.Tests.{or_none, and_yes}
 use Rattle.swc_ecma_parser_grammar.proofs.language.spans.Expressions.{name_span}
+use Rattle.swc_ecma_parser_reader.specs.Notes.{Notes, no_notes, held, ◌⊕◌, notes_of, all_notes_of}
 use Rattle.swc_ecma_parser_reader.specs.State.{Scope, Reader, loop}
 use Rattle.swc_ecma_parser_reader.specs.Expressions.{Cover, Covers, first_mark, no_covers, with_cover, with_comma, done, part_as, whole_of, covered, spread_item, plain_item, item, array_turn, elements, array, key_value, initialized, initialized_name, bare_key, behind_key, keyed_property, spread_property, property, object_turn, properties, object}
+use Rattle.swc_ecma_parser_reader.proofs.Notes.{or_nil, or_assoc}
 use Rattle.swc_ecma_parser_reader.proofs.Answered.{st, Gets, ReadsAs}
 use Rattle.swc_ecma_parser_reader.proofs.Takes.{moves, takes}
 use Rattle.swc_ecma_parser_reader.proofs.Steps.{loop_more, loop_done}
@@ -189,7 +192,7 @@ module _ (In : Goal → Type 0) (inner : Class → Reader Tree) (cover : Reader 
       }
 
   -- an element, and what stands behind it
-  item_more : (found : Covers) (v : Cover) (k : Code) (c m d : Place) (w : Scope) (f h i j : List Fault) → item inner cover (st c k w f h) ≡ Ok (v, st m k w i j)
+  item_more : (found : Covers) (v : Cover) (k : Code) (c m d : Place) (w : Scope) (f : List Fault) (h : Notes) (i : List Fault) (j : Notes) → item inner cover (st c k w f h) ≡ Ok (v, st m k w i j)
       → sees kind.RBracket c ≡ false → sees kind.Comma c ≡ false → (b : Behind kind.RBracket m d)
       → loop (array_turn inner cover) found (st c k w f h) ≡ loop (array_turn inner cover) (commaed b (sees kind.DotDotDot c) (with_cover found v)) (st d k w i j)
   unfolding array_turn same_kind
@@ -202,39 +205,39 @@ module _ (In : Goal → Type 0) (inner : Class → Reader Tree) (cover : Reader 
       (rw (bracket, comma, r, e, expect_reads kind.Comma m k w i j e, g) refl) (rw g (let n = moves m in omega arith))
 
   -- a hole, and the comma behind it
-  hole_more : (found : Covers) (k : Code) (c : Place) (w : Scope) (f h : List Fault) → kind_at c ≡ kind.Comma
+  hole_more : (found : Covers) (k : Code) (c : Place) (w : Scope) (f : List Fault) (h : Notes) → kind_at c ≡ kind.Comma
       → loop (array_turn inner cover) found (st c k w f h) ≡ loop (array_turn inner cover) (with_cover found (done tree.absent)) (st (after c) k w f h)
   unfolding array_turn same_kind
   hole_more found k c w f h e =
       loop_more (array_turn inner cover) found (with_cover found (done tree.absent)) (st c k w f h) (st (after c) k w f h) (rw e refl)
       (let a = takes c (λ g. let i = sym g ∙ e in cc) in omega arith)
 
-  elements_end : (found : Covers) (k : Code) (c : Place) (w : Scope) (f h : List Fault) → kind_at c ≡ kind.RBracket
+  elements_end : (found : Covers) (k : Code) (c : Place) (w : Scope) (f : List Fault) (h : Notes) → kind_at c ≡ kind.RBracket
       → loop (array_turn inner cover) found (st c k w f h) ≡ Ok (found, st (after c) k w f h)
   unfolding array_turn
   elements_end found k c w f h e = loop_done (array_turn inner cover) found found (st c k w f h) (st (after c) k w f h) (rw (seen c kind.RBracket e) refl)
 
-  one_element : (k : Code) (x : Tree) (found : Covers) (c m d : Place) (w : Scope) (f h : List Fault) → ElementRule In k x c m → Behind kind.RBracket m d → supported x ≡ true
+  one_element : (k : Code) (x : Tree) (found : Covers) (c m d : Place) (w : Scope) (f : List Fault) (h : Notes) → ElementRule In k x c m → Behind kind.RBracket m d → supported x ≡ true
       → kind_at d ≡ kind.RBracket → found.mark ≡ None
       → Gets (AsExprs (x ∷ []) found) (loop (array_turn inner cover) found (st c k w f h))
-      (st (after d) k w (f ++ walks (env_of k w.labels) false (trees (x ∷ []))) (h ++ all_notes (trees (x ∷ []))))
+      (st (after d) k w (f ++ walks (env_of k w.labels) false (trees (x ∷ []))) (h ⊕ all_notes_of (trees (x ∷ []))))
   one_element k x found c m d w f h r b s e n =
       let v = element_item k x c m r s w f h in
       let first = element_begins In inner cover given k x c m r s in
       let more = commaed b (sees kind.DotDotDot c) (with_cover found v.value) in
       let f' = f ++ walk (env_of k w.labels) x in
-      let h' = h ++ notes x in
+      let h' = h ⊕ notes_of x in
       record {
         value = more;
         holds = (commaed_trees b _ _ ∙ ap (λ z. found.xs ++ z ∷ []) v.holds.0, commaed_mark b _ _ ∙ no_mark _ _ n v.holds.1);
-        is = rw (append-nil (walk (env_of k w.labels) x), append-nil (notes x)) (item_more found v.value k c m d w f h f' h' v.is first.1 first.2 b ∙ elements_end more k d w f' h' e);
+        is = rw (append-nil (walk (env_of k w.labels) x), append-nil (notes x), or_nil (has_meta x)) (item_more found v.value k c m d w f h f' h' v.is first.1 first.2 b ∙ elements_end more k d w f' h' e);
       }
 
-  many_elements : (k : Code) (xs : List Tree) (found : Covers) (c d : Place) (w : Scope) (f h : List Fault) → Elements (ElementRule In k) xs c d → all_supported (trees xs) ≡ true
+  many_elements : (k : Code) (xs : List Tree) (found : Covers) (c d : Place) (w : Scope) (f : List Fault) (h : Notes) → Elements (ElementRule In k) xs c d → all_supported (trees xs) ≡ true
       → kind_at d ≡ kind.RBracket → found.mark ≡ None
-      → Gets (AsExprs xs found) (loop (array_turn inner cover) found (st c k w f h)) (st (after d) k w (f ++ walks (env_of k w.labels) false (trees xs)) (h ++ all_notes (trees xs)))
+      → Gets (AsExprs xs found) (loop (array_turn inner cover) found (st c k w f h)) (st (after d) k w (f ++ walks (env_of k w.labels) false (trees xs)) (h ⊕ all_notes_of (trees xs)))
   many_elements k xs found c d w f h (no_elements j i) s e n =
-      rw j (record { value = found; holds = (sym (append-nil found.xs), n); is = rw (append-nil f, append-nil h, i) (elements_end found k c w f h (ap kind_at (sym i) ∙ e)) })
+      rw j (record { value = found; holds = (sym (append-nil found.xs), n); is = rw (append-nil f, append-nil h.held_back, or_nil h.found_module_item, i) (elements_end found k c w f h (ap kind_at (sym i) ∙ e)) })
   many_elements k xs found c d w f h (hole ys i more j) s e n =
       let t : all_supported (trees ys) ≡ true = sym (ap (λ z. all_supported (trees z)) j) ∙ s in
       let o = many_elements k ys (with_cover found (done tree.absent)) (after c) d w f h more t e (no_mark _ _ n refl) in
@@ -249,12 +252,12 @@ module _ (In : Goal → Type 0) (inner : Class → Reader Tree) (cover : Reader 
       let first = element_begins In inner cover given k x c m r t.0 in
       let next = with_comma (sees kind.DotDotDot c) (with_cover found v.value) in
       let f' = f ++ walk (env_of k w.labels) x in
-      let h' = h ++ notes x in
+      let h' = h ⊕ notes_of x in
       let o = many_elements k (y ∷ ys) next (after m) d w f' h' more t.1 e (no_mark _ _ n v.holds.1) in
       rw j (record {
         value = o.value;
         holds = (o.holds.0 ∙ ap (λ z. (found.xs ++ z ∷ []) ++ y ∷ ys) v.holds.0 ∙ append_assoc found.xs (x ∷ []) (y ∷ ys), o.holds.1);
-        is = item_more found v.value k c m (after m) w f h f' h' v.is first.1 first.2 (inr (i, refl)) ∙ o.is ∙ simp append_assoc refl;
+        is = item_more found v.value k c m (after m) w f h f' h' v.is first.1 first.2 (inr (i, refl)) ∙ o.is ∙ simp (append_assoc, or_assoc) refl;
       })
 
   pub array_reads : (xs : List Tree) (m : Place) (k : Code) (x : Tree) (c d : Place) → Elements (ElementRule In k) xs (after c) m → all_supported (trees xs) ≡ true → kind_at m ≡ kind.RBracket
@@ -281,44 +284,44 @@ module _ (In : Goal → Type 0) (inner : Class → Reader Tree) (cover : Reader 
   rest_or k p c d (functions.element_rule r) = inl r
   rest_or k p c d (functions.rest_rule y o r e) = inr (record { y = y; dots = o; reads_rest = r; is = e })
 
-  one_part : (k : Code) (p : Tree) (found : Covers) (c m d : Place) (w : Scope) (f h : List Fault) → In (element_goal assigning (with_in k) p c m) → Behind kind.RBracket m d → supported p ≡ true
+  one_part : (k : Code) (p : Tree) (found : Covers) (c m d : Place) (w : Scope) (f : List Fault) (h : Notes) → In (element_goal assigning (with_in k) p c m) → Behind kind.RBracket m d → supported p ≡ true
       → kind_at d ≡ kind.RBracket → found.comma ≡ false
       → Gets (AsParts as_elements (p ∷ []) found) (loop (array_turn inner cover) found (st c k w f h))
-      (st (after d) k w (f ++ walks (env_of k w.labels) false (trees (p ∷ []))) (h ++ all_notes (trees (p ∷ []))))
+      (st (after d) k w (f ++ walks (env_of k w.labels) false (trees (p ∷ []))) (h ⊕ all_notes_of (trees (p ∷ []))))
   one_part k p found c m d w f h r b s e n =
       let v = part_item k p c m r s (behind_ends kind.RBracket m d refl b) w f h in
       let first = begin_seen c (given.begins_element (with_in k) p c m r s) in
       let more = commaed b (sees kind.DotDotDot c) (with_cover found v.value) in
       let f' = f ++ walk (env_of k w.labels) p in
-      let h' = h ++ notes p in
+      let h' = h ⊕ notes_of p in
       record {
         value = more;
         holds = parts_last as_elements p found v.value more (v.holds.0 none none refl, v.holds.1) (commaed_trees b _ _) (commaed_comma b _ _ first.0 (or_none _ _ n v.holds.1));
-        is = rw (append-nil (walk (env_of k w.labels) p), append-nil (notes p)) (item_more found v.value k c m d w f h f' h' v.is first.2 first.3 b ∙ elements_end more k d w f' h' e);
+        is = rw (append-nil (walk (env_of k w.labels) p), append-nil (notes p), or_nil (has_meta p)) (item_more found v.value k c m d w f h f' h' v.is first.2 first.3 b ∙ elements_end more k d w f' h' e);
       }
 
-  one_rest : (k : Code) (p : Tree) (found : Covers) (c m : Place) (w : Scope) (f h : List Fault) → RestItem (with_in k) p c m → supported p ≡ true
+  one_rest : (k : Code) (p : Tree) (found : Covers) (c m : Place) (w : Scope) (f : List Fault) (h : Notes) → RestItem (with_in k) p c m → supported p ≡ true
       → kind_at m ≡ kind.RBracket → found.comma ≡ false
       → Gets (AsParts as_elements (p ∷ []) found) (loop (array_turn inner cover) found (st c k w f h))
-      (st (after m) k w (f ++ walks (env_of k w.labels) false (trees (p ∷ []))) (h ++ all_notes (trees (p ∷ []))))
+      (st (after m) k w (f ++ walks (env_of k w.labels) false (trees (p ∷ []))) (h ⊕ all_notes_of (trees (p ∷ []))))
   unfolding same_kind
   one_rest k p found c m w f h r s e n =
       let q = tree.rest_pat (spanned c m) r.y in
       let v = rest_item r.y k c m r.dots r.reads_rest (supported_as p q r.is s) (rw e refl) w f h in
       let more = with_cover found v.value in
       let f' = f ++ walk (env_of k w.labels) q in
-      let h' = h ++ notes q in
+      let h' = h ⊕ notes_of q in
       rw r.is (record {
         value = more;
         holds = parts_last as_elements q found v.value more v.holds refl (or_none _ _ n v.holds.1);
-        is = rw (append-nil (walk (env_of k w.labels) q), append-nil (notes q))
+        is = rw (append-nil (walk (env_of k w.labels) q), append-nil (notes q), or_nil (has_meta q))
             (item_more found v.value k c m m w f h f' h' v.is (rw r.dots refl) (rw r.dots refl) (inl (e, refl)) ∙ elements_end more k m w f' h' e);
       })
 
-  last_part : (k : Code) (p : Tree) (found : Covers) (c m d : Place) (w : Scope) (f h : List Fault) → In (element_goal assigning (with_in k) p c m) ⊎ RestItem (with_in k) p c m
+  last_part : (k : Code) (p : Tree) (found : Covers) (c m d : Place) (w : Scope) (f : List Fault) (h : Notes) → In (element_goal assigning (with_in k) p c m) ⊎ RestItem (with_in k) p c m
       → LastComma true p m d → supported p ≡ true → kind_at d ≡ kind.RBracket → found.comma ≡ false
       → Gets (AsParts as_elements (p ∷ []) found) (loop (array_turn inner cover) found (st c k w f h))
-      (st (after d) k w (f ++ walks (env_of k w.labels) false (trees (p ∷ []))) (h ++ all_notes (trees (p ∷ []))))
+      (st (after d) k w (f ++ walks (env_of k w.labels) false (trees (p ∷ []))) (h ⊕ all_notes_of (trees (p ∷ []))))
   last_part k p found c m d w f h (inl r) l s e n = one_part k p found c m d w f h r (behind_last kind.RBracket p m d l e) s e n
   last_part k p found c m d w f h (inr r) l s e n =
       let g = rest_ends p m d (ap is_rest r.is) l in
@@ -328,14 +331,14 @@ module _ (In : Goal → Type 0) (inner : Class → Reader Tree) (cover : Reader 
   no_rest k p c d (inl r) e = r
   no_rest k p c d (inr r) e = absurd (let h : is_rest p ≡ true = ap is_rest r.is in cc)
 
-  many_parts : (k : Code) (ps : List Tree) (found : Covers) (c d : Place) (w : Scope) (f h : List Fault) → Elements (PatternItemRule In assigning (with_in k)) ps c d
+  many_parts : (k : Code) (ps : List Tree) (found : Covers) (c d : Place) (w : Scope) (f : List Fault) (h : Notes) → Elements (PatternItemRule In assigning (with_in k)) ps c d
       → all_supported (trees ps) ≡ true → kind_at d ≡ kind.RBracket → found.comma ≡ false
-      → Gets (AsParts as_elements ps found) (loop (array_turn inner cover) found (st c k w f h)) (st (after d) k w (f ++ walks (env_of k w.labels) false (trees ps)) (h ++ all_notes (trees ps)))
+      → Gets (AsParts as_elements ps found) (loop (array_turn inner cover) found (st c k w f h)) (st (after d) k w (f ++ walks (env_of k w.labels) false (trees ps)) (h ⊕ all_notes_of (trees ps)))
   many_parts k ps found c d w f h (no_elements j i) s e n =
       rw j (record {
         value = found;
         holds = record { behind = []; trees_are = sym (append-nil found.xs); is_turned = refl; no_commas = n };
-        is = rw (append-nil f, append-nil h, i) (elements_end found k c w f h (ap kind_at (sym i) ∙ e));
+        is = rw (append-nil f, append-nil h.held_back, or_nil h.found_module_item, i) (elements_end found k c w f h (ap kind_at (sym i) ∙ e));
       })
   many_parts k ps found c d w f h (hole qs i more j) s e n =
       let t : all_supported (trees qs) ≡ true = sym (ap (λ z. all_supported (trees z)) j) ∙ s in
@@ -357,12 +360,12 @@ module _ (In : Goal → Type 0) (inner : Class → Reader Tree) (cover : Reader 
       let first = begin_seen c (given.begins_element (with_in k) p c m r' t.0) in
       let next = with_comma (sees kind.DotDotDot c) (with_cover found v.value) in
       let f' = f ++ walk (env_of k w.labels) p in
-      let h' = h ++ notes p in
+      let h' = h ⊕ notes_of p in
       let o = many_parts k (q ∷ qs) next (after m) d w f' h' more t.1 e (or_none _ _ (or_none _ _ n v.holds.1) first.0) in
       rw j (record {
         value = o.value;
         holds = parts_more as_elements p (q ∷ qs) found v.value next o.value v.holds refl o.holds;
-        is = item_more found v.value k c m (after m) w f h f' h' v.is first.2 first.3 (inr (i, refl)) ∙ o.is ∙ simp append_assoc refl;
+        is = item_more found v.value k c m (after m) w f h f' h' v.is first.2 first.3 (inr (i, refl)) ∙ o.is ∙ simp (append_assoc, or_assoc) refl;
       })
 
   pub array_pattern : (ps : List Tree) (m : Place) (k : Code) (p : Tree) (c d : Place) → Elements (PatternItemRule In assigning (with_in k)) ps (after c) m → all_supported (trees ps) ≡ true
@@ -381,11 +384,11 @@ module _ (In : Goal → Type 0) (inner : Class → Reader Tree) (cover : Reader 
   -- ---- the parts of an object
 
   -- a key and a value
-  valued : (y z : Tree) (v : Cover) (m : Place) (k : Code) (c d : Place) (w : Scope) (f h : List Fault) → KeyRule In k y c m → is_supported_key y ≡ true → kind_at m ≡ kind.Colon
-      → covered inner cover (st (after m) k w (f ++ walk (env_of k w.labels) y) (h ++ notes y))
-      ≡ Ok (v, st d k w ((f ++ walk (env_of k w.labels) y) ++ walk (env_of k w.labels) z) ((h ++ notes y) ++ notes z))
+  valued : (y z : Tree) (v : Cover) (m : Place) (k : Code) (c d : Place) (w : Scope) (f : List Fault) (h : Notes) → KeyRule In k y c m → is_supported_key y ≡ true → kind_at m ≡ kind.Colon
+      → covered inner cover (st (after m) k w (f ++ walk (env_of k w.labels) y) (h ⊕ notes_of y))
+      ≡ Ok (v, st d k w ((f ++ walk (env_of k w.labels) y) ++ walk (env_of k w.labels) z) ((h ⊕ notes_of y) ⊕ notes_of z))
       → property inner cover (st c k w f h)
-      ≡ Ok (part_as (tree.key_value_prop (spanned c d) y) v, st d k w (f ++ (walk (env_of k w.labels) y ++ walk (env_of k w.labels) z)) (h ++ (notes y ++ notes z)))
+      ≡ Ok (part_as (tree.key_value_prop (spanned c d) y) v, st d k w (f ++ (walk (env_of k w.labels) y ++ walk (env_of k w.labels) z)) (h ⊕ (notes_of y ⊕ notes_of z)))
   unfolding property keyed_property behind_key key_value spanned
   valued y z v m k c d w f h r s i g =
       rw (
@@ -394,14 +397,15 @@ module _ (In : Goal → Type 0) (inner : Class → Reader Tree) (cover : Reader 
         seen m kind.Colon i,
         g,
         append_assoc f (walk (env_of k w.labels) y) (walk (env_of k w.labels) z),
-        append_assoc h (notes y) (notes z),
+        append_assoc h.held_back (notes y) (notes z),
+        or_assoc h.found_module_item (has_meta y) (has_meta z),
       ) refl
 
   valued_property : (y z : Tree) (m : Place) (k : Code) (c d : Place) → KeyRule In k y c m → is_supported_key y ≡ true → kind_at m ≡ kind.Colon
       → In (expr_goal assignment (with_in k) z (after m) d) → supported z ≡ true
       → ReadsAs (AsExpr (tree.key_value_prop (spanned c d) y z)) (property inner cover) k (tree.key_value_prop (spanned c d) y z) c d
   valued_property y z m k c d r s i g t w f h =
-      let v = covered_reads (AsExpr z) k z (after m) d (given.exprs (with_in k) z (after m) d g t) w (f ++ walk (env_of k w.labels) y) (h ++ notes y) in
+      let v = covered_reads (AsExpr z) k z (after m) d (given.exprs (with_in k) z (after m) d g t) w (f ++ walk (env_of k w.labels) y) (h ⊕ notes_of y) in
       record {
         value = part_as (tree.key_value_prop (spanned c d) y) v.value;
         holds = (ap (tree.key_value_prop (spanned c d) y) v.holds.0, v.holds.1);
@@ -409,7 +413,7 @@ module _ (In : Goal → Type 0) (inner : Class → Reader Tree) (cover : Reader 
       }
 
   -- a name alone
-  shorthand_reads_as : (text : Text) (sp : Span) (k : Code) (c d : Place) (w : Scope) (f h : List Fault) → ReadsWord text sp c d → is_name k.flags text ≡ true → ends_part (kind_at d) ≡ true
+  shorthand_reads_as : (text : Text) (sp : Span) (k : Code) (c d : Place) (w : Scope) (f : List Fault) (h : Notes) → ReadsWord text sp c d → is_name k.flags text ≡ true → ends_part (kind_at d) ≡ true
       → property inner cover (st c k w f h) ≡ Ok (done (tree.shorthand_prop sp text), st d k w f h)
   unfolding property keyed_property behind_key bare_key
   shorthand_reads_as text sp k c d w f h r n e =
@@ -418,7 +422,8 @@ module _ (In : Goal → Type 0) (inner : Class → Reader Tree) (cover : Reader 
         (key_begins In k (tree.ident sp text) c d (parts.word_key text sp r refl)).1,
         key_reads In inner cover given k (tree.ident sp text) c d (parts.word_key text sp r refl) refl w f h,
         append-nil f,
-        append-nil h,
+        append-nil h.held_back,
+        or_nil h.found_module_item,
         t.colon,
         t.assign,
         shorthand_reads text sp (tree.shorthand_prop sp text) d k w f h n refl,
@@ -445,7 +450,7 @@ module _ (In : Goal → Type 0) (inner : Class → Reader Tree) (cover : Reader 
       rw g (record {
         value = done (tree.shorthand_prop sp text);
         holds = (refl, refl);
-        is = rw (append-nil f, append-nil h) (shorthand_reads_as text sp k c d w f h (word_of k text sp c d r) n q);
+        is = rw (append-nil f, append-nil h.held_back, or_nil h.found_module_item) (shorthand_reads_as text sp k c d w f h (word_of k text sp c d r) n q);
       })
   property_reads k x c d (objects.key_value_rule y z m r i v g) s q w f h =
       let t = and_yes (is_supported_key y) _ (supported_as x (tree.key_value_prop (spanned c d) y z) g s) in
@@ -464,7 +469,7 @@ module _ (In : Goal → Type 0) (inner : Class → Reader Tree) (cover : Reader 
   property_begins k x c d (objects.method_rule i j y ps b r g) s = refuted x (ap supported g) s
 
   -- a property, and what stands behind it
-  property_more : (found : Covers) (v : Cover) (k : Code) (c m d : Place) (w : Scope) (f h i j : List Fault) → property inner cover (st c k w f h) ≡ Ok (v, st m k w i j)
+  property_more : (found : Covers) (v : Cover) (k : Code) (c m d : Place) (w : Scope) (f : List Fault) (h : Notes) (i : List Fault) (j : Notes) → property inner cover (st c k w f h) ≡ Ok (v, st m k w i j)
       → sees kind.RBrace c ≡ false → (b : Behind kind.RBrace m d)
       → loop (object_turn inner cover) found (st c k w f h) ≡ loop (object_turn inner cover) (commaed b (sees kind.DotDotDot c) (with_cover found v)) (st d k w i j)
   unfolding object_turn same_kind
@@ -476,27 +481,27 @@ module _ (In : Goal → Type 0) (inner : Class → Reader Tree) (cover : Reader 
       loop_more (object_turn inner cover) found (with_comma (sees kind.DotDotDot c) (with_cover found v)) (st c k w f h) (st d k w i j)
       (rw (brace, r, e, expect_reads kind.Comma m k w i j e, g) refl) (rw g (let n = moves m in omega arith))
 
-  properties_end : (found : Covers) (k : Code) (c : Place) (w : Scope) (f h : List Fault) → kind_at c ≡ kind.RBrace
+  properties_end : (found : Covers) (k : Code) (c : Place) (w : Scope) (f : List Fault) (h : Notes) → kind_at c ≡ kind.RBrace
       → loop (object_turn inner cover) found (st c k w f h) ≡ Ok (found, st (after c) k w f h)
   unfolding object_turn
   properties_end found k c w f h e = loop_done (object_turn inner cover) found found (st c k w f h) (st (after c) k w f h) (rw (seen c kind.RBrace e) refl)
 
-  many_properties : (xs : List Tree) (found : Covers) (k : Code) (c d : Place) (w : Scope) (f h : List Fault) → ReadsListed true (PropertyRule In k) xs c d → all_supported (trees xs) ≡ true
+  many_properties : (xs : List Tree) (found : Covers) (k : Code) (c d : Place) (w : Scope) (f : List Fault) (h : Notes) → ReadsListed true (PropertyRule In k) xs c d → all_supported (trees xs) ≡ true
       → kind_at d ≡ kind.RBrace → found.mark ≡ None
-      → Gets (AsExprs xs found) (loop (object_turn inner cover) found (st c k w f h)) (st (after d) k w (f ++ walks (env_of k w.labels) false (trees xs)) (h ++ all_notes (trees xs)))
+      → Gets (AsExprs xs found) (loop (object_turn inner cover) found (st c k w f h)) (st (after d) k w (f ++ walks (env_of k w.labels) false (trees xs)) (h ⊕ all_notes_of (trees xs)))
   many_properties [] found k c d w f h r s e n =
-      record { value = found; holds = (sym (append-nil found.xs), n); is = rw (append-nil f, append-nil h, r) (properties_end found k c w f h (ap kind_at (sym r) ∙ e)) }
+      record { value = found; holds = (sym (append-nil found.xs), n); is = rw (append-nil f, append-nil h.held_back, or_nil h.found_module_item, r) (properties_end found k c w f h (ap kind_at (sym r) ∙ e)) }
   many_properties (x ∷ []) found k c d w f h (m, r, l) s e n =
       let t = (and_yes (supported x) _ s).0 in
       let b = behind_last kind.RBrace x m d l e in
       let v = property_reads k x c m r t (behind_ends kind.RBrace m d refl b) w f h in
       let more = commaed b (sees kind.DotDotDot c) (with_cover found v.value) in
       let f' = f ++ walk (env_of k w.labels) x in
-      let h' = h ++ notes x in
+      let h' = h ⊕ notes_of x in
       record {
         value = more;
         holds = (commaed_trees b _ _ ∙ ap (λ z. found.xs ++ z ∷ []) v.holds.0, commaed_mark b _ _ ∙ no_mark _ _ n v.holds.1);
-        is = rw (append-nil (walk (env_of k w.labels) x), append-nil (notes x))
+        is = rw (append-nil (walk (env_of k w.labels) x), append-nil (notes x), or_nil (has_meta x))
             (property_more found v.value k c m d w f h f' h' v.is (property_begins k x c m r t) b ∙ properties_end more k d w f' h' e);
       }
   many_properties (x ∷ y ∷ ys) found k c d w f h (m, r, a, i, more) s e n =
@@ -504,12 +509,12 @@ module _ (In : Goal → Type 0) (inner : Class → Reader Tree) (cover : Reader 
       let v = property_reads k x c m r t.0 (rw i refl) w f h in
       let next = with_comma (sees kind.DotDotDot c) (with_cover found v.value) in
       let f' = f ++ walk (env_of k w.labels) x in
-      let h' = h ++ notes x in
+      let h' = h ⊕ notes_of x in
       let o = many_properties (y ∷ ys) next k (after m) d w f' h' more t.1 e (no_mark _ _ n v.holds.1) in
       record {
         value = o.value;
         holds = (o.holds.0 ∙ ap (λ z. (found.xs ++ z ∷ []) ++ y ∷ ys) v.holds.0 ∙ append_assoc found.xs (x ∷ []) (y ∷ ys), o.holds.1);
-        is = property_more found v.value k c m (after m) w f h f' h' v.is (property_begins k x c m r t.0) (inr (i, refl)) ∙ o.is ∙ simp append_assoc refl;
+        is = property_more found v.value k c m (after m) w f h f' h' v.is (property_begins k x c m r t.0) (inr (i, refl)) ∙ o.is ∙ simp (append_assoc, or_assoc) refl;
       }
 
   pub object_reads : (xs : List Tree) (m : Place) (k : Code) (x : Tree) (c d : Place) → ReadsListed true (PropertyRule In k) xs (after c) m → all_supported (trees xs) ≡ true
@@ -545,7 +550,7 @@ module _ (In : Goal → Type 0) (inner : Class → Reader Tree) (cover : Reader 
       → In (element_goal assigning (with_in k) z (after m) d) → supported z ≡ true → ends_part (kind_at d) ≡ true
       → ReadsAs (AsPart as_properties (tree.key_value_pat_prop (spanned c d) y z)) (property inner cover) k (tree.key_value_pat_prop (spanned c d) y z) c d
   valued_part y z m k c d r s i g t q w f h =
-      let v = covered_reads (AsElement z) k z (after m) d (given.elements k z (after m) d g t q) w (f ++ walk (env_of k w.labels) y) (h ++ notes y) in
+      let v = covered_reads (AsElement z) k z (after m) d (given.elements k z (after m) d g t q) w (f ++ walk (env_of k w.labels) y) (h ⊕ notes_of y) in
       record {
         value = part_as (tree.key_value_prop (spanned c d) y) v.value;
         holds = (λ zs qs e. rw (v.holds.0, e) refl, v.holds.1);
@@ -564,7 +569,8 @@ module _ (In : Goal → Type 0) (inner : Class → Reader Tree) (cover : Reader 
       (key_begins In k (tree.ident sp text) c m (parts.word_key text sp r refl)).1,
       key_reads In inner cover given k (tree.ident sp text) c m (parts.word_key text sp r refl) refl w f h,
       append-nil f,
-      append-nil h,
+      append-nil h.held_back,
+      or_nil h.found_module_item,
       i,
       n,
       inside_reads In inner cover given assignment k z (after m) d g t w f h,
@@ -601,7 +607,7 @@ module _ (In : Goal → Type 0) (inner : Class → Reader Tree) (cover : Reader 
       rw e (record {
         value = done (tree.shorthand_prop sp text);
         holds = (λ zs qs j. rw j refl, refl);
-        is = rw (append-nil f, append-nil h) (shorthand_reads_as text sp k c d w f h (word_of (with_in k) text sp c d r) (name_there k text sp c d r t.0) q);
+        is = rw (append-nil f, append-nil h.held_back, or_nil h.found_module_item) (shorthand_reads_as text sp k c d w f h (word_of (with_in k) text sp c d r) (name_there k text sp c d r t.0) q);
       })
   part_property k p c d (patterns.default_rule text sp z m r i v g) a s q w f h =
       let t = and_yes (supported (tree.ident_pat sp text)) _ (supported_as p (tree.assign_pat_prop (spanned c d) (tree.ident_pat sp text) z) g s) in
@@ -615,56 +621,56 @@ module _ (In : Goal → Type 0) (inner : Class → Reader Tree) (cover : Reader 
   part_begins k p c d (patterns.default_rule text sp z m r i v g) a = key_begins In k (tree.ident sp text) c m (parts.word_key text sp (word_of k text sp c m r) refl)
   part_begins k p c d (patterns.rest_rule y o r n e) a = absurd (let b : is_rest p ≡ true = ap is_rest e in cc)
 
-  one_property : (k : Code) (p : Tree) (found : Covers) (c m d : Place) (w : Scope) (f h : List Fault) → PatternPropertyRule In assigning (with_in k) p c m → is_rest p ≡ false
+  one_property : (k : Code) (p : Tree) (found : Covers) (c m d : Place) (w : Scope) (f : List Fault) (h : Notes) → PatternPropertyRule In assigning (with_in k) p c m → is_rest p ≡ false
       → Behind kind.RBrace m d → supported p ≡ true → kind_at d ≡ kind.RBrace → found.comma ≡ false
       → Gets (AsParts as_properties (p ∷ []) found) (loop (object_turn inner cover) found (st c k w f h))
-      (st (after d) k w (f ++ walks (env_of k w.labels) false (trees (p ∷ []))) (h ++ all_notes (trees (p ∷ []))))
+      (st (after d) k w (f ++ walks (env_of k w.labels) false (trees (p ∷ []))) (h ⊕ all_notes_of (trees (p ∷ []))))
   one_property k p found c m d w f h r a b s e n =
       let v = part_property k p c m r a s (behind_ends kind.RBrace m d refl b) w f h in
       let first = part_begins (with_in k) p c m r a in
       let more = commaed b (sees kind.DotDotDot c) (with_cover found v.value) in
       let f' = f ++ walk (env_of k w.labels) p in
-      let h' = h ++ notes p in
+      let h' = h ⊕ notes_of p in
       record {
         value = more;
         holds = parts_last as_properties p found v.value more (v.holds.0 none none refl, v.holds.1) (commaed_trees b _ _) (commaed_comma b _ _ first.1 (or_none _ _ n v.holds.1));
-        is = rw (append-nil (walk (env_of k w.labels) p), append-nil (notes p)) (property_more found v.value k c m d w f h f' h' v.is first.0 b ∙ properties_end more k d w f' h' e);
+        is = rw (append-nil (walk (env_of k w.labels) p), append-nil (notes p), or_nil (has_meta p)) (property_more found v.value k c m d w f h f' h' v.is first.0 b ∙ properties_end more k d w f' h' e);
       }
 
-  one_rest_property : (k : Code) (p : Tree) (found : Covers) (c m : Place) (w : Scope) (f h : List Fault) → RestProperty (with_in k) p c m → supported p ≡ true
+  one_rest_property : (k : Code) (p : Tree) (found : Covers) (c m : Place) (w : Scope) (f : List Fault) (h : Notes) → RestProperty (with_in k) p c m → supported p ≡ true
       → kind_at m ≡ kind.RBrace → found.comma ≡ false
       → Gets (AsParts as_properties (p ∷ []) found) (loop (object_turn inner cover) found (st c k w f h))
-      (st (after m) k w (f ++ walks (env_of k w.labels) false (trees (p ∷ []))) (h ++ all_notes (trees (p ∷ []))))
+      (st (after m) k w (f ++ walks (env_of k w.labels) false (trees (p ∷ []))) (h ⊕ all_notes_of (trees (p ∷ []))))
   unfolding same_kind
   one_rest_property k p found c m w f h r s e n =
       let q = tree.rest_pat (spanned c m) r.y in
       let v = rest_property r.y k c m r.dots r.reads_rest r.plain (supported_as p q r.is s) (rw e refl) w f h in
       let more = with_cover found v.value in
       let f' = f ++ walk (env_of k w.labels) q in
-      let h' = h ++ notes q in
+      let h' = h ⊕ notes_of q in
       rw r.is (record {
         value = more;
         holds = parts_last as_properties q found v.value more v.holds refl (or_none _ _ n v.holds.1);
-        is = rw (append-nil (walk (env_of k w.labels) q), append-nil (notes q))
+        is = rw (append-nil (walk (env_of k w.labels) q), append-nil (notes q), or_nil (has_meta q))
             (property_more found v.value k c m m w f h f' h' v.is (rw r.dots refl) (inl (e, refl)) ∙ properties_end more k m w f' h' e);
       })
 
-  last_property : (k : Code) (p : Tree) (found : Covers) (c m d : Place) (w : Scope) (f h : List Fault) → PatternPropertyRule In assigning (with_in k) p c m
+  last_property : (k : Code) (p : Tree) (found : Covers) (c m d : Place) (w : Scope) (f : List Fault) (h : Notes) → PatternPropertyRule In assigning (with_in k) p c m
       → (is_rest p ≡ false) ⊎ RestProperty (with_in k) p c m → LastComma true p m d → supported p ≡ true → kind_at d ≡ kind.RBrace → found.comma ≡ false
       → Gets (AsParts as_properties (p ∷ []) found) (loop (object_turn inner cover) found (st c k w f h))
-      (st (after d) k w (f ++ walks (env_of k w.labels) false (trees (p ∷ []))) (h ++ all_notes (trees (p ∷ []))))
+      (st (after d) k w (f ++ walks (env_of k w.labels) false (trees (p ∷ []))) (h ⊕ all_notes_of (trees (p ∷ []))))
   last_property k p found c m d w f h r (inl a) l s e n = one_property k p found c m d w f h r a (behind_last kind.RBrace p m d l e) s e n
   last_property k p found c m d w f h r (inr a) l s e n =
       let g = rest_ends p m d (ap is_rest a.is) l in
       rw g (one_rest_property k p found c m w f h a s (ap kind_at (sym g) ∙ e) n)
 
-  many_part_properties : (ps : List Tree) (found : Covers) (k : Code) (c d : Place) (w : Scope) (f h : List Fault) → ReadsListed true (PatternPropertyRule In assigning (with_in k)) ps c d
+  many_part_properties : (ps : List Tree) (found : Covers) (k : Code) (c d : Place) (w : Scope) (f : List Fault) (h : Notes) → ReadsListed true (PatternPropertyRule In assigning (with_in k)) ps c d
       → all_supported (trees ps) ≡ true → kind_at d ≡ kind.RBrace → found.comma ≡ false
-      → Gets (AsParts as_properties ps found) (loop (object_turn inner cover) found (st c k w f h)) (st (after d) k w (f ++ walks (env_of k w.labels) false (trees ps)) (h ++ all_notes (trees ps)))
+      → Gets (AsParts as_properties ps found) (loop (object_turn inner cover) found (st c k w f h)) (st (after d) k w (f ++ walks (env_of k w.labels) false (trees ps)) (h ⊕ all_notes_of (trees ps)))
   many_part_properties [] found k c d w f h r s e n = record {
     value = found;
     holds = record { behind = []; trees_are = sym (append-nil found.xs); is_turned = refl; no_commas = n };
-    is = rw (append-nil f, append-nil h, r) (properties_end found k c w f h (ap kind_at (sym r) ∙ e));
+    is = rw (append-nil f, append-nil h.held_back, or_nil h.found_module_item, r) (properties_end found k c w f h (ap kind_at (sym r) ∙ e));
   }
   many_part_properties (p ∷ []) found k c d w f h (m, r, l) s e n =
       last_property k p found c m d w f h r (rest_property_or (with_in k) p c m r) l (and_yes (supported p) _ s).0 e n
@@ -674,12 +680,12 @@ module _ (In : Goal → Type 0) (inner : Class → Reader Tree) (cover : Reader 
       let first = part_begins (with_in k) p c m r a in
       let next = with_comma (sees kind.DotDotDot c) (with_cover found v.value) in
       let f' = f ++ walk (env_of k w.labels) p in
-      let h' = h ++ notes p in
+      let h' = h ⊕ notes_of p in
       let o = many_part_properties (q ∷ qs) next k (after m) d w f' h' more t.1 e (or_none _ _ (or_none _ _ n v.holds.1) first.1) in
       record {
         value = o.value;
         holds = parts_more as_properties p (q ∷ qs) found v.value next o.value v.holds refl o.holds;
-        is = property_more found v.value k c m (after m) w f h f' h' v.is first.0 (inr (i, refl)) ∙ o.is ∙ simp append_assoc refl;
+        is = property_more found v.value k c m (after m) w f h f' h' v.is first.0 (inr (i, refl)) ∙ o.is ∙ simp (append_assoc, or_assoc) refl;
       }
 
   pub object_pattern : (ps : List Tree) (m : Place) (k : Code) (p : Tree) (c d : Place) → ReadsListed true (PatternPropertyRule In assigning (with_in k)) ps (after c) m

@@ -368,7 +368,7 @@ module _ (In : Goal → Type 0) where
 
   pub left_first : (k : Code) (x : Tree) (c d : Place) → LeftSideRule In k x c d → supported x ≡ true → operand_kind (kind_at c) ≡ true
   left_first k x c d (sides.primary_rule r) h = primary_operand (kind_at c) (primary_first k x c d r h)
-  left_first k x c d (sides.import_meta_rule i j w n m e) h = refuted x (ap supported e) h
+  left_first k x c d (sides.import_meta_rule i j w n m e) h = rw i refl
   left_first k x c d (sides.member_rule y p m r a e) h = left_first k y c m r (and_yes (supported y) _ (supported_as x (tree.member (spanned c d) y p) e h)).0
   left_first k x c d (sides.super_property_rule p i a j e) h = rw i refl
   left_first k x c d (sides.call_rule y z m r a e) h = left_first k y c m r (and_yes (supported y) _ (supported_as x (tree.call (spanned c d) y z) e h)).0

@@ -1,7 +1,7 @@
 -- Primary and left-hand-side expressions of the language are read, with the faults of the walk and the notes held back, and no
 -- others.
 use Rattle.std.proofs.Common.{◌≡◌, Bool, true, false, List, [], ◌++◌, length, Some, Ok, refl, sym, ◌∙◌, ap, append_assoc, append-nil}
-use Rattle.std.specs.Prelude.{◌&&◌, ◌||◌}
+use Rattle.std.specs.Prelude.{◌&&◌, ◌||◌, codes}
 use Rattle.swc_ecma_parser_common.specs.declared.span.Span.{Span}
 use Rattle.swc_ecma_parser_error.specs.Kind as faults
 use Rattle.swc_ecma_parser_error.specs.Kind.{Fault}
@@ -11,13 +11,15 @@ use Rattle.swc_ecma_parser_token.specs.declared.token.Token.TheVariants as token
 use Rattle.swc_ecma_parser_token.specs.declared.token.Word.TheVariants as word
 use Rattle.swc_ecma_parser_token.specs.Text.{word_text}
 use Rattle.swc_ecma_parser_input.specs.Place.{Place, after}
+use Rattle.swc_ecma_parser_model.specs.declared.leaves.MetaPropKind.TheVariants as meta
 use Rattle.swc_ecma_parser_model.specs.Tree as tree
 use Rattle.swc_ecma_parser_model.specs.Tree.{Tree, Text, listed}
 use Rattle.swc_ecma_parser_grammar.specs.Looks.{kind_at, sees, same_kind, span_at, spanned}
 use Rattle.swc_ecma_parser_grammar.specs.Names.{Code, is_name, token_is_name}
-use Rattle.swc_ecma_parser_grammar.specs.Follows.{is_async_function}
+use Rattle.swc_ecma_parser_grammar.specs.Follows.{word_at, is_async_function}
 use Rattle.swc_ecma_parser_grammar.specs.Reads.{with_in, ReadsToken}
 use Rattle.swc_ecma_parser_grammar.specs.Notes.{notes}
+use Rattle.swc_ecma_parser_grammar.specs.language.Noted.{has_meta}
 use Rattle.swc_ecma_parser_grammar.specs.Walk.{Env, env_of, walk}
 use Rattle.swc_ecma_parser_grammar.specs.Supported.{supported, is_supported_property}
 use Rattle.swc_ecma_parser_grammar.specs.language.Goals.{Goal, Class, expression, callee, expr_goal, callee_goal}
@@ -25,8 +27,10 @@ use Rattle.swc_ecma_parser_grammar.specs.language.Parts.{ReadsName, AccessRule, 
 use Rattle.swc_ecma_parser_grammar.specs.language.LeftSides as sides
 use Rattle.swc_ecma_parser_grammar.specs.language.LeftSides.{PrimaryRule, LeftSideRule, is_callee}
 use Rattle.swc_ecma_parser_grammar.proofs.Tests.{and_yes, and_no}
+use Rattle.swc_ecma_parser_reader.specs.Notes.{Notes, no_notes, held, ◌⊕◌, notes_of, all_notes_of}
 use Rattle.swc_ecma_parser_reader.specs.State.{and_then, ◌>>=◌, Scope, State, Reader, name}
-use Rattle.swc_ecma_parser_reader.specs.Expressions.{Cover, close, literal_of, literal, ident_expr, this, bare_new, access, arguments, array, property, object, paren, marked_primary, primary, accessed, called, left_turn, left_from, super_call, super_access, behind_super, super_head, constructed, new_head, import_call, import_head, left_head, left}
+use Rattle.swc_ecma_parser_reader.specs.Expressions.{Cover, close, literal_of, literal, ident_expr, this, bare_new, access, arguments, array, property, object, paren, marked_primary, primary, accessed, called, left_turn, left_from, super_call, super_access, behind_super, super_head, constructed, new_head, import_call, meta_fault, import_meta, import_head, left_head, left}
+use Rattle.swc_ecma_parser_reader.proofs.Notes.{or_nil, or_true, or_assoc}
 use Rattle.swc_ecma_parser_reader.proofs.Answered.{st, Reads, ReadsAs}
 use Rattle.swc_ecma_parser_reader.proofs.Steps.{loop_more, loop_done}
 use Rattle.swc_ecma_parser_reader.proofs.expressions.Falls.{access_falls, arguments_fall}
@@ -40,14 +44,14 @@ module _ (In : Goal → Type 0) (inner : Class → Reader Tree) (cover : Reader 
 
   -- a literal as an expression
   literal_primary : (u : Token) (sp : Span) (x y : Tree) (c d : Place) (k : Code) → ReadsToken u sp c d → token_is_name k.flags u ≡ false
-      → literal_of sp u ≡ Some y → x ≡ y → ((env : Env) → walk env y ≡ []) → notes y ≡ [] → Reads (primary inner cover) k x c d
+      → literal_of sp u ≡ Some y → x ≡ y → ((env : Env) → walk env y ≡ []) → notes y ≡ [] → has_meta y ≡ false → Reads (primary inner cover) k x c d
   unfolding primary
-  literal_primary u sp x y c d k r n e g z o w f h =
-      rw (named u sp c d k false r n, literal_reads u sp x y c d k w f h r e g, g, z (env_of k w.labels), o, append-nil f, append-nil h) refl
+  literal_primary u sp x y c d k r n e g z o m w f h =
+      rw (named u sp c d k false r n, literal_reads u sp x y c d k w f h r e g, g, z (env_of k w.labels), o, m, append-nil f, append-nil h.held_back, or_nil h.found_module_item) refl
 
   this_reads : (k : Code) (x : Tree) (c d : Place) → kind_at c ≡ kind.This → d ≡ after c → x ≡ tree.this (spanned c d) → Reads (primary inner cover) k x c d
   unfolding primary literal marked_primary this spanned same_kind
-  this_reads k x c d e i j w f h = rw ((this_here k.flags c e).0, (this_here k.flags c e).1, e, j, i, append-nil f, append-nil h) refl
+  this_reads k x c d e i j w f h = rw ((this_here k.flags c e).0, (this_here k.flags c e).1, e, j, i, append-nil f, append-nil h.held_back, or_nil h.found_module_item) refl
 
   -- an array or object that is an expression, closed
   closed_reads : (reader : Reader Cover) (k : Code) (x : Tree) (c d : Place) → ReadsAs (AsExpr x) reader k x c d → Reads (reader >>= close) k x c d
@@ -73,7 +77,7 @@ module _ (In : Goal → Type 0) (inner : Class → Reader Tree) (cover : Reader 
       → x ≡ tree.paren (spanned c d) e → Reads (paren inner cover) k x c d
   unfolding paren spanned
   paren_reads e m k x c d r s g i j w f h =
-      rw (inside_reads In inner cover given expression k e (after c) m r s w f h, expect_reads kind.RParen m k w (f ++ walk (env_of k w.labels) e) (h ++ notes e) g, j, i) refl
+      rw (inside_reads In inner cover given expression k e (after c) m r s w f h, expect_reads kind.RParen m k w (f ++ walk (env_of k w.labels) e) (h ⊕ notes_of e) g, j, i) refl
 
   name_primary : (text : Text) (sp : Span) (k : Code) (x : Tree) (c d : Place) (r : ReadsName k text sp c d) → is_name k.flags (word_text r.word) ≡ true → is_async_function c ≡ false
       → x ≡ tree.ident sp text → Reads (primary inner cover) k x c d
@@ -86,19 +90,20 @@ module _ (In : Goal → Type 0) (inner : Class → Reader Tree) (cover : Reader 
         g,
         ← r.is_text,
         append-nil f,
-        append-nil h,
+        append-nil h.held_back,
+        or_nil h.found_module_item,
       ) refl
 
   primary_reads : (k : Code) (x : Tree) (c d : Place) → PrimaryRule In k x c d → supported x ≡ true → Reads (primary inner cover) k x c d
   primary_reads k x c d (sides.name_rule text sp r a g) s w f h = name_primary text sp k x c d r (name_is_name k text sp c d r (supported_as x (tree.ident sp text) g s)) a g w f h
-  primary_reads k x c d (sides.string_rule value raw sp r g) s w f h = literal_primary (token.Str value raw) sp x (tree.str sp value raw) c d k r refl refl g (λ env. refl) refl w f h
+  primary_reads k x c d (sides.string_rule value raw sp r g) s w f h = literal_primary (token.Str value raw) sp x (tree.str sp value raw) c d k r refl refl g (λ env. refl) refl refl w f h
   primary_reads k x c d (sides.true_rule sp r g) s w f h =
-      literal_primary (token.Word word.True) sp x (tree.bool sp true) c d k r (true_unnamed k.flags) refl g (λ env. refl) refl w f h
+      literal_primary (token.Word word.True) sp x (tree.bool sp true) c d k r (true_unnamed k.flags) refl g (λ env. refl) refl refl w f h
   primary_reads k x c d (sides.false_rule sp r g) s w f h =
-      literal_primary (token.Word word.False) sp x (tree.bool sp false) c d k r (false_unnamed k.flags) refl g (λ env. refl) refl w f h
-  primary_reads k x c d (sides.null_rule sp r g) s w f h = literal_primary (token.Word word.Null) sp x (tree.null sp) c d k r (null_unnamed k.flags) refl g (λ env. refl) refl w f h
-  primary_reads k x c d (sides.number_rule raw sp r g) s w f h = literal_primary (token.Num raw) sp x (tree.num sp raw) c d k r refl refl g (λ env. refl) refl w f h
-  primary_reads k x c d (sides.big_int_rule raw sp r g) s w f h = literal_primary (token.BigInt raw) sp x (tree.big_int sp raw) c d k r refl refl g (λ env. refl) refl w f h
+      literal_primary (token.Word word.False) sp x (tree.bool sp false) c d k r (false_unnamed k.flags) refl g (λ env. refl) refl refl w f h
+  primary_reads k x c d (sides.null_rule sp r g) s w f h = literal_primary (token.Word word.Null) sp x (tree.null sp) c d k r (null_unnamed k.flags) refl g (λ env. refl) refl refl w f h
+  primary_reads k x c d (sides.number_rule raw sp r g) s w f h = literal_primary (token.Num raw) sp x (tree.num sp raw) c d k r refl refl g (λ env. refl) refl refl w f h
+  primary_reads k x c d (sides.big_int_rule raw sp r g) s w f h = literal_primary (token.BigInt raw) sp x (tree.big_int sp raw) c d k r refl refl g (λ env. refl) refl refl w f h
   primary_reads k x c d (sides.this_rule e i g) s w f h = this_reads k x c d e i g w f h
   primary_reads k x c d (sides.array_rule xs m i r j n e) s w f h =
       first_array k x c d i (array_reads In inner cover given xs m k x c d r (supported_as x (tree.array (spanned c d) (listed xs)) e s) j n e) w f h
@@ -138,10 +143,10 @@ module _ (In : Goal → Type 0) (inner : Class → Reader Tree) (cover : Reader 
         g,
         given.calls k what (after c) m q (rw r.opens refl) t w f h,
         seen m kind.LParen r.opens,
-        arguments_read In inner cover given true k args m d w (f ++ walk (env_of k w.labels) what) (h ++ notes what) r s,
+        arguments_read In inner cover given true k args m d w (f ++ walk (env_of k w.labels) what) (h ⊕ notes_of what) r s,
         e,
         ← r.is,
-      ) (simp append_assoc refl)
+      ) (simp (append_assoc, or_assoc) refl)
 
   bare_new_reads : (calls : Bool) (what : Tree) (k : Code) (x : Tree) (c d : Place) → kind_at c ≡ kind.New → In (expr_goal callee k what (after c) d) → supported what ≡ true
       → x ≡ tree.new (spanned c d) what tree.absent → Reads (left_head inner cover calls) k x c d
@@ -154,6 +159,7 @@ module _ (In : Goal → Type 0) (inner : Class → Reader Tree) (cover : Reader 
         e,
         append-nil (walk (env_of k w.labels) what),
         append-nil (notes what),
+        or_nil (has_meta what),
       ) refl
 
   import_call_reads : (args : Tree) (k : Code) (x : Tree) (c d : Place) → kind_at c ≡ kind.Import → (r : ArgumentsRule In k k.setting.import_attributes args (after c) d)
@@ -161,6 +167,11 @@ module _ (In : Goal → Type 0) (inner : Class → Reader Tree) (cover : Reader 
   unfolding left_head import_head import_call spanned same_kind
   import_call_reads args k x c d g r s e w f h =
       rw (g, seen (after c) kind.LParen r.opens, arguments_read In inner cover given k.setting.import_attributes k args (after c) d w f h r s, e, ← r.is) refl
+
+  import_meta_reads : (k : Code) (x : Tree) (c d : Place) → kind_at c ≡ kind.Import → kind_at (after c) ≡ kind.Dot → word_at (codes "meta") (after (after c)) ≡ true
+      → d ≡ after (after (after c)) → k.flags.can_be_module ≡ true → x ≡ tree.meta_prop (spanned c d) meta.ImportMeta → Reads (left_head inner cover true) k x c d
+  unfolding left_head import_head import_meta meta_fault spanned same_kind
+  import_meta_reads k x c d i j v n m e w f h = rw (i, j, v, m, e, n, append-nil f, append-nil h.held_back, or_true h.found_module_item) refl
 
   primary_head : (calls : Bool) (k : Code) (x : Tree) (c d : Place) → PrimaryRule In k x c d → supported x ≡ true → Reads (left_head inner cover calls) k x c d
   unfolding left_head
@@ -171,24 +182,24 @@ module _ (In : Goal → Type 0) (inner : Class → Reader Tree) (cover : Reader 
   -- ---- what goes on with it
 
   access_more : (calls : Bool) (start : Span) (base property : Tree) (k : Code) (m d : Place) → AccessRule In k property m d → is_supported_property property ≡ true
-      → (w : Scope) (f h : List Fault) → left_from inner cover calls start base (st m k w f h)
-      ≡ left_from inner cover calls start (tree.member (record { lo = start.lo; hi = d.last.hi }) base property) (st d k w (f ++ walk (env_of k w.labels) property) (h ++ notes property))
+      → (w : Scope) (f : List Fault) (h : Notes) → left_from inner cover calls start base (st m k w f h)
+      ≡ left_from inner cover calls start (tree.member (record { lo = start.lo; hi = d.last.hi }) base property) (st d k w (f ++ walk (env_of k w.labels) property) (h ⊕ notes_of property))
   unfolding left_from left_turn accessed
   access_more calls start base property k m d r s w f h =
       let e = access_reads In inner cover given k property m d r s w f h in
       loop_more (left_turn inner cover calls start) base (tree.member (record { lo = start.lo; hi = d.last.hi }) base property) (st m k w f h)
-      (st d k w (f ++ walk (env_of k w.labels) property) (h ++ notes property)) (rw ((access_seen In inner cover given k property m d r).0, e) refl)
+      (st d k w (f ++ walk (env_of k w.labels) property) (h ⊕ notes_of property)) (rw ((access_seen In inner cover given k property m d r).0, e) refl)
       (shorter_by (length m.left) (access inner cover (st m k w f h)) property _ e (access_falls inner cover given.falls given.cover_falls (st m k w f h)))
 
-  call_more : (start : Span) (what args : Tree) (k : Code) (m d : Place) (r : ArgumentsRule In k true args m d) → supported args ≡ true → (w : Scope) (f h : List Fault)
+  call_more : (start : Span) (what args : Tree) (k : Code) (m d : Place) (r : ArgumentsRule In k true args m d) → supported args ≡ true → (w : Scope) (f : List Fault) (h : Notes)
       → left_from inner cover true start what (st m k w f h)
-      ≡ left_from inner cover true start (tree.call (record { lo = start.lo; hi = d.last.hi }) what args) (st d k w (f ++ walk (env_of k w.labels) args) (h ++ notes args))
+      ≡ left_from inner cover true start (tree.call (record { lo = start.lo; hi = d.last.hi }) what args) (st d k w (f ++ walk (env_of k w.labels) args) (h ⊕ notes_of args))
   unfolding left_from left_turn called same_kind
   call_more start what args k m d r s w f h =
       let o = r.opens in
       let e = arguments_read In inner cover given true k args m d w f h r s in
       loop_more (left_turn inner cover true start) what (tree.call (record { lo = start.lo; hi = d.last.hi }) what args) (st m k w f h)
-      (st d k w (f ++ walk (env_of k w.labels) args) (h ++ notes args)) (rw (o, e, ← r.is) refl)
+      (st d k w (f ++ walk (env_of k w.labels) args) (h ⊕ notes_of args)) (rw (o, e, ← r.is) refl)
       (shorter_by (length m.left) (arguments inner cover true (st m k w f h)) r.elements _ e (arguments_fall inner cover given.falls given.cover_falls true (st m k w f h) (λ z. cc)))
 
   -- a call stands where calls are read
@@ -197,15 +208,17 @@ module _ (In : Goal → Type 0) (inner : Class → Reader Tree) (cover : Reader 
   calls_read false x y e g h = sym (ap is_callee e ∙ g) ∙ h
 
   -- What was read so far is reached by the loop.
-  left_reached : (k : Code) (calls : Bool) (x : Tree) (c d : Place) → LeftSideRule In k x c d → supported x ≡ true → (calls || is_callee x) ≡ true → (w : Scope) (f h : List Fault)
-      → left inner cover calls (st c k w f h) ≡ left_from inner cover calls (span_at c) x (st d k w (f ++ walk (env_of k w.labels) x) (h ++ notes x))
+  left_reached : (k : Code) (calls : Bool) (x : Tree) (c d : Place) → LeftSideRule In k x c d → supported x ≡ true → (calls || is_callee x) ≡ true → (w : Scope) (f : List Fault) (h : Notes)
+      → left inner cover calls (st c k w f h) ≡ left_from inner cover calls (span_at c) x (st d k w (f ++ walk (env_of k w.labels) x) (h ⊕ notes_of x))
   unfolding left spanned
   left_reached k calls x c d (sides.primary_rule r) s g w f h = rw (primary_head calls k x c d r s w f h) refl
-  left_reached k calls x c d (sides.import_meta_rule i j v n m e) s g w f h = refuted x (ap supported e) s
+  left_reached k calls x c d (sides.import_meta_rule i j v n m e) s g w f h =
+      let b : calls ≡ true = calls_read calls x (tree.meta_prop (spanned c d) meta.ImportMeta) e refl g in
+      rw (b, import_meta_reads k x c d i j v n m e w f h) refl
   left_reached k calls x c d (sides.member_rule y p m r a e) s g w f h =
       let t = and_yes (supported y) _ (supported_as x (tree.member (spanned c d) y p) e s) in
       left_reached k calls y c m r t.0 (sym (ap (λ z. calls || is_callee z) e) ∙ g) w f h
-      ∙ access_more calls (span_at c) y p k m d a t.1 w (f ++ walk (env_of k w.labels) y) (h ++ notes y) ∙ rw (e, append_assoc f _ _, append_assoc h _ _) refl
+      ∙ access_more calls (span_at c) y p k m d a t.1 w (f ++ walk (env_of k w.labels) y) (h ⊕ notes_of y) ∙ rw (e, append_assoc f _ _, append_assoc h.held_back _ _, or_assoc h.found_module_item _ _) refl
   left_reached k calls x c d (sides.super_property_rule p i a j e) s g w f h =
       rw (super_access_reads calls p k x c d i a j (supported_as x (tree.super_prop (spanned c d) (span_at c) p) e s) e w f h) refl
   left_reached k calls x c d (sides.call_rule y z m r a e) s g w f h =
@@ -213,7 +226,7 @@ module _ (In : Goal → Type 0) (inner : Class → Reader Tree) (cover : Reader 
       let b : calls ≡ true = calls_read calls x (tree.call (spanned c d) y z) e refl g in
       rw b
       (left_reached k true y c m r t.0 refl w f h
-      ∙ call_more (span_at c) y z k m d a t.1 w (f ++ walk (env_of k w.labels) y) (h ++ notes y) ∙ rw (e, append_assoc f _ _, append_assoc h _ _) refl)
+      ∙ call_more (span_at c) y z k m d a t.1 w (f ++ walk (env_of k w.labels) y) (h ⊕ notes_of y) ∙ rw (e, append_assoc f _ _, append_assoc h.held_back _ _, or_assoc h.found_module_item _ _) refl)
   left_reached k calls x c d (sides.super_call_rule z i a e) s g w f h =
       let b : calls ≡ true = calls_read calls x (tree.call (spanned c d) (tree.super_callee (span_at c)) z) e refl g in
       rw (b, super_call_reads z k x c d i a (supported_as x (tree.call (spanned c d) (tree.super_callee (span_at c)) z) e s) e w f h) refl
@@ -236,4 +249,4 @@ module _ (In : Goal → Type 0) (inner : Class → Reader Tree) (cover : Reader 
   pub left_reads : (calls : Bool) (k : Code) (x : Tree) (c d : Place) → LeftSideRule In k x c d → supported x ≡ true → (calls || is_callee x) ≡ true
       → (sees kind.Dot d || sees kind.LBracket d) ≡ false → (calls && sees kind.LParen d) ≡ false → Reads (left inner cover calls) k x c d
   left_reads calls k x c d r s g e i w f h =
-      left_reached k calls x c d r s g w f h ∙ left_stops calls (span_at c) x (st d k w (f ++ walk (env_of k w.labels) x) (h ++ notes x)) e i
+      left_reached k calls x c d r s g w f h ∙ left_stops calls (span_at c) x (st d k w (f ++ walk (env_of k w.labels) x) (h ⊕ notes_of x)) e i

@@ -20,6 +20,7 @@ use Rattle.swc_ecma_parser_grammar.specs.Looks.{kind_at, sees, same_kind, span_a
 use Rattle.swc_ecma_parser_grammar.specs.Names.{Code, is_name}
 use Rattle.swc_ecma_parser_grammar.specs.Reads.{with_in, ReadsToken}
 use Rattle.swc_ecma_parser_grammar.specs.Notes.{notes, all_notes}
+use Rattle.swc_ecma_parser_grammar.specs.language.Noted.{has_meta}
 use Rattle.swc_ecma_parser_grammar.specs.Walk.{Env, env_of, walk, walks}
 use Rattle.swc_ecma_parser_grammar.specs.Supported.{supported, is_supported_property, is_supported_key, all_supported}
 use Rattle.swc_ecma_parser_grammar.specs.language.Goals.{Goal, Class, expression, assignment, callee, assigning, expr_goal, callee_goal, element_goal, pattern_goal}
@@ -27,8 +28,10 @@ use Rattle.swc_ecma_parser_grammar.specs.language.Lists.{ReadsListed, LastComma,
 use Rattle.swc_ecma_parser_grammar.specs.language.Parts as parts
 use Rattle.swc_ecma_parser_grammar.specs.language.Parts.{ReadsWord, PrivateRule, AccessRule, is_private, ElementRule, ArgumentsRule, ComputedRule, KeyRule}
 use Rattle.swc_ecma_parser_grammar.proofs.Tests.{and_yes, and_no}
+use Rattle.swc_ecma_parser_reader.specs.Notes.{Notes, no_notes, held, ◌⊕◌, notes_of, all_notes_of}
 use Rattle.swc_ecma_parser_reader.specs.State.{Scope, State, Reader, expect, name, loop}
 use Rattle.swc_ecma_parser_reader.specs.Expressions.{Cover, literal_of, literal_in, literal, any_word, touching_word, private_name, word_property, token_is_word, literal_key, shorthand_name, shorthand, dotted, has_private, inside, brackets, access, spread_element, plain_element, element, arguments_turn, arguments, computed_key, key}
+use Rattle.swc_ecma_parser_reader.proofs.Notes.{or_nil, or_assoc}
 use Rattle.swc_ecma_parser_reader.proofs.Answered.{st, Reads, ReadsAs}
 use Rattle.swc_ecma_parser_reader.proofs.Takes.{Falls, moves}
 use Rattle.swc_ecma_parser_reader.proofs.Steps.{loop_more, loop_done}
@@ -38,35 +41,35 @@ use Rattle.swc_ecma_parser_reader.proofs.expressions.CompleteKinds.{supported_as
 
 -- ---- fixed tokens, names and words
 
-pub expect_reads : (want : TokenKind) (c : Place) (k : Code) (w : Scope) (f h : List Fault) → kind_at c ≡ want → expect want (st c k w f h) ≡ Ok (tt, st (after c) k w f h)
+pub expect_reads : (want : TokenKind) (c : Place) (k : Code) (w : Scope) (f : List Fault) (h : Notes) → kind_at c ≡ want → expect want (st c k w f h) ≡ Ok (tt, st (after c) k w f h)
 unfolding expect
 expect_reads want c k w f h e = rw (seen c want e) refl
 
-pub name_reads : (missing : Kind) (v : Word) (sp : Span) (c d : Place) (k : Code) (w : Scope) (f h : List Fault) → ReadsToken (token.Word v) sp c d → is_name k.flags (word_text v) ≡ true
+pub name_reads : (missing : Kind) (v : Word) (sp : Span) (c d : Place) (k : Code) (w : Scope) (f : List Fault) (h : Notes) → ReadsToken (token.Word v) sp c d → is_name k.flags (word_text v) ≡ true
     → name missing (st c k w f h) ≡ Ok (record { span = sp; sym = word_text v }, st d k w f h)
 unfolding name
 name_reads missing v sp c d k w f h r e = rw (r.is, e, r.next) refl
 
-any_word_by : (v : Word) (sp : Span) (c d : Place) (k : Code) (w : Scope) (f h : List Fault) → ReadsToken (token.Word v) sp c d
+any_word_by : (v : Word) (sp : Span) (c d : Place) (k : Code) (w : Scope) (f : List Fault) (h : Notes) → ReadsToken (token.Word v) sp c d
     → any_word (st c k w f h) ≡ Ok (record { span = sp; sym = word_text v }, st d k w f h)
 unfolding any_word
 any_word_by v sp c d k w f h r = rw (r.is, r.next) refl
 
-any_word_reads : (text : Text) (sp : Span) (c d : Place) (k : Code) (w : Scope) (f h : List Fault) → ReadsWord text sp c d
+any_word_reads : (text : Text) (sp : Span) (c d : Place) (k : Code) (w : Scope) (f : List Fault) (h : Notes) → ReadsWord text sp c d
     → any_word (st c k w f h) ≡ Ok (record { span = sp; sym = text }, st d k w f h)
 any_word_reads text sp c d k w f h r = rw (any_word_by r.word sp c d k w f h r.reads_word, ← r.is_text) refl
 
 private_reads : (k : Code) (x : Tree) (c d : Place) → PrivateRule x c d → Reads private_name k x c d
 unfolding private_name touching_word spanned
 private_reads k x c d r w f h =
-    rw (touching r.text r.span c d r.hash r.reads_word r.touches, any_word_reads r.text r.span (after c) d k w f h r.reads_word, r.is, append-nil f, append-nil h) refl
+    rw (touching r.text r.span c d r.hash r.reads_word r.touches, any_word_reads r.text r.span (after c) d k w f h r.reads_word, r.is, append-nil f, append-nil h.held_back, or_nil h.found_module_item) refl
 
 -- ---- literals
 
 literal_here : (u : Token) (sp : Span) (y : Tree) (c d : Place) → ReadsToken u sp c d → literal_of sp u ≡ Some y → literal_in c.left ≡ Some y
 literal_here u sp y c d r e = rw r.is e
 
-pub literal_reads : (u : Token) (sp : Span) (x y : Tree) (c d : Place) (k : Code) (w : Scope) (f h : List Fault) → ReadsToken u sp c d → literal_of sp u ≡ Some y → x ≡ y
+pub literal_reads : (u : Token) (sp : Span) (x y : Tree) (c d : Place) (k : Code) (w : Scope) (f : List Fault) (h : Notes) → ReadsToken u sp c d → literal_of sp u ≡ Some y → x ≡ y
     → literal (st c k w f h) ≡ Ok (Some x, st d k w f h)
 unfolding literal
 literal_reads u sp x y c d k w f h r e g = rw (literal_here u sp y c d r e, r.next, g) refl
@@ -75,15 +78,15 @@ literal_reads u sp x y c d k w f h r e g = rw (literal_here u sp y c d r e, r.ne
 
 word_reads : (text : Text) (sp : Span) (k : Code) (x : Tree) (c d : Place) → ReadsWord text sp c d → x ≡ tree.ident sp text → Reads word_property k x c d
 unfolding word_property
-word_reads text sp k x c d r e w f h = rw (any_word_reads text sp c d k w f h r, e, append-nil f, append-nil h) refl
+word_reads text sp k x c d r e w f h = rw (any_word_reads text sp c d k w f h r, e, append-nil f, append-nil h.held_back, or_nil h.found_module_item) refl
 
 literal_key_reads : (u : Token) (sp : Span) (x y : Tree) (c d : Place) (k : Code) → ReadsToken u sp c d → literal_of sp u ≡ Some y → x ≡ y
-    → ((env : Env) → walk env y ≡ []) → notes y ≡ [] → Reads literal_key k x c d
+    → ((env : Env) → walk env y ≡ []) → notes y ≡ [] → has_meta y ≡ false → Reads literal_key k x c d
 unfolding literal_key
-literal_key_reads u sp x y c d k r e g z o w f h = rw (literal_reads u sp x y c d k w f h r e g, g, z (env_of k w.labels), o, append-nil f, append-nil h) refl
+literal_key_reads u sp x y c d k r e g z o m w f h = rw (literal_reads u sp x y c d k w f h r e g, g, z (env_of k w.labels), o, m, append-nil f, append-nil h.held_back, or_nil h.found_module_item) refl
 
 -- a word by itself names what stands for it
-pub shorthand_reads : (text : Text) (sp : Span) (x : Tree) (d : Place) (k : Code) (w : Scope) (f h : List Fault) → is_name k.flags text ≡ true → x ≡ tree.shorthand_prop sp text
+pub shorthand_reads : (text : Text) (sp : Span) (x : Tree) (d : Place) (k : Code) (w : Scope) (f : List Fault) (h : Notes) → is_name k.flags text ≡ true → x ≡ tree.shorthand_prop sp text
     → shorthand (tree.ident sp text) (st d k w f h) ≡ Ok (x, st d k w f h)
 unfolding shorthand_name
 shorthand_reads text sp x d k w f h n e = rw (n, e) refl
@@ -145,12 +148,12 @@ module _ (In : Goal → Type 0) (inner : Class → Reader Tree) (cover : Reader 
       → d ≡ after m → x ≡ tree.computed (spanned c d) e → Reads (brackets inner cover) k x c d
   unfolding brackets spanned
   brackets_read e m k x c d r s g i j w f h =
-      rw (inside_reads expression k e (after c) m r s w f h, expect_reads kind.RBracket m k w (f ++ walk (env_of k w.labels) e) (h ++ notes e) g, j, i) refl
+      rw (inside_reads expression k e (after c) m r s w f h, expect_reads kind.RBracket m k w (f ++ walk (env_of k w.labels) e) (h ⊕ notes_of e) g, j, i) refl
 
   pub access_reads : (k : Code) (x : Tree) (c d : Place) → AccessRule In k x c d → is_supported_property x ≡ true → Reads (access inner cover) k x c d
   unfolding access dotted word_property same_kind
   access_reads k x c d (parts.word_access text sp g r e) s w f h =
-      rw (g, no_hash text sp (after c) d r, any_word_reads text sp (after c) d k w f h r, e, append-nil f, append-nil h) refl
+      rw (g, no_hash text sp (after c) d r, any_word_reads text sp (after c) d k w f h r, e, append-nil f, append-nil h.held_back, or_nil h.found_module_item) refl
   access_reads k x c d (parts.private_access g r) s w f h = rw (g, seen (after c) kind.Hash r.hash) (private_reads k x (after c) d r w f h)
   access_reads k x c d (parts.bracket_access e m g r i n j) s w f h =
       rw g (brackets_read e m k x c d r (sym (ap is_supported_property j) ∙ s) i n j w f h)
@@ -188,20 +191,20 @@ module _ (In : Goal → Type 0) (inner : Class → Reader Tree) (cover : Reader 
 
   element_shorter : (k : Code) (x : Tree) (c d : Place) → ElementRule In k x c d → supported x ≡ true → (w : Scope) → length d.left < length c.left
   element_shorter k x c d r s w =
-      shorter_by (length c.left) (element inner cover (st c k w [] [])) x _ (element_reads k x c d r s w [] []) (element_falls inner cover given.falls given.cover_falls (st c k w [] []))
+      shorter_by (length c.left) (element inner cover (st c k w [] no_notes)) x _ (element_reads k x c d r s w [] no_notes) (element_falls inner cover given.falls given.cover_falls (st c k w [] no_notes))
 
   -- an argument, and what stands behind it
   argument_more : (commas : Bool) (found : List Tree) (k : Code) (x : Tree) (c m d : Place) → ElementRule In k x c m → supported x ≡ true → BehindArgument commas m d
-      → (w : Scope) (f h : List Fault)
+      → (w : Scope) (f : List Fault) (h : Notes)
       → loop (arguments_turn inner cover commas) found (st c k w f h)
-      ≡ loop (arguments_turn inner cover commas) (found ++ x ∷ []) (st d k w (f ++ walk (env_of k w.labels) x) (h ++ notes x))
+      ≡ loop (arguments_turn inner cover commas) (found ++ x ∷ []) (st d k w (f ++ walk (env_of k w.labels) x) (h ⊕ notes_of x))
   unfolding arguments_turn same_kind
   argument_more commas found k x c m d r s (inl (e, i)) w f h =
-      loop_more (arguments_turn inner cover commas) found (found ++ x ∷ []) (st c k w f h) (st d k w (f ++ walk (env_of k w.labels) x) (h ++ notes x))
+      loop_more (arguments_turn inner cover commas) found (found ++ x ∷ []) (st c k w f h) (st d k w (f ++ walk (env_of k w.labels) x) (h ⊕ notes_of x))
       (rw ((element_begins k x c m r s).0, element_reads k x c m r s w f h, e, i) refl) (rw i (element_shorter k x c m r s w))
   argument_more commas found k x c m d r s (inr (e, i, g)) w f h =
-      loop_more (arguments_turn inner cover commas) found (found ++ x ∷ []) (st c k w f h) (st d k w (f ++ walk (env_of k w.labels) x) (h ++ notes x))
-      (rw ((element_begins k x c m r s).0, element_reads k x c m r s w f h, e, expect_reads kind.Comma m k w (f ++ walk (env_of k w.labels) x) (h ++ notes x) e, ← i, g) refl)
+      loop_more (arguments_turn inner cover commas) found (found ++ x ∷ []) (st c k w f h) (st d k w (f ++ walk (env_of k w.labels) x) (h ⊕ notes_of x))
+      (rw ((element_begins k x c m r s).0, element_reads k x c m r s w f h, e, expect_reads kind.Comma m k w (f ++ walk (env_of k w.labels) x) (h ⊕ notes_of x) e, ← i, g) refl)
       (rw i (let a = element_shorter k x c m r s w in let b = moves m in omega arith))
 
   -- no list of arguments that has one begins with its end
@@ -209,26 +212,26 @@ module _ (In : Goal → Type 0) (inner : Class → Reader Tree) (cover : Reader 
   argument_begins commas x [] k c d (m, r, l) s = (element_begins k x c m r s).0
   argument_begins commas x (y ∷ ys) k c d (m, r, a, i, more) s = (element_begins k x c m r s).0
 
-  arguments_end : (commas : Bool) (found : List Tree) (k : Code) (c : Place) (w : Scope) (f h : List Fault) → kind_at c ≡ kind.RParen
+  arguments_end : (commas : Bool) (found : List Tree) (k : Code) (c : Place) (w : Scope) (f : List Fault) (h : Notes) → kind_at c ≡ kind.RParen
       → loop (arguments_turn inner cover commas) found (st c k w f h) ≡ Ok (found, st (after c) k w f h)
   unfolding arguments_turn
   arguments_end commas found k c w f h e = loop_done (arguments_turn inner cover commas) found found (st c k w f h) (st (after c) k w f h) (rw (seen c kind.RParen e) refl)
 
-  many_arguments : (commas : Bool) (xs found : List Tree) (k : Code) (c d : Place) (w : Scope) (f h : List Fault) → ReadsListed commas (ElementRule In k) xs c d
+  many_arguments : (commas : Bool) (xs found : List Tree) (k : Code) (c d : Place) (w : Scope) (f : List Fault) (h : Notes) → ReadsListed commas (ElementRule In k) xs c d
       → all_supported (trees xs) ≡ true → kind_at d ≡ kind.RParen
-      → loop (arguments_turn inner cover commas) found (st c k w f h) ≡ Ok (found ++ xs, st (after d) k w (f ++ walks (env_of k w.labels) false (trees xs)) (h ++ all_notes (trees xs)))
-  many_arguments commas [] found k c d w f h r s e = rw (append-nil found, append-nil f, append-nil h, r) (arguments_end commas found k c w f h (ap kind_at (sym r) ∙ e))
+      → loop (arguments_turn inner cover commas) found (st c k w f h) ≡ Ok (found ++ xs, st (after d) k w (f ++ walks (env_of k w.labels) false (trees xs)) (h ⊕ all_notes_of (trees xs)))
+  many_arguments commas [] found k c d w f h r s e = rw (append-nil found, append-nil f, append-nil h.held_back, or_nil h.found_module_item, r) (arguments_end commas found k c w f h (ap kind_at (sym r) ∙ e))
   many_arguments commas (x ∷ []) found k c d w f h (m, r, l) s e =
       argument_more commas found k x c m d r (and_yes (supported x) _ s).0 (argument_last commas x m d l e) w f h
-      ∙ rw (append-nil (walk (env_of k w.labels) x), append-nil (notes x)) (arguments_end commas (found ++ x ∷ []) k d w (f ++ walk (env_of k w.labels) x) (h ++ notes x) e)
+      ∙ rw (append-nil (walk (env_of k w.labels) x), append-nil (notes x), or_nil (has_meta x)) (arguments_end commas (found ++ x ∷ []) k d w (f ++ walk (env_of k w.labels) x) (h ⊕ notes_of x) e)
   many_arguments commas (x ∷ y ∷ ys) found k c d w f h (m, r, a, i, more) s e =
       let t = and_yes (supported x) _ s in
       let g = and_no (not commas) (sees kind.RParen (after m)) (argument_begins commas y ys k (after m) d more (and_yes (supported y) (all_supported (trees ys)) t.1).0) in
       argument_more commas found k x c m (after m) r t.0 (inr (i, refl, g)) w f h
-      ∙ many_arguments commas (y ∷ ys) (found ++ x ∷ []) k (after m) d w (f ++ walk (env_of k w.labels) x) (h ++ notes x) more t.1 e ∙ simp append_assoc refl
+      ∙ many_arguments commas (y ∷ ys) (found ++ x ∷ []) k (after m) d w (f ++ walk (env_of k w.labels) x) (h ⊕ notes_of x) more t.1 e ∙ simp (append_assoc, or_assoc) refl
 
-  pub arguments_read : (commas : Bool) (k : Code) (args : Tree) (c d : Place) (w : Scope) (f h : List Fault) (r : ArgumentsRule In k commas args c d) → supported args ≡ true
-      → arguments inner cover commas (st c k w f h) ≡ Ok (r.elements, st d k w (f ++ walk (env_of k w.labels) args) (h ++ notes args))
+  pub arguments_read : (commas : Bool) (k : Code) (args : Tree) (c d : Place) (w : Scope) (f : List Fault) (h : Notes) (r : ArgumentsRule In k commas args c d) → supported args ≡ true
+      → arguments inner cover commas (st c k w f h) ≡ Ok (r.elements, st d k w (f ++ walk (env_of k w.labels) args) (h ⊕ notes_of args))
   unfolding arguments
   arguments_read commas k args c d w f h r s =
       many_arguments commas r.elements [] k (after c) r.close w f h r.reads_elements (supported_as args (listed r.elements) r.is s) r.closes ∙ rw (r.next, r.is) refl
@@ -241,23 +244,23 @@ module _ (In : Goal → Type 0) (inner : Class → Reader Tree) (cover : Reader 
       let t : supported r.key ≡ true = sym (ap is_supported_key r.is) ∙ s in
       rw (
         inside_reads assignment k r.key (after c) r.close r.reads_key t w f h,
-        expect_reads kind.RBracket r.close k w (f ++ walk (env_of k w.labels) r.key) (h ++ notes r.key) r.closes,
+        expect_reads kind.RBracket r.close k w (f ++ walk (env_of k w.labels) r.key) (h ⊕ notes_of r.key) r.closes,
         r.is,
         r.next,
       ) refl
 
   -- a string or a number
   token_key_reads : (u : Token) (sp : Span) (x y : Tree) (c d : Place) (k : Code) → ReadsToken u sp c d → token_is_word u ≡ false → same_kind (token_kind u) kind.LBracket ≡ false
-      → literal_of sp u ≡ Some y → x ≡ y → ((env : Env) → walk env y ≡ []) → notes y ≡ [] → Reads (key inner cover) k x c d
+      → literal_of sp u ≡ Some y → x ≡ y → ((env : Env) → walk env y ≡ []) → notes y ≡ [] → has_meta y ≡ false → Reads (key inner cover) k x c d
   unfolding key
-  token_key_reads u sp x y c d k r i j e g z o w f h =
-      rw (worded u sp c d false r i, token_first u sp c d r, j) (literal_key_reads u sp x y c d k r e g z o w f h)
+  token_key_reads u sp x y c d k r i j e g z o m w f h =
+      rw (worded u sp c d false r i, token_first u sp c d r, j) (literal_key_reads u sp x y c d k r e g z o m w f h)
 
   pub key_reads : (k : Code) (x : Tree) (c d : Place) → KeyRule In k x c d → is_supported_key x ≡ true → Reads (key inner cover) k x c d
   unfolding key same_kind
   key_reads k x c d (parts.word_key text sp r e) s w f h = rw (worded (token.Word r.word) sp c d true r.reads_word refl) (word_reads text sp k x c d r e w f h)
   key_reads k x c d (parts.string_key value raw sp r e) s w f h =
-      token_key_reads (token.Str value raw) sp x (tree.str sp value raw) c d k r refl refl refl e (λ env. refl) refl w f h
-  key_reads k x c d (parts.number_key raw sp r e) s w f h = token_key_reads (token.Num raw) sp x (tree.num sp raw) c d k r refl refl refl e (λ env. refl) refl w f h
-  key_reads k x c d (parts.big_int_key raw sp r e) s w f h = token_key_reads (token.BigInt raw) sp x (tree.big_int sp raw) c d k r refl refl refl e (λ env. refl) refl w f h
+      token_key_reads (token.Str value raw) sp x (tree.str sp value raw) c d k r refl refl refl e (λ env. refl) refl refl w f h
+  key_reads k x c d (parts.number_key raw sp r e) s w f h = token_key_reads (token.Num raw) sp x (tree.num sp raw) c d k r refl refl refl e (λ env. refl) refl refl w f h
+  key_reads k x c d (parts.big_int_key raw sp r e) s w f h = token_key_reads (token.BigInt raw) sp x (tree.big_int sp raw) c d k r refl refl refl e (λ env. refl) refl refl w f h
   key_reads k x c d (parts.computed_key r) s w f h = rw (bracket_here c r.opens, r.opens) (computed_key_reads k x c d r s w f h)

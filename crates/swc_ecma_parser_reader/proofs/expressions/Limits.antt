@@ -28,8 +28,8 @@ use Rattle.swc_ecma_parser_grammar.specs.Reads.{with_in}
 use Rattle.swc_ecma_parser_grammar.specs.language.Goals.{Class, expression, assignment, operator, unary, left_side, callee}
 use Rattle.swc_ecma_parser_grammar.specs.language.Operators.{unary_operator, update_operator, binary_operator, assign_operator, groups_left, mixes, is_unary}
 use Rattle.swc_ecma_parser_grammar.specs.language.Continues.{continues_conditional}
-use Rattle.swc_ecma_parser_reader.specs.State.{State, Outcome, Reader, ◌>>=◌, moved, coded, wanted, reject, reject_in, reject_at, fault_at, fault, expect, name, loop}
-use Rattle.swc_ecma_parser_reader.specs.Expressions.{Cover, no_covers, unmarked, close, target_or, target, goes_on, literal, literal_in, taken, any_word, word_in, word_by, touching_word, private_name, word_property, is_word_at, key_or, literal_key, shorthand_name, shorthand, dotted, ident_expr, this, bare_new, closed_left, simple, update_behind, behind_operand, postfix_at, right_class, read_operator, operator_at, left_operand, unmixed, unassigned, unassignable, unheaded, heads_arrow, begins_async_call, inside, brackets, access, spread_element, plain_element, element, arguments_turn, arguments, covered, spread_item, plain_item, item, array_turn, elements, array, computed_key, key, key_value, initialized, initialized_name, initialized_key, bare_key, behind_key, keyed_property, spread_property, property, object_turn, properties, object, paren, marked_primary, literal_or, primary, accessed, called, left_turn, left_from, super_call, super_access, has_private, behind_super, super_head, constructed, new_head, import_call, import_meta, import_head, left_head, left, left_expr, prefixed, update_before, postfix, updated, unary_by, unary_expr, operated, binary_by, binary_turn, binary_from, binary_expr, conditional, assigned_to, assigned, assigned_or, behind_operators, operators_expr, postfixed, continued, closed, assigned_pattern, behind_literal, open_literal, done_expr, cover_expr, assignment_expr, sequence_turn, sequence_from, expression_expr, expr_level, expr, cover}
+use Rattle.swc_ecma_parser_reader.specs.State.{State, Outcome, Reader, ◌>>=◌, moved, module_found, coded, wanted, reject, reject_in, reject_at, fault_at, fault, expect, name, loop}
+use Rattle.swc_ecma_parser_reader.specs.Expressions.{Cover, no_covers, unmarked, close, target_or, target, goes_on, literal, literal_in, taken, any_word, word_in, word_by, touching_word, private_name, word_property, is_word_at, key_or, literal_key, shorthand_name, shorthand, dotted, ident_expr, this, bare_new, closed_left, simple, update_behind, behind_operand, postfix_at, right_class, read_operator, operator_at, left_operand, unmixed, unassigned, unassignable, unheaded, heads_arrow, begins_async_call, inside, brackets, access, spread_element, plain_element, element, arguments_turn, arguments, covered, spread_item, plain_item, item, array_turn, elements, array, computed_key, key, key_value, initialized, initialized_name, initialized_key, bare_key, behind_key, keyed_property, spread_property, property, object_turn, properties, object, paren, marked_primary, literal_or, primary, accessed, called, left_turn, left_from, super_call, super_access, has_private, behind_super, super_head, constructed, new_head, import_call, meta_fault, import_meta, import_head, left_head, left, left_expr, prefixed, update_before, postfix, updated, unary_by, unary_expr, operated, binary_by, binary_turn, binary_from, binary_expr, conditional, assigned_to, assigned, assigned_or, behind_operators, operators_expr, postfixed, continued, closed, assigned_pattern, behind_literal, open_literal, done_expr, cover_expr, assignment_expr, sequence_turn, sequence_from, expression_expr, expr_level, expr, cover}
 use Rattle.swc_ecma_parser_reader.proofs.Meets.{Answers, answers_then, answers_if, Turned, loop_answers, saw}
 use Rattle.swc_ecma_parser_reader.proofs.Shallow.{Fine, fine_more, fine_after, fine_taken, Shallow, Kept, error_shallow, too_deep_shallow, fault_shallow, refused_shallow, wanted_shallow, expect_shallow, name_shallow, Levels}
 
@@ -381,10 +381,14 @@ module _ (inner : Class → Reader Tree) (cover : Reader Cover) (n : ℕ) (below
     import_call_shallow start s e f =
         answers_then _ _ (arguments inner cover s.code.setting.import_attributes s) _ (arguments_shallow s.code.setting.import_attributes s e f) (λ xs t g. g)
 
+    meta_fault_shallow : (span : Span) (s : State) → Fine m s.at.left → Answers (Kept m) Shallow (meta_fault span s)
+    unfolding meta_fault
+    meta_fault_shallow span s f = answers_if _ _ s.code.flags.can_be_module _ _ (λ _. f) (λ _. fault_shallow m s f _)
+
     import_meta_shallow : (start : Span) (s : State) → Fine m s.at.left → Answers (Kept m) Shallow (import_meta start s)
     unfolding import_meta
-    import_meta_shallow start s f = answers_if _ _ (word_at (codes "meta") s.at && not s.code.flags.can_be_module) _ _
-        (λ _. answers_then _ _ (fault _ (moved s)) _ (fault_shallow m (moved s) (fine_after m s.at f) _) (λ _ t g. g)) (λ _. unexpected_shallow m s f _)
+    import_meta_shallow start s f = answers_if _ _ (word_at (codes "meta") s.at) _ _
+        (λ _. answers_then _ _ (meta_fault _ (module_found (moved s))) _ (meta_fault_shallow _ (module_found (moved s)) (fine_after m s.at f)) (λ _ t g. g)) (λ _. unexpected_shallow m s f _)
 
     import_shallow : (s : State) → Fine m s.at.left → Answers (Kept m) Shallow (import_head inner cover s)
     unfolding import_head

@@ -26,10 +26,11 @@ use Rattle.swc_ecma_parser_grammar.specs.language.Expressions.{AssignmentRule, o
 use Rattle.swc_ecma_parser_grammar.specs.language.Reads.{Reads}
 use Rattle.swc_ecma_parser_grammar.specs.Walk as walks
 use Rattle.swc_ecma_parser_grammar.specs.Walk.{walk, env_of}
-use Rattle.swc_ecma_parser_grammar.specs.Notes.{notes, all_notes}
 use Rattle.swc_ecma_parser_grammar.proofs.Tests.{or_none, and_both}
+use Rattle.swc_ecma_parser_reader.specs.Notes.{Notes, no_notes, held, ◌⊕◌, notes_of, all_notes_of}
 use Rattle.swc_ecma_parser_reader.specs.State.{State, Reader, and_then, moved, expect, loop}
 use Rattle.swc_ecma_parser_reader.specs.Expressions.{Cover, done, unmarked, close, target, goes_on, begins_async_call, is_head, heads_arrow, unassigned, unheaded, inside, binary_expr, conditional, assigned_to, assigned, assigned_or, behind_operators, operators_expr, continued, closed, assigned_pattern, behind_literal, open_literal, done_expr, cover_expr, assignment_expr, sequence_turn, sequence_from, expression_expr, expr_level, expr, cover}
+use Rattle.swc_ecma_parser_reader.proofs.Notes.{or_nil, or_true, notes_nil}
 use Rattle.swc_ecma_parser_reader.proofs.Meets.{Meets, Refuses, meets_then, meets_if, wanted_meets, too_deep_meets, Turned, loop_answers, saw}
 use Rattle.swc_ecma_parser_reader.proofs.Errors.{is_error}
 use Rattle.swc_ecma_parser_reader.proofs.Between.{SoundTree, Sound, same, sound_as}
@@ -189,7 +190,7 @@ module _ (n : ℕ) (inner : Class → Reader Tree) (cover : Reader Cover) (sound
         → Meets (λ y u. SoundNext (done y) u) (assigned_to inner cover (span_at s.at) p assign.Assign t)
     unfolding assigned_to spanned
     given_sound v t p q e c i l = let same = pattern_alike false v.x p i in meets_then _ (inner assignment (moved t)) _ (sound assignment (moved t)) (λ y u r.
-        sound_as s u refl (ap (λ z. z ++ walk (env_of s.code s.scope.labels) y) (sym (same.walked (env_of s.code s.scope.labels)))) (ap (λ z. z ++ notes y) (sym same.noted))
+        sound_as s u refl (ap (λ z. z ++ walk (env_of s.code s.scope.labels) y) (sym (same.walked (env_of s.code s.scope.labels)))) (ap (λ z. z ⊕ notes_of y) (sym same.noted))
         (λ (a, b). let w = a.pattern c p i in settled_read n s.code _ s.at u.at refl (
           destructuring_rule p y t.at w.0 (literal_target v.x p l i) e b.0 refl,
           and_both (supported p) (supported y) w.1 b.1,
@@ -256,11 +257,11 @@ module _ (n : ℕ) (inner : Class → Reader Tree) (cover : Reader Cover) (sound
   module _ (s : State) where
     -- the parts so far, before a comma, and all
     abbrev PartsSoFar : List Tree → State → Type 0
-    PartsSoFar xs t = (kind_at t.at ≡ kind.Comma) × Sound same (λ k l. walks.walks (env_of k l) false (trees xs)) (all_notes (trees xs))
+    PartsSoFar xs t = (kind_at t.at ≡ kind.Comma) × Sound same (λ k l. walks.walks (env_of k l) false (trees xs)) (all_notes_of (trees xs))
         (λ k c d. Before (AssignmentRule (Reads n) k) xs c d × (all_supported (trees xs) ≡ true)) s t
 
     abbrev AllParts : List Tree → State → Type 0
-    AllParts xs t = Sound same (λ k l. walks.walks (env_of k l) false (trees xs)) (all_notes (trees xs))
+    AllParts xs t = Sound same (λ k l. walks.walks (env_of k l) false (trees xs)) (all_notes_of (trees xs))
         (λ k c d. Parts (AssignmentRule (Reads n) k) xs c d × (all_supported (trees xs) ≡ true)) s t
 
     sequence_turn_sound : (xs : List Tree) (t : State) → PartsSoFar xs t → Meets (Turned (sequence_turn inner cover) PartsSoFar AllParts Refuses) (sequence_turn inner cover xs t)
@@ -279,7 +280,7 @@ module _ (n : ℕ) (inner : Class → Reader Tree) (cover : Reader Cover) (sound
     unfolding sequence_from spanned
     sequence_sound x t p e = meets_then _ (loop (sequence_turn inner cover) (x ∷ []) t) _
         (loop_answers (sequence_turn inner cover) PartsSoFar AllParts Refuses sequence_turn_sound (λ _. tt) (x ∷ []) t
-        (e, sound_as s t refl (sym (append-nil (walk (env_of s.code s.scope.labels) x))) (sym (append-nil (notes x))) (λ r. ((r.0, e), and_both (supported x) true r.1 refl)) p))
+        (e, sound_as s t refl (sym (append-nil (walk (env_of s.code s.scope.labels) x))) (sym (notes_nil (notes_of x))) (λ r. ((r.0, e), and_both (supported x) true r.1 refl)) p))
         (λ xs u q. sound_as s u refl refl refl (λ r. (parts_rule (Reads n) s.code _ xs s.at u.at r.0 refl, r.1)) q)
 
     expression_sound : Meets (λ x t. SoundTree (ReadsClass (suc n) expression) s x t) (expression_expr inner cover s)

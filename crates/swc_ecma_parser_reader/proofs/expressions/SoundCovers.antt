@@ -30,10 +30,11 @@ use Rattle.swc_ecma_parser_grammar.specs.language.Patterns.{PatternRule, Pattern
 use Rattle.swc_ecma_parser_grammar.specs.language.Reads.{Reads}
 use Rattle.swc_ecma_parser_grammar.specs.Walk as walks
 use Rattle.swc_ecma_parser_grammar.specs.Walk.{walk, env_of}
-use Rattle.swc_ecma_parser_grammar.specs.Notes.{notes, all_notes}
 use Rattle.swc_ecma_parser_grammar.proofs.Tests.{or_no, and_both}
+use Rattle.swc_ecma_parser_reader.specs.Notes.{Notes, no_notes, held, ◌⊕◌, notes_of, all_notes_of}
 use Rattle.swc_ecma_parser_reader.specs.State.{State, Reader, moved, coded, expect, loop}
 use Rattle.swc_ecma_parser_reader.specs.Expressions.{Cover, Covers, no_covers, with_cover, with_comma, done, literal_of, literal_in, taken, literal, any_word, word_property, token_is_word, first_is_word, is_word_at, key_or, literal_key, shorthand_name, shorthand, inside, covered, spread_item, plain_item, item, behind_item, array_turn, elements, array, computed_key, key, key_value, initialized, initialized_name, initialized_key, bare_key, behind_key, keyed_property, spread_property, property, behind_property, object_turn, properties, object}
+use Rattle.swc_ecma_parser_reader.proofs.Notes.{or_nil, or_true, notes_nil}
 use Rattle.swc_ecma_parser_reader.proofs.Meets.{Meets, Refuses, meets_then, meets_if, wanted_meets, Turned, loop_answers, saw}
 use Rattle.swc_ecma_parser_reader.proofs.Errors.{kind_here}
 use Rattle.swc_ecma_parser_reader.proofs.Between.{SoundTree, Sound, same, sound_moved, sound_here, sound_as, sound_after, within_sound}
@@ -52,7 +53,7 @@ pub record CoverRead (n : ℕ) (v : Cover) (k : Code) (c d : Place) : Type 0 whe
   pub element : v.comma ≡ false → with_in k ≡ k → (p : Tree) → as_pattern true v.x ≡ Some p → Reads n (element_goal assigning k p c d) × (supported p ≡ true)
 
 abbrev pub SoundCover : ℕ → State → Cover → State → Type 0
-SoundCover n s v t = Sound same (λ k l. walk (env_of k l) v.x) (notes v.x) (CoverRead n v) s t
+SoundCover n s v t = Sound same (λ k l. walk (env_of k l) v.x) (notes_of v.x) (CoverRead n v) s t
 
 -- an array or object by itself
 pub record LiteralRead (n : ℕ) (v : Cover) (k : Code) (c d : Place) : Type 0 where
@@ -64,7 +65,7 @@ pub record LiteralRead (n : ℕ) (v : Cover) (k : Code) (c d : Place) : Type 0 w
   pub ends : (span_of v.x).hi ≡ d.last.hi
 
 abbrev pub SoundLiteral : ℕ → State → Cover → State → Type 0
-SoundLiteral n s v t = Sound same (λ k l. walk (env_of k l) v.x) (notes v.x) (LiteralRead n v) s t
+SoundLiteral n s v t = Sound same (λ k l. walk (env_of k l) v.x) (notes_of v.x) (LiteralRead n v) s t
 
 -- ---- rests, keys and names
 
@@ -207,12 +208,12 @@ module _ (n : ℕ) (inner : Class → Reader Tree) (cover : Reader Cover) (sound
   -- an expression where `in` is an operator
   pub inside_sound : (class : Class) (s : State) → Meets (λ x t. SoundTree (λ k. ReadsClass n class (with_in k)) s x t) (inside inner cover class s)
   unfolding inside
-  inside_sound class s = within_sound (λ x k l. walk (env_of k l) x) notes (λ x k. ReadsClass n class k x) with_in (λ k. refl) (inner class) s (sound class (coded (with_in s.code) s))
+  inside_sound class s = within_sound (λ x k l. walk (env_of k l) x) notes_of (λ x k. ReadsClass n class k x) with_in (λ k. refl) (inner class) s (sound class (coded (with_in s.code) s))
 
   -- the same of what may still become a pattern
-  covered_sound : (s : State) → Meets (λ v t. Sound same (λ k l. walk (env_of k l) v.x) (notes v.x) (λ k. CoverRead n v (with_in k)) s t) (covered inner cover s)
+  covered_sound : (s : State) → Meets (λ v t. Sound same (λ k l. walk (env_of k l) v.x) (notes_of v.x) (λ k. CoverRead n v (with_in k)) s t) (covered inner cover s)
   unfolding covered
-  covered_sound s = within_sound (λ v k l. walk (env_of k l) v.x) (λ v. notes v.x) (λ v. CoverRead n v) with_in (λ k. refl) cover s (covers (coded (with_in s.code) s))
+  covered_sound s = within_sound (λ v k l. walk (env_of k l) v.x) (λ v. notes_of v.x) (λ v. CoverRead n v) with_in (λ k. refl) cover s (covers (coded (with_in s.code) s))
 
   -- ---- elements
 
@@ -220,7 +221,7 @@ module _ (n : ℕ) (inner : Class → Reader Tree) (cover : Reader Cover) (sound
   ItemRead is_spread v k = PartRead (ElementRule (Reads n) k) as_elements (ItemRule n k v) is_spread v
 
   abbrev SoundItem : State → Cover → State → Type 0
-  SoundItem s v t = Sound same (λ k l. walk (env_of k l) v.x) (notes v.x) (ItemRead (sees kind.DotDotDot s.at) v) s t
+  SoundItem s v t = Sound same (λ k l. walk (env_of k l) v.x) (notes_of v.x) (ItemRead (sees kind.DotDotDot s.at) v) s t
 
   item_sound : (s : State) → Meets (SoundItem s) (item inner cover s)
   unfolding item spread_item plain_item
@@ -244,14 +245,14 @@ module _ (n : ℕ) (inner : Class → Reader Tree) (cover : Reader Cover) (sound
 
   -- the elements so far, and all
   abbrev ElementsSoFar : State → Covers → State → Type 0
-  ElementsSoFar s found t = Sound same (λ k l. walks.walks (env_of k l) false (trees found.xs)) (all_notes (trees found.xs))
+  ElementsSoFar s found t = Sound same (λ k l. walks.walks (env_of k l) false (trees found.xs)) (all_notes_of (trees found.xs))
       (λ k. SoFar (Elems k) as_elements (Items k) kind.RBracket found) s t
 
   abbrev ClosedElements : Covers → Code → Place → Place → Type 0
   ClosedElements found k c d = (m : Place) × AllRead (Elems k) as_elements (Items k) found c m × (kind_at m ≡ kind.RBracket) × (d ≡ after m)
 
   abbrev SoundElements : State → Covers → State → Type 0
-  SoundElements s found t = Sound same (λ k l. walks.walks (env_of k l) false (trees found.xs)) (all_notes (trees found.xs)) (ClosedElements found) s t
+  SoundElements s found t = Sound same (λ k l. walks.walks (env_of k l) false (trees found.xs)) (all_notes_of (trees found.xs)) (ClosedElements found) s t
 
   -- the comma behind a hole
   hole_next : (k : Code) (c m : Place) (found : Covers) → SoFar (Elems k) as_elements (Items k) kind.RBracket found c m → sees kind.RBracket m ≡ false → kind_at m ≡ kind.Comma
@@ -305,7 +306,7 @@ module _ (n : ℕ) (inner : Class → Reader Tree) (cover : Reader Cover) (sound
 
   -- all of them, from `[` on
   elements_sound : (s : State) → kind_at s.at ≡ kind.LBracket
-      → Meets (λ found t. Sound same (λ k l. walk (env_of k l) (listed found.xs)) (notes (listed found.xs)) (λ k c d. ClosedElements found k (after c) d) s t) (elements inner cover s)
+      → Meets (λ found t. Sound same (λ k l. walk (env_of k l) (listed found.xs)) (notes_of (listed found.xs)) (λ k c d. ClosedElements found k (after c) d) s t) (elements inner cover s)
   unfolding elements
   elements_sound s e = meets_as (loop (array_turn inner cover) no_covers (moved s))
       (loop_answers (array_turn inner cover) (ElementsSoFar (moved s)) (SoundElements (moved s)) Refuses (array_turn_sound (moved s)) (λ t. tt) no_covers (moved s)
@@ -377,7 +378,7 @@ module _ (n : ℕ) (inner : Class → Reader Tree) (cover : Reader Cover) (sound
   PropertyRead is_spread v k = PartRead (PropertyRule (Reads n) k) as_properties (PatternPropertyRule (Reads n) assigning (with_in k)) is_spread v
 
   abbrev SoundProperty : State → Cover → State → Type 0
-  SoundProperty s v t = Sound same (λ k l. walk (env_of k l) v.x) (notes v.x) (PropertyRead (sees kind.DotDotDot s.at) v) s t
+  SoundProperty s v t = Sound same (λ k l. walk (env_of k l) v.x) (notes_of v.x) (PropertyRead (sees kind.DotDotDot s.at) v) s t
 
   module _ (s : State) where
     abbrev is_spread : Bool
@@ -450,14 +451,14 @@ module _ (n : ℕ) (inner : Class → Reader Tree) (cover : Reader Cover) (sound
 
   -- the properties so far, and all
   abbrev PropertiesSoFar : State → Covers → State → Type 0
-  PropertiesSoFar s found t = Sound same (λ k l. walks.walks (env_of k l) false (trees found.xs)) (all_notes (trees found.xs))
+  PropertiesSoFar s found t = Sound same (λ k l. walks.walks (env_of k l) false (trees found.xs)) (all_notes_of (trees found.xs))
       (λ k. SoFar (Props k) as_properties (Targets k) kind.RBrace found) s t
 
   abbrev ClosedProperties : Covers → Code → Place → Place → Type 0
   ClosedProperties found k c d = (m : Place) × AllRead (Props k) as_properties (Targets k) found c m × (kind_at m ≡ kind.RBrace) × (d ≡ after m)
 
   abbrev SoundProperties : State → Covers → State → Type 0
-  SoundProperties s found t = Sound same (λ k l. walks.walks (env_of k l) false (trees found.xs)) (all_notes (trees found.xs)) (ClosedProperties found) s t
+  SoundProperties s found t = Sound same (λ k l. walks.walks (env_of k l) false (trees found.xs)) (all_notes_of (trees found.xs)) (ClosedProperties found) s t
 
   object_turn_sound : (s : State) (found : Covers) (t : State) → PropertiesSoFar s found t
       → Meets (Turned (object_turn inner cover) (PropertiesSoFar s) (SoundProperties s) Refuses) (object_turn inner cover found t)
@@ -487,7 +488,7 @@ module _ (n : ℕ) (inner : Class → Reader Tree) (cover : Reader Cover) (sound
 
   -- all of them, from `{` on
   properties_sound : (s : State) → kind_at s.at ≡ kind.LBrace
-      → Meets (λ found t. Sound same (λ k l. walk (env_of k l) (listed found.xs)) (notes (listed found.xs)) (λ k c d. ClosedProperties found k (after c) d) s t) (properties inner cover s)
+      → Meets (λ found t. Sound same (λ k l. walk (env_of k l) (listed found.xs)) (notes_of (listed found.xs)) (λ k c d. ClosedProperties found k (after c) d) s t) (properties inner cover s)
   unfolding properties
   properties_sound s e = meets_as (loop (object_turn inner cover) no_covers (moved s))
       (loop_answers (object_turn inner cover) (PropertiesSoFar (moved s)) (SoundProperties (moved s)) Refuses (object_turn_sound (moved s)) (λ t. tt) no_covers (moved s)

@@ -13,6 +13,7 @@ use Rattle.swc_ecma_parser_token.specs.declared.token.Word.TheVariants as word
 use Rattle.swc_ecma_parser_token.specs.Kind.{token_kind}
 use Rattle.swc_ecma_parser_input.specs.Place.{Place, after}
 use Rattle.swc_ecma_parser_model.specs.declared.leaves.Ident.{Ident}
+use Rattle.swc_ecma_parser_model.specs.declared.leaves.MetaPropKind.TheVariants as meta
 use Rattle.swc_ecma_parser_model.specs.Tree as tree
 use Rattle.swc_ecma_parser_model.specs.Tree.{Tree, Text, listed, trees}
 use Rattle.swc_ecma_parser_model.specs.Forms.{is_rest}
@@ -27,14 +28,15 @@ use Rattle.swc_ecma_parser_grammar.specs.language.Lists.{ReadsListed, LastComma,
 use Rattle.swc_ecma_parser_grammar.specs.language.Continues.{continues_callee}
 use Rattle.swc_ecma_parser_grammar.specs.language.Parts as parts
 use Rattle.swc_ecma_parser_grammar.specs.language.Parts.{AccessRule, word_access, private_access, bracket_access, is_private, ElementRule, ArgumentsRule}
-use Rattle.swc_ecma_parser_grammar.specs.language.LeftSides.{PrimaryRule, name_rule, string_rule, true_rule, false_rule, null_rule, number_rule, big_int_rule, this_rule, paren_rule, is_callee, LeftSideRule, primary_rule, member_rule, super_property_rule, call_rule, super_call_rule, import_call_rule, new_rule, bare_new_rule}
+use Rattle.swc_ecma_parser_grammar.specs.language.LeftSides.{PrimaryRule, name_rule, string_rule, true_rule, false_rule, null_rule, number_rule, big_int_rule, this_rule, paren_rule, is_callee, LeftSideRule, primary_rule, import_meta_rule, member_rule, super_property_rule, call_rule, super_call_rule, import_call_rule, new_rule, bare_new_rule}
 use Rattle.swc_ecma_parser_grammar.specs.language.Reads.{Reads}
 use Rattle.swc_ecma_parser_grammar.specs.Walk as walks
 use Rattle.swc_ecma_parser_grammar.specs.Walk.{walk, env_of}
-use Rattle.swc_ecma_parser_grammar.specs.Notes.{notes, all_notes}
 use Rattle.swc_ecma_parser_grammar.proofs.Tests.{or_no, or_none, and_yes, and_both}
-use Rattle.swc_ecma_parser_reader.specs.State.{State, Outcome, Reader, and_then, moved, fault, fault_at, expect, name, loop}
-use Rattle.swc_ecma_parser_reader.specs.Expressions.{Cover, literal_of, literal_in, taken, literal, ident_expr, this, has_private, bare_new, closed_left, unmarked, close, dotted, inside, brackets, access, spread_element, plain_element, element, behind_argument, arguments_turn, arguments, array, object, paren, marked_primary, literal_or, primary, accessed, called, left_turn, left_from, super_call, super_access, behind_super, super_head, constructed, new_head, import_call, import_meta, import_head, left_head, left, left_expr}
+use Rattle.swc_ecma_parser_reader.specs.Notes.{Notes, no_notes, held, ◌⊕◌, notes_of, all_notes_of}
+use Rattle.swc_ecma_parser_reader.specs.State.{State, Outcome, Reader, and_then, moved, module_found, fault, fault_at, expect, name, loop}
+use Rattle.swc_ecma_parser_reader.specs.Expressions.{Cover, literal_of, literal_in, taken, literal, ident_expr, this, has_private, bare_new, closed_left, unmarked, close, dotted, inside, brackets, access, spread_element, plain_element, element, behind_argument, arguments_turn, arguments, array, object, paren, marked_primary, literal_or, primary, accessed, called, left_turn, left_from, super_call, super_access, behind_super, super_head, constructed, new_head, import_call, meta_fault, import_meta, import_head, left_head, left, left_expr}
+use Rattle.swc_ecma_parser_reader.proofs.Notes.{or_nil, or_true, notes_nil}
 use Rattle.swc_ecma_parser_reader.proofs.Meets.{Meets, Refuses, meets_then, meets_if, wanted_meets, Turned, loop_answers, saw}
 use Rattle.swc_ecma_parser_reader.proofs.Errors.{kind_here}
 use Rattle.swc_ecma_parser_reader.proofs.Between.{SoundTree, SoundStep, Sound, same, no_faults, sound_moved, sound_here, sound_as, sound_after}
@@ -102,6 +104,10 @@ pub record Left (In : Goal → Type 0) (calls : Bool) (k : Code) (x : Tree) (c d
   pub supports : supported x ≡ true
   pub no_await : sees kind.Await c ≡ false
   pub is_called : calls ≡ false → is_callee x ≡ true
+
+-- nothing is taken, in code that can be a module's
+abbrev AsModule : Code → Place → Place → Type 0
+AsModule k c d = (k.flags.can_be_module ≡ true) × (d ≡ c)
 
 -- an access with a property that is supported
 abbrev Access : (Goal → Type 0) → Code → Tree → Place → Place → Type 0
@@ -171,14 +177,14 @@ module _ (n : ℕ) (inner : Class → Reader Tree) (cover : Reader Cover) (sound
   module _ (commas : Bool) where
     -- the arguments so far, and all
     abbrev ArgumentsSoFar : State → List Tree → State → Type 0
-    ArgumentsSoFar s xs t = Sound same (λ k l. walks.walks (env_of k l) false (trees xs)) (all_notes (trees xs))
+    ArgumentsSoFar s xs t = Sound same (λ k l. walks.walks (env_of k l) false (trees xs)) (all_notes_of (trees xs))
         (λ k c d. Front commas (ElementRule (Reads n) k) kind.RParen xs c d × (all_supported (trees xs) ≡ true)) s t
 
     abbrev Closed : List Tree → Code → Place → Place → Type 0
     Closed xs k c d = (m : Place) × ReadsListed commas (ElementRule (Reads n) k) xs c m × (kind_at m ≡ kind.RParen) × (d ≡ after m) × (all_supported (trees xs) ≡ true)
 
     abbrev SoundClosed : State → List Tree → State → Type 0
-    SoundClosed s xs t = Sound same (λ k l. walks.walks (env_of k l) false (trees xs)) (all_notes (trees xs)) (Closed xs) s t
+    SoundClosed s xs t = Sound same (λ k l. walks.walks (env_of k l) false (trees xs)) (all_notes_of (trees xs)) (Closed xs) s t
 
     -- behind a comma the end stands only where a comma may stand before it
     abbrev MayStand : Code → Place → Place → Type 0
@@ -212,7 +218,7 @@ module _ (n : ℕ) (inner : Class → Reader Tree) (cover : Reader Cover) (sound
     Arguments xs k c d = ArgumentsRule (Reads n) k commas (listed xs) c d × (all_supported (trees xs) ≡ true)
 
     arguments_sound : (s : State) → kind_at s.at ≡ kind.LParen
-        → Meets (λ xs t. Sound same (λ k l. walk (env_of k l) (listed xs)) (notes (listed xs)) (Arguments xs) s t) (arguments inner cover commas s)
+        → Meets (λ xs t. Sound same (λ k l. walk (env_of k l) (listed xs)) (notes_of (listed xs)) (Arguments xs) s t) (arguments inner cover commas s)
     unfolding arguments
     arguments_sound s e = meets_as (loop (arguments_turn inner cover commas) [] (moved s))
         (loop_answers (arguments_turn inner cover commas) (ArgumentsSoFar (moved s)) (SoundClosed (moved s)) Refuses (arguments_turn_sound (moved s)) (λ t. tt) [] (moved s)
@@ -392,21 +398,57 @@ module _ (n : ℕ) (inner : Class → Reader Tree) (cover : Reader Cover) (sound
           no_await = w;
           is_called = λ _. refl;
         }) (paired (moved_back e refl p) q)))
-        (λ h. sound_after s m e refl (sym (append-nil (walk (env_of s.code s.scope.labels) x))) (sym (append-nil (notes x))) (λ r. record {
+        (λ h. sound_after s m e refl (sym (append-nil (walk (env_of s.code s.scope.labels) x))) (sym (notes_nil (notes_of x))) (λ r. record {
           rule = bare_new_rule x e (bare_called n s.code x (after s.at) m.at r.0 (no_access m.at r.1 h)) refl;
           supports = and_both (supported x) true r.2 refl;
           no_await = w;
           is_called = λ _. refl;
         }) p))
 
-    -- a recorded fault: no tree of the relation is answered
-    import_meta_sound : kind_at s.at ≡ kind.Import → kind_at (after s.at) ≡ kind.Dot → Meets (SoundLeft calls s) (import_meta (span_at s.at) (moved (moved s)))
-    unfolding import_meta
-    import_meta_sound e h = meets_if _ (word_at (codes "meta") c && not s.code.flags.can_be_module) _ _
-        (λ g. let f : Fault = fault_at (record { lo = (span_at s.at).lo; hi = (after c).last.hi }) faults.ImportMetaInScript in
-        meets_then _ (fault f u) _ (fault_sound (λ k i j. ⊥) f u refl) (λ _ t p. let w = word_stands (codes "meta") c (and_yes (word_at (codes "meta") c) _ g).0 in
-        sound_after {w = no_faults} {P = λ k i j. ⊥} s t e refl refl refl (λ z. absurd z) (sound_after {w = no_faults} {P = λ k i j. ⊥} (moved s) t h refl refl refl (λ z. z)
-        (sound_after {w = no_faults} {P = λ k i j. ⊥} (moved (moved s)) t w refl refl refl (λ z. z) p))))
+    -- a recorded fault: no tree of the relation is answered, in code that cannot be a module's
+    meta_fault_sound : (span : Span) (u : State) → Meets (λ _ t. Sound same no_faults (notes_of (tree.meta_prop span meta.ImportMeta)) AsModule u t) (meta_fault span (module_found u))
+    unfolding meta_fault
+    meta_fault_sound span u = meets_if _ u.code.flags.can_be_module _ _
+        (λ g. record {
+          code = refl;
+          scope = refl;
+          added = [];
+          faults = sym (append-nil u.faults);
+          notes = λ _ i. record { held_back = sym (append-nil u.notes.held_back) i; found_module_item = sym (or_true u.notes.found_module_item) i };
+          walked = λ _ _. refl;
+          keeps = λ h. h;
+          spares = λ _ h. h;
+          remembers = λ h. h;
+          reads = λ _. (g, refl);
+        })
+        (λ _. meets_as (fault f (module_found u)) (fault_sound (λ k i j. ⊥) f (module_found u) refl) (λ _ t p. record {
+          code = p.code;
+          scope = p.scope;
+          added = p.added;
+          faults = p.faults;
+          notes = λ e. absurd (p.reads e);
+          walked = p.walked;
+          keeps = p.keeps;
+          spares = p.spares;
+          remembers = p.remembers;
+          reads = λ e. absurd (p.reads e);
+        }))
+      where
+        f : Fault
+        f = fault_at span faults.ImportMetaInScript
+
+    import_meta_sound : calls ≡ true → kind_at s.at ≡ kind.Import → kind_at (after s.at) ≡ kind.Dot → Meets (SoundLeft calls s) (import_meta (span_at s.at) (moved (moved s)))
+    unfolding import_meta spanned same_kind
+    import_meta_sound z e h = meets_if _ (word_at (codes "meta") c) _ _
+        (λ g. let span : Span = record { lo = (span_at s.at).lo; hi = (after c).last.hi } in
+        meets_then _ (meta_fault span (module_found u)) _ (meta_fault_sound span u) (λ _ t p.
+        sound_after {w = no_faults} {P = λ k i j. AsModule k (after c) j} s t e refl refl refl (λ (m, q). record {
+          rule = import_meta_rule e h g q m (sym (ap (λ z. tree.meta_prop (record { lo = (span_at s.at).lo; hi = z.last.hi }) meta.ImportMeta) q));
+          supports = refl;
+          no_await = elsewhere s.at kind.Import kind.Await e refl;
+          is_called = λ y. clash calls z y;
+        }) (sound_after {w = no_faults} {P = λ k i j. AsModule k (after c) j} (moved s) t h refl refl refl (λ r. r)
+        (sound_after {w = no_faults} {P = AsModule} (moved (moved s)) t (word_stands (codes "meta") c g) refl refl refl (λ r. r) p))))
         (λ _. wanted_meets _ faults.Unexpected (moved (moved s)))
       where
         c : Place
@@ -425,7 +467,7 @@ module _ (n : ℕ) (inner : Class → Reader Tree) (cover : Reader Cover) (sound
           no_await = elsewhere s.at kind.Import kind.Await e refl;
           is_called = λ z. clash calls g z;
         }) p))
-        (λ _. meets_if _ (sees kind.Dot (after s.at)) _ _ (λ h. import_meta_sound e (saw (after s.at) kind.Dot h)) (λ _. wanted_meets _ faults.Unexpected (moved s)))
+        (λ _. meets_if _ (sees kind.Dot (after s.at)) _ _ (λ h. import_meta_sound g e (saw (after s.at) kind.Dot h)) (λ _. wanted_meets _ faults.Unexpected (moved s)))
 
     left_head_sound : Meets (SoundLeft calls s) (left_head inner cover calls s)
     unfolding left_head

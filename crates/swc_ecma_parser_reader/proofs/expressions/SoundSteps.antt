@@ -30,25 +30,26 @@ use Rattle.swc_ecma_parser_grammar.specs.Entries.{has_error_token}
 use Rattle.swc_ecma_parser_grammar.specs.language.Parts.{ReadsWord, PrivateRule}
 use Rattle.swc_ecma_parser_grammar.specs.Walk as walks
 use Rattle.swc_ecma_parser_grammar.specs.Walk.{walk, tabled}
-use Rattle.swc_ecma_parser_grammar.specs.Notes.{notes, all_notes}
 use Rattle.swc_ecma_parser_grammar.proofs.Tests.{and_yes, and_both}
 use Rattle.swc_ecma_parser_grammar.proofs.SupportedBegins.{name_begins}
+use Rattle.swc_ecma_parser_reader.specs.Notes.{Notes, no_notes, ◌⊕◌, notes_of, all_notes_of}
 use Rattle.swc_ecma_parser_reader.specs.State.{State, Outcome, Reader, and_then, moved, noted, recorded_in, recorded_at, fault, refused, reject, reject_in, reject_at, expect, name, name_in, name_by}
 use Rattle.swc_ecma_parser_reader.specs.Expressions.{any_word, word_in, word_by, touching_word, private_name, word_property, dotted}
+use Rattle.swc_ecma_parser_reader.proofs.Notes.{notes_nil, notes_assoc}
 use Rattle.swc_ecma_parser_reader.proofs.Meets.{Meets, meets_then, meets_if, wanted_meets, refuse_meets, saw}
 use Rattle.swc_ecma_parser_reader.proofs.Between.{SoundTree, SoundStep, Sound, Walk, no_faults, same, tabled-append, drops-split, nil-split, some_fault, sound_moved, sound_as, sound_after}
 use Rattle.swc_ecma_parser_reader.proofs.Errors.{is_error, word_is_none, kind_here, after_remembers}
 
 -- ---- parts one behind another; what was read is said of the places that are known
 
-module _ {w v : Walk} {ns ms : List Fault} {P Q : Code → Place → Place → Type 0} {s m t : State} where
-  pub paired : Sound same w ns P s m → Sound same v ms Q m t → Sound same (λ k l. w k l ++ v k l) (ns ++ ms) (λ k c d. P k s.at m.at × Q k m.at t.at) s t
+module _ {w v : Walk} {ns ms : Notes} {P Q : Code → Place → Place → Type 0} {s m t : State} where
+  pub paired : Sound same w ns P s m → Sound same v ms Q m t → Sound same (λ k l. w k l ++ v k l) (ns ⊕ ms) (λ k c d. P k s.at m.at × Q k m.at t.at) s t
   paired p q = record {
     code = q.code ∙ p.code;
     scope = q.scope ∙ p.scope;
     added = p.added ++ q.added;
     faults = q.faults ∙ ap (λ z. z ++ q.added) p.faults ∙ append_assoc s.faults p.added q.added;
-    held_back = λ e. let h = nil-split p.added q.added e in q.held_back h.1 ∙ ap (λ z. z ++ ms) (p.held_back h.0) ∙ append_assoc s.held_back ns ms;
+    notes = λ e. let h = nil-split p.added q.added e in q.notes h.1 ∙ ap (λ z. z ⊕ ms) (p.notes h.0) ∙ notes_assoc s.notes ns ms;
     walked = λ h d. let e = drops-split p.added q.added d in
         tabled-append p.added q.added ∙ ap (λ z. z ++ tabled q.added) (p.walked h e.0)
         ∙ ap (λ z. w s.code s.scope.labels ++ z) (q.walked (p.keeps h) e.1 ∙ ap (λ z. v z m.scope.labels) p.code ∙ ap (λ z. v s.code z.labels) p.scope);
@@ -59,12 +60,12 @@ module _ {w v : Walk} {ns ms : List Fault} {P Q : Code → Place → Place → T
   }
 
 -- a step of no faults and no notes behind
-pub stepped : {w : Walk} {ns : List Fault} {P Q : Code → Place → Place → Type 0} {s m t : State} → Sound same w ns P s m → Sound same no_faults [] Q m t
+pub stepped : {w : Walk} {ns : Notes} {P Q : Code → Place → Place → Type 0} {s m t : State} → Sound same w ns P s m → Sound same no_faults no_notes Q m t
     → Sound same w ns (λ k c d. P k s.at m.at × Q k m.at t.at) s t
-stepped {w = w} {ns = ns} {s = s} {t = t} p q = sound_as s t refl (append-nil (w s.code s.scope.labels)) (append-nil ns) (λ h. h) (paired p q)
+stepped {w = w} {ns = ns} {s = s} {t = t} p q = sound_as s t refl (append-nil (w s.code s.scope.labels)) (notes_nil ns) (λ h. h) (paired p q)
 
 -- from the place before a token of a kind that is no error's
-pub moved_back : {w : Walk} {ns : List Fault} {P : Code → Place → Place → Type 0} {j : TokenKind} {s t : State} → kind_at s.at ≡ j → is_error j ≡ false → Sound same w ns P (moved s) t
+pub moved_back : {w : Walk} {ns : Notes} {P : Code → Place → Place → Type 0} {j : TokenKind} {s t : State} → kind_at s.at ≡ j → is_error j ≡ false → Sound same w ns P (moved s) t
     → Sound same w ns (λ k c d. P k (after s.at) t.at) s t
 moved_back {s = s} {t = t} e g p = sound_after s t e g refl refl (λ h. h) p
 
@@ -147,13 +148,13 @@ error_first c u ts e h g = rw (h, g) refl
 
 -- a recorded fault that is not of the table; an error token before it is recorded too
 module _ (P : Code → Place → Place → Type 0) (f : Fault) (s : State) (untabled : walks.is_tabled f.kind ≡ false) where
-  pub noted_sound : (ns : List Fault) → Sound same no_faults ns P s (noted f s)
+  pub noted_sound : (ns : Notes) → Sound same no_faults ns P s (noted f s)
   noted_sound ns = record {
     code = refl;
     scope = refl;
     added = f ∷ [];
     faults = refl;
-    held_back = λ i. some_fault f [] i;
+    notes = λ i. some_fault f [] i;
     walked = λ i d. rw untabled refl;
     keeps = λ i. i;
     spares = λ i g. g;
@@ -167,17 +168,17 @@ module _ (P : Code → Place → Place → Type 0) (f : Fault) (s : State) (unta
     scope = refl;
     added = fault_of e ∷ f ∷ [];
     faults = append_assoc s.faults (fault_of e ∷ []) (f ∷ []);
-    held_back = λ i. some_fault (fault_of e) (f ∷ []) i;
+    notes = λ i. some_fault (fault_of e) (f ∷ []) i;
     walked = λ i d. clash (has_error_token s.at.left) (error_first s.at u ts e h g) i;
     keeps = λ i. clash (has_error_token s.at.left) (error_first s.at u ts e h g) i;
     spares = λ i. some_fault (fault_of e) (f ∷ []) i;
     remembers = after_remembers s.at u ts h (rw g j);
     reads = λ i. some_fault (fault_of e) (f ∷ []) i;
   })
-  recorded_at_sound u ts _ h g = noted_sound []
+  recorded_at_sound u ts _ h g = noted_sound no_notes
 
   recorded_in_sound : (ts : List TokenAndSpan) → s.at.left ≡ ts → Meets (λ _ t. SoundStep P s t) (recorded_in f s ts)
-  recorded_in_sound [] h = noted_sound []
+  recorded_in_sound [] h = noted_sound no_notes
   recorded_in_sound (u ∷ ts) h = recorded_at_sound u ts u.token h refl
 
   pub fault_sound : Meets (λ _ t. SoundStep P s t) (fault f s)
@@ -296,9 +297,9 @@ pub walks_push : (env : walks.Env) (xs : List Tree) (x : Tree) → walks.walks e
 walks_push env [] x = sym (append-nil (walk env x))
 walks_push env (y ∷ ys) x = append_assoc (walk env y) (walks.walks env false (trees ys)) (walk env x) ∙ ap (λ z. walk env y ++ z) (walks_push env ys x)
 
-pub notes_push : (xs : List Tree) (x : Tree) → all_notes (trees xs) ++ notes x ≡ all_notes (trees (xs ++ x ∷ []))
-notes_push [] x = sym (append-nil (notes x))
-notes_push (y ∷ ys) x = append_assoc (notes y) (all_notes (trees ys)) (notes x) ∙ ap (λ z. notes y ++ z) (notes_push ys x)
+pub notes_push : (xs : List Tree) (x : Tree) → all_notes_of (trees xs) ⊕ notes_of x ≡ all_notes_of (trees (xs ++ x ∷ []))
+notes_push [] x = sym (notes_nil (notes_of x))
+notes_push (y ∷ ys) x = notes_assoc (notes_of y) (all_notes_of (trees ys)) (notes_of x) ∙ ap (λ z. notes_of y ⊕ z) (notes_push ys x)
 
 pub supported_push : (xs : List Tree) (x : Tree) → all_supported (trees xs) ≡ true → supported x ≡ true → all_supported (trees (xs ++ x ∷ [])) ≡ true
 supported_push [] x a h = and_both (supported x) true h refl

@@ -9,7 +9,7 @@ use Rattle.swc_ecma_parser_model.specs.Targets.{leaf, left_pattern, simple_targe
 use Rattle.swc_ecma_parser_grammar.specs.Supported.{supported}
 use Rattle.swc_ecma_parser_grammar.specs.Walk as walks
 use Rattle.swc_ecma_parser_grammar.specs.Walk.{Env, walk}
-use Rattle.swc_ecma_parser_grammar.specs.Notes.{notes, all_notes}
+use Rattle.swc_ecma_parser_reader.specs.Notes.{◌⊕◌, notes_of, all_notes_of}
 use Rattle.swc_ecma_parser_reader.proofs.expressions.Covers.{is_literal}
 
 -- ---- leaves
@@ -18,7 +18,7 @@ leaf_walk : (env : Env) (x : Tree) → walk env (leaf x) ≡ walk env x
 leaf_walk env (tree.ident s text) = refl
 leaf_walk env _ = refl
 
-leaf_notes : (x : Tree) → notes (leaf x) ≡ notes x
+leaf_notes : (x : Tree) → notes_of (leaf x) ≡ notes_of x
 leaf_notes (tree.ident s text) = refl
 leaf_notes _ = refl
 
@@ -40,7 +40,7 @@ left_walk env (tree.object_pat s props) = refl
 left_walk env (tree.ident s text) = refl
 left_walk env _ = refl
 
-left_notes : (x : Tree) → notes (left_pattern x) ≡ notes x
+left_notes : (x : Tree) → notes_of (left_pattern x) ≡ notes_of x
 left_notes (tree.array_pat s elems) = refl
 left_notes (tree.object_pat s props) = refl
 left_notes (tree.ident s text) = refl
@@ -109,47 +109,47 @@ some_key_value s key None q h = cc
 -- one tree holds what another does
 pub record Alike (p x : Tree) : Type 0 where
   pub walked : (env : Env) → walk env p ≡ walk env x
-  pub noted : notes p ≡ notes x
+  pub noted : notes_of p ≡ notes_of x
 
 pub record AllAlike (ps xs : Trees) : Type 0 where
   pub walked : (env : Env) → walks.walks env false ps ≡ walks.walks env false xs
-  pub noted : all_notes ps ≡ all_notes xs
+  pub noted : all_notes_of ps ≡ all_notes_of xs
 
 simple_alike : (x p : Tree) → simple_target x ≡ Some p → Alike p x
-simple_alike x p h = let e = (simple_is x p h).1 in record { walked = λ env. ap (walk env) e ∙ leaf_walk env x; noted = ap notes e ∙ leaf_notes x }
+simple_alike x p h = let e = (simple_is x p h).1 in record { walked = λ env. ap (walk env) e ∙ leaf_walk env x; noted = ap notes_of e ∙ leaf_notes x }
 
 assign_alike : (s : Span) (left right p : Tree) → Some (tree.assign_pat s (left_pattern left) right) ≡ Some p → Alike p (tree.assign s assign.Assign left right)
 assign_alike s left right p h = let e : p ≡ tree.assign_pat s (left_pattern left) right = cc in
-    record { walked = λ env. ap (walk env) e ∙ ap (λ z. z ++ walk env right) (left_walk env left); noted = ap notes e ∙ ap (λ z. z ++ notes right) (left_notes left) }
+    record { walked = λ env. ap (walk env) e ∙ ap (λ z. z ++ walk env right) (left_walk env left); noted = ap notes_of e ∙ ap (λ z. z ⊕ notes_of right) (left_notes left) }
 
 array_alike : (s : Span) (xs : Trees) (p : Tree) → ((ps : Trees) → as_elements xs ≡ Some ps → AllAlike ps xs) → array_of s (as_elements xs) ≡ Some p → Alike p (tree.array s (tree.list xs))
 array_alike s xs p f h = let (ps, e, i) = some_array s (as_elements xs) p h in let r = f ps e in
-    record { walked = λ env. ap (walk env) i ∙ r.walked env; noted = ap notes i ∙ r.noted }
+    record { walked = λ env. ap (walk env) i ∙ r.walked env; noted = ap notes_of i ∙ r.noted }
 
 object_alike : (s : Span) (xs : Trees) (p : Tree) → ((ps : Trees) → as_properties xs ≡ Some ps → AllAlike ps xs) → object_of s (as_properties xs) ≡ Some p → Alike p (tree.object s (tree.list xs))
 object_alike s xs p f h = let (ps, e, i) = some_object s (as_properties xs) p h in let r = f ps e in
-    record { walked = λ env. ap (walk env) i ∙ r.walked env; noted = ap notes i ∙ r.noted }
+    record { walked = λ env. ap (walk env) i ∙ r.walked env; noted = ap notes_of i ∙ r.noted }
 
 before_alike : (o : Option Tree) (os : Option Trees) (x : Tree) (xs qs : Trees) → ((q : Tree) → o ≡ Some q → Alike q x) → ((rs : Trees) → os ≡ Some rs → AllAlike rs xs) → before o os ≡ Some qs
     → AllAlike qs (also x xs)
 before_alike o os x xs qs f g h = let (q, rs, e, i, j) = some_before o os qs h in let a = f q e in let b = g rs i in record {
   walked = λ env. ap (walks.walks env false) j ∙ ap (λ z. z ++ walks.walks env false rs) (a.walked env) ∙ ap (λ z. walk env x ++ z) (b.walked env);
-  noted = ap all_notes j ∙ ap (λ z. z ++ all_notes rs) a.noted ∙ ap (λ z. notes x ++ z) b.noted;
+  noted = ap all_notes_of j ∙ ap (λ z. z ⊕ all_notes_of rs) a.noted ∙ ap (λ z. notes_of x ⊕ z) b.noted;
 }
 
-rest_alike : (dots : Span) (x y : Tree) (o : Option Tree) (qs : Trees) → ((env : Env) → walk env y ≡ walk env x) → notes y ≡ notes x → ((p : Tree) → o ≡ Some p → Alike p x) → alone (rest_of dots x o) ≡ Some qs
+rest_alike : (dots : Span) (x y : Tree) (o : Option Tree) (qs : Trees) → ((env : Env) → walk env y ≡ walk env x) → notes_of y ≡ notes_of x → ((p : Tree) → o ≡ Some p → Alike p x) → alone (rest_of dots x o) ≡ Some qs
     → AllAlike qs (also y none)
 rest_alike dots x y o qs w n f h = let (q, e, j) = some_alone (rest_of dots x o) qs h in let (p, i, u) = some_rest dots x o q e in let a = f p i in record {
   walked = λ env. ap (walks.walks env false) j ∙ ap (λ z. z ++ walks.walks env false none) (ap (walk env) u ∙ a.walked env ∙ sym (w env));
-  noted = ap all_notes j ∙ ap (λ z. z ++ all_notes none) (ap notes u ∙ a.noted ∙ sym n);
+  noted = ap all_notes_of j ∙ ap (λ z. z ⊕ all_notes_of none) (ap notes_of u ∙ a.noted ∙ sym n);
 }
 
 key_value_alike : (s : Span) (key value : Tree) (o : Option Tree) (q : Tree) → ((p : Tree) → o ≡ Some p → Alike p value) → key_value_of s key o ≡ Some q → Alike q (tree.key_value_prop s key value)
 key_value_alike s key value o q f h = let (p, e, i) = some_key_value s key o q h in let a = f p e in
-    record { walked = λ env. ap (walk env) i ∙ ap (λ z. walk env key ++ z) (a.walked env); noted = ap notes i ∙ ap (λ z. notes key ++ z) a.noted }
+    record { walked = λ env. ap (walk env) i ∙ ap (λ z. walk env key ++ z) (a.walked env); noted = ap notes_of i ∙ ap (λ z. notes_of key ⊕ z) a.noted }
 
-same_tree : (p q x : Tree) → Some q ≡ Some p → ((env : Env) → walk env q ≡ walk env x) → notes q ≡ notes x → Alike p x
-same_tree p q x h w n = let e : p ≡ q = cc in record { walked = λ env. ap (walk env) e ∙ w env; noted = ap notes e ∙ n }
+same_tree : (p q x : Tree) → Some q ≡ Some p → ((env : Env) → walk env q ≡ walk env x) → notes_of q ≡ notes_of x → Alike p x
+same_tree p q x h w n = let e : p ≡ q = cc in record { walked = λ env. ap (walk env) e ∙ w env; noted = ap notes_of e ∙ n }
 
 mutual
   pub pattern_alike : (b : Bool) (x p : Tree) → as_pattern b x ≡ Some p → Alike p x
@@ -162,7 +162,7 @@ mutual
   pattern_alike false x p h = simple_alike x p h
 
   elements_alike : (xs qs : Trees) → as_elements xs ≡ Some qs → AllAlike qs xs
-  elements_alike none qs h = let e : qs ≡ none = cc in record { walked = λ env. ap (walks.walks env false) e; noted = ap all_notes e }
+  elements_alike none qs h = let e : qs ≡ none = cc in record { walked = λ env. ap (walks.walks env false) e; noted = ap all_notes_of e }
   elements_alike (also (tree.element (Some dots) x) none) qs h = rest_alike dots x (tree.element (Some dots) x) (as_pattern false x) qs (λ env. refl) refl (pattern_alike false x) h
   elements_alike (also x xs) qs h = before_alike (as_item x) (as_elements xs) x xs qs (item_alike x) (elements_alike xs) h
 
@@ -172,7 +172,7 @@ mutual
   item_alike _ p h = cc
 
   properties_alike : (xs qs : Trees) → as_properties xs ≡ Some qs → AllAlike qs xs
-  properties_alike none qs h = let e : qs ≡ none = cc in record { walked = λ env. ap (walks.walks env false) e; noted = ap all_notes e }
+  properties_alike none qs h = let e : qs ≡ none = cc in record { walked = λ env. ap (walks.walks env false) e; noted = ap all_notes_of e }
   properties_alike (also (tree.spread_prop dots x) none) qs h = rest_alike dots x (tree.spread_prop dots x) (simple_target x) qs (λ env. refl) refl (simple_alike x) h
   properties_alike (also x xs) qs h = before_alike (as_property x) (as_properties xs) x xs qs (property_alike x) (properties_alike xs) h
 

@@ -14,6 +14,7 @@ use Rattle.swc_ecma_parser_grammar.specs.Looks.{kind_at, sees, same_kind, spanne
 use Rattle.swc_ecma_parser_grammar.specs.Names.{Code, name_at}
 use Rattle.swc_ecma_parser_grammar.specs.Reads.{with_in}
 use Rattle.swc_ecma_parser_grammar.specs.Notes.{notes, all_notes}
+use Rattle.swc_ecma_parser_grammar.specs.language.Noted.{has_meta}
 use Rattle.swc_ecma_parser_grammar.specs.Walk.{env_of, walk, walks}
 use Rattle.swc_ecma_parser_grammar.specs.Supported.{supported, is_supported_key, all_supported}
 use Rattle.swc_ecma_parser_grammar.specs.ReadsSupported.{ReadsPat, ReadsElement}
@@ -27,10 +28,12 @@ use Rattle.swc_ecma_parser_grammar.specs.language.Patterns as patterns
 use Rattle.swc_ecma_parser_grammar.specs.language.Patterns.{PatternRule, PatternPropertyRule, PatternElementRule}
 use Rattle.swc_ecma_parser_grammar.specs.language.Reads as language
 use Rattle.swc_ecma_parser_grammar.proofs.Tests.{or_no, and_yes}
+use Rattle.swc_ecma_parser_reader.specs.Notes.{Notes, no_notes, held, ◌⊕◌, notes_of, all_notes_of}
 use Rattle.swc_ecma_parser_reader.specs.State.{Scope, State, Reader, loop}
 use Rattle.swc_ecma_parser_reader.specs.Expressions.{Cover, expr, cover}
 use Rattle.swc_ecma_parser_reader.specs.Patterns as reader
 use Rattle.swc_ecma_parser_reader.specs.Patterns.{rest, array_turn, elements, array, rest_name, rest_property, key_value, initialized_name, bare_name, named, behind_key, property, object_turn, properties, object, pattern_level, initialized, element_level, pattern, element}
+use Rattle.swc_ecma_parser_reader.proofs.Notes.{or_nil, or_assoc}
 use Rattle.swc_ecma_parser_reader.proofs.Answered.{st, Reads}
 use Rattle.swc_ecma_parser_reader.proofs.Takes.{Falls, moves, takes}
 use Rattle.swc_ecma_parser_reader.proofs.Steps.{loop_more, loop_done}
@@ -84,61 +87,61 @@ module _ (In : Goal → Type 0) (inner : Class → Reader Tree) (cover : Reader 
 
   element_shorter : (k : Code) (x : Tree) (c d : Place) (w : Scope) → In (element_goal binding (with_in k) x c d) → supported x ≡ true → length d.left < length c.left
   element_shorter k x c d w r s =
-      let t = st d (with_in k) w (walk (env_of k w.labels) x) (notes x) in
-      shorter_by (length c.left) (element (st c (with_in k) w [] [])) x t (within.reads_element (with_in k) x c d r s w [] []) (within.element_falls (st c (with_in k) w [] []))
+      let t = st d (with_in k) w (walk (env_of k w.labels) x) (notes_of x) in
+      shorter_by (length c.left) (element (st c (with_in k) w [] no_notes)) x t (within.reads_element (with_in k) x c d r s w [] no_notes) (within.element_falls (st c (with_in k) w [] no_notes))
 
   -- an element, and what stands behind it
-  element_more : (found : List Tree) (k : Code) (x : Tree) (c m d : Place) (w : Scope) (f h : List Fault) → In (element_goal binding (with_in k) x c m) → supported x ≡ true
+  element_more : (found : List Tree) (k : Code) (x : Tree) (c m d : Place) (w : Scope) (f : List Fault) (h : Notes) → In (element_goal binding (with_in k) x c m) → supported x ≡ true
       → Behind kind.RBracket m d
       → loop (array_turn inner cover pattern element) found (st c k w f h)
-      ≡ loop (array_turn inner cover pattern element) (found ++ x ∷ []) (st d k w (f ++ walk (env_of k w.labels) x) (h ++ notes x))
+      ≡ loop (array_turn inner cover pattern element) (found ++ x ∷ []) (st d k w (f ++ walk (env_of k w.labels) x) (h ⊕ notes_of x))
   unfolding array_turn same_kind
   element_more found k x c m d w f h r s (inl (e, i)) =
       let (dots, parenthesis, bracket, comma) = begin_seen c (within.begins (with_in k) x c m r s) in
-      loop_more (array_turn inner cover pattern element) found (found ++ x ∷ []) (st c k w f h) (st d k w (f ++ walk (env_of k w.labels) x) (h ++ notes x))
+      loop_more (array_turn inner cover pattern element) found (found ++ x ∷ []) (st c k w f h) (st d k w (f ++ walk (env_of k w.labels) x) (h ⊕ notes_of x))
       (rw (bracket, comma, dots, within.reads_element (with_in k) x c m r s w f h, e, i) refl) (rw i (element_shorter k x c m w r s))
   element_more found k x c m d w f h r s (inr (e, i)) =
       let (dots, parenthesis, bracket, comma) = begin_seen c (within.begins (with_in k) x c m r s) in
-      loop_more (array_turn inner cover pattern element) found (found ++ x ∷ []) (st c k w f h) (st d k w (f ++ walk (env_of k w.labels) x) (h ++ notes x))
+      loop_more (array_turn inner cover pattern element) found (found ++ x ∷ []) (st c k w f h) (st d k w (f ++ walk (env_of k w.labels) x) (h ⊕ notes_of x))
       (rw (
         bracket,
         comma,
         dots,
         within.reads_element (with_in k) x c m r s w f h,
         e,
-        expect_reads kind.Comma m k w (f ++ walk (env_of k w.labels) x) (h ++ notes x) e,
+        expect_reads kind.Comma m k w (f ++ walk (env_of k w.labels) x) (h ⊕ notes_of x) e,
         i,
       ) refl)
       (rw i (let a = element_shorter k x c m w r s in let b = moves m in omega arith))
 
   -- a hole, and the comma behind it
-  hole_more : (found : List Tree) (k : Code) (c : Place) (w : Scope) (f h : List Fault) → kind_at c ≡ kind.Comma
+  hole_more : (found : List Tree) (k : Code) (c : Place) (w : Scope) (f : List Fault) (h : Notes) → kind_at c ≡ kind.Comma
       → loop (array_turn inner cover pattern element) found (st c k w f h) ≡ loop (array_turn inner cover pattern element) (found ++ tree.absent ∷ []) (st (after c) k w f h)
   unfolding array_turn same_kind
   hole_more found k c w f h e =
       loop_more (array_turn inner cover pattern element) found (found ++ tree.absent ∷ []) (st c k w f h) (st (after c) k w f h) (rw e refl)
       (let a = takes c (λ g. let i = sym g ∙ e in cc) in omega arith)
 
-  elements_end : (found : List Tree) (k : Code) (c : Place) (w : Scope) (f h : List Fault) → kind_at c ≡ kind.RBracket
+  elements_end : (found : List Tree) (k : Code) (c : Place) (w : Scope) (f : List Fault) (h : Notes) → kind_at c ≡ kind.RBracket
       → loop (array_turn inner cover pattern element) found (st c k w f h) ≡ Ok (found, st (after c) k w f h)
   unfolding array_turn
   elements_end found k c w f h e = loop_done (array_turn inner cover pattern element) found found (st c k w f h) (st (after c) k w f h) (rw (seen c kind.RBracket e) refl)
 
   -- a rest, behind which the array ends
-  rest_last : (found : List Tree) (y : Tree) (k : Code) (x : Tree) (c m : Place) (w : Scope) (f h : List Fault) → kind_at c ≡ kind.DotDotDot
+  rest_last : (found : List Tree) (y : Tree) (k : Code) (x : Tree) (c m : Place) (w : Scope) (f : List Fault) (h : Notes) → kind_at c ≡ kind.DotDotDot
       → In (pattern_goal binding (with_in k) y (after c) m) → supported y ≡ true → x ≡ tree.rest_pat (spanned c m) y → kind_at m ≡ kind.RBracket
-      → loop (array_turn inner cover pattern element) found (st c k w f h) ≡ Ok (found ++ x ∷ [], st (after m) k w (f ++ walk (env_of k w.labels) x) (h ++ notes x))
+      → loop (array_turn inner cover pattern element) found (st c k w f h) ≡ Ok (found ++ x ∷ [], st (after m) k w (f ++ walk (env_of k w.labels) x) (h ⊕ notes_of x))
   unfolding array_turn same_kind
   rest_last found y k x c m w f h o r s e i =
-      loop_done (array_turn inner cover pattern element) found (found ++ x ∷ []) (st c k w f h) (st (after m) k w (f ++ walk (env_of k w.labels) x) (h ++ notes x))
-      (rw (o, rest_reads y k x c m r s e w f h, expect_reads kind.RBracket m k w (f ++ walk (env_of k w.labels) x) (h ++ notes x) i) refl)
+      loop_done (array_turn inner cover pattern element) found (found ++ x ∷ []) (st c k w f h) (st (after m) k w (f ++ walk (env_of k w.labels) x) (h ⊕ notes_of x))
+      (rw (o, rest_reads y k x c m r s e w f h, expect_reads kind.RBracket m k w (f ++ walk (env_of k w.labels) x) (h ⊕ notes_of x) i) refl)
 
-  last_item : (found : List Tree) (k : Code) (x : Tree) (c m d : Place) (w : Scope) (f h : List Fault) → PatternItemRule In binding (with_in k) x c m → LastComma true x m d
+  last_item : (found : List Tree) (k : Code) (x : Tree) (c m d : Place) (w : Scope) (f : List Fault) (h : Notes) → PatternItemRule In binding (with_in k) x c m → LastComma true x m d
       → supported x ≡ true → kind_at d ≡ kind.RBracket
-      → loop (array_turn inner cover pattern element) found (st c k w f h) ≡ Ok (found ++ x ∷ [], st (after d) k w (f ++ walk (env_of k w.labels) x) (h ++ notes x))
+      → loop (array_turn inner cover pattern element) found (st c k w f h) ≡ Ok (found ++ x ∷ [], st (after d) k w (f ++ walk (env_of k w.labels) x) (h ⊕ notes_of x))
   last_item found k x c m d w f h (functions.element_rule r) l s e =
       element_more found k x c m d w f h r s (behind_last kind.RBracket x m d l e)
-      ∙ elements_end (found ++ x ∷ []) k d w (f ++ walk (env_of k w.labels) x) (h ++ notes x) e
+      ∙ elements_end (found ++ x ∷ []) k d w (f ++ walk (env_of k w.labels) x) (h ⊕ notes_of x) e
   last_item found k x c m d w f h (functions.rest_rule y o r i) l s e =
       let g = rest_ends x m d (ap is_rest i) l in
       rw g (rest_last found y k x c m w f h o r (supported_as x (tree.rest_pat (spanned c m) y) i s) i (ap kind_at (sym g) ∙ e))
@@ -148,23 +151,23 @@ module _ (In : Goal → Type 0) (inner : Class → Reader Tree) (cover : Reader 
   no_rest k x c d (functions.element_rule r) n = r
   no_rest k x c d (functions.rest_rule y o r i) n = absurd (let h : is_rest x ≡ true = ap is_rest i in cc)
 
-  many_elements : (k : Code) (xs found : List Tree) (c d : Place) (w : Scope) (f h : List Fault) → Elements (PatternItemRule In binding (with_in k)) xs c d
+  many_elements : (k : Code) (xs found : List Tree) (c d : Place) (w : Scope) (f : List Fault) (h : Notes) → Elements (PatternItemRule In binding (with_in k)) xs c d
       → all_supported (trees xs) ≡ true → kind_at d ≡ kind.RBracket
       → loop (array_turn inner cover pattern element) found (st c k w f h)
-      ≡ Ok (found ++ xs, st (after d) k w (f ++ walks (env_of k w.labels) false (trees xs)) (h ++ all_notes (trees xs)))
-  many_elements k xs found c d w f h (no_elements j i) s e = rw (j, append-nil found, append-nil f, append-nil h, i) (elements_end found k c w f h (ap kind_at (sym i) ∙ e))
+      ≡ Ok (found ++ xs, st (after d) k w (f ++ walks (env_of k w.labels) false (trees xs)) (h ⊕ all_notes_of (trees xs)))
+  many_elements k xs found c d w f h (no_elements j i) s e = rw (j, append-nil found, append-nil f, append-nil h.held_back, or_nil h.found_module_item, i) (elements_end found k c w f h (ap kind_at (sym i) ∙ e))
   many_elements k xs found c d w f h (hole ys i more j) s e =
       let t : all_supported (trees ys) ≡ true = sym (ap (λ z. all_supported (trees z)) j) ∙ s in
-      rw j (hole_more found k c w f h i ∙ many_elements k ys (found ++ tree.absent ∷ []) (after c) d w f h more t e ∙ simp append_assoc refl)
+      rw j (hole_more found k c w f h i ∙ many_elements k ys (found ++ tree.absent ∷ []) (after c) d w f h more t e ∙ simp (append_assoc, or_assoc) refl)
   many_elements k xs found c d w f h (last_element x m r l j) s e =
       let t : all_supported (trees (x ∷ [])) ≡ true = sym (ap (λ z. all_supported (trees z)) j) ∙ s in
-      rw (j, append-nil (walk (env_of k w.labels) x), append-nil (notes x)) (last_item found k x c m d w f h r l (and_yes (supported x) _ t).0 e)
+      rw (j, append-nil (walk (env_of k w.labels) x), append-nil (notes x), or_nil (has_meta x)) (last_item found k x c m d w f h r l (and_yes (supported x) _ t).0 e)
   many_elements k xs found c d w f h (more_elements x y ys m r a i more j) s e =
       let q : all_supported (trees (x ∷ y ∷ ys)) ≡ true = sym (ap (λ z. all_supported (trees z)) j) ∙ s in
       let t = and_yes (supported x) _ q in
       rw j (
       element_more found k x c m (after m) w f h (no_rest (with_in k) x c m r a) t.0 (inr (i, refl))
-      ∙ many_elements k (y ∷ ys) (found ++ x ∷ []) (after m) d w (f ++ walk (env_of k w.labels) x) (h ++ notes x) more t.1 e ∙ simp append_assoc refl
+      ∙ many_elements k (y ∷ ys) (found ++ x ∷ []) (after m) d w (f ++ walk (env_of k w.labels) x) (h ⊕ notes_of x) more t.1 e ∙ simp (append_assoc, or_assoc) refl
       )
 
   array_reads : (xs : List Tree) (m : Place) (k : Code) (x : Tree) (c d : Place) → Elements (PatternItemRule In binding (with_in k)) xs (after c) m → all_supported (trees xs) ≡ true
@@ -182,9 +185,10 @@ module _ (In : Goal → Type 0) (inner : Class → Reader Tree) (cover : Reader 
       rw (
         key_reads In inner cover given k y c m (key_outside In inner cover given k y c m r) s w f h,
         seen m kind.Colon i,
-        within.reads_element (with_in k) z (after m) d g t w (f ++ walk (env_of k w.labels) y) (h ++ notes y),
+        within.reads_element (with_in k) z (after m) d g t w (f ++ walk (env_of k w.labels) y) (h ⊕ notes_of y),
         append_assoc f (walk (env_of k w.labels) y) (walk (env_of k w.labels) z),
-        append_assoc h (notes y) (notes z),
+        append_assoc h.held_back (notes y) (notes z),
+        or_assoc h.found_module_item (has_meta y) (has_meta z),
         e,
       ) refl
 
@@ -201,7 +205,8 @@ module _ (In : Goal → Type 0) (inner : Class → Reader Tree) (cover : Reader 
         t.assign,
         e,
         append-nil f,
-        append-nil h,
+        append-nil h.held_back,
+        or_nil h.found_module_item,
       ) refl
 
   initialized_reads : (text : Text) (sp : Span) (z : Tree) (m : Place) (k : Code) (x : Tree) (c d : Place) → ReadsName (with_in k) text sp c m → supported (tree.ident_pat sp text) ≡ true
@@ -214,7 +219,8 @@ module _ (In : Goal → Type 0) (inner : Class → Reader Tree) (cover : Reader 
         i,
         name_there In inner cover given k text sp c m r s,
         append-nil f,
-        append-nil h,
+        append-nil h.held_back,
+        or_nil h.found_module_item,
         inside_reads In inner cover given assignment k z (after m) d g t w f h,
         e,
       ) refl
@@ -235,28 +241,28 @@ module _ (In : Goal → Type 0) (inner : Class → Reader Tree) (cover : Reader 
   -- a property, and what stands behind it
   property_shorter : (k : Code) (x : Tree) (c d : Place) (w : Scope) → Reads (property inner cover pattern element) k x c d → length d.left < length c.left
   property_shorter k x c d w r =
-      let t = st d k w (walk (env_of k w.labels) x) (notes x) in
-      shorter_by (length c.left) (property inner cover pattern element (st c k w [] [])) x t (r w [] [])
-      (property_falls inner given.falls cover given.cover_falls pattern within.pattern_falls element within.element_falls (st c k w [] []))
+      let t = st d k w (walk (env_of k w.labels) x) (notes_of x) in
+      shorter_by (length c.left) (property inner cover pattern element (st c k w [] no_notes)) x t (r w [] no_notes)
+      (property_falls inner given.falls cover given.cover_falls pattern within.pattern_falls element within.element_falls (st c k w [] no_notes))
 
-  property_more : (found : List Tree) (k : Code) (x : Tree) (c m d : Place) (w : Scope) (f h : List Fault) → PatternPropertyRule In binding (with_in k) x c m → is_rest x ≡ false
+  property_more : (found : List Tree) (k : Code) (x : Tree) (c m d : Place) (w : Scope) (f : List Fault) (h : Notes) → PatternPropertyRule In binding (with_in k) x c m → is_rest x ≡ false
       → supported x ≡ true → Behind kind.RBrace m d
       → loop (object_turn inner cover pattern element) found (st c k w f h)
-      ≡ loop (object_turn inner cover pattern element) (found ++ x ∷ []) (st d k w (f ++ walk (env_of k w.labels) x) (h ++ notes x))
+      ≡ loop (object_turn inner cover pattern element) (found ++ x ∷ []) (st d k w (f ++ walk (env_of k w.labels) x) (h ⊕ notes_of x))
   unfolding object_turn same_kind
   property_more found k x c m d w f h r a s (inl (e, i)) =
       let (brace, dots) = part_begins In inner cover given (with_in k) x c m r a in
       let reads = property_reads k x c m r a s (rw e refl) in
-      loop_more (object_turn inner cover pattern element) found (found ++ x ∷ []) (st c k w f h) (st d k w (f ++ walk (env_of k w.labels) x) (h ++ notes x))
+      loop_more (object_turn inner cover pattern element) found (found ++ x ∷ []) (st c k w f h) (st d k w (f ++ walk (env_of k w.labels) x) (h ⊕ notes_of x))
       (rw (brace, dots, reads w f h, e, i) refl) (rw i (property_shorter k x c m w reads))
   property_more found k x c m d w f h r a s (inr (e, i)) =
       let (brace, dots) = part_begins In inner cover given (with_in k) x c m r a in
       let reads = property_reads k x c m r a s (rw e refl) in
-      loop_more (object_turn inner cover pattern element) found (found ++ x ∷ []) (st c k w f h) (st d k w (f ++ walk (env_of k w.labels) x) (h ++ notes x))
-      (rw (brace, dots, reads w f h, e, expect_reads kind.Comma m k w (f ++ walk (env_of k w.labels) x) (h ++ notes x) e, i) refl)
+      loop_more (object_turn inner cover pattern element) found (found ++ x ∷ []) (st c k w f h) (st d k w (f ++ walk (env_of k w.labels) x) (h ⊕ notes_of x))
+      (rw (brace, dots, reads w f h, e, expect_reads kind.Comma m k w (f ++ walk (env_of k w.labels) x) (h ⊕ notes_of x) e, i) refl)
       (rw i (let n = property_shorter k x c m w reads in let b = moves m in omega arith))
 
-  properties_end : (found : List Tree) (k : Code) (c : Place) (w : Scope) (f h : List Fault) → kind_at c ≡ kind.RBrace
+  properties_end : (found : List Tree) (k : Code) (c : Place) (w : Scope) (f : List Fault) (h : Notes) → kind_at c ≡ kind.RBrace
       → loop (object_turn inner cover pattern element) found (st c k w f h) ≡ Ok (found, st (after c) k w f h)
   unfolding object_turn
   properties_end found k c w f h e = loop_done (object_turn inner cover pattern element) found found (st c k w f h) (st (after c) k w f h) (rw (seen c kind.RBrace e) refl)
@@ -268,24 +274,24 @@ module _ (In : Goal → Type 0) (inner : Class → Reader Tree) (cover : Reader 
   rest_property_reads y k x c d r n s e w f h =
       rw (within.plain (with_in k) y (after c) d r n s, within.reads_pattern (with_in k) y (after c) d r s w f h, e) refl
 
-  rest_property_last : (found : List Tree) (y : Tree) (k : Code) (x : Tree) (c m : Place) (w : Scope) (f h : List Fault) → kind_at c ≡ kind.DotDotDot
+  rest_property_last : (found : List Tree) (y : Tree) (k : Code) (x : Tree) (c m : Place) (w : Scope) (f : List Fault) (h : Notes) → kind_at c ≡ kind.DotDotDot
       → In (pattern_goal binding (with_in k) y (after c) m) → is_pattern_target y ≡ false → supported y ≡ true → x ≡ tree.rest_pat (spanned c m) y → kind_at m ≡ kind.RBrace
-      → loop (object_turn inner cover pattern element) found (st c k w f h) ≡ Ok (found ++ x ∷ [], st (after m) k w (f ++ walk (env_of k w.labels) x) (h ++ notes x))
+      → loop (object_turn inner cover pattern element) found (st c k w f h) ≡ Ok (found ++ x ∷ [], st (after m) k w (f ++ walk (env_of k w.labels) x) (h ⊕ notes_of x))
   unfolding object_turn same_kind
   rest_property_last found y k x c m w f h o r n s e i =
-      loop_done (object_turn inner cover pattern element) found (found ++ x ∷ []) (st c k w f h) (st (after m) k w (f ++ walk (env_of k w.labels) x) (h ++ notes x))
-      (rw (o, rest_property_reads y k x c m r n s e w f h, expect_reads kind.RBrace m k w (f ++ walk (env_of k w.labels) x) (h ++ notes x) i) refl)
+      loop_done (object_turn inner cover pattern element) found (found ++ x ∷ []) (st c k w f h) (st (after m) k w (f ++ walk (env_of k w.labels) x) (h ⊕ notes_of x))
+      (rw (o, rest_property_reads y k x c m r n s e w f h, expect_reads kind.RBrace m k w (f ++ walk (env_of k w.labels) x) (h ⊕ notes_of x) i) refl)
 
-  plain_last : (found : List Tree) (k : Code) (x : Tree) (c m d : Place) (w : Scope) (f h : List Fault) → PatternPropertyRule In binding (with_in k) x c m → is_rest x ≡ false
+  plain_last : (found : List Tree) (k : Code) (x : Tree) (c m d : Place) (w : Scope) (f : List Fault) (h : Notes) → PatternPropertyRule In binding (with_in k) x c m → is_rest x ≡ false
       → LastComma true x m d → supported x ≡ true → kind_at d ≡ kind.RBrace
-      → loop (object_turn inner cover pattern element) found (st c k w f h) ≡ Ok (found ++ x ∷ [], st (after d) k w (f ++ walk (env_of k w.labels) x) (h ++ notes x))
+      → loop (object_turn inner cover pattern element) found (st c k w f h) ≡ Ok (found ++ x ∷ [], st (after d) k w (f ++ walk (env_of k w.labels) x) (h ⊕ notes_of x))
   plain_last found k x c m d w f h r a l s e =
       property_more found k x c m d w f h r a s (behind_last kind.RBrace x m d l e)
-      ∙ properties_end (found ++ x ∷ []) k d w (f ++ walk (env_of k w.labels) x) (h ++ notes x) e
+      ∙ properties_end (found ++ x ∷ []) k d w (f ++ walk (env_of k w.labels) x) (h ⊕ notes_of x) e
 
-  last_property : (found : List Tree) (k : Code) (x : Tree) (c m d : Place) (w : Scope) (f h : List Fault) → PatternPropertyRule In binding (with_in k) x c m → LastComma true x m d
+  last_property : (found : List Tree) (k : Code) (x : Tree) (c m d : Place) (w : Scope) (f : List Fault) (h : Notes) → PatternPropertyRule In binding (with_in k) x c m → LastComma true x m d
       → supported x ≡ true → kind_at d ≡ kind.RBrace
-      → loop (object_turn inner cover pattern element) found (st c k w f h) ≡ Ok (found ++ x ∷ [], st (after d) k w (f ++ walk (env_of k w.labels) x) (h ++ notes x))
+      → loop (object_turn inner cover pattern element) found (st c k w f h) ≡ Ok (found ++ x ∷ [], st (after d) k w (f ++ walk (env_of k w.labels) x) (h ⊕ notes_of x))
   last_property found k x c m d w f h (patterns.rest_rule y o r n i) l s e =
       let g = rest_ends x m d (ap is_rest i) l in
       rw g (rest_property_last found y k x c m w f h o r n (supported_as x (tree.rest_pat (spanned c m) y) i s) i (ap kind_at (sym g) ∙ e))
@@ -296,17 +302,17 @@ module _ (In : Goal → Type 0) (inner : Class → Reader Tree) (cover : Reader 
   last_property found k x c m d w f h (patterns.default_rule text sp z a r i v g) l s e =
       plain_last found k x c m d w f h (patterns.default_rule text sp z a r i v g) (ap is_rest g) l s e
 
-  many_properties : (xs found : List Tree) (k : Code) (c d : Place) (w : Scope) (f h : List Fault) → ReadsListed true (PatternPropertyRule In binding (with_in k)) xs c d
+  many_properties : (xs found : List Tree) (k : Code) (c d : Place) (w : Scope) (f : List Fault) (h : Notes) → ReadsListed true (PatternPropertyRule In binding (with_in k)) xs c d
       → all_supported (trees xs) ≡ true → kind_at d ≡ kind.RBrace
       → loop (object_turn inner cover pattern element) found (st c k w f h)
-      ≡ Ok (found ++ xs, st (after d) k w (f ++ walks (env_of k w.labels) false (trees xs)) (h ++ all_notes (trees xs)))
-  many_properties [] found k c d w f h r s e = rw (append-nil found, append-nil f, append-nil h, r) (properties_end found k c w f h (ap kind_at (sym r) ∙ e))
+      ≡ Ok (found ++ xs, st (after d) k w (f ++ walks (env_of k w.labels) false (trees xs)) (h ⊕ all_notes_of (trees xs)))
+  many_properties [] found k c d w f h r s e = rw (append-nil found, append-nil f, append-nil h.held_back, or_nil h.found_module_item, r) (properties_end found k c w f h (ap kind_at (sym r) ∙ e))
   many_properties (x ∷ []) found k c d w f h (m, r, l) s e =
-      rw (append-nil (walk (env_of k w.labels) x), append-nil (notes x)) (last_property found k x c m d w f h r l (and_yes (supported x) _ s).0 e)
+      rw (append-nil (walk (env_of k w.labels) x), append-nil (notes x), or_nil (has_meta x)) (last_property found k x c m d w f h r l (and_yes (supported x) _ s).0 e)
   many_properties (x ∷ y ∷ ys) found k c d w f h (m, r, a, i, more) s e =
       let t = and_yes (supported x) _ s in
       property_more found k x c m (after m) w f h r a t.0 (inr (i, refl))
-      ∙ many_properties (y ∷ ys) (found ++ x ∷ []) k (after m) d w (f ++ walk (env_of k w.labels) x) (h ++ notes x) more t.1 e ∙ simp append_assoc refl
+      ∙ many_properties (y ∷ ys) (found ++ x ∷ []) k (after m) d w (f ++ walk (env_of k w.labels) x) (h ⊕ notes_of x) more t.1 e ∙ simp (append_assoc, or_assoc) refl
 
   object_reads : (xs : List Tree) (m : Place) (k : Code) (x : Tree) (c d : Place) → ReadsListed true (PatternPropertyRule In binding (with_in k)) xs (after c) m
       → all_supported (trees xs) ≡ true → kind_at m ≡ kind.RBrace → d ≡ after m → x ≡ tree.object_pat (spanned c d) (listed xs) → Reads (object inner cover pattern element) k x c d
@@ -326,7 +332,8 @@ module _ (In : Goal → Type 0) (inner : Class → Reader Tree) (cover : Reader 
         name_reads faults.ExpectedIdent r.word sp c d k w f h r.reads_word (name_is_name k text sp c d r s),
         e ∙ ap (tree.ident_pat sp) r.is_text,
         append-nil f,
-        append-nil h,
+        append-nil h.held_back,
+        or_nil h.found_module_item,
       ) refl
 
   pattern_reads_by : (k : Code) (x : Tree) (c d : Place) → PatternRule In binding k x c d → supported x ≡ true → Reads (pattern_level inner cover pattern element) k x c d
@@ -347,9 +354,10 @@ module _ (In : Goal → Type 0) (inner : Class → Reader Tree) (cover : Reader 
       rw (
         pattern_reads_by k y c m r t.0 w f h,
         i,
-        inside_reads In inner cover given assignment k z (after m) d v t.1 w (f ++ walk (env_of k w.labels) y) (h ++ notes y),
+        inside_reads In inner cover given assignment k z (after m) d v t.1 w (f ++ walk (env_of k w.labels) y) (h ⊕ notes_of y),
         append_assoc f (walk (env_of k w.labels) y) (walk (env_of k w.labels) z),
-        append_assoc h (notes y) (notes z),
+        append_assoc h.held_back (notes y) (notes z),
+        or_assoc h.found_module_item (has_meta y) (has_meta z),
         e,
       ) refl
 

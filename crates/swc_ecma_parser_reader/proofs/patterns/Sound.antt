@@ -25,13 +25,14 @@ use Rattle.swc_ecma_parser_grammar.specs.language.Patterns.{PatternRule, Pattern
 use Rattle.swc_ecma_parser_grammar.specs.language.Reads.{Reads}
 use Rattle.swc_ecma_parser_grammar.specs.Walk as walks
 use Rattle.swc_ecma_parser_grammar.specs.Walk.{walk, env_of}
-use Rattle.swc_ecma_parser_grammar.specs.Notes.{notes, all_notes}
 use Rattle.swc_ecma_parser_grammar.proofs.Tests.{or_no, and_both}
 use Rattle.swc_ecma_parser_reader.specs.State as state
+use Rattle.swc_ecma_parser_reader.specs.Notes.{Notes, no_notes, held, ◌⊕◌, notes_of, all_notes_of}
 use Rattle.swc_ecma_parser_reader.specs.State.{State, Reader, and_then, moved, coded, within, expect, name, Step, More, loop}
 use Rattle.swc_ecma_parser_reader.specs.Expressions.{Cover, inside, key, expr, cover}
 use Rattle.swc_ecma_parser_reader.specs.Patterns as reader
 use Rattle.swc_ecma_parser_reader.specs.Patterns.{rest, array_turn, elements, array, rest_name, rest_property, key_value, initialized_name, bare_name, named, bare_key, behind_key, property, object_turn, properties, object, pattern_level, initialized, element_level, pattern, element}
+use Rattle.swc_ecma_parser_reader.proofs.Notes.{or_nil, or_true, notes_nil}
 use Rattle.swc_ecma_parser_reader.proofs.Meets.{Meets, Refuses, meets_then, meets_if, wanted_meets, too_deep_meets, Turned, loop_answers, saw}
 use Rattle.swc_ecma_parser_reader.proofs.Errors.{is_error}
 use Rattle.swc_ecma_parser_reader.proofs.Between.{SoundTree, Sound, same, sound_moved, sound_here, sound_as, sound_after, within_sound}
@@ -86,13 +87,13 @@ module _ (Rule : Code → Tree → Place → Place → Type 0) (L : Code → Lis
     (j : TokenKind) (no_error : is_error j ≡ false) where
   -- the parts so far, and all
   abbrev ListSoFar : State → List Tree → State → Type 0
-  ListSoFar s xs t = Sound same (λ k l. walks.walks (env_of k l) false (trees xs)) (all_notes (trees xs)) (λ k. Begun (Plain (L k)) j xs) s t
+  ListSoFar s xs t = Sound same (λ k l. walks.walks (env_of k l) false (trees xs)) (all_notes_of (trees xs)) (λ k. Begun (Plain (L k)) j xs) s t
 
   abbrev Closed : List Tree → Code → Place → Place → Type 0
   Closed xs k c d = (m : Place) × Plain (L k) xs c m × (kind_at m ≡ j) × (d ≡ after m)
 
   abbrev SoundList : State → List Tree → State → Type 0
-  SoundList s xs t = Sound same (λ k l. walks.walks (env_of k l) false (trees xs)) (all_notes (trees xs)) (Closed xs) s t
+  SoundList s xs t = Sound same (λ k l. walks.walks (env_of k l) false (trees xs)) (all_notes_of (trees xs)) (Closed xs) s t
 
   module _ (body : List Tree → Reader (Step (List Tree) (List Tree))) where
     module _ (s : State) (xs : List Tree) (t : State) (p : ListSoFar s xs t) where
@@ -127,7 +128,7 @@ module _ (Rule : Code → Tree → Place → Place → Type 0) (L : Code → Lis
     -- all of them, from the token that opens the list
     list_sound : (i : TokenKind) (s : State) → kind_at s.at ≡ i → is_error i ≡ false
         → ((xs : List Tree) (t : State) → ListSoFar (moved s) xs t → Meets (Turned body (ListSoFar (moved s)) (SoundList (moved s)) Refuses) (body xs t))
-        → Meets (λ xs t. Sound same (λ k l. walk (env_of k l) (listed xs)) (notes (listed xs)) (λ k c d. Closed xs k (after c) d) s t) (loop body [] (moved s))
+        → Meets (λ xs t. Sound same (λ k l. walk (env_of k l) (listed xs)) (notes_of (listed xs)) (λ k c d. Closed xs k (after c) d) s t) (loop body [] (moved s))
     list_sound i s e h turn = meets_as (loop body [] (moved s))
         (loop_answers body (ListSoFar (moved s)) (SoundList (moved s)) Refuses turn (λ t. tt) [] (moved s) (sound_here (moved s) (at_more (λ ys d r. r))))
         (λ xs t p. sound_after s t e h refl refl (λ r. r) p)
@@ -150,10 +151,10 @@ module _ (n : ℕ) (inner : Class → Reader Tree) (cover : Reader Cover) (patte
     (sound_pattern : (s : State) → Meets (λ x t. SoundTree (ReadsPat n) s x t) (pattern s)) (sound_element : (s : State) → Meets (λ x t. SoundTree (ReadsElement n) s x t) (element s)) where
   -- where `in` is an operator
   pattern_inside : (s : State) → Meets (λ x t. SoundTree (λ k. ReadsPat n (with_in k)) s x t) (within with_in pattern s)
-  pattern_inside s = within_sound (λ x k l. walk (env_of k l) x) notes (λ x k. ReadsPat n k x) with_in (λ k. refl) pattern s (sound_pattern (coded (with_in s.code) s))
+  pattern_inside s = within_sound (λ x k l. walk (env_of k l) x) notes_of (λ x k. ReadsPat n k x) with_in (λ k. refl) pattern s (sound_pattern (coded (with_in s.code) s))
 
   element_inside : (s : State) → Meets (λ x t. SoundTree (λ k. ReadsElement n (with_in k)) s x t) (within with_in element s)
-  element_inside s = within_sound (λ x k l. walk (env_of k l) x) notes (λ x k. ReadsElement n k x) with_in (λ k. refl) element s (sound_element (coded (with_in s.code) s))
+  element_inside s = within_sound (λ x k l. walk (env_of k l) x) notes_of (λ x k. ReadsElement n k x) with_in (λ k. refl) element s (sound_element (coded (with_in s.code) s))
 
   value_inside : (s : State) → Meets (λ x t. SoundTree (λ k. ReadsClass n assignment (with_in k)) s x t) (inside inner cover assignment s)
   value_inside s = inside_sound n inner cover sound covers assignment s
