@@ -10,6 +10,7 @@ ghost use Rattle.swc_ecma_parser_reader.specs.Expressions as exprs;
 ghost use Rattle.swc_ecma_parser_reader.specs.Reader as rules;
 ghost use Rattle.swc_ecma_parser_reader.specs.State as reader;
 ghost use Rattle.swc_ecma_parser_reader.specs.State.{Gives, GivesAs};
+ghost use Rattle.swc_ecma_parser_reader.specs.declared.mark.Mark.TheVariants as mark;
 ghost use Rattle.swc_ecma_parser_state.specs.FirstError as first;
 ghost use Rattle.swc_ecma_parser_state.specs.Literals.{literal_tree};
 ghost use Rattle.swc_ecma_parser_state.specs.Taken as taken;
@@ -30,7 +31,8 @@ use swc_ecma_parser_token::{Token, TokenAndSpan, TokenKind, Word};
 impl<I: Tokens> State<I> {
     /// Marks that memory ran out, and says so at the end of what was read last.
     pub fn out_of_memory(&mut self) -> Error
-        ensures { IsOutOfMemory result }
+        ensures err { IsOutOfMemory result }
+        ensures state { self.new ≡ reader.marked mark.OutOfMemory self.old }
     {
         let last = self.last_span();
         self.mark = Some(Mark::OutOfMemory);
