@@ -1,10 +1,17 @@
 //! Parts of a form, each in the place that it takes there.
 
 ghost use Rattle.std.specs.Prelude.{◌≡◌, Ok, IfOk, map};
+ghost use Rattle.swc_ecma_parser_ast.specs.Parts.{view_option};
+ghost use Rattle.swc_ecma_parser_ast.specs.View.{view_block_stmt, view_class_member, view_key_value_pat_prop, view_param, view_pat, view_prop_name, view_stmt};
+ghost use Rattle.swc_ecma_parser_model.specs.Tree as tree;
+ghost use Rattle.swc_ecma_parser_trees.specs.Parts.{part_of};
 
 use crate::made::Made;
 use std::alloc::{AllocError, Global};
-use swc_ecma_parser_ast::{ExprBox, Param, ParamOrTsParamProp, Pat, PatBox, Stmt, StmtBox};
+use swc_ecma_parser_ast::{
+    BlockStmt, ClassMember, Constructor, ExprBox, KeyValuePatProp, Param, ParamOrTsParamProp, Pat,
+    PatBox, PropName, Span, Stmt, StmtBox,
+};
 
 /// A part of a form that is made of a node, with the same model.
 pub trait Part: Drop {
@@ -33,20 +40,6 @@ impl Part for ExprBox {
 
     fn placed(alloc: Global, whole: Made) -> Result<ExprBox, AllocError> {
         Ok(whole.into_handle())
-    }
-}
-
-impl Part for StmtBox {
-    ghost use Rattle.swc_ecma_parser_ast.specs.View.{view_stmt};
-
-    type Whole = Stmt;
-
-    ghost part_view = { λ b. b.node.tree };
-
-    ghost whole_view = { view_stmt };
-
-    fn placed(alloc: Global, whole: Stmt) -> Result<StmtBox, AllocError> {
-        StmtBox::new(alloc, whole)
     }
 }
 
@@ -130,4 +123,58 @@ pub fn both<A: Drop, B: Drop>(
     let (first, second) = beside(first, second)?;
     let (second, first) = beside(second, first)?;
     Ok((first, second))
+}
+
+/// A statement that may be left out, in its place.
+pub fn optional_stmt(alloc: Global, stmt: Option<Stmt>) -> Result<Option<StmtBox>, AllocError>
+    ensures { IfOk result (λ x. view_option (λ b. b.node.tree) x ≡ part_of view_stmt stmt) }
+{
+    match stmt {
+        Some(stmt) => Ok(Some(StmtBox::new(alloc, stmt)?)),
+        None => Ok(None),
+    }
+}
+
+/// The elements of an array's pattern. It stands here, since `all` is proved to drop its parts in each crate that calls it.
+pub fn pattern_elements(
+    alloc: Global,
+    elems: Vec<Option<Pat>>,
+) -> Result<Vec<Option<PatBox>>, AllocError>
+    ensures { IfOk result (λ xs. map (part_of (λ b. b.node.tree)) xs.items ≡ map (part_of view_pat) elems.items) }
+{
+    all::<Option<PatBox>>(alloc, elems)
+}
+
+/// A constructor; here as `pattern_elements` is.
+pub fn constructor(
+    alloc: Global,
+    span: Span,
+    key: PropName,
+    params: Vec<Param>,
+    body: BlockStmt,
+) -> Result<ClassMember, AllocError>
+    ensures { IfOk result (λ x. view_class_member x
+        ≡ tree.constructor span (view_prop_name key) (tree.listed (map view_param params.items)) (view_block_stmt body)) }
+{
+    let params = all::<ParamOrTsParamProp>(alloc, params);
+    let (params, (key, body)) = beside(params, (key, body))?;
+    Ok(ClassMember::Constructor(Constructor {
+        span,
+        key,
+        params,
+        body: Some(body),
+    }))
+}
+
+/// A key with its pattern; here as `pattern_elements` is.
+pub fn key_value_pattern(
+    alloc: Global,
+    span: Span,
+    key: PropName,
+    value: Pat,
+) -> Result<KeyValuePatProp, AllocError>
+    ensures { IfOk result (λ x. view_key_value_pat_prop x ≡ tree.key_value_pat_prop span (view_prop_name key) (view_pat value)) }
+{
+    let (value, key) = beside(PatBox::new(alloc, value), key)?;
+    Ok(KeyValuePatProp { span, key, value })
 }

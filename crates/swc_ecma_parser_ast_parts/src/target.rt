@@ -183,9 +183,15 @@ fn plain_property(alloc: Global, prop: Prop) -> Result<Option<ObjectPatProp>, Al
         }
         Prop::Shorthand(x) => Ok(Some(named(x.span, x, None))),
         Prop::Assign(x) => Ok(Some(named(x.span, x.key, Some(x.value)))),
-        _ => Ok(None),
+        other => {
+            discard_prop(other);
+            Ok(None)
+        }
     }
 }
+
+/// Drops it: in its proof a node is known by its bound alone.
+fn discard_prop<N: Drop>(_prop: Prop<N>) {}
 
 /// A name that is its own key, with its default where it has one.
 fn named(span: Span, id: Ident, value: Option<ExprBox>) -> ObjectPatProp

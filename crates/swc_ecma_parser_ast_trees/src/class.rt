@@ -5,11 +5,11 @@ ghost use Rattle.swc_ecma_parser_ast_parts.specs.View.{view_made};
 use crate::Ast;
 use std::alloc::{AllocError, Global};
 use swc_ecma_parser_ast::{
-    AutoAccessor, BlockStmt, Class, ClassExpr, ClassMember, ClassMethod, ClassProp, Constructor,
-    Decorator, EmptyStmt, Expr, Function, Ident, Key, MethodKind, Param, ParamOrTsParamProp,
-    PrivateMethod, PrivateName, PrivateProp, PropName, Span, Spanned, StaticBlock,
+    AutoAccessor, BlockStmt, Class, ClassExpr, ClassMember, ClassMethod, ClassProp, Decorator,
+    EmptyStmt, Expr, Function, Ident, Key, MethodKind, Param, PrivateMethod, PrivateName,
+    PrivateProp, PropName, Span, Spanned, StaticBlock,
 };
-use swc_ecma_parser_ast_parts::boxes::{all, beside};
+use swc_ecma_parser_ast_parts::boxes;
 use swc_ecma_parser_ast_parts::made::Made;
 use swc_ecma_parser_trees::BuildsClass;
 
@@ -35,14 +35,7 @@ impl BuildsClass for Ast {
         ensures { IfOk result (λ x. view_class_member x
             ≡ tree.constructor span (view_prop_name key) (tree.listed (map view_param params.items)) (view_block_stmt body)) }
     {
-        let params = all::<ParamOrTsParamProp>(alloc, params);
-        let (params, (key, body)) = beside(params, (key, body))?;
-        Ok(ClassMember::Constructor(Constructor {
-            span,
-            key,
-            params,
-            body: Some(body),
-        }))
+        boxes::constructor(alloc, span, key, params, body)
     }
 
     fn method(

@@ -8,7 +8,7 @@ use swc_ecma_parser_ast::{
     BlockStmt, BreakStmt, CatchClause, ContinueStmt, Ident, IfStmt, LabeledStmt, Pat, ReturnStmt,
     Span, Stmt, StmtBox, StmtList, SwitchCase, SwitchStmt, ThrowStmt, TryStmt, WithStmt,
 };
-use swc_ecma_parser_ast_parts::boxes::{Part, beside, both};
+use swc_ecma_parser_ast_parts::boxes::{beside, both, optional_stmt};
 use swc_ecma_parser_ast_parts::made::Made;
 use swc_ecma_parser_trees::BuildsControl;
 
@@ -59,7 +59,7 @@ impl BuildsControl for Ast {
         ensures { IfOk result (λ x. view_stmt x
             ≡ tree.if_stmt span (view_made test) (view_stmt cons) (parts.part_of view_stmt alt)) }
     {
-        let alt = Option::<StmtBox>::placed(alloc, alt);
+        let alt = optional_stmt(alloc, alt);
         let branches = both(StmtBox::new(alloc, cons), alt);
         let ((cons, alt), test) = beside(branches, test.into_handle())?;
         Ok(Stmt::If(IfStmt {

@@ -5,7 +5,7 @@ ghost use Rattle.swc_ecma_parser_ast_parts.specs.View.{view_made};
 use crate::Ast;
 use std::alloc::{AllocError, Global};
 use swc_ecma_parser_ast::{
-    DoWhileStmt, ForHead, ForInStmt, ForOfStmt, ForStmt, Pat, Span, Spanned, Stmt, StmtBox,
+    Decl, DoWhileStmt, ForHead, ForInStmt, ForOfStmt, ForStmt, Pat, Span, Spanned, Stmt, StmtBox,
     UsingDecl, VarDecl, VarDeclKind, VarDeclOrExpr, VarDeclarator, WhileStmt,
 };
 use swc_ecma_parser_ast_parts::boxes::beside;
@@ -46,15 +46,20 @@ impl BuildsLoop for Ast {
             ≡ tree.for span (parts.part_of view_var_decl_or_expr init) (parts.part_of view_made test)
             (parts.part_of view_made update) (view_stmt body)) }
     {
-        let others = (init, (Made::optional(test), Made::optional(update)));
-        let (body, (init, (test, update))) = beside(StmtBox::new(alloc, body), others)?;
-        Ok(Stmt::For(ForStmt {
-            span,
-            init,
-            test,
-            update,
-            body,
-        }))
+        let others = (Made::optional(test), Made::optional(update));
+        match beside(StmtBox::new(alloc, body), others) {
+            Ok((body, (test, update))) => Ok(Stmt::For(ForStmt {
+                span,
+                init,
+                test,
+                update,
+                body,
+            })),
+            Err(e) => {
+                discard_init(init);
+                Err(e)
+            }
+        }
     }
 
     fn var_init(
@@ -79,14 +84,18 @@ impl BuildsLoop for Ast {
         right: Made,
         body: Stmt,
     ) -> Result<Stmt, AllocError> {
-        let others = (left, right.into_handle());
-        let (body, (left, right)) = beside(StmtBox::new(alloc, body), others)?;
-        Ok(Stmt::ForIn(ForInStmt {
-            span,
-            left,
-            right,
-            body,
-        }))
+        match beside(StmtBox::new(alloc, body), right.into_handle()) {
+            Ok((body, right)) => Ok(Stmt::ForIn(ForInStmt {
+                span,
+                left,
+                right,
+                body,
+            })),
+            Err(e) => {
+                discard_head(left);
+                Err(e)
+            }
+        }
     }
 
     fn for_of(
@@ -97,15 +106,19 @@ impl BuildsLoop for Ast {
         right: Made,
         body: Stmt,
     ) -> Result<Stmt, AllocError> {
-        let others = (left, right.into_handle());
-        let (body, (left, right)) = beside(StmtBox::new(alloc, body), others)?;
-        Ok(Stmt::ForOf(ForOfStmt {
-            span,
-            is_await,
-            left,
-            right,
-            body,
-        }))
+        match beside(StmtBox::new(alloc, body), right.into_handle()) {
+            Ok((body, right)) => Ok(Stmt::ForOf(ForOfStmt {
+                span,
+                is_await,
+                left,
+                right,
+                body,
+            })),
+            Err(e) => {
+                discard_head(left);
+                Err(e)
+            }
+        }
     }
 
     fn var_head(
@@ -148,5 +161,23 @@ impl BuildsLoop for Ast {
 
     fn is_initialized(declarator: &VarDeclarator) -> bool {
         declarator.init.is_some()
+    }
+}
+
+/// Drops it, as a statement: a drop of its own would be proved for each of its parts.
+fn discard_head(head: ForHead) {
+    match head {
+        ForHead::VarDecl(x) => Stmt::Decl(Decl::Var(x)).discard(),
+        ForHead::UsingDecl(x) => Stmt::Decl(Decl::Using(x)).discard(),
+        ForHead::Pat(x) => x.discard(),
+    }
+}
+
+/// As `discard_head`.
+fn discard_init(init: Option<VarDeclOrExpr>) {
+    match init {
+        Some(VarDeclOrExpr::VarDecl(x)) => Stmt::Decl(Decl::Var(x)).discard(),
+        Some(VarDeclOrExpr::Expr(_expr)) => {}
+        None => {}
     }
 }

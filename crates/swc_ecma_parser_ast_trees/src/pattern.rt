@@ -5,10 +5,10 @@ ghost use Rattle.swc_ecma_parser_ast_parts.specs.View.{view_made};
 use crate::Ast;
 use std::alloc::{AllocError, Global};
 use swc_ecma_parser_ast::{
-    ArrayPat, AssignPat, AssignPatProp, BindingIdent, Ident, Invalid, KeyValuePatProp, ObjectPat,
-    ObjectPatProp, Pat, PatBox, PropName, RestPat, Span, Spanned,
+    ArrayPat, AssignPat, AssignPatProp, BindingIdent, Ident, Invalid, ObjectPat, ObjectPatProp,
+    Pat, PatBox, PropName, RestPat, Span, Spanned,
 };
-use swc_ecma_parser_ast_parts::boxes::{all, beside};
+use swc_ecma_parser_ast_parts::boxes::{beside, key_value_pattern, pattern_elements};
 use swc_ecma_parser_ast_parts::made::Made;
 use swc_ecma_parser_ast_parts::target::as_pattern;
 use swc_ecma_parser_trees::BuildsPattern;
@@ -24,7 +24,7 @@ impl BuildsPattern for Ast {
     fn array_pat(alloc: Global, span: Span, elems: Vec<Option<Pat>>) -> Result<Pat, AllocError>
         ensures { IfOk result (λ x. view_pat x ≡ tree.array_pat span (tree.listed (map (parts.part_of view_pat) elems.items))) }
     {
-        let elems = all::<Option<PatBox>>(alloc, elems)?;
+        let elems = pattern_elements(alloc, elems)?;
         Ok(Pat::Array(ArrayPat { span, elems }))
     }
 
@@ -45,8 +45,8 @@ impl BuildsPattern for Ast {
         key: PropName,
         value: Pat,
     ) -> Result<ObjectPatProp, AllocError> {
-        let (value, key) = beside(PatBox::new(alloc, value), key)?;
-        Ok(ObjectPatProp::KeyValue(KeyValuePatProp { span, key, value }))
+        let prop = key_value_pattern(alloc, span, key, value)?;
+        Ok(ObjectPatProp::KeyValue(prop))
     }
 
     fn assign_pat_prop(
