@@ -1,6 +1,6 @@
 //! Parts of a form, each in the place that it takes there.
 
-ghost use Rattle.std.specs.Prelude.{◌≡◌, Ok, IfOk, map};
+ghost use Rattle.std.specs.Prelude.{◌≡◌, Ok, IfOk, IfSome, map, option_map};
 ghost use Rattle.swc_ecma_parser_ast.specs.Parts.{view_option};
 ghost use Rattle.swc_ecma_parser_ast.specs.View.{view_block_stmt, view_class_member, view_key_value_pat_prop, view_param, view_pat, view_prop_name, view_stmt};
 ghost use Rattle.swc_ecma_parser_model.specs.Tree as tree;
@@ -108,6 +108,21 @@ pub fn beside<A, B: Drop>(made: Result<A, AllocError>, other: B) -> Result<(A, B
 {
     match made {
         Ok(made) => Ok((made, other)),
+        Err(e) => Err(e),
+    }
+}
+
+/// As `beside`, of what may be none.
+pub fn beside_found<A, B: Drop>(
+    found: Result<Option<A>, AllocError>,
+    other: B,
+) -> Result<Option<(A, B)>, AllocError>
+    ensures found { IfOk result (λ x. found ≡ Ok (option_map (λ p. p.0) x)) }
+    ensures other { IfOk result (λ x. IfSome x (λ p. other ≡ p.1)) }
+{
+    match found {
+        Ok(Some(found)) => Ok(Some((found, other))),
+        Ok(None) => Ok(None),
         Err(e) => Err(e),
     }
 }

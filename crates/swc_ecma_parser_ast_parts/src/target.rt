@@ -9,12 +9,13 @@ ghost use Rattle.swc_ecma_parser_model.specs.Targets as targets;
 ghost use Rattle.swc_ecma_parser_model.specs.Tree as tree;
 ghost use Rattle.swc_ecma_parser_model.specs.Tree.{trees};
 
-use crate::boxes::beside;
+use crate::boxes::{beside, beside_found};
 use std::alloc::{AllocError, Global};
 use swc_ecma_parser_ast::{
     ArrayPat, AssignExpr, AssignOp, AssignPat, AssignPatProp, AssignTarget, AssignTargetPat,
-    BindingIdent, Expr, ExprBox, ExprOrSpread, Ident, KeyValuePatProp, ObjectPat, ObjectPatProp,
-    Pat, PatBox, Prop, PropOrSpread, RestPat, SimpleAssignTarget, Span, Spanned, SpreadElement,
+    BindingIdent, BlockStmt, Expr, ExprBox, ExprOrSpread, FnExpr, Ident, KeyValuePatProp,
+    ObjectPat, ObjectPatProp, Pat, PatBox, Prop, PropName, PropOrSpread, RestPat,
+    SimpleAssignTarget, Span, Spanned, SpreadElement, Stmt,
 };
 
 /// An expression as a pattern, with a default where one may stand.
@@ -170,17 +171,14 @@ fn plain_property(alloc: Global, prop: Prop) -> Result<Option<ObjectPatProp>, Al
     ensures { IfOk result (λ x. targets.as_property (view_prop prop) ≡ option_map view_object_pat_prop x) }
 {
     match prop {
-        Prop::KeyValue(x) => {
-            let (value, key) = beside(part(alloc, x.value, true), x.key)?;
-            match value {
-                Some(value) => Ok(Some(ObjectPatProp::KeyValue(KeyValuePatProp {
-                    span: x.span,
-                    key,
-                    value,
-                }))),
-                None => Ok(None),
-            }
-        }
+        Prop::KeyValue(x) => match beside_found(part(alloc, x.value, true), x.key)? {
+            Some((value, key)) => Ok(Some(ObjectPatProp::KeyValue(KeyValuePatProp {
+                span: x.span,
+                key,
+                value,
+            }))),
+            None => Ok(None),
+        },
         Prop::Shorthand(x) => Ok(Some(named(x.span, x, None))),
         Prop::Assign(x) => Ok(Some(named(x.span, x.key, Some(x.value)))),
         other => {
@@ -190,8 +188,39 @@ fn plain_property(alloc: Global, prop: Prop) -> Result<Option<ObjectPatProp>, Al
     }
 }
 
-/// Drops it: in its proof a node is known by its bound alone.
-fn discard_prop<N: Drop>(_prop: Prop<N>) {}
+/// Drops it part by part, as expressions and statements: a drop of the whole would be proved here for each of its forms.
+fn discard_prop(prop: Prop) {
+    match prop {
+        Prop::Shorthand(_x) => {}
+        Prop::Assign(_x) => {}
+        Prop::KeyValue(x) => discard_key(x.key),
+        Prop::Getter(x) => discard_accessor(x.key, x.body),
+        Prop::Setter(x) => {
+            x.param.discard();
+            discard_accessor(x.key, x.body)
+        }
+        Prop::Method(x) => {
+            discard_key(x.key);
+            Expr::Fn(FnExpr {
+                span: x.span,
+                ident: None,
+                function: x.function,
+            })
+            .discard()
+        }
+    }
+}
+
+/// As `discard_prop`.
+fn discard_accessor(key: PropName, body: Option<BlockStmt>) {
+    discard_key(key);
+    if let Some(body) = body {
+        Stmt::Block(body).discard()
+    }
+}
+
+/// As `discard_prop`.
+fn discard_key(_key: PropName) {}
 
 /// A name that is its own key, with its default where it has one.
 fn named(span: Span, id: Ident, value: Option<ExprBox>) -> ObjectPatProp
