@@ -35,7 +35,7 @@ use Rattle.swc_ecma_parser_reader.proofs.Answered.{st, Reads, ReadsAs}
 use Rattle.swc_ecma_parser_reader.proofs.Steps.{loop_more, loop_done}
 use Rattle.swc_ecma_parser_reader.proofs.expressions.Falls.{access_falls, arguments_fall}
 use Rattle.swc_ecma_parser_reader.proofs.expressions.Loops.{shorter_by}
-use Rattle.swc_ecma_parser_reader.proofs.expressions.CompleteParts.{expect_reads, name_reads, literal_reads, AsExpr, IsRead, inside_reads, access_reads, access_seen, super_property_reads, arguments_read}
+use Rattle.swc_ecma_parser_reader.proofs.expressions.CompleteParts.{expect_reads, name_reads, literal_reads, AsExpr, IsRead, inside_reads, access_reads, access_seen, not_private, arguments_read}
 use Rattle.swc_ecma_parser_reader.proofs.expressions.CompleteCovers.{array_reads, object_reads}
 use Rattle.swc_ecma_parser_reader.proofs.expressions.CompleteKinds.{refuted, supported_as, seen, name_is_name, named, null_unnamed, true_unnamed, false_unnamed, paren_here, array_here, object_here, this_here, primary_first, primary_seen}
 
@@ -123,8 +123,9 @@ module _ (In : Goal → Type 0) (inner : Class → Reader Tree) (cover : Reader 
       rw (
         seen c kind.Super g,
         and_no calls (sees kind.LParen (after c)) (access_seen In inner cover given k property (after c) d r).1,
+        not_private In inner cover given k property (after c) d r p,
         (access_seen In inner cover given k property (after c) d r).0,
-        super_property_reads In inner cover given k property (after c) d r p s w f h,
+        access_reads In inner cover given k property (after c) d r s w f h,
         e,
       ) refl
 
