@@ -33,7 +33,7 @@ fn texts_that_nest_too_deep(rt: HostRuntime) -> Result<(), Fail> {
 
 /// The lines of what a text parses to.
 fn parsed(alloc: Global, text: &str) -> Result<String, Fail> {
-    if text.len() > 1_000_000 {
+    if text.len() > 2_000_000 {
         return Err("too long")?;
     }
     Ok(parse(alloc, text)?.lines)
@@ -52,5 +52,8 @@ fn chains_of_any_length(rt: HostRuntime) -> Result<(), Fail> {
         let found = parsed(rt.alloc(), text.as_str())?;
         assert_eq!(rt; found.as_str(), wanted);
     }
+    let text = repeated(rt.alloc(), "if(a);", "else if(a);")?;
+    let found = parsed(rt.alloc(), text.as_str())?;
+    assert_eq!(rt; found.as_str(), "Script 0..1100006\n  If 0..1100006\n");
     Ok(())
 }

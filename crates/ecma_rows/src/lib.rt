@@ -14,4 +14,6 @@ mod report;
 #[cfg(test)]
 mod rows;
 #[cfg(test)]
+mod statements;
+#[cfg(test)]
 mod texts;

@@ -10,8 +10,8 @@ use swc_ecma_parser_error::PResult;
 use swc_ecma_parser_input::Tokens;
 use swc_ecma_parser_state::State;
 use swc_ecma_parser_trees::{
-    BuildsCall, BuildsExpr, BuildsObject, BuildsOperator, BuildsPat, BuildsPattern, BuildsStmt,
-    Maker, MakerOf,
+    BuildsCall, BuildsControl, BuildsExpr, BuildsLoop, BuildsObject, BuildsOperator, BuildsPat,
+    BuildsPattern, BuildsStmt, Maker, MakerOf,
 };
 
 /// A script, whose items may stand so many levels deep.
@@ -22,6 +22,8 @@ pub fn script<
         + BuildsCall
         + BuildsObject
         + BuildsOperator
+        + BuildsControl
+        + BuildsLoop
         + BuildsPat
         + BuildsPattern
         + BuildsStmt,

@@ -8,6 +8,7 @@ ghost use Rattle.swc_ecma_parser_ast.specs.View.{view_expr, view_pat, view_stmt}
 ghost use Rattle.swc_ecma_parser_ast.specs.Nodes.{view_any};
 ghost use Rattle.swc_ecma_parser_ast.specs.Equal as equal;
 
+use crate::branch::IfStmt;
 use crate::call::{CallExpr, Callee, ExprOrSpread, MemberExpr, MemberProp};
 use crate::expr::{BinExpr, Expr};
 use crate::pat::Pat;
@@ -76,8 +77,12 @@ fn discard_args<N: Drop>(_args: Vec<ExprOrSpread<N>>) {}
 /// As `discard_stmts`.
 fn discard_prop<N: Drop>(_prop: MemberProp<N>) {}
 
+/// As `discard_stmts`.
+fn discard_head<N: Drop>(_test: ExprBox<N>, _cons: StmtBox<N>) {}
+
 impl Drop for Node {
-    /// A chain on the left (`a + a + ..`, `a.a.a..`, `f()()..`), which no limit on levels bounds, is dropped in a loop.
+    /// A chain on the left (`a + a + ..`, `a.a.a..`, `f()()..`) or of `else if`, which no limit on levels bounds, is dropped in
+    /// a loop.
     #[cycle(ast)]
     fn drop(mut self) {
         loop {
@@ -109,7 +114,23 @@ impl Drop for Node {
                     other => return other.discard(),
                 },
                 Any::Pat(pat) => return Box::into_inner(pat).discard(),
-                Any::Stmt(stmt) => return Box::into_inner(stmt).discard(),
+                Any::Stmt(stmt) => match Box::into_inner(stmt) {
+                    Stmt::If(stmt) => {
+                        let IfStmt {
+                            test,
+                            cons,
+                            alt,
+                            ..
+                        } = stmt;
+                        discard_head(test, cons);
+                        let Some(alt) = alt else {
+                            return;
+                        };
+                        let StmtBox { node } = alt;
+                        self = node;
+                    }
+                    other => return other.discard(),
+                },
                 Any::Stmts(stmts) => return discard_stmts(stmts),
             }
         }

@@ -1,6 +1,6 @@
 //! Parts of a form, each in the place that it takes there.
 
-ghost use Rattle.std.specs.Prelude.{◌≡◌, Ok, IfOk, IfSome, map, option_map};
+ghost use Rattle.std.specs.Prelude.{◌≡◌, ◌⊎◌, Ok, Err, IfOk, IfErr, IfSome, map, option_map};
 ghost use Rattle.swc_ecma_parser_ast.specs.Parts.{view_option};
 ghost use Rattle.swc_ecma_parser_ast.specs.View.{view_block_stmt, view_class_member, view_key_value_pat_prop, view_param, view_pat, view_prop_name, view_stmt};
 ghost use Rattle.swc_ecma_parser_model.specs.Tree as tree;
@@ -105,6 +105,7 @@ pub fn all<P: Part>(alloc: Global, wholes: Vec<P::Whole>) -> Result<Vec<P>, Allo
 pub fn beside<A, B: Drop>(made: Result<A, AllocError>, other: B) -> Result<(A, B), AllocError>
     ensures made { IfOk result (λ x. made ≡ Ok x.0) }
     ensures other { IfOk result (λ x. other ≡ x.1) }
+    ensures lost { IfErr result (λ e. made ≡ Err e) }
 {
     match made {
         Ok(made) => Ok((made, other)),
@@ -119,6 +120,7 @@ pub fn beside_found<A, B: Drop>(
 ) -> Result<Option<(A, B)>, AllocError>
     ensures found { IfOk result (λ x. found ≡ Ok (option_map (λ p. p.0) x)) }
     ensures other { IfOk result (λ x. IfSome x (λ p. other ≡ p.1)) }
+    ensures lost { IfErr result (λ e. found ≡ Err e) }
 {
     match found {
         Ok(Some(found)) => Ok(Some((found, other))),
@@ -134,6 +136,7 @@ pub fn both<A: Drop, B: Drop>(
 ) -> Result<(A, B), AllocError>
     ensures first { IfOk result (λ x. first ≡ Ok x.0) }
     ensures second { IfOk result (λ x. second ≡ Ok x.1) }
+    ensures lost { IfErr result (λ e. (first ≡ Err e) ⊎ (second ≡ Err e)) }
 {
     let (first, second) = beside(first, second)?;
     let (second, first) = beside(second, first)?;

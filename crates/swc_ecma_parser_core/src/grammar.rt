@@ -15,8 +15,8 @@ use swc_ecma_parser_operators::assignment::cover_expr;
 use swc_ecma_parser_operators::operator::expr_level;
 use swc_ecma_parser_state::Source;
 use swc_ecma_parser_trees::{
-    BuildsCall, BuildsExpr, BuildsObject, BuildsOperator, BuildsPat, BuildsPattern, BuildsStmt,
-    MakerOf,
+    BuildsCall, BuildsControl, BuildsExpr, BuildsLoop, BuildsObject, BuildsOperator, BuildsPat,
+    BuildsPattern, BuildsStmt, MakerOf,
 };
 
 /// A statement in so many levels.
@@ -28,6 +28,8 @@ pub(crate) fn stmt<
         + BuildsCall
         + BuildsObject
         + BuildsOperator
+        + BuildsControl
+        + BuildsLoop
         + BuildsPattern
         + BuildsPat
         + BuildsStmt,
@@ -55,6 +57,8 @@ pub fn expr<
         + BuildsCall
         + BuildsObject
         + BuildsOperator
+        + BuildsControl
+        + BuildsLoop
         + BuildsPattern
         + BuildsPat
         + BuildsStmt,
@@ -84,6 +88,8 @@ fn pat<
         + BuildsCall
         + BuildsObject
         + BuildsOperator
+        + BuildsControl
+        + BuildsLoop
         + BuildsPattern
         + BuildsPat
         + BuildsStmt,

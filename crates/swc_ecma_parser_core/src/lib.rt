@@ -3,6 +3,8 @@
 //! node, of expressions too, ties the rules together.
 #![tactic(auto)]
 
+mod branch;
+mod control;
 pub mod grammar;
 mod object_pat;
 mod pat;

@@ -14,8 +14,8 @@ use swc_ecma_parser_left::steps::{pushed, since};
 use swc_ecma_parser_state::Source;
 use swc_ecma_parser_token::TokenKind;
 use swc_ecma_parser_trees::{
-    BuildsCall, BuildsExpr, BuildsObject, BuildsOperator, BuildsPat, BuildsPattern, BuildsStmt,
-    MakerOf, Trees,
+    BuildsCall, BuildsControl, BuildsExpr, BuildsLoop, BuildsObject, BuildsOperator, BuildsPat,
+    BuildsPattern, BuildsStmt, MakerOf, Trees,
 };
 
 /// A statement of the script itself.
@@ -60,6 +60,8 @@ fn items<
         + BuildsCall
         + BuildsObject
         + BuildsOperator
+        + BuildsControl
+        + BuildsLoop
         + BuildsPattern
         + BuildsPat
         + BuildsStmt,
@@ -84,6 +86,8 @@ pub fn script_body<
         + BuildsCall
         + BuildsObject
         + BuildsOperator
+        + BuildsControl
+        + BuildsLoop
         + BuildsPattern
         + BuildsPat
         + BuildsStmt,

@@ -12,6 +12,8 @@ ghost use Rattle.swc_ecma_parser_reader.specs.Patterns as patterns;
 ghost use Rattle.swc_ecma_parser_reader.specs.Reader as rules;
 ghost use Rattle.swc_ecma_parser_reader.specs.State.{Gives, GivesAs};
 
+use crate::branch::if_stmt;
+use crate::control::{do_while, throw, while_stmt};
 use std::alloc::Global;
 use swc_ecma_parser_common::Atom;
 use swc_ecma_parser_error::{PResult, SyntaxError};
@@ -22,7 +24,9 @@ use swc_ecma_parser_left::steps::{grown, pushed, since, with_in};
 use swc_ecma_parser_model::VarDeclKind;
 use swc_ecma_parser_state::{Source, Wanted};
 use swc_ecma_parser_token::TokenKind;
-use swc_ecma_parser_trees::{BuildsPattern, BuildsStmt, MakerOf};
+use swc_ecma_parser_trees::{
+    BuildsCall, BuildsControl, BuildsLoop, BuildsPattern, BuildsStmt, MakerOf,
+};
 
 /// A statement in a block or a body.
 const NESTED_ITEM: Position = Position {
@@ -265,7 +269,7 @@ fn expr_stmt_at<
 
 /// An end that nothing demands.
 #[tactic(auto, unfolding(swc_ecma_parser_reader::specs::Reader::optional_end))]
-fn optional_end<P: Source>(p: &mut P) -> PResult<()>
+pub(crate) fn optional_end<P: Source>(p: &mut P) -> PResult<()>
     ensures { Gives (rules.optional_end (P.seen p.old)) result (P.seen p.new) }
 {
     if p.sees(TokenKind::Semi) {
@@ -326,7 +330,7 @@ fn import_stmt_at<
 #[tactic(auto, unfolding(swc_ecma_parser_reader::specs::Reader::stmt_level))]
 pub(crate) fn level<
     P: Source,
-    T: BuildsStmt + BuildsPattern,
+    T: BuildsStmt + BuildsPattern + BuildsCall + BuildsControl + BuildsLoop,
     S: Fn(&MakerOf<T>, &mut P, usize, Position) -> PResult<T::Stmt>,
     E: Fn(&MakerOf<T>, &mut P, usize, Reading) -> PResult<Cover<T::Expr>>,
     N: Fn(&MakerOf<T>, &mut P, usize, Part) -> PResult<T::Pat>,
@@ -339,6 +343,10 @@ pub(crate) fn level<
         TokenKind::Semi => empty::<P, T>(t.alloc, p),
         TokenKind::Debugger => debugger::<P, T>(t.alloc, p),
         TokenKind::Var => var(g, t, p),
+        TokenKind::If => if_stmt(g, t, p),
+        TokenKind::Throw => throw(g, t, p),
+        TokenKind::While => while_stmt(g, t, p),
+        TokenKind::Do => do_while(g, t, p),
         TokenKind::Import => import_stmt_at(g, t, p),
         _ => expr_stmt_at(g, t, p, at),
     }

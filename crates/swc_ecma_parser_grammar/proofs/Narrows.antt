@@ -16,14 +16,15 @@ use Rattle.swc_ecma_parser_grammar.specs.declared.position.Position.{Position}
 use Rattle.swc_ecma_parser_grammar.specs.Looks.{kind_at, sees, same_kind, spanned}
 use Rattle.swc_ecma_parser_grammar.specs.Names.{Code}
 use Rattle.swc_ecma_parser_grammar.specs.Ends.{Ends}
-use Rattle.swc_ecma_parser_grammar.specs.Reads.{with_in, in_strict, directed, directs_on, nested_item, top_item, DeclaratorRule, plain_rule, initialized_rule, ReadsSeparated, ReadsItems, StmtRule, block_rule, empty_rule, debugger_rule, var_rule, expr_rule, import_rule}
+use Rattle.swc_ecma_parser_grammar.specs.Reads.{with_in, in_strict, directed, directs_on, nested_item, top_item, DeclaratorRule, plain_rule, initialized_rule, ReadsSeparated, ReadsItems, StmtRule, block_rule, empty_rule, debugger_rule, var_rule, if_statement_rule, throw_rule, while_rule, do_while_rule, expr_rule, import_rule, ReadsHead, IfRule, if_rule, ElseRule, no_else_rule, else_rule, else_if_rule}
 use Rattle.swc_ecma_parser_grammar.specs.Entries.{ReadsScript, ReadsShebang, some_shebang, no_shebang, script_code}
 use Rattle.swc_ecma_parser_grammar.specs.Supported.{supported, all_supported}
 use Rattle.swc_ecma_parser_grammar.specs.ReadsSupported.{ReadsClass, ReadsPat, ReadsStmt}
-use Rattle.swc_ecma_parser_grammar.specs.language.Goals.{Goal, assignment, stmt_goal}
+use Rattle.swc_ecma_parser_grammar.specs.language.Goals.{assignment, stmt_goal}
+use Rattle.swc_ecma_parser_grammar.specs.language.Contexts.{in_loop}
 use Rattle.swc_ecma_parser_grammar.specs.language.Declarations as declarations
 use Rattle.swc_ecma_parser_grammar.specs.language.Declarations.{is_var, begins_variables}
-use Rattle.swc_ecma_parser_grammar.specs.language.Items.{ItemsRule}
+use Rattle.swc_ecma_parser_grammar.specs.language.Items.{sub_statement, ItemsRule}
 use Rattle.swc_ecma_parser_grammar.specs.language.Statements as statements
 use Rattle.swc_ecma_parser_grammar.specs.language.Reads.{Reads}
 use Rattle.swc_ecma_parser_grammar.specs.language.Programs as programs
@@ -60,9 +61,6 @@ strict_module : (b : Bool) (k : Code) → (cond b (in_strict k) k).flags.module 
 strict_module true k = refl
 strict_module false k = refl
 
-if_unsupported : (In : Goal → Type 0) (k : Code) (x : Tree) (c d : Place) → statements.IfRule In k x c d → supported x ≡ false
-if_unsupported In k x c d (statements.if_rule t y z m n i r s o e) = ap supported e
-
 module _ (n : ℕ) (narrow : (k : Code) (at : Position) (x : Tree) (c d : Place) → k.flags.module ≡ false → Reads n (stmt_goal k at x c d) → supported x ≡ true → ReadsStmt n k at x c d) where
   items_narrow : (k : Code) (directives : Bool) (at : Position) (xs : List Tree) (c d : Place) → k.flags.module ≡ false → ItemsRule (Reads n) k directives at xs c d
       → all_supported (trees xs) ≡ true → ReadsItems (λ j. ReadsStmt n j at) k directives xs c d
@@ -81,6 +79,21 @@ module _ (n : ℕ) (narrow : (k : Code) (at : Position) (x : Tree) (c d : Place)
       (declarator_narrows n k decl.Var) xs (after c) m r h) g e
   variables_narrow k at _ xs m x c d b r g e h = cc
 
+  head_narrows : {k : Code} {x : Tree} {c d : Place} → statements.HeadRule (Reads n) k x c d → supported x ≡ true → ReadsHead (ReadsClass n) k x c d
+  head_narrows r h = record { close = r.close; opens = r.opens; reads = (r.reads, h); closes = r.closes; next = r.next }
+
+  mutual
+    if_narrows : {k : Code} {x : Tree} {c d : Place} → k.flags.module ≡ false → statements.IfRule (Reads n) k x c d → supported x ≡ true → IfRule (ReadsStmt n) (ReadsClass n) k x c d
+    if_narrows {k = k} {x = x} {c = c} {d = d} o (statements.if_rule test cons alt m i j r s t e) h =
+        let g = and_yes (supported test) _ (supported_as x (tree.if_stmt (spanned c d) test cons alt) e h) in
+        let f = and_yes (supported cons) _ g.1 in
+        if_rule test cons alt m i j (head_narrows r g.0) (narrow k sub_statement cons m i o s f.0) (else_narrows o t f.1) e
+
+    else_narrows : {k : Code} {x : Tree} {c d : Place} → k.flags.module ≡ false → statements.ElseRule (Reads n) k x c d → supported x ≡ true → ElseRule (ReadsStmt n) (ReadsClass n) k x c d
+    else_narrows o (statements.no_else_rule i j e) h = no_else_rule i j e
+    else_narrows {k = k} {x = x} {c = c} {d = d} o (statements.else_rule i j s) h = else_rule i j (narrow k sub_statement x (after c) d o s h)
+    else_narrows o (statements.else_if_rule i r) h = else_if_rule i (if_narrows o r h)
+
   form_narrows : (k : Code) (at : Position) (x : Tree) (c d : Place) → k.flags.module ≡ false → statements.FormRule (Reads n) k at x c d → supported x ≡ true
       → StmtRule (ReadsStmt n) (ReadsClass n) (ReadsPat n) k at x c d
   form_narrows k at x c d o (statements.class_rule a name y m i r s b e) h = refuted x (ap supported e) h
@@ -98,12 +111,15 @@ module _ (n : ℕ) (narrow : (k : Code) (at : Position) (x : Tree) (c d : Place)
   form_narrows k at x c d o (statements.labeled_rule text s y m r i t e) h = refuted x (ap supported e) h
   form_narrows k at x c d o (statements.break_rule y m i r g e) h = refuted x (ap supported e) h
   form_narrows k at x c d o (statements.continue_rule y m i r g e) h = refuted x (ap supported e) h
-  form_narrows k at x c d o (statements.if_statement_rule r) h = refuted x (if_unsupported (Reads n) k x c d r) h
+  form_narrows k at x c d o (statements.if_statement_rule r) h = if_statement_rule (if_narrows o r h)
   form_narrows k at x c d o (statements.switch_rule y xs m l i r j s a b t e) h = refuted x (ap supported e) h
-  form_narrows k at x c d o (statements.throw_rule y m i b r g e) h = refuted x (ap supported e) h
+  form_narrows k at x c d o (statements.throw_rule y m i b r g e) h = throw_rule y m i b (r, supported_as x (tree.throw (spanned c d) y) e h) g e
   form_narrows k at x c d o (statements.try_rule y z w m l i r s t a e) h = refuted x (ap supported e) h
-  form_narrows k at x c d o (statements.while_rule y z m i r s e) h = refuted x (ap supported e) h
-  form_narrows k at x c d o (statements.do_while_rule y z m l i r j s g e) h = refuted x (ap supported e) h
+  form_narrows k at x c d o (statements.while_rule y z m i r s e) h =
+      let g = and_yes (supported y) _ (supported_as x (tree.while (spanned c d) y z) e h) in while_rule y z m i (head_narrows r g.0) (narrow (in_loop k) sub_statement z m d o s g.1) e
+  form_narrows k at x c d o (statements.do_while_rule y z m l i s j r t e) h =
+      let g = and_yes (supported y) _ (supported_as x (tree.do_while (spanned c d) y z) e h) in
+      do_while_rule y z m l i (narrow (in_loop k) sub_statement z (after c) m o s g.1) j (head_narrows r g.0) t e
   form_narrows k at x c d o (statements.for_rule a b f y l m p i j r q s t u v w e) h = refuted x (ap supported e) h
   form_narrows k at x c d o (statements.for_in_rule a b y l m i j r q s t u e) h = refuted x (ap supported e) h
   form_narrows k at x c d o (statements.for_of_rule w a b y l m p i j q r t s u v e) h = refuted x (ap supported e) h

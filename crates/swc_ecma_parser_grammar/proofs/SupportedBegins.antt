@@ -55,6 +55,10 @@ opens kind.Await = false
 opens kind.Semi = false
 opens kind.Debugger = false
 opens kind.Var = false
+opens kind.If = false
+opens kind.Throw = false
+opens kind.While = false
+opens kind.Do = false
 opens kind.RBrace = false
 opens kind.End = false
 opens _ = true
@@ -64,6 +68,10 @@ unfolding is_name is_reserved
 word_opens f (word.Keyword keyword.Await) h = let g = (and_yes (not (is_reserved f (codes "await"))) _ h).1 in cc
 word_opens f (word.Keyword keyword.Debugger) h = cc
 word_opens f (word.Keyword keyword.Var) h = cc
+word_opens f (word.Keyword keyword.If) h = cc
+word_opens f (word.Keyword keyword.Throw) h = cc
+word_opens f (word.Keyword keyword.While) h = cc
+word_opens f (word.Keyword keyword.Do) h = cc
 word_opens f _ h = refl
 
 kind_opens : (c : Place) (j : TokenKind) → kind_at c ≡ j → opens j ≡ true → opens (kind_at c) ≡ true
@@ -83,6 +91,10 @@ unary_opens kind.Await op h = cc
 unary_opens kind.Semi op h = cc
 unary_opens kind.Debugger op h = cc
 unary_opens kind.Var op h = cc
+unary_opens kind.If op h = cc
+unary_opens kind.Throw op h = cc
+unary_opens kind.While op h = cc
+unary_opens kind.Do op h = cc
 unary_opens kind.RBrace op h = cc
 unary_opens kind.End op h = cc
 unary_opens _ op h = refl
@@ -92,6 +104,10 @@ update_opens kind.Await op h = cc
 update_opens kind.Semi op h = cc
 update_opens kind.Debugger op h = cc
 update_opens kind.Var op h = cc
+update_opens kind.If op h = cc
+update_opens kind.Throw op h = cc
+update_opens kind.While op h = cc
+update_opens kind.Do op h = cc
 update_opens kind.RBrace op h = cc
 update_opens kind.End op h = cc
 update_opens _ op h = refl

@@ -11,13 +11,14 @@ use Rattle.swc_ecma_parser_model.specs.Tree.{Tree, Text, trees}
 use Rattle.swc_ecma_parser_grammar.specs.declared.position.Position.{Position}
 use Rattle.swc_ecma_parser_grammar.specs.Looks.{kind_at, sees, same_kind}
 use Rattle.swc_ecma_parser_grammar.specs.Names.{Code}
-use Rattle.swc_ecma_parser_grammar.specs.Reads.{with_in, directed, directs_on, nested_item, top_item, DeclaratorRule, plain_rule, initialized_rule, ReadsSeparated, ReadsItems, StmtRule, block_rule, empty_rule, debugger_rule, var_rule, expr_rule, import_rule}
+use Rattle.swc_ecma_parser_grammar.specs.Reads.{with_in, directed, directs_on, nested_item, top_item, DeclaratorRule, plain_rule, initialized_rule, ReadsSeparated, ReadsItems, StmtRule, block_rule, empty_rule, debugger_rule, var_rule, if_statement_rule, throw_rule, while_rule, do_while_rule, expr_rule, import_rule, ReadsHead, IfRule, if_rule, ElseRule, no_else_rule, else_rule, else_if_rule}
 use Rattle.swc_ecma_parser_grammar.specs.Entries.{ReadsScript, ReadsShebang, some_shebang, no_shebang, script_code}
 use Rattle.swc_ecma_parser_grammar.specs.Supported.{supported, all_supported}
 use Rattle.swc_ecma_parser_grammar.specs.ReadsSupported.{ReadsClass, ReadsPat, ReadsStmt}
 use Rattle.swc_ecma_parser_grammar.specs.language.Goals.{assignment, stmt_goal}
+use Rattle.swc_ecma_parser_grammar.specs.language.Contexts.{in_loop}
 use Rattle.swc_ecma_parser_grammar.specs.language.Declarations as declarations
-use Rattle.swc_ecma_parser_grammar.specs.language.Items.{ItemsRule}
+use Rattle.swc_ecma_parser_grammar.specs.language.Items.{sub_statement, ItemsRule}
 use Rattle.swc_ecma_parser_grammar.specs.language.Statements as statements
 use Rattle.swc_ecma_parser_grammar.specs.language.Statements.{may_begin_at_top}
 use Rattle.swc_ecma_parser_grammar.specs.language.Reads.{Reads}
@@ -71,12 +72,25 @@ module _ (n : ℕ) (small : (k : Code) (at : Position) (x : Tree) (c d : Place) 
   items_supported k directives at [] c d h = refl
   items_supported k directives at (x ∷ xs) c d (m, r, rs) = and_both _ _ (small k at x c m r) (items_supported (directed k directives x) (directs_on directives x) at xs m d rs)
 
+  mutual
+    if_supported : {k : Code} {x : Tree} {c d : Place} → IfRule (ReadsStmt n) (ReadsClass n) k x c d → supported x ≡ true
+    if_supported {k = k} (if_rule test cons alt m i h r s o e) = ap supported e ∙ and_both (supported test) _ r.reads.1 (and_both (supported cons) _ (small k sub_statement cons m i s) (else_supported o))
+
+    else_supported : {k : Code} {x : Tree} {c d : Place} → ElseRule (ReadsStmt n) (ReadsClass n) k x c d → supported x ≡ true
+    else_supported (no_else_rule h i e) = ap supported e
+    else_supported {k = k} {x = x} {c = c} {d = d} (else_rule h i s) = small k sub_statement x (after c) d s
+    else_supported (else_if_rule h r) = if_supported r
+
   rule_supported : (k : Code) (at : Position) (x : Tree) (c d : Place) → StmtRule (ReadsStmt n) (ReadsClass n) (ReadsPat n) k at x c d → supported x ≡ true
   rule_supported k at x c d (block_rule xs m h r g i e) = ap supported e ∙ items_supported k false nested_item xs (after c) m r
   rule_supported k at x c d (empty_rule h g e) = ap supported e
   rule_supported k at x c d (debugger_rule h g e) = ap supported e
   rule_supported k at x c d (var_rule xs m h r g e) =
       ap supported e ∙ separated_supported (DeclaratorRule (ReadsClass n assignment) (ReadsPat n) (with_in k)) (declarator_supported n (with_in k)) xs (after c) m r
+  rule_supported k at x c d (if_statement_rule r) = if_supported r
+  rule_supported k at x c d (throw_rule y m h b r g e) = ap supported e ∙ r.1
+  rule_supported k at x c d (while_rule y z m h r s e) = ap supported e ∙ and_both (supported y) _ r.reads.1 (small (in_loop k) sub_statement z m d s)
+  rule_supported k at x c d (do_while_rule y z m i h s j r g e) = ap supported e ∙ and_both (supported y) _ r.reads.1 (small (in_loop k) sub_statement z (after c) m s)
   rule_supported k at x c d (expr_rule y m h r a b g e) = ap supported e ∙ r.1
   rule_supported k at x c d (import_rule y m h r g e) = ap supported e ∙ r.1
 
@@ -89,6 +103,18 @@ module _ (n : ℕ) (widen : (k : Code) (at : Position) (x : Tree) (c d : Place) 
   items_widen k directives at [] c d h = h
   items_widen k directives at (x ∷ xs) c d (m, r, rs) = (m, widen k at x c m r, items_widen (directed k directives x) (directs_on directives x) at xs m d rs)
 
+  head_widens : {k : Code} {x : Tree} {c d : Place} → ReadsHead (ReadsClass n) k x c d → statements.HeadRule (Reads n) k x c d
+  head_widens r = record { close = r.close; opens = r.opens; reads = r.reads.0; closes = r.closes; next = r.next }
+
+  mutual
+    if_widens : {k : Code} {x : Tree} {c d : Place} → IfRule (ReadsStmt n) (ReadsClass n) k x c d → statements.IfRule (Reads n) k x c d
+    if_widens {k = k} (if_rule test cons alt m i h r s o e) = statements.if_rule test cons alt m i h (head_widens r) (widen k sub_statement cons m i s) (else_widens o) e
+
+    else_widens : {k : Code} {x : Tree} {c d : Place} → ElseRule (ReadsStmt n) (ReadsClass n) k x c d → statements.ElseRule (Reads n) k x c d
+    else_widens (no_else_rule h i e) = statements.no_else_rule h i e
+    else_widens {k = k} {x = x} {c = c} {d = d} (else_rule h i s) = statements.else_rule h i (widen k sub_statement x (after c) d s)
+    else_widens (else_if_rule h r) = statements.else_if_rule h (if_widens r)
+
   form_widens : (k : Code) (at : Position) (x : Tree) (c d : Place) → StmtRule (ReadsStmt n) (ReadsClass n) (ReadsPat n) k at x c d → statements.FormRule (Reads n) k at x c d
   form_widens k at x c d (block_rule xs m h r g i e) =
       statements.block_rule (record { items = xs; close = m; opens = h; reads_items = items_widen k false nested_item xs (after c) m r; closes = g; next = i; is = e })
@@ -99,6 +125,10 @@ module _ (n : ℕ) (widen : (k : Code) (at : Position) (x : Tree) (c d : Place) 
         seen c kind.Var h,
         separated_widen (DeclaratorRule (ReadsClass n assignment) (ReadsPat n) (with_in k)) (declarations.DeclaratorRule (Reads n) (with_in k) false decl.Var) (declarator_widens n k) xs (after c) m r,
       ) g e
+  form_widens k at x c d (if_statement_rule r) = statements.if_statement_rule (if_widens r)
+  form_widens k at x c d (throw_rule y m h b r g e) = statements.throw_rule y m h b r.0 g e
+  form_widens k at x c d (while_rule y z m h r s e) = statements.while_rule y z m h (head_widens r) (widen (in_loop k) sub_statement z m d s) e
+  form_widens k at x c d (do_while_rule y z m i h s j r g e) = statements.do_while_rule y z m i h (widen (in_loop k) sub_statement z (after c) m s) j (head_widens r) g e
   form_widens k at x c d (expr_rule y m h r a b g e) = statements.expr_rule y m h r.0 a g e
   form_widens k at x c d (import_rule y m h r g e) = statements.import_expr_rule y m h r.0 g e
 
@@ -108,6 +138,10 @@ rule_begins n k at x c d (block_rule xs m h r g i e) = rw h refl
 rule_begins n k at x c d (empty_rule h g e) = rw h refl
 rule_begins n k at x c d (debugger_rule h g e) = rw h refl
 rule_begins n k at x c d (var_rule xs m h r g e) = rw h refl
+rule_begins n k at x c d (if_statement_rule (if_rule test cons alt m i h r s o e)) = rw h refl
+rule_begins n k at x c d (throw_rule y m h b r g e) = rw h refl
+rule_begins n k at x c d (while_rule y z m h r s e) = rw h refl
+rule_begins n k at x c d (do_while_rule y z m i h s j r g e) = rw h refl
 rule_begins n k at x c d (expr_rule y m h r a b g e) = expr_begins n (with_in k) y c m r
 rule_begins n k at x c d (import_rule y m h r g e) = expr_begins n (with_in k) y c m r
 

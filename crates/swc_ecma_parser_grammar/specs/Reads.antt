@@ -11,11 +11,13 @@ use Rattle.swc_ecma_parser_model.specs.Tree.{Tree, Text, listed}
 use Rattle.swc_ecma_parser_model.specs.Directive.{is_use_strict}
 use Rattle.swc_ecma_parser_model.specs.Forms.{is_ident, is_ident_named, is_binding_name}
 use Rattle.swc_ecma_parser_grammar.specs.declared.position.Position.{Position}
-use Rattle.swc_ecma_parser_grammar.specs.Looks.{kind_at, sees, spanned}
+use Rattle.swc_ecma_parser_grammar.specs.Looks.{kind_at, breaks_at, sees, spanned}
 use Rattle.swc_ecma_parser_grammar.specs.Names.{Code}
 use Rattle.swc_ecma_parser_grammar.specs.Ends.{Ends, OptionalEnds}
 use Rattle.swc_ecma_parser_grammar.specs.Follows.{may_begin_expression_statement, begins_import_expression}
 use Rattle.swc_ecma_parser_grammar.specs.language.Goals.{Class, expression, assignment}
+use Rattle.swc_ecma_parser_grammar.specs.language.Contexts.{in_loop}
+use Rattle.swc_ecma_parser_grammar.specs.language.Items.{sub_statement}
 
 -- ---- contexts
 
@@ -68,6 +70,25 @@ abbrev pub ReadsItems : (Code → Tree → Place → Place → Type 0) → Code 
 ReadsItems Reads k directives [] c d = d ≡ c
 ReadsItems Reads k directives (x ∷ xs) c d = (m : Place) × Reads k x c m × ReadsItems Reads (directed k directives x) (directs_on directives x) xs m d
 
+-- `( Expression )` behind the word of a statement
+pub record ReadsHead (Expr : Class → Code → Tree → Place → Place → Type 0) (k : Code) (e : Tree) (c d : Place) : Type 0 where
+  pub close : Place
+  pub opens : kind_at c ≡ kind.LParen
+  pub reads : Expr expression (with_in k) e (after c) close
+  pub closes : kind_at close ≡ kind.RParen
+  pub next : d ≡ after close
+
+-- Section 14.6: an `else` belongs to the nearest `if`, and an `if` behind it stands at the same level.
+mutual
+  pub data IfRule (Stmt : Code → Position → Tree → Place → Place → Type 0) (Expr : Class → Code → Tree → Place → Place → Type 0) (k : Code) : Tree → Place → Place → Type 0 where
+    if_rule : {x : Tree} {c d : Place} (test cons alt : Tree) (m n : Place) → kind_at c ≡ kind.If → ReadsHead Expr k test (after c) m → Stmt k sub_statement cons m n
+        → ElseRule Stmt Expr k alt n d → x ≡ tree.if_stmt (spanned c d) test cons alt → IfRule Stmt Expr k x c d
+
+  pub data ElseRule (Stmt : Code → Position → Tree → Place → Place → Type 0) (Expr : Class → Code → Tree → Place → Place → Type 0) (k : Code) : Tree → Place → Place → Type 0 where
+    no_else_rule : {x : Tree} {c d : Place} → sees kind.Else c ≡ false → d ≡ c → x ≡ tree.absent → ElseRule Stmt Expr k x c d
+    else_rule : {x : Tree} {c d : Place} → kind_at c ≡ kind.Else → sees kind.If (after c) ≡ false → Stmt k sub_statement x (after c) d → ElseRule Stmt Expr k x c d
+    else_if_rule : {x : Tree} {c d : Place} → kind_at c ≡ kind.Else → IfRule Stmt Expr k x (after c) d → ElseRule Stmt Expr k x c d
+
 pub data StmtRule (Stmt : Code → Position → Tree → Place → Place → Type 0) (Expr : Class → Code → Tree → Place → Place → Type 0) (Pat : Code → Tree → Place → Place → Type 0)
     (k : Code) (at : Position) (x : Tree) (c d : Place) : Type 0 where
   -- section 14.2
@@ -80,6 +101,16 @@ pub data StmtRule (Stmt : Code → Position → Tree → Place → Place → Typ
   -- section 14.3.2
   var_rule : (xs : List Tree) (m : Place) → kind_at c ≡ kind.Var → ReadsSeparated (DeclaratorRule (Expr assignment) Pat (with_in k)) xs (after c) m → Ends m d
       → x ≡ tree.var (spanned c d) decl.Var (listed xs) → StmtRule Stmt Expr Pat k at x c d
+  if_statement_rule : IfRule Stmt Expr k x c d → StmtRule Stmt Expr Pat k at x c d
+  -- section 14.14
+  throw_rule : (e : Tree) (m : Place) → kind_at c ≡ kind.Throw → breaks_at (after c) ≡ false → Expr expression (with_in k) e (after c) m → Ends m d
+      → x ≡ tree.throw (spanned c d) e → StmtRule Stmt Expr Pat k at x c d
+  -- section 14.7.3
+  while_rule : (e y : Tree) (m : Place) → kind_at c ≡ kind.While → ReadsHead Expr k e (after c) m → Stmt (in_loop k) sub_statement y m d
+      → x ≡ tree.while (spanned c d) e y → StmtRule Stmt Expr Pat k at x c d
+  -- section 14.7.2; its end is demanded nowhere
+  do_while_rule : (e y : Tree) (m n : Place) → kind_at c ≡ kind.Do → Stmt (in_loop k) sub_statement y (after c) m → kind_at m ≡ kind.While → ReadsHead Expr k e (after m) n
+      → OptionalEnds n d → x ≡ tree.do_while (spanned c d) e y → StmtRule Stmt Expr Pat k at x c d
   -- section 14.5. A bare name before `:` is a label; in module code the bare name `interface` is none.
   expr_rule : (e : Tree) (m : Place) → may_begin_expression_statement at c ≡ true → Expr expression (with_in k) e c m → is_ident e && sees kind.Colon m ≡ false
       → k.flags.module && is_ident_named (codes "interface") e ≡ false → Ends m d → x ≡ tree.expr_stmt (spanned c d) e → StmtRule Stmt Expr Pat k at x c d

@@ -57,6 +57,11 @@ abbrev mutual
   supported (tree.empty s) = true
   supported (tree.debugger s) = true
   supported (tree.expr_stmt s e) = supported e
+  -- `if`, `throw`, `while` and `do`: sections 14.6, 14.14, 14.7.3 and 14.7.2
+  supported (tree.if_stmt s test cons alt) = supported test && (supported cons && supported alt)
+  supported (tree.throw s arg) = supported arg
+  supported (tree.while s test body) = supported test && supported body
+  supported (tree.do_while s test body) = supported test && supported body
   -- section 16.1
   supported (tree.script s body shebang) = supported body
   supported _ = false

@@ -24,9 +24,3 @@ read n reading.Cover = exprs.cover n
 -- a key by itself, whatever reads what stands further in
 abbrev pub bare : Tree → Reader exprs.Cover
 bare x = exprs.shorthand x >>= λ y. pure (exprs.done y)
-
--- an array or an object
-abbrev pub is_literal : Tree → Bool
-is_literal (tree.array s elems) = true
-is_literal (tree.object s props) = true
-is_literal _ = false

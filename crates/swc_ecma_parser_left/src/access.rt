@@ -102,22 +102,21 @@ pub fn inside<
 
 /// An expression in brackets, with their place.
 #[tactic(auto, unfolding(swc_ecma_parser_reader::specs::Expressions::brackets))]
-fn brackets<
+pub(crate) fn brackets<
     P: Source,
     T: BuildsCall,
     S: Fn(&MakerOf<T>, &mut P, usize, Position) -> PResult<T::Stmt>,
     E: Fn(&MakerOf<T>, &mut P, usize, Reading) -> PResult<Cover<T::Expr>>,
     N: Fn(&MakerOf<T>, &mut P, usize, Part) -> PResult<T::Pat>,
->(g: &Grammar<S, E, N>, t: &MakerOf<T>, p: &mut P) -> PResult<Property<T::Expr>>
+>(g: &Grammar<S, E, N>, t: &MakerOf<T>, p: &mut P) -> PResult<(Span, T::Expr)>
     requires { Nests P.seen T.expr_of T.pat_of T.stmt_of g.now.depth (S.pre g.now.stmt) (S.post g.now.stmt) (E.pre g.now.expr) (E.post g.now.expr) (N.pre g.now.pat) (N.post g.now.pat) }
-    ensures { GivesAs (property_of T.expr_of) (exprs.brackets (exprs.expr g.now.depth) (exprs.cover g.now.depth) (P.seen p.old)) result (P.seen p.new) }
+    ensures { GivesAs (λ x. tree.computed x.0 (T.expr_of x.1)) (exprs.brackets (exprs.expr g.now.depth) (exprs.cover g.now.depth) (P.seen p.old)) result (P.seen p.new) }
 {
     let start = p.span();
     p.skip()?;
     let expr = inside(g, t, p, Class::Expression)?;
     p.expect(TokenKind::RBracket, "]")?;
-    let span = since(p, start);
-    Ok(Property::Brackets(span, expr))
+    Ok((since(p, start), expr))
 }
 
 /// Whether an access begins here.
@@ -143,7 +142,8 @@ pub(crate) fn access<
         p.skip()?;
         return dotted::<P, T>(p);
     }
-    brackets(g, t, p)
+    let (place, expr) = brackets(g, t, p)?;
+    Ok(Property::Brackets(place, expr))
 }
 
 /// A spread argument or element, with the place of its dots.

@@ -1,7 +1,8 @@
 //! Arrays: ECMA-262, section 13.2.4.
 
 ghost use Rattle.std.specs.Prelude.{◌≡◌, true, IfOk};
-ghost use Rattle.swc_ecma_parser_left.specs.Covers.{cover_of, covers_of, is_literal};
+ghost use Rattle.swc_ecma_parser_left.specs.Covers.{cover_of, covers_of};
+ghost use Rattle.swc_ecma_parser_reader.specs.Expressions.{is_literal};
 ghost use Rattle.swc_ecma_parser_left.specs.Nests.{Nests};
 ghost use Rattle.swc_ecma_parser_reader.specs.Expressions as exprs;
 ghost use Rattle.swc_ecma_parser_reader.specs.State.{GivesAs};

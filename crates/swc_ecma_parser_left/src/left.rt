@@ -11,7 +11,7 @@ ghost use Rattle.swc_ecma_parser_reader.specs.Expressions as exprs;
 ghost use Rattle.swc_ecma_parser_reader.specs.State.{Gives, GivesAs};
 ghost use Rattle.swc_ecma_parser_token.specs.declared.kind.TokenKind.TheVariants as kind;
 
-use crate::access::{Property, access, arguments, begins_access, inside};
+use crate::access::{Property, access, arguments, begins_access, brackets, inside, word_property};
 use crate::array::array;
 use crate::cover::{Cover, Reading, close, nested};
 use crate::grammar::{Grammar, Part};
@@ -262,7 +262,7 @@ fn super_call<
 }
 
 /// An access of `super`, which stands at a place.
-#[tactic(auto, unfolding(swc_ecma_parser_reader::specs::Expressions::super_access))]
+#[tactic(auto, unfolding(swc_ecma_parser_reader::specs::Expressions::super_access, swc_ecma_parser_reader::specs::Expressions::super_property))]
 fn super_access<
     P: Source,
     T: BuildsExpr + BuildsCall + BuildsObject + BuildsOperator,
@@ -273,19 +273,15 @@ fn super_access<
     requires { Nests P.seen T.expr_of T.pat_of T.stmt_of g.now.depth (S.pre g.now.stmt) (S.post g.now.stmt) (E.pre g.now.expr) (E.post g.now.expr) (N.pre g.now.pat) (N.post g.now.pat) }
     ensures { GivesAs (T.expr_of) (exprs.super_access (exprs.expr g.now.depth) (exprs.cover g.now.depth) start (P.seen p.old)) result (P.seen p.new) }
 {
-    let property = access(g, t, p)?;
-    let span = since(p, start);
-    match property {
-        Property::Word(name) => grown(p, T::super_prop(t.alloc, span, start, name)),
-        Property::Brackets(brackets, expr) => {
-            grown(
-                p,
-                T::computed_super_prop(t.alloc, span, start, brackets, expr),
-            )
-        }
-        // What calls this has refused a private name.
-        Property::Private(_name) => Err(p.out_of_memory()),
+    if p.sees(TokenKind::Dot) {
+        p.skip()?;
+        let name = word_property(p)?;
+        let span = since(p, start);
+        return grown(p, T::super_prop(t.alloc, span, start, name));
     }
+    let (place, expr) = brackets(g, t, p)?;
+    let span = since(p, start);
+    grown(p, T::computed_super_prop(t.alloc, span, start, place, expr))
 }
 
 /// What stands behind `super`.
@@ -302,10 +298,6 @@ fn behind_super<
 {
     if begins_call(p, calls) {
         return super_call(g, t, p, start);
-    }
-    if p.sees(TokenKind::Dot) && p.next_sees(TokenKind::Hash) {
-        p.skip()?;
-        return Err(p.wanted(Wanted::Expression));
     }
     if begins_access(p) {
         return super_access(g, t, p, start);

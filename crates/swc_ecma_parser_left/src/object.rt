@@ -2,7 +2,8 @@
 
 ghost use Rattle.std.specs.Prelude.{◌≡◌, true, IfOk};
 ghost use Rattle.swc_ecma_parser_left.specs.Accesses.{key_of, word_of};
-ghost use Rattle.swc_ecma_parser_left.specs.Covers.{bare, cover_of, covers_of, is_literal};
+ghost use Rattle.swc_ecma_parser_left.specs.Covers.{bare, cover_of, covers_of};
+ghost use Rattle.swc_ecma_parser_reader.specs.Expressions.{is_literal};
 ghost use Rattle.swc_ecma_parser_left.specs.Nests.{Nests};
 ghost use Rattle.swc_ecma_parser_reader.specs.Classes.{class_of};
 ghost use Rattle.swc_ecma_parser_reader.specs.Expressions as exprs;
@@ -57,8 +58,7 @@ fn literal_key<P: Source, T: BuildsKey>(p: &mut P) -> PResult<Key<T::Expr>>
         Literal::Str(x) => Ok(Key::Str(x)),
         Literal::Num(x) => Ok(Key::Num(x)),
         Literal::BigInt(x) => Ok(Key::BigInt(x)),
-        // A word is read as a word before.
-        Literal::Null(_) | Literal::Bool(_) => Err(p.out_of_memory()),
+        Literal::Null(_) | Literal::Bool(_) => Err(p.wanted(Wanted::Expression)),
     }
 }
 

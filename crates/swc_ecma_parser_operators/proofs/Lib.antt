@@ -1,3 +1,2 @@
 pub mod Heads
-pub mod Targets
 pub mod Behind

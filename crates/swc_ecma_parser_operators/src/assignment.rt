@@ -1,7 +1,8 @@
 //! Assignment expressions, and arrays and objects that may become patterns: ECMA-262, section 13.15.
 
 ghost use Rattle.std.specs.Prelude.{◌≡◌, true, IfOk};
-ghost use Rattle.swc_ecma_parser_left.specs.Covers.{cover_of, is_literal};
+ghost use Rattle.swc_ecma_parser_left.specs.Covers.{cover_of};
+ghost use Rattle.swc_ecma_parser_reader.specs.Expressions.{is_literal};
 ghost use Rattle.swc_ecma_parser_left.specs.Nests.{Nests};
 ghost use Rattle.swc_ecma_parser_model.specs.Forms.{is_pattern_target};
 ghost use Rattle.swc_ecma_parser_reader.specs.Expressions as exprs;

@@ -1,6 +1,7 @@
 -- What is read between two states: the scope and the code stay as said, faults and notes are added, and where no fault is
 -- added the grammar has it.
 use Rattle.std.proofs.Common.{◌≡◌, Bool, true, false, cond, List, [], ◌∷◌, ◌++◌, refl, sym, ◌∙◌, ap, subst, append_assoc, append-nil}
+use Rattle.std.specs.Prelude.{◌||◌}
 use Rattle.swc_ecma_parser_error.specs.Kind.{Fault}
 use Rattle.swc_ecma_parser_token.specs.declared.kind.TokenKind.{TokenKind}
 use Rattle.swc_ecma_parser_input.specs.Place.{Place, after}
@@ -12,7 +13,7 @@ use Rattle.swc_ecma_parser_grammar.specs.Walk.{env_of, walk, is_tabled, is_dropp
 use Rattle.swc_ecma_parser_reader.specs.Notes.{Notes, no_notes, ◌⊕◌, notes_of}
 use Rattle.swc_ecma_parser_reader.specs.State.{State, Reader, moved, coded, flagged, within}
 use Rattle.swc_ecma_parser_reader.specs.Limits.{has_out_of_memory_token}
-use Rattle.swc_ecma_parser_reader.proofs.Notes.{notes_nil, notes_assoc}
+use Rattle.swc_ecma_parser_reader.proofs.Notes.{or_nil, or_assoc, notes_nil, notes_assoc}
 use Rattle.swc_ecma_parser_reader.proofs.Meets.{Meets, meets_then}
 use Rattle.swc_ecma_parser_reader.proofs.Errors.{Spares, spares_here, spares_after, after_keeps, is_error}
 
@@ -66,6 +67,8 @@ pub record Sound (next : Code → Code) (w : Walk) (ns : Notes) (P : Code → Pl
   pub added : List Fault
   pub faults : t.faults ≡ s.faults ++ added
   pub notes : added ≡ [] → t.notes ≡ s.notes ⊕ ns
+  -- whether a module's item was found does not wait for what was recorded
+  pub found : t.notes.found_module_item ≡ (s.notes.found_module_item || ns.found_module_item)
   pub walked : has_error_token s.at.left ≡ false → drops added ≡ false → tabled added ≡ w s.code s.scope.labels
   pub keeps : has_error_token s.at.left ≡ false → has_error_token t.at.left ≡ false
   -- nothing that is read without a fault holds an error token, and no answer has taken a token that memory ran out for
@@ -82,6 +85,7 @@ sound_then {f = f} {g = g} {w = w} {v = v} {ns = ns} {ms = ms} {Q = Q} {s = s} {
   added = p.added ++ q.added;
   faults = q.faults ∙ ap (λ z. z ++ q.added) p.faults ∙ append_assoc s.faults p.added q.added;
   notes = λ e. let h = nil-split p.added q.added e in q.notes h.1 ∙ ap (λ z. z ⊕ ms) (p.notes h.0) ∙ notes_assoc s.notes ns ms;
+  found = q.found ∙ ap (λ z. z || ms.found_module_item) p.found ∙ or_assoc s.notes.found_module_item ns.found_module_item ms.found_module_item;
   walked = λ h d. let e = drops-split p.added q.added d in
       tabled-append p.added q.added ∙ ap (λ z. z ++ tabled q.added) (p.walked h e.0)
       ∙ ap (λ z. w s.code s.scope.labels ++ z) (q.walked (p.keeps h) e.1 ∙ ap (λ z. v z m.scope.labels) p.code ∙ ap (λ z. v (f s.code) z.labels) p.scope);
@@ -99,6 +103,7 @@ sound_plain s d p r = record {
   added = [];
   faults = sym (append-nil s.faults);
   notes = λ e. sym (notes_nil s.notes);
+  found = sym (or_nil s.notes.found_module_item);
   walked = λ h d. refl;
   keeps = p.keeps;
   spares = λ e h. p.spares h;
@@ -123,6 +128,7 @@ sound_as s t k e n r p = record {
   added = p.added;
   faults = p.faults;
   notes = λ h. p.notes h ∙ ap (λ z. s.notes ⊕ z) n;
+  found = p.found ∙ ap (λ z. s.notes.found_module_item || z.found_module_item) n;
   walked = λ h d. p.walked h d ∙ e;
   keeps = p.keeps;
   spares = p.spares;
@@ -130,14 +136,16 @@ sound_as s t k e n r p = record {
   reads = λ h. r (p.reads h);
 }
 
--- with notes that are the same where it was read
-pub sound_notes : {f : Code → Code} {w : Walk} {ns ms : Notes} {P : Code → Place → Place → Type 0} (s t : State) → (P s.code s.at t.at → ns ≡ ms) → Sound f w ns P s t → Sound f w ms P s t
-sound_notes s t n p = record {
+-- with faults held back that are the same where it was read
+pub sound_held : {f : Code → Code} {w : Walk} {ns : Notes} {P : Code → Place → Place → Type 0} (s t : State) (fs : List Fault) → (P s.code s.at t.at → ns.held_back ≡ fs)
+    → Sound f w ns P s t → Sound f w (record ns { held_back = fs }) P s t
+sound_held {ns = ns} s t fs n p = record {
   code = p.code;
   scope = p.scope;
   added = p.added;
   faults = p.faults;
-  notes = λ h. p.notes h ∙ ap (λ z. s.notes ⊕ z) (n (p.reads h));
+  notes = λ h. p.notes h ∙ ap (λ z. s.notes ⊕ record ns { held_back = z }) (n (p.reads h));
+  found = p.found;
   walked = p.walked;
   keeps = p.keeps;
   spares = p.spares;
@@ -154,6 +162,7 @@ sound_after s t k h e n r p = record {
   added = p.added;
   faults = p.faults;
   notes = λ h. p.notes h ∙ ap (λ z. s.notes ⊕ z) n;
+  found = p.found ∙ ap (λ z. s.notes.found_module_item || z.found_module_item) n;
   walked = λ h d. p.walked (after_keeps s.at h) d ∙ e;
   keeps = λ h. p.keeps (after_keeps s.at h);
   spares = λ i g. (spares_after s.at k h).spares (p.spares i g);
@@ -175,6 +184,7 @@ sound_coded s t k e p = record {
   added = p.added;
   faults = p.faults;
   notes = p.notes;
+  found = p.found;
   walked = p.walked;
   keeps = p.keeps;
   spares = p.spares;
@@ -195,6 +205,7 @@ sound_under change keeps s t p = record {
   added = p.added;
   faults = p.faults;
   notes = p.notes;
+  found = p.found;
   walked = p.walked;
   keeps = p.keeps;
   spares = p.spares;

@@ -1,9 +1,10 @@
 -- What the grammar allows is read, with the faults of the walk and the notes held back, and no others.
 use Rattle.std.proofs.Common.{◌≡◌, ℕ, zero, suc, ◌<◌, Bool, true, false, cond, List, [], ◌∷◌, ◌++◌, length, Option, Some, None, Ok, refl, ◌∙◌, append_assoc, append-nil}
-use Rattle.std.specs.Prelude.{◌&&◌, codes}
+use Rattle.std.specs.Prelude.{◌&&◌, ◌||◌, codes}
 use Rattle.swc_ecma_parser_common.specs.declared.span.Span.{Span}
 use Rattle.swc_ecma_parser_error.specs.Kind as faults
 use Rattle.swc_ecma_parser_error.specs.Kind.{Kind, Fault}
+use Rattle.swc_ecma_parser_token.specs.declared.kind.TokenKind.{TokenKind}
 use Rattle.swc_ecma_parser_token.specs.declared.kind.TokenKind.TheVariants as kind
 use Rattle.swc_ecma_parser_token.specs.declared.token.Token.{Token}
 use Rattle.swc_ecma_parser_token.specs.declared.token.Token.TheVariants as token
@@ -16,23 +17,25 @@ use Rattle.swc_ecma_parser_model.specs.Tree.{Tree, Text, listed, trees}
 use Rattle.swc_ecma_parser_model.specs.Directive.{is_use_strict}
 use Rattle.swc_ecma_parser_model.specs.Forms.{is_ident, is_ident_named, span_of}
 use Rattle.swc_ecma_parser_grammar.specs.declared.position.Position.{Position}
-use Rattle.swc_ecma_parser_grammar.specs.Looks.{kind_at, sees, same_kind, spanned}
+use Rattle.swc_ecma_parser_grammar.specs.Looks.{kind_at, breaks_at, sees, same_kind, span_at, spanned}
 use Rattle.swc_ecma_parser_grammar.specs.Names.{Code}
 use Rattle.swc_ecma_parser_grammar.specs.Ends.{Ends, by_semicolon, by_insertion, OptionalEnds, by_a_semicolon, by_nothing}
 use Rattle.swc_ecma_parser_grammar.specs.Follows.{begins_import_expression}
-use Rattle.swc_ecma_parser_grammar.specs.Reads.{with_in, in_strict, nested_item, top_item, ReadsToken, DeclaratorRule, plain_rule, initialized_rule, ReadsSeparated, directed, ReadsItems, StmtRule, block_rule, empty_rule, debugger_rule, var_rule, expr_rule, import_rule}
+use Rattle.swc_ecma_parser_grammar.specs.Reads.{with_in, in_strict, nested_item, top_item, ReadsToken, DeclaratorRule, plain_rule, initialized_rule, ReadsSeparated, directed, ReadsItems, StmtRule, block_rule, empty_rule, debugger_rule, var_rule, if_statement_rule, throw_rule, while_rule, do_while_rule, expr_rule, import_rule, ReadsHead, IfRule, if_rule, no_else_rule, else_rule, else_if_rule}
 use Rattle.swc_ecma_parser_grammar.specs.ReadsSupported.{ReadsClass, ReadsPat, ReadsStmt}
+use Rattle.swc_ecma_parser_grammar.specs.language.Contexts.{in_loop}
 use Rattle.swc_ecma_parser_grammar.specs.language.Goals.{expression, assignment}
+use Rattle.swc_ecma_parser_grammar.specs.language.Items.{sub_statement}
 use Rattle.swc_ecma_parser_grammar.specs.Entries.{script_code, ReadsShebang, some_shebang, no_shebang, ReadsScript}
-use Rattle.swc_ecma_parser_grammar.specs.Notes.{notes, all_notes, statement_note}
+use Rattle.swc_ecma_parser_grammar.specs.Notes.{notes, statement_note}
 use Rattle.swc_ecma_parser_grammar.specs.language.Noted.{has_meta}
 use Rattle.swc_ecma_parser_grammar.specs.Walk as walks_of
 use Rattle.swc_ecma_parser_grammar.specs.Walk.{Env, env_of, walk, walks}
-use Rattle.swc_ecma_parser_reader.specs.Notes.{Notes, no_notes, held, ◌⊕◌, notes_of, all_notes_of}
-use Rattle.swc_ecma_parser_reader.specs.State.{Scope, State, Outcome, Reader, noted, end, fault_at, loop}
+use Rattle.swc_ecma_parser_reader.specs.Notes.{Notes, held, ◌⊕◌, notes_of, all_notes_of}
+use Rattle.swc_ecma_parser_reader.specs.State.{Scope, State, Outcome, Reader, and_then, noted, labelled, expect, end, fault_at, loop}
 use Rattle.swc_ecma_parser_reader.specs.Expressions.{expr}
 use Rattle.swc_ecma_parser_reader.specs.Patterns.{pattern}
-use Rattle.swc_ecma_parser_reader.specs.Reader.{empty, debugger, initialized, declarator, declarators_turn, declarators, var, closes, at_end, close, directs, items_turn, items, block, note_statement, no_label, expr_stmt, expr_stmt_at, optional_end, import_stmt, import_stmt_at, stmt_level, stmt, shebang_of, shebang_in, shebang, script_body, script}
+use Rattle.swc_ecma_parser_reader.specs.Reader.{empty, debugger, initialized, declarator, declarators_turn, declarators, var, closes, at_end, close, directs, items_turn, items, block, note_statement, no_label, expr_stmt, expr_stmt_at, optional_end, import_stmt, import_stmt_at, thrown, throw, head, while_stmt, do_while, goes_on, closed_link, condition, alternative, link_from, link, if_stmt, stmt_level, stmt, shebang_of, shebang_in, shebang, script_body, script}
 use Rattle.swc_ecma_parser_reader.specs.Entry.{script_left}
 use Rattle.swc_ecma_parser_reader.proofs.Notes.{or_nil, or_assoc}
 use Rattle.swc_ecma_parser_reader.proofs.Answered.{st, Reads}
@@ -41,7 +44,8 @@ use Rattle.swc_ecma_parser_reader.proofs.expressions.Complete.{expr_reads}
 use Rattle.swc_ecma_parser_reader.proofs.patterns.Complete.{pattern_reads}
 use Rattle.swc_ecma_parser_reader.proofs.Loops.{stmt_shorter, items_stop, items_more, declarators_done, declarators_more}
 use Rattle.swc_ecma_parser_grammar.proofs.SupportedBegins.{expr_opens}
-use Rattle.swc_ecma_parser_reader.proofs.Opens.{opened, no_block_or_import, import_stands, import_unnoted, stmt_goes}
+use Rattle.swc_ecma_parser_reader.proofs.Opens.{opened, no_block_or_import, import_stands, import_unnoted, goes_open, stmt_goes}
+use Rattle.swc_ecma_parser_reader.proofs.Chains.{if_last, if_more}
 
 -- ---- fixed tokens and ends
 
@@ -207,6 +211,45 @@ import_stmt_reads n e m k x c d b r g j w f h =
       append-nil (notes e),
     ) refl
 
+-- ---- `throw`, `while` and `do`
+
+-- a token that must stand here
+expect_reads : (j : TokenKind) (c : Place) (k : Code) (w : Scope) (f : List Fault) (h : Notes) → kind_at c ≡ j → expect j (st c k w f h) ≡ Ok (tt, st (after c) k w f h)
+unfolding expect
+expect_reads j c k w f h e = rw (seen c j e) refl
+
+throw_reads : (n : ℕ) (y : Tree) (m : Place) (k : Code) (x : Tree) (c d : Place) → breaks_at (after c) ≡ false → ReadsClass n expression (with_in k) y (after c) m → Ends m d
+    → x ≡ tree.throw (spanned c d) y → Reads (throw (expr n expression)) k x c d
+unfolding throw thrown
+throw_reads n y m k x c d b r g e w f h =
+    rw (
+      b,
+      (goes_open (kind_at (after c)) (expr_opens n (with_in k) y (after c) m r)).1,
+      expr_reads n expression (with_in k) y (after c) m r w f h,
+      ends_read faults.Expected m d k w (f ++ walk (env_of k w.labels) y) (h ⊕ notes_of y) g,
+      e,
+    ) refl
+
+head_reads : (n : ℕ) (k : Code) (x : Tree) (c d : Place) → ReadsHead (ReadsClass n) k x c d → Reads (head (expr n expression)) k x c d
+unfolding head
+head_reads n k x c d r w f h =
+    rw (
+      expect_reads kind.LParen c k w f h r.opens,
+      expr_reads n expression (with_in k) x (after c) r.close r.reads w f h,
+      expect_reads kind.RParen r.close k w (f ++ walk (env_of k w.labels) x) (h ⊕ notes_of x) r.closes,
+      r.next,
+    ) refl
+
+condition_reads : (n : ℕ) (k : Code) (x : Tree) (c d : Place) → ReadsHead (ReadsClass n) k x c d → Reads (condition (expr n expression)) k x c d
+unfolding condition labelled
+condition_reads n k x c d r w f h =
+    rw (
+      expect_reads kind.LParen c k w f h r.opens,
+      expr_reads n expression (with_in k) x (after c) r.close r.reads w f h,
+      expect_reads kind.RParen r.close k w (f ++ walk (env_of k w.labels) x) (h ⊕ notes_of x) r.closes,
+      r.next,
+    ) refl
+
 -- ---- a script
 
 -- no `#!` stands where no such token is seen
@@ -244,12 +287,82 @@ module _ (n : ℕ) (reads : (at : Position) (k : Code) (x : Tree) (c d : Place) 
         g,
       ) refl
 
+  while_reads : (y z : Tree) (m : Place) (k : Code) (x : Tree) (c d : Place) → ReadsHead (ReadsClass n) k y (after c) m → ReadsStmt n (in_loop k) sub_statement z m d
+      → x ≡ tree.while (spanned c d) y z → Reads (while_stmt (stmt n sub_statement) (expr n expression)) k x c d
+  unfolding while_stmt
+  while_reads y z m k x c d r s e w f h =
+      rw (
+        head_reads n k y (after c) m r w f h,
+        reads sub_statement (in_loop k) z m d s w (f ++ walk (env_of k w.labels) y) (h ⊕ notes_of y),
+        e,
+        append_assoc f (walk (env_of k w.labels) y) (walk (env_of (in_loop k) w.labels) z),
+        append_assoc h.held_back (notes y) (notes z),
+        or_assoc h.found_module_item (has_meta y) (has_meta z),
+      ) refl
+
+  do_while_reads : (y z : Tree) (m i : Place) (k : Code) (x : Tree) (c d : Place) → ReadsStmt n (in_loop k) sub_statement z (after c) m → kind_at m ≡ kind.While
+      → ReadsHead (ReadsClass n) k y (after m) i → OptionalEnds i d → x ≡ tree.do_while (spanned c d) y z → Reads (do_while (stmt n sub_statement) (expr n expression)) k x c d
+  unfolding do_while
+  do_while_reads y z m i k x c d s j r g e w f h =
+      let a = walk (env_of (in_loop k) w.labels) z in
+      let b = walk (env_of k w.labels) y in
+      rw (
+        reads sub_statement (in_loop k) z (after c) m s w f h,
+        expect_reads kind.While m k w (f ++ a) (h ⊕ notes_of z) j,
+        head_reads n k y (after m) i r w (f ++ a) (h ⊕ notes_of z),
+        optional_end_reads i d k w ((f ++ a) ++ b) ((h ⊕ notes_of z) ⊕ notes_of y) g,
+        e,
+        append_assoc f a b,
+        append_assoc h.held_back (notes z) (notes y),
+        or_assoc h.found_module_item (has_meta z) (has_meta y),
+      ) refl
+
+  -- ---- `if`
+
+  -- the state behind a link
+  abbrev linked : Code → Scope → List Fault → Notes → Tree → Tree → Place → State
+  linked k w f h t y d = st d k w (f ++ walk (env_of k w.labels) t ++ walk (env_of k w.labels) y) (h ⊕ notes_of t ⊕ notes_of y)
+
+  link_reads : (t y : Tree) (m : Place) (k : Code) (c d : Place) (w : Scope) (f : List Fault) (h : Notes) → ReadsHead (ReadsClass n) k t (after c) m → ReadsStmt n k sub_statement y m d
+      → link (stmt n sub_statement) (expr n expression) (st c k w f h) ≡ Ok (record { start = span_at c; test = t; cons = y }, linked k w f h t y d)
+  unfolding link link_from
+  link_reads t y m k c d w f h r s =
+      rw (condition_reads n k t (after c) m r w f h, reads sub_statement k y m d s w (f ++ walk (env_of k w.labels) t) (h ⊕ notes_of t)) refl
+
+  -- an `if` with what stands behind its `else`
+  closed_reads : (t y z x : Tree) (k : Code) (c d : Place) (w : Scope) (f : List Fault) (h : Notes) (o : Outcome Tree) → x ≡ tree.if_stmt (spanned c d) t y z
+      → o ≡ Ok (z, st d k w ((f ++ walk (env_of k w.labels) t ++ walk (env_of k w.labels) y) ++ walk (env_of k w.labels) z) ((h ⊕ notes_of t ⊕ notes_of y) ⊕ notes_of z))
+      → and_then o (closed_link (record { start = span_at c; test = t; cons = y })) ≡ Ok (x, st d k w (f ++ walk (env_of k w.labels) x) (h ⊕ notes_of x))
+  unfolding spanned
+  closed_reads t y z x k c d w f h o e g = rw (g, e) (simp (append_assoc, or_assoc) refl)
+
+  if_begins : {k : Code} {x : Tree} {c d : Place} → IfRule (ReadsStmt n) (ReadsClass n) k x c d → kind_at c ≡ kind.If
+  if_begins (if_rule t y z m i g r s o e) = g
+
+  if_reads : {k : Code} {x : Tree} {c d : Place} → IfRule (ReadsStmt n) (ReadsClass n) k x c d → Reads (if_stmt (stmt n sub_statement) (expr n expression)) k x c d
+  unfolding alternative goes_on
+  if_reads {k = k} {x = x} {c = c} {d = d} (if_rule t y z m i g r s (no_else_rule a b j) e) w f h =
+      if_last n (st c k w f h) _ (linked k w f h t y i) (link_reads t y m k c i w f h r s) (rw a refl)
+      ∙ closed_reads t y z x k c d w f h _ e
+      (rw (a, b, j, append-nil (f ++ walk (env_of k w.labels) t ++ walk (env_of k w.labels) y), append-nil (h.held_back ++ notes t ++ notes y), or_nil (h.found_module_item || has_meta t || has_meta y)) refl)
+  if_reads {k = k} {x = x} {c = c} {d = d} (if_rule t y z m i g r s (else_rule a b j) e) w f h =
+      if_last n (st c k w f h) _ (linked k w f h t y i) (link_reads t y m k c i w f h r s) (rw (seen i kind.Else a, b) refl)
+      ∙ closed_reads t y z x k c d w f h _ e
+      (rw (seen i kind.Else a) (reads sub_statement k z (after i) d j w (f ++ walk (env_of k w.labels) t ++ walk (env_of k w.labels) y) (h ⊕ notes_of t ⊕ notes_of y)))
+  if_reads {k = k} {x = x} {c = c} {d = d} (if_rule t y z m i g r s (else_if_rule a j) e) w f h =
+      if_more n (st c k w f h) _ (linked k w f h t y i) (link_reads t y m k c i w f h r s) (rw (seen i kind.Else a, seen (after i) kind.If (if_begins j)) refl)
+      ∙ closed_reads t y z x k c d w f h _ e (if_reads j w (f ++ walk (env_of k w.labels) t ++ walk (env_of k w.labels) y) (h ⊕ notes_of t ⊕ notes_of y))
+
   by_rules : (at : Position) (k : Code) (x : Tree) (c d : Place) → StmtRule (ReadsStmt n) (ReadsClass n) (ReadsPat n) k at x c d → Reads (stmt_level (stmt n) (expr n) (pattern n) at) k x c d
   unfolding stmt_level expr_stmt_at import_stmt_at
   by_rules at k x c d (block_rule xs m e r g i j) w f h = rw e (block_reads xs m k x c d r g i j w f h)
   by_rules at k x c d (empty_rule e g i) w f h = rw e (empty_reads k x c d g i w f h)
   by_rules at k x c d (debugger_rule e g i) w f h = rw e (debugger_reads k x c d g i w f h)
   by_rules at k x c d (var_rule xs m e r g i) w f h = rw e (var_reads n xs m k x c d r g i w f h)
+  by_rules at k x c d (if_statement_rule r) w f h = rw (if_begins r) (if_reads r w f h)
+  by_rules at k x c d (throw_rule y m e b r g i) w f h = rw e (throw_reads n y m k x c d b r g i w f h)
+  by_rules at k x c d (while_rule y z m e r s i) w f h = rw e (while_reads y z m k x c d r s i w f h)
+  by_rules at k x c d (do_while_rule y z m i e s j r g o) w f h = rw e (do_while_reads y z m i k x c d s j r g o w f h)
   by_rules at k x c d (expr_rule e m b r l i g j) w f h =
       let q = no_block_or_import at c b in
       opened (stmt n) (expr n) (pattern n) at (st c k w f h) (kind_at c) (expr_opens n (with_in k) e c m r) q.0 q.1 ∙ rw b (expr_stmt_reads n e m k x c d r l i g j w f h)

@@ -1,6 +1,6 @@
 -- A statement takes a token at least.
-use Rattle.std.proofs.Common.{◌≡◌, ◌≢◌, ℕ, zero, suc, ◌+◌, ◌≤◌, Bool, true, false, cond, List, [], length, Option, Some, None, refl, arith}
-use Rattle.std.specs.Prelude.{◌&&◌, codes}
+use Rattle.std.proofs.Common.{◌≡◌, ◌≢◌, ℕ, zero, suc, ◌+◌, ◌≤◌, Bool, true, false, cond, List, [], length, Option, Some, None, Ok, Err, refl, arith}
+use Rattle.std.specs.Prelude.{◌&&◌, ◌||◌, is_some, codes}
 use Rattle.swc_ecma_parser_common.specs.declared.span.Span.{Span}
 use Rattle.swc_ecma_parser_error.specs.Kind as faults
 use Rattle.swc_ecma_parser_error.specs.Kind.{Kind, Fault, fault_of}
@@ -10,16 +10,18 @@ use Rattle.swc_ecma_parser_input.specs.Place.{Place, after}
 use Rattle.swc_ecma_parser_model.specs.Tree.{Tree, Text}
 use Rattle.swc_ecma_parser_model.specs.Forms.{is_ident, is_ident_named, is_binding_name}
 use Rattle.swc_ecma_parser_grammar.specs.declared.position.Position.{Position}
-use Rattle.swc_ecma_parser_grammar.specs.Looks.{kind_at, sees, span_at}
+use Rattle.swc_ecma_parser_grammar.specs.Looks.{kind_at, breaks_at, sees, span_at}
 use Rattle.swc_ecma_parser_grammar.specs.Follows.{may_begin_expression_statement, begins_import_expression}
 use Rattle.swc_ecma_parser_grammar.specs.Reads.{with_in, nested_item, top_item}
 use Rattle.swc_ecma_parser_grammar.specs.Entries.{script_code}
+use Rattle.swc_ecma_parser_grammar.specs.language.Contexts.{in_loop}
 use Rattle.swc_ecma_parser_grammar.specs.language.Goals.{Class, expression, assignment}
-use Rattle.swc_ecma_parser_reader.specs.State.{State, Reader, moved, coded, within, end}
+use Rattle.swc_ecma_parser_grammar.specs.language.Items.{sub_statement}
+use Rattle.swc_ecma_parser_reader.specs.State.{State, Outcome, Reader, moved, coded, within, labelled, labelled_as, expect, end}
 use Rattle.swc_ecma_parser_reader.specs.Expressions.{expr}
 use Rattle.swc_ecma_parser_reader.specs.Patterns.{pattern}
-use Rattle.swc_ecma_parser_reader.specs.Reader.{empty, debugger, uninitialized, initialized, declarator, declarators_turn, declarators, var, closes, at_end, close, items_turn, items, block, note_statement, no_label, expr_stmt, expr_stmt_at, optional_end, import_stmt, import_stmt_at, stmt_by, stmt_level, stmt, shebang_in, shebang_taken, shebang, script_body, script}
-use Rattle.swc_ecma_parser_reader.proofs.Takes.{Falls, falls_then, falls_last, falls_coded, falls_if, less, falls_next, moves, takes, falls_past, falls_moved, wanted_falls, too_deep_falls, refuse_falls, end_falls, close_falls, loop_falls}
+use Rattle.swc_ecma_parser_reader.specs.Reader.{empty, debugger, uninitialized, initialized, declarator, declarators_turn, declarators, var, closes, at_end, close, items_turn, items, block, note_statement, no_label, expr_stmt, expr_stmt_at, optional_end, import_stmt, import_stmt_at, thrown, throw, head, while_stmt, do_while, Link, goes_on, condition, alternative, link_from, link, behind_link, links, if_stmt, stmt_by, stmt_level, stmt, shebang_in, shebang_taken, shebang, script_body, script}
+use Rattle.swc_ecma_parser_reader.proofs.Takes.{Falls, falls_then, falls_last, falls_coded, falls_if, less, falls_next, moves, takes, falls_past, falls_moved, wanted_falls, too_deep_falls, refuse_falls, end_falls, close_falls, expect_falls, loop_falls}
 use Rattle.swc_ecma_parser_reader.proofs.expressions.Falls.{reject_falls, expr_falls}
 use Rattle.swc_ecma_parser_reader.proofs.patterns.Falls.{pattern_falls}
 
@@ -123,6 +125,81 @@ module _ (inner : Reader Tree) (h : (s : State) → Falls 1 (length s.at.left) (
   import_stmt_at_falls s = falls_if 1 (length s.at.left) (begins_import_expression s.at) _ _ (import_stmt_falls s)
       (refuse_falls Tree 1 (length s.at.left) faults.ImportExportInScript s)
 
+-- ---- `throw`, loops and `if`
+
+-- a refusal said otherwise
+labelled_falls : {A : Type 0} (j n : ℕ) (o : Outcome A) → Falls j n o → Falls j n (labelled_as o)
+labelled_falls j n (Ok p) h = h
+labelled_falls j n (Err e) h = falls_if j n (is_some e.1.scope.mark) _ _ tt tt
+
+module _ (inner : Reader Tree) (h : (s : State) → Falls 1 (length s.at.left) (inner s)) where
+  thrown_falls : (start : Place) (s : State) → Falls 0 (length s.at.left) (thrown inner start s)
+  unfolding thrown
+  thrown_falls start s = falls_then 0 0 (length s.at.left) (within with_in inner s) _ (less (length s.at.left) (within with_in inner s) (whole_falls inner h s)) (λ x t.
+      falls_last 0 (length t.at.left) (end faults.Expected t) _ (end_falls faults.Expected t))
+
+  throw_falls : (s : State) → kind_at s.at ≢ kind.End → Falls 1 (length s.at.left) (throw inner s)
+  unfolding throw
+  throw_falls s e = falls_past s _ e (falls_if 0 (length (after s.at).left) (breaks_at (after s.at) || sees kind.End (after s.at)) _ _
+      (refuse_falls Tree 0 (length (after s.at).left) faults.LineBreakInThrow (moved s)) (thrown_falls s.at (moved s)))
+
+  head_falls : (s : State) → Falls 0 (length s.at.left) (head inner s)
+  unfolding head
+  head_falls s = falls_then 0 0 (length s.at.left) (expect kind.LParen s) _ (expect_falls kind.LParen s) (λ _ t.
+      falls_then 0 0 (length t.at.left) (within with_in inner t) _ (less (length t.at.left) (within with_in inner t) (whole_falls inner h t)) (λ x u.
+      falls_last 0 (length u.at.left) (expect kind.RParen u) _ (expect_falls kind.RParen u)))
+
+  condition_falls : (s : State) → Falls 0 (length s.at.left) (condition inner s)
+  unfolding condition labelled
+  condition_falls s = falls_then 0 0 (length s.at.left) (expect kind.LParen s) _ (expect_falls kind.LParen s) (λ _ t.
+      falls_then 0 0 (length t.at.left) (labelled_as (within with_in inner t)) _
+      (labelled_falls 0 (length t.at.left) (within with_in inner t) (less (length t.at.left) (within with_in inner t) (whole_falls inner h t))) (λ x u.
+      falls_last 0 (length u.at.left) (expect kind.RParen u) _ (expect_falls kind.RParen u)))
+
+module _ (inner : Reader Tree) (h : (s : State) → Falls 1 (length s.at.left) (inner s)) (inner_expr : Reader Tree) (g : (s : State) → Falls 1 (length s.at.left) (inner_expr s)) where
+  -- the body of a loop
+  looped_falls : (s : State) → Falls 0 (length s.at.left) (within in_loop inner s)
+  looped_falls s = falls_coded 0 (length s.at.left) (inner (coded (in_loop s.code) s)) _ _ (less (length s.at.left) (inner (coded (in_loop s.code) s)) (h (coded (in_loop s.code) s)))
+
+  while_falls : (s : State) → kind_at s.at ≢ kind.End → Falls 1 (length s.at.left) (while_stmt inner inner_expr s)
+  unfolding while_stmt
+  while_falls s e = falls_past s _ e (falls_then 0 0 (length (after s.at).left) (head inner_expr (moved s)) _ (head_falls inner_expr g (moved s)) (λ x t.
+      falls_last 0 (length t.at.left) (within in_loop inner t) _ (looped_falls t)))
+
+  do_while_falls : (s : State) → kind_at s.at ≢ kind.End → Falls 1 (length s.at.left) (do_while inner inner_expr s)
+  unfolding do_while
+  do_while_falls s e = falls_past s _ e (falls_then 0 0 (length (after s.at).left) (within in_loop inner (moved s)) _ (looped_falls (moved s)) (λ x t.
+      falls_then 0 0 (length t.at.left) (expect kind.While t) _ (expect_falls kind.While t) (λ _ u.
+      falls_then 0 0 (length u.at.left) (head inner_expr u) _ (head_falls inner_expr g u) (λ y v.
+      falls_last 0 (length v.at.left) (optional_end v) _ (optional_end_falls v)))))
+
+  link_from_falls : (start : Span) (s : State) → Falls 0 (length s.at.left) (link_from inner inner_expr start s)
+  unfolding link_from
+  link_from_falls start s = falls_then 0 0 (length s.at.left) (condition inner_expr s) _ (condition_falls inner_expr g s) (λ x t.
+      falls_last 0 (length t.at.left) (inner t) _ (less (length t.at.left) (inner t) (h t)))
+
+  pub link_falls : (s : State) → Falls 0 (length s.at.left) (link inner inner_expr s)
+  unfolding link
+  link_falls s = falls_moved 0 s _ (link_from_falls (span_at s.at) (moved s))
+
+  pub alternative_falls : (s : State) → Falls 0 (length s.at.left) (alternative inner s)
+  unfolding alternative
+  alternative_falls s = falls_if 0 (length s.at.left) (sees kind.Else s.at) _ _ (falls_moved 0 s (inner (moved s)) (less (length (after s.at).left) (inner (moved s)) (h (moved s)))) (omega arith)
+
+  behind_falls : (rest : Reader Tree) → ((s : State) → Falls 0 (length s.at.left) (rest s)) → (l : Link) (s : State) → Falls 0 (length s.at.left) (behind_link inner inner_expr rest l s)
+  behind_falls rest i l s = falls_if 0 (length s.at.left) (goes_on s.at) _ _ (falls_moved 0 s _ (falls_last 0 (length (after s.at).left) (rest (moved s)) _ (i (moved s))))
+      (falls_last 0 (length s.at.left) (alternative inner s) _ (alternative_falls s))
+
+  pub links_fall : (n : ℕ) (s : State) → Falls 0 (length s.at.left) (links inner inner_expr n s)
+  unfolding links
+  links_fall zero s = tt
+  links_fall (suc n) s = falls_then 0 0 (length s.at.left) (link inner inner_expr s) _ (link_falls s) (λ l t. behind_falls (links inner inner_expr n) (links_fall n) l t)
+
+  if_falls : (s : State) → kind_at s.at ≢ kind.End → Falls 1 (length s.at.left) (if_stmt inner inner_expr s)
+  unfolding if_stmt links link
+  if_falls s e = falls_then 1 0 (length s.at.left) (link inner inner_expr s) _ (falls_past s _ e (link_from_falls (span_at s.at) (moved s))) (λ l t.
+      behind_falls (links inner inner_expr (length s.at.left)) (links_fall (length s.at.left)) l t)
+
 module _ (inner : Position → Reader Tree) (h : (at : Position) (s : State) → Falls 1 (length s.at.left) (inner at s))
     (inner_expr : Class → Reader Tree) (g : (class : Class) (s : State) → Falls 1 (length s.at.left) (inner_expr class s))
     (inner_pat : Reader Tree) (i : (s : State) → Falls 1 (length s.at.left) (inner_pat s)) where
@@ -131,6 +208,10 @@ module _ (inner : Position → Reader Tree) (h : (at : Position) (s : State) →
   stmt_by_falls at kind.Semi s e = empty_falls s (λ h. cc)
   stmt_by_falls at kind.Debugger s e = debugger_falls s (λ h. cc)
   stmt_by_falls at kind.Var s e = var_falls inner_expr g inner_pat i s (λ h. cc)
+  stmt_by_falls at kind.If s e = if_falls (inner sub_statement) (h sub_statement) (inner_expr expression) (g expression) s (λ h. cc)
+  stmt_by_falls at kind.Throw s e = throw_falls (inner_expr expression) (g expression) s (λ h. cc)
+  stmt_by_falls at kind.While s e = while_falls (inner sub_statement) (h sub_statement) (inner_expr expression) (g expression) s (λ h. cc)
+  stmt_by_falls at kind.Do s e = do_while_falls (inner sub_statement) (h sub_statement) (inner_expr expression) (g expression) s (λ h. cc)
   stmt_by_falls at kind.Import s e = import_stmt_at_falls (inner_expr expression) (g expression) s
   stmt_by_falls at _ s e = expr_stmt_at_falls (inner_expr expression) (g expression) at s
 

@@ -10,6 +10,7 @@ pub mod Errors
 pub mod Between
 pub mod Sound
 pub mod Opens
+pub mod Chains
 pub mod Answered
 pub mod Complete
 pub mod Unique

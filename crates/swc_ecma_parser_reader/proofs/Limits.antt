@@ -1,27 +1,30 @@
 -- With twice as many levels as tokens, and two more, nothing is too deep but what an error token says: a statement and an
 -- expression below need a token, and the two can share their first.
-use Rattle.std.proofs.Common.{◌≡◌, ◌≢◌, ℕ, zero, suc, ◌+◌, ◌*◌, ◌≤◌, Bool, true, false, cond, [], ◌∷◌, ◌++◌, length, Err, refl, arith}
-use Rattle.std.specs.Prelude.{◌&&◌, codes}
+use Rattle.std.proofs.Common.{◌≡◌, ◌≢◌, ℕ, zero, suc, ◌+◌, ◌*◌, ◌≤◌, Bool, true, false, cond, [], ◌∷◌, ◌++◌, length, Ok, Err, refl, arith}
+use Rattle.std.specs.Prelude.{◌&&◌, ◌||◌, is_some, codes}
 use Rattle.swc_ecma_parser_error.specs.Kind as faults
 use Rattle.swc_ecma_parser_error.specs.Kind.{Kind, Fault, fault_of, kind_of}
 use Rattle.swc_ecma_parser_token.specs.declared.kind.TokenKind.{TokenKind}
 use Rattle.swc_ecma_parser_token.specs.declared.kind.TokenKind.TheVariants as kind
-use Rattle.swc_ecma_parser_input.specs.Place.{Place}
+use Rattle.swc_ecma_parser_input.specs.Place.{Place, after}
 use Rattle.swc_ecma_parser_model.specs.Tree.{Tree}
 use Rattle.swc_ecma_parser_model.specs.Forms.{is_ident, is_ident_named, is_binding_name, span_of}
 use Rattle.swc_ecma_parser_grammar.specs.declared.position.Position.{Position}
-use Rattle.swc_ecma_parser_grammar.specs.Looks.{kind_at, sees}
+use Rattle.swc_ecma_parser_grammar.specs.Looks.{kind_at, breaks_at, sees}
 use Rattle.swc_ecma_parser_grammar.specs.Follows.{may_begin_expression_statement, begins_import_expression}
 use Rattle.swc_ecma_parser_grammar.specs.Reads.{with_in, nested_item, top_item}
 use Rattle.swc_ecma_parser_grammar.specs.Entries.{script_code}
+use Rattle.swc_ecma_parser_grammar.specs.language.Contexts.{in_loop}
 use Rattle.swc_ecma_parser_grammar.specs.language.Goals.{Class, expression, assignment}
-use Rattle.swc_ecma_parser_reader.specs.State.{State, Reader, moved, coded, within, noted, module_fault, fault_at, end}
+use Rattle.swc_ecma_parser_grammar.specs.language.Items.{sub_statement}
+use Rattle.swc_ecma_parser_reader.specs.State.{State, Outcome, Reader, moved, coded, within, noted, module_fault, fault_at, labelled, labelled_as, expect, end}
 use Rattle.swc_ecma_parser_reader.specs.Expressions.{expr}
 use Rattle.swc_ecma_parser_reader.specs.Patterns.{pattern}
-use Rattle.swc_ecma_parser_reader.specs.Reader.{empty, debugger, initialized, declarator, declarators_turn, declarators, var, closes, at_end, close, items_turn, items, block, note_statement, no_label, expr_stmt, expr_stmt_at, optional_end, import_stmt, import_stmt_at, stmt_by, stmt_level, stmt, shebang, script_body, script}
+use Rattle.swc_ecma_parser_reader.specs.Reader.{empty, debugger, initialized, declarator, declarators_turn, declarators, var, closes, at_end, close, items_turn, items, block, note_statement, no_label, expr_stmt, expr_stmt_at, optional_end, import_stmt, import_stmt_at, thrown, throw, head, while_stmt, do_while, goes_on, condition, alternative, link_from, link, links, if_stmt, stmt_by, stmt_level, stmt, shebang, script_body, script}
 use Rattle.swc_ecma_parser_reader.specs.Limits.{has_too_deep_token}
 use Rattle.swc_ecma_parser_reader.proofs.Meets.{Answers, answers_then, answers_if, loop_answers, meant}
-use Rattle.swc_ecma_parser_reader.proofs.Shallow.{Fine, fine_more, fine_after, fine_taken, Shallow, Kept, wanted_shallow, refuse_shallow, end_shallow, close_shallow, shebang_shallow, Levels}
+use Rattle.swc_ecma_parser_reader.proofs.Shallow.{Fine, fine_more, fine_after, fine_taken, Shallow, Kept, wanted_shallow, refuse_shallow, end_shallow, expect_shallow, close_shallow, shebang_shallow, Levels}
+use Rattle.swc_ecma_parser_reader.proofs.Opens.{chain_goes}
 use Rattle.swc_ecma_parser_reader.proofs.expressions.Limits.{reject_shallow, expr_shallow}
 use Rattle.swc_ecma_parser_reader.proofs.patterns.Limits.{pattern_shallow}
 
@@ -62,6 +65,43 @@ module_fault_fine m g s f = by_module s.code.flags.module
     by_module true = f
     by_module false = f
 
+optional_end_shallow : (m : ℕ) (s : State) → Fine m s.at.left → Answers (Kept m) Shallow (optional_end s)
+unfolding optional_end
+optional_end_shallow m s f = answers_if _ _ (sees kind.Semi s.at) _ _ (λ _. fine_after m s.at f) (λ _. f)
+
+-- a refusal that says where it is, is not of what is too deep
+labelled_shallow : {A : Type 0} (P : A → State → Type 0) (o : Outcome A) → Answers P Shallow o → Answers P Shallow (labelled_as o)
+labelled_shallow P (Ok p) h = h
+labelled_shallow P (Err e) h = answers_if P Shallow (is_some e.1.scope.mark) _ _ (λ _. h) (λ _. λ z. cc)
+
+-- the links of a chain, each of which takes a token before the level below
+module _ (inner : Position → Reader Tree) (inner_expr : Class → Reader Tree) (n : ℕ)
+    (below : (at : Position) → StmtLevels n (inner at)) (below_expr : (class : Class) → Levels n (inner_expr class)) where
+  link_shallow : (i : ℕ) → 2 * i + 1 ≤ n → (s : State) → Fine i (after s.at).left → Answers (Kept i) Shallow (link (inner sub_statement) (inner_expr expression) s)
+  unfolding link link_from condition labelled
+  link_shallow i h s g = answers_then (Kept i) _ (condition (inner_expr expression) (moved s)) _
+      (answers_then _ _ (expect kind.LParen (moved s)) _ (expect_shallow i (moved s) g kind.LParen) (λ _ u j.
+      answers_then _ _ (labelled_as (within with_in (inner_expr expression) u)) _
+      (labelled_shallow (Kept i) (within with_in (inner_expr expression) u)
+      (answers_then (Kept i) _ (inner_expr expression (coded (with_in u.code) u)) _ (below_expr expression i (coded (with_in u.code) u) (omega arith) j) (λ x v k. k))) (λ x v k.
+      answers_then _ _ (expect kind.RParen v) _ (expect_shallow i v k kind.RParen) (λ _ w z. z)))) (λ x t k.
+      answers_then _ _ (inner sub_statement t) _ (below sub_statement i t h k) (λ y u z. z))
+
+  alternative_shallow : (i : ℕ) → 2 * i + 1 ≤ n → (s : State) → Fine i s.at.left → Answers (Kept i) Shallow (alternative (inner sub_statement) s)
+  unfolding alternative
+  alternative_shallow i h s g = answers_if _ _ (sees kind.Else s.at) _ _ (λ _. below sub_statement i (moved s) h (fine_after i s.at g)) (λ _. g)
+
+  links_shallow : (l m : ℕ) → 2 * m + 1 ≤ suc n → (s : State) → kind_at s.at ≡ kind.If → Fine m s.at.left → Answers (Kept m) Shallow (links (inner sub_statement) (inner_expr expression) l s)
+  unfolding links
+  links_shallow zero m h s e f = λ z. cc
+  links_shallow (suc l) m h s e f =
+      let (i, k, g) = fine_taken m s.at kind.If e (λ z. cc) f in
+      answers_then (Kept m) _ (link (inner sub_statement) (inner_expr expression) s) _ (link_shallow i (omega arith) s g) (λ x t j.
+      answers_if _ _ (goes_on t.at) _ _
+      (λ b. answers_then (Kept m) _ (links (inner sub_statement) (inner_expr expression) l (moved t)) _
+      (links_shallow l i (omega arith) (moved t) (chain_goes t.at b).1 (fine_after i t.at j)) (λ y u z. fine_more i m u.at.left (omega arith) z))
+      (λ _. answers_then (Kept m) _ (alternative (inner sub_statement) t) _ (alternative_shallow i (omega arith) t j) (λ y u z. fine_more i m u.at.left (omega arith) z)))
+
 module _ (inner : Position → Reader Tree) (inner_expr : Class → Reader Tree) (inner_pat : Reader Tree) (n : ℕ)
     (below : (at : Position) → StmtLevels n (inner at)) (below_expr : (class : Class) → Levels n (inner_expr class)) (below_pat : Levels n inner_pat)
     (at : Position) (m : ℕ) (enough : 2 * m + 1 ≤ suc n) (s : State) (f : Fine m s.at.left) where
@@ -101,20 +141,60 @@ module _ (inner : Position → Reader Tree) (inner_expr : Class → Reader Tree)
   expr_stmt_at_shallow = answers_if _ _ (may_begin_expression_statement at s.at) _ _ (λ _. expr_stmt_shallow) (λ _. wanted_shallow _ faults.Unexpected (λ e. cc) m s f)
 
   import_stmt_shallow : Answers (Kept m) Shallow (import_stmt (inner_expr expression) s)
-  unfolding import_stmt optional_end
+  unfolding import_stmt
   import_stmt_shallow = answers_then _ _ (within with_in (inner_expr expression) s) _ whole_shallow (λ x t k.
-      answers_then _ _ (optional_end t) _ (answers_if (Kept m) _ (sees kind.Semi t.at) _ _ (λ _. fine_after m t.at k) (λ _. k)) (λ _ u j. j))
+      answers_then _ _ (optional_end t) _ (optional_end_shallow m t k) (λ _ u j. j))
 
   import_stmt_at_shallow : Answers (Kept m) Shallow (import_stmt_at (inner_expr expression) s)
   unfolding import_stmt_at
   import_stmt_at_shallow = answers_if _ _ (begins_import_expression s.at) _ _ (λ _. import_stmt_shallow) (λ _. refuse_shallow _ faults.ImportExportInScript (λ e. cc) m s f)
 
+  head_shallow : (i : ℕ) → 2 * i ≤ n → (t : State) → Fine i t.at.left → Answers (Kept i) Shallow (head (inner_expr expression) t)
+  unfolding head
+  head_shallow i h t g = answers_then _ _ (expect kind.LParen t) _ (expect_shallow i t g kind.LParen) (λ _ u j.
+      answers_then _ _ (within with_in (inner_expr expression) u) _
+      (answers_then (Kept i) _ (inner_expr expression (coded (with_in u.code) u)) _ (below_expr expression i (coded (with_in u.code) u) h j) (λ x v k. k)) (λ x v k.
+      answers_then _ _ (expect kind.RParen v) _ (expect_shallow i v k kind.RParen) (λ _ w z. z)))
+
+  throw_shallow : kind_at s.at ≡ kind.Throw → Answers (Kept m) Shallow (throw (inner_expr expression) s)
+  unfolding throw thrown
+  throw_shallow e =
+      let (i, h, g) = fine_taken m s.at kind.Throw e (λ z. cc) f in
+      answers_if _ _ (breaks_at (after s.at) || sees kind.End (after s.at)) _ _ (λ _. refuse_shallow _ faults.LineBreakInThrow (λ z. cc) i (moved s) g) (λ _.
+      answers_then _ _ (within with_in (inner_expr expression) (moved s)) _
+      (answers_then (Kept i) _ (inner_expr expression (coded (with_in s.code) (moved s))) _ (below_expr expression i (coded (with_in s.code) (moved s)) (omega arith) g) (λ x t k. k)) (λ x t k.
+      answers_then _ _ (end faults.Expected t) _ (end_shallow i t k faults.Expected (λ z. cc)) (λ _ u j. fine_more i m u.at.left (omega arith) j)))
+
+  -- the body of a loop
+  looped_shallow : (i : ℕ) → 2 * i + 1 ≤ n → (t : State) → Fine i t.at.left → Answers (Kept i) Shallow (within in_loop (inner sub_statement) t)
+  looped_shallow i h t g = answers_then (Kept i) _ (inner sub_statement (coded (in_loop t.code) t)) _ (below sub_statement i (coded (in_loop t.code) t) h g) (λ x u k. k)
+
+  while_shallow : kind_at s.at ≡ kind.While → Answers (Kept m) Shallow (while_stmt (inner sub_statement) (inner_expr expression) s)
+  unfolding while_stmt
+  while_shallow e =
+      let (i, h, g) = fine_taken m s.at kind.While e (λ z. cc) f in
+      answers_then _ _ (head (inner_expr expression) (moved s)) _ (head_shallow i (omega arith) (moved s) g) (λ x t k.
+      answers_then _ _ (within in_loop (inner sub_statement) t) _ (looped_shallow i (omega arith) t k) (λ y u j. fine_more i m u.at.left (omega arith) j))
+
+  do_while_shallow : kind_at s.at ≡ kind.Do → Answers (Kept m) Shallow (do_while (inner sub_statement) (inner_expr expression) s)
+  unfolding do_while
+  do_while_shallow e =
+      let (i, h, g) = fine_taken m s.at kind.Do e (λ z. cc) f in
+      answers_then _ _ (within in_loop (inner sub_statement) (moved s)) _ (looped_shallow i (omega arith) (moved s) g) (λ y t k.
+      answers_then _ _ (expect kind.While t) _ (expect_shallow i t k kind.While) (λ _ u j.
+      answers_then _ _ (head (inner_expr expression) u) _ (head_shallow i (omega arith) u j) (λ x v z.
+      answers_then _ _ (optional_end v) _ (optional_end_shallow i v z) (λ _ b a. fine_more i m b.at.left (omega arith) a))))
+
   by_shallow : (k : TokenKind) → kind_at s.at ≡ k → Answers (Kept m) Shallow (stmt_by inner inner_expr inner_pat at k s)
-  unfolding empty
+  unfolding empty if_stmt
   by_shallow kind.LBrace e = block_shallow e
   by_shallow kind.Semi e = fine_after m s.at f
   by_shallow kind.Debugger e = debugger_shallow
   by_shallow kind.Var e = var_shallow
+  by_shallow kind.If e = links_shallow inner inner_expr n below below_expr (suc (length s.at.left)) m enough s e f
+  by_shallow kind.Throw e = throw_shallow e
+  by_shallow kind.While e = while_shallow e
+  by_shallow kind.Do e = do_while_shallow e
   by_shallow kind.Import e = import_stmt_at_shallow
   by_shallow _ e = expr_stmt_at_shallow
 

@@ -1,9 +1,9 @@
 -- What the first token decides: an expression statement, one that begins with `import`, and that a body does not end there.
 use Rattle.std.proofs.Common.{◌≡◌, ℕ, zero, suc, Bool, true, false, [], refl}
-use Rattle.std.specs.Prelude.{not, ◌||◌}
+use Rattle.std.specs.Prelude.{not, ◌&&◌, ◌||◌}
 use Rattle.swc_ecma_parser_token.specs.declared.kind.TokenKind.{TokenKind}
 use Rattle.swc_ecma_parser_token.specs.declared.kind.TokenKind.TheVariants as kind
-use Rattle.swc_ecma_parser_input.specs.Place.{Place}
+use Rattle.swc_ecma_parser_input.specs.Place.{Place, after}
 use Rattle.swc_ecma_parser_model.specs.Tree as tree
 use Rattle.swc_ecma_parser_model.specs.Tree.{Tree}
 use Rattle.swc_ecma_parser_model.specs.Forms.{is_ident}
@@ -11,14 +11,14 @@ use Rattle.swc_ecma_parser_grammar.specs.declared.position.Position.{Position}
 use Rattle.swc_ecma_parser_grammar.specs.Looks.{kind_at, sees, same_kind}
 use Rattle.swc_ecma_parser_grammar.specs.Names.{Code}
 use Rattle.swc_ecma_parser_grammar.specs.Follows.{may_begin_expression_statement, begins_import_expression}
-use Rattle.swc_ecma_parser_grammar.specs.Reads.{with_in, StmtRule, block_rule, empty_rule, debugger_rule, var_rule, expr_rule, import_rule}
+use Rattle.swc_ecma_parser_grammar.specs.Reads.{with_in, StmtRule, block_rule, empty_rule, debugger_rule, var_rule, if_statement_rule, throw_rule, while_rule, do_while_rule, expr_rule, import_rule, if_rule}
 use Rattle.swc_ecma_parser_grammar.specs.Notes.{statement_note}
 use Rattle.swc_ecma_parser_grammar.specs.ReadsSupported.{ReadsClass, ReadsPat, ReadsStmt}
 use Rattle.swc_ecma_parser_grammar.specs.language.Goals.{Class, expression}
 use Rattle.swc_ecma_parser_grammar.proofs.Tests.{and_yes}
 use Rattle.swc_ecma_parser_grammar.proofs.SupportedBegins.{opens, expr_opens}
 use Rattle.swc_ecma_parser_reader.specs.State.{State, Reader}
-use Rattle.swc_ecma_parser_reader.specs.Reader.{closes, at_end, stmt_by, expr_stmt_at}
+use Rattle.swc_ecma_parser_reader.specs.Reader.{closes, at_end, goes_on, stmt_by, expr_stmt_at}
 use Rattle.swc_ecma_parser_reader.proofs.Meets.{saw}
 use Rattle.swc_ecma_parser_reader.proofs.expressions.CompleteKinds.{import_unnamed}
 
@@ -31,6 +31,10 @@ opened stmt expr pat at s kind.LBrace e h g = cc
 opened stmt expr pat at s kind.Semi e h g = cc
 opened stmt expr pat at s kind.Debugger e h g = cc
 opened stmt expr pat at s kind.Var e h g = cc
+opened stmt expr pat at s kind.If e h g = cc
+opened stmt expr pat at s kind.Throw e h g = cc
+opened stmt expr pat at s kind.While e h g = cc
+opened stmt expr pat at s kind.Do e h g = cc
 opened stmt expr pat at s kind.Import e h g = cc
 opened stmt expr pat at s _ e h g = refl
 
@@ -60,9 +64,23 @@ unnoted _ h = refl
 pub import_unnoted : (n : ℕ) (k : Code) (x : Tree) (c d : Place) → ReadsClass n expression k x c d → begins_import_expression c ≡ true → statement_note x ≡ []
 import_unnoted n k x c d r h = unnoted x (import_unnamed n k x c d r (import_stands c h))
 
+-- ---- a chain of `else if`
+
+pub chain_goes : (c : Place) → goes_on c ≡ true → (kind_at c ≡ kind.Else) × (kind_at (after c) ≡ kind.If)
+unfolding goes_on
+chain_goes c h = let g = and_yes (sees kind.Else c) _ h in (saw c kind.Else g.0, saw (after c) kind.If g.1)
+
+pub chain_stops : (c : Place) → goes_on c ≡ false → sees kind.Else c ≡ true → sees kind.If (after c) ≡ false
+unfolding goes_on
+chain_stops c h e = second_no (sees kind.Else c) (sees kind.If (after c)) h e
+  where
+    second_no : (a b : Bool) → (a && b) ≡ false → a ≡ true → b ≡ false
+    second_no true b h e = h
+    second_no false b h e = cc
+
 -- ---- no statement begins where a block or a script ends
 
-goes_open : (k : TokenKind) → opens k ≡ true → (same_kind k kind.RBrace ≡ false) × (same_kind k kind.End ≡ false)
+pub goes_open : (k : TokenKind) → opens k ≡ true → (same_kind k kind.RBrace ≡ false) × (same_kind k kind.End ≡ false)
 unfolding same_kind
 goes_open kind.RBrace e = cc
 goes_open kind.End e = cc
@@ -83,6 +101,10 @@ rule_goes Stmt Expr Pat h k at x c d (block_rule xs m e r g i j) = goes_by c kin
 rule_goes Stmt Expr Pat h k at x c d (empty_rule e g i) = goes_by c kind.Semi e (refl, refl)
 rule_goes Stmt Expr Pat h k at x c d (debugger_rule e g i) = goes_by c kind.Debugger e (refl, refl)
 rule_goes Stmt Expr Pat h k at x c d (var_rule xs m e r g i) = goes_by c kind.Var e (refl, refl)
+rule_goes Stmt Expr Pat h k at x c d (if_statement_rule (if_rule t y z m n e r s o i)) = goes_by c kind.If e (refl, refl)
+rule_goes Stmt Expr Pat h k at x c d (throw_rule y m e b r g i) = goes_by c kind.Throw e (refl, refl)
+rule_goes Stmt Expr Pat h k at x c d (while_rule y z m e r s i) = goes_by c kind.While e (refl, refl)
+rule_goes Stmt Expr Pat h k at x c d (do_while_rule y z m n e s j r g i) = goes_by c kind.Do e (refl, refl)
 rule_goes Stmt Expr Pat h k at x c d (expr_rule e m b r l i g j) = goes_by c (kind_at c) refl (goes_open (kind_at c) (h (with_in k) e c m r))
 rule_goes Stmt Expr Pat h k at x c d (import_rule e m b r g i) = goes_by c (kind_at c) refl (goes_open (kind_at c) (h (with_in k) e c m r))
 

@@ -1,6 +1,6 @@
 -- What is read is in the grammar where nothing was recorded, and the faults of the table are the walk's.
-use Rattle.std.proofs.Common.{◌≡◌, ℕ, zero, suc, Bool, true, false, cond, List, [], ◌∷◌, ◌++◌, Option, Ok, refl, sym, ◌∙◌, ap, subst, append_assoc, append-nil}
-use Rattle.std.specs.Prelude.{◌&&◌, codes}
+use Rattle.std.proofs.Common.{◌≡◌, ℕ, zero, suc, Bool, true, false, cond, List, [], ◌∷◌, ◌++◌, Option, length, Ok, Err, refl, sym, ◌∙◌, ap, subst, append_assoc, append-nil}
+use Rattle.std.specs.Prelude.{◌&&◌, ◌||◌, is_some, codes}
 use Rattle.swc_ecma_parser_error.specs.Kind as faults
 use Rattle.swc_ecma_parser_error.specs.Kind.{Kind, Fault}
 use Rattle.swc_ecma_parser_token.specs.declared.keyword.Keyword.{Keyword}
@@ -23,35 +23,38 @@ use Rattle.swc_ecma_parser_model.specs.Tree.{Tree, Text, listed, trees}
 use Rattle.swc_ecma_parser_model.specs.Directive.{is_use_strict}
 use Rattle.swc_ecma_parser_model.specs.Forms.{is_ident, is_ident_named, is_binding_name, span_of}
 use Rattle.swc_ecma_parser_grammar.specs.declared.position.Position.{Position}
-use Rattle.swc_ecma_parser_grammar.specs.Looks.{kind_at, sees, same_kind, span_at, spanned}
+use Rattle.swc_ecma_parser_grammar.specs.Looks.{kind_at, breaks_at, sees, same_kind, span_at, spanned}
 use Rattle.swc_ecma_parser_grammar.specs.Names.{Code}
 use Rattle.swc_ecma_parser_grammar.specs.Ends.{Ends, by_semicolon, by_insertion, OptionalEnds, by_a_semicolon, by_nothing, can_end}
 use Rattle.swc_ecma_parser_grammar.specs.Follows.{may_begin_expression_statement, begins_import_expression}
+use Rattle.swc_ecma_parser_grammar.specs.language.Contexts.{in_loop}
 use Rattle.swc_ecma_parser_grammar.specs.language.Goals.{Class, expression, assignment}
-use Rattle.swc_ecma_parser_grammar.specs.Reads.{with_in, in_strict, directed, directs_on, nested_item, top_item, DeclaratorRule, plain_rule, initialized_rule, ReadsSeparated, ReadsItems, StmtRule, block_rule, empty_rule, debugger_rule, var_rule, expr_rule, import_rule}
+use Rattle.swc_ecma_parser_grammar.specs.language.Items.{sub_statement}
+use Rattle.swc_ecma_parser_grammar.specs.Reads.{with_in, in_strict, directed, directs_on, nested_item, top_item, DeclaratorRule, plain_rule, initialized_rule, ReadsSeparated, ReadsItems, StmtRule, block_rule, empty_rule, debugger_rule, var_rule, if_statement_rule, throw_rule, while_rule, do_while_rule, expr_rule, import_rule, ReadsHead, IfRule, if_rule, ElseRule, no_else_rule, else_rule, else_if_rule}
 use Rattle.swc_ecma_parser_grammar.specs.ReadsSupported.{ReadsClass, ReadsPat, ReadsElement, ReadsStmt}
 use Rattle.swc_ecma_parser_grammar.specs.Entries.{ReadsScript, ReadsShebang, some_shebang, no_shebang, script_code, has_error_token}
 use Rattle.swc_ecma_parser_grammar.specs.Walk as walks
 use Rattle.swc_ecma_parser_grammar.specs.Walk.{walk, env_of, tabled, drops}
 use Rattle.swc_ecma_parser_grammar.specs.Notes.{notes, statement_note}
 use Rattle.swc_ecma_parser_grammar.specs.language.Noted.{has_meta}
+use Rattle.swc_ecma_parser_grammar.proofs.Tests.{or_no}
 use Rattle.swc_ecma_parser_grammar.proofs.Widens.{script_widens, script_supported}
-use Rattle.swc_ecma_parser_reader.specs.Notes.{Notes, no_notes, held, ◌⊕◌, notes_of, all_notes_of}
-use Rattle.swc_ecma_parser_reader.specs.State.{State, Reader, moved, coded, flagged, within, noted, module_fault, fault_at, end}
+use Rattle.swc_ecma_parser_reader.specs.Notes.{held, ◌⊕◌, notes_of, all_notes_of}
+use Rattle.swc_ecma_parser_reader.specs.State.{State, Reader, moved, coded, flagged, within, noted, module_fault, fault_at, Outcome, labelled, labelled_as, expect, end}
 use Rattle.swc_ecma_parser_reader.specs.Expressions.{Cover, expr, cover}
 use Rattle.swc_ecma_parser_reader.specs.Patterns.{pattern, element}
-use Rattle.swc_ecma_parser_reader.specs.Reader.{empty, debugger, initialized, declarator, declarators_turn, declarators, var, closes, at_end, close, directs, items_turn, items, block, note_statement, no_label, expr_stmt, expr_stmt_at, optional_end, import_stmt, import_stmt_at, stmt_by, stmt_level, stmt, shebang_of, shebang_in, shebang_taken, shebang, script_body, script}
+use Rattle.swc_ecma_parser_reader.specs.Reader.{empty, debugger, initialized, declarator, declarators_turn, declarators, var, closes, at_end, close, directs, items_turn, items, block, note_statement, no_label, expr_stmt, expr_stmt_at, optional_end, import_stmt, import_stmt_at, thrown, throw, head, while_stmt, do_while, Link, goes_on, condition, alternative, link_from, link, links, if_stmt, stmt_by, stmt_level, stmt, shebang_of, shebang_in, shebang_taken, shebang, script_body, script}
 use Rattle.swc_ecma_parser_reader.specs.Entry.{SoundScript}
 use Rattle.swc_ecma_parser_reader.specs.Limits.{has_out_of_memory_token}
 use Rattle.swc_ecma_parser_reader.proofs.expressions.SoundCovers.{SoundCover}
 use Rattle.swc_ecma_parser_reader.proofs.expressions.Sound.{expr_sound, cover_sound}
-use Rattle.swc_ecma_parser_reader.proofs.expressions.SoundSteps.{reject_meets, Takes, noted_sound, fault_sound, walks_push, notes_push}
+use Rattle.swc_ecma_parser_reader.proofs.expressions.SoundSteps.{meets_as, reject_meets, Takes, expect_sound, noted_sound, fault_sound, walks_push, notes_push}
 use Rattle.swc_ecma_parser_reader.proofs.patterns.Sound.{pattern_sound, element_sound}
-use Rattle.swc_ecma_parser_reader.proofs.Notes.{or_nil, or_true, notes_nil}
+use Rattle.swc_ecma_parser_reader.proofs.Notes.{or_nil, notes_nil}
 use Rattle.swc_ecma_parser_reader.proofs.Meets.{Meets, Refuses, meets_then, meets_if, wanted_meets, too_deep_meets, refuse_meets, Turned, loop_answers, saw, meant}
 use Rattle.swc_ecma_parser_reader.proofs.Errors.{kind_here, nothing_at_end}
-use Rattle.swc_ecma_parser_reader.proofs.Opens.{import_unnoted}
-use Rattle.swc_ecma_parser_reader.proofs.Between.{Sound, SoundTree, SoundStep, no_faults, same, sound_then, sound_more, sound_moved, sound_here, sound_as, sound_notes, sound_after, sound_coded, within_sound, flags_back}
+use Rattle.swc_ecma_parser_reader.proofs.Opens.{import_unnoted, chain_goes, chain_stops}
+use Rattle.swc_ecma_parser_reader.proofs.Between.{Sound, SoundTree, SoundStep, no_faults, same, sound_then, sound_more, sound_moved, sound_here, sound_as, sound_held, sound_after, sound_coded, within_sound, flags_back}
 
 -- ---- ends
 
@@ -265,13 +268,14 @@ module_fault_sound x s e = by_module s.code.flags.module refl
     f = fault_at (span_of x) faults.InvalidIdentInStrict
 
     by_module : (b : Bool) → s.code.flags.module ≡ b → Sound same no_faults (held (statement_note x)) (NoNote x) s (cond b (noted f s) (record s { notes = record s.notes { held_back = s.notes.held_back ++ f ∷ [] } }))
-    by_module true h = noted_sound (NoNote x) f s refl (held (statement_note x))
+    by_module true h = noted_sound (NoNote x) f s refl (statement_note x)
     by_module false h = record {
       code = refl;
       scope = refl;
       added = [];
       faults = sym (append-nil s.faults);
       notes = λ i. rw (e, or_nil s.notes.found_module_item) refl;
+      found = sym (or_nil s.notes.found_module_item);
       walked = λ i d. refl;
       keeps = λ i. i;
       spares = λ i g. g;
@@ -338,14 +342,114 @@ module _ (Stmt : Code → Position → Tree → Place → Place → Type 0) (Exp
       (within_sound (λ x k l. walk (env_of k l) x) notes_of (λ x k. Expr expression k x) with_in (λ k. refl) (inner_expr expression) s (sound_expr expression (coded (with_in s.code) s))) (λ x m p.
       meets_then _ (optional_end m) _ (optional_end_sound m) (λ _ t q.
       sound_as s t refl refl refl (λ (i, a, b). import_rule x i h a b refl)
-      (sound_notes s t (λ (i, a, b) l. record {
-        held_back = (sym (append-nil (notes x)) ∙ ap (λ z. notes x ++ z) (sym (unnoted (with_in s.code) x s.at i h a))) l;
-        found_module_item = has_meta x;
-      }) (sound_more p q))))
+      (sound_held s t (notes x ++ statement_note x) (λ (i, a, b). sym (append-nil (notes x)) ∙ ap (λ z. notes x ++ z) (sym (unnoted (with_in s.code) x s.at i h a)))
+      (sound_more p q))))
 
   import_stmt_at_sound : (s : State) → Meets (SoundStmt s) (import_stmt_at (inner_expr expression) s)
   unfolding import_stmt_at
   import_stmt_at_sound s = meets_if _ (begins_import_expression s.at) _ _ (λ h. import_stmt_sound s h) (λ _. refuse_meets _ faults.ImportExportInScript s)
+
+  -- ---- `throw`, `while` and `do`
+
+  -- an expression in which `in` is an operator
+  inner_sound : (s : State) → Meets (λ x t. Sound same (λ k l. walk (env_of k l) x) (notes_of x) (λ k. Expr expression (with_in k) x) s t) (within with_in (inner_expr expression) s)
+  inner_sound s = within_sound (λ x k l. walk (env_of k l) x) notes_of (λ x k. Expr expression k x) with_in (λ k. refl) (inner_expr expression) s (sound_expr expression (coded (with_in s.code) s))
+
+  -- the body of a loop
+  looped_sound : (s : State) → Meets (λ x t. Sound same (λ k l. walk (env_of (in_loop k) l) x) (notes_of x) (λ k. Stmt (in_loop k) sub_statement x) s t) (within in_loop (inner sub_statement) s)
+  looped_sound s = within_sound (λ x k l. walk (env_of k l) x) notes_of (λ x k. Stmt k sub_statement x) in_loop (λ k. refl) (inner sub_statement) s (sound sub_statement (coded (in_loop s.code) s))
+
+  throw_sound : (s : State) → kind_at s.at ≡ kind.Throw → Meets (SoundStmt s) (throw (inner_expr expression) s)
+  unfolding throw thrown
+  throw_sound s e = meets_if _ (breaks_at (after s.at) || sees kind.End (after s.at)) _ _ (λ _. refuse_meets _ faults.LineBreakInThrow (moved s)) (λ b.
+      meets_then _ (within with_in (inner_expr expression) (moved s)) _ (inner_sound (moved s)) (λ x m p.
+      meets_then _ (end faults.Expected m) _ (end_sound faults.Expected m) (λ _ t q.
+      sound_after s t e refl refl refl (λ (i, r, z). throw_rule x i e (or_no (breaks_at (after s.at)) _ b).0 r z refl) (sound_more p q))))
+
+  -- what stands in parentheses behind the word of a statement
+  headed : (x : Tree) (s i j t : State) → SoundStep (λ k. Takes kind.LParen) s i → Sound same (λ k l. walk (env_of k l) x) (notes_of x) (λ k. Expr expression (with_in k) x) i j
+      → SoundStep (λ k. Takes kind.RParen) j t → SoundTree (ReadsHead Expr) s x t
+  headed x s i j t p q r = sound_as s t refl refl refl
+      (λ (a, (b, c), (d, e, (f, g))). record { close = d; opens = b; reads = subst (λ y. Expr expression (with_in s.code) x y d) c e; closes = f; next = g }) (sound_then p (sound_more q r))
+
+  head_sound : (s : State) → Meets (λ x t. SoundTree (ReadsHead Expr) s x t) (head (inner_expr expression) s)
+  unfolding head
+  head_sound s = meets_then _ (expect kind.LParen s) _ (expect_sound kind.LParen s refl) (λ _ i p.
+      meets_then _ (within with_in (inner_expr expression) i) _ (inner_sound i) (λ x j q.
+      meets_then _ (expect kind.RParen j) _ (expect_sound kind.RParen j refl) (λ _ t r. headed x s i j t p q r)))
+
+  while_sound : (s : State) → kind_at s.at ≡ kind.While → Meets (SoundStmt s) (while_stmt (inner sub_statement) (inner_expr expression) s)
+  unfolding while_stmt
+  while_sound s e = meets_then _ (head (inner_expr expression) (moved s)) _ (head_sound (moved s)) (λ x m p.
+      meets_then _ (within in_loop (inner sub_statement) m) _ (looped_sound m) (λ y t q.
+      sound_after s t e refl refl refl (λ (i, r, z). while_rule x y i e r z refl) (sound_then p q)))
+
+  do_while_sound : (s : State) → kind_at s.at ≡ kind.Do → Meets (SoundStmt s) (do_while (inner sub_statement) (inner_expr expression) s)
+  unfolding do_while
+  do_while_sound s e = meets_then _ (within in_loop (inner sub_statement) (moved s)) _ (looped_sound (moved s)) (λ y m p.
+      meets_then _ (expect kind.While m) _ (expect_sound kind.While m refl) (λ _ n q.
+      meets_then _ (head (inner_expr expression) n) _ (head_sound n) (λ x i r.
+      meets_then _ (optional_end i) _ (optional_end_sound i) (λ _ t z.
+      sound_after s t e refl refl refl
+      (λ (c, (b, (a, f, (g, h)), j), o). do_while_rule x y a c e f g (subst (λ v. ReadsHead Expr s.code x v c) h j) o refl) (sound_more (sound_then (sound_more p q) r) z)))))
+
+  -- ---- `if`
+
+  -- a refusal said otherwise answers nothing either
+  labelled_meets : {A : Type 0} (P : A → State → Type 0) (o : Outcome A) → Meets P o → Meets P (labelled_as o)
+  labelled_meets P (Ok p) h = h
+  labelled_meets P (Err e) h = meets_if P (is_some e.1.scope.mark) _ _ (λ _. tt) (λ _. tt)
+
+  condition_sound : (s : State) → Meets (λ x t. SoundTree (ReadsHead Expr) s x t) (condition (inner_expr expression) s)
+  unfolding condition labelled
+  condition_sound s = meets_then _ (expect kind.LParen s) _ (expect_sound kind.LParen s refl) (λ _ i p.
+      meets_then _ (labelled_as (within with_in (inner_expr expression) i)) _ (labelled_meets _ (within with_in (inner_expr expression) i) (inner_sound i)) (λ x j q.
+      meets_then _ (expect kind.RParen j) _ (expect_sound kind.RParen j refl) (λ _ t r. headed x s i j t p q r)))
+
+  -- a link, and where it begins
+  LinkRule : Link → Code → Place → Place → Type 0
+  LinkRule l k c d = (m : Place) × (kind_at c ≡ kind.If) × ReadsHead Expr k l.test (after c) m × Stmt k sub_statement l.cons m d
+
+  SoundLink : State → Link → State → Type 0
+  SoundLink s l t = Sound same (λ k w. walk (env_of k w) l.test ++ walk (env_of k w) l.cons) (notes_of l.test ⊕ notes_of l.cons) (LinkRule l) s t × (l.start ≡ span_at s.at)
+
+  link_sound : (s : State) → kind_at s.at ≡ kind.If → Meets (SoundLink s) (link (inner sub_statement) (inner_expr expression) s)
+  unfolding link link_from LinkRule SoundLink
+  link_sound s e = meets_then _ (condition (inner_expr expression) (moved s)) _ (condition_sound (moved s)) (λ x m p.
+      meets_then _ (inner sub_statement m) _ (sound sub_statement m) (λ y t q. (sound_after s t e refl refl refl (λ (i, r, z). (i, e, r, z)) (sound_then p q), refl)))
+
+  -- a chain, and what stands behind a link
+  abbrev SoundIf : State → Tree → State → Type 0
+  SoundIf s x t = SoundTree (λ k x c d. IfRule Stmt Expr k x c d) s x t
+
+  abbrev SoundElse : State → Tree → State → Type 0
+  SoundElse s x t = SoundTree (λ k x c d. ElseRule Stmt Expr k x c d) s x t
+
+  closed_sound : (s t u : State) (l : Link) (y : Tree) → SoundLink s l t → SoundElse t y u → SoundIf s (tree.if_stmt (record { lo = l.start.lo; hi = u.at.last.hi }) l.test l.cons y) u
+  unfolding spanned LinkRule SoundLink
+  closed_sound s t u l y (p, g) q = sound_as s u refl refl refl
+      (λ (i, (m, a, r, z), o). if_rule l.test l.cons y m i a r z o (ap (λ v. tree.if_stmt (record { lo = v.lo; hi = u.at.last.hi }) l.test l.cons y) g)) (sound_then p q)
+
+  alternative_sound : (s : State) → goes_on s.at ≡ false → Meets (SoundElse s) (alternative (inner sub_statement) s)
+  unfolding alternative
+  alternative_sound s h = meets_if _ (sees kind.Else s.at) _ _
+      (λ e. meets_as (inner sub_statement (moved s)) (sound sub_statement (moved s)) (λ y t q.
+      sound_after s t (saw s.at kind.Else e) refl refl refl (λ r. else_rule (saw s.at kind.Else e) (chain_stops s.at h e) r) q))
+      (λ e. sound_here s (no_else_rule e refl refl))
+
+  links_sound : (n : ℕ) (s : State) → kind_at s.at ≡ kind.If → Meets (SoundIf s) (links (inner sub_statement) (inner_expr expression) n s)
+  unfolding links
+  links_sound zero s e = tt
+  links_sound (suc n) s e = meets_then _ (link (inner sub_statement) (inner_expr expression) s) _ (link_sound s e) (λ l t p. meets_if _ (goes_on t.at) _ _
+      (λ h. let g = chain_goes t.at h in
+      meets_then _ (links (inner sub_statement) (inner_expr expression) n (moved t)) _ (links_sound n (moved t) g.1) (λ y u q.
+      closed_sound s t u l y p (sound_after t u g.0 refl refl refl (λ r. else_if_rule g.0 r) q)))
+      (λ h. meets_then _ (alternative (inner sub_statement) t) _ (alternative_sound t h) (λ y u q. closed_sound s t u l y p q)))
+
+  if_sound : (s : State) → kind_at s.at ≡ kind.If → Meets (SoundStmt s) (if_stmt (inner sub_statement) (inner_expr expression) s)
+  unfolding if_stmt
+  if_sound s e = meets_as (links (inner sub_statement) (inner_expr expression) (suc (length s.at.left)) s) (links_sound (suc (length s.at.left)) s e) (λ x t q.
+      sound_as s t refl refl refl (λ r. if_statement_rule r) q)
 
   -- each kind of token begins its statement
   by_sound : (j : TokenKind) (s : State) → kind_at s.at ≡ j → Meets (SoundStmt s) (stmt_by inner inner_expr inner_pat at j s)
@@ -353,6 +457,10 @@ module _ (Stmt : Code → Position → Tree → Place → Place → Type 0) (Exp
   by_sound kind.Semi s e = empty_sound s e
   by_sound kind.Debugger s e = debugger_sound s e
   by_sound kind.Var s e = var_sound Expr Pat inner_expr inner_pat sound_expr sound_pat Stmt at s e
+  by_sound kind.If s e = if_sound s e
+  by_sound kind.Throw s e = throw_sound s e
+  by_sound kind.While s e = while_sound s e
+  by_sound kind.Do s e = do_while_sound s e
   by_sound kind.Import s e = import_stmt_at_sound s
   by_sound _ s e = expr_stmt_at_sound s
 
@@ -441,6 +549,8 @@ script_is n s x t ((f, keeps, p), e) =
       spells = λ h. (script_widens n s.code x s.at t.at (spelled h), sym (p.walked (p.spares h (ap has_error_token (nothing_at_end t.at e))) (ap drops h)) ∙ ap tabled h);
       is_supported = λ h. script_supported n s.code x s.at t.at (spelled h);
       walked = p.walked;
+      noted = p.notes;
+      found = p.found;
     }
 
 -- ---- all levels
@@ -473,11 +583,6 @@ script_sound n s = meets_then _ (script_body n (coded (script_code s.code) s)) _
 pub script_is_sound : (n : ℕ) (s : State) (x : Tree) (t : State) → script n s ≡ Ok (x, t) → SoundScript n s x t
 script_is_sound n s x t e = meant (λ y u. SoundScript n s y u) Refuses (script n s) (Ok (x, t)) e (script_sound n s)
 
--- where nothing is recorded, what is noted are the tree's notes
-pub script_notes : (n : ℕ) (s : State) → Meets (λ x t. (added : List Fault) × (t.faults ≡ s.faults ++ added) × (added ≡ [] → t.notes ≡ s.notes ⊕ notes_of x)) (script n s)
-unfolding script
-script_notes n s = meets_then _ (script_body n (coded (script_code s.code) s)) _ (body_sound n (coded (script_code s.code) s)) (λ x t ((f, keeps, p), e). (p.added, p.faults, p.notes))
-
 -- a list with a token that says that memory ran out spells no script
 script_remembers : (n : ℕ) (s : State) → Meets (λ x t. has_out_of_memory_token s.at.left ≡ false) (script n s)
 unfolding script
@@ -488,6 +593,11 @@ pub script_lacks_out_of_memory : (n : ℕ) (s : State) (x : Tree) (t : State) �
 script_lacks_out_of_memory n s x t e = meant (λ y u. has_out_of_memory_token s.at.left ≡ false) Refuses (script n s) (Ok (x, t)) e (script_remembers n s)
 
 -- what is read leaves the code as it was
+pub stmt_code : (n : ℕ) (at : Position) (s : State) (x : Tree) (t : State) → stmt n at s ≡ Ok (x, t) → t.code ≡ s.code
+stmt_code n at s x t e =
+    let P : Tree → State → Type 0 = λ y u. SoundTree (λ k. ReadsStmt n k at) s y u in
+    let p : P x t = meant P Refuses (stmt n at s) (Ok (x, t)) e (stmt_sound n at s) in p.code
+
 pub expr_code : (n : ℕ) (class : Class) (s : State) (x : Tree) (t : State) → expr n class s ≡ Ok (x, t) → t.code ≡ s.code
 expr_code n class s x t e =
     let p : SoundTree (ReadsClass n class) s x t = meant (λ y u. SoundTree (ReadsClass n class) s y u) Refuses (expr n class s) (Ok (x, t)) e (expr_sound n class s) in p.code

@@ -20,7 +20,7 @@ chosen false x y z h = inr (refl, h)
 below_true : (m n : ℕ) → nat_lt m n ≡ true → m < n
 below_true m n h = grind (arith, ltb-true)
 
-same_if : {X : Type 0} (b : Bool) (x y z : X) → (b ≡ true → x ≡ y) → cond b x z ≡ cond b y z
+pub same_if : {X : Type 0} (b : Bool) (x y z : X) → (b ≡ true → x ≡ y) → cond b x z ≡ cond b y z
 same_if true x y z h = h refl
 same_if false x y z h = refl
 

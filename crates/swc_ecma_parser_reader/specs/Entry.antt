@@ -1,5 +1,5 @@
 -- What an entry gives, by the grammar and the walk alone.
-use Rattle.std.specs.Prelude.{◌≡◌, ◌≢◌, ℕ, true, false, ◌⊎◌, List, [], ◌++◌, None, Result, Ok, Err}
+use Rattle.std.specs.Prelude.{◌≡◌, ◌≢◌, ℕ, true, false, ◌||◌, ◌⊎◌, List, [], ◌++◌, None, Result, Ok, Err}
 use Rattle.swc_ecma_parser_error.specs.declared.error.Error.{Error}
 use Rattle.swc_ecma_parser_error.specs.Kind.{Fault, fault_of, kind_of, OutOfMemory}
 use Rattle.swc_ecma_parser_token.specs.declared.kind.TokenKind.TheVariants as kind
@@ -9,6 +9,7 @@ use Rattle.swc_ecma_parser_grammar.specs.Looks.{kind_at}
 use Rattle.swc_ecma_parser_grammar.specs.Names.{Code}
 use Rattle.swc_ecma_parser_grammar.specs.Entries.{script_code, has_error_token}
 use Rattle.swc_ecma_parser_grammar.specs.Supported.{supported}
+use Rattle.swc_ecma_parser_grammar.specs.language.Noted.{has_meta}
 use Rattle.swc_ecma_parser_grammar.specs.language.Programs as programs
 use Rattle.swc_ecma_parser_grammar.specs.language.Programs.{ReadsEntry, Spells}
 use Rattle.swc_ecma_parser_grammar.specs.Walk.{walk, env_of, tabled, drops}
@@ -25,8 +26,9 @@ abbrev pub script_left : State → Tree → Place → State
 script_left s x d = record s { at = d; code = script_code s.code; faults = s.faults ++ script_walk s x; notes = s.notes ⊕ notes_of x }
 
 -- An answer: it takes the whole list; where nothing was recorded the list spells it as a script of the language, it has supported
--- forms alone, and its walk is empty; and where no error token stands and nothing was dropped, the faults of the table among
--- those recorded are the walk's.
+-- forms alone, its walk is empty, and what was noted are its notes; where no error token stands and nothing was dropped, the
+-- faults of the table among those recorded are the walk's; and whatever was recorded, that the code is a module's is noted
+-- where the tree says so, and nowhere else.
 pub record SoundScript (limit : ℕ) (s : State) (x : Tree) (t : State) : Type 0 where
   pub code : t.code ≡ script_code s.code
   pub scope : t.scope ≡ s.scope
@@ -36,6 +38,8 @@ pub record SoundScript (limit : ℕ) (s : State) (x : Tree) (t : State) : Type 0
   pub spells : added ≡ [] → Spells limit programs.script s.code s.scope.labels x s.at t.at
   pub is_supported : added ≡ [] → supported x ≡ true
   pub walked : has_error_token s.at.left ≡ false → drops added ≡ false → tabled added ≡ script_walk s x
+  pub noted : added ≡ [] → t.notes ≡ s.notes ⊕ notes_of x
+  pub found : t.notes.found_module_item ≡ (s.notes.found_module_item || has_meta x)
 
 -- a script of the language within a limit, of supported forms alone
 abbrev pub ReadsSupported : ℕ → Code → Tree → Place → Place → Type 0

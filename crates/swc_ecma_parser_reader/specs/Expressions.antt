@@ -118,8 +118,10 @@ is_word_at c = first_is_word c.left
 
 -- a string or a number as a key
 abbrev pub key_or : Option Tree → Reader Tree
-key_or (Some x) = pure x
-key_or None = wanted faults.Unexpected
+key_or (Some (tree.str span value raw)) = pure (tree.str span value raw)
+key_or (Some (tree.num span raw)) = pure (tree.num span raw)
+key_or (Some (tree.big_int span raw)) = pure (tree.big_int span raw)
+key_or _ = wanted faults.Unexpected
 
 unfoldable pub literal_key : Reader Tree
 literal_key = literal >>= key_or
@@ -167,9 +169,6 @@ import_meta start = λ s. if word_at (codes "meta") s.at then (do
 -- the loop goes on with it
 abbrev pub more : Tree → Reader (Step Tree Tree)
 more x = pure (More x)
-
-abbrev pub has_private : Place → Bool
-has_private c = sees kind.Dot c && sees kind.Hash (after c)
 
 unfoldable pub bare_new : Span → Tree → Reader Tree
 bare_new start x = do
@@ -261,6 +260,12 @@ with_cover found v = record { xs = found.xs ++ v.x ∷ []; mark = first_mark fou
 
 abbrev pub with_comma : Bool → Covers → Covers
 with_comma is_spread found = record { xs = found.xs; mark = found.mark; comma = found.comma || is_spread }
+
+-- what may become a pattern as a whole
+abbrev pub is_literal : Tree → Bool
+is_literal (tree.array s elems) = true
+is_literal (tree.object s props) = true
+is_literal _ = false
 
 -- an expression, which stays one
 abbrev pub done : Tree → Cover
@@ -532,23 +537,26 @@ module _ (inner : Class → Reader Tree) (cover : Reader Cover) where
   unfoldable pub left_from : Bool → Span → Tree → Reader Tree
   left_from calls start x = loop (left_turn calls start) x
 
-  -- `super`, before an access or, where calls are read, arguments; a private name is no property of it
+  -- `super`, before an access or, where calls are read, arguments
   unfoldable pub super_call : Span → Reader Tree
   super_call start = do
     xs ← arguments true
     span ← since start
     pure (tree.call span (tree.super_callee start) (listed xs))
 
+  -- a private name is no property of it
+  unfoldable pub super_property : Reader Tree
+  super_property = λ s. if sees kind.Dot s.at then (skip >> word_property) s else brackets s
+
   unfoldable pub super_access : Span → Reader Tree
   super_access start = do
-    property ← access
+    property ← super_property
     span ← since start
     pure (tree.super_prop span start property)
 
   unfoldable pub behind_super : Bool → Span → Reader Tree
   behind_super calls start = λ s.
       if calls && sees kind.LParen s.at then super_call start s
-      else if has_private s.at then (skip >> wanted faults.Unexpected) s
       else if sees kind.Dot s.at || sees kind.LBracket s.at then super_access start s
       else reject (fault_at start faults.InvalidSuper) s
 

@@ -1,5 +1,5 @@
 -- The reader, rule by rule.
-use Rattle.std.specs.Prelude.{ℕ, zero, suc, Bool, true, false, ◌&&◌, ◌||◌, if◌then◌else◌, List, [], ◌∷◌, ◌++◌, codes, Option, Some, None, Ok}
+use Rattle.std.specs.Prelude.{ℕ, zero, suc, Bool, true, false, ◌&&◌, ◌||◌, if◌then◌else◌, List, [], ◌∷◌, ◌++◌, length, codes, Option, Some, None, Ok}
 use Rattle.swc_ecma_parser_common.specs.declared.span.Span.{Span}
 use Rattle.swc_ecma_parser_error.specs.Kind as faults
 use Rattle.swc_ecma_parser_token.specs.declared.kind.TokenKind.{TokenKind}
@@ -7,20 +7,22 @@ use Rattle.swc_ecma_parser_token.specs.declared.kind.TokenKind.TheVariants as ki
 use Rattle.swc_ecma_parser_token.specs.declared.token.Token.{Token}
 use Rattle.swc_ecma_parser_token.specs.declared.token.Token.TheVariants as token
 use Rattle.swc_ecma_parser_token.specs.declared.token.TokenAndSpan.{TokenAndSpan}
-use Rattle.swc_ecma_parser_input.specs.Place.{Place}
+use Rattle.swc_ecma_parser_input.specs.Place.{Place, after}
 use Rattle.swc_ecma_parser_model.specs.declared.leaves.VarDeclKind.TheVariants as decl
 use Rattle.swc_ecma_parser_model.specs.Tree as tree
 use Rattle.swc_ecma_parser_model.specs.Tree.{Tree, Text, listed}
 use Rattle.swc_ecma_parser_model.specs.Forms.{is_ident, is_ident_named, is_binding_name, span_of}
 use Rattle.swc_ecma_parser_grammar.specs.declared.position.Position.{Position}
-use Rattle.swc_ecma_parser_grammar.specs.Looks.{kind_at, sees, span_at}
+use Rattle.swc_ecma_parser_grammar.specs.Looks.{kind_at, breaks_at, sees, span_at}
 use Rattle.swc_ecma_parser_grammar.specs.Follows.{may_begin_expression_statement, begins_import_expression}
 use Rattle.swc_ecma_parser_grammar.specs.Reads.{with_in, directed, nested_item, top_item}
 use Rattle.swc_ecma_parser_grammar.specs.Entries.{script_code}
+use Rattle.swc_ecma_parser_grammar.specs.language.Contexts.{in_loop}
 use Rattle.swc_ecma_parser_grammar.specs.language.Goals.{Class, expression, assignment}
+use Rattle.swc_ecma_parser_grammar.specs.language.Items.{sub_statement}
 use Rattle.swc_ecma_parser_reader.specs.Expressions.{expr}
 use Rattle.swc_ecma_parser_reader.specs.Patterns.{pattern}
-use Rattle.swc_ecma_parser_reader.specs.State.{Reader, ◌>>=◌, ◌>>◌, pure, here, span_here, since, skip, moved, spanned_from, coded, flagged, within, fault, fault_at, module_fault, wanted, too_deep, refuse, reject, end, Step, More, Done, loop}
+use Rattle.swc_ecma_parser_reader.specs.State.{Reader, ◌>>=◌, ◌>>◌, pure, here, span_here, since, skip, moved, spanned_from, coded, flagged, within, fault, fault_at, module_fault, wanted, too_deep, refuse, reject, labelled, expect, end, stuck, Step, More, Done, loop}
 
 -- ---- statements
 
@@ -155,12 +157,117 @@ module _ (expr : Reader Tree) where
   unfoldable pub import_stmt_at : Reader Tree
   import_stmt_at = λ s. if begins_import_expression s.at then import_stmt s else refuse faults.ImportExportInScript s
 
+-- ---- `throw`, `while` and `do`
+
+module _ (expr : Reader Tree) where
+  unfoldable pub thrown : Place → Reader Tree
+  thrown start = do
+    e ← within with_in expr
+    end faults.Expected
+    span ← spanned_from start
+    pure (tree.throw span e)
+
+  -- what is thrown stands on the same line
+  unfoldable pub throw : Reader Tree
+  throw = do
+    start ← here
+    skip
+    λ s. if breaks_at s.at || sees kind.End s.at then refuse faults.LineBreakInThrow s else thrown start s
+
+  -- `( Expression )` behind the word of a statement
+  unfoldable pub head : Reader Tree
+  head = do
+    expect kind.LParen
+    e ← within with_in expr
+    expect kind.RParen
+    pure e
+
+module _ (stmt : Reader Tree) (expr : Reader Tree) where
+  unfoldable pub while_stmt : Reader Tree
+  while_stmt = do
+    start ← here
+    skip
+    test ← head expr
+    body ← within in_loop stmt
+    span ← spanned_from start
+    pure (tree.while span test body)
+
+  unfoldable pub do_while : Reader Tree
+  do_while = do
+    start ← here
+    skip
+    body ← within in_loop stmt
+    expect kind.While
+    test ← head expr
+    optional_end
+    span ← spanned_from start
+    pure (tree.do_while span test body)
+
+-- ---- `if`: a chain of `else if` is one level
+
+-- an `if` up to its first statement
+pub record Link : Type 0 where
+  pub start : Span
+  pub test : Tree
+  pub cons : Tree
+
+-- whether one more `if` of a chain stands behind a link
+unfoldable pub goes_on : Place → Bool
+goes_on c = sees kind.Else c && sees kind.If (after c)
+
+-- an `if` up to what was read last, with what stands behind its `else`
+abbrev pub closed_link : Link → Tree → Reader Tree
+closed_link l alt = do
+  span ← since l.start
+  pure (tree.if_stmt span l.test l.cons alt)
+
+-- a refusal in a condition says that it is one
+unfoldable pub condition : Reader Tree → Reader Tree
+condition expr = do
+  expect kind.LParen
+  e ← labelled (within with_in expr)
+  expect kind.RParen
+  pure e
+
+-- what stands behind an `else`, if there is one
+unfoldable pub alternative : Reader Tree → Reader Tree
+alternative stmt = λ s. if sees kind.Else s.at then stmt (moved s) else Ok (tree.absent, s)
+
+module _ (stmt : Reader Tree) (expr : Reader Tree) where
+  unfoldable pub link_from : Span → Reader Link
+  link_from start = do
+    test ← condition expr
+    cons ← stmt
+    pure (record { start = start; test = test; cons = cons })
+
+  unfoldable pub link : Reader Link
+  link = do
+    start ← span_here
+    skip
+    link_from start
+
+  abbrev pub behind_link : Reader Tree → Link → Reader Tree
+  behind_link rest l = λ s. if goes_on s.at then (rest >>= closed_link l) (moved s) else (alternative stmt >>= closed_link l) s
+
+  -- so many links of a chain at most
+  unfoldable pub links : ℕ → Reader Tree
+  links zero = stuck
+  links (suc n) = link >>= behind_link (links n)
+
+  -- each link takes a token, so there are no more links than tokens
+  unfoldable pub if_stmt : Reader Tree
+  if_stmt = λ s. links (suc (length s.at.left)) s
+
 module _ (stmt : Position → Reader Tree) (expr : Class → Reader Tree) (pat : Reader Tree) where
   abbrev pub stmt_by : Position → TokenKind → Reader Tree
   stmt_by at kind.LBrace = block (stmt nested_item)
   stmt_by at kind.Semi = empty
   stmt_by at kind.Debugger = debugger
   stmt_by at kind.Var = var expr pat
+  stmt_by at kind.If = if_stmt (stmt sub_statement) (expr expression)
+  stmt_by at kind.Throw = throw (expr expression)
+  stmt_by at kind.While = while_stmt (stmt sub_statement) (expr expression)
+  stmt_by at kind.Do = do_while (stmt sub_statement) (expr expression)
   stmt_by at kind.Import = import_stmt_at (expr expression)
   stmt_by at _ = expr_stmt_at (expr expression) at
 

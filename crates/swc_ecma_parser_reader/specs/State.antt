@@ -1,5 +1,5 @@
 -- What a reader reads from, and the steps that every rule is made of.
-use Rattle.std.specs.Prelude.{◌≡◌, ◌≢◌, ℕ, zero, suc, Bool, true, if◌then◌else◌, nat_lt, List, [], ◌∷◌, ◌++◌, length, Option, Some, Result, Ok, Err}
+use Rattle.std.specs.Prelude.{◌≡◌, ◌≢◌, ℕ, zero, suc, true, if◌then◌else◌, nat_lt, List, [], ◌∷◌, ◌++◌, length, Option, Some, is_some, Result, Ok, Err}
 use Rattle.swc_ecma_parser_common.specs.declared.span.Span.{Span}
 use Rattle.swc_ecma_parser_error.specs.declared.error.Error.{Error}
 use Rattle.swc_ecma_parser_error.specs.Kind as faults
@@ -184,6 +184,14 @@ reject_in f s (t ∷ ts) = reject_at f s t.token
 
 unfoldable pub reject : {A : Type 0} → Fault → Reader A
 reject f = λ s. reject_in f s s.at.left
+
+-- the refusal of a part that has a name: at the same place, of the kind that says so. Where the state is marked it stays.
+abbrev pub labelled_as : {A : Type 0} → Outcome A → Outcome A
+labelled_as (Ok p) = Ok p
+labelled_as (Err e) = if is_some e.1.scope.mark then Err e else Err (fault_at e.0.span faults.WithLabel, e.1)
+
+unfoldable pub labelled : {A : Type 0} → Reader A → Reader A
+labelled p = λ s. labelled_as (p s)
 
 -- ---- fixed tokens, ends and names
 

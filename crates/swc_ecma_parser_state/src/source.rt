@@ -1,6 +1,6 @@
 //! What the rules read from.
 
-ghost use Rattle.std.specs.Prelude.{◌≡◌, ◌≢◌, [], Ok, Err, IsOk, option_map};
+ghost use Rattle.std.specs.Prelude.{◌≡◌, ◌≢◌, [], Ok, Err, IsOk, is_some, option_map};
 ghost use Rattle.swc_ecma_parser_error.specs.Kind as kinds;
 ghost use Rattle.swc_ecma_parser_error.specs.Kind.{fault_of, kind_of, IsOutOfMemory};
 ghost use Rattle.swc_ecma_parser_grammar.specs.Follows as follows;
@@ -146,6 +146,10 @@ pub trait Source {
     fn out_of_memory(&mut self) -> Error
         ensures { IsOutOfMemory result };
 
+    /// Whether something stood too deep, or memory ran out.
+    fn is_marked(&self) -> bool
+        ensures { result ≡ is_some (seen self.now).scope.mark };
+
     /// Reads a token that must stand here, which is written so.
     fn expect(&mut self, kind: TokenKind, spelling: &'static str) -> PResult<()>
         ensures { Gives (reader.expect kind (seen self.old)) result (seen self.new) };
@@ -282,6 +286,10 @@ impl<I: Tokens> Source for State<I> {
 
     fn out_of_memory(&mut self) -> Error {
         State::out_of_memory(self)
+    }
+
+    fn is_marked(&self) -> bool {
+        State::is_marked(self)
     }
 
     fn expect(&mut self, kind: TokenKind, spelling: &'static str) -> PResult<()> {

@@ -1,6 +1,6 @@
 //! The state of a parser: what its rules look at, and how it is made and given back.
 
-ghost use Rattle.std.specs.Prelude.{◌≡◌, is_none};
+ghost use Rattle.std.specs.Prelude.{◌≡◌, is_none, is_some};
 ghost use Rattle.swc_ecma_parser_grammar.specs.Looks as looks;
 ghost use Rattle.swc_ecma_parser_grammar.specs.Names as names;
 ghost use Rattle.swc_ecma_parser_input.specs.Place as place;
@@ -103,6 +103,13 @@ impl<I: Tokens> State<I> {
         ensures { result ≡ is_none (place.first self.now.at.left) }
     {
         self.buffer.cur().is_none()
+    }
+
+    /// Whether something stood too deep, or memory ran out.
+    pub fn is_marked(&self) -> bool
+        ensures { result ≡ is_some self.now.scope.mark }
+    {
+        self.mark.is_some()
     }
 
     /// What stands around.

@@ -14,7 +14,7 @@ use Rattle.swc_ecma_parser_model.specs.Targets.{simple_target, array_of, object_
 use Rattle.swc_ecma_parser_grammar.specs.Looks.{kind_at, sees, same_kind, span_at, spanned}
 use Rattle.swc_ecma_parser_grammar.specs.Names.{Code, is_name, is_reserved}
 use Rattle.swc_ecma_parser_grammar.specs.Reads.{with_in}
-use Rattle.swc_ecma_parser_grammar.specs.Notes.{notes, all_notes}
+use Rattle.swc_ecma_parser_grammar.specs.Notes.{notes}
 use Rattle.swc_ecma_parser_grammar.specs.language.Noted.{has_meta}
 use Rattle.swc_ecma_parser_grammar.specs.Walk.{env_of, walk, walks}
 use Rattle.swc_ecma_parser_grammar.specs.Supported.{supported, is_supported_key, all_supported}
@@ -30,7 +30,7 @@ use Rattle.swc_ecma_parser_grammar.specs.language.Patterns as patterns
 use Rattle.swc_ecma_parser_grammar.specs.language.Patterns.{PatternPropertyRule}
 use Rattle.swc_ecma_parser_grammar.proofs.Tests.{or_none, and_yes}
 use Rattle.swc_ecma_parser_grammar.proofs.language.spans.Expressions.{name_span}
-use Rattle.swc_ecma_parser_reader.specs.Notes.{Notes, no_notes, held, ◌⊕◌, notes_of, all_notes_of}
+use Rattle.swc_ecma_parser_reader.specs.Notes.{Notes, ◌⊕◌, notes_of, all_notes_of}
 use Rattle.swc_ecma_parser_reader.specs.State.{Scope, Reader, loop}
 use Rattle.swc_ecma_parser_reader.specs.Expressions.{Cover, Covers, first_mark, no_covers, with_cover, with_comma, done, part_as, whole_of, covered, spread_item, plain_item, item, array_turn, elements, array, key_value, initialized, initialized_name, bare_key, behind_key, keyed_property, spread_property, property, object_turn, properties, object}
 use Rattle.swc_ecma_parser_reader.proofs.Notes.{or_nil, or_assoc}

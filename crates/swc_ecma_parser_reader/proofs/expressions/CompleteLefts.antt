@@ -27,7 +27,7 @@ use Rattle.swc_ecma_parser_grammar.specs.language.Parts.{ReadsName, AccessRule, 
 use Rattle.swc_ecma_parser_grammar.specs.language.LeftSides as sides
 use Rattle.swc_ecma_parser_grammar.specs.language.LeftSides.{PrimaryRule, LeftSideRule, is_callee}
 use Rattle.swc_ecma_parser_grammar.proofs.Tests.{and_yes, and_no}
-use Rattle.swc_ecma_parser_reader.specs.Notes.{Notes, no_notes, held, ◌⊕◌, notes_of, all_notes_of}
+use Rattle.swc_ecma_parser_reader.specs.Notes.{Notes, ◌⊕◌, notes_of}
 use Rattle.swc_ecma_parser_reader.specs.State.{and_then, ◌>>=◌, Scope, State, Reader, name}
 use Rattle.swc_ecma_parser_reader.specs.Expressions.{Cover, close, literal_of, literal, ident_expr, this, bare_new, access, arguments, array, property, object, paren, marked_primary, primary, accessed, called, left_turn, left_from, super_call, super_access, behind_super, super_head, constructed, new_head, import_call, meta_fault, import_meta, import_head, left_head, left}
 use Rattle.swc_ecma_parser_reader.proofs.Notes.{or_nil, or_true, or_assoc}
@@ -35,7 +35,7 @@ use Rattle.swc_ecma_parser_reader.proofs.Answered.{st, Reads, ReadsAs}
 use Rattle.swc_ecma_parser_reader.proofs.Steps.{loop_more, loop_done}
 use Rattle.swc_ecma_parser_reader.proofs.expressions.Falls.{access_falls, arguments_fall}
 use Rattle.swc_ecma_parser_reader.proofs.expressions.Loops.{shorter_by}
-use Rattle.swc_ecma_parser_reader.proofs.expressions.CompleteParts.{expect_reads, name_reads, literal_reads, AsExpr, IsRead, inside_reads, access_reads, access_seen, not_private, arguments_read}
+use Rattle.swc_ecma_parser_reader.proofs.expressions.CompleteParts.{expect_reads, name_reads, literal_reads, AsExpr, IsRead, inside_reads, access_reads, access_seen, super_property_reads, arguments_read}
 use Rattle.swc_ecma_parser_reader.proofs.expressions.CompleteCovers.{array_reads, object_reads}
 use Rattle.swc_ecma_parser_reader.proofs.expressions.CompleteKinds.{refuted, supported_as, seen, name_is_name, named, null_unnamed, true_unnamed, false_unnamed, paren_here, array_here, object_here, this_here, primary_first, primary_seen}
 
@@ -123,9 +123,8 @@ module _ (In : Goal → Type 0) (inner : Class → Reader Tree) (cover : Reader 
       rw (
         seen c kind.Super g,
         and_no calls (sees kind.LParen (after c)) (access_seen In inner cover given k property (after c) d r).1,
-        not_private In inner cover given k property (after c) d r p,
         (access_seen In inner cover given k property (after c) d r).0,
-        access_reads In inner cover given k property (after c) d r s w f h,
+        super_property_reads In inner cover given k property (after c) d r p s w f h,
         e,
       ) refl
 

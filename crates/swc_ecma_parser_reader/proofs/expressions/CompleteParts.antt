@@ -1,6 +1,6 @@
 -- The parts of the language that expressions share are read, with the faults of the walk and the notes held back, and no others:
 -- tokens, accesses, arguments and keys.
-use Rattle.std.proofs.Common.{◌≡◌, ◌<◌, ◌⊎◌, inl, inr, Bool, true, false, List, [], ◌∷◌, ◌++◌, length, Some, None, Ok, refl, sym, ◌∙◌, ap, arith, append_assoc, append-nil}
+use Rattle.std.proofs.Common.{◌≡◌, ◌<◌, ◌⊎◌, inl, inr, Bool, true, false, List, [], ◌∷◌, ◌++◌, length, Some, None, Ok, refl, sym, ◌∙◌, ap, subst, arith, append_assoc, append-nil}
 use Rattle.std.specs.Prelude.{not, ◌&&◌, ◌||◌}
 use Rattle.swc_ecma_parser_common.specs.declared.span.Span.{Span}
 use Rattle.swc_ecma_parser_error.specs.Kind.{Kind, Fault}
@@ -19,7 +19,7 @@ use Rattle.swc_ecma_parser_model.specs.Targets.{as_target, as_element}
 use Rattle.swc_ecma_parser_grammar.specs.Looks.{kind_at, sees, same_kind, span_at, spanned}
 use Rattle.swc_ecma_parser_grammar.specs.Names.{Code, is_name}
 use Rattle.swc_ecma_parser_grammar.specs.Reads.{with_in, ReadsToken}
-use Rattle.swc_ecma_parser_grammar.specs.Notes.{notes, all_notes}
+use Rattle.swc_ecma_parser_grammar.specs.Notes.{notes}
 use Rattle.swc_ecma_parser_grammar.specs.language.Noted.{has_meta}
 use Rattle.swc_ecma_parser_grammar.specs.Walk.{Env, env_of, walk, walks}
 use Rattle.swc_ecma_parser_grammar.specs.Supported.{supported, is_supported_property, is_supported_key, all_supported}
@@ -28,9 +28,9 @@ use Rattle.swc_ecma_parser_grammar.specs.language.Lists.{ReadsListed, LastComma,
 use Rattle.swc_ecma_parser_grammar.specs.language.Parts as parts
 use Rattle.swc_ecma_parser_grammar.specs.language.Parts.{ReadsWord, PrivateRule, AccessRule, is_private, ElementRule, ArgumentsRule, ComputedRule, KeyRule}
 use Rattle.swc_ecma_parser_grammar.proofs.Tests.{and_yes, and_no}
-use Rattle.swc_ecma_parser_reader.specs.Notes.{Notes, no_notes, held, ◌⊕◌, notes_of, all_notes_of}
-use Rattle.swc_ecma_parser_reader.specs.State.{Scope, State, Reader, expect, name, loop}
-use Rattle.swc_ecma_parser_reader.specs.Expressions.{Cover, literal_of, literal_in, literal, any_word, touching_word, private_name, word_property, token_is_word, literal_key, shorthand_name, shorthand, dotted, has_private, inside, brackets, access, spread_element, plain_element, element, arguments_turn, arguments, computed_key, key}
+use Rattle.swc_ecma_parser_reader.specs.Notes.{Notes, no_notes, ◌⊕◌, notes_of, all_notes_of}
+use Rattle.swc_ecma_parser_reader.specs.State.{and_then, Scope, State, Reader, expect, name, loop}
+use Rattle.swc_ecma_parser_reader.specs.Expressions.{Cover, literal_of, literal_in, literal, any_word, touching_word, private_name, word_property, token_is_word, literal_key, shorthand_name, shorthand, dotted, super_property, inside, brackets, access, spread_element, plain_element, element, arguments_turn, arguments, computed_key, key, key_or}
 use Rattle.swc_ecma_parser_reader.proofs.Notes.{or_nil, or_assoc}
 use Rattle.swc_ecma_parser_reader.proofs.Answered.{st, Reads, ReadsAs}
 use Rattle.swc_ecma_parser_reader.proofs.Takes.{Falls, moves}
@@ -81,9 +81,12 @@ unfolding word_property
 word_reads text sp k x c d r e w f h = rw (any_word_reads text sp c d k w f h r, e, append-nil f, append-nil h.held_back, or_nil h.found_module_item) refl
 
 literal_key_reads : (u : Token) (sp : Span) (x y : Tree) (c d : Place) (k : Code) → ReadsToken u sp c d → literal_of sp u ≡ Some y → x ≡ y
-    → ((env : Env) → walk env y ≡ []) → notes y ≡ [] → has_meta y ≡ false → Reads literal_key k x c d
+    → ((s : State) → key_or (Some y) s ≡ Ok (y, s)) → ((env : Env) → walk env y ≡ []) → notes y ≡ [] → has_meta y ≡ false → Reads literal_key k x c d
 unfolding literal_key
-literal_key_reads u sp x y c d k r e g z o m w f h = rw (literal_reads u sp x y c d k w f h r e g, g, z (env_of k w.labels), o, m, append-nil f, append-nil h.held_back, or_nil h.found_module_item) refl
+literal_key_reads u sp x y c d k r e g b z o m w f h =
+    ap (λ z. and_then z key_or) (literal_reads u sp x y c d k w f h r e g)
+    ∙ subst (λ a. key_or (Some a) (st d k w f h) ≡ Ok (a, st d k w f h)) (sym g) (b (st d k w f h))
+    ∙ rw (g, z (env_of k w.labels), o, m, append-nil f, append-nil h.held_back, or_nil h.found_module_item) refl
 
 -- a word by itself names what stands for it
 pub shorthand_reads : (text : Text) (sp : Span) (x : Tree) (d : Place) (k : Code) (w : Scope) (f : List Fault) (h : Notes) → is_name k.flags text ≡ true → x ≡ tree.shorthand_prop sp text
@@ -165,11 +168,14 @@ module _ (In : Goal → Type 0) (inner : Class → Reader Tree) (cover : Reader 
   access_seen k x c d (parts.private_access g r) = rw g (refl, refl)
   access_seen k x c d (parts.bracket_access e m g r i n j) = rw g (refl, refl)
 
-  pub not_private : (k : Code) (x : Tree) (c d : Place) → AccessRule In k x c d → is_private x ≡ false → has_private c ≡ false
-  unfolding same_kind
-  not_private k x c d (parts.word_access text sp g r e) h = and_no (sees kind.Dot c) _ (no_hash text sp (after c) d r)
-  not_private k x c d (parts.private_access g r) h = absurd (let e : is_private x ≡ true = ap is_private r.is in cc)
-  not_private k x c d (parts.bracket_access e m g r i n j) h = rw g refl
+  -- what stands behind `super` is no private name
+  pub super_property_reads : (k : Code) (x : Tree) (c d : Place) → AccessRule In k x c d → is_private x ≡ false → is_supported_property x ≡ true → Reads (super_property inner cover) k x c d
+  unfolding super_property word_property same_kind
+  super_property_reads k x c d (parts.word_access text sp g r e) p s w f h =
+      rw (g, any_word_reads text sp (after c) d k w f h r, e, append-nil f, append-nil h.held_back, or_nil h.found_module_item) refl
+  super_property_reads k x c d (parts.private_access g r) p s w f h = absurd (let e : is_private x ≡ true = ap is_private r.is in cc)
+  super_property_reads k x c d (parts.bracket_access e m g r i n j) p s w f h =
+      rw g (brackets_read e m k x c d r (sym (ap is_supported_property j) ∙ s) i n j w f h)
 
   -- ---- arguments
 
@@ -251,16 +257,16 @@ module _ (In : Goal → Type 0) (inner : Class → Reader Tree) (cover : Reader 
 
   -- a string or a number
   token_key_reads : (u : Token) (sp : Span) (x y : Tree) (c d : Place) (k : Code) → ReadsToken u sp c d → token_is_word u ≡ false → same_kind (token_kind u) kind.LBracket ≡ false
-      → literal_of sp u ≡ Some y → x ≡ y → ((env : Env) → walk env y ≡ []) → notes y ≡ [] → has_meta y ≡ false → Reads (key inner cover) k x c d
+      → literal_of sp u ≡ Some y → x ≡ y → ((s : State) → key_or (Some y) s ≡ Ok (y, s)) → ((env : Env) → walk env y ≡ []) → notes y ≡ [] → has_meta y ≡ false → Reads (key inner cover) k x c d
   unfolding key
-  token_key_reads u sp x y c d k r i j e g z o m w f h =
-      rw (worded u sp c d false r i, token_first u sp c d r, j) (literal_key_reads u sp x y c d k r e g z o m w f h)
+  token_key_reads u sp x y c d k r i j e g b z o m w f h =
+      rw (worded u sp c d false r i, token_first u sp c d r, j) (literal_key_reads u sp x y c d k r e g b z o m w f h)
 
   pub key_reads : (k : Code) (x : Tree) (c d : Place) → KeyRule In k x c d → is_supported_key x ≡ true → Reads (key inner cover) k x c d
   unfolding key same_kind
   key_reads k x c d (parts.word_key text sp r e) s w f h = rw (worded (token.Word r.word) sp c d true r.reads_word refl) (word_reads text sp k x c d r e w f h)
   key_reads k x c d (parts.string_key value raw sp r e) s w f h =
-      token_key_reads (token.Str value raw) sp x (tree.str sp value raw) c d k r refl refl refl e (λ env. refl) refl refl w f h
-  key_reads k x c d (parts.number_key raw sp r e) s w f h = token_key_reads (token.Num raw) sp x (tree.num sp raw) c d k r refl refl refl e (λ env. refl) refl refl w f h
-  key_reads k x c d (parts.big_int_key raw sp r e) s w f h = token_key_reads (token.BigInt raw) sp x (tree.big_int sp raw) c d k r refl refl refl e (λ env. refl) refl refl w f h
+      token_key_reads (token.Str value raw) sp x (tree.str sp value raw) c d k r refl refl refl e (λ s. refl) (λ env. refl) refl refl w f h
+  key_reads k x c d (parts.number_key raw sp r e) s w f h = token_key_reads (token.Num raw) sp x (tree.num sp raw) c d k r refl refl refl e (λ s. refl) (λ env. refl) refl refl w f h
+  key_reads k x c d (parts.big_int_key raw sp r e) s w f h = token_key_reads (token.BigInt raw) sp x (tree.big_int sp raw) c d k r refl refl refl e (λ s. refl) (λ env. refl) refl refl w f h
   key_reads k x c d (parts.computed_key r) s w f h = rw (bracket_here c r.opens, r.opens) (computed_key_reads k x c d r s w f h)

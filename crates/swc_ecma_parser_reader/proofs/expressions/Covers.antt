@@ -22,7 +22,7 @@ use Rattle.swc_ecma_parser_grammar.specs.language.Operators.{unary_operator, upd
 use Rattle.swc_ecma_parser_grammar.specs.language.Continues.{continues_conditional}
 use Rattle.swc_ecma_parser_grammar.proofs.Tests.{or_no}
 use Rattle.swc_ecma_parser_reader.specs.State.{State, Outcome, Reader, and_then, ◌>>=◌}
-use Rattle.swc_ecma_parser_reader.specs.Expressions.{Cover, done, literal, begins_async_call, heads_arrow, operator_at, unheaded, close, unmarked, target, target_or, goes_on, elements, array, properties, object, marked_primary, primary, left_turn, left_from, left_head, left, postfix, unary_expr, binary_turn, binary_from, binary_expr, assigned_to, assigned, behind_operators, operators_expr, postfixed, continued, closed, assigned_pattern, behind_literal, open_literal, done_expr, cover_expr, assignment_expr}
+use Rattle.swc_ecma_parser_reader.specs.Expressions.{Cover, done, literal, begins_async_call, heads_arrow, operator_at, unheaded, close, unmarked, target, target_or, goes_on, elements, array, properties, object, marked_primary, primary, left_turn, left_from, left_head, left, postfix, unary_expr, binary_turn, binary_from, binary_expr, assigned_to, assigned, behind_operators, operators_expr, postfixed, continued, closed, assigned_pattern, behind_literal, open_literal, done_expr, cover_expr, assignment_expr, is_literal}
 use Rattle.swc_ecma_parser_reader.proofs.Steps.{then_ok, chosen, loop_done}
 use Rattle.swc_ecma_parser_reader.proofs.Meets.{Meets, meets_then, meets_if, saw}
 use Rattle.swc_ecma_parser_reader.proofs.expressions.CompleteKinds.{array_here, object_here, stopped, assign_stops, assign_seen, unassigned_at}
@@ -129,11 +129,6 @@ unfolding target
 target_reads v s p c e = rw (c, e) refl
 
 -- ---- what an array or object is
-
-abbrev pub is_literal : Tree → Bool
-is_literal (tree.array s xs) = true
-is_literal (tree.object s xs) = true
-is_literal _ = false
 
 -- no head of an arrow, and nothing that is assigned to
 headless : (x : Tree) (s : State) → is_literal x ≡ true → heads_arrow false x s ≡ false

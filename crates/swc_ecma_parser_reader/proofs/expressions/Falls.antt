@@ -30,7 +30,7 @@ use Rattle.swc_ecma_parser_grammar.specs.language.Goals.{Class, expression, assi
 use Rattle.swc_ecma_parser_grammar.specs.language.Operators.{unary_operator, update_operator, assign_operator, groups_left, mixes, is_unary}
 use Rattle.swc_ecma_parser_grammar.specs.language.Continues.{continues_conditional}
 use Rattle.swc_ecma_parser_reader.specs.State.{State, Outcome, Reader, and_then, moved, module_found, coded, reject, reject_in, reject_at, fault, fault_at, expect, name, loop}
-use Rattle.swc_ecma_parser_reader.specs.Expressions.{Cover, Covers, no_covers, with_cover, unmarked, close, target_or, target, goes_on, literal, literal_in, taken, any_word, word_in, word_by, touching_word, private_name, word_property, is_word_at, key_or, literal_key, shorthand_name, shorthand, dotted, ident_expr, this, bare_new, closed_left, simple, update_behind, behind_operand, postfix_at, right_class, operator_at, left_operand, unmixed, unassigned, unheaded, heads_arrow, begins_async_call, inside, brackets, access, spread_element, plain_element, element, behind_comma, behind_argument, arguments_turn, arguments, covered, spread_item, plain_item, item, behind_item, array_turn, elements, array, computed_key, key, key_value, initialized, initialized_name, initialized_key, bare_key, behind_key, keyed_property, spread_property, property, behind_property, object_turn, properties, object, paren, marked_primary, literal_or, primary, accessed, called, left_turn, left_from, super_call, super_access, has_private, behind_super, super_head, constructed, new_head, import_call, meta_fault, import_meta, import_head, left_head, left, left_expr, prefixed, update_before, postfix, updated, unary_by, unary_expr, operated, binary_by, binary_turn, binary_from, binary_expr, conditional, assigned_to, assigned, assigned_or, behind_operators, operators_expr, postfixed, continued, closed, assigned_pattern, behind_literal, open_literal, done_expr, cover_expr, assignment_expr, sequence_turn, sequence_from, expression_expr, expr_level, expr, cover}
+use Rattle.swc_ecma_parser_reader.specs.Expressions.{Cover, Covers, no_covers, with_cover, unmarked, close, target_or, target, goes_on, literal, literal_in, taken, any_word, word_in, word_by, touching_word, private_name, word_property, is_word_at, key_or, literal_key, shorthand_name, shorthand, dotted, ident_expr, this, bare_new, closed_left, simple, update_behind, behind_operand, postfix_at, right_class, operator_at, left_operand, unmixed, unassigned, unheaded, heads_arrow, begins_async_call, inside, brackets, access, spread_element, plain_element, element, behind_comma, behind_argument, arguments_turn, arguments, covered, spread_item, plain_item, item, behind_item, array_turn, elements, array, computed_key, key, key_value, initialized, initialized_name, initialized_key, bare_key, behind_key, keyed_property, spread_property, property, behind_property, object_turn, properties, object, paren, marked_primary, literal_or, primary, accessed, called, left_turn, left_from, super_call, super_property, super_access, behind_super, super_head, constructed, new_head, import_call, meta_fault, import_meta, import_head, left_head, left, left_expr, prefixed, update_before, postfix, updated, unary_by, unary_expr, operated, binary_by, binary_turn, binary_from, binary_expr, conditional, assigned_to, assigned, assigned_or, behind_operators, operators_expr, postfixed, continued, closed, assigned_pattern, behind_literal, open_literal, done_expr, cover_expr, assignment_expr, sequence_turn, sequence_from, expression_expr, expr_level, expr, cover}
 use Rattle.swc_ecma_parser_reader.proofs.Takes.{Falls, falls_then, falls_last, falls_coded, falls_if, less, falls_next, moves, takes, takes_one, falls_past, falls_moved, wanted_falls, too_deep_falls, refused_falls, fault_falls, expect_falls, name_falls, loop_falls}
 use Rattle.swc_ecma_parser_reader.proofs.Meets.{saw}
 
@@ -127,7 +127,10 @@ literal_takes s (t ∷ ts) x e h = takes_one s.at t ts e
 
 key_or_falls : (s : State) (o : Option Tree) → literal_in s.at.left ≡ o → Falls 1 (length s.at.left) (and_then (taken o s) key_or)
 key_or_falls s None e = wanted_falls Tree 1 (length s.at.left) faults.Unexpected s
-key_or_falls s (Some x) e = literal_takes s s.at.left x refl e
+key_or_falls s (Some (tree.str span value raw)) e = literal_takes s s.at.left (tree.str span value raw) refl e
+key_or_falls s (Some (tree.num span raw)) e = literal_takes s s.at.left (tree.num span raw) refl e
+key_or_falls s (Some (tree.big_int span raw)) e = literal_takes s s.at.left (tree.big_int span raw) refl e
+key_or_falls s (Some _) e = falls_moved 1 s _ (wanted_falls Tree 1 (length (after s.at).left) faults.Unexpected (moved s))
 
 literal_key_falls : (s : State) → Falls 1 (length s.at.left) (literal_key s)
 unfolding literal_key literal
@@ -183,6 +186,11 @@ module _ (inner : Class → Reader Tree) (cover : Reader Cover) (h : (class : Cl
   pub access_falls : (s : State) → Falls 1 (length s.at.left) (access inner cover s)
   unfolding access
   access_falls s = falls_if 1 (length s.at.left) (sees kind.Dot s.at) _ _ (falls_moved 1 s _ (dotted_falls (moved s))) (brackets_falls s)
+
+  super_property_falls : (s : State) → Falls 1 (length s.at.left) (super_property inner cover s)
+  unfolding super_property word_property
+  super_property_falls s = falls_if 1 (length s.at.left) (sees kind.Dot s.at) _ _
+      (falls_moved 1 s _ (falls_last 1 (length (after s.at).left) (any_word (moved s)) _ (any_word_falls (moved s)))) (brackets_falls s)
 
   pub element_falls : (s : State) → Falls 1 (length s.at.left) (element inner cover s)
   unfolding element spread_element plain_element
@@ -332,9 +340,9 @@ module _ (inner : Class → Reader Tree) (cover : Reader Cover) (h : (class : Cl
   unfolding behind_super super_call super_access
   behind_super_falls calls start s = falls_if 0 (length s.at.left) (calls && sees kind.LParen s.at) _ _
       (falls_last 0 (length s.at.left) (arguments inner cover true s) _ (arguments_any true s))
-      (falls_if 0 (length s.at.left) (has_private s.at) _ _ (falls_moved 0 s _ (wanted_falls Tree 0 (length (after s.at).left) faults.Unexpected (moved s)))
       (falls_if 0 (length s.at.left) (sees kind.Dot s.at || sees kind.LBracket s.at) _ _
-      (falls_last 0 (length s.at.left) (access inner cover s) _ (less (length s.at.left) (access inner cover s) (access_falls s))) (reject_falls Tree 0 (length s.at.left) _ s)))
+      (falls_last 0 (length s.at.left) (super_property inner cover s) _ (less (length s.at.left) (super_property inner cover s) (super_property_falls s)))
+      (reject_falls Tree 0 (length s.at.left) _ s))
 
   super_falls : (calls : Bool) (s : State) → kind_at s.at ≢ kind.End → Falls 1 (length s.at.left) (super_head inner cover calls s)
   unfolding super_head

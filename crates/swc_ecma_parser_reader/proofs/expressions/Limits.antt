@@ -29,7 +29,7 @@ use Rattle.swc_ecma_parser_grammar.specs.language.Goals.{Class, expression, assi
 use Rattle.swc_ecma_parser_grammar.specs.language.Operators.{unary_operator, update_operator, binary_operator, assign_operator, groups_left, mixes, is_unary}
 use Rattle.swc_ecma_parser_grammar.specs.language.Continues.{continues_conditional}
 use Rattle.swc_ecma_parser_reader.specs.State.{State, Outcome, Reader, ◌>>=◌, moved, module_found, coded, wanted, reject, reject_in, reject_at, fault_at, fault, expect, name, loop}
-use Rattle.swc_ecma_parser_reader.specs.Expressions.{Cover, no_covers, unmarked, close, target_or, target, goes_on, literal, literal_in, taken, any_word, word_in, word_by, touching_word, private_name, word_property, is_word_at, key_or, literal_key, shorthand_name, shorthand, dotted, ident_expr, this, bare_new, closed_left, simple, update_behind, behind_operand, postfix_at, right_class, read_operator, operator_at, left_operand, unmixed, unassigned, unassignable, unheaded, heads_arrow, begins_async_call, inside, brackets, access, spread_element, plain_element, element, arguments_turn, arguments, covered, spread_item, plain_item, item, array_turn, elements, array, computed_key, key, key_value, initialized, initialized_name, initialized_key, bare_key, behind_key, keyed_property, spread_property, property, object_turn, properties, object, paren, marked_primary, literal_or, primary, accessed, called, left_turn, left_from, super_call, super_access, has_private, behind_super, super_head, constructed, new_head, import_call, meta_fault, import_meta, import_head, left_head, left, left_expr, prefixed, update_before, postfix, updated, unary_by, unary_expr, operated, binary_by, binary_turn, binary_from, binary_expr, conditional, assigned_to, assigned, assigned_or, behind_operators, operators_expr, postfixed, continued, closed, assigned_pattern, behind_literal, open_literal, done_expr, cover_expr, assignment_expr, sequence_turn, sequence_from, expression_expr, expr_level, expr, cover}
+use Rattle.swc_ecma_parser_reader.specs.Expressions.{Cover, no_covers, unmarked, close, target_or, target, goes_on, literal, literal_in, taken, any_word, word_in, word_by, touching_word, private_name, word_property, is_word_at, key_or, literal_key, shorthand_name, shorthand, dotted, ident_expr, this, bare_new, closed_left, simple, update_behind, behind_operand, postfix_at, right_class, read_operator, operator_at, left_operand, unmixed, unassigned, unassignable, unheaded, heads_arrow, begins_async_call, inside, brackets, access, spread_element, plain_element, element, arguments_turn, arguments, covered, spread_item, plain_item, item, array_turn, elements, array, computed_key, key, key_value, initialized, initialized_name, initialized_key, bare_key, behind_key, keyed_property, spread_property, property, object_turn, properties, object, paren, marked_primary, literal_or, primary, accessed, called, left_turn, left_from, super_call, super_property, super_access, behind_super, super_head, constructed, new_head, import_call, meta_fault, import_meta, import_head, left_head, left, left_expr, prefixed, update_before, postfix, updated, unary_by, unary_expr, operated, binary_by, binary_turn, binary_from, binary_expr, conditional, assigned_to, assigned, assigned_or, behind_operators, operators_expr, postfixed, continued, closed, assigned_pattern, behind_literal, open_literal, done_expr, cover_expr, assignment_expr, sequence_turn, sequence_from, expression_expr, expr_level, expr, cover}
 use Rattle.swc_ecma_parser_reader.proofs.Meets.{Answers, answers_then, answers_if, Turned, loop_answers, saw}
 use Rattle.swc_ecma_parser_reader.proofs.Shallow.{Fine, fine_more, fine_after, fine_taken, Shallow, Kept, error_shallow, too_deep_shallow, fault_shallow, refused_shallow, wanted_shallow, expect_shallow, name_shallow, Levels}
 
@@ -166,8 +166,10 @@ unfolding literal_key
 literal_key_shallow m s f = answers_then _ _ (literal s) _ (literal_shallow m s f) by_key
   where
     by_key : (o : Option Tree) (t : State) → Fine m t.at.left → Answers (Kept m) Shallow (key_or o t)
-    by_key (Some x) t g = g
-    by_key None t g = unexpected_shallow m t g _
+    by_key (Some (tree.str span value raw)) t g = g
+    by_key (Some (tree.num span raw)) t g = g
+    by_key (Some (tree.big_int span raw)) t g = g
+    by_key _ t g = unexpected_shallow m t g _
 
 private_shallow : (m : ℕ) (s : State) → Fine m s.at.left → Answers (Kept m) Shallow (private_name s)
 unfolding private_name
@@ -285,6 +287,12 @@ module _ (inner : Class → Reader Tree) (cover : Reader Cover) (n : ℕ) (below
     access_shallow s h f = answers_if _ _ (sees kind.Dot s.at) _ _ (λ _. dotted_shallow m (moved s) (fine_after m s.at f))
         (λ e. brackets_shallow s (saw s.at kind.LBracket (other_test (sees kind.Dot s.at) (sees kind.LBracket s.at) h e)) f)
 
+    super_property_shallow : (s : State) → (sees kind.Dot s.at || sees kind.LBracket s.at) ≡ true → Fine m s.at.left → Answers (Kept m) Shallow (super_property inner cover s)
+    unfolding super_property word_property
+    super_property_shallow s h f = answers_if _ _ (sees kind.Dot s.at) _ _
+        (λ _. answers_then _ _ (any_word (moved s)) _ (any_word_shallow m (moved s) (fine_after m s.at f)) (λ i t g. g))
+        (λ e. brackets_shallow s (saw s.at kind.LBracket (other_test (sees kind.Dot s.at) (sees kind.LBracket s.at) h e)) f)
+
     arguments_shallow : (commas : Bool) (s : State) → kind_at s.at ≡ kind.LParen → Fine m s.at.left → Answers (Kept m) Shallow (arguments inner cover commas s)
     unfolding arguments
     arguments_shallow commas s e f =
@@ -356,9 +364,8 @@ module _ (inner : Class → Reader Tree) (cover : Reader Cover) (n : ℕ) (below
     unfolding behind_super super_call super_access
     behind_super_shallow calls start s f = answers_if _ _ (calls && sees kind.LParen s.at) _ _
         (λ h. answers_then _ _ (arguments inner cover true s) _ (arguments_shallow true s (saw s.at kind.LParen (and_parts calls (sees kind.LParen s.at) h).1) f) (λ xs t g. g))
-        (λ _. answers_if _ _ (has_private s.at) _ _ (λ _. unexpected_shallow m (moved s) (fine_after m s.at f) _)
-        (λ _. answers_if _ _ (sees kind.Dot s.at || sees kind.LBracket s.at) _ _ (λ h. answers_then _ _ (access inner cover s) _ (access_shallow s h f) (λ x t g. g))
-        (λ _. reject_shallow _ faults.InvalidSuper start (λ e. cc) m s f)))
+        (λ _. answers_if _ _ (sees kind.Dot s.at || sees kind.LBracket s.at) _ _
+        (λ h. answers_then _ _ (super_property inner cover s) _ (super_property_shallow s h f) (λ x t g. g)) (λ _. reject_shallow _ faults.InvalidSuper start (λ e. cc) m s f))
 
     super_shallow : (calls : Bool) (s : State) → Fine m s.at.left → Answers (Kept m) Shallow (super_head inner cover calls s)
     unfolding super_head

@@ -31,14 +31,12 @@ use Rattle.swc_ecma_parser_grammar.specs.language.Reads.{Reads}
 use Rattle.swc_ecma_parser_grammar.specs.Walk as walks
 use Rattle.swc_ecma_parser_grammar.specs.Walk.{walk, env_of}
 use Rattle.swc_ecma_parser_grammar.proofs.Tests.{or_no, and_both}
-use Rattle.swc_ecma_parser_reader.specs.Notes.{Notes, no_notes, held, ◌⊕◌, notes_of, all_notes_of}
+use Rattle.swc_ecma_parser_reader.specs.Notes.{notes_of, all_notes_of}
 use Rattle.swc_ecma_parser_reader.specs.State.{State, Reader, moved, coded, expect, loop}
-use Rattle.swc_ecma_parser_reader.specs.Expressions.{Cover, Covers, no_covers, with_cover, with_comma, done, literal_of, literal_in, taken, literal, any_word, word_property, token_is_word, first_is_word, is_word_at, key_or, literal_key, shorthand_name, shorthand, inside, covered, spread_item, plain_item, item, behind_item, array_turn, elements, array, computed_key, key, key_value, initialized, initialized_name, initialized_key, bare_key, behind_key, keyed_property, spread_property, property, behind_property, object_turn, properties, object}
-use Rattle.swc_ecma_parser_reader.proofs.Notes.{or_nil, or_true, notes_nil}
+use Rattle.swc_ecma_parser_reader.specs.Expressions.{Cover, Covers, no_covers, with_cover, with_comma, done, literal_of, literal_in, taken, literal, any_word, word_property, token_is_word, first_is_word, is_word_at, key_or, literal_key, shorthand_name, shorthand, inside, covered, spread_item, plain_item, item, behind_item, array_turn, elements, array, computed_key, key, key_value, initialized, initialized_name, initialized_key, bare_key, behind_key, keyed_property, spread_property, property, behind_property, object_turn, properties, object, is_literal}
 use Rattle.swc_ecma_parser_reader.proofs.Meets.{Meets, Refuses, meets_then, meets_if, wanted_meets, Turned, loop_answers, saw}
 use Rattle.swc_ecma_parser_reader.proofs.Errors.{kind_here}
 use Rattle.swc_ecma_parser_reader.proofs.Between.{SoundTree, Sound, same, sound_moved, sound_here, sound_as, sound_after, within_sound}
-use Rattle.swc_ecma_parser_reader.proofs.expressions.Covers.{is_literal}
 use Rattle.swc_ecma_parser_reader.proofs.expressions.Targets.{some_array, some_object, some_key_value, some_before, some_alone, some_rest, simple_is, simple_as, leaf_no_pattern, pattern_no_rest}
 use Rattle.swc_ecma_parser_reader.proofs.expressions.SoundSteps.{paired, stepped, moved_back, meets_as, reject_meets, clash, Takes, expect_sound, stands, name_is_clean, name_is_supported, any_word_sound, word_span, last_span, walks_push, notes_push}
 use Rattle.swc_ecma_parser_reader.proofs.expressions.SoundLists.{elements_list, properties_list, begun_next, at_more, Plain, Pattern, Target, Part, PartRead, no_marks, SoFar, AllRead, all_read, push_last, push_next}
@@ -361,8 +359,10 @@ module _ (n : ℕ) (inner : Class → Reader Tree) (cover : Reader Cover) (sound
   key_in_sound s (u ∷ ts) e g = key_of_sound s u ts u.token e refl g
 
   key_or_sound : (s : State) (o : Option Tree) (t : State) → KeyOr s o t → Meets (SoundKey s) (key_or o t)
-  key_or_sound s (Some x) t p = p
-  key_or_sound s None t p = wanted_meets _ faults.Unexpected t
+  key_or_sound s (Some (tree.str span value raw)) t p = p
+  key_or_sound s (Some (tree.num span raw)) t p = p
+  key_or_sound s (Some (tree.big_int span raw)) t p = p
+  key_or_sound s _ t p = wanted_meets _ faults.Unexpected t
 
   literal_key_sound : (s : State) → is_word_at s.at ≡ false → Meets (SoundKey s) (literal_key s)
   unfolding literal_key literal is_word_at

@@ -33,15 +33,15 @@ use Rattle.swc_ecma_parser_grammar.specs.language.Reads.{Reads}
 use Rattle.swc_ecma_parser_grammar.specs.Walk as walks
 use Rattle.swc_ecma_parser_grammar.specs.Walk.{walk, env_of}
 use Rattle.swc_ecma_parser_grammar.proofs.Tests.{or_no, or_none, and_yes, and_both}
-use Rattle.swc_ecma_parser_reader.specs.Notes.{Notes, no_notes, held, ◌⊕◌, notes_of, all_notes_of}
+use Rattle.swc_ecma_parser_reader.specs.Notes.{notes_of, all_notes_of}
 use Rattle.swc_ecma_parser_reader.specs.State.{State, Outcome, Reader, and_then, moved, module_found, fault, fault_at, expect, name, loop}
-use Rattle.swc_ecma_parser_reader.specs.Expressions.{Cover, literal_of, literal_in, taken, literal, ident_expr, this, has_private, bare_new, closed_left, unmarked, close, dotted, inside, brackets, access, spread_element, plain_element, element, behind_argument, arguments_turn, arguments, array, object, paren, marked_primary, literal_or, primary, accessed, called, left_turn, left_from, super_call, super_access, behind_super, super_head, constructed, new_head, import_call, meta_fault, import_meta, import_head, left_head, left, left_expr}
-use Rattle.swc_ecma_parser_reader.proofs.Notes.{or_nil, or_true, notes_nil}
+use Rattle.swc_ecma_parser_reader.specs.Expressions.{Cover, literal_of, literal_in, taken, literal, ident_expr, this, super_property, bare_new, closed_left, unmarked, close, dotted, inside, brackets, access, spread_element, plain_element, element, behind_argument, arguments_turn, arguments, array, object, paren, marked_primary, literal_or, primary, accessed, called, left_turn, left_from, super_call, super_access, behind_super, super_head, constructed, new_head, import_call, meta_fault, import_meta, import_head, left_head, left, left_expr, any_word, word_property}
+use Rattle.swc_ecma_parser_reader.proofs.Notes.{or_true, notes_nil}
 use Rattle.swc_ecma_parser_reader.proofs.Meets.{Meets, Refuses, meets_then, meets_if, wanted_meets, Turned, loop_answers, saw}
 use Rattle.swc_ecma_parser_reader.proofs.Errors.{kind_here}
 use Rattle.swc_ecma_parser_reader.proofs.Between.{SoundTree, SoundStep, Sound, same, no_faults, sound_moved, sound_here, sound_as, sound_after}
 use Rattle.swc_ecma_parser_reader.proofs.expressions.CompleteKinds.{seen}
-use Rattle.swc_ecma_parser_reader.proofs.expressions.SoundSteps.{paired, stepped, moved_back, meets_as, reject_meets, other, clash, elsewhere, Takes, expect_sound, fault_sound, stands, token_first, FreeWord, name_sound, name_is_clean, name_is_supported, name_first, Dotted, word_dotted, private_dotted, dotted_sound, walks_push, notes_push, supported_push}
+use Rattle.swc_ecma_parser_reader.proofs.expressions.SoundSteps.{paired, stepped, moved_back, meets_as, reject_meets, other, clash, elsewhere, Takes, expect_sound, fault_sound, stands, token_first, FreeWord, name_sound, name_is_clean, name_is_supported, name_first, Dotted, word_dotted, private_dotted, dotted_sound, walks_push, notes_push, supported_push, any_word_sound}
 use Rattle.swc_ecma_parser_reader.proofs.expressions.SoundCovers.{SoundCover, SoundLiteral, inside_sound, array_sound, object_sound}
 
 -- ---- words
@@ -117,11 +117,11 @@ dotted_access : (In : Goal → Type 0) (k : Code) (x : Tree) (c d : Place) → k
 dotted_access In k x c d e (word_dotted text span r g) = (word_access text span e r g, ap is_supported_property g)
 dotted_access In k x c d e (private_dotted r) = (private_access e r, ap is_supported_property r.is)
 
--- no private name stands behind `super`
-not_private : (In : Goal → Type 0) (k : Code) (x : Tree) (c d : Place) → has_private c ≡ false → AccessRule In k x c d → is_private x ≡ false
+-- no private name stands in brackets
+not_private : (In : Goal → Type 0) (k : Code) (x : Tree) (c d : Place) → sees kind.Dot c ≡ false → AccessRule In k x c d → is_private x ≡ false
 unfolding same_kind
 not_private In k x c d h (word_access text span e r g) = ap is_private g
-not_private In k x c d h (private_access e r) = clash (has_private c) (and_both (sees kind.Dot c) (sees kind.Hash (after c)) (rw e refl) (rw r.hash refl)) h
+not_private In k x c d h (private_access e r) = clash (sees kind.Dot c) (rw e refl) h
 not_private In k x c d h (bracket_access y m e r g i j) = ap is_private j
 
 -- what `new` calls without arguments
@@ -160,6 +160,17 @@ module _ (n : ℕ) (inner : Class → Reader Tree) (cover : Reader Cover) (sound
       (λ e. meets_as (dotted (moved s)) (dotted_sound (moved s))
       (λ x t p. sound_after s t (saw s.at kind.Dot e) refl refl refl (λ r. dotted_access (Reads n) s.code x s.at t.at (saw s.at kind.Dot e) r) p))
       (λ e. brackets_sound s (saw s.at kind.LBracket (other (sees kind.Dot s.at) (sees kind.LBracket s.at) h e)))
+
+  abbrev SuperProperty : Code → Tree → Place → Place → Type 0
+  SuperProperty k x c d = Access (Reads n) k x c d × (is_private x ≡ false)
+
+  super_property_sound : (s : State) → (sees kind.Dot s.at || sees kind.LBracket s.at) ≡ true → Meets (λ x t. SoundTree SuperProperty s x t) (super_property inner cover s)
+  unfolding super_property word_property
+  super_property_sound s h = meets_if _ (sees kind.Dot s.at) _ _
+      (λ e. meets_then _ (any_word (moved s)) _ (any_word_sound (moved s)) (λ i t p.
+      sound_after s t (saw s.at kind.Dot e) refl refl refl (λ r. ((word_access i.sym i.span (saw s.at kind.Dot e) r refl, refl), refl)) p))
+      (λ e. meets_as (brackets inner cover s) (brackets_sound s (saw s.at kind.LBracket (other (sees kind.Dot s.at) (sees kind.LBracket s.at) h e)))
+      (λ x t p. sound_as s t refl refl refl (λ r. (r, not_private (Reads n) s.code x s.at t.at e r.0)) p))
 
   -- ---- arguments
 
@@ -378,15 +389,14 @@ module _ (n : ℕ) (inner : Class → Reader Tree) (cover : Reader Cover) (sound
           no_await = w;
           is_called = λ z. clash calls g.0 z;
         }) p))
-        (λ _. meets_if _ (has_private (after s.at)) _ _ (λ _. wanted_meets _ faults.Unexpected (moved (moved s)))
-        (λ h. meets_if _ (sees kind.Dot (after s.at) || sees kind.LBracket (after s.at)) _ _
-        (λ g. meets_then _ (access inner cover (moved s)) _ (access_sound (moved s) g) (λ x t p. sound_after s t e refl refl refl (λ r. record {
-          rule = super_property_rule x e r.0 (not_private (Reads n) s.code x (after s.at) t.at h r.0) refl;
-          supports = r.1;
+        (λ _. meets_if _ (sees kind.Dot (after s.at) || sees kind.LBracket (after s.at)) _ _
+        (λ g. meets_then _ (super_property inner cover (moved s)) _ (super_property_sound (moved s) g) (λ x t p. sound_after s t e refl refl refl (λ r. record {
+          rule = super_property_rule x e r.0.0 r.1 refl;
+          supports = r.0.1;
           no_await = w;
           is_called = λ _. refl;
         }) p))
-        (λ _. reject_meets _ _ (moved s))))
+        (λ _. reject_meets _ _ (moved s)))
 
     new_sound : kind_at s.at ≡ kind.New → Meets (SoundLeft calls s) (new_head inner cover s)
     unfolding new_head constructed bare_new spanned same_kind
@@ -415,6 +425,7 @@ module _ (n : ℕ) (inner : Class → Reader Tree) (cover : Reader Cover) (sound
           added = [];
           faults = sym (append-nil u.faults);
           notes = λ _ i. record { held_back = sym (append-nil u.notes.held_back) i; found_module_item = sym (or_true u.notes.found_module_item) i };
+          found = sym (or_true u.notes.found_module_item);
           walked = λ _ _. refl;
           keeps = λ h. h;
           spares = λ _ h. h;
@@ -427,6 +438,7 @@ module _ (n : ℕ) (inner : Class → Reader Tree) (cover : Reader Cover) (sound
           added = p.added;
           faults = p.faults;
           notes = λ e. absurd (p.reads e);
+          found = p.found ∙ sym (or_true u.notes.found_module_item);
           walked = p.walked;
           keeps = p.keeps;
           spares = p.spares;

@@ -32,10 +32,10 @@ use Rattle.swc_ecma_parser_grammar.specs.Walk as walks
 use Rattle.swc_ecma_parser_grammar.specs.Walk.{walk, tabled}
 use Rattle.swc_ecma_parser_grammar.proofs.Tests.{and_yes, and_both}
 use Rattle.swc_ecma_parser_grammar.proofs.SupportedBegins.{name_begins}
-use Rattle.swc_ecma_parser_reader.specs.Notes.{Notes, no_notes, ◌⊕◌, notes_of, all_notes_of}
+use Rattle.swc_ecma_parser_reader.specs.Notes.{Notes, no_notes, held, ◌⊕◌, notes_of, all_notes_of}
 use Rattle.swc_ecma_parser_reader.specs.State.{State, Outcome, Reader, and_then, moved, noted, recorded_in, recorded_at, fault, refused, reject, reject_in, reject_at, expect, name, name_in, name_by}
 use Rattle.swc_ecma_parser_reader.specs.Expressions.{any_word, word_in, word_by, touching_word, private_name, word_property, dotted}
-use Rattle.swc_ecma_parser_reader.proofs.Notes.{notes_nil, notes_assoc}
+use Rattle.swc_ecma_parser_reader.proofs.Notes.{or_nil, or_assoc, notes_nil, notes_assoc}
 use Rattle.swc_ecma_parser_reader.proofs.Meets.{Meets, meets_then, meets_if, wanted_meets, refuse_meets, saw}
 use Rattle.swc_ecma_parser_reader.proofs.Between.{SoundTree, SoundStep, Sound, Walk, no_faults, same, tabled-append, drops-split, nil-split, some_fault, sound_moved, sound_as, sound_after}
 use Rattle.swc_ecma_parser_reader.proofs.Errors.{is_error, word_is_none, kind_here, after_remembers}
@@ -50,6 +50,7 @@ module _ {w v : Walk} {ns ms : Notes} {P Q : Code → Place → Place → Type 0
     added = p.added ++ q.added;
     faults = q.faults ∙ ap (λ z. z ++ q.added) p.faults ∙ append_assoc s.faults p.added q.added;
     notes = λ e. let h = nil-split p.added q.added e in q.notes h.1 ∙ ap (λ z. z ⊕ ms) (p.notes h.0) ∙ notes_assoc s.notes ns ms;
+    found = q.found ∙ ap (λ z. z || ms.found_module_item) p.found ∙ or_assoc s.notes.found_module_item ns.found_module_item ms.found_module_item;
     walked = λ h d. let e = drops-split p.added q.added d in
         tabled-append p.added q.added ∙ ap (λ z. z ++ tabled q.added) (p.walked h e.0)
         ∙ ap (λ z. w s.code s.scope.labels ++ z) (q.walked (p.keeps h) e.1 ∙ ap (λ z. v z m.scope.labels) p.code ∙ ap (λ z. v s.code z.labels) p.scope);
@@ -148,13 +149,14 @@ error_first c u ts e h g = rw (h, g) refl
 
 -- a recorded fault that is not of the table; an error token before it is recorded too
 module _ (P : Code → Place → Place → Type 0) (f : Fault) (s : State) (untabled : walks.is_tabled f.kind ≡ false) where
-  pub noted_sound : (ns : Notes) → Sound same no_faults ns P s (noted f s)
-  noted_sound ns = record {
+  pub noted_sound : (fs : List Fault) → Sound same no_faults (held fs) P s (noted f s)
+  noted_sound fs = record {
     code = refl;
     scope = refl;
     added = f ∷ [];
     faults = refl;
     notes = λ i. some_fault f [] i;
+    found = sym (or_nil s.notes.found_module_item);
     walked = λ i d. rw untabled refl;
     keeps = λ i. i;
     spares = λ i g. g;
@@ -169,16 +171,17 @@ module _ (P : Code → Place → Place → Type 0) (f : Fault) (s : State) (unta
     added = fault_of e ∷ f ∷ [];
     faults = append_assoc s.faults (fault_of e ∷ []) (f ∷ []);
     notes = λ i. some_fault (fault_of e) (f ∷ []) i;
+    found = sym (or_nil s.notes.found_module_item);
     walked = λ i d. clash (has_error_token s.at.left) (error_first s.at u ts e h g) i;
     keeps = λ i. clash (has_error_token s.at.left) (error_first s.at u ts e h g) i;
     spares = λ i. some_fault (fault_of e) (f ∷ []) i;
     remembers = after_remembers s.at u ts h (rw g j);
     reads = λ i. some_fault (fault_of e) (f ∷ []) i;
   })
-  recorded_at_sound u ts _ h g = noted_sound no_notes
+  recorded_at_sound u ts _ h g = noted_sound []
 
   recorded_in_sound : (ts : List TokenAndSpan) → s.at.left ≡ ts → Meets (λ _ t. SoundStep P s t) (recorded_in f s ts)
-  recorded_in_sound [] h = noted_sound no_notes
+  recorded_in_sound [] h = noted_sound []
   recorded_in_sound (u ∷ ts) h = recorded_at_sound u ts u.token h refl
 
   pub fault_sound : Meets (λ _ t. SoundStep P s t) (fault f s)

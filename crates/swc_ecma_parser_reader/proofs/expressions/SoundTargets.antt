@@ -30,9 +30,9 @@ use Rattle.swc_ecma_parser_grammar.specs.language.Expressions.{UnaryRule, Binary
 use Rattle.swc_ecma_parser_grammar.specs.language.Reads.{Reads}
 use Rattle.swc_ecma_parser_grammar.proofs.Tests.{or_no, or_none, and_no, no_and}
 use Rattle.swc_ecma_parser_reader.specs.State.{State}
-use Rattle.swc_ecma_parser_reader.specs.Expressions.{Cover, done, read_operator, operator_at, goes_on}
+use Rattle.swc_ecma_parser_reader.specs.Expressions.{Cover, done, read_operator, operator_at, goes_on, is_literal}
 use Rattle.swc_ecma_parser_reader.proofs.expressions.Targets.{leaf_supported, left_supported, left_target, left_leaf, simple_is}
-use Rattle.swc_ecma_parser_reader.proofs.expressions.Covers.{begins_literal, is_literal}
+use Rattle.swc_ecma_parser_reader.proofs.expressions.Covers.{begins_literal}
 use Rattle.swc_ecma_parser_reader.proofs.expressions.SoundSteps.{clash}
 use Rattle.swc_ecma_parser_reader.proofs.expressions.SoundCovers.{CoverRead, LiteralRead, word_spanned}
 use Rattle.swc_ecma_parser_reader.proofs.expressions.SoundOperators.{other_form, simple_binary}

@@ -14,9 +14,8 @@ use Rattle.swc_ecma_parser_grammar.specs.language.Goals.{Class, assignment}
 use Rattle.swc_ecma_parser_grammar.specs.language.Operators.{assign_operator, mixes}
 use Rattle.swc_ecma_parser_grammar.specs.language.Continues.{continues_conditional}
 use Rattle.swc_ecma_parser_reader.specs.State.{State, Outcome, Reader, moved, expect}
-use Rattle.swc_ecma_parser_reader.specs.Expressions.{Cover, heads_arrow, simple, update_behind, behind_operand, postfix_at, right_class, operator_at, left_operand, unmixed, unassigned, unheaded, inside, access, arguments, accessed, called, left_turn, left_from, operated, binary_by, binary_turn, binary_from, conditional, assigned_to, assigned, assigned_or, behind_operators, postfixed, continued}
+use Rattle.swc_ecma_parser_reader.specs.Expressions.{Cover, heads_arrow, simple, update_behind, behind_operand, postfix_at, right_class, operator_at, left_operand, unmixed, unassigned, unheaded, inside, access, arguments, accessed, called, left_turn, left_from, operated, binary_by, binary_turn, binary_from, conditional, assigned_to, assigned, assigned_or, behind_operators, postfixed, continued, is_literal}
 use Rattle.swc_ecma_parser_reader.proofs.Meets.{Meets, Refuses, meets_then, meets_if, wanted_meets, Turned, loop_answers}
-use Rattle.swc_ecma_parser_reader.proofs.expressions.Covers.{is_literal}
 use Rattle.swc_ecma_parser_reader.proofs.expressions.SoundSteps.{reject_meets}
 
 -- whatever was read

@@ -10,7 +10,7 @@ use Rattle.swc_ecma_parser_grammar.specs.Supported.{supported}
 use Rattle.swc_ecma_parser_grammar.specs.Walk as walks
 use Rattle.swc_ecma_parser_grammar.specs.Walk.{Env, walk}
 use Rattle.swc_ecma_parser_reader.specs.Notes.{◌⊕◌, notes_of, all_notes_of}
-use Rattle.swc_ecma_parser_reader.proofs.expressions.Covers.{is_literal}
+use Rattle.swc_ecma_parser_reader.specs.Expressions.{is_literal}
 
 -- ---- leaves
 

@@ -27,12 +27,11 @@ use Rattle.swc_ecma_parser_grammar.specs.Walk as walks
 use Rattle.swc_ecma_parser_grammar.specs.Walk.{walk, env_of}
 use Rattle.swc_ecma_parser_grammar.proofs.Tests.{or_no, and_both}
 use Rattle.swc_ecma_parser_reader.specs.State as state
-use Rattle.swc_ecma_parser_reader.specs.Notes.{Notes, no_notes, held, ◌⊕◌, notes_of, all_notes_of}
+use Rattle.swc_ecma_parser_reader.specs.Notes.{notes_of, all_notes_of}
 use Rattle.swc_ecma_parser_reader.specs.State.{State, Reader, and_then, moved, coded, within, expect, name, Step, More, loop}
 use Rattle.swc_ecma_parser_reader.specs.Expressions.{Cover, inside, key, expr, cover}
 use Rattle.swc_ecma_parser_reader.specs.Patterns as reader
 use Rattle.swc_ecma_parser_reader.specs.Patterns.{rest, array_turn, elements, array, rest_name, rest_property, key_value, initialized_name, bare_name, named, bare_key, behind_key, property, object_turn, properties, object, pattern_level, initialized, element_level, pattern, element}
-use Rattle.swc_ecma_parser_reader.proofs.Notes.{or_nil, or_true, notes_nil}
 use Rattle.swc_ecma_parser_reader.proofs.Meets.{Meets, Refuses, meets_then, meets_if, wanted_meets, too_deep_meets, Turned, loop_answers, saw}
 use Rattle.swc_ecma_parser_reader.proofs.Errors.{is_error}
 use Rattle.swc_ecma_parser_reader.proofs.Between.{SoundTree, Sound, same, sound_moved, sound_here, sound_as, sound_after, within_sound}

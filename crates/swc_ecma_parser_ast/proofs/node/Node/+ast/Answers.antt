@@ -70,8 +70,8 @@ discard-requires-in-Pat t c κs =
     let i = within_pat c.in-Pat.pat.ptr c.in-Pat.pat.alloc c.into_inner-in-Pat.result in
     (((omega (arith, h, i, c.loop-expr.invariant, c.decreases), tt), tt), search rules)
 
-pub discard-requires-in-Stmt : goal.discard-requires-in-Stmt
-discard-requires-in-Stmt t c κs =
+pub discard-requires-in_default-into_inner : goal.discard-requires-in_default-into_inner
+discard-requires-in_default-into_inner t c κs =
     let at = stmt_at c.in-Stmt.stmt.ptr c.in-Stmt.stmt.alloc in
     let h = taken at _ _ _ _ c.in-Stmt.is c.self.view_is c.into_inner-in-Stmt.ensures in
     let i = within_stmt c.in-Stmt.stmt.ptr c.in-Stmt.stmt.alloc c.into_inner-in-Stmt.result in

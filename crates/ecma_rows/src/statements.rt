@@ -1,0 +1,92 @@
+//! Rows of statements, by hand, from the rules of ECMA-262, section 14.
+
+use crate::report::report;
+use std::test::Fail;
+
+const BRANCHES: &str =
+    "if (a) b; else c → Script 0..16, If 0..16 → IfStmt 0..16, Ident 4..5 a, ExprStmt 7..9, ExprStmt 15..16
+if (a) b → Script 0..8, If 0..8 → IfStmt 0..8, ExprStmt 7..8, alt: None
+if (a) b; c → Script 0..11, If 0..9, Expr 10..11 → IfStmt 0..9, alt: None
+if (a) if (b) c; else d → Script 0..23, If 0..23 → IfStmt 0..23, IfStmt 7..23, alt: None
+if (a) b; else if (c) d; else e → Script 0..31, If 0..31 → IfStmt 0..31, IfStmt 15..31, ExprStmt 30..31
+if (a) b; else if (c) d; e → Script 0..26, If 0..24, Expr 25..26 → IfStmt 0..24, IfStmt 15..24, alt: None
+if (a) {} else ; → Script 0..16, If 0..16 → BlockStmt 7..9, EmptyStmt 15..16
+if (a in b, c) d → Script 0..16, If 0..16 → SeqExpr 4..13, BinExpr 4..10
+if (a) var b → Script 0..12, If 0..12 → VarDecl 7..12
+if (a) let¶x → Script 0..12, If 0..10, Expr 11..12 → ExprStmt 7..10
+if (a) let x → refused 11..12 ExpectedSemiForExprStmt
+if (a) const b = 1; → refused 7..12 Unexpected
+if (a) b else c → refused 9..13 ExpectedSemiForExprStmt
+if (a) b; else → refused 14..14 Eof
+if (a) → refused 6..6 Eof
+if (a → refused 4..5 Expected
+if a → refused 3..4 Expected
+if () → refused 4..5 WithLabel
+if (a.) b → refused 6..7 WithLabel
+else → refused 0..4 Unexpected";
+
+#[test]
+fn branches(rt: HostRuntime) -> Result<(), Fail> {
+    assert_eq!(rt; report(rt.alloc(), BRANCHES, 1000)?.as_str(), "20 rows");
+    Ok(())
+}
+
+const THROWS: &str = "throw a → Script 0..7, Throw 0..7 → ThrowStmt 0..7, Ident 6..7 a
+throw a;b → Script 0..9, Throw 0..8, Expr 8..9 → ThrowStmt 0..8
+throw this → Script 0..10, Throw 0..10 → ThisExpr 6..10
+throw a, b in c → Script 0..15, Throw 0..15 → SeqExpr 6..15, BinExpr 9..15
+throw a¶b → Script 0..9, Throw 0..7, Expr 8..9
+throw¶a → refused 6..7 LineBreakInThrow
+throw → refused 0..5 LineBreakInThrow
+throw a b → refused 8..9 Expected
+throw ; → refused 6..7 Unexpected";
+
+#[test]
+fn throws(rt: HostRuntime) -> Result<(), Fail> {
+    assert_eq!(rt; report(rt.alloc(), THROWS, 1000)?.as_str(), "9 rows");
+    Ok(())
+}
+
+const LOOPS: &str =
+    "while (a) b → Script 0..11, While 0..11 → WhileStmt 0..11, Ident 7..8 a, ExprStmt 10..11
+while (a) ; b → Script 0..13, While 0..11, Expr 12..13 → EmptyStmt 10..11
+while (a in b) { c } → Script 0..20, While 0..20 → BinExpr 7..13, BlockStmt 15..20
+while (a) var b → Script 0..15, While 0..15 → VarDecl 10..15
+while (a) while (b) c → Script 0..21, While 0..21 → WhileStmt 0..21, WhileStmt 10..21
+while (a) → refused 9..9 Eof
+while (a → refused 7..8 Expected
+while a → refused 6..7 Expected
+while () a → refused 7..8 Unexpected
+do a; while (b) c → Script 0..17, DoWhile 0..15, Expr 16..17 → DoWhileStmt 0..15, ExprStmt 3..5
+do a; while (b); → Script 0..16, DoWhile 0..16
+do a¶while (b) → Script 0..14, DoWhile 0..14 → ExprStmt 3..4
+do {} while (a) → Script 0..15, DoWhile 0..15 → BlockStmt 3..5, Ident 13..14 a
+do a while (b) → refused 5..10 ExpectedSemiForExprStmt
+do a; b → refused 6..7 Expected
+do a; while b → refused 12..13 Expected
+do → refused 2..2 Eof";
+
+#[test]
+fn loops(rt: HostRuntime) -> Result<(), Fail> {
+    assert_eq!(rt; report(rt.alloc(), LOOPS, 1000)?.as_str(), "17 rows");
+    Ok(())
+}
+
+#[test]
+fn limits(rt: HostRuntime) -> Result<(), Fail> {
+    for (rows, limit) in [
+        ("if (a) b; → refused 4..5 TooDeep", 1),
+        ("if (a) b; → refused 7..8 TooDeep", 2),
+        ("if (a) b; else if (a) b; → Script 0..24, If 0..24", 3),
+        ("if (((a))) b; → refused 6..7 TooDeep", 3),
+        ("throw a → refused 6..7 TooDeep", 1),
+        ("throw a → Script 0..7, Throw 0..7", 2),
+        ("while (a) while (b) c → refused 20..21 TooDeep", 3),
+        ("while (a) while (b) c → Script 0..21, While 0..21", 4),
+        ("do a; while (b) → refused 3..4 TooDeep", 2),
+        ("do a; while (b) → Script 0..15, DoWhile 0..15", 3),
+    ] {
+        assert_eq!(rt; report(rt.alloc(), rows, limit)?.as_str(), "1 rows");
+    }
+    Ok(())
+}
