@@ -126,7 +126,12 @@ fn texts(rt: HostRuntime) -> Result<(), Fail> {
             "Script 0..7\n  Block 0..7\nfault 6..7 Expected\n||1",
         ),
         ("a\n(b)", "Script 0..5\n  Expr 0..5\n||0"),
-        ("{ if (a) b }", "refused 2..4 Unexpected\n||2"),
+        ("{ if (a) b }", "Script 0..12\n  Block 0..12\n||0"),
+        (
+            "if(a)b;while(c)d",
+            "Script 0..16\n  If 0..7\n  While 7..16\n||0",
+        ),
+        ("{ else b }", "refused 2..6 Unexpected\n||2"),
         (
             "a \\",
             "fault 2..3 UnexpectedChar\nrefused 2..3 ExpectedSemiForExprStmt\n||2",
