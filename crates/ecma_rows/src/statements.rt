@@ -72,6 +72,34 @@ fn loops(rt: HostRuntime) -> Result<(), Fail> {
     Ok(())
 }
 
+const TRIES: &str =
+    "try {} catch {} → Script 0..15, Try 0..15 → TryStmt 0..15, BlockStmt 4..6, CatchClause 7..15, BlockStmt 13..15, param: None, finalizer: None
+try {} finally {} → Script 0..17, Try 0..17 → TryStmt 0..17, BlockStmt 15..17, handler: None
+try {} catch (e) {} finally {} → Script 0..30, Try 0..30 → CatchClause 7..19, BlockStmt 28..30
+try {} catch({ ...a34 }) {} → Script 0..27, Try 0..27 → CatchClause 7..27, ObjectPat 13..23, RestPat 15..21
+try {} catch ([a = 1, b]) { c } d → Script 0..33, Try 0..31, Expr 32..33 → ArrayPat 14..24, AssignPat 15..20, CatchClause 7..31
+try { try {} catch {} } finally {} → Script 0..34, Try 0..34 → TryStmt 6..21, CatchClause 13..21
+if (a) try {} catch {} else b → Script 0..29, If 0..29 → TryStmt 7..22, ExprStmt 28..29
+try {} → Script 0..6, Try 0..6, fault 6..6 TS1005 → TryStmt 0..6, handler: None, finalizer: None
+try { a } b → Script 0..11, Try 0..9, Expr 10..11, fault 10..10 TS1005
+try { var a → Script 0..11, Try 0..11, fault 10..11 Expected, fault 11..11 TS1005
+try {} \\ → Script 0..8, Try 0..8, fault 7..8 UnexpectedChar, fault 7..7 TS1005
+try a → refused 4..5 Expected
+try → refused 0..3 Expected
+try {} catch ( → refused 14..14 Eof
+try {} catch (a → refused 14..15 Expected
+try {} catch (a = 1) {} → refused 16..17 Expected
+try {} catch () {} → refused 14..15 ExpectedIdent
+try {} finally → refused 7..14 Expected
+try {} finally {} catch {} → refused 18..23 Unexpected
+catch {} → refused 0..5 Unexpected";
+
+#[test]
+fn tries(rt: HostRuntime) -> Result<(), Fail> {
+    assert_eq!(rt; report(rt.alloc(), TRIES, 1000)?.as_str(), "20 rows");
+    Ok(())
+}
+
 #[test]
 fn limits(rt: HostRuntime) -> Result<(), Fail> {
     for (rows, limit) in [
@@ -85,6 +113,11 @@ fn limits(rt: HostRuntime) -> Result<(), Fail> {
         ("while (a) while (b) c → Script 0..21, While 0..21", 4),
         ("do a; while (b) → refused 3..4 TooDeep", 2),
         ("do a; while (b) → Script 0..15, DoWhile 0..15", 3),
+        ("try {} catch {} → Script 0..15, Try 0..15", 1),
+        ("try { a } catch {} → refused 6..7 TooDeep", 2),
+        ("try { a } catch {} → Script 0..18, Try 0..18", 3),
+        ("try {} catch (a) {} → refused 14..15 TooDeep", 1),
+        ("try {} catch (a) {} → Script 0..19, Try 0..19", 2),
     ] {
         assert_eq!(rt; report(rt.alloc(), rows, limit)?.as_str(), "1 rows");
     }

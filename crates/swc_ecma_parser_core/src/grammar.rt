@@ -5,7 +5,6 @@ ghost use Rattle.swc_ecma_parser_left.specs.Patterns.{read_pat};
 ghost use Rattle.swc_ecma_parser_reader.specs.Reader as rules;
 ghost use Rattle.swc_ecma_parser_reader.specs.State.{GivesAs};
 
-use crate::pat::{element_level, pattern_level};
 use crate::stmt::level;
 use swc_ecma_parser_error::PResult;
 use swc_ecma_parser_grammar::Position;
@@ -13,6 +12,7 @@ use swc_ecma_parser_left::cover::{Cover, Reading, done};
 use swc_ecma_parser_left::grammar::{Grammar, Part};
 use swc_ecma_parser_operators::assignment::cover_expr;
 use swc_ecma_parser_operators::operator::expr_level;
+use swc_ecma_parser_patterns::pat::{element_level, pattern_level};
 use swc_ecma_parser_state::Source;
 use swc_ecma_parser_trees::{
     BuildsCall, BuildsControl, BuildsExpr, BuildsLoop, BuildsObject, BuildsOperator, BuildsPat,

@@ -1,4 +1,4 @@
-//! The rules of binding patterns, statements and scripts, over any source of tokens and any tree: ECMA-262, sections 14 and
+//! The rules of statements and scripts, over any source of tokens and any tree: ECMA-262, sections 14 and
 //! 16.1. A rule that holds others takes their readers as parameters, so each is proved by itself; one function for each kind of
 //! node, of expressions too, ties the rules together.
 #![tactic(auto)]
@@ -6,7 +6,6 @@
 mod branch;
 mod control;
 pub mod grammar;
-mod object_pat;
-mod pat;
+mod handler;
 pub mod script;
 mod stmt;

@@ -14,6 +14,7 @@ ghost use Rattle.swc_ecma_parser_reader.specs.State.{Gives, GivesAs};
 
 use crate::branch::if_stmt;
 use crate::control::{do_while, throw, while_stmt};
+use crate::handler::try_stmt;
 use std::alloc::Global;
 use swc_ecma_parser_common::Atom;
 use swc_ecma_parser_error::{PResult, SyntaxError};
@@ -25,7 +26,7 @@ use swc_ecma_parser_model::VarDeclKind;
 use swc_ecma_parser_state::{Source, Wanted};
 use swc_ecma_parser_token::TokenKind;
 use swc_ecma_parser_trees::{
-    BuildsCall, BuildsControl, BuildsLoop, BuildsPattern, BuildsStmt, MakerOf,
+    BuildsCall, BuildsControl, BuildsLoop, BuildsPattern, BuildsStmt, MakerOf, Trees,
 };
 
 /// A statement in a block or a body.
@@ -151,7 +152,7 @@ fn missing_brace<P: Source>(alloc: Global, p: &mut P) -> PResult<SyntaxError>
 
 /// The `}` of a block, or a fault where the list has ended.
 #[tactic(auto, unfolding(swc_ecma_parser_reader::specs::Reader::close))]
-fn close<P: Source>(alloc: Global, p: &mut P) -> PResult<()>
+pub(crate) fn close<P: Source>(alloc: Global, p: &mut P) -> PResult<()>
     ensures { Gives (rules.close (P.seen p.old)) result (P.seen p.new) }
 {
     if p.sees(TokenKind::RBrace) {
@@ -164,9 +165,9 @@ fn close<P: Source>(alloc: Global, p: &mut P) -> PResult<()>
 
 /// The statements of a block.
 #[tactic(auto, unfolding(swc_ecma_parser_reader::specs::Reader::items), using(swc_ecma_parser_reader::proofs::Loops::items_stop, swc_ecma_parser_reader::proofs::Loops::items_err, crate::proofs::Items::nested_more, swc_ecma_parser_reader::proofs::Loops::stmt_shorter, std::proofs::lemmas::List::map_push))]
-fn block_items<
+pub(crate) fn block_items<
     P: Source,
-    T: BuildsStmt,
+    T: Trees,
     S: Fn(&MakerOf<T>, &mut P, usize, Position) -> PResult<T::Stmt>,
     E: Fn(&MakerOf<T>, &mut P, usize, Reading) -> PResult<Cover<T::Expr>>,
     N: Fn(&MakerOf<T>, &mut P, usize, Part) -> PResult<T::Pat>,
@@ -183,7 +184,7 @@ fn block_items<
 }
 
 /// A block.
-#[tactic(auto, unfolding(swc_ecma_parser_reader::specs::Reader::block, swc_ecma_parser_grammar::specs::Looks::spanned))]
+#[tactic(auto, unfolding(swc_ecma_parser_reader::specs::Reader::block, swc_ecma_parser_reader::specs::Reader::block_from, swc_ecma_parser_grammar::specs::Looks::spanned))]
 fn block<
     P: Source,
     T: BuildsStmt,
@@ -345,6 +346,7 @@ pub(crate) fn level<
         TokenKind::Var => var(g, t, p),
         TokenKind::If => if_stmt(g, t, p),
         TokenKind::Throw => throw(g, t, p),
+        TokenKind::Try => try_stmt(g, t, p),
         TokenKind::While => while_stmt(g, t, p),
         TokenKind::Do => do_while(g, t, p),
         TokenKind::Import => import_stmt_at(g, t, p),

@@ -16,7 +16,7 @@ use Rattle.swc_ecma_parser_grammar.specs.declared.position.Position.{Position}
 use Rattle.swc_ecma_parser_grammar.specs.Looks.{kind_at, sees, same_kind, spanned}
 use Rattle.swc_ecma_parser_grammar.specs.Names.{Code}
 use Rattle.swc_ecma_parser_grammar.specs.Ends.{Ends}
-use Rattle.swc_ecma_parser_grammar.specs.Reads.{with_in, in_strict, directed, directs_on, nested_item, top_item, DeclaratorRule, plain_rule, initialized_rule, ReadsSeparated, ReadsItems, StmtRule, block_rule, empty_rule, debugger_rule, var_rule, if_statement_rule, throw_rule, while_rule, do_while_rule, expr_rule, import_rule, ReadsHead, IfRule, if_rule, ElseRule, no_else_rule, else_rule, else_if_rule}
+use Rattle.swc_ecma_parser_grammar.specs.Reads.{with_in, in_strict, directed, directs_on, nested_item, top_item, DeclaratorRule, plain_rule, initialized_rule, ReadsSeparated, ReadsItems, StmtRule, block_rule, empty_rule, debugger_rule, var_rule, if_statement_rule, throw_rule, try_rule, while_rule, do_while_rule, expr_rule, import_rule, ReadsBlock, CatchRule, no_catch_rule, catch_rule, catch_parameter_rule, FinallyRule, no_finally_rule, finally_rule, ReadsHead, IfRule, if_rule, ElseRule, no_else_rule, else_rule, else_if_rule}
 use Rattle.swc_ecma_parser_grammar.specs.Entries.{ReadsScript, ReadsShebang, some_shebang, no_shebang, script_code}
 use Rattle.swc_ecma_parser_grammar.specs.Supported.{supported, all_supported}
 use Rattle.swc_ecma_parser_grammar.specs.ReadsSupported.{ReadsClass, ReadsPat, ReadsStmt}
@@ -24,7 +24,7 @@ use Rattle.swc_ecma_parser_grammar.specs.language.Goals.{assignment, stmt_goal}
 use Rattle.swc_ecma_parser_grammar.specs.language.Contexts.{in_loop}
 use Rattle.swc_ecma_parser_grammar.specs.language.Declarations as declarations
 use Rattle.swc_ecma_parser_grammar.specs.language.Declarations.{is_var, begins_variables}
-use Rattle.swc_ecma_parser_grammar.specs.language.Items.{sub_statement, ItemsRule}
+use Rattle.swc_ecma_parser_grammar.specs.language.Items.{sub_statement, ItemsRule, BlockRule}
 use Rattle.swc_ecma_parser_grammar.specs.language.Statements as statements
 use Rattle.swc_ecma_parser_grammar.specs.language.Reads.{Reads}
 use Rattle.swc_ecma_parser_grammar.specs.language.Programs as programs
@@ -82,6 +82,28 @@ module _ (n : ℕ) (narrow : (k : Code) (at : Position) (x : Tree) (c d : Place)
   head_narrows : {k : Code} {x : Tree} {c d : Place} → statements.HeadRule (Reads n) k x c d → supported x ≡ true → ReadsHead (ReadsClass n) k x c d
   head_narrows r h = record { close = r.close; opens = r.opens; reads = (r.reads, h); closes = r.closes; next = r.next }
 
+  block_narrows : {k : Code} {x : Tree} {c d : Place} → k.flags.module ≡ false → BlockRule (Reads n) k false x c d → supported x ≡ true → ReadsBlock (ReadsStmt n) k x c d
+  block_narrows {k = k} {x = x} {c = c} {d = d} o r h = record {
+    items = r.items;
+    close = r.close;
+    opens = r.opens;
+    reads_items = items_narrow k false nested_item r.items (after c) r.close o r.reads_items (supported_as x (tree.block (spanned c d) (listed r.items)) r.is h);
+    closes = r.closes;
+    next = r.next;
+    is = r.is;
+  }
+
+  catch_narrows : {k : Code} {x : Tree} {c d : Place} → k.flags.module ≡ false → statements.CatchRule (Reads n) k x c d → supported x ≡ true → CatchRule (ReadsStmt n) (ReadsPat n) k x c d
+  catch_narrows o (statements.no_catch_rule i j e) h = no_catch_rule i j e
+  catch_narrows {x = x} {c = c} {d = d} o (statements.catch_rule body i r e) h =
+      catch_rule body i (block_narrows o r (supported_as x (tree.catch (spanned c d) tree.absent body) e h)) e
+  catch_narrows {x = x} {c = c} {d = d} o (statements.catch_parameter_rule p body m i j r l s e) h =
+      let g = and_yes (supported p) _ (supported_as x (tree.catch (spanned c d) p body) e h) in catch_parameter_rule p body m i j (r, g.0) l (block_narrows o s g.1) e
+
+  finally_narrows : {k : Code} {x : Tree} {c d : Place} → k.flags.module ≡ false → statements.FinallyRule (Reads n) k x c d → supported x ≡ true → FinallyRule (ReadsStmt n) k x c d
+  finally_narrows o (statements.no_finally_rule i j e) h = no_finally_rule i j e
+  finally_narrows o (statements.finally_rule i r) h = finally_rule i (block_narrows o r h)
+
   mutual
     if_narrows : {k : Code} {x : Tree} {c d : Place} → k.flags.module ≡ false → statements.IfRule (Reads n) k x c d → supported x ≡ true → IfRule (ReadsStmt n) (ReadsClass n) k x c d
     if_narrows {k = k} {x = x} {c = c} {d = d} o (statements.if_rule test cons alt m i j r s t e) h =
@@ -101,9 +123,7 @@ module _ (n : ℕ) (narrow : (k : Code) (at : Position) (x : Tree) (c d : Place)
   form_narrows k at x c d o (statements.variables_rule word xs m i (b, r) g e) h =
       variables_narrow k at word xs m x c d b r g e (supported_as x (tree.var (spanned c d) word (listed xs)) e h)
   form_narrows k at x c d o (statements.using_rule r) h = refuted x (ap supported r.is) h
-  form_narrows k at x c d o (statements.block_rule r) h =
-      block_rule r.items r.close r.opens
-      (items_narrow k false nested_item r.items (after c) r.close o r.reads_items (supported_as x (tree.block (spanned c d) (listed r.items)) r.is h)) r.closes r.next r.is
+  form_narrows k at x c d o (statements.block_rule r) h = block_rule (block_narrows o r h)
   form_narrows k at x c d o (statements.empty_rule i n e) h = empty_rule i n e
   form_narrows k at x c d o (statements.debugger_rule i g e) h = debugger_rule i g e
   form_narrows k at x c d o (statements.with_rule y z m i r s e) h = refuted x (ap supported e) h
@@ -114,7 +134,10 @@ module _ (n : ℕ) (narrow : (k : Code) (at : Position) (x : Tree) (c d : Place)
   form_narrows k at x c d o (statements.if_statement_rule r) h = if_statement_rule (if_narrows o r h)
   form_narrows k at x c d o (statements.switch_rule y xs m l i r j s a b t e) h = refuted x (ap supported e) h
   form_narrows k at x c d o (statements.throw_rule y m i b r g e) h = throw_rule y m i b (r, supported_as x (tree.throw (spanned c d) y) e h) g e
-  form_narrows k at x c d o (statements.try_rule y z w m l i r s t a e) h = refuted x (ap supported e) h
+  form_narrows k at x c d o (statements.try_rule y z w m l i r s t a e) h =
+      let g = and_yes (supported y) _ (supported_as x (tree.try (spanned c d) y z w) e h) in
+      let f = and_yes (supported z) _ g.1 in
+      try_rule y z w m l i (block_narrows o r g.0) (catch_narrows o s f.0) (finally_narrows o t f.1) a e
   form_narrows k at x c d o (statements.while_rule y z m i r s e) h =
       let g = and_yes (supported y) _ (supported_as x (tree.while (spanned c d) y z) e h) in while_rule y z m i (head_narrows r g.0) (narrow (in_loop k) sub_statement z m d o s g.1) e
   form_narrows k at x c d o (statements.do_while_rule y z m l i s j r t e) h =

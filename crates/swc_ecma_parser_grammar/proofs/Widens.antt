@@ -11,14 +11,14 @@ use Rattle.swc_ecma_parser_model.specs.Tree.{Tree, Text, trees}
 use Rattle.swc_ecma_parser_grammar.specs.declared.position.Position.{Position}
 use Rattle.swc_ecma_parser_grammar.specs.Looks.{kind_at, sees, same_kind}
 use Rattle.swc_ecma_parser_grammar.specs.Names.{Code}
-use Rattle.swc_ecma_parser_grammar.specs.Reads.{with_in, directed, directs_on, nested_item, top_item, DeclaratorRule, plain_rule, initialized_rule, ReadsSeparated, ReadsItems, StmtRule, block_rule, empty_rule, debugger_rule, var_rule, if_statement_rule, throw_rule, while_rule, do_while_rule, expr_rule, import_rule, ReadsHead, IfRule, if_rule, ElseRule, no_else_rule, else_rule, else_if_rule}
+use Rattle.swc_ecma_parser_grammar.specs.Reads.{with_in, directed, directs_on, nested_item, top_item, DeclaratorRule, plain_rule, initialized_rule, ReadsSeparated, ReadsItems, StmtRule, block_rule, empty_rule, debugger_rule, var_rule, if_statement_rule, throw_rule, try_rule, while_rule, do_while_rule, expr_rule, import_rule, ReadsBlock, CatchRule, no_catch_rule, catch_rule, catch_parameter_rule, FinallyRule, no_finally_rule, finally_rule, ReadsHead, IfRule, if_rule, ElseRule, no_else_rule, else_rule, else_if_rule}
 use Rattle.swc_ecma_parser_grammar.specs.Entries.{ReadsScript, ReadsShebang, some_shebang, no_shebang, script_code}
 use Rattle.swc_ecma_parser_grammar.specs.Supported.{supported, all_supported}
 use Rattle.swc_ecma_parser_grammar.specs.ReadsSupported.{ReadsClass, ReadsPat, ReadsStmt}
 use Rattle.swc_ecma_parser_grammar.specs.language.Goals.{assignment, stmt_goal}
 use Rattle.swc_ecma_parser_grammar.specs.language.Contexts.{in_loop}
 use Rattle.swc_ecma_parser_grammar.specs.language.Declarations as declarations
-use Rattle.swc_ecma_parser_grammar.specs.language.Items.{sub_statement, ItemsRule}
+use Rattle.swc_ecma_parser_grammar.specs.language.Items.{sub_statement, ItemsRule, BlockRule}
 use Rattle.swc_ecma_parser_grammar.specs.language.Statements as statements
 use Rattle.swc_ecma_parser_grammar.specs.language.Statements.{may_begin_at_top}
 use Rattle.swc_ecma_parser_grammar.specs.language.Reads.{Reads}
@@ -72,6 +72,18 @@ module _ (n : ℕ) (small : (k : Code) (at : Position) (x : Tree) (c d : Place) 
   items_supported k directives at [] c d h = refl
   items_supported k directives at (x ∷ xs) c d (m, r, rs) = and_both _ _ (small k at x c m r) (items_supported (directed k directives x) (directs_on directives x) at xs m d rs)
 
+  block_supported : {k : Code} {x : Tree} {c d : Place} → ReadsBlock (ReadsStmt n) k x c d → supported x ≡ true
+  block_supported {k = k} {c = c} r = ap supported r.is ∙ items_supported k false nested_item r.items (after c) r.close r.reads_items
+
+  catch_supported : {k : Code} {x : Tree} {c d : Place} → CatchRule (ReadsStmt n) (ReadsPat n) k x c d → supported x ≡ true
+  catch_supported (no_catch_rule h i e) = ap supported e
+  catch_supported (catch_rule body h r e) = ap supported e ∙ block_supported r
+  catch_supported (catch_parameter_rule p body m h i r j s e) = ap supported e ∙ and_both (supported p) _ r.1 (block_supported s)
+
+  finally_supported : {k : Code} {x : Tree} {c d : Place} → FinallyRule (ReadsStmt n) k x c d → supported x ≡ true
+  finally_supported (no_finally_rule h i e) = ap supported e
+  finally_supported (finally_rule h r) = block_supported r
+
   mutual
     if_supported : {k : Code} {x : Tree} {c d : Place} → IfRule (ReadsStmt n) (ReadsClass n) k x c d → supported x ≡ true
     if_supported {k = k} (if_rule test cons alt m i h r s o e) = ap supported e ∙ and_both (supported test) _ r.reads.1 (and_both (supported cons) _ (small k sub_statement cons m i s) (else_supported o))
@@ -82,13 +94,14 @@ module _ (n : ℕ) (small : (k : Code) (at : Position) (x : Tree) (c d : Place) 
     else_supported (else_if_rule h r) = if_supported r
 
   rule_supported : (k : Code) (at : Position) (x : Tree) (c d : Place) → StmtRule (ReadsStmt n) (ReadsClass n) (ReadsPat n) k at x c d → supported x ≡ true
-  rule_supported k at x c d (block_rule xs m h r g i e) = ap supported e ∙ items_supported k false nested_item xs (after c) m r
+  rule_supported k at x c d (block_rule r) = block_supported r
   rule_supported k at x c d (empty_rule h g e) = ap supported e
   rule_supported k at x c d (debugger_rule h g e) = ap supported e
   rule_supported k at x c d (var_rule xs m h r g e) =
       ap supported e ∙ separated_supported (DeclaratorRule (ReadsClass n assignment) (ReadsPat n) (with_in k)) (declarator_supported n (with_in k)) xs (after c) m r
   rule_supported k at x c d (if_statement_rule r) = if_supported r
   rule_supported k at x c d (throw_rule y m h b r g e) = ap supported e ∙ r.1
+  rule_supported k at x c d (try_rule y z w m i h r s t a e) = ap supported e ∙ and_both (supported y) _ (block_supported r) (and_both (supported z) _ (catch_supported s) (finally_supported t))
   rule_supported k at x c d (while_rule y z m h r s e) = ap supported e ∙ and_both (supported y) _ r.reads.1 (small (in_loop k) sub_statement z m d s)
   rule_supported k at x c d (do_while_rule y z m i h s j r g e) = ap supported e ∙ and_both (supported y) _ r.reads.1 (small (in_loop k) sub_statement z (after c) m s)
   rule_supported k at x c d (expr_rule y m h r a b g e) = ap supported e ∙ r.1
@@ -106,6 +119,19 @@ module _ (n : ℕ) (widen : (k : Code) (at : Position) (x : Tree) (c d : Place) 
   head_widens : {k : Code} {x : Tree} {c d : Place} → ReadsHead (ReadsClass n) k x c d → statements.HeadRule (Reads n) k x c d
   head_widens r = record { close = r.close; opens = r.opens; reads = r.reads.0; closes = r.closes; next = r.next }
 
+  block_widens : {k : Code} {x : Tree} {c d : Place} → ReadsBlock (ReadsStmt n) k x c d → BlockRule (Reads n) k false x c d
+  block_widens {k = k} {c = c} r =
+      record { items = r.items; close = r.close; opens = r.opens; reads_items = items_widen k false nested_item r.items (after c) r.close r.reads_items; closes = r.closes; next = r.next; is = r.is }
+
+  catch_widens : {k : Code} {x : Tree} {c d : Place} → CatchRule (ReadsStmt n) (ReadsPat n) k x c d → statements.CatchRule (Reads n) k x c d
+  catch_widens (no_catch_rule h i e) = statements.no_catch_rule h i e
+  catch_widens (catch_rule body h r e) = statements.catch_rule body h (block_widens r) e
+  catch_widens (catch_parameter_rule p body m h i r j s e) = statements.catch_parameter_rule p body m h i r.0 j (block_widens s) e
+
+  finally_widens : {k : Code} {x : Tree} {c d : Place} → FinallyRule (ReadsStmt n) k x c d → statements.FinallyRule (Reads n) k x c d
+  finally_widens (no_finally_rule h i e) = statements.no_finally_rule h i e
+  finally_widens (finally_rule h r) = statements.finally_rule h (block_widens r)
+
   mutual
     if_widens : {k : Code} {x : Tree} {c d : Place} → IfRule (ReadsStmt n) (ReadsClass n) k x c d → statements.IfRule (Reads n) k x c d
     if_widens {k = k} (if_rule test cons alt m i h r s o e) = statements.if_rule test cons alt m i h (head_widens r) (widen k sub_statement cons m i s) (else_widens o) e
@@ -116,8 +142,7 @@ module _ (n : ℕ) (widen : (k : Code) (at : Position) (x : Tree) (c d : Place) 
     else_widens (else_if_rule h r) = statements.else_if_rule h (if_widens r)
 
   form_widens : (k : Code) (at : Position) (x : Tree) (c d : Place) → StmtRule (ReadsStmt n) (ReadsClass n) (ReadsPat n) k at x c d → statements.FormRule (Reads n) k at x c d
-  form_widens k at x c d (block_rule xs m h r g i e) =
-      statements.block_rule (record { items = xs; close = m; opens = h; reads_items = items_widen k false nested_item xs (after c) m r; closes = g; next = i; is = e })
+  form_widens k at x c d (block_rule r) = statements.block_rule (block_widens r)
   form_widens k at x c d (empty_rule h g e) = statements.empty_rule h g e
   form_widens k at x c d (debugger_rule h g e) = statements.debugger_rule h g e
   form_widens k at x c d (var_rule xs m h r g e) =
@@ -127,6 +152,7 @@ module _ (n : ℕ) (widen : (k : Code) (at : Position) (x : Tree) (c d : Place) 
       ) g e
   form_widens k at x c d (if_statement_rule r) = statements.if_statement_rule (if_widens r)
   form_widens k at x c d (throw_rule y m h b r g e) = statements.throw_rule y m h b r.0 g e
+  form_widens k at x c d (try_rule y z w m i h r s t a e) = statements.try_rule y z w m i h (block_widens r) (catch_widens s) (finally_widens t) a e
   form_widens k at x c d (while_rule y z m h r s e) = statements.while_rule y z m h (head_widens r) (widen (in_loop k) sub_statement z m d s) e
   form_widens k at x c d (do_while_rule y z m i h s j r g e) = statements.do_while_rule y z m i h (widen (in_loop k) sub_statement z (after c) m s) j (head_widens r) g e
   form_widens k at x c d (expr_rule y m h r a b g e) = statements.expr_rule y m h r.0 a g e
@@ -134,12 +160,13 @@ module _ (n : ℕ) (widen : (k : Code) (at : Position) (x : Tree) (c d : Place) 
 
 rule_begins : (n : ℕ) (k : Code) (at : Position) (x : Tree) (c d : Place) → StmtRule (ReadsStmt n) (ReadsClass n) (ReadsPat n) k at x c d → sees kind.Await c ≡ false
 unfolding same_kind
-rule_begins n k at x c d (block_rule xs m h r g i e) = rw h refl
+rule_begins n k at x c d (block_rule r) = rw r.opens refl
 rule_begins n k at x c d (empty_rule h g e) = rw h refl
 rule_begins n k at x c d (debugger_rule h g e) = rw h refl
 rule_begins n k at x c d (var_rule xs m h r g e) = rw h refl
 rule_begins n k at x c d (if_statement_rule (if_rule test cons alt m i h r s o e)) = rw h refl
 rule_begins n k at x c d (throw_rule y m h b r g e) = rw h refl
+rule_begins n k at x c d (try_rule y z w m i h r s t a e) = rw h refl
 rule_begins n k at x c d (while_rule y z m h r s e) = rw h refl
 rule_begins n k at x c d (do_while_rule y z m i h s j r g e) = rw h refl
 rule_begins n k at x c d (expr_rule y m h r a b g e) = expr_begins n (with_in k) y c m r

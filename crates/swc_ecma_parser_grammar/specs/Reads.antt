@@ -9,7 +9,7 @@ use Rattle.swc_ecma_parser_model.specs.declared.leaves.VarDeclKind.TheVariants a
 use Rattle.swc_ecma_parser_model.specs.Tree as tree
 use Rattle.swc_ecma_parser_model.specs.Tree.{Tree, Text, listed}
 use Rattle.swc_ecma_parser_model.specs.Directive.{is_use_strict}
-use Rattle.swc_ecma_parser_model.specs.Forms.{is_ident, is_ident_named, is_binding_name}
+use Rattle.swc_ecma_parser_model.specs.Forms.{is_absent, is_ident, is_ident_named, is_binding_name}
 use Rattle.swc_ecma_parser_grammar.specs.declared.position.Position.{Position}
 use Rattle.swc_ecma_parser_grammar.specs.Looks.{kind_at, breaks_at, sees, spanned}
 use Rattle.swc_ecma_parser_grammar.specs.Names.{Code}
@@ -70,6 +70,16 @@ abbrev pub ReadsItems : (Code → Tree → Place → Place → Type 0) → Code 
 ReadsItems Reads k directives [] c d = d ≡ c
 ReadsItems Reads k directives (x ∷ xs) c d = (m : Place) × Reads k x c m × ReadsItems Reads (directed k directives x) (directs_on directives x) xs m d
 
+-- statements in braces: section 14.2
+pub record ReadsBlock (Stmt : Code → Position → Tree → Place → Place → Type 0) (k : Code) (x : Tree) (c d : Place) : Type 0 where
+  pub items : List Tree
+  pub close : Place
+  pub opens : kind_at c ≡ kind.LBrace
+  pub reads_items : ReadsItems (λ j. Stmt j nested_item) k false items (after c) close
+  pub closes : kind_at close ≡ kind.RBrace
+  pub next : d ≡ after close
+  pub is : x ≡ tree.block (spanned c d) (listed items)
+
 -- `( Expression )` behind the word of a statement
 pub record ReadsHead (Expr : Class → Code → Tree → Place → Place → Type 0) (k : Code) (e : Tree) (c d : Place) : Type 0 where
   pub close : Place
@@ -89,11 +99,22 @@ mutual
     else_rule : {x : Tree} {c d : Place} → kind_at c ≡ kind.Else → sees kind.If (after c) ≡ false → Stmt k sub_statement x (after c) d → ElseRule Stmt Expr k x c d
     else_if_rule : {x : Tree} {c d : Place} → kind_at c ≡ kind.Else → IfRule Stmt Expr k x (after c) d → ElseRule Stmt Expr k x c d
 
+-- Catch of section 14.15, which may be left out, and so may what it binds
+pub data CatchRule (Stmt : Code → Position → Tree → Place → Place → Type 0) (Pat : Code → Tree → Place → Place → Type 0) (k : Code) (x : Tree) (c d : Place) : Type 0 where
+  no_catch_rule : sees kind.Catch c ≡ false → d ≡ c → x ≡ tree.absent → CatchRule Stmt Pat k x c d
+  catch_rule : (body : Tree) → kind_at c ≡ kind.Catch → ReadsBlock Stmt k body (after c) d → x ≡ tree.catch (spanned c d) tree.absent body → CatchRule Stmt Pat k x c d
+  catch_parameter_rule : (p body : Tree) (m : Place) → kind_at c ≡ kind.Catch → kind_at (after c) ≡ kind.LParen → Pat (with_in k) p (after (after c)) m → kind_at m ≡ kind.RParen
+      → ReadsBlock Stmt k body (after m) d → x ≡ tree.catch (spanned c d) p body → CatchRule Stmt Pat k x c d
+
+-- Finally of section 14.15, which may be left out
+pub data FinallyRule (Stmt : Code → Position → Tree → Place → Place → Type 0) (k : Code) (x : Tree) (c d : Place) : Type 0 where
+  no_finally_rule : sees kind.Finally c ≡ false → d ≡ c → x ≡ tree.absent → FinallyRule Stmt k x c d
+  finally_rule : kind_at c ≡ kind.Finally → ReadsBlock Stmt k x (after c) d → FinallyRule Stmt k x c d
+
 pub data StmtRule (Stmt : Code → Position → Tree → Place → Place → Type 0) (Expr : Class → Code → Tree → Place → Place → Type 0) (Pat : Code → Tree → Place → Place → Type 0)
     (k : Code) (at : Position) (x : Tree) (c d : Place) : Type 0 where
   -- section 14.2
-  block_rule : (xs : List Tree) (m : Place) → kind_at c ≡ kind.LBrace → ReadsItems (λ j. Stmt j nested_item) k false xs (after c) m → kind_at m ≡ kind.RBrace
-      → d ≡ after m → x ≡ tree.block (spanned c d) (listed xs) → StmtRule Stmt Expr Pat k at x c d
+  block_rule : ReadsBlock Stmt k x c d → StmtRule Stmt Expr Pat k at x c d
   -- section 14.4
   empty_rule : kind_at c ≡ kind.Semi → d ≡ after c → x ≡ tree.empty (spanned c d) → StmtRule Stmt Expr Pat k at x c d
   -- section 14.16
@@ -105,6 +126,9 @@ pub data StmtRule (Stmt : Code → Position → Tree → Place → Place → Typ
   -- section 14.14
   throw_rule : (e : Tree) (m : Place) → kind_at c ≡ kind.Throw → breaks_at (after c) ≡ false → Expr expression (with_in k) e (after c) m → Ends m d
       → x ≡ tree.throw (spanned c d) e → StmtRule Stmt Expr Pat k at x c d
+  -- section 14.15: it has a catch, a finally, or both
+  try_rule : (body handler finalizer : Tree) (m n : Place) → kind_at c ≡ kind.Try → ReadsBlock Stmt k body (after c) m → CatchRule Stmt Pat k handler m n
+      → FinallyRule Stmt k finalizer n d → is_absent handler && is_absent finalizer ≡ false → x ≡ tree.try (spanned c d) body handler finalizer → StmtRule Stmt Expr Pat k at x c d
   -- section 14.7.3
   while_rule : (e y : Tree) (m : Place) → kind_at c ≡ kind.While → ReadsHead Expr k e (after c) m → Stmt (in_loop k) sub_statement y m d
       → x ≡ tree.while (spanned c d) e y → StmtRule Stmt Expr Pat k at x c d

@@ -1,5 +1,5 @@
 -- What the grammar allows is read, with the faults of the walk and the notes held back, and no others.
-use Rattle.std.proofs.Common.{◌≡◌, ℕ, zero, suc, ◌<◌, Bool, true, false, cond, List, [], ◌∷◌, ◌++◌, length, Option, Some, None, Ok, refl, ◌∙◌, append_assoc, append-nil}
+use Rattle.std.proofs.Common.{◌≡◌, ℕ, zero, suc, ◌<◌, Bool, true, false, cond, List, [], ◌∷◌, ◌++◌, length, Option, Some, None, Ok, refl, sym, ◌∙◌, ap, append_assoc, append-nil}
 use Rattle.std.specs.Prelude.{◌&&◌, ◌||◌, codes}
 use Rattle.swc_ecma_parser_common.specs.declared.span.Span.{Span}
 use Rattle.swc_ecma_parser_error.specs.Kind as faults
@@ -15,13 +15,13 @@ use Rattle.swc_ecma_parser_model.specs.declared.leaves.VarDeclKind.TheVariants a
 use Rattle.swc_ecma_parser_model.specs.Tree as tree
 use Rattle.swc_ecma_parser_model.specs.Tree.{Tree, Text, listed, trees}
 use Rattle.swc_ecma_parser_model.specs.Directive.{is_use_strict}
-use Rattle.swc_ecma_parser_model.specs.Forms.{is_ident, is_ident_named, span_of}
+use Rattle.swc_ecma_parser_model.specs.Forms.{is_absent, is_ident, is_ident_named, span_of}
 use Rattle.swc_ecma_parser_grammar.specs.declared.position.Position.{Position}
 use Rattle.swc_ecma_parser_grammar.specs.Looks.{kind_at, breaks_at, sees, same_kind, span_at, spanned}
 use Rattle.swc_ecma_parser_grammar.specs.Names.{Code}
 use Rattle.swc_ecma_parser_grammar.specs.Ends.{Ends, by_semicolon, by_insertion, OptionalEnds, by_a_semicolon, by_nothing}
 use Rattle.swc_ecma_parser_grammar.specs.Follows.{begins_import_expression}
-use Rattle.swc_ecma_parser_grammar.specs.Reads.{with_in, in_strict, nested_item, top_item, ReadsToken, DeclaratorRule, plain_rule, initialized_rule, ReadsSeparated, directed, ReadsItems, StmtRule, block_rule, empty_rule, debugger_rule, var_rule, if_statement_rule, throw_rule, while_rule, do_while_rule, expr_rule, import_rule, ReadsHead, IfRule, if_rule, no_else_rule, else_rule, else_if_rule}
+use Rattle.swc_ecma_parser_grammar.specs.Reads.{with_in, in_strict, nested_item, top_item, ReadsToken, DeclaratorRule, plain_rule, initialized_rule, ReadsSeparated, directed, ReadsItems, StmtRule, block_rule, empty_rule, debugger_rule, var_rule, if_statement_rule, throw_rule, try_rule, while_rule, do_while_rule, expr_rule, import_rule, ReadsBlock, CatchRule, no_catch_rule, catch_rule, catch_parameter_rule, FinallyRule, no_finally_rule, finally_rule, ReadsHead, IfRule, if_rule, no_else_rule, else_rule, else_if_rule}
 use Rattle.swc_ecma_parser_grammar.specs.ReadsSupported.{ReadsClass, ReadsPat, ReadsStmt}
 use Rattle.swc_ecma_parser_grammar.specs.language.Contexts.{in_loop}
 use Rattle.swc_ecma_parser_grammar.specs.language.Goals.{expression, assignment}
@@ -35,7 +35,7 @@ use Rattle.swc_ecma_parser_reader.specs.Notes.{Notes, held, ◌⊕◌, notes_of,
 use Rattle.swc_ecma_parser_reader.specs.State.{Scope, State, Outcome, Reader, and_then, noted, labelled, expect, end, fault_at, loop}
 use Rattle.swc_ecma_parser_reader.specs.Expressions.{expr}
 use Rattle.swc_ecma_parser_reader.specs.Patterns.{pattern}
-use Rattle.swc_ecma_parser_reader.specs.Reader.{empty, debugger, initialized, declarator, declarators_turn, declarators, var, closes, at_end, close, directs, items_turn, items, block, note_statement, no_label, expr_stmt, expr_stmt_at, optional_end, import_stmt, import_stmt_at, thrown, throw, head, while_stmt, do_while, goes_on, closed_link, condition, alternative, link_from, link, if_stmt, stmt_level, stmt, shebang_of, shebang_in, shebang, script_body, script}
+use Rattle.swc_ecma_parser_reader.specs.Reader.{empty, debugger, initialized, declarator, declarators_turn, declarators, var, closes, at_end, close, directs, items_turn, items, block_from, block, braced, note_statement, no_label, expr_stmt, expr_stmt_at, optional_end, import_stmt, import_stmt_at, thrown, throw, head, while_stmt, do_while, goes_on, closed_link, condition, alternative, link_from, link, if_stmt, is_handled, handled, bound, parameter, finalizer, caught, handler, try_stmt, stmt_level, stmt, shebang_of, shebang_in, shebang, script_body, script}
 use Rattle.swc_ecma_parser_reader.specs.Entry.{script_left}
 use Rattle.swc_ecma_parser_reader.proofs.Notes.{or_nil, or_assoc}
 use Rattle.swc_ecma_parser_reader.proofs.Answered.{st, Reads}
@@ -274,18 +274,80 @@ shebang_reads first c d k w f h (no_shebang e g) = rw (no_shebang_in c c.left re
 -- ---- all levels
 
 module _ (n : ℕ) (reads : (at : Position) (k : Code) (x : Tree) (c d : Place) → ReadsStmt n k at x c d → Reads (stmt n at) k x c d) where
-  block_reads : (xs : List Tree) (m : Place) (k : Code) (x : Tree) (c d : Place) → ReadsItems (λ j. ReadsStmt n j nested_item) k false xs (after c) m → kind_at m ≡ kind.RBrace → d ≡ after m
-      → x ≡ tree.block (spanned c d) (listed xs) → Reads (block (stmt n nested_item)) k x c d
-  unfolding block
-  block_reads xs m k x c d r e g i w f h =
+  block_from_reads : (k : Code) (x : Tree) (c d : Place) (w : Scope) (f : List Fault) (h : Notes) → ReadsBlock (ReadsStmt n) k x c d
+      → block_from (stmt n nested_item) c (st (after c) k w f h) ≡ Ok (x, st d k w (f ++ walk (env_of k w.labels) x) (h ⊕ notes_of x))
+  unfolding block_from
+  block_from_reads k x c d w f h r =
       rw (
         items_read (λ j. ReadsStmt n j nested_item) (stmt n nested_item) (reads nested_item) (stmt_shorter n nested_item) closes (λ j y a b q. (stmt_goes n j nested_item y a b q).0)
-            false xs k (after c) m w f h r (closes_at m e),
-        code_stays k xs,
-        close_reads m k w (f ++ walks (env_of k w.labels) false (trees xs)) (h ⊕ all_notes_of (trees xs)) e,
-        i,
-        g,
+            false r.items k (after c) r.close w f h r.reads_items (closes_at r.close r.closes),
+        code_stays k r.items,
+        close_reads r.close k w (f ++ walks (env_of k w.labels) false (trees r.items)) (h ⊕ all_notes_of (trees r.items)) r.closes,
+        r.is,
+        r.next,
       ) refl
+
+  block_reads : (k : Code) (x : Tree) (c d : Place) → ReadsBlock (ReadsStmt n) k x c d → Reads (block (stmt n nested_item)) k x c d
+  unfolding block
+  block_reads k x c d r w f h = block_from_reads k x c d w f h r
+
+  braced_reads : (k : Code) (x : Tree) (c d : Place) → ReadsBlock (ReadsStmt n) k x c d → Reads (braced (stmt n nested_item)) k x c d
+  unfolding braced
+  braced_reads k x c d r w f h = rw (expect_reads kind.LBrace c k w f h r.opens) (block_from_reads k x c d w f h r)
+
+  -- ---- `try`
+
+  -- a block opens with no parenthesis
+  no_paren : (c : Place) → kind_at c ≡ kind.LBrace → sees kind.LParen c ≡ false
+  unfolding same_kind
+  no_paren c e = rw e refl
+
+  handler_reads : (k : Code) (x : Tree) (c d : Place) → CatchRule (ReadsStmt n) (ReadsPat n) k x c d → Reads (handler (stmt n nested_item) (pattern n)) k x c d
+  unfolding handler caught parameter bound
+  handler_reads k x c d (no_catch_rule a b e) w f h = rw (a, b, e, append-nil f, append-nil h.held_back, or_nil h.found_module_item) refl
+  handler_reads k x c d (catch_rule body a r e) w f h =
+      rw (seen c kind.Catch a, no_paren (after c) r.opens, braced_reads k body (after c) d r w f h, e) refl
+  handler_reads k x c d (catch_parameter_rule p body m a b r i s e) w f h =
+      rw (
+        seen c kind.Catch a,
+        seen (after c) kind.LParen b,
+        pattern_reads n (with_in k) p (after (after c)) m r w f h,
+        expect_reads kind.RParen m k w (f ++ walk (env_of k w.labels) p) (h ⊕ notes_of p) i,
+        braced_reads k body (after m) d s w (f ++ walk (env_of k w.labels) p) (h ⊕ notes_of p),
+        e,
+        append_assoc f (walk (env_of k w.labels) p) (walk (env_of k w.labels) body),
+        append_assoc h.held_back (notes p) (notes body),
+        or_assoc h.found_module_item (has_meta p) (has_meta body),
+      ) refl
+
+  finalizer_reads : (k : Code) (x : Tree) (c d : Place) → FinallyRule (ReadsStmt n) k x c d → Reads (finalizer (stmt n nested_item)) k x c d
+  unfolding finalizer
+  finalizer_reads k x c d (no_finally_rule a b e) w f h = rw (a, b, e, append-nil f, append-nil h.held_back, or_nil h.found_module_item) refl
+  finalizer_reads k x c d (finally_rule a r) w f h = rw (seen c kind.Finally a) (braced_reads k x (after c) d r w f h)
+
+  -- what the tree has stands there
+  one_seen : {k : Code} {x y : Tree} {c m d : Place} → CatchRule (ReadsStmt n) (ReadsPat n) k x c m → FinallyRule (ReadsStmt n) k y m d → is_absent x && is_absent y ≡ false → is_handled c ≡ true
+  unfolding is_handled
+  one_seen {c = c} (catch_rule body i r e) f h = rw (seen c kind.Catch i) refl
+  one_seen {c = c} (catch_parameter_rule p body i j l r t u e) f h = rw (seen c kind.Catch j) refl
+  one_seen {c = c} (no_catch_rule a b e) (finally_rule i r) h = rw (a, seen c kind.Finally (ap kind_at (sym b) ∙ i)) refl
+  one_seen (no_catch_rule a b e) (no_finally_rule i j g) h = absurd (true_false (rw (e, g) at h))
+    where
+      true_false : true ≡ false → ⊥
+      true_false h = cc
+
+  try_reads : (y z v : Tree) (m i : Place) (k : Code) (x : Tree) (c d : Place) → ReadsBlock (ReadsStmt n) k y (after c) m → CatchRule (ReadsStmt n) (ReadsPat n) k z m i
+      → FinallyRule (ReadsStmt n) k v i d → is_absent z && is_absent v ≡ false → x ≡ tree.try (spanned c d) y z v → Reads (try_stmt (stmt n nested_item) (pattern n)) k x c d
+  unfolding try_stmt handled
+  try_reads y z v m i k x c d r s t b e w f h =
+      let a = f ++ walk (env_of k w.labels) y in
+      rw (
+        braced_reads k y (after c) m r w f h,
+        handler_reads k z m i s w a (h ⊕ notes_of y),
+        finalizer_reads k v i d t w (a ++ walk (env_of k w.labels) z) ((h ⊕ notes_of y) ⊕ notes_of z),
+        one_seen s t b,
+        e,
+      ) (simp (append_assoc, or_assoc) refl)
 
   while_reads : (y z : Tree) (m : Place) (k : Code) (x : Tree) (c d : Place) → ReadsHead (ReadsClass n) k y (after c) m → ReadsStmt n (in_loop k) sub_statement z m d
       → x ≡ tree.while (spanned c d) y z → Reads (while_stmt (stmt n sub_statement) (expr n expression)) k x c d
@@ -355,12 +417,13 @@ module _ (n : ℕ) (reads : (at : Position) (k : Code) (x : Tree) (c d : Place) 
 
   by_rules : (at : Position) (k : Code) (x : Tree) (c d : Place) → StmtRule (ReadsStmt n) (ReadsClass n) (ReadsPat n) k at x c d → Reads (stmt_level (stmt n) (expr n) (pattern n) at) k x c d
   unfolding stmt_level expr_stmt_at import_stmt_at
-  by_rules at k x c d (block_rule xs m e r g i j) w f h = rw e (block_reads xs m k x c d r g i j w f h)
+  by_rules at k x c d (block_rule r) w f h = rw r.opens (block_reads k x c d r w f h)
   by_rules at k x c d (empty_rule e g i) w f h = rw e (empty_reads k x c d g i w f h)
   by_rules at k x c d (debugger_rule e g i) w f h = rw e (debugger_reads k x c d g i w f h)
   by_rules at k x c d (var_rule xs m e r g i) w f h = rw e (var_reads n xs m k x c d r g i w f h)
   by_rules at k x c d (if_statement_rule r) w f h = rw (if_begins r) (if_reads r w f h)
   by_rules at k x c d (throw_rule y m e b r g i) w f h = rw e (throw_reads n y m k x c d b r g i w f h)
+  by_rules at k x c d (try_rule y z v m i e r s t b g) w f h = rw e (try_reads y z v m i k x c d r s t b g w f h)
   by_rules at k x c d (while_rule y z m e r s i) w f h = rw e (while_reads y z m k x c d r s i w f h)
   by_rules at k x c d (do_while_rule y z m i e s j r g o) w f h = rw e (do_while_reads y z m i k x c d s j r g o w f h)
   by_rules at k x c d (expr_rule e m b r l i g j) w f h =

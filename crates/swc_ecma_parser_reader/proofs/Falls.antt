@@ -20,8 +20,8 @@ use Rattle.swc_ecma_parser_grammar.specs.language.Items.{sub_statement}
 use Rattle.swc_ecma_parser_reader.specs.State.{State, Outcome, Reader, moved, coded, within, labelled, labelled_as, expect, end}
 use Rattle.swc_ecma_parser_reader.specs.Expressions.{expr}
 use Rattle.swc_ecma_parser_reader.specs.Patterns.{pattern}
-use Rattle.swc_ecma_parser_reader.specs.Reader.{empty, debugger, uninitialized, initialized, declarator, declarators_turn, declarators, var, closes, at_end, close, items_turn, items, block, note_statement, no_label, expr_stmt, expr_stmt_at, optional_end, import_stmt, import_stmt_at, thrown, throw, head, while_stmt, do_while, Link, goes_on, condition, alternative, link_from, link, behind_link, links, if_stmt, stmt_by, stmt_level, stmt, shebang_in, shebang_taken, shebang, script_body, script}
-use Rattle.swc_ecma_parser_reader.proofs.Takes.{Falls, falls_then, falls_last, falls_coded, falls_if, less, falls_next, moves, takes, falls_past, falls_moved, wanted_falls, too_deep_falls, refuse_falls, end_falls, close_falls, expect_falls, loop_falls}
+use Rattle.swc_ecma_parser_reader.specs.Reader.{empty, debugger, uninitialized, initialized, declarator, declarators_turn, declarators, var, closes, at_end, close, items_turn, items, block_from, block, braced, note_statement, no_label, expr_stmt, expr_stmt_at, optional_end, import_stmt, import_stmt_at, thrown, throw, head, while_stmt, do_while, Link, goes_on, condition, alternative, link_from, link, behind_link, links, if_stmt, is_handled, handled, bound, parameter, finalizer, caught, handler, try_stmt, stmt_by, stmt_level, stmt, shebang_in, shebang_taken, shebang, script_body, script}
+use Rattle.swc_ecma_parser_reader.proofs.Takes.{Falls, falls_then, falls_last, falls_coded, falls_if, less, falls_next, moves, takes, falls_past, falls_moved, wanted_falls, too_deep_falls, refuse_falls, fault_falls, end_falls, close_falls, expect_falls, loop_falls}
 use Rattle.swc_ecma_parser_reader.proofs.expressions.Falls.{reject_falls, expr_falls}
 use Rattle.swc_ecma_parser_reader.proofs.patterns.Falls.{pattern_falls}
 
@@ -77,10 +77,18 @@ module _ (inner : Reader Tree) (h : (s : State) → Falls 1 (length s.at.left) (
   unfolding items
   items_fall stops directives s = loop_falls (items_turn inner stops directives) (items_turn_falls stops directives) [] s
 
+  block_from_falls : (start : Place) (s : State) → Falls 0 (length s.at.left) (block_from inner start s)
+  unfolding block_from
+  block_from_falls start s = falls_then 0 0 (length s.at.left) (items inner closes false s) _ (items_fall closes false s) (λ body u.
+      falls_last 0 (length u.at.left) (close u) _ (close_falls u))
+
   block_falls : (s : State) → kind_at s.at ≢ kind.End → Falls 1 (length s.at.left) (block inner s)
   unfolding block
-  block_falls s e = falls_past s _ e (falls_then 0 0 (length (after s.at).left) (items inner closes false (moved s)) _ (items_fall closes false (moved s)) (λ body u.
-      falls_last 0 (length u.at.left) (close u) _ (close_falls u)))
+  block_falls s e = falls_past s _ e (block_from_falls s.at (moved s))
+
+  braced_falls : (s : State) → Falls 0 (length s.at.left) (braced inner s)
+  unfolding braced
+  braced_falls s = falls_then 0 0 (length s.at.left) (expect kind.LBrace s) _ (expect_falls kind.LBrace s) (λ _ t. block_from_falls s.at t)
 
 -- a fault of module code is no token, whether recorded or held back
 noted_either : (b : Bool) (n : ℕ) (s t : State) → length s.at.left + 0 ≤ n → length t.at.left + 0 ≤ n → length (cond b s t).at.left + 0 ≤ n
@@ -200,6 +208,40 @@ module _ (inner : Reader Tree) (h : (s : State) → Falls 1 (length s.at.left) (
   if_falls s e = falls_then 1 0 (length s.at.left) (link inner inner_expr s) _ (falls_past s _ e (link_from_falls (span_at s.at) (moved s))) (λ l t.
       behind_falls (links inner inner_expr (length s.at.left)) (links_fall (length s.at.left)) l t)
 
+-- ---- `try`
+
+handled_falls : (behind : Place) (s : State) → Falls 0 (length s.at.left) (handled behind s)
+unfolding handled
+handled_falls behind s = falls_if 0 (length s.at.left) (is_handled behind) _ _ (omega arith) (fault_falls _ s)
+
+module _ (inner : Reader Tree) (h : (s : State) → Falls 1 (length s.at.left) (inner s)) (inner_pat : Reader Tree) (g : (s : State) → Falls 1 (length s.at.left) (inner_pat s)) where
+  parameter_falls : (s : State) → Falls 0 (length s.at.left) (parameter inner_pat s)
+  unfolding parameter bound
+  parameter_falls s = falls_if 0 (length s.at.left) (sees kind.LParen s.at) _ _
+      (falls_moved 0 s _ (falls_then 0 0 (length (after s.at).left) (within with_in inner_pat (moved s)) _
+      (less (length (after s.at).left) (within with_in inner_pat (moved s)) (whole_falls inner_pat g (moved s))) (λ p t.
+      falls_last 0 (length t.at.left) (expect kind.RParen t) _ (expect_falls kind.RParen t)))) (omega arith)
+
+  caught_falls : (start : Place) (s : State) → Falls 0 (length s.at.left) (caught inner inner_pat start s)
+  unfolding caught
+  caught_falls start s = falls_then 0 0 (length s.at.left) (parameter inner_pat s) _ (parameter_falls s) (λ p t.
+      falls_last 0 (length t.at.left) (braced inner t) _ (braced_falls inner h t))
+
+  handler_falls : (s : State) → Falls 0 (length s.at.left) (handler inner inner_pat s)
+  unfolding handler
+  handler_falls s = falls_if 0 (length s.at.left) (sees kind.Catch s.at) _ _ (falls_moved 0 s _ (caught_falls s.at (moved s))) (omega arith)
+
+  finalizer_falls : (s : State) → Falls 0 (length s.at.left) (finalizer inner s)
+  unfolding finalizer
+  finalizer_falls s = falls_if 0 (length s.at.left) (sees kind.Finally s.at) _ _ (falls_moved 0 s _ (braced_falls inner h (moved s))) (omega arith)
+
+  try_falls : (s : State) → kind_at s.at ≢ kind.End → Falls 1 (length s.at.left) (try_stmt inner inner_pat s)
+  unfolding try_stmt
+  try_falls s e = falls_past s _ e (falls_then 0 0 (length (after s.at).left) (braced inner (moved s)) _ (braced_falls inner h (moved s)) (λ y t.
+      falls_then 0 0 (length t.at.left) (handler inner inner_pat t) _ (handler_falls t) (λ z u.
+      falls_then 0 0 (length u.at.left) (finalizer inner u) _ (finalizer_falls u) (λ w v.
+      falls_last 0 (length v.at.left) (handled t.at v) _ (handled_falls t.at v)))))
+
 module _ (inner : Position → Reader Tree) (h : (at : Position) (s : State) → Falls 1 (length s.at.left) (inner at s))
     (inner_expr : Class → Reader Tree) (g : (class : Class) (s : State) → Falls 1 (length s.at.left) (inner_expr class s))
     (inner_pat : Reader Tree) (i : (s : State) → Falls 1 (length s.at.left) (inner_pat s)) where
@@ -210,6 +252,7 @@ module _ (inner : Position → Reader Tree) (h : (at : Position) (s : State) →
   stmt_by_falls at kind.Var s e = var_falls inner_expr g inner_pat i s (λ h. cc)
   stmt_by_falls at kind.If s e = if_falls (inner sub_statement) (h sub_statement) (inner_expr expression) (g expression) s (λ h. cc)
   stmt_by_falls at kind.Throw s e = throw_falls (inner_expr expression) (g expression) s (λ h. cc)
+  stmt_by_falls at kind.Try s e = try_falls (inner nested_item) (h nested_item) inner_pat i s (λ h. cc)
   stmt_by_falls at kind.While s e = while_falls (inner sub_statement) (h sub_statement) (inner_expr expression) (g expression) s (λ h. cc)
   stmt_by_falls at kind.Do s e = do_while_falls (inner sub_statement) (h sub_statement) (inner_expr expression) (g expression) s (λ h. cc)
   stmt_by_falls at kind.Import s e = import_stmt_at_falls (inner_expr expression) (g expression) s

@@ -20,10 +20,10 @@ use Rattle.swc_ecma_parser_grammar.specs.language.Items.{sub_statement}
 use Rattle.swc_ecma_parser_reader.specs.State.{State, Outcome, Reader, moved, coded, within, noted, module_fault, fault_at, labelled, labelled_as, expect, end}
 use Rattle.swc_ecma_parser_reader.specs.Expressions.{expr}
 use Rattle.swc_ecma_parser_reader.specs.Patterns.{pattern}
-use Rattle.swc_ecma_parser_reader.specs.Reader.{empty, debugger, initialized, declarator, declarators_turn, declarators, var, closes, at_end, close, items_turn, items, block, note_statement, no_label, expr_stmt, expr_stmt_at, optional_end, import_stmt, import_stmt_at, thrown, throw, head, while_stmt, do_while, goes_on, condition, alternative, link_from, link, links, if_stmt, stmt_by, stmt_level, stmt, shebang, script_body, script}
+use Rattle.swc_ecma_parser_reader.specs.Reader.{empty, debugger, initialized, declarator, declarators_turn, declarators, var, closes, at_end, close, items_turn, items, block_from, block, braced, note_statement, no_label, expr_stmt, expr_stmt_at, optional_end, import_stmt, import_stmt_at, thrown, throw, head, while_stmt, do_while, goes_on, condition, alternative, link_from, link, links, if_stmt, begins_at, is_handled, handled, bound, parameter, finalizer, caught, handler, try_stmt, stmt_by, stmt_level, stmt, shebang, script_body, script}
 use Rattle.swc_ecma_parser_reader.specs.Limits.{has_too_deep_token}
 use Rattle.swc_ecma_parser_reader.proofs.Meets.{Answers, answers_then, answers_if, loop_answers, meant}
-use Rattle.swc_ecma_parser_reader.proofs.Shallow.{Fine, fine_more, fine_after, fine_taken, Shallow, Kept, wanted_shallow, refuse_shallow, end_shallow, expect_shallow, close_shallow, shebang_shallow, Levels}
+use Rattle.swc_ecma_parser_reader.proofs.Shallow.{Fine, fine_more, fine_after, fine_taken, Shallow, Kept, fault_shallow, wanted_shallow, refuse_shallow, end_shallow, expect_shallow, close_shallow, shebang_shallow, Levels}
 use Rattle.swc_ecma_parser_reader.proofs.Opens.{chain_goes}
 use Rattle.swc_ecma_parser_reader.proofs.expressions.Limits.{reject_shallow, expr_shallow}
 use Rattle.swc_ecma_parser_reader.proofs.patterns.Limits.{pattern_shallow}
@@ -48,6 +48,11 @@ module _ (inner_expr : Class → Reader Tree) (inner_pat : Reader Tree) (n : ℕ
   declarators_shallow s f = loop_answers (declarators_turn inner_expr inner_pat) (Kept m) (Kept m) Shallow
       (λ xs t g. answers_then _ _ (declarator inner_expr inner_pat t) _ (declarator_shallow t g) (λ x u h. answers_if _ _ (sees kind.Comma u.at) _ _ (λ _. fine_after m u.at h) (λ _. h)))
       (λ t e. cc) [] s f
+
+-- as many tokens at most are left as a greater number says
+kept_more : {A : Type 0} (i m : ℕ) → i ≤ m → (o : Outcome A) → Answers (Kept i) Shallow o → Answers (Kept m) Shallow o
+kept_more i m h (Ok p) g = fine_more i m p.1.at.left h g
+kept_more i m h (Err e) g = g
 
 -- nor are statements one behind another
 items_shallow : (inner : Reader Tree) (n : ℕ) → StmtLevels n inner → (stops : Place → Bool) (directives : Bool) (m : ℕ) → 2 * m + 1 ≤ n → (s : State) → Fine m s.at.left
@@ -105,13 +110,21 @@ module _ (inner : Position → Reader Tree) (inner_expr : Class → Reader Tree)
 module _ (inner : Position → Reader Tree) (inner_expr : Class → Reader Tree) (inner_pat : Reader Tree) (n : ℕ)
     (below : (at : Position) → StmtLevels n (inner at)) (below_expr : (class : Class) → Levels n (inner_expr class)) (below_pat : Levels n inner_pat)
     (at : Position) (m : ℕ) (enough : 2 * m + 1 ≤ suc n) (s : State) (f : Fine m s.at.left) where
+  block_from_shallow : (i : ℕ) → 2 * i + 1 ≤ n → (start : Place) (t : State) → Fine i t.at.left → Answers (Kept i) Shallow (block_from (inner nested_item) start t)
+  unfolding block_from
+  block_from_shallow i h start t g = answers_then _ _ (items (inner nested_item) closes false t) _ (items_shallow (inner nested_item) n (below nested_item) closes false i h t g) (λ x u k.
+      answers_then _ _ (close u) _ (close_shallow i u k) (λ _ v j. j))
+
   -- a block takes a token before the level below
   block_shallow : kind_at s.at ≡ kind.LBrace → Answers (Kept m) Shallow (block (inner nested_item) s)
   unfolding block
   block_shallow e =
       let (i, h, g) = fine_taken m s.at kind.LBrace e (λ z. cc) f in
-      answers_then _ _ (items (inner nested_item) closes false (moved s)) _ (items_shallow (inner nested_item) n (below nested_item) closes false i (omega arith) (moved s) g) (λ x t k.
-      answers_then _ _ (close t) _ (close_shallow i t k) (λ _ u j. fine_more i m u.at.left (omega arith) j))
+      kept_more i m (omega arith) (block_from (inner nested_item) s.at (moved s)) (block_from_shallow i (omega arith) s.at (moved s) g)
+
+  braced_shallow : (i : ℕ) → 2 * i + 1 ≤ n → (t : State) → Fine i t.at.left → Answers (Kept i) Shallow (braced (inner nested_item) t)
+  unfolding braced
+  braced_shallow i h t g = answers_then _ _ (expect kind.LBrace t) _ (expect_shallow i t g kind.LBrace) (λ _ u k. block_from_shallow i h t.at u k)
 
   debugger_shallow : Answers (Kept m) Shallow (debugger s)
   unfolding debugger
@@ -185,6 +198,36 @@ module _ (inner : Position → Reader Tree) (inner_expr : Class → Reader Tree)
       answers_then _ _ (head (inner_expr expression) u) _ (head_shallow i (omega arith) u j) (λ x v z.
       answers_then _ _ (optional_end v) _ (optional_end_shallow i v z) (λ _ b a. fine_more i m b.at.left (omega arith) a))))
 
+  parameter_shallow : (i : ℕ) → 2 * i ≤ n → (t : State) → Fine i t.at.left → Answers (Kept i) Shallow (parameter inner_pat t)
+  unfolding parameter bound
+  parameter_shallow i h t g = answers_if _ _ (sees kind.LParen t.at) _ _ (λ _.
+      answers_then _ _ (within with_in inner_pat (moved t)) _
+      (answers_then (Kept i) _ (inner_pat (coded (with_in t.code) (moved t))) _ (below_pat i (coded (with_in t.code) (moved t)) h (fine_after i t.at g)) (λ x v k. k)) (λ x v k.
+      answers_then _ _ (expect kind.RParen v) _ (expect_shallow i v k kind.RParen) (λ _ w z. z))) (λ _. g)
+
+  handler_shallow : (i : ℕ) → 2 * i + 1 ≤ n → (t : State) → Fine i t.at.left → Answers (Kept i) Shallow (handler (inner nested_item) inner_pat t)
+  unfolding handler caught
+  handler_shallow i h t g = answers_if _ _ (sees kind.Catch t.at) _ _ (λ _.
+      answers_then _ _ (parameter inner_pat (moved t)) _ (parameter_shallow i (omega arith) (moved t) (fine_after i t.at g)) (λ x u k.
+      answers_then _ _ (braced (inner nested_item) u) _ (braced_shallow i h u k) (λ y v j. j))) (λ _. g)
+
+  finalizer_shallow : (i : ℕ) → 2 * i + 1 ≤ n → (t : State) → Fine i t.at.left → Answers (Kept i) Shallow (finalizer (inner nested_item) t)
+  unfolding finalizer
+  finalizer_shallow i h t g = answers_if _ _ (sees kind.Finally t.at) _ _ (λ _. braced_shallow i h (moved t) (fine_after i t.at g)) (λ _. g)
+
+  handled_shallow : (i : ℕ) (behind : Place) (t : State) → Fine i t.at.left → Answers (Kept i) Shallow (handled behind t)
+  unfolding handled
+  handled_shallow i behind t g = answers_if _ _ (is_handled behind) _ _ (λ _. g) (λ _. fault_shallow i t g (fault_at (begins_at behind) faults.TS1005))
+
+  try_shallow : kind_at s.at ≡ kind.Try → Answers (Kept m) Shallow (try_stmt (inner nested_item) inner_pat s)
+  unfolding try_stmt
+  try_shallow e =
+      let (i, h, g) = fine_taken m s.at kind.Try e (λ z. cc) f in
+      answers_then _ _ (braced (inner nested_item) (moved s)) _ (braced_shallow i (omega arith) (moved s) g) (λ x t k.
+      answers_then _ _ (handler (inner nested_item) inner_pat t) _ (handler_shallow i (omega arith) t k) (λ y u j.
+      answers_then _ _ (finalizer (inner nested_item) u) _ (finalizer_shallow i (omega arith) u j) (λ z v l.
+      answers_then _ _ (handled t.at v) _ (handled_shallow i t.at v l) (λ _ b a. fine_more i m b.at.left (omega arith) a))))
+
   by_shallow : (k : TokenKind) → kind_at s.at ≡ k → Answers (Kept m) Shallow (stmt_by inner inner_expr inner_pat at k s)
   unfolding empty if_stmt
   by_shallow kind.LBrace e = block_shallow e
@@ -193,6 +236,7 @@ module _ (inner : Position → Reader Tree) (inner_expr : Class → Reader Tree)
   by_shallow kind.Var e = var_shallow
   by_shallow kind.If e = links_shallow inner inner_expr n below below_expr (suc (length s.at.left)) m enough s e f
   by_shallow kind.Throw e = throw_shallow e
+  by_shallow kind.Try e = try_shallow e
   by_shallow kind.While e = while_shallow e
   by_shallow kind.Do e = do_while_shallow e
   by_shallow kind.Import e = import_stmt_at_shallow

@@ -11,7 +11,7 @@ use Rattle.swc_ecma_parser_grammar.specs.declared.position.Position.{Position}
 use Rattle.swc_ecma_parser_grammar.specs.Looks.{kind_at, sees, same_kind}
 use Rattle.swc_ecma_parser_grammar.specs.Names.{Code}
 use Rattle.swc_ecma_parser_grammar.specs.Follows.{may_begin_expression_statement, begins_import_expression}
-use Rattle.swc_ecma_parser_grammar.specs.Reads.{with_in, StmtRule, block_rule, empty_rule, debugger_rule, var_rule, if_statement_rule, throw_rule, while_rule, do_while_rule, expr_rule, import_rule, if_rule}
+use Rattle.swc_ecma_parser_grammar.specs.Reads.{with_in, StmtRule, block_rule, empty_rule, debugger_rule, var_rule, if_statement_rule, throw_rule, try_rule, while_rule, do_while_rule, expr_rule, import_rule, if_rule}
 use Rattle.swc_ecma_parser_grammar.specs.Notes.{statement_note}
 use Rattle.swc_ecma_parser_grammar.specs.ReadsSupported.{ReadsClass, ReadsPat, ReadsStmt}
 use Rattle.swc_ecma_parser_grammar.specs.language.Goals.{Class, expression}
@@ -33,6 +33,7 @@ opened stmt expr pat at s kind.Debugger e h g = cc
 opened stmt expr pat at s kind.Var e h g = cc
 opened stmt expr pat at s kind.If e h g = cc
 opened stmt expr pat at s kind.Throw e h g = cc
+opened stmt expr pat at s kind.Try e h g = cc
 opened stmt expr pat at s kind.While e h g = cc
 opened stmt expr pat at s kind.Do e h g = cc
 opened stmt expr pat at s kind.Import e h g = cc
@@ -97,12 +98,13 @@ rule_goes : (Stmt : Code → Position → Tree → Place → Place → Type 0) (
     → ((k : Code) (x : Tree) (c d : Place) → Expr expression k x c d → opens (kind_at c) ≡ true)
     → (k : Code) (at : Position) (x : Tree) (c d : Place) → StmtRule Stmt Expr Pat k at x c d → Goes c
 unfolding same_kind
-rule_goes Stmt Expr Pat h k at x c d (block_rule xs m e r g i j) = goes_by c kind.LBrace e (refl, refl)
+rule_goes Stmt Expr Pat h k at x c d (block_rule r) = goes_by c kind.LBrace r.opens (refl, refl)
 rule_goes Stmt Expr Pat h k at x c d (empty_rule e g i) = goes_by c kind.Semi e (refl, refl)
 rule_goes Stmt Expr Pat h k at x c d (debugger_rule e g i) = goes_by c kind.Debugger e (refl, refl)
 rule_goes Stmt Expr Pat h k at x c d (var_rule xs m e r g i) = goes_by c kind.Var e (refl, refl)
 rule_goes Stmt Expr Pat h k at x c d (if_statement_rule (if_rule t y z m n e r s o i)) = goes_by c kind.If e (refl, refl)
 rule_goes Stmt Expr Pat h k at x c d (throw_rule y m e b r g i) = goes_by c kind.Throw e (refl, refl)
+rule_goes Stmt Expr Pat h k at x c d (try_rule y z w m n e r s o a i) = goes_by c kind.Try e (refl, refl)
 rule_goes Stmt Expr Pat h k at x c d (while_rule y z m e r s i) = goes_by c kind.While e (refl, refl)
 rule_goes Stmt Expr Pat h k at x c d (do_while_rule y z m n e s j r g i) = goes_by c kind.Do e (refl, refl)
 rule_goes Stmt Expr Pat h k at x c d (expr_rule e m b r l i g j) = goes_by c (kind_at c) refl (goes_open (kind_at c) (h (with_in k) e c m r))

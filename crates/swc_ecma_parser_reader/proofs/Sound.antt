@@ -1,6 +1,7 @@
 -- What is read is in the grammar where nothing was recorded, and the faults of the table are the walk's.
 use Rattle.std.proofs.Common.{◌≡◌, ℕ, zero, suc, Bool, true, false, cond, List, [], ◌∷◌, ◌++◌, Option, length, Ok, Err, refl, sym, ◌∙◌, ap, subst, append_assoc, append-nil}
 use Rattle.std.specs.Prelude.{◌&&◌, ◌||◌, is_some, codes}
+use Rattle.swc_ecma_parser_common.specs.declared.span.Span.{Span}
 use Rattle.swc_ecma_parser_error.specs.Kind as faults
 use Rattle.swc_ecma_parser_error.specs.Kind.{Kind, Fault}
 use Rattle.swc_ecma_parser_token.specs.declared.keyword.Keyword.{Keyword}
@@ -21,7 +22,7 @@ use Rattle.swc_ecma_parser_input.specs.Place.{Place, after}
 use Rattle.swc_ecma_parser_model.specs.Tree as tree
 use Rattle.swc_ecma_parser_model.specs.Tree.{Tree, Text, listed, trees}
 use Rattle.swc_ecma_parser_model.specs.Directive.{is_use_strict}
-use Rattle.swc_ecma_parser_model.specs.Forms.{is_ident, is_ident_named, is_binding_name, span_of}
+use Rattle.swc_ecma_parser_model.specs.Forms.{is_absent, is_ident, is_ident_named, is_binding_name, span_of}
 use Rattle.swc_ecma_parser_grammar.specs.declared.position.Position.{Position}
 use Rattle.swc_ecma_parser_grammar.specs.Looks.{kind_at, breaks_at, sees, same_kind, span_at, spanned}
 use Rattle.swc_ecma_parser_grammar.specs.Names.{Code}
@@ -30,7 +31,7 @@ use Rattle.swc_ecma_parser_grammar.specs.Follows.{may_begin_expression_statement
 use Rattle.swc_ecma_parser_grammar.specs.language.Contexts.{in_loop}
 use Rattle.swc_ecma_parser_grammar.specs.language.Goals.{Class, expression, assignment}
 use Rattle.swc_ecma_parser_grammar.specs.language.Items.{sub_statement}
-use Rattle.swc_ecma_parser_grammar.specs.Reads.{with_in, in_strict, directed, directs_on, nested_item, top_item, DeclaratorRule, plain_rule, initialized_rule, ReadsSeparated, ReadsItems, StmtRule, block_rule, empty_rule, debugger_rule, var_rule, if_statement_rule, throw_rule, while_rule, do_while_rule, expr_rule, import_rule, ReadsHead, IfRule, if_rule, ElseRule, no_else_rule, else_rule, else_if_rule}
+use Rattle.swc_ecma_parser_grammar.specs.Reads.{with_in, in_strict, directed, directs_on, nested_item, top_item, DeclaratorRule, plain_rule, initialized_rule, ReadsSeparated, ReadsItems, StmtRule, block_rule, empty_rule, debugger_rule, var_rule, if_statement_rule, throw_rule, try_rule, while_rule, do_while_rule, expr_rule, import_rule, ReadsBlock, CatchRule, no_catch_rule, catch_rule, catch_parameter_rule, FinallyRule, no_finally_rule, finally_rule, ReadsHead, IfRule, if_rule, ElseRule, no_else_rule, else_rule, else_if_rule}
 use Rattle.swc_ecma_parser_grammar.specs.ReadsSupported.{ReadsClass, ReadsPat, ReadsElement, ReadsStmt}
 use Rattle.swc_ecma_parser_grammar.specs.Entries.{ReadsScript, ReadsShebang, some_shebang, no_shebang, script_code, has_error_token}
 use Rattle.swc_ecma_parser_grammar.specs.Walk as walks
@@ -43,7 +44,7 @@ use Rattle.swc_ecma_parser_reader.specs.Notes.{held, ◌⊕◌, notes_of, all_no
 use Rattle.swc_ecma_parser_reader.specs.State.{State, Reader, moved, coded, flagged, within, noted, module_fault, fault_at, Outcome, labelled, labelled_as, expect, end}
 use Rattle.swc_ecma_parser_reader.specs.Expressions.{Cover, expr, cover}
 use Rattle.swc_ecma_parser_reader.specs.Patterns.{pattern, element}
-use Rattle.swc_ecma_parser_reader.specs.Reader.{empty, debugger, initialized, declarator, declarators_turn, declarators, var, closes, at_end, close, directs, items_turn, items, block, note_statement, no_label, expr_stmt, expr_stmt_at, optional_end, import_stmt, import_stmt_at, thrown, throw, head, while_stmt, do_while, Link, goes_on, condition, alternative, link_from, link, links, if_stmt, stmt_by, stmt_level, stmt, shebang_of, shebang_in, shebang_taken, shebang, script_body, script}
+use Rattle.swc_ecma_parser_reader.specs.Reader.{empty, debugger, initialized, declarator, declarators_turn, declarators, var, closes, at_end, close, directs, items_turn, items, block_from, block, braced, note_statement, no_label, expr_stmt, expr_stmt_at, optional_end, import_stmt, import_stmt_at, thrown, throw, head, while_stmt, do_while, Link, goes_on, condition, alternative, link_from, link, links, if_stmt, begins_at, is_handled, handled, bound, parameter, finalizer, caught, handler, try_stmt, stmt_by, stmt_level, stmt, shebang_of, shebang_in, shebang_taken, shebang, script_body, script}
 use Rattle.swc_ecma_parser_reader.specs.Entry.{SoundScript}
 use Rattle.swc_ecma_parser_reader.specs.Limits.{has_out_of_memory_token}
 use Rattle.swc_ecma_parser_reader.proofs.expressions.SoundCovers.{SoundCover}
@@ -311,15 +312,28 @@ module _ (Stmt : Code → Position → Tree → Place → Place → Type 0) (Exp
   unfolding debugger
   debugger_sound s e = meets_then _ (end faults.Expected (moved s)) _ (end_sound faults.Expected (moved s)) (λ _ t p. sound_after s t e refl refl refl (λ h. debugger_rule e h refl) p)
 
+  -- statements up to their `}`, of a block that begins at a place before them
+  BehindBrace : Place → Tree → Code → Place → Place → Type 0
+  BehindBrace start x k c d = (xs : List Tree) × (i : Place) × ReadsItems (λ j. Stmt j nested_item) k false xs c i × Takes kind.RBrace i d × (x ≡ tree.block (spanned start d) (listed xs))
+
+  block_from_sound : (start : Place) (s : State) → Meets (λ x t. Sound same (λ k l. walk (env_of k l) x) (notes_of x) (BehindBrace start x) s t) (block_from (inner nested_item) start s)
+  unfolding block_from BehindBrace
+  block_from_sound start s = meets_then _ (items (inner nested_item) closes false s) _
+      (items_sound (λ j. Stmt j nested_item) (inner nested_item) (sound nested_item) closes false s) (λ xs m p.
+      meets_then _ (close m) _ (close_sound m) (λ _ t q. sound_as s t (code_stays s.code xs) refl refl
+      (λ (i, r, z). (xs, i, r, subst (λ k. Takes kind.RBrace i t.at) (code_stays s.code xs) z, refl)) (sound_more p.0 q)))
+
   block_sound : (s : State) → kind_at s.at ≡ kind.LBrace → Meets (SoundStmt s) (block (inner nested_item) s)
-  unfolding block
-  block_sound s e = meets_then _ (items (inner nested_item) closes false (moved s)) _
-      (items_sound (λ j. Stmt j nested_item) (inner nested_item) (sound nested_item) closes false (moved s)) (λ xs m p.
-      meets_then _ (close m) _ (close_sound m) (λ _ t q.
-      let b : Sound same (λ k l. walks.walks (env_of k l) false (trees xs)) (all_notes_of (trees xs))
-      (λ k c d. (i : Place) × ReadsItems (λ j. Stmt j nested_item) k false xs c i × Takes kind.RBrace i d) (moved s) t =
-      sound_as (moved s) t (code_stays s.code xs) refl refl (λ h. h) (sound_more p.0 q) in
-      sound_after s t e refl refl refl (λ (i, r, z). block_rule xs i e r z.0 z.1 refl) b))
+  unfolding block BehindBrace
+  block_sound s e = meets_as (block_from (inner nested_item) s.at (moved s)) (block_from_sound s.at (moved s)) (λ x t p.
+      sound_after s t e refl refl refl (λ (xs, i, r, z, g). block_rule (record { items = xs; close = i; opens = e; reads_items = r; closes = z.0; next = z.1; is = g })) p)
+
+  braced_sound : (s : State) → Meets (λ x t. SoundTree (λ k. ReadsBlock Stmt k) s x t) (braced (inner nested_item) s)
+  unfolding braced BehindBrace
+  braced_sound s = meets_then _ (expect kind.LBrace s) _ (expect_sound kind.LBrace s refl) (λ _ m p.
+      meets_as (block_from (inner nested_item) s.at m) (block_from_sound s.at m) (λ x t q. sound_as s t refl refl refl
+      (λ (a, (b, c), (xs, i, r, z, g)). record { items = xs; close = i; opens = b; reads_items = subst (λ v. ReadsItems (λ j. Stmt j nested_item) s.code false xs v i) c r; closes = z.0; next = z.1; is = g })
+      (sound_then p q)))
 
   expr_stmt_sound : (s : State) → may_begin_expression_statement at s.at ≡ true → Meets (SoundStmt s) (expr_stmt (inner_expr expression) s)
   unfolding expr_stmt SoundNote NoNote NoLabel
@@ -451,6 +465,75 @@ module _ (Stmt : Code → Position → Tree → Place → Place → Type 0) (Exp
   if_sound s e = meets_as (links (inner sub_statement) (inner_expr expression) (suc (length s.at.left)) s) (links_sound (suc (length s.at.left)) s e) (λ x t q.
       sound_as s t refl refl refl (λ r. if_statement_rule r) q)
 
+  -- ---- `try`
+
+  -- what a catch binds, or nothing
+  data ParameterRule (k : Code) (p : Tree) (c d : Place) : Type 0 where
+    no_parameter : p ≡ tree.absent → d ≡ c → ParameterRule k p c d
+    one_parameter : (m : Place) → kind_at c ≡ kind.LParen → Pat (with_in k) p (after c) m → kind_at m ≡ kind.RParen → d ≡ after m → ParameterRule k p c d
+
+  inner_pat_sound : (s : State) → Meets (λ x t. Sound same (λ k l. walk (env_of k l) x) (notes_of x) (λ k. Pat (with_in k) x) s t) (within with_in inner_pat s)
+  inner_pat_sound s = within_sound (λ x k l. walk (env_of k l) x) notes_of (λ x k. Pat k x) with_in (λ k. refl) inner_pat s (sound_pat (coded (with_in s.code) s))
+
+  parameter_sound : (s : State) → Meets (λ x t. SoundTree (λ k. ParameterRule k) s x t) (parameter inner_pat s)
+  unfolding parameter bound
+  parameter_sound s = meets_if _ (sees kind.LParen s.at) _ _
+      (λ e. meets_then _ (within with_in inner_pat (moved s)) _ (inner_pat_sound (moved s)) (λ x m p.
+      meets_then _ (expect kind.RParen m) _ (expect_sound kind.RParen m refl) (λ _ t q.
+      sound_after s t (saw s.at kind.LParen e) refl refl refl (λ (i, r, z). one_parameter i (saw s.at kind.LParen e) r z.0 z.1) (sound_more p q))))
+      (λ e. sound_here s (no_parameter refl refl))
+
+  caught_as : {k : Code} {p body : Tree} {c m d : Place} → kind_at c ≡ kind.Catch → ParameterRule k p (after c) m → ReadsBlock Stmt k body m d → CatchRule Stmt Pat k (tree.catch (spanned c d) p body) c d
+  caught_as {k = k} {body = body} {c = c} {d = d} e (no_parameter h g) r = catch_rule body e (subst (λ v. ReadsBlock Stmt k body v d) g r) (ap (λ v. tree.catch (spanned c d) v body) h)
+  caught_as {k = k} {p = p} {body = body} {d = d} e (one_parameter i h q g j) r = catch_parameter_rule p body i e h q g (subst (λ v. ReadsBlock Stmt k body v d) j r) refl
+
+  handler_sound : (s : State) → Meets (λ x t. SoundTree (λ k. CatchRule Stmt Pat k) s x t) (handler (inner nested_item) inner_pat s)
+  unfolding handler caught
+  handler_sound s = meets_if _ (sees kind.Catch s.at) _ _
+      (λ e. meets_then _ (parameter inner_pat (moved s)) _ (parameter_sound (moved s)) (λ x m p.
+      meets_then _ (braced (inner nested_item) m) _ (braced_sound m) (λ y t q.
+      sound_after s t (saw s.at kind.Catch e) refl refl refl (λ (i, r, z). caught_as (saw s.at kind.Catch e) r z) (sound_then p q))))
+      (λ e. sound_here s (no_catch_rule e refl refl))
+
+  finalizer_sound : (s : State) → Meets (λ x t. SoundTree (λ k. FinallyRule Stmt k) s x t) (finalizer (inner nested_item) s)
+  unfolding finalizer
+  finalizer_sound s = meets_if _ (sees kind.Finally s.at) _ _
+      (λ e. meets_as (braced (inner nested_item) (moved s)) (braced_sound (moved s)) (λ y t q.
+      sound_after s t (saw s.at kind.Finally e) refl refl refl (λ r. finally_rule (saw s.at kind.Finally e) r) q))
+      (λ e. sound_here s (no_finally_rule e refl refl))
+
+  -- one of the two stands behind what is tried, or a fault is recorded
+  Handled : Place → Code → Place → Place → Type 0
+  Handled behind k c d = (is_handled behind ≡ true) × (d ≡ c)
+
+  handled_sound : (behind : Place) (s : State) → Meets (λ _ t. SoundStep (Handled behind) s t) (handled behind s)
+  unfolding handled Handled
+  handled_sound behind s = meets_if _ (is_handled behind) _ _ (λ e. sound_here s (e, refl)) (λ _. fault_sound (Handled behind) (fault_at (begins_at behind) faults.TS1005) s refl)
+
+  -- so it is there in the tree
+  one_stands : {k : Code} {x y : Tree} {c m d : Place} → is_handled c ≡ true → CatchRule Stmt Pat k x c m → FinallyRule Stmt k y m d → is_absent x && is_absent y ≡ false
+  unfolding is_handled
+  one_stands h (catch_rule body i r e) f = rw e refl
+  one_stands h (catch_parameter_rule p body i j l r t u e) f = rw e refl
+  one_stands {x = x} h (no_catch_rule a b e) (finally_rule i r) = and_false (is_absent x) _ (ap is_absent r.is)
+  one_stands {c = c} h (no_catch_rule a b e) (no_finally_rule i j g) = never_both (sees kind.Catch c) (sees kind.Finally c) h a (subst (λ v. sees kind.Finally v ≡ false) b i)
+    where
+      never_both : {X : Type 0} (a b : Bool) → (a || b) ≡ true → a ≡ false → b ≡ false → X
+      never_both true b h e g = cc
+      never_both false b h e g = cc
+
+  try_sound : (s : State) → kind_at s.at ≡ kind.Try → Meets (SoundStmt s) (try_stmt (inner nested_item) inner_pat s)
+  unfolding try_stmt Handled
+  try_sound s e = meets_then _ (braced (inner nested_item) (moved s)) _ (braced_sound (moved s)) (λ x m p.
+      meets_then _ (handler (inner nested_item) inner_pat m) _ (handler_sound m) (λ y n q.
+      meets_then _ (finalizer (inner nested_item) n) _ (finalizer_sound n) (λ z i r.
+      meets_then _ (handled m.at i) _ (handled_sound m.at i) (λ _ t o.
+      let b : Sound same (λ k l. walk (env_of k l) x) (notes_of x) (λ k c d. ReadsBlock Stmt k x c d × (d ≡ m.at)) (moved s) m = sound_as (moved s) m refl refl refl (λ a. (a, refl)) p in
+      sound_after s t e refl refl refl
+      (λ (i, (g, (a, (b, c), h), j), (l, v)).
+      try_rule x y z a g e b h (subst (λ w. FinallyRule Stmt s.code z g w) (sym v) j) (one_stands (subst (λ w. is_handled w ≡ true) (sym c) l) h j) refl)
+      (sound_more (sound_then (sound_then b q) r) o)))))
+
   -- each kind of token begins its statement
   by_sound : (j : TokenKind) (s : State) → kind_at s.at ≡ j → Meets (SoundStmt s) (stmt_by inner inner_expr inner_pat at j s)
   by_sound kind.LBrace s e = block_sound s e
@@ -459,6 +542,7 @@ module _ (Stmt : Code → Position → Tree → Place → Place → Type 0) (Exp
   by_sound kind.Var s e = var_sound Expr Pat inner_expr inner_pat sound_expr sound_pat Stmt at s e
   by_sound kind.If s e = if_sound s e
   by_sound kind.Throw s e = throw_sound s e
+  by_sound kind.Try s e = try_sound s e
   by_sound kind.While s e = while_sound s e
   by_sound kind.Do s e = do_while_sound s e
   by_sound kind.Import s e = import_stmt_at_sound s

@@ -22,7 +22,7 @@ use Rattle.swc_ecma_parser_grammar.specs.language.Goals.{Class, expression, assi
 use Rattle.swc_ecma_parser_grammar.specs.language.Items.{sub_statement}
 use Rattle.swc_ecma_parser_reader.specs.Expressions.{expr}
 use Rattle.swc_ecma_parser_reader.specs.Patterns.{pattern}
-use Rattle.swc_ecma_parser_reader.specs.State.{Reader, ◌>>=◌, ◌>>◌, pure, here, span_here, since, skip, moved, spanned_from, coded, flagged, within, fault, fault_at, module_fault, wanted, too_deep, refuse, reject, labelled, expect, end, stuck, Step, More, Done, loop}
+use Rattle.swc_ecma_parser_reader.specs.State.{Reader, ◌>>=◌, ◌>>◌, pure, here, span_here, since, skip, moved, spanned_from, coded, flagged, within, fault, fault_at, end_of, module_fault, wanted, too_deep, refuse, reject, labelled, expect, end, stuck, Step, More, Done, loop}
 
 -- ---- statements
 
@@ -109,14 +109,26 @@ module _ (stmt : Reader Tree) where
   unfoldable pub items : (Place → Bool) → Bool → Reader (List Tree)
   items stops directives = loop (items_turn stops directives) []
 
-  unfoldable pub block : Reader Tree
-  block = do
-    start ← here
-    skip
+  -- a block, from behind its `{`
+  unfoldable pub block_from : Place → Reader Tree
+  block_from start = do
     body ← items closes false
     close
     span ← spanned_from start
     pure (tree.block span (listed body))
+
+  unfoldable pub block : Reader Tree
+  block = do
+    start ← here
+    skip
+    block_from start
+
+  -- a block that must stand here
+  unfoldable pub braced : Reader Tree
+  braced = do
+    start ← here
+    expect kind.LBrace
+    block_from start
 
 -- the bare name `interface` is a fault in module code
 unfoldable pub note_statement : Tree → Reader (Unit {0})
@@ -258,6 +270,60 @@ module _ (stmt : Reader Tree) (expr : Reader Tree) where
   unfoldable pub if_stmt : Reader Tree
   if_stmt = λ s. links (suc (length s.at.left)) s
 
+-- ---- `try`
+
+-- the empty span before what stands at a place; at the end of the list, behind what was read last
+unfoldable pub begins_at : Place → Span
+begins_at c = let span = span_at c in if sees kind.End c then end_of span else record { lo = span.lo; hi = span.lo }
+
+-- what is tried has a catch or a finally behind it
+unfoldable pub is_handled : Place → Bool
+is_handled c = sees kind.Catch c || sees kind.Finally c
+
+-- or a fault is recorded where they were looked for
+unfoldable pub handled : Place → Reader (Unit {0})
+handled behind = λ s. if is_handled behind then Ok (tt, s) else fault (fault_at (begins_at behind) faults.TS1005) s
+
+module _ (pat : Reader Tree) where
+  -- what a catch binds, in parentheses
+  unfoldable pub bound : Reader Tree
+  bound = do
+    skip
+    p ← within with_in pat
+    expect kind.RParen
+    pure p
+
+  unfoldable pub parameter : Reader Tree
+  parameter = λ s. if sees kind.LParen s.at then bound s else Ok (tree.absent, s)
+
+module _ (stmt : Reader Tree) where
+  unfoldable pub finalizer : Reader Tree
+  finalizer = λ s. if sees kind.Finally s.at then braced stmt (moved s) else Ok (tree.absent, s)
+
+  module _ (pat : Reader Tree) where
+    -- a catch, from behind its word
+    unfoldable pub caught : Place → Reader Tree
+    caught start = do
+      p ← parameter pat
+      body ← braced stmt
+      span ← spanned_from start
+      pure (tree.catch span p body)
+
+    unfoldable pub handler : Reader Tree
+    handler = λ s. if sees kind.Catch s.at then caught s.at (moved s) else Ok (tree.absent, s)
+
+    unfoldable pub try_stmt : Reader Tree
+    try_stmt = do
+      start ← here
+      skip
+      body ← braced stmt
+      behind ← here
+      h ← handler
+      f ← finalizer
+      handled behind
+      span ← spanned_from start
+      pure (tree.try span body h f)
+
 module _ (stmt : Position → Reader Tree) (expr : Class → Reader Tree) (pat : Reader Tree) where
   abbrev pub stmt_by : Position → TokenKind → Reader Tree
   stmt_by at kind.LBrace = block (stmt nested_item)
@@ -266,6 +332,7 @@ module _ (stmt : Position → Reader Tree) (expr : Class → Reader Tree) (pat :
   stmt_by at kind.Var = var expr pat
   stmt_by at kind.If = if_stmt (stmt sub_statement) (expr expression)
   stmt_by at kind.Throw = throw (expr expression)
+  stmt_by at kind.Try = try_stmt (stmt nested_item) pat
   stmt_by at kind.While = while_stmt (stmt sub_statement) (expr expression)
   stmt_by at kind.Do = do_while (stmt sub_statement) (expr expression)
   stmt_by at kind.Import = import_stmt_at (expr expression)

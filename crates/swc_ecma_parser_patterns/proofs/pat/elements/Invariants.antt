@@ -3,7 +3,7 @@ use Rattle.swc_ecma_parser_reader.specs.State.{loop}
 use Rattle.swc_ecma_parser_reader.specs.Expressions as exprs
 use Rattle.swc_ecma_parser_reader.specs.Patterns as patterns
 use Rattle.swc_ecma_parser_trees.specs.Parts.{part_of}
-use Rattle.swc_ecma_parser_core.proofs.pat.elements.Given as goal
+use Rattle.swc_ecma_parser_patterns.proofs.pat.elements.Given as goal
 
 -- what the whole loop gives is what the rest of it gives
 abbrev pub invariant-elements : goal.invariant-elements

@@ -33,7 +33,7 @@ fn binding<P: Source, T: BuildsPat>(alloc: Global, p: &mut P) -> PResult<T::Pat>
 }
 
 /// A pattern one level further in, where `in` is an operator.
-pub(crate) fn inner_pat<
+pub fn inner_pat<
     P: Source,
     T: Trees,
     S: Fn(&MakerOf<T>, &mut P, usize, Position) -> PResult<T::Stmt>,
@@ -128,7 +128,7 @@ fn array_pat<
 
 /// A pattern without default.
 #[tactic(auto, unfolding(swc_ecma_parser_reader::specs::Patterns::pattern_level))]
-pub(crate) fn pattern_level<
+pub fn pattern_level<
     P: Source,
     T: BuildsCall + BuildsPattern + BuildsPat,
     S: Fn(&MakerOf<T>, &mut P, usize, Position) -> PResult<T::Stmt>,
@@ -167,7 +167,7 @@ fn initialized<
 
 /// A pattern with its default, if one stands there.
 #[tactic(auto, unfolding(swc_ecma_parser_reader::specs::Patterns::element_level))]
-pub(crate) fn element_level<
+pub fn element_level<
     P: Source,
     T: BuildsCall + BuildsPattern + BuildsPat,
     S: Fn(&MakerOf<T>, &mut P, usize, Position) -> PResult<T::Stmt>,

@@ -1,6 +1,6 @@
 use Rattle.std.proofs.Common.{sym, ap, ◌∙◌}
-use Rattle.swc_ecma_parser_core.proofs.Patterns.{read_pat_code}
-use Rattle.swc_ecma_parser_core.proofs.pat.inner_pat.Goals as goal
+use Rattle.swc_ecma_parser_patterns.proofs.Patterns.{read_pat_code}
+use Rattle.swc_ecma_parser_patterns.proofs.pat.inner_pat.Goals as goal
 
 pub set_flags-requires-2 : goal.set_flags-requires-2
 set_flags-requires-2 g c =

@@ -7,7 +7,7 @@ use Rattle.swc_ecma_parser_grammar.specs.Looks.{sees}
 use Rattle.swc_ecma_parser_trees.specs.Parts.{part_of}
 use Rattle.swc_ecma_parser_reader.specs.State.{State, expect}
 use Rattle.swc_ecma_parser_reader.proofs.patterns.Loops.{elements_rest, elements_rest_err, elements_rest_close_err, elements_err, elements_comma_err, element_shorter, elements_shorter}
-use Rattle.swc_ecma_parser_core.proofs.pat.elements.Goals as goal
+use Rattle.swc_ecma_parser_patterns.proofs.pat.elements.Goals as goal
 
 pub returns-in_err-rest : goal.returns-in_err-rest
 returns-in_err-rest g c =

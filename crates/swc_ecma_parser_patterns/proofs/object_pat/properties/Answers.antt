@@ -5,7 +5,7 @@ use Rattle.swc_ecma_parser_token.specs.declared.kind.TokenKind.TheVariants as ki
 use Rattle.swc_ecma_parser_grammar.specs.Looks.{sees}
 use Rattle.swc_ecma_parser_reader.specs.State.{State, expect}
 use Rattle.swc_ecma_parser_reader.proofs.patterns.Loops.{properties_rest_err, properties_rest_close_err, properties_err, properties_comma_err}
-use Rattle.swc_ecma_parser_core.proofs.object_pat.properties.Goals as goal
+use Rattle.swc_ecma_parser_patterns.proofs.object_pat.properties.Goals as goal
 
 pub returns-in_err-rest : goal.returns-in_err-rest
 returns-in_err-rest g c =

@@ -2,7 +2,7 @@ use Rattle.std.proofs.Common.{◌≡◌, length, map}
 use Rattle.swc_ecma_parser_reader.specs.State.{loop}
 use Rattle.swc_ecma_parser_reader.specs.Expressions as exprs
 use Rattle.swc_ecma_parser_reader.specs.Patterns as patterns
-use Rattle.swc_ecma_parser_core.proofs.object_pat.properties.Given as goal
+use Rattle.swc_ecma_parser_patterns.proofs.object_pat.properties.Given as goal
 
 -- what the whole loop gives is what the rest of it gives
 abbrev pub invariant-properties : goal.invariant-properties

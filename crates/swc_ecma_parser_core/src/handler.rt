@@ -1,0 +1,170 @@
+//! `try`, with what it catches and what it does at last: ECMA-262, section 14.15.
+
+ghost use Rattle.std.specs.Prelude.{◌≡◌};
+ghost use Rattle.swc_ecma_parser_grammar.specs.Reads.{nested_item};
+ghost use Rattle.swc_ecma_parser_left.specs.Nests.{Nests};
+ghost use Rattle.swc_ecma_parser_reader.specs.Patterns as patterns;
+ghost use Rattle.swc_ecma_parser_reader.specs.Reader as rules;
+ghost use Rattle.swc_ecma_parser_reader.specs.State.{GivesAs};
+ghost use Rattle.swc_ecma_parser_trees.specs.Parts.{part_of};
+
+use crate::stmt::{block_items, close};
+use swc_ecma_parser_common::Span;
+use swc_ecma_parser_error::{PResult, SyntaxError};
+use swc_ecma_parser_grammar::Position;
+use swc_ecma_parser_left::cover::{Cover, Reading};
+use swc_ecma_parser_left::grammar::{Grammar, Part};
+use swc_ecma_parser_left::steps::{grown, since};
+use swc_ecma_parser_patterns::pat::inner_pat;
+use swc_ecma_parser_state::Source;
+use swc_ecma_parser_token::TokenKind;
+use swc_ecma_parser_trees::{BuildsBlock, BuildsControl, MakerOf, Trees};
+
+/// A block that must stand here.
+#[tactic(auto, unfolding(swc_ecma_parser_reader::specs::Reader::braced, swc_ecma_parser_reader::specs::Reader::block_from, swc_ecma_parser_grammar::specs::Looks::spanned))]
+fn braced<
+    P: Source,
+    T: BuildsBlock,
+    S: Fn(&MakerOf<T>, &mut P, usize, Position) -> PResult<T::Stmt>,
+    E: Fn(&MakerOf<T>, &mut P, usize, Reading) -> PResult<Cover<T::Expr>>,
+    N: Fn(&MakerOf<T>, &mut P, usize, Part) -> PResult<T::Pat>,
+>(g: &Grammar<S, E, N>, t: &MakerOf<T>, p: &mut P) -> PResult<T::Block>
+    requires { Nests P.seen T.expr_of T.pat_of T.stmt_of g.now.depth (S.pre g.now.stmt) (S.post g.now.stmt) (E.pre g.now.expr) (E.post g.now.expr) (N.pre g.now.pat) (N.post g.now.pat) }
+    ensures { GivesAs T.block_of (rules.braced (rules.stmt g.now.depth nested_item) (P.seen p.old)) result (P.seen p.new) }
+{
+    let start = p.span();
+    p.expect(TokenKind::LBrace, "{")?;
+    let stmts = block_items(g, t, p)?;
+    close(t.alloc, p)?;
+    let span = since(p, start);
+    grown(p, T::body(t.alloc, span, stmts))
+}
+
+/// What a catch binds, in parentheses.
+#[tactic(auto, unfolding(swc_ecma_parser_reader::specs::Reader::bound))]
+fn bound<
+    P: Source,
+    T: Trees,
+    S: Fn(&MakerOf<T>, &mut P, usize, Position) -> PResult<T::Stmt>,
+    E: Fn(&MakerOf<T>, &mut P, usize, Reading) -> PResult<Cover<T::Expr>>,
+    N: Fn(&MakerOf<T>, &mut P, usize, Part) -> PResult<T::Pat>,
+>(g: &Grammar<S, E, N>, t: &MakerOf<T>, p: &mut P) -> PResult<T::Pat>
+    requires { Nests P.seen T.expr_of T.pat_of T.stmt_of g.now.depth (S.pre g.now.stmt) (S.post g.now.stmt) (E.pre g.now.expr) (E.post g.now.expr) (N.pre g.now.pat) (N.post g.now.pat) }
+    ensures { GivesAs T.pat_of (rules.bound (patterns.pattern g.now.depth) (P.seen p.old)) result (P.seen p.new) }
+{
+    p.skip()?;
+    let pat = inner_pat(g, t, p, Part::Pattern)?;
+    p.expect(TokenKind::RParen, ")")?;
+    Ok(pat)
+}
+
+/// What a catch binds, if it binds something.
+#[tactic(auto, unfolding(swc_ecma_parser_reader::specs::Reader::parameter))]
+fn parameter<
+    P: Source,
+    T: Trees,
+    S: Fn(&MakerOf<T>, &mut P, usize, Position) -> PResult<T::Stmt>,
+    E: Fn(&MakerOf<T>, &mut P, usize, Reading) -> PResult<Cover<T::Expr>>,
+    N: Fn(&MakerOf<T>, &mut P, usize, Part) -> PResult<T::Pat>,
+>(g: &Grammar<S, E, N>, t: &MakerOf<T>, p: &mut P) -> PResult<Option<T::Pat>>
+    requires { Nests P.seen T.expr_of T.pat_of T.stmt_of g.now.depth (S.pre g.now.stmt) (S.post g.now.stmt) (E.pre g.now.expr) (E.post g.now.expr) (N.pre g.now.pat) (N.post g.now.pat) }
+    ensures { GivesAs (part_of T.pat_of) (rules.parameter (patterns.pattern g.now.depth) (P.seen p.old)) result (P.seen p.new) }
+{
+    if !p.sees(TokenKind::LParen) {
+        return Ok(None);
+    }
+    let pat = bound(g, t, p)?;
+    Ok(Some(pat))
+}
+
+/// A catch, if one stands here.
+#[tactic(auto, unfolding(swc_ecma_parser_reader::specs::Reader::handler, swc_ecma_parser_reader::specs::Reader::caught, swc_ecma_parser_grammar::specs::Looks::spanned))]
+fn handler<
+    P: Source,
+    T: BuildsControl,
+    S: Fn(&MakerOf<T>, &mut P, usize, Position) -> PResult<T::Stmt>,
+    E: Fn(&MakerOf<T>, &mut P, usize, Reading) -> PResult<Cover<T::Expr>>,
+    N: Fn(&MakerOf<T>, &mut P, usize, Part) -> PResult<T::Pat>,
+>(g: &Grammar<S, E, N>, t: &MakerOf<T>, p: &mut P) -> PResult<Option<T::Catch>>
+    requires { Nests P.seen T.expr_of T.pat_of T.stmt_of g.now.depth (S.pre g.now.stmt) (S.post g.now.stmt) (E.pre g.now.expr) (E.post g.now.expr) (N.pre g.now.pat) (N.post g.now.pat) }
+    ensures { GivesAs (part_of T.catch_of) (rules.handler (rules.stmt g.now.depth nested_item) (patterns.pattern g.now.depth) (P.seen p.old)) result (P.seen p.new) }
+{
+    if !p.sees(TokenKind::Catch) {
+        return Ok(None);
+    }
+    let start = p.span();
+    p.skip()?;
+    let param = parameter(g, t, p)?;
+    let body = braced(g, t, p)?;
+    let span = since(p, start);
+    let catch = grown(p, T::catch(t.alloc, span, param, body))?;
+    Ok(Some(catch))
+}
+
+/// A finally, if one stands here.
+#[tactic(auto, unfolding(swc_ecma_parser_reader::specs::Reader::finalizer))]
+fn finalizer<
+    P: Source,
+    T: BuildsBlock,
+    S: Fn(&MakerOf<T>, &mut P, usize, Position) -> PResult<T::Stmt>,
+    E: Fn(&MakerOf<T>, &mut P, usize, Reading) -> PResult<Cover<T::Expr>>,
+    N: Fn(&MakerOf<T>, &mut P, usize, Part) -> PResult<T::Pat>,
+>(g: &Grammar<S, E, N>, t: &MakerOf<T>, p: &mut P) -> PResult<Option<T::Block>>
+    requires { Nests P.seen T.expr_of T.pat_of T.stmt_of g.now.depth (S.pre g.now.stmt) (S.post g.now.stmt) (E.pre g.now.expr) (E.post g.now.expr) (N.pre g.now.pat) (N.post g.now.pat) }
+    ensures { GivesAs (part_of T.block_of) (rules.finalizer (rules.stmt g.now.depth nested_item) (P.seen p.old)) result (P.seen p.new) }
+{
+    if !p.sees(TokenKind::Finally) {
+        return Ok(None);
+    }
+    p.skip()?;
+    let block = braced(g, t, p)?;
+    Ok(Some(block))
+}
+
+/// The empty span before what stands here; at the end of the list, behind what was read last.
+#[tactic(auto, unfolding(swc_ecma_parser_reader::specs::Reader::begins_at))]
+fn begins_at<P: Source>(p: &P) -> Span
+    ensures { result ≡ rules.begins_at (P.seen p.now).at }
+{
+    let span = p.span();
+    let at = if p.sees(TokenKind::End) {
+        span.hi
+    } else {
+        span.lo
+    };
+    Span { lo: at, hi: at }
+}
+
+/// Whether a catch or a finally stands here.
+#[tactic(auto, unfolding(swc_ecma_parser_reader::specs::Reader::is_handled))]
+fn is_handled<P: Source>(p: &P) -> bool
+    ensures { result ≡ rules.is_handled (P.seen p.now).at }
+{
+    p.sees(TokenKind::Catch) || p.sees(TokenKind::Finally)
+}
+
+/// A `try` statement. One with neither a catch nor a finally is a fault.
+#[tactic(auto, unfolding(swc_ecma_parser_reader::specs::Reader::try_stmt, swc_ecma_parser_reader::specs::Reader::handled, swc_ecma_parser_grammar::specs::Looks::spanned))]
+pub(crate) fn try_stmt<
+    P: Source,
+    T: BuildsControl,
+    S: Fn(&MakerOf<T>, &mut P, usize, Position) -> PResult<T::Stmt>,
+    E: Fn(&MakerOf<T>, &mut P, usize, Reading) -> PResult<Cover<T::Expr>>,
+    N: Fn(&MakerOf<T>, &mut P, usize, Part) -> PResult<T::Pat>,
+>(g: &Grammar<S, E, N>, t: &MakerOf<T>, p: &mut P) -> PResult<T::Stmt>
+    requires { Nests P.seen T.expr_of T.pat_of T.stmt_of g.now.depth (S.pre g.now.stmt) (S.post g.now.stmt) (E.pre g.now.expr) (E.post g.now.expr) (N.pre g.now.pat) (N.post g.now.pat) }
+    ensures { GivesAs T.stmt_of (rules.try_stmt (rules.stmt g.now.depth nested_item) (patterns.pattern g.now.depth) (P.seen p.old)) result (P.seen p.new) }
+{
+    let start = p.span();
+    p.skip()?;
+    let block = braced(g, t, p)?;
+    let behind = begins_at(p);
+    let is_handled = is_handled(p);
+    let handler = handler(g, t, p)?;
+    let finalizer = finalizer(g, t, p)?;
+    if !is_handled {
+        p.fault(SyntaxError::TS1005, behind)?;
+    }
+    let span = since(p, start);
+    grown(p, T::try_stmt(t.alloc, span, block, handler, finalizer))
+}
