@@ -9,4 +9,3 @@ pub mod grammar;
 mod handler;
 pub mod script;
 mod stmt;
-mod switch;
