@@ -72,6 +72,33 @@ fn loops(rt: HostRuntime) -> Result<(), Fail> {
     Ok(())
 }
 
+const SWITCHES: &str = "switch (a) {} → Script 0..13, Switch 0..13 → SwitchStmt 0..13, Ident 8..9 a
+switch (a) {} b → Script 0..15, Switch 0..13, Expr 14..15
+switch (a) { case 1: b; case 2: default: c } → Script 0..44, Switch 0..44 → SwitchCase 13..23, SwitchCase 24..31, SwitchCase 32..42, ExprStmt 41..42, test: None
+switch (a) { default: b; case c: } → Script 0..34, Switch 0..34 → SwitchCase 13..24, SwitchCase 25..32
+switch (a) { case b in c, d: } → Script 0..30, Switch 0..30 → SwitchCase 13..28, SeqExpr 18..27, BinExpr 18..24
+switch (a) { case 1: { b } case 2: var c } → Script 0..42, Switch 0..42 → SwitchCase 13..26, BlockStmt 21..26, SwitchCase 27..40, VarDecl 35..40
+switch (a) { case 1: switch (b) { default: } } → Script 0..46, Switch 0..46 → SwitchCase 13..44, SwitchStmt 21..44, SwitchCase 34..42
+if (a) switch (b) {} else c → Script 0..27, If 0..27 → SwitchStmt 7..20, ExprStmt 26..27
+switch (a) { default: default: } → refused 29..30 MultipleDefault
+switch (a) { default: case 1: default: } → refused 37..38 MultipleDefault
+switch (a) { b } → refused 13..14 Expected
+switch (a) { case 1 b } → refused 20..21 Expected
+switch (a) { case : } → refused 18..19 Unexpected
+switch (a) { case 1: b → refused 21..22 Expected
+switch (a) { → refused 11..12 Expected
+switch (a) b → refused 11..12 Expected
+switch a {} → refused 7..8 Expected
+switch () {} → refused 8..9 Unexpected
+case 1: → refused 0..4 Unexpected
+default: → refused 0..7 Unexpected";
+
+#[test]
+fn switches(rt: HostRuntime) -> Result<(), Fail> {
+    assert_eq!(rt; report(rt.alloc(), SWITCHES, 1000)?.as_str(), "20 rows");
+    Ok(())
+}
+
 const TRIES: &str =
     "try {} catch {} → Script 0..15, Try 0..15 → TryStmt 0..15, BlockStmt 4..6, CatchClause 7..15, BlockStmt 13..15, param: None, finalizer: None
 try {} finally {} → Script 0..17, Try 0..17 → TryStmt 0..17, BlockStmt 15..17, handler: None
@@ -113,6 +140,10 @@ fn limits(rt: HostRuntime) -> Result<(), Fail> {
         ("while (a) while (b) c → Script 0..21, While 0..21", 4),
         ("do a; while (b) → refused 3..4 TooDeep", 2),
         ("do a; while (b) → Script 0..15, DoWhile 0..15", 3),
+        ("switch (a) {} → refused 8..9 TooDeep", 1),
+        ("switch (a) {} → Script 0..13, Switch 0..13", 2),
+        ("switch (a) { case b: c } → refused 21..22 TooDeep", 2),
+        ("switch (a) { case b: c } → Script 0..24, Switch 0..24", 3),
         ("try {} catch {} → Script 0..15, Try 0..15", 1),
         ("try { a } catch {} → refused 6..7 TooDeep", 2),
         ("try { a } catch {} → Script 0..18, Try 0..18", 3),

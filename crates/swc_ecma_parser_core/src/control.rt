@@ -52,7 +52,7 @@ pub(crate) fn throw<
 
 /// `( Expression )` behind the word of a statement.
 #[tactic(auto, unfolding(swc_ecma_parser_reader::specs::Reader::head, swc_ecma_parser_reader::specs::Expressions::inside))]
-fn head<
+pub(crate) fn head<
     P: Source,
     T: BuildsCall,
     S: Fn(&MakerOf<T>, &mut P, usize, Position) -> PResult<T::Stmt>,

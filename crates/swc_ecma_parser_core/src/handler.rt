@@ -8,7 +8,7 @@ ghost use Rattle.swc_ecma_parser_reader.specs.Reader as rules;
 ghost use Rattle.swc_ecma_parser_reader.specs.State.{GivesAs};
 ghost use Rattle.swc_ecma_parser_trees.specs.Parts.{part_of};
 
-use crate::stmt::{block_items, close};
+use crate::stmt::{Body, body_items, close};
 use swc_ecma_parser_common::Span;
 use swc_ecma_parser_error::{PResult, SyntaxError};
 use swc_ecma_parser_grammar::Position;
@@ -34,7 +34,7 @@ fn braced<
 {
     let start = p.span();
     p.expect(TokenKind::LBrace, "{")?;
-    let stmts = block_items(g, t, p)?;
+    let stmts = body_items(g, t, p, Body::Block)?;
     close(t.alloc, p)?;
     let span = since(p, start);
     grown(p, T::body(t.alloc, span, stmts))

@@ -9,3 +9,4 @@ pub mod grammar;
 mod handler;
 pub mod script;
 mod stmt;
+mod switch;

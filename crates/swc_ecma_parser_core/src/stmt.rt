@@ -1,6 +1,7 @@
 //! Statements: ECMA-262, section 14.
 
 ghost use Rattle.std.specs.Prelude.{◌≡◌, false, map, IfOk, IfErr};
+ghost use Rattle.swc_ecma_parser_core.specs.Bodies.{ends_of};
 ghost use Rattle.swc_ecma_parser_error.specs.Kind as kinds;
 ghost use Rattle.swc_ecma_parser_error.specs.Kind.{kind_of, IsOutOfMemory};
 ghost use Rattle.swc_ecma_parser_grammar.specs.Follows as follows;
@@ -15,6 +16,7 @@ ghost use Rattle.swc_ecma_parser_reader.specs.State.{Gives, GivesAs};
 use crate::branch::if_stmt;
 use crate::control::{do_while, throw, while_stmt};
 use crate::handler::try_stmt;
+use crate::switch::switch_stmt;
 use std::alloc::Global;
 use swc_ecma_parser_common::Atom;
 use swc_ecma_parser_error::{PResult, SyntaxError};
@@ -28,6 +30,15 @@ use swc_ecma_parser_token::TokenKind;
 use swc_ecma_parser_trees::{
     BuildsCall, BuildsControl, BuildsLoop, BuildsPattern, BuildsStmt, MakerOf, Trees,
 };
+
+/// What holds statements one behind another.
+#[derive(Clone, Copy)]
+pub(crate) enum Body {
+    /// A block, up to its `}`.
+    Block,
+    /// A clause of a `switch`, up to the next one or to the `}` behind all.
+    Clause,
+}
 
 /// A statement in a block or a body.
 const NESTED_ITEM: Position = Position {
@@ -163,20 +174,46 @@ pub(crate) fn close<P: Source>(alloc: Global, p: &mut P) -> PResult<()>
     p.fault(kind, span)
 }
 
-/// The statements of a block.
+/// Whether a clause of a `switch` begins here.
+#[tactic(auto, unfolding(swc_ecma_parser_reader::specs::Reader::begins_clause))]
+pub(crate) fn begins_clause<P: Source>(p: &P) -> bool
+    ensures { result ≡ rules.begins_clause (P.seen p.now).at }
+{
+    p.sees(TokenKind::Case) || p.sees(TokenKind::Default)
+}
+
+/// Whether the statements of a clause end here.
+#[tactic(auto, unfolding(swc_ecma_parser_reader::specs::Reader::closes_clause))]
+fn closes_clause<P: Source>(p: &P) -> bool
+    ensures { result ≡ rules.closes_clause (P.seen p.now).at }
+{
+    begins_clause(p) || closes(p)
+}
+
+/// Whether the statements of a body end here.
+fn ends<P: Source>(p: &P, body: Body) -> bool
+    ensures { result ≡ ends_of body (P.seen p.now).at }
+{
+    match body {
+        Body::Block => closes(p),
+        Body::Clause => closes_clause(p),
+    }
+}
+
+/// The statements of a block or a clause.
 #[tactic(auto, unfolding(swc_ecma_parser_reader::specs::Reader::items), using(swc_ecma_parser_reader::proofs::Loops::items_stop, swc_ecma_parser_reader::proofs::Loops::items_err, crate::proofs::Items::nested_more, swc_ecma_parser_reader::proofs::Loops::stmt_shorter, std::proofs::lemmas::List::map_push))]
-pub(crate) fn block_items<
+pub(crate) fn body_items<
     P: Source,
     T: Trees,
     S: Fn(&MakerOf<T>, &mut P, usize, Position) -> PResult<T::Stmt>,
     E: Fn(&MakerOf<T>, &mut P, usize, Reading) -> PResult<Cover<T::Expr>>,
     N: Fn(&MakerOf<T>, &mut P, usize, Part) -> PResult<T::Pat>,
->(g: &Grammar<S, E, N>, t: &MakerOf<T>, p: &mut P) -> PResult<Vec<T::Stmt>>
+>(g: &Grammar<S, E, N>, t: &MakerOf<T>, p: &mut P, body: Body) -> PResult<Vec<T::Stmt>>
     requires { Nests P.seen T.expr_of T.pat_of T.stmt_of g.now.depth (S.pre g.now.stmt) (S.post g.now.stmt) (E.pre g.now.expr) (E.post g.now.expr) (N.pre g.now.pat) (N.post g.now.pat) }
-    ensures { GivesAs (λ found. map T.stmt_of found.items) (rules.items (rules.stmt g.now.depth nested_item) rules.closes false (P.seen p.old)) result (P.seen p.new) }
+    ensures { GivesAs (λ found. map T.stmt_of found.items) (rules.items (rules.stmt g.now.depth nested_item) (ends_of body) false (P.seen p.old)) result (P.seen p.new) }
 {
     let mut found = Vec::new(t.alloc);
-    'items: while !closes(p) {
+    'items: while !ends(p, body) {
         let stmt = (g.stmt)(t, p, g.depth, NESTED_ITEM)?;
         pushed(p, &mut found, stmt)?;
     }
@@ -197,7 +234,7 @@ fn block<
 {
     let start = p.span();
     p.skip()?;
-    let body = block_items(g, t, p)?;
+    let body = body_items(g, t, p, Body::Block)?;
     close(t.alloc, p)?;
     let span = since(p, start);
     grown(p, T::block(t.alloc, span, body))
@@ -345,6 +382,7 @@ pub(crate) fn level<
         TokenKind::Debugger => debugger::<P, T>(t.alloc, p),
         TokenKind::Var => var(g, t, p),
         TokenKind::If => if_stmt(g, t, p),
+        TokenKind::Switch => switch_stmt(g, t, p),
         TokenKind::Throw => throw(g, t, p),
         TokenKind::Try => try_stmt(g, t, p),
         TokenKind::While => while_stmt(g, t, p),

@@ -1,6 +1,7 @@
 -- What the whole language reads and is supported, the rules of the first forms read.
-use Rattle.std.proofs.Common.{◌≡◌, ℕ, zero, suc, Bool, true, false, cond, rules, List, [], ◌∷◌, Option, refl, ◌∙◌, ap}
-use Rattle.std.specs.Prelude.{◌&&◌}
+use Rattle.std.proofs.Common.{◌≡◌, ℕ, zero, suc, Bool, true, false, cond, rules, List, [], ◌∷◌, Option, refl, true≢false, sym, ◌∙◌, ap}
+use Rattle.std.specs.Prelude.{not, ◌&&◌, ◌||◌}
+use Rattle.std.specs.List.{list_any}
 use denote.Enum.Bare.{same_true}
 use Rattle.swc_ecma_parser_token.specs.contracts.kind.TokenKind.{the_type}
 use Rattle.swc_ecma_parser_token.specs.declared.kind.TokenKind.{TokenKind}
@@ -16,21 +17,25 @@ use Rattle.swc_ecma_parser_grammar.specs.declared.position.Position.{Position}
 use Rattle.swc_ecma_parser_grammar.specs.Looks.{kind_at, sees, same_kind, spanned}
 use Rattle.swc_ecma_parser_grammar.specs.Names.{Code}
 use Rattle.swc_ecma_parser_grammar.specs.Ends.{Ends}
-use Rattle.swc_ecma_parser_grammar.specs.Reads.{with_in, in_strict, directed, directs_on, nested_item, top_item, DeclaratorRule, plain_rule, initialized_rule, ReadsSeparated, ReadsItems, StmtRule, block_rule, empty_rule, debugger_rule, var_rule, if_statement_rule, throw_rule, try_rule, while_rule, do_while_rule, expr_rule, import_rule, ReadsBlock, CatchRule, no_catch_rule, catch_rule, catch_parameter_rule, FinallyRule, no_finally_rule, finally_rule, ReadsHead, IfRule, if_rule, ElseRule, no_else_rule, else_rule, else_if_rule}
+use Rattle.swc_ecma_parser_grammar.specs.Reads.{with_in, in_strict, directed, directs_on, nested_item, top_item, DeclaratorRule, plain_rule, initialized_rule, ReadsSeparated, ReadsItems, StmtRule, block_rule, empty_rule, debugger_rule, var_rule, if_statement_rule, CaseRule, case_clause_rule, default_clause_rule, ReadsCases, switch_rule, throw_rule, try_rule, while_rule, do_while_rule, expr_rule, import_rule, ReadsBlock, CatchRule, no_catch_rule, catch_rule, catch_parameter_rule, FinallyRule, no_finally_rule, finally_rule, ReadsHead, IfRule, if_rule, ElseRule, no_else_rule, else_rule, else_if_rule}
 use Rattle.swc_ecma_parser_grammar.specs.Entries.{ReadsScript, ReadsShebang, some_shebang, no_shebang, script_code}
 use Rattle.swc_ecma_parser_grammar.specs.Supported.{supported, all_supported}
 use Rattle.swc_ecma_parser_grammar.specs.ReadsSupported.{ReadsClass, ReadsPat, ReadsStmt}
 use Rattle.swc_ecma_parser_grammar.specs.language.Goals.{assignment, stmt_goal}
-use Rattle.swc_ecma_parser_grammar.specs.language.Contexts.{in_loop}
+use Rattle.swc_ecma_parser_grammar.specs.language.Contexts.{in_loop, in_breakable}
 use Rattle.swc_ecma_parser_grammar.specs.language.Declarations as declarations
 use Rattle.swc_ecma_parser_grammar.specs.language.Declarations.{is_var, begins_variables}
 use Rattle.swc_ecma_parser_grammar.specs.language.Items.{sub_statement, ItemsRule, BlockRule}
+use Rattle.swc_ecma_parser_grammar.specs.language.Lists.{ReadsEach}
 use Rattle.swc_ecma_parser_grammar.specs.language.Statements as statements
+use Rattle.swc_ecma_parser_grammar.specs.language.Statements.{is_default, at_most_one_default}
 use Rattle.swc_ecma_parser_grammar.specs.language.Reads.{Reads}
 use Rattle.swc_ecma_parser_grammar.specs.language.Programs as programs
 use Rattle.swc_ecma_parser_grammar.specs.language.Programs.{ReadsEntry}
 use Rattle.swc_ecma_parser_grammar.proofs.Tests.{and_yes, no_and}
 use Rattle.swc_ecma_parser_grammar.proofs.SupportedBegins.{refuted, supported_as}
+use Rattle.swc_ecma_parser_grammar.proofs.Widens.{stands_there}
+use Rattle.swc_ecma_parser_grammar.proofs.language.Asked.{or_left, or_right}
 
 -- ---- declarators
 
@@ -93,6 +98,42 @@ module _ (n : ℕ) (narrow : (k : Code) (at : Position) (x : Tree) (c d : Place)
     is = r.is;
   }
 
+  -- Clauses with a `default` before them or without: where one is, none is behind it.
+  abbrev Defaults : Bool → List Tree → Type 0
+  Defaults true xs = list_any is_default xs ≡ false
+  Defaults false xs = at_most_one_default xs ≡ true
+
+  behind_case : (b : Bool) (x : Tree) (xs : List Tree) (j : Bool) → is_default x ≡ false → j ≡ false → Defaults b (x ∷ xs) → Defaults (b || j) xs
+  behind_case true x xs j i e h = or_right (is_default x) _ h
+  behind_case false x xs true i e h = cc
+  behind_case false x xs false i e h = sym (ap (λ b. cond b (not (list_any is_default xs)) (at_most_one_default xs)) i) ∙ h
+
+  behind_default : (b : Bool) (x : Tree) (xs : List Tree) (j : Bool) → is_default x ≡ true → j ≡ true → Defaults b (x ∷ xs) → (b ≡ false) × Defaults (b || j) xs
+  behind_default true x xs j i e h = absurd (true≢false (sym i ∙ or_left (is_default x) _ h))
+  behind_default false x xs false i e h = cc
+  behind_default false x xs true i e h = (refl, no_not (list_any is_default xs) (sym (ap (λ b. cond b (not (list_any is_default xs)) (at_most_one_default xs)) i) ∙ h))
+    where
+      no_not : (b : Bool) → not b ≡ true → b ≡ false
+      no_not true e = cc
+      no_not false e = refl
+
+  cases_narrow : (k : Code) (b : Bool) (xs : List Tree) (c d : Place) → k.flags.module ≡ false → ReadsEach (statements.CaseRule (Reads n) k) xs c d → Defaults b xs
+      → all_supported (trees xs) ≡ true → ReadsCases (ReadsStmt n) (ReadsClass n) k b xs c d
+  unfolding same_kind
+  cases_narrow k b [] c d o r h g = r
+  cases_narrow k b (x ∷ xs) c d o (m, statements.case_clause_rule test ys i a r j s e, rs) h g =
+      let f = and_yes (supported x) _ g in
+      let l = and_yes (supported test) _ (supported_as x (tree.case (spanned c m) test (listed ys)) e f.0) in (
+        m,
+        case_clause_rule test ys i a (r, l.0) j (items_narrow k false nested_item ys (after i) m o s l.1) e,
+        cases_narrow k (b || sees kind.Default c) xs m d o rs (behind_case b x xs (sees kind.Default c) (ap is_default e ∙ stands_there n (with_in k) test (after c) i r) (ap (λ j. same_kind j kind.Default) a) h) f.1,
+      )
+  cases_narrow k b (x ∷ xs) c d o (m, statements.default_clause_rule ys a j s e, rs) h g =
+      let f = and_yes (supported x) _ g in
+      let l = supported_as x (tree.case (spanned c m) tree.absent (listed ys)) e f.0 in
+      let v = behind_default b x xs (sees kind.Default c) (ap is_default e) (ap (λ j. same_kind j kind.Default) a) h in
+      (m, default_clause_rule ys v.0 a j (items_narrow k false nested_item ys (after (after c)) m o s l) e, cases_narrow k (b || sees kind.Default c) xs m d o rs v.1 f.1)
+
   catch_narrows : {k : Code} {x : Tree} {c d : Place} → k.flags.module ≡ false → statements.CatchRule (Reads n) k x c d → supported x ≡ true → CatchRule (ReadsStmt n) (ReadsPat n) k x c d
   catch_narrows o (statements.no_catch_rule i j e) h = no_catch_rule i j e
   catch_narrows {x = x} {c = c} {d = d} o (statements.catch_rule body i r e) h =
@@ -132,7 +173,9 @@ module _ (n : ℕ) (narrow : (k : Code) (at : Position) (x : Tree) (c d : Place)
   form_narrows k at x c d o (statements.break_rule y m i r g e) h = refuted x (ap supported e) h
   form_narrows k at x c d o (statements.continue_rule y m i r g e) h = refuted x (ap supported e) h
   form_narrows k at x c d o (statements.if_statement_rule r) h = if_statement_rule (if_narrows o r h)
-  form_narrows k at x c d o (statements.switch_rule y xs m l i r j s a b t e) h = refuted x (ap supported e) h
+  form_narrows k at x c d o (statements.switch_rule y xs m l i r j s a b t e) h =
+      let g = and_yes (supported y) _ (supported_as x (tree.switch (spanned c d) y (listed xs)) e h) in
+      switch_rule y xs m l i (head_narrows r g.0) j (cases_narrow (in_breakable k) false xs (after m) l o s a g.1) b t e
   form_narrows k at x c d o (statements.throw_rule y m i b r g e) h = throw_rule y m i b (r, supported_as x (tree.throw (spanned c d) y) e h) g e
   form_narrows k at x c d o (statements.try_rule y z w m l i r s t a e) h =
       let g = and_yes (supported y) _ (supported_as x (tree.try (spanned c d) y z w) e h) in

@@ -1,5 +1,6 @@
 -- What the rules of the first forms read, the whole language reads, and it is supported.
-use Rattle.std.proofs.Common.{◌≡◌, ℕ, zero, suc, Bool, true, false, List, [], ◌∷◌, Option, refl, ◌∙◌, ap}
+use Rattle.std.proofs.Common.{◌≡◌, ℕ, zero, suc, Bool, true, false, List, [], ◌∷◌, Option, refl, ◌∙◌, ap, subst}
+use Rattle.std.specs.List.{list_any}
 use Rattle.std.specs.Prelude.{not, ◌&&◌, ◌||◌}
 use denote.Enum.Bare.{true_same}
 use Rattle.swc_ecma_parser_token.specs.contracts.kind.TokenKind.{the_type}
@@ -8,24 +9,27 @@ use Rattle.swc_ecma_parser_token.specs.declared.kind.TokenKind.TheVariants as ki
 use Rattle.swc_ecma_parser_input.specs.Place.{Place, after}
 use Rattle.swc_ecma_parser_model.specs.declared.leaves.VarDeclKind.TheVariants as decl
 use Rattle.swc_ecma_parser_model.specs.Tree.{Tree, Text, trees}
+use Rattle.swc_ecma_parser_model.specs.Forms.{is_absent}
 use Rattle.swc_ecma_parser_grammar.specs.declared.position.Position.{Position}
 use Rattle.swc_ecma_parser_grammar.specs.Looks.{kind_at, sees, same_kind}
 use Rattle.swc_ecma_parser_grammar.specs.Names.{Code}
-use Rattle.swc_ecma_parser_grammar.specs.Reads.{with_in, directed, directs_on, nested_item, top_item, DeclaratorRule, plain_rule, initialized_rule, ReadsSeparated, ReadsItems, StmtRule, block_rule, empty_rule, debugger_rule, var_rule, if_statement_rule, throw_rule, try_rule, while_rule, do_while_rule, expr_rule, import_rule, ReadsBlock, CatchRule, no_catch_rule, catch_rule, catch_parameter_rule, FinallyRule, no_finally_rule, finally_rule, ReadsHead, IfRule, if_rule, ElseRule, no_else_rule, else_rule, else_if_rule}
+use Rattle.swc_ecma_parser_grammar.specs.Reads.{with_in, directed, directs_on, nested_item, top_item, DeclaratorRule, plain_rule, initialized_rule, ReadsSeparated, ReadsItems, StmtRule, block_rule, empty_rule, debugger_rule, var_rule, if_statement_rule, CaseRule, case_clause_rule, default_clause_rule, ReadsCases, switch_rule, throw_rule, try_rule, while_rule, do_while_rule, expr_rule, import_rule, ReadsBlock, CatchRule, no_catch_rule, catch_rule, catch_parameter_rule, FinallyRule, no_finally_rule, finally_rule, ReadsHead, IfRule, if_rule, ElseRule, no_else_rule, else_rule, else_if_rule}
 use Rattle.swc_ecma_parser_grammar.specs.Entries.{ReadsScript, ReadsShebang, some_shebang, no_shebang, script_code}
 use Rattle.swc_ecma_parser_grammar.specs.Supported.{supported, all_supported}
 use Rattle.swc_ecma_parser_grammar.specs.ReadsSupported.{ReadsClass, ReadsPat, ReadsStmt}
-use Rattle.swc_ecma_parser_grammar.specs.language.Goals.{assignment, stmt_goal}
-use Rattle.swc_ecma_parser_grammar.specs.language.Contexts.{in_loop}
+use Rattle.swc_ecma_parser_grammar.specs.language.Goals.{expression, assignment, expr_goal, stmt_goal}
+use Rattle.swc_ecma_parser_grammar.specs.language.Contexts.{in_loop, in_breakable}
 use Rattle.swc_ecma_parser_grammar.specs.language.Declarations as declarations
 use Rattle.swc_ecma_parser_grammar.specs.language.Items.{sub_statement, ItemsRule, BlockRule}
+use Rattle.swc_ecma_parser_grammar.specs.language.Lists.{ReadsEach}
 use Rattle.swc_ecma_parser_grammar.specs.language.Statements as statements
-use Rattle.swc_ecma_parser_grammar.specs.language.Statements.{may_begin_at_top}
+use Rattle.swc_ecma_parser_grammar.specs.language.Statements.{is_default, at_most_one_default, may_begin_at_top}
 use Rattle.swc_ecma_parser_grammar.specs.language.Reads.{Reads}
 use Rattle.swc_ecma_parser_grammar.specs.language.Programs as programs
 use Rattle.swc_ecma_parser_grammar.specs.language.Programs.{ReadsEntry}
 use Rattle.swc_ecma_parser_grammar.proofs.Tests.{and_both}
 use Rattle.swc_ecma_parser_grammar.proofs.SupportedBegins.{expr_begins}
+use Rattle.swc_ecma_parser_grammar.proofs.language.Shapes.{expr_stands}
 
 -- ---- declarators
 
@@ -75,6 +79,14 @@ module _ (n : ℕ) (small : (k : Code) (at : Position) (x : Tree) (c d : Place) 
   block_supported : {k : Code} {x : Tree} {c d : Place} → ReadsBlock (ReadsStmt n) k x c d → supported x ≡ true
   block_supported {k = k} {c = c} r = ap supported r.is ∙ items_supported k false nested_item r.items (after c) r.close r.reads_items
 
+  case_supported : {k : Code} {b : Bool} {x : Tree} {c d : Place} → CaseRule (ReadsStmt n) (ReadsClass n) k b x c d → supported x ≡ true
+  case_supported {k = k} {d = d} (case_clause_rule test xs m h r i s e) = ap supported e ∙ and_both (supported test) _ r.1 (items_supported k false nested_item xs (after m) d s)
+  case_supported {k = k} {c = c} {d = d} (default_clause_rule xs o h i s e) = ap supported e ∙ items_supported k false nested_item xs (after (after c)) d s
+
+  cases_supported : (k : Code) (b : Bool) (xs : List Tree) (c d : Place) → ReadsCases (ReadsStmt n) (ReadsClass n) k b xs c d → all_supported (trees xs) ≡ true
+  cases_supported k b [] c d h = refl
+  cases_supported k b (x ∷ xs) c d (m, r, rs) = and_both (supported x) _ (case_supported r) (cases_supported k (b || sees kind.Default c) xs m d rs)
+
   catch_supported : {k : Code} {x : Tree} {c d : Place} → CatchRule (ReadsStmt n) (ReadsPat n) k x c d → supported x ≡ true
   catch_supported (no_catch_rule h i e) = ap supported e
   catch_supported (catch_rule body h r e) = ap supported e ∙ block_supported r
@@ -100,6 +112,7 @@ module _ (n : ℕ) (small : (k : Code) (at : Position) (x : Tree) (c d : Place) 
   rule_supported k at x c d (var_rule xs m h r g e) =
       ap supported e ∙ separated_supported (DeclaratorRule (ReadsClass n assignment) (ReadsPat n) (with_in k)) (declarator_supported n (with_in k)) xs (after c) m r
   rule_supported k at x c d (if_statement_rule r) = if_supported r
+  rule_supported k at x c d (switch_rule y xs m i h r j s g t e) = ap supported e ∙ and_both (supported y) _ r.reads.1 (cases_supported (in_breakable k) false xs (after m) i s)
   rule_supported k at x c d (throw_rule y m h b r g e) = ap supported e ∙ r.1
   rule_supported k at x c d (try_rule y z w m i h r s t a e) = ap supported e ∙ and_both (supported y) _ (block_supported r) (and_both (supported z) _ (catch_supported s) (finally_supported t))
   rule_supported k at x c d (while_rule y z m h r s e) = ap supported e ∙ and_both (supported y) _ r.reads.1 (small (in_loop k) sub_statement z m d s)
@@ -110,6 +123,15 @@ module _ (n : ℕ) (small : (k : Code) (at : Position) (x : Tree) (c d : Place) 
 stmt_supported : (n : ℕ) (k : Code) (at : Position) (x : Tree) (c d : Place) → ReadsStmt n k at x c d → supported x ≡ true
 stmt_supported zero k at x c d h = absurd h
 stmt_supported (suc n) k at x c d h = rule_supported n (stmt_supported n) k at x c d h
+
+-- what an expression is stands there
+pub stands_there : (n : ℕ) (k : Code) (x : Tree) (c d : Place) → Reads n (expr_goal expression k x c d) → is_absent x ≡ false
+stands_there zero k x c d h = absurd h
+stands_there (suc n) k x c d h = expr_stands (Reads n) expression k x c d h
+
+either_no : (a b : Bool) → a ≡ false → b ≡ false → (a || b) ≡ false
+either_no true b h g = cc
+either_no false b h g = g
 
 module _ (n : ℕ) (widen : (k : Code) (at : Position) (x : Tree) (c d : Place) → ReadsStmt n k at x c d → Reads n (stmt_goal k at x c d)) where
   items_widen : (k : Code) (directives : Bool) (at : Position) (xs : List Tree) (c d : Place) → ReadsItems (λ j. ReadsStmt n j at) k directives xs c d → ItemsRule (Reads n) k directives at xs c d
@@ -122,6 +144,28 @@ module _ (n : ℕ) (widen : (k : Code) (at : Position) (x : Tree) (c d : Place) 
   block_widens : {k : Code} {x : Tree} {c d : Place} → ReadsBlock (ReadsStmt n) k x c d → BlockRule (Reads n) k false x c d
   block_widens {k = k} {c = c} r =
       record { items = r.items; close = r.close; opens = r.opens; reads_items = items_widen k false nested_item r.items (after c) r.close r.reads_items; closes = r.closes; next = r.next; is = r.is }
+
+  case_widens : {k : Code} {b : Bool} {x : Tree} {c d : Place} → CaseRule (ReadsStmt n) (ReadsClass n) k b x c d → statements.CaseRule (Reads n) k x c d
+  case_widens {k = k} {d = d} (case_clause_rule test xs m h r i s e) = statements.case_clause_rule test xs m h r.0 i (items_widen k false nested_item xs (after m) d s) e
+  case_widens {k = k} {c = c} {d = d} (default_clause_rule xs o h i s e) = statements.default_clause_rule xs h i (items_widen k false nested_item xs (after (after c)) d s) e
+
+  cases_widen : (k : Code) (b : Bool) (xs : List Tree) (c d : Place) → ReadsCases (ReadsStmt n) (ReadsClass n) k b xs c d → ReadsEach (statements.CaseRule (Reads n) k) xs c d
+  cases_widen k b [] c d h = h
+  cases_widen k b (x ∷ xs) c d (m, r, rs) = (m, case_widens r, cases_widen k (b || sees kind.Default c) xs m d rs)
+
+  -- no `default` behind one, and one at most where there is none before
+  none_more : (k : Code) (xs : List Tree) (c d : Place) → ReadsCases (ReadsStmt n) (ReadsClass n) k true xs c d → list_any is_default xs ≡ false
+  none_more k [] c d h = refl
+  none_more k (x ∷ xs) c d (m, case_clause_rule test ys i h r j s e, rs) = either_no _ _ (ap is_default e ∙ stands_there n (with_in k) test (after c) i r.0) (none_more k xs m d rs)
+  none_more k (x ∷ xs) c d (m, default_clause_rule ys o h j s e, rs) = cc
+
+  one_at_most : (k : Code) (xs : List Tree) (c d : Place) → ReadsCases (ReadsStmt n) (ReadsClass n) k false xs c d → at_most_one_default xs ≡ true
+  unfolding same_kind
+  one_at_most k [] c d h = refl
+  one_at_most k (x ∷ xs) c d (m, case_clause_rule test ys i h r j s e, rs) =
+      rw (ap is_default e ∙ stands_there n (with_in k) test (after c) i r.0) (one_at_most k xs m d (subst (λ b. ReadsCases (ReadsStmt n) (ReadsClass n) k b xs m d) (ap (λ j. same_kind j kind.Default) h) rs))
+  one_at_most k (x ∷ xs) c d (m, default_clause_rule ys o h j s e, rs) =
+      rw (e, none_more k xs m d (subst (λ b. ReadsCases (ReadsStmt n) (ReadsClass n) k b xs m d) (ap (λ j. same_kind j kind.Default) h) rs)) refl
 
   catch_widens : {k : Code} {x : Tree} {c d : Place} → CatchRule (ReadsStmt n) (ReadsPat n) k x c d → statements.CatchRule (Reads n) k x c d
   catch_widens (no_catch_rule h i e) = statements.no_catch_rule h i e
@@ -151,6 +195,8 @@ module _ (n : ℕ) (widen : (k : Code) (at : Position) (x : Tree) (c d : Place) 
         separated_widen (DeclaratorRule (ReadsClass n assignment) (ReadsPat n) (with_in k)) (declarations.DeclaratorRule (Reads n) (with_in k) false decl.Var) (declarator_widens n k) xs (after c) m r,
       ) g e
   form_widens k at x c d (if_statement_rule r) = statements.if_statement_rule (if_widens r)
+  form_widens k at x c d (switch_rule y xs m i h r j s g t e) =
+      statements.switch_rule y xs m i h (head_widens r) j (cases_widen (in_breakable k) false xs (after m) i s) (one_at_most (in_breakable k) xs (after m) i s) g t e
   form_widens k at x c d (throw_rule y m h b r g e) = statements.throw_rule y m h b r.0 g e
   form_widens k at x c d (try_rule y z w m i h r s t a e) = statements.try_rule y z w m i h (block_widens r) (catch_widens s) (finally_widens t) a e
   form_widens k at x c d (while_rule y z m h r s e) = statements.while_rule y z m h (head_widens r) (widen (in_loop k) sub_statement z m d s) e
@@ -165,6 +211,7 @@ rule_begins n k at x c d (empty_rule h g e) = rw h refl
 rule_begins n k at x c d (debugger_rule h g e) = rw h refl
 rule_begins n k at x c d (var_rule xs m h r g e) = rw h refl
 rule_begins n k at x c d (if_statement_rule (if_rule test cons alt m i h r s o e)) = rw h refl
+rule_begins n k at x c d (switch_rule y xs m i h r j s g t e) = rw h refl
 rule_begins n k at x c d (throw_rule y m h b r g e) = rw h refl
 rule_begins n k at x c d (try_rule y z w m i h r s t a e) = rw h refl
 rule_begins n k at x c d (while_rule y z m h r s e) = rw h refl

@@ -1,5 +1,5 @@
 -- What the rules of the first statements are made of. Their expressions and patterns are those of the whole language.
-use Rattle.std.specs.Prelude.{◌≡◌, Bool, true, false, ◌&&◌, if◌then◌else◌, List, [], ◌∷◌, codes}
+use Rattle.std.specs.Prelude.{◌≡◌, Bool, true, false, ◌&&◌, ◌||◌, if◌then◌else◌, List, [], ◌∷◌, codes}
 use Rattle.swc_ecma_parser_common.specs.declared.span.Span.{Span}
 use Rattle.swc_ecma_parser_token.specs.declared.kind.TokenKind.TheVariants as kind
 use Rattle.swc_ecma_parser_token.specs.declared.token.Token.{Token}
@@ -16,7 +16,7 @@ use Rattle.swc_ecma_parser_grammar.specs.Names.{Code}
 use Rattle.swc_ecma_parser_grammar.specs.Ends.{Ends, OptionalEnds}
 use Rattle.swc_ecma_parser_grammar.specs.Follows.{may_begin_expression_statement, begins_import_expression}
 use Rattle.swc_ecma_parser_grammar.specs.language.Goals.{Class, expression, assignment}
-use Rattle.swc_ecma_parser_grammar.specs.language.Contexts.{in_loop}
+use Rattle.swc_ecma_parser_grammar.specs.language.Contexts.{in_loop, in_breakable}
 use Rattle.swc_ecma_parser_grammar.specs.language.Items.{sub_statement}
 
 -- ---- contexts
@@ -99,6 +99,18 @@ mutual
     else_rule : {x : Tree} {c d : Place} → kind_at c ≡ kind.Else → sees kind.If (after c) ≡ false → Stmt k sub_statement x (after c) d → ElseRule Stmt Expr k x c d
     else_if_rule : {x : Tree} {c d : Place} → kind_at c ≡ kind.Else → IfRule Stmt Expr k x (after c) d → ElseRule Stmt Expr k x c d
 
+-- CaseClause and DefaultClause of section 14.12, behind clauses with a `default` or without: each spans to its last token
+pub data CaseRule (Stmt : Code → Position → Tree → Place → Place → Type 0) (Expr : Class → Code → Tree → Place → Place → Type 0) (k : Code) (has_default : Bool) (x : Tree) (c d : Place) : Type 0 where
+  case_clause_rule : (test : Tree) (xs : List Tree) (m : Place) → kind_at c ≡ kind.Case → Expr expression (with_in k) test (after c) m → kind_at m ≡ kind.Colon
+      → ReadsItems (λ j. Stmt j nested_item) k false xs (after m) d → x ≡ tree.case (spanned c d) test (listed xs) → CaseRule Stmt Expr k has_default x c d
+  default_clause_rule : (xs : List Tree) → has_default ≡ false → kind_at c ≡ kind.Default → kind_at (after c) ≡ kind.Colon
+      → ReadsItems (λ j. Stmt j nested_item) k false xs (after (after c)) d → x ≡ tree.case (spanned c d) tree.absent (listed xs) → CaseRule Stmt Expr k has_default x c d
+
+-- clauses one behind another, with one `default` at most
+abbrev pub ReadsCases : (Code → Position → Tree → Place → Place → Type 0) → (Class → Code → Tree → Place → Place → Type 0) → Code → Bool → List Tree → Place → Place → Type 0
+ReadsCases Stmt Expr k has_default [] c d = d ≡ c
+ReadsCases Stmt Expr k has_default (x ∷ xs) c d = (m : Place) × CaseRule Stmt Expr k has_default x c m × ReadsCases Stmt Expr k (has_default || sees kind.Default c) xs m d
+
 -- Catch of section 14.15, which may be left out, and so may what it binds
 pub data CatchRule (Stmt : Code → Position → Tree → Place → Place → Type 0) (Pat : Code → Tree → Place → Place → Type 0) (k : Code) (x : Tree) (c d : Place) : Type 0 where
   no_catch_rule : sees kind.Catch c ≡ false → d ≡ c → x ≡ tree.absent → CatchRule Stmt Pat k x c d
@@ -123,6 +135,10 @@ pub data StmtRule (Stmt : Code → Position → Tree → Place → Place → Typ
   var_rule : (xs : List Tree) (m : Place) → kind_at c ≡ kind.Var → ReadsSeparated (DeclaratorRule (Expr assignment) Pat (with_in k)) xs (after c) m → Ends m d
       → x ≡ tree.var (spanned c d) decl.Var (listed xs) → StmtRule Stmt Expr Pat k at x c d
   if_statement_rule : IfRule Stmt Expr k x c d → StmtRule Stmt Expr Pat k at x c d
+  -- section 14.12
+  switch_rule : (e : Tree) (xs : List Tree) (m n : Place) → kind_at c ≡ kind.Switch → ReadsHead Expr k e (after c) m → kind_at m ≡ kind.LBrace
+      → ReadsCases Stmt Expr (in_breakable k) false xs (after m) n → kind_at n ≡ kind.RBrace → d ≡ after n → x ≡ tree.switch (spanned c d) e (listed xs)
+      → StmtRule Stmt Expr Pat k at x c d
   -- section 14.14
   throw_rule : (e : Tree) (m : Place) → kind_at c ≡ kind.Throw → breaks_at (after c) ≡ false → Expr expression (with_in k) e (after c) m → Ends m d
       → x ≡ tree.throw (spanned c d) e → StmtRule Stmt Expr Pat k at x c d

@@ -57,8 +57,10 @@ abbrev mutual
   supported (tree.empty s) = true
   supported (tree.debugger s) = true
   supported (tree.expr_stmt s e) = supported e
-  -- `if`, `throw`, `try`, `while` and `do`: sections 14.6, 14.14, 14.15, 14.7.3 and 14.7.2
+  -- `if`, `switch`, `throw`, `try`, `while` and `do`: sections 14.6, 14.12, 14.14, 14.15, 14.7.3 and 14.7.2
   supported (tree.if_stmt s test cons alt) = supported test && (supported cons && supported alt)
+  supported (tree.switch s discriminant cases) = supported discriminant && supported cases
+  supported (tree.case s test cons) = supported test && supported cons
   supported (tree.throw s arg) = supported arg
   supported (tree.try s body handler finalizer) = supported body && (supported handler && supported finalizer)
   supported (tree.catch s p body) = supported p && supported body

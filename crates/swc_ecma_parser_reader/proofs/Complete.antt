@@ -21,9 +21,9 @@ use Rattle.swc_ecma_parser_grammar.specs.Looks.{kind_at, breaks_at, sees, same_k
 use Rattle.swc_ecma_parser_grammar.specs.Names.{Code}
 use Rattle.swc_ecma_parser_grammar.specs.Ends.{Ends, by_semicolon, by_insertion, OptionalEnds, by_a_semicolon, by_nothing}
 use Rattle.swc_ecma_parser_grammar.specs.Follows.{begins_import_expression}
-use Rattle.swc_ecma_parser_grammar.specs.Reads.{with_in, in_strict, nested_item, top_item, ReadsToken, DeclaratorRule, plain_rule, initialized_rule, ReadsSeparated, directed, ReadsItems, StmtRule, block_rule, empty_rule, debugger_rule, var_rule, if_statement_rule, throw_rule, try_rule, while_rule, do_while_rule, expr_rule, import_rule, ReadsBlock, CatchRule, no_catch_rule, catch_rule, catch_parameter_rule, FinallyRule, no_finally_rule, finally_rule, ReadsHead, IfRule, if_rule, no_else_rule, else_rule, else_if_rule}
+use Rattle.swc_ecma_parser_grammar.specs.Reads.{with_in, in_strict, nested_item, top_item, ReadsToken, DeclaratorRule, plain_rule, initialized_rule, ReadsSeparated, directed, ReadsItems, StmtRule, block_rule, empty_rule, debugger_rule, var_rule, if_statement_rule, CaseRule, case_clause_rule, default_clause_rule, ReadsCases, switch_rule, throw_rule, try_rule, while_rule, do_while_rule, expr_rule, import_rule, ReadsBlock, CatchRule, no_catch_rule, catch_rule, catch_parameter_rule, FinallyRule, no_finally_rule, finally_rule, ReadsHead, IfRule, if_rule, no_else_rule, else_rule, else_if_rule}
 use Rattle.swc_ecma_parser_grammar.specs.ReadsSupported.{ReadsClass, ReadsPat, ReadsStmt}
-use Rattle.swc_ecma_parser_grammar.specs.language.Contexts.{in_loop}
+use Rattle.swc_ecma_parser_grammar.specs.language.Contexts.{in_loop, in_breakable}
 use Rattle.swc_ecma_parser_grammar.specs.language.Goals.{expression, assignment}
 use Rattle.swc_ecma_parser_grammar.specs.language.Items.{sub_statement}
 use Rattle.swc_ecma_parser_grammar.specs.Entries.{script_code, ReadsShebang, some_shebang, no_shebang, ReadsScript}
@@ -35,14 +35,14 @@ use Rattle.swc_ecma_parser_reader.specs.Notes.{Notes, held, ◌⊕◌, notes_of,
 use Rattle.swc_ecma_parser_reader.specs.State.{Scope, State, Outcome, Reader, and_then, noted, labelled, expect, end, fault_at, loop}
 use Rattle.swc_ecma_parser_reader.specs.Expressions.{expr}
 use Rattle.swc_ecma_parser_reader.specs.Patterns.{pattern}
-use Rattle.swc_ecma_parser_reader.specs.Reader.{empty, debugger, initialized, declarator, declarators_turn, declarators, var, closes, at_end, close, directs, items_turn, items, block_from, block, braced, note_statement, no_label, expr_stmt, expr_stmt_at, optional_end, import_stmt, import_stmt_at, thrown, throw, head, while_stmt, do_while, goes_on, closed_link, condition, alternative, link_from, link, if_stmt, is_handled, handled, bound, parameter, finalizer, caught, handler, try_stmt, stmt_level, stmt, shebang_of, shebang_in, shebang, script_body, script}
+use Rattle.swc_ecma_parser_reader.specs.Reader.{empty, debugger, initialized, declarator, declarators_turn, declarators, var, closes, at_end, close, directs, items_turn, items, block_from, block, braced, note_statement, no_label, expr_stmt, expr_stmt_at, optional_end, import_stmt, import_stmt_at, thrown, throw, head, while_stmt, do_while, goes_on, closed_link, condition, alternative, link_from, link, if_stmt, begins_clause, closes_clause, clause_from, default_clause, case_clause, clause, clauses_turn, clauses, switch_stmt, is_handled, handled, bound, parameter, finalizer, caught, handler, try_stmt, stmt_level, stmt, shebang_of, shebang_in, shebang, script_body, script}
 use Rattle.swc_ecma_parser_reader.specs.Entry.{script_left}
 use Rattle.swc_ecma_parser_reader.proofs.Notes.{or_nil, or_assoc}
 use Rattle.swc_ecma_parser_reader.proofs.Answered.{st, Reads}
 use Rattle.swc_ecma_parser_reader.proofs.expressions.CompleteKinds.{seen}
 use Rattle.swc_ecma_parser_reader.proofs.expressions.Complete.{expr_reads}
 use Rattle.swc_ecma_parser_reader.proofs.patterns.Complete.{pattern_reads}
-use Rattle.swc_ecma_parser_reader.proofs.Loops.{stmt_shorter, items_stop, items_more, declarators_done, declarators_more}
+use Rattle.swc_ecma_parser_reader.proofs.Loops.{stmt_shorter, items_stop, items_more, declarators_done, declarators_more, clauses_done, clauses_more}
 use Rattle.swc_ecma_parser_grammar.proofs.SupportedBegins.{expr_opens}
 use Rattle.swc_ecma_parser_reader.proofs.Opens.{opened, no_block_or_import, import_stands, import_unnoted, goes_open, stmt_goes}
 use Rattle.swc_ecma_parser_reader.proofs.Chains.{if_last, if_more}
@@ -295,6 +295,75 @@ module _ (n : ℕ) (reads : (at : Position) (k : Code) (x : Tree) (c d : Place) 
   unfolding braced
   braced_reads k x c d r w f h = rw (expect_reads kind.LBrace c k w f h r.opens) (block_from_reads k x c d w f h r)
 
+  -- ---- `switch`
+
+  clause_from_reads : (start : Span) (test : Tree) (xs : List Tree) (k : Code) (c d : Place) (w : Scope) (f : List Fault) (h : Notes) → kind_at c ≡ kind.Colon
+      → ReadsItems (λ j. ReadsStmt n j nested_item) k false xs (after c) d → closes_clause d ≡ true
+      → clause_from (stmt n nested_item) start test (st c k w f h) ≡ Ok (tree.case (record { lo = start.lo; hi = d.last.hi }) test (listed xs), st d k w (f ++ walks (env_of k w.labels) false (trees xs)) (h ⊕ all_notes_of (trees xs)))
+  unfolding clause_from
+  clause_from_reads start test xs k c d w f h e r z =
+      rw (
+        expect_reads kind.Colon c k w f h e,
+        items_read (λ j. ReadsStmt n j nested_item) (stmt n nested_item) (reads nested_item) (stmt_shorter n nested_item) closes_clause (λ j y a b q. (stmt_goes n j nested_item y a b q).2)
+            false xs k (after c) d w f h r z,
+        code_stays k xs,
+      ) refl
+
+  clause_reads : (k : Code) (b : Bool) (x : Tree) (c d : Place) (w : Scope) (f : List Fault) (h : Notes) → CaseRule (ReadsStmt n) (ReadsClass n) k b x c d → closes_clause d ≡ true
+      → clause (stmt n nested_item) (expr n expression) b (st c k w f h) ≡ Ok (x, st d k w (f ++ walk (env_of k w.labels) x) (h ⊕ notes_of x))
+  unfolding clause case_clause default_clause same_kind spanned
+  clause_reads k b x c d w f h (case_clause_rule test xs m a r i s e) z =
+      rw (
+        seen c kind.Case a,
+        expr_reads n expression (with_in k) test (after c) m r w f h,
+        clause_from_reads (span_at c) test xs k m d w (f ++ walk (env_of k w.labels) test) (h ⊕ notes_of test) i s z,
+        e,
+        append_assoc f (walk (env_of k w.labels) test) (walks (env_of k w.labels) false (trees xs)),
+      ) (simp (append_assoc, or_assoc) refl)
+  clause_reads k b x c d w f h (default_clause_rule xs o a i s e) z =
+      rw (ap (λ j. same_kind j kind.Case) a, o, clause_from_reads (span_at c) tree.absent xs k (after c) d w f h i s z, e) refl
+
+  clause_begins : {k : Code} {b : Bool} {x : Tree} {c d : Place} → CaseRule (ReadsStmt n) (ReadsClass n) k b x c d → begins_clause c ≡ true
+  unfolding begins_clause same_kind
+  clause_begins (case_clause_rule test xs m a r i s e) = rw a refl
+  clause_begins (default_clause_rule xs o a i s e) = rw a refl
+
+  -- a clause ends where the next begins, or where all end
+  cases_close : (k : Code) (b : Bool) (xs : List Tree) (c d : Place) → ReadsCases (ReadsStmt n) (ReadsClass n) k b xs c d → closes_clause d ≡ true → closes_clause c ≡ true
+  unfolding closes_clause
+  cases_close k b [] c d e z = rw (← e) z
+  cases_close k b (x ∷ xs) c d (m, r, rs) z = rw (clause_begins r) refl
+
+  many_cases : (xs found : List Tree) (b : Bool) (k : Code) (c d : Place) (w : Scope) (f : List Fault) (h : Notes) → ReadsCases (ReadsStmt n) (ReadsClass n) k b xs c d
+      → begins_clause d ≡ false → closes_clause d ≡ true
+      → loop (clauses_turn (stmt n nested_item) (expr n expression)) (record { found = found; has_default = b }) (st c k w f h)
+      ≡ Ok (found ++ xs, st d k w (f ++ walks (env_of k w.labels) false (trees xs)) (h ⊕ all_notes_of (trees xs)))
+  many_cases [] found b k c d w f h e g z =
+      rw (append-nil found, append-nil f, append-nil h.held_back, or_nil h.found_module_item, e) (clauses_done n (record { found = found; has_default = b }) (st c k w f h) (rw (← e) g))
+  many_cases (x ∷ xs) found b k c d w f h (m, r, rs) g z =
+      let one = clause_reads k b x c m w f h r (cases_close k (b || sees kind.Default c) xs m d rs z) in
+      clauses_more n (record { found = found; has_default = b }) (st c k w f h) x (st m k w (f ++ walk (env_of k w.labels) x) (h ⊕ notes_of x)) (clause_begins r) one
+      ∙ many_cases xs (found ++ x ∷ []) (b || sees kind.Default c) k m d w (f ++ walk (env_of k w.labels) x) (h ⊕ notes_of x) rs g z ∙ simp (append_assoc, or_assoc) refl
+
+  brace_closes : (c : Place) → kind_at c ≡ kind.RBrace → (begins_clause c ≡ false) × (closes_clause c ≡ true)
+  unfolding begins_clause closes_clause closes same_kind
+  brace_closes c e = (rw e refl, rw e refl)
+
+  switch_reads : (y : Tree) (xs : List Tree) (m i : Place) (k : Code) (x : Tree) (c d : Place) → ReadsHead (ReadsClass n) k y (after c) m → kind_at m ≡ kind.LBrace
+      → ReadsCases (ReadsStmt n) (ReadsClass n) (in_breakable k) false xs (after m) i → kind_at i ≡ kind.RBrace → d ≡ after i → x ≡ tree.switch (spanned c d) y (listed xs)
+      → Reads (switch_stmt (stmt n nested_item) (expr n expression)) k x c d
+  unfolding switch_stmt clauses
+  switch_reads y xs m i k x c d r a s b g e w f h =
+      let p = f ++ walk (env_of k w.labels) y in
+      rw (
+        head_reads n k y (after c) m r w f h,
+        expect_reads kind.LBrace m k w p (h ⊕ notes_of y) a,
+        many_cases xs [] false (in_breakable k) (after m) i w p (h ⊕ notes_of y) s (brace_closes i b).0 (brace_closes i b).1,
+        expect_reads kind.RBrace i k w (p ++ walks (env_of (in_breakable k) w.labels) false (trees xs)) ((h ⊕ notes_of y) ⊕ all_notes_of (trees xs)) b,
+        e,
+        g,
+      ) (simp (append_assoc, or_assoc) refl)
+
   -- ---- `try`
 
   -- a block opens with no parenthesis
@@ -422,6 +491,7 @@ module _ (n : ℕ) (reads : (at : Position) (k : Code) (x : Tree) (c d : Place) 
   by_rules at k x c d (debugger_rule e g i) w f h = rw e (debugger_reads k x c d g i w f h)
   by_rules at k x c d (var_rule xs m e r g i) w f h = rw e (var_reads n xs m k x c d r g i w f h)
   by_rules at k x c d (if_statement_rule r) w f h = rw (if_begins r) (if_reads r w f h)
+  by_rules at k x c d (switch_rule y xs m i e r a s b g j) w f h = rw e (switch_reads y xs m i k x c d r a s b g j w f h)
   by_rules at k x c d (throw_rule y m e b r g i) w f h = rw e (throw_reads n y m k x c d b r g i w f h)
   by_rules at k x c d (try_rule y z v m i e r s t b g) w f h = rw e (try_reads y z v m i k x c d r s t b g w f h)
   by_rules at k x c d (while_rule y z m e r s i) w f h = rw e (while_reads y z m k x c d r s i w f h)

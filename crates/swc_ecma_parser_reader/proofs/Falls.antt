@@ -1,5 +1,5 @@
 -- A statement takes a token at least.
-use Rattle.std.proofs.Common.{◌≡◌, ◌≢◌, ℕ, zero, suc, ◌+◌, ◌≤◌, Bool, true, false, cond, List, [], length, Option, Some, None, Ok, Err, refl, arith}
+use Rattle.std.proofs.Common.{◌≡◌, ◌≢◌, ℕ, zero, suc, ◌+◌, ◌≤◌, Bool, true, false, cond, List, [], length, Option, Some, None, Ok, Err, refl, true≢false, sym, ◌∙◌, arith}
 use Rattle.std.specs.Prelude.{◌&&◌, ◌||◌, is_some, codes}
 use Rattle.swc_ecma_parser_common.specs.declared.span.Span.{Span}
 use Rattle.swc_ecma_parser_error.specs.Kind as faults
@@ -7,23 +7,34 @@ use Rattle.swc_ecma_parser_error.specs.Kind.{Kind, Fault, fault_of}
 use Rattle.swc_ecma_parser_token.specs.declared.kind.TokenKind.{TokenKind}
 use Rattle.swc_ecma_parser_token.specs.declared.kind.TokenKind.TheVariants as kind
 use Rattle.swc_ecma_parser_input.specs.Place.{Place, after}
+use Rattle.swc_ecma_parser_model.specs.Tree as tree
 use Rattle.swc_ecma_parser_model.specs.Tree.{Tree, Text}
 use Rattle.swc_ecma_parser_model.specs.Forms.{is_ident, is_ident_named, is_binding_name}
 use Rattle.swc_ecma_parser_grammar.specs.declared.position.Position.{Position}
-use Rattle.swc_ecma_parser_grammar.specs.Looks.{kind_at, breaks_at, sees, span_at}
+use Rattle.swc_ecma_parser_grammar.specs.Looks.{kind_at, breaks_at, sees, same_kind, span_at}
 use Rattle.swc_ecma_parser_grammar.specs.Follows.{may_begin_expression_statement, begins_import_expression}
 use Rattle.swc_ecma_parser_grammar.specs.Reads.{with_in, nested_item, top_item}
 use Rattle.swc_ecma_parser_grammar.specs.Entries.{script_code}
-use Rattle.swc_ecma_parser_grammar.specs.language.Contexts.{in_loop}
+use Rattle.swc_ecma_parser_grammar.specs.language.Contexts.{in_loop, in_breakable}
 use Rattle.swc_ecma_parser_grammar.specs.language.Goals.{Class, expression, assignment}
 use Rattle.swc_ecma_parser_grammar.specs.language.Items.{sub_statement}
 use Rattle.swc_ecma_parser_reader.specs.State.{State, Outcome, Reader, moved, coded, within, labelled, labelled_as, expect, end}
 use Rattle.swc_ecma_parser_reader.specs.Expressions.{expr}
 use Rattle.swc_ecma_parser_reader.specs.Patterns.{pattern}
-use Rattle.swc_ecma_parser_reader.specs.Reader.{empty, debugger, uninitialized, initialized, declarator, declarators_turn, declarators, var, closes, at_end, close, items_turn, items, block_from, block, braced, note_statement, no_label, expr_stmt, expr_stmt_at, optional_end, import_stmt, import_stmt_at, thrown, throw, head, while_stmt, do_while, Link, goes_on, condition, alternative, link_from, link, behind_link, links, if_stmt, is_handled, handled, bound, parameter, finalizer, caught, handler, try_stmt, stmt_by, stmt_level, stmt, shebang_in, shebang_taken, shebang, script_body, script}
+use Rattle.swc_ecma_parser_reader.specs.Reader.{empty, debugger, uninitialized, initialized, declarator, declarators_turn, declarators, var, closes, at_end, close, items_turn, items, block_from, block, braced, note_statement, no_label, expr_stmt, expr_stmt_at, optional_end, import_stmt, import_stmt_at, thrown, throw, head, while_stmt, do_while, Link, goes_on, condition, alternative, link_from, link, behind_link, links, if_stmt, begins_clause, closes_clause, Clauses, clause_from, default_clause, case_clause, clause, clauses_turn, clauses, switch_stmt, is_handled, handled, bound, parameter, finalizer, caught, handler, try_stmt, stmt_by, stmt_level, stmt, shebang_in, shebang_taken, shebang, script_body, script}
 use Rattle.swc_ecma_parser_reader.proofs.Takes.{Falls, falls_then, falls_last, falls_coded, falls_if, less, falls_next, moves, takes, falls_past, falls_moved, wanted_falls, too_deep_falls, refuse_falls, fault_falls, end_falls, close_falls, expect_falls, loop_falls}
 use Rattle.swc_ecma_parser_reader.proofs.expressions.Falls.{reject_falls, expr_falls}
 use Rattle.swc_ecma_parser_reader.proofs.patterns.Falls.{pattern_falls}
+
+-- a choice whose test is known
+falls_where : {A : Type 0} (k n : ℕ) (b : Bool) (x y : Outcome A) → (b ≡ true → Falls k n x) → Falls k n y → Falls k n (cond b x y)
+falls_where k n true x y h g = h refl
+falls_where k n false x y h g = g
+
+-- a clause begins with a token
+clause_stands : (c : Place) → begins_clause c ≡ true → kind_at c ≢ kind.End
+unfolding begins_clause same_kind
+clause_stands c e h = true≢false (sym e ∙ rw h refl)
 
 -- ---- statements
 
@@ -208,6 +219,47 @@ module _ (inner : Reader Tree) (h : (s : State) → Falls 1 (length s.at.left) (
   if_falls s e = falls_then 1 0 (length s.at.left) (link inner inner_expr s) _ (falls_past s _ e (link_from_falls (span_at s.at) (moved s))) (λ l t.
       behind_falls (links inner inner_expr (length s.at.left)) (links_fall (length s.at.left)) l t)
 
+-- ---- `switch`
+
+module _ (inner : Reader Tree) (h : (s : State) → Falls 1 (length s.at.left) (inner s)) where
+  clause_from_falls : (start : Span) (test : Tree) (s : State) → Falls 0 (length s.at.left) (clause_from inner start test s)
+  unfolding clause_from
+  clause_from_falls start test s = falls_then 0 0 (length s.at.left) (expect kind.Colon s) _ (expect_falls kind.Colon s) (λ _ t.
+      falls_last 0 (length t.at.left) (items inner closes_clause false t) _ (items_fall inner h closes_clause false t))
+
+  default_clause_falls : (b : Bool) (s : State) → kind_at s.at ≢ kind.End → Falls 1 (length s.at.left) (default_clause inner b s)
+  unfolding default_clause
+  default_clause_falls b s e = falls_past s _ e (falls_if 0 (length (after s.at).left) b _ _ (refuse_falls Tree 0 (length (after s.at).left) faults.MultipleDefault (moved s))
+      (clause_from_falls (span_at s.at) tree.absent (moved s)))
+
+  module _ (inner_expr : Reader Tree) (g : (s : State) → Falls 1 (length s.at.left) (inner_expr s)) where
+    case_clause_falls : (s : State) → kind_at s.at ≢ kind.End → Falls 1 (length s.at.left) (case_clause inner inner_expr s)
+    unfolding case_clause
+    case_clause_falls s e = falls_past s _ e (falls_then 0 0 (length (after s.at).left) (within with_in inner_expr (moved s)) _
+        (less (length (after s.at).left) (within with_in inner_expr (moved s)) (whole_falls inner_expr g (moved s))) (λ x t. clause_from_falls (span_at s.at) x t))
+
+    -- a clause takes its word
+    pub clause_falls : (b : Bool) (s : State) → begins_clause s.at ≡ true → Falls 1 (length s.at.left) (clause inner inner_expr b s)
+    unfolding clause
+    clause_falls b s e = let k = clause_stands s.at e in falls_if 1 (length s.at.left) (sees kind.Case s.at) _ _ (case_clause_falls s k) (default_clause_falls b s k)
+
+    clauses_turn_falls : (l : Clauses) (s : State) → Falls 0 (length s.at.left) (clauses_turn inner inner_expr l s)
+    unfolding clauses_turn
+    clauses_turn_falls l s = falls_where 0 (length s.at.left) (begins_clause s.at) _ _
+        (λ e. falls_last 0 (length s.at.left) (clause inner inner_expr l.has_default s) _ (less (length s.at.left) (clause inner inner_expr l.has_default s) (clause_falls l.has_default s e))) (omega arith)
+
+    clauses_fall : (s : State) → Falls 0 (length s.at.left) (clauses inner inner_expr s)
+    unfolding clauses
+    clauses_fall s = loop_falls (clauses_turn inner inner_expr) clauses_turn_falls (record { found = []; has_default = false }) s
+
+    switch_falls : (s : State) → kind_at s.at ≢ kind.End → Falls 1 (length s.at.left) (switch_stmt inner inner_expr s)
+    unfolding switch_stmt
+    switch_falls s e = falls_past s _ e (falls_then 0 0 (length (after s.at).left) (head inner_expr (moved s)) _ (head_falls inner_expr g (moved s)) (λ x t.
+        falls_then 0 0 (length t.at.left) (expect kind.LBrace t) _ (expect_falls kind.LBrace t) (λ _ u.
+        falls_then 0 0 (length u.at.left) (within in_breakable (clauses inner inner_expr) u) _
+        (falls_coded 0 (length u.at.left) (clauses inner inner_expr (coded (in_breakable u.code) u)) _ _ (clauses_fall (coded (in_breakable u.code) u))) (λ xs v.
+        falls_last 0 (length v.at.left) (expect kind.RBrace v) _ (expect_falls kind.RBrace v)))))
+
 -- ---- `try`
 
 handled_falls : (behind : Place) (s : State) → Falls 0 (length s.at.left) (handled behind s)
@@ -251,6 +303,7 @@ module _ (inner : Position → Reader Tree) (h : (at : Position) (s : State) →
   stmt_by_falls at kind.Debugger s e = debugger_falls s (λ h. cc)
   stmt_by_falls at kind.Var s e = var_falls inner_expr g inner_pat i s (λ h. cc)
   stmt_by_falls at kind.If s e = if_falls (inner sub_statement) (h sub_statement) (inner_expr expression) (g expression) s (λ h. cc)
+  stmt_by_falls at kind.Switch s e = switch_falls (inner nested_item) (h nested_item) (inner_expr expression) (g expression) s (λ h. cc)
   stmt_by_falls at kind.Throw s e = throw_falls (inner_expr expression) (g expression) s (λ h. cc)
   stmt_by_falls at kind.Try s e = try_falls (inner nested_item) (h nested_item) inner_pat i s (λ h. cc)
   stmt_by_falls at kind.While s e = while_falls (inner sub_statement) (h sub_statement) (inner_expr expression) (g expression) s (λ h. cc)

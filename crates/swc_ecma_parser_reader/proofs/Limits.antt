@@ -2,25 +2,27 @@
 -- expression below need a token, and the two can share their first.
 use Rattle.std.proofs.Common.{◌≡◌, ◌≢◌, ℕ, zero, suc, ◌+◌, ◌*◌, ◌≤◌, Bool, true, false, cond, [], ◌∷◌, ◌++◌, length, Ok, Err, refl, arith}
 use Rattle.std.specs.Prelude.{◌&&◌, ◌||◌, is_some, codes}
+use Rattle.swc_ecma_parser_common.specs.declared.span.Span.{Span}
 use Rattle.swc_ecma_parser_error.specs.Kind as faults
 use Rattle.swc_ecma_parser_error.specs.Kind.{Kind, Fault, fault_of, kind_of}
 use Rattle.swc_ecma_parser_token.specs.declared.kind.TokenKind.{TokenKind}
 use Rattle.swc_ecma_parser_token.specs.declared.kind.TokenKind.TheVariants as kind
 use Rattle.swc_ecma_parser_input.specs.Place.{Place, after}
+use Rattle.swc_ecma_parser_model.specs.Tree as tree
 use Rattle.swc_ecma_parser_model.specs.Tree.{Tree}
 use Rattle.swc_ecma_parser_model.specs.Forms.{is_ident, is_ident_named, is_binding_name, span_of}
 use Rattle.swc_ecma_parser_grammar.specs.declared.position.Position.{Position}
-use Rattle.swc_ecma_parser_grammar.specs.Looks.{kind_at, breaks_at, sees}
+use Rattle.swc_ecma_parser_grammar.specs.Looks.{kind_at, breaks_at, sees, span_at}
 use Rattle.swc_ecma_parser_grammar.specs.Follows.{may_begin_expression_statement, begins_import_expression}
 use Rattle.swc_ecma_parser_grammar.specs.Reads.{with_in, nested_item, top_item}
 use Rattle.swc_ecma_parser_grammar.specs.Entries.{script_code}
-use Rattle.swc_ecma_parser_grammar.specs.language.Contexts.{in_loop}
+use Rattle.swc_ecma_parser_grammar.specs.language.Contexts.{in_loop, in_breakable}
 use Rattle.swc_ecma_parser_grammar.specs.language.Goals.{Class, expression, assignment}
 use Rattle.swc_ecma_parser_grammar.specs.language.Items.{sub_statement}
 use Rattle.swc_ecma_parser_reader.specs.State.{State, Outcome, Reader, moved, coded, within, noted, module_fault, fault_at, labelled, labelled_as, expect, end}
 use Rattle.swc_ecma_parser_reader.specs.Expressions.{expr}
 use Rattle.swc_ecma_parser_reader.specs.Patterns.{pattern}
-use Rattle.swc_ecma_parser_reader.specs.Reader.{empty, debugger, initialized, declarator, declarators_turn, declarators, var, closes, at_end, close, items_turn, items, block_from, block, braced, note_statement, no_label, expr_stmt, expr_stmt_at, optional_end, import_stmt, import_stmt_at, thrown, throw, head, while_stmt, do_while, goes_on, condition, alternative, link_from, link, links, if_stmt, begins_at, is_handled, handled, bound, parameter, finalizer, caught, handler, try_stmt, stmt_by, stmt_level, stmt, shebang, script_body, script}
+use Rattle.swc_ecma_parser_reader.specs.Reader.{empty, debugger, initialized, declarator, declarators_turn, declarators, var, closes, at_end, close, items_turn, items, block_from, block, braced, note_statement, no_label, expr_stmt, expr_stmt_at, optional_end, import_stmt, import_stmt_at, thrown, throw, head, while_stmt, do_while, goes_on, condition, alternative, link_from, link, links, if_stmt, begins_clause, closes_clause, Clauses, clause_from, default_clause, case_clause, clause, clauses_turn, clauses, switch_stmt, begins_at, is_handled, handled, bound, parameter, finalizer, caught, handler, try_stmt, stmt_by, stmt_level, stmt, shebang, script_body, script}
 use Rattle.swc_ecma_parser_reader.specs.Limits.{has_too_deep_token}
 use Rattle.swc_ecma_parser_reader.proofs.Meets.{Answers, answers_then, answers_if, loop_answers, meant}
 use Rattle.swc_ecma_parser_reader.proofs.Shallow.{Fine, fine_more, fine_after, fine_taken, Shallow, Kept, fault_shallow, wanted_shallow, refuse_shallow, end_shallow, expect_shallow, close_shallow, shebang_shallow, Levels}
@@ -198,6 +200,35 @@ module _ (inner : Position → Reader Tree) (inner_expr : Class → Reader Tree)
       answers_then _ _ (head (inner_expr expression) u) _ (head_shallow i (omega arith) u j) (λ x v z.
       answers_then _ _ (optional_end v) _ (optional_end_shallow i v z) (λ _ b a. fine_more i m b.at.left (omega arith) a))))
 
+  clause_from_shallow : (i : ℕ) → 2 * i + 1 ≤ n → (start : Span) (test : Tree) (t : State) → Fine i t.at.left → Answers (Kept i) Shallow (clause_from (inner nested_item) start test t)
+  unfolding clause_from
+  clause_from_shallow i h start test t g = answers_then _ _ (expect kind.Colon t) _ (expect_shallow i t g kind.Colon) (λ _ u k.
+      answers_then _ _ (items (inner nested_item) closes_clause false u) _ (items_shallow (inner nested_item) n (below nested_item) closes_clause false i h u k) (λ xs v j. j))
+
+  clause_shallow : (i : ℕ) → 2 * i + 1 ≤ n → (b : Bool) (t : State) → Fine i t.at.left → Answers (Kept i) Shallow (clause (inner nested_item) (inner_expr expression) b t)
+  unfolding clause case_clause default_clause
+  clause_shallow i h b t g = answers_if _ _ (sees kind.Case t.at) _ _
+      (λ _. answers_then _ _ (within with_in (inner_expr expression) (moved t)) _
+      (answers_then (Kept i) _ (inner_expr expression (coded (with_in t.code) (moved t))) _ (below_expr expression i (coded (with_in t.code) (moved t)) (omega arith) (fine_after i t.at g)) (λ x v k. k))
+      (λ x u k. clause_from_shallow i h (span_at t.at) x u k))
+      (λ _. answers_if _ _ b _ _ (λ _. refuse_shallow _ faults.MultipleDefault (λ z. cc) i (moved t) (fine_after i t.at g)) (λ _. clause_from_shallow i h (span_at t.at) tree.absent (moved t) (fine_after i t.at g)))
+
+  clauses_shallow : (i : ℕ) → 2 * i + 1 ≤ n → (t : State) → Fine i t.at.left → Answers (Kept i) Shallow (clauses (inner nested_item) (inner_expr expression) t)
+  unfolding clauses clauses_turn
+  clauses_shallow i h t g = loop_answers (clauses_turn (inner nested_item) (inner_expr expression)) (Kept i) (Kept i) Shallow
+      (λ l u k. answers_if _ _ (begins_clause u.at) _ _ (λ _. answers_then _ _ (clause (inner nested_item) (inner_expr expression) l.has_default u) _ (clause_shallow i h l.has_default u k) (λ x v j. j)) (λ _. k))
+      (λ u e. cc) (record { found = []; has_default = false }) t g
+
+  switch_shallow : kind_at s.at ≡ kind.Switch → Answers (Kept m) Shallow (switch_stmt (inner nested_item) (inner_expr expression) s)
+  unfolding switch_stmt
+  switch_shallow e =
+      let (i, h, g) = fine_taken m s.at kind.Switch e (λ z. cc) f in
+      answers_then _ _ (head (inner_expr expression) (moved s)) _ (head_shallow i (omega arith) (moved s) g) (λ x t k.
+      answers_then _ _ (expect kind.LBrace t) _ (expect_shallow i t k kind.LBrace) (λ _ u j.
+      answers_then _ _ (within in_breakable (clauses (inner nested_item) (inner_expr expression)) u) _
+      (answers_then (Kept i) _ (clauses (inner nested_item) (inner_expr expression) (coded (in_breakable u.code) u)) _ (clauses_shallow i (omega arith) (coded (in_breakable u.code) u) j) (λ x v k. k)) (λ xs v l.
+      answers_then _ _ (expect kind.RBrace v) _ (expect_shallow i v l kind.RBrace) (λ _ b a. fine_more i m b.at.left (omega arith) a))))
+
   parameter_shallow : (i : ℕ) → 2 * i ≤ n → (t : State) → Fine i t.at.left → Answers (Kept i) Shallow (parameter inner_pat t)
   unfolding parameter bound
   parameter_shallow i h t g = answers_if _ _ (sees kind.LParen t.at) _ _ (λ _.
@@ -235,6 +266,7 @@ module _ (inner : Position → Reader Tree) (inner_expr : Class → Reader Tree)
   by_shallow kind.Debugger e = debugger_shallow
   by_shallow kind.Var e = var_shallow
   by_shallow kind.If e = links_shallow inner inner_expr n below below_expr (suc (length s.at.left)) m enough s e f
+  by_shallow kind.Switch e = switch_shallow e
   by_shallow kind.Throw e = throw_shallow e
   by_shallow kind.Try e = try_shallow e
   by_shallow kind.While e = while_shallow e

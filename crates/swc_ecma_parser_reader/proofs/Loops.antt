@@ -1,19 +1,21 @@
 -- The turns of the loops, and the levels, in the shapes that a loop over tokens and a recursion meet them.
 use Rattle.std.proofs.Common.{◌≡◌, ℕ, ◌-◌, ◌<◌, Bool, true, false, List, [], ◌∷◌, ◌++◌, length, Ok, Err, refl, arith}
+use Rattle.std.specs.Prelude.{◌||◌}
 use Rattle.swc_ecma_parser_error.specs.Kind.{Fault}
 use Rattle.swc_ecma_parser_token.specs.declared.kind.TokenKind.TheVariants as kind
 use Rattle.swc_ecma_parser_input.specs.Place.{Place, after}
 use Rattle.swc_ecma_parser_model.specs.Tree.{Tree}
 use Rattle.swc_ecma_parser_grammar.specs.declared.position.Position.{Position}
 use Rattle.swc_ecma_parser_grammar.specs.Looks.{sees}
-use Rattle.swc_ecma_parser_grammar.specs.Reads.{directed}
+use Rattle.swc_ecma_parser_grammar.specs.Reads.{directed, nested_item}
+use Rattle.swc_ecma_parser_grammar.specs.language.Goals.{expression}
 use Rattle.swc_ecma_parser_reader.specs.State.{State, Reader, coded, moved, too_deep, loop}
 use Rattle.swc_ecma_parser_reader.specs.Expressions.{expr}
 use Rattle.swc_ecma_parser_reader.specs.Patterns.{pattern}
-use Rattle.swc_ecma_parser_reader.specs.Reader.{declarator, declarators_turn, directs, items_turn, stmt_level, stmt}
+use Rattle.swc_ecma_parser_reader.specs.Reader.{declarator, declarators_turn, directs, items_turn, begins_clause, Clauses, clause, clauses_turn, stmt_level, stmt}
 use Rattle.swc_ecma_parser_reader.proofs.Steps.{loop_more, loop_done, loop_err}
 use Rattle.swc_ecma_parser_reader.proofs.Takes.{moves}
-use Rattle.swc_ecma_parser_reader.proofs.Falls.{stmt_falls, declarator_falls}
+use Rattle.swc_ecma_parser_reader.proofs.Falls.{stmt_falls, declarator_falls, clause_falls}
 use Rattle.swc_ecma_parser_reader.proofs.expressions.Falls.{expr_falls}
 use Rattle.swc_ecma_parser_reader.proofs.expressions.Loops.{shorter_by, deeper}
 use Rattle.swc_ecma_parser_reader.proofs.patterns.Falls.{pattern_falls}
@@ -61,6 +63,29 @@ module _ (n : ℕ) (found : List Tree) (s : State) where
       → loop (declarators_turn (expr n) (pattern n)) found s ≡ loop (declarators_turn (expr n) (pattern n)) (found ++ x ∷ []) (moved t)
   unfolding declarators_turn
   declarators_more x t h e = loop_more (declarators_turn (expr n) (pattern n)) found (found ++ x ∷ []) s (moved t) (rw (h, e) refl) (declarators_shorter n s x t h)
+
+-- ---- the clauses of a `switch`
+
+module _ (n : ℕ) (l : Clauses) (s : State) where
+  pub clauses_done : begins_clause s.at ≡ false → loop (clauses_turn (stmt n nested_item) (expr n expression)) l s ≡ Ok (l.found, s)
+  unfolding clauses_turn
+  clauses_done e = loop_done (clauses_turn (stmt n nested_item) (expr n expression)) l l.found s s (rw e refl)
+
+  pub clauses_err : (e : Fault × State) → begins_clause s.at ≡ true → clause (stmt n nested_item) (expr n expression) l.has_default s ≡ Err e
+      → loop (clauses_turn (stmt n nested_item) (expr n expression)) l s ≡ Err e
+  unfolding clauses_turn
+  clauses_err e h g = loop_err (clauses_turn (stmt n nested_item) (expr n expression)) l s e (rw (h, g) refl)
+
+  pub clause_shorter : (x : Tree) (t : State) → begins_clause s.at ≡ true → clause (stmt n nested_item) (expr n expression) l.has_default s ≡ Ok (x, t) → length t.at.left < length s.at.left
+  clause_shorter x t h e = shorter_by (length s.at.left) (clause (stmt n nested_item) (expr n expression) l.has_default s) x t e
+      (clause_falls (stmt n nested_item) (stmt_falls n nested_item) (expr n expression) (expr_falls n expression) l.has_default s h)
+
+  pub clauses_more : (x : Tree) (t : State) → begins_clause s.at ≡ true → clause (stmt n nested_item) (expr n expression) l.has_default s ≡ Ok (x, t)
+      → loop (clauses_turn (stmt n nested_item) (expr n expression)) l s
+      ≡ loop (clauses_turn (stmt n nested_item) (expr n expression)) (record { found = l.found ++ x ∷ []; has_default = l.has_default || sees kind.Default s.at }) t
+  unfolding clauses_turn
+  clauses_more x t h e = loop_more (clauses_turn (stmt n nested_item) (expr n expression)) l (record { found = l.found ++ x ∷ []; has_default = l.has_default || sees kind.Default s.at }) s t
+      (rw (h, e) refl) (clause_shorter x t h e)
 
 -- ---- levels, where a number is 0 or not
 

@@ -28,10 +28,10 @@ use Rattle.swc_ecma_parser_grammar.specs.Looks.{kind_at, breaks_at, sees, same_k
 use Rattle.swc_ecma_parser_grammar.specs.Names.{Code}
 use Rattle.swc_ecma_parser_grammar.specs.Ends.{Ends, by_semicolon, by_insertion, OptionalEnds, by_a_semicolon, by_nothing, can_end}
 use Rattle.swc_ecma_parser_grammar.specs.Follows.{may_begin_expression_statement, begins_import_expression}
-use Rattle.swc_ecma_parser_grammar.specs.language.Contexts.{in_loop}
+use Rattle.swc_ecma_parser_grammar.specs.language.Contexts.{in_loop, in_breakable}
 use Rattle.swc_ecma_parser_grammar.specs.language.Goals.{Class, expression, assignment}
 use Rattle.swc_ecma_parser_grammar.specs.language.Items.{sub_statement}
-use Rattle.swc_ecma_parser_grammar.specs.Reads.{with_in, in_strict, directed, directs_on, nested_item, top_item, DeclaratorRule, plain_rule, initialized_rule, ReadsSeparated, ReadsItems, StmtRule, block_rule, empty_rule, debugger_rule, var_rule, if_statement_rule, throw_rule, try_rule, while_rule, do_while_rule, expr_rule, import_rule, ReadsBlock, CatchRule, no_catch_rule, catch_rule, catch_parameter_rule, FinallyRule, no_finally_rule, finally_rule, ReadsHead, IfRule, if_rule, ElseRule, no_else_rule, else_rule, else_if_rule}
+use Rattle.swc_ecma_parser_grammar.specs.Reads.{with_in, in_strict, directed, directs_on, nested_item, top_item, DeclaratorRule, plain_rule, initialized_rule, ReadsSeparated, ReadsItems, StmtRule, block_rule, empty_rule, debugger_rule, var_rule, if_statement_rule, CaseRule, case_clause_rule, default_clause_rule, ReadsCases, switch_rule, throw_rule, try_rule, while_rule, do_while_rule, expr_rule, import_rule, ReadsBlock, CatchRule, no_catch_rule, catch_rule, catch_parameter_rule, FinallyRule, no_finally_rule, finally_rule, ReadsHead, IfRule, if_rule, ElseRule, no_else_rule, else_rule, else_if_rule}
 use Rattle.swc_ecma_parser_grammar.specs.ReadsSupported.{ReadsClass, ReadsPat, ReadsElement, ReadsStmt}
 use Rattle.swc_ecma_parser_grammar.specs.Entries.{ReadsScript, ReadsShebang, some_shebang, no_shebang, script_code, has_error_token}
 use Rattle.swc_ecma_parser_grammar.specs.Walk as walks
@@ -44,7 +44,7 @@ use Rattle.swc_ecma_parser_reader.specs.Notes.{held, ◌⊕◌, notes_of, all_no
 use Rattle.swc_ecma_parser_reader.specs.State.{State, Reader, moved, coded, flagged, within, noted, module_fault, fault_at, Outcome, labelled, labelled_as, expect, end}
 use Rattle.swc_ecma_parser_reader.specs.Expressions.{Cover, expr, cover}
 use Rattle.swc_ecma_parser_reader.specs.Patterns.{pattern, element}
-use Rattle.swc_ecma_parser_reader.specs.Reader.{empty, debugger, initialized, declarator, declarators_turn, declarators, var, closes, at_end, close, directs, items_turn, items, block_from, block, braced, note_statement, no_label, expr_stmt, expr_stmt_at, optional_end, import_stmt, import_stmt_at, thrown, throw, head, while_stmt, do_while, Link, goes_on, condition, alternative, link_from, link, links, if_stmt, begins_at, is_handled, handled, bound, parameter, finalizer, caught, handler, try_stmt, stmt_by, stmt_level, stmt, shebang_of, shebang_in, shebang_taken, shebang, script_body, script}
+use Rattle.swc_ecma_parser_reader.specs.Reader.{empty, debugger, initialized, declarator, declarators_turn, declarators, var, closes, at_end, close, directs, items_turn, items, block_from, block, braced, note_statement, no_label, expr_stmt, expr_stmt_at, optional_end, import_stmt, import_stmt_at, thrown, throw, head, while_stmt, do_while, Link, goes_on, condition, alternative, link_from, link, links, if_stmt, begins_clause, closes_clause, Clauses, clause_from, default_clause, case_clause, clause, clauses_turn, clauses, switch_stmt, begins_at, is_handled, handled, bound, parameter, finalizer, caught, handler, try_stmt, stmt_by, stmt_level, stmt, shebang_of, shebang_in, shebang_taken, shebang, script_body, script}
 use Rattle.swc_ecma_parser_reader.specs.Entry.{SoundScript}
 use Rattle.swc_ecma_parser_reader.specs.Limits.{has_out_of_memory_token}
 use Rattle.swc_ecma_parser_reader.proofs.expressions.SoundCovers.{SoundCover}
@@ -465,6 +465,97 @@ module _ (Stmt : Code → Position → Tree → Place → Place → Type 0) (Exp
   if_sound s e = meets_as (links (inner sub_statement) (inner_expr expression) (suc (length s.at.left)) s) (links_sound (suc (length s.at.left)) s e) (λ x t q.
       sound_as s t refl refl refl (λ r. if_statement_rule r) q)
 
+  -- ---- `switch`
+
+  -- from the `:` of a clause on
+  ClauseFrom : List Tree → Code → Place → Place → Type 0
+  ClauseFrom xs k c d = (kind_at c ≡ kind.Colon) × ReadsItems (λ j. Stmt j nested_item) k false xs (after c) d
+
+  SoundFrom : Span → Tree → State → Tree → State → Type 0
+  SoundFrom start test s x t = (xs : List Tree) × Sound same (λ k l. walks.walks (env_of k l) false (trees xs)) (all_notes_of (trees xs)) (ClauseFrom xs) s t
+      × (x ≡ tree.case (record { lo = start.lo; hi = t.at.last.hi }) test (listed xs))
+
+  clause_from_sound : (start : Span) (test : Tree) (s : State) → Meets (SoundFrom start test s) (clause_from (inner nested_item) start test s)
+  unfolding clause_from ClauseFrom SoundFrom
+  clause_from_sound start test s = meets_then _ (expect kind.Colon s) _ (expect_sound kind.Colon s refl) (λ _ m p.
+      meets_then _ (items (inner nested_item) closes_clause false m) _
+      (items_sound (λ j. Stmt j nested_item) (inner nested_item) (sound nested_item) closes_clause false m) (λ xs t q. (
+        xs,
+        sound_as s t (code_stays s.code xs) refl refl (λ (i, (a, b), r). (a, subst (λ v. ReadsItems (λ j. Stmt j nested_item) s.code false xs v t.at) b r)) (sound_then p q.0),
+        refl,
+      )))
+
+  -- behind clauses with a `default` or without
+  SoundCase : Bool → State → Tree → State → Type 0
+  SoundCase b s x t = SoundTree (λ k. CaseRule Stmt Expr k b) s x t
+
+  case_clause_sound : (b : Bool) (s : State) → kind_at s.at ≡ kind.Case → Meets (SoundCase b s) (case_clause (inner nested_item) (inner_expr expression) s)
+  unfolding case_clause SoundCase ClauseFrom SoundFrom spanned
+  case_clause_sound b s e = meets_then _ (within with_in (inner_expr expression) (moved s)) _ (inner_sound (moved s)) (λ y m p.
+      meets_as (clause_from (inner nested_item) (span_at s.at) y m) (clause_from_sound (span_at s.at) y m) (λ x t (xs, q, g). subst (λ v. SoundTree (λ k. CaseRule Stmt Expr k b) s v t) (sym g)
+      (sound_after s t e refl refl refl (λ (i, r, (a, z)). case_clause_rule y xs i e r a z refl) (sound_then p q))))
+
+  default_clause_sound : (b : Bool) (s : State) → kind_at s.at ≡ kind.Default → Meets (SoundCase b s) (default_clause (inner nested_item) b s)
+  unfolding default_clause SoundCase ClauseFrom SoundFrom spanned
+  default_clause_sound b s e = meets_if _ b _ _ (λ _. refuse_meets _ faults.MultipleDefault (moved s)) (λ h.
+      meets_as (clause_from (inner nested_item) (span_at s.at) tree.absent (moved s)) (clause_from_sound (span_at s.at) tree.absent (moved s)) (λ x t (xs, q, g). subst (λ v. SoundTree (λ k. CaseRule Stmt Expr k b) s v t) (sym g)
+      (sound_after s t e refl refl refl (λ (a, z). default_clause_rule xs h e a z refl) q)))
+
+  clause_sound : (b : Bool) (s : State) → begins_clause s.at ≡ true → Meets (SoundCase b s) (clause (inner nested_item) (inner_expr expression) b s)
+  unfolding clause begins_clause
+  clause_sound b s h = meets_if _ (sees kind.Case s.at) _ _ (λ e. case_clause_sound b s (saw s.at kind.Case e))
+      (λ e. default_clause_sound b s (saw s.at kind.Default (second_yes (sees kind.Case s.at) (sees kind.Default s.at) h e)))
+    where
+      second_yes : (a b : Bool) → (a || b) ≡ true → a ≡ false → b ≡ true
+      second_yes true b h e = cc
+      second_yes false b h e = h
+
+  -- clauses so far, and whether a `default` stands before the next
+  abbrev Cases : Code → Bool → List Tree → Bool → Place → Place → Type 0
+  Cases k b [] h c d = (d ≡ c) × (h ≡ b)
+  Cases k b (x ∷ xs) h c d = (m : Place) × CaseRule Stmt Expr k b x c m × Cases k (b || sees kind.Default c) xs h m d
+
+  cases_push : (k : Code) (b h : Bool) (xs : List Tree) (x : Tree) (c m d : Place) → Cases k b xs h c m → CaseRule Stmt Expr k h x m d → Cases k b (xs ++ x ∷ []) (h || sees kind.Default m) c d
+  cases_push k b h [] x c m d (e, g) r = (d, subst (λ v. CaseRule Stmt Expr k v x c d) g (subst (λ v. CaseRule Stmt Expr k h x v d) e r), (refl, rw (e, g) refl))
+  cases_push k b h (y ∷ ys) x c m d (i, a, more) r = (i, a, cases_push k (b || sees kind.Default c) h ys x i m d more r)
+
+  cases_read : (k : Code) (b h : Bool) (xs : List Tree) (c d : Place) → Cases k b xs h c d → ReadsCases Stmt Expr k b xs c d
+  cases_read k b h [] c d (e, g) = e
+  cases_read k b h (x ∷ xs) c d (m, a, more) = (m, a, cases_read k (b || sees kind.Default c) h xs m d more)
+
+  abbrev SoundClauses : State → Clauses → State → Type 0
+  SoundClauses s l t = Sound same (λ k w. walks.walks (env_of k w) false (trees l.found)) (all_notes_of (trees l.found)) (λ k. Cases k false l.found l.has_default) s t
+
+  abbrev SoundCases : State → List Tree → State → Type 0
+  SoundCases s xs t = Sound same (λ k w. walks.walks (env_of k w) false (trees xs)) (all_notes_of (trees xs)) (λ k. ReadsCases Stmt Expr k false xs) s t
+
+  clauses_turn_sound : (s : State) (l : Clauses) (t : State) → SoundClauses s l t
+      → Meets (Turned (clauses_turn (inner nested_item) (inner_expr expression)) (SoundClauses s) (SoundCases s) Refuses) (clauses_turn (inner nested_item) (inner_expr expression) l t)
+  unfolding clauses_turn SoundCase
+  clauses_turn_sound s l t p = meets_if _ (begins_clause t.at) _ _
+      (λ e. meets_then _ (clause (inner nested_item) (inner_expr expression) l.has_default t) _ (clause_sound l.has_default t e) (λ x u q.
+      let b : Sound same (λ k w. walks.walks (env_of k w) false (trees l.found)) (all_notes_of (trees l.found)) (λ k c d. Cases k false l.found l.has_default c d × (d ≡ t.at)) s t = sound_as s t refl refl refl (λ a. (a, refl)) p in
+      sound_as s u refl (walks_push (env_of s.code s.scope.labels) l.found x) (notes_push l.found x)
+      (λ (m, (a, z), r). subst (λ v. Cases s.code false (l.found ++ x ∷ []) (l.has_default || sees kind.Default v) s.at u.at) z (cases_push s.code false l.has_default l.found x s.at m u.at a r)) (sound_then b q)))
+      (λ _. sound_as s t refl refl refl (λ a. cases_read s.code false l.has_default l.found s.at t.at a) p)
+
+  clauses_sound : (s : State) → Meets (SoundCases s) (clauses (inner nested_item) (inner_expr expression) s)
+  unfolding clauses
+  clauses_sound s = loop_answers (clauses_turn (inner nested_item) (inner_expr expression)) (SoundClauses s) (SoundCases s) Refuses (clauses_turn_sound s) (λ t. tt)
+      (record { found = []; has_default = false }) s (sound_here s (refl, refl))
+
+  switch_sound : (s : State) → kind_at s.at ≡ kind.Switch → Meets (SoundStmt s) (switch_stmt (inner nested_item) (inner_expr expression) s)
+  unfolding switch_stmt
+  switch_sound s e = meets_then _ (head (inner_expr expression) (moved s)) _ (head_sound (moved s)) (λ x m p.
+      meets_then _ (expect kind.LBrace m) _ (expect_sound kind.LBrace m refl) (λ _ n q.
+      meets_then _ (within in_breakable (clauses (inner nested_item) (inner_expr expression)) n) _
+      (within_sound (λ xs k w. walks.walks (env_of k w) false (trees xs)) (λ xs. all_notes_of (trees xs)) (λ xs k. ReadsCases Stmt Expr k false xs) in_breakable (λ k. refl)
+      (clauses (inner nested_item) (inner_expr expression)) n (clauses_sound (coded (in_breakable n.code) n))) (λ xs i r.
+      meets_then _ (expect kind.RBrace i) _ (expect_sound kind.RBrace i refl) (λ _ t z.
+      sound_after s t e refl refl refl
+      (λ (c, (b, (a, f, (g, h)), j), (o, v)). switch_rule x xs a c e f g (subst (λ w. ReadsCases Stmt Expr (in_breakable s.code) false xs w c) h j) o v refl)
+      (sound_more (sound_then (sound_more p q) r) z)))))
+
   -- ---- `try`
 
   -- what a catch binds, or nothing
@@ -541,6 +632,7 @@ module _ (Stmt : Code → Position → Tree → Place → Place → Type 0) (Exp
   by_sound kind.Debugger s e = debugger_sound s e
   by_sound kind.Var s e = var_sound Expr Pat inner_expr inner_pat sound_expr sound_pat Stmt at s e
   by_sound kind.If s e = if_sound s e
+  by_sound kind.Switch s e = switch_sound s e
   by_sound kind.Throw s e = throw_sound s e
   by_sound kind.Try s e = try_sound s e
   by_sound kind.While s e = while_sound s e
@@ -694,6 +786,13 @@ pattern_code n s x t e = let p : SoundTree (ReadsPat n) s x t = meant (λ y u. S
 
 pub element_code : (n : ℕ) (s : State) (x : Tree) (t : State) → element n s ≡ Ok (x, t) → t.code ≡ s.code
 element_code n s x t e = let p : SoundTree (ReadsElement n) s x t = meant (λ y u. SoundTree (ReadsElement n) s y u) Refuses (element n s) (Ok (x, t)) e (element_sound n s) in p.code
+
+pub clauses_code : (n : ℕ) (s : State) (xs : List Tree) (t : State) → clauses (stmt n nested_item) (expr n expression) s ≡ Ok (xs, t) → t.code ≡ s.code
+clauses_code n s xs t e =
+    let noted : (k : Code) (x : Tree) (c d : Place) → begins_import_expression c ≡ true → ReadsClass n expression k x c d → statement_note x ≡ [] = λ k x c d h r. import_unnoted n k x c d r h in
+    let P : List Tree → State → Type 0 = SoundCases (ReadsStmt n) (ReadsClass n) (ReadsPat n) (stmt n) (expr n) (pattern n) (stmt_sound n) (expr_sound n) (pattern_sound n) noted nested_item s in
+    let p : P xs t = meant P Refuses (clauses (stmt n nested_item) (expr n expression) s) (Ok (xs, t)) e
+    (clauses_sound (ReadsStmt n) (ReadsClass n) (ReadsPat n) (stmt n) (expr n) (pattern n) (stmt_sound n) (expr_sound n) (pattern_sound n) noted nested_item s) in p.code
 
 pub declarators_code : (n : ℕ) (s : State) (xs : List Tree) (t : State) → declarators (expr n) (pattern n) s ≡ Ok (xs, t) → t.code ≡ s.code
 declarators_code n s xs t e =

@@ -17,7 +17,7 @@ use Rattle.swc_ecma_parser_grammar.specs.Looks.{kind_at, breaks_at, sees, span_a
 use Rattle.swc_ecma_parser_grammar.specs.Follows.{may_begin_expression_statement, begins_import_expression}
 use Rattle.swc_ecma_parser_grammar.specs.Reads.{with_in, directed, nested_item, top_item}
 use Rattle.swc_ecma_parser_grammar.specs.Entries.{script_code}
-use Rattle.swc_ecma_parser_grammar.specs.language.Contexts.{in_loop}
+use Rattle.swc_ecma_parser_grammar.specs.language.Contexts.{in_loop, in_breakable}
 use Rattle.swc_ecma_parser_grammar.specs.language.Goals.{Class, expression, assignment}
 use Rattle.swc_ecma_parser_grammar.specs.language.Items.{sub_statement}
 use Rattle.swc_ecma_parser_reader.specs.Expressions.{expr}
@@ -270,6 +270,67 @@ module _ (stmt : Reader Tree) (expr : Reader Tree) where
   unfoldable pub if_stmt : Reader Tree
   if_stmt = λ s. links (suc (length s.at.left)) s
 
+-- ---- `switch`
+
+unfoldable pub begins_clause : Place → Bool
+begins_clause c = sees kind.Case c || sees kind.Default c
+
+-- a clause's statements end before the next clause, before `}` or at the end of the list
+unfoldable pub closes_clause : Place → Bool
+closes_clause c = begins_clause c || closes c
+
+-- the clauses so far, and whether a `default` is one of them
+pub record Clauses : Type 0 where
+  pub found : List Tree
+  pub has_default : Bool
+
+module _ (stmt : Reader Tree) where
+  -- a clause from its `:` on
+  unfoldable pub clause_from : Span → Tree → Reader Tree
+  clause_from start test = do
+    expect kind.Colon
+    body ← items stmt closes_clause false
+    span ← since start
+    pure (tree.case span test (listed body))
+
+  -- a second `default` is refused behind its word
+  unfoldable pub default_clause : Bool → Reader Tree
+  default_clause has_default = do
+    start ← span_here
+    skip
+    λ s. if has_default then refuse faults.MultipleDefault s else clause_from start tree.absent s
+
+  module _ (expr : Reader Tree) where
+    unfoldable pub case_clause : Reader Tree
+    case_clause = do
+      start ← span_here
+      skip
+      test ← within with_in expr
+      clause_from start test
+
+    unfoldable pub clause : Bool → Reader Tree
+    clause has_default = λ s. if sees kind.Case s.at then case_clause s else default_clause has_default s
+
+    unfoldable pub clauses_turn : Clauses → Reader (Step Clauses (List Tree))
+    clauses_turn l = λ s. if begins_clause s.at then (do
+      x ← clause l.has_default
+      pure (More (record { found = l.found ++ x ∷ []; has_default = l.has_default || sees kind.Default s.at }))) s
+        else Ok (Done l.found, s)
+
+    unfoldable pub clauses : Reader (List Tree)
+    clauses = loop clauses_turn (record { found = []; has_default = false })
+
+    unfoldable pub switch_stmt : Reader Tree
+    switch_stmt = do
+      start ← here
+      skip
+      on ← head expr
+      expect kind.LBrace
+      found ← within in_breakable clauses
+      expect kind.RBrace
+      span ← spanned_from start
+      pure (tree.switch span on (listed found))
+
 -- ---- `try`
 
 -- the empty span before what stands at a place; at the end of the list, behind what was read last
@@ -331,6 +392,7 @@ module _ (stmt : Position → Reader Tree) (expr : Class → Reader Tree) (pat :
   stmt_by at kind.Debugger = debugger
   stmt_by at kind.Var = var expr pat
   stmt_by at kind.If = if_stmt (stmt sub_statement) (expr expression)
+  stmt_by at kind.Switch = switch_stmt (stmt nested_item) (expr expression)
   stmt_by at kind.Throw = throw (expr expression)
   stmt_by at kind.Try = try_stmt (stmt nested_item) pat
   stmt_by at kind.While = while_stmt (stmt sub_statement) (expr expression)

@@ -1,8 +1,10 @@
--- What trees the rules read: no expression and no pattern is flat, and a statement that is an `if` begins with that word.
-use Rattle.std.proofs.Common.{◌≡◌, ℕ, false, true≢false, sym, ap, ◌∙◌}
+-- What trees the rules read: each expression and pattern stands there and is not flat, and a statement that is an `if` begins with that word.
+use Rattle.std.proofs.Common.{◌≡◌, ℕ, Bool, false, true≢false, sym, ap, ◌∙◌}
+use Rattle.std.specs.Prelude.{◌||◌}
 use Rattle.swc_ecma_parser_token.specs.declared.kind.TokenKind.TheVariants as kind
 use Rattle.swc_ecma_parser_input.specs.Place.{Place}
 use Rattle.swc_ecma_parser_model.specs.Tree.{Tree}
+use Rattle.swc_ecma_parser_model.specs.Forms.{is_absent}
 use Rattle.swc_ecma_parser_model.specs.Kinds.{is_if}
 use Rattle.swc_ecma_parser_grammar.specs.declared.position.Position.{Position}
 use Rattle.swc_ecma_parser_grammar.specs.Looks.{sees, same_kind}
@@ -16,79 +18,92 @@ use Rattle.swc_ecma_parser_grammar.specs.language.Expressions as expressions
 use Rattle.swc_ecma_parser_grammar.specs.language.Expressions.{UnaryRule, BinaryRule, AssignmentRule, ExpressionRule, ExprRule}
 use Rattle.swc_ecma_parser_grammar.specs.language.Statements as statements
 use Rattle.swc_ecma_parser_grammar.specs.language.Statements.{IfRule, FormRule, StmtRule}
-use Rattle.swc_ecma_parser_grammar.proofs.language.Asked.{is_flat}
+use Rattle.swc_ecma_parser_grammar.proofs.language.Asked.{is_flat, or_left, or_right}
+
+-- neither whole nor a part of a statement
+abbrev is_part : Tree → Bool
+is_part x = is_absent x || is_flat x
 
 module _ (In : Goal → Type 0) where
   -- ---- expressions
 
-  primary_is : {k : Code} {x : Tree} {c d : Place} → PrimaryRule In k x c d → is_flat x ≡ false
-  primary_is (left.name_rule text s r h e) = ap is_flat e
-  primary_is (left.string_rule value raw s r e) = ap is_flat e
-  primary_is (left.true_rule s r e) = ap is_flat e
-  primary_is (left.false_rule s r e) = ap is_flat e
-  primary_is (left.null_rule s r e) = ap is_flat e
-  primary_is (left.number_rule raw s r e) = ap is_flat e
-  primary_is (left.big_int_rule raw s r e) = ap is_flat e
-  primary_is (left.this_rule h g e) = ap is_flat e
-  primary_is (left.array_rule xs m h r i g e) = ap is_flat e
-  primary_is (left.object_rule xs m h r i g e) = ap is_flat e
-  primary_is (left.function_rule name fn r e) = ap is_flat e
-  primary_is (left.class_rule name body r e) = ap is_flat e
-  primary_is (left.paren_rule y m h r i g e) = ap is_flat e
+  primary_is : {k : Code} {x : Tree} {c d : Place} → PrimaryRule In k x c d → is_part x ≡ false
+  primary_is (left.name_rule text s r h e) = ap is_part e
+  primary_is (left.string_rule value raw s r e) = ap is_part e
+  primary_is (left.true_rule s r e) = ap is_part e
+  primary_is (left.false_rule s r e) = ap is_part e
+  primary_is (left.null_rule s r e) = ap is_part e
+  primary_is (left.number_rule raw s r e) = ap is_part e
+  primary_is (left.big_int_rule raw s r e) = ap is_part e
+  primary_is (left.this_rule h g e) = ap is_part e
+  primary_is (left.array_rule xs m h r i g e) = ap is_part e
+  primary_is (left.object_rule xs m h r i g e) = ap is_part e
+  primary_is (left.function_rule name fn r e) = ap is_part e
+  primary_is (left.class_rule name body r e) = ap is_part e
+  primary_is (left.paren_rule y m h r i g e) = ap is_part e
 
-  left_is : {k : Code} {x : Tree} {c d : Place} → LeftSideRule In k x c d → is_flat x ≡ false
+  left_is : {k : Code} {x : Tree} {c d : Place} → LeftSideRule In k x c d → is_part x ≡ false
   left_is (left.primary_rule r) = primary_is r
-  left_is (left.import_meta_rule h i j g o e) = ap is_flat e
-  left_is (left.member_rule obj property m r s e) = ap is_flat e
-  left_is (left.super_property_rule property h r i e) = ap is_flat e
-  left_is (left.call_rule called args m r s e) = ap is_flat e
-  left_is (left.super_call_rule args h r e) = ap is_flat e
-  left_is (left.import_call_rule args h r e) = ap is_flat e
-  left_is (left.new_rule called args m h r s e) = ap is_flat e
-  left_is (left.bare_new_rule called h r e) = ap is_flat e
+  left_is (left.import_meta_rule h i j g o e) = ap is_part e
+  left_is (left.member_rule obj property m r s e) = ap is_part e
+  left_is (left.super_property_rule property h r i e) = ap is_part e
+  left_is (left.call_rule called args m r s e) = ap is_part e
+  left_is (left.super_call_rule args h r e) = ap is_part e
+  left_is (left.import_call_rule args h r e) = ap is_part e
+  left_is (left.new_rule called args m h r s e) = ap is_part e
+  left_is (left.bare_new_rule called h r e) = ap is_part e
 
-  unary_is : {k : Code} {x : Tree} {c d : Place} → UnaryRule In k x c d → is_flat x ≡ false
+  unary_is : {k : Code} {x : Tree} {c d : Place} → UnaryRule In k x c d → is_part x ≡ false
   unary_is (expressions.operand_rule r) = left_is r.0
-  unary_is (expressions.unary_rule op y h r e) = ap is_flat e
-  unary_is (expressions.prefix_rule op y h r i e) = ap is_flat e
-  unary_is (expressions.postfix_rule op y m r h i j g e) = ap is_flat e
-  unary_is (expressions.await_rule y h i r e) = ap is_flat e
+  unary_is (expressions.unary_rule op y h r e) = ap is_part e
+  unary_is (expressions.prefix_rule op y h r i e) = ap is_part e
+  unary_is (expressions.postfix_rule op y m r h i j g e) = ap is_part e
+  unary_is (expressions.await_rule y h i r e) = ap is_part e
 
-  binary_is : {k : Code} {n : ℕ} {x : Tree} {c d : Place} → BinaryRule In k n x c d → is_flat x ≡ false
+  binary_is : {k : Code} {n : ℕ} {x : Tree} {c d : Place} → BinaryRule In k n x c d → is_part x ≡ false
   binary_is (expressions.single_rule r) = unary_is r
-  binary_is (expressions.left_rule op left right m h i j r o s a b e) = ap is_flat e
-  binary_is (expressions.power_rule left right m h r i j s e) = ap is_flat e
+  binary_is (expressions.left_rule op left right m h i j r o s a b e) = ap is_part e
+  binary_is (expressions.power_rule left right m h r i j s e) = ap is_part e
 
-  assignment_is : {k : Code} {x : Tree} {c d : Place} → AssignmentRule In k x c d → is_flat x ≡ false
+  assignment_is : {k : Code} {x : Tree} {c d : Place} → AssignmentRule In k x c d → is_part x ≡ false
   assignment_is (expressions.operators_rule r h) = binary_is r
-  assignment_is (expressions.conditional_rule test yes_case no_case i j r h s g t o e) = ap is_flat e
-  assignment_is (expressions.assign_rule op left right m r h i s e) = ap is_flat e
-  assignment_is (expressions.destructuring_rule left right m r h i s e) = ap is_flat e
-  assignment_is (expressions.arrow_rule is_async ps body i j a r h g s e) = ap is_flat e
-  assignment_is (expressions.bare_yield_rule h i g j e) = ap is_flat e
-  assignment_is (expressions.yield_rule y h i g j r e) = ap is_flat e
-  assignment_is (expressions.delegate_rule y h i g j r e) = ap is_flat e
+  assignment_is (expressions.conditional_rule test yes_case no_case i j r h s g t o e) = ap is_part e
+  assignment_is (expressions.assign_rule op left right m r h i s e) = ap is_part e
+  assignment_is (expressions.destructuring_rule left right m r h i s e) = ap is_part e
+  assignment_is (expressions.arrow_rule is_async ps body i j a r h g s e) = ap is_part e
+  assignment_is (expressions.bare_yield_rule h i g j e) = ap is_part e
+  assignment_is (expressions.yield_rule y h i g j r e) = ap is_part e
+  assignment_is (expressions.delegate_rule y h i g j r e) = ap is_part e
 
-  expression_is : {k : Code} {x : Tree} {c d : Place} → ExpressionRule In k x c d → is_flat x ≡ false
+  expression_is : {k : Code} {x : Tree} {c d : Place} → ExpressionRule In k x c d → is_part x ≡ false
   expression_is (expressions.assignment_rule r h) = assignment_is r
-  expression_is (expressions.sequence_rule a b es r e) = ap is_flat e
+  expression_is (expressions.sequence_rule a b es r e) = ap is_part e
+
+  expr_is_whole : (class : Class) (k : Code) (x : Tree) (c d : Place) → ExprRule In class k x c d → is_part x ≡ false
+  expr_is_whole expression k x c d r = expression_is r
+  expr_is_whole assignment k x c d r = assignment_is r
+  expr_is_whole (operator n) k x c d r = binary_is r.0
+  expr_is_whole unary k x c d r = unary_is r.0
+  expr_is_whole left_side k x c d r = left_is r.0
+  expr_is_whole callee k x c d r = left_is r.0.0
 
   pub expr_is : (class : Class) (k : Code) (x : Tree) (c d : Place) → ExprRule In class k x c d → is_flat x ≡ false
-  expr_is expression k x c d r = expression_is r
-  expr_is assignment k x c d r = assignment_is r
-  expr_is (operator n) k x c d r = binary_is r.0
-  expr_is unary k x c d r = unary_is r.0
-  expr_is left_side k x c d r = left_is r.0
-  expr_is callee k x c d r = left_is r.0.0
+  expr_is class k x c d r = or_right (is_absent x) (is_flat x) (expr_is_whole class k x c d r)
+
+  pub expr_stands : (class : Class) (k : Code) (x : Tree) (c d : Place) → ExprRule In class k x c d → is_absent x ≡ false
+  expr_stands class k x c d r = or_left (is_absent x) (is_flat x) (expr_is_whole class k x c d r)
 
   -- ---- patterns
 
+  pattern_is_whole : {p : Purpose} {k : Code} {x : Tree} {c d : Place} → PatternRule In p k x c d → is_part x ≡ false
+  pattern_is_whole (patterns.binding_name_rule text s h r e) = ap is_part e
+  pattern_is_whole (patterns.target_name_rule text s h i r e) = ap is_part e
+  pattern_is_whole (patterns.target_rule y h r i j e) = ap is_part e
+  pattern_is_whole (patterns.array_rule xs m h r i g e) = ap is_part e
+  pattern_is_whole (patterns.object_rule xs m h r i g e) = ap is_part e
+
   pub pattern_is : {p : Purpose} {k : Code} {x : Tree} {c d : Place} → PatternRule In p k x c d → is_flat x ≡ false
-  pattern_is (patterns.binding_name_rule text s h r e) = ap is_flat e
-  pattern_is (patterns.target_name_rule text s h i r e) = ap is_flat e
-  pattern_is (patterns.target_rule y h r i j e) = ap is_flat e
-  pattern_is (patterns.array_rule xs m h r i g e) = ap is_flat e
-  pattern_is (patterns.object_rule xs m h r i g e) = ap is_flat e
+  pattern_is {x = x} r = or_right (is_absent x) (is_flat x) (pattern_is_whole r)
 
   -- ---- statements
 
