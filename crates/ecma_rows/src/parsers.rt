@@ -203,12 +203,8 @@ fn a_text_can_start_anywhere(rt: HostRuntime) -> Result<(), Fail> {
     Ok(())
 }
 
-/// What a text parses to where attributes of imports are read.
-fn attributed(alloc: Global, input: StringInput<'_>) -> Result<Shown, AllocError> {
-    let settings = EsSyntax {
-        import_attributes: true,
-        ..EsSyntax::default()
-    };
+/// What a text parses to by these settings.
+fn set(alloc: Global, input: StringInput<'_>, settings: EsSyntax) -> Result<Shown, AllocError> {
     show(
         alloc,
         &mut Parser::new(alloc, Syntax::Es(settings), input, false),
@@ -217,8 +213,23 @@ fn attributed(alloc: Global, input: StringInput<'_>) -> Result<Shown, AllocError
 
 #[test]
 fn a_comma_may_end_the_arguments_of_import(rt: HostRuntime) -> Result<(), Fail> {
-    let found = attributed(rt.alloc(), input("import(a, b,)")?)?;
+    let settings = EsSyntax {
+        import_attributes: true,
+        ..EsSyntax::default()
+    };
+    let found = set(rt.alloc(), input("import(a, b,)")?, settings)?;
     assert_eq!(rt; found.lines.as_str(), "Script 0..13\n  Expr 0..13\n");
+    Ok(())
+}
+
+#[test]
+fn return_may_stand_outside_of_functions(rt: HostRuntime) -> Result<(), Fail> {
+    let settings = EsSyntax {
+        allow_return_outside_function: true,
+        ..EsSyntax::default()
+    };
+    let found = set(rt.alloc(), input("return a")?, settings)?;
+    assert_eq!(rt; found.lines.as_str(), "Script 0..8\n  Return 0..8\n");
     Ok(())
 }
 

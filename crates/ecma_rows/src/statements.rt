@@ -99,6 +99,50 @@ fn switches(rt: HostRuntime) -> Result<(), Fail> {
     Ok(())
 }
 
+const JUMPS: &str = "while (a) break; → Script 0..16, While 0..16 → BreakStmt 10..16, label: None
+while (a) { break; continue } → Script 0..29, While 0..29 → BreakStmt 12..18, ContinueStmt 19..27
+do break; while (b) → Script 0..19, DoWhile 0..19 → BreakStmt 3..9
+while (a) { if (b) break; else continue } → Script 0..41, While 0..41 → IfStmt 12..39, BreakStmt 19..25, ContinueStmt 31..39
+switch (a) { case 1: break; default: continue; } → Script 0..48, Switch 0..48, fault 37..46 TS1115 → BreakStmt 21..27, ContinueStmt 37..46
+break; → Script 0..6, Break 0..6, fault 0..6 TS1105 → BreakStmt 0..6, label: None
+break → Script 0..5, Break 0..5, fault 0..5 TS1105
+break a; → Script 0..8, Break 0..8, fault 0..8 TS1116 → BreakStmt 0..8, Ident 6..7 a
+break¶a → Script 0..7, Break 0..5, Expr 6..7, fault 0..5 TS1105
+while (a) break b → Script 0..17, While 0..17, fault 10..17 TS1116
+continue → Script 0..8, Continue 0..8, fault 0..8 TS1115 → ContinueStmt 0..8, label: None
+continue a;b → Script 0..12, Continue 0..11, Expr 11..12, fault 0..11 TS1115
+while (a) continue b → Script 0..20, While 0..20, fault 10..20 TS1107 → ContinueStmt 10..20, Ident 19..20 b
+switch (a) { case b: continue c } → Script 0..33, Switch 0..33, fault 21..31 TS1115
+break; \\ → Script 0..8, Break 0..6, fault 7..8 UnexpectedChar, fault 0..6 TS1105
+break \\ → refused 6..7 UnexpectedChar
+break a b → refused 8..9 Expected
+break 1 → refused 6..7 ExpectedIdent
+break if → refused 6..8 ExpectedIdent
+while (a) break b c → refused 18..19 Expected";
+
+#[test]
+fn jumps(rt: HostRuntime) -> Result<(), Fail> {
+    assert_eq!(rt; report(rt.alloc(), JUMPS, 1000)?.as_str(), "20 rows");
+    Ok(())
+}
+
+const RETURNS: &str =
+    "return → Script 0..6, Return 0..6, fault 0..6 ReturnNotAllowed → ReturnStmt 0..6, arg: None
+return a;b → Script 0..10, Return 0..9, Expr 9..10, fault 0..9 ReturnNotAllowed → ReturnStmt 0..9, Ident 7..8 a
+return a, b in c → Script 0..16, Return 0..16, fault 0..16 ReturnNotAllowed → SeqExpr 7..16, BinExpr 10..16
+return¶a → Script 0..8, Return 0..6, Expr 7..8, fault 0..6 ReturnNotAllowed
+{ return } → Script 0..10, Block 0..10, fault 2..8 ReturnNotAllowed → ReturnStmt 2..8
+if (a) return; else return b → Script 0..28, If 0..28, fault 7..14 ReturnNotAllowed, fault 20..28 ReturnNotAllowed
+return a b → fault 0..8 ReturnNotAllowed, refused 9..10 Expected
+return ) → fault 0..6 ReturnNotAllowed, refused 7..8 Unexpected
+return \\ → fault 0..8 ReturnNotAllowed, refused 7..8 UnexpectedChar";
+
+#[test]
+fn returns(rt: HostRuntime) -> Result<(), Fail> {
+    assert_eq!(rt; report(rt.alloc(), RETURNS, 1000)?.as_str(), "9 rows");
+    Ok(())
+}
+
 const TRIES: &str =
     "try {} catch {} → Script 0..15, Try 0..15 → TryStmt 0..15, BlockStmt 4..6, CatchClause 7..15, BlockStmt 13..15, param: None, finalizer: None
 try {} finally {} → Script 0..17, Try 0..17 → TryStmt 0..17, BlockStmt 15..17, handler: None
@@ -140,6 +184,13 @@ fn limits(rt: HostRuntime) -> Result<(), Fail> {
         ("while (a) while (b) c → Script 0..21, While 0..21", 4),
         ("do a; while (b) → refused 3..4 TooDeep", 2),
         ("do a; while (b) → Script 0..15, DoWhile 0..15", 3),
+        ("break → refused 0..5 TooDeep", 0),
+        ("break a → Script 0..7, Break 0..7, fault 0..7 TS1116", 1),
+        ("return a → refused 7..8 TooDeep", 1),
+        (
+            "return a → Script 0..8, Return 0..8, fault 0..8 ReturnNotAllowed",
+            2,
+        ),
         ("switch (a) {} → refused 8..9 TooDeep", 1),
         ("switch (a) {} → Script 0..13, Switch 0..13", 2),
         ("switch (a) { case b: c } → refused 21..22 TooDeep", 2),

@@ -1,4 +1,4 @@
-//! `throw` and the loops whose head is one expression: ECMA-262, sections 14.14, 14.7.2 and 14.7.3.
+//! The loops whose head is one expression: ECMA-262, sections 14.7.2 and 14.7.3.
 
 ghost use Rattle.std.specs.Prelude.{◌≡◌, true};
 ghost use Rattle.swc_ecma_parser_grammar.specs.language.Contexts as contexts;
@@ -9,46 +9,23 @@ ghost use Rattle.swc_ecma_parser_reader.specs.Expressions as exprs;
 ghost use Rattle.swc_ecma_parser_reader.specs.Reader as rules;
 ghost use Rattle.swc_ecma_parser_reader.specs.State.{GivesAs, within};
 
-use crate::stmt::optional_end;
-use swc_ecma_parser_error::{PResult, SyntaxError};
+use swc_ecma_parser_error::PResult;
 use swc_ecma_parser_grammar::{Class, Position};
 use swc_ecma_parser_input::Context;
 use swc_ecma_parser_left::access::inside;
 use swc_ecma_parser_left::cover::{Cover, Reading};
 use swc_ecma_parser_left::grammar::{Grammar, Part};
 use swc_ecma_parser_left::steps::{grown, since};
-use swc_ecma_parser_state::{Source, Wanted};
+use swc_ecma_parser_state::Source;
+use swc_ecma_parser_statements::simple::optional_end;
 use swc_ecma_parser_token::TokenKind;
-use swc_ecma_parser_trees::{BuildsCall, BuildsControl, BuildsLoop, MakerOf, Trees};
+use swc_ecma_parser_trees::{BuildsCall, BuildsLoop, MakerOf, Trees};
 
 /// A statement that is a part of another, and no declaration.
 pub(crate) const SUB_STATEMENT: Position = Position {
     include_decl: false,
     top_level: false,
 };
-
-/// `throw` and what is thrown, which begins on the same line.
-#[tactic(auto, unfolding(swc_ecma_parser_reader::specs::Reader::throw, swc_ecma_parser_reader::specs::Reader::thrown, swc_ecma_parser_reader::specs::Expressions::inside, swc_ecma_parser_grammar::specs::Looks::spanned))]
-pub(crate) fn throw<
-    P: Source,
-    T: BuildsCall + BuildsControl,
-    S: Fn(&MakerOf<T>, &mut P, usize, Position) -> PResult<T::Stmt>,
-    E: Fn(&MakerOf<T>, &mut P, usize, Reading) -> PResult<Cover<T::Expr>>,
-    N: Fn(&MakerOf<T>, &mut P, usize, Part) -> PResult<T::Pat>,
->(g: &Grammar<S, E, N>, t: &MakerOf<T>, p: &mut P) -> PResult<T::Stmt>
-    requires { Nests P.seen T.expr_of T.pat_of T.stmt_of g.now.depth (S.pre g.now.stmt) (S.post g.now.stmt) (E.pre g.now.expr) (E.post g.now.expr) (N.pre g.now.pat) (N.post g.now.pat) }
-    ensures { GivesAs T.stmt_of (rules.throw (exprs.expr g.now.depth expression) (P.seen p.old)) result (P.seen p.new) }
-{
-    let start = p.span();
-    p.skip()?;
-    if p.had_line_break() || p.sees(TokenKind::End) {
-        return Err(p.refuse_as(SyntaxError::LineBreakInThrow));
-    }
-    let arg = inside(g, t, p, Class::Expression)?;
-    p.end(Wanted::Token(";"))?;
-    let span = since(p, start);
-    grown(p, T::throw(t.alloc, span, arg))
-}
 
 /// `( Expression )` behind the word of a statement.
 #[tactic(auto, unfolding(swc_ecma_parser_reader::specs::Reader::head, swc_ecma_parser_reader::specs::Expressions::inside))]

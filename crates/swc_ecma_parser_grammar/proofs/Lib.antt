@@ -1,4 +1,5 @@
 pub mod Tests
+pub mod Naming
 pub mod SupportedBegins
 pub mod Widens
 pub mod Narrows

@@ -17,7 +17,7 @@ use Rattle.swc_ecma_parser_grammar.specs.declared.position.Position.{Position}
 use Rattle.swc_ecma_parser_grammar.specs.Looks.{kind_at, sees, same_kind, spanned}
 use Rattle.swc_ecma_parser_grammar.specs.Names.{Code}
 use Rattle.swc_ecma_parser_grammar.specs.Ends.{Ends}
-use Rattle.swc_ecma_parser_grammar.specs.Reads.{with_in, in_strict, directed, directs_on, nested_item, top_item, DeclaratorRule, plain_rule, initialized_rule, ReadsSeparated, ReadsItems, StmtRule, block_rule, empty_rule, debugger_rule, var_rule, if_statement_rule, CaseRule, case_clause_rule, default_clause_rule, ReadsCases, switch_rule, throw_rule, try_rule, while_rule, do_while_rule, expr_rule, import_rule, ReadsBlock, CatchRule, no_catch_rule, catch_rule, catch_parameter_rule, FinallyRule, no_finally_rule, finally_rule, ReadsHead, IfRule, if_rule, ElseRule, no_else_rule, else_rule, else_if_rule}
+use Rattle.swc_ecma_parser_grammar.specs.Reads.{with_in, in_strict, directed, directs_on, nested_item, top_item, DeclaratorRule, plain_rule, initialized_rule, ReadsSeparated, ReadsItems, StmtRule, block_rule, empty_rule, debugger_rule, var_rule, if_statement_rule, TargetRule, no_target_rule, target_rule, OperandRule, no_operand_rule, operand_rule, break_rule, continue_rule, return_rule, case_clause_rule, default_clause_rule, ReadsCases, switch_rule, throw_rule, try_rule, while_rule, do_while_rule, expr_rule, import_rule, ReadsBlock, CatchRule, no_catch_rule, catch_rule, catch_parameter_rule, FinallyRule, no_finally_rule, finally_rule, ReadsHead, IfRule, if_rule, ElseRule, no_else_rule, else_rule, else_if_rule}
 use Rattle.swc_ecma_parser_grammar.specs.Entries.{ReadsScript, ReadsShebang, some_shebang, no_shebang, script_code}
 use Rattle.swc_ecma_parser_grammar.specs.Supported.{supported, all_supported}
 use Rattle.swc_ecma_parser_grammar.specs.ReadsSupported.{ReadsClass, ReadsPat, ReadsStmt}
@@ -34,6 +34,7 @@ use Rattle.swc_ecma_parser_grammar.specs.language.Programs as programs
 use Rattle.swc_ecma_parser_grammar.specs.language.Programs.{ReadsEntry}
 use Rattle.swc_ecma_parser_grammar.proofs.Tests.{and_yes, no_and}
 use Rattle.swc_ecma_parser_grammar.proofs.SupportedBegins.{refuted, supported_as}
+use Rattle.swc_ecma_parser_grammar.proofs.Naming.{name_is_name}
 use Rattle.swc_ecma_parser_grammar.proofs.Widens.{stands_there}
 use Rattle.swc_ecma_parser_grammar.proofs.language.Asked.{or_left, or_right}
 
@@ -60,6 +61,15 @@ module _ (Rule Other : Tree → Place → Place → Type 0) (narrow : (x : Tree)
 saw : (c : Place) (j : TokenKind) → sees j c ≡ true → kind_at c ≡ j
 unfolding same_kind
 saw c j e = same_true the_type (search rules) (kind_at c) j e
+
+target_narrows : {k : Code} {x : Tree} {c d : Place} → statements.TargetRule k x c d → supported x ≡ true → TargetRule k x c d
+target_narrows (statements.no_target_rule i g e) h = no_target_rule i g e
+target_narrows {k = k} {x = x} {c = c} {d = d} (statements.target_rule text s i r e) h =
+    target_rule r.word s i r.reads_word (name_is_name k text s c d r (supported_as x (tree.ident s text) e h)) (e ∙ ap (tree.ident s) r.is_text)
+
+operand_narrows : (n : ℕ) {k : Code} {x : Tree} {c d : Place} → statements.OperandRule (Reads n) k x c d → supported x ≡ true → OperandRule (ReadsClass n) k x c d
+operand_narrows n (statements.no_operand_rule i g e) h = no_operand_rule i g e
+operand_narrows n (statements.operand_rule i r) h = operand_rule i (r, h)
 
 -- what a directive leaves is as much of a module as before
 strict_module : (b : Bool) (k : Code) → (cond b (in_strict k) k).flags.module ≡ k.flags.module
@@ -168,10 +178,10 @@ module _ (n : ℕ) (narrow : (k : Code) (at : Position) (x : Tree) (c d : Place)
   form_narrows k at x c d o (statements.empty_rule i n e) h = empty_rule i n e
   form_narrows k at x c d o (statements.debugger_rule i g e) h = debugger_rule i g e
   form_narrows k at x c d o (statements.with_rule y z m i r s e) h = refuted x (ap supported e) h
-  form_narrows k at x c d o (statements.return_rule y m i r g e) h = refuted x (ap supported e) h
+  form_narrows k at x c d o (statements.return_rule y m i r g e) h = return_rule y m i (operand_narrows n r (supported_as x (tree.return (spanned c d) y) e h)) g e
   form_narrows k at x c d o (statements.labeled_rule text s y m r i t e) h = refuted x (ap supported e) h
-  form_narrows k at x c d o (statements.break_rule y m i r g e) h = refuted x (ap supported e) h
-  form_narrows k at x c d o (statements.continue_rule y m i r g e) h = refuted x (ap supported e) h
+  form_narrows k at x c d o (statements.break_rule y m i r g e) h = break_rule y m i (target_narrows r (supported_as x (tree.break (spanned c d) y) e h)) g e
+  form_narrows k at x c d o (statements.continue_rule y m i r g e) h = continue_rule y m i (target_narrows r (supported_as x (tree.continue (spanned c d) y) e h)) g e
   form_narrows k at x c d o (statements.if_statement_rule r) h = if_statement_rule (if_narrows o r h)
   form_narrows k at x c d o (statements.switch_rule y xs m l i r j s a b t e) h =
       let g = and_yes (supported y) _ (supported_as x (tree.switch (spanned c d) y (listed xs)) e h) in

@@ -13,7 +13,7 @@ use Rattle.swc_ecma_parser_model.specs.Forms.{is_absent}
 use Rattle.swc_ecma_parser_grammar.specs.declared.position.Position.{Position}
 use Rattle.swc_ecma_parser_grammar.specs.Looks.{kind_at, sees, same_kind}
 use Rattle.swc_ecma_parser_grammar.specs.Names.{Code}
-use Rattle.swc_ecma_parser_grammar.specs.Reads.{with_in, directed, directs_on, nested_item, top_item, DeclaratorRule, plain_rule, initialized_rule, ReadsSeparated, ReadsItems, StmtRule, block_rule, empty_rule, debugger_rule, var_rule, if_statement_rule, CaseRule, case_clause_rule, default_clause_rule, ReadsCases, switch_rule, throw_rule, try_rule, while_rule, do_while_rule, expr_rule, import_rule, ReadsBlock, CatchRule, no_catch_rule, catch_rule, catch_parameter_rule, FinallyRule, no_finally_rule, finally_rule, ReadsHead, IfRule, if_rule, ElseRule, no_else_rule, else_rule, else_if_rule}
+use Rattle.swc_ecma_parser_grammar.specs.Reads.{with_in, directed, directs_on, nested_item, top_item, DeclaratorRule, plain_rule, initialized_rule, ReadsSeparated, ReadsItems, StmtRule, block_rule, empty_rule, debugger_rule, var_rule, if_statement_rule, TargetRule, no_target_rule, target_rule, OperandRule, no_operand_rule, operand_rule, break_rule, continue_rule, return_rule, CaseRule, case_clause_rule, default_clause_rule, ReadsCases, switch_rule, throw_rule, try_rule, while_rule, do_while_rule, expr_rule, import_rule, ReadsBlock, CatchRule, no_catch_rule, catch_rule, catch_parameter_rule, FinallyRule, no_finally_rule, finally_rule, ReadsHead, IfRule, if_rule, ElseRule, no_else_rule, else_rule, else_if_rule}
 use Rattle.swc_ecma_parser_grammar.specs.Entries.{ReadsScript, ReadsShebang, some_shebang, no_shebang, script_code}
 use Rattle.swc_ecma_parser_grammar.specs.Supported.{supported, all_supported}
 use Rattle.swc_ecma_parser_grammar.specs.ReadsSupported.{ReadsClass, ReadsPat, ReadsStmt}
@@ -27,7 +27,9 @@ use Rattle.swc_ecma_parser_grammar.specs.language.Statements.{is_default, at_mos
 use Rattle.swc_ecma_parser_grammar.specs.language.Reads.{Reads}
 use Rattle.swc_ecma_parser_grammar.specs.language.Programs as programs
 use Rattle.swc_ecma_parser_grammar.specs.language.Programs.{ReadsEntry}
+use Rattle.swc_ecma_parser_token.specs.Text.{word_text}
 use Rattle.swc_ecma_parser_grammar.proofs.Tests.{and_both}
+use Rattle.swc_ecma_parser_grammar.proofs.Naming.{name_is_clean, name_is_supported}
 use Rattle.swc_ecma_parser_grammar.proofs.SupportedBegins.{expr_begins}
 use Rattle.swc_ecma_parser_grammar.proofs.language.Shapes.{expr_stands}
 
@@ -71,6 +73,23 @@ seen : (c : Place) (j : TokenKind) → kind_at c ≡ j → sees j c ≡ true
 unfolding same_kind
 seen c j e = true_same the_type (kind_at c) j e
 
+target_supported : {k : Code} {x : Tree} {c d : Place} → TargetRule k x c d → supported x ≡ true
+target_supported (no_target_rule h g e) = ap supported e
+target_supported {k = k} (target_rule w s h r f e) = ap supported e ∙ name_is_supported k.flags (word_text w) f
+
+operand_supported : (n : ℕ) {k : Code} {x : Tree} {c d : Place} → OperandRule (ReadsClass n) k x c d → supported x ≡ true
+operand_supported n (no_operand_rule h g e) = ap supported e
+operand_supported n (operand_rule h r) = r.1
+
+target_widens : {k : Code} {x : Tree} {c d : Place} → TargetRule k x c d → statements.TargetRule k x c d
+target_widens (no_target_rule h g e) = statements.no_target_rule h g e
+target_widens {k = k} (target_rule w s h r f e) =
+    statements.target_rule (word_text w) s h (record { word = w; reads_word = r; is_text = refl; is_name = name_is_clean k.flags (word_text w) f }) e
+
+operand_widens : (n : ℕ) {k : Code} {x : Tree} {c d : Place} → OperandRule (ReadsClass n) k x c d → statements.OperandRule (Reads n) k x c d
+operand_widens n (no_operand_rule h g e) = statements.no_operand_rule h g e
+operand_widens n (operand_rule h r) = statements.operand_rule h r.0
+
 module _ (n : ℕ) (small : (k : Code) (at : Position) (x : Tree) (c d : Place) → ReadsStmt n k at x c d → supported x ≡ true) where
   items_supported : (k : Code) (directives : Bool) (at : Position) (xs : List Tree) (c d : Place) → ReadsItems (λ j. ReadsStmt n j at) k directives xs c d → all_supported (trees xs) ≡ true
   items_supported k directives at [] c d h = refl
@@ -113,6 +132,9 @@ module _ (n : ℕ) (small : (k : Code) (at : Position) (x : Tree) (c d : Place) 
       ap supported e ∙ separated_supported (DeclaratorRule (ReadsClass n assignment) (ReadsPat n) (with_in k)) (declarator_supported n (with_in k)) xs (after c) m r
   rule_supported k at x c d (if_statement_rule r) = if_supported r
   rule_supported k at x c d (switch_rule y xs m i h r j s g t e) = ap supported e ∙ and_both (supported y) _ r.reads.1 (cases_supported (in_breakable k) false xs (after m) i s)
+  rule_supported k at x c d (break_rule y m h r g e) = ap supported e ∙ target_supported r
+  rule_supported k at x c d (continue_rule y m h r g e) = ap supported e ∙ target_supported r
+  rule_supported k at x c d (return_rule y m h r g e) = ap supported e ∙ operand_supported n r
   rule_supported k at x c d (throw_rule y m h b r g e) = ap supported e ∙ r.1
   rule_supported k at x c d (try_rule y z w m i h r s t a e) = ap supported e ∙ and_both (supported y) _ (block_supported r) (and_both (supported z) _ (catch_supported s) (finally_supported t))
   rule_supported k at x c d (while_rule y z m h r s e) = ap supported e ∙ and_both (supported y) _ r.reads.1 (small (in_loop k) sub_statement z m d s)
@@ -197,6 +219,9 @@ module _ (n : ℕ) (widen : (k : Code) (at : Position) (x : Tree) (c d : Place) 
   form_widens k at x c d (if_statement_rule r) = statements.if_statement_rule (if_widens r)
   form_widens k at x c d (switch_rule y xs m i h r j s g t e) =
       statements.switch_rule y xs m i h (head_widens r) j (cases_widen (in_breakable k) false xs (after m) i s) (one_at_most (in_breakable k) xs (after m) i s) g t e
+  form_widens k at x c d (break_rule y m h r g e) = statements.break_rule y m h (target_widens r) g e
+  form_widens k at x c d (continue_rule y m h r g e) = statements.continue_rule y m h (target_widens r) g e
+  form_widens k at x c d (return_rule y m h r g e) = statements.return_rule y m h (operand_widens n r) g e
   form_widens k at x c d (throw_rule y m h b r g e) = statements.throw_rule y m h b r.0 g e
   form_widens k at x c d (try_rule y z w m i h r s t a e) = statements.try_rule y z w m i h (block_widens r) (catch_widens s) (finally_widens t) a e
   form_widens k at x c d (while_rule y z m h r s e) = statements.while_rule y z m h (head_widens r) (widen (in_loop k) sub_statement z m d s) e
@@ -212,6 +237,9 @@ rule_begins n k at x c d (debugger_rule h g e) = rw h refl
 rule_begins n k at x c d (var_rule xs m h r g e) = rw h refl
 rule_begins n k at x c d (if_statement_rule (if_rule test cons alt m i h r s o e)) = rw h refl
 rule_begins n k at x c d (switch_rule y xs m i h r j s g t e) = rw h refl
+rule_begins n k at x c d (break_rule y m h r g e) = rw h refl
+rule_begins n k at x c d (continue_rule y m h r g e) = rw h refl
+rule_begins n k at x c d (return_rule y m h r g e) = rw h refl
 rule_begins n k at x c d (throw_rule y m h b r g e) = rw h refl
 rule_begins n k at x c d (try_rule y z w m i h r s t a e) = rw h refl
 rule_begins n k at x c d (while_rule y z m h r s e) = rw h refl

@@ -3,7 +3,10 @@ use Rattle.std.specs.Prelude.{◌≡◌, Bool, true, false, ◌&&◌, ◌||◌, 
 use Rattle.swc_ecma_parser_common.specs.declared.span.Span.{Span}
 use Rattle.swc_ecma_parser_token.specs.declared.kind.TokenKind.TheVariants as kind
 use Rattle.swc_ecma_parser_token.specs.declared.token.Token.{Token}
+use Rattle.swc_ecma_parser_token.specs.declared.token.Token.TheVariants as token
 use Rattle.swc_ecma_parser_token.specs.declared.token.TokenAndSpan.{TokenAndSpan}
+use Rattle.swc_ecma_parser_token.specs.declared.token.Word.{Word}
+use Rattle.swc_ecma_parser_token.specs.Text.{word_text}
 use Rattle.swc_ecma_parser_input.specs.Place.{Place, after}
 use Rattle.swc_ecma_parser_model.specs.declared.leaves.VarDeclKind.TheVariants as decl
 use Rattle.swc_ecma_parser_model.specs.Tree as tree
@@ -12,8 +15,8 @@ use Rattle.swc_ecma_parser_model.specs.Directive.{is_use_strict}
 use Rattle.swc_ecma_parser_model.specs.Forms.{is_absent, is_ident, is_ident_named, is_binding_name}
 use Rattle.swc_ecma_parser_grammar.specs.declared.position.Position.{Position}
 use Rattle.swc_ecma_parser_grammar.specs.Looks.{kind_at, breaks_at, sees, spanned}
-use Rattle.swc_ecma_parser_grammar.specs.Names.{Code}
-use Rattle.swc_ecma_parser_grammar.specs.Ends.{Ends, OptionalEnds}
+use Rattle.swc_ecma_parser_grammar.specs.Names.{Code, is_name}
+use Rattle.swc_ecma_parser_grammar.specs.Ends.{Ends, OptionalEnds, ends_at}
 use Rattle.swc_ecma_parser_grammar.specs.Follows.{may_begin_expression_statement, begins_import_expression}
 use Rattle.swc_ecma_parser_grammar.specs.language.Goals.{Class, expression, assignment}
 use Rattle.swc_ecma_parser_grammar.specs.language.Contexts.{in_loop, in_breakable}
@@ -99,6 +102,17 @@ mutual
     else_rule : {x : Tree} {c d : Place} → kind_at c ≡ kind.Else → sees kind.If (after c) ≡ false → Stmt k sub_statement x (after c) d → ElseRule Stmt Expr k x c d
     else_if_rule : {x : Tree} {c d : Place} → kind_at c ≡ kind.Else → IfRule Stmt Expr k x (after c) d → ElseRule Stmt Expr k x c d
 
+-- the label of `break` and `continue`: none where the statement can end
+pub data TargetRule (k : Code) (x : Tree) (c d : Place) : Type 0 where
+  no_target_rule : ends_at c ≡ true → d ≡ c → x ≡ tree.absent → TargetRule k x c d
+  target_rule : (w : Word) (s : Span) → ends_at c ≡ false → ReadsToken (token.Word w) s c d → is_name k.flags (word_text w) ≡ true → x ≡ tree.ident s (word_text w)
+      → TargetRule k x c d
+
+-- what `return` answers: nothing where the statement can end
+pub data OperandRule (Expr : Class → Code → Tree → Place → Place → Type 0) (k : Code) (x : Tree) (c d : Place) : Type 0 where
+  no_operand_rule : ends_at c ≡ true → d ≡ c → x ≡ tree.absent → OperandRule Expr k x c d
+  operand_rule : ends_at c ≡ false → Expr expression (with_in k) x c d → OperandRule Expr k x c d
+
 -- CaseClause and DefaultClause of section 14.12, behind clauses with a `default` or without: each spans to its last token
 pub data CaseRule (Stmt : Code → Position → Tree → Place → Place → Type 0) (Expr : Class → Code → Tree → Place → Place → Type 0) (k : Code) (has_default : Bool) (x : Tree) (c d : Place) : Type 0 where
   case_clause_rule : (test : Tree) (xs : List Tree) (m : Place) → kind_at c ≡ kind.Case → Expr expression (with_in k) test (after c) m → kind_at m ≡ kind.Colon
@@ -139,6 +153,11 @@ pub data StmtRule (Stmt : Code → Position → Tree → Place → Place → Typ
   switch_rule : (e : Tree) (xs : List Tree) (m n : Place) → kind_at c ≡ kind.Switch → ReadsHead Expr k e (after c) m → kind_at m ≡ kind.LBrace
       → ReadsCases Stmt Expr (in_breakable k) false xs (after m) n → kind_at n ≡ kind.RBrace → d ≡ after n → x ≡ tree.switch (spanned c d) e (listed xs)
       → StmtRule Stmt Expr Pat k at x c d
+  -- sections 14.9, 14.8 and 14.10
+  break_rule : (label : Tree) (m : Place) → kind_at c ≡ kind.Break → TargetRule k label (after c) m → Ends m d → x ≡ tree.break (spanned c d) label → StmtRule Stmt Expr Pat k at x c d
+  continue_rule : (label : Tree) (m : Place) → kind_at c ≡ kind.Continue → TargetRule k label (after c) m → Ends m d → x ≡ tree.continue (spanned c d) label
+      → StmtRule Stmt Expr Pat k at x c d
+  return_rule : (e : Tree) (m : Place) → kind_at c ≡ kind.Return → OperandRule Expr k e (after c) m → Ends m d → x ≡ tree.return (spanned c d) e → StmtRule Stmt Expr Pat k at x c d
   -- section 14.14
   throw_rule : (e : Tree) (m : Place) → kind_at c ≡ kind.Throw → breaks_at (after c) ≡ false → Expr expression (with_in k) e (after c) m → Ends m d
       → x ≡ tree.throw (spanned c d) e → StmtRule Stmt Expr Pat k at x c d

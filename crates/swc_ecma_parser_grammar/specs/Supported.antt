@@ -66,6 +66,10 @@ abbrev mutual
   supported (tree.catch s p body) = supported p && supported body
   supported (tree.while s test body) = supported test && supported body
   supported (tree.do_while s test body) = supported test && supported body
+  -- `break`, `continue` and `return`: sections 14.9, 14.8 and 14.10
+  supported (tree.break s label) = supported label
+  supported (tree.continue s label) = supported label
+  supported (tree.return s arg) = supported arg
   -- section 16.1
   supported (tree.script s body shebang) = supported body
   supported _ = false

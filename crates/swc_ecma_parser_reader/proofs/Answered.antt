@@ -1,12 +1,14 @@
 -- What a reader answers that is complete.
-use Rattle.std.proofs.Common.{◌≡◌, List, ◌++◌, Ok}
+use Rattle.std.proofs.Common.{◌≡◌, ◌⊎◌, false, List, [], ◌++◌, Ok}
 use Rattle.swc_ecma_parser_error.specs.Kind.{Fault}
 use Rattle.swc_ecma_parser_input.specs.Place.{Place}
-use Rattle.swc_ecma_parser_model.specs.Tree.{Tree}
+use Rattle.swc_ecma_parser_model.specs.Tree.{Tree, Text}
 use Rattle.swc_ecma_parser_grammar.specs.Names.{Code}
+use Rattle.swc_ecma_parser_grammar.specs.Looks.{kind_at}
 use Rattle.swc_ecma_parser_grammar.specs.Walk.{env_of, walk}
 use Rattle.swc_ecma_parser_reader.specs.Notes.{Notes, ◌⊕◌, notes_of}
 use Rattle.swc_ecma_parser_reader.specs.State.{Scope, State, Outcome, Reader}
+use Rattle.swc_ecma_parser_reader.proofs.Errors.{is_error}
 
 abbrev pub st : Place → Code → Scope → List Fault → Notes → State
 st c k w f h = record { at = c; code = k; scope = w; faults = f; notes = h }
@@ -14,6 +16,13 @@ st c k w f h = record { at = c; code = k; scope = w; faults = f; notes = h }
 -- the answer of a reader that is complete: the tree, its end, the faults of its walk, and its notes held back
 abbrev pub Reads : Reader Tree → Code → Tree → Place → Place → Type 0
 Reads reader k x c d = (w : Scope) (f : List Fault) (h : Notes) → reader (st c k w f h) ≡ Ok (x, st d k w (f ++ walk (env_of k w.labels) x) (h ⊕ notes_of x))
+
+-- Where the walk of a tree finds a fault, no error token stands behind the tree: its own would be recorded first.
+abbrev pub Calm : Code → List Text → Tree → Place → Type 0
+Calm k labels x d = (walk (env_of k labels) x ≡ []) ⊎ (is_error (kind_at d) ≡ false)
+
+abbrev pub ReadsCalm : Reader Tree → Code → Tree → Place → Place → Type 0
+ReadsCalm reader k x c d = (w : Scope) (f : List Fault) (h : Notes) → Calm k w.labels x d → reader (st c k w f h) ≡ Ok (x, st d k w (f ++ walk (env_of k w.labels) x) (h ⊕ notes_of x))
 
 -- ---- answers of which something holds
 

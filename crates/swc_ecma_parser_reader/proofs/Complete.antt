@@ -1,5 +1,5 @@
 -- What the grammar allows is read, with the faults of the walk and the notes held back, and no others.
-use Rattle.std.proofs.Common.{◌≡◌, ℕ, zero, suc, ◌<◌, Bool, true, false, cond, List, [], ◌∷◌, ◌++◌, length, Option, Some, None, Ok, refl, sym, ◌∙◌, ap, append_assoc, append-nil}
+use Rattle.std.proofs.Common.{◌≡◌, ◌⊎◌, inl, inr, ℕ, zero, suc, ◌<◌, Bool, true, false, cond, List, [], ◌∷◌, ◌++◌, length, Option, Some, None, Ok, refl, sym, ◌∙◌, ap, subst, append_assoc, append-nil}
 use Rattle.std.specs.Prelude.{◌&&◌, ◌||◌, codes}
 use Rattle.swc_ecma_parser_common.specs.declared.span.Span.{Span}
 use Rattle.swc_ecma_parser_error.specs.Kind as faults
@@ -21,7 +21,7 @@ use Rattle.swc_ecma_parser_grammar.specs.Looks.{kind_at, breaks_at, sees, same_k
 use Rattle.swc_ecma_parser_grammar.specs.Names.{Code}
 use Rattle.swc_ecma_parser_grammar.specs.Ends.{Ends, by_semicolon, by_insertion, OptionalEnds, by_a_semicolon, by_nothing}
 use Rattle.swc_ecma_parser_grammar.specs.Follows.{begins_import_expression}
-use Rattle.swc_ecma_parser_grammar.specs.Reads.{with_in, in_strict, nested_item, top_item, ReadsToken, DeclaratorRule, plain_rule, initialized_rule, ReadsSeparated, directed, ReadsItems, StmtRule, block_rule, empty_rule, debugger_rule, var_rule, if_statement_rule, CaseRule, case_clause_rule, default_clause_rule, ReadsCases, switch_rule, throw_rule, try_rule, while_rule, do_while_rule, expr_rule, import_rule, ReadsBlock, CatchRule, no_catch_rule, catch_rule, catch_parameter_rule, FinallyRule, no_finally_rule, finally_rule, ReadsHead, IfRule, if_rule, no_else_rule, else_rule, else_if_rule}
+use Rattle.swc_ecma_parser_grammar.specs.Reads.{with_in, in_strict, nested_item, top_item, ReadsToken, DeclaratorRule, plain_rule, initialized_rule, ReadsSeparated, directed, directs_on, ReadsItems, TargetRule, no_target_rule, target_rule, OperandRule, no_operand_rule, operand_rule, break_rule, continue_rule, return_rule, StmtRule, block_rule, empty_rule, debugger_rule, var_rule, if_statement_rule, CaseRule, case_clause_rule, default_clause_rule, ReadsCases, switch_rule, throw_rule, try_rule, while_rule, do_while_rule, expr_rule, import_rule, ReadsBlock, CatchRule, no_catch_rule, catch_rule, catch_parameter_rule, FinallyRule, no_finally_rule, finally_rule, ReadsHead, IfRule, if_rule, no_else_rule, else_rule, else_if_rule}
 use Rattle.swc_ecma_parser_grammar.specs.ReadsSupported.{ReadsClass, ReadsPat, ReadsStmt}
 use Rattle.swc_ecma_parser_grammar.specs.language.Contexts.{in_loop, in_breakable}
 use Rattle.swc_ecma_parser_grammar.specs.language.Goals.{expression, assignment}
@@ -32,13 +32,17 @@ use Rattle.swc_ecma_parser_grammar.specs.language.Noted.{has_meta}
 use Rattle.swc_ecma_parser_grammar.specs.Walk as walks_of
 use Rattle.swc_ecma_parser_grammar.specs.Walk.{Env, env_of, walk, walks}
 use Rattle.swc_ecma_parser_reader.specs.Notes.{Notes, held, ◌⊕◌, notes_of, all_notes_of}
-use Rattle.swc_ecma_parser_reader.specs.State.{Scope, State, Outcome, Reader, and_then, noted, labelled, expect, end, fault_at, loop}
+use Rattle.swc_ecma_parser_reader.specs.State.{Scope, State, Outcome, Reader, and_then, noted, recorded_at, recorded_in, fault, labelled, expect, end, fault_at, loop}
 use Rattle.swc_ecma_parser_reader.specs.Expressions.{expr}
 use Rattle.swc_ecma_parser_reader.specs.Patterns.{pattern}
-use Rattle.swc_ecma_parser_reader.specs.Reader.{empty, debugger, initialized, declarator, declarators_turn, declarators, var, closes, at_end, close, directs, items_turn, items, block_from, block, braced, note_statement, no_label, expr_stmt, expr_stmt_at, optional_end, import_stmt, import_stmt_at, thrown, throw, head, while_stmt, do_while, goes_on, closed_link, condition, alternative, link_from, link, if_stmt, begins_clause, closes_clause, clause_from, default_clause, case_clause, clause, clauses_turn, clauses, switch_stmt, is_handled, handled, bound, parameter, finalizer, caught, handler, try_stmt, stmt_level, stmt, shebang_of, shebang_in, shebang, script_body, script}
+use Rattle.swc_ecma_parser_reader.specs.Reader.{told, target, unbroken, break_stmt, uncontinued, continue_stmt, misplaced, operand, returned, return_stmt, empty, debugger, initialized, declarator, declarators_turn, declarators, var, closes, at_end, close, directs, items_turn, items, block_from, block, braced, note_statement, no_label, expr_stmt, expr_stmt_at, optional_end, import_stmt, import_stmt_at, thrown, throw, head, while_stmt, do_while, goes_on, closed_link, condition, alternative, link_from, link, if_stmt, begins_clause, closes_clause, clause_from, default_clause, case_clause, clause, clauses_turn, clauses, switch_stmt, is_handled, handled, bound, parameter, finalizer, caught, handler, try_stmt, stmt_level, stmt, shebang_of, shebang_in, shebang, script_body, script}
 use Rattle.swc_ecma_parser_reader.specs.Entry.{script_left}
 use Rattle.swc_ecma_parser_reader.proofs.Notes.{or_nil, or_assoc}
-use Rattle.swc_ecma_parser_reader.proofs.Answered.{st, Reads}
+use Rattle.swc_ecma_parser_reader.proofs.Answered.{st, Reads, Calm, ReadsCalm}
+use Rattle.swc_ecma_parser_reader.proofs.Errors.{is_error}
+use Rattle.swc_ecma_parser_reader.proofs.Between.{nil-split}
+use Rattle.swc_ecma_parser_reader.proofs.expressions.CompleteParts.{name_reads}
+use Rattle.swc_ecma_parser_grammar.specs.Own.{break_faults, continue_faults, return_faults}
 use Rattle.swc_ecma_parser_reader.proofs.expressions.CompleteKinds.{seen}
 use Rattle.swc_ecma_parser_reader.proofs.expressions.Complete.{expr_reads}
 use Rattle.swc_ecma_parser_reader.proofs.patterns.Complete.{pattern_reads}
@@ -63,6 +67,101 @@ optional_end_reads c d k w f h (by_nothing e g) = rw (e, g) refl
 close_reads : (c : Place) (k : Code) (w : Scope) (f : List Fault) (h : Notes) → kind_at c ≡ kind.RBrace → close (st c k w f h) ≡ Ok (tt, st (after c) k w f h)
 unfolding close
 close_reads c k w f h e = rw (seen c kind.RBrace e) refl
+
+-- ---- faults that are told
+
+recorded_at_reads : (g : Fault) (s : State) (t : Token) → is_error (token_kind t) ≡ false → recorded_at g s t ≡ Ok (tt, noted g s)
+recorded_at_reads g s (token.Error e) h = cc
+recorded_at_reads g s _ h = refl
+
+recorded_in_reads : (g : Fault) (s : State) (ts : List TokenAndSpan) → s.at.left ≡ ts → is_error (kind_at s.at) ≡ false → recorded_in g s ts ≡ Ok (tt, noted g s)
+unfolding kind_at
+recorded_in_reads g s [] e h = refl
+recorded_in_reads g s (t ∷ ts) e h = recorded_at_reads g s t.token (rw e at h)
+
+fault_reads : (g : Fault) (d : Place) (k : Code) (w : Scope) (f : List Fault) (h : Notes) → is_error (kind_at d) ≡ false → fault g (st d k w f h) ≡ Ok (tt, st d k w (f ++ g ∷ []) h)
+unfolding fault
+fault_reads g d k w f h e = recorded_in_reads g (st d k w f h) d.left refl e
+
+-- each by itself, where no error token stands
+told_reads : (fs : List Fault) (d : Place) (k : Code) (w : Scope) (f : List Fault) (h : Notes) → (fs ≡ []) ⊎ (is_error (kind_at d) ≡ false) → told fs (st d k w f h) ≡ Ok (tt, st d k w (f ++ fs) h)
+told_reads [] d k w f h q = rw (append-nil f) refl
+told_reads (g ∷ gs) d k w f h (inl e) = cc
+told_reads (g ∷ gs) d k w f h (inr e) = rw (fault_reads g d k w f h e, told_reads gs d k w (f ++ g ∷ []) h (inr e)) (simp (append_assoc) refl)
+
+-- where a list of faults is empty its parts are
+calm_same : (d : Place) (whole fs : List Fault) → whole ≡ fs → (whole ≡ []) ⊎ (is_error (kind_at d) ≡ false) → (fs ≡ []) ⊎ (is_error (kind_at d) ≡ false)
+calm_same d whole fs e (inl z) = inl (sym e ∙ z)
+calm_same d whole fs e (inr a) = inr a
+
+calm_first : (d : Place) (es fs whole : List Fault) → whole ≡ es ++ fs → (whole ≡ []) ⊎ (is_error (kind_at d) ≡ false) → (es ≡ []) ⊎ (is_error (kind_at d) ≡ false)
+calm_first d es fs whole e (inl z) = inl (nil-split es fs (sym e ∙ z)).0
+calm_first d es fs whole e (inr a) = inr a
+
+calm_last : (d : Place) (es fs whole : List Fault) → whole ≡ es ++ fs → (whole ≡ []) ⊎ (is_error (kind_at d) ≡ false) → (fs ≡ []) ⊎ (is_error (kind_at d) ≡ false)
+calm_last d es fs whole e (inl z) = inl (nil-split es fs (sym e ∙ z)).1
+calm_last d es fs whole e (inr a) = inr a
+
+-- ---- `break`, `continue` and `return`
+
+target_reads : (x : Tree) (c d : Place) (k : Code) (w : Scope) (f : List Fault) (h : Notes) → TargetRule k x c d → target (st c k w f h) ≡ Ok (x, st d k w f h)
+unfolding target
+target_reads x c d k w f h (no_target_rule e g i) = rw (e, g, i) refl
+target_reads x c d k w f h (target_rule v sp e r n i) = rw (e, name_reads faults.ExpectedIdent v sp c d k w f h r n, i) refl
+
+-- a label has no notes
+target_quiet : {k : Code} {x : Tree} {c d : Place} → TargetRule k x c d → (notes x ≡ []) × (has_meta x ≡ false)
+target_quiet (no_target_rule e g i) = (ap notes i, ap has_meta i)
+target_quiet (target_rule v sp e r n i) = (ap notes i, ap has_meta i)
+
+break_reads : (y : Tree) (m : Place) (k : Code) (x : Tree) (c d : Place) → TargetRule k y (after c) m → Ends m d → x ≡ tree.break (spanned c d) y → ReadsCalm break_stmt k x c d
+unfolding break_stmt unbroken spanned
+break_reads y m k x c d r g e w f h q =
+    let l = break_faults k.flags.is_break_allowed w.labels y (spanned c d) in
+    rw (
+      target_reads y (after c) m k w f h r,
+      ends_read faults.Expected m d k w f h g,
+      told_reads l d k w f h (calm_same d (walk (env_of k w.labels) x) l (ap (walk (env_of k w.labels)) e) q),
+      e,
+      (target_quiet r).0,
+      (target_quiet r).1,
+      append-nil h.held_back,
+      or_nil h.found_module_item,
+    ) refl
+
+continue_reads : (y : Tree) (m : Place) (k : Code) (x : Tree) (c d : Place) → TargetRule k y (after c) m → Ends m d → x ≡ tree.continue (spanned c d) y → ReadsCalm continue_stmt k x c d
+unfolding continue_stmt uncontinued spanned
+continue_reads y m k x c d r g e w f h q =
+    let l = continue_faults k.flags.is_continue_allowed w.labels y (spanned c d) in
+    rw (
+      target_reads y (after c) m k w f h r,
+      ends_read faults.Expected m d k w f h g,
+      told_reads l d k w f h (calm_same d (walk (env_of k w.labels) x) l (ap (walk (env_of k w.labels)) e) q),
+      e,
+      (target_quiet r).0,
+      (target_quiet r).1,
+      append-nil h.held_back,
+      or_nil h.found_module_item,
+    ) refl
+
+operand_reads : (n : ℕ) (k : Code) (x : Tree) (c d : Place) → OperandRule (ReadsClass n) k x c d → Reads (operand (expr n expression)) k x c d
+unfolding operand
+operand_reads n k x c d (no_operand_rule e g i) w f h = rw (e, i, g, append-nil f, append-nil h.held_back, or_nil h.found_module_item) refl
+operand_reads n k x c d (operand_rule e r) w f h = rw (e, expr_reads n expression (with_in k) x c d r w f h) refl
+
+return_reads : (n : ℕ) (y : Tree) (m : Place) (k : Code) (x : Tree) (c d : Place) → OperandRule (ReadsClass n) k y (after c) m → Ends m d → x ≡ tree.return (spanned c d) y
+    → ReadsCalm (return_stmt (expr n expression)) k x c d
+unfolding return_stmt returned misplaced spanned
+return_reads n y m k x c d r g e w f h q =
+    let l = return_faults (k.flags.in_function || k.setting.allow_return_outside_function) (spanned c d) in
+    let a = walk (env_of k w.labels) y in
+    rw (
+      operand_reads n k y (after c) m r w f h,
+      ends_read faults.Expected m d k w (f ++ a) (h ⊕ notes_of y) g,
+      told_reads l d k w (f ++ a) (h ⊕ notes_of y) (calm_last d a l (walk (env_of k w.labels) x) (ap (walk (env_of k w.labels)) e) q),
+      e,
+      append_assoc f a l,
+    ) refl
 
 -- ---- statements that hold none
 
@@ -142,29 +241,44 @@ directed_walk : (k : Code) (directives : Bool) (x : Tree) (labels : List Text) �
 directed_walk k directives x labels = strict_walk (directives && is_use_strict x) k labels
 
 module _ (Inner : Code → Tree → Place → Place → Type 0) (inner : Reader Tree)
-    (reads : (k : Code) (x : Tree) (c d : Place) → Inner k x c d → Reads inner k x c d)
+    (reads : (k : Code) (x : Tree) (c d : Place) → Inner k x c d → ReadsCalm inner k x c d)
     (shorter : (s : State) (x : Tree) (t : State) → inner s ≡ Ok (x, t) → length t.at.left < length s.at.left)
-    (stops : Place → Bool) (goes : (k : Code) (x : Tree) (c d : Place) → Inner k x c d → stops c ≡ false) where
+    (stops : Place → Bool) (goes : (k : Code) (x : Tree) (c d : Place) → Inner k x c d → stops c ≡ false)
+    (starts : (k : Code) (x : Tree) (c d : Place) → Inner k x c d → is_error (kind_at c) ≡ false) where
+  -- no error token stands behind an item: the next begins there, or all end
+  no_error : (k : Code) (b : Bool) (xs : List Tree) (m d : Place) → ReadsItems Inner k b xs m d → is_error (kind_at d) ≡ false → is_error (kind_at m) ≡ false
+  no_error k b [] m d r e = ap (λ v. is_error (kind_at v)) (sym r) ∙ e
+  no_error k b (x ∷ xs) m d (i, r, rs) e = starts k x m i r
+
   many_items : (directives : Bool) (xs found : List Tree) (b : Bool) (k : Code) (c d : Place) (w : Scope) (f : List Fault) (h : Notes) → directs directives found ≡ b → ReadsItems Inner k b xs c d → stops d ≡ true
-      → loop (items_turn inner stops directives) found (st c k w f h) ≡ Ok (found ++ xs, st d (code_behind k b xs) w (f ++ walks (env_of k w.labels) b (trees xs)) (h ⊕ all_notes_of (trees xs)))
-  many_items directives [] found b k c d w f h p r e =
+      → is_error (kind_at d) ≡ false → loop (items_turn inner stops directives) found (st c k w f h) ≡ Ok (found ++ xs, st d (code_behind k b xs) w (f ++ walks (env_of k w.labels) b (trees xs)) (h ⊕ all_notes_of (trees xs)))
+  many_items directives [] found b k c d w f h p r e a =
       rw (append-nil found, append-nil f, append-nil h.held_back, or_nil h.found_module_item, r) (items_stop inner stops directives found (st c k w f h) (rw (← r) e))
-  many_items directives (x ∷ xs) found b k c d w f h p (m, r, more) e =
-      let one = reads k x c m r w f h in
+  many_items directives (x ∷ xs) found b k c d w f h p (m, r, more) e a =
+      let one = reads k x c m r w f h (inr (no_error (directed k b x) (directs_on b x) xs m d more a)) in
       let first = items_more inner stops directives found (st c k w f h) x (st m k w (f ++ walk (env_of k w.labels) x) (h ⊕ notes_of x)) (goes k x c m r) one
       (shorter (st c k w f h) x (st m k w (f ++ walk (env_of k w.labels) x) (h ⊕ notes_of x)) one) in
-      let rest = many_items directives xs (found ++ x ∷ []) false (directed k b x) m d w (f ++ walk (env_of k w.labels) x) (h ⊕ notes_of x) (directs_behind directives found x) more e in
+      let rest = many_items directives xs (found ++ x ∷ []) false (directed k b x) m d w (f ++ walk (env_of k w.labels) x) (h ⊕ notes_of x) (directs_behind directives found x) more e a in
       let turn = rw p at first in
       turn ∙ rest ∙ rw (directed_walk k b x w.labels) (simp (append_assoc, or_assoc) refl)
 
   items_read : (directives : Bool) (xs : List Tree) (k : Code) (c d : Place) (w : Scope) (f : List Fault) (h : Notes) → ReadsItems Inner k directives xs c d → stops d ≡ true
-      → items inner stops directives (st c k w f h) ≡ Ok (xs, st d (code_behind k directives xs) w (f ++ walks (env_of k w.labels) directives (trees xs)) (h ⊕ all_notes_of (trees xs)))
+      → is_error (kind_at d) ≡ false → items inner stops directives (st c k w f h) ≡ Ok (xs, st d (code_behind k directives xs) w (f ++ walks (env_of k w.labels) directives (trees xs)) (h ⊕ all_notes_of (trees xs)))
   unfolding items
-  items_read directives xs k c d w f h r e = many_items directives xs [] directives k c d w f h refl r e
+  items_read directives xs k c d w f h r e a = many_items directives xs [] directives k c d w f h refl r e a
 
 closes_at : (c : Place) → kind_at c ≡ kind.RBrace → closes c ≡ true
 unfolding closes same_kind
 closes_at c e = rw e refl
+
+-- where clauses end no error token stands
+clause_ends : (c : Place) → closes_clause c ≡ true → is_error (kind_at c) ≡ false
+unfolding closes_clause begins_clause closes same_kind
+clause_ends c e = by_kind (kind_at c) e
+  where
+    by_kind : (j : TokenKind) → ((same_kind j kind.Case || same_kind j kind.Default) || (same_kind j kind.RBrace || same_kind j kind.End)) ≡ true → is_error j ≡ false
+    by_kind kind.Error h = cc
+    by_kind _ h = refl
 
 at_end_at : (c : Place) → kind_at c ≡ kind.End → at_end c ≡ true
 unfolding at_end same_kind
@@ -273,14 +387,14 @@ shebang_reads first c d k w f h (no_shebang e g) = rw (no_shebang_in c c.left re
 
 -- ---- all levels
 
-module _ (n : ℕ) (reads : (at : Position) (k : Code) (x : Tree) (c d : Place) → ReadsStmt n k at x c d → Reads (stmt n at) k x c d) where
+module _ (n : ℕ) (reads : (at : Position) (k : Code) (x : Tree) (c d : Place) → ReadsStmt n k at x c d → ReadsCalm (stmt n at) k x c d) where
   block_from_reads : (k : Code) (x : Tree) (c d : Place) (w : Scope) (f : List Fault) (h : Notes) → ReadsBlock (ReadsStmt n) k x c d
       → block_from (stmt n nested_item) c (st (after c) k w f h) ≡ Ok (x, st d k w (f ++ walk (env_of k w.labels) x) (h ⊕ notes_of x))
   unfolding block_from
   block_from_reads k x c d w f h r =
       rw (
         items_read (λ j. ReadsStmt n j nested_item) (stmt n nested_item) (reads nested_item) (stmt_shorter n nested_item) closes (λ j y a b q. (stmt_goes n j nested_item y a b q).0)
-            false r.items k (after c) r.close w f h r.reads_items (closes_at r.close r.closes),
+            (λ j y a b q. (stmt_goes n j nested_item y a b q).3) false r.items k (after c) r.close w f h r.reads_items (closes_at r.close r.closes) (ap is_error r.closes),
         code_stays k r.items,
         close_reads r.close k w (f ++ walks (env_of k w.labels) false (trees r.items)) (h ⊕ all_notes_of (trees r.items)) r.closes,
         r.is,
@@ -305,7 +419,7 @@ module _ (n : ℕ) (reads : (at : Position) (k : Code) (x : Tree) (c d : Place) 
       rw (
         expect_reads kind.Colon c k w f h e,
         items_read (λ j. ReadsStmt n j nested_item) (stmt n nested_item) (reads nested_item) (stmt_shorter n nested_item) closes_clause (λ j y a b q. (stmt_goes n j nested_item y a b q).2)
-            false xs k (after c) d w f h r z,
+            (λ j y a b q. (stmt_goes n j nested_item y a b q).3) false xs k (after c) d w f h r z (clause_ends d z),
         code_stays k xs,
       ) refl
 
@@ -419,12 +533,13 @@ module _ (n : ℕ) (reads : (at : Position) (k : Code) (x : Tree) (c d : Place) 
       ) (simp (append_assoc, or_assoc) refl)
 
   while_reads : (y z : Tree) (m : Place) (k : Code) (x : Tree) (c d : Place) → ReadsHead (ReadsClass n) k y (after c) m → ReadsStmt n (in_loop k) sub_statement z m d
-      → x ≡ tree.while (spanned c d) y z → Reads (while_stmt (stmt n sub_statement) (expr n expression)) k x c d
+      → x ≡ tree.while (spanned c d) y z → ReadsCalm (while_stmt (stmt n sub_statement) (expr n expression)) k x c d
   unfolding while_stmt
-  while_reads y z m k x c d r s e w f h =
+  while_reads y z m k x c d r s e w f h q =
       rw (
         head_reads n k y (after c) m r w f h,
-        reads sub_statement (in_loop k) z m d s w (f ++ walk (env_of k w.labels) y) (h ⊕ notes_of y),
+        reads sub_statement (in_loop k) z m d s w (f ++ walk (env_of k w.labels) y) (h ⊕ notes_of y)
+            (calm_last d (walk (env_of k w.labels) y) (walk (env_of (in_loop k) w.labels) z) (walk (env_of k w.labels) x) (ap (walk (env_of k w.labels)) e) q),
         e,
         append_assoc f (walk (env_of k w.labels) y) (walk (env_of (in_loop k) w.labels) z),
         append_assoc h.held_back (notes y) (notes z),
@@ -438,7 +553,7 @@ module _ (n : ℕ) (reads : (at : Position) (k : Code) (x : Tree) (c d : Place) 
       let a = walk (env_of (in_loop k) w.labels) z in
       let b = walk (env_of k w.labels) y in
       rw (
-        reads sub_statement (in_loop k) z (after c) m s w f h,
+        reads sub_statement (in_loop k) z (after c) m s w f h (inr (ap is_error j)),
         expect_reads kind.While m k w (f ++ a) (h ⊕ notes_of z) j,
         head_reads n k y (after m) i r w (f ++ a) (h ⊕ notes_of z),
         optional_end_reads i d k w ((f ++ a) ++ b) ((h ⊕ notes_of z) ⊕ notes_of y) g,
@@ -455,10 +570,10 @@ module _ (n : ℕ) (reads : (at : Position) (k : Code) (x : Tree) (c d : Place) 
   linked k w f h t y d = st d k w (f ++ walk (env_of k w.labels) t ++ walk (env_of k w.labels) y) (h ⊕ notes_of t ⊕ notes_of y)
 
   link_reads : (t y : Tree) (m : Place) (k : Code) (c d : Place) (w : Scope) (f : List Fault) (h : Notes) → ReadsHead (ReadsClass n) k t (after c) m → ReadsStmt n k sub_statement y m d
-      → link (stmt n sub_statement) (expr n expression) (st c k w f h) ≡ Ok (record { start = span_at c; test = t; cons = y }, linked k w f h t y d)
+      → Calm k w.labels y d → link (stmt n sub_statement) (expr n expression) (st c k w f h) ≡ Ok (record { start = span_at c; test = t; cons = y }, linked k w f h t y d)
   unfolding link link_from
-  link_reads t y m k c d w f h r s =
-      rw (condition_reads n k t (after c) m r w f h, reads sub_statement k y m d s w (f ++ walk (env_of k w.labels) t) (h ⊕ notes_of t)) refl
+  link_reads t y m k c d w f h r s q =
+      rw (condition_reads n k t (after c) m r w f h, reads sub_statement k y m d s w (f ++ walk (env_of k w.labels) t) (h ⊕ notes_of t) q) refl
 
   -- an `if` with what stands behind its `else`
   closed_reads : (t y z x : Tree) (k : Code) (c d : Place) (w : Scope) (f : List Fault) (h : Notes) (o : Outcome Tree) → x ≡ tree.if_stmt (spanned c d) t y z
@@ -470,41 +585,54 @@ module _ (n : ℕ) (reads : (at : Position) (k : Code) (x : Tree) (c d : Place) 
   if_begins : {k : Code} {x : Tree} {c d : Place} → IfRule (ReadsStmt n) (ReadsClass n) k x c d → kind_at c ≡ kind.If
   if_begins (if_rule t y z m i g r s o e) = g
 
-  if_reads : {k : Code} {x : Tree} {c d : Place} → IfRule (ReadsStmt n) (ReadsClass n) k x c d → Reads (if_stmt (stmt n sub_statement) (expr n expression)) k x c d
+  -- the parts of an `if` that end where it does
+  elsed : (k : Code) (l : List Text) {x t y z : Tree} (c d : Place) → x ≡ tree.if_stmt (spanned c d) t y z → Calm k l x d → Calm k l z d
+  elsed k l {x = x} {t = t} {y = y} {z = z} c d e q =
+      calm_last d (walk (env_of k l) t ++ walk (env_of k l) y) (walk (env_of k l) z) (walk (env_of k l) x) (ap (walk (env_of k l)) e) q
+
+  unelsed : (k : Code) (l : List Text) {x t y z : Tree} (c i d : Place) → x ≡ tree.if_stmt (spanned c d) t y z → d ≡ i → Calm k l x d → Calm k l y i
+  unelsed k l {x = x} {t = t} {y = y} {z = z} c i d e b q =
+      let g = calm_first d (walk (env_of k l) t ++ walk (env_of k l) y) (walk (env_of k l) z) (walk (env_of k l) x) (ap (walk (env_of k l)) e) q in
+      subst (λ v. Calm k l y v) b (calm_last d (walk (env_of k l) t) (walk (env_of k l) y) (walk (env_of k l) t ++ walk (env_of k l) y) refl g)
+
+  if_reads : {k : Code} {x : Tree} {c d : Place} → IfRule (ReadsStmt n) (ReadsClass n) k x c d → ReadsCalm (if_stmt (stmt n sub_statement) (expr n expression)) k x c d
   unfolding alternative goes_on
-  if_reads {k = k} {x = x} {c = c} {d = d} (if_rule t y z m i g r s (no_else_rule a b j) e) w f h =
-      if_last n (st c k w f h) _ (linked k w f h t y i) (link_reads t y m k c i w f h r s) (rw a refl)
+  if_reads {k = k} {x = x} {c = c} {d = d} (if_rule t y z m i g r s (no_else_rule a b j) e) w f h q =
+      if_last n (st c k w f h) _ (linked k w f h t y i) (link_reads t y m k c i w f h r s (unelsed k w.labels c i d e b q)) (rw a refl)
       ∙ closed_reads t y z x k c d w f h _ e
       (rw (a, b, j, append-nil (f ++ walk (env_of k w.labels) t ++ walk (env_of k w.labels) y), append-nil (h.held_back ++ notes t ++ notes y), or_nil (h.found_module_item || has_meta t || has_meta y)) refl)
-  if_reads {k = k} {x = x} {c = c} {d = d} (if_rule t y z m i g r s (else_rule a b j) e) w f h =
-      if_last n (st c k w f h) _ (linked k w f h t y i) (link_reads t y m k c i w f h r s) (rw (seen i kind.Else a, b) refl)
+  if_reads {k = k} {x = x} {c = c} {d = d} (if_rule t y z m i g r s (else_rule a b j) e) w f h q =
+      if_last n (st c k w f h) _ (linked k w f h t y i) (link_reads t y m k c i w f h r s (inr (ap is_error a))) (rw (seen i kind.Else a, b) refl)
       ∙ closed_reads t y z x k c d w f h _ e
-      (rw (seen i kind.Else a) (reads sub_statement k z (after i) d j w (f ++ walk (env_of k w.labels) t ++ walk (env_of k w.labels) y) (h ⊕ notes_of t ⊕ notes_of y)))
-  if_reads {k = k} {x = x} {c = c} {d = d} (if_rule t y z m i g r s (else_if_rule a j) e) w f h =
-      if_more n (st c k w f h) _ (linked k w f h t y i) (link_reads t y m k c i w f h r s) (rw (seen i kind.Else a, seen (after i) kind.If (if_begins j)) refl)
-      ∙ closed_reads t y z x k c d w f h _ e (if_reads j w (f ++ walk (env_of k w.labels) t ++ walk (env_of k w.labels) y) (h ⊕ notes_of t ⊕ notes_of y))
+      (rw (seen i kind.Else a) (reads sub_statement k z (after i) d j w (f ++ walk (env_of k w.labels) t ++ walk (env_of k w.labels) y) (h ⊕ notes_of t ⊕ notes_of y) (elsed k w.labels c d e q)))
+  if_reads {k = k} {x = x} {c = c} {d = d} (if_rule t y z m i g r s (else_if_rule a j) e) w f h q =
+      if_more n (st c k w f h) _ (linked k w f h t y i) (link_reads t y m k c i w f h r s (inr (ap is_error a))) (rw (seen i kind.Else a, seen (after i) kind.If (if_begins j)) refl)
+      ∙ closed_reads t y z x k c d w f h _ e (if_reads j w (f ++ walk (env_of k w.labels) t ++ walk (env_of k w.labels) y) (h ⊕ notes_of t ⊕ notes_of y) (elsed k w.labels c d e q))
 
-  by_rules : (at : Position) (k : Code) (x : Tree) (c d : Place) → StmtRule (ReadsStmt n) (ReadsClass n) (ReadsPat n) k at x c d → Reads (stmt_level (stmt n) (expr n) (pattern n) at) k x c d
+  by_rules : (at : Position) (k : Code) (x : Tree) (c d : Place) → StmtRule (ReadsStmt n) (ReadsClass n) (ReadsPat n) k at x c d → ReadsCalm (stmt_level (stmt n) (expr n) (pattern n) at) k x c d
   unfolding stmt_level expr_stmt_at import_stmt_at
-  by_rules at k x c d (block_rule r) w f h = rw r.opens (block_reads k x c d r w f h)
-  by_rules at k x c d (empty_rule e g i) w f h = rw e (empty_reads k x c d g i w f h)
-  by_rules at k x c d (debugger_rule e g i) w f h = rw e (debugger_reads k x c d g i w f h)
-  by_rules at k x c d (var_rule xs m e r g i) w f h = rw e (var_reads n xs m k x c d r g i w f h)
-  by_rules at k x c d (if_statement_rule r) w f h = rw (if_begins r) (if_reads r w f h)
-  by_rules at k x c d (switch_rule y xs m i e r a s b g j) w f h = rw e (switch_reads y xs m i k x c d r a s b g j w f h)
-  by_rules at k x c d (throw_rule y m e b r g i) w f h = rw e (throw_reads n y m k x c d b r g i w f h)
-  by_rules at k x c d (try_rule y z v m i e r s t b g) w f h = rw e (try_reads y z v m i k x c d r s t b g w f h)
-  by_rules at k x c d (while_rule y z m e r s i) w f h = rw e (while_reads y z m k x c d r s i w f h)
-  by_rules at k x c d (do_while_rule y z m i e s j r g o) w f h = rw e (do_while_reads y z m i k x c d s j r g o w f h)
-  by_rules at k x c d (expr_rule e m b r l i g j) w f h =
-      let q = no_block_or_import at c b in
-      opened (stmt n) (expr n) (pattern n) at (st c k w f h) (kind_at c) (expr_opens n (with_in k) e c m r) q.0 q.1 ∙ rw b (expr_stmt_reads n e m k x c d r l i g j w f h)
-  by_rules at k x c d (import_rule e m b r g j) w f h = rw (import_stands c b, b) (import_stmt_reads n e m k x c d b r g j w f h)
+  by_rules at k x c d (block_rule r) w f h q = rw r.opens (block_reads k x c d r w f h)
+  by_rules at k x c d (empty_rule e g i) w f h q = rw e (empty_reads k x c d g i w f h)
+  by_rules at k x c d (debugger_rule e g i) w f h q = rw e (debugger_reads k x c d g i w f h)
+  by_rules at k x c d (var_rule xs m e r g i) w f h q = rw e (var_reads n xs m k x c d r g i w f h)
+  by_rules at k x c d (if_statement_rule r) w f h q = rw (if_begins r) (if_reads r w f h q)
+  by_rules at k x c d (switch_rule y xs m i e r a s b g j) w f h q = rw e (switch_reads y xs m i k x c d r a s b g j w f h)
+  by_rules at k x c d (break_rule y m e r g i) w f h q = rw e (break_reads y m k x c d r g i w f h q)
+  by_rules at k x c d (continue_rule y m e r g i) w f h q = rw e (continue_reads y m k x c d r g i w f h q)
+  by_rules at k x c d (return_rule y m e r g i) w f h q = rw e (return_reads n y m k x c d r g i w f h q)
+  by_rules at k x c d (throw_rule y m e b r g i) w f h q = rw e (throw_reads n y m k x c d b r g i w f h)
+  by_rules at k x c d (try_rule y z v m i e r s t b g) w f h q = rw e (try_reads y z v m i k x c d r s t b g w f h)
+  by_rules at k x c d (while_rule y z m e r s i) w f h q = rw e (while_reads y z m k x c d r s i w f h q)
+  by_rules at k x c d (do_while_rule y z m i e s j r g o) w f h q = rw e (do_while_reads y z m i k x c d s j r g o w f h)
+  by_rules at k x c d (expr_rule e m b r l i g j) w f h q =
+      let o = no_block_or_import at c b in
+      opened (stmt n) (expr n) (pattern n) at (st c k w f h) (kind_at c) (expr_opens n (with_in k) e c m r) o.0 o.1 ∙ rw b (expr_stmt_reads n e m k x c d r l i g j w f h)
+  by_rules at k x c d (import_rule e m b r g j) w f h q = rw (import_stands c b, b) (import_stmt_reads n e m k x c d b r g j w f h)
 
-pub stmt_reads : (n : ℕ) (at : Position) (k : Code) (x : Tree) (c d : Place) → ReadsStmt n k at x c d → Reads (stmt n at) k x c d
+pub stmt_reads : (n : ℕ) (at : Position) (k : Code) (x : Tree) (c d : Place) → ReadsStmt n k at x c d → ReadsCalm (stmt n at) k x c d
 unfolding stmt
-stmt_reads zero at k x c d r w f h = absurd r
-stmt_reads (suc n) at k x c d r w f h = by_rules n (stmt_reads n) at k x c d r w f h
+stmt_reads zero at k x c d r w f h q = absurd r
+stmt_reads (suc n) at k x c d r w f h q = by_rules n (stmt_reads n) at k x c d r w f h q
 
 pub script_reads : (n : ℕ) (s : State) (x : Tree) (d : Place) → ReadsScript n s.code x s.at d → script n s ≡ Ok (x, script_left s x d)
 unfolding script script_body
@@ -512,7 +640,7 @@ script_reads n s x d r =
     rw (
       shebang_reads r.shebang s.at r.first (script_code s.code) s.scope s.faults s.notes r.reads_shebang,
       items_read (λ j. ReadsStmt n j top_item) (stmt n top_item) (stmt_reads n top_item) (stmt_shorter n top_item) at_end (λ j y a b q. (stmt_goes n j top_item y a b q).1)
-          true r.items (script_code s.code) r.first d s.scope s.faults s.notes r.reads_items (at_end_at d r.whole),
+          (λ j y a b q. (stmt_goes n j top_item y a b q).3) true r.items (script_code s.code) r.first d s.scope s.faults s.notes r.reads_items (at_end_at d r.whole) (ap is_error r.whole),
       r.is,
       behind_setting (script_code s.code) true r.items,
     ) refl

@@ -1,5 +1,5 @@
 -- A statement takes a token at least.
-use Rattle.std.proofs.Common.{◌≡◌, ◌≢◌, ℕ, zero, suc, ◌+◌, ◌≤◌, Bool, true, false, cond, List, [], length, Option, Some, None, Ok, Err, refl, true≢false, sym, ◌∙◌, arith}
+use Rattle.std.proofs.Common.{◌≡◌, ◌≢◌, ℕ, zero, suc, ◌+◌, ◌≤◌, Bool, true, false, cond, List, [], ◌∷◌, length, Option, Some, None, Ok, Err, refl, true≢false, sym, ◌∙◌, arith}
 use Rattle.std.specs.Prelude.{◌&&◌, ◌||◌, is_some, codes}
 use Rattle.swc_ecma_parser_common.specs.declared.span.Span.{Span}
 use Rattle.swc_ecma_parser_error.specs.Kind as faults
@@ -14,15 +14,16 @@ use Rattle.swc_ecma_parser_grammar.specs.declared.position.Position.{Position}
 use Rattle.swc_ecma_parser_grammar.specs.Looks.{kind_at, breaks_at, sees, same_kind, span_at}
 use Rattle.swc_ecma_parser_grammar.specs.Follows.{may_begin_expression_statement, begins_import_expression}
 use Rattle.swc_ecma_parser_grammar.specs.Reads.{with_in, nested_item, top_item}
+use Rattle.swc_ecma_parser_grammar.specs.Ends.{ends_at}
 use Rattle.swc_ecma_parser_grammar.specs.Entries.{script_code}
 use Rattle.swc_ecma_parser_grammar.specs.language.Contexts.{in_loop, in_breakable}
 use Rattle.swc_ecma_parser_grammar.specs.language.Goals.{Class, expression, assignment}
 use Rattle.swc_ecma_parser_grammar.specs.language.Items.{sub_statement}
-use Rattle.swc_ecma_parser_reader.specs.State.{State, Outcome, Reader, moved, coded, within, labelled, labelled_as, expect, end}
+use Rattle.swc_ecma_parser_reader.specs.State.{State, Outcome, Reader, moved, coded, within, fault, labelled, labelled_as, name, expect, end}
 use Rattle.swc_ecma_parser_reader.specs.Expressions.{expr}
 use Rattle.swc_ecma_parser_reader.specs.Patterns.{pattern}
-use Rattle.swc_ecma_parser_reader.specs.Reader.{empty, debugger, uninitialized, initialized, declarator, declarators_turn, declarators, var, closes, at_end, close, items_turn, items, block_from, block, braced, note_statement, no_label, expr_stmt, expr_stmt_at, optional_end, import_stmt, import_stmt_at, thrown, throw, head, while_stmt, do_while, Link, goes_on, condition, alternative, link_from, link, behind_link, links, if_stmt, begins_clause, closes_clause, Clauses, clause_from, default_clause, case_clause, clause, clauses_turn, clauses, switch_stmt, is_handled, handled, bound, parameter, finalizer, caught, handler, try_stmt, stmt_by, stmt_level, stmt, shebang_in, shebang_taken, shebang, script_body, script}
-use Rattle.swc_ecma_parser_reader.proofs.Takes.{Falls, falls_then, falls_last, falls_coded, falls_if, less, falls_next, moves, takes, falls_past, falls_moved, wanted_falls, too_deep_falls, refuse_falls, fault_falls, end_falls, close_falls, expect_falls, loop_falls}
+use Rattle.swc_ecma_parser_reader.specs.Reader.{empty, debugger, uninitialized, initialized, declarator, declarators_turn, declarators, var, closes, at_end, close, items_turn, items, block_from, block, braced, note_statement, no_label, expr_stmt, expr_stmt_at, told, target, unbroken, break_stmt, uncontinued, continue_stmt, misplaced, after_return, operand, returned, return_stmt, optional_end, import_stmt, import_stmt_at, thrown, throw, head, while_stmt, do_while, Link, goes_on, condition, alternative, link_from, link, behind_link, links, if_stmt, begins_clause, closes_clause, Clauses, clause_from, default_clause, case_clause, clause, clauses_turn, clauses, switch_stmt, is_handled, handled, bound, parameter, finalizer, caught, handler, try_stmt, stmt_by, stmt_level, stmt, shebang_in, shebang_taken, shebang, script_body, script}
+use Rattle.swc_ecma_parser_reader.proofs.Takes.{Falls, falls_then, falls_last, falls_coded, falls_if, less, falls_next, moves, takes, falls_past, falls_moved, wanted_falls, too_deep_falls, refuse_falls, refused_falls, fewer, name_falls, fault_falls, end_falls, close_falls, expect_falls, loop_falls}
 use Rattle.swc_ecma_parser_reader.proofs.expressions.Falls.{reject_falls, expr_falls}
 use Rattle.swc_ecma_parser_reader.proofs.patterns.Falls.{pattern_falls}
 
@@ -219,6 +220,48 @@ module _ (inner : Reader Tree) (h : (s : State) → Falls 1 (length s.at.left) (
   if_falls s e = falls_then 1 0 (length s.at.left) (link inner inner_expr s) _ (falls_past s _ e (link_from_falls (span_at s.at) (moved s))) (λ l t.
       behind_falls (links inner inner_expr (length s.at.left)) (links_fall (length s.at.left)) l t)
 
+-- ---- `break`, `continue` and `return`
+
+told_falls : (fs : List Fault) (s : State) → Falls 0 (length s.at.left) (told fs s)
+told_falls [] s = omega arith
+told_falls (f ∷ fs) s = falls_then 0 0 (length s.at.left) (fault f s) _ (fault_falls f s) (λ _ t. told_falls fs t)
+
+target_falls : (s : State) → Falls 0 (length s.at.left) (target s)
+unfolding target
+target_falls s = falls_if 0 (length s.at.left) (ends_at s.at) _ _ (omega arith)
+    (falls_last 0 (length s.at.left) (name faults.ExpectedIdent s) _ (less (length s.at.left) (name faults.ExpectedIdent s) (name_falls faults.ExpectedIdent s)))
+
+break_falls : (s : State) → kind_at s.at ≢ kind.End → Falls 1 (length s.at.left) (break_stmt s)
+unfolding break_stmt unbroken
+break_falls s e = falls_past s _ e (falls_then 0 0 (length (after s.at).left) (target (moved s)) _ (target_falls (moved s)) (λ x t.
+    falls_then 0 0 (length t.at.left) (end faults.Expected t) _ (end_falls faults.Expected t) (λ _ u.
+    falls_last 0 (length u.at.left) (unbroken x (record { lo = (span_at s.at).lo; hi = u.at.last.hi }) u) _ (told_falls _ u))))
+
+continue_falls : (s : State) → kind_at s.at ≢ kind.End → Falls 1 (length s.at.left) (continue_stmt s)
+unfolding continue_stmt uncontinued
+continue_falls s e = falls_past s _ e (falls_then 0 0 (length (after s.at).left) (target (moved s)) _ (target_falls (moved s)) (λ x t.
+    falls_then 0 0 (length t.at.left) (end faults.Expected t) _ (end_falls faults.Expected t) (λ _ u.
+    falls_last 0 (length u.at.left) (uncontinued x (record { lo = (span_at s.at).lo; hi = u.at.last.hi }) u) _ (told_falls _ u))))
+
+after_return_falls : (n : ℕ) (start : Span) (o : Outcome Tree) → Falls 0 n o → Falls 0 n (after_return start o)
+unfolding misplaced
+after_return_falls n start (Ok p) h = fewer 0 n (length p.1.at.left) (after_return start (Ok p)) (omega arith) (falls_last 0 (length p.1.at.left) (misplaced start p.1) _ (told_falls _ p.1))
+after_return_falls n start (Err e) h = falls_if 0 n (is_some e.1.scope.mark) _ _ tt (refused_falls Tree 0 n e.0 (misplaced start e.1))
+
+module _ (inner : Reader Tree) (h : (s : State) → Falls 1 (length s.at.left) (inner s)) where
+  operand_falls : (s : State) → Falls 0 (length s.at.left) (operand inner s)
+  unfolding operand
+  operand_falls s = falls_if 0 (length s.at.left) (ends_at s.at) _ _ (omega arith) (less (length s.at.left) (within with_in inner s) (whole_falls inner h s))
+
+  returned_falls : (start : Span) (s : State) → Falls 0 (length s.at.left) (returned inner start s)
+  unfolding returned
+  returned_falls start s = falls_then 0 0 (length s.at.left) (operand inner s) _ (operand_falls s) (λ x t.
+      falls_last 0 (length t.at.left) (end faults.Expected t) _ (end_falls faults.Expected t))
+
+  return_falls : (s : State) → kind_at s.at ≢ kind.End → Falls 1 (length s.at.left) (return_stmt inner s)
+  unfolding return_stmt
+  return_falls s e = falls_past s _ e (after_return_falls (length (after s.at).left) (span_at s.at) (returned inner (span_at s.at) (moved s)) (returned_falls (span_at s.at) (moved s)))
+
 -- ---- `switch`
 
 module _ (inner : Reader Tree) (h : (s : State) → Falls 1 (length s.at.left) (inner s)) where
@@ -304,6 +347,9 @@ module _ (inner : Position → Reader Tree) (h : (at : Position) (s : State) →
   stmt_by_falls at kind.Var s e = var_falls inner_expr g inner_pat i s (λ h. cc)
   stmt_by_falls at kind.If s e = if_falls (inner sub_statement) (h sub_statement) (inner_expr expression) (g expression) s (λ h. cc)
   stmt_by_falls at kind.Switch s e = switch_falls (inner nested_item) (h nested_item) (inner_expr expression) (g expression) s (λ h. cc)
+  stmt_by_falls at kind.Break s e = break_falls s (λ h. cc)
+  stmt_by_falls at kind.Continue s e = continue_falls s (λ h. cc)
+  stmt_by_falls at kind.Return s e = return_falls (inner_expr expression) (g expression) s (λ h. cc)
   stmt_by_falls at kind.Throw s e = throw_falls (inner_expr expression) (g expression) s (λ h. cc)
   stmt_by_falls at kind.Try s e = try_falls (inner nested_item) (h nested_item) inner_pat i s (λ h. cc)
   stmt_by_falls at kind.While s e = while_falls (inner sub_statement) (h sub_statement) (inner_expr expression) (g expression) s (λ h. cc)

@@ -8,6 +8,7 @@ pub mod Loops
 pub mod Meets
 pub mod Errors
 pub mod Between
+pub mod SoundParts
 pub mod Sound
 pub mod Opens
 pub mod Chains

@@ -1,12 +1,18 @@
 -- With twice as many levels as tokens, and two more, nothing is too deep but what an error token says: a statement and an
 -- expression below need a token, and the two can share their first.
-use Rattle.std.proofs.Common.{◌≡◌, ◌≢◌, ℕ, zero, suc, ◌+◌, ◌*◌, ◌≤◌, Bool, true, false, cond, [], ◌∷◌, ◌++◌, length, Ok, Err, refl, arith}
+use Rattle.std.proofs.Common.{◌≡◌, ◌≢◌, ℕ, zero, suc, ◌+◌, ◌*◌, ◌≤◌, Bool, true, false, cond, List, [], ◌∷◌, ◌++◌, length, Ok, Err, refl, arith}
 use Rattle.std.specs.Prelude.{◌&&◌, ◌||◌, is_some, codes}
 use Rattle.swc_ecma_parser_common.specs.declared.span.Span.{Span}
+use Rattle.swc_ecma_parser_error.specs.declared.kind.SyntaxError.{SyntaxError}
+use Rattle.swc_ecma_parser_error.specs.declared.kind.SyntaxError.TheVariants as says
 use Rattle.swc_ecma_parser_error.specs.Kind as faults
 use Rattle.swc_ecma_parser_error.specs.Kind.{Kind, Fault, fault_of, kind_of}
 use Rattle.swc_ecma_parser_token.specs.declared.kind.TokenKind.{TokenKind}
 use Rattle.swc_ecma_parser_token.specs.declared.kind.TokenKind.TheVariants as kind
+use Rattle.swc_ecma_parser_token.specs.declared.token.Token.{Token}
+use Rattle.swc_ecma_parser_token.specs.declared.token.Token.TheVariants as token
+use Rattle.swc_ecma_parser_token.specs.declared.token.TokenAndSpan.{TokenAndSpan}
+use Rattle.swc_ecma_parser_input.specs.TokenSource.{means_out_of_memory}
 use Rattle.swc_ecma_parser_input.specs.Place.{Place, after}
 use Rattle.swc_ecma_parser_model.specs.Tree as tree
 use Rattle.swc_ecma_parser_model.specs.Tree.{Tree}
@@ -15,17 +21,18 @@ use Rattle.swc_ecma_parser_grammar.specs.declared.position.Position.{Position}
 use Rattle.swc_ecma_parser_grammar.specs.Looks.{kind_at, breaks_at, sees, span_at}
 use Rattle.swc_ecma_parser_grammar.specs.Follows.{may_begin_expression_statement, begins_import_expression}
 use Rattle.swc_ecma_parser_grammar.specs.Reads.{with_in, nested_item, top_item}
+use Rattle.swc_ecma_parser_grammar.specs.Ends.{ends_at}
 use Rattle.swc_ecma_parser_grammar.specs.Entries.{script_code}
 use Rattle.swc_ecma_parser_grammar.specs.language.Contexts.{in_loop, in_breakable}
 use Rattle.swc_ecma_parser_grammar.specs.language.Goals.{Class, expression, assignment}
 use Rattle.swc_ecma_parser_grammar.specs.language.Items.{sub_statement}
-use Rattle.swc_ecma_parser_reader.specs.State.{State, Outcome, Reader, moved, coded, within, noted, module_fault, fault_at, labelled, labelled_as, expect, end}
+use Rattle.swc_ecma_parser_reader.specs.State.{State, Outcome, Reader, moved, coded, within, noted, module_fault, recorded_at, recorded_in, fault, fault_at, refused, labelled, labelled_as, name, expect, end}
 use Rattle.swc_ecma_parser_reader.specs.Expressions.{expr}
 use Rattle.swc_ecma_parser_reader.specs.Patterns.{pattern}
-use Rattle.swc_ecma_parser_reader.specs.Reader.{empty, debugger, initialized, declarator, declarators_turn, declarators, var, closes, at_end, close, items_turn, items, block_from, block, braced, note_statement, no_label, expr_stmt, expr_stmt_at, optional_end, import_stmt, import_stmt_at, thrown, throw, head, while_stmt, do_while, goes_on, condition, alternative, link_from, link, links, if_stmt, begins_clause, closes_clause, Clauses, clause_from, default_clause, case_clause, clause, clauses_turn, clauses, switch_stmt, begins_at, is_handled, handled, bound, parameter, finalizer, caught, handler, try_stmt, stmt_by, stmt_level, stmt, shebang, script_body, script}
+use Rattle.swc_ecma_parser_reader.specs.Reader.{empty, debugger, initialized, declarator, declarators_turn, declarators, var, closes, at_end, close, items_turn, items, block_from, block, braced, note_statement, no_label, expr_stmt, expr_stmt_at, optional_end, import_stmt, import_stmt_at, told, target, unbroken, break_stmt, uncontinued, continue_stmt, misplaced, after_return, operand, returned, return_stmt, thrown, throw, head, while_stmt, do_while, goes_on, condition, alternative, link_from, link, links, if_stmt, begins_clause, closes_clause, clause_from, default_clause, case_clause, clause, clauses_turn, clauses, switch_stmt, begins_at, is_handled, handled, bound, parameter, finalizer, caught, handler, try_stmt, stmt_by, stmt_level, stmt, shebang, script_body, script}
 use Rattle.swc_ecma_parser_reader.specs.Limits.{has_too_deep_token}
 use Rattle.swc_ecma_parser_reader.proofs.Meets.{Answers, answers_then, answers_if, loop_answers, meant}
-use Rattle.swc_ecma_parser_reader.proofs.Shallow.{Fine, fine_more, fine_after, fine_taken, Shallow, Kept, fault_shallow, wanted_shallow, refuse_shallow, end_shallow, expect_shallow, close_shallow, shebang_shallow, Levels}
+use Rattle.swc_ecma_parser_reader.proofs.Shallow.{Fine, fine_more, fine_after, fine_taken, Shallow, Kept, name_shallow, fault_shallow, wanted_shallow, refuse_shallow, end_shallow, expect_shallow, close_shallow, shebang_shallow, Levels}
 use Rattle.swc_ecma_parser_reader.proofs.Opens.{chain_goes}
 use Rattle.swc_ecma_parser_reader.proofs.expressions.Limits.{reject_shallow, expr_shallow}
 use Rattle.swc_ecma_parser_reader.proofs.patterns.Limits.{pattern_shallow}
@@ -75,6 +82,45 @@ module_fault_fine m g s f = by_module s.code.flags.module
 optional_end_shallow : (m : ℕ) (s : State) → Fine m s.at.left → Answers (Kept m) Shallow (optional_end s)
 unfolding optional_end
 optional_end_shallow m s f = answers_if _ _ (sees kind.Semi s.at) _ _ (λ _. fine_after m s.at f) (λ _. f)
+
+-- ---- faults that are told
+
+-- what a fault for want of memory says is something else
+memory_kind : (k : SyntaxError) → means_out_of_memory k ≡ true → kind_of k ≢ faults.TooDeep
+memory_kind says.TooDeep h e = cc
+memory_kind _ h e = cc
+
+recorded_at_memory : (g : Fault) (s : State) (t : Token) → Answers (λ _ _. Unit {0}) Shallow (recorded_at g s t)
+recorded_at_memory g s (token.Error e) = answers_if _ _ (means_out_of_memory e.kind) _ _ (λ h. memory_kind e.kind h) (λ _. tt)
+recorded_at_memory g s _ = tt
+
+recorded_in_memory : (g : Fault) (s : State) (ts : List TokenAndSpan) → Answers (λ _ _. Unit {0}) Shallow (recorded_in g s ts)
+recorded_in_memory g s [] = tt
+recorded_in_memory g s (t ∷ ts) = recorded_at_memory g s t.token
+
+told_memory : (fs : List Fault) (s : State) → Answers (λ _ _. Unit {0}) Shallow (told fs s)
+unfolding fault
+told_memory [] s = tt
+told_memory (f ∷ fs) s = answers_then (λ _ _. Unit {0}) _ (fault f s) _ (recorded_in_memory f s s.at.left) (λ _ t _. told_memory fs t)
+
+told_shallow : (m : ℕ) (fs : List Fault) (s : State) → Fine m s.at.left → Answers (Kept m) Shallow (told fs s)
+told_shallow m [] s g = g
+told_shallow m (f ∷ fs) s g = answers_then (Kept m) _ (fault f s) _ (fault_shallow m s g f) (λ _ t k. told_shallow m fs t k)
+
+refused_kept : {A : Type 0} (P : A → State → Type 0) (f : Fault) (o : Outcome (Unit {0})) → f.kind ≢ faults.TooDeep → Answers (λ _ _. Unit {0}) Shallow o → Answers P Shallow (refused f o)
+refused_kept P f (Ok p) h g = h
+refused_kept P f (Err e) h g = g
+
+-- the fault of a `return` that was refused
+after_return_shallow : (m : ℕ) (start : Span) (o : Outcome Tree) → Answers (Kept m) Shallow o → Answers (Kept m) Shallow (after_return start o)
+unfolding misplaced
+after_return_shallow m start (Ok p) h = answers_then (Kept m) _ (misplaced start p.1) _ (told_shallow m _ p.1 h) (λ _ t k. k)
+after_return_shallow m start (Err e) h = answers_if (Kept m) Shallow (is_some e.1.scope.mark) _ _ (λ _. h) (λ _. refused_kept (Kept m) e.0 (misplaced start e.1) h (told_memory _ e.1))
+
+target_shallow : (m : ℕ) (s : State) → Fine m s.at.left → Answers (Kept m) Shallow (target s)
+unfolding target
+target_shallow m s g = answers_if _ _ (ends_at s.at) _ _ (λ _. g)
+    (λ _. answers_then (Kept m) _ (name faults.ExpectedIdent s) _ (name_shallow m s g faults.ExpectedIdent (λ e. cc)) (λ x t k. k))
 
 -- a refusal that says where it is, is not of what is too deep
 labelled_shallow : {A : Type 0} (P : A → State → Type 0) (o : Outcome A) → Answers P Shallow o → Answers P Shallow (labelled_as o)
@@ -170,6 +216,27 @@ module _ (inner : Position → Reader Tree) (inner_expr : Class → Reader Tree)
       answers_then _ _ (within with_in (inner_expr expression) u) _
       (answers_then (Kept i) _ (inner_expr expression (coded (with_in u.code) u)) _ (below_expr expression i (coded (with_in u.code) u) h j) (λ x v k. k)) (λ x v k.
       answers_then _ _ (expect kind.RParen v) _ (expect_shallow i v k kind.RParen) (λ _ w z. z)))
+
+  break_shallow : Answers (Kept m) Shallow (break_stmt s)
+  unfolding break_stmt unbroken
+  break_shallow = answers_then _ _ (target (moved s)) _ (target_shallow m (moved s) (fine_after m s.at f)) (λ x t k.
+      answers_then _ _ (end faults.Expected t) _ (end_shallow m t k faults.Expected (λ e. cc)) (λ _ u j.
+      answers_then (Kept m) _ (unbroken x (record { lo = (span_at s.at).lo; hi = u.at.last.hi }) u) _ (told_shallow m _ u j) (λ _ v z. z)))
+
+  continue_shallow : Answers (Kept m) Shallow (continue_stmt s)
+  unfolding continue_stmt uncontinued
+  continue_shallow = answers_then _ _ (target (moved s)) _ (target_shallow m (moved s) (fine_after m s.at f)) (λ x t k.
+      answers_then _ _ (end faults.Expected t) _ (end_shallow m t k faults.Expected (λ e. cc)) (λ _ u j.
+      answers_then (Kept m) _ (uncontinued x (record { lo = (span_at s.at).lo; hi = u.at.last.hi }) u) _ (told_shallow m _ u j) (λ _ v z. z)))
+
+  return_shallow : kind_at s.at ≡ kind.Return → Answers (Kept m) Shallow (return_stmt (inner_expr expression) s)
+  unfolding return_stmt returned operand
+  return_shallow e =
+      let (i, h, g) = fine_taken m s.at kind.Return e (λ z. cc) f in
+      after_return_shallow m (span_at s.at) (returned (inner_expr expression) (span_at s.at) (moved s)) (answers_then (Kept m) _ (operand (inner_expr expression) (moved s)) _
+      (answers_if (Kept i) _ (ends_at (after s.at)) _ _ (λ _. g)
+      (λ _. answers_then (Kept i) _ (inner_expr expression (coded (with_in s.code) (moved s))) _ (below_expr expression i (coded (with_in s.code) (moved s)) (omega arith) g) (λ x t k. k))) (λ x t k.
+      answers_then _ _ (end faults.Expected t) _ (end_shallow i t k faults.Expected (λ z. cc)) (λ _ u j. fine_more i m u.at.left (omega arith) j)))
 
   throw_shallow : kind_at s.at ≡ kind.Throw → Answers (Kept m) Shallow (throw (inner_expr expression) s)
   unfolding throw thrown
@@ -267,6 +334,9 @@ module _ (inner : Position → Reader Tree) (inner_expr : Class → Reader Tree)
   by_shallow kind.Var e = var_shallow
   by_shallow kind.If e = links_shallow inner inner_expr n below below_expr (suc (length s.at.left)) m enough s e f
   by_shallow kind.Switch e = switch_shallow e
+  by_shallow kind.Break e = break_shallow
+  by_shallow kind.Continue e = continue_shallow
+  by_shallow kind.Return e = return_shallow e
   by_shallow kind.Throw e = throw_shallow e
   by_shallow kind.Try e = try_shallow e
   by_shallow kind.While e = while_shallow e

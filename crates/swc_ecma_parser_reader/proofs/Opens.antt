@@ -1,5 +1,5 @@
 -- What the first token decides: an expression statement, one that begins with `import`, and that a body does not end there.
-use Rattle.std.proofs.Common.{◌≡◌, ℕ, zero, suc, Bool, true, false, [], refl}
+use Rattle.std.proofs.Common.{◌≡◌, ℕ, zero, suc, Bool, true, false, [], refl, ◌∙◌, ap}
 use Rattle.std.specs.Prelude.{not, ◌&&◌, ◌||◌}
 use Rattle.swc_ecma_parser_token.specs.declared.kind.TokenKind.{TokenKind}
 use Rattle.swc_ecma_parser_token.specs.declared.kind.TokenKind.TheVariants as kind
@@ -11,7 +11,7 @@ use Rattle.swc_ecma_parser_grammar.specs.declared.position.Position.{Position}
 use Rattle.swc_ecma_parser_grammar.specs.Looks.{kind_at, sees, same_kind}
 use Rattle.swc_ecma_parser_grammar.specs.Names.{Code}
 use Rattle.swc_ecma_parser_grammar.specs.Follows.{may_begin_expression_statement, begins_import_expression}
-use Rattle.swc_ecma_parser_grammar.specs.Reads.{with_in, StmtRule, block_rule, empty_rule, debugger_rule, var_rule, if_statement_rule, switch_rule, throw_rule, try_rule, while_rule, do_while_rule, expr_rule, import_rule, if_rule}
+use Rattle.swc_ecma_parser_grammar.specs.Reads.{with_in, StmtRule, block_rule, empty_rule, debugger_rule, var_rule, if_statement_rule, switch_rule, break_rule, continue_rule, return_rule, throw_rule, try_rule, while_rule, do_while_rule, expr_rule, import_rule, if_rule}
 use Rattle.swc_ecma_parser_grammar.specs.Notes.{statement_note}
 use Rattle.swc_ecma_parser_grammar.specs.ReadsSupported.{ReadsClass, ReadsPat, ReadsStmt}
 use Rattle.swc_ecma_parser_grammar.specs.language.Goals.{Class, expression}
@@ -20,6 +20,7 @@ use Rattle.swc_ecma_parser_grammar.proofs.SupportedBegins.{opens, expr_opens}
 use Rattle.swc_ecma_parser_reader.specs.State.{State, Reader}
 use Rattle.swc_ecma_parser_reader.specs.Reader.{closes, at_end, begins_clause, closes_clause, goes_on, stmt_by, expr_stmt_at}
 use Rattle.swc_ecma_parser_reader.proofs.Meets.{saw}
+use Rattle.swc_ecma_parser_reader.proofs.Errors.{is_error}
 use Rattle.swc_ecma_parser_reader.proofs.expressions.CompleteKinds.{import_unnamed}
 
 -- ---- an expression statement is read by its first token
@@ -32,6 +33,9 @@ opened stmt expr pat at s kind.Semi e h g = cc
 opened stmt expr pat at s kind.Debugger e h g = cc
 opened stmt expr pat at s kind.Var e h g = cc
 opened stmt expr pat at s kind.If e h g = cc
+opened stmt expr pat at s kind.Break e h g = cc
+opened stmt expr pat at s kind.Continue e h g = cc
+opened stmt expr pat at s kind.Return e h g = cc
 opened stmt expr pat at s kind.Throw e h g = cc
 opened stmt expr pat at s kind.Switch e h g = cc
 opened stmt expr pat at s kind.Try e h g = cc
@@ -80,10 +84,10 @@ chain_stops c h e = second_no (sees kind.Else c) (sees kind.If (after c)) h e
     second_no true b h e = h
     second_no false b h e = cc
 
--- ---- no statement begins where a block, a clause or a script ends
+-- ---- no statement begins where a block, a clause or a script ends, nor with an error token
 
 abbrev Going : TokenKind → Type 0
-Going k = (same_kind k kind.RBrace ≡ false) × (same_kind k kind.End ≡ false) × (same_kind k kind.Case ≡ false) × (same_kind k kind.Default ≡ false)
+Going k = (same_kind k kind.RBrace ≡ false) × (same_kind k kind.End ≡ false) × (same_kind k kind.Case ≡ false) × (same_kind k kind.Default ≡ false) × (is_error k ≡ false)
 
 pub goes_open : (k : TokenKind) → opens k ≡ true → Going k
 unfolding same_kind
@@ -91,29 +95,33 @@ goes_open kind.RBrace e = cc
 goes_open kind.End e = cc
 goes_open kind.Case e = cc
 goes_open kind.Default e = cc
-goes_open _ e = (refl, refl, refl, refl)
+goes_open kind.Error e = cc
+goes_open _ e = (refl, refl, refl, refl, refl)
 
 abbrev pub Goes : Place → Type 0
-Goes c = (closes c ≡ false) × (at_end c ≡ false) × (closes_clause c ≡ false)
+Goes c = (closes c ≡ false) × (at_end c ≡ false) × (closes_clause c ≡ false) × (is_error (kind_at c) ≡ false)
 
 goes_by : (c : Place) (k : TokenKind) → kind_at c ≡ k → Going k → Goes c
 unfolding closes at_end begins_clause closes_clause
-goes_by c k e h = (rw (e, h.0, h.1) refl, rw (e, h.1) refl, rw (e, h.0, h.1, h.2, h.3) refl)
+goes_by c k e h = (rw (e, h.0, h.1) refl, rw (e, h.1) refl, rw (e, h.0, h.1, h.2, h.3) refl, ap is_error e ∙ h.4)
 
 rule_goes : (Stmt : Code → Position → Tree → Place → Place → Type 0) (Expr : Class → Code → Tree → Place → Place → Type 0) (Pat : Code → Tree → Place → Place → Type 0)
     → ((k : Code) (x : Tree) (c d : Place) → Expr expression k x c d → opens (kind_at c) ≡ true)
     → (k : Code) (at : Position) (x : Tree) (c d : Place) → StmtRule Stmt Expr Pat k at x c d → Goes c
 unfolding same_kind
-rule_goes Stmt Expr Pat h k at x c d (block_rule r) = goes_by c kind.LBrace r.opens (refl, refl, refl, refl)
-rule_goes Stmt Expr Pat h k at x c d (empty_rule e g i) = goes_by c kind.Semi e (refl, refl, refl, refl)
-rule_goes Stmt Expr Pat h k at x c d (debugger_rule e g i) = goes_by c kind.Debugger e (refl, refl, refl, refl)
-rule_goes Stmt Expr Pat h k at x c d (var_rule xs m e r g i) = goes_by c kind.Var e (refl, refl, refl, refl)
-rule_goes Stmt Expr Pat h k at x c d (if_statement_rule (if_rule t y z m n e r s o i)) = goes_by c kind.If e (refl, refl, refl, refl)
-rule_goes Stmt Expr Pat h k at x c d (switch_rule y xs m n e r i s g j z) = goes_by c kind.Switch e (refl, refl, refl, refl)
-rule_goes Stmt Expr Pat h k at x c d (throw_rule y m e b r g i) = goes_by c kind.Throw e (refl, refl, refl, refl)
-rule_goes Stmt Expr Pat h k at x c d (try_rule y z w m n e r s o a i) = goes_by c kind.Try e (refl, refl, refl, refl)
-rule_goes Stmt Expr Pat h k at x c d (while_rule y z m e r s i) = goes_by c kind.While e (refl, refl, refl, refl)
-rule_goes Stmt Expr Pat h k at x c d (do_while_rule y z m n e s j r g i) = goes_by c kind.Do e (refl, refl, refl, refl)
+rule_goes Stmt Expr Pat h k at x c d (block_rule r) = goes_by c kind.LBrace r.opens (refl, refl, refl, refl, refl)
+rule_goes Stmt Expr Pat h k at x c d (empty_rule e g i) = goes_by c kind.Semi e (refl, refl, refl, refl, refl)
+rule_goes Stmt Expr Pat h k at x c d (debugger_rule e g i) = goes_by c kind.Debugger e (refl, refl, refl, refl, refl)
+rule_goes Stmt Expr Pat h k at x c d (var_rule xs m e r g i) = goes_by c kind.Var e (refl, refl, refl, refl, refl)
+rule_goes Stmt Expr Pat h k at x c d (if_statement_rule (if_rule t y z m n e r s o i)) = goes_by c kind.If e (refl, refl, refl, refl, refl)
+rule_goes Stmt Expr Pat h k at x c d (switch_rule y xs m n e r i s g j z) = goes_by c kind.Switch e (refl, refl, refl, refl, refl)
+rule_goes Stmt Expr Pat h k at x c d (break_rule y m e r g i) = goes_by c kind.Break e (refl, refl, refl, refl, refl)
+rule_goes Stmt Expr Pat h k at x c d (continue_rule y m e r g i) = goes_by c kind.Continue e (refl, refl, refl, refl, refl)
+rule_goes Stmt Expr Pat h k at x c d (return_rule y m e r g i) = goes_by c kind.Return e (refl, refl, refl, refl, refl)
+rule_goes Stmt Expr Pat h k at x c d (throw_rule y m e b r g i) = goes_by c kind.Throw e (refl, refl, refl, refl, refl)
+rule_goes Stmt Expr Pat h k at x c d (try_rule y z w m n e r s o a i) = goes_by c kind.Try e (refl, refl, refl, refl, refl)
+rule_goes Stmt Expr Pat h k at x c d (while_rule y z m e r s i) = goes_by c kind.While e (refl, refl, refl, refl, refl)
+rule_goes Stmt Expr Pat h k at x c d (do_while_rule y z m n e s j r g i) = goes_by c kind.Do e (refl, refl, refl, refl, refl)
 rule_goes Stmt Expr Pat h k at x c d (expr_rule e m b r l i g j) = goes_by c (kind_at c) refl (goes_open (kind_at c) (h (with_in k) e c m r))
 rule_goes Stmt Expr Pat h k at x c d (import_rule e m b r g i) = goes_by c (kind_at c) refl (goes_open (kind_at c) (h (with_in k) e c m r))
 

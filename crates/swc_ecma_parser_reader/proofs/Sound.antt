@@ -1,6 +1,6 @@
 -- What is read is in the grammar where nothing was recorded, and the faults of the table are the walk's.
-use Rattle.std.proofs.Common.{◌≡◌, ℕ, zero, suc, Bool, true, false, cond, List, [], ◌∷◌, ◌++◌, Option, length, Ok, Err, refl, sym, ◌∙◌, ap, subst, append_assoc, append-nil}
-use Rattle.std.specs.Prelude.{◌&&◌, ◌||◌, is_some, codes}
+use Rattle.std.proofs.Common.{◌≡◌, ℕ, zero, suc, Bool, true, false, List, [], ◌∷◌, ◌++◌, Option, length, Ok, Err, refl, sym, ◌∙◌, ap, subst, append-nil}
+use Rattle.std.specs.Prelude.{◌&&◌, ◌||◌, is_some}
 use Rattle.swc_ecma_parser_common.specs.declared.span.Span.{Span}
 use Rattle.swc_ecma_parser_error.specs.Kind as faults
 use Rattle.swc_ecma_parser_error.specs.Kind.{Kind, Fault}
@@ -21,17 +21,16 @@ use Rattle.swc_ecma_parser_token.specs.Kind.{token_kind, word_kind, keyword_kind
 use Rattle.swc_ecma_parser_input.specs.Place.{Place, after}
 use Rattle.swc_ecma_parser_model.specs.Tree as tree
 use Rattle.swc_ecma_parser_model.specs.Tree.{Tree, Text, listed, trees}
-use Rattle.swc_ecma_parser_model.specs.Directive.{is_use_strict}
-use Rattle.swc_ecma_parser_model.specs.Forms.{is_absent, is_ident, is_ident_named, is_binding_name, span_of}
+use Rattle.swc_ecma_parser_model.specs.Forms.{is_absent}
 use Rattle.swc_ecma_parser_grammar.specs.declared.position.Position.{Position}
 use Rattle.swc_ecma_parser_grammar.specs.Looks.{kind_at, breaks_at, sees, same_kind, span_at, spanned}
 use Rattle.swc_ecma_parser_grammar.specs.Names.{Code}
-use Rattle.swc_ecma_parser_grammar.specs.Ends.{Ends, by_semicolon, by_insertion, OptionalEnds, by_a_semicolon, by_nothing, can_end}
+use Rattle.swc_ecma_parser_grammar.specs.Ends.{Ends, ends_at}
 use Rattle.swc_ecma_parser_grammar.specs.Follows.{may_begin_expression_statement, begins_import_expression}
 use Rattle.swc_ecma_parser_grammar.specs.language.Contexts.{in_loop, in_breakable}
-use Rattle.swc_ecma_parser_grammar.specs.language.Goals.{Class, expression, assignment}
+use Rattle.swc_ecma_parser_grammar.specs.language.Goals.{Class, expression}
 use Rattle.swc_ecma_parser_grammar.specs.language.Items.{sub_statement}
-use Rattle.swc_ecma_parser_grammar.specs.Reads.{with_in, in_strict, directed, directs_on, nested_item, top_item, DeclaratorRule, plain_rule, initialized_rule, ReadsSeparated, ReadsItems, StmtRule, block_rule, empty_rule, debugger_rule, var_rule, if_statement_rule, CaseRule, case_clause_rule, default_clause_rule, ReadsCases, switch_rule, throw_rule, try_rule, while_rule, do_while_rule, expr_rule, import_rule, ReadsBlock, CatchRule, no_catch_rule, catch_rule, catch_parameter_rule, FinallyRule, no_finally_rule, finally_rule, ReadsHead, IfRule, if_rule, ElseRule, no_else_rule, else_rule, else_if_rule}
+use Rattle.swc_ecma_parser_grammar.specs.Reads.{with_in, nested_item, top_item, ReadsItems, TargetRule, OperandRule, no_operand_rule, operand_rule, break_rule, continue_rule, return_rule, StmtRule, block_rule, empty_rule, debugger_rule, if_statement_rule, CaseRule, case_clause_rule, default_clause_rule, ReadsCases, switch_rule, throw_rule, try_rule, while_rule, do_while_rule, expr_rule, import_rule, ReadsBlock, CatchRule, no_catch_rule, catch_rule, catch_parameter_rule, FinallyRule, no_finally_rule, finally_rule, ReadsHead, IfRule, if_rule, ElseRule, no_else_rule, else_rule, else_if_rule}
 use Rattle.swc_ecma_parser_grammar.specs.ReadsSupported.{ReadsClass, ReadsPat, ReadsElement, ReadsStmt}
 use Rattle.swc_ecma_parser_grammar.specs.Entries.{ReadsScript, ReadsShebang, some_shebang, no_shebang, script_code, has_error_token}
 use Rattle.swc_ecma_parser_grammar.specs.Walk as walks
@@ -40,259 +39,25 @@ use Rattle.swc_ecma_parser_grammar.specs.Notes.{notes, statement_note}
 use Rattle.swc_ecma_parser_grammar.specs.language.Noted.{has_meta}
 use Rattle.swc_ecma_parser_grammar.proofs.Tests.{or_no}
 use Rattle.swc_ecma_parser_grammar.proofs.Widens.{script_widens, script_supported}
-use Rattle.swc_ecma_parser_reader.specs.Notes.{held, ◌⊕◌, notes_of, all_notes_of}
-use Rattle.swc_ecma_parser_reader.specs.State.{State, Reader, moved, coded, flagged, within, noted, module_fault, fault_at, Outcome, labelled, labelled_as, expect, end}
+use Rattle.swc_ecma_parser_reader.specs.Notes.{◌⊕◌, notes_of, all_notes_of}
+use Rattle.swc_ecma_parser_reader.specs.State.{State, Reader, moved, coded, flagged, within, fault_at, Outcome, labelled, labelled_as, expect, end}
 use Rattle.swc_ecma_parser_reader.specs.Expressions.{Cover, expr, cover}
 use Rattle.swc_ecma_parser_reader.specs.Patterns.{pattern, element}
-use Rattle.swc_ecma_parser_reader.specs.Reader.{empty, debugger, initialized, declarator, declarators_turn, declarators, var, closes, at_end, close, directs, items_turn, items, block_from, block, braced, note_statement, no_label, expr_stmt, expr_stmt_at, optional_end, import_stmt, import_stmt_at, thrown, throw, head, while_stmt, do_while, Link, goes_on, condition, alternative, link_from, link, links, if_stmt, begins_clause, closes_clause, Clauses, clause_from, default_clause, case_clause, clause, clauses_turn, clauses, switch_stmt, begins_at, is_handled, handled, bound, parameter, finalizer, caught, handler, try_stmt, stmt_by, stmt_level, stmt, shebang_of, shebang_in, shebang_taken, shebang, script_body, script}
+use Rattle.swc_ecma_parser_reader.specs.Reader.{target, unbroken, break_stmt, uncontinued, continue_stmt, misplaced, operand, returned, return_stmt, empty, debugger, declarators, closes, at_end, close, items, block_from, block, braced, note_statement, no_label, expr_stmt, expr_stmt_at, optional_end, import_stmt, import_stmt_at, thrown, throw, head, while_stmt, do_while, Link, goes_on, condition, alternative, link_from, link, links, if_stmt, begins_clause, closes_clause, Clauses, clause_from, default_clause, case_clause, clause, clauses_turn, clauses, switch_stmt, begins_at, is_handled, handled, bound, parameter, finalizer, caught, handler, try_stmt, stmt_by, stmt_level, stmt, shebang_of, shebang_in, shebang_taken, shebang, script_body, script}
 use Rattle.swc_ecma_parser_reader.specs.Entry.{SoundScript}
 use Rattle.swc_ecma_parser_reader.specs.Limits.{has_out_of_memory_token}
 use Rattle.swc_ecma_parser_reader.proofs.expressions.SoundCovers.{SoundCover}
 use Rattle.swc_ecma_parser_reader.proofs.expressions.Sound.{expr_sound, cover_sound}
-use Rattle.swc_ecma_parser_reader.proofs.expressions.SoundSteps.{meets_as, reject_meets, Takes, expect_sound, noted_sound, fault_sound, walks_push, notes_push}
+use Rattle.swc_ecma_parser_reader.proofs.expressions.SoundSteps.{meets_as, Takes, expect_sound, fault_sound, walks_push, notes_push}
 use Rattle.swc_ecma_parser_reader.proofs.patterns.Sound.{pattern_sound, element_sound}
 use Rattle.swc_ecma_parser_reader.proofs.Notes.{or_nil, notes_nil}
 use Rattle.swc_ecma_parser_reader.proofs.Meets.{Meets, Refuses, meets_then, meets_if, wanted_meets, too_deep_meets, refuse_meets, Turned, loop_answers, saw, meant}
 use Rattle.swc_ecma_parser_reader.proofs.Errors.{kind_here, nothing_at_end}
 use Rattle.swc_ecma_parser_reader.proofs.Opens.{import_unnoted, chain_goes, chain_stops}
-use Rattle.swc_ecma_parser_reader.proofs.Between.{Sound, SoundTree, SoundStep, no_faults, same, sound_then, sound_more, sound_moved, sound_here, sound_as, sound_held, sound_after, sound_coded, within_sound, flags_back}
-
--- ---- ends
-
--- the end of a statement is one by the grammar
-end_sound : (missing : Kind) (s : State) → Meets (λ _ t. SoundStep (λ k. Ends) s t) (end missing s)
-unfolding end
-end_sound missing s = meets_if _ (sees kind.Semi s.at) _ _
-    (λ e. sound_moved s (saw s.at kind.Semi e) refl (by_semicolon (saw s.at kind.Semi e) refl))
-    (λ e. meets_if _ (can_end s.at) _ _ (λ h. sound_here s (by_insertion e h refl)) (λ _. refuse_meets _ missing s))
-
--- an end that nothing demands
-optional_end_sound : (s : State) → Meets (λ _ t. SoundStep (λ k. OptionalEnds) s t) (optional_end s)
-unfolding optional_end
-optional_end_sound s = meets_if _ (sees kind.Semi s.at) _ _ (λ e. sound_moved s (saw s.at kind.Semi e) refl (by_a_semicolon (saw s.at kind.Semi e) refl))
-    (λ e. sound_here s (by_nothing e refl))
-
--- ---- declarations
-
--- trees with a comma after each
-abbrev Front : (Tree → Place → Place → Type 0) → List Tree → Place → Place → Type 0
-Front Reads [] c d = d ≡ c
-Front Reads (x ∷ xs) c d = (m : Place) × Reads x c m × (kind_at m ≡ kind.Comma) × Front Reads xs (after m) d
-
-module _ (Reads : Tree → Place → Place → Type 0) (x : Tree) where
-  -- one more, with a comma behind it or as the last
-  front_push : (c i m : Place) (xs : List Tree) → Front Reads xs c i → Reads x i m → kind_at m ≡ kind.Comma → Front Reads (xs ++ x ∷ []) c (after m)
-  front_push c i m [] e r h = (m, subst (λ z. Reads x z m) e r, h, refl)
-  front_push c i m (y ∷ ys) (n, a, b, more) r h = (n, a, b, front_push (after n) i m ys more r h)
-
-  front_last : (c i d : Place) (xs : List Tree) → Front Reads xs c i → Reads x i d → sees kind.Comma d ≡ false → ReadsSeparated Reads (xs ++ x ∷ []) c d
-  front_last c i d [] e r h = (subst (λ z. Reads x z d) e r, h)
-  front_last c i d (y ∷ []) (m, a, b, e) r h = (m, a, b, front_last (after m) i d [] e r h)
-  front_last c i d (y ∷ z ∷ zs) (m, a, b, more) r h = (m, a, b, front_last (after m) i d (z ∷ zs) more r h)
-
-module _ (Expr : Class → Code → Tree → Place → Place → Type 0) (Pat : Code → Tree → Place → Place → Type 0) (expr : Class → Reader Tree) (pat : Reader Tree)
-    (sound_expr : (class : Class) (s : State) → Meets (λ x t. SoundTree (Expr class) s x t) (expr class s))
-    (sound_pat : (s : State) → Meets (λ x t. SoundTree Pat s x t) (pat s)) where
-  -- a declarator of these expressions and patterns
-  abbrev pub Declared : Code → Tree → Place → Place → Type 0
-  Declared = DeclaratorRule (Expr assignment) Pat
-
-  -- what stands behind a name
-  initialized_sound : (s : State) (p : Tree) (t : State) → SoundTree Pat s p t → kind_at t.at ≡ kind.Assign → Meets (λ x u. SoundTree Declared s x u) (initialized expr pat (span_at s.at) p t)
-  unfolding initialized spanned
-  initialized_sound s p t q e = meets_then _ (expr assignment (moved t)) _ (sound_expr assignment (moved t)) (λ y u r.
-      let b : Sound same (λ k l. walk (env_of k l) y) (notes_of y) (λ k c d. (kind_at c ≡ kind.Assign) × Expr assignment k y (after c) d) t u =
-      sound_after t u e refl refl refl (λ z. (e, z)) r in
-      sound_as s u refl refl refl (λ (i, z, w). initialized_rule p y i z w.0 w.1 refl) (sound_then q b))
-
-  -- a name, and what it is given where `=` stands
-  declarator_sound : (s : State) → Meets (λ x t. SoundTree Declared s x t) (declarator expr pat s)
-  unfolding declarator spanned
-  declarator_sound s = meets_then _ (pat s) _ (sound_pat s) (λ p t q. meets_if _ (sees kind.Assign t.at) _ _ (λ e. initialized_sound s p t q (saw t.at kind.Assign e))
-      (λ e. meets_if _ (is_binding_name p) _ _
-      (λ b. sound_as s t refl (sym (append-nil (walk (env_of s.code s.scope.labels) p))) (sym (notes_nil (notes_of p))) (λ r. plain_rule p r e b refl) q)
-      (λ _. reject_meets _ _ t)))
-
-  -- the declarators so far, and all
-  abbrev DeclaratorsSoFar : State → List Tree → State → Type 0
-  DeclaratorsSoFar s xs t = Sound same (λ k l. walks.walks (env_of k l) false (trees xs)) (all_notes_of (trees xs)) (λ k. Front (Declared k) xs) s t
-
-  abbrev Declarators : State → List Tree → State → Type 0
-  Declarators s xs t = Sound same (λ k l. walks.walks (env_of k l) false (trees xs)) (all_notes_of (trees xs)) (λ k. ReadsSeparated (Declared k) xs) s t
-
-  -- each turn reads one declarator
-  declarators_turn_sound : (s : State) (xs : List Tree) (t : State) → DeclaratorsSoFar s xs t
-      → Meets (Turned (declarators_turn expr pat) (DeclaratorsSoFar s) (Declarators s) Refuses) (declarators_turn expr pat xs t)
-  unfolding declarators_turn
-  declarators_turn_sound s xs t p = meets_then _ (declarator expr pat t) _ (declarator_sound t) (λ x u q. meets_if _ (sees kind.Comma u.at) _ _
-      (λ e. sound_as s (moved u) refl (walks_push (env_of s.code s.scope.labels) xs x) (notes_push xs x)
-      (λ (m, (i, a, b), z). subst (λ y. Front (Declared s.code) (xs ++ x ∷ []) s.at y) (sym z.1) (front_push (Declared s.code) x s.at i m xs a b z.0))
-      (sound_more (sound_then p q) (sound_moved {P = λ k. Takes kind.Comma} u (saw u.at kind.Comma e) refl (saw u.at kind.Comma e, refl))))
-      (λ e. sound_as s u refl (walks_push (env_of s.code s.scope.labels) xs x) (notes_push xs x)
-      (λ (i, a, b). front_last (Declared s.code) x s.at i u.at xs a b e) (sound_then p q)))
-
-  -- declarators with commas between, and none behind
-  declarators_sound : (s : State) → Meets (Declarators s) (declarators expr pat s)
-  unfolding declarators
-  declarators_sound s = loop_answers (declarators_turn expr pat) (DeclaratorsSoFar s) (Declarators s) Refuses (declarators_turn_sound s) (λ t. tt) [] s (sound_here s refl)
-
-  -- a `var` statement
-  var_sound : (Stmt : Code → Position → Tree → Place → Place → Type 0) (at : Position) (s : State) → kind_at s.at ≡ kind.Var
-      → Meets (λ x t. SoundTree (λ k. StmtRule Stmt Expr Pat k at) s x t) (var expr pat s)
-  unfolding var
-  var_sound Stmt at s e = meets_then _ (within with_in (declarators expr pat) (moved s)) _
-      (within_sound (λ xs k l. walks.walks (env_of k l) false (trees xs)) (λ xs. all_notes_of (trees xs)) (λ xs k. ReadsSeparated (Declared k) xs) with_in (λ k. refl) (declarators expr pat) (moved s)
-      (declarators_sound (coded (with_in s.code) (moved s)))) (λ xs m p.
-      meets_then _ (end faults.Unexpected m) _ (end_sound faults.Unexpected m) (λ _ t q.
-      sound_after s t e refl refl refl (λ (i, r, z). var_rule xs i e r z refl) (sound_more p q)))
-
--- ---- statements one behind another
-
--- the code behind these statements, and whether the next can be a directive
-abbrev pub code_after : Code → Bool → List Tree → Code
-code_after k directives [] = k
-code_after k directives (x ∷ xs) = code_after (directed k directives x) (directs_on directives x) xs
-
-abbrev pub directs_after : Bool → List Tree → Bool
-directs_after directives [] = directives
-directs_after directives (x ∷ xs) = directs_after (directs_on directives x) xs
-
--- behind the first statement no directive stands
-never_directs : (xs : List Tree) → directs_after false xs ≡ false
-never_directs [] = refl
-never_directs (x ∷ xs) = never_directs xs
-
--- the reader's test for directives is that of the grammar
-directs_agrees : (directives : Bool) (xs : List Tree) → directs directives xs ≡ directs_after directives xs
-directs_agrees directives [] = refl
-directs_agrees directives (x ∷ xs) = sym (never_directs xs)
-
--- a block's statements change no code
-pub code_stays : (k : Code) (xs : List Tree) → code_after k false xs ≡ k
-code_stays k [] = refl
-code_stays k (x ∷ xs) = code_stays k xs
-
--- a directive changes no setting
-in_strict_setting : (b : Bool) (k : Code) → (cond b (in_strict k) k).setting ≡ k.setting
-in_strict_setting true k = refl
-in_strict_setting false k = refl
-
-code_setting : (k : Code) (directives : Bool) (xs : List Tree) → (code_after k directives xs).setting ≡ k.setting
-code_setting k directives [] = refl
-code_setting k directives (x ∷ xs) = code_setting (directed k directives x) (directs_on directives x) xs ∙ in_strict_setting (directives && is_use_strict x) k
-
--- the code behind one statement more
-pub code_push : (k : Code) (directives : Bool) (xs : List Tree) (x : Tree) → directed (code_after k directives xs) (directs_after directives xs) x ≡ code_after k directives (xs ++ x ∷ [])
-code_push k directives [] x = refl
-code_push k directives (y ∷ ys) x = code_push (directed k directives y) (directs_on directives y) ys x
-
--- what the walk knows of the code behind a directive
-directed_env : (k : Code) (labels : List Text) (directives : Bool) (x : Tree) → env_of (directed k directives x) labels ≡ walks.directed (env_of k labels) directives x
-directed_env k labels directives x = by_test (directives && is_use_strict x)
-  where
-    by_test : (b : Bool) → env_of (cond b (in_strict k) k) labels ≡ cond b (record (env_of k labels) { strict = true }) (env_of k labels)
-    by_test true = refl
-    by_test false = refl
-
--- the walk of a body with one statement more
-pub items_walk_push : (k : Code) (labels : List Text) (directives : Bool) (xs : List Tree) (x : Tree)
-    → walks.walks (env_of k labels) directives (trees xs) ++ walk (env_of (code_after k directives xs) labels) x ≡ walks.walks (env_of k labels) directives (trees (xs ++ x ∷ []))
-items_walk_push k labels directives [] x = sym (append-nil (walk (env_of k labels) x))
-items_walk_push k labels directives (y ∷ ys) x =
-    let j : Code = directed k directives y in
-    let e : env_of j labels ≡ walks.directed (env_of k labels) directives y = directed_env k labels directives y in
-    append_assoc (walk (env_of k labels) y) (walks.walks (walks.directed (env_of k labels) directives y) false (trees ys)) (walk (env_of (code_after j false ys) labels) x)
-    ∙ ap (λ z. walk (env_of k labels) y ++ z) (subst (λ v. walks.walks v false (trees ys) ++ walk (env_of (code_after j false ys) labels) x ≡ walks.walks v false (trees (ys ++ x ∷ []))) e
-    (items_walk_push j labels false ys x))
-
-module _ (Reads : Code → Tree → Place → Place → Type 0) where
-  -- one more behind those read
-  pub items_push : (k : Code) (directives : Bool) (xs : List Tree) (x : Tree) (c m d : Place) → ReadsItems Reads k directives xs c m → Reads (code_after k directives xs) x m d
-      → ReadsItems Reads k directives (xs ++ x ∷ []) c d
-  items_push k directives [] x c m d e r = (d, subst (λ z. Reads k x z d) e r, refl)
-  items_push k directives (y ∷ ys) x c m d (i, a, more) r = (i, a, items_push (directed k directives y) (directs_on directives y) ys x i m d more r)
-
-  -- statements that were read, from the state before the first
-  abbrev pub SoundItems : Bool → State → List Tree → State → Type 0
-  SoundItems directives s xs t = Sound (λ k. code_after k directives xs) (λ k l. walks.walks (env_of k l) directives (trees xs)) (all_notes_of (trees xs)) (λ k. ReadsItems Reads k directives xs) s t
-
-  module _ (stmt : Reader Tree) (sound : (s : State) → Meets (λ x t. SoundTree Reads s x t) (stmt s)) (stops : Place → Bool) (directives : Bool) where
-    -- up to a place where they stop
-    abbrev Stopped : State → List Tree → State → Type 0
-    Stopped s xs t = SoundItems directives s xs t × (stops t.at ≡ true)
-
-    -- each turn reads one statement, under the code behind those before
-    items_turn_sound : (s : State) (xs : List Tree) (t : State) → SoundItems directives s xs t
-        → Meets (Turned (items_turn stmt stops directives) (SoundItems directives s) (Stopped s) Refuses) (items_turn stmt stops directives xs t)
-    unfolding items_turn
-    items_turn_sound s xs t p = meets_if _ (stops t.at) _ _ (λ e. (p, e)) (λ _. meets_then _ (stmt t) _ (sound t) (λ x u q.
-        let r = sound_then p q in
-        let e : directed u.code (directs directives xs) x ≡ code_after s.code directives (xs ++ x ∷ []) =
-        ap (λ j. directed j (directs directives xs) x) r.code ∙ ap (λ b. directed (code_after s.code directives xs) b x) (directs_agrees directives xs) ∙ code_push s.code directives xs x in
-        sound_coded s u (directed u.code (directs directives xs) x) e
-        (sound_as {g = λ k. code_after k directives xs} s u refl (items_walk_push s.code s.scope.labels directives xs x) (notes_push xs x)
-        (λ (i, a, b). items_push s.code directives xs x s.at i u.at a b) r)))
-
-    items_sound : (s : State) → Meets (Stopped s) (items stmt stops directives s)
-    unfolding items
-    items_sound s = loop_answers (items_turn stmt stops directives) (SoundItems directives s) (Stopped s) Refuses (items_turn_sound s) (λ t. tt) [] s (sound_here s refl)
+use Rattle.swc_ecma_parser_reader.proofs.Between.{Sound, SoundTree, SoundStep, no_faults, same, sound_then, sound_more, sound_moved, sound_here, sound_as, sound_held, sound_after, within_sound, flags_back}
+use Rattle.swc_ecma_parser_reader.proofs.SoundParts.{end_sound, optional_end_sound, Declarators, declarators_sound, var_sound, code_after, code_stays, code_setting, items_sound, close_sound, NoLabel, no_label_sound, NoNote, SoundNote, note_sound, and_false, unbroken_sound, uncontinued_sound, misplaced_sound, target_sound, after_return_meets}
 
 -- ---- statements
-
--- a `}`, or a fault
-close_sound : (s : State) → Meets (λ _ t. SoundStep (λ k. Takes kind.RBrace) s t) (close s)
-unfolding close
-close_sound s = meets_if _ (sees kind.RBrace s.at) _ _ (λ e. sound_moved s (saw s.at kind.RBrace e) refl (saw s.at kind.RBrace e, refl))
-    (λ _. fault_sound (λ k. Takes kind.RBrace) (fault_at (span_at s.at) faults.Expected) s refl)
-
--- a bare name before `:` is refused
-NoLabel : Tree → Code → Place → Place → Type 0
-NoLabel x k c d = (is_ident x && sees kind.Colon c ≡ false) × (d ≡ c)
-
-no_label_sound : (x : Tree) (s : State) → Meets (λ _ t. SoundStep (NoLabel x) s t) (no_label x s)
-unfolding no_label NoLabel
-no_label_sound x s = meets_if _ (is_ident x && sees kind.Colon s.at) _ _ (λ _. wanted_meets _ faults.Unexpected s) (λ e. sound_here s (e, refl))
-
--- the bare name `interface` is noted, or recorded in module code
-NoNote : Tree → Code → Place → Place → Type 0
-NoNote x k c d = (k.flags.module && is_ident_named (codes "interface") x ≡ false) × (d ≡ c)
-
-SoundNote : Tree → State → State → Type 0
-SoundNote x s t = Sound same no_faults (held (statement_note x)) (NoNote x) s t
-
--- in module code it is a fault, and else held back
-module_fault_sound : (x : Tree) (s : State) → is_ident_named (codes "interface") x ≡ true → SoundNote x s (module_fault (fault_at (span_of x) faults.InvalidIdentInStrict) s)
-unfolding SoundNote NoNote
-module_fault_sound x s e = by_module s.code.flags.module refl
-  where
-    f : Fault
-    f = fault_at (span_of x) faults.InvalidIdentInStrict
-
-    by_module : (b : Bool) → s.code.flags.module ≡ b → Sound same no_faults (held (statement_note x)) (NoNote x) s (cond b (noted f s) (record s { notes = record s.notes { held_back = s.notes.held_back ++ f ∷ [] } }))
-    by_module true h = noted_sound (NoNote x) f s refl (statement_note x)
-    by_module false h = record {
-      code = refl;
-      scope = refl;
-      added = [];
-      faults = sym (append-nil s.faults);
-      notes = λ i. rw (e, or_nil s.notes.found_module_item) refl;
-      found = sym (or_nil s.notes.found_module_item);
-      walked = λ i d. refl;
-      keeps = λ i. i;
-      spares = λ i g. g;
-      remembers = λ i. i;
-      reads = λ i. (rw h refl, refl);
-    }
-
--- a conjunction is false where its second part is
-and_false : (a b : Bool) → b ≡ false → (a && b) ≡ false
-and_false true b e = e
-and_false false b e = refl
-
-note_sound : (x : Tree) (s : State) → Meets (λ _ t. SoundNote x s t) (note_statement x s)
-unfolding note_statement SoundNote NoNote
-note_sound x s = meets_if _ (is_ident_named (codes "interface") x) _ _ (λ e. module_fault_sound x s e)
-    (λ e. sound_as s s refl refl (rw e refl) (λ h. h) (sound_here {P = NoNote x} s (and_false s.code.flags.module (is_ident_named (codes "interface") x) e, refl)))
 
 module _ (Stmt : Code → Position → Tree → Place → Place → Type 0) (Expr : Class → Code → Tree → Place → Place → Type 0) (Pat : Code → Tree → Place → Place → Type 0)
     (inner : Position → Reader Tree) (inner_expr : Class → Reader Tree) (inner_pat : Reader Tree)
@@ -379,6 +144,48 @@ module _ (Stmt : Code → Position → Tree → Place → Place → Type 0) (Exp
       meets_then _ (within with_in (inner_expr expression) (moved s)) _ (inner_sound (moved s)) (λ x m p.
       meets_then _ (end faults.Expected m) _ (end_sound faults.Expected m) (λ _ t q.
       sound_after s t e refl refl refl (λ (i, r, z). throw_rule x i e (or_no (breaks_at (after s.at)) _ b).0 r z refl) (sound_more p q))))
+
+  -- ---- `break`, `continue` and `return`
+
+  break_sound : (s : State) → kind_at s.at ≡ kind.Break → Meets (SoundStmt s) (break_stmt s)
+  unfolding break_stmt spanned
+  break_sound s e = meets_then _ (target (moved s)) _ (target_sound (moved s)) (λ x m p.
+      meets_then _ (end faults.Expected m) _ (end_sound faults.Expected m) (λ _ n q.
+      meets_then _ (unbroken x (spanned s.at n.at) n) _ (unbroken_sound x (spanned s.at n.at) n) (λ _ t r.
+      let b : Sound same no_faults (notes_of x) (λ k c d. ((i : Place) × TargetRule k x c i × Ends i d) × (d ≡ n.at)) (moved s) n = sound_as (moved s) n refl refl refl (λ a. (a, refl)) (sound_more p q) in
+      sound_after s t e refl refl (notes_nil (notes_of x))
+      (λ (j, ((i, a, g), h), z). break_rule x i e a (subst (Ends i) (sym z) g) (ap (λ v. tree.break (spanned s.at v) x) (sym (z ∙ h)))) (sound_then b r))))
+
+  continue_sound : (s : State) → kind_at s.at ≡ kind.Continue → Meets (SoundStmt s) (continue_stmt s)
+  unfolding continue_stmt spanned
+  continue_sound s e = meets_then _ (target (moved s)) _ (target_sound (moved s)) (λ x m p.
+      meets_then _ (end faults.Expected m) _ (end_sound faults.Expected m) (λ _ n q.
+      meets_then _ (uncontinued x (spanned s.at n.at) n) _ (uncontinued_sound x (spanned s.at n.at) n) (λ _ t r.
+      let b : Sound same no_faults (notes_of x) (λ k c d. ((i : Place) × TargetRule k x c i × Ends i d) × (d ≡ n.at)) (moved s) n = sound_as (moved s) n refl refl refl (λ a. (a, refl)) (sound_more p q) in
+      sound_after s t e refl refl (notes_nil (notes_of x))
+      (λ (j, ((i, a, g), h), z). continue_rule x i e a (subst (Ends i) (sym z) g) (ap (λ v. tree.continue (spanned s.at v) x) (sym (z ∙ h)))) (sound_then b r))))
+
+  operand_sound : (s : State) → Meets (λ x t. SoundTree (OperandRule Expr) s x t) (operand (inner_expr expression) s)
+  unfolding operand
+  operand_sound s = meets_if _ (ends_at s.at) _ _ (λ e. sound_here s (no_operand_rule e refl refl))
+      (λ e. meets_as (within with_in (inner_expr expression) s) (inner_sound s) (λ x t p. sound_as s t refl refl refl (λ r. operand_rule e r) p))
+
+  -- a `return` from behind its word
+  SoundReturned : Place → State → Tree → State → Type 0
+  SoundReturned start s x t = (y : Tree) × Sound same (λ k l. walk (env_of k l) y) (notes_of y) (λ k c d. ((i : Place) × OperandRule Expr k y c i × Ends i d) × (d ≡ t.at)) s t
+      × (x ≡ tree.return (spanned start t.at) y)
+
+  returned_sound : (start : Place) (s : State) → Meets (SoundReturned start s) (returned (inner_expr expression) (span_at start) s)
+  unfolding returned spanned SoundReturned
+  returned_sound start s = meets_then _ (operand (inner_expr expression) s) _ (operand_sound s) (λ y m p.
+      meets_then _ (end faults.Expected m) _ (end_sound faults.Expected m) (λ _ t q. (y, sound_as s t refl refl refl (λ a. (a, refl)) (sound_more p q), refl)))
+
+  return_sound : (s : State) → kind_at s.at ≡ kind.Return → Meets (SoundStmt s) (return_stmt (inner_expr expression) s)
+  unfolding return_stmt spanned SoundReturned
+  return_sound s e = after_return_meets (SoundStmt s) (span_at s.at) (returned (inner_expr expression) (span_at s.at) (moved s)) (returned_sound s.at (moved s)) (λ x m (y, p, o).
+      meets_then _ (misplaced (span_at s.at) m) _ (misplaced_sound (span_at s.at) m) (λ _ t q.
+      subst (λ v. SoundStmt s v t) (sym o) (sound_after s t e refl refl (notes_nil (notes_of y))
+      (λ (j, ((i, a, g), h), z). return_rule y i e a (subst (Ends i) (sym z) g) (ap (λ v. tree.return (spanned s.at v) y) (sym (z ∙ h)))) (sound_then p q))))
 
   -- what stands in parentheses behind the word of a statement
   headed : (x : Tree) (s i j t : State) → SoundStep (λ k. Takes kind.LParen) s i → Sound same (λ k l. walk (env_of k l) x) (notes_of x) (λ k. Expr expression (with_in k) x) i j
@@ -633,6 +440,9 @@ module _ (Stmt : Code → Position → Tree → Place → Place → Type 0) (Exp
   by_sound kind.Var s e = var_sound Expr Pat inner_expr inner_pat sound_expr sound_pat Stmt at s e
   by_sound kind.If s e = if_sound s e
   by_sound kind.Switch s e = switch_sound s e
+  by_sound kind.Break s e = break_sound s e
+  by_sound kind.Continue s e = continue_sound s e
+  by_sound kind.Return s e = return_sound s e
   by_sound kind.Throw s e = throw_sound s e
   by_sound kind.Try s e = try_sound s e
   by_sound kind.While s e = while_sound s e

@@ -1,7 +1,8 @@
 -- The reader, rule by rule.
-use Rattle.std.specs.Prelude.{ℕ, zero, suc, Bool, true, false, ◌&&◌, ◌||◌, if◌then◌else◌, List, [], ◌∷◌, ◌++◌, length, codes, Option, Some, None, Ok}
+use Rattle.std.specs.Prelude.{ℕ, zero, suc, Bool, true, false, ◌&&◌, ◌||◌, if◌then◌else◌, List, [], ◌∷◌, ◌++◌, length, codes, Option, Some, None, is_some, Ok, Err}
 use Rattle.swc_ecma_parser_common.specs.declared.span.Span.{Span}
 use Rattle.swc_ecma_parser_error.specs.Kind as faults
+use Rattle.swc_ecma_parser_error.specs.Kind.{Fault}
 use Rattle.swc_ecma_parser_token.specs.declared.kind.TokenKind.{TokenKind}
 use Rattle.swc_ecma_parser_token.specs.declared.kind.TokenKind.TheVariants as kind
 use Rattle.swc_ecma_parser_token.specs.declared.token.Token.{Token}
@@ -16,13 +17,15 @@ use Rattle.swc_ecma_parser_grammar.specs.declared.position.Position.{Position}
 use Rattle.swc_ecma_parser_grammar.specs.Looks.{kind_at, breaks_at, sees, span_at}
 use Rattle.swc_ecma_parser_grammar.specs.Follows.{may_begin_expression_statement, begins_import_expression}
 use Rattle.swc_ecma_parser_grammar.specs.Reads.{with_in, directed, nested_item, top_item}
+use Rattle.swc_ecma_parser_grammar.specs.Ends.{ends_at}
+use Rattle.swc_ecma_parser_grammar.specs.Own.{break_faults, continue_faults, return_faults}
 use Rattle.swc_ecma_parser_grammar.specs.Entries.{script_code}
 use Rattle.swc_ecma_parser_grammar.specs.language.Contexts.{in_loop, in_breakable}
 use Rattle.swc_ecma_parser_grammar.specs.language.Goals.{Class, expression, assignment}
 use Rattle.swc_ecma_parser_grammar.specs.language.Items.{sub_statement}
 use Rattle.swc_ecma_parser_reader.specs.Expressions.{expr}
 use Rattle.swc_ecma_parser_reader.specs.Patterns.{pattern}
-use Rattle.swc_ecma_parser_reader.specs.State.{Reader, ◌>>=◌, ◌>>◌, pure, here, span_here, since, skip, moved, spanned_from, coded, flagged, within, fault, fault_at, end_of, module_fault, wanted, too_deep, refuse, reject, labelled, expect, end, stuck, Step, More, Done, loop}
+use Rattle.swc_ecma_parser_reader.specs.State.{Outcome, Reader, ◌>>=◌, ◌>>◌, pure, here, span_here, since, skip, moved, spanned_from, coded, flagged, within, fault, fault_at, end_of, module_fault, wanted, too_deep, refuse, reject, refused, labelled, name, expect, end, stuck, Step, More, Done, loop}
 
 -- ---- statements
 
@@ -270,6 +273,74 @@ module _ (stmt : Reader Tree) (expr : Reader Tree) where
   unfoldable pub if_stmt : Reader Tree
   if_stmt = λ s. links (suc (length s.at.left)) s
 
+-- ---- `break`, `continue` and `return`
+
+-- these faults, one behind another
+abbrev pub told : List Fault → Reader (Unit {0})
+told [] = λ s. Ok (tt, s)
+told (f ∷ fs) = fault f >> told fs
+
+-- the label of `break` and `continue`: none where the statement can end
+unfoldable pub target : Reader Tree
+target = λ s. if ends_at s.at then Ok (tree.absent, s) else (do
+  i ← name faults.ExpectedIdent
+  pure (tree.ident i.span i.sym)) s
+
+-- nothing to break, or no such label around
+unfoldable pub unbroken : Tree → Span → Reader (Unit {0})
+unbroken label span = λ s. told (break_faults s.code.flags.is_break_allowed s.scope.labels label span) s
+
+unfoldable pub break_stmt : Reader Tree
+break_stmt = do
+  start ← span_here
+  skip
+  label ← target
+  end faults.Expected
+  span ← since start
+  unbroken label span
+  pure (tree.break span label)
+
+unfoldable pub uncontinued : Tree → Span → Reader (Unit {0})
+uncontinued label span = λ s. told (continue_faults s.code.flags.is_continue_allowed s.scope.labels label span) s
+
+unfoldable pub continue_stmt : Reader Tree
+continue_stmt = do
+  start ← span_here
+  skip
+  label ← target
+  end faults.Expected
+  span ← since start
+  uncontinued label span
+  pure (tree.continue span label)
+
+-- no function stands around `return`, and the setting asks for one
+unfoldable pub misplaced : Span → Reader (Unit {0})
+misplaced start = λ s. told (return_faults (s.code.flags.in_function || s.code.setting.allow_return_outside_function) (record { lo = start.lo; hi = s.at.last.hi })) s
+
+-- This is told of a `return` that is refused too, up to what was read, unless the state is marked.
+abbrev pub after_return : Span → Outcome Tree → Outcome Tree
+after_return start (Ok p) = (misplaced start >> pure p.0) p.1
+after_return start (Err e) = if is_some e.1.scope.mark then Err e else refused e.0 (misplaced start e.1)
+
+module _ (expr : Reader Tree) where
+  -- what `return` answers: nothing where the statement can end
+  unfoldable pub operand : Reader Tree
+  operand = λ s. if ends_at s.at then Ok (tree.absent, s) else within with_in expr s
+
+  -- from behind the word
+  unfoldable pub returned : Span → Reader Tree
+  returned start = do
+    x ← operand
+    end faults.Expected
+    span ← since start
+    pure (tree.return span x)
+
+  unfoldable pub return_stmt : Reader Tree
+  return_stmt = do
+    start ← span_here
+    skip
+    λ s. after_return start (returned start s)
+
 -- ---- `switch`
 
 unfoldable pub begins_clause : Place → Bool
@@ -393,6 +464,9 @@ module _ (stmt : Position → Reader Tree) (expr : Class → Reader Tree) (pat :
   stmt_by at kind.Var = var expr pat
   stmt_by at kind.If = if_stmt (stmt sub_statement) (expr expression)
   stmt_by at kind.Switch = switch_stmt (stmt nested_item) (expr expression)
+  stmt_by at kind.Break = break_stmt
+  stmt_by at kind.Continue = continue_stmt
+  stmt_by at kind.Return = return_stmt (expr expression)
   stmt_by at kind.Throw = throw (expr expression)
   stmt_by at kind.Try = try_stmt (stmt nested_item) pat
   stmt_by at kind.While = while_stmt (stmt sub_statement) (expr expression)

@@ -3,6 +3,7 @@
 ghost use Rattle.std.specs.Prelude.{◌≡◌, map};
 ghost use Rattle.swc_ecma_parser_grammar.specs.Names as names;
 
+use swc_ecma_parser_common::Atom;
 use swc_ecma_parser_input::Context;
 
 /// Reserved in every context.
@@ -61,6 +62,13 @@ fn is_one_of(words: &[&str], text: &str) -> bool
     ensures { result ≡ names.is_one_of (map (λ word. word.now) words.now) text.now }
 {
     words.iter().any(|word| text == *word)
+}
+
+/// Whether a text is one of these labels: ECMA-262, section 14.13.
+pub fn is_label(labels: &[Atom], text: &str) -> bool
+    ensures { result ≡ names.is_one_of labels.now text.now }
+{
+    labels.iter().any(|label| text == label.as_str())
 }
 
 pub fn is_reserved_word(text: &str) -> bool

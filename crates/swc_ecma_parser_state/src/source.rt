@@ -62,6 +62,14 @@ pub trait Source {
     fn import_attributes(&self) -> bool
         ensures { result ≡ (seen self.now).code.setting.import_attributes };
 
+    /// Whether `return` may stand outside of functions.
+    fn allow_return_outside_function(&self) -> bool
+        ensures { result ≡ (seen self.now).code.setting.allow_return_outside_function };
+
+    /// Whether a label of this text stands around.
+    fn has_label(&self, text: &str) -> bool
+        ensures { result ≡ names.is_one_of (seen self.now).scope.labels text.now };
+
     /// Whether a name stands here.
     fn name_at(&self) -> bool
         ensures { result ≡ names.name_at (seen self.now).code.flags (seen self.now).at };
@@ -210,6 +218,14 @@ impl<I: Tokens> Source for State<I> {
 
     fn import_attributes(&self) -> bool {
         State::import_attributes(self)
+    }
+
+    fn allow_return_outside_function(&self) -> bool {
+        State::allow_return_outside_function(self)
+    }
+
+    fn has_label(&self, text: &str) -> bool {
+        State::has_label(self, text)
     }
 
     fn name_at(&self) -> bool {

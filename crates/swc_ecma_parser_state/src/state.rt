@@ -5,7 +5,7 @@ ghost use Rattle.swc_ecma_parser_grammar.specs.Looks as looks;
 ghost use Rattle.swc_ecma_parser_grammar.specs.Names as names;
 ghost use Rattle.swc_ecma_parser_input.specs.Place as place;
 
-use crate::names::is_name;
+use crate::names::{is_label, is_name};
 use std::marker::Model;
 use swc_ecma_parser_common::{Atom, Span};
 use swc_ecma_parser_input::{Buffer, Context, Tokens};
@@ -124,6 +124,20 @@ impl<I: Tokens> State<I> {
         ensures { result ≡ self.now.code.setting.import_attributes }
     {
         self.buffer.syntax().es().import_attributes
+    }
+
+    /// Whether `return` may stand outside of functions.
+    pub fn allow_return_outside_function(&self) -> bool
+        ensures { result ≡ self.now.code.setting.allow_return_outside_function }
+    {
+        self.buffer.syntax().es().allow_return_outside_function
+    }
+
+    /// Whether a label of this text stands around.
+    pub fn has_label(&self, text: &str) -> bool
+        ensures { result ≡ names.is_one_of self.now.scope.labels text.now }
+    {
+        is_label(&self.labels, text)
     }
 
     /// Whether a name stands here.

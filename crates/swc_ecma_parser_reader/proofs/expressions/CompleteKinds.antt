@@ -1,7 +1,6 @@
 -- With which token an expression of the language begins, and which stands behind it, as far as the reader asks.
 use Rattle.std.proofs.Common.{◌≡◌, ℕ, zero, suc, Bool, true, false, cond, List, [], ◌∷◌, Option, Some, None, refl, sym, ◌∙◌, ap}
 use Rattle.std.specs.Prelude.{nat_eq, not, ◌&&◌, ◌||◌, is_some, codes}
-use Rattle.std.specs.Str.{bytes_eq}
 use Rattle.std.proofs.lemmas.Bool.{eq-eqb}
 use denote.Enum.Bare.{true_same}
 use Rattle.swc_ecma_parser_common.specs.declared.span.Span.{Span}
@@ -27,7 +26,7 @@ use Rattle.swc_ecma_parser_model.specs.Tree as tree
 use Rattle.swc_ecma_parser_model.specs.Tree.{Tree, Text}
 use Rattle.swc_ecma_parser_model.specs.Forms.{is_ident}
 use Rattle.swc_ecma_parser_grammar.specs.Looks.{kind_at, first_kind, breaks_at, span_at, first_span, sees, same_kind, spanned}
-use Rattle.swc_ecma_parser_grammar.specs.Names.{Code, is_reserved, is_name, is_identifier, is_clean_name, token_is_name, first_is_name, name_at, token_is_identifier, first_is_identifier, identifier_at}
+use Rattle.swc_ecma_parser_grammar.specs.Names.{Code, is_reserved, is_name, token_is_name, first_is_name, name_at, token_is_identifier, first_is_identifier, identifier_at}
 use Rattle.swc_ecma_parser_grammar.specs.Follows.{continues_left_side, word_at, is_async_function}
 use Rattle.swc_ecma_parser_grammar.specs.Reads.{ReadsToken}
 use Rattle.swc_ecma_parser_grammar.specs.Supported.{supported}
@@ -44,7 +43,8 @@ use Rattle.swc_ecma_parser_grammar.specs.language.Patterns.{PatternRule, Pattern
 use Rattle.swc_ecma_parser_grammar.specs.language.Expressions as rules
 use Rattle.swc_ecma_parser_grammar.specs.language.Expressions.{UnaryRule, BinaryRule, AssignmentRule, ExpressionRule}
 use Rattle.swc_ecma_parser_grammar.specs.language.Reads as language
-use Rattle.swc_ecma_parser_grammar.proofs.Tests.{or_no, or_none, and_yes, and_both, and_no}
+use Rattle.swc_ecma_parser_grammar.proofs.Tests.{or_no, or_none, and_yes, and_no}
+use Rattle.swc_ecma_parser_grammar.proofs.Naming.{name_is_name}
 use Rattle.swc_ecma_parser_reader.specs.Expressions.{literal_of, literal_in, token_is_word, first_is_word, is_word_at, postfix_at}
 
 -- ---- supported forms
@@ -100,14 +100,6 @@ pub no_hash : (text : Text) (s : Span) (c d : Place) → ReadsWord text s c d �
 no_hash text s c d r = rw (token_first (token.Word r.word) s c d r.reads_word) (word_no_hash r.word)
 
 -- ---- names and word literals
-
--- a name that is no fault and not `await`
-clean_is_name : (f : Context) (text : Text) → is_clean_name f text ≡ true → not (bytes_eq text (codes "await")) ≡ true → is_name f text ≡ true
-unfolding is_name is_clean_name is_identifier
-clean_is_name f text h g = and_both _ _ (and_yes (not (is_reserved f text)) _ h).0 g
-
-pub name_is_name : (k : Code) (text : Text) (s : Span) (c d : Place) (r : ReadsName k text s c d) → not (bytes_eq text (codes "await")) ≡ true → is_name k.flags (word_text r.word) ≡ true
-name_is_name k text s c d r h = ap (is_name k.flags) (sym r.is_text) ∙ clean_is_name k.flags text r.is_name h
 
 -- a token stands first that is a name, or none
 pub named : (u : Token) (sp : Span) (c d : Place) (k : Code) (b : Bool) → ReadsToken u sp c d → token_is_name k.flags u ≡ b → name_at k.flags c ≡ b

@@ -37,7 +37,8 @@ use Rattle.swc_ecma_parser_reader.proofs.expressions.Falls.{access_falls, argume
 use Rattle.swc_ecma_parser_reader.proofs.expressions.Loops.{shorter_by}
 use Rattle.swc_ecma_parser_reader.proofs.expressions.CompleteParts.{expect_reads, name_reads, literal_reads, AsExpr, IsRead, inside_reads, access_reads, access_seen, super_property_reads, arguments_read}
 use Rattle.swc_ecma_parser_reader.proofs.expressions.CompleteCovers.{array_reads, object_reads}
-use Rattle.swc_ecma_parser_reader.proofs.expressions.CompleteKinds.{refuted, supported_as, seen, name_is_name, named, null_unnamed, true_unnamed, false_unnamed, paren_here, array_here, object_here, this_here, primary_first, primary_seen}
+use Rattle.swc_ecma_parser_reader.proofs.expressions.CompleteKinds.{refuted, supported_as, seen, named, null_unnamed, true_unnamed, false_unnamed, paren_here, array_here, object_here, this_here, primary_first, primary_seen}
+use Rattle.swc_ecma_parser_grammar.proofs.Naming.{name_is_name}
 
 module _ (In : Goal → Type 0) (inner : Class → Reader Tree) (cover : Reader Cover) (given : IsRead In inner cover) where
   -- ---- primary expressions

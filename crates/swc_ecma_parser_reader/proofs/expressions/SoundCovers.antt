@@ -38,7 +38,8 @@ use Rattle.swc_ecma_parser_reader.proofs.Meets.{Meets, Refuses, meets_then, meet
 use Rattle.swc_ecma_parser_reader.proofs.Errors.{kind_here}
 use Rattle.swc_ecma_parser_reader.proofs.Between.{SoundTree, Sound, same, sound_moved, sound_here, sound_as, sound_after, within_sound}
 use Rattle.swc_ecma_parser_reader.proofs.expressions.Targets.{some_array, some_object, some_key_value, some_before, some_alone, some_rest, simple_is, simple_as, leaf_no_pattern, pattern_no_rest}
-use Rattle.swc_ecma_parser_reader.proofs.expressions.SoundSteps.{paired, stepped, moved_back, meets_as, reject_meets, clash, Takes, expect_sound, stands, name_is_clean, name_is_supported, any_word_sound, word_span, last_span, walks_push, notes_push}
+use Rattle.swc_ecma_parser_reader.proofs.expressions.SoundSteps.{paired, stepped, moved_back, meets_as, reject_meets, clash, Takes, expect_sound, stands, any_word_sound, word_span, last_span, walks_push, notes_push}
+use Rattle.swc_ecma_parser_grammar.proofs.Naming.{name_is_clean, name_is_supported}
 use Rattle.swc_ecma_parser_reader.proofs.expressions.SoundLists.{elements_list, properties_list, begun_next, at_more, Plain, Pattern, Target, Part, PartRead, no_marks, SoFar, AllRead, all_read, push_last, push_next}
 
 -- ---- what is read

@@ -41,7 +41,8 @@ use Rattle.swc_ecma_parser_reader.proofs.Meets.{Meets, Refuses, meets_then, meet
 use Rattle.swc_ecma_parser_reader.proofs.Errors.{kind_here}
 use Rattle.swc_ecma_parser_reader.proofs.Between.{SoundTree, SoundStep, Sound, same, no_faults, sound_moved, sound_here, sound_as, sound_after}
 use Rattle.swc_ecma_parser_reader.proofs.expressions.CompleteKinds.{seen}
-use Rattle.swc_ecma_parser_reader.proofs.expressions.SoundSteps.{paired, stepped, moved_back, meets_as, reject_meets, other, clash, elsewhere, Takes, expect_sound, fault_sound, stands, token_first, FreeWord, name_sound, name_is_clean, name_is_supported, name_first, Dotted, word_dotted, private_dotted, dotted_sound, walks_push, notes_push, supported_push, any_word_sound}
+use Rattle.swc_ecma_parser_reader.proofs.expressions.SoundSteps.{paired, stepped, moved_back, meets_as, reject_meets, other, clash, elsewhere, Takes, expect_sound, fault_sound, stands, token_first, FreeWord, name_sound, name_first, Dotted, word_dotted, private_dotted, dotted_sound, walks_push, notes_push, supported_push, any_word_sound}
+use Rattle.swc_ecma_parser_grammar.proofs.Naming.{name_is_clean, name_is_supported}
 use Rattle.swc_ecma_parser_reader.proofs.expressions.SoundCovers.{SoundCover, SoundLiteral, inside_sound, array_sound, object_sound}
 
 -- ---- words

@@ -1,8 +1,7 @@
 -- The steps of a sound reader of expressions: how parts are joined, fixed tokens, recorded faults, words and names, and lists of
 -- trees.
 use Rattle.std.proofs.Common.{◌≡◌, Bool, true, false, cond, List, [], ◌∷◌, ◌++◌, Ok, Err, refl, sym, ◌∙◌, ap, subst, append_assoc, append-nil, true≢false, eqb-true}
-use Rattle.std.specs.Prelude.{nat_eq, not, ◌&&◌, ◌||◌, codes}
-use Rattle.std.specs.Str.{bytes_eq}
+use Rattle.std.specs.Prelude.{nat_eq, ◌||◌}
 use Rattle.swc_ecma_parser_common.specs.declared.span.BytePos.{BytePos}
 use Rattle.swc_ecma_parser_common.specs.declared.span.Span.{Span}
 use Rattle.swc_ecma_parser_error.specs.declared.error.Error.{Error}
@@ -16,14 +15,13 @@ use Rattle.swc_ecma_parser_token.specs.declared.token.TokenAndSpan.{TokenAndSpan
 use Rattle.swc_ecma_parser_token.specs.declared.token.Word.{Word}
 use Rattle.swc_ecma_parser_token.specs.Kind.{token_kind}
 use Rattle.swc_ecma_parser_token.specs.Text.{word_text}
-use Rattle.swc_ecma_parser_input.specs.declared.context.Context.{Context}
 use Rattle.swc_ecma_parser_input.specs.TokenSource.{means_out_of_memory}
 use Rattle.swc_ecma_parser_input.specs.Place.{Place, after, past}
 use Rattle.swc_ecma_parser_model.specs.declared.leaves.Ident.{Ident}
 use Rattle.swc_ecma_parser_model.specs.Tree as tree
 use Rattle.swc_ecma_parser_model.specs.Tree.{Tree, Text, trees}
 use Rattle.swc_ecma_parser_grammar.specs.Looks.{kind_at, sees, same_kind, span_at, first_span, spanned}
-use Rattle.swc_ecma_parser_grammar.specs.Names.{Code, is_name, is_reserved, is_identifier, is_clean_name}
+use Rattle.swc_ecma_parser_grammar.specs.Names.{Code, is_name}
 use Rattle.swc_ecma_parser_grammar.specs.Reads.{ReadsToken}
 use Rattle.swc_ecma_parser_grammar.specs.Supported.{supported, all_supported}
 use Rattle.swc_ecma_parser_grammar.specs.Entries.{has_error_token}
@@ -78,7 +76,7 @@ meets_as (Ok p) h g = g p.0 p.1 h
 meets_as (Err e) h g = tt
 
 module _ {A : Type 0} (P : A → State → Type 0) where
-  refused_meets : (f : Fault) (o : Outcome (Unit {0})) → Meets P (refused f o)
+  pub refused_meets : (f : Fault) (o : Outcome (Unit {0})) → Meets P (refused f o)
   refused_meets f (Ok p) = tt
   refused_meets f (Err e) = tt
 
@@ -147,9 +145,13 @@ error_first : (c : Place) (u : TokenAndSpan) (ts : List TokenAndSpan) (e : Error
 unfolding same_kind
 error_first c u ts e h g = rw (h, g) refl
 
--- a recorded fault that is not of the table; an error token before it is recorded too
-module _ (P : Code → Place → Place → Type 0) (f : Fault) (s : State) (untabled : walks.is_tabled f.kind ≡ false) where
-  pub noted_sound : (fs : List Fault) → Sound same no_faults (held fs) P s (noted f s)
+-- a recorded fault, of the table or not; an error token before it is recorded too
+module _ {table : List Fault} (P : Code → Place → Place → Type 0) (f : Fault) (s : State) (tells : tabled (f ∷ []) ≡ table) where
+  -- what it adds
+  abbrev SoundFault : Notes → State → Type 0
+  SoundFault ns t = Sound same (λ k l. table) ns P s t
+
+  pub noted_sound : (fs : List Fault) → SoundFault (held fs) (noted f s)
   noted_sound fs = record {
     code = refl;
     scope = refl;
@@ -157,14 +159,14 @@ module _ (P : Code → Place → Place → Type 0) (f : Fault) (s : State) (unta
     faults = refl;
     notes = λ i. some_fault f [] i;
     found = sym (or_nil s.notes.found_module_item);
-    walked = λ i d. rw untabled refl;
+    walked = λ i d. tells;
     keeps = λ i. i;
     spares = λ i g. g;
     remembers = λ i. i;
     reads = λ i. some_fault f [] i;
   }
 
-  recorded_at_sound : (u : TokenAndSpan) (ts : List TokenAndSpan) (v : Token) → s.at.left ≡ u ∷ ts → u.token ≡ v → Meets (λ _ t. SoundStep P s t) (recorded_at f s v)
+  recorded_at_sound : (u : TokenAndSpan) (ts : List TokenAndSpan) (v : Token) → s.at.left ≡ u ∷ ts → u.token ≡ v → Meets (λ _ t. SoundFault no_notes t) (recorded_at f s v)
   recorded_at_sound u ts (token.Error e) h g = meets_if _ (means_out_of_memory e.kind) _ _ (λ _. tt) (λ j. record {
     code = refl;
     scope = refl;
@@ -180,11 +182,11 @@ module _ (P : Code → Place → Place → Type 0) (f : Fault) (s : State) (unta
   })
   recorded_at_sound u ts _ h g = noted_sound []
 
-  recorded_in_sound : (ts : List TokenAndSpan) → s.at.left ≡ ts → Meets (λ _ t. SoundStep P s t) (recorded_in f s ts)
+  recorded_in_sound : (ts : List TokenAndSpan) → s.at.left ≡ ts → Meets (λ _ t. SoundFault no_notes t) (recorded_in f s ts)
   recorded_in_sound [] h = noted_sound []
   recorded_in_sound (u ∷ ts) h = recorded_at_sound u ts u.token h refl
 
-  pub fault_sound : Meets (λ _ t. SoundStep P s t) (fault f s)
+  pub fault_sound : Meets (λ _ t. SoundFault no_notes t) (fault f s)
   unfolding fault
   fault_sound = recorded_in_sound s.at.left refl
 
@@ -212,21 +214,7 @@ pub name_sound : (missing : faults.Kind) (s : State) → Meets (λ i t. SoundSte
 unfolding name
 name_sound missing s = name_in_sound missing s s.at.left refl
 
--- a name is no fault anywhere
-clean_by : (r a m : Bool) → (not r && not a) ≡ true → (not r && not (a && m)) ≡ true
-clean_by true a m h = h
-clean_by false true m h = cc
-clean_by false false m h = refl
-
-pub name_is_clean : (f : Context) (text : Text) → is_name f text ≡ true → is_clean_name f text ≡ true
-unfolding is_name is_clean_name is_identifier
-name_is_clean f text h = clean_by (is_reserved f text) (bytes_eq text (codes "await")) _ h
-
-pub name_is_supported : (f : Context) (text : Text) → is_name f text ≡ true → not (bytes_eq text (codes "await")) ≡ true
-unfolding is_name
-name_is_supported f text h = (and_yes (not (is_reserved f text)) _ h).1
-
--- nor is it `await`
+-- a name is not `await`
 pub name_first : (i : Ident) (k : Code) (c d : Place) → FreeWord i k c d → sees kind.Await c ≡ false
 name_first i k c d r = (name_begins k.flags r.word i.span c d r.token r.free).0
 

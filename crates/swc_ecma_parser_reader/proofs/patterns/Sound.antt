@@ -35,7 +35,8 @@ use Rattle.swc_ecma_parser_reader.specs.Patterns.{rest, array_turn, elements, ar
 use Rattle.swc_ecma_parser_reader.proofs.Meets.{Meets, Refuses, meets_then, meets_if, wanted_meets, too_deep_meets, Turned, loop_answers, saw}
 use Rattle.swc_ecma_parser_reader.proofs.Errors.{is_error}
 use Rattle.swc_ecma_parser_reader.proofs.Between.{SoundTree, Sound, same, sound_moved, sound_here, sound_as, sound_after, within_sound}
-use Rattle.swc_ecma_parser_reader.proofs.expressions.SoundSteps.{paired, stepped, moved_back, meets_as, reject_meets, unseen, Takes, expect_sound, FreeWord, name_sound, name_is_clean, name_is_supported, walks_push, notes_push}
+use Rattle.swc_ecma_parser_reader.proofs.expressions.SoundSteps.{paired, stepped, moved_back, meets_as, reject_meets, unseen, Takes, expect_sound, FreeWord, name_sound, walks_push, notes_push}
+use Rattle.swc_ecma_parser_grammar.proofs.Naming.{name_is_clean, name_is_supported}
 use Rattle.swc_ecma_parser_reader.proofs.expressions.SoundLists.{Lists, elements_list, properties_list, Begun, at_more, begun_all, begun_next, begun_last, Plain, Target, nothing_plain, plain_next, plain_last}
 use Rattle.swc_ecma_parser_reader.proofs.expressions.SoundCovers.{SoundCover, SoundKey, key_sound, inside_sound, ident_key, key_inside, free_name, name_inside}
 use Rattle.swc_ecma_parser_reader.proofs.expressions.Sound.{expr_sound, cover_sound}

@@ -1,7 +1,7 @@
 use Rattle.std.proofs.Common.{map, ◌∙◌}
 use Rattle.std.proofs.lemmas.Result.{err_from_is_err_and}
 use Rattle.swc_ecma_parser_reader.proofs.Loops.{declarators_err}
-use Rattle.swc_ecma_parser_core.proofs.stmt.declarators.Goals as goal
+use Rattle.swc_ecma_parser_statements.proofs.simple.declarators.Goals as goal
 
 pub returns-in_err-declarator : goal.returns-in_err-declarator
 returns-in_err-declarator g c =

@@ -1,6 +1,6 @@
 use Rattle.std.proofs.Common.{sym, ap, ◌∙◌}
 use Rattle.swc_ecma_parser_reader.proofs.Sound.{expr_code}
-use Rattle.swc_ecma_parser_core.proofs.stmt.import_stmt.Goals as goal
+use Rattle.swc_ecma_parser_statements.proofs.simple.import_stmt.Goals as goal
 
 pub set_flags-requires-2 : goal.set_flags-requires-2
 set_flags-requires-2 g c =

@@ -3,7 +3,7 @@ use Rattle.swc_ecma_parser_reader.specs.State.{loop}
 use Rattle.swc_ecma_parser_reader.specs.Expressions as exprs
 use Rattle.swc_ecma_parser_reader.specs.Patterns as patterns
 use Rattle.swc_ecma_parser_reader.specs.Reader as rules
-use Rattle.swc_ecma_parser_core.proofs.stmt.declarators.Given as goal
+use Rattle.swc_ecma_parser_statements.proofs.simple.declarators.Given as goal
 
 -- what the whole loop gives is what the rest of it gives
 abbrev pub invariant-declarators : goal.invariant-declarators

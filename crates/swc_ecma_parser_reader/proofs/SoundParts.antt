@@ -1,0 +1,323 @@
+-- The parts of statements, read: ends, declarations, statements one behind another, what is noted and what is told.
+use Rattle.std.proofs.Common.{◌≡◌, Bool, true, false, cond, List, [], ◌∷◌, ◌++◌, Ok, Err, refl, sym, ◌∙◌, ap, subst, append_assoc, append-nil}
+use Rattle.std.specs.Prelude.{◌&&◌, ◌||◌, is_some, codes}
+use Rattle.swc_ecma_parser_common.specs.declared.span.Span.{Span}
+use Rattle.swc_ecma_parser_error.specs.Kind as faults
+use Rattle.swc_ecma_parser_error.specs.Kind.{Kind, Fault}
+use Rattle.swc_ecma_parser_token.specs.declared.kind.TokenKind.TheVariants as kind
+use Rattle.swc_ecma_parser_input.specs.Place.{Place, after}
+use Rattle.swc_ecma_parser_model.specs.Tree as tree
+use Rattle.swc_ecma_parser_model.specs.Tree.{Tree, Text, listed, trees}
+use Rattle.swc_ecma_parser_model.specs.Directive.{is_use_strict}
+use Rattle.swc_ecma_parser_model.specs.Forms.{is_ident, is_ident_named, is_binding_name, span_of}
+use Rattle.swc_ecma_parser_grammar.specs.declared.position.Position.{Position}
+use Rattle.swc_ecma_parser_grammar.specs.Looks.{kind_at, sees, span_at, spanned}
+use Rattle.swc_ecma_parser_grammar.specs.Names.{Code}
+use Rattle.swc_ecma_parser_grammar.specs.Ends.{Ends, by_semicolon, by_insertion, OptionalEnds, by_a_semicolon, by_nothing, can_end, ends_at}
+use Rattle.swc_ecma_parser_grammar.specs.language.Goals.{Class, assignment}
+use Rattle.swc_ecma_parser_grammar.specs.Reads.{with_in, in_strict, directed, directs_on, DeclaratorRule, plain_rule, initialized_rule, ReadsSeparated, ReadsItems, TargetRule, no_target_rule, target_rule, StmtRule, var_rule}
+use Rattle.swc_ecma_parser_grammar.specs.Walk as walks
+use Rattle.swc_ecma_parser_grammar.specs.Walk.{walk, env_of, tabled, drops}
+use Rattle.swc_ecma_parser_grammar.specs.Notes.{statement_note}
+use Rattle.swc_ecma_parser_reader.specs.Notes.{no_notes, held, notes_of, all_notes_of}
+use Rattle.swc_ecma_parser_reader.specs.State.{State, Reader, moved, coded, within, noted, module_fault, fault_at, Outcome, and_then, fault, name, end}
+use Rattle.swc_ecma_parser_reader.specs.Reader.{told, target, unbroken, uncontinued, misplaced, after_return, initialized, declarator, declarators_turn, declarators, var, close, directs, items_turn, items, note_statement, no_label, optional_end}
+use Rattle.swc_ecma_parser_reader.proofs.expressions.SoundSteps.{meets_as, reject_meets, refused_meets, name_sound, Takes, noted_sound, fault_sound, walks_push, notes_push}
+use Rattle.swc_ecma_parser_reader.proofs.Notes.{or_nil, notes_nil}
+use Rattle.swc_ecma_parser_reader.proofs.Meets.{Meets, Refuses, meets_then, meets_if, wanted_meets, refuse_meets, Turned, loop_answers, saw}
+use Rattle.swc_ecma_parser_reader.proofs.Between.{Sound, SoundTree, SoundStep, no_faults, same, sound_then, sound_more, sound_moved, sound_here, sound_as, sound_after, sound_coded, within_sound}
+use Rattle.swc_ecma_parser_grammar.specs.Own.{only, stands_around, break_faults, continue_faults, return_faults}
+
+-- ---- ends
+
+-- the end of a statement is one by the grammar
+pub end_sound : (missing : Kind) (s : State) → Meets (λ _ t. SoundStep (λ k. Ends) s t) (end missing s)
+unfolding end
+end_sound missing s = meets_if _ (sees kind.Semi s.at) _ _
+    (λ e. sound_moved s (saw s.at kind.Semi e) refl (by_semicolon (saw s.at kind.Semi e) refl))
+    (λ e. meets_if _ (can_end s.at) _ _ (λ h. sound_here s (by_insertion e h refl)) (λ _. refuse_meets _ missing s))
+
+-- an end that nothing demands
+pub optional_end_sound : (s : State) → Meets (λ _ t. SoundStep (λ k. OptionalEnds) s t) (optional_end s)
+unfolding optional_end
+optional_end_sound s = meets_if _ (sees kind.Semi s.at) _ _ (λ e. sound_moved s (saw s.at kind.Semi e) refl (by_a_semicolon (saw s.at kind.Semi e) refl))
+    (λ e. sound_here s (by_nothing e refl))
+
+-- ---- declarations
+
+-- trees with a comma after each
+abbrev Front : (Tree → Place → Place → Type 0) → List Tree → Place → Place → Type 0
+Front Reads [] c d = d ≡ c
+Front Reads (x ∷ xs) c d = (m : Place) × Reads x c m × (kind_at m ≡ kind.Comma) × Front Reads xs (after m) d
+
+module _ (Reads : Tree → Place → Place → Type 0) (x : Tree) where
+  -- one more, with a comma behind it or as the last
+  front_push : (c i m : Place) (xs : List Tree) → Front Reads xs c i → Reads x i m → kind_at m ≡ kind.Comma → Front Reads (xs ++ x ∷ []) c (after m)
+  front_push c i m [] e r h = (m, subst (λ z. Reads x z m) e r, h, refl)
+  front_push c i m (y ∷ ys) (n, a, b, more) r h = (n, a, b, front_push (after n) i m ys more r h)
+
+  front_last : (c i d : Place) (xs : List Tree) → Front Reads xs c i → Reads x i d → sees kind.Comma d ≡ false → ReadsSeparated Reads (xs ++ x ∷ []) c d
+  front_last c i d [] e r h = (subst (λ z. Reads x z d) e r, h)
+  front_last c i d (y ∷ []) (m, a, b, e) r h = (m, a, b, front_last (after m) i d [] e r h)
+  front_last c i d (y ∷ z ∷ zs) (m, a, b, more) r h = (m, a, b, front_last (after m) i d (z ∷ zs) more r h)
+
+module _ (Expr : Class → Code → Tree → Place → Place → Type 0) (Pat : Code → Tree → Place → Place → Type 0) (expr : Class → Reader Tree) (pat : Reader Tree)
+    (sound_expr : (class : Class) (s : State) → Meets (λ x t. SoundTree (Expr class) s x t) (expr class s))
+    (sound_pat : (s : State) → Meets (λ x t. SoundTree Pat s x t) (pat s)) where
+  -- a declarator of these expressions and patterns
+  abbrev pub Declared : Code → Tree → Place → Place → Type 0
+  Declared = DeclaratorRule (Expr assignment) Pat
+
+  -- what stands behind a name
+  initialized_sound : (s : State) (p : Tree) (t : State) → SoundTree Pat s p t → kind_at t.at ≡ kind.Assign → Meets (λ x u. SoundTree Declared s x u) (initialized expr pat (span_at s.at) p t)
+  unfolding initialized spanned
+  initialized_sound s p t q e = meets_then _ (expr assignment (moved t)) _ (sound_expr assignment (moved t)) (λ y u r.
+      let b : Sound same (λ k l. walk (env_of k l) y) (notes_of y) (λ k c d. (kind_at c ≡ kind.Assign) × Expr assignment k y (after c) d) t u =
+      sound_after t u e refl refl refl (λ z. (e, z)) r in
+      sound_as s u refl refl refl (λ (i, z, w). initialized_rule p y i z w.0 w.1 refl) (sound_then q b))
+
+  -- a name, and what it is given where `=` stands
+  declarator_sound : (s : State) → Meets (λ x t. SoundTree Declared s x t) (declarator expr pat s)
+  unfolding declarator spanned
+  declarator_sound s = meets_then _ (pat s) _ (sound_pat s) (λ p t q. meets_if _ (sees kind.Assign t.at) _ _ (λ e. initialized_sound s p t q (saw t.at kind.Assign e))
+      (λ e. meets_if _ (is_binding_name p) _ _
+      (λ b. sound_as s t refl (sym (append-nil (walk (env_of s.code s.scope.labels) p))) (sym (notes_nil (notes_of p))) (λ r. plain_rule p r e b refl) q)
+      (λ _. reject_meets _ _ t)))
+
+  -- the declarators so far, and all
+  abbrev DeclaratorsSoFar : State → List Tree → State → Type 0
+  DeclaratorsSoFar s xs t = Sound same (λ k l. walks.walks (env_of k l) false (trees xs)) (all_notes_of (trees xs)) (λ k. Front (Declared k) xs) s t
+
+  abbrev pub Declarators : State → List Tree → State → Type 0
+  Declarators s xs t = Sound same (λ k l. walks.walks (env_of k l) false (trees xs)) (all_notes_of (trees xs)) (λ k. ReadsSeparated (Declared k) xs) s t
+
+  -- each turn reads one declarator
+  declarators_turn_sound : (s : State) (xs : List Tree) (t : State) → DeclaratorsSoFar s xs t
+      → Meets (Turned (declarators_turn expr pat) (DeclaratorsSoFar s) (Declarators s) Refuses) (declarators_turn expr pat xs t)
+  unfolding declarators_turn
+  declarators_turn_sound s xs t p = meets_then _ (declarator expr pat t) _ (declarator_sound t) (λ x u q. meets_if _ (sees kind.Comma u.at) _ _
+      (λ e. sound_as s (moved u) refl (walks_push (env_of s.code s.scope.labels) xs x) (notes_push xs x)
+      (λ (m, (i, a, b), z). subst (λ y. Front (Declared s.code) (xs ++ x ∷ []) s.at y) (sym z.1) (front_push (Declared s.code) x s.at i m xs a b z.0))
+      (sound_more (sound_then p q) (sound_moved {P = λ k. Takes kind.Comma} u (saw u.at kind.Comma e) refl (saw u.at kind.Comma e, refl))))
+      (λ e. sound_as s u refl (walks_push (env_of s.code s.scope.labels) xs x) (notes_push xs x)
+      (λ (i, a, b). front_last (Declared s.code) x s.at i u.at xs a b e) (sound_then p q)))
+
+  -- declarators with commas between, and none behind
+  pub declarators_sound : (s : State) → Meets (Declarators s) (declarators expr pat s)
+  unfolding declarators
+  declarators_sound s = loop_answers (declarators_turn expr pat) (DeclaratorsSoFar s) (Declarators s) Refuses (declarators_turn_sound s) (λ t. tt) [] s (sound_here s refl)
+
+  -- a `var` statement
+  pub var_sound : (Stmt : Code → Position → Tree → Place → Place → Type 0) (at : Position) (s : State) → kind_at s.at ≡ kind.Var
+      → Meets (λ x t. SoundTree (λ k. StmtRule Stmt Expr Pat k at) s x t) (var expr pat s)
+  unfolding var
+  var_sound Stmt at s e = meets_then _ (within with_in (declarators expr pat) (moved s)) _
+      (within_sound (λ xs k l. walks.walks (env_of k l) false (trees xs)) (λ xs. all_notes_of (trees xs)) (λ xs k. ReadsSeparated (Declared k) xs) with_in (λ k. refl) (declarators expr pat) (moved s)
+      (declarators_sound (coded (with_in s.code) (moved s)))) (λ xs m p.
+      meets_then _ (end faults.Unexpected m) _ (end_sound faults.Unexpected m) (λ _ t q.
+      sound_after s t e refl refl refl (λ (i, r, z). var_rule xs i e r z refl) (sound_more p q)))
+
+-- ---- statements one behind another
+
+-- the code behind these statements, and whether the next can be a directive
+abbrev pub code_after : Code → Bool → List Tree → Code
+code_after k directives [] = k
+code_after k directives (x ∷ xs) = code_after (directed k directives x) (directs_on directives x) xs
+
+abbrev pub directs_after : Bool → List Tree → Bool
+directs_after directives [] = directives
+directs_after directives (x ∷ xs) = directs_after (directs_on directives x) xs
+
+-- behind the first statement no directive stands
+never_directs : (xs : List Tree) → directs_after false xs ≡ false
+never_directs [] = refl
+never_directs (x ∷ xs) = never_directs xs
+
+-- the reader's test for directives is that of the grammar
+directs_agrees : (directives : Bool) (xs : List Tree) → directs directives xs ≡ directs_after directives xs
+directs_agrees directives [] = refl
+directs_agrees directives (x ∷ xs) = sym (never_directs xs)
+
+-- a block's statements change no code
+pub code_stays : (k : Code) (xs : List Tree) → code_after k false xs ≡ k
+code_stays k [] = refl
+code_stays k (x ∷ xs) = code_stays k xs
+
+-- a directive changes no setting
+in_strict_setting : (b : Bool) (k : Code) → (cond b (in_strict k) k).setting ≡ k.setting
+in_strict_setting true k = refl
+in_strict_setting false k = refl
+
+pub code_setting : (k : Code) (directives : Bool) (xs : List Tree) → (code_after k directives xs).setting ≡ k.setting
+code_setting k directives [] = refl
+code_setting k directives (x ∷ xs) = code_setting (directed k directives x) (directs_on directives x) xs ∙ in_strict_setting (directives && is_use_strict x) k
+
+-- the code behind one statement more
+pub code_push : (k : Code) (directives : Bool) (xs : List Tree) (x : Tree) → directed (code_after k directives xs) (directs_after directives xs) x ≡ code_after k directives (xs ++ x ∷ [])
+code_push k directives [] x = refl
+code_push k directives (y ∷ ys) x = code_push (directed k directives y) (directs_on directives y) ys x
+
+-- what the walk knows of the code behind a directive
+directed_env : (k : Code) (labels : List Text) (directives : Bool) (x : Tree) → env_of (directed k directives x) labels ≡ walks.directed (env_of k labels) directives x
+directed_env k labels directives x = by_test (directives && is_use_strict x)
+  where
+    by_test : (b : Bool) → env_of (cond b (in_strict k) k) labels ≡ cond b (record (env_of k labels) { strict = true }) (env_of k labels)
+    by_test true = refl
+    by_test false = refl
+
+-- the walk of a body with one statement more
+pub items_walk_push : (k : Code) (labels : List Text) (directives : Bool) (xs : List Tree) (x : Tree)
+    → walks.walks (env_of k labels) directives (trees xs) ++ walk (env_of (code_after k directives xs) labels) x ≡ walks.walks (env_of k labels) directives (trees (xs ++ x ∷ []))
+items_walk_push k labels directives [] x = sym (append-nil (walk (env_of k labels) x))
+items_walk_push k labels directives (y ∷ ys) x =
+    let j : Code = directed k directives y in
+    let e : env_of j labels ≡ walks.directed (env_of k labels) directives y = directed_env k labels directives y in
+    append_assoc (walk (env_of k labels) y) (walks.walks (walks.directed (env_of k labels) directives y) false (trees ys)) (walk (env_of (code_after j false ys) labels) x)
+    ∙ ap (λ z. walk (env_of k labels) y ++ z) (subst (λ v. walks.walks v false (trees ys) ++ walk (env_of (code_after j false ys) labels) x ≡ walks.walks v false (trees (ys ++ x ∷ []))) e
+    (items_walk_push j labels false ys x))
+
+module _ (Reads : Code → Tree → Place → Place → Type 0) where
+  -- one more behind those read
+  pub items_push : (k : Code) (directives : Bool) (xs : List Tree) (x : Tree) (c m d : Place) → ReadsItems Reads k directives xs c m → Reads (code_after k directives xs) x m d
+      → ReadsItems Reads k directives (xs ++ x ∷ []) c d
+  items_push k directives [] x c m d e r = (d, subst (λ z. Reads k x z d) e r, refl)
+  items_push k directives (y ∷ ys) x c m d (i, a, more) r = (i, a, items_push (directed k directives y) (directs_on directives y) ys x i m d more r)
+
+  -- statements that were read, from the state before the first
+  abbrev pub SoundItems : Bool → State → List Tree → State → Type 0
+  SoundItems directives s xs t = Sound (λ k. code_after k directives xs) (λ k l. walks.walks (env_of k l) directives (trees xs)) (all_notes_of (trees xs)) (λ k. ReadsItems Reads k directives xs) s t
+
+  module _ (stmt : Reader Tree) (sound : (s : State) → Meets (λ x t. SoundTree Reads s x t) (stmt s)) (stops : Place → Bool) (directives : Bool) where
+    -- up to a place where they stop
+    abbrev pub Stopped : State → List Tree → State → Type 0
+    Stopped s xs t = SoundItems directives s xs t × (stops t.at ≡ true)
+
+    -- each turn reads one statement, under the code behind those before
+    items_turn_sound : (s : State) (xs : List Tree) (t : State) → SoundItems directives s xs t
+        → Meets (Turned (items_turn stmt stops directives) (SoundItems directives s) (Stopped s) Refuses) (items_turn stmt stops directives xs t)
+    unfolding items_turn
+    items_turn_sound s xs t p = meets_if _ (stops t.at) _ _ (λ e. (p, e)) (λ _. meets_then _ (stmt t) _ (sound t) (λ x u q.
+        let r = sound_then p q in
+        let e : directed u.code (directs directives xs) x ≡ code_after s.code directives (xs ++ x ∷ []) =
+        ap (λ j. directed j (directs directives xs) x) r.code ∙ ap (λ b. directed (code_after s.code directives xs) b x) (directs_agrees directives xs) ∙ code_push s.code directives xs x in
+        sound_coded s u (directed u.code (directs directives xs) x) e
+        (sound_as {g = λ k. code_after k directives xs} s u refl (items_walk_push s.code s.scope.labels directives xs x) (notes_push xs x)
+        (λ (i, a, b). items_push s.code directives xs x s.at i u.at a b) r)))
+
+    pub items_sound : (s : State) → Meets (Stopped s) (items stmt stops directives s)
+    unfolding items
+    items_sound s = loop_answers (items_turn stmt stops directives) (SoundItems directives s) (Stopped s) Refuses (items_turn_sound s) (λ t. tt) [] s (sound_here s refl)
+
+-- ---- statements
+
+-- a `}`, or a fault
+pub close_sound : (s : State) → Meets (λ _ t. SoundStep (λ k. Takes kind.RBrace) s t) (close s)
+unfolding close
+close_sound s = meets_if _ (sees kind.RBrace s.at) _ _ (λ e. sound_moved s (saw s.at kind.RBrace e) refl (saw s.at kind.RBrace e, refl))
+    (λ _. fault_sound (λ k. Takes kind.RBrace) (fault_at (span_at s.at) faults.Expected) s refl)
+
+-- a bare name before `:` is refused
+unfoldable pub NoLabel : Tree → Code → Place → Place → Type 0
+NoLabel x k c d = (is_ident x && sees kind.Colon c ≡ false) × (d ≡ c)
+
+pub no_label_sound : (x : Tree) (s : State) → Meets (λ _ t. SoundStep (NoLabel x) s t) (no_label x s)
+unfolding no_label NoLabel
+no_label_sound x s = meets_if _ (is_ident x && sees kind.Colon s.at) _ _ (λ _. wanted_meets _ faults.Unexpected s) (λ e. sound_here s (e, refl))
+
+-- the bare name `interface` is noted, or recorded in module code
+unfoldable pub NoNote : Tree → Code → Place → Place → Type 0
+NoNote x k c d = (k.flags.module && is_ident_named (codes "interface") x ≡ false) × (d ≡ c)
+
+unfoldable pub SoundNote : Tree → State → State → Type 0
+SoundNote x s t = Sound same no_faults (held (statement_note x)) (NoNote x) s t
+
+-- in module code it is a fault, and else held back
+module_fault_sound : (x : Tree) (s : State) → is_ident_named (codes "interface") x ≡ true → SoundNote x s (module_fault (fault_at (span_of x) faults.InvalidIdentInStrict) s)
+unfolding SoundNote NoNote
+module_fault_sound x s e = by_module s.code.flags.module refl
+  where
+    f : Fault
+    f = fault_at (span_of x) faults.InvalidIdentInStrict
+
+    by_module : (b : Bool) → s.code.flags.module ≡ b → Sound same no_faults (held (statement_note x)) (NoNote x) s (cond b (noted f s) (record s { notes = record s.notes { held_back = s.notes.held_back ++ f ∷ [] } }))
+    by_module true h = noted_sound (NoNote x) f s refl (statement_note x)
+    by_module false h = record {
+      code = refl;
+      scope = refl;
+      added = [];
+      faults = sym (append-nil s.faults);
+      notes = λ i. rw (e, or_nil s.notes.found_module_item) refl;
+      found = sym (or_nil s.notes.found_module_item);
+      walked = λ i d. refl;
+      keeps = λ i. i;
+      spares = λ i g. g;
+      remembers = λ i. i;
+      reads = λ i. (rw h refl, refl);
+    }
+
+-- a conjunction is false where its second part is
+pub and_false : (a b : Bool) → b ≡ false → (a && b) ≡ false
+and_false true b e = e
+and_false false b e = refl
+
+pub note_sound : (x : Tree) (s : State) → Meets (λ _ t. SoundNote x s t) (note_statement x s)
+unfolding note_statement SoundNote NoNote
+note_sound x s = meets_if _ (is_ident_named (codes "interface") x) _ _ (λ e. module_fault_sound x s e)
+    (λ e. sound_as s s refl refl (rw e refl) (λ h. h) (sound_here {P = NoNote x} s (and_false s.code.flags.module (is_ident_named (codes "interface") x) e, refl)))
+
+-- ---- faults that are told
+
+-- faults of the table
+abbrev AllTabled : List Fault → Type 0
+AllTabled [] = Unit {0}
+AllTabled (f ∷ fs) = (walks.is_tabled f.kind ≡ true) × AllTabled fs
+
+only_tabled : (b : Bool) (k : Kind) (s : Span) → walks.is_tabled k ≡ true → AllTabled (only b k s)
+only_tabled true k s e = (e, tt)
+only_tabled false k s e = tt
+
+if_tabled : (b : Bool) (es fs : List Fault) → AllTabled es → AllTabled fs → AllTabled (cond b es fs)
+if_tabled true es fs h g = h
+if_tabled false es fs h g = g
+
+-- they are recorded, and nothing is taken
+SoundTold : List Fault → State → State → Type 0
+SoundTold fs s t = Sound same (λ k l. fs) no_notes (λ k c d. d ≡ c) s t
+
+told_sound : (fs : List Fault) → AllTabled fs → (s : State) → Meets (λ _ t. SoundTold fs s t) (told fs s)
+unfolding SoundTold
+told_sound [] h s = sound_here s refl
+told_sound (f ∷ fs) (e, h) s = meets_then _ (fault f s) _ (fault_sound {table = f ∷ []} (λ k c d. d ≡ c) f s (rw e refl)) (λ _ m p. meets_as (told fs m) (told_sound fs h m) (λ _ t q.
+    sound_as s t refl refl refl (λ (i, a, b). b ∙ a) (sound_then p q)))
+
+-- of `break`, `continue` and `return`
+abbrev pub SoundOwn : (Code → List Text → List Fault) → State → State → Type 0
+SoundOwn own s t = Sound same own no_notes (λ k c d. d ≡ c) s t
+
+pub unbroken_sound : (label : Tree) (span : Span) (s : State) → Meets (λ _ t. SoundOwn (λ k l. break_faults k.flags.is_break_allowed l label span) s t) (unbroken label span s)
+unfolding unbroken SoundTold
+unbroken_sound label span s = meets_as (unbroken label span s) (told_sound _ (if_tabled (stands_around s.scope.labels label) _ _ (only_tabled _ _ _ refl) (refl, tt)) s)
+    (λ _ t p. sound_as s t refl refl refl (λ h. h) p)
+
+pub uncontinued_sound : (label : Tree) (span : Span) (s : State) → Meets (λ _ t. SoundOwn (λ k l. continue_faults k.flags.is_continue_allowed l label span) s t) (uncontinued label span s)
+unfolding uncontinued SoundTold
+uncontinued_sound label span s = meets_as (uncontinued label span s) (told_sound _ (if_tabled s.code.flags.is_continue_allowed _ _ (only_tabled _ _ _ refl) (refl, tt)) s)
+    (λ _ t p. sound_as s t refl refl refl (λ h. h) p)
+
+pub misplaced_sound : (start : Span) (s : State)
+    → Meets (λ _ t. SoundOwn (λ k l. return_faults (k.flags.in_function || k.setting.allow_return_outside_function) (record { lo = start.lo; hi = s.at.last.hi })) s t) (misplaced start s)
+unfolding misplaced SoundTold
+misplaced_sound start s = meets_as (misplaced start s) (told_sound _ (only_tabled _ _ _ refl) s) (λ _ t p. sound_as s t refl refl refl (λ h. h) p)
+
+-- the label of `break` and `continue`, in which the walk finds nothing
+pub target_sound : (s : State) → Meets (λ x t. Sound same no_faults (notes_of x) (λ k. TargetRule k x) s t) (target s)
+unfolding target
+target_sound s = meets_if _ (ends_at s.at) _ _ (λ e. sound_here s (no_target_rule e refl refl))
+    (λ e. meets_then _ (name faults.ExpectedIdent s) _ (name_sound faults.ExpectedIdent s) (λ i t p.
+    sound_as s t refl refl refl (λ r. target_rule r.word i.span e r.token r.free (ap (tree.ident i.span) r.text)) p))
+
+-- what is told of a `return` that was read
+pub after_return_meets : {P : Tree → State → Type 0} (Q : Tree → State → Type 0) (start : Span) (o : Outcome Tree) → Meets P o → ((x : Tree) (t : State) → P x t → Meets Q (and_then (misplaced start t) (λ _ u. Ok (x, u))))
+    → Meets Q (after_return start o)
+after_return_meets Q start (Ok p) h g = g p.0 p.1 h
+after_return_meets Q start (Err e) h g = meets_if Q (is_some e.1.scope.mark) _ _ (λ _. tt) (λ _. refused_meets Q e.0 (misplaced start e.1))

@@ -1,0 +1,104 @@
+//! `break` and `continue`: ECMA-262, sections 14.9 and 14.8.
+
+ghost use Rattle.std.specs.Prelude.{◌≡◌};
+ghost use Rattle.swc_ecma_parser_grammar.specs.Ends as ends;
+ghost use Rattle.swc_ecma_parser_grammar.specs.Own as own;
+ghost use Rattle.swc_ecma_parser_reader.specs.Reader as rules;
+ghost use Rattle.swc_ecma_parser_reader.specs.State.{Gives, GivesAs};
+ghost use Rattle.swc_ecma_parser_statements.specs.Labels.{label_of};
+
+use std::alloc::Global;
+use swc_ecma_parser_common::Span;
+use swc_ecma_parser_error::{PResult, SyntaxError};
+use swc_ecma_parser_left::steps::{grown, since};
+use swc_ecma_parser_model::Ident;
+use swc_ecma_parser_state::{Source, Wanted};
+use swc_ecma_parser_token::TokenKind;
+use swc_ecma_parser_trees::BuildsControl;
+
+/// Whether nothing more of a statement stands here.
+#[tactic(auto, unfolding(swc_ecma_parser_grammar::specs::Ends::ends_at, swc_ecma_parser_grammar::specs::Ends::can_end))]
+pub(crate) fn ends_at<P: Source>(p: &P) -> bool
+    ensures { result ≡ ends.ends_at (P.seen p.now).at }
+{
+    p.sees(TokenKind::Semi)
+        || p.sees(TokenKind::End)
+        || p.sees(TokenKind::RBrace)
+        || p.had_line_break()
+}
+
+/// A label, where the statement does not end.
+#[tactic(auto, unfolding(swc_ecma_parser_reader::specs::Reader::target))]
+fn target<P: Source>(p: &mut P) -> PResult<Option<Ident>>
+    ensures { GivesAs label_of (rules.target (P.seen p.old)) result (P.seen p.new) }
+{
+    if ends_at(p) {
+        return Ok(None);
+    }
+    let label = p.name(Wanted::Name)?;
+    Ok(Some(label))
+}
+
+/// Whether a label stands around; none is asked for where none is named.
+fn stands_around<P: Source>(p: &P, label: &Option<Ident>) -> bool
+    ensures { result ≡ own.stands_around (P.seen p.now).scope.labels (label_of label.now) }
+{
+    match label {
+        Some(label) => p.has_label(label.sym.as_str()),
+        None => true,
+    }
+}
+
+/// Records that no such label stands around, or that there is nothing to break.
+#[tactic(auto, unfolding(swc_ecma_parser_reader::specs::Reader::unbroken))]
+fn unbroken<P: Source>(p: &mut P, label: &Option<Ident>, span: Span) -> PResult<()>
+    ensures { Gives (rules.unbroken (label_of label.now) span (P.seen p.old)) result (P.seen p.new) }
+{
+    if !stands_around(p, label) {
+        p.fault(SyntaxError::TS1116, span)?;
+    } else if !p.flags().is_break_allowed {
+        p.fault(SyntaxError::TS1105, span)?;
+    }
+    Ok(())
+}
+
+/// A `break` statement.
+#[tactic(auto, unfolding(swc_ecma_parser_reader::specs::Reader::break_stmt))]
+pub fn break_stmt<P: Source, T: BuildsControl>(alloc: Global, p: &mut P) -> PResult<T::Stmt>
+    ensures { GivesAs T.stmt_of (rules.break_stmt (P.seen p.old)) result (P.seen p.new) }
+{
+    let start = p.span();
+    p.skip()?;
+    let label = target(p)?;
+    p.end(Wanted::Token(";"))?;
+    let span = since(p, start);
+    unbroken(p, &label, span)?;
+    grown(p, T::break_stmt(alloc, span, label))
+}
+
+/// Records that there is nothing to continue, or that no such label stands around.
+#[tactic(auto, unfolding(swc_ecma_parser_reader::specs::Reader::uncontinued))]
+fn uncontinued<P: Source>(p: &mut P, label: &Option<Ident>, span: Span) -> PResult<()>
+    ensures { Gives (rules.uncontinued (label_of label.now) span (P.seen p.old)) result (P.seen p.new) }
+{
+    if !p.flags().is_continue_allowed {
+        p.fault(SyntaxError::TS1115, span)?;
+    } else if !stands_around(p, label) {
+        p.fault(SyntaxError::TS1107, span)?;
+    }
+    Ok(())
+}
+
+/// A `continue` statement.
+#[tactic(auto, unfolding(swc_ecma_parser_reader::specs::Reader::continue_stmt))]
+pub fn continue_stmt<P: Source, T: BuildsControl>(alloc: Global, p: &mut P) -> PResult<T::Stmt>
+    ensures { GivesAs T.stmt_of (rules.continue_stmt (P.seen p.old)) result (P.seen p.new) }
+{
+    let start = p.span();
+    p.skip()?;
+    let label = target(p)?;
+    p.end(Wanted::Token(";"))?;
+    let span = since(p, start);
+    uncontinued(p, &label, span)?;
+    grown(p, T::continue_stmt(alloc, span, label))
+}

@@ -1,0 +1,133 @@
+//! `return` and `throw`: ECMA-262, sections 14.10 and 14.14.
+
+ghost use Rattle.std.specs.Prelude.{◌≡◌, ◌≢◌, Err};
+ghost use Rattle.swc_ecma_parser_error.specs.Kind as kinds;
+ghost use Rattle.swc_ecma_parser_error.specs.Kind.{fault_of, kind_of};
+ghost use Rattle.swc_ecma_parser_grammar.specs.language.Goals.{expression};
+ghost use Rattle.swc_ecma_parser_left.specs.Nests.{Nests};
+ghost use Rattle.swc_ecma_parser_reader.specs.Expressions as exprs;
+ghost use Rattle.swc_ecma_parser_reader.specs.Reader as rules;
+ghost use Rattle.swc_ecma_parser_reader.specs.State.{Gives, GivesAs};
+ghost use Rattle.swc_ecma_parser_trees.specs.Parts.{part_of};
+
+use crate::jump::ends_at;
+use swc_ecma_parser_common::Span;
+use swc_ecma_parser_error::{Error, PResult, SyntaxError};
+use swc_ecma_parser_grammar::{Class, Position};
+use swc_ecma_parser_left::access::inside;
+use swc_ecma_parser_left::cover::{Cover, Reading};
+use swc_ecma_parser_left::grammar::{Grammar, Part};
+use swc_ecma_parser_left::steps::{grown, since};
+use swc_ecma_parser_state::{Source, Wanted};
+use swc_ecma_parser_token::TokenKind;
+use swc_ecma_parser_trees::{BuildsCall, BuildsControl, MakerOf};
+
+/// Records that no function stands around a `return`, up to what was read last; a setting asks for none.
+#[tactic(auto, unfolding(swc_ecma_parser_reader::specs::Reader::misplaced))]
+fn misplaced<P: Source>(p: &mut P, start: Span) -> PResult<()>
+    ensures { Gives (rules.misplaced start (P.seen p.old)) result (P.seen p.new) }
+{
+    if !p.flags().in_function && !p.allow_return_outside_function() {
+        let span = since(p, start);
+        p.fault(SyntaxError::ReturnNotAllowed, span)?;
+    }
+    Ok(())
+}
+
+/// The refusal of what stands behind `return`, with the fault of its own recorded. One for want of memory or depth stays as it is.
+fn refused<P: Source>(p: &mut P, start: Span, error: Error) -> Error
+    ensures memory { kind_of result.kind ≢ kinds.OutOfMemory → kind_of error.kind ≢ kinds.OutOfMemory }
+    ensures gives { kind_of result.kind ≢ kinds.OutOfMemory
+        → rules.after_return start (Err (fault_of error, P.seen p.old)) ≡ Err (fault_of result, P.seen p.new) }
+{
+    if matches!(error.kind, SyntaxError::OutOfMemory) || p.is_marked() {
+        return error;
+    }
+    match misplaced(p, start) {
+        Ok(()) => error,
+        Err(error) => error,
+    }
+}
+
+/// What a `return` answers, if the statement does not end here.
+#[tactic(auto, unfolding(swc_ecma_parser_reader::specs::Reader::operand, swc_ecma_parser_reader::specs::Expressions::inside))]
+fn operand<
+    P: Source,
+    T: BuildsCall,
+    S: Fn(&MakerOf<T>, &mut P, usize, Position) -> PResult<T::Stmt>,
+    E: Fn(&MakerOf<T>, &mut P, usize, Reading) -> PResult<Cover<T::Expr>>,
+    N: Fn(&MakerOf<T>, &mut P, usize, Part) -> PResult<T::Pat>,
+>(g: &Grammar<S, E, N>, t: &MakerOf<T>, p: &mut P) -> PResult<Option<T::Expr>>
+    requires { Nests P.seen T.expr_of T.pat_of T.stmt_of g.now.depth (S.pre g.now.stmt) (S.post g.now.stmt) (E.pre g.now.expr) (E.post g.now.expr) (N.pre g.now.pat) (N.post g.now.pat) }
+    ensures { GivesAs (part_of T.expr_of) (rules.operand (exprs.expr g.now.depth expression) (P.seen p.old)) result (P.seen p.new) }
+{
+    if ends_at(p) {
+        return Ok(None);
+    }
+    let arg = inside(g, t, p, Class::Expression)?;
+    Ok(Some(arg))
+}
+
+/// A `return` from behind its word.
+#[tactic(auto, unfolding(swc_ecma_parser_reader::specs::Reader::returned))]
+fn returned<
+    P: Source,
+    T: BuildsCall + BuildsControl,
+    S: Fn(&MakerOf<T>, &mut P, usize, Position) -> PResult<T::Stmt>,
+    E: Fn(&MakerOf<T>, &mut P, usize, Reading) -> PResult<Cover<T::Expr>>,
+    N: Fn(&MakerOf<T>, &mut P, usize, Part) -> PResult<T::Pat>,
+>(g: &Grammar<S, E, N>, t: &MakerOf<T>, p: &mut P, start: Span) -> PResult<T::Stmt>
+    requires { Nests P.seen T.expr_of T.pat_of T.stmt_of g.now.depth (S.pre g.now.stmt) (S.post g.now.stmt) (E.pre g.now.expr) (E.post g.now.expr) (N.pre g.now.pat) (N.post g.now.pat) }
+    ensures { GivesAs T.stmt_of (rules.returned (exprs.expr g.now.depth expression) start (P.seen p.old)) result (P.seen p.new) }
+{
+    let arg = operand(g, t, p)?;
+    p.end(Wanted::Token(";"))?;
+    let span = since(p, start);
+    grown(p, T::return_stmt(t.alloc, span, arg))
+}
+
+/// A `return` statement.
+#[tactic(auto, unfolding(swc_ecma_parser_reader::specs::Reader::return_stmt))]
+pub fn return_stmt<
+    P: Source,
+    T: BuildsCall + BuildsControl,
+    S: Fn(&MakerOf<T>, &mut P, usize, Position) -> PResult<T::Stmt>,
+    E: Fn(&MakerOf<T>, &mut P, usize, Reading) -> PResult<Cover<T::Expr>>,
+    N: Fn(&MakerOf<T>, &mut P, usize, Part) -> PResult<T::Pat>,
+>(g: &Grammar<S, E, N>, t: &MakerOf<T>, p: &mut P) -> PResult<T::Stmt>
+    requires { Nests P.seen T.expr_of T.pat_of T.stmt_of g.now.depth (S.pre g.now.stmt) (S.post g.now.stmt) (E.pre g.now.expr) (E.post g.now.expr) (N.pre g.now.pat) (N.post g.now.pat) }
+    ensures { GivesAs T.stmt_of (rules.return_stmt (exprs.expr g.now.depth expression) (P.seen p.old)) result (P.seen p.new) }
+{
+    let start = p.span();
+    p.skip()?;
+    match returned(g, t, p, start) {
+        Ok(stmt) => {
+            misplaced(p, start)?;
+            Ok(stmt)
+        }
+        Err(error) => Err(refused(p, start, error)),
+    }
+}
+
+/// `throw` and what is thrown, which begins on the same line.
+#[tactic(auto, unfolding(swc_ecma_parser_reader::specs::Reader::throw, swc_ecma_parser_reader::specs::Reader::thrown, swc_ecma_parser_reader::specs::Expressions::inside, swc_ecma_parser_grammar::specs::Looks::spanned))]
+pub fn throw<
+    P: Source,
+    T: BuildsCall + BuildsControl,
+    S: Fn(&MakerOf<T>, &mut P, usize, Position) -> PResult<T::Stmt>,
+    E: Fn(&MakerOf<T>, &mut P, usize, Reading) -> PResult<Cover<T::Expr>>,
+    N: Fn(&MakerOf<T>, &mut P, usize, Part) -> PResult<T::Pat>,
+>(g: &Grammar<S, E, N>, t: &MakerOf<T>, p: &mut P) -> PResult<T::Stmt>
+    requires { Nests P.seen T.expr_of T.pat_of T.stmt_of g.now.depth (S.pre g.now.stmt) (S.post g.now.stmt) (E.pre g.now.expr) (E.post g.now.expr) (N.pre g.now.pat) (N.post g.now.pat) }
+    ensures { GivesAs T.stmt_of (rules.throw (exprs.expr g.now.depth expression) (P.seen p.old)) result (P.seen p.new) }
+{
+    let start = p.span();
+    p.skip()?;
+    if p.had_line_break() || p.sees(TokenKind::End) {
+        return Err(p.refuse_as(SyntaxError::LineBreakInThrow));
+    }
+    let arg = inside(g, t, p, Class::Expression)?;
+    p.end(Wanted::Token(";"))?;
+    let span = since(p, start);
+    grown(p, T::throw(t.alloc, span, arg))
+}

@@ -1,0 +1,243 @@
+//! Statements of one line: the empty statement, `debugger`, `var` and expression statements: ECMA-262, sections 14.4, 14.16,
+//! 14.3.2 and 14.5.
+
+ghost use Rattle.std.specs.Prelude.{◌≡◌, map};
+ghost use Rattle.swc_ecma_parser_grammar.specs.Follows as follows;
+ghost use Rattle.swc_ecma_parser_grammar.specs.language.Goals.{expression};
+ghost use Rattle.swc_ecma_parser_left.specs.Nests.{Nests};
+ghost use Rattle.swc_ecma_parser_reader.specs.Expressions as exprs;
+ghost use Rattle.swc_ecma_parser_reader.specs.Patterns as patterns;
+ghost use Rattle.swc_ecma_parser_reader.specs.Reader as rules;
+ghost use Rattle.swc_ecma_parser_reader.specs.State.{Gives, GivesAs};
+
+use std::alloc::Global;
+use swc_ecma_parser_common::Atom;
+use swc_ecma_parser_error::{PResult, SyntaxError};
+use swc_ecma_parser_grammar::{Class, Position};
+use swc_ecma_parser_left::cover::{Cover, Reading, nested};
+use swc_ecma_parser_left::grammar::{Grammar, Part};
+use swc_ecma_parser_left::steps::{grown, pushed, since, with_in};
+use swc_ecma_parser_model::VarDeclKind;
+use swc_ecma_parser_state::{Source, Wanted};
+use swc_ecma_parser_token::TokenKind;
+use swc_ecma_parser_trees::{BuildsPattern, BuildsStmt, MakerOf};
+
+/// `;`
+#[tactic(auto, unfolding(swc_ecma_parser_reader::specs::Reader::empty, swc_ecma_parser_grammar::specs::Looks::spanned))]
+pub fn empty<P: Source, T: BuildsStmt>(alloc: Global, p: &mut P) -> PResult<T::Stmt>
+    ensures { GivesAs T.stmt_of (rules.empty (P.seen p.old)) result (P.seen p.new) }
+{
+    let start = p.span();
+    p.skip()?;
+    let span = since(p, start);
+    grown(p, T::empty(alloc, span))
+}
+
+/// `debugger`
+#[tactic(auto, unfolding(swc_ecma_parser_reader::specs::Reader::debugger, swc_ecma_parser_grammar::specs::Looks::spanned))]
+pub fn debugger<P: Source, T: BuildsStmt>(alloc: Global, p: &mut P) -> PResult<T::Stmt>
+    ensures { GivesAs T.stmt_of (rules.debugger (P.seen p.old)) result (P.seen p.new) }
+{
+    let start = p.span();
+    p.skip()?;
+    p.end(Wanted::Token(";"))?;
+    let span = since(p, start);
+    grown(p, T::debugger(alloc, span))
+}
+
+/// A declarator: ECMA-262, section 14.3.2.
+#[tactic(auto, unfolding(swc_ecma_parser_reader::specs::Reader::declarator, swc_ecma_parser_reader::specs::Reader::initialized))]
+fn declarator<
+    P: Source,
+    T: BuildsStmt + BuildsPattern,
+    S: Fn(&MakerOf<T>, &mut P, usize, Position) -> PResult<T::Stmt>,
+    E: Fn(&MakerOf<T>, &mut P, usize, Reading) -> PResult<Cover<T::Expr>>,
+    N: Fn(&MakerOf<T>, &mut P, usize, Part) -> PResult<T::Pat>,
+>(g: &Grammar<S, E, N>, t: &MakerOf<T>, p: &mut P) -> PResult<T::Declarator>
+    requires { Nests P.seen T.expr_of T.pat_of T.stmt_of g.now.depth (S.pre g.now.stmt) (S.post g.now.stmt) (E.pre g.now.expr) (E.post g.now.expr) (N.pre g.now.pat) (N.post g.now.pat) }
+    ensures { GivesAs T.declarator_of (rules.declarator (exprs.expr g.now.depth) (patterns.pattern g.now.depth) (P.seen p.old)) result (P.seen p.new) }
+{
+    let start = p.span();
+    let name = (g.pat)(t, p, g.depth, Part::Pattern)?;
+    if p.sees(TokenKind::Assign) {
+        p.skip()?;
+        let init = nested(g, t, p, Class::Assignment)?;
+        let span = since(p, start);
+        return grown(p, T::declarator(t.alloc, span, name, Some(init)));
+    }
+    let span = since(p, start);
+    if !T::is_binding_name(&name) {
+        return Err(p.reject(SyntaxError::PatVarWithoutInit, span));
+    }
+    grown(p, T::declarator(t.alloc, span, name, None))
+}
+
+/// Declarators with commas between.
+#[tactic(auto, unfolding(swc_ecma_parser_reader::specs::Reader::declarators), using(swc_ecma_parser_reader::proofs::Loops::declarators_done, swc_ecma_parser_reader::proofs::Loops::declarators_err, swc_ecma_parser_reader::proofs::Loops::declarators_more, swc_ecma_parser_reader::proofs::Loops::declarators_shorter, std::proofs::lemmas::List::map_push))]
+fn declarators<
+    P: Source,
+    T: BuildsStmt + BuildsPattern,
+    S: Fn(&MakerOf<T>, &mut P, usize, Position) -> PResult<T::Stmt>,
+    E: Fn(&MakerOf<T>, &mut P, usize, Reading) -> PResult<Cover<T::Expr>>,
+    N: Fn(&MakerOf<T>, &mut P, usize, Part) -> PResult<T::Pat>,
+>(g: &Grammar<S, E, N>, t: &MakerOf<T>, p: &mut P) -> PResult<Vec<T::Declarator>>
+    requires { Nests P.seen T.expr_of T.pat_of T.stmt_of g.now.depth (S.pre g.now.stmt) (S.post g.now.stmt) (E.pre g.now.expr) (E.post g.now.expr) (N.pre g.now.pat) (N.post g.now.pat) }
+    ensures { GivesAs (λ found. map T.declarator_of found.items) (rules.declarators (exprs.expr g.now.depth) (patterns.pattern g.now.depth) (P.seen p.old)) result (P.seen p.new) }
+{
+    let mut found = Vec::new(t.alloc);
+    'declarators: loop {
+        let declarator = declarator(g, t, p)?;
+        pushed(p, &mut found, declarator)?;
+        if !p.sees(TokenKind::Comma) {
+            return Ok(found);
+        }
+        p.skip()?;
+    }
+}
+
+/// A `var` statement.
+#[tactic(auto, unfolding(swc_ecma_parser_reader::specs::Reader::var, swc_ecma_parser_grammar::specs::Looks::spanned))]
+pub fn var<
+    P: Source,
+    T: BuildsStmt + BuildsPattern,
+    S: Fn(&MakerOf<T>, &mut P, usize, Position) -> PResult<T::Stmt>,
+    E: Fn(&MakerOf<T>, &mut P, usize, Reading) -> PResult<Cover<T::Expr>>,
+    N: Fn(&MakerOf<T>, &mut P, usize, Part) -> PResult<T::Pat>,
+>(g: &Grammar<S, E, N>, t: &MakerOf<T>, p: &mut P) -> PResult<T::Stmt>
+    requires { Nests P.seen T.expr_of T.pat_of T.stmt_of g.now.depth (S.pre g.now.stmt) (S.post g.now.stmt) (E.pre g.now.expr) (E.post g.now.expr) (N.pre g.now.pat) (N.post g.now.pat) }
+    ensures { GivesAs T.stmt_of (rules.var (exprs.expr g.now.depth) (patterns.pattern g.now.depth) (P.seen p.old)) result (P.seen p.new) }
+{
+    let start = p.span();
+    p.skip()?;
+    let outer = p.flags();
+    p.set_flags(with_in(outer));
+    let found = declarators(g, t, p)?;
+    p.set_flags(outer);
+    p.end(Wanted::Expression)?;
+    let span = since(p, start);
+    grown(p, T::var(t.alloc, span, VarDeclKind::Var, found))
+}
+
+/// Adds the fault that the bare name `interface` is in module code.
+#[tactic(auto, unfolding(swc_ecma_parser_reader::specs::Reader::note_statement))]
+fn note_statement<P: Source, T: BuildsStmt>(alloc: Global, p: &mut P, x: &T::Expr) -> PResult<()>
+    ensures { Gives (rules.note_statement (T.expr_of x.now) (P.seen p.old)) result (P.seen p.new) }
+{
+    if !T::is_ident_named(x, "interface") {
+        return Ok(());
+    }
+    let word = grown(p, Atom::new(alloc, "interface"))?;
+    p.module_fault(SyntaxError::InvalidIdentInStrict(word), T::expr_span(x))
+}
+
+/// A bare name before `:` is a label; none is read yet.
+#[tactic(auto, unfolding(swc_ecma_parser_reader::specs::Reader::no_label))]
+fn no_label<P: Source, T: BuildsStmt>(p: &mut P, x: &T::Expr) -> PResult<()>
+    ensures { Gives (rules.no_label (T.expr_of x.now) (P.seen p.old)) result (P.seen p.new) }
+{
+    if T::is_ident(x) && p.sees(TokenKind::Colon) {
+        return Err(p.wanted(Wanted::Expression));
+    }
+    Ok(())
+}
+
+/// An expression statement.
+#[tactic(auto, unfolding(swc_ecma_parser_reader::specs::Reader::expr_stmt, swc_ecma_parser_grammar::specs::Looks::spanned))]
+fn expr_stmt<
+    P: Source,
+    T: BuildsStmt,
+    S: Fn(&MakerOf<T>, &mut P, usize, Position) -> PResult<T::Stmt>,
+    E: Fn(&MakerOf<T>, &mut P, usize, Reading) -> PResult<Cover<T::Expr>>,
+    N: Fn(&MakerOf<T>, &mut P, usize, Part) -> PResult<T::Pat>,
+>(g: &Grammar<S, E, N>, t: &MakerOf<T>, p: &mut P) -> PResult<T::Stmt>
+    requires { Nests P.seen T.expr_of T.pat_of T.stmt_of g.now.depth (S.pre g.now.stmt) (S.post g.now.stmt) (E.pre g.now.expr) (E.post g.now.expr) (N.pre g.now.pat) (N.post g.now.pat) }
+    ensures { GivesAs T.stmt_of (rules.expr_stmt (exprs.expr g.now.depth expression) (P.seen p.old)) result (P.seen p.new) }
+{
+    let start = p.span();
+    let outer = p.flags();
+    p.set_flags(with_in(outer));
+    let x = nested(g, t, p, Class::Expression)?;
+    p.set_flags(outer);
+    no_label::<P, T>(p, &x)?;
+    note_statement::<P, T>(t.alloc, p, &x)?;
+    p.end(Wanted::EndOfExpression(T::expr_span(&x)))?;
+    let span = since(p, start);
+    grown(p, T::expr_stmt(t.alloc, span, x))
+}
+
+/// An expression statement, where one may begin.
+#[tactic(auto, unfolding(swc_ecma_parser_reader::specs::Reader::expr_stmt_at))]
+pub fn expr_stmt_at<
+    P: Source,
+    T: BuildsStmt,
+    S: Fn(&MakerOf<T>, &mut P, usize, Position) -> PResult<T::Stmt>,
+    E: Fn(&MakerOf<T>, &mut P, usize, Reading) -> PResult<Cover<T::Expr>>,
+    N: Fn(&MakerOf<T>, &mut P, usize, Part) -> PResult<T::Pat>,
+>(g: &Grammar<S, E, N>, t: &MakerOf<T>, p: &mut P, at: Position) -> PResult<T::Stmt>
+    requires { Nests P.seen T.expr_of T.pat_of T.stmt_of g.now.depth (S.pre g.now.stmt) (S.post g.now.stmt) (E.pre g.now.expr) (E.post g.now.expr) (N.pre g.now.pat) (N.post g.now.pat) }
+    ensures { GivesAs T.stmt_of (rules.expr_stmt_at (exprs.expr g.now.depth expression) at (P.seen p.old)) result (P.seen p.new) }
+{
+    if !p.may_begin_expression_statement(at) {
+        return Err(p.wanted(Wanted::Expression));
+    }
+    expr_stmt(g, t, p)
+}
+
+/// An end that nothing demands.
+#[tactic(auto, unfolding(swc_ecma_parser_reader::specs::Reader::optional_end))]
+pub fn optional_end<P: Source>(p: &mut P) -> PResult<()>
+    ensures { Gives (rules.optional_end (P.seen p.old)) result (P.seen p.new) }
+{
+    if p.sees(TokenKind::Semi) {
+        return p.skip();
+    }
+    Ok(())
+}
+
+/// An expression statement that begins with `import`.
+#[tactic(auto, unfolding(swc_ecma_parser_reader::specs::Reader::import_stmt, swc_ecma_parser_grammar::specs::Looks::spanned))]
+fn import_stmt<
+    P: Source,
+    T: BuildsStmt,
+    S: Fn(&MakerOf<T>, &mut P, usize, Position) -> PResult<T::Stmt>,
+    E: Fn(&MakerOf<T>, &mut P, usize, Reading) -> PResult<Cover<T::Expr>>,
+    N: Fn(&MakerOf<T>, &mut P, usize, Part) -> PResult<T::Pat>,
+>(g: &Grammar<S, E, N>, t: &MakerOf<T>, p: &mut P) -> PResult<T::Stmt>
+    requires { Nests P.seen T.expr_of T.pat_of T.stmt_of g.now.depth (S.pre g.now.stmt) (S.post g.now.stmt) (E.pre g.now.expr) (E.post g.now.expr) (N.pre g.now.pat) (N.post g.now.pat) }
+    ensures { GivesAs T.stmt_of (rules.import_stmt (exprs.expr g.now.depth expression) (P.seen p.old)) result (P.seen p.new) }
+{
+    let start = p.span();
+    let outer = p.flags();
+    p.set_flags(with_in(outer));
+    let x = nested(g, t, p, Class::Expression)?;
+    p.set_flags(outer);
+    optional_end(p)?;
+    let span = since(p, start);
+    grown(p, T::expr_stmt(t.alloc, span, x))
+}
+
+/// Whether `import(` or `import.` stands here.
+#[tactic(auto, unfolding(swc_ecma_parser_grammar::specs::Follows::begins_import_expression))]
+fn begins_import_expression<P: Source>(p: &P) -> bool
+    ensures { result ≡ follows.begins_import_expression (P.seen p.now).at }
+{
+    p.sees(TokenKind::Import) && (p.next_sees(TokenKind::LParen) || p.next_sees(TokenKind::Dot))
+}
+
+/// An expression statement, where `import` begins one; it begins no other statement.
+#[tactic(auto, unfolding(swc_ecma_parser_reader::specs::Reader::import_stmt_at))]
+pub fn import_stmt_at<
+    P: Source,
+    T: BuildsStmt,
+    S: Fn(&MakerOf<T>, &mut P, usize, Position) -> PResult<T::Stmt>,
+    E: Fn(&MakerOf<T>, &mut P, usize, Reading) -> PResult<Cover<T::Expr>>,
+    N: Fn(&MakerOf<T>, &mut P, usize, Part) -> PResult<T::Pat>,
+>(g: &Grammar<S, E, N>, t: &MakerOf<T>, p: &mut P) -> PResult<T::Stmt>
+    requires { Nests P.seen T.expr_of T.pat_of T.stmt_of g.now.depth (S.pre g.now.stmt) (S.post g.now.stmt) (E.pre g.now.expr) (E.post g.now.expr) (N.pre g.now.pat) (N.post g.now.pat) }
+    ensures { GivesAs T.stmt_of (rules.import_stmt_at (exprs.expr g.now.depth expression) (P.seen p.old)) result (P.seen p.new) }
+{
+    if begins_import_expression(p) {
+        return import_stmt(g, t, p);
+    }
+    Err(p.refuse_as(SyntaxError::ImportExportInScript))
+}
