@@ -5,8 +5,10 @@
 
 mod branch;
 mod control;
+mod for_loop;
 pub mod grammar;
 mod handler;
+mod label;
 pub mod script;
 mod stmt;
 mod switch;

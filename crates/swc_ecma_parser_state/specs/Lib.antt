@@ -4,3 +4,4 @@ pub mod Literals
 pub mod FirstError
 pub mod Taken
 pub mod Opened
+pub mod Labels
