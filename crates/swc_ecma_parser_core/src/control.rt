@@ -57,7 +57,7 @@ fn in_loop(flags: Context) -> Context
 }
 
 /// The body of a loop.
-pub(crate) fn looped<
+fn looped<
     P: Source,
     T: Trees,
     S: Fn(&MakerOf<T>, &mut P, usize, Position) -> PResult<T::Stmt>,

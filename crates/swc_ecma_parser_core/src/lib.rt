@@ -5,10 +5,8 @@
 
 mod branch;
 mod control;
-mod for_loop;
 pub mod grammar;
 mod handler;
-mod label;
 pub mod script;
 mod stmt;
 mod switch;

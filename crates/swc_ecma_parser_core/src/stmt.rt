@@ -13,9 +13,7 @@ ghost use Rattle.swc_ecma_parser_reader.specs.State.{Gives, GivesAs};
 
 use crate::branch::if_stmt;
 use crate::control::{do_while, while_stmt};
-use crate::for_loop::for_stmt;
 use crate::handler::try_stmt;
-use crate::label::other_stmt;
 use crate::switch::switch_stmt;
 use std::alloc::Global;
 use swc_ecma_parser_common::Atom;
@@ -27,7 +25,7 @@ use swc_ecma_parser_left::steps::{grown, pushed, since};
 use swc_ecma_parser_state::Source;
 use swc_ecma_parser_statements::jump::{break_stmt, continue_stmt};
 use swc_ecma_parser_statements::leave::{return_stmt, throw};
-use swc_ecma_parser_statements::simple::{debugger, empty, import_stmt_at, var};
+use swc_ecma_parser_statements::simple::{debugger, empty, expr_stmt_at, import_stmt_at, var};
 use swc_ecma_parser_token::TokenKind;
 use swc_ecma_parser_trees::{
     BuildsCall, BuildsControl, BuildsLoop, BuildsPattern, BuildsStmt, MakerOf, Trees,
@@ -172,8 +170,7 @@ pub(crate) fn level<
         TokenKind::Try => try_stmt(g, t, p),
         TokenKind::While => while_stmt(g, t, p),
         TokenKind::Do => do_while(g, t, p),
-        TokenKind::For => for_stmt(g, t, p),
         TokenKind::Import => import_stmt_at(g, t, p),
-        _ => other_stmt(g, t, p, at),
+        _ => expr_stmt_at(g, t, p, at),
     }
 }

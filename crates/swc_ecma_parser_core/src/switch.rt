@@ -130,7 +130,7 @@ fn clauses<
 }
 
 /// What stands around the clauses of a `switch`.
-pub(crate) fn in_breakable(flags: Context) -> Context
+fn in_breakable(flags: Context) -> Context
     ensures { result ≡ record flags { is_break_allowed = true } }
 {
     Context {

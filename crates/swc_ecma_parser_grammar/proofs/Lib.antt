@@ -1,7 +1,6 @@
 pub mod Tests
 pub mod Naming
 pub mod SupportedBegins
-pub mod Marks
 pub mod Widens
 pub mod Narrows
 pub mod FewFlags

@@ -1,12 +1,11 @@
 -- What the whole language reads and is supported, the rules of the first forms read.
 use Rattle.std.proofs.Common.{◌≡◌, ℕ, zero, suc, Bool, true, false, cond, rules, List, [], ◌∷◌, Option, refl, true≢false, sym, ◌∙◌, ap}
-use Rattle.std.specs.Prelude.{not, ◌&&◌, ◌||◌, codes}
+use Rattle.std.specs.Prelude.{not, ◌&&◌, ◌||◌}
 use Rattle.std.specs.List.{list_any}
 use denote.Enum.Bare.{same_true}
 use Rattle.swc_ecma_parser_token.specs.contracts.kind.TokenKind.{the_type}
 use Rattle.swc_ecma_parser_token.specs.declared.kind.TokenKind.{TokenKind}
 use Rattle.swc_ecma_parser_token.specs.declared.kind.TokenKind.TheVariants as kind
-use Rattle.swc_ecma_parser_grammar.specs.Follows.{word_at}
 use Rattle.swc_ecma_parser_input.specs.Place.{Place, after}
 use Rattle.swc_ecma_parser_model.specs.declared.leaves.VarDeclKind.{VarDeclKind}
 use Rattle.swc_ecma_parser_model.specs.declared.leaves.VarDeclKind.TheVariants as decl
@@ -19,16 +18,14 @@ use Rattle.swc_ecma_parser_grammar.specs.Looks.{kind_at, sees, same_kind, spanne
 use Rattle.swc_ecma_parser_grammar.specs.Names.{Code}
 use Rattle.swc_ecma_parser_grammar.specs.Ends.{Ends}
 use Rattle.swc_ecma_parser_grammar.specs.Reads.{with_in, in_strict, directed, directs_on, nested_item, top_item, DeclaratorRule, plain_rule, initialized_rule, ReadsSeparated, ReadsItems, StmtRule, block_rule, empty_rule, debugger_rule, var_rule, if_statement_rule, TargetRule, no_target_rule, target_rule, OperandRule, no_operand_rule, operand_rule, break_rule, continue_rule, return_rule, case_clause_rule, default_clause_rule, ReadsCases, switch_rule, throw_rule, try_rule, while_rule, do_while_rule, expr_rule, import_rule, ReadsBlock, CatchRule, no_catch_rule, catch_rule, catch_parameter_rule, FinallyRule, no_finally_rule, finally_rule, ReadsHead, IfRule, if_rule, ElseRule, no_else_rule, else_rule, else_if_rule}
-use Rattle.swc_ecma_parser_grammar.specs.Reads.{labeled_rule, InitRule, no_init_rule, init_var_rule, init_expression_rule, PartRule, no_part_rule, part_rule, for_rule}
 use Rattle.swc_ecma_parser_grammar.specs.Entries.{ReadsScript, ReadsShebang, some_shebang, no_shebang, script_code}
 use Rattle.swc_ecma_parser_grammar.specs.Supported.{supported, all_supported}
 use Rattle.swc_ecma_parser_grammar.specs.ReadsSupported.{ReadsClass, ReadsPat, ReadsStmt}
 use Rattle.swc_ecma_parser_grammar.specs.language.Goals.{assignment, stmt_goal}
-use Rattle.swc_ecma_parser_grammar.specs.language.Contexts.{in_loop, in_breakable, without_in}
-use Rattle.swc_ecma_parser_grammar.specs.language.ForHeads as heads
+use Rattle.swc_ecma_parser_grammar.specs.language.Contexts.{in_loop, in_breakable}
 use Rattle.swc_ecma_parser_grammar.specs.language.Declarations as declarations
 use Rattle.swc_ecma_parser_grammar.specs.language.Declarations.{is_var, begins_variables}
-use Rattle.swc_ecma_parser_grammar.specs.language.Items.{sub_statement, labelled_item, ItemsRule, BlockRule}
+use Rattle.swc_ecma_parser_grammar.specs.language.Items.{sub_statement, ItemsRule, BlockRule}
 use Rattle.swc_ecma_parser_grammar.specs.language.Lists.{ReadsEach}
 use Rattle.swc_ecma_parser_grammar.specs.language.Statements as statements
 use Rattle.swc_ecma_parser_grammar.specs.language.Statements.{is_default, at_most_one_default}
@@ -37,7 +34,6 @@ use Rattle.swc_ecma_parser_grammar.specs.language.Programs as programs
 use Rattle.swc_ecma_parser_grammar.specs.language.Programs.{ReadsEntry}
 use Rattle.swc_ecma_parser_grammar.proofs.Tests.{and_yes, no_and}
 use Rattle.swc_ecma_parser_grammar.proofs.SupportedBegins.{refuted, supported_as}
-use Rattle.swc_ecma_parser_grammar.proofs.Marks.{is_mark, no_word}
 use Rattle.swc_ecma_parser_grammar.proofs.Naming.{name_is_name}
 use Rattle.swc_ecma_parser_grammar.proofs.Widens.{stands_there}
 use Rattle.swc_ecma_parser_grammar.proofs.language.Asked.{or_left, or_right}
@@ -74,54 +70,6 @@ target_narrows {k = k} {x = x} {c = c} {d = d} (statements.target_rule text s i 
 operand_narrows : (n : ℕ) {k : Code} {x : Tree} {c d : Place} → statements.OperandRule (Reads n) k x c d → supported x ≡ true → OperandRule (ReadsClass n) k x c d
 operand_narrows n (statements.no_operand_rule i g e) h = no_operand_rule i g e
 operand_narrows n (statements.operand_rule i r) h = operand_rule i (r, h)
-
--- ---- the head of a `for`
-
--- so a variable of such a head has its initializer, or is a plain name
-mark_no_in : (j : TokenKind) → is_mark j ≡ true → same_kind j kind.In ≡ false
-unfolding same_kind
-mark_no_in kind.Comma h = refl
-mark_no_in kind.Semi h = refl
-mark_no_in kind.Colon h = refl
-mark_no_in _ h = cc
-
-asked_name : (a b name : Bool) → a ≡ false → b ≡ false → ((true && (a || b)) || (name && true)) ≡ true → name ≡ true
-asked_name true b name e g h = cc
-asked_name false true name e g h = cc
-asked_name false false true e g h = refl
-asked_name false false false e g h = cc
-
-head_declarator_narrows : (n : ℕ) (k : Code) (x : Tree) (c d : Place) → is_mark (kind_at d) ≡ true → declarations.DeclaratorRule (Reads n) (without_in k) true decl.Var x c d → supported x ≡ true
-    → DeclaratorRule (ReadsClass n assignment) (ReadsPat n) (without_in k) x c d
-head_declarator_narrows n k x c d i (declarations.plain_rule name r a b e) h =
-    let g = and_yes (supported name) _ (supported_as x (tree.declarator (spanned c d) name tree.absent) e h) in
-    plain_rule name (r, g.0) a (asked_name (sees kind.In d) (word_at (codes "of") d) (is_binding_name name) (mark_no_in (kind_at d) i) (no_word (codes "of") d i) b) e
-head_declarator_narrows n k x c d i (declarations.initialized_rule name init m r a s e) h =
-    let g = and_yes (supported name) _ (supported_as x (tree.declarator (spanned c d) name init) e h) in
-    initialized_rule name init m (r, g.0) a (s, g.1) e
-
-head_declarators_narrow : (n : ℕ) (k : Code) (xs : List Tree) (c d : Place) → is_mark (kind_at d) ≡ true → ReadsSeparated (declarations.DeclaratorRule (Reads n) (without_in k) true decl.Var) xs c d
-    → all_supported (trees xs) ≡ true → ReadsSeparated (DeclaratorRule (ReadsClass n assignment) (ReadsPat n) (without_in k)) xs c d
-head_declarators_narrow n k [] c d i r h = r
-head_declarators_narrow n k (x ∷ []) c d i (r, e) h = (head_declarator_narrows n k x c d i r (and_yes (supported x) _ h).0, e)
-head_declarators_narrow n k (x ∷ y ∷ ys) c d i (m, r, e, rs) h =
-    let g = and_yes (supported x) _ h in (m, head_declarator_narrows n k x c m (ap is_mark e) r g.0, e, head_declarators_narrow n k (y ∷ ys) (after m) d i rs g.1)
-
-init_var_narrows : (n : ℕ) (k : Code) (word : VarDeclKind) (xs : List Tree) (x : Tree) (c d : Place) → kind_at d ≡ kind.Semi
-    → declarations.VariablesRule (Reads n) (heads.head_code word k) true word xs c d → x ≡ tree.var (spanned c d) word (listed xs) → is_var word && all_supported (trees xs) ≡ true
-    → InitRule (ReadsClass n) (ReadsPat n) k x c d
-init_var_narrows n k decl.Var xs x c d j (b, r) e h = init_var_rule xs (saw c kind.Var b) (head_declarators_narrow n k xs (after c) d (ap is_mark j) r h) e
-init_var_narrows n k _ xs x c d j r e h = cc
-
-init_narrows : (n : ℕ) {k : Code} {x : Tree} {c d : Place} → kind_at d ≡ kind.Semi → heads.InitRule (Reads n) k x c d → supported x ≡ true → InitRule (ReadsClass n) (ReadsPat n) k x c d
-init_narrows n {c = c} j (heads.no_init_rule i g e) h = no_init_rule (saw c kind.Semi i) g e
-init_narrows n {k = k} {x = x} {c = c} {d = d} j (heads.init_variables_rule r) h =
-    init_var_narrows n k r.word r.declarators x c d j r.reads r.is (supported_as x (tree.var (spanned c d) r.word (listed r.declarators)) r.is h)
-init_narrows n j (heads.init_expression_rule i r) h = init_expression_rule i (r, h)
-
-part_narrows : (n : ℕ) {k : Code} {x : Tree} {c d : Place} → heads.PartRule (Reads n) k x c d → supported x ≡ true → PartRule (ReadsClass n) k x c d
-part_narrows n (heads.no_part_rule g e) h = no_part_rule g e
-part_narrows n (heads.part_rule r) h = part_rule (r, h)
 
 -- what a directive leaves is as much of a module as before
 strict_module : (b : Bool) (k : Code) → (cond b (in_strict k) k).flags.module ≡ k.flags.module
@@ -231,10 +179,7 @@ module _ (n : ℕ) (narrow : (k : Code) (at : Position) (x : Tree) (c d : Place)
   form_narrows k at x c d o (statements.debugger_rule i g e) h = debugger_rule i g e
   form_narrows k at x c d o (statements.with_rule y z m i r s e) h = refuted x (ap supported e) h
   form_narrows k at x c d o (statements.return_rule y m i r g e) h = return_rule y m i (operand_narrows n r (supported_as x (tree.return (spanned c d) y) e h)) g e
-  form_narrows k at x c d o (statements.labeled_rule text s y m r i t e) h =
-      let g = and_yes (supported (tree.ident s text)) _ (supported_as x (tree.labeled (spanned c d) (tree.ident s text) y) e h) in
-      labeled_rule r.word s y m r.reads_word (name_is_name k text s c m r g.0) i (narrow (in_breakable k) (labelled_item (after m)) y (after m) d o t g.1)
-      (e ∙ ap (λ v. tree.labeled (spanned c d) (tree.ident s v) y) r.is_text)
+  form_narrows k at x c d o (statements.labeled_rule text s y m r i t e) h = refuted x (ap supported e) h
   form_narrows k at x c d o (statements.break_rule y m i r g e) h = break_rule y m i (target_narrows r (supported_as x (tree.break (spanned c d) y) e h)) g e
   form_narrows k at x c d o (statements.continue_rule y m i r g e) h = continue_rule y m i (target_narrows r (supported_as x (tree.continue (spanned c d) y) e h)) g e
   form_narrows k at x c d o (statements.if_statement_rule r) h = if_statement_rule (if_narrows o r h)
@@ -251,11 +196,7 @@ module _ (n : ℕ) (narrow : (k : Code) (at : Position) (x : Tree) (c d : Place)
   form_narrows k at x c d o (statements.do_while_rule y z m l i s j r t e) h =
       let g = and_yes (supported y) _ (supported_as x (tree.do_while (spanned c d) y z) e h) in
       do_while_rule y z m l i (narrow (in_loop k) sub_statement z (after c) m o s g.1) j (head_narrows r g.0) t e
-  form_narrows k at x c d o (statements.for_rule a b f y l m p i j r q s t u v w e) h =
-      let g = and_yes (supported a) _ (supported_as x (tree.for (spanned c d) a b f y) e h) in
-      let z = and_yes (supported b) _ g.1 in
-      let r' = and_yes (supported f) _ z.1 in
-      for_rule a b f y l m p i j (init_narrows n q r g.0) q (part_narrows n s z.0) t (part_narrows n u r'.0) v (narrow (in_loop k) sub_statement y (after p) d o w r'.1) e
+  form_narrows k at x c d o (statements.for_rule a b f y l m p i j r q s t u v w e) h = refuted x (ap supported e) h
   form_narrows k at x c d o (statements.for_in_rule a b y l m i j r q s t u e) h = refuted x (ap supported e) h
   form_narrows k at x c d o (statements.for_of_rule w a b y l m p i j q r t s u v e) h = refuted x (ap supported e) h
   form_narrows k at x c d o (statements.expr_rule y m i r l g e) h =

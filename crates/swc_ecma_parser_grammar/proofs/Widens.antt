@@ -13,15 +13,14 @@ use Rattle.swc_ecma_parser_model.specs.Forms.{is_absent}
 use Rattle.swc_ecma_parser_grammar.specs.declared.position.Position.{Position}
 use Rattle.swc_ecma_parser_grammar.specs.Looks.{kind_at, sees, same_kind}
 use Rattle.swc_ecma_parser_grammar.specs.Names.{Code}
-use Rattle.swc_ecma_parser_grammar.specs.Reads.{with_in, directed, directs_on, nested_item, top_item, DeclaratorRule, plain_rule, initialized_rule, ReadsSeparated, ReadsItems, StmtRule, block_rule, empty_rule, debugger_rule, var_rule, if_statement_rule, TargetRule, no_target_rule, target_rule, OperandRule, no_operand_rule, operand_rule, break_rule, continue_rule, return_rule, labeled_rule, InitRule, no_init_rule, init_var_rule, init_expression_rule, PartRule, no_part_rule, part_rule, for_rule, CaseRule, case_clause_rule, default_clause_rule, ReadsCases, switch_rule, throw_rule, try_rule, while_rule, do_while_rule, expr_rule, import_rule, ReadsBlock, CatchRule, no_catch_rule, catch_rule, catch_parameter_rule, FinallyRule, no_finally_rule, finally_rule, ReadsHead, IfRule, if_rule, ElseRule, no_else_rule, else_rule, else_if_rule}
+use Rattle.swc_ecma_parser_grammar.specs.Reads.{with_in, directed, directs_on, nested_item, top_item, DeclaratorRule, plain_rule, initialized_rule, ReadsSeparated, ReadsItems, StmtRule, block_rule, empty_rule, debugger_rule, var_rule, if_statement_rule, TargetRule, no_target_rule, target_rule, OperandRule, no_operand_rule, operand_rule, break_rule, continue_rule, return_rule, CaseRule, case_clause_rule, default_clause_rule, ReadsCases, switch_rule, throw_rule, try_rule, while_rule, do_while_rule, expr_rule, import_rule, ReadsBlock, CatchRule, no_catch_rule, catch_rule, catch_parameter_rule, FinallyRule, no_finally_rule, finally_rule, ReadsHead, IfRule, if_rule, ElseRule, no_else_rule, else_rule, else_if_rule}
 use Rattle.swc_ecma_parser_grammar.specs.Entries.{ReadsScript, ReadsShebang, some_shebang, no_shebang, script_code}
 use Rattle.swc_ecma_parser_grammar.specs.Supported.{supported, all_supported}
 use Rattle.swc_ecma_parser_grammar.specs.ReadsSupported.{ReadsClass, ReadsPat, ReadsStmt}
 use Rattle.swc_ecma_parser_grammar.specs.language.Goals.{expression, assignment, expr_goal, stmt_goal}
-use Rattle.swc_ecma_parser_grammar.specs.language.Contexts.{in_loop, in_breakable, without_in}
-use Rattle.swc_ecma_parser_grammar.specs.language.ForHeads as heads
+use Rattle.swc_ecma_parser_grammar.specs.language.Contexts.{in_loop, in_breakable}
 use Rattle.swc_ecma_parser_grammar.specs.language.Declarations as declarations
-use Rattle.swc_ecma_parser_grammar.specs.language.Items.{sub_statement, labelled_item, ItemsRule, BlockRule}
+use Rattle.swc_ecma_parser_grammar.specs.language.Items.{sub_statement, ItemsRule, BlockRule}
 use Rattle.swc_ecma_parser_grammar.specs.language.Lists.{ReadsEach}
 use Rattle.swc_ecma_parser_grammar.specs.language.Statements as statements
 use Rattle.swc_ecma_parser_grammar.specs.language.Statements.{is_default, at_most_one_default, may_begin_at_top}
@@ -31,7 +30,7 @@ use Rattle.swc_ecma_parser_grammar.specs.language.Programs.{ReadsEntry}
 use Rattle.swc_ecma_parser_token.specs.Text.{word_text}
 use Rattle.swc_ecma_parser_grammar.proofs.Tests.{and_both}
 use Rattle.swc_ecma_parser_grammar.proofs.Naming.{name_is_clean, name_is_supported}
-use Rattle.swc_ecma_parser_grammar.proofs.SupportedBegins.{expr_begins, name_begins}
+use Rattle.swc_ecma_parser_grammar.proofs.SupportedBegins.{expr_begins}
 use Rattle.swc_ecma_parser_grammar.proofs.language.Shapes.{expr_stands}
 
 -- ---- declarators
@@ -40,16 +39,11 @@ declarator_supported : (n : ℕ) (k : Code) (x : Tree) (c d : Place) → Declara
 declarator_supported n k x c d (plain_rule p r h b e) = ap supported e ∙ and_both _ _ r.1 refl
 declarator_supported n k x c d (initialized_rule p y m r h s e) = ap supported e ∙ and_both _ _ r.1 s.1
 
--- what stands behind `var`, in the head of a loop or not
-named_alone : (loop follows name : Bool) → name ≡ true → ((loop && follows) || (name && true)) ≡ true
-named_alone true true name h = refl
-named_alone true false name h = and_both _ _ h refl
-named_alone false follows name h = and_both _ _ h refl
-
-declarator_widens : (n : ℕ) (loop : Bool) (k : Code) (x : Tree) (c d : Place) → DeclaratorRule (ReadsClass n assignment) (ReadsPat n) k x c d
-    → declarations.DeclaratorRule (Reads n) k loop decl.Var x c d
-declarator_widens n loop k x c d (plain_rule p r h b e) = declarations.plain_rule p r.0 h (named_alone loop _ _ b) e
-declarator_widens n loop k x c d (initialized_rule p y m r h s e) = declarations.initialized_rule p y m r.0 h s.0 e
+-- what stands behind `var`, with `in` read as an operator
+declarator_widens : (n : ℕ) (k : Code) (x : Tree) (c d : Place) → DeclaratorRule (ReadsClass n assignment) (ReadsPat n) (with_in k) x c d
+    → declarations.DeclaratorRule (Reads n) (with_in k) false decl.Var x c d
+declarator_widens n k x c d (plain_rule p r h b e) = declarations.plain_rule p r.0 h (and_both _ _ b refl) e
+declarator_widens n k x c d (initialized_rule p y m r h s e) = declarations.initialized_rule p y m r.0 h s.0 e
 
 module _ (Rule Other : Tree → Place → Place → Type 0) (widen : (x : Tree) (c d : Place) → Rule x c d → Other x c d) where
   -- with commas between, each by itself
@@ -96,34 +90,6 @@ operand_widens : (n : ℕ) {k : Code} {x : Tree} {c d : Place} → OperandRule (
 operand_widens n (no_operand_rule h g e) = statements.no_operand_rule h g e
 operand_widens n (operand_rule h r) = statements.operand_rule h r.0
 
-init_supported : (n : ℕ) {k : Code} {x : Tree} {c d : Place} → InitRule (ReadsClass n) (ReadsPat n) k x c d → supported x ≡ true
-init_supported n (no_init_rule h g e) = ap supported e
-init_supported n {k = k} {c = c} {d = d} (init_var_rule xs h r e) =
-    ap supported e ∙ separated_supported (DeclaratorRule (ReadsClass n assignment) (ReadsPat n) (without_in k)) (declarator_supported n (without_in k)) xs (after c) d r
-init_supported n (init_expression_rule h r) = r.1
-
-part_supported : (n : ℕ) {k : Code} {x : Tree} {c d : Place} → PartRule (ReadsClass n) k x c d → supported x ≡ true
-part_supported n (no_part_rule g e) = ap supported e
-part_supported n (part_rule r) = r.1
-
-init_widens : (n : ℕ) {k : Code} {x : Tree} {c d : Place} → InitRule (ReadsClass n) (ReadsPat n) k x c d → heads.InitRule (Reads n) k x c d
-init_widens n {c = c} (no_init_rule h g e) = heads.no_init_rule (seen c kind.Semi h) g e
-init_widens n {k = k} {c = c} {d = d} (init_var_rule xs h r e) = heads.init_variables_rule (record {
-  word = decl.Var;
-  declarators = xs;
-  reads = (
-    seen c kind.Var h,
-    separated_widen (DeclaratorRule (ReadsClass n assignment) (ReadsPat n) (without_in k)) (declarations.DeclaratorRule (Reads n) (without_in k) true decl.Var)
-        (declarator_widens n true (without_in k)) xs (after c) d r,
-  );
-  is = e;
-})
-init_widens n (init_expression_rule h r) = heads.init_expression_rule h r.0
-
-part_widens : (n : ℕ) {k : Code} {x : Tree} {c d : Place} → PartRule (ReadsClass n) k x c d → heads.PartRule (Reads n) k x c d
-part_widens n (no_part_rule g e) = heads.no_part_rule g e
-part_widens n (part_rule r) = heads.part_rule r.0
-
 module _ (n : ℕ) (small : (k : Code) (at : Position) (x : Tree) (c d : Place) → ReadsStmt n k at x c d → supported x ≡ true) where
   items_supported : (k : Code) (directives : Bool) (at : Position) (xs : List Tree) (c d : Place) → ReadsItems (λ j. ReadsStmt n j at) k directives xs c d → all_supported (trees xs) ≡ true
   items_supported k directives at [] c d h = refl
@@ -166,13 +132,9 @@ module _ (n : ℕ) (small : (k : Code) (at : Position) (x : Tree) (c d : Place) 
       ap supported e ∙ separated_supported (DeclaratorRule (ReadsClass n assignment) (ReadsPat n) (with_in k)) (declarator_supported n (with_in k)) xs (after c) m r
   rule_supported k at x c d (if_statement_rule r) = if_supported r
   rule_supported k at x c d (switch_rule y xs m i h r j s g t e) = ap supported e ∙ and_both (supported y) _ r.reads.1 (cases_supported (in_breakable k) false xs (after m) i s)
-  rule_supported k at x c d (labeled_rule w s y m r f h t e) =
-      ap supported e ∙ and_both _ _ (name_is_supported k.flags (word_text w) f) (small (in_breakable k) (labelled_item (after m)) y (after m) d t)
   rule_supported k at x c d (break_rule y m h r g e) = ap supported e ∙ target_supported r
   rule_supported k at x c d (continue_rule y m h r g e) = ap supported e ∙ target_supported r
   rule_supported k at x c d (return_rule y m h r g e) = ap supported e ∙ operand_supported n r
-  rule_supported k at x c d (for_rule a b f y l m i h g r j s o t p u e) =
-      ap supported e ∙ and_both (supported a) _ (init_supported n r) (and_both (supported b) _ (part_supported n s) (and_both (supported f) _ (part_supported n t) (small (in_loop k) sub_statement y (after i) d u)))
   rule_supported k at x c d (throw_rule y m h b r g e) = ap supported e ∙ r.1
   rule_supported k at x c d (try_rule y z w m i h r s t a e) = ap supported e ∙ and_both (supported y) _ (block_supported r) (and_both (supported z) _ (catch_supported s) (finally_supported t))
   rule_supported k at x c d (while_rule y z m h r s e) = ap supported e ∙ and_both (supported y) _ r.reads.1 (small (in_loop k) sub_statement z m d s)
@@ -252,19 +214,14 @@ module _ (n : ℕ) (widen : (k : Code) (at : Position) (x : Tree) (c d : Place) 
   form_widens k at x c d (var_rule xs m h r g e) =
       statements.variables_rule decl.Var xs m (either at.include_decl) (
         seen c kind.Var h,
-        separated_widen (DeclaratorRule (ReadsClass n assignment) (ReadsPat n) (with_in k)) (declarations.DeclaratorRule (Reads n) (with_in k) false decl.Var) (declarator_widens n false (with_in k)) xs (after c) m r,
+        separated_widen (DeclaratorRule (ReadsClass n assignment) (ReadsPat n) (with_in k)) (declarations.DeclaratorRule (Reads n) (with_in k) false decl.Var) (declarator_widens n k) xs (after c) m r,
       ) g e
   form_widens k at x c d (if_statement_rule r) = statements.if_statement_rule (if_widens r)
   form_widens k at x c d (switch_rule y xs m i h r j s g t e) =
       statements.switch_rule y xs m i h (head_widens r) j (cases_widen (in_breakable k) false xs (after m) i s) (one_at_most (in_breakable k) xs (after m) i s) g t e
-  form_widens k at x c d (labeled_rule w s y m r f h t e) =
-      statements.labeled_rule (word_text w) s y m (record { word = w; reads_word = r; is_text = refl; is_name = name_is_clean k.flags (word_text w) f }) h
-      (widen (in_breakable k) (labelled_item (after m)) y (after m) d t) e
   form_widens k at x c d (break_rule y m h r g e) = statements.break_rule y m h (target_widens r) g e
   form_widens k at x c d (continue_rule y m h r g e) = statements.continue_rule y m h (target_widens r) g e
   form_widens k at x c d (return_rule y m h r g e) = statements.return_rule y m h (operand_widens n r) g e
-  form_widens k at x c d (for_rule a b f y l m i h g r j s o t p u e) =
-      statements.for_rule a b f y l m i h g (init_widens n r) j (part_widens n s) o (part_widens n t) p (widen (in_loop k) sub_statement y (after i) d u) e
   form_widens k at x c d (throw_rule y m h b r g e) = statements.throw_rule y m h b r.0 g e
   form_widens k at x c d (try_rule y z w m i h r s t a e) = statements.try_rule y z w m i h (block_widens r) (catch_widens s) (finally_widens t) a e
   form_widens k at x c d (while_rule y z m h r s e) = statements.while_rule y z m h (head_widens r) (widen (in_loop k) sub_statement z m d s) e
@@ -280,11 +237,9 @@ rule_begins n k at x c d (debugger_rule h g e) = rw h refl
 rule_begins n k at x c d (var_rule xs m h r g e) = rw h refl
 rule_begins n k at x c d (if_statement_rule (if_rule test cons alt m i h r s o e)) = rw h refl
 rule_begins n k at x c d (switch_rule y xs m i h r j s g t e) = rw h refl
-rule_begins n k at x c d (labeled_rule w s y m r f h t e) = (name_begins k.flags w s c m r f).0
 rule_begins n k at x c d (break_rule y m h r g e) = rw h refl
 rule_begins n k at x c d (continue_rule y m h r g e) = rw h refl
 rule_begins n k at x c d (return_rule y m h r g e) = rw h refl
-rule_begins n k at x c d (for_rule a b f y l m i h g r j s o t p u e) = rw h refl
 rule_begins n k at x c d (throw_rule y m h b r g e) = rw h refl
 rule_begins n k at x c d (try_rule y z w m i h r s t a e) = rw h refl
 rule_begins n k at x c d (while_rule y z m h r s e) = rw h refl

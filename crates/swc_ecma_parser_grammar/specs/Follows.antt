@@ -117,10 +117,6 @@ unfoldable pub may_begin_expression_statement : Position → Place → Bool
 may_begin_expression_statement at c =
     not (sees kind.LBrace c || (sees kind.Function c || (sees kind.Class c || (sees kind.Import c || (is_async_function c || (at.include_decl && is_let_declaration c))))))
 
--- what the head of a `for` begins with where it declares nothing: ECMA-262, section 14.7.4
-unfoldable pub may_begin_head : Place → Bool
-may_begin_head c = not (sees kind.Var c || (sees kind.Const c || (sees kind.Semi c || is_let_declaration c)))
-
 -- `import(` and `import.` begin an expression, also a statement's
 unfoldable pub begins_import_expression : Place → Bool
 begins_import_expression c = sees kind.Import c && (sees kind.LParen (after c) || sees kind.Dot (after c))

@@ -17,10 +17,10 @@ use Rattle.swc_ecma_parser_grammar.specs.declared.position.Position.{Position}
 use Rattle.swc_ecma_parser_grammar.specs.Looks.{kind_at, breaks_at, sees, spanned}
 use Rattle.swc_ecma_parser_grammar.specs.Names.{Code, is_name}
 use Rattle.swc_ecma_parser_grammar.specs.Ends.{Ends, OptionalEnds, ends_at}
-use Rattle.swc_ecma_parser_grammar.specs.Follows.{may_begin_expression_statement, begins_import_expression, may_begin_head}
+use Rattle.swc_ecma_parser_grammar.specs.Follows.{may_begin_expression_statement, begins_import_expression}
 use Rattle.swc_ecma_parser_grammar.specs.language.Goals.{Class, expression, assignment}
-use Rattle.swc_ecma_parser_grammar.specs.language.Contexts.{in_loop, in_breakable, without_in}
-use Rattle.swc_ecma_parser_grammar.specs.language.Items.{sub_statement, labelled_item}
+use Rattle.swc_ecma_parser_grammar.specs.language.Contexts.{in_loop, in_breakable}
+use Rattle.swc_ecma_parser_grammar.specs.language.Items.{sub_statement}
 
 -- ---- contexts
 
@@ -48,11 +48,10 @@ pub record ReadsToken (t : Token) (span : Span) (c d : Place) : Type 0 where
 
 -- ---- statements: section 14
 
--- A declarator of section 14.3.2. One without initializer is a plain name, and stands before no `=`; in a pattern `in` is an operator in
--- any case.
+-- a declarator of section 14.3.2; one without initializer is a plain name, and stands before no `=`
 pub data DeclaratorRule (Expr Pat : Code → Tree → Place → Place → Type 0) (k : Code) (x : Tree) (c d : Place) : Type 0 where
-  plain_rule : (p : Tree) → Pat (with_in k) p c d → sees kind.Assign d ≡ false → is_binding_name p ≡ true → x ≡ tree.declarator (spanned c d) p tree.absent → DeclaratorRule Expr Pat k x c d
-  initialized_rule : (p e : Tree) (m : Place) → Pat (with_in k) p c m → kind_at m ≡ kind.Assign → Expr k e (after m) d → x ≡ tree.declarator (spanned c d) p e
+  plain_rule : (p : Tree) → Pat k p c d → sees kind.Assign d ≡ false → is_binding_name p ≡ true → x ≡ tree.declarator (spanned c d) p tree.absent → DeclaratorRule Expr Pat k x c d
+  initialized_rule : (p e : Tree) (m : Place) → Pat k p c m → kind_at m ≡ kind.Assign → Expr k e (after m) d → x ≡ tree.declarator (spanned c d) p e
       → DeclaratorRule Expr Pat k x c d
 
 -- at least one, with commas between and none behind
@@ -114,18 +113,6 @@ pub data OperandRule (Expr : Class → Code → Tree → Place → Place → Typ
   no_operand_rule : ends_at c ≡ true → d ≡ c → x ≡ tree.absent → OperandRule Expr k x c d
   operand_rule : ends_at c ≡ false → Expr expression (with_in k) x c d → OperandRule Expr k x c d
 
--- the first part of the head of a `for`, where `in` is no operator
-pub data InitRule (Expr : Class → Code → Tree → Place → Place → Type 0) (Pat : Code → Tree → Place → Place → Type 0) (k : Code) (x : Tree) (c d : Place) : Type 0 where
-  no_init_rule : kind_at c ≡ kind.Semi → d ≡ c → x ≡ tree.absent → InitRule Expr Pat k x c d
-  init_var_rule : (xs : List Tree) → kind_at c ≡ kind.Var → ReadsSeparated (DeclaratorRule (Expr assignment) Pat (without_in k)) xs (after c) d
-      → x ≡ tree.var (spanned c d) decl.Var (listed xs) → InitRule Expr Pat k x c d
-  init_expression_rule : may_begin_head c ≡ true → Expr expression (without_in k) x c d → InitRule Expr Pat k x c d
-
--- the second part and the third
-pub data PartRule (Expr : Class → Code → Tree → Place → Place → Type 0) (k : Code) (x : Tree) (c d : Place) : Type 0 where
-  no_part_rule : d ≡ c → x ≡ tree.absent → PartRule Expr k x c d
-  part_rule : Expr expression (with_in k) x c d → PartRule Expr k x c d
-
 -- CaseClause and DefaultClause of section 14.12, behind clauses with a `default` or without: each spans to its last token
 pub data CaseRule (Stmt : Code → Position → Tree → Place → Place → Type 0) (Expr : Class → Code → Tree → Place → Place → Type 0) (k : Code) (has_default : Bool) (x : Tree) (c d : Place) : Type 0 where
   case_clause_rule : (test : Tree) (xs : List Tree) (m : Place) → kind_at c ≡ kind.Case → Expr expression (with_in k) test (after c) m → kind_at m ≡ kind.Colon
@@ -166,9 +153,6 @@ pub data StmtRule (Stmt : Code → Position → Tree → Place → Place → Typ
   switch_rule : (e : Tree) (xs : List Tree) (m n : Place) → kind_at c ≡ kind.Switch → ReadsHead Expr k e (after c) m → kind_at m ≡ kind.LBrace
       → ReadsCases Stmt Expr (in_breakable k) false xs (after m) n → kind_at n ≡ kind.RBrace → d ≡ after n → x ≡ tree.switch (spanned c d) e (listed xs)
       → StmtRule Stmt Expr Pat k at x c d
-  -- section 14.13
-  labeled_rule : (w : Word) (s : Span) (y : Tree) (m : Place) → ReadsToken (token.Word w) s c m → is_name k.flags (word_text w) ≡ true → kind_at m ≡ kind.Colon
-      → Stmt (in_breakable k) (labelled_item (after m)) y (after m) d → x ≡ tree.labeled (spanned c d) (tree.ident s (word_text w)) y → StmtRule Stmt Expr Pat k at x c d
   -- sections 14.9, 14.8 and 14.10
   break_rule : (label : Tree) (m : Place) → kind_at c ≡ kind.Break → TargetRule k label (after c) m → Ends m d → x ≡ tree.break (spanned c d) label → StmtRule Stmt Expr Pat k at x c d
   continue_rule : (label : Tree) (m : Place) → kind_at c ≡ kind.Continue → TargetRule k label (after c) m → Ends m d → x ≡ tree.continue (spanned c d) label
@@ -186,10 +170,6 @@ pub data StmtRule (Stmt : Code → Position → Tree → Place → Place → Typ
   -- section 14.7.2; its end is demanded nowhere
   do_while_rule : (e y : Tree) (m n : Place) → kind_at c ≡ kind.Do → Stmt (in_loop k) sub_statement y (after c) m → kind_at m ≡ kind.While → ReadsHead Expr k e (after m) n
       → OptionalEnds n d → x ≡ tree.do_while (spanned c d) e y → StmtRule Stmt Expr Pat k at x c d
-  -- section 14.7.4
-  for_rule : (init test update y : Tree) (l m n : Place) → kind_at c ≡ kind.For → kind_at (after c) ≡ kind.LParen → InitRule Expr Pat k init (after (after c)) l → kind_at l ≡ kind.Semi
-      → PartRule Expr k test (after l) m → kind_at m ≡ kind.Semi → PartRule Expr k update (after m) n → kind_at n ≡ kind.RParen → Stmt (in_loop k) sub_statement y (after n) d
-      → x ≡ tree.for (spanned c d) init test update y → StmtRule Stmt Expr Pat k at x c d
   -- section 14.5. A bare name before `:` is a label; in module code the bare name `interface` is none.
   expr_rule : (e : Tree) (m : Place) → may_begin_expression_statement at c ≡ true → Expr expression (with_in k) e c m → is_ident e && sees kind.Colon m ≡ false
       → k.flags.module && is_ident_named (codes "interface") e ≡ false → Ends m d → x ≡ tree.expr_stmt (spanned c d) e → StmtRule Stmt Expr Pat k at x c d

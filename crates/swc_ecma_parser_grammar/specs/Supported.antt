@@ -57,8 +57,6 @@ abbrev mutual
   supported (tree.empty s) = true
   supported (tree.debugger s) = true
   supported (tree.expr_stmt s e) = supported e
-  -- `for` of three parts: section 14.7.4
-  supported (tree.for s init test next body) = supported init && (supported test && (supported next && supported body))
   -- `if`, `switch`, `throw`, `try`, `while` and `do`: sections 14.6, 14.12, 14.14, 14.15, 14.7.3 and 14.7.2
   supported (tree.if_stmt s test cons alt) = supported test && (supported cons && supported alt)
   supported (tree.switch s discriminant cases) = supported discriminant && supported cases
@@ -68,8 +66,6 @@ abbrev mutual
   supported (tree.catch s p body) = supported p && supported body
   supported (tree.while s test body) = supported test && supported body
   supported (tree.do_while s test body) = supported test && supported body
-  -- labels, and what they stand at: section 14.13
-  supported (tree.labeled s label body) = supported label && supported body
   -- `break`, `continue` and `return`: sections 14.9, 14.8 and 14.10
   supported (tree.break s label) = supported label
   supported (tree.continue s label) = supported label

@@ -1,7 +1,5 @@
 -- What is read between two states: the scope and the code stay as said, faults and notes are added, and where no fault is
 -- added the grammar has it.
-use Rattle.swc_ecma_parser_reader.specs.State.{Scope}
-use Rattle.swc_ecma_parser_reader.specs.State.{below, relabelled}
 use Rattle.std.proofs.Common.{◌≡◌, Bool, true, false, cond, List, [], ◌∷◌, ◌++◌, refl, sym, ◌∙◌, ap, subst, append_assoc, append-nil}
 use Rattle.std.specs.Prelude.{◌||◌}
 use Rattle.swc_ecma_parser_error.specs.Kind.{Fault}
@@ -204,23 +202,6 @@ pub sound_under : {w : Walk} {ns : Notes} {P : Code → Place → Place → Type
 sound_under change keeps s t p = record {
   code = flags_back s.code t.code (ap (λ k. k.setting) p.code ∙ keeps s.code);
   scope = p.scope;
-  added = p.added;
-  faults = p.faults;
-  notes = p.notes;
-  found = p.found;
-  walked = p.walked;
-  keeps = p.keeps;
-  spares = p.spares;
-  remembers = p.remembers;
-  reads = p.reads;
-}
-
--- below one more label
-pub sound_below : {w : Walk} {ns : Notes} {P : Code → Place → Place → Type 0} (text : Text) (s t : State) → Sound same w ns P (below text s) t
-    → Sound same (λ k l. w k (l ++ text ∷ [])) ns P s (relabelled s.scope t)
-sound_below text s t p = record {
-  code = p.code;
-  scope = ap {A = Scope} (λ z. record z { labels = s.scope.labels }) p.scope;
   added = p.added;
   faults = p.faults;
   notes = p.notes;

@@ -1,10 +1,4 @@
 -- A statement takes a token at least.
-use Rattle.swc_ecma_parser_reader.specs.State.{Scope, and_then, below, relabelled, below_label}
-use Rattle.swc_ecma_parser_grammar.specs.language.Items.{labelled_item}
-use Rattle.swc_ecma_parser_reader.specs.Reader.{begins_label, relabels, labelled_body, labeled_stmt, other_stmt}
-use Rattle.swc_ecma_parser_reader.specs.Reader.{head_var, head_init, head_part, for_stmt}
-use Rattle.swc_ecma_parser_grammar.specs.language.Contexts.{without_in}
-use Rattle.swc_ecma_parser_grammar.specs.Follows.{may_begin_head}
 use Rattle.std.proofs.Common.{◌≡◌, ◌≢◌, ℕ, zero, suc, ◌+◌, ◌≤◌, Bool, true, false, cond, List, [], ◌∷◌, length, Option, Some, None, Ok, Err, refl, true≢false, sym, ◌∙◌, arith}
 use Rattle.std.specs.Prelude.{◌&&◌, ◌||◌, is_some, codes}
 use Rattle.swc_ecma_parser_common.specs.declared.span.Span.{Span}
@@ -59,10 +53,6 @@ uninitialized_falls span p s = falls_if 0 (length s.at.left) (is_binding_name p)
 
 module _ (inner_expr : Class → Reader Tree) (g : (class : Class) (s : State) → Falls 1 (length s.at.left) (inner_expr class s))
     (inner : Reader Tree) (h : (s : State) → Falls 1 (length s.at.left) (inner s)) where
-  -- a pattern, in which `in` is an operator
-  named_falls : (s : State) → Falls 1 (length s.at.left) (within with_in inner s)
-  named_falls s = falls_coded 1 (length s.at.left) (inner (coded (with_in s.code) s)) _ _ (h (coded (with_in s.code) s))
-
   -- `=` is a token, and nothing else is asked of it
   initialized_falls : (start : Span) (p : Tree) (s : State) → Falls 0 (length s.at.left) (initialized inner_expr inner start p s)
   unfolding initialized
@@ -71,7 +61,7 @@ module _ (inner_expr : Class → Reader Tree) (g : (class : Class) (s : State) �
 
   pub declarator_falls : (s : State) → Falls 1 (length s.at.left) (declarator inner_expr inner s)
   unfolding declarator
-  declarator_falls s = falls_next (length s.at.left) (within with_in inner s) _ (named_falls s) (λ p t. falls_if 0 (length t.at.left) (sees kind.Assign t.at) _ _ (initialized_falls (span_at s.at) p t)
+  declarator_falls s = falls_next (length s.at.left) (inner s) _ (h s) (λ p t. falls_if 0 (length t.at.left) (sees kind.Assign t.at) _ _ (initialized_falls (span_at s.at) p t)
       (uninitialized_falls _ p t))
 
   declarators_turn_falls : (found : List Tree) (s : State) → Falls 0 (length s.at.left) (declarators_turn inner_expr inner found s)
@@ -230,39 +220,6 @@ module _ (inner : Reader Tree) (h : (s : State) → Falls 1 (length s.at.left) (
   if_falls s e = falls_then 1 0 (length s.at.left) (link inner inner_expr s) _ (falls_past s _ e (link_from_falls (span_at s.at) (moved s))) (λ l t.
       behind_falls (links inner inner_expr (length s.at.left)) (links_fall (length s.at.left)) l t)
 
--- ---- `for`
-
-module _ (inner : Reader Tree) (h : (s : State) → Falls 1 (length s.at.left) (inner s)) (inner_expr : Class → Reader Tree)
-    (g : (class : Class) (s : State) → Falls 1 (length s.at.left) (inner_expr class s)) (inner_pat : Reader Tree) (i : (s : State) → Falls 1 (length s.at.left) (inner_pat s)) where
-  head_var_falls : (s : State) → Falls 0 (length s.at.left) (head_var inner_expr inner_pat s)
-  unfolding head_var
-  head_var_falls s = falls_moved 0 s _ (falls_last 0 (length (after s.at).left) (within without_in (declarators inner_expr inner_pat) (moved s)) _
-      (falls_coded 0 (length (after s.at).left) (declarators inner_expr inner_pat (coded (without_in s.code) (moved s))) _ _
-      (declarators_fall inner_expr g inner_pat i (coded (without_in s.code) (moved s)))))
-
-  head_init_falls : (s : State) → Falls 0 (length s.at.left) (head_init inner_expr inner_pat s)
-  unfolding head_init
-  head_init_falls s = falls_if 0 (length s.at.left) (sees kind.Semi s.at) _ _ (omega arith) (falls_if 0 (length s.at.left) (sees kind.Var s.at) _ _ (head_var_falls s)
-      (falls_if 0 (length s.at.left) (may_begin_head s.at) _ _
-      (falls_coded 0 (length s.at.left) (inner_expr expression (coded (without_in s.code) s)) _ _
-      (less (length s.at.left) (inner_expr expression (coded (without_in s.code) s)) (g expression (coded (without_in s.code) s))))
-      (wanted_falls Tree 0 (length s.at.left) faults.Unexpected s)))
-
-  head_part_falls : (j : TokenKind) (s : State) → Falls 0 (length s.at.left) (head_part j (inner_expr expression) s)
-  unfolding head_part
-  head_part_falls j s = falls_if 0 (length s.at.left) (sees j s.at) _ _ (omega arith) (less (length s.at.left) (within with_in (inner_expr expression) s) (whole_falls (inner_expr expression) (g expression) s))
-
-  for_falls : (s : State) → kind_at s.at ≢ kind.End → Falls 1 (length s.at.left) (for_stmt inner inner_expr inner_pat s)
-  unfolding for_stmt
-  for_falls s e = falls_past s _ e (falls_then 0 0 (length (after s.at).left) (expect kind.LParen (moved s)) _ (expect_falls kind.LParen (moved s)) (λ _ a.
-      falls_then 0 0 (length a.at.left) (head_init inner_expr inner_pat a) _ (head_init_falls a) (λ x b.
-      falls_then 0 0 (length b.at.left) (expect kind.Semi b) _ (expect_falls kind.Semi b) (λ _ c.
-      falls_then 0 0 (length c.at.left) (head_part kind.Semi (inner_expr expression) c) _ (head_part_falls kind.Semi c) (λ y d.
-      falls_then 0 0 (length d.at.left) (expect kind.Semi d) _ (expect_falls kind.Semi d) (λ _ f.
-      falls_then 0 0 (length f.at.left) (head_part kind.RParen (inner_expr expression) f) _ (head_part_falls kind.RParen f) (λ z j.
-      falls_then 0 0 (length j.at.left) (expect kind.RParen j) _ (expect_falls kind.RParen j) (λ _ k.
-      falls_last 0 (length k.at.left) (within in_loop inner k) _ (looped_falls inner h (inner_expr expression) (g expression) k)))))))))
-
 -- ---- `break`, `continue` and `return`
 
 told_falls : (fs : List Fault) (s : State) → Falls 0 (length s.at.left) (told fs s)
@@ -304,31 +261,6 @@ module _ (inner : Reader Tree) (h : (s : State) → Falls 1 (length s.at.left) (
   return_falls : (s : State) → kind_at s.at ≢ kind.End → Falls 1 (length s.at.left) (return_stmt inner s)
   unfolding return_stmt
   return_falls s e = falls_past s _ e (after_return_falls (length (after s.at).left) (span_at s.at) (returned inner (span_at s.at) (moved s)) (returned_falls (span_at s.at) (moved s)))
-
--- ---- labels
-
-relabelled_falls : {A : Type 0} (j n : ℕ) (w : Scope) (o : Outcome A) → Falls j n o → Falls j n (and_then o (λ a t. Ok (a, relabelled w t)))
-relabelled_falls j n w (Ok p) h = h
-relabelled_falls j n w (Err e) h = h
-
-module _ (inner : Position → Reader Tree) (h : (at : Position) (s : State) → Falls 1 (length s.at.left) (inner at s)) where
-  labelled_body_falls : (text : Text) (s : State) → Falls 0 (length s.at.left) (labelled_body inner text s)
-  unfolding labelled_body
-  labelled_body_falls text s =
-      let t = below text (coded (in_breakable s.code) s) in
-      falls_coded 0 (length s.at.left) (below_label text (inner (labelled_item s.at)) (coded (in_breakable s.code) s)) _ _
-      (relabelled_falls 0 (length s.at.left) s.scope (inner (labelled_item s.at) t) (less (length s.at.left) (inner (labelled_item s.at) t) (h (labelled_item s.at) t)))
-
-  labeled_falls : (s : State) → Falls 1 (length s.at.left) (labeled_stmt inner s)
-  unfolding labeled_stmt relabels
-  labeled_falls s = falls_next (length s.at.left) (name faults.ExpectedIdent s) _ (name_falls faults.ExpectedIdent s) (λ i t.
-      falls_then 0 0 (length t.at.left) (expect kind.Colon t) _ (expect_falls kind.Colon t) (λ _ u.
-      falls_then 0 0 (length u.at.left) (labelled_body inner i.sym u) _ (labelled_body_falls i.sym u) (λ y v.
-      falls_last 0 (length v.at.left) (relabels (tree.ident i.span i.sym) y v) _ (told_falls _ v))))
-
-  other_falls : (inner_expr : Reader Tree) → ((s : State) → Falls 1 (length s.at.left) (inner_expr s)) → (at : Position) (s : State) → Falls 1 (length s.at.left) (other_stmt inner inner_expr at s)
-  unfolding other_stmt
-  other_falls inner_expr g at s = falls_if 1 (length s.at.left) (begins_label s.code s.at) _ _ (labeled_falls s) (expr_stmt_at_falls inner_expr g at s)
 
 -- ---- `switch`
 
@@ -422,9 +354,8 @@ module _ (inner : Position → Reader Tree) (h : (at : Position) (s : State) →
   stmt_by_falls at kind.Try s e = try_falls (inner nested_item) (h nested_item) inner_pat i s (λ h. cc)
   stmt_by_falls at kind.While s e = while_falls (inner sub_statement) (h sub_statement) (inner_expr expression) (g expression) s (λ h. cc)
   stmt_by_falls at kind.Do s e = do_while_falls (inner sub_statement) (h sub_statement) (inner_expr expression) (g expression) s (λ h. cc)
-  stmt_by_falls at kind.For s e = for_falls (inner sub_statement) (h sub_statement) inner_expr g inner_pat i s (λ h. cc)
   stmt_by_falls at kind.Import s e = import_stmt_at_falls (inner_expr expression) (g expression) s
-  stmt_by_falls at _ s e = other_falls inner h (inner_expr expression) (g expression) at s
+  stmt_by_falls at _ s e = expr_stmt_at_falls (inner_expr expression) (g expression) at s
 
   stmt_level_falls : (at : Position) (s : State) → Falls 1 (length s.at.left) (stmt_level inner inner_expr inner_pat at s)
   unfolding stmt_level

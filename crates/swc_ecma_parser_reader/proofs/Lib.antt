@@ -10,11 +10,9 @@ pub mod Errors
 pub mod Between
 pub mod SoundParts
 pub mod Sound
-pub mod Plain
 pub mod Opens
 pub mod Chains
 pub mod Answered
-pub mod CompleteParts
 pub mod Complete
 pub mod Unique
 pub mod Empty

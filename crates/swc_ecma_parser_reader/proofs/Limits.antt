@@ -1,13 +1,5 @@
 -- With twice as many levels as tokens, and two more, nothing is too deep but what an error token says: a statement and an
 -- expression below need a token, and the two can share their first.
-use Rattle.swc_ecma_parser_reader.proofs.Meets.{saw}
-use Rattle.swc_ecma_parser_model.specs.Tree.{Text}
-use Rattle.swc_ecma_parser_reader.specs.State.{below, below_label}
-use Rattle.swc_ecma_parser_grammar.specs.language.Items.{labelled_item}
-use Rattle.swc_ecma_parser_reader.specs.Reader.{begins_label, relabels, labelled_body, labeled_stmt, other_stmt}
-use Rattle.swc_ecma_parser_reader.specs.Reader.{head_var, head_init, head_part, for_stmt}
-use Rattle.swc_ecma_parser_grammar.specs.language.Contexts.{without_in}
-use Rattle.swc_ecma_parser_grammar.specs.Follows.{may_begin_head}
 use Rattle.std.proofs.Common.{◌≡◌, ◌≢◌, ℕ, zero, suc, ◌+◌, ◌*◌, ◌≤◌, Bool, true, false, cond, List, [], ◌∷◌, ◌++◌, length, Ok, Err, refl, arith}
 use Rattle.std.specs.Prelude.{◌&&◌, ◌||◌, is_some, codes}
 use Rattle.swc_ecma_parser_common.specs.declared.span.Span.{Span}
@@ -55,8 +47,7 @@ module _ (inner_expr : Class → Reader Tree) (inner_pat : Reader Tree) (n : ℕ
     (m : ℕ) (enough : 2 * m ≤ n) where
   declarator_shallow : (s : State) → Fine m s.at.left → Answers (Kept m) Shallow (declarator inner_expr inner_pat s)
   unfolding declarator initialized
-  declarator_shallow s f = answers_then _ _ (within with_in inner_pat s) _
-      (answers_then (Kept m) _ (inner_pat (coded (with_in s.code) s)) _ (below_pat m (coded (with_in s.code) s) enough f) (λ p t g. g)) (λ p t g. answers_if _ _ (sees kind.Assign t.at) _ _
+  declarator_shallow s f = answers_then _ _ (inner_pat s) _ (below_pat m s enough f) (λ p t g. answers_if _ _ (sees kind.Assign t.at) _ _
       (λ _. answers_then _ _ (inner_expr assignment (moved t)) _ (below_expr assignment m (moved t) enough (fine_after m t.at g)) (λ x u h. h))
       (λ _. answers_if _ _ (is_binding_name p) _ _ (λ _. g) (λ _. reject_shallow _ faults.PatVarWithoutInit _ (λ e. cc) m t g)))
 
@@ -138,7 +129,7 @@ labelled_shallow P (Err e) h = answers_if P Shallow (is_some e.1.scope.mark) _ _
 
 -- the links of a chain, each of which takes a token before the level below
 module _ (inner : Position → Reader Tree) (inner_expr : Class → Reader Tree) (n : ℕ)
-    (below_stmt : (at : Position) → StmtLevels n (inner at)) (below_expr : (class : Class) → Levels n (inner_expr class)) where
+    (below : (at : Position) → StmtLevels n (inner at)) (below_expr : (class : Class) → Levels n (inner_expr class)) where
   link_shallow : (i : ℕ) → 2 * i + 1 ≤ n → (s : State) → Fine i (after s.at).left → Answers (Kept i) Shallow (link (inner sub_statement) (inner_expr expression) s)
   unfolding link link_from condition labelled
   link_shallow i h s g = answers_then (Kept i) _ (condition (inner_expr expression) (moved s)) _
@@ -147,11 +138,11 @@ module _ (inner : Position → Reader Tree) (inner_expr : Class → Reader Tree)
       (labelled_shallow (Kept i) (within with_in (inner_expr expression) u)
       (answers_then (Kept i) _ (inner_expr expression (coded (with_in u.code) u)) _ (below_expr expression i (coded (with_in u.code) u) (omega arith) j) (λ x v k. k))) (λ x v k.
       answers_then _ _ (expect kind.RParen v) _ (expect_shallow i v k kind.RParen) (λ _ w z. z)))) (λ x t k.
-      answers_then _ _ (inner sub_statement t) _ (below_stmt sub_statement i t h k) (λ y u z. z))
+      answers_then _ _ (inner sub_statement t) _ (below sub_statement i t h k) (λ y u z. z))
 
   alternative_shallow : (i : ℕ) → 2 * i + 1 ≤ n → (s : State) → Fine i s.at.left → Answers (Kept i) Shallow (alternative (inner sub_statement) s)
   unfolding alternative
-  alternative_shallow i h s g = answers_if _ _ (sees kind.Else s.at) _ _ (λ _. below_stmt sub_statement i (moved s) h (fine_after i s.at g)) (λ _. g)
+  alternative_shallow i h s g = answers_if _ _ (sees kind.Else s.at) _ _ (λ _. below sub_statement i (moved s) h (fine_after i s.at g)) (λ _. g)
 
   links_shallow : (l m : ℕ) → 2 * m + 1 ≤ suc n → (s : State) → kind_at s.at ≡ kind.If → Fine m s.at.left → Answers (Kept m) Shallow (links (inner sub_statement) (inner_expr expression) l s)
   unfolding links
@@ -165,11 +156,11 @@ module _ (inner : Position → Reader Tree) (inner_expr : Class → Reader Tree)
       (λ _. answers_then (Kept m) _ (alternative (inner sub_statement) t) _ (alternative_shallow i (omega arith) t j) (λ y u z. fine_more i m u.at.left (omega arith) z)))
 
 module _ (inner : Position → Reader Tree) (inner_expr : Class → Reader Tree) (inner_pat : Reader Tree) (n : ℕ)
-    (below_stmt : (at : Position) → StmtLevels n (inner at)) (below_expr : (class : Class) → Levels n (inner_expr class)) (below_pat : Levels n inner_pat)
+    (below : (at : Position) → StmtLevels n (inner at)) (below_expr : (class : Class) → Levels n (inner_expr class)) (below_pat : Levels n inner_pat)
     (at : Position) (m : ℕ) (enough : 2 * m + 1 ≤ suc n) (s : State) (f : Fine m s.at.left) where
   block_from_shallow : (i : ℕ) → 2 * i + 1 ≤ n → (start : Place) (t : State) → Fine i t.at.left → Answers (Kept i) Shallow (block_from (inner nested_item) start t)
   unfolding block_from
-  block_from_shallow i h start t g = answers_then _ _ (items (inner nested_item) closes false t) _ (items_shallow (inner nested_item) n (below_stmt nested_item) closes false i h t g) (λ x u k.
+  block_from_shallow i h start t g = answers_then _ _ (items (inner nested_item) closes false t) _ (items_shallow (inner nested_item) n (below nested_item) closes false i h t g) (λ x u k.
       answers_then _ _ (close u) _ (close_shallow i u k) (λ _ v j. j))
 
   -- a block takes a token before the level below
@@ -226,27 +217,6 @@ module _ (inner : Position → Reader Tree) (inner_expr : Class → Reader Tree)
       (answers_then (Kept i) _ (inner_expr expression (coded (with_in u.code) u)) _ (below_expr expression i (coded (with_in u.code) u) h j) (λ x v k. k)) (λ x v k.
       answers_then _ _ (expect kind.RParen v) _ (expect_shallow i v k kind.RParen) (λ _ w z. z)))
 
-  -- the `:` of a label is a token before the level below
-  colon_taken : (t : State) → Fine m t.at.left → Answers (λ _ u. (i : ℕ) × (m ≡ suc i) × Fine i u.at.left) Shallow (expect kind.Colon t)
-  unfolding expect
-  colon_taken t g = answers_if _ _ (sees kind.Colon t.at) _ _ (λ b. fine_taken m t.at kind.Colon (saw t.at kind.Colon b) (λ z. cc) g) (λ _. refuse_shallow _ faults.Expected (λ z. cc) m t g)
-
-  labelled_body_shallow : (i : ℕ) → 2 * i + 1 ≤ n → (text : Text) (t : State) → Fine i t.at.left → Answers (Kept i) Shallow (labelled_body inner text t)
-  unfolding labelled_body
-  labelled_body_shallow i h text t g = answers_then (Kept i) _ (below_label text (inner (labelled_item t.at)) (coded (in_breakable t.code) t)) _
-      (answers_then (Kept i) _ (inner (labelled_item t.at) (below text (coded (in_breakable t.code) t))) _ (below_stmt (labelled_item t.at) i (below text (coded (in_breakable t.code) t)) h g) (λ x u k. k)) (λ x u k. k)
-
-  labeled_shallow : Answers (Kept m) Shallow (labeled_stmt inner s)
-  unfolding labeled_stmt relabels
-  labeled_shallow = answers_then (Kept m) _ (name faults.ExpectedIdent s) _ (name_shallow m s f faults.ExpectedIdent (λ z. cc)) (λ x t k.
-      answers_then (Kept m) _ (expect kind.Colon t) _ (colon_taken t k) (λ _ u (i, h, g).
-      answers_then (Kept m) _ (labelled_body inner x.sym u) _ (labelled_body_shallow i (omega arith) x.sym u g) (λ y v j.
-      answers_then (Kept m) _ (relabels (tree.ident x.span x.sym) y v) _ (told_shallow m _ v (fine_more i m v.at.left (omega arith) j)) (λ _ b a. a))))
-
-  other_shallow : Answers (Kept m) Shallow (other_stmt inner (inner_expr expression) at s)
-  unfolding other_stmt
-  other_shallow = answers_if _ _ (begins_label s.code s.at) _ _ (λ _. labeled_shallow) (λ _. expr_stmt_at_shallow)
-
   break_shallow : Answers (Kept m) Shallow (break_stmt s)
   unfolding break_stmt unbroken
   break_shallow = answers_then _ _ (target (moved s)) _ (target_shallow m (moved s) (fine_after m s.at f)) (λ x t k.
@@ -279,7 +249,7 @@ module _ (inner : Position → Reader Tree) (inner_expr : Class → Reader Tree)
 
   -- the body of a loop
   looped_shallow : (i : ℕ) → 2 * i + 1 ≤ n → (t : State) → Fine i t.at.left → Answers (Kept i) Shallow (within in_loop (inner sub_statement) t)
-  looped_shallow i h t g = answers_then (Kept i) _ (inner sub_statement (coded (in_loop t.code) t)) _ (below_stmt sub_statement i (coded (in_loop t.code) t) h g) (λ x u k. k)
+  looped_shallow i h t g = answers_then (Kept i) _ (inner sub_statement (coded (in_loop t.code) t)) _ (below sub_statement i (coded (in_loop t.code) t) h g) (λ x u k. k)
 
   while_shallow : kind_at s.at ≡ kind.While → Answers (Kept m) Shallow (while_stmt (inner sub_statement) (inner_expr expression) s)
   unfolding while_stmt
@@ -297,38 +267,10 @@ module _ (inner : Position → Reader Tree) (inner_expr : Class → Reader Tree)
       answers_then _ _ (head (inner_expr expression) u) _ (head_shallow i (omega arith) u j) (λ x v z.
       answers_then _ _ (optional_end v) _ (optional_end_shallow i v z) (λ _ b a. fine_more i m b.at.left (omega arith) a))))
 
-  head_init_shallow : (i : ℕ) → 2 * i ≤ n → (t : State) → Fine i t.at.left → Answers (Kept i) Shallow (head_init inner_expr inner_pat t)
-  unfolding head_init head_var
-  head_init_shallow i h t g = answers_if _ _ (sees kind.Semi t.at) _ _ (λ _. g) (λ _. answers_if _ _ (sees kind.Var t.at) _ _
-      (λ _. answers_then _ _ (within without_in (declarators inner_expr inner_pat) (moved t)) _
-      (answers_then (Kept i) _ (declarators inner_expr inner_pat (coded (without_in t.code) (moved t))) _
-      (declarators_shallow inner_expr inner_pat n below_expr below_pat i h (coded (without_in t.code) (moved t)) (fine_after i t.at g)) (λ x u k. k)) (λ x u k. k))
-      (λ _. answers_if _ _ (may_begin_head t.at) _ _
-      (λ _. answers_then (Kept i) _ (inner_expr expression (coded (without_in t.code) t)) _ (below_expr expression i (coded (without_in t.code) t) h g) (λ x u k. k))
-      (λ _. wanted_shallow _ faults.Unexpected (λ e. cc) i t g)))
-
-  head_part_shallow : (i : ℕ) → 2 * i ≤ n → (j : TokenKind) (t : State) → Fine i t.at.left → Answers (Kept i) Shallow (head_part j (inner_expr expression) t)
-  unfolding head_part
-  head_part_shallow i h j t g = answers_if _ _ (sees j t.at) _ _ (λ _. g)
-      (λ _. answers_then (Kept i) _ (inner_expr expression (coded (with_in t.code) t)) _ (below_expr expression i (coded (with_in t.code) t) h g) (λ x u k. k))
-
-  for_shallow : kind_at s.at ≡ kind.For → Answers (Kept m) Shallow (for_stmt (inner sub_statement) inner_expr inner_pat s)
-  unfolding for_stmt
-  for_shallow e =
-      let (i, h, g) = fine_taken m s.at kind.For e (λ z. cc) f in
-      answers_then _ _ (expect kind.LParen (moved s)) _ (expect_shallow i (moved s) g kind.LParen) (λ _ t a.
-      answers_then _ _ (head_init inner_expr inner_pat t) _ (head_init_shallow i (omega arith) t a) (λ x u b.
-      answers_then _ _ (expect kind.Semi u) _ (expect_shallow i u b kind.Semi) (λ _ v c.
-      answers_then _ _ (head_part kind.Semi (inner_expr expression) v) _ (head_part_shallow i (omega arith) kind.Semi v c) (λ y w d.
-      answers_then _ _ (expect kind.Semi w) _ (expect_shallow i w d kind.Semi) (λ _ o k.
-      answers_then _ _ (head_part kind.RParen (inner_expr expression) o) _ (head_part_shallow i (omega arith) kind.RParen o k) (λ z p l.
-      answers_then _ _ (expect kind.RParen p) _ (expect_shallow i p l kind.RParen) (λ _ q j.
-      answers_then _ _ (within in_loop (inner sub_statement) q) _ (looped_shallow i (omega arith) q j) (λ r b a. fine_more i m b.at.left (omega arith) a))))))))
-
   clause_from_shallow : (i : ℕ) → 2 * i + 1 ≤ n → (start : Span) (test : Tree) (t : State) → Fine i t.at.left → Answers (Kept i) Shallow (clause_from (inner nested_item) start test t)
   unfolding clause_from
   clause_from_shallow i h start test t g = answers_then _ _ (expect kind.Colon t) _ (expect_shallow i t g kind.Colon) (λ _ u k.
-      answers_then _ _ (items (inner nested_item) closes_clause false u) _ (items_shallow (inner nested_item) n (below_stmt nested_item) closes_clause false i h u k) (λ xs v j. j))
+      answers_then _ _ (items (inner nested_item) closes_clause false u) _ (items_shallow (inner nested_item) n (below nested_item) closes_clause false i h u k) (λ xs v j. j))
 
   clause_shallow : (i : ℕ) → 2 * i + 1 ≤ n → (b : Bool) (t : State) → Fine i t.at.left → Answers (Kept i) Shallow (clause (inner nested_item) (inner_expr expression) b t)
   unfolding clause case_clause default_clause
@@ -390,7 +332,7 @@ module _ (inner : Position → Reader Tree) (inner_expr : Class → Reader Tree)
   by_shallow kind.Semi e = fine_after m s.at f
   by_shallow kind.Debugger e = debugger_shallow
   by_shallow kind.Var e = var_shallow
-  by_shallow kind.If e = links_shallow inner inner_expr n below_stmt below_expr (suc (length s.at.left)) m enough s e f
+  by_shallow kind.If e = links_shallow inner inner_expr n below below_expr (suc (length s.at.left)) m enough s e f
   by_shallow kind.Switch e = switch_shallow e
   by_shallow kind.Break e = break_shallow
   by_shallow kind.Continue e = continue_shallow
@@ -399,9 +341,8 @@ module _ (inner : Position → Reader Tree) (inner_expr : Class → Reader Tree)
   by_shallow kind.Try e = try_shallow e
   by_shallow kind.While e = while_shallow e
   by_shallow kind.Do e = do_while_shallow e
-  by_shallow kind.For e = for_shallow e
   by_shallow kind.Import e = import_stmt_at_shallow
-  by_shallow _ e = other_shallow
+  by_shallow _ e = expr_stmt_at_shallow
 
   level_shallow : Answers (Kept m) Shallow (stmt_level inner inner_expr inner_pat at s)
   unfolding stmt_level

@@ -1,10 +1,4 @@
 -- What the first token decides: an expression statement, one that begins with `import`, and that a body does not end there.
-use Rattle.swc_ecma_parser_grammar.proofs.SupportedBegins.{word_begins}
-use Rattle.swc_ecma_parser_reader.specs.Reader.{other_stmt}
-use Rattle.swc_ecma_parser_grammar.specs.Reads.{labeled_rule}
-use Rattle.std.proofs.Common.{true≢false, sym}
-use Rattle.swc_ecma_parser_grammar.specs.Reads.{for_rule}
-use Rattle.swc_ecma_parser_grammar.specs.Follows.{may_begin_head}
 use Rattle.std.proofs.Common.{◌≡◌, ℕ, zero, suc, Bool, true, false, [], refl, ◌∙◌, ap}
 use Rattle.std.specs.Prelude.{not, ◌&&◌, ◌||◌}
 use Rattle.swc_ecma_parser_token.specs.declared.kind.TokenKind.{TokenKind}
@@ -24,7 +18,7 @@ use Rattle.swc_ecma_parser_grammar.specs.language.Goals.{Class, expression}
 use Rattle.swc_ecma_parser_grammar.proofs.Tests.{and_yes}
 use Rattle.swc_ecma_parser_grammar.proofs.SupportedBegins.{opens, expr_opens}
 use Rattle.swc_ecma_parser_reader.specs.State.{State, Reader}
-use Rattle.swc_ecma_parser_reader.specs.Reader.{closes, at_end, begins_clause, closes_clause, goes_on, stmt_by}
+use Rattle.swc_ecma_parser_reader.specs.Reader.{closes, at_end, begins_clause, closes_clause, goes_on, stmt_by, expr_stmt_at}
 use Rattle.swc_ecma_parser_reader.proofs.Meets.{saw}
 use Rattle.swc_ecma_parser_reader.proofs.Errors.{is_error}
 use Rattle.swc_ecma_parser_reader.proofs.expressions.CompleteKinds.{import_unnamed}
@@ -32,7 +26,7 @@ use Rattle.swc_ecma_parser_reader.proofs.expressions.CompleteKinds.{import_unnam
 -- ---- an expression statement is read by its first token
 
 pub opened : (stmt : Position → Reader Tree) (expr : Class → Reader Tree) (pat : Reader Tree) (at : Position) (s : State) (k : TokenKind) → opens k ≡ true → same_kind k kind.LBrace ≡ false
-    → same_kind k kind.Import ≡ false → stmt_by stmt expr pat at k s ≡ other_stmt stmt (expr expression) at s
+    → same_kind k kind.Import ≡ false → stmt_by stmt expr pat at k s ≡ expr_stmt_at (expr expression) at s
 unfolding same_kind
 opened stmt expr pat at s kind.LBrace e h g = cc
 opened stmt expr pat at s kind.Semi e h g = cc
@@ -42,7 +36,6 @@ opened stmt expr pat at s kind.If e h g = cc
 opened stmt expr pat at s kind.Break e h g = cc
 opened stmt expr pat at s kind.Continue e h g = cc
 opened stmt expr pat at s kind.Return e h g = cc
-opened stmt expr pat at s kind.For e h g = cc
 opened stmt expr pat at s kind.Throw e h g = cc
 opened stmt expr pat at s kind.Switch e h g = cc
 opened stmt expr pat at s kind.Try e h g = cc
@@ -76,27 +69,6 @@ unnoted _ h = refl
 
 pub import_unnoted : (n : ℕ) (k : Code) (x : Tree) (c d : Place) → ReadsClass n expression k x c d → begins_import_expression c ≡ true → statement_note x ≡ []
 import_unnoted n k x c d r h = unnoted x (import_unnamed n k x c d r (import_stands c h))
-
--- ---- the head of a `for`
-
-head_by : (is_var is_const is_semi declares : Bool) → not (is_var || (is_const || (is_semi || declares))) ≡ true → (is_semi ≡ false) × (is_var ≡ false)
-head_by true is_const is_semi declares h = cc
-head_by false true is_semi declares h = cc
-head_by false false true declares h = cc
-head_by false false false declares h = (refl, refl)
-
--- where it declares nothing, neither `;` nor `var` stands first
-pub head_begins : (c : Place) → may_begin_head c ≡ true → (sees kind.Semi c ≡ false) × (sees kind.Var c ≡ false)
-unfolding may_begin_head
-head_begins c h = head_by (sees kind.Var c) (sees kind.Const c) (sees kind.Semi c) _ h
-
--- what an expression does not begin with does not stand where one does
-pub unopened : (c : Place) (j : TokenKind) → opens (kind_at c) ≡ true → opens j ≡ false → sees j c ≡ false
-unopened c j h g = by_test (sees j c) refl
-  where
-    by_test : (b : Bool) → sees j c ≡ b → b ≡ false
-    by_test true e = absurd (true≢false (sym h ∙ ap opens (saw c j e) ∙ g))
-    by_test false e = refl
 
 -- ---- a chain of `else if`
 
@@ -146,8 +118,6 @@ rule_goes Stmt Expr Pat h k at x c d (switch_rule y xs m n e r i s g j z) = goes
 rule_goes Stmt Expr Pat h k at x c d (break_rule y m e r g i) = goes_by c kind.Break e (refl, refl, refl, refl, refl)
 rule_goes Stmt Expr Pat h k at x c d (continue_rule y m e r g i) = goes_by c kind.Continue e (refl, refl, refl, refl, refl)
 rule_goes Stmt Expr Pat h k at x c d (return_rule y m e r g i) = goes_by c kind.Return e (refl, refl, refl, refl, refl)
-rule_goes Stmt Expr Pat h k at x c d (for_rule a b f y l m n e i r j s o t p u z) = goes_by c kind.For e (refl, refl, refl, refl, refl)
-rule_goes Stmt Expr Pat h k at x c d (labeled_rule w s y m r f e t i) = goes_by c (kind_at c) refl (goes_open (kind_at c) (word_begins k.flags w s c m r f))
 rule_goes Stmt Expr Pat h k at x c d (throw_rule y m e b r g i) = goes_by c kind.Throw e (refl, refl, refl, refl, refl)
 rule_goes Stmt Expr Pat h k at x c d (try_rule y z w m n e r s o a i) = goes_by c kind.Try e (refl, refl, refl, refl, refl)
 rule_goes Stmt Expr Pat h k at x c d (while_rule y z m e r s i) = goes_by c kind.While e (refl, refl, refl, refl, refl)

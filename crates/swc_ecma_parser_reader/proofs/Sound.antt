@@ -1,18 +1,4 @@
 -- What is read is in the grammar where nothing was recorded, and the faults of the table are the walk's.
-use Rattle.std.proofs.Common.{append_assoc}
-use Rattle.swc_ecma_parser_reader.specs.Notes.{no_notes}
-use Rattle.swc_ecma_parser_reader.proofs.Between.{sound_below}
-use Rattle.swc_ecma_parser_reader.specs.State.{name}
-use Rattle.swc_ecma_parser_grammar.specs.Reads.{labeled_rule}
-use Rattle.swc_ecma_parser_grammar.specs.Own.{labelled_function, duplicates}
-use Rattle.swc_ecma_parser_reader.proofs.SoundParts.{relabels_sound}
-use Rattle.swc_ecma_parser_reader.specs.State.{below, below_label}
-use Rattle.swc_ecma_parser_grammar.specs.language.Items.{labelled_item}
-use Rattle.swc_ecma_parser_reader.specs.Reader.{begins_label, relabels, labelled_body, labeled_stmt, other_stmt}
-use Rattle.swc_ecma_parser_grammar.specs.Reads.{InitRule, no_init_rule, init_var_rule, init_expression_rule, PartRule, no_part_rule, part_rule, for_rule, DeclaratorRule, ReadsSeparated}
-use Rattle.swc_ecma_parser_reader.specs.Reader.{head_var, head_init, head_part, for_stmt}
-use Rattle.swc_ecma_parser_grammar.specs.language.Contexts.{without_in}
-use Rattle.swc_ecma_parser_grammar.specs.Follows.{may_begin_head}
 use Rattle.std.proofs.Common.{◌≡◌, ℕ, zero, suc, Bool, true, false, List, [], ◌∷◌, ◌++◌, Option, length, Ok, Err, refl, sym, ◌∙◌, ap, subst, append-nil}
 use Rattle.std.specs.Prelude.{◌&&◌, ◌||◌, is_some}
 use Rattle.swc_ecma_parser_common.specs.declared.span.Span.{Span}
@@ -42,7 +28,7 @@ use Rattle.swc_ecma_parser_grammar.specs.Names.{Code}
 use Rattle.swc_ecma_parser_grammar.specs.Ends.{Ends, ends_at}
 use Rattle.swc_ecma_parser_grammar.specs.Follows.{may_begin_expression_statement, begins_import_expression}
 use Rattle.swc_ecma_parser_grammar.specs.language.Contexts.{in_loop, in_breakable}
-use Rattle.swc_ecma_parser_grammar.specs.language.Goals.{Class, expression, assignment}
+use Rattle.swc_ecma_parser_grammar.specs.language.Goals.{Class, expression}
 use Rattle.swc_ecma_parser_grammar.specs.language.Items.{sub_statement}
 use Rattle.swc_ecma_parser_grammar.specs.Reads.{with_in, nested_item, top_item, ReadsItems, TargetRule, OperandRule, no_operand_rule, operand_rule, break_rule, continue_rule, return_rule, StmtRule, block_rule, empty_rule, debugger_rule, if_statement_rule, CaseRule, case_clause_rule, default_clause_rule, ReadsCases, switch_rule, throw_rule, try_rule, while_rule, do_while_rule, expr_rule, import_rule, ReadsBlock, CatchRule, no_catch_rule, catch_rule, catch_parameter_rule, FinallyRule, no_finally_rule, finally_rule, ReadsHead, IfRule, if_rule, ElseRule, no_else_rule, else_rule, else_if_rule}
 use Rattle.swc_ecma_parser_grammar.specs.ReadsSupported.{ReadsClass, ReadsPat, ReadsElement, ReadsStmt}
@@ -62,7 +48,7 @@ use Rattle.swc_ecma_parser_reader.specs.Entry.{SoundScript}
 use Rattle.swc_ecma_parser_reader.specs.Limits.{has_out_of_memory_token}
 use Rattle.swc_ecma_parser_reader.proofs.expressions.SoundCovers.{SoundCover}
 use Rattle.swc_ecma_parser_reader.proofs.expressions.Sound.{expr_sound, cover_sound}
-use Rattle.swc_ecma_parser_reader.proofs.expressions.SoundSteps.{meets_as, FreeWord, name_sound, Takes, expect_sound, fault_sound, walks_push, notes_push}
+use Rattle.swc_ecma_parser_reader.proofs.expressions.SoundSteps.{meets_as, Takes, expect_sound, fault_sound, walks_push, notes_push}
 use Rattle.swc_ecma_parser_reader.proofs.patterns.Sound.{pattern_sound, element_sound}
 use Rattle.swc_ecma_parser_reader.proofs.Notes.{or_nil, notes_nil}
 use Rattle.swc_ecma_parser_reader.proofs.Meets.{Meets, Refuses, meets_then, meets_if, wanted_meets, too_deep_meets, refuse_meets, Turned, loop_answers, saw, meant}
@@ -158,47 +144,6 @@ module _ (Stmt : Code → Position → Tree → Place → Place → Type 0) (Exp
       meets_then _ (within with_in (inner_expr expression) (moved s)) _ (inner_sound (moved s)) (λ x m p.
       meets_then _ (end faults.Expected m) _ (end_sound faults.Expected m) (λ _ t q.
       sound_after s t e refl refl refl (λ (i, r, z). throw_rule x i e (or_no (breaks_at (after s.at)) _ b).0 r z refl) (sound_more p q))))
-
-  -- ---- `for`
-
-  -- under a code without `in`
-  without_in_sound : (s : State) → Meets (λ x t. Sound same (λ k l. walk (env_of k l) x) (notes_of x) (λ k. Expr expression (without_in k) x) s t) (within without_in (inner_expr expression) s)
-  without_in_sound s = within_sound (λ x k l. walk (env_of k l) x) notes_of (λ x k. Expr expression k x) without_in (λ k. refl) (inner_expr expression) s (sound_expr expression (coded (without_in s.code) s))
-
-  head_var_sound : (s : State) → kind_at s.at ≡ kind.Var → Meets (λ x t. SoundTree (InitRule Expr Pat) s x t) (head_var inner_expr inner_pat s)
-  unfolding head_var spanned
-  head_var_sound s e = meets_then _ (within without_in (declarators inner_expr inner_pat) (moved s)) _
-      (within_sound (λ xs k l. walks.walks (env_of k l) false (trees xs)) (λ xs. all_notes_of (trees xs)) (λ xs k. ReadsSeparated (DeclaratorRule (Expr assignment) Pat k) xs) without_in (λ k. refl)
-      (declarators inner_expr inner_pat) (moved s) (declarators_sound Expr Pat inner_expr inner_pat sound_expr sound_pat (coded (without_in s.code) (moved s)))) (λ xs t p.
-      sound_after s t e refl refl refl (λ r. init_var_rule xs e r refl) p)
-
-  head_init_sound : (s : State) → Meets (λ x t. SoundTree (InitRule Expr Pat) s x t) (head_init inner_expr inner_pat s)
-  unfolding head_init
-  head_init_sound s = meets_if _ (sees kind.Semi s.at) _ _ (λ e. sound_here s (no_init_rule (saw s.at kind.Semi e) refl refl)) (λ _.
-      meets_if _ (sees kind.Var s.at) _ _ (λ e. head_var_sound s (saw s.at kind.Var e)) (λ _. meets_if _ (may_begin_head s.at) _ _
-      (λ h. meets_as (within without_in (inner_expr expression) s) (without_in_sound s) (λ x t p. sound_as s t refl refl refl (λ r. init_expression_rule h r) p))
-      (λ _. wanted_meets _ faults.Unexpected s)))
-
-  head_part_sound : (j : TokenKind) (s : State) → Meets (λ x t. SoundTree (PartRule Expr) s x t) (head_part j (inner_expr expression) s)
-  unfolding head_part
-  head_part_sound j s = meets_if _ (sees j s.at) _ _ (λ _. sound_here s (no_part_rule refl refl))
-      (λ _. meets_as (within with_in (inner_expr expression) s) (inner_sound s) (λ x t p. sound_as s t refl refl refl (λ r. part_rule r) p))
-
-  for_sound : (s : State) → kind_at s.at ≡ kind.For → Meets (SoundStmt s) (for_stmt (inner sub_statement) inner_expr inner_pat s)
-  unfolding for_stmt spanned
-  for_sound s e = meets_then _ (expect kind.LParen (moved s)) _ (expect_sound kind.LParen (moved s) refl) (λ _ i a.
-      meets_then _ (head_init inner_expr inner_pat i) _ (head_init_sound i) (λ x j b.
-      meets_then _ (expect kind.Semi j) _ (expect_sound kind.Semi j refl) (λ _ l c.
-      meets_then _ (head_part kind.Semi (inner_expr expression) l) _ (head_part_sound kind.Semi l) (λ y m d.
-      meets_then _ (expect kind.Semi m) _ (expect_sound kind.Semi m refl) (λ _ n f.
-      meets_then _ (head_part kind.RParen (inner_expr expression) n) _ (head_part_sound kind.RParen n) (λ z o g.
-      meets_then _ (expect kind.RParen o) _ (expect_sound kind.RParen o refl) (λ _ p h.
-      meets_then _ (within in_loop (inner sub_statement) p) _ (looped_sound p) (λ v t q.
-      sound_after s t e refl refl refl
-      (λ (c7, (c6, (c5, (c4, (c3, (c2, (c1, b1, b2), b3), b4), b5), b6), b7), b8).
-      for_rule x y z v c2 c4 c6 e b1.0 (subst (λ w. InitRule Expr Pat s.code x w c2) b1.1 b2) b3.0 (subst (λ w. PartRule Expr s.code y w c4) b3.1 b4) b5.0
-      (subst (λ w. PartRule Expr s.code z w c6) b5.1 b6) b7.0 (subst (λ w. Stmt (in_loop s.code) sub_statement v w t.at) b7.1 b8) refl)
-      (sound_then (sound_more (sound_then (sound_more (sound_then (sound_more (sound_then a b) c) d) f) g) h) q)))))))))
 
   -- ---- `break`, `continue` and `return`
 
@@ -487,42 +432,6 @@ module _ (Stmt : Code → Position → Tree → Place → Place → Type 0) (Exp
       try_rule x y z a g e b h (subst (λ w. FinallyRule Stmt s.code z g w) (sym v) j) (one_stands (subst (λ w. is_handled w ≡ true) (sym c) l) h j) refl)
       (sound_more (sound_then (sound_then b q) r) o)))))
 
-  -- ---- labels
-
-  -- what a label stands at
-  LabelledBody : Position → Tree → Code → Place → Place → Type 0
-  LabelledBody item x k c d = Stmt (in_breakable k) item x c d
-
-  labelled_body_sound : (text : Text) (s : State)
-      → Meets (λ x t. Sound same (λ k l. walk (env_of (in_breakable k) (l ++ text ∷ [])) x) (notes_of x) (LabelledBody (labelled_item s.at) x) s t) (labelled_body inner text s)
-  unfolding labelled_body LabelledBody
-  labelled_body_sound text s =
-      within_sound (λ x k l. walk (env_of k (l ++ text ∷ [])) x) notes_of (λ x k. Stmt k (labelled_item s.at) x) in_breakable (λ k. refl) (below_label text (inner (labelled_item s.at))) s
-      (meets_then _ (inner (labelled_item s.at) (below text (coded (in_breakable s.code) s))) _ (sound (labelled_item s.at) (below text (coded (in_breakable s.code) s)))
-      (λ x t p. sound_below text (coded (in_breakable s.code) s) t p))
-
-  labeled_sound : (s : State) → Meets (SoundStmt s) (labeled_stmt inner s)
-  unfolding labeled_stmt spanned LabelledBody
-  labeled_sound s = meets_then _ (name faults.ExpectedIdent s) _ (name_sound faults.ExpectedIdent s) (λ i m p.
-      meets_then _ (expect kind.Colon m) _ (expect_sound kind.Colon m refl) (λ _ n q.
-      meets_then _ (labelled_body inner i.sym n) _ (labelled_body_sound i.sym n) (λ y o r.
-      meets_then _ (relabels (tree.ident i.span i.sym) y o) _ (relabels_sound (tree.ident i.span i.sym) y o) (λ _ t u.
-      let a : Sound same no_faults no_notes (λ k c d. ((j : Place) × FreeWord i k c j × Takes kind.Colon j d) × (d ≡ n.at)) s n = sound_as s n refl refl refl (λ z. (z, refl)) (sound_more p q) in
-      let b : Sound same (λ k l. walk (env_of (in_breakable k) (l ++ i.sym ∷ [])) y) (notes_of y)
-      (λ k c d. ((j : Place) × (((v : Place) × FreeWord i k c v × Takes kind.Colon v j) × (j ≡ n.at)) × Stmt (in_breakable k) (labelled_item n.at) y j d) × (d ≡ o.at)) s o =
-      sound_as s o refl refl refl (λ z. (z, refl)) (sound_then a r) in
-      sound_as s t refl (sym (append_assoc (walk (env_of (in_breakable s.code) (s.scope.labels ++ i.sym ∷ [])) y) (labelled_function s.code.flags.strict y) (duplicates s.scope.labels (tree.ident i.span i.sym))))
-      (notes_nil (notes_of y))
-      (λ (c3, ((c2, ((c1, w, (h, g)), l), z), v), e).
-      labeled_rule w.word i.span y c1 w.token w.free h
-      (subst (λ c. Stmt (in_breakable s.code) (labelled_item c) y c t.at) (sym (sym g ∙ l)) (subst (λ c. Stmt (in_breakable s.code) (labelled_item n.at) y n.at c) (sym e) (subst (λ c. Stmt (in_breakable s.code) (labelled_item n.at) y c c3) l z)))
-      (ap (λ c. tree.labeled (spanned s.at c) (tree.ident i.span i.sym) y) (sym (e ∙ v)) ∙ ap (λ c. tree.labeled (spanned s.at t.at) (tree.ident i.span c) y) w.text))
-      (sound_then b u)))))
-
-  other_sound : (s : State) → Meets (SoundStmt s) (other_stmt inner (inner_expr expression) at s)
-  unfolding other_stmt
-  other_sound s = meets_if _ (begins_label s.code s.at) _ _ (λ _. labeled_sound s) (λ _. expr_stmt_at_sound s)
-
   -- each kind of token begins its statement
   by_sound : (j : TokenKind) (s : State) → kind_at s.at ≡ j → Meets (SoundStmt s) (stmt_by inner inner_expr inner_pat at j s)
   by_sound kind.LBrace s e = block_sound s e
@@ -538,9 +447,8 @@ module _ (Stmt : Code → Position → Tree → Place → Place → Type 0) (Exp
   by_sound kind.Try s e = try_sound s e
   by_sound kind.While s e = while_sound s e
   by_sound kind.Do s e = do_while_sound s e
-  by_sound kind.For s e = for_sound s e
   by_sound kind.Import s e = import_stmt_at_sound s
-  by_sound _ s e = other_sound s
+  by_sound _ s e = expr_stmt_at_sound s
 
   level_sound : (s : State) → Meets (SoundStmt s) (stmt_level inner inner_expr inner_pat at s)
   unfolding stmt_level
@@ -675,12 +583,6 @@ pub stmt_code : (n : ℕ) (at : Position) (s : State) (x : Tree) (t : State) →
 stmt_code n at s x t e =
     let P : Tree → State → Type 0 = λ y u. SoundTree (λ k. ReadsStmt n k at) s y u in
     let p : P x t = meant P Refuses (stmt n at s) (Ok (x, t)) e (stmt_sound n at s) in p.code
-
--- and the labels and the mark
-pub stmt_scope : (n : ℕ) (at : Position) (s : State) (x : Tree) (t : State) → stmt n at s ≡ Ok (x, t) → t.scope ≡ s.scope
-stmt_scope n at s x t e =
-    let P : Tree → State → Type 0 = λ y u. SoundTree (λ k. ReadsStmt n k at) s y u in
-    let p : P x t = meant P Refuses (stmt n at s) (Ok (x, t)) e (stmt_sound n at s) in p.scope
 
 pub expr_code : (n : ℕ) (class : Class) (s : State) (x : Tree) (t : State) → expr n class s ≡ Ok (x, t) → t.code ≡ s.code
 expr_code n class s x t e =

@@ -1,8 +1,4 @@
 -- The parts of statements, read: ends, declarations, statements one behind another, what is noted and what is told.
-use Rattle.swc_ecma_parser_model.specs.Forms.{is_ident_named}
-use Rattle.swc_ecma_parser_model.specs.Tree.{none}
-use Rattle.swc_ecma_parser_grammar.specs.Own.{labelled_function, duplicates}
-use Rattle.swc_ecma_parser_reader.specs.Reader.{relabels}
 use Rattle.std.proofs.Common.{◌≡◌, Bool, true, false, cond, List, [], ◌∷◌, ◌++◌, Ok, Err, refl, sym, ◌∙◌, ap, subst, append_assoc, append-nil}
 use Rattle.std.specs.Prelude.{◌&&◌, ◌||◌, is_some, codes}
 use Rattle.swc_ecma_parser_common.specs.declared.span.Span.{Span}
@@ -73,7 +69,7 @@ module _ (Expr : Class → Code → Tree → Place → Place → Type 0) (Pat : 
   Declared = DeclaratorRule (Expr assignment) Pat
 
   -- what stands behind a name
-  initialized_sound : (s : State) (p : Tree) (t : State) → Sound same (λ k l. walk (env_of k l) p) (notes_of p) (λ k. Pat (with_in k) p) s t → kind_at t.at ≡ kind.Assign → Meets (λ x u. SoundTree Declared s x u) (initialized expr pat (span_at s.at) p t)
+  initialized_sound : (s : State) (p : Tree) (t : State) → SoundTree Pat s p t → kind_at t.at ≡ kind.Assign → Meets (λ x u. SoundTree Declared s x u) (initialized expr pat (span_at s.at) p t)
   unfolding initialized spanned
   initialized_sound s p t q e = meets_then _ (expr assignment (moved t)) _ (sound_expr assignment (moved t)) (λ y u r.
       let b : Sound same (λ k l. walk (env_of k l) y) (notes_of y) (λ k c d. (kind_at c ≡ kind.Assign) × Expr assignment k y (after c) d) t u =
@@ -83,8 +79,7 @@ module _ (Expr : Class → Code → Tree → Place → Place → Type 0) (Pat : 
   -- a name, and what it is given where `=` stands
   declarator_sound : (s : State) → Meets (λ x t. SoundTree Declared s x t) (declarator expr pat s)
   unfolding declarator spanned
-  declarator_sound s = meets_then _ (within with_in pat s) _
-      (within_sound (λ x k l. walk (env_of k l) x) notes_of (λ x k. Pat k x) with_in (λ k. refl) pat s (sound_pat (coded (with_in s.code) s))) (λ p t q. meets_if _ (sees kind.Assign t.at) _ _ (λ e. initialized_sound s p t q (saw t.at kind.Assign e))
+  declarator_sound s = meets_then _ (pat s) _ (sound_pat s) (λ p t q. meets_if _ (sees kind.Assign t.at) _ _ (λ e. initialized_sound s p t q (saw t.at kind.Assign e))
       (λ e. meets_if _ (is_binding_name p) _ _
       (λ b. sound_as s t refl (sym (append-nil (walk (env_of s.code s.scope.labels) p))) (sym (notes_nil (notes_of p))) (λ r. plain_rule p r e b refl) q)
       (λ _. reject_meets _ _ t)))
@@ -313,23 +308,6 @@ pub misplaced_sound : (start : Span) (s : State)
     → Meets (λ _ t. SoundOwn (λ k l. return_faults (k.flags.in_function || k.setting.allow_return_outside_function) (record { lo = start.lo; hi = s.at.last.hi })) s t) (misplaced start s)
 unfolding misplaced SoundTold
 misplaced_sound start s = meets_as (misplaced start s) (told_sound _ (only_tabled _ _ _ refl) s) (λ _ t p. sound_as s t refl refl refl (λ h. h) p)
-
-both_tabled : (es fs : List Fault) → AllTabled es → AllTabled fs → AllTabled (es ++ fs)
-both_tabled [] fs h g = g
-both_tabled (e ∷ es) fs (i, h) g = (i, both_tabled es fs h g)
-
-function_tabled : (strict : Bool) (x : Tree) → AllTabled (labelled_function strict x)
-function_tabled strict (tree.fn_decl name (tree.function s (tree.list none) params body false is_generator)) = both_tabled _ _ (only_tabled strict _ _ refl) (only_tabled is_generator _ _ refl)
-function_tabled strict _ = tt
-
-duplicates_tabled : (labels : List Text) (label : Tree) → AllTabled (duplicates labels label)
-duplicates_tabled [] label = tt
-duplicates_tabled (l ∷ ls) label = both_tabled _ _ (only_tabled (is_ident_named l label) _ _ refl) (duplicates_tabled ls label)
-
-pub relabels_sound : (label body : Tree) (s : State) → Meets (λ _ t. SoundOwn (λ k l. labelled_function k.flags.strict body ++ duplicates l label) s t) (relabels label body s)
-unfolding relabels SoundTold
-relabels_sound label body s = meets_as (relabels label body s) (told_sound _ (both_tabled _ _ (function_tabled s.code.flags.strict body) (duplicates_tabled s.scope.labels label)) s)
-    (λ _ t p. sound_as s t refl refl refl (λ h. h) p)
 
 -- the label of `break` and `continue`, in which the walk finds nothing
 pub target_sound : (s : State) → Meets (λ x t. Sound same no_faults (notes_of x) (λ k. TargetRule k x) s t) (target s)

@@ -15,18 +15,17 @@ use Rattle.swc_ecma_parser_model.specs.Tree.{Tree, Text, listed}
 use Rattle.swc_ecma_parser_model.specs.Forms.{is_ident, is_ident_named, is_binding_name, span_of}
 use Rattle.swc_ecma_parser_grammar.specs.declared.position.Position.{Position}
 use Rattle.swc_ecma_parser_grammar.specs.Looks.{kind_at, breaks_at, sees, span_at}
-use Rattle.swc_ecma_parser_grammar.specs.Names.{Code, name_at}
-use Rattle.swc_ecma_parser_grammar.specs.Follows.{may_begin_expression_statement, begins_import_expression, may_begin_head}
+use Rattle.swc_ecma_parser_grammar.specs.Follows.{may_begin_expression_statement, begins_import_expression}
 use Rattle.swc_ecma_parser_grammar.specs.Reads.{with_in, directed, nested_item, top_item}
 use Rattle.swc_ecma_parser_grammar.specs.Ends.{ends_at}
-use Rattle.swc_ecma_parser_grammar.specs.Own.{break_faults, continue_faults, return_faults, labelled_function, duplicates}
+use Rattle.swc_ecma_parser_grammar.specs.Own.{break_faults, continue_faults, return_faults}
 use Rattle.swc_ecma_parser_grammar.specs.Entries.{script_code}
-use Rattle.swc_ecma_parser_grammar.specs.language.Contexts.{in_loop, in_breakable, without_in}
+use Rattle.swc_ecma_parser_grammar.specs.language.Contexts.{in_loop, in_breakable}
 use Rattle.swc_ecma_parser_grammar.specs.language.Goals.{Class, expression, assignment}
-use Rattle.swc_ecma_parser_grammar.specs.language.Items.{sub_statement, labelled_item}
+use Rattle.swc_ecma_parser_grammar.specs.language.Items.{sub_statement}
 use Rattle.swc_ecma_parser_reader.specs.Expressions.{expr}
 use Rattle.swc_ecma_parser_reader.specs.Patterns.{pattern}
-use Rattle.swc_ecma_parser_reader.specs.State.{Outcome, Reader, ◌>>=◌, ◌>>◌, pure, here, span_here, since, skip, moved, spanned_from, coded, flagged, within, below_label, fault, fault_at, end_of, module_fault, wanted, too_deep, refuse, reject, refused, labelled, name, expect, end, stuck, Step, More, Done, loop}
+use Rattle.swc_ecma_parser_reader.specs.State.{Outcome, Reader, ◌>>=◌, ◌>>◌, pure, here, span_here, since, skip, moved, spanned_from, coded, flagged, within, fault, fault_at, end_of, module_fault, wanted, too_deep, refuse, reject, refused, labelled, name, expect, end, stuck, Step, More, Done, loop}
 
 -- ---- statements
 
@@ -66,7 +65,7 @@ module _ (expr : Class → Reader Tree) (pat : Reader Tree) where
   unfoldable pub declarator : Reader Tree
   declarator = do
     start ← span_here
-    p ← within with_in pat
+    p ← pat
     λ s. if sees kind.Assign s.at then initialized start p s else bare_declarator start p s
 
   unfoldable pub declarators_turn : List Tree → Reader (Step (List Tree) (List Tree))
@@ -219,43 +218,6 @@ module _ (stmt : Reader Tree) (expr : Reader Tree) where
     span ← spanned_from start
     pure (tree.do_while span test body)
 
--- ---- `for` of three parts
-
-module _ (expr : Class → Reader Tree) (pat : Reader Tree) where
-  -- what a head declares, without an end
-  unfoldable pub head_var : Reader Tree
-  head_var = do
-    start ← span_here
-    skip
-    found ← within without_in (declarators expr pat)
-    span ← since start
-    pure (tree.var span decl.Var (listed found))
-
-  -- the first part of a head; `let` and `const` declare nothing in it yet
-  unfoldable pub head_init : Reader Tree
-  head_init = λ s.
-      if sees kind.Semi s.at then Ok (tree.absent, s) else if sees kind.Var s.at then head_var s
-      else if may_begin_head s.at then within without_in (expr expression) s else wanted faults.Unexpected s
-
--- a part of a head, unless what stands behind it does
-unfoldable pub head_part : TokenKind → Reader Tree → Reader Tree
-head_part behind expr = λ s. if sees behind s.at then Ok (tree.absent, s) else within with_in expr s
-
-unfoldable pub for_stmt : Reader Tree → (Class → Reader Tree) → Reader Tree → Reader Tree
-for_stmt stmt expr pat = do
-  start ← span_here
-  skip
-  expect kind.LParen
-  init ← head_init expr pat
-  expect kind.Semi
-  test ← head_part kind.Semi (expr expression)
-  expect kind.Semi
-  next ← head_part kind.RParen (expr expression)
-  expect kind.RParen
-  body ← within in_loop stmt
-  span ← since start
-  pure (tree.for span init test next body)
-
 -- ---- `if`: a chain of `else if` is one level
 
 -- an `if` up to its first statement
@@ -378,35 +340,6 @@ module _ (expr : Reader Tree) where
     start ← span_here
     skip
     λ s. after_return start (returned start s)
-
--- ---- labels
-
--- a name and `:`
-unfoldable pub begins_label : Code → Place → Bool
-begins_label k c = name_at k.flags c && sees kind.Colon (after c)
-
--- the faults of a label behind what it stands at
-unfoldable pub relabels : (label body : Tree) → Reader (Unit {0})
-relabels label body = λ s. told (labelled_function s.code.flags.strict body ++ duplicates s.scope.labels label) s
-
-module _ (stmt : Position → Reader Tree) where
-  -- what a label stands at
-  unfoldable pub labelled_body : Text → Reader Tree
-  labelled_body text = λ s. within in_breakable (below_label text (stmt (labelled_item s.at))) s
-
-  unfoldable pub labeled_stmt : Reader Tree
-  labeled_stmt = do
-    start ← span_here
-    i ← name faults.ExpectedIdent
-    expect kind.Colon
-    body ← labelled_body i.sym
-    span ← since start
-    relabels (tree.ident i.span i.sym) body
-    pure (tree.labeled span (tree.ident i.span i.sym) body)
-
-  -- a statement that its first token does not tell
-  unfoldable pub other_stmt : Reader Tree → Position → Reader Tree
-  other_stmt expr at = λ s. if begins_label s.code s.at then labeled_stmt s else expr_stmt_at expr at s
 
 -- ---- `switch`
 
@@ -538,9 +471,8 @@ module _ (stmt : Position → Reader Tree) (expr : Class → Reader Tree) (pat :
   stmt_by at kind.Try = try_stmt (stmt nested_item) pat
   stmt_by at kind.While = while_stmt (stmt sub_statement) (expr expression)
   stmt_by at kind.Do = do_while (stmt sub_statement) (expr expression)
-  stmt_by at kind.For = for_stmt (stmt sub_statement) expr pat
   stmt_by at kind.Import = import_stmt_at (expr expression)
-  stmt_by at _ = other_stmt stmt (expr expression) at
+  stmt_by at _ = expr_stmt_at (expr expression) at
 
   unfoldable pub stmt_level : Position → Reader Tree
   stmt_level at = λ s. stmt_by at (kind_at s.at) s

@@ -4,4 +4,3 @@ pub mod Literals
 pub mod FirstError
 pub mod Taken
 pub mod Opened
-pub mod Labels

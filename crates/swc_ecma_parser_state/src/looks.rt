@@ -208,17 +208,6 @@ impl<I: Tokens> State<I> {
         self.sees(TokenKind::Let) && self.next_follows_let()
     }
 
-    /// What the head of a `for` begins with where it declares nothing: ECMA-262, section 14.7.4.
-    #[tactic(auto, unfolding(swc_ecma_parser_grammar::specs::Follows::may_begin_head))]
-    pub fn may_begin_head(&self) -> bool
-        ensures { result ≡ follows.may_begin_head self.now.at }
-    {
-        !(self.sees(TokenKind::Var)
-            || self.sees(TokenKind::Const)
-            || self.sees(TokenKind::Semi)
-            || self.is_let_declaration())
-    }
-
     /// The look-ahead of an expression statement: ECMA-262, section 14.5.
     #[tactic(auto, unfolding(swc_ecma_parser_grammar::specs::Follows::may_begin_expression_statement))]
     pub fn may_begin_expression_statement(&self, at: Position) -> bool

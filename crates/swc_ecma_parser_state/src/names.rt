@@ -1,7 +1,6 @@
 //! Reserved words and names: ECMA-262, sections 12.7.2 and 13.1.
 
-ghost use Rattle.std.specs.Prelude.{◌≡◌, map, count_by};
-ghost use Rattle.std.specs.Str.{bytes_eq};
+ghost use Rattle.std.specs.Prelude.{◌≡◌, map};
 ghost use Rattle.swc_ecma_parser_grammar.specs.Names as names;
 
 use swc_ecma_parser_common::Atom;
@@ -70,13 +69,6 @@ pub fn is_label(labels: &[Atom], text: &str) -> bool
     ensures { result ≡ names.is_one_of labels.now text.now }
 {
     labels.iter().any(|label| text == label.as_str())
-}
-
-/// How many of these labels have a text.
-pub fn count_labels(labels: &[Atom], text: &str) -> usize
-    ensures { result ≡ count_by (λ label. bytes_eq text.now label) labels.now }
-{
-    labels.iter().filter(|label| text == label.as_str()).count()
 }
 
 pub fn is_reserved_word(text: &str) -> bool

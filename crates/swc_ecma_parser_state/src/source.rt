@@ -1,7 +1,6 @@
 //! What the rules read from.
 
-ghost use Rattle.std.specs.Prelude.{◌≡◌, ◌≢◌, [], Ok, Err, IsOk, is_some, option_map, count_by};
-ghost use Rattle.std.specs.Str.{bytes_eq};
+ghost use Rattle.std.specs.Prelude.{◌≡◌, ◌≢◌, [], Ok, Err, IsOk, is_some, option_map};
 ghost use Rattle.swc_ecma_parser_error.specs.Kind as kinds;
 ghost use Rattle.swc_ecma_parser_error.specs.Kind.{fault_of, kind_of, IsOutOfMemory};
 ghost use Rattle.swc_ecma_parser_grammar.specs.Follows as follows;
@@ -14,7 +13,6 @@ ghost use Rattle.swc_ecma_parser_reader.specs.Expressions as exprs;
 ghost use Rattle.swc_ecma_parser_reader.specs.Reader as rules;
 ghost use Rattle.swc_ecma_parser_reader.specs.State as reader;
 ghost use Rattle.swc_ecma_parser_reader.specs.State.{Gives, GivesAs};
-ghost use Rattle.swc_ecma_parser_state.specs.Labels.{LeavesLabel};
 ghost use Rattle.swc_ecma_parser_state.specs.Literals.{literal_tree};
 ghost use Rattle.swc_ecma_parser_state.specs.Wanted.{wanted_kind};
 
@@ -72,18 +70,6 @@ pub trait Source {
     fn has_label(&self, text: &str) -> bool
         ensures { result ≡ names.is_one_of (seen self.now).scope.labels text.now };
 
-    /// How many labels of this text stand around.
-    fn count_labels(&self, text: &str) -> usize
-        ensures { result ≡ count_by (λ label. bytes_eq text.now label) (seen self.now).scope.labels };
-
-    /// Goes below one more label.
-    fn push_label(&mut self, label: Atom) -> PResult<()>
-        ensures { Gives (Ok (tt, reader.below label (seen self.old))) result (seen self.new) };
-
-    /// Leaves the innermost label.
-    fn pop_label(&mut self)
-        ensures { LeavesLabel (seen self.old) (seen self.new) };
-
     /// Whether a name stands here.
     fn name_at(&self) -> bool
         ensures { result ≡ names.name_at (seen self.now).code.flags (seen self.now).at };
@@ -123,10 +109,6 @@ pub trait Source {
     /// The look-ahead of an expression statement.
     fn may_begin_expression_statement(&self, at: Position) -> bool
         ensures { result ≡ follows.may_begin_expression_statement at (seen self.now).at };
-
-    /// The look-ahead of the head of a `for`.
-    fn may_begin_head(&self) -> bool
-        ensures { result ≡ follows.may_begin_head (seen self.now).at };
 
     /// Takes the current token.
     fn skip(&mut self) -> PResult<()>
@@ -246,18 +228,6 @@ impl<I: Tokens> Source for State<I> {
         State::has_label(self, text)
     }
 
-    fn count_labels(&self, text: &str) -> usize {
-        State::count_labels(self, text)
-    }
-
-    fn push_label(&mut self, label: Atom) -> PResult<()> {
-        State::push_label(self, label)
-    }
-
-    fn pop_label(&mut self) {
-        State::pop_label(self);
-    }
-
     fn name_at(&self) -> bool {
         State::name_at(self)
     }
@@ -296,10 +266,6 @@ impl<I: Tokens> Source for State<I> {
 
     fn may_begin_expression_statement(&self, at: Position) -> bool {
         State::may_begin_expression_statement(self, at)
-    }
-
-    fn may_begin_head(&self) -> bool {
-        State::may_begin_head(self)
     }
 
     fn skip(&mut self) -> PResult<()> {

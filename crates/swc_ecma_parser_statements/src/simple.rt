@@ -18,7 +18,6 @@ use swc_ecma_parser_left::cover::{Cover, Reading, nested};
 use swc_ecma_parser_left::grammar::{Grammar, Part};
 use swc_ecma_parser_left::steps::{grown, pushed, since, with_in};
 use swc_ecma_parser_model::VarDeclKind;
-use swc_ecma_parser_patterns::pat::inner_pat;
 use swc_ecma_parser_state::{Source, Wanted};
 use swc_ecma_parser_token::TokenKind;
 use swc_ecma_parser_trees::{BuildsPattern, BuildsStmt, MakerOf};
@@ -59,7 +58,7 @@ fn declarator<
     ensures { GivesAs T.declarator_of (rules.declarator (exprs.expr g.now.depth) (patterns.pattern g.now.depth) (P.seen p.old)) result (P.seen p.new) }
 {
     let start = p.span();
-    let name = inner_pat(g, t, p, Part::Pattern)?;
+    let name = (g.pat)(t, p, g.depth, Part::Pattern)?;
     if p.sees(TokenKind::Assign) {
         p.skip()?;
         let init = nested(g, t, p, Class::Assignment)?;
@@ -75,7 +74,7 @@ fn declarator<
 
 /// Declarators with commas between.
 #[tactic(auto, unfolding(swc_ecma_parser_reader::specs::Reader::declarators), using(swc_ecma_parser_reader::proofs::Loops::declarators_done, swc_ecma_parser_reader::proofs::Loops::declarators_err, swc_ecma_parser_reader::proofs::Loops::declarators_more, swc_ecma_parser_reader::proofs::Loops::declarators_shorter, std::proofs::lemmas::List::map_push))]
-pub fn declarators<
+fn declarators<
     P: Source,
     T: BuildsStmt + BuildsPattern,
     S: Fn(&MakerOf<T>, &mut P, usize, Position) -> PResult<T::Stmt>,

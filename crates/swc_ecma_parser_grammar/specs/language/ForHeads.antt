@@ -1,5 +1,5 @@
 -- The heads of `for` statements: ECMA-262, sections 14.7.4 and 14.7.5.
-use Rattle.std.specs.Prelude.{◌≡◌, Bool, true, false, not, ◌&&◌, if◌then◌else◌, List, [], ◌∷◌, codes}
+use Rattle.std.specs.Prelude.{◌≡◌, Bool, true, false, not, ◌&&◌, ◌||◌, if◌then◌else◌, List, [], ◌∷◌, codes}
 use Rattle.std.specs.Str.{bytes_eq}
 use Rattle.swc_ecma_parser_token.specs.declared.kind.TokenKind.TheVariants as kind
 use Rattle.swc_ecma_parser_input.specs.Place.{Place, after}
@@ -9,7 +9,7 @@ use Rattle.swc_ecma_parser_model.specs.Tree.{Tree, listed}
 use Rattle.swc_ecma_parser_model.specs.Forms.{is_binding_name}
 use Rattle.swc_ecma_parser_grammar.specs.Looks.{kind_at, breaks_at, sees, spanned}
 use Rattle.swc_ecma_parser_grammar.specs.Names.{Code}
-use Rattle.swc_ecma_parser_grammar.specs.Follows.{word_at, may_begin_head}
+use Rattle.swc_ecma_parser_grammar.specs.Follows.{word_at, is_let_declaration}
 use Rattle.swc_ecma_parser_grammar.specs.Reads.{with_in}
 use Rattle.swc_ecma_parser_grammar.specs.language.Goals.{Goal, expr_goal, expression, pattern_goal, binding, assigning, using_goal}
 use Rattle.swc_ecma_parser_grammar.specs.language.Contexts.{may_await, without_in}
@@ -25,6 +25,10 @@ pub record HeadVariablesRule (In : Goal → Type 0) (k : Code) (x : Tree) (c d :
   pub declarators : List Tree
   pub reads : VariablesRule In (head_code word k) true word declarators c d
   pub is : x ≡ tree.var (spanned c d) word (listed declarators)
+
+-- what a head begins with where it declares nothing
+unfoldable pub may_begin_head : Place → Bool
+may_begin_head c = not (sees kind.Var c || (sees kind.Const c || (sees kind.Semi c || is_let_declaration c)))
 
 -- ---- `for (init; test; update)`
 
