@@ -9,7 +9,8 @@ use Rattle.swc_ecma_parser_model.specs.Forms.{span_of}
 use Rattle.swc_ecma_parser_model.specs.Tree as tree
 use Rattle.swc_ecma_parser_model.specs.Tree.{Tree, Trees}
 use Rattle.swc_ecma_parser_ast.specs.declared.script.Script.{Script}
-use Rattle.swc_ecma_parser_ast.specs.View.{view_script}
+use Rattle.swc_ecma_parser_ast.specs.declared.stmt.Stmt.{Stmt}
+use Rattle.swc_ecma_parser_ast.specs.View.{view_script, view_stmt}
 
 -- `low..high`
 abbrev pub place : Span → List ℕ
@@ -65,6 +66,15 @@ script_lines _ = []
 abbrev pub answer_lines : Result Tree Fault → List Fault → List ℕ
 answer_lines (Ok x) faults = script_lines x ++ flat_map (fault_line (codes "fault")) faults
 answer_lines (Err fault) faults = flat_map (fault_line (codes "fault")) faults ++ fault_line (codes "refused") fault
+
+-- a statement's line and then its faults, or the faults and then why there is none
+abbrev pub statement_lines : Result Tree Fault → List Fault → List ℕ
+statement_lines (Ok x) faults = item_line x ++ flat_map (fault_line (codes "fault")) faults
+statement_lines (Err fault) faults = flat_map (fault_line (codes "fault")) faults ++ fault_line (codes "refused") fault
+
+abbrev pub seen_statement : Result (Stmt Held) Error → Result Tree Fault
+seen_statement (Ok x) = Ok (view_stmt x)
+seen_statement (Err e) = Err (fault_of e)
 
 -- an answer as contracts see it
 abbrev pub seen : Result (Script Held) Error → Result Tree Fault

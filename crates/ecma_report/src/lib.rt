@@ -3,7 +3,9 @@
 
 mod answer;
 mod lines;
+mod statements;
 mod texts;
 
 pub use answer::{Report, Verdict, parse};
+pub use statements::show_statement;
 pub use texts::{Shown, show};

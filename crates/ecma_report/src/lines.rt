@@ -5,7 +5,7 @@ ghost use Rattle.std.specs.List.{flat_map};
 ghost use Rattle.swc_ecma_parser_error.specs.Kind.{fault_of, faults_of};
 ghost use Rattle.swc_ecma_parser_model.specs.Tree.{trees};
 ghost use Rattle.swc_ecma_parser_ast.specs.View.{view_decl, view_stmt, view_script};
-ghost use Rattle.ecma_report.specs.Lines.{node_line, fault_line, form_name, item_line, item_lines, script_lines, answer_lines, seen};
+ghost use Rattle.ecma_report.specs.Lines.{node_line, fault_line, form_name, item_line, item_lines, script_lines, answer_lines, seen, statement_lines, seen_statement};
 
 use std::alloc::{AllocError, Global};
 use swc_ecma_parser::ast::{Decl, Script, Stmt};
@@ -136,6 +136,30 @@ pub fn lines(
 {
     match answer {
         Ok(script) => tree_lines(alloc, script, faults),
+        Err(error) => refusal_lines(alloc, error, faults),
+    }
+}
+
+/// The lines of a statement and of the faults beside it.
+fn lines_of_item(alloc: Global, item: &Stmt, faults: &[Error]) -> Result<String, AllocError>
+    ensures { IfOk result (λ out. string_bytes out ≡ statement_lines (Ok (view_stmt item.now)) (faults_of faults.now)) }
+{
+    let mut out = String::new(alloc);
+    write_item(&mut out, item)?;
+    write_faults(&mut out, faults)?;
+    Ok(out)
+}
+
+/// The lines of what was asked for one statement, and of the faults beside it.
+pub fn lines_of_statement(
+    alloc: Global,
+    answer: &PResult<Stmt>,
+    faults: &[Error],
+) -> Result<String, AllocError>
+    ensures { IfOk result (λ out. string_bytes out ≡ statement_lines (seen_statement answer.now) (faults_of faults.now)) }
+{
+    match answer {
+        Ok(item) => lines_of_item(alloc, item, faults),
         Err(error) => refusal_lines(alloc, error, faults),
     }
 }

@@ -2,9 +2,15 @@
 #![tactic(auto)]
 
 #[cfg(test)]
+mod declarations;
+#[cfg(test)]
 mod deep;
 #[cfg(test)]
 mod expressions;
+#[cfg(test)]
+mod heads;
+#[cfg(test)]
+mod items;
 #[cfg(test)]
 mod nodes;
 #[cfg(test)]

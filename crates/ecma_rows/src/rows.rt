@@ -32,14 +32,13 @@ fn trees(rt: HostRuntime) -> Result<(), Fail> {
 const FAULTS: &str = "{ var a → Script 0..7, Block 0..7, fault 6..7 Expected → Var 2..7
 'use strict'; var public; → refused 18..24 ExpectedIdent
 var a b → refused 6..7 Unexpected
-a: b → refused 1..2 Unexpected
 await → refused 0..5 Unexpected
 a b → refused 2..3 ExpectedSemiForExprStmt
 a \\ → fault 2..3 UnexpectedChar, refused 2..3 ExpectedSemiForExprStmt";
 
 #[test]
 fn faults(rt: HostRuntime) -> Result<(), Fail> {
-    assert_eq!(rt; report(rt.alloc(), FAULTS, 1000)?.as_str(), "7 rows");
+    assert_eq!(rt; report(rt.alloc(), FAULTS, 1000)?.as_str(), "6 rows");
     Ok(())
 }
 

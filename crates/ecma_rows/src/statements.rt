@@ -72,6 +72,35 @@ fn loops(rt: HostRuntime) -> Result<(), Fail> {
     Ok(())
 }
 
+const LABELS: &str =
+    "a: b → Script 0..4, Labeled 0..4 → LabeledStmt 0..4, Ident 0..1 a, ExprStmt 3..4
+a: while (b) { break a; continue a } → Script 0..36, Labeled 0..36 → WhileStmt 3..36, BreakStmt 15..23, ContinueStmt 24..34
+a: { break a } → Script 0..14, Labeled 0..14 → BreakStmt 5..12, Ident 11..12 a
+a: break; → Script 0..9, Labeled 0..9 → BreakStmt 3..9
+a: while (b) c: continue a → Script 0..26, Labeled 0..26 → LabeledStmt 13..26, ContinueStmt 16..26
+a: { var b } c → Script 0..14, Labeled 0..12, Expr 13..14
+if (a) b: c; else d → Script 0..19, If 0..19 → LabeledStmt 7..12
+let: a → Script 0..6, Labeled 0..6
+yield: a → Script 0..8, Labeled 0..8
+a: { continue a; } → Script 0..18, Labeled 0..18, fault 5..16 TS1115
+a: b; break a → Script 0..13, Labeled 0..5, Break 6..13, fault 6..13 TS1116
+a: a: b → Script 0..7, Labeled 0..7, fault 3..4 DuplicateLabel
+a: b: a: c → Script 0..10, Labeled 0..10, fault 6..7 DuplicateLabel
+a: a: a: b → Script 0..10, Labeled 0..10, fault 6..7 DuplicateLabel, fault 6..7 DuplicateLabel, fault 3..4 DuplicateLabel
+a: let b → refused 7..8 ExpectedSemiForExprStmt
+a: const b = 1 → refused 3..8 Unexpected
+a: function f() {} → refused 3..11 Unexpected
+a: → refused 2..2 Eof
+if: a → refused 2..3 Expected
+(a): b → refused 3..4 ExpectedSemiForExprStmt
+'use strict'; a: b; yield: c → refused 20..25 Unexpected";
+
+#[test]
+fn labels(rt: HostRuntime) -> Result<(), Fail> {
+    assert_eq!(rt; report(rt.alloc(), LABELS, 1000)?.as_str(), "21 rows");
+    Ok(())
+}
+
 const SWITCHES: &str = "switch (a) {} → Script 0..13, Switch 0..13 → SwitchStmt 0..13, Ident 8..9 a
 switch (a) {} b → Script 0..15, Switch 0..13, Expr 14..15
 switch (a) { case 1: b; case 2: default: c } → Script 0..44, Switch 0..44 → SwitchCase 13..23, SwitchCase 24..31, SwitchCase 32..42, ExprStmt 41..42, test: None
@@ -184,6 +213,9 @@ fn limits(rt: HostRuntime) -> Result<(), Fail> {
         ("while (a) while (b) c → Script 0..21, While 0..21", 4),
         ("do a; while (b) → refused 3..4 TooDeep", 2),
         ("do a; while (b) → Script 0..15, DoWhile 0..15", 3),
+        ("a: ; → refused 3..4 TooDeep", 1),
+        ("a: ; → Script 0..4, Labeled 0..4", 2),
+        ("a: b → refused 3..4 TooDeep", 2),
         ("break → refused 0..5 TooDeep", 0),
         ("break a → Script 0..7, Break 0..7, fault 0..7 TS1116", 1),
         ("return a → refused 7..8 TooDeep", 1),

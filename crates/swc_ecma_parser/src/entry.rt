@@ -2,11 +2,13 @@
 
 ghost use Rattle.std.specs.Prelude.{◌≡◌, Some, None, [], IfErr, IfOk, OnErr, IsOk};
 ghost use Rattle.swc_ecma_parser_error.specs.Kind.{IsOutOfMemory};
-ghost use Rattle.swc_ecma_parser_reader.specs.Entry.{unmarked, AnswersScript, IsRestored};
+ghost use Rattle.swc_ecma_parser_reader.specs.Entry.{unmarked, AnswersScript, AnswersStatement, IsRestored};
 
 use std::alloc::Global;
+use swc_ecma_parser_core::grammar::stmt;
 use swc_ecma_parser_core::script::script_body;
 use swc_ecma_parser_error::PResult;
+use swc_ecma_parser_grammar::Position;
 use swc_ecma_parser_input::Tokens;
 use swc_ecma_parser_state::State;
 use swc_ecma_parser_trees::{
@@ -45,6 +47,37 @@ pub fn script<
             state.leave_script(inner);
             Ok(script)
         }
+        Err(error) => {
+            state.restore(outer, found_module_item);
+            Err(error)
+        }
+    }
+}
+
+/// A statement in its place, which may nest so many levels deep.
+pub fn statement<
+    I: Tokens,
+    T: BuildsExpr
+        + BuildsCall
+        + BuildsObject
+        + BuildsOperator
+        + BuildsControl
+        + BuildsLoop
+        + BuildsPat
+        + BuildsPattern
+        + BuildsStmt,
+>(alloc: Global, state: &mut State<I>, limit: usize, at: Position) -> PResult<T::Stmt>
+    ensures answers { AnswersStatement T.stmt_of limit at.include_decl at.top_level (unmarked state.old) result state.new }
+    ensures refused { OnErr result (IsRestored state.old state.new) }
+{
+    let outer = state.flags();
+    let found_module_item = state.found_module_item();
+    state.begin();
+    let maker: MakerOf<T> = Maker::new(alloc);
+    let read = stmt::<State<I>, T>(&maker, state, limit, at);
+    maker.finish();
+    match read {
+        Ok(statement) => Ok(statement),
         Err(error) => {
             state.restore(outer, found_module_item);
             Err(error)

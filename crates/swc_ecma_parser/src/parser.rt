@@ -1,24 +1,25 @@
 //! The parser: a state over a source of tokens, with its entries.
 
-ghost use Rattle.std.specs.Prelude.{◌≡◌, ◌≢◌, ℕ, ◌+◌, ◌*◌, ◌≤◌, ◌||◌, false, [], ◌∷◌, length, drop, IfOk, IfErr, OnErr, IsErrAnd, IsOk};
-ghost use Rattle.swc_ecma_parser_ast.specs.View.{view_script};
+ghost use Rattle.std.specs.Prelude.{◌≡◌, ◌≢◌, ℕ, ◌+◌, ◌*◌, ◌≤◌, ◌||◌, true, false, [], ◌∷◌, length, drop, IfOk, IfErr, OnErr, IsErrAnd, IsOk};
+ghost use Rattle.swc_ecma_parser_ast.specs.View.{view_script, view_stmt};
 ghost use Rattle.swc_ecma_parser_error.specs.Kind as kinds;
 ghost use Rattle.swc_ecma_parser_error.specs.Kind.{fault_of, faults_of, kind_of, IsOutOfMemory};
 ghost use Rattle.swc_ecma_parser_error.specs.declared.error.Error.{Error};
 ghost use Rattle.swc_ecma_parser_input.specs.Place as place;
-ghost use Rattle.swc_ecma_parser_reader.specs.Entry.{unmarked, SoundScript, CompleteScript, IsRestored};
+ghost use Rattle.swc_ecma_parser_reader.specs.Entry.{unmarked, SoundScript, CompleteScript, SoundStatement, CompleteStatement, IsRestored};
 ghost use Rattle.swc_ecma_parser_reader.specs.Limits.{has_too_deep_token, has_out_of_memory_token};
 ghost use Rattle.swc_ecma_parser_state.specs.Opened.{opened};
 ghost use Rattle.swc_ecma_parser_token.specs.declared.token.Token.TheVariants as token;
 ghost use Rattle.swc_ecma_parser_token.specs.declared.token.TokenAndSpan.{TokenAndSpan};
 
-use crate::entry::script;
+use crate::entry::{script, statement};
 use std::alloc::Global;
 use std::marker::Model;
-use swc_ecma_parser_ast::Script;
+use swc_ecma_parser_ast::{Script, Stmt};
 use swc_ecma_parser_ast_trees::Ast;
 use swc_ecma_parser_common::Comment;
 use swc_ecma_parser_error::{Error, PResult};
+use swc_ecma_parser_grammar::Position;
 use swc_ecma_parser_input::{CommentSource, Tokens};
 use swc_ecma_parser_state::State;
 
@@ -103,6 +104,75 @@ impl<I: Tokens> Parser<I> {
         let limit = self.limit as usize;
         let state = &mut self.state;
         script::<I, Ast>(alloc, state, limit)
+    }
+
+    /// Reads one statement that is no declaration but one of `var`, behind which anything may stand: ECMA-262, section 14. At the
+    /// end of the list it is refused with `Eof`. `top_level` tells whether it is read as one of a script itself.
+    pub fn parse_stmt(&mut self, top_level: bool) -> PResult<Stmt>
+        ensures limit { self.new.limit ≡ self.old.limit }
+
+        // Of any answer: with no fault recorded the tokens that were read spell it within the limit, it is supported, and its walk
+        // is empty; where no error token was read and nothing was dropped, its tabled faults are its walk.
+        ensures sound { IfOk result (λ x. SoundStatement self.old.limit false top_level (unmarked self.old.state) (view_stmt x) self.new.state) }
+
+        // Each supported tree within the limit that tokens from here on spell is the answer, and only it, with its walk recorded.
+        ensures complete { CompleteStatement view_stmt self.old.limit false top_level (unmarked self.old.state) result self.new.state }
+
+        // No token that an answer read is one that memory ran out for.
+        ensures memory { IfOk result (λ x. has_out_of_memory_token self.new.state.at.left ≡ false → has_out_of_memory_token self.old.state.at.left ≡ false) }
+
+        // A limit of twice the tokens and two is never met.
+        ensures fits { 2 * length self.old.state.at.left + 2 ≤ self.old.limit → has_too_deep_token self.old.state.at.left ≡ false
+            → IfErr result (λ e. kind_of e.kind ≢ kinds.TooDeep) }
+
+        // An error token in first place is answered, unless memory ran out; and so is the end of the list.
+        ensures error_token { (t : TokenAndSpan) (ts : _) (d : Error) → self.old.state.at.left ≡ t ∷ ts → t.token ≡ token.Error d
+            → IsErrAnd result (λ e. kind_of e.kind ≢ kinds.OutOfMemory → fault_of e ≡ fault_of d) }
+        ensures at_end { self.old.state.at.left ≡ [] → IsErrAnd result (λ e. kind_of e.kind ≢ kinds.OutOfMemory → kind_of e.kind ≡ kinds.Eof) }
+        ensures refused { OnErr result (IsRestored self.old.state self.new.state) }
+    {
+        let alloc = self.alloc;
+        let limit = self.limit as usize;
+        let state = &mut self.state;
+        let at = Position {
+            include_decl: false,
+            top_level,
+        };
+        statement::<I, Ast>(alloc, state, limit, at)
+    }
+
+    /// The same of a statement or a declaration: StatementListItem of section 14.2.
+    pub fn parse_stmt_list_item(&mut self, top_level: bool) -> PResult<Stmt>
+        ensures limit { self.new.limit ≡ self.old.limit }
+
+        // Of any answer: with no fault recorded the tokens that were read spell it within the limit, it is supported, and its walk
+        // is empty; where no error token was read and nothing was dropped, its tabled faults are its walk.
+        ensures sound { IfOk result (λ x. SoundStatement self.old.limit true top_level (unmarked self.old.state) (view_stmt x) self.new.state) }
+
+        // Each supported tree within the limit that tokens from here on spell is the answer, and only it, with its walk recorded.
+        ensures complete { CompleteStatement view_stmt self.old.limit true top_level (unmarked self.old.state) result self.new.state }
+
+        // No token that an answer read is one that memory ran out for.
+        ensures memory { IfOk result (λ x. has_out_of_memory_token self.new.state.at.left ≡ false → has_out_of_memory_token self.old.state.at.left ≡ false) }
+
+        // A limit of twice the tokens and two is never met.
+        ensures fits { 2 * length self.old.state.at.left + 2 ≤ self.old.limit → has_too_deep_token self.old.state.at.left ≡ false
+            → IfErr result (λ e. kind_of e.kind ≢ kinds.TooDeep) }
+
+        // An error token in first place is answered, unless memory ran out; and so is the end of the list.
+        ensures error_token { (t : TokenAndSpan) (ts : _) (d : Error) → self.old.state.at.left ≡ t ∷ ts → t.token ≡ token.Error d
+            → IsErrAnd result (λ e. kind_of e.kind ≢ kinds.OutOfMemory → fault_of e ≡ fault_of d) }
+        ensures at_end { self.old.state.at.left ≡ [] → IsErrAnd result (λ e. kind_of e.kind ≢ kinds.OutOfMemory → kind_of e.kind ≡ kinds.Eof) }
+        ensures refused { OnErr result (IsRestored self.old.state self.new.state) }
+    {
+        let alloc = self.alloc;
+        let limit = self.limit as usize;
+        let state = &mut self.state;
+        let at = Position {
+            include_decl: true,
+            top_level,
+        };
+        statement::<I, Ast>(alloc, state, limit, at)
     }
 
     /// Whether memory ran out for one of the two tokens that were read ahead, as by the functions that make a parser. A call

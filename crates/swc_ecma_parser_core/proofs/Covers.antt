@@ -7,6 +7,7 @@ use Rattle.swc_ecma_parser_reader.specs.State.{State, Outcome, and_then, pure, t
 use Rattle.swc_ecma_parser_reader.specs.Expressions as exprs
 use Rattle.swc_ecma_parser_reader.specs.Classes.{class_of}
 use Rattle.swc_ecma_parser_reader.proofs.expressions.Loops.{expr_lowest, expr_above, cover_lowest}
+use Rattle.swc_ecma_parser_reader.proofs.expressions.Heads.{head_lowest}
 use Rattle.swc_ecma_parser_left.specs.declared.cover.Reading.{Reading}
 use Rattle.swc_ecma_parser_left.specs.declared.cover.Reading.TheVariants as reading
 use Rattle.swc_ecma_parser_left.specs.Covers.{read}
@@ -16,6 +17,7 @@ module _ (n : ℕ) (s : State) where
   pub read_lowest : (asked : Reading) (e : Fault × State) → n ≡ 0 → ◌≡◌ {A = Outcome Tree} (too_deep s) (Err e) → read n asked s ≡ Err e
   read_lowest (reading.Expr class) e h k = ap (λ o. and_then o (λ x. pure (exprs.done x))) (expr_lowest n (class_of class) s h ∙ k)
   read_lowest reading.Cover e h k = cover_lowest n s h ∙ too_deep_as {A = Tree} {B = exprs.Cover} s e k
+  read_lowest reading.Head e h k = head_lowest n s h ∙ too_deep_as {A = Tree} {B = exprs.Cover} s e k
 
   pub read_expr : (class : Class) (x : Tree) (t : State) → 0 < n → exprs.expr_level (exprs.expr (n - 1)) (exprs.cover (n - 1)) (class_of class) s ≡ Ok (x, t) → read n (reading.Expr class) s ≡ Ok (exprs.done x, t)
   read_expr class x t h k = ap (λ o. and_then o (λ x. pure (exprs.done x))) (expr_above n (class_of class) s h ∙ k)

@@ -15,7 +15,6 @@ ghost use Rattle.swc_ecma_parser_reader.specs.State as reader;
 ghost use Rattle.swc_ecma_parser_reader.specs.State.{GivesAs};
 ghost use Rattle.swc_ecma_parser_trees.specs.Parts.{part_of};
 
-use crate::control::SUB_STATEMENT;
 use std::alloc::{AllocError, Global};
 use swc_ecma_parser_common::{Atom, Boxed, Span};
 use swc_ecma_parser_error::{Error, PResult, SyntaxError};
@@ -24,7 +23,8 @@ use swc_ecma_parser_left::access::inside;
 use swc_ecma_parser_left::cover::{Cover, Reading};
 use swc_ecma_parser_left::grammar::{Grammar, Part};
 use swc_ecma_parser_left::steps::{grown, pushed, since};
-use swc_ecma_parser_state::Source;
+use swc_ecma_parser_loops::simple::SUB_STATEMENT;
+use swc_ecma_parser_source::Source;
 use swc_ecma_parser_token::TokenKind;
 use swc_ecma_parser_trees::{BuildsCall, BuildsControl, MakerOf, Trees};
 

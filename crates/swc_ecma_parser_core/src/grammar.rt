@@ -10,10 +10,10 @@ use swc_ecma_parser_error::PResult;
 use swc_ecma_parser_grammar::Position;
 use swc_ecma_parser_left::cover::{Cover, Reading, done};
 use swc_ecma_parser_left::grammar::{Grammar, Part};
-use swc_ecma_parser_operators::assignment::cover_expr;
+use swc_ecma_parser_operators::assignment::{cover_expr, head_expr};
 use swc_ecma_parser_operators::operator::expr_level;
 use swc_ecma_parser_patterns::pat::{element_level, pattern_level};
-use swc_ecma_parser_state::Source;
+use swc_ecma_parser_source::Source;
 use swc_ecma_parser_trees::{
     BuildsCall, BuildsControl, BuildsExpr, BuildsLoop, BuildsObject, BuildsOperator, BuildsPat,
     BuildsPattern, BuildsStmt, MakerOf,
@@ -22,7 +22,7 @@ use swc_ecma_parser_trees::{
 /// A statement in so many levels.
 #[cycle(knot)]
 #[tactic(auto, using(swc_ecma_parser_reader::proofs::Loops::stmt_lowest, swc_ecma_parser_reader::proofs::Loops::stmt_above))]
-pub(crate) fn stmt<
+pub fn stmt<
     P: Source,
     T: BuildsExpr
         + BuildsCall
@@ -77,6 +77,7 @@ pub fn expr<
     match asked {
         Reading::Expr(class) => Ok(done(expr_level(&g, t, p, class)?)),
         Reading::Cover => cover_expr(&g, t, p),
+        Reading::Head => head_expr(&g, t, p),
     }
 }
 

@@ -16,7 +16,7 @@ use swc_ecma_parser_left::cover::{Cover, Reading};
 use swc_ecma_parser_left::grammar::{Grammar, Part};
 use swc_ecma_parser_left::steps::{grown, since};
 use swc_ecma_parser_patterns::pat::inner_pat;
-use swc_ecma_parser_state::Source;
+use swc_ecma_parser_source::Source;
 use swc_ecma_parser_token::TokenKind;
 use swc_ecma_parser_trees::{BuildsBlock, BuildsControl, MakerOf, Trees};
 

@@ -4,9 +4,9 @@
 #![tactic(auto)]
 
 mod branch;
-mod control;
 pub mod grammar;
 mod handler;
+mod label;
 pub mod script;
 mod stmt;
 mod switch;

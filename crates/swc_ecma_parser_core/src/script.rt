@@ -11,7 +11,7 @@ use swc_ecma_parser_error::PResult;
 use swc_ecma_parser_grammar::Position;
 use swc_ecma_parser_input::Context;
 use swc_ecma_parser_left::steps::{pushed, since};
-use swc_ecma_parser_state::Source;
+use swc_ecma_parser_source::Source;
 use swc_ecma_parser_token::TokenKind;
 use swc_ecma_parser_trees::{
     BuildsCall, BuildsControl, BuildsExpr, BuildsLoop, BuildsObject, BuildsOperator, BuildsPat,

@@ -7,13 +7,14 @@ ghost use Rattle.swc_ecma_parser_error.specs.Kind.{kind_of, IsOutOfMemory};
 ghost use Rattle.swc_ecma_parser_grammar.specs.Reads.{nested_item};
 ghost use Rattle.swc_ecma_parser_left.specs.Nests.{Nests};
 ghost use Rattle.swc_ecma_parser_reader.specs.Expressions as exprs;
+ghost use Rattle.swc_ecma_parser_reader.specs.Heads as heads;
 ghost use Rattle.swc_ecma_parser_reader.specs.Patterns as patterns;
 ghost use Rattle.swc_ecma_parser_reader.specs.Reader as rules;
 ghost use Rattle.swc_ecma_parser_reader.specs.State.{Gives, GivesAs};
 
 use crate::branch::if_stmt;
-use crate::control::{do_while, while_stmt};
 use crate::handler::try_stmt;
+use crate::label::{let_stmt, other_stmt};
 use crate::switch::switch_stmt;
 use std::alloc::Global;
 use swc_ecma_parser_common::Atom;
@@ -22,13 +23,17 @@ use swc_ecma_parser_grammar::Position;
 use swc_ecma_parser_left::cover::{Cover, Reading};
 use swc_ecma_parser_left::grammar::{Grammar, Part};
 use swc_ecma_parser_left::steps::{grown, pushed, since};
-use swc_ecma_parser_state::Source;
+use swc_ecma_parser_loops::for_loop::for_stmt;
+use swc_ecma_parser_loops::simple::{do_while, while_stmt};
+use swc_ecma_parser_model::VarDeclKind;
+use swc_ecma_parser_source::Source;
 use swc_ecma_parser_statements::jump::{break_stmt, continue_stmt};
 use swc_ecma_parser_statements::leave::{return_stmt, throw};
-use swc_ecma_parser_statements::simple::{debugger, empty, expr_stmt_at, import_stmt_at, var};
+use swc_ecma_parser_statements::simple::{debugger, empty, import_stmt_at};
+use swc_ecma_parser_statements::variables::{const_stmt, variables};
 use swc_ecma_parser_token::TokenKind;
 use swc_ecma_parser_trees::{
-    BuildsCall, BuildsControl, BuildsLoop, BuildsPattern, BuildsStmt, MakerOf, Trees,
+    BuildsCall, BuildsControl, BuildsExpr, BuildsLoop, BuildsPattern, BuildsStmt, MakerOf, Trees,
 };
 
 /// What holds statements one behind another.
@@ -148,19 +153,21 @@ fn block<
 #[tactic(auto, unfolding(swc_ecma_parser_reader::specs::Reader::stmt_level))]
 pub(crate) fn level<
     P: Source,
-    T: BuildsStmt + BuildsPattern + BuildsCall + BuildsControl + BuildsLoop,
+    T: BuildsExpr + BuildsStmt + BuildsPattern + BuildsCall + BuildsControl + BuildsLoop,
     S: Fn(&MakerOf<T>, &mut P, usize, Position) -> PResult<T::Stmt>,
     E: Fn(&MakerOf<T>, &mut P, usize, Reading) -> PResult<Cover<T::Expr>>,
     N: Fn(&MakerOf<T>, &mut P, usize, Part) -> PResult<T::Pat>,
 >(g: &Grammar<S, E, N>, t: &MakerOf<T>, p: &mut P, at: Position) -> PResult<T::Stmt>
     requires { Nests P.seen T.expr_of T.pat_of T.stmt_of g.now.depth (S.pre g.now.stmt) (S.post g.now.stmt) (E.pre g.now.expr) (E.post g.now.expr) (N.pre g.now.pat) (N.post g.now.pat) }
-    ensures { GivesAs T.stmt_of (rules.stmt_level (rules.stmt g.now.depth) (exprs.expr g.now.depth) (patterns.pattern g.now.depth) at (P.seen p.old)) result (P.seen p.new) }
+    ensures { GivesAs T.stmt_of (rules.stmt_level (rules.stmt g.now.depth) (exprs.expr g.now.depth) (patterns.pattern g.now.depth) (heads.head_cover g.now.depth) at (P.seen p.old)) result (P.seen p.new) }
 {
     match p.kind() {
         TokenKind::LBrace => block(g, t, p),
         TokenKind::Semi => empty::<P, T>(t.alloc, p),
         TokenKind::Debugger => debugger::<P, T>(t.alloc, p),
-        TokenKind::Var => var(g, t, p),
+        TokenKind::Var => variables(g, t, p, VarDeclKind::Var),
+        TokenKind::Const => const_stmt(g, t, p, at),
+        TokenKind::Let => let_stmt(g, t, p, at),
         TokenKind::If => if_stmt(g, t, p),
         TokenKind::Switch => switch_stmt(g, t, p),
         TokenKind::Break => break_stmt::<P, T>(t.alloc, p),
@@ -170,7 +177,8 @@ pub(crate) fn level<
         TokenKind::Try => try_stmt(g, t, p),
         TokenKind::While => while_stmt(g, t, p),
         TokenKind::Do => do_while(g, t, p),
+        TokenKind::For => for_stmt(g, t, p),
         TokenKind::Import => import_stmt_at(g, t, p),
-        _ => expr_stmt_at(g, t, p, at),
+        _ => other_stmt(g, t, p, at),
     }
 }

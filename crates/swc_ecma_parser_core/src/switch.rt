@@ -9,7 +9,6 @@ ghost use Rattle.swc_ecma_parser_reader.specs.Reader as rules;
 ghost use Rattle.swc_ecma_parser_reader.specs.State.{GivesAs};
 ghost use Rattle.swc_ecma_parser_trees.specs.Parts.{part_of};
 
-use crate::control::head;
 use crate::stmt::{Body, begins_clause, body_items};
 use swc_ecma_parser_common::Span;
 use swc_ecma_parser_error::{PResult, SyntaxError};
@@ -19,7 +18,8 @@ use swc_ecma_parser_left::access::inside;
 use swc_ecma_parser_left::cover::{Cover, Reading};
 use swc_ecma_parser_left::grammar::{Grammar, Part};
 use swc_ecma_parser_left::steps::{grown, pushed, since};
-use swc_ecma_parser_state::Source;
+use swc_ecma_parser_loops::simple::head;
+use swc_ecma_parser_source::Source;
 use swc_ecma_parser_token::TokenKind;
 use swc_ecma_parser_trees::{BuildsCall, BuildsControl, MakerOf};
 
@@ -130,7 +130,7 @@ fn clauses<
 }
 
 /// What stands around the clauses of a `switch`.
-fn in_breakable(flags: Context) -> Context
+pub(crate) fn in_breakable(flags: Context) -> Context
     ensures { result ≡ record flags { is_break_allowed = true } }
 {
     Context {

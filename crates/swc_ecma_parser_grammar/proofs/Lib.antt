@@ -1,8 +1,11 @@
 pub mod Tests
 pub mod Naming
 pub mod SupportedBegins
+pub mod Marks
 pub mod Widens
+pub mod Unnoted
 pub mod Narrows
+pub mod StatementEntries
 pub mod FewFlags
 pub mod Tabled
 pub mod language

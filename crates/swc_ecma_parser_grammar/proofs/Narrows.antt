@@ -1,51 +1,49 @@
 -- What the whole language reads and is supported, the rules of the first forms read.
-use Rattle.std.proofs.Common.{◌≡◌, ℕ, zero, suc, Bool, true, false, cond, rules, List, [], ◌∷◌, Option, refl, true≢false, sym, ◌∙◌, ap}
-use Rattle.std.specs.Prelude.{not, ◌&&◌, ◌||◌}
+use Rattle.std.proofs.Common.{◌≡◌, ℕ, zero, suc, Bool, true, false, cond, List, [], ◌∷◌, ◌++◌, Option, refl, true≢false, sym, ◌∙◌, ap, subst}
+use Rattle.std.specs.Prelude.{not, ◌&&◌, ◌||◌, if◌then◌else◌}
 use Rattle.std.specs.List.{list_any}
-use denote.Enum.Bare.{same_true}
-use Rattle.swc_ecma_parser_token.specs.contracts.kind.TokenKind.{the_type}
-use Rattle.swc_ecma_parser_token.specs.declared.kind.TokenKind.{TokenKind}
+use Rattle.swc_ecma_parser_error.specs.Kind.{Fault}
 use Rattle.swc_ecma_parser_token.specs.declared.kind.TokenKind.TheVariants as kind
+use Rattle.swc_ecma_parser_grammar.specs.Follows.{is_async_of}
 use Rattle.swc_ecma_parser_input.specs.Place.{Place, after}
 use Rattle.swc_ecma_parser_model.specs.declared.leaves.VarDeclKind.{VarDeclKind}
-use Rattle.swc_ecma_parser_model.specs.declared.leaves.VarDeclKind.TheVariants as decl
 use Rattle.swc_ecma_parser_model.specs.Tree as tree
 use Rattle.swc_ecma_parser_model.specs.Tree.{Tree, Text, trees, listed}
 use Rattle.swc_ecma_parser_model.specs.Directive.{is_use_strict}
-use Rattle.swc_ecma_parser_model.specs.Forms.{is_binding_name}
 use Rattle.swc_ecma_parser_grammar.specs.declared.position.Position.{Position}
 use Rattle.swc_ecma_parser_grammar.specs.Looks.{kind_at, sees, same_kind, spanned}
 use Rattle.swc_ecma_parser_grammar.specs.Names.{Code}
-use Rattle.swc_ecma_parser_grammar.specs.Ends.{Ends}
-use Rattle.swc_ecma_parser_grammar.specs.Reads.{with_in, in_strict, directed, directs_on, nested_item, top_item, DeclaratorRule, plain_rule, initialized_rule, ReadsSeparated, ReadsItems, StmtRule, block_rule, empty_rule, debugger_rule, var_rule, if_statement_rule, TargetRule, no_target_rule, target_rule, OperandRule, no_operand_rule, operand_rule, break_rule, continue_rule, return_rule, case_clause_rule, default_clause_rule, ReadsCases, switch_rule, throw_rule, try_rule, while_rule, do_while_rule, expr_rule, import_rule, ReadsBlock, CatchRule, no_catch_rule, catch_rule, catch_parameter_rule, FinallyRule, no_finally_rule, finally_rule, ReadsHead, IfRule, if_rule, ElseRule, no_else_rule, else_rule, else_if_rule}
+use Rattle.swc_ecma_parser_grammar.specs.Reads.{with_in, in_strict, directed, directs_on, nested_item, top_item, DeclaratorRule, plain_rule, initialized_rule, ReadsSeparated, ReadsItems, StmtRule, block_rule, empty_rule, debugger_rule, variables_rule, if_statement_rule, TargetRule, no_target_rule, target_rule, OperandRule, no_operand_rule, operand_rule, break_rule, continue_rule, return_rule, case_clause_rule, default_clause_rule, ReadsCases, switch_rule, throw_rule, try_rule, while_rule, do_while_rule, expr_rule, import_rule, ReadsBlock, CatchRule, no_catch_rule, catch_rule, catch_parameter_rule, FinallyRule, no_finally_rule, finally_rule, ReadsHead, IfRule, if_rule, ElseRule, no_else_rule, else_rule, else_if_rule}
+use Rattle.swc_ecma_parser_grammar.specs.Reads.{labeled_rule, head_code, HeadVariables, InitRule, no_init_rule, init_variables_rule, init_expression_rule, LeftRule, declared_rule, left_target_rule, for_in_rule, for_of_rule, PartRule, no_part_rule, part_rule, for_rule}
 use Rattle.swc_ecma_parser_grammar.specs.Entries.{ReadsScript, ReadsShebang, some_shebang, no_shebang, script_code}
+use Rattle.swc_ecma_parser_grammar.specs.Notes.{notes, all_notes, statement_note}
 use Rattle.swc_ecma_parser_grammar.specs.Supported.{supported, all_supported}
-use Rattle.swc_ecma_parser_grammar.specs.ReadsSupported.{ReadsClass, ReadsPat, ReadsStmt}
+use Rattle.swc_ecma_parser_grammar.specs.ReadsSupported.{ReadsClass, ReadsPat, ReadsTarget, ReadsStmt}
 use Rattle.swc_ecma_parser_grammar.specs.language.Goals.{assignment, stmt_goal}
 use Rattle.swc_ecma_parser_grammar.specs.language.Contexts.{in_loop, in_breakable}
+use Rattle.swc_ecma_parser_grammar.specs.language.ForHeads as heads
 use Rattle.swc_ecma_parser_grammar.specs.language.Declarations as declarations
-use Rattle.swc_ecma_parser_grammar.specs.language.Declarations.{is_var, begins_variables}
-use Rattle.swc_ecma_parser_grammar.specs.language.Items.{sub_statement, ItemsRule, BlockRule}
+use Rattle.swc_ecma_parser_grammar.specs.language.Items.{sub_statement, labelled_item, ItemsRule, BlockRule}
 use Rattle.swc_ecma_parser_grammar.specs.language.Lists.{ReadsEach}
 use Rattle.swc_ecma_parser_grammar.specs.language.Statements as statements
 use Rattle.swc_ecma_parser_grammar.specs.language.Statements.{is_default, at_most_one_default}
 use Rattle.swc_ecma_parser_grammar.specs.language.Reads.{Reads}
 use Rattle.swc_ecma_parser_grammar.specs.language.Programs as programs
 use Rattle.swc_ecma_parser_grammar.specs.language.Programs.{ReadsEntry}
-use Rattle.swc_ecma_parser_grammar.proofs.Tests.{and_yes, no_and}
+use Rattle.swc_ecma_parser_grammar.proofs.Tests.{and_yes}
 use Rattle.swc_ecma_parser_grammar.proofs.SupportedBegins.{refuted, supported_as}
+use Rattle.swc_ecma_parser_grammar.proofs.Unnoted.{Quiet, quiet_first, quiet_last, quiet_as}
 use Rattle.swc_ecma_parser_grammar.proofs.Naming.{name_is_name}
-use Rattle.swc_ecma_parser_grammar.proofs.Widens.{stands_there}
+use Rattle.swc_ecma_parser_grammar.proofs.Widens.{saw, stands_there}
 use Rattle.swc_ecma_parser_grammar.proofs.language.Asked.{or_left, or_right}
 
 -- ---- declarators
 
-declarator_narrows : (n : ℕ) (k : Code) (word : VarDeclKind) (x : Tree) (c d : Place) → declarations.DeclaratorRule (Reads n) (with_in k) false word x c d → supported x ≡ true
-    → DeclaratorRule (ReadsClass n assignment) (ReadsPat n) (with_in k) x c d
-declarator_narrows n k word x c d (declarations.plain_rule name r a b e) h =
-    let g = and_yes (supported name) _ (supported_as x (tree.declarator (spanned c d) name tree.absent) e h) in
-    plain_rule name (r, g.0) a (and_yes (is_binding_name name) _ b).0 e
-declarator_narrows n k word x c d (declarations.initialized_rule name init m r a s e) h =
+declarator_narrows : (n : ℕ) (k : Code) (loop : Bool) (word : VarDeclKind) (x : Tree) (c d : Place) → declarations.DeclaratorRule (Reads n) k loop word x c d → supported x ≡ true
+    → DeclaratorRule (ReadsClass n assignment) (ReadsPat n) k loop word x c d
+declarator_narrows n k loop word x c d (declarations.plain_rule name r a b e) h =
+    let g = and_yes (supported name) _ (supported_as x (tree.declarator (spanned c d) name tree.absent) e h) in plain_rule name (r, g.0) a b e
+declarator_narrows n k loop word x c d (declarations.initialized_rule name init m r a s e) h =
     let g = and_yes (supported name) _ (supported_as x (tree.declarator (spanned c d) name init) e h) in
     initialized_rule name init m (r, g.0) a (s, g.1) e
 
@@ -56,11 +54,12 @@ module _ (Rule Other : Tree → Place → Place → Type 0) (narrow : (x : Tree)
   separated_narrow (x ∷ []) c d (r, e) h = (narrow x c d r (and_yes (supported x) _ h).0, e)
   separated_narrow (x ∷ y ∷ ys) c d (m, r, e, rs) h = let g = and_yes (supported x) _ h in (m, narrow x c m r g.0, e, separated_narrow (y ∷ ys) (after m) d rs g.1)
 
--- ---- statements
+declarators_narrow : (n : ℕ) (k : Code) (loop : Bool) (word : VarDeclKind) (xs : List Tree) (c d : Place) → ReadsSeparated (declarations.DeclaratorRule (Reads n) k loop word) xs c d
+    → all_supported (trees xs) ≡ true → ReadsSeparated (DeclaratorRule (ReadsClass n assignment) (ReadsPat n) k loop word) xs c d
+declarators_narrow n k loop word =
+    separated_narrow (declarations.DeclaratorRule (Reads n) k loop word) (DeclaratorRule (ReadsClass n assignment) (ReadsPat n) k loop word) (declarator_narrows n k loop word)
 
-saw : (c : Place) (j : TokenKind) → sees j c ≡ true → kind_at c ≡ j
-unfolding same_kind
-saw c j e = same_true the_type (search rules) (kind_at c) j e
+-- ---- statements
 
 target_narrows : {k : Code} {x : Tree} {c d : Place} → statements.TargetRule k x c d → supported x ≡ true → TargetRule k x c d
 target_narrows (statements.no_target_rule i g e) h = no_target_rule i g e
@@ -71,38 +70,74 @@ operand_narrows : (n : ℕ) {k : Code} {x : Tree} {c d : Place} → statements.O
 operand_narrows n (statements.no_operand_rule i g e) h = no_operand_rule i g e
 operand_narrows n (statements.operand_rule i r) h = operand_rule i (r, h)
 
+-- ---- the head of a `for`
+
+head_variables_narrow : (n : ℕ) {k : Code} {x : Tree} {c d : Place} → heads.HeadVariablesRule (Reads n) k x c d → supported x ≡ true → HeadVariables (ReadsClass n) (ReadsPat n) k x c d
+head_variables_narrow n {k = k} {x = x} {c = c} {d = d} r h = record {
+  word = r.word;
+  declarators = r.declarators;
+  begins = r.reads.0;
+  reads = declarators_narrow n (head_code r.word k) true r.word r.declarators (after c) d r.reads.1 (supported_as x (tree.var (spanned c d) r.word (listed r.declarators)) r.is h);
+  is = r.is;
+}
+
+init_narrows : (n : ℕ) {k : Code} {x : Tree} {c d : Place} → heads.InitRule (Reads n) k x c d → supported x ≡ true → InitRule (ReadsClass n) (ReadsPat n) k x c d
+init_narrows n {c = c} (heads.no_init_rule i g e) h = no_init_rule (saw c kind.Semi i) g e
+init_narrows n (heads.init_variables_rule r) h = init_variables_rule (head_variables_narrow n r h)
+init_narrows n (heads.init_expression_rule i r) h = init_expression_rule i (r, h)
+
+left_narrows : (n : ℕ) {k : Code} {x : Tree} {c d : Place} → heads.LeftRule (Reads n) k x c d → supported x ≡ true → LeftRule (ReadsClass n) (ReadsPat n) (ReadsTarget n) k x c d
+left_narrows n (heads.declared_rule r) h = declared_rule (head_variables_narrow n r h)
+left_narrows n (heads.target_rule i r) h = left_target_rule i (r, h)
+
+-- `using` is not supported before `of`
+of_left_narrows : (n : ℕ) {k : Code} {x : Tree} {c d : Place} → heads.OfLeftRule (Reads n) k false x c d → supported x ≡ true
+    → LeftRule (ReadsClass n) (ReadsPat n) (ReadsTarget n) k x c d × (is_async_of false x d ≡ false)
+of_left_narrows n (heads.of_left_rule r i) h = (left_narrows n r h, i)
+of_left_narrows n {x = x} (heads.of_using_rule i (heads.using_head_rule y r e)) h = refuted x (ap supported e) h
+of_left_narrows n {x = x} (heads.of_using_rule i (heads.await_using_head_rule y a b r e)) h = refuted x (ap supported e) h
+
+-- and nothing stands before its parenthesis
+no_await_word : {c d : Place} → declarations.AwaitWord false c d → d ≡ c
+no_await_word (declarations.no_await h e) = e
+no_await_word (declarations.await_word h i e) = cc
+
+part_narrows : (n : ℕ) {k : Code} {x : Tree} {c d : Place} → heads.PartRule (Reads n) k x c d → supported x ≡ true → PartRule (ReadsClass n) k x c d
+part_narrows n (heads.no_part_rule g e) h = no_part_rule g e
+part_narrows n (heads.part_rule r) h = part_rule (r, h)
+
 -- what a directive leaves is as much of a module as before
-strict_module : (b : Bool) (k : Code) → (cond b (in_strict k) k).flags.module ≡ k.flags.module
+pub strict_module : (b : Bool) (k : Code) → (cond b (in_strict k) k).flags.module ≡ k.flags.module
 strict_module true k = refl
 strict_module false k = refl
 
-module _ (n : ℕ) (narrow : (k : Code) (at : Position) (x : Tree) (c d : Place) → k.flags.module ≡ false → Reads n (stmt_goal k at x c d) → supported x ≡ true → ReadsStmt n k at x c d) where
-  items_narrow : (k : Code) (directives : Bool) (at : Position) (xs : List Tree) (c d : Place) → k.flags.module ≡ false → ItemsRule (Reads n) k directives at xs c d
+-- what is not noted in module code is no bare name `interface` there
+unnamed : (m b : Bool) (f : Fault) → (m ≡ true → (if b then f ∷ [] else []) ≡ []) → m && b ≡ false
+unnamed true true f q = let e : f ∷ [] ≡ [] = q refl in cc
+unnamed true false f q = refl
+unnamed false b f q = refl
+
+module _ (n : ℕ) (narrow : (k : Code) (at : Position) (x : Tree) (c d : Place) → Quiet k (notes x) → Reads n (stmt_goal k at x c d) → supported x ≡ true → ReadsStmt n k at x c d) where
+  items_narrow : (k : Code) (directives : Bool) (at : Position) (xs : List Tree) (c d : Place) → Quiet k (all_notes (trees xs)) → ItemsRule (Reads n) k directives at xs c d
       → all_supported (trees xs) ≡ true → ReadsItems (λ j. ReadsStmt n j at) k directives xs c d
   items_narrow k directives at [] c d o r h = r
   items_narrow k directives at (x ∷ xs) c d o (m, r, rs) h =
       let g = and_yes (supported x) _ h in
-      (m, narrow k at x c m o r g.0, items_narrow (directed k directives x) (directs_on directives x) at xs m d (strict_module (directives && is_use_strict x) k ∙ o) rs g.1)
-
-  -- `var` alone is supported
-  variables_narrow : (k : Code) (at : Position) (word : VarDeclKind) (xs : List Tree) (m : Place) (x : Tree) (c d : Place) → begins_variables word c ≡ true
-      → ReadsSeparated (declarations.DeclaratorRule (Reads n) (with_in k) false word) xs (after c) m → Ends m d → x ≡ tree.var (spanned c d) word (listed xs)
-      → is_var word && all_supported (trees xs) ≡ true → StmtRule (ReadsStmt n) (ReadsClass n) (ReadsPat n) k at x c d
-  variables_narrow k at decl.Var xs m x c d b r g e h =
-      var_rule xs m (saw c kind.Var b)
-      (separated_narrow (declarations.DeclaratorRule (Reads n) (with_in k) false decl.Var) (DeclaratorRule (ReadsClass n assignment) (ReadsPat n) (with_in k))
-      (declarator_narrows n k decl.Var) xs (after c) m r h) g e
-  variables_narrow k at _ xs m x c d b r g e h = cc
+      let q = quiet_last k (notes x) _ o in (
+        m,
+        narrow k at x c m (quiet_first k (notes x) _ o) r g.0,
+        items_narrow (directed k directives x) (directs_on directives x) at xs m d (λ b. q (sym (strict_module (directives && is_use_strict x) k) ∙ b)) rs g.1,
+      )
 
   head_narrows : {k : Code} {x : Tree} {c d : Place} → statements.HeadRule (Reads n) k x c d → supported x ≡ true → ReadsHead (ReadsClass n) k x c d
   head_narrows r h = record { close = r.close; opens = r.opens; reads = (r.reads, h); closes = r.closes; next = r.next }
 
-  block_narrows : {k : Code} {x : Tree} {c d : Place} → k.flags.module ≡ false → BlockRule (Reads n) k false x c d → supported x ≡ true → ReadsBlock (ReadsStmt n) k x c d
+  block_narrows : {k : Code} {x : Tree} {c d : Place} → Quiet k (notes x) → BlockRule (Reads n) k false x c d → supported x ≡ true → ReadsBlock (ReadsStmt n) k x c d
   block_narrows {k = k} {x = x} {c = c} {d = d} o r h = record {
     items = r.items;
     close = r.close;
     opens = r.opens;
-    reads_items = items_narrow k false nested_item r.items (after c) r.close o r.reads_items (supported_as x (tree.block (spanned c d) (listed r.items)) r.is h);
+    reads_items = items_narrow k false nested_item r.items (after c) r.close (quiet_as k x (tree.block (spanned c d) (listed r.items)) r.is o) r.reads_items (supported_as x (tree.block (spanned c d) (listed r.items)) r.is h);
     closes = r.closes;
     next = r.next;
     is = r.is;
@@ -127,83 +162,117 @@ module _ (n : ℕ) (narrow : (k : Code) (at : Position) (x : Tree) (c d : Place)
       no_not true e = cc
       no_not false e = refl
 
-  cases_narrow : (k : Code) (b : Bool) (xs : List Tree) (c d : Place) → k.flags.module ≡ false → ReadsEach (statements.CaseRule (Reads n) k) xs c d → Defaults b xs
+  cases_narrow : (k : Code) (b : Bool) (xs : List Tree) (c d : Place) → Quiet k (all_notes (trees xs)) → ReadsEach (statements.CaseRule (Reads n) k) xs c d → Defaults b xs
       → all_supported (trees xs) ≡ true → ReadsCases (ReadsStmt n) (ReadsClass n) k b xs c d
   unfolding same_kind
   cases_narrow k b [] c d o r h g = r
   cases_narrow k b (x ∷ xs) c d o (m, statements.case_clause_rule test ys i a r j s e, rs) h g =
       let f = and_yes (supported x) _ g in
-      let l = and_yes (supported test) _ (supported_as x (tree.case (spanned c m) test (listed ys)) e f.0) in (
+      let l = and_yes (supported test) _ (supported_as x (tree.case (spanned c m) test (listed ys)) e f.0) in
+      let q = quiet_as k x (tree.case (spanned c m) test (listed ys)) e (quiet_first k (notes x) _ o) in (
         m,
-        case_clause_rule test ys i a (r, l.0) j (items_narrow k false nested_item ys (after i) m o s l.1) e,
-        cases_narrow k (b || sees kind.Default c) xs m d o rs (behind_case b x xs (sees kind.Default c) (ap is_default e ∙ stands_there n (with_in k) test (after c) i r) (ap (λ j. same_kind j kind.Default) a) h) f.1,
+        case_clause_rule test ys i a (r, l.0) j (items_narrow k false nested_item ys (after i) m (quiet_last k (notes test) _ q) s l.1) e,
+        cases_narrow k (b || sees kind.Default c) xs m d (quiet_last k (notes x) _ o) rs (behind_case b x xs (sees kind.Default c) (ap is_default e ∙ stands_there n (with_in k) test (after c) i r) (ap (λ j. same_kind j kind.Default) a) h) f.1,
       )
   cases_narrow k b (x ∷ xs) c d o (m, statements.default_clause_rule ys a j s e, rs) h g =
       let f = and_yes (supported x) _ g in
       let l = supported_as x (tree.case (spanned c m) tree.absent (listed ys)) e f.0 in
       let v = behind_default b x xs (sees kind.Default c) (ap is_default e) (ap (λ j. same_kind j kind.Default) a) h in
-      (m, default_clause_rule ys v.0 a j (items_narrow k false nested_item ys (after (after c)) m o s l) e, cases_narrow k (b || sees kind.Default c) xs m d o rs v.1 f.1)
+      let q = quiet_as k x (tree.case (spanned c m) tree.absent (listed ys)) e (quiet_first k (notes x) _ o) in (
+        m,
+        default_clause_rule ys v.0 a j (items_narrow k false nested_item ys (after (after c)) m q s l) e,
+        cases_narrow k (b || sees kind.Default c) xs m d (quiet_last k (notes x) _ o) rs v.1 f.1,
+      )
 
-  catch_narrows : {k : Code} {x : Tree} {c d : Place} → k.flags.module ≡ false → statements.CatchRule (Reads n) k x c d → supported x ≡ true → CatchRule (ReadsStmt n) (ReadsPat n) k x c d
+  catch_narrows : {k : Code} {x : Tree} {c d : Place} → Quiet k (notes x) → statements.CatchRule (Reads n) k x c d → supported x ≡ true → CatchRule (ReadsStmt n) (ReadsPat n) k x c d
   catch_narrows o (statements.no_catch_rule i j e) h = no_catch_rule i j e
-  catch_narrows {x = x} {c = c} {d = d} o (statements.catch_rule body i r e) h =
-      catch_rule body i (block_narrows o r (supported_as x (tree.catch (spanned c d) tree.absent body) e h)) e
-  catch_narrows {x = x} {c = c} {d = d} o (statements.catch_parameter_rule p body m i j r l s e) h =
-      let g = and_yes (supported p) _ (supported_as x (tree.catch (spanned c d) p body) e h) in catch_parameter_rule p body m i j (r, g.0) l (block_narrows o s g.1) e
+  catch_narrows {k = k} {x = x} {c = c} {d = d} o (statements.catch_rule body i r e) h =
+      catch_rule body i (block_narrows (quiet_as k x (tree.catch (spanned c d) tree.absent body) e o) r (supported_as x (tree.catch (spanned c d) tree.absent body) e h)) e
+  catch_narrows {k = k} {x = x} {c = c} {d = d} o (statements.catch_parameter_rule p body m i j r l s e) h =
+      let g = and_yes (supported p) _ (supported_as x (tree.catch (spanned c d) p body) e h) in
+      let q = quiet_last k (notes p) (notes body) (quiet_as k x (tree.catch (spanned c d) p body) e o) in
+      catch_parameter_rule p body m i j (r, g.0) l (block_narrows q s g.1) e
 
-  finally_narrows : {k : Code} {x : Tree} {c d : Place} → k.flags.module ≡ false → statements.FinallyRule (Reads n) k x c d → supported x ≡ true → FinallyRule (ReadsStmt n) k x c d
+  finally_narrows : {k : Code} {x : Tree} {c d : Place} → Quiet k (notes x) → statements.FinallyRule (Reads n) k x c d → supported x ≡ true → FinallyRule (ReadsStmt n) k x c d
   finally_narrows o (statements.no_finally_rule i j e) h = no_finally_rule i j e
   finally_narrows o (statements.finally_rule i r) h = finally_rule i (block_narrows o r h)
 
   mutual
-    if_narrows : {k : Code} {x : Tree} {c d : Place} → k.flags.module ≡ false → statements.IfRule (Reads n) k x c d → supported x ≡ true → IfRule (ReadsStmt n) (ReadsClass n) k x c d
+    if_narrows : {k : Code} {x : Tree} {c d : Place} → Quiet k (notes x) → statements.IfRule (Reads n) k x c d → supported x ≡ true → IfRule (ReadsStmt n) (ReadsClass n) k x c d
     if_narrows {k = k} {x = x} {c = c} {d = d} o (statements.if_rule test cons alt m i j r s t e) h =
         let g = and_yes (supported test) _ (supported_as x (tree.if_stmt (spanned c d) test cons alt) e h) in
         let f = and_yes (supported cons) _ g.1 in
-        if_rule test cons alt m i j (head_narrows r g.0) (narrow k sub_statement cons m i o s f.0) (else_narrows o t f.1) e
+        let q = quiet_as k x (tree.if_stmt (spanned c d) test cons alt) e o in
+        if_rule test cons alt m i j (head_narrows r g.0) (narrow k sub_statement cons m i (quiet_last k (notes test) (notes cons) (quiet_first k (notes test ++ notes cons) (notes alt) q)) s f.0)
+        (else_narrows (quiet_last k (notes test ++ notes cons) (notes alt) q) t f.1) e
 
-    else_narrows : {k : Code} {x : Tree} {c d : Place} → k.flags.module ≡ false → statements.ElseRule (Reads n) k x c d → supported x ≡ true → ElseRule (ReadsStmt n) (ReadsClass n) k x c d
+    else_narrows : {k : Code} {x : Tree} {c d : Place} → Quiet k (notes x) → statements.ElseRule (Reads n) k x c d → supported x ≡ true → ElseRule (ReadsStmt n) (ReadsClass n) k x c d
     else_narrows o (statements.no_else_rule i j e) h = no_else_rule i j e
     else_narrows {k = k} {x = x} {c = c} {d = d} o (statements.else_rule i j s) h = else_rule i j (narrow k sub_statement x (after c) d o s h)
     else_narrows o (statements.else_if_rule i r) h = else_if_rule i (if_narrows o r h)
 
-  form_narrows : (k : Code) (at : Position) (x : Tree) (c d : Place) → k.flags.module ≡ false → statements.FormRule (Reads n) k at x c d → supported x ≡ true
-      → StmtRule (ReadsStmt n) (ReadsClass n) (ReadsPat n) k at x c d
+  form_narrows : (k : Code) (at : Position) (x : Tree) (c d : Place) → Quiet k (notes x) → statements.FormRule (Reads n) k at x c d → supported x ≡ true
+      → StmtRule (ReadsStmt n) (ReadsClass n) (ReadsPat n) (ReadsTarget n) k at x c d
   form_narrows k at x c d o (statements.class_rule a name y m i r s b e) h = refuted x (ap supported e) h
   form_narrows k at x c d o (statements.function_rule a name y m r i s b e) h = refuted x (ap supported e) h
   form_narrows k at x c d o (statements.variables_rule word xs m i (b, r) g e) h =
-      variables_narrow k at word xs m x c d b r g e (supported_as x (tree.var (spanned c d) word (listed xs)) e h)
+      variables_rule word xs m i b (declarators_narrow n (with_in k) false word xs (after c) m r (supported_as x (tree.var (spanned c d) word (listed xs)) e h)) g e
   form_narrows k at x c d o (statements.using_rule r) h = refuted x (ap supported r.is) h
   form_narrows k at x c d o (statements.block_rule r) h = block_rule (block_narrows o r h)
   form_narrows k at x c d o (statements.empty_rule i n e) h = empty_rule i n e
   form_narrows k at x c d o (statements.debugger_rule i g e) h = debugger_rule i g e
   form_narrows k at x c d o (statements.with_rule y z m i r s e) h = refuted x (ap supported e) h
   form_narrows k at x c d o (statements.return_rule y m i r g e) h = return_rule y m i (operand_narrows n r (supported_as x (tree.return (spanned c d) y) e h)) g e
-  form_narrows k at x c d o (statements.labeled_rule text s y m r i t e) h = refuted x (ap supported e) h
+  form_narrows k at x c d o (statements.labeled_rule text s y m r i t e) h =
+      let g = and_yes (supported (tree.ident s text)) _ (supported_as x (tree.labeled (spanned c d) (tree.ident s text) y) e h) in
+      labeled_rule r.word s y m r.reads_word (name_is_name k text s c m r g.0) i (narrow (in_breakable k) (labelled_item (after m)) y (after m) d (quiet_as k x (tree.labeled (spanned c d) (tree.ident s text) y) e o) t g.1)
+      (e ∙ ap (λ v. tree.labeled (spanned c d) (tree.ident s v) y) r.is_text)
   form_narrows k at x c d o (statements.break_rule y m i r g e) h = break_rule y m i (target_narrows r (supported_as x (tree.break (spanned c d) y) e h)) g e
   form_narrows k at x c d o (statements.continue_rule y m i r g e) h = continue_rule y m i (target_narrows r (supported_as x (tree.continue (spanned c d) y) e h)) g e
   form_narrows k at x c d o (statements.if_statement_rule r) h = if_statement_rule (if_narrows o r h)
   form_narrows k at x c d o (statements.switch_rule y xs m l i r j s a b t e) h =
       let g = and_yes (supported y) _ (supported_as x (tree.switch (spanned c d) y (listed xs)) e h) in
-      switch_rule y xs m l i (head_narrows r g.0) j (cases_narrow (in_breakable k) false xs (after m) l o s a g.1) b t e
+      switch_rule y xs m l i (head_narrows r g.0) j (cases_narrow (in_breakable k) false xs (after m) l (quiet_last k (notes y) _ (quiet_as k x (tree.switch (spanned c d) y (listed xs)) e o)) s a g.1) b t e
   form_narrows k at x c d o (statements.throw_rule y m i b r g e) h = throw_rule y m i b (r, supported_as x (tree.throw (spanned c d) y) e h) g e
   form_narrows k at x c d o (statements.try_rule y z w m l i r s t a e) h =
       let g = and_yes (supported y) _ (supported_as x (tree.try (spanned c d) y z w) e h) in
       let f = and_yes (supported z) _ g.1 in
-      try_rule y z w m l i (block_narrows o r g.0) (catch_narrows o s f.0) (finally_narrows o t f.1) a e
+      let q = quiet_as k x (tree.try (spanned c d) y z w) e o in
+      let b = quiet_first k (notes y ++ notes z) (notes w) q in
+      try_rule y z w m l i (block_narrows (quiet_first k (notes y) (notes z) b) r g.0) (catch_narrows (quiet_last k (notes y) (notes z) b) s f.0)
+      (finally_narrows (quiet_last k (notes y ++ notes z) (notes w) q) t f.1) a e
   form_narrows k at x c d o (statements.while_rule y z m i r s e) h =
-      let g = and_yes (supported y) _ (supported_as x (tree.while (spanned c d) y z) e h) in while_rule y z m i (head_narrows r g.0) (narrow (in_loop k) sub_statement z m d o s g.1) e
+      let g = and_yes (supported y) _ (supported_as x (tree.while (spanned c d) y z) e h) in
+      while_rule y z m i (head_narrows r g.0) (narrow (in_loop k) sub_statement z m d (quiet_last k (notes y) (notes z) (quiet_as k x (tree.while (spanned c d) y z) e o)) s g.1) e
   form_narrows k at x c d o (statements.do_while_rule y z m l i s j r t e) h =
       let g = and_yes (supported y) _ (supported_as x (tree.do_while (spanned c d) y z) e h) in
-      do_while_rule y z m l i (narrow (in_loop k) sub_statement z (after c) m o s g.1) j (head_narrows r g.0) t e
-  form_narrows k at x c d o (statements.for_rule a b f y l m p i j r q s t u v w e) h = refuted x (ap supported e) h
-  form_narrows k at x c d o (statements.for_in_rule a b y l m i j r q s t u e) h = refuted x (ap supported e) h
-  form_narrows k at x c d o (statements.for_of_rule w a b y l m p i j q r t s u v e) h = refuted x (ap supported e) h
+      do_while_rule y z m l i (narrow (in_loop k) sub_statement z (after c) m (quiet_first k (notes z) (notes y) (quiet_as k x (tree.do_while (spanned c d) y z) e o)) s g.1) j (head_narrows r g.0) t e
+  form_narrows k at x c d o (statements.for_rule a b f y l m p i j r q s t u v w e) h =
+      let g = and_yes (supported a) _ (supported_as x (tree.for (spanned c d) a b f y) e h) in
+      let z = and_yes (supported b) _ g.1 in
+      let r' = and_yes (supported f) _ z.1 in
+      let o' = quiet_last k (notes a ++ notes b ++ notes f) (notes y) (quiet_as k x (tree.for (spanned c d) a b f y) e o) in
+      for_rule a b f y l m p i j (init_narrows n r g.0) q (part_narrows n s z.0) t (part_narrows n u r'.0) v (narrow (in_loop k) sub_statement y (after p) d o' w r'.1) e
+  form_narrows k at x c d o (statements.for_in_rule a b y l m i j r q s t u e) h =
+      let g = and_yes (supported a) _ (supported_as x (tree.for_in (spanned c d) a b y) e h) in
+      let f = and_yes (supported b) _ g.1 in
+      let o' = quiet_last k (notes a ++ notes b) (notes y) (quiet_as k x (tree.for_in (spanned c d) a b y) e o) in
+      for_in_rule a b y l m i j (left_narrows n r g.0) q (s, f.0) t (narrow (in_loop k) sub_statement y (after m) d o' u f.1) e
+  form_narrows k at x c d o (statements.for_of_rule true a b y l m p i j q r t s u v e) h = refuted x (ap supported e) h
+  form_narrows k at x c d o (statements.for_of_rule false a b y l m p i j q r t s u v e) h =
+      let g = and_yes (supported a) _ (supported_as x (tree.for_of (spanned c d) false a b y) e h) in
+      let f = and_yes (supported b) _ g.1 in
+      let w = no_await_word j in
+      let z = of_left_narrows n r g.0 in
+      for_of_rule a b y m p i (ap kind_at (sym w) ∙ q) (subst (λ l. LeftRule (ReadsClass n) (ReadsPat n) (ReadsTarget n) k a (after l) m) w z.0) t z.1 (s, f.0) u
+      (narrow (in_loop k) sub_statement y (after p) d (quiet_last k (notes a ++ notes b) (notes y) (quiet_as k x (tree.for_of (spanned c d) false a b y) e o)) v f.1) e
   form_narrows k at x c d o (statements.expr_rule y m i r l g e) h =
-      expr_rule y m i (r, supported_as x (tree.expr_stmt (spanned c d) y) e h) l (no_and _ _ o) g e
+      let q = quiet_last k (notes y) (statement_note y) (quiet_as k x (tree.expr_stmt (spanned c d) y) e o) in
+      expr_rule y m i (r, supported_as x (tree.expr_stmt (spanned c d) y) e h) l (unnamed k.flags.module _ _ q) g e
   form_narrows k at x c d o (statements.import_expr_rule y m i r g e) h = import_rule y m i (r, supported_as x (tree.expr_stmt (spanned c d) y) e h) g e
 
-stmt_narrows : (n : ℕ) (k : Code) (at : Position) (x : Tree) (c d : Place) → k.flags.module ≡ false → Reads n (stmt_goal k at x c d) → supported x ≡ true → ReadsStmt n k at x c d
+-- a statement that has no notes where the code is a module's
+pub stmt_narrows : (n : ℕ) (k : Code) (at : Position) (x : Tree) (c d : Place) → Quiet k (notes x) → Reads n (stmt_goal k at x c d) → supported x ≡ true → ReadsStmt n k at x c d
 stmt_narrows zero k at x c d o r h = absurd r
 stmt_narrows (suc n) k at x c d o r h = form_narrows n (stmt_narrows n) k at x c d o r.1 h
 
@@ -213,13 +282,17 @@ shebang_narrows : (c d : Place) (o : Option Text) → programs.ShebangRule c d o
 shebang_narrows c d _ (programs.some_shebang text s r) = some_shebang text s r
 shebang_narrows c d _ (programs.no_shebang h n) = no_shebang h n
 
+-- a script is no module code
+never_module : {X : Type 0} → false ≡ true → X
+never_module e = cc
+
 pub script_narrows : (n : ℕ) (k : Code) (x : Tree) (c d : Place) → ReadsEntry n programs.script k x c d → supported x ≡ true → ReadsScript n k x c d
 script_narrows n k x c d (r, notes) h = record {
   shebang = r.shebang;
   first = r.first;
   reads_shebang = shebang_narrows c r.first r.shebang r.reads_shebang;
   items = r.items;
-  reads_items = items_narrow n (stmt_narrows n) (script_code k) true top_item r.items r.first d refl r.reads_items (supported_as x (tree.script (spanned c d) (listed r.items) r.shebang) r.is h);
+  reads_items = items_narrow n (stmt_narrows n) (script_code k) true top_item r.items r.first d never_module r.reads_items (supported_as x (tree.script (spanned c d) (listed r.items) r.shebang) r.is h);
   whole = r.to_the_end;
   is = r.is;
 }

@@ -18,7 +18,8 @@ use Rattle.swc_ecma_parser_grammar.specs.Walk.{walk, env_of}
 use Rattle.swc_ecma_parser_grammar.specs.language.Goals.{Goal}
 use Rattle.swc_ecma_parser_grammar.specs.language.Items.{top_item, ItemsRule}
 use Rattle.swc_ecma_parser_grammar.specs.language.Declarations.{is_using_declaration}
-use Rattle.swc_ecma_parser_grammar.specs.language.ForHeads.{may_begin_head, is_async_of}
+use Rattle.swc_ecma_parser_grammar.specs.Follows.{is_async_of}
+use Rattle.swc_ecma_parser_grammar.specs.Follows.{may_begin_head}
 use Rattle.swc_ecma_parser_grammar.specs.language.Statements.{may_begin_at_top}
 use Rattle.swc_ecma_parser_grammar.specs.language.ModuleParts.{begins_attributes}
 use Rattle.swc_ecma_parser_grammar.specs.language.Imports.{follows_phase, begins_phase}

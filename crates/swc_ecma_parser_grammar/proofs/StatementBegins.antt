@@ -26,7 +26,8 @@ use Rattle.swc_ecma_parser_grammar.specs.language.Lists.{ReadsEach}
 use Rattle.swc_ecma_parser_grammar.specs.language.Items.{BlockRule}
 use Rattle.swc_ecma_parser_grammar.specs.language.Functions.{AsyncWord, not_async, async_word}
 use Rattle.swc_ecma_parser_grammar.specs.language.Classes.{decorator_rule, DecoratorsRule, no_decorators, some_decorators}
-use Rattle.swc_ecma_parser_grammar.specs.language.Declarations.{begins_variables, AwaitWord, no_await, await_word, is_using_declaration}
+use Rattle.swc_ecma_parser_grammar.specs.Variables.{begins_variables}
+use Rattle.swc_ecma_parser_grammar.specs.language.Declarations.{AwaitWord, no_await, await_word, is_using_declaration}
 use Rattle.swc_ecma_parser_grammar.specs.language.ForHeads.{InitRule, LeftRule, OfLeftRule}
 use Rattle.swc_ecma_parser_grammar.specs.language.Statements.{HeadRule, IfRule, if_rule, CaseRule, at_most_one_default, FormRule, class_rule, function_rule, variables_rule, using_rule, block_rule, empty_rule, debugger_rule, with_rule, return_rule, labeled_rule, break_rule, continue_rule, if_statement_rule, switch_rule, throw_rule, try_rule, while_rule, do_while_rule, for_rule, for_in_rule, for_of_rule, expr_rule, import_expr_rule}
 use Rattle.swc_ecma_parser_grammar.specs.language.Contexts.{in_breakable}

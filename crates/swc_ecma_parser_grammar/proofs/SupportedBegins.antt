@@ -67,6 +67,8 @@ opens kind.Break = false
 opens kind.Continue = false
 opens kind.Return = false
 opens kind.Error = false
+opens kind.For = false
+opens kind.RParen = false
 opens kind.RBrace = false
 opens kind.End = false
 opens _ = true
@@ -87,6 +89,7 @@ word_opens f (word.Keyword keyword.Do) h = cc
 word_opens f (word.Keyword keyword.Break) h = cc
 word_opens f (word.Keyword keyword.Continue) h = cc
 word_opens f (word.Keyword keyword.Return) h = cc
+word_opens f (word.Keyword keyword.For) h = cc
 word_opens f _ h = refl
 
 kind_opens : (c : Place) (j : TokenKind) → kind_at c ≡ j → opens j ≡ true → opens (kind_at c) ≡ true
@@ -100,6 +103,10 @@ name_opens : (k : Code) (text : Text) (s : Span) (c d : Place) → ReadsName k t
 unfolding is_name is_clean_name is_identifier
 name_opens k text s c d r h =
     token_opens (token.Word r.word) s c d r.reads_word (word_opens k.flags r.word (rw (← r.is_text) (and_both _ _ (and_yes (not (is_reserved k.flags text)) _ r.is_name).0 h)))
+
+-- a name begins an expression, as far as its kind decides
+pub word_begins : (f : Context) (w : Word) (s : Span) (c d : Place) → ReadsToken (token.Word w) s c d → is_name f (word_text w) ≡ true → opens (kind_at c) ≡ true
+word_begins f w s c d r h = token_opens (token.Word w) s c d r (word_opens f w h)
 
 unary_opens : (j : TokenKind) (op : UnaryOp) → unary_operator j ≡ Some op → opens j ≡ true
 unary_opens kind.Await op h = cc
@@ -118,6 +125,8 @@ unary_opens kind.Break op h = cc
 unary_opens kind.Continue op h = cc
 unary_opens kind.Return op h = cc
 unary_opens kind.Error op h = cc
+unary_opens kind.For op h = cc
+unary_opens kind.RParen op h = cc
 unary_opens kind.RBrace op h = cc
 unary_opens kind.End op h = cc
 unary_opens _ op h = refl
@@ -139,6 +148,8 @@ update_opens kind.Break op h = cc
 update_opens kind.Continue op h = cc
 update_opens kind.Return op h = cc
 update_opens kind.Error op h = cc
+update_opens kind.For op h = cc
+update_opens kind.RParen op h = cc
 update_opens kind.RBrace op h = cc
 update_opens kind.End op h = cc
 update_opens _ op h = refl

@@ -6,9 +6,10 @@ use Rattle.swc_ecma_parser_error.specs.Kind.{Kind, Fault}
 use Rattle.swc_ecma_parser_model.specs.Tree as tree
 use Rattle.swc_ecma_parser_model.specs.Tree.{Tree, Trees, Text, none, also}
 use Rattle.swc_ecma_parser_model.specs.Directive.{is_use_strict, is_string_statement}
-use Rattle.swc_ecma_parser_model.specs.Forms.{span_of, is_absent, is_ident_named, is_constructor, is_plain_param, has_plain_params}
+use Rattle.swc_ecma_parser_model.specs.Forms.{span_of, is_ident_named, is_constructor, is_plain_param, has_plain_params}
 use Rattle.swc_ecma_parser_grammar.specs.Names.{is_one_of, reserved_words}
-use Rattle.swc_ecma_parser_grammar.specs.Own.{only, stands_around, break_faults, continue_faults, return_faults, labelled_function, duplicates, first_use_strict, misplaced_directive, second_constructor, variable, surplus, head_faults, specifier_faults, each_specifier, export_faults}
+use Rattle.swc_ecma_parser_model.specs.Within.{declared_name, is_initialized}
+use Rattle.swc_ecma_parser_grammar.specs.Own.{only, stands_around, break_faults, continue_faults, return_faults, labelled_function, duplicates, first_use_strict, misplaced_directive, second_constructor, surplus, head_faults, specifier_faults, each_specifier, export_faults}
 use Rattle.swc_ecma_parser_grammar.specs.Walk.{Env, directed, in_body, in_params, in_class, in_module, in_loop, in_switch, in_label, in_with, behind_item, decorator_env, walk, walk_body, walk_method, walk_class_body, walk_members, walk_exported, walk_decorators, walk_each_decorator, walk_module, walk_items, walks, is_tabled, tabled}
 use Rattle.swc_ecma_parser_grammar.specs.language.Laws.{WalkIsTabled}
 
@@ -71,10 +72,10 @@ of_second_constructor constructed x = of_only (constructed && is_constructor x) 
 
 of_surplus : (ds : Trees) → IsTabled (surplus ds)
 of_surplus none = refl
-of_surplus (also d ds) = of_only true kind.TooManyVarInForInHead (span_of (variable d)) refl and of_surplus ds
+of_surplus (also d ds) = of_only true kind.TooManyVarInForInHead (span_of (declared_name d)) refl and of_surplus ds
 
 of_head_faults : (refused : Bool) (x : Tree) → IsTabled (head_faults refused x)
-of_head_faults refused (tree.var s word (tree.list (also (tree.declarator t name init) none))) = of_only (refused && not (is_absent init)) kind.VarInitializerInForInHead (span_of name) refl
+of_head_faults refused (tree.var s word (tree.list (also d none))) = of_only (refused && is_initialized d) kind.VarInitializerInForInHead (span_of (declared_name d)) refl
 of_head_faults refused (tree.var s word (tree.list (also d ds))) = of_surplus ds
 of_head_faults refused _ = refl
 

@@ -1,26 +1,30 @@
 -- What the rules of the first forms read, the whole language reads, and it is supported.
-use Rattle.std.proofs.Common.{◌≡◌, ℕ, zero, suc, Bool, true, false, List, [], ◌∷◌, Option, refl, ◌∙◌, ap, subst}
+use Rattle.std.proofs.Common.{◌≡◌, ℕ, zero, suc, Bool, true, false, rules, List, [], ◌∷◌, Option, refl, ◌∙◌, ap, subst}
 use Rattle.std.specs.List.{list_any}
 use Rattle.std.specs.Prelude.{not, ◌&&◌, ◌||◌}
-use denote.Enum.Bare.{true_same}
+use denote.Enum.Bare.{true_same, same_true}
 use Rattle.swc_ecma_parser_token.specs.contracts.kind.TokenKind.{the_type}
 use Rattle.swc_ecma_parser_token.specs.declared.kind.TokenKind.{TokenKind}
 use Rattle.swc_ecma_parser_token.specs.declared.kind.TokenKind.TheVariants as kind
 use Rattle.swc_ecma_parser_input.specs.Place.{Place, after}
+use Rattle.swc_ecma_parser_model.specs.declared.leaves.VarDeclKind.{VarDeclKind}
 use Rattle.swc_ecma_parser_model.specs.declared.leaves.VarDeclKind.TheVariants as decl
 use Rattle.swc_ecma_parser_model.specs.Tree.{Tree, Text, trees}
 use Rattle.swc_ecma_parser_model.specs.Forms.{is_absent}
 use Rattle.swc_ecma_parser_grammar.specs.declared.position.Position.{Position}
 use Rattle.swc_ecma_parser_grammar.specs.Looks.{kind_at, sees, same_kind}
 use Rattle.swc_ecma_parser_grammar.specs.Names.{Code}
-use Rattle.swc_ecma_parser_grammar.specs.Reads.{with_in, directed, directs_on, nested_item, top_item, DeclaratorRule, plain_rule, initialized_rule, ReadsSeparated, ReadsItems, StmtRule, block_rule, empty_rule, debugger_rule, var_rule, if_statement_rule, TargetRule, no_target_rule, target_rule, OperandRule, no_operand_rule, operand_rule, break_rule, continue_rule, return_rule, CaseRule, case_clause_rule, default_clause_rule, ReadsCases, switch_rule, throw_rule, try_rule, while_rule, do_while_rule, expr_rule, import_rule, ReadsBlock, CatchRule, no_catch_rule, catch_rule, catch_parameter_rule, FinallyRule, no_finally_rule, finally_rule, ReadsHead, IfRule, if_rule, ElseRule, no_else_rule, else_rule, else_if_rule}
+use Rattle.swc_ecma_parser_grammar.specs.Follows.{is_let_declaration}
+use Rattle.swc_ecma_parser_grammar.specs.Variables.{begins_variables}
+use Rattle.swc_ecma_parser_grammar.specs.Reads.{with_in, directed, directs_on, nested_item, top_item, DeclaratorRule, plain_rule, initialized_rule, ReadsSeparated, ReadsItems, StmtRule, block_rule, empty_rule, debugger_rule, variables_rule, if_statement_rule, TargetRule, no_target_rule, target_rule, OperandRule, no_operand_rule, operand_rule, break_rule, continue_rule, return_rule, labeled_rule, HeadVariables, InitRule, no_init_rule, init_variables_rule, init_expression_rule, LeftRule, declared_rule, left_target_rule, for_in_rule, for_of_rule, head_code, PartRule, no_part_rule, part_rule, for_rule, CaseRule, case_clause_rule, default_clause_rule, ReadsCases, switch_rule, throw_rule, try_rule, while_rule, do_while_rule, expr_rule, import_rule, ReadsBlock, CatchRule, no_catch_rule, catch_rule, catch_parameter_rule, FinallyRule, no_finally_rule, finally_rule, ReadsHead, IfRule, if_rule, ElseRule, no_else_rule, else_rule, else_if_rule}
 use Rattle.swc_ecma_parser_grammar.specs.Entries.{ReadsScript, ReadsShebang, some_shebang, no_shebang, script_code}
 use Rattle.swc_ecma_parser_grammar.specs.Supported.{supported, all_supported}
-use Rattle.swc_ecma_parser_grammar.specs.ReadsSupported.{ReadsClass, ReadsPat, ReadsStmt}
+use Rattle.swc_ecma_parser_grammar.specs.ReadsSupported.{ReadsClass, ReadsPat, ReadsTarget, ReadsStmt}
 use Rattle.swc_ecma_parser_grammar.specs.language.Goals.{expression, assignment, expr_goal, stmt_goal}
 use Rattle.swc_ecma_parser_grammar.specs.language.Contexts.{in_loop, in_breakable}
+use Rattle.swc_ecma_parser_grammar.specs.language.ForHeads as heads
 use Rattle.swc_ecma_parser_grammar.specs.language.Declarations as declarations
-use Rattle.swc_ecma_parser_grammar.specs.language.Items.{sub_statement, ItemsRule, BlockRule}
+use Rattle.swc_ecma_parser_grammar.specs.language.Items.{sub_statement, labelled_item, ItemsRule, BlockRule}
 use Rattle.swc_ecma_parser_grammar.specs.language.Lists.{ReadsEach}
 use Rattle.swc_ecma_parser_grammar.specs.language.Statements as statements
 use Rattle.swc_ecma_parser_grammar.specs.language.Statements.{is_default, at_most_one_default, may_begin_at_top}
@@ -28,22 +32,21 @@ use Rattle.swc_ecma_parser_grammar.specs.language.Reads.{Reads}
 use Rattle.swc_ecma_parser_grammar.specs.language.Programs as programs
 use Rattle.swc_ecma_parser_grammar.specs.language.Programs.{ReadsEntry}
 use Rattle.swc_ecma_parser_token.specs.Text.{word_text}
-use Rattle.swc_ecma_parser_grammar.proofs.Tests.{and_both}
+use Rattle.swc_ecma_parser_grammar.proofs.Tests.{and_both, and_yes}
 use Rattle.swc_ecma_parser_grammar.proofs.Naming.{name_is_clean, name_is_supported}
-use Rattle.swc_ecma_parser_grammar.proofs.SupportedBegins.{expr_begins}
+use Rattle.swc_ecma_parser_grammar.proofs.SupportedBegins.{expr_begins, name_begins}
 use Rattle.swc_ecma_parser_grammar.proofs.language.Shapes.{expr_stands}
 
 -- ---- declarators
 
-declarator_supported : (n : ℕ) (k : Code) (x : Tree) (c d : Place) → DeclaratorRule (ReadsClass n assignment) (ReadsPat n) k x c d → supported x ≡ true
-declarator_supported n k x c d (plain_rule p r h b e) = ap supported e ∙ and_both _ _ r.1 refl
-declarator_supported n k x c d (initialized_rule p y m r h s e) = ap supported e ∙ and_both _ _ r.1 s.1
+declarator_supported : (n : ℕ) (k : Code) (loop : Bool) (word : VarDeclKind) (x : Tree) (c d : Place) → DeclaratorRule (ReadsClass n assignment) (ReadsPat n) k loop word x c d → supported x ≡ true
+declarator_supported n k loop word x c d (plain_rule p r h b e) = ap supported e ∙ and_both _ _ r.1 refl
+declarator_supported n k loop word x c d (initialized_rule p y m r h s e) = ap supported e ∙ and_both _ _ r.1 s.1
 
--- what stands behind `var`, with `in` read as an operator
-declarator_widens : (n : ℕ) (k : Code) (x : Tree) (c d : Place) → DeclaratorRule (ReadsClass n assignment) (ReadsPat n) (with_in k) x c d
-    → declarations.DeclaratorRule (Reads n) (with_in k) false decl.Var x c d
-declarator_widens n k x c d (plain_rule p r h b e) = declarations.plain_rule p r.0 h (and_both _ _ b refl) e
-declarator_widens n k x c d (initialized_rule p y m r h s e) = declarations.initialized_rule p y m r.0 h s.0 e
+declarator_widens : (n : ℕ) (k : Code) (loop : Bool) (word : VarDeclKind) (x : Tree) (c d : Place) → DeclaratorRule (ReadsClass n assignment) (ReadsPat n) k loop word x c d
+    → declarations.DeclaratorRule (Reads n) k loop word x c d
+declarator_widens n k loop word x c d (plain_rule p r h b e) = declarations.plain_rule p r.0 h b e
+declarator_widens n k loop word x c d (initialized_rule p y m r h s e) = declarations.initialized_rule p y m r.0 h s.0 e
 
 module _ (Rule Other : Tree → Place → Place → Type 0) (widen : (x : Tree) (c d : Place) → Rule x c d → Other x c d) where
   -- with commas between, each by itself
@@ -60,10 +63,6 @@ module _ (Rule : Tree → Place → Place → Type 0) (small : (x : Tree) (c d :
 
 -- ---- statements
 
-either : (b : Bool) → (b || true) ≡ true
-either true = refl
-either false = refl
-
 may_begin : (t a m : Bool) → a ≡ false → (not (t && a) || m) ≡ true
 may_begin true true m h = cc
 may_begin true false m h = refl
@@ -72,6 +71,10 @@ may_begin false a m h = refl
 seen : (c : Place) (j : TokenKind) → kind_at c ≡ j → sees j c ≡ true
 unfolding same_kind
 seen c j e = true_same the_type (kind_at c) j e
+
+pub saw : (c : Place) (j : TokenKind) → sees j c ≡ true → kind_at c ≡ j
+unfolding same_kind
+saw c j e = same_true the_type (search rules) (kind_at c) j e
 
 target_supported : {k : Code} {x : Tree} {c d : Place} → TargetRule k x c d → supported x ≡ true
 target_supported (no_target_rule h g e) = ap supported e
@@ -89,6 +92,54 @@ target_widens {k = k} (target_rule w s h r f e) =
 operand_widens : (n : ℕ) {k : Code} {x : Tree} {c d : Place} → OperandRule (ReadsClass n) k x c d → statements.OperandRule (Reads n) k x c d
 operand_widens n (no_operand_rule h g e) = statements.no_operand_rule h g e
 operand_widens n (operand_rule h r) = statements.operand_rule h r.0
+
+declarators_supported : (n : ℕ) (k : Code) (loop : Bool) (word : VarDeclKind) (xs : List Tree) (c d : Place)
+    → ReadsSeparated (DeclaratorRule (ReadsClass n assignment) (ReadsPat n) k loop word) xs c d → all_supported (trees xs) ≡ true
+declarators_supported n k loop word = separated_supported (DeclaratorRule (ReadsClass n assignment) (ReadsPat n) k loop word) (declarator_supported n k loop word)
+
+declarators_widen : (n : ℕ) (k : Code) (loop : Bool) (word : VarDeclKind) (xs : List Tree) (c d : Place)
+    → ReadsSeparated (DeclaratorRule (ReadsClass n assignment) (ReadsPat n) k loop word) xs c d → ReadsSeparated (declarations.DeclaratorRule (Reads n) k loop word) xs c d
+declarators_widen n k loop word =
+    separated_widen (DeclaratorRule (ReadsClass n assignment) (ReadsPat n) k loop word) (declarations.DeclaratorRule (Reads n) k loop word) (declarator_widens n k loop word)
+
+-- ---- heads
+
+head_variables_supported : (n : ℕ) {k : Code} {x : Tree} {c d : Place} → HeadVariables (ReadsClass n) (ReadsPat n) k x c d → supported x ≡ true
+head_variables_supported n {k = k} {c = c} {d = d} r = ap supported r.is ∙ declarators_supported n (head_code r.word k) true r.word r.declarators (after c) d r.reads
+
+head_variables_widen : (n : ℕ) {k : Code} {x : Tree} {c d : Place} → HeadVariables (ReadsClass n) (ReadsPat n) k x c d → heads.HeadVariablesRule (Reads n) k x c d
+head_variables_widen n {k = k} {c = c} {d = d} r = record {
+  word = r.word;
+  declarators = r.declarators;
+  reads = (r.begins, declarators_widen n (head_code r.word k) true r.word r.declarators (after c) d r.reads);
+  is = r.is;
+}
+
+init_supported : (n : ℕ) {k : Code} {x : Tree} {c d : Place} → InitRule (ReadsClass n) (ReadsPat n) k x c d → supported x ≡ true
+init_supported n (no_init_rule h g e) = ap supported e
+init_supported n (init_variables_rule r) = head_variables_supported n r
+init_supported n (init_expression_rule h r) = r.1
+
+left_supported : (n : ℕ) {k : Code} {x : Tree} {c d : Place} → LeftRule (ReadsClass n) (ReadsPat n) (ReadsTarget n) k x c d → supported x ≡ true
+left_supported n (declared_rule r) = head_variables_supported n r
+left_supported n (left_target_rule h r) = r.1
+
+part_supported : (n : ℕ) {k : Code} {x : Tree} {c d : Place} → PartRule (ReadsClass n) k x c d → supported x ≡ true
+part_supported n (no_part_rule g e) = ap supported e
+part_supported n (part_rule r) = r.1
+
+init_widens : (n : ℕ) {k : Code} {x : Tree} {c d : Place} → InitRule (ReadsClass n) (ReadsPat n) k x c d → heads.InitRule (Reads n) k x c d
+init_widens n {c = c} (no_init_rule h g e) = heads.no_init_rule (seen c kind.Semi h) g e
+init_widens n (init_variables_rule r) = heads.init_variables_rule (head_variables_widen n r)
+init_widens n (init_expression_rule h r) = heads.init_expression_rule h r.0
+
+left_widens : (n : ℕ) {k : Code} {x : Tree} {c d : Place} → LeftRule (ReadsClass n) (ReadsPat n) (ReadsTarget n) k x c d → heads.LeftRule (Reads n) k x c d
+left_widens n (declared_rule r) = heads.declared_rule (head_variables_widen n r)
+left_widens n (left_target_rule h r) = heads.target_rule h r.0
+
+part_widens : (n : ℕ) {k : Code} {x : Tree} {c d : Place} → PartRule (ReadsClass n) k x c d → heads.PartRule (Reads n) k x c d
+part_widens n (no_part_rule g e) = heads.no_part_rule g e
+part_widens n (part_rule r) = heads.part_rule r.0
 
 module _ (n : ℕ) (small : (k : Code) (at : Position) (x : Tree) (c d : Place) → ReadsStmt n k at x c d → supported x ≡ true) where
   items_supported : (k : Code) (directives : Bool) (at : Position) (xs : List Tree) (c d : Place) → ReadsItems (λ j. ReadsStmt n j at) k directives xs c d → all_supported (trees xs) ≡ true
@@ -124,17 +175,24 @@ module _ (n : ℕ) (small : (k : Code) (at : Position) (x : Tree) (c d : Place) 
     else_supported {k = k} {x = x} {c = c} {d = d} (else_rule h i s) = small k sub_statement x (after c) d s
     else_supported (else_if_rule h r) = if_supported r
 
-  rule_supported : (k : Code) (at : Position) (x : Tree) (c d : Place) → StmtRule (ReadsStmt n) (ReadsClass n) (ReadsPat n) k at x c d → supported x ≡ true
+  rule_supported : (k : Code) (at : Position) (x : Tree) (c d : Place) → StmtRule (ReadsStmt n) (ReadsClass n) (ReadsPat n) (ReadsTarget n) k at x c d → supported x ≡ true
   rule_supported k at x c d (block_rule r) = block_supported r
   rule_supported k at x c d (empty_rule h g e) = ap supported e
   rule_supported k at x c d (debugger_rule h g e) = ap supported e
-  rule_supported k at x c d (var_rule xs m h r g e) =
-      ap supported e ∙ separated_supported (DeclaratorRule (ReadsClass n assignment) (ReadsPat n) (with_in k)) (declarator_supported n (with_in k)) xs (after c) m r
+  rule_supported k at x c d (variables_rule word xs m a h r g e) = ap supported e ∙ declarators_supported n (with_in k) false word xs (after c) m r
   rule_supported k at x c d (if_statement_rule r) = if_supported r
   rule_supported k at x c d (switch_rule y xs m i h r j s g t e) = ap supported e ∙ and_both (supported y) _ r.reads.1 (cases_supported (in_breakable k) false xs (after m) i s)
+  rule_supported k at x c d (labeled_rule w s y m r f h t e) =
+      ap supported e ∙ and_both _ _ (name_is_supported k.flags (word_text w) f) (small (in_breakable k) (labelled_item (after m)) y (after m) d t)
   rule_supported k at x c d (break_rule y m h r g e) = ap supported e ∙ target_supported r
   rule_supported k at x c d (continue_rule y m h r g e) = ap supported e ∙ target_supported r
   rule_supported k at x c d (return_rule y m h r g e) = ap supported e ∙ operand_supported n r
+  rule_supported k at x c d (for_rule a b f y l m i h g r j s o t p u e) =
+      ap supported e ∙ and_both (supported a) _ (init_supported n r) (and_both (supported b) _ (part_supported n s) (and_both (supported f) _ (part_supported n t) (small (in_loop k) sub_statement y (after i) d u)))
+  rule_supported k at x c d (for_in_rule a b y m i h g r j s o t e) =
+      ap supported e ∙ and_both (supported a) _ (left_supported n r) (and_both (supported b) _ s.1 (small (in_loop k) sub_statement y (after i) d t))
+  rule_supported k at x c d (for_of_rule a b y m i h g r j l s o t e) =
+      ap supported e ∙ and_both (supported a) _ (left_supported n r) (and_both (supported b) _ s.1 (small (in_loop k) sub_statement y (after i) d t))
   rule_supported k at x c d (throw_rule y m h b r g e) = ap supported e ∙ r.1
   rule_supported k at x c d (try_rule y z w m i h r s t a e) = ap supported e ∙ and_both (supported y) _ (block_supported r) (and_both (supported z) _ (catch_supported s) (finally_supported t))
   rule_supported k at x c d (while_rule y z m h r s e) = ap supported e ∙ and_both (supported y) _ r.reads.1 (small (in_loop k) sub_statement z m d s)
@@ -142,7 +200,7 @@ module _ (n : ℕ) (small : (k : Code) (at : Position) (x : Tree) (c d : Place) 
   rule_supported k at x c d (expr_rule y m h r a b g e) = ap supported e ∙ r.1
   rule_supported k at x c d (import_rule y m h r g e) = ap supported e ∙ r.1
 
-stmt_supported : (n : ℕ) (k : Code) (at : Position) (x : Tree) (c d : Place) → ReadsStmt n k at x c d → supported x ≡ true
+pub stmt_supported : (n : ℕ) (k : Code) (at : Position) (x : Tree) (c d : Place) → ReadsStmt n k at x c d → supported x ≡ true
 stmt_supported zero k at x c d h = absurd h
 stmt_supported (suc n) k at x c d h = rule_supported n (stmt_supported n) k at x c d h
 
@@ -207,21 +265,26 @@ module _ (n : ℕ) (widen : (k : Code) (at : Position) (x : Tree) (c d : Place) 
     else_widens {k = k} {x = x} {c = c} {d = d} (else_rule h i s) = statements.else_rule h i (widen k sub_statement x (after c) d s)
     else_widens (else_if_rule h r) = statements.else_if_rule h (if_widens r)
 
-  form_widens : (k : Code) (at : Position) (x : Tree) (c d : Place) → StmtRule (ReadsStmt n) (ReadsClass n) (ReadsPat n) k at x c d → statements.FormRule (Reads n) k at x c d
+  form_widens : (k : Code) (at : Position) (x : Tree) (c d : Place) → StmtRule (ReadsStmt n) (ReadsClass n) (ReadsPat n) (ReadsTarget n) k at x c d → statements.FormRule (Reads n) k at x c d
   form_widens k at x c d (block_rule r) = statements.block_rule (block_widens r)
   form_widens k at x c d (empty_rule h g e) = statements.empty_rule h g e
   form_widens k at x c d (debugger_rule h g e) = statements.debugger_rule h g e
-  form_widens k at x c d (var_rule xs m h r g e) =
-      statements.variables_rule decl.Var xs m (either at.include_decl) (
-        seen c kind.Var h,
-        separated_widen (DeclaratorRule (ReadsClass n assignment) (ReadsPat n) (with_in k)) (declarations.DeclaratorRule (Reads n) (with_in k) false decl.Var) (declarator_widens n k) xs (after c) m r,
-      ) g e
+  form_widens k at x c d (variables_rule word xs m a h r g e) = statements.variables_rule word xs m a (h, declarators_widen n (with_in k) false word xs (after c) m r) g e
   form_widens k at x c d (if_statement_rule r) = statements.if_statement_rule (if_widens r)
   form_widens k at x c d (switch_rule y xs m i h r j s g t e) =
       statements.switch_rule y xs m i h (head_widens r) j (cases_widen (in_breakable k) false xs (after m) i s) (one_at_most (in_breakable k) xs (after m) i s) g t e
+  form_widens k at x c d (labeled_rule w s y m r f h t e) =
+      statements.labeled_rule (word_text w) s y m (record { word = w; reads_word = r; is_text = refl; is_name = name_is_clean k.flags (word_text w) f }) h
+      (widen (in_breakable k) (labelled_item (after m)) y (after m) d t) e
   form_widens k at x c d (break_rule y m h r g e) = statements.break_rule y m h (target_widens r) g e
   form_widens k at x c d (continue_rule y m h r g e) = statements.continue_rule y m h (target_widens r) g e
   form_widens k at x c d (return_rule y m h r g e) = statements.return_rule y m h (operand_widens n r) g e
+  form_widens k at x c d (for_rule a b f y l m i h g r j s o t p u e) =
+      statements.for_rule a b f y l m i h g (init_widens n r) j (part_widens n s) o (part_widens n t) p (widen (in_loop k) sub_statement y (after i) d u) e
+  form_widens k at x c d (for_in_rule a b y m i h g r j s o t e) =
+      statements.for_in_rule a b y m i h g (left_widens n r) j s.0 o (widen (in_loop k) sub_statement y (after i) d t) e
+  form_widens k at x c d (for_of_rule a b y m i h g r j l s o t e) =
+      statements.for_of_rule false a b y (after c) m i h (declarations.no_await refl refl) g (heads.of_left_rule (left_widens n r) l) j s.0 o (widen (in_loop k) sub_statement y (after i) d t) e
   form_widens k at x c d (throw_rule y m h b r g e) = statements.throw_rule y m h b r.0 g e
   form_widens k at x c d (try_rule y z w m i h r s t a e) = statements.try_rule y z w m i h (block_widens r) (catch_widens s) (finally_widens t) a e
   form_widens k at x c d (while_rule y z m h r s e) = statements.while_rule y z m h (head_widens r) (widen (in_loop k) sub_statement z m d s) e
@@ -229,17 +292,28 @@ module _ (n : ℕ) (widen : (k : Code) (at : Position) (x : Tree) (c d : Place) 
   form_widens k at x c d (expr_rule y m h r a b g e) = statements.expr_rule y m h r.0 a g e
   form_widens k at x c d (import_rule y m h r g e) = statements.import_expr_rule y m h r.0 g e
 
-rule_begins : (n : ℕ) (k : Code) (at : Position) (x : Tree) (c d : Place) → StmtRule (ReadsStmt n) (ReadsClass n) (ReadsPat n) k at x c d → sees kind.Await c ≡ false
+-- the words of declarations are none of those that make a module
+variables_begin : (word : VarDeclKind) (c : Place) → begins_variables word c ≡ true → sees kind.Await c ≡ false
+unfolding same_kind is_let_declaration
+variables_begin decl.Var c h = rw (saw c kind.Var h) refl
+variables_begin decl.Const c h = rw (saw c kind.Const h) refl
+variables_begin decl.Let c h = rw (saw c kind.Let (and_yes (sees kind.Let c) _ h).0) refl
+
+rule_begins : (n : ℕ) (k : Code) (at : Position) (x : Tree) (c d : Place) → StmtRule (ReadsStmt n) (ReadsClass n) (ReadsPat n) (ReadsTarget n) k at x c d → sees kind.Await c ≡ false
 unfolding same_kind
 rule_begins n k at x c d (block_rule r) = rw r.opens refl
 rule_begins n k at x c d (empty_rule h g e) = rw h refl
 rule_begins n k at x c d (debugger_rule h g e) = rw h refl
-rule_begins n k at x c d (var_rule xs m h r g e) = rw h refl
+rule_begins n k at x c d (variables_rule word xs m a h r g e) = variables_begin word c h
 rule_begins n k at x c d (if_statement_rule (if_rule test cons alt m i h r s o e)) = rw h refl
 rule_begins n k at x c d (switch_rule y xs m i h r j s g t e) = rw h refl
+rule_begins n k at x c d (labeled_rule w s y m r f h t e) = (name_begins k.flags w s c m r f).0
 rule_begins n k at x c d (break_rule y m h r g e) = rw h refl
 rule_begins n k at x c d (continue_rule y m h r g e) = rw h refl
 rule_begins n k at x c d (return_rule y m h r g e) = rw h refl
+rule_begins n k at x c d (for_rule a b f y l m i h g r j s o t p u e) = rw h refl
+rule_begins n k at x c d (for_in_rule a b y m i h g r j s o t e) = rw h refl
+rule_begins n k at x c d (for_of_rule a b y m i h g r j l s o t e) = rw h refl
 rule_begins n k at x c d (throw_rule y m h b r g e) = rw h refl
 rule_begins n k at x c d (try_rule y z w m i h r s t a e) = rw h refl
 rule_begins n k at x c d (while_rule y z m h r s e) = rw h refl
@@ -247,7 +321,7 @@ rule_begins n k at x c d (do_while_rule y z m i h s j r g e) = rw h refl
 rule_begins n k at x c d (expr_rule y m h r a b g e) = expr_begins n (with_in k) y c m r
 rule_begins n k at x c d (import_rule y m h r g e) = expr_begins n (with_in k) y c m r
 
-stmt_widens : (n : ℕ) (k : Code) (at : Position) (x : Tree) (c d : Place) → ReadsStmt n k at x c d → Reads n (stmt_goal k at x c d)
+pub stmt_widens : (n : ℕ) (k : Code) (at : Position) (x : Tree) (c d : Place) → ReadsStmt n k at x c d → Reads n (stmt_goal k at x c d)
 unfolding may_begin_at_top
 stmt_widens zero k at x c d h = absurd h
 stmt_widens (suc n) k at x c d h = (may_begin at.top_level _ k.flags.can_be_module (rule_begins n k at x c d h), form_widens n (stmt_widens n) k at x c d h)

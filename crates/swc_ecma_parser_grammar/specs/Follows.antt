@@ -9,6 +9,7 @@ use Rattle.swc_ecma_parser_token.specs.declared.token.Word.TheVariants as word
 use Rattle.swc_ecma_parser_token.specs.declared.token.TokenAndSpan.{TokenAndSpan}
 use Rattle.swc_ecma_parser_token.specs.Text.{word_text}
 use Rattle.swc_ecma_parser_input.specs.Place.{Place, after}
+use Rattle.swc_ecma_parser_model.specs.Tree as tree
 use Rattle.swc_ecma_parser_model.specs.Tree.{Tree, Text}
 use Rattle.swc_ecma_parser_model.specs.Forms.{is_ident, is_ident_named, is_paren}
 use Rattle.swc_ecma_parser_grammar.specs.declared.position.Position.{Position}
@@ -116,6 +117,18 @@ is_let_declaration c = sees kind.Let c && first_follows_let (after c).left
 unfoldable pub may_begin_expression_statement : Position → Place → Bool
 may_begin_expression_statement at c =
     not (sees kind.LBrace c || (sees kind.Function c || (sees kind.Class c || (sees kind.Import c || (is_async_function c || (at.include_decl && is_let_declaration c))))))
+
+-- what the head of a `for` begins with where it declares nothing: ECMA-262, section 14.7.4
+unfoldable pub may_begin_head : Place → Bool
+may_begin_head c = not (sees kind.Var c || (sees kind.Const c || (sees kind.Semi c || is_let_declaration c)))
+
+-- `async of` on one line is no left side of a head, but behind `for await`
+abbrev pub is_bare_async : Tree → Bool
+is_bare_async (tree.ident_pat s text) = bytes_eq text (codes "async")
+is_bare_async _ = false
+
+unfoldable pub is_async_of : (is_await : Bool) → Tree → Place → Bool
+is_async_of is_await left d = not is_await && (is_bare_async left && not (breaks_at d))
 
 -- `import(` and `import.` begin an expression, also a statement's
 unfoldable pub begins_import_expression : Place → Bool

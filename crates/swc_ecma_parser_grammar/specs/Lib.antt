@@ -2,6 +2,7 @@ pub mod Looks
 pub mod Names
 pub mod Ends
 pub mod Follows
+pub mod Variables
 pub mod Reads
 pub mod Entries
 pub mod Depth

@@ -6,7 +6,8 @@ use Rattle.swc_ecma_parser_error.specs.Kind.{Kind, Fault}
 use Rattle.swc_ecma_parser_model.specs.Tree as tree
 use Rattle.swc_ecma_parser_model.specs.Tree.{Tree, Trees, Text, none, also}
 use Rattle.swc_ecma_parser_model.specs.Directive.{is_use_strict, is_string_statement}
-use Rattle.swc_ecma_parser_model.specs.Forms.{span_of, is_absent, is_ident_named, is_constructor}
+use Rattle.swc_ecma_parser_model.specs.Forms.{span_of, is_ident_named, is_constructor}
+use Rattle.swc_ecma_parser_model.specs.Within.{declared_name, is_initialized}
 use Rattle.swc_ecma_parser_grammar.specs.Names.{is_one_of, reserved_words}
 
 abbrev pub fault : Kind → Span → Fault
@@ -60,17 +61,13 @@ misplaced_directive plain _ = []
 abbrev pub second_constructor : Bool → Tree → List Fault
 second_constructor constructed x = only (constructed && is_constructor x) kind.DuplicateConstructor (span_of x)
 
-abbrev pub variable : Tree → Tree
-variable (tree.declarator s name init) = name
-variable x = x
-
 abbrev pub surplus : Trees → List Fault
 surplus none = []
-surplus (also d ds) = only true kind.TooManyVarInForInHead (span_of (variable d)) ++ surplus ds
+surplus (also d ds) = only true kind.TooManyVarInForInHead (span_of (declared_name d)) ++ surplus ds
 
 -- A declaration before `in` or `of` has one variable; its initializer is a fault in strict code and before `of`.
 abbrev pub head_faults : Bool → Tree → List Fault
-head_faults refused (tree.var s word (tree.list (also (tree.declarator t name init) none))) = only (refused && not (is_absent init)) kind.VarInitializerInForInHead (span_of name)
+head_faults refused (tree.var s word (tree.list (also d none))) = only (refused && is_initialized d) kind.VarInitializerInForInHead (span_of (declared_name d))
 head_faults refused (tree.var s word (tree.list (also d ds))) = surplus ds
 head_faults refused _ = []
 

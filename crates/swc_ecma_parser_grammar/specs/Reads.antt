@@ -8,19 +8,20 @@ use Rattle.swc_ecma_parser_token.specs.declared.token.TokenAndSpan.{TokenAndSpan
 use Rattle.swc_ecma_parser_token.specs.declared.token.Word.{Word}
 use Rattle.swc_ecma_parser_token.specs.Text.{word_text}
 use Rattle.swc_ecma_parser_input.specs.Place.{Place, after}
-use Rattle.swc_ecma_parser_model.specs.declared.leaves.VarDeclKind.TheVariants as decl
+use Rattle.swc_ecma_parser_model.specs.declared.leaves.VarDeclKind.{VarDeclKind}
 use Rattle.swc_ecma_parser_model.specs.Tree as tree
 use Rattle.swc_ecma_parser_model.specs.Tree.{Tree, Text, listed}
 use Rattle.swc_ecma_parser_model.specs.Directive.{is_use_strict}
-use Rattle.swc_ecma_parser_model.specs.Forms.{is_absent, is_ident, is_ident_named, is_binding_name}
+use Rattle.swc_ecma_parser_model.specs.Forms.{is_absent, is_ident, is_ident_named}
 use Rattle.swc_ecma_parser_grammar.specs.declared.position.Position.{Position}
 use Rattle.swc_ecma_parser_grammar.specs.Looks.{kind_at, breaks_at, sees, spanned}
 use Rattle.swc_ecma_parser_grammar.specs.Names.{Code, is_name}
 use Rattle.swc_ecma_parser_grammar.specs.Ends.{Ends, OptionalEnds, ends_at}
-use Rattle.swc_ecma_parser_grammar.specs.Follows.{may_begin_expression_statement, begins_import_expression}
+use Rattle.swc_ecma_parser_grammar.specs.Follows.{word_at, may_begin_expression_statement, begins_import_expression, may_begin_head, is_async_of}
+use Rattle.swc_ecma_parser_grammar.specs.Variables.{begins_variables, is_var, needs_no_initializer}
 use Rattle.swc_ecma_parser_grammar.specs.language.Goals.{Class, expression, assignment}
-use Rattle.swc_ecma_parser_grammar.specs.language.Contexts.{in_loop, in_breakable}
-use Rattle.swc_ecma_parser_grammar.specs.language.Items.{sub_statement}
+use Rattle.swc_ecma_parser_grammar.specs.language.Contexts.{in_loop, in_breakable, without_in}
+use Rattle.swc_ecma_parser_grammar.specs.language.Items.{sub_statement, labelled_item}
 
 -- ---- contexts
 
@@ -30,6 +31,10 @@ with_in k = record k { flags = record k.flags { include_in_expr = true } }
 
 abbrev pub in_strict : Code → Code
 in_strict k = record k { flags = record k.flags { strict = true } }
+
+-- In the first part of a head `in` is no operator; the crate reads it in the initializers of `let` and `const`.
+abbrev pub head_code : VarDeclKind → Code → Code
+head_code word k = if is_var word then without_in k else with_in k
 
 -- a statement in a block or a body, and one of the script itself
 abbrev pub nested_item : Position
@@ -48,11 +53,12 @@ pub record ReadsToken (t : Token) (span : Span) (c d : Place) : Type 0 where
 
 -- ---- statements: section 14
 
--- a declarator of section 14.3.2; one without initializer is a plain name, and stands before no `=`
-pub data DeclaratorRule (Expr Pat : Code → Tree → Place → Place → Type 0) (k : Code) (x : Tree) (c d : Place) : Type 0 where
-  plain_rule : (p : Tree) → Pat k p c d → sees kind.Assign d ≡ false → is_binding_name p ≡ true → x ≡ tree.declarator (spanned c d) p tree.absent → DeclaratorRule Expr Pat k x c d
-  initialized_rule : (p e : Tree) (m : Place) → Pat k p c m → kind_at m ≡ kind.Assign → Expr k e (after m) d → x ≡ tree.declarator (spanned c d) p e
-      → DeclaratorRule Expr Pat k x c d
+-- VariableDeclaration and LexicalBinding: sections 14.3.2 and 14.3.1. In a pattern `in` is an operator in any case.
+pub data DeclaratorRule (Expr Pat : Code → Tree → Place → Place → Type 0) (k : Code) (loop : Bool) (word : VarDeclKind) (x : Tree) (c d : Place) : Type 0 where
+  plain_rule : (p : Tree) → Pat (with_in k) p c d → sees kind.Assign d ≡ false → needs_no_initializer k loop word p d ≡ true → x ≡ tree.declarator (spanned c d) p tree.absent
+      → DeclaratorRule Expr Pat k loop word x c d
+  initialized_rule : (p e : Tree) (m : Place) → Pat (with_in k) p c m → kind_at m ≡ kind.Assign → Expr k e (after m) d → x ≡ tree.declarator (spanned c d) p e
+      → DeclaratorRule Expr Pat k loop word x c d
 
 -- at least one, with commas between and none behind
 abbrev pub ReadsSeparated : (Tree → Place → Place → Type 0) → List Tree → Place → Place → Type 0
@@ -113,6 +119,30 @@ pub data OperandRule (Expr : Class → Code → Tree → Place → Place → Typ
   no_operand_rule : ends_at c ≡ true → d ≡ c → x ≡ tree.absent → OperandRule Expr k x c d
   operand_rule : ends_at c ≡ false → Expr expression (with_in k) x c d → OperandRule Expr k x c d
 
+-- the variables that the head of a `for` declares, without an end
+pub record HeadVariables (Expr : Class → Code → Tree → Place → Place → Type 0) (Pat : Code → Tree → Place → Place → Type 0) (k : Code) (x : Tree) (c d : Place) : Type 0 where
+  pub word : VarDeclKind
+  pub declarators : List Tree
+  pub begins : begins_variables word c ≡ true
+  pub reads : ReadsSeparated (DeclaratorRule (Expr assignment) Pat (head_code word k) true word) declarators (after c) d
+  pub is : x ≡ tree.var (spanned c d) word (listed declarators)
+
+-- the first part of the head of a `for`, where `in` is no operator
+pub data InitRule (Expr : Class → Code → Tree → Place → Place → Type 0) (Pat : Code → Tree → Place → Place → Type 0) (k : Code) (x : Tree) (c d : Place) : Type 0 where
+  no_init_rule : kind_at c ≡ kind.Semi → d ≡ c → x ≡ tree.absent → InitRule Expr Pat k x c d
+  init_variables_rule : HeadVariables Expr Pat k x c d → InitRule Expr Pat k x c d
+  init_expression_rule : may_begin_head c ≡ true → Expr expression (without_in k) x c d → InitRule Expr Pat k x c d
+
+-- what takes each value before `in` and `of`: variables that are declared, or a target of assignments
+pub data LeftRule (Expr : Class → Code → Tree → Place → Place → Type 0) (Pat Target : Code → Tree → Place → Place → Type 0) (k : Code) (x : Tree) (c d : Place) : Type 0 where
+  declared_rule : HeadVariables Expr Pat k x c d → LeftRule Expr Pat Target k x c d
+  left_target_rule : may_begin_head c ≡ true → Target (without_in k) x c d → LeftRule Expr Pat Target k x c d
+
+-- the second part and the third
+pub data PartRule (Expr : Class → Code → Tree → Place → Place → Type 0) (k : Code) (x : Tree) (c d : Place) : Type 0 where
+  no_part_rule : d ≡ c → x ≡ tree.absent → PartRule Expr k x c d
+  part_rule : Expr expression (with_in k) x c d → PartRule Expr k x c d
+
 -- CaseClause and DefaultClause of section 14.12, behind clauses with a `default` or without: each spans to its last token
 pub data CaseRule (Stmt : Code → Position → Tree → Place → Place → Type 0) (Expr : Class → Code → Tree → Place → Place → Type 0) (k : Code) (has_default : Bool) (x : Tree) (c d : Place) : Type 0 where
   case_clause_rule : (test : Tree) (xs : List Tree) (m : Place) → kind_at c ≡ kind.Case → Expr expression (with_in k) test (after c) m → kind_at m ≡ kind.Colon
@@ -137,42 +167,57 @@ pub data FinallyRule (Stmt : Code → Position → Tree → Place → Place → 
   no_finally_rule : sees kind.Finally c ≡ false → d ≡ c → x ≡ tree.absent → FinallyRule Stmt k x c d
   finally_rule : kind_at c ≡ kind.Finally → ReadsBlock Stmt k x (after c) d → FinallyRule Stmt k x c d
 
-pub data StmtRule (Stmt : Code → Position → Tree → Place → Place → Type 0) (Expr : Class → Code → Tree → Place → Place → Type 0) (Pat : Code → Tree → Place → Place → Type 0)
+pub data StmtRule (Stmt : Code → Position → Tree → Place → Place → Type 0) (Expr : Class → Code → Tree → Place → Place → Type 0) (Pat Target : Code → Tree → Place → Place → Type 0)
     (k : Code) (at : Position) (x : Tree) (c d : Place) : Type 0 where
   -- section 14.2
-  block_rule : ReadsBlock Stmt k x c d → StmtRule Stmt Expr Pat k at x c d
+  block_rule : ReadsBlock Stmt k x c d → StmtRule Stmt Expr Pat Target k at x c d
   -- section 14.4
-  empty_rule : kind_at c ≡ kind.Semi → d ≡ after c → x ≡ tree.empty (spanned c d) → StmtRule Stmt Expr Pat k at x c d
+  empty_rule : kind_at c ≡ kind.Semi → d ≡ after c → x ≡ tree.empty (spanned c d) → StmtRule Stmt Expr Pat Target k at x c d
   -- section 14.16
-  debugger_rule : kind_at c ≡ kind.Debugger → Ends (after c) d → x ≡ tree.debugger (spanned c d) → StmtRule Stmt Expr Pat k at x c d
-  -- section 14.3.2
-  var_rule : (xs : List Tree) (m : Place) → kind_at c ≡ kind.Var → ReadsSeparated (DeclaratorRule (Expr assignment) Pat (with_in k)) xs (after c) m → Ends m d
-      → x ≡ tree.var (spanned c d) decl.Var (listed xs) → StmtRule Stmt Expr Pat k at x c d
-  if_statement_rule : IfRule Stmt Expr k x c d → StmtRule Stmt Expr Pat k at x c d
+  debugger_rule : kind_at c ≡ kind.Debugger → Ends (after c) d → x ≡ tree.debugger (spanned c d) → StmtRule Stmt Expr Pat Target k at x c d
+  -- sections 14.3.2 and 14.3.1; `let` and `const` where declarations are read
+  variables_rule : (word : VarDeclKind) (xs : List Tree) (m : Place) → at.include_decl || is_var word ≡ true → begins_variables word c ≡ true
+      → ReadsSeparated (DeclaratorRule (Expr assignment) Pat (with_in k) false word) xs (after c) m → Ends m d → x ≡ tree.var (spanned c d) word (listed xs)
+      → StmtRule Stmt Expr Pat Target k at x c d
+  if_statement_rule : IfRule Stmt Expr k x c d → StmtRule Stmt Expr Pat Target k at x c d
   -- section 14.12
   switch_rule : (e : Tree) (xs : List Tree) (m n : Place) → kind_at c ≡ kind.Switch → ReadsHead Expr k e (after c) m → kind_at m ≡ kind.LBrace
       → ReadsCases Stmt Expr (in_breakable k) false xs (after m) n → kind_at n ≡ kind.RBrace → d ≡ after n → x ≡ tree.switch (spanned c d) e (listed xs)
-      → StmtRule Stmt Expr Pat k at x c d
+      → StmtRule Stmt Expr Pat Target k at x c d
+  -- section 14.13
+  labeled_rule : (w : Word) (s : Span) (y : Tree) (m : Place) → ReadsToken (token.Word w) s c m → is_name k.flags (word_text w) ≡ true → kind_at m ≡ kind.Colon
+      → Stmt (in_breakable k) (labelled_item (after m)) y (after m) d → x ≡ tree.labeled (spanned c d) (tree.ident s (word_text w)) y → StmtRule Stmt Expr Pat Target k at x c d
   -- sections 14.9, 14.8 and 14.10
-  break_rule : (label : Tree) (m : Place) → kind_at c ≡ kind.Break → TargetRule k label (after c) m → Ends m d → x ≡ tree.break (spanned c d) label → StmtRule Stmt Expr Pat k at x c d
+  break_rule : (label : Tree) (m : Place) → kind_at c ≡ kind.Break → TargetRule k label (after c) m → Ends m d → x ≡ tree.break (spanned c d) label → StmtRule Stmt Expr Pat Target k at x c d
   continue_rule : (label : Tree) (m : Place) → kind_at c ≡ kind.Continue → TargetRule k label (after c) m → Ends m d → x ≡ tree.continue (spanned c d) label
-      → StmtRule Stmt Expr Pat k at x c d
-  return_rule : (e : Tree) (m : Place) → kind_at c ≡ kind.Return → OperandRule Expr k e (after c) m → Ends m d → x ≡ tree.return (spanned c d) e → StmtRule Stmt Expr Pat k at x c d
+      → StmtRule Stmt Expr Pat Target k at x c d
+  return_rule : (e : Tree) (m : Place) → kind_at c ≡ kind.Return → OperandRule Expr k e (after c) m → Ends m d → x ≡ tree.return (spanned c d) e → StmtRule Stmt Expr Pat Target k at x c d
   -- section 14.14
   throw_rule : (e : Tree) (m : Place) → kind_at c ≡ kind.Throw → breaks_at (after c) ≡ false → Expr expression (with_in k) e (after c) m → Ends m d
-      → x ≡ tree.throw (spanned c d) e → StmtRule Stmt Expr Pat k at x c d
+      → x ≡ tree.throw (spanned c d) e → StmtRule Stmt Expr Pat Target k at x c d
   -- section 14.15: it has a catch, a finally, or both
   try_rule : (body handler finalizer : Tree) (m n : Place) → kind_at c ≡ kind.Try → ReadsBlock Stmt k body (after c) m → CatchRule Stmt Pat k handler m n
-      → FinallyRule Stmt k finalizer n d → is_absent handler && is_absent finalizer ≡ false → x ≡ tree.try (spanned c d) body handler finalizer → StmtRule Stmt Expr Pat k at x c d
+      → FinallyRule Stmt k finalizer n d → is_absent handler && is_absent finalizer ≡ false → x ≡ tree.try (spanned c d) body handler finalizer → StmtRule Stmt Expr Pat Target k at x c d
   -- section 14.7.3
   while_rule : (e y : Tree) (m : Place) → kind_at c ≡ kind.While → ReadsHead Expr k e (after c) m → Stmt (in_loop k) sub_statement y m d
-      → x ≡ tree.while (spanned c d) e y → StmtRule Stmt Expr Pat k at x c d
+      → x ≡ tree.while (spanned c d) e y → StmtRule Stmt Expr Pat Target k at x c d
   -- section 14.7.2; its end is demanded nowhere
   do_while_rule : (e y : Tree) (m n : Place) → kind_at c ≡ kind.Do → Stmt (in_loop k) sub_statement y (after c) m → kind_at m ≡ kind.While → ReadsHead Expr k e (after m) n
-      → OptionalEnds n d → x ≡ tree.do_while (spanned c d) e y → StmtRule Stmt Expr Pat k at x c d
+      → OptionalEnds n d → x ≡ tree.do_while (spanned c d) e y → StmtRule Stmt Expr Pat Target k at x c d
+  -- section 14.7.4
+  for_rule : (init test update y : Tree) (l m n : Place) → kind_at c ≡ kind.For → kind_at (after c) ≡ kind.LParen → InitRule Expr Pat k init (after (after c)) l → kind_at l ≡ kind.Semi
+      → PartRule Expr k test (after l) m → kind_at m ≡ kind.Semi → PartRule Expr k update (after m) n → kind_at n ≡ kind.RParen → Stmt (in_loop k) sub_statement y (after n) d
+      → x ≡ tree.for (spanned c d) init test update y → StmtRule Stmt Expr Pat Target k at x c d
+  -- section 14.7.5
+  for_in_rule : (left right y : Tree) (m n : Place) → kind_at c ≡ kind.For → kind_at (after c) ≡ kind.LParen → LeftRule Expr Pat Target k left (after (after c)) m → kind_at m ≡ kind.In
+      → Expr expression (with_in k) right (after m) n → kind_at n ≡ kind.RParen → Stmt (in_loop k) sub_statement y (after n) d → x ≡ tree.for_in (spanned c d) left right y
+      → StmtRule Stmt Expr Pat Target k at x c d
+  for_of_rule : (left right y : Tree) (m n : Place) → kind_at c ≡ kind.For → kind_at (after c) ≡ kind.LParen → LeftRule Expr Pat Target k left (after (after c)) m
+      → word_at (codes "of") m ≡ true → is_async_of false left m ≡ false → Expr assignment (with_in k) right (after m) n → kind_at n ≡ kind.RParen
+      → Stmt (in_loop k) sub_statement y (after n) d → x ≡ tree.for_of (spanned c d) false left right y → StmtRule Stmt Expr Pat Target k at x c d
   -- section 14.5. A bare name before `:` is a label; in module code the bare name `interface` is none.
   expr_rule : (e : Tree) (m : Place) → may_begin_expression_statement at c ≡ true → Expr expression (with_in k) e c m → is_ident e && sees kind.Colon m ≡ false
-      → k.flags.module && is_ident_named (codes "interface") e ≡ false → Ends m d → x ≡ tree.expr_stmt (spanned c d) e → StmtRule Stmt Expr Pat k at x c d
+      → k.flags.module && is_ident_named (codes "interface") e ≡ false → Ends m d → x ≡ tree.expr_stmt (spanned c d) e → StmtRule Stmt Expr Pat Target k at x c d
   -- as in the crate, one that begins with `import` has an end that nothing demands
   import_rule : (e : Tree) (m : Place) → begins_import_expression c ≡ true → Expr expression (with_in k) e c m → OptionalEnds m d → x ≡ tree.expr_stmt (spanned c d) e
-      → StmtRule Stmt Expr Pat k at x c d
+      → StmtRule Stmt Expr Pat Target k at x c d

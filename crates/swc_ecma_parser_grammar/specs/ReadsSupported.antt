@@ -8,7 +8,7 @@ use Rattle.swc_ecma_parser_grammar.specs.Looks.{sees}
 use Rattle.swc_ecma_parser_grammar.specs.Names.{Code}
 use Rattle.swc_ecma_parser_grammar.specs.Reads.{StmtRule}
 use Rattle.swc_ecma_parser_grammar.specs.Supported.{supported}
-use Rattle.swc_ecma_parser_grammar.specs.language.Goals.{Class, callee, binding, expr_goal, callee_goal, pattern_goal, element_goal}
+use Rattle.swc_ecma_parser_grammar.specs.language.Goals.{Class, callee, binding, assigning, expr_goal, callee_goal, pattern_goal, element_goal}
 use Rattle.swc_ecma_parser_grammar.specs.language.Reads.{Reads}
 
 -- An expression of a class within so many levels. Behind what `new` calls its arguments may stand.
@@ -23,7 +23,11 @@ ReadsPat n k x c d = Reads n (pattern_goal binding k x c d) × (supported x ≡ 
 abbrev pub ReadsElement : ℕ → Code → Tree → Place → Place → Type 0
 ReadsElement n k x c d = Reads n (element_goal binding k x c d) × (supported x ≡ true)
 
+-- what is assigned to: a name, a member, or a pattern
+abbrev pub ReadsTarget : ℕ → Code → Tree → Place → Place → Type 0
+ReadsTarget n k x c d = Reads n (pattern_goal assigning k x c d) × (supported x ≡ true)
+
 -- a statement within so many levels
 abbrev pub ReadsStmt : ℕ → Code → Position → Tree → Place → Place → Type 0
 ReadsStmt zero k at x c d = ⊥
-ReadsStmt (suc n) k at x c d = StmtRule (ReadsStmt n) (ReadsClass n) (ReadsPat n) k at x c d
+ReadsStmt (suc n) k at x c d = StmtRule (ReadsStmt n) (ReadsClass n) (ReadsPat n) (ReadsTarget n) k at x c d

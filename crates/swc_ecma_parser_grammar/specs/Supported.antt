@@ -3,7 +3,6 @@ use Rattle.std.specs.Prelude.{Bool, true, false, not, ◌&&◌, codes}
 use Rattle.std.specs.Str.{bytes_eq}
 use Rattle.swc_ecma_parser_model.specs.Tree as tree
 use Rattle.swc_ecma_parser_model.specs.Tree.{Tree, Trees, none, also}
-use Rattle.swc_ecma_parser_grammar.specs.language.Declarations.{is_var}
 
 -- whether a tree is made of these forms alone
 abbrev mutual
@@ -49,14 +48,18 @@ abbrev mutual
   supported (tree.assign_pat_prop s key value) = supported key && supported value
   supported (tree.assign_pat s left right) = supported left && supported right
   supported (tree.expr_pat e) = supported e
-  -- `var`, with initializers or without: section 14.3.2
-  supported (tree.var s word ds) = is_var word && supported ds
+  -- `var`, `let` and `const`, with initializers or without: sections 14.3.2 and 14.3.1
+  supported (tree.var s word ds) = supported ds
   supported (tree.declarator s name init) = supported name && supported init
   -- blocks, empty statements, `debugger` and expression statements: sections 14.2, 14.4, 14.16 and 14.5
   supported (tree.block s stmts) = supported stmts
   supported (tree.empty s) = true
   supported (tree.debugger s) = true
   supported (tree.expr_stmt s e) = supported e
+  -- `for` of three parts, with `in` and with `of`: sections 14.7.4 and 14.7.5
+  supported (tree.for s init test next body) = supported init && (supported test && (supported next && supported body))
+  supported (tree.for_in s left right body) = supported left && (supported right && supported body)
+  supported (tree.for_of s is_await left right body) = not is_await && (supported left && (supported right && supported body))
   -- `if`, `switch`, `throw`, `try`, `while` and `do`: sections 14.6, 14.12, 14.14, 14.15, 14.7.3 and 14.7.2
   supported (tree.if_stmt s test cons alt) = supported test && (supported cons && supported alt)
   supported (tree.switch s discriminant cases) = supported discriminant && supported cases
@@ -66,6 +69,8 @@ abbrev mutual
   supported (tree.catch s p body) = supported p && supported body
   supported (tree.while s test body) = supported test && supported body
   supported (tree.do_while s test body) = supported test && supported body
+  -- labels, and what they stand at: section 14.13
+  supported (tree.labeled s label body) = supported label && supported body
   -- `break`, `continue` and `return`: sections 14.9, 14.8 and 14.10
   supported (tree.break s label) = supported label
   supported (tree.continue s label) = supported label

@@ -61,9 +61,9 @@ in_loop env = record env { can_break = true; can_continue = true }
 abbrev pub in_switch : Env → Env
 in_switch env = record env { can_break = true }
 
--- what a label stands at
+-- what a label stands at; the labels around are listed from the outermost in
 abbrev pub in_label : Env → Tree → Env
-in_label env (tree.ident s text) = record env { labels = text ∷ env.labels; can_break = true }
+in_label env (tree.ident s text) = record env { labels = env.labels ++ text ∷ []; can_break = true }
 in_label env _ = record env { can_break = true }
 
 -- the body of `with` counts as a function's

@@ -18,7 +18,7 @@ use swc_ecma_parser_common::Span;
 use swc_ecma_parser_error::{PResult, SyntaxError};
 use swc_ecma_parser_grammar::{Class, Position};
 use swc_ecma_parser_model::{Ident, PrivateName};
-use swc_ecma_parser_state::{Source, Wanted};
+use swc_ecma_parser_source::{Source, Wanted};
 use swc_ecma_parser_token::TokenKind;
 use swc_ecma_parser_trees::{BuildsCall, MakerOf};
 

@@ -13,7 +13,7 @@ use crate::grammar::{Grammar, Part};
 use crate::steps::{grown, since};
 use swc_ecma_parser_error::PResult;
 use swc_ecma_parser_grammar::Position;
-use swc_ecma_parser_state::Source;
+use swc_ecma_parser_source::Source;
 use swc_ecma_parser_token::TokenKind;
 use swc_ecma_parser_trees::{BuildsCall, MakerOf};
 

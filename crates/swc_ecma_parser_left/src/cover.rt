@@ -1,21 +1,23 @@
 //! What may still become a pattern: ECMA-262, sections 13.2.4, 13.2.5 and 13.15.5.
 
-ghost use Rattle.std.specs.Prelude.{◌≡◌, false, None, IfErr, OnOk};
+ghost use Rattle.std.specs.Prelude.{◌≡◌, true, false, None, IfOk, IfErr, OnOk};
 ghost use Rattle.swc_ecma_parser_error.specs.Kind.{IsOutOfMemory};
 ghost use Rattle.swc_ecma_parser_left.specs.Covers.{cover_of, covers_of};
 ghost use Rattle.swc_ecma_parser_left.specs.Nests.{Nests};
+ghost use Rattle.swc_ecma_parser_model.specs.Forms.{is_pattern_target};
 ghost use Rattle.swc_ecma_parser_model.specs.Tree.{Tree};
 ghost use Rattle.swc_ecma_parser_reader.specs.Classes.{class_of};
 ghost use Rattle.swc_ecma_parser_reader.specs.Expressions as exprs;
+ghost use Rattle.swc_ecma_parser_reader.specs.Expressions.{is_literal};
 ghost use Rattle.swc_ecma_parser_reader.specs.State.{GivesAs};
 
 use crate::grammar::{Grammar, Part};
-use crate::steps::{pushed, with_in};
+use crate::steps::{grown, pushed, with_in};
 use swc_ecma_parser_common::Span;
 use swc_ecma_parser_error::{PResult, SyntaxError};
 use swc_ecma_parser_grammar::{Class, Position};
-use swc_ecma_parser_state::Source;
-use swc_ecma_parser_trees::{MakerOf, Trees};
+use swc_ecma_parser_source::Source;
+use swc_ecma_parser_trees::{BuildsExpr, BuildsPattern, MakerOf, Trees};
 
 /// An expression, or an array or object that may still become a pattern; or a part of one.
 #[derive(Drop)]
@@ -42,6 +44,8 @@ pub enum Reading {
     Expr(Class),
     /// An assignment expression that may still become a pattern.
     Cover,
+    /// What the head of a loop begins with: an expression that may still become a target.
+    Head,
 }
 
 /// An expression, which stays one.
@@ -96,6 +100,26 @@ pub fn close<P: Source, T: Trees>(p: &mut P, v: Cover<T::Expr>) -> PResult<T::Ex
     match v.mark {
         Some(mark) => Err(p.reject(SyntaxError::AssignProperty, mark)),
         None => Ok(v.tree),
+    }
+}
+
+/// It as what is assigned to: a name, a member, or a pattern.
+#[tactic(auto, unfolding(swc_ecma_parser_reader::specs::Expressions::target))]
+pub fn target<P: Source, T: BuildsExpr + BuildsPattern>(
+    t: &MakerOf<T>,
+    p: &mut P,
+    v: Cover<T::Expr>,
+) -> PResult<T::Pat>
+    ensures gives { GivesAs T.pat_of (exprs.target (cover_of T.expr_of v) (P.seen p.old)) result (P.seen p.new) }
+    ensures pattern { is_literal (T.expr_of v.tree) ≡ true → IfOk result (λ x. is_pattern_target (T.pat_of x) ≡ true) }
+{
+    let span = T::expr_span(&v.tree);
+    if v.comma {
+        return Err(p.reject(SyntaxError::InvalidPat, span));
+    }
+    match grown(p, T::target(t.alloc, v.tree))? {
+        Some(pattern) => Ok(pattern),
+        None => Err(p.reject(SyntaxError::InvalidPat, span)),
     }
 }
 

@@ -5,7 +5,7 @@ ghost use Rattle.swc_ecma_parser_grammar.specs.Looks.{sees};
 ghost use Rattle.swc_ecma_parser_left.specs.Accesses.{property_of};
 ghost use Rattle.swc_ecma_parser_left.specs.Nests.{Nests};
 ghost use Rattle.swc_ecma_parser_model.specs.Tree as tree;
-ghost use Rattle.swc_ecma_parser_state.specs.Literals.{literal_tree};
+ghost use Rattle.swc_ecma_parser_source.specs.Literals.{literal_tree};
 ghost use Rattle.swc_ecma_parser_reader.specs.Classes.{class_of};
 ghost use Rattle.swc_ecma_parser_reader.specs.Expressions as exprs;
 ghost use Rattle.swc_ecma_parser_reader.specs.State.{Gives, GivesAs};
@@ -22,7 +22,7 @@ use swc_ecma_parser_common::Span;
 use swc_ecma_parser_error::{PResult, SyntaxError};
 use swc_ecma_parser_grammar::{Class, Position};
 use swc_ecma_parser_model::MetaPropKind;
-use swc_ecma_parser_state::{Literal, Source, Wanted};
+use swc_ecma_parser_source::{Literal, Source, Wanted};
 use swc_ecma_parser_token::TokenKind;
 use swc_ecma_parser_trees::{BuildsCall, BuildsExpr, BuildsObject, BuildsOperator, MakerOf};
 

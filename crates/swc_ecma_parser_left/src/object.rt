@@ -18,7 +18,7 @@ use swc_ecma_parser_common::Span;
 use swc_ecma_parser_error::{PResult, SyntaxError};
 use swc_ecma_parser_grammar::{Class, Position};
 use swc_ecma_parser_model::{BigInt, Ident, Number, Str};
-use swc_ecma_parser_state::{Literal, Source, Wanted, is_name};
+use swc_ecma_parser_source::{Literal, Source, Wanted, is_name};
 use swc_ecma_parser_token::TokenKind;
 use swc_ecma_parser_trees::{BuildsCall, BuildsKey, BuildsObject, MakerOf};
 

@@ -7,7 +7,7 @@ use std::alloc::AllocError;
 use swc_ecma_parser_common::Span;
 use swc_ecma_parser_error::PResult;
 use swc_ecma_parser_input::Context;
-use swc_ecma_parser_state::Source;
+use swc_ecma_parser_source::Source;
 
 /// From the start of a place to the end of what was read last.
 pub fn since<P: Source>(p: &P, start: Span) -> Span

@@ -1,27 +1,28 @@
 //! Assignment expressions, and arrays and objects that may become patterns: ECMA-262, section 13.15.
 
-ghost use Rattle.std.specs.Prelude.{◌≡◌, true, IfOk};
+ghost use Rattle.std.specs.Prelude.{◌≡◌, true};
 ghost use Rattle.swc_ecma_parser_left.specs.Covers.{cover_of};
 ghost use Rattle.swc_ecma_parser_reader.specs.Expressions.{is_literal};
 ghost use Rattle.swc_ecma_parser_left.specs.Nests.{Nests};
-ghost use Rattle.swc_ecma_parser_model.specs.Forms.{is_pattern_target};
 ghost use Rattle.swc_ecma_parser_reader.specs.Expressions as exprs;
+ghost use Rattle.swc_ecma_parser_reader.specs.Heads as heads;
 ghost use Rattle.swc_ecma_parser_reader.specs.State.{GivesAs};
 
 use crate::operator::{
     assigns_here, behind_operators, binary_from, operator_here, operators_expr, postfixed,
+    sequence_from,
 };
 use swc_ecma_parser_common::Span;
-use swc_ecma_parser_error::{PResult, SyntaxError};
+use swc_ecma_parser_error::PResult;
 use swc_ecma_parser_grammar::{Class, Position};
 use swc_ecma_parser_left::array::array;
-use swc_ecma_parser_left::cover::{Cover, Reading, close, done, nested};
+use swc_ecma_parser_left::cover::{Cover, Reading, close, done, nested, target};
 use swc_ecma_parser_left::grammar::{Grammar, Part};
 use swc_ecma_parser_left::left::left_from;
 use swc_ecma_parser_left::object::object;
 use swc_ecma_parser_left::steps::{grown, since};
 use swc_ecma_parser_model::AssignOp;
-use swc_ecma_parser_state::Source;
+use swc_ecma_parser_source::Source;
 use swc_ecma_parser_token::TokenKind;
 use swc_ecma_parser_trees::{
     BuildsCall, BuildsExpr, BuildsObject, BuildsOperator, BuildsPattern, MakerOf,
@@ -36,27 +37,6 @@ fn goes_on<P: Source>(p: &P) -> bool
         || operator_here(p, 1).is_some()
         || p.sees(TokenKind::QuestionMark)
         || assigns_here(p)
-}
-
-/// An array or object as what `=` assigns to.
-#[tactic(auto, unfolding(swc_ecma_parser_reader::specs::Expressions::target))]
-fn target<P: Source, T: BuildsExpr + BuildsPattern>(
-    t: &MakerOf<T>,
-    p: &mut P,
-    v: Cover<T::Expr>,
-) -> PResult<T::Pat>
-    requires { is_literal (T.expr_of v.tree) ≡ true }
-    ensures gives { GivesAs T.pat_of (exprs.target (cover_of T.expr_of v) (P.seen p.old)) result (P.seen p.new) }
-    ensures pattern { IfOk result (λ x. is_pattern_target (T.pat_of x) ≡ true) }
-{
-    let span = T::expr_span(&v.tree);
-    if v.comma {
-        return Err(p.reject(SyntaxError::InvalidPat, span));
-    }
-    match grown(p, T::target(t.alloc, v.tree))? {
-        Some(pattern) => Ok(pattern),
-        None => Err(p.reject(SyntaxError::InvalidPat, span)),
-    }
 }
 
 /// What goes on with an array or object that was read from a place on.
@@ -210,4 +190,25 @@ pub(crate) fn assignment_expr<
 {
     let v = cover_expr(g, t, p)?;
     close::<P, T>(p, v)
+}
+
+/// What the head of a loop begins with: an expression that may still become a target.
+#[tactic(auto, unfolding(swc_ecma_parser_reader::specs::Heads::head_expr, swc_ecma_parser_reader::specs::Heads::sequenced))]
+pub fn head_expr<
+    P: Source,
+    T: BuildsExpr + BuildsCall + BuildsObject + BuildsOperator + BuildsPattern,
+    S: Fn(&MakerOf<T>, &mut P, usize, Position) -> PResult<T::Stmt>,
+    E: Fn(&MakerOf<T>, &mut P, usize, Reading) -> PResult<Cover<T::Expr>>,
+    N: Fn(&MakerOf<T>, &mut P, usize, Part) -> PResult<T::Pat>,
+>(g: &Grammar<S, E, N>, t: &MakerOf<T>, p: &mut P) -> PResult<Cover<T::Expr>>
+    requires { Nests P.seen T.expr_of T.pat_of T.stmt_of g.now.depth (S.pre g.now.stmt) (S.post g.now.stmt) (E.pre g.now.expr) (E.post g.now.expr) (N.pre g.now.pat) (N.post g.now.pat) }
+    ensures { GivesAs (cover_of T.expr_of) (heads.head_expr (exprs.expr g.now.depth) (exprs.cover g.now.depth) (P.seen p.old)) result (P.seen p.new) }
+{
+    let start = p.span();
+    let v = cover_expr(g, t, p)?;
+    if !p.sees(TokenKind::Comma) {
+        return Ok(v);
+    }
+    let x = close::<P, T>(p, v)?;
+    Ok(done(sequence_from(g, t, p, start, x)?))
 }

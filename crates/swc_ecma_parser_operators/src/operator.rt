@@ -20,7 +20,7 @@ use swc_ecma_parser_left::grammar::{Grammar, Part};
 use swc_ecma_parser_left::left::{left, left_expr};
 use swc_ecma_parser_left::steps::{grown, pushed, since};
 use swc_ecma_parser_model::{AssignOp, BinaryOp, UnaryOp, UpdateOp};
-use swc_ecma_parser_state::{
+use swc_ecma_parser_source::{
     Source, Wanted, assign_operator, binary_operator, groups_left, mixes, precedence,
     unary_operator, update_operator,
 };
@@ -425,7 +425,7 @@ pub(crate) fn operators_expr<
 
 /// The rest of a sequence, behind what was read from a place on: section 13.16.
 #[tactic(auto, unfolding(swc_ecma_parser_reader::specs::Expressions::sequence_from), using(swc_ecma_parser_reader::proofs::expressions::Loops::sequence_done, swc_ecma_parser_reader::proofs::expressions::Loops::sequence_more, swc_ecma_parser_reader::proofs::expressions::Loops::sequence_err, swc_ecma_parser_reader::proofs::expressions::Loops::assignment_shorter, swc_ecma_parser_reader::proofs::expressions::Loops::sequence_shorter, std::proofs::lemmas::List::map_push))]
-fn sequence_from<
+pub(crate) fn sequence_from<
     P: Source,
     T: BuildsExpr + BuildsCall + BuildsObject + BuildsOperator + BuildsPattern,
     S: Fn(&MakerOf<T>, &mut P, usize, Position) -> PResult<T::Stmt>,

@@ -17,7 +17,7 @@ use swc_ecma_parser_left::grammar::{Grammar, Part};
 use swc_ecma_parser_left::object::{Key, made_key, property_key};
 use swc_ecma_parser_left::steps::{grown, pushed, since};
 use swc_ecma_parser_model::Ident;
-use swc_ecma_parser_state::{Source, Wanted, is_name};
+use swc_ecma_parser_source::{Source, Wanted, is_name};
 use swc_ecma_parser_token::TokenKind;
 use swc_ecma_parser_trees::{BuildsCall, BuildsPattern, MakerOf};
 

@@ -1,6 +1,8 @@
 -- What is read between two states: the scope and the code stay as said, faults and notes are added, and where no fault is
 -- added the grammar has it.
-use Rattle.std.proofs.Common.{◌≡◌, Bool, true, false, cond, List, [], ◌∷◌, ◌++◌, refl, sym, ◌∙◌, ap, subst, append_assoc, append-nil}
+use Rattle.swc_ecma_parser_reader.specs.State.{Scope}
+use Rattle.swc_ecma_parser_reader.specs.State.{below, relabelled}
+use Rattle.std.proofs.Common.{◌≡◌, ℕ, ◌≤◌, arith, Bool, true, false, cond, List, [], ◌∷◌, ◌++◌, refl, sym, ◌∙◌, ap, subst, append_assoc, append-nil}
 use Rattle.std.specs.Prelude.{◌||◌}
 use Rattle.swc_ecma_parser_error.specs.Kind.{Fault}
 use Rattle.swc_ecma_parser_token.specs.declared.kind.TokenKind.{TokenKind}
@@ -8,14 +10,14 @@ use Rattle.swc_ecma_parser_input.specs.Place.{Place, after}
 use Rattle.swc_ecma_parser_model.specs.Tree.{Tree, Text}
 use Rattle.swc_ecma_parser_grammar.specs.Looks.{kind_at}
 use Rattle.swc_ecma_parser_grammar.specs.Names.{Code}
-use Rattle.swc_ecma_parser_grammar.specs.Entries.{has_error_token}
 use Rattle.swc_ecma_parser_grammar.specs.Walk.{env_of, walk, is_tabled, is_dropping, tabled, drops}
 use Rattle.swc_ecma_parser_reader.specs.Notes.{Notes, no_notes, ◌⊕◌, notes_of}
 use Rattle.swc_ecma_parser_reader.specs.State.{State, Reader, moved, coded, flagged, within}
+use Rattle.swc_ecma_parser_reader.specs.Entry.{error_tokens}
 use Rattle.swc_ecma_parser_reader.specs.Limits.{has_out_of_memory_token}
 use Rattle.swc_ecma_parser_reader.proofs.Notes.{or_nil, or_assoc, notes_nil, notes_assoc}
 use Rattle.swc_ecma_parser_reader.proofs.Meets.{Meets, meets_then}
-use Rattle.swc_ecma_parser_reader.proofs.Errors.{Spares, spares_here, spares_after, after_keeps, is_error}
+use Rattle.swc_ecma_parser_reader.proofs.Errors.{Spares, spares_here, spares_after, is_error}
 
 -- ---- lists of faults
 
@@ -44,6 +46,18 @@ pub nil-split : {A : Type 0} (xs ys : List A) → xs ++ ys ≡ [] → (xs ≡ []
 nil-split [] ys e = (refl, e)
 nil-split (x ∷ xs) ys e = (cc, cc)
 
+-- ---- counts of error tokens
+
+pub fewer-then : (a b c : ℕ) → b ≤ a → c ≤ b → c ≤ a
+fewer-then a b c h g = omega arith
+
+pub same-fewer : (a b : ℕ) → a ≡ b → b ≤ a
+same-fewer a b e = omega arith
+
+-- where there are as many at last as at first, there are between
+pub same-between : (a b c : ℕ) → b ≤ a → c ≤ b → a ≡ c → (a ≡ b) × (b ≡ c)
+same-between a b c h g e = (omega arith, omega arith)
+
 -- a recorded fault is one
 pub some_fault : {X : Type 0} (e : Fault) (es : List Fault) → e ∷ es ≡ [] → X
 some_fault e es h = cc
@@ -69,10 +83,12 @@ pub record Sound (next : Code → Code) (w : Walk) (ns : Notes) (P : Code → Pl
   pub notes : added ≡ [] → t.notes ≡ s.notes ⊕ ns
   -- whether a module's item was found does not wait for what was recorded
   pub found : t.notes.found_module_item ≡ (s.notes.found_module_item || ns.found_module_item)
-  pub walked : has_error_token s.at.left ≡ false → drops added ≡ false → tabled added ≡ w s.code s.scope.labels
-  pub keeps : has_error_token s.at.left ≡ false → has_error_token t.at.left ≡ false
-  -- nothing that is read without a fault holds an error token, and no answer has taken a token that memory ran out for
-  pub spares : added ≡ [] → has_error_token t.at.left ≡ false → has_error_token s.at.left ≡ false
+  -- where no error token was taken
+  pub walked : error_tokens s.at.left ≡ error_tokens t.at.left → drops added ≡ false → tabled added ≡ w s.code s.scope.labels
+  pub fewer : error_tokens t.at.left ≤ error_tokens s.at.left
+  -- where nothing was recorded the walk finds nothing
+  pub clean : added ≡ [] → w s.code s.scope.labels ≡ []
+  -- no answer has taken a token that memory ran out for
   pub remembers : has_out_of_memory_token t.at.left ≡ false → has_out_of_memory_token s.at.left ≡ false
   pub reads : added ≡ [] → P s.code s.at t.at
 
@@ -87,10 +103,12 @@ sound_then {f = f} {g = g} {w = w} {v = v} {ns = ns} {ms = ms} {Q = Q} {s = s} {
   notes = λ e. let h = nil-split p.added q.added e in q.notes h.1 ∙ ap (λ z. z ⊕ ms) (p.notes h.0) ∙ notes_assoc s.notes ns ms;
   found = q.found ∙ ap (λ z. z || ms.found_module_item) p.found ∙ or_assoc s.notes.found_module_item ns.found_module_item ms.found_module_item;
   walked = λ h d. let e = drops-split p.added q.added d in
-      tabled-append p.added q.added ∙ ap (λ z. z ++ tabled q.added) (p.walked h e.0)
-      ∙ ap (λ z. w s.code s.scope.labels ++ z) (q.walked (p.keeps h) e.1 ∙ ap (λ z. v z m.scope.labels) p.code ∙ ap (λ z. v (f s.code) z.labels) p.scope);
-  keeps = λ h. q.keeps (p.keeps h);
-  spares = λ e h. let k = nil-split p.added q.added e in p.spares k.0 (q.spares k.1 h);
+      let k = same-between (error_tokens s.at.left) (error_tokens m.at.left) (error_tokens t.at.left) p.fewer q.fewer h in
+      tabled-append p.added q.added ∙ ap (λ z. z ++ tabled q.added) (p.walked k.0 e.0)
+      ∙ ap (λ z. w s.code s.scope.labels ++ z) (q.walked k.1 e.1 ∙ ap (λ z. v z m.scope.labels) p.code ∙ ap (λ z. v (f s.code) z.labels) p.scope);
+  clean = λ e. let h = nil-split p.added q.added e in
+      ap (λ z. z ++ v (f s.code) s.scope.labels) (p.clean h.0) ∙ sym (ap (λ z. v z m.scope.labels) p.code ∙ ap (λ z. v (f s.code) z.labels) p.scope) ∙ q.clean h.1;
+  fewer = fewer-then (error_tokens s.at.left) (error_tokens m.at.left) (error_tokens t.at.left) p.fewer q.fewer;
   remembers = λ h. p.remembers (q.remembers h);
   reads = λ e. let h = nil-split p.added q.added e in (m.at, p.reads h.0, subst (λ k. Q k m.at t.at) p.code (q.reads h.1));
 }
@@ -105,8 +123,8 @@ sound_plain s d p r = record {
   notes = λ e. sym (notes_nil s.notes);
   found = sym (or_nil s.notes.found_module_item);
   walked = λ h d. refl;
-  keeps = p.keeps;
-  spares = λ e h. p.spares h;
+  clean = λ e. refl;
+  fewer = same-fewer (error_tokens s.at.left) (error_tokens d.left) p.counts;
   remembers = p.remembers;
   reads = λ e. r;
 }
@@ -130,8 +148,8 @@ sound_as s t k e n r p = record {
   notes = λ h. p.notes h ∙ ap (λ z. s.notes ⊕ z) n;
   found = p.found ∙ ap (λ z. s.notes.found_module_item || z.found_module_item) n;
   walked = λ h d. p.walked h d ∙ e;
-  keeps = p.keeps;
-  spares = p.spares;
+  clean = λ h. sym e ∙ p.clean h;
+  fewer = p.fewer;
   remembers = p.remembers;
   reads = λ h. r (p.reads h);
 }
@@ -147,8 +165,8 @@ sound_held {ns = ns} s t fs n p = record {
   notes = λ h. p.notes h ∙ ap (λ z. s.notes ⊕ record ns { held_back = z }) (n (p.reads h));
   found = p.found;
   walked = p.walked;
-  keeps = p.keeps;
-  spares = p.spares;
+  clean = p.clean;
+  fewer = p.fewer;
   remembers = p.remembers;
   reads = p.reads;
 }
@@ -163,9 +181,10 @@ sound_after s t k h e n r p = record {
   faults = p.faults;
   notes = λ h. p.notes h ∙ ap (λ z. s.notes ⊕ z) n;
   found = p.found ∙ ap (λ z. s.notes.found_module_item || z.found_module_item) n;
-  walked = λ h d. p.walked (after_keeps s.at h) d ∙ e;
-  keeps = λ h. p.keeps (after_keeps s.at h);
-  spares = λ i g. (spares_after s.at k h).spares (p.spares i g);
+  walked = λ i d. p.walked (sym (spares_after s.at k h).counts ∙ i) d ∙ e;
+  clean = λ h. sym e ∙ p.clean h;
+  fewer = fewer-then (error_tokens s.at.left) (error_tokens (after s.at).left) (error_tokens t.at.left)
+      (same-fewer (error_tokens s.at.left) (error_tokens (after s.at).left) (spares_after s.at k h).counts) p.fewer;
   remembers = λ g. (spares_after s.at k h).remembers (p.remembers g);
   reads = λ h. r (p.reads h);
 }
@@ -186,8 +205,8 @@ sound_coded s t k e p = record {
   notes = p.notes;
   found = p.found;
   walked = p.walked;
-  keeps = p.keeps;
-  spares = p.spares;
+  clean = p.clean;
+  fewer = p.fewer;
   remembers = p.remembers;
   reads = p.reads;
 }
@@ -207,8 +226,25 @@ sound_under change keeps s t p = record {
   notes = p.notes;
   found = p.found;
   walked = p.walked;
-  keeps = p.keeps;
-  spares = p.spares;
+  clean = p.clean;
+  fewer = p.fewer;
+  remembers = p.remembers;
+  reads = p.reads;
+}
+
+-- below one more label
+pub sound_below : {w : Walk} {ns : Notes} {P : Code → Place → Place → Type 0} (text : Text) (s t : State) → Sound same w ns P (below text s) t
+    → Sound same (λ k l. w k (l ++ text ∷ [])) ns P s (relabelled s.scope t)
+sound_below text s t p = record {
+  code = p.code;
+  scope = ap {A = Scope} (λ z. record z { labels = s.scope.labels }) p.scope;
+  added = p.added;
+  faults = p.faults;
+  notes = p.notes;
+  found = p.found;
+  walked = p.walked;
+  clean = p.clean;
+  fewer = p.fewer;
   remembers = p.remembers;
   reads = p.reads;
 }

@@ -1,389 +1,67 @@
 -- What the grammar allows is read, with the faults of the walk and the notes held back, and no others.
-use Rattle.std.proofs.Common.{◌≡◌, ◌⊎◌, inl, inr, ℕ, zero, suc, ◌<◌, Bool, true, false, cond, List, [], ◌∷◌, ◌++◌, length, Option, Some, None, Ok, refl, sym, ◌∙◌, ap, subst, append_assoc, append-nil}
+use Rattle.swc_ecma_parser_token.specs.Text.{word_text}
+use Rattle.swc_ecma_parser_token.specs.declared.token.Word.{Word}
+use Rattle.swc_ecma_parser_grammar.proofs.Tests.{and_both, and_no}
+use Rattle.swc_ecma_parser_grammar.proofs.SupportedBegins.{word_begins, name_begins}
+use Rattle.swc_ecma_parser_grammar.specs.Own.{labelled_function, duplicates}
+use Rattle.swc_ecma_parser_grammar.specs.Reads.{labeled_rule}
+use Rattle.swc_ecma_parser_grammar.specs.Names.{is_name, name_at, first_is_name}
+use Rattle.swc_ecma_parser_grammar.specs.language.Items.{labelled_item}
+use Rattle.swc_ecma_parser_reader.specs.Reader.{begins_label, relabels, labelled_body, labeled_stmt, other_stmt}
+use Rattle.swc_ecma_parser_grammar.proofs.SupportedBegins.{opens}
+use Rattle.swc_ecma_parser_grammar.proofs.Marks.{no_word}
+use Rattle.swc_ecma_parser_reader.proofs.Opens.{unopened, let_stands, let_before_colon}
+use Rattle.swc_ecma_parser_reader.proofs.expressions.SoundLefts.{word_stands}
+use Rattle.swc_ecma_parser_reader.specs.Reader.{head_part, misdeclared, for_parts, for_in, for_of, for_behind, for_stmt, const_stmt, let_stmt}
+use Rattle.swc_ecma_parser_grammar.specs.Follows.{word_at, is_async_of}
+use Rattle.swc_ecma_parser_grammar.specs.Own.{head_faults}
+use Rattle.swc_ecma_parser_grammar.specs.Reads.{InitRule, LeftRule, PartRule, no_part_rule, part_rule, for_rule, for_in_rule, for_of_rule}
+use Rattle.swc_ecma_parser_model.specs.declared.leaves.VarDeclKind.TheVariants as decl
+use Rattle.std.proofs.Common.{◌≡◌, inl, inr, ℕ, zero, suc, Bool, true, false, List, [], ◌∷◌, ◌++◌, Ok, refl, sym, ◌∙◌, ap, subst, append_assoc, append-nil}
 use Rattle.std.specs.Prelude.{◌&&◌, ◌||◌, codes}
 use Rattle.swc_ecma_parser_common.specs.declared.span.Span.{Span}
 use Rattle.swc_ecma_parser_error.specs.Kind as faults
 use Rattle.swc_ecma_parser_error.specs.Kind.{Kind, Fault}
 use Rattle.swc_ecma_parser_token.specs.declared.kind.TokenKind.{TokenKind}
 use Rattle.swc_ecma_parser_token.specs.declared.kind.TokenKind.TheVariants as kind
-use Rattle.swc_ecma_parser_token.specs.declared.token.Token.{Token}
 use Rattle.swc_ecma_parser_token.specs.declared.token.Token.TheVariants as token
-use Rattle.swc_ecma_parser_token.specs.declared.token.TokenAndSpan.{TokenAndSpan}
-use Rattle.swc_ecma_parser_token.specs.Kind.{token_kind}
 use Rattle.swc_ecma_parser_input.specs.Place.{Place, after}
-use Rattle.swc_ecma_parser_model.specs.declared.leaves.VarDeclKind.TheVariants as decl
 use Rattle.swc_ecma_parser_model.specs.Tree as tree
 use Rattle.swc_ecma_parser_model.specs.Tree.{Tree, Text, listed, trees}
-use Rattle.swc_ecma_parser_model.specs.Directive.{is_use_strict}
-use Rattle.swc_ecma_parser_model.specs.Forms.{is_absent, is_ident, is_ident_named, span_of}
+use Rattle.swc_ecma_parser_model.specs.Forms.{is_absent}
 use Rattle.swc_ecma_parser_grammar.specs.declared.position.Position.{Position}
-use Rattle.swc_ecma_parser_grammar.specs.Looks.{kind_at, breaks_at, sees, same_kind, span_at, spanned}
+use Rattle.swc_ecma_parser_grammar.specs.Looks.{kind_at, sees, same_kind, span_at, spanned}
 use Rattle.swc_ecma_parser_grammar.specs.Names.{Code}
-use Rattle.swc_ecma_parser_grammar.specs.Ends.{Ends, by_semicolon, by_insertion, OptionalEnds, by_a_semicolon, by_nothing}
-use Rattle.swc_ecma_parser_grammar.specs.Follows.{begins_import_expression}
-use Rattle.swc_ecma_parser_grammar.specs.Reads.{with_in, in_strict, nested_item, top_item, ReadsToken, DeclaratorRule, plain_rule, initialized_rule, ReadsSeparated, directed, directs_on, ReadsItems, TargetRule, no_target_rule, target_rule, OperandRule, no_operand_rule, operand_rule, break_rule, continue_rule, return_rule, StmtRule, block_rule, empty_rule, debugger_rule, var_rule, if_statement_rule, CaseRule, case_clause_rule, default_clause_rule, ReadsCases, switch_rule, throw_rule, try_rule, while_rule, do_while_rule, expr_rule, import_rule, ReadsBlock, CatchRule, no_catch_rule, catch_rule, catch_parameter_rule, FinallyRule, no_finally_rule, finally_rule, ReadsHead, IfRule, if_rule, no_else_rule, else_rule, else_if_rule}
-use Rattle.swc_ecma_parser_grammar.specs.ReadsSupported.{ReadsClass, ReadsPat, ReadsStmt}
+use Rattle.swc_ecma_parser_grammar.specs.Ends.{OptionalEnds}
+use Rattle.swc_ecma_parser_grammar.specs.Reads.{with_in, nested_item, top_item, ReadsToken, ReadsItems, break_rule, continue_rule, return_rule, StmtRule, block_rule, empty_rule, debugger_rule, variables_rule, if_statement_rule, CaseRule, case_clause_rule, default_clause_rule, ReadsCases, switch_rule, throw_rule, try_rule, while_rule, do_while_rule, expr_rule, import_rule, ReadsBlock, CatchRule, no_catch_rule, catch_rule, catch_parameter_rule, FinallyRule, no_finally_rule, finally_rule, ReadsHead, IfRule, if_rule, no_else_rule, else_rule, else_if_rule}
+use Rattle.swc_ecma_parser_grammar.specs.ReadsSupported.{ReadsClass, ReadsPat, ReadsTarget, ReadsStmt}
 use Rattle.swc_ecma_parser_grammar.specs.language.Contexts.{in_loop, in_breakable}
 use Rattle.swc_ecma_parser_grammar.specs.language.Goals.{expression, assignment}
 use Rattle.swc_ecma_parser_grammar.specs.language.Items.{sub_statement}
-use Rattle.swc_ecma_parser_grammar.specs.Entries.{script_code, ReadsShebang, some_shebang, no_shebang, ReadsScript}
-use Rattle.swc_ecma_parser_grammar.specs.Notes.{notes, statement_note}
+use Rattle.swc_ecma_parser_grammar.specs.Entries.{script_code, ReadsScript}
+use Rattle.swc_ecma_parser_grammar.specs.Notes.{notes}
 use Rattle.swc_ecma_parser_grammar.specs.language.Noted.{has_meta}
-use Rattle.swc_ecma_parser_grammar.specs.Walk as walks_of
-use Rattle.swc_ecma_parser_grammar.specs.Walk.{Env, env_of, walk, walks}
-use Rattle.swc_ecma_parser_reader.specs.Notes.{Notes, held, ◌⊕◌, notes_of, all_notes_of}
-use Rattle.swc_ecma_parser_reader.specs.State.{Scope, State, Outcome, Reader, and_then, noted, recorded_at, recorded_in, fault, labelled, expect, end, fault_at, loop}
+use Rattle.swc_ecma_parser_grammar.specs.Walk.{env_of, walk, walks}
+use Rattle.swc_ecma_parser_reader.specs.Notes.{Notes, ◌⊕◌, notes_of, all_notes_of}
+use Rattle.swc_ecma_parser_reader.specs.State.{Scope, State, Outcome, and_then, loop}
 use Rattle.swc_ecma_parser_reader.specs.Expressions.{expr}
+use Rattle.swc_ecma_parser_reader.specs.Heads.{head_cover}
 use Rattle.swc_ecma_parser_reader.specs.Patterns.{pattern}
-use Rattle.swc_ecma_parser_reader.specs.Reader.{told, target, unbroken, break_stmt, uncontinued, continue_stmt, misplaced, operand, returned, return_stmt, empty, debugger, initialized, declarator, declarators_turn, declarators, var, closes, at_end, close, directs, items_turn, items, block_from, block, braced, note_statement, no_label, expr_stmt, expr_stmt_at, optional_end, import_stmt, import_stmt_at, thrown, throw, head, while_stmt, do_while, goes_on, closed_link, condition, alternative, link_from, link, if_stmt, begins_clause, closes_clause, clause_from, default_clause, case_clause, clause, clauses_turn, clauses, switch_stmt, is_handled, handled, bound, parameter, finalizer, caught, handler, try_stmt, stmt_level, stmt, shebang_of, shebang_in, shebang, script_body, script}
+use Rattle.swc_ecma_parser_reader.specs.Reader.{closes, at_end, block_from, block, braced, expr_stmt_at, import_stmt_at, while_stmt, do_while, goes_on, closed_link, alternative, link_from, link, if_stmt, begins_clause, closes_clause, clause_from, default_clause, case_clause, clause, clauses_turn, clauses, switch_stmt, is_handled, handled, bound, parameter, finalizer, caught, handler, try_stmt, stmt_level, stmt, script_body, script}
 use Rattle.swc_ecma_parser_reader.specs.Entry.{script_left}
 use Rattle.swc_ecma_parser_reader.proofs.Notes.{or_nil, or_assoc}
 use Rattle.swc_ecma_parser_reader.proofs.Answered.{st, Reads, Calm, ReadsCalm}
 use Rattle.swc_ecma_parser_reader.proofs.Errors.{is_error}
-use Rattle.swc_ecma_parser_reader.proofs.Between.{nil-split}
+use Rattle.swc_ecma_parser_reader.proofs.Meets.{saw}
 use Rattle.swc_ecma_parser_reader.proofs.expressions.CompleteParts.{name_reads}
-use Rattle.swc_ecma_parser_grammar.specs.Own.{break_faults, continue_faults, return_faults}
-use Rattle.swc_ecma_parser_reader.proofs.expressions.CompleteKinds.{seen}
+use Rattle.swc_ecma_parser_reader.proofs.expressions.CompleteKinds.{seen, expr_no_const, name_no_const}
 use Rattle.swc_ecma_parser_reader.proofs.expressions.Complete.{expr_reads}
 use Rattle.swc_ecma_parser_reader.proofs.patterns.Complete.{pattern_reads}
-use Rattle.swc_ecma_parser_reader.proofs.Loops.{stmt_shorter, items_stop, items_more, declarators_done, declarators_more, clauses_done, clauses_more}
+use Rattle.swc_ecma_parser_reader.proofs.Loops.{stmt_shorter, clauses_done, clauses_more}
 use Rattle.swc_ecma_parser_grammar.proofs.SupportedBegins.{expr_opens}
-use Rattle.swc_ecma_parser_reader.proofs.Opens.{opened, no_block_or_import, import_stands, import_unnoted, goes_open, stmt_goes}
+use Rattle.swc_ecma_parser_reader.proofs.Opens.{opened, no_block_or_import, import_stands, stmt_goes}
 use Rattle.swc_ecma_parser_reader.proofs.Chains.{if_last, if_more}
-
--- ---- fixed tokens and ends
-
-ends_read : (missing : Kind) (c d : Place) (k : Code) (w : Scope) (f : List Fault) (h : Notes) → Ends c d → end missing (st c k w f h) ≡ Ok (tt, st d k w f h)
-unfolding end
-ends_read missing c d k w f h (by_semicolon e g) = rw (seen c kind.Semi e, g) refl
-ends_read missing c d k w f h (by_insertion e i g) = rw (e, i, g) refl
-
--- one that nothing demands
-optional_end_reads : (c d : Place) (k : Code) (w : Scope) (f : List Fault) (h : Notes) → OptionalEnds c d → optional_end (st c k w f h) ≡ Ok (tt, st d k w f h)
-unfolding optional_end
-optional_end_reads c d k w f h (by_a_semicolon e g) = rw (seen c kind.Semi e, g) refl
-optional_end_reads c d k w f h (by_nothing e g) = rw (e, g) refl
-
-close_reads : (c : Place) (k : Code) (w : Scope) (f : List Fault) (h : Notes) → kind_at c ≡ kind.RBrace → close (st c k w f h) ≡ Ok (tt, st (after c) k w f h)
-unfolding close
-close_reads c k w f h e = rw (seen c kind.RBrace e) refl
-
--- ---- faults that are told
-
-recorded_at_reads : (g : Fault) (s : State) (t : Token) → is_error (token_kind t) ≡ false → recorded_at g s t ≡ Ok (tt, noted g s)
-recorded_at_reads g s (token.Error e) h = cc
-recorded_at_reads g s _ h = refl
-
-recorded_in_reads : (g : Fault) (s : State) (ts : List TokenAndSpan) → s.at.left ≡ ts → is_error (kind_at s.at) ≡ false → recorded_in g s ts ≡ Ok (tt, noted g s)
-unfolding kind_at
-recorded_in_reads g s [] e h = refl
-recorded_in_reads g s (t ∷ ts) e h = recorded_at_reads g s t.token (rw e at h)
-
-fault_reads : (g : Fault) (d : Place) (k : Code) (w : Scope) (f : List Fault) (h : Notes) → is_error (kind_at d) ≡ false → fault g (st d k w f h) ≡ Ok (tt, st d k w (f ++ g ∷ []) h)
-unfolding fault
-fault_reads g d k w f h e = recorded_in_reads g (st d k w f h) d.left refl e
-
--- each by itself, where no error token stands
-told_reads : (fs : List Fault) (d : Place) (k : Code) (w : Scope) (f : List Fault) (h : Notes) → (fs ≡ []) ⊎ (is_error (kind_at d) ≡ false) → told fs (st d k w f h) ≡ Ok (tt, st d k w (f ++ fs) h)
-told_reads [] d k w f h q = rw (append-nil f) refl
-told_reads (g ∷ gs) d k w f h (inl e) = cc
-told_reads (g ∷ gs) d k w f h (inr e) = rw (fault_reads g d k w f h e, told_reads gs d k w (f ++ g ∷ []) h (inr e)) (simp (append_assoc) refl)
-
--- where a list of faults is empty its parts are
-calm_same : (d : Place) (whole fs : List Fault) → whole ≡ fs → (whole ≡ []) ⊎ (is_error (kind_at d) ≡ false) → (fs ≡ []) ⊎ (is_error (kind_at d) ≡ false)
-calm_same d whole fs e (inl z) = inl (sym e ∙ z)
-calm_same d whole fs e (inr a) = inr a
-
-calm_first : (d : Place) (es fs whole : List Fault) → whole ≡ es ++ fs → (whole ≡ []) ⊎ (is_error (kind_at d) ≡ false) → (es ≡ []) ⊎ (is_error (kind_at d) ≡ false)
-calm_first d es fs whole e (inl z) = inl (nil-split es fs (sym e ∙ z)).0
-calm_first d es fs whole e (inr a) = inr a
-
-calm_last : (d : Place) (es fs whole : List Fault) → whole ≡ es ++ fs → (whole ≡ []) ⊎ (is_error (kind_at d) ≡ false) → (fs ≡ []) ⊎ (is_error (kind_at d) ≡ false)
-calm_last d es fs whole e (inl z) = inl (nil-split es fs (sym e ∙ z)).1
-calm_last d es fs whole e (inr a) = inr a
-
--- ---- `break`, `continue` and `return`
-
-target_reads : (x : Tree) (c d : Place) (k : Code) (w : Scope) (f : List Fault) (h : Notes) → TargetRule k x c d → target (st c k w f h) ≡ Ok (x, st d k w f h)
-unfolding target
-target_reads x c d k w f h (no_target_rule e g i) = rw (e, g, i) refl
-target_reads x c d k w f h (target_rule v sp e r n i) = rw (e, name_reads faults.ExpectedIdent v sp c d k w f h r n, i) refl
-
--- a label has no notes
-target_quiet : {k : Code} {x : Tree} {c d : Place} → TargetRule k x c d → (notes x ≡ []) × (has_meta x ≡ false)
-target_quiet (no_target_rule e g i) = (ap notes i, ap has_meta i)
-target_quiet (target_rule v sp e r n i) = (ap notes i, ap has_meta i)
-
-break_reads : (y : Tree) (m : Place) (k : Code) (x : Tree) (c d : Place) → TargetRule k y (after c) m → Ends m d → x ≡ tree.break (spanned c d) y → ReadsCalm break_stmt k x c d
-unfolding break_stmt unbroken spanned
-break_reads y m k x c d r g e w f h q =
-    let l = break_faults k.flags.is_break_allowed w.labels y (spanned c d) in
-    rw (
-      target_reads y (after c) m k w f h r,
-      ends_read faults.Expected m d k w f h g,
-      told_reads l d k w f h (calm_same d (walk (env_of k w.labels) x) l (ap (walk (env_of k w.labels)) e) q),
-      e,
-      (target_quiet r).0,
-      (target_quiet r).1,
-      append-nil h.held_back,
-      or_nil h.found_module_item,
-    ) refl
-
-continue_reads : (y : Tree) (m : Place) (k : Code) (x : Tree) (c d : Place) → TargetRule k y (after c) m → Ends m d → x ≡ tree.continue (spanned c d) y → ReadsCalm continue_stmt k x c d
-unfolding continue_stmt uncontinued spanned
-continue_reads y m k x c d r g e w f h q =
-    let l = continue_faults k.flags.is_continue_allowed w.labels y (spanned c d) in
-    rw (
-      target_reads y (after c) m k w f h r,
-      ends_read faults.Expected m d k w f h g,
-      told_reads l d k w f h (calm_same d (walk (env_of k w.labels) x) l (ap (walk (env_of k w.labels)) e) q),
-      e,
-      (target_quiet r).0,
-      (target_quiet r).1,
-      append-nil h.held_back,
-      or_nil h.found_module_item,
-    ) refl
-
-operand_reads : (n : ℕ) (k : Code) (x : Tree) (c d : Place) → OperandRule (ReadsClass n) k x c d → Reads (operand (expr n expression)) k x c d
-unfolding operand
-operand_reads n k x c d (no_operand_rule e g i) w f h = rw (e, i, g, append-nil f, append-nil h.held_back, or_nil h.found_module_item) refl
-operand_reads n k x c d (operand_rule e r) w f h = rw (e, expr_reads n expression (with_in k) x c d r w f h) refl
-
-return_reads : (n : ℕ) (y : Tree) (m : Place) (k : Code) (x : Tree) (c d : Place) → OperandRule (ReadsClass n) k y (after c) m → Ends m d → x ≡ tree.return (spanned c d) y
-    → ReadsCalm (return_stmt (expr n expression)) k x c d
-unfolding return_stmt returned misplaced spanned
-return_reads n y m k x c d r g e w f h q =
-    let l = return_faults (k.flags.in_function || k.setting.allow_return_outside_function) (spanned c d) in
-    let a = walk (env_of k w.labels) y in
-    rw (
-      operand_reads n k y (after c) m r w f h,
-      ends_read faults.Expected m d k w (f ++ a) (h ⊕ notes_of y) g,
-      told_reads l d k w (f ++ a) (h ⊕ notes_of y) (calm_last d a l (walk (env_of k w.labels) x) (ap (walk (env_of k w.labels)) e) q),
-      e,
-      append_assoc f a l,
-    ) refl
-
--- ---- statements that hold none
-
-empty_reads : (k : Code) (x : Tree) (c d : Place) → d ≡ after c → x ≡ tree.empty (spanned c d) → Reads empty k x c d
-unfolding empty
-empty_reads k x c d e g w f h = rw (g, e, append-nil f, append-nil h.held_back, or_nil h.found_module_item) refl
-
-debugger_reads : (k : Code) (x : Tree) (c d : Place) → Ends (after c) d → x ≡ tree.debugger (spanned c d) → Reads debugger k x c d
-unfolding debugger
-debugger_reads k x c d e g w f h = rw (ends_read faults.Expected (after c) d k w f h e, g, append-nil f, append-nil h.held_back, or_nil h.found_module_item) refl
-
--- ---- declarators
-
-module _ (n : ℕ) where
-  declarator_reads : (k : Code) (x : Tree) (c d : Place) → DeclaratorRule (ReadsClass n assignment) (ReadsPat n) k x c d → Reads (declarator (expr n) (pattern n)) k x c d
-  unfolding declarator initialized spanned
-  declarator_reads k x c d (plain_rule p r e b g) w f h = rw (pattern_reads n k p c d r w f h, e, b, g, append-nil (walk (env_of k w.labels) p), append-nil (notes p), or_nil (has_meta p)) refl
-  declarator_reads k x c d (initialized_rule p y m r e s g) w f h =
-      rw (
-        pattern_reads n k p c m r w f h,
-        seen m kind.Assign e,
-        expr_reads n assignment k y (after m) d s w (f ++ walk (env_of k w.labels) p) (h ⊕ notes_of p),
-        g,
-        append_assoc f (walk (env_of k w.labels) p) (walk (env_of k w.labels) y),
-        append_assoc h.held_back (notes p) (notes y),
-        or_assoc h.found_module_item (has_meta p) (has_meta y),
-      ) refl
-
-  many_declarators : (xs found : List Tree) (k : Code) (c d : Place) (w : Scope) (f : List Fault) (h : Notes) → ReadsSeparated (DeclaratorRule (ReadsClass n assignment) (ReadsPat n) k) xs c d
-      → loop (declarators_turn (expr n) (pattern n)) found (st c k w f h) ≡ Ok (found ++ xs, st d k w (f ++ walks (env_of k w.labels) false (trees xs)) (h ⊕ all_notes_of (trees xs)))
-  many_declarators [] found k c d w f h r = absurd r
-  many_declarators (x ∷ []) found k c d w f h r =
-      rw (append-nil (walk (env_of k w.labels) x), append-nil (notes x), or_nil (has_meta x))
-      (declarators_done n found (st c k w f h) x (st d k w (f ++ walk (env_of k w.labels) x) (h ⊕ notes_of x)) (declarator_reads k x c d r.0 w f h) r.1)
-  many_declarators (x ∷ y ∷ ys) found k c d w f h (m, r, e, more) =
-      declarators_more n found (st c k w f h) x (st m k w (f ++ walk (env_of k w.labels) x) (h ⊕ notes_of x)) (declarator_reads k x c m r w f h) (seen m kind.Comma e)
-      ∙ many_declarators (y ∷ ys) (found ++ x ∷ []) k (after m) d w (f ++ walk (env_of k w.labels) x) (h ⊕ notes_of x) more ∙ simp (append_assoc, or_assoc) refl
-
-  var_reads : (xs : List Tree) (m : Place) (k : Code) (x : Tree) (c d : Place) → ReadsSeparated (DeclaratorRule (ReadsClass n assignment) (ReadsPat n) (with_in k)) xs (after c) m → Ends m d
-      → x ≡ tree.var (spanned c d) decl.Var (listed xs) → Reads (var (expr n) (pattern n)) k x c d
-  unfolding var declarators
-  var_reads xs m k x c d r e g w f h =
-      rw (many_declarators xs [] (with_in k) (after c) m w f h r, ends_read faults.Unexpected m d k w (f ++ walks (env_of k w.labels) false (trees xs)) (h ⊕ all_notes_of (trees xs)) e, g) refl
-
--- ---- statements one behind another
-
--- the code behind statements: a directive may have turned it strict
-abbrev pub code_behind : Code → Bool → List Tree → Code
-code_behind k directives [] = k
-code_behind k directives (x ∷ xs) = code_behind (directed k directives x) false xs
-
--- without directives it stays
-code_stays : (k : Code) (xs : List Tree) → code_behind k false xs ≡ k
-code_stays k [] = refl
-code_stays k (x ∷ xs) = code_stays k xs
-
--- a directive changes no setting
-in_strict_setting : (b : Bool) (k : Code) → (cond b (in_strict k) k).setting ≡ k.setting
-in_strict_setting true k = refl
-in_strict_setting false k = refl
-
-behind_setting : (k : Code) (directives : Bool) (xs : List Tree) → (code_behind k directives xs).setting ≡ k.setting
-behind_setting k directives [] = refl
-behind_setting k directives (x ∷ xs) = behind_setting (directed k directives x) false xs ∙ in_strict_setting (directives && is_use_strict x) k
-
--- behind a first statement there is no directive
-directs_behind : (directives : Bool) (found : List Tree) (x : Tree) → directs directives (found ++ x ∷ []) ≡ false
-directs_behind directives [] x = refl
-directs_behind directives (y ∷ ys) x = refl
-
--- the walk and the reader agree on what a directive turns strict
-strict_walk : (b : Bool) (k : Code) (labels : List Text) → env_of (cond b (in_strict k) k) labels ≡ cond b (record (env_of k labels) { strict = true }) (env_of k labels)
-strict_walk true k labels = refl
-strict_walk false k labels = refl
-
-directed_walk : (k : Code) (directives : Bool) (x : Tree) (labels : List Text) → env_of (directed k directives x) labels ≡ walks_of.directed (env_of k labels) directives x
-directed_walk k directives x labels = strict_walk (directives && is_use_strict x) k labels
-
-module _ (Inner : Code → Tree → Place → Place → Type 0) (inner : Reader Tree)
-    (reads : (k : Code) (x : Tree) (c d : Place) → Inner k x c d → ReadsCalm inner k x c d)
-    (shorter : (s : State) (x : Tree) (t : State) → inner s ≡ Ok (x, t) → length t.at.left < length s.at.left)
-    (stops : Place → Bool) (goes : (k : Code) (x : Tree) (c d : Place) → Inner k x c d → stops c ≡ false)
-    (starts : (k : Code) (x : Tree) (c d : Place) → Inner k x c d → is_error (kind_at c) ≡ false) where
-  -- no error token stands behind an item: the next begins there, or all end
-  no_error : (k : Code) (b : Bool) (xs : List Tree) (m d : Place) → ReadsItems Inner k b xs m d → is_error (kind_at d) ≡ false → is_error (kind_at m) ≡ false
-  no_error k b [] m d r e = ap (λ v. is_error (kind_at v)) (sym r) ∙ e
-  no_error k b (x ∷ xs) m d (i, r, rs) e = starts k x m i r
-
-  many_items : (directives : Bool) (xs found : List Tree) (b : Bool) (k : Code) (c d : Place) (w : Scope) (f : List Fault) (h : Notes) → directs directives found ≡ b → ReadsItems Inner k b xs c d → stops d ≡ true
-      → is_error (kind_at d) ≡ false → loop (items_turn inner stops directives) found (st c k w f h) ≡ Ok (found ++ xs, st d (code_behind k b xs) w (f ++ walks (env_of k w.labels) b (trees xs)) (h ⊕ all_notes_of (trees xs)))
-  many_items directives [] found b k c d w f h p r e a =
-      rw (append-nil found, append-nil f, append-nil h.held_back, or_nil h.found_module_item, r) (items_stop inner stops directives found (st c k w f h) (rw (← r) e))
-  many_items directives (x ∷ xs) found b k c d w f h p (m, r, more) e a =
-      let one = reads k x c m r w f h (inr (no_error (directed k b x) (directs_on b x) xs m d more a)) in
-      let first = items_more inner stops directives found (st c k w f h) x (st m k w (f ++ walk (env_of k w.labels) x) (h ⊕ notes_of x)) (goes k x c m r) one
-      (shorter (st c k w f h) x (st m k w (f ++ walk (env_of k w.labels) x) (h ⊕ notes_of x)) one) in
-      let rest = many_items directives xs (found ++ x ∷ []) false (directed k b x) m d w (f ++ walk (env_of k w.labels) x) (h ⊕ notes_of x) (directs_behind directives found x) more e a in
-      let turn = rw p at first in
-      turn ∙ rest ∙ rw (directed_walk k b x w.labels) (simp (append_assoc, or_assoc) refl)
-
-  items_read : (directives : Bool) (xs : List Tree) (k : Code) (c d : Place) (w : Scope) (f : List Fault) (h : Notes) → ReadsItems Inner k directives xs c d → stops d ≡ true
-      → is_error (kind_at d) ≡ false → items inner stops directives (st c k w f h) ≡ Ok (xs, st d (code_behind k directives xs) w (f ++ walks (env_of k w.labels) directives (trees xs)) (h ⊕ all_notes_of (trees xs)))
-  unfolding items
-  items_read directives xs k c d w f h r e a = many_items directives xs [] directives k c d w f h refl r e a
-
-closes_at : (c : Place) → kind_at c ≡ kind.RBrace → closes c ≡ true
-unfolding closes same_kind
-closes_at c e = rw e refl
-
--- where clauses end no error token stands
-clause_ends : (c : Place) → closes_clause c ≡ true → is_error (kind_at c) ≡ false
-unfolding closes_clause begins_clause closes same_kind
-clause_ends c e = by_kind (kind_at c) e
-  where
-    by_kind : (j : TokenKind) → ((same_kind j kind.Case || same_kind j kind.Default) || (same_kind j kind.RBrace || same_kind j kind.End)) ≡ true → is_error j ≡ false
-    by_kind kind.Error h = cc
-    by_kind _ h = refl
-
-at_end_at : (c : Place) → kind_at c ≡ kind.End → at_end c ≡ true
-unfolding at_end same_kind
-at_end_at c e = rw e refl
-
--- ---- expression statements
-
--- what a bare name `interface` leaves behind: the grammar has none in module code, and elsewhere its fault is held back
-note_by : (b in_module : Bool) (e : Fault) (s : State) → in_module && b ≡ false
-    → ◌≡◌ {A = Outcome (Unit {0})} (cond b (Ok (tt, cond in_module (noted e s) (record s { notes = record s.notes { held_back = s.notes.held_back ++ e ∷ [] } }))) (Ok (tt, s))) (Ok (tt, record s { notes = s.notes ⊕ held (cond b (e ∷ []) []) }))
-note_by false in_module e s g = rw (append-nil s.notes.held_back, or_nil s.notes.found_module_item) refl
-note_by true false e s g = rw (or_nil s.notes.found_module_item) refl
-note_by true true e s g = cc
-
-note_reads : (e : Tree) (m : Place) (k : Code) (w : Scope) (f : List Fault) (h : Notes) → k.flags.module && is_ident_named (codes "interface") e ≡ false
-    → note_statement e (st m k w f h) ≡ Ok (tt, st m k w f (h ⊕ held (statement_note e)))
-unfolding note_statement
-note_reads e m k w f h g = note_by (is_ident_named (codes "interface") e) k.flags.module (fault_at (span_of e) faults.InvalidIdentInStrict) (st m k w f h) g
-
-expr_stmt_reads : (n : ℕ) (e : Tree) (m : Place) (k : Code) (x : Tree) (c d : Place) → ReadsClass n expression (with_in k) e c m → is_ident e && sees kind.Colon m ≡ false
-    → k.flags.module && is_ident_named (codes "interface") e ≡ false → Ends m d → x ≡ tree.expr_stmt (spanned c d) e → Reads (expr_stmt (expr n expression)) k x c d
-unfolding expr_stmt no_label
-expr_stmt_reads n e m k x c d r l i g j w f h =
-    rw (
-      expr_reads n expression (with_in k) e c m r w f h,
-      l,
-      note_reads e m k w (f ++ walk (env_of k w.labels) e) (h ⊕ notes_of e) i,
-      ends_read faults.ExpectedSemiForExprStmt m d k w (f ++ walk (env_of k w.labels) e) ((h ⊕ notes_of e) ⊕ held (statement_note e)) g,
-      j,
-      append_assoc,
-      or_assoc,
-      or_nil (has_meta e),
-    ) refl
-
-import_stmt_reads : (n : ℕ) (e : Tree) (m : Place) (k : Code) (x : Tree) (c d : Place) → begins_import_expression c ≡ true → ReadsClass n expression (with_in k) e c m → OptionalEnds m d
-    → x ≡ tree.expr_stmt (spanned c d) e → Reads (import_stmt (expr n expression)) k x c d
-unfolding import_stmt
-import_stmt_reads n e m k x c d b r g j w f h =
-    rw (
-      expr_reads n expression (with_in k) e c m r w f h,
-      optional_end_reads m d k w (f ++ walk (env_of k w.labels) e) (h ⊕ notes_of e) g,
-      j,
-      import_unnoted n (with_in k) e c m r b,
-      append-nil (notes e),
-    ) refl
-
--- ---- `throw`, `while` and `do`
-
--- a token that must stand here
-expect_reads : (j : TokenKind) (c : Place) (k : Code) (w : Scope) (f : List Fault) (h : Notes) → kind_at c ≡ j → expect j (st c k w f h) ≡ Ok (tt, st (after c) k w f h)
-unfolding expect
-expect_reads j c k w f h e = rw (seen c j e) refl
-
-throw_reads : (n : ℕ) (y : Tree) (m : Place) (k : Code) (x : Tree) (c d : Place) → breaks_at (after c) ≡ false → ReadsClass n expression (with_in k) y (after c) m → Ends m d
-    → x ≡ tree.throw (spanned c d) y → Reads (throw (expr n expression)) k x c d
-unfolding throw thrown
-throw_reads n y m k x c d b r g e w f h =
-    rw (
-      b,
-      (goes_open (kind_at (after c)) (expr_opens n (with_in k) y (after c) m r)).1,
-      expr_reads n expression (with_in k) y (after c) m r w f h,
-      ends_read faults.Expected m d k w (f ++ walk (env_of k w.labels) y) (h ⊕ notes_of y) g,
-      e,
-    ) refl
-
-head_reads : (n : ℕ) (k : Code) (x : Tree) (c d : Place) → ReadsHead (ReadsClass n) k x c d → Reads (head (expr n expression)) k x c d
-unfolding head
-head_reads n k x c d r w f h =
-    rw (
-      expect_reads kind.LParen c k w f h r.opens,
-      expr_reads n expression (with_in k) x (after c) r.close r.reads w f h,
-      expect_reads kind.RParen r.close k w (f ++ walk (env_of k w.labels) x) (h ⊕ notes_of x) r.closes,
-      r.next,
-    ) refl
-
-condition_reads : (n : ℕ) (k : Code) (x : Tree) (c d : Place) → ReadsHead (ReadsClass n) k x c d → Reads (condition (expr n expression)) k x c d
-unfolding condition labelled
-condition_reads n k x c d r w f h =
-    rw (
-      expect_reads kind.LParen c k w f h r.opens,
-      expr_reads n expression (with_in k) x (after c) r.close r.reads w f h,
-      expect_reads kind.RParen r.close k w (f ++ walk (env_of k w.labels) x) (h ⊕ notes_of x) r.closes,
-      r.next,
-    ) refl
-
--- ---- a script
-
--- no `#!` stands where no such token is seen
-no_shebang_by : (t : Token) → same_kind (token_kind t) kind.Shebang ≡ false → shebang_of t ≡ None
-unfolding same_kind
-no_shebang_by (token.Shebang text) e = cc
-no_shebang_by _ e = refl
-
-no_shebang_in : (c : Place) (ts : List TokenAndSpan) → c.left ≡ ts → sees kind.Shebang c ≡ false → shebang_in ts ≡ None
-unfolding kind_at
-no_shebang_in c [] e h = refl
-no_shebang_in c (t ∷ ts) e h = no_shebang_by t.token (rw e at h)
-
-shebang_here : (text : Text) (sp : Span) (c d : Place) → ReadsToken (token.Shebang text) sp c d → shebang_in c.left ≡ Some text
-shebang_here text sp c d r = rw r.is refl
-
-shebang_reads : (first : Option Text) (c d : Place) (k : Code) (w : Scope) (f : List Fault) (h : Notes) → ReadsShebang c d first → shebang (st c k w f h) ≡ Ok (first, st d k w f h)
-unfolding shebang
-shebang_reads first c d k w f h (some_shebang text s r) = rw (shebang_here text s c d r, r.next) refl
-shebang_reads first c d k w f h (no_shebang e g) = rw (no_shebang_in c c.left refl e, g) refl
+use Rattle.swc_ecma_parser_reader.proofs.CompleteParts.{at_end_at, behind_setting, break_reads, calm_first, calm_last, clause_ends, close_reads, closes_at, code_stays, condition_reads, continue_reads, debugger_reads, empty_reads, expect_reads, expr_stmt_reads, head_reads, import_stmt_reads, items_read, no_brace, no_label_here, opening_reads_init, opening_reads_left, optional_end_reads, return_reads, shebang_reads, throw_reads, told_reads, variables_reads}
 
 -- ---- all levels
 
@@ -532,6 +210,135 @@ module _ (n : ℕ) (reads : (at : Position) (k : Code) (x : Tree) (c d : Place) 
         e,
       ) (simp (append_assoc, or_assoc) refl)
 
+  -- ---- labels
+
+  -- a label stands there
+  label_begins : (k : Code) (v : Word) (s : Span) (c m : Place) → ReadsToken (token.Word v) s c m → is_name k.flags (word_text v) ≡ true → kind_at m ≡ kind.Colon → begins_label k c ≡ true
+  unfolding begins_label name_at
+  label_begins k v s c m r g e = and_both (first_is_name k.flags c.left) _ (rw r.is g) (rw (← r.next) (seen m kind.Colon e))
+
+  labeled_reads : (v : Word) (s : Span) (y : Tree) (m : Place) (k : Code) (x : Tree) (c d : Place) → ReadsToken (token.Word v) s c m → is_name k.flags (word_text v) ≡ true → kind_at m ≡ kind.Colon
+      → ReadsStmt n (in_breakable k) (labelled_item (after m)) y (after m) d → x ≡ tree.labeled (spanned c d) (tree.ident s (word_text v)) y → ReadsCalm (labeled_stmt (stmt n)) k x c d
+  unfolding labeled_stmt labelled_body relabels spanned
+  labeled_reads v s y m k x c d r o i t e w f h q =
+      let text = word_text v in
+      let u : Scope = record w { labels = w.labels ++ text ∷ [] } in
+      let a = walk (env_of (in_breakable k) (w.labels ++ text ∷ [])) y in
+      let b = labelled_function k.flags.strict y in
+      let l = duplicates w.labels (tree.ident s text) in
+      let z = ap (walk (env_of k w.labels)) e in
+      rw (
+        name_reads faults.ExpectedIdent v s c m k w f h r o,
+        expect_reads kind.Colon m k w f h i,
+        reads (labelled_item (after m)) (in_breakable k) y (after m) d t u f h (calm_first d a (b ++ l) (walk (env_of k w.labels) x) (z ∙ append_assoc a b l) q),
+        told_reads (b ++ l) d k w (f ++ a) (h ⊕ notes_of y) (calm_last d a (b ++ l) (walk (env_of k w.labels) x) (z ∙ append_assoc a b l) q),
+        e,
+        append_assoc f a (b ++ l),
+        append_assoc a b l,
+      ) refl
+
+  -- ---- `for`
+
+  part_reads : (j : TokenKind) → opens j ≡ false → (k : Code) (x : Tree) (c d : Place) → PartRule (ReadsClass n) k x c d → kind_at d ≡ j → Reads (head_part j (expr n expression)) k x c d
+  unfolding head_part
+  part_reads j o k x c d (no_part_rule b e) z w f h = rw (seen c j (ap kind_at (sym b) ∙ z), e, b, append-nil f, append-nil h.held_back, or_nil h.found_module_item) refl
+  part_reads j o k x c d (part_rule r) z w f h = rw (unopened c j (expr_opens n (with_in k) x c d r) o, expr_reads n expression (with_in k) x c d r w f h) refl
+
+  -- `;` is neither `in` nor `of`, and `of` is a name
+  no_head_word : (c : Place) → kind_at c ≡ kind.Semi → (sees kind.In c ≡ false) × (word_at (codes "of") c ≡ false)
+  unfolding same_kind
+  no_head_word c e = (rw e refl, no_word (codes "of") c (rw e refl))
+
+  of_stands : (c : Place) → word_at (codes "of") c ≡ true → (sees kind.In c ≡ false) × (is_error (kind_at c) ≡ false)
+  unfolding same_kind
+  of_stands c e = let g = word_stands (codes "of") c e in (rw g refl, rw g refl)
+
+  for_reads : (a b g y : Tree) (l m i : Place) (k : Code) (x : Tree) (c d : Place) → kind_at (after c) ≡ kind.LParen → InitRule (ReadsClass n) (ReadsPat n) k a (after (after c)) l
+      → kind_at l ≡ kind.Semi → PartRule (ReadsClass n) k b (after l) m → kind_at m ≡ kind.Semi → PartRule (ReadsClass n) k g (after m) i → kind_at i ≡ kind.RParen
+      → ReadsStmt n (in_loop k) sub_statement y (after i) d → x ≡ tree.for (spanned c d) a b g y
+      → ReadsCalm (for_stmt (stmt n sub_statement) (expr n) (pattern n) (head_cover n)) k x c d
+  unfolding for_stmt for_behind for_parts spanned
+  for_reads a b g y l m i k x c d o r s t u v z j e w f h q =
+      let env = env_of k w.labels in
+      let f1 = f ++ walk env a in
+      let f2 = f1 ++ walk env b in
+      let f3 = f2 ++ walk env g in
+      let h1 = h ⊕ notes_of a in
+      let h2 = h1 ⊕ notes_of b in
+      let h3 = h2 ⊕ notes_of g in
+      let first = opening_reads_init n k a (after (after c)) l r w f h in
+      rw (
+        expect_reads kind.LParen (after c) k w f h o,
+        first.is,
+        (no_head_word l s).0,
+        (no_head_word l s).1,
+        first.holds (st l k w f1 h1),
+        expect_reads kind.Semi l k w f1 h1 s,
+        part_reads kind.Semi refl k b (after l) m t u w f1 h1,
+        expect_reads kind.Semi m k w f2 h2 u,
+        part_reads kind.RParen refl k g (after m) i v z w f2 h2,
+        expect_reads kind.RParen i k w f3 h3 z,
+        reads sub_statement (in_loop k) y (after i) d j w f3 h3
+            (calm_last d (walk env a ++ walk env b ++ walk env g) (walk (env_of (in_loop k) w.labels) y) (walk env x) (ap (walk env) e) q),
+        e,
+      ) (simp (append_assoc, or_assoc) refl)
+
+  -- the faults of what is declared stand before `in` or `of`, which is no error token
+  for_in_reads : (a b y : Tree) (m i : Place) (k : Code) (x : Tree) (c d : Place) → kind_at (after c) ≡ kind.LParen
+      → LeftRule (ReadsClass n) (ReadsPat n) (ReadsTarget n) k a (after (after c)) m → kind_at m ≡ kind.In → ReadsClass n expression (with_in k) b (after m) i → kind_at i ≡ kind.RParen
+      → ReadsStmt n (in_loop k) sub_statement y (after i) d → x ≡ tree.for_in (spanned c d) a b y
+      → ReadsCalm (for_stmt (stmt n sub_statement) (expr n) (pattern n) (head_cover n)) k x c d
+  unfolding for_stmt for_behind for_in misdeclared spanned
+  for_in_reads a b y m i k x c d o r s t z j e w f h q =
+      let env = env_of k w.labels in
+      let l = head_faults k.flags.strict a in
+      let f1 = f ++ walk env a in
+      let f2 = f1 ++ l in
+      let f3 = f2 ++ walk env b in
+      let h1 = h ⊕ notes_of a in
+      let h2 = h1 ⊕ notes_of b in
+      let first = opening_reads_left n k a (after (after c)) m r (inl (s, refl)) w f h in
+      rw (
+        expect_reads kind.LParen (after c) k w f h o,
+        first.is,
+        seen m kind.In s,
+        first.holds (st m k w f1 h1),
+        told_reads l m k w f1 h1 (inr (ap is_error s)),
+        expr_reads n expression (with_in k) b (after m) i t w f2 h1,
+        expect_reads kind.RParen i k w f3 h2 z,
+        reads sub_statement (in_loop k) y (after i) d j w f3 h2
+            (calm_last d (walk env a ++ l ++ walk env b) (walk (env_of (in_loop k) w.labels) y) (walk env x) (ap (walk env) e) q),
+        e,
+      ) (simp (append_assoc, or_assoc) refl)
+
+  for_of_reads : (a b y : Tree) (m i : Place) (k : Code) (x : Tree) (c d : Place) → kind_at (after c) ≡ kind.LParen
+      → LeftRule (ReadsClass n) (ReadsPat n) (ReadsTarget n) k a (after (after c)) m → word_at (codes "of") m ≡ true → is_async_of false a m ≡ false
+      → ReadsClass n assignment (with_in k) b (after m) i → kind_at i ≡ kind.RParen → ReadsStmt n (in_loop k) sub_statement y (after i) d → x ≡ tree.for_of (spanned c d) false a b y
+      → ReadsCalm (for_stmt (stmt n sub_statement) (expr n) (pattern n) (head_cover n)) k x c d
+  unfolding for_stmt for_behind for_of misdeclared spanned
+  for_of_reads a b y m i k x c d o r s u t z j e w f h q =
+      let env = env_of k w.labels in
+      let l = head_faults true a in
+      let f1 = f ++ walk env a in
+      let f2 = f1 ++ l in
+      let f3 = f2 ++ walk env b in
+      let h1 = h ⊕ notes_of a in
+      let h2 = h1 ⊕ notes_of b in
+      let first = opening_reads_left n k a (after (after c)) m r (inr (s, u)) w f h in
+      rw (
+        expect_reads kind.LParen (after c) k w f h o,
+        first.is,
+        (of_stands m s).0,
+        s,
+        first.holds (st m k w f1 h1),
+        told_reads l m k w f1 h1 (inr (of_stands m s).1),
+        expr_reads n assignment (with_in k) b (after m) i t w f2 h1,
+        expect_reads kind.RParen i k w f3 h2 z,
+        reads sub_statement (in_loop k) y (after i) d j w f3 h2
+            (calm_last d (walk env a ++ l ++ walk env b) (walk (env_of (in_loop k) w.labels) y) (walk env x) (ap (walk env) e) q),
+        e,
+      ) (simp (append_assoc, or_assoc) refl)
+
   while_reads : (y z : Tree) (m : Place) (k : Code) (x : Tree) (c d : Place) → ReadsHead (ReadsClass n) k y (after c) m → ReadsStmt n (in_loop k) sub_statement z m d
       → x ≡ tree.while (spanned c d) y z → ReadsCalm (while_stmt (stmt n sub_statement) (expr n expression)) k x c d
   unfolding while_stmt
@@ -609,24 +416,44 @@ module _ (n : ℕ) (reads : (at : Position) (k : Code) (x : Tree) (c d : Place) 
       if_more n (st c k w f h) _ (linked k w f h t y i) (link_reads t y m k c i w f h r s (inr (ap is_error a))) (rw (seen i kind.Else a, seen (after i) kind.If (if_begins j)) refl)
       ∙ closed_reads t y z x k c d w f h _ e (if_reads j w (f ++ walk (env_of k w.labels) t ++ walk (env_of k w.labels) y) (h ⊕ notes_of t ⊕ notes_of y) (elsed k w.labels c d e q))
 
-  by_rules : (at : Position) (k : Code) (x : Tree) (c d : Place) → StmtRule (ReadsStmt n) (ReadsClass n) (ReadsPat n) k at x c d → ReadsCalm (stmt_level (stmt n) (expr n) (pattern n) at) k x c d
-  unfolding stmt_level expr_stmt_at import_stmt_at
+  -- a declaration other than `var` stands where declarations are read
+  declares : (at : Position) → at.include_decl || false ≡ true → at.include_decl ≡ true
+  declares at h = by_test at.include_decl h
+    where
+      by_test : (b : Bool) → b || false ≡ true → b ≡ true
+      by_test true g = refl
+      by_test false g = cc
+
+  by_rules : (at : Position) (k : Code) (x : Tree) (c d : Place) → StmtRule (ReadsStmt n) (ReadsClass n) (ReadsPat n) (ReadsTarget n) k at x c d
+      → ReadsCalm (stmt_level (stmt n) (expr n) (pattern n) (head_cover n) at) k x c d
+  unfolding stmt_level other_stmt const_stmt let_stmt expr_stmt_at import_stmt_at
   by_rules at k x c d (block_rule r) w f h q = rw r.opens (block_reads k x c d r w f h)
   by_rules at k x c d (empty_rule e g i) w f h q = rw e (empty_reads k x c d g i w f h)
   by_rules at k x c d (debugger_rule e g i) w f h q = rw e (debugger_reads k x c d g i w f h)
-  by_rules at k x c d (var_rule xs m e r g i) w f h q = rw e (var_reads n xs m k x c d r g i w f h)
+  by_rules at k x c d (variables_rule decl.Var xs m a e r g i) w f h q = rw (saw c kind.Var e) (variables_reads n decl.Var xs m k x c d r g i w f h)
+  by_rules at k x c d (variables_rule decl.Const xs m a e r g i) w f h q = rw (saw c kind.Const e, declares at a) (variables_reads n decl.Const xs m k x c d r g i w f h)
+  by_rules at k x c d (variables_rule decl.Let xs m a e r g i) w f h q = rw (let_stands c e, declares at a, e) (variables_reads n decl.Let xs m k x c d r g i w f h)
   by_rules at k x c d (if_statement_rule r) w f h q = rw (if_begins r) (if_reads r w f h q)
   by_rules at k x c d (switch_rule y xs m i e r a s b g j) w f h q = rw e (switch_reads y xs m i k x c d r a s b g j w f h)
   by_rules at k x c d (break_rule y m e r g i) w f h q = rw e (break_reads y m k x c d r g i w f h q)
   by_rules at k x c d (continue_rule y m e r g i) w f h q = rw e (continue_reads y m k x c d r g i w f h q)
   by_rules at k x c d (return_rule y m e r g i) w f h q = rw e (return_reads n y m k x c d r g i w f h q)
+  by_rules at k x c d (for_rule a b g y l m i e o r s t u v z j p) w f h q = rw e (for_reads a b g y l m i k x c d o r s t u v z j p w f h q)
+  by_rules at k x c d (for_in_rule a b y m i e o r s t z j p) w f h q = rw e (for_in_reads a b y m i k x c d o r s t z j p w f h q)
+  by_rules at k x c d (for_of_rule a b y m i e o r s u t z j p) w f h q = rw e (for_of_reads a b y m i k x c d o r s u t z j p w f h q)
+  by_rules at k x c d (labeled_rule v s y m r o i t e) w f h q =
+      let b = name_begins k.flags v s c m r o in
+      opened (stmt n) (expr n) (pattern n) (head_cover n) at (st c k w f h) (kind_at c) (word_begins k.flags v s c m r o) (no_brace v s c m r) b.1 (name_no_const k.flags v s c m r o)
+      (and_no at.include_decl _ (let_before_colon c (seen (after c) kind.Colon (ap kind_at (sym r.next) ∙ i))))
+      ∙ rw (label_begins k v s c m r o i) (labeled_reads v s y m k x c d r o i t e w f h q)
   by_rules at k x c d (throw_rule y m e b r g i) w f h q = rw e (throw_reads n y m k x c d b r g i w f h)
   by_rules at k x c d (try_rule y z v m i e r s t b g) w f h q = rw e (try_reads y z v m i k x c d r s t b g w f h)
   by_rules at k x c d (while_rule y z m e r s i) w f h q = rw e (while_reads y z m k x c d r s i w f h q)
   by_rules at k x c d (do_while_rule y z m i e s j r g o) w f h q = rw e (do_while_reads y z m i k x c d s j r g o w f h)
   by_rules at k x c d (expr_rule e m b r l i g j) w f h q =
       let o = no_block_or_import at c b in
-      opened (stmt n) (expr n) (pattern n) at (st c k w f h) (kind_at c) (expr_opens n (with_in k) e c m r) o.0 o.1 ∙ rw b (expr_stmt_reads n e m k x c d r l i g j w f h)
+      opened (stmt n) (expr n) (pattern n) (head_cover n) at (st c k w f h) (kind_at c) (expr_opens n (with_in k) e c m r) o.0 o.1 (expr_no_const n (with_in k) e c m r) o.2
+      ∙ rw (no_label_here n k e c m r l, b) (expr_stmt_reads n e m k x c d r l i g j w f h)
   by_rules at k x c d (import_rule e m b r g j) w f h q = rw (import_stands c b, b) (import_stmt_reads n e m k x c d b r g j w f h)
 
 pub stmt_reads : (n : ℕ) (at : Position) (k : Code) (x : Tree) (c d : Place) → ReadsStmt n k at x c d → ReadsCalm (stmt n at) k x c d

@@ -1,5 +1,5 @@
 -- Error tokens: what is taken is none where its kind is known, and no token is left where the list has ended.
-use Rattle.std.proofs.Common.{◌≡◌, ◌≢◌, Bool, true, false, List, [], ◌∷◌, refl, sym, ◌∙◌, ap}
+use Rattle.std.proofs.Common.{◌≡◌, ◌≢◌, suc, Bool, true, false, cond, List, [], ◌∷◌, refl, sym, ◌∙◌, ap}
 use Rattle.std.specs.Prelude.{◌||◌}
 use Rattle.swc_ecma_parser_token.specs.declared.kind.TokenKind.{TokenKind}
 use Rattle.swc_ecma_parser_token.specs.declared.kind.TokenKind.TheVariants as kind
@@ -19,6 +19,7 @@ use Rattle.swc_ecma_parser_input.specs.TokenSource.{is_out_of_memory}
 use Rattle.swc_ecma_parser_input.specs.Place.{Place, after, past}
 use Rattle.swc_ecma_parser_grammar.specs.Looks.{kind_at, first_kind, same_kind}
 use Rattle.swc_ecma_parser_grammar.specs.Entries.{has_error_token}
+use Rattle.swc_ecma_parser_reader.specs.Entry.{error_tokens}
 use Rattle.swc_ecma_parser_reader.specs.Limits.{has_out_of_memory_token}
 
 abbrev pub is_error : TokenKind → Bool
@@ -42,29 +43,24 @@ kind_here c u ts v e h = rw (e, h) refl
 -- ---- between two places no error token was taken, and none that memory ran out for
 
 pub record Spares (c d : Place) : Type 0 where
-  pub keeps : has_error_token c.left ≡ false → has_error_token d.left ≡ false
-  pub spares : has_error_token d.left ≡ false → has_error_token c.left ≡ false
+  pub counts : error_tokens c.left ≡ error_tokens d.left
   pub remembers : has_out_of_memory_token d.left ≡ false → has_out_of_memory_token c.left ≡ false
 
 pub spares_here : (c : Place) → Spares c c
-spares_here c = record { keeps = λ h. h; spares = λ h. h; remembers = λ h. h }
-
-or_right : (a b : Bool) → (a || b) ≡ false → b ≡ false
-or_right true b h = cc
-or_right false b h = h
+spares_here c = record { counts = refl; remembers = λ h. h }
 
 both_false : (a b : Bool) → a ≡ false → b ≡ false → (a || b) ≡ false
 both_false true b h g = h
 both_false false b h g = g
 
--- the rest of a list has no error token where the list has none
-past_keeps : (c : Place) (ts : List TokenAndSpan) → c.left ≡ ts → has_error_token c.left ≡ false → has_error_token (past c ts).left ≡ false
-past_keeps c [] e h = h
-past_keeps c (t ∷ ts) e h = or_right (same_kind (token_kind t.token) kind.Error) (has_error_token ts) (sym (ap has_error_token e) ∙ h)
-
-pub after_keeps : (c : Place) → has_error_token c.left ≡ false → has_error_token (after c).left ≡ false
-unfolding after
-after_keeps c h = past_keeps c c.left refl h
+-- a list that has none counts none
+pub none_counted : (ts : List TokenAndSpan) → has_error_token ts ≡ false → error_tokens ts ≡ 0
+none_counted [] h = refl
+none_counted (t ∷ ts) h = by_kind (same_kind (token_kind t.token) kind.Error) (λ g. none_counted ts g) h
+  where
+    by_kind : (b : Bool) → (has_error_token ts ≡ false → error_tokens ts ≡ 0) → (b || has_error_token ts) ≡ false → cond b (suc (error_tokens ts)) (error_tokens ts) ≡ 0
+    by_kind true f g = cc
+    by_kind false f g = f g
 
 -- a token that memory did not run out for is taken
 past_remembers : (c : Place) (u : TokenAndSpan) (ts : List TokenAndSpan) → c.left ≡ u ∷ ts → is_out_of_memory u.token ≡ false → has_out_of_memory_token ts ≡ false
@@ -89,8 +85,7 @@ token_remembers _ h = refl
 past_spares : (c : Place) (ts : List TokenAndSpan) → c.left ≡ ts → is_error (first_kind ts) ≡ false → Spares c (past c ts)
 past_spares c [] e h = spares_here c
 past_spares c (u ∷ ts) e h = record {
-  keeps = λ g. past_keeps c (u ∷ ts) e g;
-  spares = λ g. ap has_error_token e ∙ both_false (same_kind (token_kind u.token) kind.Error) (has_error_token ts) (kind_is_none (token_kind u.token) h) g;
+  counts = ap error_tokens e ∙ ap (λ b. cond b (suc (error_tokens ts)) (error_tokens ts)) (kind_is_none (token_kind u.token) h);
   remembers = λ g. past_remembers c u ts e (token_remembers u.token h) g;
 }
 

@@ -1,4 +1,12 @@
 -- A statement takes a token at least.
+use Rattle.swc_ecma_parser_reader.specs.State.{Scope, and_then, below, relabelled, below_label}
+use Rattle.swc_ecma_parser_grammar.specs.language.Items.{labelled_item}
+use Rattle.swc_ecma_parser_reader.specs.Reader.{begins_label, relabels, labelled_body, labeled_stmt, other_stmt}
+use Rattle.swc_ecma_parser_reader.specs.Reader.{missing_initializer, Opening, Nothing, Variables, Expression, as_init, as_left, head_variables, head_expression, opening, head_part, misdeclared, for_parts, for_in, for_of, for_behind, for_stmt, const_stmt, let_stmt}
+use Rattle.swc_ecma_parser_grammar.specs.language.Contexts.{without_in}
+use Rattle.swc_ecma_parser_grammar.specs.Variables.{is_const, needs_no_initializer}
+use Rattle.swc_ecma_parser_model.specs.declared.leaves.VarDeclKind.{VarDeclKind}
+use Rattle.swc_ecma_parser_model.specs.declared.leaves.VarDeclKind.TheVariants as decl
 use Rattle.std.proofs.Common.{◌≡◌, ◌≢◌, ℕ, zero, suc, ◌+◌, ◌≤◌, Bool, true, false, cond, List, [], ◌∷◌, length, Option, Some, None, Ok, Err, refl, true≢false, sym, ◌∙◌, arith}
 use Rattle.std.specs.Prelude.{◌&&◌, ◌||◌, is_some, codes}
 use Rattle.swc_ecma_parser_common.specs.declared.span.Span.{Span}
@@ -9,28 +17,36 @@ use Rattle.swc_ecma_parser_token.specs.declared.kind.TokenKind.TheVariants as ki
 use Rattle.swc_ecma_parser_input.specs.Place.{Place, after}
 use Rattle.swc_ecma_parser_model.specs.Tree as tree
 use Rattle.swc_ecma_parser_model.specs.Tree.{Tree, Text}
-use Rattle.swc_ecma_parser_model.specs.Forms.{is_ident, is_ident_named, is_binding_name}
+use Rattle.swc_ecma_parser_model.specs.Forms.{is_ident, is_ident_named}
 use Rattle.swc_ecma_parser_grammar.specs.declared.position.Position.{Position}
 use Rattle.swc_ecma_parser_grammar.specs.Looks.{kind_at, breaks_at, sees, same_kind, span_at}
-use Rattle.swc_ecma_parser_grammar.specs.Follows.{may_begin_expression_statement, begins_import_expression}
-use Rattle.swc_ecma_parser_grammar.specs.Reads.{with_in, nested_item, top_item}
+use Rattle.swc_ecma_parser_grammar.specs.Follows.{word_at, may_begin_expression_statement, begins_import_expression, is_let_declaration}
+use Rattle.swc_ecma_parser_grammar.specs.Reads.{with_in, head_code, nested_item, top_item}
 use Rattle.swc_ecma_parser_grammar.specs.Ends.{ends_at}
 use Rattle.swc_ecma_parser_grammar.specs.Entries.{script_code}
 use Rattle.swc_ecma_parser_grammar.specs.language.Contexts.{in_loop, in_breakable}
 use Rattle.swc_ecma_parser_grammar.specs.language.Goals.{Class, expression, assignment}
 use Rattle.swc_ecma_parser_grammar.specs.language.Items.{sub_statement}
 use Rattle.swc_ecma_parser_reader.specs.State.{State, Outcome, Reader, moved, coded, within, fault, labelled, labelled_as, name, expect, end}
-use Rattle.swc_ecma_parser_reader.specs.Expressions.{expr}
+use Rattle.swc_ecma_parser_reader.specs.Expressions.{Cover, expr}
+use Rattle.swc_ecma_parser_reader.specs.Heads.{head_cover}
 use Rattle.swc_ecma_parser_reader.specs.Patterns.{pattern}
-use Rattle.swc_ecma_parser_reader.specs.Reader.{empty, debugger, uninitialized, initialized, declarator, declarators_turn, declarators, var, closes, at_end, close, items_turn, items, block_from, block, braced, note_statement, no_label, expr_stmt, expr_stmt_at, told, target, unbroken, break_stmt, uncontinued, continue_stmt, misplaced, after_return, operand, returned, return_stmt, optional_end, import_stmt, import_stmt_at, thrown, throw, head, while_stmt, do_while, Link, goes_on, condition, alternative, link_from, link, behind_link, links, if_stmt, begins_clause, closes_clause, Clauses, clause_from, default_clause, case_clause, clause, clauses_turn, clauses, switch_stmt, is_handled, handled, bound, parameter, finalizer, caught, handler, try_stmt, stmt_by, stmt_level, stmt, shebang_in, shebang_taken, shebang, script_body, script}
+use Rattle.swc_ecma_parser_reader.specs.Reader.{empty, debugger, uninitialized, initialized, declarator, declarators_turn, declarators, variables, closes, at_end, close, items_turn, items, block_from, block, braced, note_statement, no_label, expr_stmt, expr_stmt_at, told, target, unbroken, break_stmt, uncontinued, continue_stmt, misplaced, after_return, operand, returned, return_stmt, optional_end, import_stmt, import_stmt_at, thrown, throw, head, while_stmt, do_while, Link, goes_on, condition, alternative, link_from, link, behind_link, links, if_stmt, begins_clause, closes_clause, Clauses, clause_from, default_clause, case_clause, clause, clauses_turn, clauses, switch_stmt, is_handled, handled, bound, parameter, finalizer, caught, handler, try_stmt, stmt_by, stmt_level, stmt, shebang_in, shebang_taken, shebang, script_body, script}
 use Rattle.swc_ecma_parser_reader.proofs.Takes.{Falls, falls_then, falls_last, falls_coded, falls_if, less, falls_next, moves, takes, falls_past, falls_moved, wanted_falls, too_deep_falls, refuse_falls, refused_falls, fewer, name_falls, fault_falls, end_falls, close_falls, expect_falls, loop_falls}
+use Rattle.swc_ecma_parser_reader.proofs.expressions.Falls as exprs
 use Rattle.swc_ecma_parser_reader.proofs.expressions.Falls.{reject_falls, expr_falls}
+use Rattle.swc_ecma_parser_reader.proofs.expressions.Heads as heads
 use Rattle.swc_ecma_parser_reader.proofs.patterns.Falls.{pattern_falls}
 
 -- a choice whose test is known
 falls_where : {A : Type 0} (k n : ℕ) (b : Bool) (x y : Outcome A) → (b ≡ true → Falls k n x) → Falls k n y → Falls k n (cond b x y)
 falls_where k n true x y h g = h refl
 falls_where k n false x y h g = g
+
+-- and one between readers
+falls_choice : {A : Type 0} (k n : ℕ) (b : Bool) (p q : Reader A) (s : State) → Falls k n (p s) → Falls k n (q s) → Falls k n (cond b p q s)
+falls_choice k n true p q s h g = h
+falls_choice k n false p q s h g = g
 
 -- a clause begins with a token
 clause_stands : (c : Place) → begins_clause c ≡ true → kind_at c ≢ kind.End
@@ -47,37 +63,46 @@ debugger_falls : (s : State) → kind_at s.at ≢ kind.End → Falls 1 (length s
 unfolding debugger
 debugger_falls s h = falls_past s _ h (falls_last 0 (length (after s.at).left) (end faults.Expected (moved s)) _ (end_falls faults.Expected (moved s)))
 
--- without initializer nothing more is taken
-uninitialized_falls : (span : Span) (p : Tree) (s : State) → Falls 0 (length s.at.left) (uninitialized span p s)
-uninitialized_falls span p s = falls_if 0 (length s.at.left) (is_binding_name p) _ _ (omega arith) (reject_falls Tree 0 (length s.at.left) _ s)
+-- without initializer an error token is taken at most
+missing_falls : (word : VarDeclKind) (span : Span) (p : Tree) (s : State) → Falls 0 (length s.at.left) (missing_initializer word span p s)
+missing_falls word span p s = falls_if 0 (length s.at.left) (is_const word && s.code.flags.strict) _ _ (falls_last 0 (length s.at.left) (fault _ s) _ (fault_falls _ s))
+    (reject_falls Tree 0 (length s.at.left) _ s)
+
+uninitialized_falls : (in_head : Bool) (word : VarDeclKind) (span : Span) (p : Tree) (s : State) → Falls 0 (length s.at.left) (uninitialized in_head word span p s)
+uninitialized_falls in_head word span p s = falls_if 0 (length s.at.left) (needs_no_initializer s.code in_head word p s.at) _ _ (omega arith) (missing_falls word span p s)
 
 module _ (inner_expr : Class → Reader Tree) (g : (class : Class) (s : State) → Falls 1 (length s.at.left) (inner_expr class s))
     (inner : Reader Tree) (h : (s : State) → Falls 1 (length s.at.left) (inner s)) where
+  -- a pattern, in which `in` is an operator
+  named_falls : (s : State) → Falls 1 (length s.at.left) (within with_in inner s)
+  named_falls s = falls_coded 1 (length s.at.left) (inner (coded (with_in s.code) s)) _ _ (h (coded (with_in s.code) s))
+
   -- `=` is a token, and nothing else is asked of it
   initialized_falls : (start : Span) (p : Tree) (s : State) → Falls 0 (length s.at.left) (initialized inner_expr inner start p s)
   unfolding initialized
   initialized_falls start p s = falls_moved 0 s _ (falls_last 0 (length (after s.at).left) (inner_expr assignment (moved s)) _
       (less (length (after s.at).left) (inner_expr assignment (moved s)) (g assignment (moved s))))
 
-  pub declarator_falls : (s : State) → Falls 1 (length s.at.left) (declarator inner_expr inner s)
+  pub declarator_falls : (in_head : Bool) (word : VarDeclKind) (s : State) → Falls 1 (length s.at.left) (declarator inner_expr inner in_head word s)
   unfolding declarator
-  declarator_falls s = falls_next (length s.at.left) (inner s) _ (h s) (λ p t. falls_if 0 (length t.at.left) (sees kind.Assign t.at) _ _ (initialized_falls (span_at s.at) p t)
-      (uninitialized_falls _ p t))
+  declarator_falls in_head word s = falls_next (length s.at.left) (within with_in inner s) _ (named_falls s) (λ p t.
+      falls_if 0 (length t.at.left) (sees kind.Assign t.at) _ _ (initialized_falls (span_at s.at) p t) (uninitialized_falls in_head word _ p t))
 
-  declarators_turn_falls : (found : List Tree) (s : State) → Falls 0 (length s.at.left) (declarators_turn inner_expr inner found s)
+  declarators_turn_falls : (in_head : Bool) (word : VarDeclKind) (found : List Tree) (s : State) → Falls 0 (length s.at.left) (declarators_turn inner_expr inner in_head word found s)
   unfolding declarators_turn
-  declarators_turn_falls found s = falls_then 0 0 (length s.at.left) (declarator inner_expr inner s) _ (less (length s.at.left) (declarator inner_expr inner s) (declarator_falls s)) (λ x t.
+  declarators_turn_falls in_head word found s = falls_then 0 0 (length s.at.left) (declarator inner_expr inner in_head word s) _
+      (less (length s.at.left) (declarator inner_expr inner in_head word s) (declarator_falls in_head word s)) (λ x t.
       falls_if 0 (length t.at.left) (sees kind.Comma t.at) _ _ (let m = moves t.at in omega arith) (omega arith))
 
-  pub declarators_fall : (s : State) → Falls 0 (length s.at.left) (declarators inner_expr inner s)
+  pub declarators_fall : (in_head : Bool) (word : VarDeclKind) (s : State) → Falls 0 (length s.at.left) (declarators inner_expr inner in_head word s)
   unfolding declarators
-  declarators_fall s = loop_falls (declarators_turn inner_expr inner) declarators_turn_falls [] s
+  declarators_fall in_head word s = loop_falls (declarators_turn inner_expr inner in_head word) (declarators_turn_falls in_head word) [] s
 
-  var_falls : (s : State) → kind_at s.at ≢ kind.End → Falls 1 (length s.at.left) (var inner_expr inner s)
-  unfolding var
-  var_falls s e = falls_past s _ e (falls_then 0 0 (length (after s.at).left) (within with_in (declarators inner_expr inner) (moved s)) _
-      (falls_coded 0 (length (after s.at).left) (declarators inner_expr inner (coded (with_in s.code) (moved s))) _ _ (declarators_fall (coded (with_in s.code) (moved s)))) (λ found t.
-      falls_last 0 (length t.at.left) (end faults.Unexpected t) _ (end_falls faults.Unexpected t)))
+  variables_falls : (word : VarDeclKind) (s : State) → kind_at s.at ≢ kind.End → Falls 1 (length s.at.left) (variables inner_expr inner word s)
+  unfolding variables
+  variables_falls word s e = falls_past s _ e (falls_then 0 0 (length (after s.at).left) (within with_in (declarators inner_expr inner false word) (moved s)) _
+      (falls_coded 0 (length (after s.at).left) (declarators inner_expr inner false word (coded (with_in s.code) (moved s))) _ _ (declarators_fall false word (coded (with_in s.code) (moved s))))
+      (λ found t. falls_last 0 (length t.at.left) (end faults.Unexpected t) _ (end_falls faults.Unexpected t)))
 
 module _ (inner : Reader Tree) (h : (s : State) → Falls 1 (length s.at.left) (inner s)) where
   items_turn_falls : (stops : Place → Bool) (directives : Bool) (found : List Tree) (s : State) → Falls 0 (length s.at.left) (items_turn inner stops directives found s)
@@ -220,11 +245,96 @@ module _ (inner : Reader Tree) (h : (s : State) → Falls 1 (length s.at.left) (
   if_falls s e = falls_then 1 0 (length s.at.left) (link inner inner_expr s) _ (falls_past s _ e (link_from_falls (span_at s.at) (moved s))) (λ l t.
       behind_falls (links inner inner_expr (length s.at.left)) (links_fall (length s.at.left)) l t)
 
--- ---- `break`, `continue` and `return`
+-- ---- what is told
 
 told_falls : (fs : List Fault) (s : State) → Falls 0 (length s.at.left) (told fs s)
 told_falls [] s = omega arith
 told_falls (f ∷ fs) s = falls_then 0 0 (length s.at.left) (fault f s) _ (fault_falls f s) (λ _ t. told_falls fs t)
+
+-- ---- `for`
+
+as_init_falls : (first : Opening) (s : State) → Falls 0 (length s.at.left) (as_init first s)
+as_init_falls Nothing s = omega arith
+as_init_falls (Variables x) s = omega arith
+as_init_falls (Expression v) s = exprs.close_falls v s
+
+as_left_falls : (first : Opening) (s : State) → Falls 0 (length s.at.left) (as_left first s)
+as_left_falls Nothing s = wanted_falls Tree 0 (length s.at.left) faults.Unexpected s
+as_left_falls (Variables x) s = omega arith
+as_left_falls (Expression v) s = exprs.target_falls v s
+
+misdeclared_falls : (refused : Bool) (left : Tree) (s : State) → Falls 0 (length s.at.left) (misdeclared refused left s)
+unfolding misdeclared
+misdeclared_falls refused left s = told_falls _ s
+
+module _ (inner : Reader Tree) (h : (s : State) → Falls 1 (length s.at.left) (inner s)) (inner_expr : Class → Reader Tree)
+    (g : (class : Class) (s : State) → Falls 1 (length s.at.left) (inner_expr class s)) (inner_pat : Reader Tree) (i : (s : State) → Falls 1 (length s.at.left) (inner_pat s))
+    (inner_cover : Reader Cover) (j : (s : State) → Falls 1 (length s.at.left) (inner_cover s)) where
+  head_variables_falls : (word : VarDeclKind) (s : State) → Falls 0 (length s.at.left) (head_variables inner_expr inner_pat word s)
+  unfolding head_variables
+  head_variables_falls word s = falls_moved 0 s _ (falls_last 0 (length (after s.at).left) (within (head_code word) (declarators inner_expr inner_pat true word) (moved s)) _
+      (falls_coded 0 (length (after s.at).left) (declarators inner_expr inner_pat true word (coded (head_code word s.code) (moved s))) _ _
+      (declarators_fall inner_expr g inner_pat i true word (coded (head_code word s.code) (moved s)))))
+
+  head_expression_falls : (s : State) → Falls 0 (length s.at.left) (head_expression inner_expr inner_pat inner_cover s)
+  unfolding head_expression
+  head_expression_falls s = falls_last 0 (length s.at.left) (within without_in inner_cover s) _
+      (falls_coded 0 (length s.at.left) (inner_cover (coded (without_in s.code) s)) _ _
+      (less (length s.at.left) (inner_cover (coded (without_in s.code) s)) (j (coded (without_in s.code) s))))
+
+  opening_falls : (s : State) → Falls 0 (length s.at.left) (opening inner_expr inner_pat inner_cover s)
+  unfolding opening
+  opening_falls s = falls_if 0 (length s.at.left) (sees kind.Semi s.at) _ _ (omega arith)
+      (falls_if 0 (length s.at.left) (sees kind.Var s.at) _ _ (head_variables_falls decl.Var s)
+      (falls_if 0 (length s.at.left) (sees kind.Const s.at) _ _ (head_variables_falls decl.Const s)
+      (falls_if 0 (length s.at.left) (is_let_declaration s.at) _ _ (head_variables_falls decl.Let s) (head_expression_falls s))))
+
+  head_part_falls : (behind : TokenKind) (s : State) → Falls 0 (length s.at.left) (head_part behind (inner_expr expression) s)
+  unfolding head_part
+  head_part_falls behind s =
+      falls_if 0 (length s.at.left) (sees behind s.at) _ _ (omega arith) (less (length s.at.left) (within with_in (inner_expr expression) s) (whole_falls (inner_expr expression) (g expression) s))
+
+  -- what is gone through, up to the body
+  for_right_falls : {A : Type 0} (class : Class) (s : State) (f : Tree → Tree → State → A)
+      → Falls 0 (length s.at.left) (and_then (within with_in (inner_expr class) s) (λ right t. and_then (expect kind.RParen t) (λ _ u. and_then (within in_loop inner u) (λ body v. Ok (f right body v, v)))))
+  for_right_falls class s f = falls_then 0 0 (length s.at.left) (within with_in (inner_expr class) s) _
+      (less (length s.at.left) (within with_in (inner_expr class) s) (whole_falls (inner_expr class) (g class) s)) (λ right t.
+      falls_then 0 0 (length t.at.left) (expect kind.RParen t) _ (expect_falls kind.RParen t) (λ _ u.
+      falls_last 0 (length u.at.left) (within in_loop inner u) _ (looped_falls inner h (inner_expr expression) (g expression) u)))
+
+  for_parts_falls : (start : Span) (first : Opening) (s : State) → Falls 0 (length s.at.left) (for_parts inner inner_expr start first s)
+  unfolding for_parts
+  for_parts_falls start first s = falls_then 0 0 (length s.at.left) (as_init first s) _ (as_init_falls first s) (λ x b.
+      falls_then 0 0 (length b.at.left) (expect kind.Semi b) _ (expect_falls kind.Semi b) (λ _ c.
+      falls_then 0 0 (length c.at.left) (head_part kind.Semi (inner_expr expression) c) _ (head_part_falls kind.Semi c) (λ y d.
+      falls_then 0 0 (length d.at.left) (expect kind.Semi d) _ (expect_falls kind.Semi d) (λ _ f.
+      falls_then 0 0 (length f.at.left) (head_part kind.RParen (inner_expr expression) f) _ (head_part_falls kind.RParen f) (λ z k.
+      falls_then 0 0 (length k.at.left) (expect kind.RParen k) _ (expect_falls kind.RParen k) (λ _ l.
+      falls_last 0 (length l.at.left) (within in_loop inner l) _ (looped_falls inner h (inner_expr expression) (g expression) l)))))))
+
+  for_in_falls : (start : Span) (first : Opening) (s : State) → Falls 0 (length s.at.left) (for_in inner inner_expr start first s)
+  unfolding for_in
+  for_in_falls start first s = falls_then 0 0 (length s.at.left) (as_left first s) _ (as_left_falls first s) (λ left a.
+      falls_then 0 0 (length a.at.left) (misdeclared a.code.flags.strict left a) _ (misdeclared_falls a.code.flags.strict left a) (λ _ b.
+      falls_moved 0 b _ (for_right_falls expression (moved b) _)))
+
+  for_of_falls : (start : Span) (first : Opening) (s : State) → Falls 0 (length s.at.left) (for_of inner inner_expr start first s)
+  unfolding for_of
+  for_of_falls start first s = falls_then 0 0 (length s.at.left) (as_left first s) _ (as_left_falls first s) (λ left a.
+      falls_then 0 0 (length a.at.left) (misdeclared true left a) _ (misdeclared_falls true left a) (λ _ b.
+      falls_moved 0 b _ (for_right_falls assignment (moved b) _)))
+
+  for_behind_falls : (start : Span) (first : Opening) (s : State) → Falls 0 (length s.at.left) (for_behind inner inner_expr start first s)
+  unfolding for_behind
+  for_behind_falls start first s = falls_if 0 (length s.at.left) (sees kind.In s.at) _ _ (for_in_falls start first s)
+      (falls_if 0 (length s.at.left) (word_at (codes "of") s.at) _ _ (for_of_falls start first s) (for_parts_falls start first s))
+
+  for_falls : (s : State) → kind_at s.at ≢ kind.End → Falls 1 (length s.at.left) (for_stmt inner inner_expr inner_pat inner_cover s)
+  unfolding for_stmt
+  for_falls s e = falls_past s _ e (falls_then 0 0 (length (after s.at).left) (expect kind.LParen (moved s)) _ (expect_falls kind.LParen (moved s)) (λ _ a.
+      falls_then 0 0 (length a.at.left) (opening inner_expr inner_pat inner_cover a) _ (opening_falls a) (λ first b. for_behind_falls (span_at s.at) first b)))
+
+-- ---- `break`, `continue` and `return`
 
 target_falls : (s : State) → Falls 0 (length s.at.left) (target s)
 unfolding target
@@ -261,6 +371,31 @@ module _ (inner : Reader Tree) (h : (s : State) → Falls 1 (length s.at.left) (
   return_falls : (s : State) → kind_at s.at ≢ kind.End → Falls 1 (length s.at.left) (return_stmt inner s)
   unfolding return_stmt
   return_falls s e = falls_past s _ e (after_return_falls (length (after s.at).left) (span_at s.at) (returned inner (span_at s.at) (moved s)) (returned_falls (span_at s.at) (moved s)))
+
+-- ---- labels
+
+relabelled_falls : {A : Type 0} (j n : ℕ) (w : Scope) (o : Outcome A) → Falls j n o → Falls j n (and_then o (λ a t. Ok (a, relabelled w t)))
+relabelled_falls j n w (Ok p) h = h
+relabelled_falls j n w (Err e) h = h
+
+module _ (inner : Position → Reader Tree) (h : (at : Position) (s : State) → Falls 1 (length s.at.left) (inner at s)) where
+  labelled_body_falls : (text : Text) (s : State) → Falls 0 (length s.at.left) (labelled_body inner text s)
+  unfolding labelled_body
+  labelled_body_falls text s =
+      let t = below text (coded (in_breakable s.code) s) in
+      falls_coded 0 (length s.at.left) (below_label text (inner (labelled_item s.at)) (coded (in_breakable s.code) s)) _ _
+      (relabelled_falls 0 (length s.at.left) s.scope (inner (labelled_item s.at) t) (less (length s.at.left) (inner (labelled_item s.at) t) (h (labelled_item s.at) t)))
+
+  labeled_falls : (s : State) → Falls 1 (length s.at.left) (labeled_stmt inner s)
+  unfolding labeled_stmt relabels
+  labeled_falls s = falls_next (length s.at.left) (name faults.ExpectedIdent s) _ (name_falls faults.ExpectedIdent s) (λ i t.
+      falls_then 0 0 (length t.at.left) (expect kind.Colon t) _ (expect_falls kind.Colon t) (λ _ u.
+      falls_then 0 0 (length u.at.left) (labelled_body inner i.sym u) _ (labelled_body_falls i.sym u) (λ y v.
+      falls_last 0 (length v.at.left) (relabels (tree.ident i.span i.sym) y v) _ (told_falls _ v))))
+
+  other_falls : (inner_expr : Reader Tree) → ((s : State) → Falls 1 (length s.at.left) (inner_expr s)) → (at : Position) (s : State) → Falls 1 (length s.at.left) (other_stmt inner inner_expr at s)
+  unfolding other_stmt
+  other_falls inner_expr g at s = falls_if 1 (length s.at.left) (begins_label s.code s.at) _ _ (labeled_falls s) (expr_stmt_at_falls inner_expr g at s)
 
 -- ---- `switch`
 
@@ -339,12 +474,23 @@ module _ (inner : Reader Tree) (h : (s : State) → Falls 1 (length s.at.left) (
 
 module _ (inner : Position → Reader Tree) (h : (at : Position) (s : State) → Falls 1 (length s.at.left) (inner at s))
     (inner_expr : Class → Reader Tree) (g : (class : Class) (s : State) → Falls 1 (length s.at.left) (inner_expr class s))
-    (inner_pat : Reader Tree) (i : (s : State) → Falls 1 (length s.at.left) (inner_pat s)) where
-  stmt_by_falls : (at : Position) (k : TokenKind) (s : State) → kind_at s.at ≡ k → Falls 1 (length s.at.left) (stmt_by inner inner_expr inner_pat at k s)
+    (inner_pat : Reader Tree) (i : (s : State) → Falls 1 (length s.at.left) (inner_pat s)) (inner_cover : Reader Cover) (j : (s : State) → Falls 1 (length s.at.left) (inner_cover s)) where
+  const_falls : (at : Position) (s : State) → kind_at s.at ≢ kind.End → Falls 1 (length s.at.left) (const_stmt inner inner_expr inner_pat inner_cover at s)
+  unfolding const_stmt
+  const_falls at s e = falls_choice 1 (length s.at.left) at.include_decl _ _ s (variables_falls inner_expr g inner_pat i decl.Const s e) (wanted_falls Tree 1 (length s.at.left) faults.Unexpected s)
+
+  let_falls : (at : Position) (s : State) → kind_at s.at ≢ kind.End → Falls 1 (length s.at.left) (let_stmt inner inner_expr inner_pat inner_cover at s)
+  unfolding let_stmt
+  let_falls at s e = falls_if 1 (length s.at.left) (at.include_decl && is_let_declaration s.at) _ _ (variables_falls inner_expr g inner_pat i decl.Let s e)
+      (other_falls inner h (inner_expr expression) (g expression) at s)
+
+  stmt_by_falls : (at : Position) (k : TokenKind) (s : State) → kind_at s.at ≡ k → Falls 1 (length s.at.left) (stmt_by inner inner_expr inner_pat inner_cover at k s)
   stmt_by_falls at kind.LBrace s e = block_falls (inner nested_item) (h nested_item) s (λ h. cc)
   stmt_by_falls at kind.Semi s e = empty_falls s (λ h. cc)
   stmt_by_falls at kind.Debugger s e = debugger_falls s (λ h. cc)
-  stmt_by_falls at kind.Var s e = var_falls inner_expr g inner_pat i s (λ h. cc)
+  stmt_by_falls at kind.Var s e = variables_falls inner_expr g inner_pat i decl.Var s (λ h. cc)
+  stmt_by_falls at kind.Const s e = const_falls at s (λ h. cc)
+  stmt_by_falls at kind.Let s e = let_falls at s (λ h. cc)
   stmt_by_falls at kind.If s e = if_falls (inner sub_statement) (h sub_statement) (inner_expr expression) (g expression) s (λ h. cc)
   stmt_by_falls at kind.Switch s e = switch_falls (inner nested_item) (h nested_item) (inner_expr expression) (g expression) s (λ h. cc)
   stmt_by_falls at kind.Break s e = break_falls s (λ h. cc)
@@ -354,10 +500,11 @@ module _ (inner : Position → Reader Tree) (h : (at : Position) (s : State) →
   stmt_by_falls at kind.Try s e = try_falls (inner nested_item) (h nested_item) inner_pat i s (λ h. cc)
   stmt_by_falls at kind.While s e = while_falls (inner sub_statement) (h sub_statement) (inner_expr expression) (g expression) s (λ h. cc)
   stmt_by_falls at kind.Do s e = do_while_falls (inner sub_statement) (h sub_statement) (inner_expr expression) (g expression) s (λ h. cc)
+  stmt_by_falls at kind.For s e = for_falls (inner sub_statement) (h sub_statement) inner_expr g inner_pat i inner_cover j s (λ h. cc)
   stmt_by_falls at kind.Import s e = import_stmt_at_falls (inner_expr expression) (g expression) s
-  stmt_by_falls at _ s e = expr_stmt_at_falls (inner_expr expression) (g expression) at s
+  stmt_by_falls at _ s e = other_falls inner h (inner_expr expression) (g expression) at s
 
-  stmt_level_falls : (at : Position) (s : State) → Falls 1 (length s.at.left) (stmt_level inner inner_expr inner_pat at s)
+  stmt_level_falls : (at : Position) (s : State) → Falls 1 (length s.at.left) (stmt_level inner inner_expr inner_pat inner_cover at s)
   unfolding stmt_level
   stmt_level_falls at s = stmt_by_falls at (kind_at s.at) s refl
 
@@ -376,7 +523,7 @@ shebang_falls s = shebang_taken_falls s (shebang_in s.at.left)
 pub stmt_falls : (n : ℕ) (at : Position) (s : State) → Falls 1 (length s.at.left) (stmt n at s)
 unfolding stmt
 stmt_falls zero at s = too_deep_falls Tree 1 (length s.at.left) s
-stmt_falls (suc n) at s = stmt_level_falls (stmt n) (stmt_falls n) (expr n) (expr_falls n) (pattern n) (pattern_falls n) at s
+stmt_falls (suc n) at s = stmt_level_falls (stmt n) (stmt_falls n) (expr n) (expr_falls n) (pattern n) (pattern_falls n) (head_cover n) (heads.head_falls n) at s
 
 script_body_falls : (n : ℕ) (s : State) → Falls 0 (length s.at.left) (script_body n s)
 unfolding script_body

@@ -9,10 +9,13 @@ pub mod Meets
 pub mod Errors
 pub mod Between
 pub mod SoundParts
+pub mod SoundFor
 pub mod Sound
+pub mod Plain
 pub mod Opens
 pub mod Chains
 pub mod Answered
+pub mod CompleteParts
 pub mod Complete
 pub mod Unique
 pub mod Empty
@@ -20,3 +23,4 @@ pub mod Shallow
 pub mod Limits
 pub mod Refusals
 pub mod Entries
+pub mod Statements

@@ -1,6 +1,21 @@
 -- With twice as many levels as tokens, and two more, nothing is too deep but what an error token says: a statement and an
 -- expression below need a token, and the two can share their first.
-use Rattle.std.proofs.Common.{◌≡◌, ◌≢◌, ℕ, zero, suc, ◌+◌, ◌*◌, ◌≤◌, Bool, true, false, cond, List, [], ◌∷◌, ◌++◌, length, Ok, Err, refl, arith}
+use Rattle.swc_ecma_parser_reader.proofs.Meets.{saw}
+use Rattle.swc_ecma_parser_model.specs.Tree.{Text}
+use Rattle.swc_ecma_parser_reader.specs.State.{below, below_label}
+use Rattle.swc_ecma_parser_grammar.specs.language.Items.{labelled_item}
+use Rattle.swc_ecma_parser_reader.specs.Reader.{begins_label, relabels, labelled_body, labeled_stmt, other_stmt}
+use Rattle.swc_ecma_parser_reader.specs.Reader.{missing_initializer, variables, Opening, Nothing, Variables, Expression, as_init, as_left, head_variables, head_expression, opening, head_part, misdeclared, for_parts, for_in, for_of, for_behind, for_stmt, const_stmt, let_stmt}
+use Rattle.swc_ecma_parser_reader.specs.Expressions as exprs
+use Rattle.swc_ecma_parser_reader.proofs.expressions.Heads as heads
+use Rattle.swc_ecma_parser_model.specs.declared.leaves.VarDeclKind.{VarDeclKind}
+use Rattle.swc_ecma_parser_model.specs.declared.leaves.VarDeclKind.TheVariants as decl
+use Rattle.swc_ecma_parser_model.specs.Targets.{as_target}
+use Rattle.swc_ecma_parser_grammar.specs.Variables.{is_const, needs_no_initializer}
+use Rattle.swc_ecma_parser_grammar.specs.Own.{head_faults}
+use Rattle.swc_ecma_parser_grammar.specs.language.Contexts.{without_in}
+use Rattle.swc_ecma_parser_grammar.specs.Follows.{word_at, is_let_declaration}
+use Rattle.std.proofs.Common.{◌≡◌, ◌≢◌, ℕ, zero, suc, ◌+◌, ◌*◌, ◌≤◌, Bool, true, false, cond, List, [], ◌∷◌, ◌++◌, length, Option, Some, None, Ok, Err, refl, arith}
 use Rattle.std.specs.Prelude.{◌&&◌, ◌||◌, is_some, codes}
 use Rattle.swc_ecma_parser_common.specs.declared.span.Span.{Span}
 use Rattle.swc_ecma_parser_error.specs.declared.kind.SyntaxError.{SyntaxError}
@@ -16,20 +31,21 @@ use Rattle.swc_ecma_parser_input.specs.TokenSource.{means_out_of_memory}
 use Rattle.swc_ecma_parser_input.specs.Place.{Place, after}
 use Rattle.swc_ecma_parser_model.specs.Tree as tree
 use Rattle.swc_ecma_parser_model.specs.Tree.{Tree}
-use Rattle.swc_ecma_parser_model.specs.Forms.{is_ident, is_ident_named, is_binding_name, span_of}
+use Rattle.swc_ecma_parser_model.specs.Forms.{is_ident, is_ident_named, span_of}
 use Rattle.swc_ecma_parser_grammar.specs.declared.position.Position.{Position}
 use Rattle.swc_ecma_parser_grammar.specs.Looks.{kind_at, breaks_at, sees, span_at}
 use Rattle.swc_ecma_parser_grammar.specs.Follows.{may_begin_expression_statement, begins_import_expression}
-use Rattle.swc_ecma_parser_grammar.specs.Reads.{with_in, nested_item, top_item}
+use Rattle.swc_ecma_parser_grammar.specs.Reads.{with_in, head_code, nested_item, top_item}
 use Rattle.swc_ecma_parser_grammar.specs.Ends.{ends_at}
 use Rattle.swc_ecma_parser_grammar.specs.Entries.{script_code}
 use Rattle.swc_ecma_parser_grammar.specs.language.Contexts.{in_loop, in_breakable}
 use Rattle.swc_ecma_parser_grammar.specs.language.Goals.{Class, expression, assignment}
 use Rattle.swc_ecma_parser_grammar.specs.language.Items.{sub_statement}
-use Rattle.swc_ecma_parser_reader.specs.State.{State, Outcome, Reader, moved, coded, within, noted, module_fault, recorded_at, recorded_in, fault, fault_at, refused, labelled, labelled_as, name, expect, end}
-use Rattle.swc_ecma_parser_reader.specs.Expressions.{expr}
+use Rattle.swc_ecma_parser_reader.specs.State.{State, Outcome, Reader, moved, coded, within, noted, module_fault, recorded_at, recorded_in, fault, fault_at, wanted, refused, labelled, labelled_as, name, expect, end}
+use Rattle.swc_ecma_parser_reader.specs.Expressions.{Cover, expr}
+use Rattle.swc_ecma_parser_reader.specs.Heads.{head_cover}
 use Rattle.swc_ecma_parser_reader.specs.Patterns.{pattern}
-use Rattle.swc_ecma_parser_reader.specs.Reader.{empty, debugger, initialized, declarator, declarators_turn, declarators, var, closes, at_end, close, items_turn, items, block_from, block, braced, note_statement, no_label, expr_stmt, expr_stmt_at, optional_end, import_stmt, import_stmt_at, told, target, unbroken, break_stmt, uncontinued, continue_stmt, misplaced, after_return, operand, returned, return_stmt, thrown, throw, head, while_stmt, do_while, goes_on, condition, alternative, link_from, link, links, if_stmt, begins_clause, closes_clause, clause_from, default_clause, case_clause, clause, clauses_turn, clauses, switch_stmt, begins_at, is_handled, handled, bound, parameter, finalizer, caught, handler, try_stmt, stmt_by, stmt_level, stmt, shebang, script_body, script}
+use Rattle.swc_ecma_parser_reader.specs.Reader.{empty, debugger, initialized, declarator, declarators_turn, declarators, closes, at_end, close, items_turn, items, block_from, block, braced, note_statement, no_label, expr_stmt, expr_stmt_at, optional_end, import_stmt, import_stmt_at, told, target, unbroken, break_stmt, uncontinued, continue_stmt, misplaced, after_return, operand, returned, return_stmt, thrown, throw, head, while_stmt, do_while, goes_on, condition, alternative, link_from, link, links, if_stmt, begins_clause, closes_clause, clause_from, default_clause, case_clause, clause, clauses_turn, clauses, switch_stmt, begins_at, is_handled, handled, bound, parameter, finalizer, caught, handler, try_stmt, stmt_by, stmt_level, stmt, shebang, script_body, script}
 use Rattle.swc_ecma_parser_reader.specs.Limits.{has_too_deep_token}
 use Rattle.swc_ecma_parser_reader.proofs.Meets.{Answers, answers_then, answers_if, loop_answers, meant}
 use Rattle.swc_ecma_parser_reader.proofs.Shallow.{Fine, fine_more, fine_after, fine_taken, Shallow, Kept, name_shallow, fault_shallow, wanted_shallow, refuse_shallow, end_shallow, expect_shallow, close_shallow, shebang_shallow, Levels}
@@ -43,19 +59,28 @@ use Rattle.swc_ecma_parser_reader.proofs.patterns.Limits.{pattern_shallow}
 abbrev StmtLevels : ℕ → Reader Tree → Type 0
 StmtLevels n p = (m : ℕ) (s : State) → 2 * m + 1 ≤ n → Fine m s.at.left → Answers (Kept m) Shallow (p s)
 
+-- where an initializer is asked for, a fault is recorded, or what was read is refused
+missing_shallow : (m : ℕ) (word : VarDeclKind) (span : Span) (p : Tree) (s : State) → Fine m s.at.left → Answers (Kept m) Shallow (missing_initializer word span p s)
+missing_shallow m word span p s f = answers_if _ _ (is_const word && s.code.flags.strict) _ _
+    (λ _. answers_then (Kept m) _ (fault (fault_at span faults.ConstDeclarationsRequireInitialization) s) _
+    (fault_shallow m s f (fault_at span faults.ConstDeclarationsRequireInitialization)) (λ _ t g. g))
+    (λ _. reject_shallow _ faults.PatVarWithoutInit span (λ e. cc) m s f)
+
 module _ (inner_expr : Class → Reader Tree) (inner_pat : Reader Tree) (n : ℕ) (below_expr : (class : Class) → Levels n (inner_expr class)) (below_pat : Levels n inner_pat)
-    (m : ℕ) (enough : 2 * m ≤ n) where
-  declarator_shallow : (s : State) → Fine m s.at.left → Answers (Kept m) Shallow (declarator inner_expr inner_pat s)
+    (m : ℕ) (enough : 2 * m ≤ n) (in_head : Bool) (word : VarDeclKind) where
+  declarator_shallow : (s : State) → Fine m s.at.left → Answers (Kept m) Shallow (declarator inner_expr inner_pat in_head word s)
   unfolding declarator initialized
-  declarator_shallow s f = answers_then _ _ (inner_pat s) _ (below_pat m s enough f) (λ p t g. answers_if _ _ (sees kind.Assign t.at) _ _
+  declarator_shallow s f = answers_then _ _ (within with_in inner_pat s) _
+      (answers_then (Kept m) _ (inner_pat (coded (with_in s.code) s)) _ (below_pat m (coded (with_in s.code) s) enough f) (λ p t g. g)) (λ p t g. answers_if _ _ (sees kind.Assign t.at) _ _
       (λ _. answers_then _ _ (inner_expr assignment (moved t)) _ (below_expr assignment m (moved t) enough (fine_after m t.at g)) (λ x u h. h))
-      (λ _. answers_if _ _ (is_binding_name p) _ _ (λ _. g) (λ _. reject_shallow _ faults.PatVarWithoutInit _ (λ e. cc) m t g)))
+      (λ _. answers_if _ _ (needs_no_initializer t.code in_head word p t.at) _ _ (λ _. g)
+      (λ _. missing_shallow m word (record { lo = (span_at s.at).lo; hi = t.at.last.hi }) p t g)))
 
   -- declarators are no level of their own
-  declarators_shallow : (s : State) → Fine m s.at.left → Answers (Kept m) Shallow (declarators inner_expr inner_pat s)
+  declarators_shallow : (s : State) → Fine m s.at.left → Answers (Kept m) Shallow (declarators inner_expr inner_pat in_head word s)
   unfolding declarators declarators_turn
-  declarators_shallow s f = loop_answers (declarators_turn inner_expr inner_pat) (Kept m) (Kept m) Shallow
-      (λ xs t g. answers_then _ _ (declarator inner_expr inner_pat t) _ (declarator_shallow t g) (λ x u h. answers_if _ _ (sees kind.Comma u.at) _ _ (λ _. fine_after m u.at h) (λ _. h)))
+  declarators_shallow s f = loop_answers (declarators_turn inner_expr inner_pat in_head word) (Kept m) (Kept m) Shallow
+      (λ xs t g. answers_then _ _ (declarator inner_expr inner_pat in_head word t) _ (declarator_shallow t g) (λ x u h. answers_if _ _ (sees kind.Comma u.at) _ _ (λ _. fine_after m u.at h) (λ _. h)))
       (λ t e. cc) [] s f
 
 -- as many tokens at most are left as a greater number says
@@ -122,6 +147,32 @@ unfolding target
 target_shallow m s g = answers_if _ _ (ends_at s.at) _ _ (λ _. g)
     (λ _. answers_then (Kept m) _ (name faults.ExpectedIdent s) _ (name_shallow m s g faults.ExpectedIdent (λ e. cc)) (λ x t k. k))
 
+-- ---- what the head of a loop begins with, as what it is
+
+as_init_shallow : (m : ℕ) (o : Opening) (s : State) → Fine m s.at.left → Answers (Kept m) Shallow (as_init o s)
+unfolding exprs.close
+as_init_shallow m Nothing s f = f
+as_init_shallow m (Variables x) s f = f
+as_init_shallow m (Expression v) s f = by_mark v.mark
+  where
+    by_mark : (o : Option Span) → Answers (Kept m) Shallow (exprs.unmarked v.x o s)
+    by_mark None = f
+    by_mark (Some k) = reject_shallow _ faults.AssignProperty k (λ e. cc) m s f
+
+as_left_shallow : (m : ℕ) (o : Opening) (s : State) → Fine m s.at.left → Answers (Kept m) Shallow (as_left o s)
+unfolding exprs.target
+as_left_shallow m Nothing s f = wanted_shallow _ faults.Unexpected (λ e. cc) m s f
+as_left_shallow m (Variables x) s f = f
+as_left_shallow m (Expression v) s f = by_target (cond v.comma None (as_target v.x))
+  where
+    by_target : (o : Option Tree) → Answers (Kept m) Shallow (exprs.target_or v.x o s)
+    by_target (Some p) = f
+    by_target None = reject_shallow _ faults.InvalidPat (span_of v.x) (λ e. cc) m s f
+
+misdeclared_shallow : (m : ℕ) (refused : Bool) (left : Tree) (s : State) → Fine m s.at.left → Answers (Kept m) Shallow (misdeclared refused left s)
+unfolding misdeclared
+misdeclared_shallow m refused left s f = told_shallow m (head_faults refused left) s f
+
 -- a refusal that says where it is, is not of what is too deep
 labelled_shallow : {A : Type 0} (P : A → State → Type 0) (o : Outcome A) → Answers P Shallow o → Answers P Shallow (labelled_as o)
 labelled_shallow P (Ok p) h = h
@@ -129,7 +180,7 @@ labelled_shallow P (Err e) h = answers_if P Shallow (is_some e.1.scope.mark) _ _
 
 -- the links of a chain, each of which takes a token before the level below
 module _ (inner : Position → Reader Tree) (inner_expr : Class → Reader Tree) (n : ℕ)
-    (below : (at : Position) → StmtLevels n (inner at)) (below_expr : (class : Class) → Levels n (inner_expr class)) where
+    (below_stmt : (at : Position) → StmtLevels n (inner at)) (below_expr : (class : Class) → Levels n (inner_expr class)) where
   link_shallow : (i : ℕ) → 2 * i + 1 ≤ n → (s : State) → Fine i (after s.at).left → Answers (Kept i) Shallow (link (inner sub_statement) (inner_expr expression) s)
   unfolding link link_from condition labelled
   link_shallow i h s g = answers_then (Kept i) _ (condition (inner_expr expression) (moved s)) _
@@ -138,11 +189,11 @@ module _ (inner : Position → Reader Tree) (inner_expr : Class → Reader Tree)
       (labelled_shallow (Kept i) (within with_in (inner_expr expression) u)
       (answers_then (Kept i) _ (inner_expr expression (coded (with_in u.code) u)) _ (below_expr expression i (coded (with_in u.code) u) (omega arith) j) (λ x v k. k))) (λ x v k.
       answers_then _ _ (expect kind.RParen v) _ (expect_shallow i v k kind.RParen) (λ _ w z. z)))) (λ x t k.
-      answers_then _ _ (inner sub_statement t) _ (below sub_statement i t h k) (λ y u z. z))
+      answers_then _ _ (inner sub_statement t) _ (below_stmt sub_statement i t h k) (λ y u z. z))
 
   alternative_shallow : (i : ℕ) → 2 * i + 1 ≤ n → (s : State) → Fine i s.at.left → Answers (Kept i) Shallow (alternative (inner sub_statement) s)
   unfolding alternative
-  alternative_shallow i h s g = answers_if _ _ (sees kind.Else s.at) _ _ (λ _. below sub_statement i (moved s) h (fine_after i s.at g)) (λ _. g)
+  alternative_shallow i h s g = answers_if _ _ (sees kind.Else s.at) _ _ (λ _. below_stmt sub_statement i (moved s) h (fine_after i s.at g)) (λ _. g)
 
   links_shallow : (l m : ℕ) → 2 * m + 1 ≤ suc n → (s : State) → kind_at s.at ≡ kind.If → Fine m s.at.left → Answers (Kept m) Shallow (links (inner sub_statement) (inner_expr expression) l s)
   unfolding links
@@ -155,12 +206,12 @@ module _ (inner : Position → Reader Tree) (inner_expr : Class → Reader Tree)
       (links_shallow l i (omega arith) (moved t) (chain_goes t.at b).1 (fine_after i t.at j)) (λ y u z. fine_more i m u.at.left (omega arith) z))
       (λ _. answers_then (Kept m) _ (alternative (inner sub_statement) t) _ (alternative_shallow i (omega arith) t j) (λ y u z. fine_more i m u.at.left (omega arith) z)))
 
-module _ (inner : Position → Reader Tree) (inner_expr : Class → Reader Tree) (inner_pat : Reader Tree) (n : ℕ)
-    (below : (at : Position) → StmtLevels n (inner at)) (below_expr : (class : Class) → Levels n (inner_expr class)) (below_pat : Levels n inner_pat)
+module _ (inner : Position → Reader Tree) (inner_expr : Class → Reader Tree) (inner_pat : Reader Tree) (inner_head : Reader Cover) (n : ℕ)
+    (below_stmt : (at : Position) → StmtLevels n (inner at)) (below_expr : (class : Class) → Levels n (inner_expr class)) (below_pat : Levels n inner_pat) (below_head : Levels n inner_head)
     (at : Position) (m : ℕ) (enough : 2 * m + 1 ≤ suc n) (s : State) (f : Fine m s.at.left) where
   block_from_shallow : (i : ℕ) → 2 * i + 1 ≤ n → (start : Place) (t : State) → Fine i t.at.left → Answers (Kept i) Shallow (block_from (inner nested_item) start t)
   unfolding block_from
-  block_from_shallow i h start t g = answers_then _ _ (items (inner nested_item) closes false t) _ (items_shallow (inner nested_item) n (below nested_item) closes false i h t g) (λ x u k.
+  block_from_shallow i h start t g = answers_then _ _ (items (inner nested_item) closes false t) _ (items_shallow (inner nested_item) n (below_stmt nested_item) closes false i h t g) (λ x u k.
       answers_then _ _ (close u) _ (close_shallow i u k) (λ _ v j. j))
 
   -- a block takes a token before the level below
@@ -178,12 +229,20 @@ module _ (inner : Position → Reader Tree) (inner_expr : Class → Reader Tree)
   unfolding debugger
   debugger_shallow = answers_then _ _ (end faults.Expected (moved s)) _ (end_shallow m (moved s) (fine_after m s.at f) faults.Expected (λ e. cc)) (λ _ t g. g)
 
-  var_shallow : Answers (Kept m) Shallow (var inner_expr inner_pat s)
-  unfolding var
-  var_shallow = answers_then _ _ (within with_in (declarators inner_expr inner_pat) (moved s)) _
-      (answers_then (Kept m) _ (declarators inner_expr inner_pat (coded (with_in s.code) (moved s))) _
-      (declarators_shallow inner_expr inner_pat n below_expr below_pat m (omega arith) (coded (with_in s.code) (moved s)) (fine_after m s.at f)) (λ x t k. k)) (λ x t k.
+  variables_shallow : (word : VarDeclKind) → Answers (Kept m) Shallow (variables inner_expr inner_pat word s)
+  unfolding variables
+  variables_shallow word = answers_then _ _ (within with_in (declarators inner_expr inner_pat false word) (moved s)) _
+      (answers_then (Kept m) _ (declarators inner_expr inner_pat false word (coded (with_in s.code) (moved s))) _
+      (declarators_shallow inner_expr inner_pat n below_expr below_pat m (omega arith) false word (coded (with_in s.code) (moved s)) (fine_after m s.at f)) (λ x t k. k)) (λ x t k.
       answers_then _ _ (end faults.Unexpected t) _ (end_shallow m t k faults.Unexpected (λ e. cc)) (λ _ u j. j))
+
+  const_shallow : Answers (Kept m) Shallow (const_stmt inner inner_expr inner_pat inner_head at s)
+  unfolding const_stmt
+  const_shallow = where_declared at.include_decl
+    where
+      where_declared : (b : Bool) → Answers (Kept m) Shallow (cond b (variables inner_expr inner_pat decl.Const) (wanted faults.Unexpected) s)
+      where_declared true = variables_shallow decl.Const
+      where_declared false = wanted_shallow _ faults.Unexpected (λ e. cc) m s f
 
   -- no token stands before a statement's expression, which is why there is one level more
   whole_shallow : Answers (Kept m) Shallow (within with_in (inner_expr expression) s)
@@ -217,6 +276,31 @@ module _ (inner : Position → Reader Tree) (inner_expr : Class → Reader Tree)
       (answers_then (Kept i) _ (inner_expr expression (coded (with_in u.code) u)) _ (below_expr expression i (coded (with_in u.code) u) h j) (λ x v k. k)) (λ x v k.
       answers_then _ _ (expect kind.RParen v) _ (expect_shallow i v k kind.RParen) (λ _ w z. z)))
 
+  -- the `:` of a label is a token before the level below
+  colon_taken : (t : State) → Fine m t.at.left → Answers (λ _ u. (i : ℕ) × (m ≡ suc i) × Fine i u.at.left) Shallow (expect kind.Colon t)
+  unfolding expect
+  colon_taken t g = answers_if _ _ (sees kind.Colon t.at) _ _ (λ b. fine_taken m t.at kind.Colon (saw t.at kind.Colon b) (λ z. cc) g) (λ _. refuse_shallow _ faults.Expected (λ z. cc) m t g)
+
+  labelled_body_shallow : (i : ℕ) → 2 * i + 1 ≤ n → (text : Text) (t : State) → Fine i t.at.left → Answers (Kept i) Shallow (labelled_body inner text t)
+  unfolding labelled_body
+  labelled_body_shallow i h text t g = answers_then (Kept i) _ (below_label text (inner (labelled_item t.at)) (coded (in_breakable t.code) t)) _
+      (answers_then (Kept i) _ (inner (labelled_item t.at) (below text (coded (in_breakable t.code) t))) _ (below_stmt (labelled_item t.at) i (below text (coded (in_breakable t.code) t)) h g) (λ x u k. k)) (λ x u k. k)
+
+  labeled_shallow : Answers (Kept m) Shallow (labeled_stmt inner s)
+  unfolding labeled_stmt relabels
+  labeled_shallow = answers_then (Kept m) _ (name faults.ExpectedIdent s) _ (name_shallow m s f faults.ExpectedIdent (λ z. cc)) (λ x t k.
+      answers_then (Kept m) _ (expect kind.Colon t) _ (colon_taken t k) (λ _ u (i, h, g).
+      answers_then (Kept m) _ (labelled_body inner x.sym u) _ (labelled_body_shallow i (omega arith) x.sym u g) (λ y v j.
+      answers_then (Kept m) _ (relabels (tree.ident x.span x.sym) y v) _ (told_shallow m _ v (fine_more i m v.at.left (omega arith) j)) (λ _ b a. a))))
+
+  other_shallow : Answers (Kept m) Shallow (other_stmt inner (inner_expr expression) at s)
+  unfolding other_stmt
+  other_shallow = answers_if _ _ (begins_label s.code s.at) _ _ (λ _. labeled_shallow) (λ _. expr_stmt_at_shallow)
+
+  let_shallow : Answers (Kept m) Shallow (let_stmt inner inner_expr inner_pat inner_head at s)
+  unfolding let_stmt
+  let_shallow = answers_if _ _ (at.include_decl && is_let_declaration s.at) _ _ (λ _. variables_shallow decl.Let) (λ _. other_shallow)
+
   break_shallow : Answers (Kept m) Shallow (break_stmt s)
   unfolding break_stmt unbroken
   break_shallow = answers_then _ _ (target (moved s)) _ (target_shallow m (moved s) (fine_after m s.at f)) (λ x t k.
@@ -249,7 +333,7 @@ module _ (inner : Position → Reader Tree) (inner_expr : Class → Reader Tree)
 
   -- the body of a loop
   looped_shallow : (i : ℕ) → 2 * i + 1 ≤ n → (t : State) → Fine i t.at.left → Answers (Kept i) Shallow (within in_loop (inner sub_statement) t)
-  looped_shallow i h t g = answers_then (Kept i) _ (inner sub_statement (coded (in_loop t.code) t)) _ (below sub_statement i (coded (in_loop t.code) t) h g) (λ x u k. k)
+  looped_shallow i h t g = answers_then (Kept i) _ (inner sub_statement (coded (in_loop t.code) t)) _ (below_stmt sub_statement i (coded (in_loop t.code) t) h g) (λ x u k. k)
 
   while_shallow : kind_at s.at ≡ kind.While → Answers (Kept m) Shallow (while_stmt (inner sub_statement) (inner_expr expression) s)
   unfolding while_stmt
@@ -267,10 +351,80 @@ module _ (inner : Position → Reader Tree) (inner_expr : Class → Reader Tree)
       answers_then _ _ (head (inner_expr expression) u) _ (head_shallow i (omega arith) u j) (λ x v z.
       answers_then _ _ (optional_end v) _ (optional_end_shallow i v z) (λ _ b a. fine_more i m b.at.left (omega arith) a))))
 
+  head_variables_shallow : (i : ℕ) → 2 * i ≤ n → (word : VarDeclKind) (t : State) → Fine i t.at.left → Answers (Kept i) Shallow (head_variables inner_expr inner_pat word t)
+  unfolding head_variables
+  head_variables_shallow i h word t g = answers_then _ _ (within (head_code word) (declarators inner_expr inner_pat true word) (moved t)) _
+      (answers_then (Kept i) _ (declarators inner_expr inner_pat true word (coded (head_code word t.code) (moved t))) _
+      (declarators_shallow inner_expr inner_pat n below_expr below_pat i h true word (coded (head_code word t.code) (moved t)) (fine_after i t.at g)) (λ x u k. k)) (λ x u k. k)
+
+  opening_shallow : (i : ℕ) → 2 * i ≤ n → (t : State) → Fine i t.at.left → Answers (Kept i) Shallow (opening inner_expr inner_pat inner_head t)
+  unfolding opening head_expression
+  opening_shallow i h t g = answers_if _ _ (sees kind.Semi t.at) _ _ (λ _. g)
+      (λ _. answers_if _ _ (sees kind.Var t.at) _ _ (λ _. head_variables_shallow i h decl.Var t g)
+      (λ _. answers_if _ _ (sees kind.Const t.at) _ _ (λ _. head_variables_shallow i h decl.Const t g)
+      (λ _. answers_if _ _ (is_let_declaration t.at) _ _ (λ _. head_variables_shallow i h decl.Let t g)
+      (λ _. answers_then _ _ (within without_in inner_head t) _
+      (answers_then (Kept i) _ (inner_head (coded (without_in t.code) t)) _ (below_head i (coded (without_in t.code) t) h g) (λ v u k. k)) (λ v u k. k)))))
+
+  head_part_shallow : (i : ℕ) → 2 * i ≤ n → (j : TokenKind) (t : State) → Fine i t.at.left → Answers (Kept i) Shallow (head_part j (inner_expr expression) t)
+  unfolding head_part
+  head_part_shallow i h j t g = answers_if _ _ (sees j t.at) _ _ (λ _. g)
+      (λ _. answers_then (Kept i) _ (inner_expr expression (coded (with_in t.code) t)) _ (below_expr expression i (coded (with_in t.code) t) h g) (λ x u k. k))
+
+  for_parts_shallow : (i : ℕ) → 2 * i + 1 ≤ n → (start : Span) (o : Opening) (t : State) → Fine i t.at.left
+      → Answers (Kept i) Shallow (for_parts (inner sub_statement) inner_expr start o t)
+  unfolding for_parts
+  for_parts_shallow i h start o t g =
+      answers_then _ _ (as_init o t) _ (as_init_shallow i o t g) (λ x u b.
+      answers_then _ _ (expect kind.Semi u) _ (expect_shallow i u b kind.Semi) (λ _ v c.
+      answers_then _ _ (head_part kind.Semi (inner_expr expression) v) _ (head_part_shallow i (omega arith) kind.Semi v c) (λ y w d.
+      answers_then _ _ (expect kind.Semi w) _ (expect_shallow i w d kind.Semi) (λ _ q k.
+      answers_then _ _ (head_part kind.RParen (inner_expr expression) q) _ (head_part_shallow i (omega arith) kind.RParen q k) (λ z p l.
+      answers_then _ _ (expect kind.RParen p) _ (expect_shallow i p l kind.RParen) (λ _ r j.
+      answers_then _ _ (within in_loop (inner sub_statement) r) _ (looped_shallow i h r j) (λ _ b a. a)))))))
+
+  -- what stands behind `in` and `of`
+  behind_shallow : (class : Class) (i : ℕ) → 2 * i ≤ n → (t : State) → Fine i t.at.left → Answers (Kept i) Shallow (within with_in (inner_expr class) t)
+  behind_shallow class i h t g = answers_then (Kept i) _ (inner_expr class (coded (with_in t.code) t)) _ (below_expr class i (coded (with_in t.code) t) h g) (λ x u k. k)
+
+  for_in_shallow : (i : ℕ) → 2 * i + 1 ≤ n → (start : Span) (o : Opening) (t : State) → Fine i t.at.left
+      → Answers (Kept i) Shallow (for_in (inner sub_statement) inner_expr start o t)
+  unfolding for_in
+  for_in_shallow i h start o t g =
+      answers_then _ _ (as_left o t) _ (as_left_shallow i o t g) (λ x u b.
+      answers_then _ _ (misdeclared u.code.flags.strict x u) _ (misdeclared_shallow i u.code.flags.strict x u b) (λ _ v c.
+      answers_then _ _ (within with_in (inner_expr expression) (moved v)) _ (behind_shallow expression i (omega arith) (moved v) (fine_after i v.at c)) (λ y w d.
+      answers_then _ _ (expect kind.RParen w) _ (expect_shallow i w d kind.RParen) (λ _ r j.
+      answers_then _ _ (within in_loop (inner sub_statement) r) _ (looped_shallow i h r j) (λ _ b a. a)))))
+
+  for_of_shallow : (i : ℕ) → 2 * i + 1 ≤ n → (start : Span) (o : Opening) (t : State) → Fine i t.at.left
+      → Answers (Kept i) Shallow (for_of (inner sub_statement) inner_expr start o t)
+  unfolding for_of
+  for_of_shallow i h start o t g =
+      answers_then _ _ (as_left o t) _ (as_left_shallow i o t g) (λ x u b.
+      answers_then _ _ (misdeclared true x u) _ (misdeclared_shallow i true x u b) (λ _ v c.
+      answers_then _ _ (within with_in (inner_expr assignment) (moved v)) _ (behind_shallow assignment i (omega arith) (moved v) (fine_after i v.at c)) (λ y w d.
+      answers_then _ _ (expect kind.RParen w) _ (expect_shallow i w d kind.RParen) (λ _ r j.
+      answers_then _ _ (within in_loop (inner sub_statement) r) _ (looped_shallow i h r j) (λ _ b a. a)))))
+
+  for_behind_shallow : (i : ℕ) → 2 * i + 1 ≤ n → (start : Span) (o : Opening) (t : State) → Fine i t.at.left
+      → Answers (Kept i) Shallow (for_behind (inner sub_statement) inner_expr start o t)
+  unfolding for_behind
+  for_behind_shallow i h start o t g = answers_if _ _ (sees kind.In t.at) _ _ (λ _. for_in_shallow i h start o t g)
+      (λ _. answers_if _ _ (word_at (codes "of") t.at) _ _ (λ _. for_of_shallow i h start o t g) (λ _. for_parts_shallow i h start o t g))
+
+  for_shallow : kind_at s.at ≡ kind.For → Answers (Kept m) Shallow (for_stmt (inner sub_statement) inner_expr inner_pat inner_head s)
+  unfolding for_stmt
+  for_shallow e =
+      let (i, h, g) = fine_taken m s.at kind.For e (λ z. cc) f in
+      answers_then _ _ (expect kind.LParen (moved s)) _ (expect_shallow i (moved s) g kind.LParen) (λ _ t a.
+      answers_then _ _ (opening inner_expr inner_pat inner_head t) _ (opening_shallow i (omega arith) t a) (λ o u b.
+      kept_more i m (omega arith) (for_behind (inner sub_statement) inner_expr (span_at s.at) o u) (for_behind_shallow i (omega arith) (span_at s.at) o u b)))
+
   clause_from_shallow : (i : ℕ) → 2 * i + 1 ≤ n → (start : Span) (test : Tree) (t : State) → Fine i t.at.left → Answers (Kept i) Shallow (clause_from (inner nested_item) start test t)
   unfolding clause_from
   clause_from_shallow i h start test t g = answers_then _ _ (expect kind.Colon t) _ (expect_shallow i t g kind.Colon) (λ _ u k.
-      answers_then _ _ (items (inner nested_item) closes_clause false u) _ (items_shallow (inner nested_item) n (below nested_item) closes_clause false i h u k) (λ xs v j. j))
+      answers_then _ _ (items (inner nested_item) closes_clause false u) _ (items_shallow (inner nested_item) n (below_stmt nested_item) closes_clause false i h u k) (λ xs v j. j))
 
   clause_shallow : (i : ℕ) → 2 * i + 1 ≤ n → (b : Bool) (t : State) → Fine i t.at.left → Answers (Kept i) Shallow (clause (inner nested_item) (inner_expr expression) b t)
   unfolding clause case_clause default_clause
@@ -326,13 +480,15 @@ module _ (inner : Position → Reader Tree) (inner_expr : Class → Reader Tree)
       answers_then _ _ (finalizer (inner nested_item) u) _ (finalizer_shallow i (omega arith) u j) (λ z v l.
       answers_then _ _ (handled t.at v) _ (handled_shallow i t.at v l) (λ _ b a. fine_more i m b.at.left (omega arith) a))))
 
-  by_shallow : (k : TokenKind) → kind_at s.at ≡ k → Answers (Kept m) Shallow (stmt_by inner inner_expr inner_pat at k s)
+  by_shallow : (k : TokenKind) → kind_at s.at ≡ k → Answers (Kept m) Shallow (stmt_by inner inner_expr inner_pat inner_head at k s)
   unfolding empty if_stmt
   by_shallow kind.LBrace e = block_shallow e
   by_shallow kind.Semi e = fine_after m s.at f
   by_shallow kind.Debugger e = debugger_shallow
-  by_shallow kind.Var e = var_shallow
-  by_shallow kind.If e = links_shallow inner inner_expr n below below_expr (suc (length s.at.left)) m enough s e f
+  by_shallow kind.Var e = variables_shallow decl.Var
+  by_shallow kind.Const e = const_shallow
+  by_shallow kind.Let e = let_shallow
+  by_shallow kind.If e = links_shallow inner inner_expr n below_stmt below_expr (suc (length s.at.left)) m enough s e f
   by_shallow kind.Switch e = switch_shallow e
   by_shallow kind.Break e = break_shallow
   by_shallow kind.Continue e = continue_shallow
@@ -341,10 +497,11 @@ module _ (inner : Position → Reader Tree) (inner_expr : Class → Reader Tree)
   by_shallow kind.Try e = try_shallow e
   by_shallow kind.While e = while_shallow e
   by_shallow kind.Do e = do_while_shallow e
+  by_shallow kind.For e = for_shallow e
   by_shallow kind.Import e = import_stmt_at_shallow
-  by_shallow _ e = expr_stmt_at_shallow
+  by_shallow _ e = other_shallow
 
-  level_shallow : Answers (Kept m) Shallow (stmt_level inner inner_expr inner_pat at s)
+  level_shallow : Answers (Kept m) Shallow (stmt_level inner inner_expr inner_pat inner_head at s)
   unfolding stmt_level
   level_shallow = by_shallow (kind_at s.at) refl
 
@@ -354,7 +511,7 @@ module _ (inner : Position → Reader Tree) (inner_expr : Class → Reader Tree)
 stmt_shallow : (n : ℕ) (at : Position) → StmtLevels n (stmt n at)
 unfolding stmt
 stmt_shallow zero at m s h f = absurd (omega arith)
-stmt_shallow (suc n) at m s h f = level_shallow (stmt n) (expr n) (pattern n) n (stmt_shallow n) (expr_shallow n) (pattern_shallow n) at m h s f
+stmt_shallow (suc n) at m s h f = level_shallow (stmt n) (expr n) (pattern n) (head_cover n) n (stmt_shallow n) (expr_shallow n) (pattern_shallow n) (heads.head_shallow n) at m h s f
 
 -- a script needs no more
 script_shallow : (n m : ℕ) (s : State) → 2 * m + 2 ≤ n → Fine m s.at.left → Answers (Kept m) Shallow (script n s)
@@ -367,3 +524,7 @@ script_shallow n m s h f =
 -- a limit of twice the tokens and two more is never met, unless an error token says so
 pub script_fits : (n : ℕ) (s : State) (e : Fault) (t : State) → 2 * length s.at.left + 2 ≤ n → script n s ≡ Err (e, t) → has_too_deep_token s.at.left ≡ false → e.kind ≢ faults.TooDeep
 script_fits n s e t h g k = meant (Kept (length s.at.left)) Shallow (script n s) (Err (e, t)) g (script_shallow n (length s.at.left) s h (record { few = omega arith; shallow = k }))
+
+-- nor is it by a statement
+pub stmt_fits : (n : ℕ) (at : Position) (s : State) (e : Fault) (t : State) → 2 * length s.at.left + 2 ≤ n → stmt n at s ≡ Err (e, t) → has_too_deep_token s.at.left ≡ false → e.kind ≢ faults.TooDeep
+stmt_fits n at s e t h g k = meant (Kept (length s.at.left)) Shallow (stmt n at s) (Err (e, t)) g (stmt_shallow n at (length s.at.left) s (omega arith) (record { few = omega arith; shallow = k }))

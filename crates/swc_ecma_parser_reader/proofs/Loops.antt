@@ -4,6 +4,7 @@ use Rattle.std.specs.Prelude.{◌||◌}
 use Rattle.swc_ecma_parser_error.specs.Kind.{Fault}
 use Rattle.swc_ecma_parser_token.specs.declared.kind.TokenKind.TheVariants as kind
 use Rattle.swc_ecma_parser_input.specs.Place.{Place, after}
+use Rattle.swc_ecma_parser_model.specs.declared.leaves.VarDeclKind.{VarDeclKind}
 use Rattle.swc_ecma_parser_model.specs.Tree.{Tree}
 use Rattle.swc_ecma_parser_grammar.specs.declared.position.Position.{Position}
 use Rattle.swc_ecma_parser_grammar.specs.Looks.{sees}
@@ -11,6 +12,7 @@ use Rattle.swc_ecma_parser_grammar.specs.Reads.{directed, nested_item}
 use Rattle.swc_ecma_parser_grammar.specs.language.Goals.{expression}
 use Rattle.swc_ecma_parser_reader.specs.State.{State, Reader, coded, moved, too_deep, loop}
 use Rattle.swc_ecma_parser_reader.specs.Expressions.{expr}
+use Rattle.swc_ecma_parser_reader.specs.Heads.{head_cover}
 use Rattle.swc_ecma_parser_reader.specs.Patterns.{pattern}
 use Rattle.swc_ecma_parser_reader.specs.Reader.{declarator, declarators_turn, directs, items_turn, begins_clause, Clauses, clause, clauses_turn, stmt_level, stmt}
 use Rattle.swc_ecma_parser_reader.proofs.Steps.{loop_more, loop_done, loop_err}
@@ -25,12 +27,12 @@ use Rattle.swc_ecma_parser_reader.proofs.patterns.Falls.{pattern_falls}
 pub stmt_shorter : (n : ℕ) (at : Position) (s : State) (x : Tree) (t : State) → stmt n at s ≡ Ok (x, t) → length t.at.left < length s.at.left
 stmt_shorter n at s x t e = shorter_by (length s.at.left) (stmt n at s) x t e (stmt_falls n at s)
 
-pub declarator_shorter : (n : ℕ) (s : State) (x : Tree) (t : State) → declarator (expr n) (pattern n) s ≡ Ok (x, t) → length t.at.left < length s.at.left
-declarator_shorter n s x t e = shorter_by (length s.at.left) (declarator (expr n) (pattern n) s) x t e (declarator_falls (expr n) (expr_falls n) (pattern n) (pattern_falls n) s)
+pub declarator_shorter : (n : ℕ) (in_head : Bool) (word : VarDeclKind) (s : State) (x : Tree) (t : State) → declarator (expr n) (pattern n) in_head word s ≡ Ok (x, t) → length t.at.left < length s.at.left
+declarator_shorter n in_head word s x t e = shorter_by (length s.at.left) (declarator (expr n) (pattern n) in_head word s) x t e (declarator_falls (expr n) (expr_falls n) (pattern n) (pattern_falls n) in_head word s)
 
 -- a turn that takes a declarator and the comma behind it
-pub declarators_shorter : (n : ℕ) (s : State) (x : Tree) (t : State) → declarator (expr n) (pattern n) s ≡ Ok (x, t) → length (after t.at).left < length s.at.left
-declarators_shorter n s x t e = let a = declarator_shorter n s x t e in let b = moves t.at in omega arith
+pub declarators_shorter : (n : ℕ) (in_head : Bool) (word : VarDeclKind) (s : State) (x : Tree) (t : State) → declarator (expr n) (pattern n) in_head word s ≡ Ok (x, t) → length (after t.at).left < length s.at.left
+declarators_shorter n in_head word s x t e = let a = declarator_shorter n in_head word s x t e in let b = moves t.at in omega arith
 
 -- ---- statements one behind another: the list ends, an item fails, an item is read
 
@@ -50,19 +52,19 @@ module _ (item : Reader Tree) (stops : Place → Bool) (directives : Bool) (foun
 
 -- ---- declarators with commas between
 
-module _ (n : ℕ) (found : List Tree) (s : State) where
-  pub declarators_err : (e : Fault × State) → declarator (expr n) (pattern n) s ≡ Err e → loop (declarators_turn (expr n) (pattern n)) found s ≡ Err e
+module _ (n : ℕ) (in_head : Bool) (word : VarDeclKind) (found : List Tree) (s : State) where
+  pub declarators_err : (e : Fault × State) → declarator (expr n) (pattern n) in_head word s ≡ Err e → loop (declarators_turn (expr n) (pattern n) in_head word) found s ≡ Err e
   unfolding declarators_turn
-  declarators_err e h = loop_err (declarators_turn (expr n) (pattern n)) found s e (rw h refl)
+  declarators_err e h = loop_err (declarators_turn (expr n) (pattern n) in_head word) found s e (rw h refl)
 
-  pub declarators_done : (x : Tree) (t : State) → declarator (expr n) (pattern n) s ≡ Ok (x, t) → sees kind.Comma t.at ≡ false → loop (declarators_turn (expr n) (pattern n)) found s ≡ Ok (found ++ x ∷ [], t)
+  pub declarators_done : (x : Tree) (t : State) → declarator (expr n) (pattern n) in_head word s ≡ Ok (x, t) → sees kind.Comma t.at ≡ false → loop (declarators_turn (expr n) (pattern n) in_head word) found s ≡ Ok (found ++ x ∷ [], t)
   unfolding declarators_turn
-  declarators_done x t h e = loop_done (declarators_turn (expr n) (pattern n)) found (found ++ x ∷ []) s t (rw (h, e) refl)
+  declarators_done x t h e = loop_done (declarators_turn (expr n) (pattern n) in_head word) found (found ++ x ∷ []) s t (rw (h, e) refl)
 
-  pub declarators_more : (x : Tree) (t : State) → declarator (expr n) (pattern n) s ≡ Ok (x, t) → sees kind.Comma t.at ≡ true
-      → loop (declarators_turn (expr n) (pattern n)) found s ≡ loop (declarators_turn (expr n) (pattern n)) (found ++ x ∷ []) (moved t)
+  pub declarators_more : (x : Tree) (t : State) → declarator (expr n) (pattern n) in_head word s ≡ Ok (x, t) → sees kind.Comma t.at ≡ true
+      → loop (declarators_turn (expr n) (pattern n) in_head word) found s ≡ loop (declarators_turn (expr n) (pattern n) in_head word) (found ++ x ∷ []) (moved t)
   unfolding declarators_turn
-  declarators_more x t h e = loop_more (declarators_turn (expr n) (pattern n)) found (found ++ x ∷ []) s (moved t) (rw (h, e) refl) (declarators_shorter n s x t h)
+  declarators_more x t h e = loop_more (declarators_turn (expr n) (pattern n) in_head word) found (found ++ x ∷ []) s (moved t) (rw (h, e) refl) (declarators_shorter n in_head word s x t h)
 
 -- ---- the clauses of a `switch`
 
@@ -93,6 +95,6 @@ pub stmt_lowest : (n : ℕ) (at : Position) (s : State) → n ≡ 0 → stmt n a
 unfolding stmt
 stmt_lowest n at s e = rw e refl
 
-pub stmt_above : (n : ℕ) (at : Position) (s : State) → 0 < n → stmt n at s ≡ stmt_level (stmt (n - 1)) (expr (n - 1)) (pattern (n - 1)) at s
+pub stmt_above : (n : ℕ) (at : Position) (s : State) → 0 < n → stmt n at s ≡ stmt_level (stmt (n - 1)) (expr (n - 1)) (pattern (n - 1)) (head_cover (n - 1)) at s
 unfolding stmt
 stmt_above n at s h = deeper (λ k. stmt k at s) n h

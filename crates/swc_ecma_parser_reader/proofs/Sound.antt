@@ -1,9 +1,26 @@
 -- What is read is in the grammar where nothing was recorded, and the faults of the table are the walk's.
-use Rattle.std.proofs.Common.{◌≡◌, ℕ, zero, suc, Bool, true, false, List, [], ◌∷◌, ◌++◌, Option, length, Ok, Err, refl, sym, ◌∙◌, ap, subst, append-nil}
+use Rattle.std.proofs.Common.{append_assoc}
+use Rattle.swc_ecma_parser_reader.specs.Notes.{no_notes}
+use Rattle.swc_ecma_parser_reader.proofs.Between.{sound_below}
+use Rattle.swc_ecma_parser_reader.specs.State.{name}
+use Rattle.swc_ecma_parser_grammar.specs.Reads.{labeled_rule}
+use Rattle.swc_ecma_parser_grammar.specs.Own.{labelled_function, duplicates}
+use Rattle.swc_ecma_parser_reader.proofs.SoundParts.{relabels_sound}
+use Rattle.swc_ecma_parser_reader.specs.State.{below, below_label}
+use Rattle.swc_ecma_parser_grammar.specs.language.Items.{labelled_item}
+use Rattle.swc_ecma_parser_reader.specs.Reader.{begins_label, relabels, labelled_body, labeled_stmt, other_stmt}
+use Rattle.swc_ecma_parser_model.specs.declared.leaves.VarDeclKind.{VarDeclKind}
+use Rattle.swc_ecma_parser_model.specs.declared.leaves.VarDeclKind.TheVariants as decl
+use Rattle.swc_ecma_parser_grammar.specs.Variables.{begins_variables, is_var}
+use Rattle.swc_ecma_parser_reader.specs.Reader.{variables, const_stmt, let_stmt}
+use Rattle.swc_ecma_parser_reader.proofs.expressions.CompleteKinds.{seen}
+use Rattle.swc_ecma_parser_reader.proofs.expressions.Heads as heads
+use Rattle.swc_ecma_parser_reader.proofs.expressions.Heads.{SoundHead}
+use Rattle.swc_ecma_parser_reader.proofs.SoundFor.{SoundAs, looped_sound, for_sound}
+use Rattle.std.proofs.Common.{◌≡◌, ℕ, zero, suc, Bool, true, false, cond, List, [], ◌∷◌, ◌++◌, Option, length, Ok, Err, refl, sym, ◌∙◌, ap, subst, append-nil}
 use Rattle.std.specs.Prelude.{◌&&◌, ◌||◌, is_some}
 use Rattle.swc_ecma_parser_common.specs.declared.span.Span.{Span}
 use Rattle.swc_ecma_parser_error.specs.Kind as faults
-use Rattle.swc_ecma_parser_error.specs.Kind.{Kind, Fault}
 use Rattle.swc_ecma_parser_token.specs.declared.keyword.Keyword.{Keyword}
 use Rattle.swc_ecma_parser_token.specs.declared.keyword.Keyword.TheVariants as keyword
 use Rattle.swc_ecma_parser_token.specs.declared.operator.BinOpToken.{BinOpToken}
@@ -26,48 +43,50 @@ use Rattle.swc_ecma_parser_grammar.specs.declared.position.Position.{Position}
 use Rattle.swc_ecma_parser_grammar.specs.Looks.{kind_at, breaks_at, sees, same_kind, span_at, spanned}
 use Rattle.swc_ecma_parser_grammar.specs.Names.{Code}
 use Rattle.swc_ecma_parser_grammar.specs.Ends.{Ends, ends_at}
-use Rattle.swc_ecma_parser_grammar.specs.Follows.{may_begin_expression_statement, begins_import_expression}
+use Rattle.swc_ecma_parser_grammar.specs.Follows.{may_begin_expression_statement, begins_import_expression, is_let_declaration}
 use Rattle.swc_ecma_parser_grammar.specs.language.Contexts.{in_loop, in_breakable}
 use Rattle.swc_ecma_parser_grammar.specs.language.Goals.{Class, expression}
 use Rattle.swc_ecma_parser_grammar.specs.language.Items.{sub_statement}
 use Rattle.swc_ecma_parser_grammar.specs.Reads.{with_in, nested_item, top_item, ReadsItems, TargetRule, OperandRule, no_operand_rule, operand_rule, break_rule, continue_rule, return_rule, StmtRule, block_rule, empty_rule, debugger_rule, if_statement_rule, CaseRule, case_clause_rule, default_clause_rule, ReadsCases, switch_rule, throw_rule, try_rule, while_rule, do_while_rule, expr_rule, import_rule, ReadsBlock, CatchRule, no_catch_rule, catch_rule, catch_parameter_rule, FinallyRule, no_finally_rule, finally_rule, ReadsHead, IfRule, if_rule, ElseRule, no_else_rule, else_rule, else_if_rule}
-use Rattle.swc_ecma_parser_grammar.specs.ReadsSupported.{ReadsClass, ReadsPat, ReadsElement, ReadsStmt}
-use Rattle.swc_ecma_parser_grammar.specs.Entries.{ReadsScript, ReadsShebang, some_shebang, no_shebang, script_code, has_error_token}
+use Rattle.swc_ecma_parser_grammar.specs.ReadsSupported.{ReadsClass, ReadsPat, ReadsElement, ReadsTarget, ReadsStmt}
+use Rattle.swc_ecma_parser_grammar.specs.Entries.{ReadsScript, ReadsShebang, some_shebang, no_shebang, script_code}
 use Rattle.swc_ecma_parser_grammar.specs.Walk as walks
 use Rattle.swc_ecma_parser_grammar.specs.Walk.{walk, env_of, tabled, drops}
 use Rattle.swc_ecma_parser_grammar.specs.Notes.{notes, statement_note}
 use Rattle.swc_ecma_parser_grammar.specs.language.Noted.{has_meta}
-use Rattle.swc_ecma_parser_grammar.proofs.Tests.{or_no}
+use Rattle.swc_ecma_parser_grammar.proofs.Tests.{or_no, and_yes}
 use Rattle.swc_ecma_parser_grammar.proofs.Widens.{script_widens, script_supported}
 use Rattle.swc_ecma_parser_reader.specs.Notes.{◌⊕◌, notes_of, all_notes_of}
-use Rattle.swc_ecma_parser_reader.specs.State.{State, Reader, moved, coded, flagged, within, fault_at, Outcome, labelled, labelled_as, expect, end}
+use Rattle.swc_ecma_parser_reader.specs.State.{State, Reader, moved, coded, flagged, within, fault_at, Outcome, wanted, labelled, labelled_as, expect, end}
 use Rattle.swc_ecma_parser_reader.specs.Expressions.{Cover, expr, cover}
+use Rattle.swc_ecma_parser_reader.specs.Heads.{head_cover}
 use Rattle.swc_ecma_parser_reader.specs.Patterns.{pattern, element}
 use Rattle.swc_ecma_parser_reader.specs.Reader.{target, unbroken, break_stmt, uncontinued, continue_stmt, misplaced, operand, returned, return_stmt, empty, debugger, declarators, closes, at_end, close, items, block_from, block, braced, note_statement, no_label, expr_stmt, expr_stmt_at, optional_end, import_stmt, import_stmt_at, thrown, throw, head, while_stmt, do_while, Link, goes_on, condition, alternative, link_from, link, links, if_stmt, begins_clause, closes_clause, Clauses, clause_from, default_clause, case_clause, clause, clauses_turn, clauses, switch_stmt, begins_at, is_handled, handled, bound, parameter, finalizer, caught, handler, try_stmt, stmt_by, stmt_level, stmt, shebang_of, shebang_in, shebang_taken, shebang, script_body, script}
-use Rattle.swc_ecma_parser_reader.specs.Entry.{SoundScript}
+use Rattle.swc_ecma_parser_reader.specs.Entry.{SoundScript, error_tokens}
 use Rattle.swc_ecma_parser_reader.specs.Limits.{has_out_of_memory_token}
 use Rattle.swc_ecma_parser_reader.proofs.expressions.SoundCovers.{SoundCover}
 use Rattle.swc_ecma_parser_reader.proofs.expressions.Sound.{expr_sound, cover_sound}
-use Rattle.swc_ecma_parser_reader.proofs.expressions.SoundSteps.{meets_as, Takes, expect_sound, fault_sound, walks_push, notes_push}
+use Rattle.swc_ecma_parser_reader.proofs.expressions.SoundSteps.{meets_as, FreeWord, name_sound, Takes, expect_sound, fault_sound, walks_push, notes_push}
 use Rattle.swc_ecma_parser_reader.proofs.patterns.Sound.{pattern_sound, element_sound}
-use Rattle.swc_ecma_parser_reader.proofs.Notes.{or_nil, notes_nil}
+use Rattle.swc_ecma_parser_reader.proofs.Notes.{or_nil, or_true, notes_nil}
 use Rattle.swc_ecma_parser_reader.proofs.Meets.{Meets, Refuses, meets_then, meets_if, wanted_meets, too_deep_meets, refuse_meets, Turned, loop_answers, saw, meant}
-use Rattle.swc_ecma_parser_reader.proofs.Errors.{kind_here, nothing_at_end}
+use Rattle.swc_ecma_parser_reader.proofs.Errors.{kind_here, none_counted, nothing_at_end}
 use Rattle.swc_ecma_parser_reader.proofs.Opens.{import_unnoted, chain_goes, chain_stops}
 use Rattle.swc_ecma_parser_reader.proofs.Between.{Sound, SoundTree, SoundStep, no_faults, same, sound_then, sound_more, sound_moved, sound_here, sound_as, sound_held, sound_after, within_sound, flags_back}
-use Rattle.swc_ecma_parser_reader.proofs.SoundParts.{end_sound, optional_end_sound, Declarators, declarators_sound, var_sound, code_after, code_stays, code_setting, items_sound, close_sound, NoLabel, no_label_sound, NoNote, SoundNote, note_sound, and_false, unbroken_sound, uncontinued_sound, misplaced_sound, target_sound, after_return_meets}
+use Rattle.swc_ecma_parser_reader.proofs.SoundParts.{end_sound, optional_end_sound, Declarators, declarators_sound, inside_sound, variables_sound, code_after, code_stays, code_setting, items_sound, close_sound, NoLabel, no_label_sound, NoNote, SoundNote, note_sound, and_false, unbroken_sound, uncontinued_sound, misplaced_sound, target_sound, after_return_meets}
 
 -- ---- statements
 
-module _ (Stmt : Code → Position → Tree → Place → Place → Type 0) (Expr : Class → Code → Tree → Place → Place → Type 0) (Pat : Code → Tree → Place → Place → Type 0)
-    (inner : Position → Reader Tree) (inner_expr : Class → Reader Tree) (inner_pat : Reader Tree)
+module _ (Stmt : Code → Position → Tree → Place → Place → Type 0) (Expr : Class → Code → Tree → Place → Place → Type 0) (Pat Target : Code → Tree → Place → Place → Type 0)
+    (inner : Position → Reader Tree) (inner_expr : Class → Reader Tree) (inner_pat : Reader Tree) (inner_head : Reader Cover)
     (sound : (at : Position) (s : State) → Meets (λ x t. SoundTree (λ k. Stmt k at) s x t) (inner at s))
     (sound_expr : (class : Class) (s : State) → Meets (λ x t. SoundTree (Expr class) s x t) (inner_expr class s))
     (sound_pat : (s : State) → Meets (λ x t. SoundTree Pat s x t) (inner_pat s))
+    (sound_head : (s : State) → Meets (λ v t. SoundAs Expr Target s v t) (inner_head s))
     (unnoted : (k : Code) (x : Tree) (c d : Place) → begins_import_expression c ≡ true → Expr expression k x c d → statement_note x ≡ []) (at : Position) where
   -- a statement in its place
   abbrev SoundStmt : State → Tree → State → Type 0
-  SoundStmt s x t = SoundTree (λ k. StmtRule Stmt Expr Pat k at) s x t
+  SoundStmt s x t = SoundTree (λ k. StmtRule Stmt Expr Pat Target k at) s x t
 
   empty_sound : (s : State) → kind_at s.at ≡ kind.Semi → Meets (SoundStmt s) (empty s)
   unfolding empty
@@ -132,11 +151,7 @@ module _ (Stmt : Code → Position → Tree → Place → Place → Type 0) (Exp
 
   -- an expression in which `in` is an operator
   inner_sound : (s : State) → Meets (λ x t. Sound same (λ k l. walk (env_of k l) x) (notes_of x) (λ k. Expr expression (with_in k) x) s t) (within with_in (inner_expr expression) s)
-  inner_sound s = within_sound (λ x k l. walk (env_of k l) x) notes_of (λ x k. Expr expression k x) with_in (λ k. refl) (inner_expr expression) s (sound_expr expression (coded (with_in s.code) s))
-
-  -- the body of a loop
-  looped_sound : (s : State) → Meets (λ x t. Sound same (λ k l. walk (env_of (in_loop k) l) x) (notes_of x) (λ k. Stmt (in_loop k) sub_statement x) s t) (within in_loop (inner sub_statement) s)
-  looped_sound s = within_sound (λ x k l. walk (env_of k l) x) notes_of (λ x k. Stmt k sub_statement x) in_loop (λ k. refl) (inner sub_statement) s (sound sub_statement (coded (in_loop s.code) s))
+  inner_sound s = inside_sound Expr Pat inner_expr inner_pat sound_expr sound_pat expression s
 
   throw_sound : (s : State) → kind_at s.at ≡ kind.Throw → Meets (SoundStmt s) (throw (inner_expr expression) s)
   unfolding throw thrown
@@ -202,12 +217,12 @@ module _ (Stmt : Code → Position → Tree → Place → Place → Type 0) (Exp
   while_sound : (s : State) → kind_at s.at ≡ kind.While → Meets (SoundStmt s) (while_stmt (inner sub_statement) (inner_expr expression) s)
   unfolding while_stmt
   while_sound s e = meets_then _ (head (inner_expr expression) (moved s)) _ (head_sound (moved s)) (λ x m p.
-      meets_then _ (within in_loop (inner sub_statement) m) _ (looped_sound m) (λ y t q.
+      meets_then _ (within in_loop (inner sub_statement) m) _ (looped_sound Stmt inner sound m) (λ y t q.
       sound_after s t e refl refl refl (λ (i, r, z). while_rule x y i e r z refl) (sound_then p q)))
 
   do_while_sound : (s : State) → kind_at s.at ≡ kind.Do → Meets (SoundStmt s) (do_while (inner sub_statement) (inner_expr expression) s)
   unfolding do_while
-  do_while_sound s e = meets_then _ (within in_loop (inner sub_statement) (moved s)) _ (looped_sound (moved s)) (λ y m p.
+  do_while_sound s e = meets_then _ (within in_loop (inner sub_statement) (moved s)) _ (looped_sound Stmt inner sound (moved s)) (λ y m p.
       meets_then _ (expect kind.While m) _ (expect_sound kind.While m refl) (λ _ n q.
       meets_then _ (head (inner_expr expression) n) _ (head_sound n) (λ x i r.
       meets_then _ (optional_end i) _ (optional_end_sound i) (λ _ t z.
@@ -432,12 +447,72 @@ module _ (Stmt : Code → Position → Tree → Place → Place → Type 0) (Exp
       try_rule x y z a g e b h (subst (λ w. FinallyRule Stmt s.code z g w) (sym v) j) (one_stands (subst (λ w. is_handled w ≡ true) (sym c) l) h j) refl)
       (sound_more (sound_then (sound_then b q) r) o)))))
 
+  -- ---- labels
+
+  -- what a label stands at
+  LabelledBody : Position → Tree → Code → Place → Place → Type 0
+  LabelledBody item x k c d = Stmt (in_breakable k) item x c d
+
+  labelled_body_sound : (text : Text) (s : State)
+      → Meets (λ x t. Sound same (λ k l. walk (env_of (in_breakable k) (l ++ text ∷ [])) x) (notes_of x) (LabelledBody (labelled_item s.at) x) s t) (labelled_body inner text s)
+  unfolding labelled_body LabelledBody
+  labelled_body_sound text s =
+      within_sound (λ x k l. walk (env_of k (l ++ text ∷ [])) x) notes_of (λ x k. Stmt k (labelled_item s.at) x) in_breakable (λ k. refl) (below_label text (inner (labelled_item s.at))) s
+      (meets_then _ (inner (labelled_item s.at) (below text (coded (in_breakable s.code) s))) _ (sound (labelled_item s.at) (below text (coded (in_breakable s.code) s)))
+      (λ x t p. sound_below text (coded (in_breakable s.code) s) t p))
+
+  labeled_sound : (s : State) → Meets (SoundStmt s) (labeled_stmt inner s)
+  unfolding labeled_stmt spanned LabelledBody
+  labeled_sound s = meets_then _ (name faults.ExpectedIdent s) _ (name_sound faults.ExpectedIdent s) (λ i m p.
+      meets_then _ (expect kind.Colon m) _ (expect_sound kind.Colon m refl) (λ _ n q.
+      meets_then _ (labelled_body inner i.sym n) _ (labelled_body_sound i.sym n) (λ y o r.
+      meets_then _ (relabels (tree.ident i.span i.sym) y o) _ (relabels_sound (tree.ident i.span i.sym) y o) (λ _ t u.
+      let a : Sound same no_faults no_notes (λ k c d. ((j : Place) × FreeWord i k c j × Takes kind.Colon j d) × (d ≡ n.at)) s n = sound_as s n refl refl refl (λ z. (z, refl)) (sound_more p q) in
+      let b : Sound same (λ k l. walk (env_of (in_breakable k) (l ++ i.sym ∷ [])) y) (notes_of y)
+      (λ k c d. ((j : Place) × (((v : Place) × FreeWord i k c v × Takes kind.Colon v j) × (j ≡ n.at)) × Stmt (in_breakable k) (labelled_item n.at) y j d) × (d ≡ o.at)) s o =
+      sound_as s o refl refl refl (λ z. (z, refl)) (sound_then a r) in
+      sound_as s t refl (sym (append_assoc (walk (env_of (in_breakable s.code) (s.scope.labels ++ i.sym ∷ [])) y) (labelled_function s.code.flags.strict y) (duplicates s.scope.labels (tree.ident i.span i.sym))))
+      (notes_nil (notes_of y))
+      (λ (c3, ((c2, ((c1, w, (h, g)), l), z), v), e).
+      labeled_rule w.word i.span y c1 w.token w.free h
+      (subst (λ c. Stmt (in_breakable s.code) (labelled_item c) y c t.at) (sym (sym g ∙ l)) (subst (λ c. Stmt (in_breakable s.code) (labelled_item n.at) y n.at c) (sym e) (subst (λ c. Stmt (in_breakable s.code) (labelled_item n.at) y c c3) l z)))
+      (ap (λ c. tree.labeled (spanned s.at c) (tree.ident i.span i.sym) y) (sym (e ∙ v)) ∙ ap (λ c. tree.labeled (spanned s.at t.at) (tree.ident i.span c) y) w.text))
+      (sound_then b u)))))
+
+  other_sound : (s : State) → Meets (SoundStmt s) (other_stmt inner (inner_expr expression) at s)
+  unfolding other_stmt
+  other_sound s = meets_if _ (begins_label s.code s.at) _ _ (λ _. labeled_sound s) (λ _. expr_stmt_at_sound s)
+
+  -- ---- declarations
+
+  declared_sound : (word : VarDeclKind) (s : State) → at.include_decl || is_var word ≡ true → begins_variables word s.at ≡ true → Meets (SoundStmt s) (variables inner_expr inner_pat word s)
+  declared_sound = variables_sound Expr Pat inner_expr inner_pat sound_expr sound_pat Stmt Target at
+
+  -- where declarations are read
+  allowed : (word : VarDeclKind) → at.include_decl ≡ true → at.include_decl || is_var word ≡ true
+  allowed word h = rw h refl
+
+  const_stmt_sound : (s : State) → begins_variables decl.Const s.at ≡ true → Meets (SoundStmt s) (const_stmt inner inner_expr inner_pat inner_head at s)
+  unfolding const_stmt
+  const_stmt_sound s e = by_place at.include_decl refl
+    where
+      by_place : (b : Bool) → at.include_decl ≡ b → Meets (SoundStmt s) (cond b (variables inner_expr inner_pat decl.Const) (wanted faults.Unexpected) s)
+      by_place true h = declared_sound decl.Const s (allowed decl.Const h) e
+      by_place false h = wanted_meets _ faults.Unexpected s
+
+  let_stmt_sound : (s : State) → Meets (SoundStmt s) (let_stmt inner inner_expr inner_pat inner_head at s)
+  unfolding let_stmt
+  let_stmt_sound s = meets_if _ (at.include_decl && is_let_declaration s.at) _ _
+      (λ h. let b = and_yes at.include_decl (is_let_declaration s.at) h in declared_sound decl.Let s (allowed decl.Let b.0) b.1) (λ _. other_sound s)
+
   -- each kind of token begins its statement
-  by_sound : (j : TokenKind) (s : State) → kind_at s.at ≡ j → Meets (SoundStmt s) (stmt_by inner inner_expr inner_pat at j s)
+  by_sound : (j : TokenKind) (s : State) → kind_at s.at ≡ j → Meets (SoundStmt s) (stmt_by inner inner_expr inner_pat inner_head at j s)
   by_sound kind.LBrace s e = block_sound s e
   by_sound kind.Semi s e = empty_sound s e
   by_sound kind.Debugger s e = debugger_sound s e
-  by_sound kind.Var s e = var_sound Expr Pat inner_expr inner_pat sound_expr sound_pat Stmt at s e
+  by_sound kind.Var s e = declared_sound decl.Var s (or_true at.include_decl) (seen s.at kind.Var e)
+  by_sound kind.Const s e = const_stmt_sound s (seen s.at kind.Const e)
+  by_sound kind.Let s e = let_stmt_sound s
   by_sound kind.If s e = if_sound s e
   by_sound kind.Switch s e = switch_sound s e
   by_sound kind.Break s e = break_sound s e
@@ -447,10 +522,11 @@ module _ (Stmt : Code → Position → Tree → Place → Place → Type 0) (Exp
   by_sound kind.Try s e = try_sound s e
   by_sound kind.While s e = while_sound s e
   by_sound kind.Do s e = do_while_sound s e
+  by_sound kind.For s e = for_sound Stmt Expr Pat Target inner inner_expr inner_pat inner_head sound sound_expr sound_pat sound_head at s e
   by_sound kind.Import s e = import_stmt_at_sound s
-  by_sound _ s e = expr_stmt_at_sound s
+  by_sound _ s e = other_sound s
 
-  level_sound : (s : State) → Meets (SoundStmt s) (stmt_level inner inner_expr inner_pat at s)
+  level_sound : (s : State) → Meets (SoundStmt s) (stmt_level inner inner_expr inner_pat inner_head at s)
   unfolding stmt_level
   level_sound s = by_sound (kind_at s.at) s refl
 
@@ -532,20 +608,24 @@ script_is n s x t ((f, keeps, p), e) =
       whole = e;
       added = p.added;
       faults = p.faults;
-      spells = λ h. (script_widens n s.code x s.at t.at (spelled h), sym (p.walked (p.spares h (ap has_error_token (nothing_at_end t.at e))) (ap drops h)) ∙ ap tabled h);
+      spells = λ h. (script_widens n s.code x s.at t.at (spelled h), p.clean h);
       is_supported = λ h. script_supported n s.code x s.at t.at (spelled h);
-      walked = p.walked;
+      walked = λ h d. p.walked (none_counted s.at.left h ∙ sym (ap error_tokens (nothing_at_end t.at e))) d;
       noted = p.notes;
       found = p.found;
     }
 
 -- ---- all levels
 
+-- what the head of a loop begins with, as an expression and as a target
+opens_sound : (n : ℕ) (s : State) → Meets (λ v t. SoundAs (ReadsClass n) (ReadsTarget n) s v t) (head_cover n s)
+opens_sound n s = meets_as (head_cover n s) (heads.head_sound n s) (λ v t p. sound_as s t refl refl refl (λ r. record { plain = r.plain; target = r.target }) p)
+
 -- a statement is in the grammar within as many levels
 pub stmt_sound : (n : ℕ) (at : Position) (s : State) → Meets (λ x t. SoundTree (λ k. ReadsStmt n k at) s x t) (stmt n at s)
 unfolding stmt
 stmt_sound zero at s = too_deep_meets _ s
-stmt_sound (suc n) at s = level_sound (ReadsStmt n) (ReadsClass n) (ReadsPat n) (stmt n) (expr n) (pattern n) (stmt_sound n) (expr_sound n) (pattern_sound n) (λ k x c d h r. import_unnoted n k x c d r h) at s
+stmt_sound (suc n) at s = level_sound (ReadsStmt n) (ReadsClass n) (ReadsPat n) (ReadsTarget n) (stmt n) (expr n) (pattern n) (head_cover n) (stmt_sound n) (expr_sound n) (pattern_sound n) (opens_sound n) (λ k x c d h r. import_unnoted n k x c d r h) at s
 
 -- a first line and statements up to the end
 body_sound : (n : ℕ) (s : State) → Meets (SoundBody n s) (script_body n s)
@@ -584,12 +664,21 @@ stmt_code n at s x t e =
     let P : Tree → State → Type 0 = λ y u. SoundTree (λ k. ReadsStmt n k at) s y u in
     let p : P x t = meant P Refuses (stmt n at s) (Ok (x, t)) e (stmt_sound n at s) in p.code
 
+-- and the labels and the mark
+pub stmt_scope : (n : ℕ) (at : Position) (s : State) (x : Tree) (t : State) → stmt n at s ≡ Ok (x, t) → t.scope ≡ s.scope
+stmt_scope n at s x t e =
+    let P : Tree → State → Type 0 = λ y u. SoundTree (λ k. ReadsStmt n k at) s y u in
+    let p : P x t = meant P Refuses (stmt n at s) (Ok (x, t)) e (stmt_sound n at s) in p.scope
+
 pub expr_code : (n : ℕ) (class : Class) (s : State) (x : Tree) (t : State) → expr n class s ≡ Ok (x, t) → t.code ≡ s.code
 expr_code n class s x t e =
     let p : SoundTree (ReadsClass n class) s x t = meant (λ y u. SoundTree (ReadsClass n class) s y u) Refuses (expr n class s) (Ok (x, t)) e (expr_sound n class s) in p.code
 
 pub cover_code : (n : ℕ) (s : State) (v : Cover) (t : State) → cover n s ≡ Ok (v, t) → t.code ≡ s.code
 cover_code n s v t e = let p : SoundCover n s v t = meant (λ y u. SoundCover n s y u) Refuses (cover n s) (Ok (v, t)) e (cover_sound n s) in p.code
+
+pub head_code_stays : (n : ℕ) (s : State) (v : Cover) (t : State) → head_cover n s ≡ Ok (v, t) → t.code ≡ s.code
+head_code_stays n s v t e = let p : SoundHead n s v t = meant (λ y u. SoundHead n s y u) Refuses (head_cover n s) (Ok (v, t)) e (heads.head_sound n s) in p.code
 
 pub pattern_code : (n : ℕ) (s : State) (x : Tree) (t : State) → pattern n s ≡ Ok (x, t) → t.code ≡ s.code
 pattern_code n s x t e = let p : SoundTree (ReadsPat n) s x t = meant (λ y u. SoundTree (ReadsPat n) s y u) Refuses (pattern n s) (Ok (x, t)) e (pattern_sound n s) in p.code
@@ -600,11 +689,12 @@ element_code n s x t e = let p : SoundTree (ReadsElement n) s x t = meant (λ y 
 pub clauses_code : (n : ℕ) (s : State) (xs : List Tree) (t : State) → clauses (stmt n nested_item) (expr n expression) s ≡ Ok (xs, t) → t.code ≡ s.code
 clauses_code n s xs t e =
     let noted : (k : Code) (x : Tree) (c d : Place) → begins_import_expression c ≡ true → ReadsClass n expression k x c d → statement_note x ≡ [] = λ k x c d h r. import_unnoted n k x c d r h in
-    let P : List Tree → State → Type 0 = SoundCases (ReadsStmt n) (ReadsClass n) (ReadsPat n) (stmt n) (expr n) (pattern n) (stmt_sound n) (expr_sound n) (pattern_sound n) noted nested_item s in
+    let P : List Tree → State → Type 0 = SoundCases (ReadsStmt n) (ReadsClass n) (ReadsPat n) (ReadsTarget n) (stmt n) (expr n) (pattern n) (head_cover n) (stmt_sound n) (expr_sound n) (pattern_sound n) (opens_sound n) noted nested_item s in
     let p : P xs t = meant P Refuses (clauses (stmt n nested_item) (expr n expression) s) (Ok (xs, t)) e
-    (clauses_sound (ReadsStmt n) (ReadsClass n) (ReadsPat n) (stmt n) (expr n) (pattern n) (stmt_sound n) (expr_sound n) (pattern_sound n) noted nested_item s) in p.code
+    (clauses_sound (ReadsStmt n) (ReadsClass n) (ReadsPat n) (ReadsTarget n) (stmt n) (expr n) (pattern n) (head_cover n) (stmt_sound n) (expr_sound n) (pattern_sound n) (opens_sound n) noted nested_item s) in p.code
 
-pub declarators_code : (n : ℕ) (s : State) (xs : List Tree) (t : State) → declarators (expr n) (pattern n) s ≡ Ok (xs, t) → t.code ≡ s.code
-declarators_code n s xs t e =
-    let P : List Tree → State → Type 0 = Declarators (ReadsClass n) (ReadsPat n) (expr n) (pattern n) (expr_sound n) (pattern_sound n) s in
-    let p : P xs t = meant P Refuses (declarators (expr n) (pattern n) s) (Ok (xs, t)) e (declarators_sound (ReadsClass n) (ReadsPat n) (expr n) (pattern n) (expr_sound n) (pattern_sound n) s) in p.code
+pub declarators_code : (n : ℕ) (in_head : Bool) (word : VarDeclKind) (s : State) (xs : List Tree) (t : State) → declarators (expr n) (pattern n) in_head word s ≡ Ok (xs, t) → t.code ≡ s.code
+declarators_code n in_head word s xs t e =
+    let P : List Tree → State → Type 0 = Declarators (ReadsClass n) (ReadsPat n) (expr n) (pattern n) (expr_sound n) (pattern_sound n) in_head word s in
+    let p : P xs t = meant P Refuses (declarators (expr n) (pattern n) in_head word s) (Ok (xs, t)) e
+    (declarators_sound (ReadsClass n) (ReadsPat n) (expr n) (pattern n) (expr_sound n) (pattern_sound n) in_head word s) in p.code

@@ -5,28 +5,40 @@ use Rattle.swc_ecma_parser_common.specs.declared.span.Span.{Span}
 use Rattle.swc_ecma_parser_error.specs.Kind as faults
 use Rattle.swc_ecma_parser_error.specs.Kind.{Kind, Fault}
 use Rattle.swc_ecma_parser_token.specs.declared.kind.TokenKind.TheVariants as kind
+use Rattle.swc_ecma_parser_token.specs.declared.token.Token.{Token}
+use Rattle.swc_ecma_parser_token.specs.declared.token.Token.TheVariants as token
+use Rattle.swc_ecma_parser_token.specs.declared.token.TokenAndSpan.{TokenAndSpan}
+use Rattle.swc_ecma_parser_token.specs.Kind.{token_kind}
 use Rattle.swc_ecma_parser_input.specs.Place.{Place, after}
+use Rattle.swc_ecma_parser_model.specs.declared.leaves.VarDeclKind.{VarDeclKind}
+use Rattle.swc_ecma_parser_model.specs.declared.leaves.VarDeclKind.TheVariants as decl
 use Rattle.swc_ecma_parser_model.specs.Tree as tree
-use Rattle.swc_ecma_parser_model.specs.Tree.{Tree, Text, listed, trees}
+use Rattle.swc_ecma_parser_model.specs.Tree.{Tree, Trees, Text, none, also, trees}
 use Rattle.swc_ecma_parser_model.specs.Directive.{is_use_strict}
-use Rattle.swc_ecma_parser_model.specs.Forms.{is_ident, is_ident_named, is_binding_name, span_of}
+use Rattle.swc_ecma_parser_model.specs.Forms.{is_ident, is_ident_named, span_of}
 use Rattle.swc_ecma_parser_grammar.specs.declared.position.Position.{Position}
 use Rattle.swc_ecma_parser_grammar.specs.Looks.{kind_at, sees, span_at, spanned}
 use Rattle.swc_ecma_parser_grammar.specs.Names.{Code}
+use Rattle.swc_ecma_parser_grammar.specs.Follows.{is_let_declaration}
+use Rattle.swc_ecma_parser_grammar.specs.Variables.{begins_variables, is_var, is_const, needs_no_initializer}
+use Rattle.swc_ecma_parser_model.specs.Within.{is_initialized}
+use Rattle.swc_ecma_parser_grammar.specs.Own.{only, stands_around, break_faults, continue_faults, return_faults, labelled_function, duplicates, surplus, head_faults}
 use Rattle.swc_ecma_parser_grammar.specs.Ends.{Ends, by_semicolon, by_insertion, OptionalEnds, by_a_semicolon, by_nothing, can_end, ends_at}
 use Rattle.swc_ecma_parser_grammar.specs.language.Goals.{Class, assignment}
-use Rattle.swc_ecma_parser_grammar.specs.Reads.{with_in, in_strict, directed, directs_on, DeclaratorRule, plain_rule, initialized_rule, ReadsSeparated, ReadsItems, TargetRule, no_target_rule, target_rule, StmtRule, var_rule}
+use Rattle.swc_ecma_parser_grammar.specs.Reads.{with_in, in_strict, directed, directs_on, DeclaratorRule, plain_rule, initialized_rule, ReadsSeparated, ReadsItems, TargetRule, no_target_rule, target_rule, StmtRule, variables_rule}
 use Rattle.swc_ecma_parser_grammar.specs.Walk as walks
-use Rattle.swc_ecma_parser_grammar.specs.Walk.{walk, env_of, tabled, drops}
+use Rattle.swc_ecma_parser_grammar.specs.Walk.{walk, env_of}
 use Rattle.swc_ecma_parser_grammar.specs.Notes.{statement_note}
 use Rattle.swc_ecma_parser_reader.specs.Notes.{no_notes, held, notes_of, all_notes_of}
-use Rattle.swc_ecma_parser_reader.specs.State.{State, Reader, moved, coded, within, noted, module_fault, fault_at, Outcome, and_then, fault, name, end}
-use Rattle.swc_ecma_parser_reader.specs.Reader.{told, target, unbroken, uncontinued, misplaced, after_return, initialized, declarator, declarators_turn, declarators, var, close, directs, items_turn, items, note_statement, no_label, optional_end}
+use Rattle.swc_ecma_parser_reader.specs.State.{State, Reader, moved, coded, within, noted, module_fault, fault_at, Outcome, and_then, recorded_at, recorded_in, fault, name, end}
+use Rattle.swc_ecma_parser_reader.specs.Reader.{told, target, unbroken, uncontinued, misplaced, misdeclared, after_return, relabels, missing_initializer, initialized, declarator, declarators_turn, declarators, variables, close, directs, items_turn, items, note_statement, no_label, optional_end}
 use Rattle.swc_ecma_parser_reader.proofs.expressions.SoundSteps.{meets_as, reject_meets, refused_meets, name_sound, Takes, noted_sound, fault_sound, walks_push, notes_push}
+use Rattle.swc_ecma_parser_grammar.proofs.Tests.{and_yes}
 use Rattle.swc_ecma_parser_reader.proofs.Notes.{or_nil, notes_nil}
+use Rattle.swc_ecma_parser_reader.specs.Entry.{error_tokens}
+use Rattle.swc_ecma_parser_reader.proofs.Errors.{is_error}
 use Rattle.swc_ecma_parser_reader.proofs.Meets.{Meets, Refuses, meets_then, meets_if, wanted_meets, refuse_meets, Turned, loop_answers, saw}
-use Rattle.swc_ecma_parser_reader.proofs.Between.{Sound, SoundTree, SoundStep, no_faults, same, sound_then, sound_more, sound_moved, sound_here, sound_as, sound_after, sound_coded, within_sound}
-use Rattle.swc_ecma_parser_grammar.specs.Own.{only, stands_around, break_faults, continue_faults, return_faults}
+use Rattle.swc_ecma_parser_reader.proofs.Between.{Sound, SoundTree, SoundStep, no_faults, same, same-fewer, sound_then, sound_more, sound_moved, sound_here, sound_as, sound_after, sound_coded, within_sound}
 
 -- ---- ends
 
@@ -61,61 +73,83 @@ module _ (Reads : Tree → Place → Place → Type 0) (x : Tree) where
   front_last c i d (y ∷ []) (m, a, b, e) r h = (m, a, b, front_last (after m) i d [] e r h)
   front_last c i d (y ∷ z ∷ zs) (m, a, b, more) r h = (m, a, b, front_last (after m) i d (z ∷ zs) more r h)
 
+-- the word that begins a declaration is no error token
+pub variables_stand : (word : VarDeclKind) (c : Place) → begins_variables word c ≡ true → is_error (kind_at c) ≡ false
+unfolding is_let_declaration
+variables_stand decl.Var c h = ap is_error (saw c kind.Var h)
+variables_stand decl.Const c h = ap is_error (saw c kind.Const h)
+variables_stand decl.Let c h = ap is_error (saw c kind.Let (and_yes (sees kind.Let c) _ h).0)
+
 module _ (Expr : Class → Code → Tree → Place → Place → Type 0) (Pat : Code → Tree → Place → Place → Type 0) (expr : Class → Reader Tree) (pat : Reader Tree)
     (sound_expr : (class : Class) (s : State) → Meets (λ x t. SoundTree (Expr class) s x t) (expr class s))
     (sound_pat : (s : State) → Meets (λ x t. SoundTree Pat s x t) (pat s)) where
-  -- a declarator of these expressions and patterns
-  abbrev pub Declared : Code → Tree → Place → Place → Type 0
-  Declared = DeclaratorRule (Expr assignment) Pat
+  -- an expression in which `in` is an operator
+  pub inside_sound : (class : Class) (s : State) → Meets (λ x t. Sound same (λ k l. walk (env_of k l) x) (notes_of x) (λ k. Expr class (with_in k) x) s t) (within with_in (expr class) s)
+  inside_sound class s = within_sound (λ x k l. walk (env_of k l) x) notes_of (λ x k. Expr class k x) with_in (λ k. refl) (expr class) s (sound_expr class (coded (with_in s.code) s))
 
-  -- what stands behind a name
-  initialized_sound : (s : State) (p : Tree) (t : State) → SoundTree Pat s p t → kind_at t.at ≡ kind.Assign → Meets (λ x u. SoundTree Declared s x u) (initialized expr pat (span_at s.at) p t)
-  unfolding initialized spanned
-  initialized_sound s p t q e = meets_then _ (expr assignment (moved t)) _ (sound_expr assignment (moved t)) (λ y u r.
-      let b : Sound same (λ k l. walk (env_of k l) y) (notes_of y) (λ k c d. (kind_at c ≡ kind.Assign) × Expr assignment k y (after c) d) t u =
-      sound_after t u e refl refl refl (λ z. (e, z)) r in
-      sound_as s u refl refl refl (λ (i, z, w). initialized_rule p y i z w.0 w.1 refl) (sound_then q b))
+  module _ (in_head : Bool) (word : VarDeclKind) where
+    -- a declarator of these expressions and patterns
+    abbrev pub Declared : Code → Tree → Place → Place → Type 0
+    Declared k = DeclaratorRule (Expr assignment) Pat k in_head word
 
-  -- a name, and what it is given where `=` stands
-  declarator_sound : (s : State) → Meets (λ x t. SoundTree Declared s x t) (declarator expr pat s)
-  unfolding declarator spanned
-  declarator_sound s = meets_then _ (pat s) _ (sound_pat s) (λ p t q. meets_if _ (sees kind.Assign t.at) _ _ (λ e. initialized_sound s p t q (saw t.at kind.Assign e))
-      (λ e. meets_if _ (is_binding_name p) _ _
-      (λ b. sound_as s t refl (sym (append-nil (walk (env_of s.code s.scope.labels) p))) (sym (notes_nil (notes_of p))) (λ r. plain_rule p r e b refl) q)
-      (λ _. reject_meets _ _ t)))
+    -- what stands behind a name
+    initialized_sound : (s : State) (p : Tree) (t : State) → Sound same (λ k l. walk (env_of k l) p) (notes_of p) (λ k. Pat (with_in k) p) s t → kind_at t.at ≡ kind.Assign → Meets (λ x u. SoundTree Declared s x u) (initialized expr pat (span_at s.at) p t)
+    unfolding initialized spanned
+    initialized_sound s p t q e = meets_then _ (expr assignment (moved t)) _ (sound_expr assignment (moved t)) (λ y u r.
+        let b : Sound same (λ k l. walk (env_of k l) y) (notes_of y) (λ k c d. (kind_at c ≡ kind.Assign) × Expr assignment k y (after c) d) t u =
+        sound_after t u e refl refl refl (λ z. (e, z)) r in
+        sound_as s u refl refl refl (λ (i, z, w). initialized_rule p y i z w.0 w.1 refl) (sound_then q b))
 
-  -- the declarators so far, and all
-  abbrev DeclaratorsSoFar : State → List Tree → State → Type 0
-  DeclaratorsSoFar s xs t = Sound same (λ k l. walks.walks (env_of k l) false (trees xs)) (all_notes_of (trees xs)) (λ k. Front (Declared k) xs) s t
+    -- a `const` of strict code without initializer is a fault, and so no rule has it
+    missing_sound : (s : State) (span : Span) (p : Tree) (t : State) → Sound same (λ k l. walk (env_of k l) p) (notes_of p) (λ k. Pat (with_in k) p) s t → Meets (λ x u. SoundTree Declared s x u) (missing_initializer word span p t)
+    missing_sound s span p t q = meets_if _ (is_const word && t.code.flags.strict) _ _
+        (λ _. meets_then _ (fault (fault_at span faults.ConstDeclarationsRequireInitialization) t) _
+        (fault_sound {table = []} (λ k c d. ⊥) (fault_at span faults.ConstDeclarationsRequireInitialization) t refl) (λ _ u r.
+        sound_as s u refl (sym (append-nil (walk (env_of s.code s.scope.labels) p))) (sym (notes_nil (notes_of p))) (λ (i, a, b). absurd b) (sound_more q r)))
+        (λ _. reject_meets _ _ t)
 
-  abbrev pub Declarators : State → List Tree → State → Type 0
-  Declarators s xs t = Sound same (λ k l. walks.walks (env_of k l) false (trees xs)) (all_notes_of (trees xs)) (λ k. ReadsSeparated (Declared k) xs) s t
+    -- a name, and what it is given where `=` stands
+    declarator_sound : (s : State) → Meets (λ x t. SoundTree Declared s x t) (declarator expr pat in_head word s)
+    unfolding declarator spanned
+    declarator_sound s = meets_then _ (within with_in pat s) _
+        (within_sound (λ x k l. walk (env_of k l) x) notes_of (λ x k. Pat k x) with_in (λ k. refl) pat s (sound_pat (coded (with_in s.code) s))) (λ p t q. meets_if _ (sees kind.Assign t.at) _ _ (λ e. initialized_sound s p t q (saw t.at kind.Assign e))
+        (λ e. meets_if _ (needs_no_initializer t.code in_head word p t.at) _ _
+        (λ b. sound_as s t refl (sym (append-nil (walk (env_of s.code s.scope.labels) p))) (sym (notes_nil (notes_of p)))
+        (λ r. plain_rule p r e (subst (λ k. needs_no_initializer k in_head word p t.at ≡ true) q.code b) refl) q)
+        (λ _. missing_sound s _ p t q)))
 
-  -- each turn reads one declarator
-  declarators_turn_sound : (s : State) (xs : List Tree) (t : State) → DeclaratorsSoFar s xs t
-      → Meets (Turned (declarators_turn expr pat) (DeclaratorsSoFar s) (Declarators s) Refuses) (declarators_turn expr pat xs t)
-  unfolding declarators_turn
-  declarators_turn_sound s xs t p = meets_then _ (declarator expr pat t) _ (declarator_sound t) (λ x u q. meets_if _ (sees kind.Comma u.at) _ _
-      (λ e. sound_as s (moved u) refl (walks_push (env_of s.code s.scope.labels) xs x) (notes_push xs x)
-      (λ (m, (i, a, b), z). subst (λ y. Front (Declared s.code) (xs ++ x ∷ []) s.at y) (sym z.1) (front_push (Declared s.code) x s.at i m xs a b z.0))
-      (sound_more (sound_then p q) (sound_moved {P = λ k. Takes kind.Comma} u (saw u.at kind.Comma e) refl (saw u.at kind.Comma e, refl))))
-      (λ e. sound_as s u refl (walks_push (env_of s.code s.scope.labels) xs x) (notes_push xs x)
-      (λ (i, a, b). front_last (Declared s.code) x s.at i u.at xs a b e) (sound_then p q)))
+    -- the declarators so far, and all
+    abbrev DeclaratorsSoFar : State → List Tree → State → Type 0
+    DeclaratorsSoFar s xs t = Sound same (λ k l. walks.walks (env_of k l) false (trees xs)) (all_notes_of (trees xs)) (λ k. Front (Declared k) xs) s t
 
-  -- declarators with commas between, and none behind
-  pub declarators_sound : (s : State) → Meets (Declarators s) (declarators expr pat s)
-  unfolding declarators
-  declarators_sound s = loop_answers (declarators_turn expr pat) (DeclaratorsSoFar s) (Declarators s) Refuses (declarators_turn_sound s) (λ t. tt) [] s (sound_here s refl)
+    abbrev pub Declarators : State → List Tree → State → Type 0
+    Declarators s xs t = Sound same (λ k l. walks.walks (env_of k l) false (trees xs)) (all_notes_of (trees xs)) (λ k. ReadsSeparated (Declared k) xs) s t
 
-  -- a `var` statement
-  pub var_sound : (Stmt : Code → Position → Tree → Place → Place → Type 0) (at : Position) (s : State) → kind_at s.at ≡ kind.Var
-      → Meets (λ x t. SoundTree (λ k. StmtRule Stmt Expr Pat k at) s x t) (var expr pat s)
-  unfolding var
-  var_sound Stmt at s e = meets_then _ (within with_in (declarators expr pat) (moved s)) _
-      (within_sound (λ xs k l. walks.walks (env_of k l) false (trees xs)) (λ xs. all_notes_of (trees xs)) (λ xs k. ReadsSeparated (Declared k) xs) with_in (λ k. refl) (declarators expr pat) (moved s)
-      (declarators_sound (coded (with_in s.code) (moved s)))) (λ xs m p.
+    -- each turn reads one declarator
+    declarators_turn_sound : (s : State) (xs : List Tree) (t : State) → DeclaratorsSoFar s xs t
+        → Meets (Turned (declarators_turn expr pat in_head word) (DeclaratorsSoFar s) (Declarators s) Refuses) (declarators_turn expr pat in_head word xs t)
+    unfolding declarators_turn
+    declarators_turn_sound s xs t p = meets_then _ (declarator expr pat in_head word t) _ (declarator_sound t) (λ x u q. meets_if _ (sees kind.Comma u.at) _ _
+        (λ e. sound_as s (moved u) refl (walks_push (env_of s.code s.scope.labels) xs x) (notes_push xs x)
+        (λ (m, (i, a, b), z). subst (λ y. Front (Declared s.code) (xs ++ x ∷ []) s.at y) (sym z.1) (front_push (Declared s.code) x s.at i m xs a b z.0))
+        (sound_more (sound_then p q) (sound_moved {P = λ k. Takes kind.Comma} u (saw u.at kind.Comma e) refl (saw u.at kind.Comma e, refl))))
+        (λ e. sound_as s u refl (walks_push (env_of s.code s.scope.labels) xs x) (notes_push xs x)
+        (λ (i, a, b). front_last (Declared s.code) x s.at i u.at xs a b e) (sound_then p q)))
+
+    -- declarators with commas between, and none behind
+    pub declarators_sound : (s : State) → Meets (Declarators s) (declarators expr pat in_head word s)
+    unfolding declarators
+    declarators_sound s = loop_answers (declarators_turn expr pat in_head word) (DeclaratorsSoFar s) (Declarators s) Refuses (declarators_turn_sound s) (λ t. tt) [] s (sound_here s refl)
+
+  -- `var`, `let` or `const`
+  pub variables_sound : (Stmt : Code → Position → Tree → Place → Place → Type 0) (Target : Code → Tree → Place → Place → Type 0) (at : Position) (word : VarDeclKind) (s : State)
+      → at.include_decl || is_var word ≡ true → begins_variables word s.at ≡ true → Meets (λ x t. SoundTree (λ k. StmtRule Stmt Expr Pat Target k at) s x t) (variables expr pat word s)
+  unfolding variables
+  variables_sound Stmt Target at word s b e = meets_then _ (within with_in (declarators expr pat false word) (moved s)) _
+      (within_sound (λ xs k l. walks.walks (env_of k l) false (trees xs)) (λ xs. all_notes_of (trees xs)) (λ xs k. ReadsSeparated (Declared false word k) xs) with_in (λ k. refl)
+      (declarators expr pat false word) (moved s) (declarators_sound false word (coded (with_in s.code) (moved s)))) (λ xs m p.
       meets_then _ (end faults.Unexpected m) _ (end_sound faults.Unexpected m) (λ _ t q.
-      sound_after s t e refl refl refl (λ (i, r, z). var_rule xs i e r z refl) (sound_more p q)))
+      sound_after s t refl (variables_stand word s.at e) refl refl (λ (i, r, z). variables_rule word xs i b e r z refl) (sound_more p q)))
 
 -- ---- statements one behind another
 
@@ -249,8 +283,8 @@ module_fault_sound x s e = by_module s.code.flags.module refl
       notes = λ i. rw (e, or_nil s.notes.found_module_item) refl;
       found = sym (or_nil s.notes.found_module_item);
       walked = λ i d. refl;
-      keeps = λ i. i;
-      spares = λ i g. g;
+      clean = λ i. refl;
+      fewer = same-fewer (error_tokens s.at.left) (error_tokens s.at.left) refl;
       remembers = λ i. i;
       reads = λ i. (rw h refl, refl);
     }
@@ -308,6 +342,59 @@ pub misplaced_sound : (start : Span) (s : State)
     → Meets (λ _ t. SoundOwn (λ k l. return_faults (k.flags.in_function || k.setting.allow_return_outside_function) (record { lo = start.lo; hi = s.at.last.hi })) s t) (misplaced start s)
 unfolding misplaced SoundTold
 misplaced_sound start s = meets_as (misplaced start s) (told_sound _ (only_tabled _ _ _ refl) s) (λ _ t p. sound_as s t refl refl refl (λ h. h) p)
+
+both_tabled : (es fs : List Fault) → AllTabled es → AllTabled fs → AllTabled (es ++ fs)
+both_tabled [] fs h g = g
+both_tabled (e ∷ es) fs (i, h) g = (i, both_tabled es fs h g)
+
+function_tabled : (strict : Bool) (x : Tree) → AllTabled (labelled_function strict x)
+function_tabled strict (tree.fn_decl name (tree.function s (tree.list none) params body false is_generator)) = both_tabled _ _ (only_tabled strict _ _ refl) (only_tabled is_generator _ _ refl)
+function_tabled strict _ = tt
+
+duplicates_tabled : (labels : List Text) (label : Tree) → AllTabled (duplicates labels label)
+duplicates_tabled [] label = tt
+duplicates_tabled (l ∷ ls) label = both_tabled _ _ (only_tabled (is_ident_named l label) _ _ refl) (duplicates_tabled ls label)
+
+surplus_tabled : (ds : Trees) → AllTabled (surplus ds)
+surplus_tabled none = tt
+surplus_tabled (also d ds) = (refl, surplus_tabled ds)
+
+head_tabled : (refused : Bool) (left : Tree) → AllTabled (head_faults refused left)
+head_tabled refused (tree.var s word (tree.list (also d none))) = only_tabled (refused && is_initialized d) _ _ refl
+head_tabled refused (tree.var s word (tree.list (also d ds))) = surplus_tabled ds
+head_tabled refused _ = tt
+
+-- before `in` and `of` no error token stands, so no token is taken
+recorded_at_stays : (f : Fault) (s : State) (t : Token) → is_error (token_kind t) ≡ false → Meets (λ _ u. u.at ≡ s.at) (recorded_at f s t)
+recorded_at_stays f s (token.Error e) h = cc
+recorded_at_stays f s _ h = refl
+
+recorded_in_stays : (f : Fault) (s : State) (ts : List TokenAndSpan) → s.at.left ≡ ts → is_error (kind_at s.at) ≡ false → Meets (λ _ u. u.at ≡ s.at) (recorded_in f s ts)
+unfolding kind_at
+recorded_in_stays f s [] e h = refl
+recorded_in_stays f s (t ∷ ts) e h = recorded_at_stays f s t.token (rw e at h)
+
+told_stays : (fs : List Fault) (s : State) → is_error (kind_at s.at) ≡ false → Meets (λ _ t. t.at ≡ s.at) (told fs s)
+unfolding fault
+told_stays [] s h = refl
+told_stays (f ∷ fs) s h = meets_then _ (fault f s) _ (recorded_in_stays f s s.at.left refl h) (λ _ m e.
+    meets_as (told fs m) (told_stays fs m (subst (λ c. is_error (kind_at c) ≡ false) (sym e) h)) (λ _ t g. g ∙ e))
+
+meets_both : {A : Type 0} (P Q : A → State → Type 0) (o : Outcome A) → Meets P o → Meets Q o → Meets (λ a t. P a t × Q a t) o
+meets_both P Q (Ok p) h g = (h, g)
+meets_both P Q (Err e) h g = tt
+
+-- initializers are refused by the code
+pub misdeclared_sound : (refused : Code → Bool) (left : Tree) (s : State) → is_error (kind_at s.at) ≡ false
+    → Meets (λ _ t. SoundOwn (λ k l. head_faults (refused k) left) s t × (t.at ≡ s.at)) (misdeclared (refused s.code) left s)
+unfolding misdeclared SoundTold
+misdeclared_sound refused left s h = meets_both _ _ (misdeclared (refused s.code) left s)
+    (meets_as (misdeclared (refused s.code) left s) (told_sound _ (head_tabled (refused s.code) left) s) (λ _ t p. sound_as s t refl refl refl (λ e. e) p)) (told_stays _ s h)
+
+pub relabels_sound : (label body : Tree) (s : State) → Meets (λ _ t. SoundOwn (λ k l. labelled_function k.flags.strict body ++ duplicates l label) s t) (relabels label body s)
+unfolding relabels SoundTold
+relabels_sound label body s = meets_as (relabels label body s) (told_sound _ (both_tabled _ _ (function_tabled s.code.flags.strict body) (duplicates_tabled s.scope.labels label)) s)
+    (λ _ t p. sound_as s t refl refl refl (λ h. h) p)
 
 -- the label of `break` and `continue`, in which the walk finds nothing
 pub target_sound : (s : State) → Meets (λ x t. Sound same no_faults (notes_of x) (λ k. TargetRule k x) s t) (target s)

@@ -8,6 +8,7 @@ pub mod CompleteParts
 pub mod CompleteCovers
 pub mod CompleteLefts
 pub mod Complete
+pub mod HeadEnds
 pub mod SoundSteps
 pub mod SoundLists
 pub mod SoundCovers
@@ -16,3 +17,4 @@ pub mod SoundOperators
 pub mod SoundTargets
 pub mod Stays
 pub mod Sound
+pub mod Heads

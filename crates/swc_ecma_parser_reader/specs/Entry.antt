@@ -1,21 +1,23 @@
 -- What an entry gives, by the grammar and the walk alone.
-use Rattle.std.specs.Prelude.{◌≡◌, ◌≢◌, ℕ, true, false, ◌||◌, ◌⊎◌, List, [], ◌++◌, None, Result, Ok, Err}
+use Rattle.std.specs.Prelude.{◌≡◌, ◌≢◌, ℕ, suc, ◌≤◌, if◌then◌else◌, Bool, true, false, ◌||◌, ◌⊎◌, List, [], ◌∷◌, ◌++◌, None, Result, Ok, Err}
 use Rattle.swc_ecma_parser_error.specs.declared.error.Error.{Error}
 use Rattle.swc_ecma_parser_error.specs.Kind.{Fault, fault_of, kind_of, OutOfMemory}
 use Rattle.swc_ecma_parser_token.specs.declared.kind.TokenKind.TheVariants as kind
+use Rattle.swc_ecma_parser_token.specs.declared.token.TokenAndSpan.{TokenAndSpan}
+use Rattle.swc_ecma_parser_token.specs.Kind.{token_kind}
 use Rattle.swc_ecma_parser_input.specs.Place.{Place}
 use Rattle.swc_ecma_parser_model.specs.Tree.{Tree}
-use Rattle.swc_ecma_parser_grammar.specs.Looks.{kind_at}
+use Rattle.swc_ecma_parser_grammar.specs.Looks.{kind_at, sees, same_kind}
 use Rattle.swc_ecma_parser_grammar.specs.Names.{Code}
 use Rattle.swc_ecma_parser_grammar.specs.Entries.{script_code, has_error_token}
 use Rattle.swc_ecma_parser_grammar.specs.Supported.{supported}
 use Rattle.swc_ecma_parser_grammar.specs.language.Noted.{has_meta}
 use Rattle.swc_ecma_parser_grammar.specs.language.Programs as programs
-use Rattle.swc_ecma_parser_grammar.specs.language.Programs.{ReadsEntry, Spells}
+use Rattle.swc_ecma_parser_grammar.specs.language.Programs.{Entry, at_top, ReadsEntry, Spells}
 use Rattle.swc_ecma_parser_grammar.specs.Walk.{walk, env_of, tabled, drops}
 use Rattle.swc_ecma_parser_reader.specs.Notes.{notes_of, ◌⊕◌}
 use Rattle.swc_ecma_parser_reader.specs.State.{State, GivesAs}
-use Rattle.swc_ecma_parser_reader.specs.Reader.{script}
+use Rattle.swc_ecma_parser_reader.specs.Reader.{stmt, script}
 
 -- the walk of a script read in a state
 abbrev pub script_walk : State → Tree → List Fault
@@ -69,3 +71,55 @@ pub record IsRestored (s t : State) : Type 0 where
 abbrev pub AnswersScript : {X : Type 0} → (X → Tree) → ℕ → State → Result X Error → State → Type 0
 AnswersScript view limit s (Ok x) t = script limit s ≡ Ok (view x, t)
 AnswersScript view limit s (Err e) t = kind_of e.kind ≢ OutOfMemory → (u : State) × (script limit s ≡ Err (fault_of e, u))
+
+-- ---- one statement, or one that may be a declaration, behind which anything may stand
+
+-- how many error tokens are left
+abbrev pub error_tokens : List TokenAndSpan → ℕ
+error_tokens [] = 0
+error_tokens (t ∷ ts) = if same_kind (token_kind t.token) kind.Error then suc (error_tokens ts) else error_tokens ts
+
+abbrev pub statement_entry : (include_decl top_level : Bool) → Entry
+statement_entry false top_level = programs.stmt top_level
+statement_entry true top_level = programs.stmt_list_item top_level
+
+-- its walk where it was read
+abbrev pub statement_walk : State → Tree → List Fault
+statement_walk s x = walk (env_of s.code s.scope.labels) x
+
+-- the state after it
+abbrev pub statement_left : State → Tree → Place → State
+statement_left s x d = record s { at = d; faults = s.faults ++ statement_walk s x; notes = s.notes ⊕ notes_of x }
+
+-- An answer: the code and the labels around are as before; where nothing was recorded the tokens up to its end spell it as a
+-- statement of the language, it has supported forms alone, its walk is empty, and what was noted are its notes; where no error
+-- token was read and nothing was dropped, the faults of the table among those recorded are the walk's; and whatever was recorded,
+-- that the code is a module's is noted where the tree says so, and nowhere else.
+pub record SoundStatement (limit : ℕ) (include_decl top_level : Bool) (s : State) (x : Tree) (t : State) : Type 0 where
+  pub code : t.code ≡ s.code
+  pub scope : t.scope ≡ s.scope
+  pub added : List Fault
+  pub faults : t.faults ≡ s.faults ++ added
+  pub spells : added ≡ [] → Spells limit (statement_entry include_decl top_level) s.code s.scope.labels x s.at t.at
+  pub is_supported : added ≡ [] → supported x ≡ true
+  -- no error token comes to those that are left, and there are as many where none was read
+  pub fewer : error_tokens t.at.left ≤ error_tokens s.at.left
+  pub walked : error_tokens s.at.left ≡ error_tokens t.at.left → drops added ≡ false → tabled added ≡ statement_walk s x
+  pub noted : added ≡ [] → t.notes ≡ s.notes ⊕ notes_of x
+  pub found : t.notes.found_module_item ≡ (s.notes.found_module_item || has_meta x)
+
+-- a statement of the language within a limit, of supported forms alone
+abbrev pub ReadsSupportedStatement : ℕ → (include_decl top_level : Bool) → Code → Tree → Place → Place → Type 0
+ReadsSupportedStatement limit include_decl top_level k x c d = ReadsEntry limit (statement_entry include_decl top_level) k x c d × (supported x ≡ true)
+
+-- A supported tree within the limit that tokens from here on spell is the answer, and they are what is read, with the faults of the
+-- walk and no others, unless memory ran out; where the walk finds some, no error token may stand right behind them.
+abbrev pub CompleteStatement : {X : Type 0} → (X → Tree) → ℕ → (include_decl top_level : Bool) → State → Result X Error → State → Type 0
+CompleteStatement view limit include_decl top_level s result t =
+    (x : Tree) (d : Place) → ReadsSupportedStatement limit include_decl top_level s.code x s.at d → (statement_walk s x ≡ []) ⊎ (sees kind.Error d ≡ false)
+    → GivesAs view (Ok (x, statement_left s x d)) result t
+
+-- what the reader answers; of the state after a refusal nothing is said
+abbrev pub AnswersStatement : {X : Type 0} → (X → Tree) → ℕ → (include_decl top_level : Bool) → State → Result X Error → State → Type 0
+AnswersStatement view limit include_decl top_level s (Ok x) t = stmt limit (at_top include_decl top_level) s ≡ Ok (view x, t)
+AnswersStatement view limit include_decl top_level s (Err e) t = kind_of e.kind ≢ OutOfMemory → (u : State) × (stmt limit (at_top include_decl top_level) s ≡ Err (fault_of e, u))

@@ -2,6 +2,7 @@ pub mod Notes
 pub mod State
 pub mod Classes
 pub mod Expressions
+pub mod Heads
 pub mod Patterns
 pub mod Reader
 pub mod Entry

@@ -9,23 +9,35 @@ use Rattle.swc_ecma_parser_token.specs.declared.token.Token.{Token}
 use Rattle.swc_ecma_parser_token.specs.declared.token.Token.TheVariants as token
 use Rattle.swc_ecma_parser_token.specs.declared.token.TokenAndSpan.{TokenAndSpan}
 use Rattle.swc_ecma_parser_input.specs.Place.{Place, after}
+use Rattle.swc_ecma_parser_model.specs.declared.leaves.VarDeclKind.{VarDeclKind}
 use Rattle.swc_ecma_parser_model.specs.declared.leaves.VarDeclKind.TheVariants as decl
 use Rattle.swc_ecma_parser_model.specs.Tree as tree
 use Rattle.swc_ecma_parser_model.specs.Tree.{Tree, Text, listed}
-use Rattle.swc_ecma_parser_model.specs.Forms.{is_ident, is_ident_named, is_binding_name, span_of}
+use Rattle.swc_ecma_parser_model.specs.Forms.{is_ident, is_ident_named, span_of}
 use Rattle.swc_ecma_parser_grammar.specs.declared.position.Position.{Position}
 use Rattle.swc_ecma_parser_grammar.specs.Looks.{kind_at, breaks_at, sees, span_at}
-use Rattle.swc_ecma_parser_grammar.specs.Follows.{may_begin_expression_statement, begins_import_expression}
-use Rattle.swc_ecma_parser_grammar.specs.Reads.{with_in, directed, nested_item, top_item}
+use Rattle.swc_ecma_parser_grammar.specs.Names.{Code, name_at}
+use Rattle.swc_ecma_parser_grammar.specs.Follows.{word_at, may_begin_expression_statement, begins_import_expression, is_let_declaration}
+use Rattle.swc_ecma_parser_grammar.specs.Variables.{is_const, needs_no_initializer}
+use Rattle.swc_ecma_parser_grammar.specs.Reads.{with_in, head_code, directed, nested_item, top_item}
 use Rattle.swc_ecma_parser_grammar.specs.Ends.{ends_at}
-use Rattle.swc_ecma_parser_grammar.specs.Own.{break_faults, continue_faults, return_faults}
+use Rattle.swc_ecma_parser_grammar.specs.Own.{break_faults, continue_faults, return_faults, labelled_function, duplicates, head_faults}
 use Rattle.swc_ecma_parser_grammar.specs.Entries.{script_code}
-use Rattle.swc_ecma_parser_grammar.specs.language.Contexts.{in_loop, in_breakable}
+use Rattle.swc_ecma_parser_grammar.specs.language.Contexts.{in_loop, in_breakable, without_in}
 use Rattle.swc_ecma_parser_grammar.specs.language.Goals.{Class, expression, assignment}
-use Rattle.swc_ecma_parser_grammar.specs.language.Items.{sub_statement}
-use Rattle.swc_ecma_parser_reader.specs.Expressions.{expr}
+use Rattle.swc_ecma_parser_grammar.specs.language.Items.{sub_statement, labelled_item}
+use Rattle.swc_ecma_parser_reader.specs.Expressions as exprs
+use Rattle.swc_ecma_parser_reader.specs.Expressions.{Cover, expr}
+use Rattle.swc_ecma_parser_reader.specs.Heads.{head_cover}
 use Rattle.swc_ecma_parser_reader.specs.Patterns.{pattern}
-use Rattle.swc_ecma_parser_reader.specs.State.{Outcome, Reader, ◌>>=◌, ◌>>◌, pure, here, span_here, since, skip, moved, spanned_from, coded, flagged, within, fault, fault_at, end_of, module_fault, wanted, too_deep, refuse, reject, refused, labelled, name, expect, end, stuck, Step, More, Done, loop}
+use Rattle.swc_ecma_parser_reader.specs.State.{Outcome, Reader, ◌>>=◌, ◌>>◌, pure, here, span_here, since, skip, moved, spanned_from, coded, flagged, within, below_label, fault, fault_at, end_of, module_fault, wanted, too_deep, refuse, reject, refused, labelled, name, expect, end, stuck, Step, More, Done, loop}
+
+-- ---- what is told
+
+-- these faults, one behind another
+abbrev pub told : List Fault → Reader (Unit {0})
+told [] = λ s. Ok (tt, s)
+told (f ∷ fs) = fault f >> told fs
 
 -- ---- statements
 
@@ -44,14 +56,19 @@ debugger = do
   span ← spanned_from start
   pure (tree.debugger span)
 
--- without initializer a plain name alone may stand
-abbrev pub uninitialized : Span → Tree → Reader Tree
-uninitialized span p = λ s. if is_binding_name p then Ok (tree.declarator span p tree.absent, s) else reject (fault_at span faults.PatVarWithoutInit) s
+-- Where an initializer is asked for and does not stand: a `const` of strict code goes on behind its fault, another pattern is refused.
+abbrev pub missing_initializer : VarDeclKind → Span → Tree → Reader Tree
+missing_initializer word span p = λ s. if is_const word && s.code.flags.strict then (do
+  fault (fault_at span faults.ConstDeclarationsRequireInitialization)
+  pure (tree.declarator span p tree.absent)) s else reject (fault_at span faults.PatVarWithoutInit) s
 
-abbrev pub bare_declarator : Span → Tree → Reader Tree
-bare_declarator start p = do
+abbrev pub uninitialized : (in_head : Bool) → VarDeclKind → Span → Tree → Reader Tree
+uninitialized in_head word span p = λ s. if needs_no_initializer s.code in_head word p s.at then Ok (tree.declarator span p tree.absent, s) else missing_initializer word span p s
+
+abbrev pub bare_declarator : (in_head : Bool) → VarDeclKind → Span → Tree → Reader Tree
+bare_declarator in_head word start p = do
   span ← since start
-  uninitialized span p
+  uninitialized in_head word span p
 
 module _ (expr : Class → Reader Tree) (pat : Reader Tree) where
   -- `=` and what a name is given
@@ -62,28 +79,30 @@ module _ (expr : Class → Reader Tree) (pat : Reader Tree) where
     span ← since start
     pure (tree.declarator span p e)
 
-  unfoldable pub declarator : Reader Tree
-  declarator = do
+  -- a variable, in the head of a loop or not
+  unfoldable pub declarator : (in_head : Bool) → VarDeclKind → Reader Tree
+  declarator in_head word = do
     start ← span_here
-    p ← pat
-    λ s. if sees kind.Assign s.at then initialized start p s else bare_declarator start p s
+    p ← within with_in pat
+    λ s. if sees kind.Assign s.at then initialized start p s else bare_declarator in_head word start p s
 
-  unfoldable pub declarators_turn : List Tree → Reader (Step (List Tree) (List Tree))
-  declarators_turn found = do
-    x ← declarator
+  unfoldable pub declarators_turn : (in_head : Bool) → VarDeclKind → List Tree → Reader (Step (List Tree) (List Tree))
+  declarators_turn in_head word found = do
+    x ← declarator in_head word
     λ s. if sees kind.Comma s.at then Ok (More (found ++ x ∷ []), moved s) else Ok (Done (found ++ x ∷ []), s)
 
-  unfoldable pub declarators : Reader (List Tree)
-  declarators = loop declarators_turn []
+  unfoldable pub declarators : (in_head : Bool) → VarDeclKind → Reader (List Tree)
+  declarators in_head word = loop (declarators_turn in_head word) []
 
-  unfoldable pub var : Reader Tree
-  var = do
+  -- `var`, `let` or `const`
+  unfoldable pub variables : VarDeclKind → Reader Tree
+  variables word = do
     start ← here
     skip
-    found ← within with_in declarators
+    found ← within with_in (declarators false word)
     end faults.Unexpected
     span ← spanned_from start
-    pure (tree.var span decl.Var (listed found))
+    pure (tree.var span word (listed found))
 
 -- a block's statements end before `}` or at the end of the list
 unfoldable pub closes : Place → Bool
@@ -218,6 +237,108 @@ module _ (stmt : Reader Tree) (expr : Reader Tree) where
     span ← spanned_from start
     pure (tree.do_while span test body)
 
+-- ---- `for`
+
+-- what the head of a `for` begins with
+pub data Opening : Type 0 where
+  Nothing : Opening
+  Variables : Tree → Opening
+  Expression : Cover → Opening
+
+-- as the first part of three
+abbrev pub as_init : Opening → Reader Tree
+as_init Nothing = pure tree.absent
+as_init (Variables x) = pure x
+as_init (Expression v) = exprs.close v
+
+-- as what takes each value
+abbrev pub as_left : Opening → Reader Tree
+as_left Nothing = wanted faults.Unexpected
+as_left (Variables x) = pure x
+as_left (Expression v) = exprs.target v
+
+module _ (expr : Class → Reader Tree) (pat : Reader Tree) where
+  -- what a head declares, without an end
+  unfoldable pub head_variables : VarDeclKind → Reader Opening
+  head_variables word = do
+    start ← span_here
+    skip
+    found ← within (head_code word) (declarators expr pat true word)
+    span ← since start
+    pure (Variables (tree.var span word (listed found)))
+
+  module _ (head_cover : Reader Cover) where
+    unfoldable pub head_expression : Reader Opening
+    head_expression = do
+      v ← within without_in head_cover
+      pure (Expression v)
+
+    unfoldable pub opening : Reader Opening
+    opening = λ s.
+        if sees kind.Semi s.at then Ok (Nothing, s)
+        else if sees kind.Var s.at then head_variables decl.Var s
+        else if sees kind.Const s.at then head_variables decl.Const s
+        else if is_let_declaration s.at then head_variables decl.Let s
+        else head_expression s
+
+-- a part of a head, unless what stands behind it does
+unfoldable pub head_part : TokenKind → Reader Tree → Reader Tree
+head_part behind expr = λ s. if sees behind s.at then Ok (tree.absent, s) else within with_in expr s
+
+-- the faults of what is declared before `in` and `of`
+unfoldable pub misdeclared : Bool → Tree → Reader (Unit {0})
+misdeclared refused left = told (head_faults refused left)
+
+module _ (stmt : Reader Tree) (expr : Class → Reader Tree) where
+  -- from behind the first part
+  unfoldable pub for_parts : Span → Opening → Reader Tree
+  for_parts start first = do
+    init ← as_init first
+    expect kind.Semi
+    test ← head_part kind.Semi (expr expression)
+    expect kind.Semi
+    next ← head_part kind.RParen (expr expression)
+    expect kind.RParen
+    body ← within in_loop stmt
+    span ← since start
+    pure (tree.for span init test next body)
+
+  unfoldable pub for_in : Span → Opening → Reader Tree
+  for_in start first = do
+    left ← as_left first
+    λ s. misdeclared s.code.flags.strict left s
+    skip
+    right ← within with_in (expr expression)
+    expect kind.RParen
+    body ← within in_loop stmt
+    span ← since start
+    pure (tree.for_in span left right body)
+
+  unfoldable pub for_of : Span → Opening → Reader Tree
+  for_of start first = do
+    left ← as_left first
+    misdeclared true left
+    skip
+    right ← within with_in (expr assignment)
+    expect kind.RParen
+    body ← within in_loop stmt
+    span ← since start
+    pure (tree.for_of span false left right body)
+
+  unfoldable pub for_behind : Span → Opening → Reader Tree
+  for_behind start first = λ s.
+      if sees kind.In s.at then for_in start first s
+      else if word_at (codes "of") s.at then for_of start first s
+      else for_parts start first s
+
+  unfoldable pub for_stmt : Reader Tree → Reader Cover → Reader Tree
+  for_stmt pat head_cover = do
+    start ← span_here
+    skip
+    expect kind.LParen
+    first ← opening expr pat head_cover
+    for_behind start first
+
 -- ---- `if`: a chain of `else if` is one level
 
 -- an `if` up to its first statement
@@ -274,11 +395,6 @@ module _ (stmt : Reader Tree) (expr : Reader Tree) where
   if_stmt = λ s. links (suc (length s.at.left)) s
 
 -- ---- `break`, `continue` and `return`
-
--- these faults, one behind another
-abbrev pub told : List Fault → Reader (Unit {0})
-told [] = λ s. Ok (tt, s)
-told (f ∷ fs) = fault f >> told fs
 
 -- the label of `break` and `continue`: none where the statement can end
 unfoldable pub target : Reader Tree
@@ -340,6 +456,35 @@ module _ (expr : Reader Tree) where
     start ← span_here
     skip
     λ s. after_return start (returned start s)
+
+-- ---- labels
+
+-- a name and `:`
+unfoldable pub begins_label : Code → Place → Bool
+begins_label k c = name_at k.flags c && sees kind.Colon (after c)
+
+-- the faults of a label behind what it stands at
+unfoldable pub relabels : (label body : Tree) → Reader (Unit {0})
+relabels label body = λ s. told (labelled_function s.code.flags.strict body ++ duplicates s.scope.labels label) s
+
+module _ (stmt : Position → Reader Tree) where
+  -- what a label stands at
+  unfoldable pub labelled_body : Text → Reader Tree
+  labelled_body text = λ s. within in_breakable (below_label text (stmt (labelled_item s.at))) s
+
+  unfoldable pub labeled_stmt : Reader Tree
+  labeled_stmt = do
+    start ← span_here
+    i ← name faults.ExpectedIdent
+    expect kind.Colon
+    body ← labelled_body i.sym
+    span ← since start
+    relabels (tree.ident i.span i.sym) body
+    pure (tree.labeled span (tree.ident i.span i.sym) body)
+
+  -- a statement that its first token does not tell
+  unfoldable pub other_stmt : Reader Tree → Position → Reader Tree
+  other_stmt expr at = λ s. if begins_label s.code s.at then labeled_stmt s else expr_stmt_at expr at s
 
 -- ---- `switch`
 
@@ -456,12 +601,22 @@ module _ (stmt : Reader Tree) where
       span ← spanned_from start
       pure (tree.try span body h f)
 
-module _ (stmt : Position → Reader Tree) (expr : Class → Reader Tree) (pat : Reader Tree) where
+module _ (stmt : Position → Reader Tree) (expr : Class → Reader Tree) (pat : Reader Tree) (head_cover : Reader Cover) where
+  -- `const`, where declarations are read
+  unfoldable pub const_stmt : Position → Reader Tree
+  const_stmt at = if at.include_decl then variables expr pat decl.Const else wanted faults.Unexpected
+
+  -- `let` begins a declaration before what can be declared, where declarations are read; else it is a name
+  unfoldable pub let_stmt : Position → Reader Tree
+  let_stmt at = λ s. if at.include_decl && is_let_declaration s.at then variables expr pat decl.Let s else other_stmt stmt (expr expression) at s
+
   abbrev pub stmt_by : Position → TokenKind → Reader Tree
   stmt_by at kind.LBrace = block (stmt nested_item)
   stmt_by at kind.Semi = empty
   stmt_by at kind.Debugger = debugger
-  stmt_by at kind.Var = var expr pat
+  stmt_by at kind.Var = variables expr pat decl.Var
+  stmt_by at kind.Const = const_stmt at
+  stmt_by at kind.Let = let_stmt at
   stmt_by at kind.If = if_stmt (stmt sub_statement) (expr expression)
   stmt_by at kind.Switch = switch_stmt (stmt nested_item) (expr expression)
   stmt_by at kind.Break = break_stmt
@@ -471,8 +626,9 @@ module _ (stmt : Position → Reader Tree) (expr : Class → Reader Tree) (pat :
   stmt_by at kind.Try = try_stmt (stmt nested_item) pat
   stmt_by at kind.While = while_stmt (stmt sub_statement) (expr expression)
   stmt_by at kind.Do = do_while (stmt sub_statement) (expr expression)
+  stmt_by at kind.For = for_stmt (stmt sub_statement) expr pat head_cover
   stmt_by at kind.Import = import_stmt_at (expr expression)
-  stmt_by at _ = expr_stmt_at (expr expression) at
+  stmt_by at _ = other_stmt stmt (expr expression) at
 
   unfoldable pub stmt_level : Position → Reader Tree
   stmt_level at = λ s. stmt_by at (kind_at s.at) s
@@ -480,7 +636,7 @@ module _ (stmt : Position → Reader Tree) (expr : Class → Reader Tree) (pat :
 -- a statement in so many levels
 unfoldable pub stmt : ℕ → Position → Reader Tree
 stmt zero at = too_deep
-stmt (suc n) at = stmt_level (stmt n) (expr n) (pattern n) at
+stmt (suc n) at = stmt_level (stmt n) (expr n) (pattern n) (head_cover n) at
 
 -- ---- a script
 

@@ -94,6 +94,18 @@ flagged k s = coded (record s.code { flags = k.flags }) s
 abbrev pub within : {A : Type 0} → (Code → Code) → Reader A → Reader A
 within change p = λ s. and_then (p (coded (change s.code) s)) (λ a t. Ok (a, flagged s.code t))
 
+-- below one more label
+abbrev pub below : Text → State → State
+below text s = record s { scope = record s.scope { labels = s.scope.labels ++ text ∷ [] } }
+
+-- the labels are what they were
+abbrev pub relabelled : Scope → State → State
+relabelled w s = record s { scope = record s.scope { labels = w.labels } }
+
+-- a reader below one more label
+abbrev pub below_label : {A : Type 0} → Text → Reader A → Reader A
+below_label text p = λ s. and_then (p (below text s)) (λ a t. Ok (a, relabelled s.scope t))
+
 abbrev pub noted : Fault → State → State
 noted f s = record s { faults = s.faults ++ f ∷ [] }
 

@@ -1,6 +1,4 @@
 pub mod View
-pub mod Wanted
-pub mod Literals
 pub mod FirstError
 pub mod Taken
 pub mod Opened

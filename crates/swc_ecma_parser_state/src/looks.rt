@@ -8,10 +8,10 @@ ghost use Rattle.swc_ecma_parser_grammar.specs.Names as names;
 ghost use Rattle.swc_ecma_parser_input.specs.Place as place;
 ghost use Rattle.swc_ecma_parser_reader.specs.Expressions as exprs;
 
-use crate::names::{is_identifier, is_reserved_word};
 use crate::state::State;
 use swc_ecma_parser_grammar::Position;
 use swc_ecma_parser_input::Tokens;
+use swc_ecma_parser_source::{is_identifier, is_reserved_word};
 use swc_ecma_parser_token::{Token, TokenAndSpan, TokenKind, Word};
 
 /// Whether it is an operator between two operands that is no word.

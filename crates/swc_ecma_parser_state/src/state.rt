@@ -1,15 +1,16 @@
 //! The state of a parser: what its rules look at, and how it is made and given back.
 
-ghost use Rattle.std.specs.Prelude.{◌≡◌, is_none, is_some};
+ghost use Rattle.std.specs.Prelude.{◌≡◌, is_none, is_some, count_by};
+ghost use Rattle.std.specs.Str.{bytes_eq};
 ghost use Rattle.swc_ecma_parser_grammar.specs.Looks as looks;
 ghost use Rattle.swc_ecma_parser_grammar.specs.Names as names;
 ghost use Rattle.swc_ecma_parser_input.specs.Place as place;
 
-use crate::names::{is_label, is_name};
 use std::marker::Model;
 use swc_ecma_parser_common::{Atom, Span};
 use swc_ecma_parser_input::{Buffer, Context, Tokens};
 use swc_ecma_parser_reader::Mark;
+use swc_ecma_parser_source::{count_labels, is_label, is_name};
 use swc_ecma_parser_token::{Token, TokenAndSpan, TokenKind};
 
 /// A source of tokens behind its buffer, the labels around the place that it has come to, and what a call has met.
@@ -138,6 +139,13 @@ impl<I: Tokens> State<I> {
         ensures { result ≡ names.is_one_of self.now.scope.labels text.now }
     {
         is_label(&self.labels, text)
+    }
+
+    /// How many labels of this text stand around.
+    pub fn count_labels(&self, text: &str) -> usize
+        ensures { result ≡ count_by (λ label. bytes_eq text.now label) self.now.scope.labels }
+    {
+        count_labels(&self.labels, text)
     }
 
     /// Whether a name stands here.

@@ -12,20 +12,20 @@ ghost use Rattle.swc_ecma_parser_reader.specs.State as reader;
 ghost use Rattle.swc_ecma_parser_reader.specs.State.{Gives, GivesAs};
 ghost use Rattle.swc_ecma_parser_reader.specs.declared.mark.Mark.TheVariants as mark;
 ghost use Rattle.swc_ecma_parser_state.specs.FirstError as first;
-ghost use Rattle.swc_ecma_parser_state.specs.Literals.{literal_tree};
+ghost use Rattle.swc_ecma_parser_source.specs.Labels.{LeavesLabel};
+ghost use Rattle.swc_ecma_parser_source.specs.Literals.{literal_tree};
 ghost use Rattle.swc_ecma_parser_state.specs.Taken as taken;
-ghost use Rattle.swc_ecma_parser_state.specs.Wanted.{wanted_kind};
+ghost use Rattle.swc_ecma_parser_source.specs.Wanted.{wanted_kind};
 ghost use Rattle.swc_ecma_parser_model.specs.declared.leaves.Ident.{Ident};
 ghost use Rattle.swc_ecma_parser_token.specs.Text.{word_text};
 
-use crate::literal::Literal;
 use crate::state::State;
-use crate::wanted::{Wanted, missing};
 use swc_ecma_parser_common::{Atom, Span};
 use swc_ecma_parser_error::{Error, PResult, SyntaxError};
 use swc_ecma_parser_input::{Context, Tokens};
 use swc_ecma_parser_model::{BigInt, Bool, Ident, Null, Number, Str};
 use swc_ecma_parser_reader::Mark;
+use swc_ecma_parser_source::{Literal, Wanted, missing};
 use swc_ecma_parser_token::{Token, TokenAndSpan, TokenKind, Word};
 
 impl<I: Tokens> State<I> {
@@ -43,6 +43,23 @@ impl<I: Tokens> State<I> {
             },
             kind: SyntaxError::OutOfMemory,
         }
+    }
+
+    /// Goes below one more label.
+    pub fn push_label(&mut self, label: Atom) -> PResult<()>
+        ensures { Gives (Ok (tt, reader.below label self.old)) result self.new }
+    {
+        match self.labels.push(label) {
+            Ok(()) => Ok(()),
+            Err(_) => Err(self.out_of_memory()),
+        }
+    }
+
+    /// Leaves the innermost label.
+    pub fn pop_label(&mut self)
+        ensures { LeavesLabel self.old self.new }
+    {
+        let _label = self.labels.pop();
     }
 
     /// Takes the current token. Where the token behind the next one finds no memory, that is answered.

@@ -18,7 +18,7 @@ use swc_ecma_parser_left::access::inside;
 use swc_ecma_parser_left::cover::{Cover, Reading};
 use swc_ecma_parser_left::grammar::{Grammar, Part};
 use swc_ecma_parser_left::steps::{grown, since};
-use swc_ecma_parser_state::{Source, Wanted};
+use swc_ecma_parser_source::{Source, Wanted};
 use swc_ecma_parser_token::TokenKind;
 use swc_ecma_parser_trees::{BuildsCall, BuildsControl, MakerOf};
 

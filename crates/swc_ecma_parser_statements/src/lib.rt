@@ -5,3 +5,4 @@
 pub mod jump;
 pub mod leave;
 pub mod simple;
+pub mod variables;

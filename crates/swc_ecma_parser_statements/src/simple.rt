@@ -1,12 +1,10 @@
-//! Statements of one line: the empty statement, `debugger`, `var` and expression statements: ECMA-262, sections 14.4, 14.16,
-//! 14.3.2 and 14.5.
+//! Statements of one line: the empty statement, `debugger` and expression statements: ECMA-262, sections 14.4, 14.16 and 14.5.
 
-ghost use Rattle.std.specs.Prelude.{◌≡◌, map};
+ghost use Rattle.std.specs.Prelude.{◌≡◌};
 ghost use Rattle.swc_ecma_parser_grammar.specs.Follows as follows;
 ghost use Rattle.swc_ecma_parser_grammar.specs.language.Goals.{expression};
 ghost use Rattle.swc_ecma_parser_left.specs.Nests.{Nests};
 ghost use Rattle.swc_ecma_parser_reader.specs.Expressions as exprs;
-ghost use Rattle.swc_ecma_parser_reader.specs.Patterns as patterns;
 ghost use Rattle.swc_ecma_parser_reader.specs.Reader as rules;
 ghost use Rattle.swc_ecma_parser_reader.specs.State.{Gives, GivesAs};
 
@@ -16,11 +14,10 @@ use swc_ecma_parser_error::{PResult, SyntaxError};
 use swc_ecma_parser_grammar::{Class, Position};
 use swc_ecma_parser_left::cover::{Cover, Reading, nested};
 use swc_ecma_parser_left::grammar::{Grammar, Part};
-use swc_ecma_parser_left::steps::{grown, pushed, since, with_in};
-use swc_ecma_parser_model::VarDeclKind;
-use swc_ecma_parser_state::{Source, Wanted};
+use swc_ecma_parser_left::steps::{grown, since, with_in};
+use swc_ecma_parser_source::{Source, Wanted};
 use swc_ecma_parser_token::TokenKind;
-use swc_ecma_parser_trees::{BuildsPattern, BuildsStmt, MakerOf};
+use swc_ecma_parser_trees::{BuildsStmt, MakerOf};
 
 /// `;`
 #[tactic(auto, unfolding(swc_ecma_parser_reader::specs::Reader::empty, swc_ecma_parser_grammar::specs::Looks::spanned))]
@@ -43,79 +40,6 @@ pub fn debugger<P: Source, T: BuildsStmt>(alloc: Global, p: &mut P) -> PResult<T
     p.end(Wanted::Token(";"))?;
     let span = since(p, start);
     grown(p, T::debugger(alloc, span))
-}
-
-/// A declarator: ECMA-262, section 14.3.2.
-#[tactic(auto, unfolding(swc_ecma_parser_reader::specs::Reader::declarator, swc_ecma_parser_reader::specs::Reader::initialized))]
-fn declarator<
-    P: Source,
-    T: BuildsStmt + BuildsPattern,
-    S: Fn(&MakerOf<T>, &mut P, usize, Position) -> PResult<T::Stmt>,
-    E: Fn(&MakerOf<T>, &mut P, usize, Reading) -> PResult<Cover<T::Expr>>,
-    N: Fn(&MakerOf<T>, &mut P, usize, Part) -> PResult<T::Pat>,
->(g: &Grammar<S, E, N>, t: &MakerOf<T>, p: &mut P) -> PResult<T::Declarator>
-    requires { Nests P.seen T.expr_of T.pat_of T.stmt_of g.now.depth (S.pre g.now.stmt) (S.post g.now.stmt) (E.pre g.now.expr) (E.post g.now.expr) (N.pre g.now.pat) (N.post g.now.pat) }
-    ensures { GivesAs T.declarator_of (rules.declarator (exprs.expr g.now.depth) (patterns.pattern g.now.depth) (P.seen p.old)) result (P.seen p.new) }
-{
-    let start = p.span();
-    let name = (g.pat)(t, p, g.depth, Part::Pattern)?;
-    if p.sees(TokenKind::Assign) {
-        p.skip()?;
-        let init = nested(g, t, p, Class::Assignment)?;
-        let span = since(p, start);
-        return grown(p, T::declarator(t.alloc, span, name, Some(init)));
-    }
-    let span = since(p, start);
-    if !T::is_binding_name(&name) {
-        return Err(p.reject(SyntaxError::PatVarWithoutInit, span));
-    }
-    grown(p, T::declarator(t.alloc, span, name, None))
-}
-
-/// Declarators with commas between.
-#[tactic(auto, unfolding(swc_ecma_parser_reader::specs::Reader::declarators), using(swc_ecma_parser_reader::proofs::Loops::declarators_done, swc_ecma_parser_reader::proofs::Loops::declarators_err, swc_ecma_parser_reader::proofs::Loops::declarators_more, swc_ecma_parser_reader::proofs::Loops::declarators_shorter, std::proofs::lemmas::List::map_push))]
-fn declarators<
-    P: Source,
-    T: BuildsStmt + BuildsPattern,
-    S: Fn(&MakerOf<T>, &mut P, usize, Position) -> PResult<T::Stmt>,
-    E: Fn(&MakerOf<T>, &mut P, usize, Reading) -> PResult<Cover<T::Expr>>,
-    N: Fn(&MakerOf<T>, &mut P, usize, Part) -> PResult<T::Pat>,
->(g: &Grammar<S, E, N>, t: &MakerOf<T>, p: &mut P) -> PResult<Vec<T::Declarator>>
-    requires { Nests P.seen T.expr_of T.pat_of T.stmt_of g.now.depth (S.pre g.now.stmt) (S.post g.now.stmt) (E.pre g.now.expr) (E.post g.now.expr) (N.pre g.now.pat) (N.post g.now.pat) }
-    ensures { GivesAs (λ found. map T.declarator_of found.items) (rules.declarators (exprs.expr g.now.depth) (patterns.pattern g.now.depth) (P.seen p.old)) result (P.seen p.new) }
-{
-    let mut found = Vec::new(t.alloc);
-    'declarators: loop {
-        let declarator = declarator(g, t, p)?;
-        pushed(p, &mut found, declarator)?;
-        if !p.sees(TokenKind::Comma) {
-            return Ok(found);
-        }
-        p.skip()?;
-    }
-}
-
-/// A `var` statement.
-#[tactic(auto, unfolding(swc_ecma_parser_reader::specs::Reader::var, swc_ecma_parser_grammar::specs::Looks::spanned))]
-pub fn var<
-    P: Source,
-    T: BuildsStmt + BuildsPattern,
-    S: Fn(&MakerOf<T>, &mut P, usize, Position) -> PResult<T::Stmt>,
-    E: Fn(&MakerOf<T>, &mut P, usize, Reading) -> PResult<Cover<T::Expr>>,
-    N: Fn(&MakerOf<T>, &mut P, usize, Part) -> PResult<T::Pat>,
->(g: &Grammar<S, E, N>, t: &MakerOf<T>, p: &mut P) -> PResult<T::Stmt>
-    requires { Nests P.seen T.expr_of T.pat_of T.stmt_of g.now.depth (S.pre g.now.stmt) (S.post g.now.stmt) (E.pre g.now.expr) (E.post g.now.expr) (N.pre g.now.pat) (N.post g.now.pat) }
-    ensures { GivesAs T.stmt_of (rules.var (exprs.expr g.now.depth) (patterns.pattern g.now.depth) (P.seen p.old)) result (P.seen p.new) }
-{
-    let start = p.span();
-    p.skip()?;
-    let outer = p.flags();
-    p.set_flags(with_in(outer));
-    let found = declarators(g, t, p)?;
-    p.set_flags(outer);
-    p.end(Wanted::Expression)?;
-    let span = since(p, start);
-    grown(p, T::var(t.alloc, span, VarDeclKind::Var, found))
 }
 
 /// Adds the fault that the bare name `interface` is in module code.

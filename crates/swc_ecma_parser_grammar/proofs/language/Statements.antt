@@ -13,10 +13,12 @@ use Rattle.swc_ecma_parser_grammar.specs.language.Contexts.{without_in, in_with,
 use Rattle.swc_ecma_parser_grammar.specs.language.Items.{nested_item, sub_statement}
 use Rattle.swc_ecma_parser_grammar.specs.language.Declarations as declarations
 use Rattle.swc_ecma_parser_grammar.specs.language.Declarations.{DeclaratorRule, VariablesRule, UsingDeclaratorRule, UsingRule}
+use Rattle.swc_ecma_parser_grammar.specs.Reads.{head_code}
 use Rattle.swc_ecma_parser_grammar.specs.language.ForHeads as heads
-use Rattle.swc_ecma_parser_grammar.specs.language.ForHeads.{head_code, HeadVariablesRule, InitRule, PartRule, LeftRule, UsingNameRule, UsingHeadRule, OfLeftRule}
+use Rattle.swc_ecma_parser_grammar.specs.language.ForHeads.{HeadVariablesRule, InitRule, PartRule, LeftRule, UsingNameRule, UsingHeadRule, OfLeftRule}
 use Rattle.swc_ecma_parser_grammar.specs.language.Statements as statements
-use Rattle.swc_ecma_parser_grammar.specs.language.Statements.{labelled_item, HeadRule, OperandRule, IfRule, ElseRule, CaseRule, CatchRule, FinallyRule, FormRule, StmtRule}
+use Rattle.swc_ecma_parser_grammar.specs.language.Items.{labelled_item}
+use Rattle.swc_ecma_parser_grammar.specs.language.Statements.{HeadRule, OperandRule, IfRule, ElseRule, CaseRule, CatchRule, FinallyRule, FormRule, StmtRule}
 use Rattle.swc_ecma_parser_grammar.proofs.language.Asked.{Inside, Level, Fitting, whole_head, nothing, part, joined, both, turned, sized, leaf, over, aligned, same}
 use Rattle.swc_ecma_parser_grammar.proofs.language.Parts.{body_depth, each_inside, separated_inside, items_inside, block_inside, block_level, function_level, decorators_inside, class_level}
 

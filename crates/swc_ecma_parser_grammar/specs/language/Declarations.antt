@@ -3,38 +3,18 @@ use Rattle.std.specs.Prelude.{◌≡◌, Bool, true, false, not, ◌&&◌, ◌||
 use Rattle.swc_ecma_parser_token.specs.declared.kind.TokenKind.TheVariants as kind
 use Rattle.swc_ecma_parser_input.specs.Place.{Place, after}
 use Rattle.swc_ecma_parser_model.specs.declared.leaves.VarDeclKind.{VarDeclKind}
-use Rattle.swc_ecma_parser_model.specs.declared.leaves.VarDeclKind.TheVariants as decl
 use Rattle.swc_ecma_parser_model.specs.Tree as tree
 use Rattle.swc_ecma_parser_model.specs.Tree.{Tree, listed}
 use Rattle.swc_ecma_parser_model.specs.Forms.{is_binding_name}
 use Rattle.swc_ecma_parser_grammar.specs.declared.position.Position.{Position}
 use Rattle.swc_ecma_parser_grammar.specs.Looks.{kind_at, breaks_at, sees, spanned}
 use Rattle.swc_ecma_parser_grammar.specs.Names.{Code, identifier_at}
-use Rattle.swc_ecma_parser_grammar.specs.Follows.{word_at, is_let_declaration}
+use Rattle.swc_ecma_parser_grammar.specs.Follows.{word_at}
+use Rattle.swc_ecma_parser_grammar.specs.Variables.{begins_variables, needs_no_initializer}
 use Rattle.swc_ecma_parser_grammar.specs.Reads.{with_in, ReadsSeparated}
 use Rattle.swc_ecma_parser_grammar.specs.language.Goals.{Goal, expr_goal, assignment, pattern_goal, binding}
 
 -- ---- variables: sections 14.3.1 and 14.3.2
-
--- the word that begins a declaration of this kind; `let` does so before what can be declared
-abbrev pub begins_variables : VarDeclKind → Place → Bool
-begins_variables decl.Var c = sees kind.Var c
-begins_variables decl.Const c = sees kind.Const c
-begins_variables decl.Let c = is_let_declaration c
-
-abbrev pub is_var : VarDeclKind → Bool
-is_var decl.Var = true
-is_var _ = false
-
-abbrev pub is_const : VarDeclKind → Bool
-is_const decl.Const = true
-is_const _ = false
-
--- A variable may go without initializer where it is a plain name, in strict code only if it is no `const`, and in the head of a
--- loop before `in` and `of`. The crate asks for the initializer of a `const` in strict code alone.
-abbrev pub needs_no_initializer : Code → (loop : Bool) → VarDeclKind → Tree → Place → Bool
-needs_no_initializer k loop word name d =
-    (loop && (sees kind.In d || word_at (codes "of") d)) || (is_binding_name name && not (is_const word && k.flags.strict))
 
 -- VariableDeclaration and LexicalBinding. In a pattern `in` is an operator in any case.
 pub data DeclaratorRule (In : Goal → Type 0) (k : Code) (loop : Bool) (word : VarDeclKind) (x : Tree) (c d : Place) : Type 0 where

@@ -1,23 +1,18 @@
 -- The heads of `for` statements: ECMA-262, sections 14.7.4 and 14.7.5.
-use Rattle.std.specs.Prelude.{◌≡◌, Bool, true, false, not, ◌&&◌, ◌||◌, if◌then◌else◌, List, [], ◌∷◌, codes}
-use Rattle.std.specs.Str.{bytes_eq}
+use Rattle.std.specs.Prelude.{◌≡◌, Bool, true, false, List, [], ◌∷◌, codes}
 use Rattle.swc_ecma_parser_token.specs.declared.kind.TokenKind.TheVariants as kind
 use Rattle.swc_ecma_parser_input.specs.Place.{Place, after}
 use Rattle.swc_ecma_parser_model.specs.declared.leaves.VarDeclKind.{VarDeclKind}
 use Rattle.swc_ecma_parser_model.specs.Tree as tree
 use Rattle.swc_ecma_parser_model.specs.Tree.{Tree, listed}
 use Rattle.swc_ecma_parser_model.specs.Forms.{is_binding_name}
-use Rattle.swc_ecma_parser_grammar.specs.Looks.{kind_at, breaks_at, sees, spanned}
+use Rattle.swc_ecma_parser_grammar.specs.Looks.{kind_at, sees, spanned}
 use Rattle.swc_ecma_parser_grammar.specs.Names.{Code}
-use Rattle.swc_ecma_parser_grammar.specs.Follows.{word_at, is_let_declaration}
-use Rattle.swc_ecma_parser_grammar.specs.Reads.{with_in}
+use Rattle.swc_ecma_parser_grammar.specs.Follows.{word_at, may_begin_head, is_async_of}
+use Rattle.swc_ecma_parser_grammar.specs.Reads.{with_in, head_code}
 use Rattle.swc_ecma_parser_grammar.specs.language.Goals.{Goal, expr_goal, expression, pattern_goal, binding, assigning, using_goal}
 use Rattle.swc_ecma_parser_grammar.specs.language.Contexts.{may_await, without_in}
-use Rattle.swc_ecma_parser_grammar.specs.language.Declarations.{VariablesRule, is_var}
-
--- In the first part of a head `in` is no operator; the crate reads it in the initializers of `let` and `const`.
-abbrev pub head_code : VarDeclKind → Code → Code
-head_code word k = if is_var word then without_in k else with_in k
+use Rattle.swc_ecma_parser_grammar.specs.language.Declarations.{VariablesRule}
 
 -- the variables that a head declares, without an end
 pub record HeadVariablesRule (In : Goal → Type 0) (k : Code) (x : Tree) (c d : Place) : Type 0 where
@@ -25,10 +20,6 @@ pub record HeadVariablesRule (In : Goal → Type 0) (k : Code) (x : Tree) (c d :
   pub declarators : List Tree
   pub reads : VariablesRule In (head_code word k) true word declarators c d
   pub is : x ≡ tree.var (spanned c d) word (listed declarators)
-
--- what a head begins with where it declares nothing
-unfoldable pub may_begin_head : Place → Bool
-may_begin_head c = not (sees kind.Var c || (sees kind.Const c || (sees kind.Semi c || is_let_declaration c)))
 
 -- ---- `for (init; test; update)`
 
@@ -49,14 +40,6 @@ pub data PartRule (In : Goal → Type 0) (k : Code) (x : Tree) (c d : Place) : T
 pub data LeftRule (In : Goal → Type 0) (k : Code) (x : Tree) (c d : Place) : Type 0 where
   declared_rule : HeadVariablesRule In k x c d → LeftRule In k x c d
   target_rule : may_begin_head c ≡ true → In (pattern_goal assigning (without_in k) x c d) → LeftRule In k x c d
-
--- `async of` on one line is no left side, but behind `for await`
-abbrev pub is_bare_async : Tree → Bool
-is_bare_async (tree.ident_pat s text) = bytes_eq text (codes "async")
-is_bare_async _ = false
-
-unfoldable pub is_async_of : (is_await : Bool) → Tree → Place → Bool
-is_async_of is_await left d = not is_await && (is_bare_async left && not (breaks_at d))
 
 -- `using` and a plain name, which is not `of`
 pub record UsingNameRule (In : Goal → Type 0) (k : Code) (x : Tree) (c d : Place) : Type 0 where

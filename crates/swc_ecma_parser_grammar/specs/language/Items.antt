@@ -6,7 +6,7 @@ use Rattle.swc_ecma_parser_model.specs.Tree as tree
 use Rattle.swc_ecma_parser_model.specs.Tree.{Tree, listed}
 use Rattle.swc_ecma_parser_model.specs.Directive.{is_use_strict}
 use Rattle.swc_ecma_parser_grammar.specs.declared.position.Position.{Position}
-use Rattle.swc_ecma_parser_grammar.specs.Looks.{kind_at, spanned}
+use Rattle.swc_ecma_parser_grammar.specs.Looks.{kind_at, sees, spanned}
 use Rattle.swc_ecma_parser_grammar.specs.Names.{Code}
 use Rattle.swc_ecma_parser_grammar.specs.language.Goals.{Goal, stmt_goal}
 use Rattle.swc_ecma_parser_grammar.specs.language.Contexts.{in_strict}
@@ -24,6 +24,10 @@ nested_item = record { include_decl = true; top_level = false }
 -- a part of another statement, which is no declaration: Statement
 abbrev pub sub_statement : Position
 sub_statement = record { include_decl = false; top_level = false }
+
+-- What stands behind a label: LabelledItem, section 14.13. A function that begins with its word is a declaration there.
+abbrev pub labelled_item : Place → Position
+labelled_item c = record { include_decl = sees kind.Function c; top_level = false }
 
 -- ---- directives
 

@@ -13,14 +13,15 @@ use Rattle.swc_ecma_parser_grammar.specs.Looks.{kind_at, breaks_at, sees, spanne
 use Rattle.swc_ecma_parser_grammar.specs.Names.{Code}
 use Rattle.swc_ecma_parser_grammar.specs.Ends.{Ends, OptionalEnds, ends_at}
 use Rattle.swc_ecma_parser_grammar.specs.Follows.{word_at, is_async_function, may_begin_expression_statement, begins_import_expression}
+use Rattle.swc_ecma_parser_grammar.specs.Variables.{is_var}
 use Rattle.swc_ecma_parser_grammar.specs.Reads.{with_in}
 use Rattle.swc_ecma_parser_grammar.specs.language.Goals.{Goal, expr_goal, expression, assignment, pattern_goal, binding, stmt_goal}
 use Rattle.swc_ecma_parser_grammar.specs.language.Contexts.{in_with, in_loop, in_breakable}
 use Rattle.swc_ecma_parser_grammar.specs.language.Lists.{ReadsEach}
-use Rattle.swc_ecma_parser_grammar.specs.language.Items.{nested_item, sub_statement, ItemsRule, BlockRule}
+use Rattle.swc_ecma_parser_grammar.specs.language.Items.{nested_item, sub_statement, labelled_item, ItemsRule, BlockRule}
 use Rattle.swc_ecma_parser_grammar.specs.language.Functions.{FunctionRule}
 use Rattle.swc_ecma_parser_grammar.specs.language.Classes.{DecoratorsRule, ClassRule}
-use Rattle.swc_ecma_parser_grammar.specs.language.Declarations.{AwaitWord, VariablesRule, is_var, UsingRule}
+use Rattle.swc_ecma_parser_grammar.specs.language.Declarations.{AwaitWord, VariablesRule, UsingRule}
 use Rattle.swc_ecma_parser_grammar.specs.language.Parts.{ReadsName}
 use Rattle.swc_ecma_parser_grammar.specs.language.ForHeads.{InitRule, PartRule, LeftRule, OfLeftRule}
 
@@ -29,10 +30,6 @@ use Rattle.swc_ecma_parser_grammar.specs.language.ForHeads.{InitRule, PartRule, 
 -- At the top level a statement begins with `await` only in what may be a module's code.
 unfoldable pub may_begin_at_top : Code → Position → Place → Bool
 may_begin_at_top k at c = not (at.top_level && sees kind.Await c) || k.flags.can_be_module
-
--- what stands behind a label: LabelledItem, section 14.13. A function that begins with its word is a declaration there.
-abbrev pub labelled_item : Place → Position
-labelled_item c = record { include_decl = sees kind.Function c; top_level = false }
 
 -- ---- parts that several forms have
 

@@ -90,7 +90,7 @@ unbound_by : (n : ℕ) (k : Code) (o : Option BinaryOp) → binds k n o ≡ fals
 unbound_by n k None e = refl
 unbound_by n k (Some op) e = rw e refl
 
-unbound : (n : ℕ) (c : Place) (k : Code) (w : Scope) (f : List Fault) (h : Notes) → binds k n (binary_operator (kind_at c)) ≡ false → operator_at n (st c k w f h) ≡ None
+pub unbound : (n : ℕ) (c : Place) (k : Code) (w : Scope) (f : List Fault) (h : Notes) → binds k n (binary_operator (kind_at c)) ≡ false → operator_at n (st c k w f h) ≡ None
 unfolding operator_at
 unbound n c k w f h e = unbound_by n k (binary_operator (kind_at c)) e
 
@@ -124,11 +124,11 @@ headless x k c d w f h e = rw (head_same x c) e
 -- ---- what may still become a pattern
 
 -- an expression; one that is no array or object has no comma behind a spread
-abbrev AsWhole : Tree → Cover → Type 0
+abbrev pub AsWhole : Tree → Cover → Type 0
 AsWhole x v = (v.x ≡ x) × (v.mark ≡ None) × (is_literal x ≡ false → v.comma ≡ false)
 
 -- a pattern without a default
-abbrev AsBare : Tree → Place → Cover → Type 0
+abbrev pub AsBare : Tree → Place → Cover → Type 0
 AsBare p d v = (as_target v.x ≡ Some p) × (as_element v.x ≡ Some p) × (v.comma ≡ false) × ((span_of v.x).hi ≡ d.last.hi)
 
 -- a name or a member, which is this pattern
@@ -178,6 +178,21 @@ as_whole reader x p k c d e g r w f h =
 nothing_goes_on : (s : State) → ends_part (kind_at s.at) ≡ true → goes_on s ≡ false
 unfolding goes_on operator_at continues_conditional
 nothing_goes_on s e = let t = ended_at s.at e in or_none _ _ (ended_stops s.at e) (rw (t.binary, t.question, t.assigns) refl)
+
+-- what is asked of where a pattern without a default ends: nothing goes on with a name or a member, nor with an array or object
+pub record Closes (k : Code) (p : Tree) (c d : Place) : Type 0 where
+  pub function : sees kind.Function d ≡ false
+  pub assign : sees kind.Assign d ≡ false
+  pub leaf_ends : (e : Tree) → p ≡ leaf e → continues_assignment k e c d ≡ false
+  pub literal_ends : (w : Scope) (f : List Fault) (h : Notes) → goes_on (st d k w f h) ≡ false
+
+part_closes : (k : Code) (p : Tree) (c d : Place) → ends_part (kind_at d) ≡ true → Closes k p c d
+part_closes k p c d t = record {
+  function = (ended_at d t).function;
+  assign = (ended_at d t).assign;
+  leaf_ends = λ e i. ended_continues k e c d t;
+  literal_ends = λ w f h. nothing_goes_on (st d k w f h) t;
+}
 
 module _ (In : Goal → Type 0) (inner : Class → Reader Tree) (cover : Reader Cover) (given : IsRead In inner cover) where
   -- ---- operands
@@ -382,7 +397,7 @@ module _ (In : Goal → Type 0) (inner : Class → Reader Tree) (cover : Reader 
         is = assigns_cover inner cover (st c k w f h) (done x) (st d k w (f' ++ walk (env_of k w.labels) y) (h' ⊕ notes_of y)) u ∙ rw (append_assoc f _ _, append_assoc h.held_back _ _, or_assoc h.found_module_item _ _) refl;
       }
 
-  whole_reads : (k : Code) (x : Tree) (c d : Place) → AssignmentRule In k x c d → supported x ≡ true → ReadsAs (AsWhole x) (cover_expr inner cover) k x c d
+  pub whole_reads : (k : Code) (x : Tree) (c d : Place) → AssignmentRule In k x c d → supported x ≡ true → ReadsAs (AsWhole x) (cover_expr inner cover) k x c d
   whole_reads k x c d (rules.operators_rule r e) s w f h = kept k x c d (operators_read k x c d r s e) w f h
   whole_reads k x c d (rules.conditional_rule t y z i j r q a b o u e) s w f h =
       let p = and_yes (supported t) _ (supported_as x (tree.cond (spanned c d) t y z) e s) in
@@ -420,10 +435,10 @@ module _ (In : Goal → Type 0) (inner : Class → Reader Tree) (cover : Reader 
   leaf_of k p c d (patterns.array_rule ps m i r j n e) g q = absurd (let b : is_pattern_target p ≡ true = ap is_pattern_target e in cc)
   leaf_of k p c d (patterns.object_rule ps m i r j n e) g q = absurd (let b : is_pattern_target p ≡ true = ap is_pattern_target e in cc)
 
-  bare_leaf : (k : Code) (p : Tree) (c d : Place) → LeafOf In k p c d → supported p ≡ true → ends_part (kind_at d) ≡ true → ReadsAs (AsBare p d) (cover_expr inner cover) k p c d
+  bare_leaf : (k : Code) (p : Tree) (c d : Place) → LeafOf In k p c d → supported p ≡ true → Closes k p c d → ReadsAs (AsBare p d) (cover_expr inner cover) k p c d
   unfolding spanned
   bare_leaf k p c d l s t w f h =
-      let r = operators_read k l.e c d (rules.single_rule (rules.operand_rule l.reads_leaf)) (leaf_is_supported l.e p l.is s) (ended_continues k l.e c d t) in
+      let r = operators_read k l.e c d (rules.single_rule (rules.operand_rule l.reads_leaf)) (leaf_is_supported l.e p l.is s) (t.leaf_ends l.e l.is) in
       let e = leaf_element l.e l.simple ∙ ap Some (sym l.is) in
       pattern_end (AsBare p d) (cover_expr inner cover (st c k w f h)) l.e p k d w f h e
       (gets_also (AsWhole l.e) (AsBare p d) _ _ (kept k l.e c d r w f h) (λ v q. (
@@ -433,7 +448,7 @@ module _ (In : Goal → Type 0) (inner : Class → Reader Tree) (cover : Reader 
         ap (λ z. (span_of z).hi) q.0 ∙ ap (λ (z : Span). z.hi) (left_side_rule In l.reads_leaf.0),
       )))
 
-  bare_literal : (k : Code) (p : Tree) (c d : Place) → PatternRule In assigning k p c d → is_pattern_target p ≡ true → supported p ≡ true → ends_part (kind_at d) ≡ true
+  bare_literal : (k : Code) (p : Tree) (c d : Place) → PatternRule In assigning k p c d → is_pattern_target p ≡ true → supported p ≡ true → Closes k p c d
       → ReadsAs (AsBare p d) (cover_expr inner cover) k p c d
   unfolding spanned
   bare_literal k p c d r g s t w f h =
@@ -443,15 +458,15 @@ module _ (In : Goal → Type 0) (inner : Class → Reader Tree) (cover : Reader 
       record {
         value = v.value;
         holds = (v.holds.0, v.holds.1, v.holds.2, ap (λ (z : Span). z.hi) v.holds.3);
-        is = open_cover inner cover (st c k w f h) v.value behind (record { first = first; read = v.is; unassigned = (ended_at d t).assign; ended = nothing_goes_on behind t });
+        is = open_cover inner cover (st c k w f h) v.value behind (record { first = first; read = v.is; unassigned = t.assign; ended = t.literal_ends w (f ++ walk (env_of k w.labels) p) (h ⊕ notes_of p) });
       }
 
-  bare_by : (b : Bool) (k : Code) (p : Tree) (c d : Place) → is_pattern_target p ≡ b → PatternRule In assigning k p c d → supported p ≡ true → ends_part (kind_at d) ≡ true
+  bare_by : (b : Bool) (k : Code) (p : Tree) (c d : Place) → is_pattern_target p ≡ b → PatternRule In assigning k p c d → supported p ≡ true → Closes k p c d
       → ReadsAs (AsBare p d) (cover_expr inner cover) k p c d
   bare_by true k p c d g r s t w f h = bare_literal k p c d r g s t w f h
-  bare_by false k p c d g r s t w f h = bare_leaf k p c d (leaf_of k p c d r g (ended_at d t).function) s t w f h
+  bare_by false k p c d g r s t w f h = bare_leaf k p c d (leaf_of k p c d r g t.function) s t w f h
 
-  bare_reads : (k : Code) (p : Tree) (c d : Place) → PatternRule In assigning k p c d → supported p ≡ true → ends_part (kind_at d) ≡ true → ReadsAs (AsBare p d) (cover_expr inner cover) k p c d
+  pub bare_reads : (k : Code) (p : Tree) (c d : Place) → PatternRule In assigning k p c d → supported p ≡ true → Closes k p c d → ReadsAs (AsBare p d) (cover_expr inner cover) k p c d
   bare_reads k p c d r s t w f h = bare_by (is_pattern_target p) k p c d refl r s t w f h
 
   -- ---- patterns with a default
@@ -474,19 +489,19 @@ module _ (In : Goal → Type 0) (inner : Class → Reader Tree) (cover : Reader 
   element_reads : (k : Code) (p : Tree) (c d : Place) → PatternElementRule In assigning (with_in k) p c d → supported p ≡ true → ends_part (kind_at d) ≡ true
       → ReadsAs (AsElement p) (cover_expr inner cover) (with_in k) p c d
   element_reads k p c d (patterns.bare_rule r e) s t w f h =
-      gets_also (AsBare p d) (AsElement p) _ _ (bare_reads (with_in k) p c d r s t w f h) (λ v a. (a.1, a.2))
+      gets_also (AsBare p d) (AsElement p) _ _ (bare_reads (with_in k) p c d r s (part_closes (with_in k) p c d t) w f h) (λ v a. (a.1, a.2))
   element_reads k p c d (patterns.initialized_rule q y m r i v e) s t w f h =
       let g = and_yes (supported q) _ (supported_as p (tree.assign_pat (spanned c d) q y) e s) in
       rw e (default_by (is_pattern_target q) q y m (with_in k) c d refl r i v g.0 g.1 w f h)
 
   target_reads : (k : Code) (p : Tree) (c d : Place) → PatternRule In assigning k p c d → supported p ≡ true → ends_part (kind_at d) ≡ true
       → ReadsAs (AsTarget p d) (cover_expr inner cover) k p c d
-  target_reads k p c d r s t w f h = gets_also (AsBare p d) (AsTarget p d) _ _ (bare_reads k p c d r s t w f h) (λ v a. (a.0, a.2, a.3))
+  target_reads k p c d r s t w f h = gets_also (AsBare p d) (AsTarget p d) _ _ (bare_reads k p c d r s (part_closes k p c d t) w f h) (λ v a. (a.0, a.2, a.3))
 
   -- ---- Expression
 
   -- the parts of a sequence, from a comma on
-  many_parts : (xs found : List Tree) (k : Code) (c d : Place) (w : Scope) (f : List Fault) (h : Notes) → ReadsSeparated (AssignmentRule In k) xs (after c) d → all_supported (trees xs) ≡ true
+  pub many_parts : (xs found : List Tree) (k : Code) (c d : Place) (w : Scope) (f : List Fault) (h : Notes) → ReadsSeparated (AssignmentRule In k) xs (after c) d → all_supported (trees xs) ≡ true
       → loop (sequence_turn inner cover) found (st c k w f h) ≡ Ok (found ++ xs, st d k w (f ++ walks (env_of k w.labels) false (trees xs)) (h ⊕ all_notes_of (trees xs)))
   unfolding sequence_turn
   many_parts [] found k c d w f h r s = absurd r

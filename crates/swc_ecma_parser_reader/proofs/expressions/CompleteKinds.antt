@@ -23,7 +23,7 @@ use Rattle.swc_ecma_parser_model.specs.declared.operators.UpdateOp.{UpdateOp}
 use Rattle.swc_ecma_parser_model.specs.declared.operators.BinaryOp.{BinaryOp}
 use Rattle.swc_ecma_parser_model.specs.declared.operators.AssignOp.{AssignOp}
 use Rattle.swc_ecma_parser_model.specs.Tree as tree
-use Rattle.swc_ecma_parser_model.specs.Tree.{Tree, Text}
+use Rattle.swc_ecma_parser_model.specs.Tree.{Tree, Text, listed}
 use Rattle.swc_ecma_parser_model.specs.Forms.{is_ident}
 use Rattle.swc_ecma_parser_grammar.specs.Looks.{kind_at, first_kind, breaks_at, span_at, first_span, sees, same_kind, spanned}
 use Rattle.swc_ecma_parser_grammar.specs.Names.{Code, is_reserved, is_name, token_is_name, first_is_name, name_at, token_is_identifier, first_is_identifier, identifier_at}
@@ -45,6 +45,7 @@ use Rattle.swc_ecma_parser_grammar.specs.language.Expressions.{UnaryRule, Binary
 use Rattle.swc_ecma_parser_grammar.specs.language.Reads as language
 use Rattle.swc_ecma_parser_grammar.proofs.Tests.{or_no, or_none, and_yes, and_no}
 use Rattle.swc_ecma_parser_grammar.proofs.Naming.{name_is_name}
+use Rattle.swc_ecma_parser_grammar.proofs.Unnoted as unnoted
 use Rattle.swc_ecma_parser_reader.specs.Expressions.{literal_of, literal_in, token_is_word, first_is_word, is_word_at, postfix_at}
 
 -- ---- supported forms
@@ -220,7 +221,7 @@ key_begins In k x c d (parts.computed_key r) = rw r.opens (refl, refl)
 
 -- ---- the first token
 
--- neither an operator before an operand, nor what ends or opens an argument or an element
+-- neither an operator before an operand, nor what ends or opens an argument or an element, nor `const`
 abbrev pub operand_kind : TokenKind → Bool
 operand_kind kind.Delete = false
 operand_kind kind.Void = false
@@ -235,6 +236,7 @@ operand_kind kind.DotDotDot = false
 operand_kind kind.RParen = false
 operand_kind kind.RBracket = false
 operand_kind kind.Comma = false
+operand_kind kind.Const = false
 operand_kind _ = true
 
 -- nor `super`, `new` and `import`
@@ -255,6 +257,7 @@ primary_kind kind.DotDotDot = false
 primary_kind kind.RParen = false
 primary_kind kind.RBracket = false
 primary_kind kind.Comma = false
+primary_kind kind.Const = false
 primary_kind _ = true
 
 abbrev pub begin_kind : TokenKind → Bool
@@ -262,6 +265,7 @@ begin_kind kind.DotDotDot = false
 begin_kind kind.RParen = false
 begin_kind kind.RBracket = false
 begin_kind kind.Comma = false
+begin_kind kind.Const = false
 begin_kind _ = true
 
 primary_by : (k : TokenKind) → primary_kind k ≡ true → (same_kind k kind.Super ≡ false) × (same_kind k kind.New ≡ false) × (same_kind k kind.Import ≡ false)
@@ -297,6 +301,7 @@ unary_begins kind.DotDotDot op e = cc
 unary_begins kind.RParen op e = cc
 unary_begins kind.RBracket op e = cc
 unary_begins kind.Comma op e = cc
+unary_begins kind.Const op e = cc
 unary_begins _ op e = refl
 
 update_begins : (k : TokenKind) (op : UpdateOp) → update_operator k ≡ Some op → begin_kind k ≡ true
@@ -304,6 +309,7 @@ update_begins kind.DotDotDot op e = cc
 update_begins kind.RParen op e = cc
 update_begins kind.RBracket op e = cc
 update_begins kind.Comma op e = cc
+update_begins kind.Const op e = cc
 update_begins _ op e = refl
 
 begin_by : (k : TokenKind) → begin_kind k ≡ true
@@ -319,6 +325,11 @@ pub begin_seen : (c : Place) → begin_kind (kind_at c) ≡ true
     → (sees kind.DotDotDot c ≡ false) × (sees kind.RParen c ≡ false) × (sees kind.RBracket c ≡ false) × (sees kind.Comma c ≡ false)
 begin_seen c e = begin_by (kind_at c) e
 
+begin_no_const : (k : TokenKind) → begin_kind k ≡ true → same_kind k kind.Const ≡ false
+unfolding same_kind
+begin_no_const kind.Const e = cc
+begin_no_const _ e = refl
+
 -- `++` and `--` are no unary operators
 pub update_plain : (k : TokenKind) (op : UpdateOp) → update_operator k ≡ Some op → unary_operator k ≡ None
 update_plain kind.PlusPlus op e = refl
@@ -332,6 +343,7 @@ keyword_primary f keyword.Import e = cc
 keyword_primary f keyword.Delete e = cc
 keyword_primary f keyword.Void e = cc
 keyword_primary f keyword.TypeOf e = cc
+keyword_primary f keyword.Const e = cc
 keyword_primary f _ e = refl
 
 word_primary : (f : Context) (w : Word) → is_name f (word_text w) ≡ true → primary_kind (word_kind w) ≡ true
@@ -410,6 +422,10 @@ module _ (In : Goal → Type 0) where
   assignment_first k x c d (rules.yield_rule y g i b s r e) h = refuted x (ap supported e) h
   assignment_first k x c d (rules.delegate_rule y g i b m r e) h = refuted x (ap supported e) h
 
+  expression_first : (k : Code) (x : Tree) (c d : Place) → ExpressionRule In k x c d → supported x ≡ true → begin_kind (kind_at c) ≡ true
+  expression_first k x c d (rules.assignment_rule r e) h = assignment_first k x c d r h
+  expression_first k x c d (rules.sequence_rule y z zs (m, r, i, more) e) h = assignment_first k y c m r (and_yes (supported y) _ (supported_as x (tree.seq (spanned c d) (listed (y ∷ z ∷ zs))) e h)).0
+
 -- an argument or an element begins neither as a spread nor as the end of either, nor as a hole
 pub begins : (n : ℕ) (k : Code) (x : Tree) (c d : Place) → language.Reads n (expr_goal assignment k x c d) → supported x ≡ true → begin_kind (kind_at c) ≡ true
 begins zero k x c d r h = absurd r
@@ -419,57 +435,22 @@ pub element_begins : (purpose : Purpose) (n : ℕ) (k : Code) (x : Tree) (c d : 
 element_begins purpose zero k x c d r h = absurd r
 element_begins purpose (suc n) k x c d r h = element_first (language.Reads n) k x c d r h
 
--- ---- no expression that begins with `import` is a bare name
+-- `const` is reserved: no expression begins with it, and it is no name
+pub expr_no_const : (n : ℕ) (k : Code) (x : Tree) (c d : Place) → ReadsClass n expression k x c d → sees kind.Const c ≡ false
+expr_no_const zero k x c d r = absurd r.0
+expr_no_const (suc n) k x c d r = begin_no_const (kind_at c) (expression_first (language.Reads n) k x c d r.0 r.1)
 
-module _ (In : Goal → Type 0) where
-  primary_unnamed : (k : Code) (x : Tree) (c d : Place) → PrimaryRule In k x c d → supported x ≡ true → kind_at c ≡ kind.Import → is_ident x ≡ false
-  primary_unnamed k x c d r h i = absurd (let e : false ≡ true = sym (ap primary_kind i) ∙ primary_first In k x c d r h in cc)
+pub name_no_const : (f : Context) (w : Word) (s : Span) (c d : Place) → ReadsToken (token.Word w) s c d → is_name f (word_text w) ≡ true → sees kind.Const c ≡ false
+name_no_const f w s c d r h = begin_no_const (kind_at c) (operand_begins (kind_at c) (primary_operand (kind_at c) (token_primary (token.Word w) s c d r (word_primary f w h))))
 
-  left_unnamed : (k : Code) (x : Tree) (c d : Place) → LeftSideRule In k x c d → supported x ≡ true → kind_at c ≡ kind.Import → is_ident x ≡ false
-  left_unnamed k x c d (sides.primary_rule r) h i = primary_unnamed k x c d r h i
-  left_unnamed k x c d (sides.import_meta_rule a j w n m e) h i = ap is_ident e
-  left_unnamed k x c d (sides.member_rule y p m r a e) h i = ap is_ident e
-  left_unnamed k x c d (sides.super_property_rule p a r j e) h i = ap is_ident e
-  left_unnamed k x c d (sides.call_rule y z m r a e) h i = ap is_ident e
-  left_unnamed k x c d (sides.super_call_rule z a r e) h i = ap is_ident e
-  left_unnamed k x c d (sides.import_call_rule z a r e) h i = ap is_ident e
-  left_unnamed k x c d (sides.new_rule y z m a r b e) h i = ap is_ident e
-  left_unnamed k x c d (sides.bare_new_rule y a r e) h i = ap is_ident e
-
-  unary_unnamed : (k : Code) (x : Tree) (c d : Place) → UnaryRule In k x c d → supported x ≡ true → kind_at c ≡ kind.Import → is_ident x ≡ false
-  unary_unnamed k x c d (rules.operand_rule r) h i = left_unnamed k x c d r.0 h i
-  unary_unnamed k x c d (rules.unary_rule op y a r e) h i = ap is_ident e
-  unary_unnamed k x c d (rules.prefix_rule op y a r t e) h i = ap is_ident e
-  unary_unnamed k x c d (rules.postfix_rule op y m r t b a n e) h i = ap is_ident e
-  unary_unnamed k x c d (rules.await_rule y a m r e) h i = ap is_ident e
-
-  binary_unnamed : (k : Code) (n : ℕ) (x : Tree) (c d : Place) → BinaryRule In k n x c d → supported x ≡ true → kind_at c ≡ kind.Import → is_ident x ≡ false
-  binary_unnamed k n x c d (rules.single_rule r) h i = unary_unnamed k x c d r h i
-  binary_unnamed k n x c d (rules.left_rule op y z m b g a r o s u v e) h i = ap is_ident e
-  binary_unnamed k n x c d (rules.power_rule y z m b r u a s e) h i = ap is_ident e
-
-  assignment_unnamed : (k : Code) (x : Tree) (c d : Place) → AssignmentRule In k x c d → supported x ≡ true → kind_at c ≡ kind.Import → is_ident x ≡ false
-  assignment_unnamed k x c d (rules.operators_rule r s) h i = binary_unnamed k 1 x c d r h i
-  assignment_unnamed k x c d (rules.conditional_rule t y z a j r q o b s u e) h i = ap is_ident e
-  assignment_unnamed k x c d (rules.assign_rule op y z m r t a b e) h i = ap is_ident e
-  assignment_unnamed k x c d (rules.destructuring_rule y z m r t a b e) h i = ap is_ident e
-  assignment_unnamed k x c d (rules.arrow_rule a ps y o j r s t b u e) h i = ap is_ident e
-  assignment_unnamed k x c d (rules.bare_yield_rule g a n s e) h i = ap is_ident e
-  assignment_unnamed k x c d (rules.yield_rule y g a b s r e) h i = ap is_ident e
-  assignment_unnamed k x c d (rules.delegate_rule y g a b m r e) h i = ap is_ident e
-
-  expression_unnamed : (k : Code) (x : Tree) (c d : Place) → ExpressionRule In k x c d → supported x ≡ true → kind_at c ≡ kind.Import → is_ident x ≡ false
-  expression_unnamed k x c d (rules.assignment_rule r e) h i = assignment_unnamed k x c d r h i
-  expression_unnamed k x c d (rules.sequence_rule y z zs r e) h i = ap is_ident e
-
+-- no expression that begins with `import` is a bare name
 pub import_unnamed : (n : ℕ) (k : Code) (x : Tree) (c d : Place) → ReadsClass n expression k x c d → kind_at c ≡ kind.Import → is_ident x ≡ false
-import_unnamed zero k x c d r i = absurd r.0
-import_unnamed (suc n) k x c d r i = expression_unnamed (language.Reads n) k x c d r.0 r.1 i
+import_unnamed n k x c d r i = unnoted.import_unnamed n k x c d r (seen c kind.Import i)
 
 -- ---- the token behind
 
 -- neither an access, arguments nor an operator behind an operand
-abbrev Quiet : TokenKind → Type 0
+abbrev pub Quiet : TokenKind → Type 0
 Quiet k =
     (same_kind k kind.Dot ≡ false) × (same_kind k kind.LBracket ≡ false) × (same_kind k kind.LParen ≡ false) × (same_kind k kind.PlusPlus ≡ false)
     × (same_kind k kind.MinusMinus ≡ false)
@@ -496,7 +477,7 @@ question_quiet : (k : TokenKind) → k ≡ kind.QuestionMark → Quiet k
 unfolding same_kind
 question_quiet k e = rw e (refl, refl, refl, refl, refl)
 
-quiet_stops : (c : Place) → Quiet (kind_at c) → continues_left_side c ≡ false
+pub quiet_stops : (c : Place) → Quiet (kind_at c) → continues_left_side c ≡ false
 unfolding continues_left_side
 quiet_stops c q = rw (q.0, q.1, q.2, q.3, q.4) (and_no (not (breaks_at c)) _ refl)
 

@@ -31,6 +31,7 @@ use Rattle.swc_ecma_parser_grammar.specs.language.Operators.{unary_operator, upd
 use Rattle.swc_ecma_parser_grammar.specs.language.Continues.{continues_conditional}
 use Rattle.swc_ecma_parser_reader.specs.State.{State, Outcome, Reader, and_then, moved, module_found, coded, reject, reject_in, reject_at, fault, fault_at, expect, name, loop}
 use Rattle.swc_ecma_parser_reader.specs.Expressions.{Cover, Covers, no_covers, with_cover, unmarked, close, target_or, target, goes_on, literal, literal_in, taken, any_word, word_in, word_by, touching_word, private_name, word_property, is_word_at, key_or, literal_key, shorthand_name, shorthand, dotted, ident_expr, this, bare_new, closed_left, simple, update_behind, behind_operand, postfix_at, right_class, operator_at, left_operand, unmixed, unassigned, unheaded, heads_arrow, begins_async_call, inside, brackets, access, spread_element, plain_element, element, behind_comma, behind_argument, arguments_turn, arguments, covered, spread_item, plain_item, item, behind_item, array_turn, elements, array, computed_key, key, key_value, initialized, initialized_name, initialized_key, bare_key, behind_key, keyed_property, spread_property, property, behind_property, object_turn, properties, object, paren, marked_primary, literal_or, primary, accessed, called, left_turn, left_from, super_call, super_property, super_access, behind_super, super_head, constructed, new_head, import_call, meta_fault, import_meta, import_head, left_head, left, left_expr, prefixed, update_before, postfix, updated, unary_by, unary_expr, operated, binary_by, binary_turn, binary_from, binary_expr, conditional, assigned_to, assigned, assigned_or, behind_operators, operators_expr, postfixed, continued, closed, assigned_pattern, behind_literal, open_literal, done_expr, cover_expr, assignment_expr, sequence_turn, sequence_from, expression_expr, expr_level, expr, cover}
+use Rattle.swc_ecma_parser_reader.specs.Heads.{sequenced, head_expr}
 use Rattle.swc_ecma_parser_reader.proofs.Takes.{Falls, falls_then, falls_last, falls_coded, falls_if, less, falls_next, moves, takes, takes_one, falls_past, falls_moved, wanted_falls, too_deep_falls, refused_falls, fault_falls, expect_falls, name_falls, loop_falls}
 use Rattle.swc_ecma_parser_reader.proofs.Meets.{saw}
 
@@ -150,7 +151,7 @@ unmarked_falls : (x : Tree) (o : Option Span) (s : State) → Falls 0 (length s.
 unmarked_falls x None s = omega arith
 unmarked_falls x (Some m) s = reject_falls Tree 0 (length s.at.left) _ s
 
-close_falls : (v : Cover) (s : State) → Falls 0 (length s.at.left) (close v s)
+pub close_falls : (v : Cover) (s : State) → Falls 0 (length s.at.left) (close v s)
 unfolding close
 close_falls v s = unmarked_falls v.x v.mark s
 
@@ -158,7 +159,7 @@ target_or_falls : (x : Tree) (o : Option Tree) (s : State) → Falls 0 (length s
 target_or_falls x (Some p) s = omega arith
 target_or_falls x None s = reject_falls Tree 0 (length s.at.left) _ s
 
-target_falls : (v : Cover) (s : State) → Falls 0 (length s.at.left) (target v s)
+pub target_falls : (v : Cover) (s : State) → Falls 0 (length s.at.left) (target v s)
 unfolding target
 target_falls v s = target_or_falls v.x (cond v.comma None (as_target v.x)) s
 
@@ -518,6 +519,12 @@ module _ (inner : Class → Reader Tree) (cover : Reader Cover) (h : (class : Cl
   unfolding expression_expr
   expression_falls s = falls_next (length s.at.left) (assignment_expr inner cover s) _ (assignment_falls s) (λ x t.
       falls_if 0 (length t.at.left) (sees kind.Comma t.at) _ _ (sequence_falls (span_at s.at) x t) (omega arith))
+
+  pub head_expr_falls : (s : State) → Falls 1 (length s.at.left) (head_expr inner cover s)
+  unfolding head_expr sequenced
+  head_expr_falls s = falls_next (length s.at.left) (cover_expr inner cover s) _ (cover_expr_falls s) (λ v t. falls_if 0 (length t.at.left) (sees kind.Comma t.at) _ _
+      (falls_then 0 0 (length t.at.left) (close v t) _ (close_falls v t) (λ x u.
+      falls_last 0 (length u.at.left) (sequence_from inner cover (span_at s.at) x u) _ (sequence_falls (span_at s.at) x u))) (omega arith))
 
   level_falls : (class : Class) (s : State) → Falls 1 (length s.at.left) (expr_level inner cover class s)
   unfolding expr_level

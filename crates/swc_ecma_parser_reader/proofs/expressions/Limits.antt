@@ -30,6 +30,7 @@ use Rattle.swc_ecma_parser_grammar.specs.language.Operators.{unary_operator, upd
 use Rattle.swc_ecma_parser_grammar.specs.language.Continues.{continues_conditional}
 use Rattle.swc_ecma_parser_reader.specs.State.{State, Outcome, Reader, ◌>>=◌, moved, module_found, coded, wanted, reject, reject_in, reject_at, fault_at, fault, expect, name, loop}
 use Rattle.swc_ecma_parser_reader.specs.Expressions.{Cover, no_covers, unmarked, close, target_or, target, goes_on, literal, literal_in, taken, any_word, word_in, word_by, touching_word, private_name, word_property, is_word_at, key_or, literal_key, shorthand_name, shorthand, dotted, ident_expr, this, bare_new, closed_left, simple, update_behind, behind_operand, postfix_at, right_class, read_operator, operator_at, left_operand, unmixed, unassigned, unassignable, unheaded, heads_arrow, begins_async_call, inside, brackets, access, spread_element, plain_element, element, arguments_turn, arguments, covered, spread_item, plain_item, item, array_turn, elements, array, computed_key, key, key_value, initialized, initialized_name, initialized_key, bare_key, behind_key, keyed_property, spread_property, property, object_turn, properties, object, paren, marked_primary, literal_or, primary, accessed, called, left_turn, left_from, super_call, super_property, super_access, behind_super, super_head, constructed, new_head, import_call, meta_fault, import_meta, import_head, left_head, left, left_expr, prefixed, update_before, postfix, updated, unary_by, unary_expr, operated, binary_by, binary_turn, binary_from, binary_expr, conditional, assigned_to, assigned, assigned_or, behind_operators, operators_expr, postfixed, continued, closed, assigned_pattern, behind_literal, open_literal, done_expr, cover_expr, assignment_expr, sequence_turn, sequence_from, expression_expr, expr_level, expr, cover}
+use Rattle.swc_ecma_parser_reader.specs.Heads.{sequenced, head_expr}
 use Rattle.swc_ecma_parser_reader.proofs.Meets.{Answers, answers_then, answers_if, Turned, loop_answers, saw}
 use Rattle.swc_ecma_parser_reader.proofs.Shallow.{Fine, fine_more, fine_after, fine_taken, Shallow, Kept, error_shallow, too_deep_shallow, fault_shallow, refused_shallow, wanted_shallow, expect_shallow, name_shallow, Levels}
 
@@ -566,6 +567,12 @@ module _ (inner : Class → Reader Tree) (cover : Reader Cover) (n : ℕ) (below
     unfolding expression_expr
     expression_shallow s f = answers_then _ _ (assignment_expr inner cover s) _ (assignment_shallow s f) (λ x t g.
         answers_if _ _ (sees kind.Comma t.at) _ _ (λ _. sequence_shallow (span_at s.at) x t g) (λ _. g))
+
+    pub head_expr_shallow : (s : State) → Fine m s.at.left → Answers (Kept m) Shallow (head_expr inner cover s)
+    unfolding head_expr sequenced
+    head_expr_shallow s f = answers_then _ _ (cover_expr inner cover s) _ (cover_expr_shallow s f) (λ v t g. answers_if _ _ (sees kind.Comma t.at) _ _
+        (λ _. answers_then _ _ (close v t) _ (close_shallow m t g v) (λ x u k. answers_then _ _ (sequence_from inner cover (span_at s.at) x u) _ (sequence_shallow (span_at s.at) x u k) (λ y w j. j)))
+        (λ _. g))
 
     level_shallow : (class : Class) (s : State) → Fine m s.at.left → Answers (Kept m) Shallow (expr_level inner cover class s)
     unfolding expr_level

@@ -238,7 +238,7 @@ module _ (n : ℕ) (inner : Class → Reader Tree) (cover : Reader Cover) (sound
     unopened x t h r true e = clash (begins_literal s.at) (assignment_first r.0 e) h
     unopened x t h r false e = refl
 
-    cover_expr_sound : Meets SoundNext (cover_expr inner cover s)
+    pub cover_expr_sound : Meets SoundNext (cover_expr inner cover s)
     unfolding cover_expr done_expr
     cover_expr_sound = meets_if _ (begins_literal s.at) _ _ open_sound
         (λ h. meets_then _ (operators_expr inner cover s) _ operators_sound (λ x t p.
@@ -275,7 +275,7 @@ module _ (n : ℕ) (inner : Class → Reader Tree) (cover : Reader Cover) (sound
         (λ e. sound_as s u refl (walks_push (env_of s.code s.scope.labels) xs x) (notes_push xs x)
         (λ (a, b). (parts_last (AssignmentRule (Reads n) s.code) x t.at u.at s.at xs a.0 b.0 e, supported_push xs x a.1 b.1)) (paired p (moved_back c refl q))))
 
-    sequence_sound : (x : Tree) (t : State) → SoundTree Assignment s x t → kind_at t.at ≡ kind.Comma
+    pub sequence_sound : (x : Tree) (t : State) → SoundTree Assignment s x t → kind_at t.at ≡ kind.Comma
         → Meets (λ y u. SoundTree (ReadsClass (suc n) expression) s y u) (sequence_from inner cover (span_at s.at) x t)
     unfolding sequence_from spanned
     sequence_sound x t p e = meets_then _ (loop (sequence_turn inner cover) (x ∷ []) t) _

@@ -47,6 +47,8 @@ use Rattle.swc_ecma_parser_reader.proofs.expressions.SoundLists.{elements_list, 
 -- as an expression where no part is one of a pattern alone, and as a pattern where no comma stands behind a rest
 pub record CoverRead (n : ℕ) (v : Cover) (k : Code) (c d : Place) : Type 0 where
   pub plain : v.mark ≡ None → ReadsClass n assignment k v.x c d
+  -- no other form has such a part
+  pub unmarked : is_literal v.x ≡ false → v.mark ≡ None
   pub pattern : v.comma ≡ false → (p : Tree) → as_pattern false v.x ≡ Some p → Reads n (pattern_goal assigning k p c d) × (supported p ≡ true) × ((span_of v.x).hi ≡ d.last.hi)
   -- with a default or without one
   pub element : v.comma ≡ false → with_in k ≡ k → (p : Tree) → as_pattern true v.x ≡ Some p → Reads n (element_goal assigning k p c d) × (supported p ≡ true)

@@ -38,8 +38,9 @@ use Rattle.swc_ecma_parser_reader.specs.State.{State, Outcome, Reader, and_then,
 use Rattle.swc_ecma_parser_reader.specs.Expressions.{Cover, literal_of, literal_in, taken, literal, ident_expr, this, super_property, bare_new, closed_left, unmarked, close, dotted, inside, brackets, access, spread_element, plain_element, element, behind_argument, arguments_turn, arguments, array, object, paren, marked_primary, literal_or, primary, accessed, called, left_turn, left_from, super_call, super_access, behind_super, super_head, constructed, new_head, import_call, meta_fault, import_meta, import_head, left_head, left, left_expr, any_word, word_property}
 use Rattle.swc_ecma_parser_reader.proofs.Notes.{or_true, notes_nil}
 use Rattle.swc_ecma_parser_reader.proofs.Meets.{Meets, Refuses, meets_then, meets_if, wanted_meets, Turned, loop_answers, saw}
+use Rattle.swc_ecma_parser_reader.specs.Entry.{error_tokens}
 use Rattle.swc_ecma_parser_reader.proofs.Errors.{kind_here}
-use Rattle.swc_ecma_parser_reader.proofs.Between.{SoundTree, SoundStep, Sound, same, no_faults, sound_moved, sound_here, sound_as, sound_after}
+use Rattle.swc_ecma_parser_reader.proofs.Between.{SoundTree, SoundStep, Sound, same, same-fewer, no_faults, sound_moved, sound_here, sound_as, sound_after}
 use Rattle.swc_ecma_parser_reader.proofs.expressions.CompleteKinds.{seen}
 use Rattle.swc_ecma_parser_reader.proofs.expressions.SoundSteps.{paired, stepped, moved_back, meets_as, reject_meets, other, clash, elsewhere, Takes, expect_sound, fault_sound, stands, token_first, FreeWord, name_sound, name_first, Dotted, word_dotted, private_dotted, dotted_sound, walks_push, notes_push, supported_push, any_word_sound}
 use Rattle.swc_ecma_parser_grammar.proofs.Naming.{name_is_clean, name_is_supported}
@@ -53,7 +54,7 @@ token_word text (token.Word _) h = cc
 token_word text _ h = cc
 
 -- a word of this text is no keyword
-word_stands : (text : Text) (c : Place) → word_at text c ≡ true → kind_at c ≡ kind.Ident
+pub word_stands : (text : Text) (c : Place) → word_at text c ≡ true → kind_at c ≡ kind.Ident
 unfolding word_at kind_at
 word_stands text c h = by_first c.left h
   where
@@ -428,8 +429,8 @@ module _ (n : ℕ) (inner : Class → Reader Tree) (cover : Reader Cover) (sound
           notes = λ _ i. record { held_back = sym (append-nil u.notes.held_back) i; found_module_item = sym (or_true u.notes.found_module_item) i };
           found = sym (or_true u.notes.found_module_item);
           walked = λ _ _. refl;
-          keeps = λ h. h;
-          spares = λ _ h. h;
+          clean = λ _. refl;
+          fewer = same-fewer (error_tokens u.at.left) (error_tokens u.at.left) refl;
           remembers = λ h. h;
           reads = λ _. (g, refl);
         })
@@ -441,8 +442,8 @@ module _ (n : ℕ) (inner : Class → Reader Tree) (cover : Reader Cover) (sound
           notes = λ e. absurd (p.reads e);
           found = p.found ∙ sym (or_true u.notes.found_module_item);
           walked = p.walked;
-          keeps = p.keeps;
-          spares = p.spares;
+          clean = p.clean;
+          fewer = p.fewer;
           remembers = p.remembers;
           reads = λ e. absurd (p.reads e);
         }))

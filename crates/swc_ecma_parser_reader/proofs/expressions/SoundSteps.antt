@@ -1,6 +1,6 @@
 -- The steps of a sound reader of expressions: how parts are joined, fixed tokens, recorded faults, words and names, and lists of
 -- trees.
-use Rattle.std.proofs.Common.{◌≡◌, Bool, true, false, cond, List, [], ◌∷◌, ◌++◌, Ok, Err, refl, sym, ◌∙◌, ap, subst, append_assoc, append-nil, true≢false, eqb-true}
+use Rattle.std.proofs.Common.{◌≡◌, ℕ, suc, ◌≤◌, arith, Bool, true, false, cond, List, [], ◌∷◌, ◌++◌, Ok, Err, refl, sym, ◌∙◌, ap, subst, append_assoc, append-nil, true≢false, eqb-true}
 use Rattle.std.specs.Prelude.{nat_eq, ◌||◌}
 use Rattle.swc_ecma_parser_common.specs.declared.span.BytePos.{BytePos}
 use Rattle.swc_ecma_parser_common.specs.declared.span.Span.{Span}
@@ -24,7 +24,6 @@ use Rattle.swc_ecma_parser_grammar.specs.Looks.{kind_at, sees, same_kind, span_a
 use Rattle.swc_ecma_parser_grammar.specs.Names.{Code, is_name}
 use Rattle.swc_ecma_parser_grammar.specs.Reads.{ReadsToken}
 use Rattle.swc_ecma_parser_grammar.specs.Supported.{supported, all_supported}
-use Rattle.swc_ecma_parser_grammar.specs.Entries.{has_error_token}
 use Rattle.swc_ecma_parser_grammar.specs.language.Parts.{ReadsWord, PrivateRule}
 use Rattle.swc_ecma_parser_grammar.specs.Walk as walks
 use Rattle.swc_ecma_parser_grammar.specs.Walk.{walk, tabled}
@@ -32,10 +31,11 @@ use Rattle.swc_ecma_parser_grammar.proofs.Tests.{and_yes, and_both}
 use Rattle.swc_ecma_parser_grammar.proofs.SupportedBegins.{name_begins}
 use Rattle.swc_ecma_parser_reader.specs.Notes.{Notes, no_notes, held, ◌⊕◌, notes_of, all_notes_of}
 use Rattle.swc_ecma_parser_reader.specs.State.{State, Outcome, Reader, and_then, moved, noted, recorded_in, recorded_at, fault, refused, reject, reject_in, reject_at, expect, name, name_in, name_by}
+use Rattle.swc_ecma_parser_reader.specs.Entry.{error_tokens}
 use Rattle.swc_ecma_parser_reader.specs.Expressions.{any_word, word_in, word_by, touching_word, private_name, word_property, dotted}
 use Rattle.swc_ecma_parser_reader.proofs.Notes.{or_nil, or_assoc, notes_nil, notes_assoc}
 use Rattle.swc_ecma_parser_reader.proofs.Meets.{Meets, meets_then, meets_if, wanted_meets, refuse_meets, saw}
-use Rattle.swc_ecma_parser_reader.proofs.Between.{SoundTree, SoundStep, Sound, Walk, no_faults, same, tabled-append, drops-split, nil-split, some_fault, sound_moved, sound_as, sound_after}
+use Rattle.swc_ecma_parser_reader.proofs.Between.{SoundTree, SoundStep, Sound, Walk, no_faults, same, tabled-append, drops-split, nil-split, fewer-then, same-fewer, same-between, some_fault, sound_moved, sound_as, sound_after}
 use Rattle.swc_ecma_parser_reader.proofs.Errors.{is_error, word_is_none, kind_here, after_remembers}
 
 -- ---- parts one behind another; what was read is said of the places that are known
@@ -50,10 +50,12 @@ module _ {w v : Walk} {ns ms : Notes} {P Q : Code → Place → Place → Type 0
     notes = λ e. let h = nil-split p.added q.added e in q.notes h.1 ∙ ap (λ z. z ⊕ ms) (p.notes h.0) ∙ notes_assoc s.notes ns ms;
     found = q.found ∙ ap (λ z. z || ms.found_module_item) p.found ∙ or_assoc s.notes.found_module_item ns.found_module_item ms.found_module_item;
     walked = λ h d. let e = drops-split p.added q.added d in
-        tabled-append p.added q.added ∙ ap (λ z. z ++ tabled q.added) (p.walked h e.0)
-        ∙ ap (λ z. w s.code s.scope.labels ++ z) (q.walked (p.keeps h) e.1 ∙ ap (λ z. v z m.scope.labels) p.code ∙ ap (λ z. v s.code z.labels) p.scope);
-    keeps = λ h. q.keeps (p.keeps h);
-    spares = λ e h. let k = nil-split p.added q.added e in p.spares k.0 (q.spares k.1 h);
+        let k = same-between (error_tokens s.at.left) (error_tokens m.at.left) (error_tokens t.at.left) p.fewer q.fewer h in
+        tabled-append p.added q.added ∙ ap (λ z. z ++ tabled q.added) (p.walked k.0 e.0)
+        ∙ ap (λ z. w s.code s.scope.labels ++ z) (q.walked k.1 e.1 ∙ ap (λ z. v z m.scope.labels) p.code ∙ ap (λ z. v s.code z.labels) p.scope);
+    clean = λ e. let h = nil-split p.added q.added e in
+        ap (λ z. z ++ v s.code s.scope.labels) (p.clean h.0) ∙ sym (ap (λ z. v z m.scope.labels) p.code ∙ ap (λ z. v s.code z.labels) p.scope) ∙ q.clean h.1;
+    fewer = fewer-then (error_tokens s.at.left) (error_tokens m.at.left) (error_tokens t.at.left) p.fewer q.fewer;
     remembers = λ h. p.remembers (q.remembers h);
     reads = λ e. let h = nil-split p.added q.added e in (p.reads h.0, subst (λ k. Q k m.at t.at) p.code (q.reads h.1));
   }
@@ -140,10 +142,16 @@ token_first v i span c d r h = rw r.is h
 
 -- ---- recorded faults
 
--- an error token in first place is one of the list
-error_first : (c : Place) (u : TokenAndSpan) (ts : List TokenAndSpan) (e : Error) → c.left ≡ u ∷ ts → u.token ≡ token.Error e → has_error_token c.left ≡ true
-unfolding same_kind
-error_first c u ts e h g = rw (h, g) refl
+-- an error token in first place is one of those that are left
+error_taken : (c : Place) (u : TokenAndSpan) (ts : List TokenAndSpan) (e : Error) → c.left ≡ u ∷ ts → u.token ≡ token.Error e → error_tokens c.left ≡ suc (error_tokens (after c).left)
+unfolding same_kind after
+error_taken c u ts e h g = rw (h, g) refl
+
+no_fewer : {X : Type 0} (a b : ℕ) → a ≡ suc b → a ≡ b → X
+no_fewer a b e h = absurd (omega arith)
+
+one_fewer : (a b : ℕ) → a ≡ suc b → b ≤ a
+one_fewer a b e = omega arith
 
 -- a recorded fault, of the table or not; an error token before it is recorded too
 module _ {table : List Fault} (P : Code → Place → Place → Type 0) (f : Fault) (s : State) (tells : tabled (f ∷ []) ≡ table) where
@@ -160,8 +168,8 @@ module _ {table : List Fault} (P : Code → Place → Place → Type 0) (f : Fau
     notes = λ i. some_fault f [] i;
     found = sym (or_nil s.notes.found_module_item);
     walked = λ i d. tells;
-    keeps = λ i. i;
-    spares = λ i g. g;
+    clean = λ i. some_fault f [] i;
+    fewer = same-fewer (error_tokens s.at.left) (error_tokens s.at.left) refl;
     remembers = λ i. i;
     reads = λ i. some_fault f [] i;
   }
@@ -174,9 +182,9 @@ module _ {table : List Fault} (P : Code → Place → Place → Type 0) (f : Fau
     faults = append_assoc s.faults (fault_of e ∷ []) (f ∷ []);
     notes = λ i. some_fault (fault_of e) (f ∷ []) i;
     found = sym (or_nil s.notes.found_module_item);
-    walked = λ i d. clash (has_error_token s.at.left) (error_first s.at u ts e h g) i;
-    keeps = λ i. clash (has_error_token s.at.left) (error_first s.at u ts e h g) i;
-    spares = λ i. some_fault (fault_of e) (f ∷ []) i;
+    walked = λ i d. no_fewer (error_tokens s.at.left) (error_tokens (after s.at).left) (error_taken s.at u ts e h g) i;
+    clean = λ i. some_fault (fault_of e) (f ∷ []) i;
+    fewer = one_fewer (error_tokens s.at.left) (error_tokens (after s.at).left) (error_taken s.at u ts e h g);
     remembers = after_remembers s.at u ts h (rw g j);
     reads = λ i. some_fault (fault_of e) (f ∷ []) i;
   })

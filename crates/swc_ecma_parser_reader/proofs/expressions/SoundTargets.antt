@@ -241,6 +241,17 @@ module _ {In : Goal → Type 0} {k : Code} where
   literal_stays x c d h (expressions.yield_rule y g i b s r e) = clash _ h (ap is_literal e)
   literal_stays x c d h (expressions.delegate_rule y g i b s r e) = clash _ h (ap is_literal e)
 
+  -- nor with a name
+  pub name_stays : (s : Span) (text : Text) (c d : Place) → AssignmentRule In k (tree.ident s text) c d → continues_assignment k (tree.ident s text) c d ≡ false
+  name_stays s text c d (expressions.operators_rule r h) = h
+  name_stays s text c d (expressions.conditional_rule t y z i j r q a b h u e) = cc
+  name_stays s text c d (expressions.assign_rule op y z m r t a b e) = cc
+  name_stays s text c d (expressions.destructuring_rule y z m r t a b e) = cc
+  name_stays s text c d (expressions.arrow_rule a ps y i j r h t b u e) = cc
+  name_stays s text c d (expressions.bare_yield_rule g i n h e) = cc
+  name_stays s text c d (expressions.yield_rule y g i b h r e) = cc
+  name_stays s text c d (expressions.delegate_rule y g i b h r e) = cc
+
   -- a name or a member is an operand by itself
   simple_reads : (x : Tree) (c d : Place) → is_simple_target x ≡ true → AssignmentRule In k x c d → OperandRule In k x c d × (sees kind.Assign d ≡ false)
   simple_reads x c d h (expressions.operators_rule r s) = (simple_binary 1 x c d h r, unassigned k x c d s)
@@ -305,6 +316,7 @@ module _ {In : Goal → Type 0} {k : Code} where
 pub settled_read : (n : ℕ) (k : Code) (x : Tree) (c d : Place) → is_literal x ≡ false → AssignmentRule (Reads n) k x c d × (supported x ≡ true) → CoverRead (suc n) (done x) k c d
 settled_read n k x c d l r = record {
   plain = λ _. r;
+  unmarked = λ _. refl;
   pattern = λ _ p e. target_reads x p c d l e r.0 r.1;
   element = λ _ w p e. element_reads x p c d l w e r.0 r.1;
 }
@@ -363,6 +375,7 @@ pub open_read : (n : ℕ) (k : Code) (v : Cover) (c : Place) (t : State) → Lit
     → CoverRead (suc n) v k c t.at
 open_read n k v c t r e h a g = record {
   plain = λ i. let w = r.plain i in (operators_rule (single_rule (operand_rule (primary_rule w.0, no_awaits k c h))) (literal_ends k v.x c t r.literal e g), w.1);
+  unmarked = λ f. clash (is_literal v.x) r.literal f;
   pattern = λ i p f. let w = r.pattern i p f in (w.0, w.1, r.ends);
   element = λ i _ p f. let w = r.pattern i p (sym r.no_default ∙ f) in (bare_rule w.0 a, w.1);
 }

@@ -1,11 +1,13 @@
 -- What an expression is as a pattern: it has the same walk and the same notes, and is no rest.
 use Rattle.std.proofs.Common.{◌≡◌, Bool, true, false, cond, ◌++◌, Option, Some, None, refl, sym, ◌∙◌, ap}
+use Rattle.std.specs.Prelude.{codes}
 use Rattle.swc_ecma_parser_common.specs.declared.span.Span.{Span}
 use Rattle.swc_ecma_parser_model.specs.declared.operators.AssignOp.TheVariants as assign
 use Rattle.swc_ecma_parser_model.specs.Tree as tree
 use Rattle.swc_ecma_parser_model.specs.Tree.{Tree, Trees, none, also}
-use Rattle.swc_ecma_parser_model.specs.Forms.{is_simple_target, is_pattern_target, is_rest}
+use Rattle.swc_ecma_parser_model.specs.Forms.{is_simple_target, is_pattern_target, is_rest, is_ident_named}
 use Rattle.swc_ecma_parser_model.specs.Targets.{leaf, left_pattern, simple_target, rest_span, rest_of, array_of, object_of, key_value_of, before, alone, as_pattern, as_elements, as_item, as_properties, as_property}
+use Rattle.swc_ecma_parser_grammar.specs.Follows.{is_bare_async}
 use Rattle.swc_ecma_parser_grammar.specs.Supported.{supported}
 use Rattle.swc_ecma_parser_grammar.specs.Walk as walks
 use Rattle.swc_ecma_parser_grammar.specs.Walk.{Env, walk}
@@ -195,6 +197,16 @@ pattern_no_rest false (tree.array s (tree.list xs)) p h = ap is_rest (some_array
 pattern_no_rest false (tree.object s (tree.list xs)) p h = ap is_rest (some_object s (as_properties xs) p h).2
 pattern_no_rest true x p h = simple_no_rest x p h
 pattern_no_rest false x p h = simple_no_rest x p h
+
+-- `async` is no other form
+pub leaf_async : (x : Tree) → is_bare_async (leaf x) ≡ is_ident_named (codes "async") x
+leaf_async (tree.ident s text) = refl
+leaf_async _ = refl
+
+pub target_async : (x p : Tree) → as_pattern false x ≡ Some p → is_bare_async p ≡ is_ident_named (codes "async") x
+target_async (tree.array s (tree.list xs)) p h = ap is_bare_async (some_array s (as_elements xs) p h).2
+target_async (tree.object s (tree.list xs)) p h = ap is_bare_async (some_object s (as_properties xs) p h).2
+target_async x p h = ap is_bare_async (simple_is x p h).1 ∙ leaf_async x
 
 -- an array or object becomes a pattern
 pub literal_target : (x p : Tree) → is_literal x ≡ true → as_pattern false x ≡ Some p → is_pattern_target p ≡ true

@@ -2,6 +2,7 @@ use Rattle.std.proofs.Common.{Ok, arith, sym, ap, subst, ◌∙◌}
 use Rattle.std.proofs.lemmas.Result.{err_from_is_err_and}
 use Rattle.swc_ecma_parser_reader.specs.State.{GivesAs}
 use Rattle.swc_ecma_parser_reader.proofs.expressions.Loops.{cover_above}
+use Rattle.swc_ecma_parser_reader.proofs.expressions.Heads.{head_above}
 use Rattle.swc_ecma_parser_reader.proofs.patterns.Loops.{pattern_above, element_above}
 use Rattle.swc_ecma_parser_left.specs.Covers.{cover_of}
 use Rattle.swc_ecma_parser_core.proofs.Covers.{read_lowest, read_expr, read_expr_err, at_asked}
@@ -27,6 +28,11 @@ pub expr-returns-in-Cover : goal.expr-returns-in-Cover
 expr-returns-in-Cover g t c =
     subst (λ o. GivesAs (cover_of g.T.Trees.expr_of) o c.cover_expr.result (g.P.Source.seen c.cover_expr.new.p))
     (sym (at_asked c.args.depth (g.P.Source.seen c.args.p.now) c.args.asked _ _ c.in-Cover.is (cover_above c.args.depth (g.P.Source.seen c.args.p.now) (omega arith)))) c.cover_expr.ensures
+
+pub expr-returns-in-Head : goal.expr-returns-in-Head
+expr-returns-in-Head g t c =
+    subst (λ o. GivesAs (cover_of g.T.Trees.expr_of) o c.head_expr.result (g.P.Source.seen c.head_expr.new.p))
+    (sym (at_asked c.args.depth (g.P.Source.seen c.args.p.now) c.args.asked _ _ c.in-Head.is (head_above c.args.depth (g.P.Source.seen c.args.p.now) (omega arith)))) c.head_expr.ensures
 
 pub pat-returns-then-depth-eq0 : goal.pat-returns-then-depth-eq0
 pat-returns-then-depth-eq0 g t c = λ h. read_pat_lowest c.args.depth c.args.part (g.P.Source.seen c.args.p.now) _ c.if-depth-eq0.true (c.too_deep.ensures h)

@@ -12,8 +12,9 @@ use Rattle.swc_ecma_parser_grammar.specs.language.Contexts.{in_breakable}
 use Rattle.swc_ecma_parser_grammar.specs.language.Items.{nested_item}
 use Rattle.swc_ecma_parser_grammar.specs.language.Declarations as declarations
 use Rattle.swc_ecma_parser_grammar.specs.language.Declarations.{DeclaratorRule, VariablesRule, AwaitWord, UsingDeclaratorRule, UsingRule}
+use Rattle.swc_ecma_parser_grammar.specs.Reads.{head_code}
 use Rattle.swc_ecma_parser_grammar.specs.language.ForHeads as heads
-use Rattle.swc_ecma_parser_grammar.specs.language.ForHeads.{HeadVariablesRule, head_code, InitRule, PartRule, LeftRule, UsingNameRule, UsingHeadRule, OfLeftRule}
+use Rattle.swc_ecma_parser_grammar.specs.language.ForHeads.{HeadVariablesRule, InitRule, PartRule, LeftRule, UsingNameRule, UsingHeadRule, OfLeftRule}
 use Rattle.swc_ecma_parser_grammar.specs.language.Statements as statements
 use Rattle.swc_ecma_parser_grammar.specs.language.Statements.{HeadRule, OperandRule, TargetRule, IfRule, ElseRule, CaseRule, CatchRule, FinallyRule, FormRule}
 use Rattle.swc_ecma_parser_grammar.specs.language.ModuleParts as module_parts

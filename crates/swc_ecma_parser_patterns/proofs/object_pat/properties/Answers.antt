@@ -1,10 +1,11 @@
-use Rattle.std.proofs.Common.{◌≡◌, map, false, Err, sym, subst, ◌∙◌}
+use Rattle.std.proofs.Common.{◌≡◌, map, false, Ok, Err, sym, ap, subst, ◌∙◌}
+use Rattle.std.proofs.lemmas.List.{map_push}
 use Rattle.std.proofs.lemmas.Result.{err_from_is_err_and}
 use Rattle.swc_ecma_parser_error.specs.Kind.{Fault, fault_of}
 use Rattle.swc_ecma_parser_token.specs.declared.kind.TokenKind.TheVariants as kind
 use Rattle.swc_ecma_parser_grammar.specs.Looks.{sees}
 use Rattle.swc_ecma_parser_reader.specs.State.{State, expect}
-use Rattle.swc_ecma_parser_reader.proofs.patterns.Loops.{properties_rest_err, properties_rest_close_err, properties_err, properties_comma_err}
+use Rattle.swc_ecma_parser_reader.proofs.patterns.Loops.{properties_rest, properties_rest_err, properties_rest_close_err, properties_err, properties_comma_err}
 use Rattle.swc_ecma_parser_patterns.proofs.object_pat.properties.Goals as goal
 
 pub returns-in_err-rest : goal.returns-in_err-rest
@@ -35,3 +36,11 @@ returns-in_err-expect-2 g c =
     rw (p.1, p.2) (λ h. c.properties.invariant ∙ properties_comma_err c.args.g.now.depth (map g.T.BuildsPattern.pat_prop_of c.properties.found.items) (g.P.Source.seen c.properties.p)
     (sym c.if-sees.ensures) (sym c.if-sees-2.ensures) _ (g.P.Source.seen c.property.new.p) e c.in_ok-property.ensures
     (subst (λ u. sees kind.RBrace u.at ≡ false) same (sym c.if-not-sees.ensures)) (subst (λ u. expect kind.Comma u ≡ Err e) same (c.in_err-expect-2.ensures h)))
+
+pub returns-then-sees-2 : goal.returns-then-sees-2
+returns-then-sees-2 g c =
+    let left = g.P.Source.seen c.expect.new.self in
+    c.properties.invariant
+    ∙ properties_rest c.args.g.now.depth (map g.T.BuildsPattern.pat_prop_of c.properties.found.items) (g.P.Source.seen c.properties.p) (sym c.if-sees.ensures) (sym c.if-sees-2.ensures) _
+    (g.P.Source.seen c.rest_property.new.p) left c.in_ok-rest.ensures (subst (λ u. expect kind.RBrace u ≡ Ok (tt, left)) c.in_ok-pushed.ensures.state c.in_ok-expect.ensures)
+    ∙ ap (λ found. Ok (found, left)) (sym (map_push g.T.BuildsPattern.pat_prop_of c.properties.found.items _) ∙ ap (map g.T.BuildsPattern.pat_prop_of) (sym c.in_ok-pushed.ensures.items))

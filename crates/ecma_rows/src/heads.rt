@@ -1,0 +1,109 @@
+//! Rows of `for` statements, by hand, from the rules of ECMA-262, sections 14.7.4 and 14.7.5.
+
+use crate::report::report;
+use std::test::Fail;
+
+const FORS: &str =
+    "for (;;) ; → Script 0..10, For 0..10 → ForStmt 0..10, EmptyStmt 9..10, init: None, test: None, update: None
+for (var a = 1, b; a; a++) c → Script 0..28, For 0..28 → VarDecl 5..17, VarDeclarator 9..14, VarDeclarator 16..17, UpdateExpr 22..25, ExprStmt 27..28
+for (a; b; ) c; d → Script 0..17, For 0..15, Expr 16..17 → Ident 5..6 a, Ident 8..9 b, update: None
+for ((a in b);;) c → Script 0..18, For 0..18 → ParenExpr 5..13, BinExpr 6..12
+for (var [a = b in c] = d;;) e → Script 0..30, For 0..30 → ArrayPat 9..21, AssignPat 10..20, BinExpr 14..20
+for (var a = b ? c in d : e;;) f → Script 0..32, For 0..32 → CondExpr 13..27, BinExpr 17..23
+for (;;) { break; continue } → Script 0..28, For 0..28 → BreakStmt 11..17, ContinueStmt 18..26
+for (;;) for (;;) ; → Script 0..19, For 0..19 → ForStmt 0..19, ForStmt 9..19
+for (let;;) b → Script 0..13, For 0..13 → Ident 5..8 let
+for (of;;) b → Script 0..12, For 0..12 → Ident 5..7 of
+for (let a;;) b → Script 0..15, For 0..15 → VarDecl 5..10, kind: Let
+for (const a = 1;;) b → Script 0..21, For 0..21 → VarDecl 5..16, kind: Const
+for (const a;;) b → Script 0..17, For 0..17 → VarDecl 5..12, init: None
+for (let [a] = b in c;;) d → Script 0..26, For 0..26 → VarDecl 5..21, BinExpr 15..21
+for ([a] = b;;) c → Script 0..17, For 0..17 → AssignExpr 5..12, ArrayPat 5..8
+for (a, b;;) c → Script 0..14, For 0..14 → SeqExpr 5..9
+'use strict'; for (const a;;) ; → Script 0..31, Expr 0..13, For 14..31, fault 25..26 ConstDeclarationsRequireInitialization
+for (var [a];;) b → refused 9..12 PatVarWithoutInit
+for ({a = 1};;) ; → refused 6..11 AssignProperty
+for (a) b → refused 6..7 Expected
+for (;a) b → refused 7..8 Expected
+for (;;a b → refused 9..10 Expected
+for a → refused 4..5 Expected
+for (;;) → refused 8..8 Eof
+for (using a of b) c → refused 11..12 Expected
+for await (a of b) c → refused 4..9 Expected";
+
+#[test]
+fn fors(rt: HostRuntime) -> Result<(), Fail> {
+    assert_eq!(rt; report(rt.alloc(), FORS, 1000)?.as_str(), "26 rows");
+    Ok(())
+}
+
+const FOR_INS: &str =
+    "for (a in b) c → Script 0..14, ForIn 0..14 → ForInStmt 0..14, Ident 5..6 a, ExprStmt 13..14
+for (var a in b, c) d → Script 0..21, ForIn 0..21 → VarDecl 5..10, SeqExpr 14..18
+for (var [a] in b) ; → Script 0..20, ForIn 0..20 → ArrayPat 9..12
+for (a.b in c) ; → Script 0..16, ForIn 0..16 → MemberExpr 5..8
+for (a[b in c] in d) ; → Script 0..22, ForIn 0..22 → MemberExpr 5..14, BinExpr 7..13
+for ({ a } in b) ; → Script 0..18, ForIn 0..18 → ObjectPat 5..10
+for (let in a) b → Script 0..16, ForIn 0..16 → Ident 5..8 let
+for (a in b) { break; continue } → Script 0..32, ForIn 0..32 → BreakStmt 15..21, ContinueStmt 22..30
+for (var i = 0 in {}) ; → Script 0..23, ForIn 0..23 → VarDeclarator 9..14
+for (let a, b, c in d) ; → Script 0..24, ForIn 0..24, fault 12..13 TooManyVarInForInHead, fault 15..16 TooManyVarInForInHead
+for (var a = 1, [b] in c) ; → Script 0..27, ForIn 0..27, fault 16..19 TooManyVarInForInHead
+'use strict'; for (var i = 0 in a) ; → Script 0..36, Expr 0..13, ForIn 14..36, fault 23..24 VarInitializerInForInHead
+for (a + b in c) ; → refused 5..10 InvalidPat
+for (1 in a) ; → refused 5..6 InvalidPat
+for (var a in b → refused 14..15 Expected
+for (in b) c → refused 5..7 Unexpected";
+
+#[test]
+fn for_ins(rt: HostRuntime) -> Result<(), Fail> {
+    assert_eq!(rt; report(rt.alloc(), FOR_INS, 1000)?.as_str(), "16 rows");
+    Ok(())
+}
+
+const FOR_OFS: &str =
+    "for (let a of b) c → Script 0..18, ForOf 0..18 → ForOfStmt 0..18, is_await: false, VarDecl 5..10, kind: Let
+for (const [a] of b) ; → Script 0..22, ForOf 0..22 → ArrayPat 11..14, kind: Const
+for ([a] of b) ; → Script 0..16, ForOf 0..16 → ArrayPat 5..8
+for ({a = 1} of b) ; → Script 0..20, ForOf 0..20 → ObjectPat 5..12
+for ((a) of b) ; → Script 0..16, ForOf 0..16 → ParenExpr 5..8
+for (of of b) c → Script 0..15, ForOf 0..15 → Ident 5..7 of
+for (let of of b) c → Script 0..19, ForOf 0..19 → VarDecl 5..11
+for (async¶of a) b → Script 0..18, ForOf 0..18 → Ident 5..10 async
+for (a of b in c) d → Script 0..19, ForOf 0..19 → BinExpr 10..16
+'use strict'; for (const a of b) ; → Script 0..34, Expr 0..13, ForOf 14..34 → init: None
+for (var a, b of c) ; → Script 0..21, ForOf 0..21, fault 12..13 TooManyVarInForInHead
+for (var i = 0 of {}) ; → Script 0..23, ForOf 0..23, fault 9..10 VarInitializerInForInHead
+for (a of b, c) d → refused 11..12 Expected
+for (async of a) b → refused 11..13 Unexpected
+for (let of a) b → refused 12..13 Expected
+for (f() of a) ; → refused 5..8 InvalidPat
+for (a = 1 of b) ; → refused 5..10 InvalidPat
+for (a, b of c) ; → refused 5..9 InvalidPat
+for ([a + 1] of b) ; → refused 5..12 InvalidPat
+for ([...a,] of b) ; → refused 5..12 InvalidPat";
+
+#[test]
+fn for_ofs(rt: HostRuntime) -> Result<(), Fail> {
+    assert_eq!(rt; report(rt.alloc(), FOR_OFS, 1000)?.as_str(), "20 rows");
+    Ok(())
+}
+
+#[test]
+fn limits(rt: HostRuntime) -> Result<(), Fail> {
+    for (rows, limit) in [
+        ("for (;;) a → refused 9..10 TooDeep", 2),
+        ("for (;;) ; → Script 0..10, For 0..10", 2),
+        ("for (a;;) ; → refused 5..6 TooDeep", 1),
+        ("for (var a;;) ; → refused 9..10 TooDeep", 1),
+        ("for (a in b) ; → refused 5..6 TooDeep", 1),
+        ("for (a in b) ; → Script 0..14, ForIn 0..14", 2),
+        ("for (let a of b) ; → refused 9..10 TooDeep", 1),
+        ("for (let a of b) ; → Script 0..18, ForOf 0..18", 2),
+        ("for ([a] of b) ; → refused 6..7 TooDeep", 2),
+        ("for ([a] of b) ; → Script 0..16, ForOf 0..16", 3),
+    ] {
+        assert_eq!(rt; report(rt.alloc(), rows, limit)?.as_str(), "1 rows");
+    }
+    Ok(())
+}

@@ -1,0 +1,23 @@
+use Rattle.std.proofs.Common.{false}
+use Rattle.swc_ecma_parser_ast.specs.View.{view_stmt}
+use Rattle.swc_ecma_parser_reader.specs.Entry.{unmarked}
+use Rattle.swc_ecma_parser_reader.proofs.Statements as statements
+use Rattle.swc_ecma_parser.proofs.parser.Parser.parse_stmt.Goals as goal
+
+pub returns-clause-sound : goal.returns-clause-sound
+returns-clause-sound g c = rw (← c.self.view_is) (statements.statement_sound _ view_stmt c.self.inside.limit false c.args.top_level (unmarked c.self.inside.state) c.statement.result c.statement.new.state c.statement.ensures.answers)
+
+pub returns-clause-complete : goal.returns-clause-complete
+returns-clause-complete g c = rw (← c.self.view_is) (statements.statement_complete _ view_stmt c.self.inside.limit false c.args.top_level (unmarked c.self.inside.state) c.statement.result c.statement.new.state c.statement.ensures.answers)
+
+pub returns-clause-memory : goal.returns-clause-memory
+returns-clause-memory g c = rw (← c.self.view_is) (statements.statement_memory _ view_stmt c.self.inside.limit false c.args.top_level (unmarked c.self.inside.state) c.statement.result c.statement.new.state c.statement.ensures.answers)
+
+pub returns-clause-fits : goal.returns-clause-fits
+returns-clause-fits g c = rw (← c.self.view_is) (statements.statement_fits _ view_stmt c.self.inside.limit false c.args.top_level (unmarked c.self.inside.state) c.statement.result c.statement.new.state c.statement.ensures.answers)
+
+pub returns-clause-error_token : goal.returns-clause-error_token
+returns-clause-error_token g c = rw (← c.self.view_is) (statements.statement_of_error_token _ view_stmt c.self.inside.limit false c.args.top_level (unmarked c.self.inside.state) c.statement.result c.statement.new.state c.statement.ensures.answers)
+
+pub returns-clause-at_end : goal.returns-clause-at_end
+returns-clause-at_end g c = rw (← c.self.view_is) (statements.statement_at_end _ view_stmt c.self.inside.limit false c.args.top_level (unmarked c.self.inside.state) c.statement.result c.statement.new.state c.statement.ensures.answers)

@@ -1,0 +1,141 @@
+//! Labels: ECMA-262, section 14.13.
+
+ghost use Rattle.std.specs.Prelude.{◌≡◌, true, replicate};
+ghost use Rattle.swc_ecma_parser_grammar.specs.Own as own;
+ghost use Rattle.swc_ecma_parser_grammar.specs.language.Goals.{expression};
+ghost use Rattle.swc_ecma_parser_left.specs.Nests.{Nests};
+ghost use Rattle.swc_ecma_parser_model.specs.Tree as tree;
+ghost use Rattle.swc_ecma_parser_reader.proofs.Plain.{duplicate};
+ghost use Rattle.swc_ecma_parser_reader.specs.Expressions as exprs;
+ghost use Rattle.swc_ecma_parser_reader.specs.Heads as heads;
+ghost use Rattle.swc_ecma_parser_reader.specs.Patterns as patterns;
+ghost use Rattle.swc_ecma_parser_reader.specs.Reader as rules;
+ghost use Rattle.swc_ecma_parser_reader.specs.State.{Gives, GivesAs};
+
+use crate::switch::in_breakable;
+use swc_ecma_parser_common::Atom;
+use swc_ecma_parser_error::{PResult, SyntaxError};
+use swc_ecma_parser_grammar::Position;
+use swc_ecma_parser_left::cover::{Cover, Reading};
+use swc_ecma_parser_left::grammar::{Grammar, Part};
+use swc_ecma_parser_left::steps::{grown, since};
+use swc_ecma_parser_model::{Ident, VarDeclKind};
+use swc_ecma_parser_source::{Source, Wanted};
+use swc_ecma_parser_statements::simple::expr_stmt_at;
+use swc_ecma_parser_statements::variables::variables;
+use swc_ecma_parser_token::TokenKind;
+use swc_ecma_parser_trees::{BuildsControl, BuildsPattern, BuildsStmt, MakerOf, Trees};
+
+/// Whether a label stands here.
+#[tactic(auto, unfolding(swc_ecma_parser_reader::specs::Reader::begins_label))]
+fn begins_label<P: Source>(p: &P) -> bool
+    ensures { result ≡ rules.begins_label (P.seen p.now).code (P.seen p.now).at }
+{
+    p.name_at() && p.next_sees(TokenKind::Colon)
+}
+
+/// Records so many times that a label stands around already.
+#[tactic(auto, using(swc_ecma_parser_reader::proofs::Plain::told_none, swc_ecma_parser_reader::proofs::Plain::told_more, swc_ecma_parser_reader::proofs::Plain::told_err))]
+fn duplicate<P: Source>(p: &mut P, label: &Ident, times: usize) -> PResult<()>
+    ensures { Gives (rules.told (replicate times (duplicate label.now.span)) (P.seen p.old)) result (P.seen p.new) }
+{
+    let mut left = times;
+    'times: while left > 0 {
+        let text = grown(p, label.sym.try_clone())?;
+        p.fault(SyntaxError::DuplicateLabel(text), label.span)?;
+        left -= 1;
+    }
+    Ok(())
+}
+
+/// Records each equal label around.
+#[tactic(auto, using(swc_ecma_parser_reader::proofs::Plain::duplicates_counted))]
+fn duplicates<P: Source>(p: &mut P, label: &Ident) -> PResult<()>
+    ensures { Gives (rules.told (own.duplicates (P.seen p.old).scope.labels (tree.ident label.now.span label.now.sym)) (P.seen p.old)) result (P.seen p.new) }
+{
+    let times = p.count_labels(label.sym.as_str());
+    duplicate(p, label, times)
+}
+
+/// What a label stands at, which may break off there.
+#[tactic(auto, unfolding(swc_ecma_parser_reader::specs::Reader::labelled_body))]
+fn labelled_body<
+    P: Source,
+    T: Trees,
+    S: Fn(&MakerOf<T>, &mut P, usize, Position) -> PResult<T::Stmt>,
+    E: Fn(&MakerOf<T>, &mut P, usize, Reading) -> PResult<Cover<T::Expr>>,
+    N: Fn(&MakerOf<T>, &mut P, usize, Part) -> PResult<T::Pat>,
+>(g: &Grammar<S, E, N>, t: &MakerOf<T>, p: &mut P, label: Atom) -> PResult<T::Stmt>
+    requires { Nests P.seen T.expr_of T.pat_of T.stmt_of g.now.depth (S.pre g.now.stmt) (S.post g.now.stmt) (E.pre g.now.expr) (E.post g.now.expr) (N.pre g.now.pat) (N.post g.now.pat) }
+    ensures { GivesAs T.stmt_of (rules.labelled_body (rules.stmt g.now.depth) label (P.seen p.old)) result (P.seen p.new) }
+{
+    let at = Position {
+        include_decl: p.sees(TokenKind::Function),
+        top_level: false,
+    };
+    let outer = p.flags();
+    p.set_flags(in_breakable(outer));
+    p.push_label(label)?;
+    let body = (g.stmt)(t, p, g.depth, at)?;
+    p.pop_label();
+    p.set_flags(outer);
+    Ok(body)
+}
+
+/// A statement with a label.
+#[tactic(auto, unfolding(swc_ecma_parser_reader::specs::Reader::labeled_stmt), using(swc_ecma_parser_reader::proofs::Plain::relabels_plain))]
+fn labeled_stmt<
+    P: Source,
+    T: BuildsControl,
+    S: Fn(&MakerOf<T>, &mut P, usize, Position) -> PResult<T::Stmt>,
+    E: Fn(&MakerOf<T>, &mut P, usize, Reading) -> PResult<Cover<T::Expr>>,
+    N: Fn(&MakerOf<T>, &mut P, usize, Part) -> PResult<T::Pat>,
+>(g: &Grammar<S, E, N>, t: &MakerOf<T>, p: &mut P) -> PResult<T::Stmt>
+    requires { Nests P.seen T.expr_of T.pat_of T.stmt_of g.now.depth (S.pre g.now.stmt) (S.post g.now.stmt) (E.pre g.now.expr) (E.post g.now.expr) (N.pre g.now.pat) (N.post g.now.pat) }
+    ensures { GivesAs T.stmt_of (rules.labeled_stmt (rules.stmt g.now.depth) (P.seen p.old)) result (P.seen p.new) }
+{
+    let start = p.span();
+    let label = p.name(Wanted::Name)?;
+    p.expect(TokenKind::Colon, ":")?;
+    let text = grown(p, label.sym.try_clone())?;
+    let body = labelled_body(g, t, p, text)?;
+    let span = since(p, start);
+    duplicates(p, &label)?;
+    grown(p, T::labeled(t.alloc, span, label, body))
+}
+
+/// A statement that its first token does not tell: one with a label, or an expression statement.
+#[tactic(auto, unfolding(swc_ecma_parser_reader::specs::Reader::other_stmt))]
+pub(crate) fn other_stmt<
+    P: Source,
+    T: BuildsStmt + BuildsControl,
+    S: Fn(&MakerOf<T>, &mut P, usize, Position) -> PResult<T::Stmt>,
+    E: Fn(&MakerOf<T>, &mut P, usize, Reading) -> PResult<Cover<T::Expr>>,
+    N: Fn(&MakerOf<T>, &mut P, usize, Part) -> PResult<T::Pat>,
+>(g: &Grammar<S, E, N>, t: &MakerOf<T>, p: &mut P, at: Position) -> PResult<T::Stmt>
+    requires { Nests P.seen T.expr_of T.pat_of T.stmt_of g.now.depth (S.pre g.now.stmt) (S.post g.now.stmt) (E.pre g.now.expr) (E.post g.now.expr) (N.pre g.now.pat) (N.post g.now.pat) }
+    ensures { GivesAs T.stmt_of (rules.other_stmt (rules.stmt g.now.depth) (exprs.expr g.now.depth expression) at (P.seen p.old)) result (P.seen p.new) }
+{
+    if begins_label(p) {
+        return labeled_stmt(g, t, p);
+    }
+    expr_stmt_at(g, t, p, at)
+}
+
+/// A statement that begins with `let`: a declaration before what can be declared, where declarations are read; else `let` is a name.
+#[tactic(auto, unfolding(swc_ecma_parser_reader::specs::Reader::let_stmt))]
+pub(crate) fn let_stmt<
+    P: Source,
+    T: BuildsStmt + BuildsPattern + BuildsControl,
+    S: Fn(&MakerOf<T>, &mut P, usize, Position) -> PResult<T::Stmt>,
+    E: Fn(&MakerOf<T>, &mut P, usize, Reading) -> PResult<Cover<T::Expr>>,
+    N: Fn(&MakerOf<T>, &mut P, usize, Part) -> PResult<T::Pat>,
+>(g: &Grammar<S, E, N>, t: &MakerOf<T>, p: &mut P, at: Position) -> PResult<T::Stmt>
+    requires { Nests P.seen T.expr_of T.pat_of T.stmt_of g.now.depth (S.pre g.now.stmt) (S.post g.now.stmt) (E.pre g.now.expr) (E.post g.now.expr) (N.pre g.now.pat) (N.post g.now.pat) }
+    ensures { GivesAs T.stmt_of (rules.let_stmt (rules.stmt g.now.depth) (exprs.expr g.now.depth) (patterns.pattern g.now.depth) (heads.head_cover g.now.depth) at (P.seen p.old)) result (P.seen p.new) }
+{
+    if at.include_decl && p.is_let_declaration() {
+        return variables(g, t, p, VarDeclKind::Let);
+    }
+    other_stmt(g, t, p, at)
+}

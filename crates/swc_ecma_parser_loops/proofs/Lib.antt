@@ -1,0 +1,3 @@
+mod Flags
+mod Misdeclared
+mod Targets

@@ -1,0 +1,160 @@
+//! `for` of three parts, with `in` and with `of`: ECMA-262, sections 14.7.4 and 14.7.5.
+
+ghost use Rattle.std.specs.Prelude.{◌≡◌};
+ghost use Rattle.swc_ecma_parser_grammar.specs.language.Goals.{expression};
+ghost use Rattle.swc_ecma_parser_grammar.specs.language.Items.{sub_statement};
+ghost use Rattle.swc_ecma_parser_left.specs.Nests.{Nests};
+ghost use Rattle.swc_ecma_parser_loops.specs.Openings.{opening_of};
+ghost use Rattle.swc_ecma_parser_reader.specs.Expressions as exprs;
+ghost use Rattle.swc_ecma_parser_reader.specs.Heads as heads;
+ghost use Rattle.swc_ecma_parser_reader.specs.Patterns as patterns;
+ghost use Rattle.swc_ecma_parser_reader.specs.Reader as rules;
+ghost use Rattle.swc_ecma_parser_reader.specs.State.{GivesAs};
+ghost use Rattle.swc_ecma_parser_trees.specs.Parts.{part_of};
+
+use crate::head::{Opening, as_init, as_left, head_of, head_opening, misdeclared};
+use crate::simple::looped;
+use swc_ecma_parser_common::Span;
+use swc_ecma_parser_error::PResult;
+use swc_ecma_parser_grammar::{Class, Position};
+use swc_ecma_parser_left::access::inside;
+use swc_ecma_parser_left::cover::{Cover, Reading};
+use swc_ecma_parser_left::grammar::{Grammar, Part};
+use swc_ecma_parser_left::steps::{grown, since};
+use swc_ecma_parser_source::Source;
+use swc_ecma_parser_token::TokenKind;
+use swc_ecma_parser_trees::{
+    BuildsCall, BuildsExpr, BuildsLoop, BuildsPattern, BuildsStmt, MakerOf,
+};
+
+/// A further part of a head, if what stands behind it does not stand here.
+#[tactic(auto, unfolding(swc_ecma_parser_reader::specs::Reader::head_part, swc_ecma_parser_reader::specs::Expressions::inside))]
+fn head_part<
+    P: Source,
+    T: BuildsCall,
+    S: Fn(&MakerOf<T>, &mut P, usize, Position) -> PResult<T::Stmt>,
+    E: Fn(&MakerOf<T>, &mut P, usize, Reading) -> PResult<Cover<T::Expr>>,
+    N: Fn(&MakerOf<T>, &mut P, usize, Part) -> PResult<T::Pat>,
+>(g: &Grammar<S, E, N>, t: &MakerOf<T>, p: &mut P, behind: TokenKind) -> PResult<Option<T::Expr>>
+    requires { Nests P.seen T.expr_of T.pat_of T.stmt_of g.now.depth (S.pre g.now.stmt) (S.post g.now.stmt) (E.pre g.now.expr) (E.post g.now.expr) (N.pre g.now.pat) (N.post g.now.pat) }
+    ensures { GivesAs (part_of T.expr_of) (rules.head_part behind (exprs.expr g.now.depth expression) (P.seen p.old)) result (P.seen p.new) }
+{
+    if p.sees(behind) {
+        return Ok(None);
+    }
+    let part = inside(g, t, p, Class::Expression)?;
+    Ok(Some(part))
+}
+
+/// A `for` of three parts, from behind the first.
+#[tactic(auto, unfolding(swc_ecma_parser_reader::specs::Reader::for_parts))]
+fn for_parts<
+    P: Source,
+    T: BuildsExpr + BuildsStmt + BuildsCall + BuildsLoop,
+    S: Fn(&MakerOf<T>, &mut P, usize, Position) -> PResult<T::Stmt>,
+    E: Fn(&MakerOf<T>, &mut P, usize, Reading) -> PResult<Cover<T::Expr>>,
+    N: Fn(&MakerOf<T>, &mut P, usize, Part) -> PResult<T::Pat>,
+>(
+    g: &Grammar<S, E, N>,
+    t: &MakerOf<T>,
+    p: &mut P,
+    start: Span,
+    first: Opening<T::Declarator, T::Expr>,
+) -> PResult<T::Stmt>
+    requires { Nests P.seen T.expr_of T.pat_of T.stmt_of g.now.depth (S.pre g.now.stmt) (S.post g.now.stmt) (E.pre g.now.expr) (E.post g.now.expr) (N.pre g.now.pat) (N.post g.now.pat) }
+    ensures { GivesAs T.stmt_of (rules.for_parts (rules.stmt g.now.depth sub_statement) (exprs.expr g.now.depth) start (opening_of T.declarator_of T.expr_of first) (P.seen p.old)) result (P.seen p.new) }
+{
+    let init = as_init(t, p, first)?;
+    p.expect(TokenKind::Semi, ";")?;
+    let test = head_part(g, t, p, TokenKind::Semi)?;
+    p.expect(TokenKind::Semi, ";")?;
+    let update = head_part(g, t, p, TokenKind::RParen)?;
+    p.expect(TokenKind::RParen, ")")?;
+    let body = looped(g, t, p)?;
+    let span = since(p, start);
+    grown(p, T::for_stmt(t.alloc, span, init, test, update, body))
+}
+
+/// A `for` with `in`, from there on.
+#[tactic(auto, unfolding(swc_ecma_parser_reader::specs::Reader::for_in, swc_ecma_parser_reader::specs::Expressions::inside))]
+fn for_in<
+    P: Source,
+    T: BuildsExpr + BuildsStmt + BuildsPattern + BuildsCall + BuildsLoop,
+    S: Fn(&MakerOf<T>, &mut P, usize, Position) -> PResult<T::Stmt>,
+    E: Fn(&MakerOf<T>, &mut P, usize, Reading) -> PResult<Cover<T::Expr>>,
+    N: Fn(&MakerOf<T>, &mut P, usize, Part) -> PResult<T::Pat>,
+>(
+    g: &Grammar<S, E, N>,
+    t: &MakerOf<T>,
+    p: &mut P,
+    start: Span,
+    first: Opening<T::Declarator, T::Expr>,
+) -> PResult<T::Stmt>
+    requires { Nests P.seen T.expr_of T.pat_of T.stmt_of g.now.depth (S.pre g.now.stmt) (S.post g.now.stmt) (E.pre g.now.expr) (E.post g.now.expr) (N.pre g.now.pat) (N.post g.now.pat) }
+    ensures { GivesAs T.stmt_of (rules.for_in (rules.stmt g.now.depth sub_statement) (exprs.expr g.now.depth) start (opening_of T.declarator_of T.expr_of first) (P.seen p.old)) result (P.seen p.new) }
+{
+    let left = as_left(t, p, first)?;
+    let refused = p.flags().strict;
+    misdeclared::<P, T>(p, refused, &left)?;
+    p.skip()?;
+    let right = inside(g, t, p, Class::Expression)?;
+    p.expect(TokenKind::RParen, ")")?;
+    let body = looped(g, t, p)?;
+    let span = since(p, start);
+    let head = head_of(t, p, left)?;
+    grown(p, T::for_in(t.alloc, span, head, right, body))
+}
+
+/// A `for` with `of`, from there on.
+#[tactic(auto, unfolding(swc_ecma_parser_reader::specs::Reader::for_of, swc_ecma_parser_reader::specs::Expressions::inside))]
+fn for_of<
+    P: Source,
+    T: BuildsExpr + BuildsStmt + BuildsPattern + BuildsCall + BuildsLoop,
+    S: Fn(&MakerOf<T>, &mut P, usize, Position) -> PResult<T::Stmt>,
+    E: Fn(&MakerOf<T>, &mut P, usize, Reading) -> PResult<Cover<T::Expr>>,
+    N: Fn(&MakerOf<T>, &mut P, usize, Part) -> PResult<T::Pat>,
+>(
+    g: &Grammar<S, E, N>,
+    t: &MakerOf<T>,
+    p: &mut P,
+    start: Span,
+    first: Opening<T::Declarator, T::Expr>,
+) -> PResult<T::Stmt>
+    requires { Nests P.seen T.expr_of T.pat_of T.stmt_of g.now.depth (S.pre g.now.stmt) (S.post g.now.stmt) (E.pre g.now.expr) (E.post g.now.expr) (N.pre g.now.pat) (N.post g.now.pat) }
+    ensures { GivesAs T.stmt_of (rules.for_of (rules.stmt g.now.depth sub_statement) (exprs.expr g.now.depth) start (opening_of T.declarator_of T.expr_of first) (P.seen p.old)) result (P.seen p.new) }
+{
+    let left = as_left(t, p, first)?;
+    misdeclared::<P, T>(p, true, &left)?;
+    p.skip()?;
+    let right = inside(g, t, p, Class::Assignment)?;
+    p.expect(TokenKind::RParen, ")")?;
+    let body = looped(g, t, p)?;
+    let span = since(p, start);
+    let head = head_of(t, p, left)?;
+    grown(p, T::for_of(t.alloc, span, false, head, right, body))
+}
+
+/// A `for` statement.
+#[tactic(auto, unfolding(swc_ecma_parser_reader::specs::Reader::for_stmt, swc_ecma_parser_reader::specs::Reader::for_behind))]
+pub fn for_stmt<
+    P: Source,
+    T: BuildsExpr + BuildsStmt + BuildsPattern + BuildsCall + BuildsLoop,
+    S: Fn(&MakerOf<T>, &mut P, usize, Position) -> PResult<T::Stmt>,
+    E: Fn(&MakerOf<T>, &mut P, usize, Reading) -> PResult<Cover<T::Expr>>,
+    N: Fn(&MakerOf<T>, &mut P, usize, Part) -> PResult<T::Pat>,
+>(g: &Grammar<S, E, N>, t: &MakerOf<T>, p: &mut P) -> PResult<T::Stmt>
+    requires { Nests P.seen T.expr_of T.pat_of T.stmt_of g.now.depth (S.pre g.now.stmt) (S.post g.now.stmt) (E.pre g.now.expr) (E.post g.now.expr) (N.pre g.now.pat) (N.post g.now.pat) }
+    ensures { GivesAs T.stmt_of (rules.for_stmt (rules.stmt g.now.depth sub_statement) (exprs.expr g.now.depth) (patterns.pattern g.now.depth) (heads.head_cover g.now.depth) (P.seen p.old)) result (P.seen p.new) }
+{
+    let start = p.span();
+    p.skip()?;
+    p.expect(TokenKind::LParen, "(")?;
+    let first = head_opening(g, t, p)?;
+    if p.sees(TokenKind::In) {
+        return for_in(g, t, p, start, first);
+    }
+    if p.word_at("of") {
+        return for_of(g, t, p, start, first);
+    }
+    for_parts(g, t, p, start, first)
+}

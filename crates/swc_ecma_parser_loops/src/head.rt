@@ -1,0 +1,265 @@
+//! What the head of a `for` begins with: ECMA-262, sections 14.7.4 and 14.7.5.
+
+ghost use Rattle.std.specs.Prelude.{◌≡◌, ◌&&◌, false, map, IfOk, IfErr};
+ghost use Rattle.swc_ecma_parser_error.specs.Kind as kinds;
+ghost use Rattle.swc_ecma_parser_error.specs.Kind.{IsOutOfMemory};
+ghost use Rattle.swc_ecma_parser_grammar.specs.Own as own;
+ghost use Rattle.swc_ecma_parser_left.specs.Nests.{Nests};
+ghost use Rattle.swc_ecma_parser_loops.specs.Flags as flags_of;
+ghost use Rattle.swc_ecma_parser_loops.specs.Openings.{declared_of, opening_of, left_of, IsTarget};
+ghost use Rattle.swc_ecma_parser_model.specs.Forms as forms;
+ghost use Rattle.swc_ecma_parser_model.specs.Tree.{trees};
+ghost use Rattle.swc_ecma_parser_model.specs.Within as within;
+ghost use Rattle.swc_ecma_parser_reader.specs.Expressions as exprs;
+ghost use Rattle.swc_ecma_parser_reader.specs.Heads as heads;
+ghost use Rattle.swc_ecma_parser_reader.specs.Patterns as patterns;
+ghost use Rattle.swc_ecma_parser_reader.specs.Reader as rules;
+ghost use Rattle.swc_ecma_parser_reader.specs.State.{Gives, GivesAs};
+ghost use Rattle.swc_ecma_parser_trees.specs.Parts.{part_of};
+
+use swc_ecma_parser_common::Span;
+use swc_ecma_parser_error::{PResult, SyntaxError};
+use swc_ecma_parser_grammar::Position;
+use swc_ecma_parser_input::Context;
+use swc_ecma_parser_left::cover::{Cover, Reading, close, target};
+use swc_ecma_parser_left::grammar::{Grammar, Part};
+use swc_ecma_parser_left::steps::{grown, since, with_in};
+use swc_ecma_parser_model::VarDeclKind;
+use swc_ecma_parser_source::{Source, Wanted};
+use swc_ecma_parser_statements::variables::declarators;
+use swc_ecma_parser_token::TokenKind;
+use swc_ecma_parser_trees::{BuildsExpr, BuildsLoop, BuildsPattern, BuildsStmt, MakerOf};
+
+/// Variables that a head declares.
+#[derive(Drop)]
+pub struct Declared<D> {
+    pub span: Span,
+    pub word: VarDeclKind,
+    pub found: Vec<D>,
+}
+
+/// What a head begins with.
+#[derive(Drop)]
+pub enum Opening<D, X> {
+    /// Nothing: a `;` stands first.
+    Nothing,
+    Variables(Declared<D>),
+    /// An expression that may still become a target.
+    Expression(Cover<X>),
+}
+
+/// What takes each value, before `in` or `of`.
+#[derive(Drop)]
+pub enum Left<D, N> {
+    Variables(Declared<D>),
+    Pattern(N),
+}
+
+/// The context without the operator `in`.
+fn without_in(flags: Context) -> Context
+    ensures { result ≡ record flags { include_in_expr = false } }
+{
+    Context {
+        include_in_expr: false,
+        ..flags
+    }
+}
+
+/// The context of what a head declares.
+fn head_flags(word: VarDeclKind, flags: Context) -> Context
+    ensures { result ≡ flags_of.head_flags word flags }
+{
+    match word {
+        VarDeclKind::Var => without_in(flags),
+        VarDeclKind::Let | VarDeclKind::Const => with_in(flags),
+    }
+}
+
+/// What a head declares, without an end.
+#[tactic(auto, unfolding(swc_ecma_parser_reader::specs::Reader::head_variables), using(crate::proofs::Flags::head_code_is, crate::proofs::Flags::head_module))]
+fn head_variables<
+    P: Source,
+    T: BuildsExpr + BuildsStmt + BuildsPattern,
+    S: Fn(&MakerOf<T>, &mut P, usize, Position) -> PResult<T::Stmt>,
+    E: Fn(&MakerOf<T>, &mut P, usize, Reading) -> PResult<Cover<T::Expr>>,
+    N: Fn(&MakerOf<T>, &mut P, usize, Part) -> PResult<T::Pat>,
+>(
+    g: &Grammar<S, E, N>,
+    t: &MakerOf<T>,
+    p: &mut P,
+    word: VarDeclKind,
+) -> PResult<Opening<T::Declarator, T::Expr>>
+    requires { Nests P.seen T.expr_of T.pat_of T.stmt_of g.now.depth (S.pre g.now.stmt) (S.post g.now.stmt) (E.pre g.now.expr) (E.post g.now.expr) (N.pre g.now.pat) (N.post g.now.pat) }
+    ensures { GivesAs (opening_of T.declarator_of T.expr_of) (rules.head_variables (exprs.expr g.now.depth) (patterns.pattern g.now.depth) word (P.seen p.old)) result (P.seen p.new) }
+{
+    let start = p.span();
+    p.skip()?;
+    let outer = p.flags();
+    p.set_flags(head_flags(word, outer));
+    let found = declarators(g, t, p, true, word)?;
+    p.set_flags(outer);
+    let span = since(p, start);
+    Ok(Opening::Variables(Declared { span, word, found }))
+}
+
+/// An expression that a head begins with.
+#[tactic(auto, unfolding(swc_ecma_parser_reader::specs::Reader::head_expression))]
+fn head_expression<
+    P: Source,
+    T: BuildsExpr + BuildsStmt,
+    S: Fn(&MakerOf<T>, &mut P, usize, Position) -> PResult<T::Stmt>,
+    E: Fn(&MakerOf<T>, &mut P, usize, Reading) -> PResult<Cover<T::Expr>>,
+    N: Fn(&MakerOf<T>, &mut P, usize, Part) -> PResult<T::Pat>,
+>(g: &Grammar<S, E, N>, t: &MakerOf<T>, p: &mut P) -> PResult<Opening<T::Declarator, T::Expr>>
+    requires { Nests P.seen T.expr_of T.pat_of T.stmt_of g.now.depth (S.pre g.now.stmt) (S.post g.now.stmt) (E.pre g.now.expr) (E.post g.now.expr) (N.pre g.now.pat) (N.post g.now.pat) }
+    ensures { GivesAs (opening_of T.declarator_of T.expr_of) (rules.head_expression (exprs.expr g.now.depth) (patterns.pattern g.now.depth) (heads.head_cover g.now.depth) (P.seen p.old)) result (P.seen p.new) }
+{
+    let outer = p.flags();
+    p.set_flags(without_in(outer));
+    let v = (g.expr)(t, p, g.depth, Reading::Head)?;
+    p.set_flags(outer);
+    Ok(Opening::Expression(v))
+}
+
+/// What a head begins with.
+#[tactic(auto, unfolding(swc_ecma_parser_reader::specs::Reader::opening))]
+pub(crate) fn head_opening<
+    P: Source,
+    T: BuildsExpr + BuildsStmt + BuildsPattern,
+    S: Fn(&MakerOf<T>, &mut P, usize, Position) -> PResult<T::Stmt>,
+    E: Fn(&MakerOf<T>, &mut P, usize, Reading) -> PResult<Cover<T::Expr>>,
+    N: Fn(&MakerOf<T>, &mut P, usize, Part) -> PResult<T::Pat>,
+>(g: &Grammar<S, E, N>, t: &MakerOf<T>, p: &mut P) -> PResult<Opening<T::Declarator, T::Expr>>
+    requires { Nests P.seen T.expr_of T.pat_of T.stmt_of g.now.depth (S.pre g.now.stmt) (S.post g.now.stmt) (E.pre g.now.expr) (E.post g.now.expr) (N.pre g.now.pat) (N.post g.now.pat) }
+    ensures { GivesAs (opening_of T.declarator_of T.expr_of) (rules.opening (exprs.expr g.now.depth) (patterns.pattern g.now.depth) (heads.head_cover g.now.depth) (P.seen p.old)) result (P.seen p.new) }
+{
+    if p.sees(TokenKind::Semi) {
+        return Ok(Opening::Nothing);
+    }
+    if p.sees(TokenKind::Var) {
+        return head_variables(g, t, p, VarDeclKind::Var);
+    }
+    if p.sees(TokenKind::Const) {
+        return head_variables(g, t, p, VarDeclKind::Const);
+    }
+    if p.is_let_declaration() {
+        return head_variables(g, t, p, VarDeclKind::Let);
+    }
+    head_expression(g, t, p)
+}
+
+/// It as the first part of three.
+pub(crate) fn as_init<P: Source, T: BuildsExpr + BuildsStmt + BuildsLoop>(
+    t: &MakerOf<T>,
+    p: &mut P,
+    first: Opening<T::Declarator, T::Expr>,
+) -> PResult<Option<T::ForInit>>
+    ensures { GivesAs (part_of T.init_of) (rules.as_init (opening_of T.declarator_of T.expr_of first) (P.seen p.old)) result (P.seen p.new) }
+{
+    let init = match first {
+        Opening::Nothing => return Ok(None),
+        Opening::Variables(x) => T::var_init(t.alloc, x.span, x.word, x.found),
+        Opening::Expression(v) => T::expr_init(t.alloc, close::<P, T>(p, v)?),
+    };
+    Ok(Some(grown(p, init)?))
+}
+
+/// It as what takes each value.
+#[tactic(auto, using(crate::proofs::Targets::read_target))]
+pub(crate) fn as_left<P: Source, T: BuildsExpr + BuildsStmt + BuildsPattern>(
+    t: &MakerOf<T>,
+    p: &mut P,
+    first: Opening<T::Declarator, T::Expr>,
+) -> PResult<Left<T::Declarator, T::Pat>>
+    ensures gives { GivesAs (left_of T.declarator_of T.pat_of) (rules.as_left (opening_of T.declarator_of T.expr_of first) (P.seen p.old)) result (P.seen p.new) }
+    ensures target { IfOk result (λ left. IsTarget T.pat_of left) }
+{
+    match first {
+        Opening::Nothing => Err(p.wanted(Wanted::Expression)),
+        Opening::Variables(x) => Ok(Left::Variables(x)),
+        Opening::Expression(v) => Ok(Left::Pattern(target(t, p, v)?)),
+    }
+}
+
+/// Records that variables behind the first stand in a head.
+fn surplus<P: Source, T: BuildsStmt + BuildsLoop>(
+    p: &mut P,
+    others: &[T::Declarator],
+) -> PResult<()>
+    ensures { Gives (rules.told (own.surplus (trees (map T.declarator_of others.now))) (P.seen p.old)) result (P.seen p.new) }
+{
+    'others: for other in others {
+        p.fault(SyntaxError::TooManyVarInForInHead, T::declared_span(other))?;
+    }
+    Ok(())
+}
+
+/// Records that the only variable of a head has an initializer, where that is refused.
+fn initialized<P: Source, T: BuildsStmt + BuildsLoop>(
+    p: &mut P,
+    refused: bool,
+    only: &T::Declarator,
+) -> PResult<()>
+    ensures { Gives (rules.told (own.only (refused && within.is_initialized (T.declarator_of only.now)) kinds.VarInitializerInForInHead
+        (forms.span_of (within.declared_name (T.declarator_of only.now)))) (P.seen p.old)) result (P.seen p.new) }
+{
+    if refused && T::is_initialized(only) {
+        p.fault(
+            SyntaxError::VarInitializerInForInHead,
+            T::declared_span(only),
+        )?;
+    }
+    Ok(())
+}
+
+/// Records what may not be declared before `in` or `of`.
+#[tactic(auto, using(crate::proofs::Misdeclared::nothing_declared, crate::proofs::Misdeclared::one_declared, crate::proofs::Misdeclared::many_declared))]
+fn misdeclared_variables<P: Source, T: BuildsStmt + BuildsLoop>(
+    p: &mut P,
+    refused: bool,
+    declared: &Declared<T::Declarator>,
+) -> PResult<()>
+    ensures { Gives (rules.told (own.head_faults refused (declared_of T.declarator_of declared.now)) (P.seen p.old)) result (P.seen p.new) }
+{
+    let found = declared.found.as_slice();
+    if found.len() == 1 {
+        return initialized::<P, T>(p, refused, &found[0]);
+    }
+    if found.is_empty() {
+        return Ok(());
+    }
+    surplus::<P, T>(p, &found[1..])
+}
+
+/// The same of what takes each value, which is declared or not.
+#[tactic(auto, unfolding(swc_ecma_parser_reader::specs::Reader::misdeclared))]
+pub(crate) fn misdeclared<P: Source, T: BuildsStmt + BuildsLoop>(
+    p: &mut P,
+    refused: bool,
+    left: &Left<T::Declarator, T::Pat>,
+) -> PResult<()>
+    requires { IsTarget T.pat_of left.now }
+    ensures { Gives (rules.misdeclared refused (left_of T.declarator_of T.pat_of left.now) (P.seen p.old)) result (P.seen p.new) }
+{
+    match left {
+        Left::Variables(declared) => misdeclared_variables::<P, T>(p, refused, declared),
+        Left::Pattern(_) => Ok(()),
+    }
+}
+
+/// It as a part of the tree.
+pub(crate) fn head_of<P: Source, T: BuildsStmt + BuildsLoop>(
+    t: &MakerOf<T>,
+    p: &mut P,
+    left: Left<T::Declarator, T::Pat>,
+) -> PResult<T::ForHead>
+    ensures made { IfOk result (λ x. T.head_of x ≡ left_of T.declarator_of T.pat_of left) }
+    ensures state { IfOk result (λ x. P.seen p.new ≡ P.seen p.old) }
+    ensures err { IfErr result IsOutOfMemory }
+{
+    let head = match left {
+        Left::Variables(x) => T::var_head(t.alloc, x.span, x.word, x.found),
+        Left::Pattern(pat) => T::pat_head(t.alloc, pat),
+    };
+    grown(p, head)
+}

@@ -1,0 +1,117 @@
+//! The loops whose head is one expression: ECMA-262, sections 14.7.2 and 14.7.3.
+
+ghost use Rattle.std.specs.Prelude.{◌≡◌, true};
+ghost use Rattle.swc_ecma_parser_grammar.specs.language.Contexts as contexts;
+ghost use Rattle.swc_ecma_parser_grammar.specs.language.Goals.{expression};
+ghost use Rattle.swc_ecma_parser_grammar.specs.language.Items.{sub_statement};
+ghost use Rattle.swc_ecma_parser_left.specs.Nests.{Nests};
+ghost use Rattle.swc_ecma_parser_reader.specs.Expressions as exprs;
+ghost use Rattle.swc_ecma_parser_reader.specs.Reader as rules;
+ghost use Rattle.swc_ecma_parser_reader.specs.State.{GivesAs, within};
+
+use swc_ecma_parser_error::PResult;
+use swc_ecma_parser_grammar::{Class, Position};
+use swc_ecma_parser_input::Context;
+use swc_ecma_parser_left::access::inside;
+use swc_ecma_parser_left::cover::{Cover, Reading};
+use swc_ecma_parser_left::grammar::{Grammar, Part};
+use swc_ecma_parser_left::steps::{grown, since};
+use swc_ecma_parser_source::Source;
+use swc_ecma_parser_statements::simple::optional_end;
+use swc_ecma_parser_token::TokenKind;
+use swc_ecma_parser_trees::{BuildsCall, BuildsLoop, MakerOf, Trees};
+
+/// A statement that is a part of another, and no declaration.
+pub const SUB_STATEMENT: Position = Position {
+    include_decl: false,
+    top_level: false,
+};
+
+/// `( Expression )` behind the word of a statement.
+#[tactic(auto, unfolding(swc_ecma_parser_reader::specs::Reader::head, swc_ecma_parser_reader::specs::Expressions::inside))]
+pub fn head<
+    P: Source,
+    T: BuildsCall,
+    S: Fn(&MakerOf<T>, &mut P, usize, Position) -> PResult<T::Stmt>,
+    E: Fn(&MakerOf<T>, &mut P, usize, Reading) -> PResult<Cover<T::Expr>>,
+    N: Fn(&MakerOf<T>, &mut P, usize, Part) -> PResult<T::Pat>,
+>(g: &Grammar<S, E, N>, t: &MakerOf<T>, p: &mut P) -> PResult<T::Expr>
+    requires { Nests P.seen T.expr_of T.pat_of T.stmt_of g.now.depth (S.pre g.now.stmt) (S.post g.now.stmt) (E.pre g.now.expr) (E.post g.now.expr) (N.pre g.now.pat) (N.post g.now.pat) }
+    ensures { GivesAs T.expr_of (rules.head (exprs.expr g.now.depth expression) (P.seen p.old)) result (P.seen p.new) }
+{
+    p.expect(TokenKind::LParen, "(")?;
+    let test = inside(g, t, p, Class::Expression)?;
+    p.expect(TokenKind::RParen, ")")?;
+    Ok(test)
+}
+
+/// What stands around the body of a loop.
+fn in_loop(flags: Context) -> Context
+    ensures { result ≡ record flags { is_break_allowed = true; is_continue_allowed = true } }
+{
+    Context {
+        is_break_allowed: true,
+        is_continue_allowed: true,
+        ..flags
+    }
+}
+
+/// The body of a loop.
+pub(crate) fn looped<
+    P: Source,
+    T: Trees,
+    S: Fn(&MakerOf<T>, &mut P, usize, Position) -> PResult<T::Stmt>,
+    E: Fn(&MakerOf<T>, &mut P, usize, Reading) -> PResult<Cover<T::Expr>>,
+    N: Fn(&MakerOf<T>, &mut P, usize, Part) -> PResult<T::Pat>,
+>(g: &Grammar<S, E, N>, t: &MakerOf<T>, p: &mut P) -> PResult<T::Stmt>
+    requires { Nests P.seen T.expr_of T.pat_of T.stmt_of g.now.depth (S.pre g.now.stmt) (S.post g.now.stmt) (E.pre g.now.expr) (E.post g.now.expr) (N.pre g.now.pat) (N.post g.now.pat) }
+    ensures { GivesAs T.stmt_of (within contexts.in_loop (rules.stmt g.now.depth sub_statement) (P.seen p.old)) result (P.seen p.new) }
+{
+    let outer = p.flags();
+    p.set_flags(in_loop(outer));
+    let body = (g.stmt)(t, p, g.depth, SUB_STATEMENT)?;
+    p.set_flags(outer);
+    Ok(body)
+}
+
+/// A `while` statement.
+#[tactic(auto, unfolding(swc_ecma_parser_reader::specs::Reader::while_stmt, swc_ecma_parser_grammar::specs::Looks::spanned))]
+pub fn while_stmt<
+    P: Source,
+    T: BuildsCall + BuildsLoop,
+    S: Fn(&MakerOf<T>, &mut P, usize, Position) -> PResult<T::Stmt>,
+    E: Fn(&MakerOf<T>, &mut P, usize, Reading) -> PResult<Cover<T::Expr>>,
+    N: Fn(&MakerOf<T>, &mut P, usize, Part) -> PResult<T::Pat>,
+>(g: &Grammar<S, E, N>, t: &MakerOf<T>, p: &mut P) -> PResult<T::Stmt>
+    requires { Nests P.seen T.expr_of T.pat_of T.stmt_of g.now.depth (S.pre g.now.stmt) (S.post g.now.stmt) (E.pre g.now.expr) (E.post g.now.expr) (N.pre g.now.pat) (N.post g.now.pat) }
+    ensures { GivesAs T.stmt_of (rules.while_stmt (rules.stmt g.now.depth sub_statement) (exprs.expr g.now.depth expression) (P.seen p.old)) result (P.seen p.new) }
+{
+    let start = p.span();
+    p.skip()?;
+    let test = head(g, t, p)?;
+    let body = looped(g, t, p)?;
+    let span = since(p, start);
+    grown(p, T::while_stmt(t.alloc, span, test, body))
+}
+
+/// A `do` statement.
+#[tactic(auto, unfolding(swc_ecma_parser_reader::specs::Reader::do_while, swc_ecma_parser_grammar::specs::Looks::spanned))]
+pub fn do_while<
+    P: Source,
+    T: BuildsCall + BuildsLoop,
+    S: Fn(&MakerOf<T>, &mut P, usize, Position) -> PResult<T::Stmt>,
+    E: Fn(&MakerOf<T>, &mut P, usize, Reading) -> PResult<Cover<T::Expr>>,
+    N: Fn(&MakerOf<T>, &mut P, usize, Part) -> PResult<T::Pat>,
+>(g: &Grammar<S, E, N>, t: &MakerOf<T>, p: &mut P) -> PResult<T::Stmt>
+    requires { Nests P.seen T.expr_of T.pat_of T.stmt_of g.now.depth (S.pre g.now.stmt) (S.post g.now.stmt) (E.pre g.now.expr) (E.post g.now.expr) (N.pre g.now.pat) (N.post g.now.pat) }
+    ensures { GivesAs T.stmt_of (rules.do_while (rules.stmt g.now.depth sub_statement) (exprs.expr g.now.depth expression) (P.seen p.old)) result (P.seen p.new) }
+{
+    let start = p.span();
+    p.skip()?;
+    let body = looped(g, t, p)?;
+    p.expect(TokenKind::While, "while")?;
+    let test = head(g, t, p)?;
+    optional_end(p)?;
+    let span = since(p, start);
+    grown(p, T::do_while(t.alloc, span, test, body))
+}

@@ -1,0 +1,524 @@
+-- What the grammar allows of the parts of statements is read: ends, declarators, statements one behind another, what is told, and
+-- statements that hold no other.
+use Rattle.swc_ecma_parser_token.specs.declared.token.Word.TheVariants as word
+use Rattle.swc_ecma_parser_token.specs.declared.keyword.Keyword.TheVariants as keyword
+use Rattle.swc_ecma_parser_input.specs.declared.context.Context.{Context}
+use Rattle.swc_ecma_parser_token.specs.Text.{word_text}
+use Rattle.swc_ecma_parser_token.specs.declared.keyword.Keyword.{Keyword}
+use Rattle.swc_ecma_parser_token.specs.declared.token.Word.{Word}
+use Rattle.std.proofs.Common.{Err, true≢false}
+use Rattle.swc_ecma_parser_reader.proofs.Meets.{saw}
+use Rattle.swc_ecma_parser_reader.specs.Notes.{no_notes}
+use Rattle.swc_ecma_parser_grammar.proofs.Tests.{and_yes}
+use Rattle.swc_ecma_parser_grammar.proofs.Marks.{name_before_colon}
+use Rattle.swc_ecma_parser_grammar.specs.Names.{is_name, is_reserved, name_at, first_is_name, token_is_name}
+use Rattle.swc_ecma_parser_reader.specs.Reader.{begins_label}
+use Rattle.std.proofs.Common.{◌≡◌, ◌⊎◌, inl, inr, ℕ, zero, suc, ◌<◌, Bool, true, false, cond, List, [], ◌∷◌, ◌++◌, length, Option, Some, None, Ok, refl, sym, ◌∙◌, ap, append_assoc, append-nil}
+use Rattle.std.specs.Prelude.{◌&&◌, ◌||◌, codes}
+use Rattle.swc_ecma_parser_common.specs.declared.span.Span.{Span}
+use Rattle.swc_ecma_parser_error.specs.Kind as faults
+use Rattle.swc_ecma_parser_error.specs.Kind.{Kind, Fault}
+use Rattle.swc_ecma_parser_token.specs.declared.kind.TokenKind.{TokenKind}
+use Rattle.swc_ecma_parser_token.specs.declared.kind.TokenKind.TheVariants as kind
+use Rattle.swc_ecma_parser_token.specs.declared.token.Token.{Token}
+use Rattle.swc_ecma_parser_token.specs.declared.token.Token.TheVariants as token
+use Rattle.swc_ecma_parser_token.specs.declared.token.TokenAndSpan.{TokenAndSpan}
+use Rattle.swc_ecma_parser_token.specs.Kind.{token_kind, word_kind, keyword_kind}
+use Rattle.swc_ecma_parser_input.specs.Place.{Place, after}
+use Rattle.swc_ecma_parser_model.specs.declared.leaves.VarDeclKind.{VarDeclKind}
+use Rattle.swc_ecma_parser_model.specs.declared.leaves.VarDeclKind.TheVariants as decl
+use Rattle.swc_ecma_parser_model.specs.Tree as tree
+use Rattle.swc_ecma_parser_model.specs.Tree.{Tree, Text, listed, trees}
+use Rattle.swc_ecma_parser_model.specs.Directive.{is_use_strict}
+use Rattle.swc_ecma_parser_model.specs.Forms.{is_ident, is_ident_named, span_of}
+use Rattle.swc_ecma_parser_grammar.specs.Looks.{kind_at, breaks_at, sees, same_kind, spanned}
+use Rattle.swc_ecma_parser_grammar.specs.Names.{Code}
+use Rattle.swc_ecma_parser_grammar.specs.Ends.{Ends, by_semicolon, by_insertion, OptionalEnds, by_a_semicolon, by_nothing}
+use Rattle.swc_ecma_parser_grammar.specs.Follows.{begins_import_expression, may_begin_head}
+use Rattle.swc_ecma_parser_grammar.specs.Variables.{begins_variables}
+use Rattle.swc_ecma_parser_grammar.specs.language.Contexts.{without_in}
+use Rattle.swc_ecma_parser_grammar.specs.Reads.{with_in, in_strict, head_code, HeadVariables, InitRule, no_init_rule, init_variables_rule, init_expression_rule, LeftRule, declared_rule, left_target_rule, ReadsToken, DeclaratorRule, plain_rule, initialized_rule, ReadsSeparated, directed, directs_on, ReadsItems, TargetRule, no_target_rule, target_rule, OperandRule, no_operand_rule, operand_rule, ReadsHead}
+use Rattle.swc_ecma_parser_grammar.specs.ReadsSupported.{ReadsClass, ReadsPat, ReadsTarget}
+use Rattle.swc_ecma_parser_grammar.specs.language.Goals.{Class, expression, assignment}
+use Rattle.swc_ecma_parser_grammar.specs.Entries.{ReadsShebang, some_shebang, no_shebang}
+use Rattle.swc_ecma_parser_grammar.specs.Notes.{notes, statement_note}
+use Rattle.swc_ecma_parser_grammar.specs.language.Noted.{has_meta}
+use Rattle.swc_ecma_parser_grammar.specs.Walk as walks_of
+use Rattle.swc_ecma_parser_grammar.specs.Walk.{Env, env_of, walk, walks}
+use Rattle.swc_ecma_parser_reader.specs.Notes.{Notes, held, ◌⊕◌, notes_of, all_notes_of}
+use Rattle.swc_ecma_parser_reader.specs.State.{Scope, State, Outcome, Reader, noted, recorded_at, recorded_in, fault, labelled, expect, end, fault_at, loop}
+use Rattle.swc_ecma_parser_reader.specs.Expressions.{Cover, expr}
+use Rattle.swc_ecma_parser_reader.specs.Heads.{head_cover}
+use Rattle.swc_ecma_parser_reader.specs.Patterns.{pattern}
+use Rattle.swc_ecma_parser_reader.specs.Reader.{told, target, unbroken, break_stmt, uncontinued, continue_stmt, misplaced, operand, returned, return_stmt, empty, debugger, initialized, declarator, declarators_turn, declarators, variables, Opening, Nothing, Variables, Expression, as_init, as_left, head_variables, head_expression, opening, closes, at_end, close, directs, items_turn, items, note_statement, no_label, expr_stmt, optional_end, import_stmt, thrown, throw, head, condition, begins_clause, closes_clause, shebang_of, shebang_in, shebang}
+use Rattle.swc_ecma_parser_reader.proofs.Notes.{or_nil, or_assoc}
+use Rattle.swc_ecma_parser_reader.proofs.Answered.{st, Reads, ReadsCalm, ReadsAs}
+use Rattle.swc_ecma_parser_reader.proofs.Errors.{is_error}
+use Rattle.swc_ecma_parser_reader.proofs.Between.{nil-split}
+use Rattle.swc_ecma_parser_reader.proofs.expressions.CompleteParts.{name_reads}
+use Rattle.swc_ecma_parser_grammar.specs.Own.{break_faults, continue_faults, return_faults}
+use Rattle.swc_ecma_parser_reader.proofs.expressions.CompleteKinds.{seen}
+use Rattle.swc_ecma_parser_reader.proofs.expressions.Complete.{expr_reads}
+use Rattle.swc_ecma_parser_reader.proofs.expressions.Covers as covers
+use Rattle.swc_ecma_parser_reader.proofs.expressions.Heads as heads
+use Rattle.swc_ecma_parser_reader.proofs.patterns.Complete.{pattern_reads}
+use Rattle.swc_ecma_parser_reader.proofs.Loops.{items_stop, items_more, declarators_done, declarators_more}
+use Rattle.swc_ecma_parser_grammar.proofs.SupportedBegins.{expr_opens}
+use Rattle.swc_ecma_parser_reader.proofs.Opens.{import_unnoted, goes_open, head_begins, let_stands}
+
+-- ---- fixed tokens and ends
+
+pub ends_read : (missing : Kind) (c d : Place) (k : Code) (w : Scope) (f : List Fault) (h : Notes) → Ends c d → end missing (st c k w f h) ≡ Ok (tt, st d k w f h)
+unfolding end
+ends_read missing c d k w f h (by_semicolon e g) = rw (seen c kind.Semi e, g) refl
+ends_read missing c d k w f h (by_insertion e i g) = rw (e, i, g) refl
+
+-- one that nothing demands
+pub optional_end_reads : (c d : Place) (k : Code) (w : Scope) (f : List Fault) (h : Notes) → OptionalEnds c d → optional_end (st c k w f h) ≡ Ok (tt, st d k w f h)
+unfolding optional_end
+optional_end_reads c d k w f h (by_a_semicolon e g) = rw (seen c kind.Semi e, g) refl
+optional_end_reads c d k w f h (by_nothing e g) = rw (e, g) refl
+
+pub close_reads : (c : Place) (k : Code) (w : Scope) (f : List Fault) (h : Notes) → kind_at c ≡ kind.RBrace → close (st c k w f h) ≡ Ok (tt, st (after c) k w f h)
+unfolding close
+close_reads c k w f h e = rw (seen c kind.RBrace e) refl
+
+-- ---- faults that are told
+
+pub recorded_at_reads : (g : Fault) (s : State) (t : Token) → is_error (token_kind t) ≡ false → recorded_at g s t ≡ Ok (tt, noted g s)
+recorded_at_reads g s (token.Error e) h = cc
+recorded_at_reads g s _ h = refl
+
+pub recorded_in_reads : (g : Fault) (s : State) (ts : List TokenAndSpan) → s.at.left ≡ ts → is_error (kind_at s.at) ≡ false → recorded_in g s ts ≡ Ok (tt, noted g s)
+unfolding kind_at
+recorded_in_reads g s [] e h = refl
+recorded_in_reads g s (t ∷ ts) e h = recorded_at_reads g s t.token (rw e at h)
+
+pub fault_reads : (g : Fault) (d : Place) (k : Code) (w : Scope) (f : List Fault) (h : Notes) → is_error (kind_at d) ≡ false → fault g (st d k w f h) ≡ Ok (tt, st d k w (f ++ g ∷ []) h)
+unfolding fault
+fault_reads g d k w f h e = recorded_in_reads g (st d k w f h) d.left refl e
+
+-- each by itself, where no error token stands
+pub told_reads : (fs : List Fault) (d : Place) (k : Code) (w : Scope) (f : List Fault) (h : Notes) → (fs ≡ []) ⊎ (is_error (kind_at d) ≡ false) → told fs (st d k w f h) ≡ Ok (tt, st d k w (f ++ fs) h)
+told_reads [] d k w f h q = rw (append-nil f) refl
+told_reads (g ∷ gs) d k w f h (inl e) = cc
+told_reads (g ∷ gs) d k w f h (inr e) = rw (fault_reads g d k w f h e, told_reads gs d k w (f ++ g ∷ []) h (inr e)) (simp (append_assoc) refl)
+
+-- where a list of faults is empty its parts are
+pub calm_same : (d : Place) (whole fs : List Fault) → whole ≡ fs → (whole ≡ []) ⊎ (is_error (kind_at d) ≡ false) → (fs ≡ []) ⊎ (is_error (kind_at d) ≡ false)
+calm_same d whole fs e (inl z) = inl (sym e ∙ z)
+calm_same d whole fs e (inr a) = inr a
+
+pub calm_first : (d : Place) (es fs whole : List Fault) → whole ≡ es ++ fs → (whole ≡ []) ⊎ (is_error (kind_at d) ≡ false) → (es ≡ []) ⊎ (is_error (kind_at d) ≡ false)
+calm_first d es fs whole e (inl z) = inl (nil-split es fs (sym e ∙ z)).0
+calm_first d es fs whole e (inr a) = inr a
+
+pub calm_last : (d : Place) (es fs whole : List Fault) → whole ≡ es ++ fs → (whole ≡ []) ⊎ (is_error (kind_at d) ≡ false) → (fs ≡ []) ⊎ (is_error (kind_at d) ≡ false)
+calm_last d es fs whole e (inl z) = inl (nil-split es fs (sym e ∙ z)).1
+calm_last d es fs whole e (inr a) = inr a
+
+-- ---- `break`, `continue` and `return`
+
+pub target_reads : (x : Tree) (c d : Place) (k : Code) (w : Scope) (f : List Fault) (h : Notes) → TargetRule k x c d → target (st c k w f h) ≡ Ok (x, st d k w f h)
+unfolding target
+target_reads x c d k w f h (no_target_rule e g i) = rw (e, g, i) refl
+target_reads x c d k w f h (target_rule v sp e r n i) = rw (e, name_reads faults.ExpectedIdent v sp c d k w f h r n, i) refl
+
+-- a label has no notes
+pub target_quiet : {k : Code} {x : Tree} {c d : Place} → TargetRule k x c d → (notes x ≡ []) × (has_meta x ≡ false)
+target_quiet (no_target_rule e g i) = (ap notes i, ap has_meta i)
+target_quiet (target_rule v sp e r n i) = (ap notes i, ap has_meta i)
+
+pub break_reads : (y : Tree) (m : Place) (k : Code) (x : Tree) (c d : Place) → TargetRule k y (after c) m → Ends m d → x ≡ tree.break (spanned c d) y → ReadsCalm break_stmt k x c d
+unfolding break_stmt unbroken spanned
+break_reads y m k x c d r g e w f h q =
+    let l = break_faults k.flags.is_break_allowed w.labels y (spanned c d) in
+    rw (
+      target_reads y (after c) m k w f h r,
+      ends_read faults.Expected m d k w f h g,
+      told_reads l d k w f h (calm_same d (walk (env_of k w.labels) x) l (ap (walk (env_of k w.labels)) e) q),
+      e,
+      (target_quiet r).0,
+      (target_quiet r).1,
+      append-nil h.held_back,
+      or_nil h.found_module_item,
+    ) refl
+
+pub continue_reads : (y : Tree) (m : Place) (k : Code) (x : Tree) (c d : Place) → TargetRule k y (after c) m → Ends m d → x ≡ tree.continue (spanned c d) y → ReadsCalm continue_stmt k x c d
+unfolding continue_stmt uncontinued spanned
+continue_reads y m k x c d r g e w f h q =
+    let l = continue_faults k.flags.is_continue_allowed w.labels y (spanned c d) in
+    rw (
+      target_reads y (after c) m k w f h r,
+      ends_read faults.Expected m d k w f h g,
+      told_reads l d k w f h (calm_same d (walk (env_of k w.labels) x) l (ap (walk (env_of k w.labels)) e) q),
+      e,
+      (target_quiet r).0,
+      (target_quiet r).1,
+      append-nil h.held_back,
+      or_nil h.found_module_item,
+    ) refl
+
+pub operand_reads : (n : ℕ) (k : Code) (x : Tree) (c d : Place) → OperandRule (ReadsClass n) k x c d → Reads (operand (expr n expression)) k x c d
+unfolding operand
+operand_reads n k x c d (no_operand_rule e g i) w f h = rw (e, i, g, append-nil f, append-nil h.held_back, or_nil h.found_module_item) refl
+operand_reads n k x c d (operand_rule e r) w f h = rw (e, expr_reads n expression (with_in k) x c d r w f h) refl
+
+pub return_reads : (n : ℕ) (y : Tree) (m : Place) (k : Code) (x : Tree) (c d : Place) → OperandRule (ReadsClass n) k y (after c) m → Ends m d → x ≡ tree.return (spanned c d) y
+    → ReadsCalm (return_stmt (expr n expression)) k x c d
+unfolding return_stmt returned misplaced spanned
+return_reads n y m k x c d r g e w f h q =
+    let l = return_faults (k.flags.in_function || k.setting.allow_return_outside_function) (spanned c d) in
+    let a = walk (env_of k w.labels) y in
+    rw (
+      operand_reads n k y (after c) m r w f h,
+      ends_read faults.Expected m d k w (f ++ a) (h ⊕ notes_of y) g,
+      told_reads l d k w (f ++ a) (h ⊕ notes_of y) (calm_last d a l (walk (env_of k w.labels) x) (ap (walk (env_of k w.labels)) e) q),
+      e,
+      append_assoc f a l,
+    ) refl
+
+-- ---- statements that hold none
+
+pub empty_reads : (k : Code) (x : Tree) (c d : Place) → d ≡ after c → x ≡ tree.empty (spanned c d) → Reads empty k x c d
+unfolding empty
+empty_reads k x c d e g w f h = rw (g, e, append-nil f, append-nil h.held_back, or_nil h.found_module_item) refl
+
+pub debugger_reads : (k : Code) (x : Tree) (c d : Place) → Ends (after c) d → x ≡ tree.debugger (spanned c d) → Reads debugger k x c d
+unfolding debugger
+debugger_reads k x c d e g w f h = rw (ends_read faults.Expected (after c) d k w f h e, g, append-nil f, append-nil h.held_back, or_nil h.found_module_item) refl
+
+-- ---- declarators
+
+module _ (n : ℕ) (in_head : Bool) (word : VarDeclKind) where
+  pub declarator_reads : (k : Code) (x : Tree) (c d : Place) → DeclaratorRule (ReadsClass n assignment) (ReadsPat n) k in_head word x c d
+      → Reads (declarator (expr n) (pattern n) in_head word) k x c d
+  unfolding declarator initialized spanned
+  declarator_reads k x c d (plain_rule p r e b g) w f h = rw (pattern_reads n (with_in k) p c d r w f h, e, b, g, append-nil (walk (env_of k w.labels) p), append-nil (notes p), or_nil (has_meta p)) refl
+  declarator_reads k x c d (initialized_rule p y m r e s g) w f h =
+      rw (
+        pattern_reads n (with_in k) p c m r w f h,
+        seen m kind.Assign e,
+        expr_reads n assignment k y (after m) d s w (f ++ walk (env_of k w.labels) p) (h ⊕ notes_of p),
+        g,
+        append_assoc f (walk (env_of k w.labels) p) (walk (env_of k w.labels) y),
+        append_assoc h.held_back (notes p) (notes y),
+        or_assoc h.found_module_item (has_meta p) (has_meta y),
+      ) refl
+
+  pub many_declarators : (xs found : List Tree) (k : Code) (c d : Place) (w : Scope) (f : List Fault) (h : Notes)
+      → ReadsSeparated (DeclaratorRule (ReadsClass n assignment) (ReadsPat n) k in_head word) xs c d
+      → loop (declarators_turn (expr n) (pattern n) in_head word) found (st c k w f h)
+      ≡ Ok (found ++ xs, st d k w (f ++ walks (env_of k w.labels) false (trees xs)) (h ⊕ all_notes_of (trees xs)))
+  many_declarators [] found k c d w f h r = absurd r
+  many_declarators (x ∷ []) found k c d w f h r =
+      rw (append-nil (walk (env_of k w.labels) x), append-nil (notes x), or_nil (has_meta x))
+      (declarators_done n in_head word found (st c k w f h) x (st d k w (f ++ walk (env_of k w.labels) x) (h ⊕ notes_of x)) (declarator_reads k x c d r.0 w f h) r.1)
+  many_declarators (x ∷ y ∷ ys) found k c d w f h (m, r, e, more) =
+      declarators_more n in_head word found (st c k w f h) x (st m k w (f ++ walk (env_of k w.labels) x) (h ⊕ notes_of x)) (declarator_reads k x c m r w f h) (seen m kind.Comma e)
+      ∙ many_declarators (y ∷ ys) (found ++ x ∷ []) k (after m) d w (f ++ walk (env_of k w.labels) x) (h ⊕ notes_of x) more ∙ simp (append_assoc, or_assoc) refl
+
+pub variables_reads : (n : ℕ) (word : VarDeclKind) (xs : List Tree) (m : Place) (k : Code) (x : Tree) (c d : Place)
+    → ReadsSeparated (DeclaratorRule (ReadsClass n assignment) (ReadsPat n) (with_in k) false word) xs (after c) m → Ends m d
+    → x ≡ tree.var (spanned c d) word (listed xs) → Reads (variables (expr n) (pattern n) word) k x c d
+unfolding variables declarators
+variables_reads n word xs m k x c d r e g w f h =
+    rw (
+      many_declarators n false word xs [] (with_in k) (after c) m w f h r,
+      ends_read faults.Unexpected m d k w (f ++ walks (env_of k w.labels) false (trees xs)) (h ⊕ all_notes_of (trees xs)) e,
+      g,
+    ) refl
+
+-- ---- what the head of a `for` begins with
+
+-- what gives this tree as the first part of three, and what gives it as what takes each value
+abbrev pub AsInit : Tree → Opening → Type 0
+AsInit x o = (s : State) → as_init o s ≡ Ok (x, s)
+
+abbrev pub AsLeftSide : Tree → Opening → Type 0
+AsLeftSide x o = (s : State) → as_left o s ≡ Ok (x, s)
+
+module _ (inner_expr : Class → Reader Tree) (inner_pat : Reader Tree) (inner_cover : Reader Cover) where
+  -- the word of a declaration tells that variables are declared
+  opening_declares : (word : VarDeclKind) (s : State) → begins_variables word s.at ≡ true → opening inner_expr inner_pat inner_cover s ≡ head_variables inner_expr inner_pat word s
+  unfolding opening same_kind
+  opening_declares decl.Var s e = rw (saw s.at kind.Var e) refl
+  opening_declares decl.Const s e = rw (saw s.at kind.Const e) refl
+  opening_declares decl.Let s e = rw (let_stands s.at e, e) refl
+
+  opening_starts : (s : State) → may_begin_head s.at ≡ true → opening inner_expr inner_pat inner_cover s ≡ head_expression inner_expr inner_pat inner_cover s
+  unfolding opening
+  opening_starts s e = let b = head_begins s.at e in rw (b.0, b.1, b.2, b.3) refl
+
+module _ (n : ℕ) where
+  declared_reads : (word : VarDeclKind) (xs : List Tree) (k : Code) (x : Tree) (c d : Place) (w : Scope) (f : List Fault) (h : Notes)
+      → ReadsSeparated (DeclaratorRule (ReadsClass n assignment) (ReadsPat n) (head_code word k) true word) xs (after c) d → x ≡ tree.var (spanned c d) word (listed xs)
+      → head_variables (expr n) (pattern n) word (st c k w f h) ≡ Ok (Variables x, st d k w (f ++ walk (env_of k w.labels) x) (h ⊕ notes_of x))
+  unfolding head_variables declarators spanned
+  declared_reads decl.Var xs k x c d w f h r e = rw (many_declarators n true decl.Var xs [] (without_in k) (after c) d w f h r, e) refl
+  declared_reads decl.Const xs k x c d w f h r e = rw (many_declarators n true decl.Const xs [] (with_in k) (after c) d w f h r, e) refl
+  declared_reads decl.Let xs k x c d w f h r e = rw (many_declarators n true decl.Let xs [] (with_in k) (after c) d w f h r, e) refl
+
+  head_variables_read : (k : Code) (x : Tree) (c d : Place) (w : Scope) (f : List Fault) (h : Notes) → HeadVariables (ReadsClass n) (ReadsPat n) k x c d
+      → opening (expr n) (pattern n) (head_cover n) (st c k w f h) ≡ Ok (Variables x, st d k w (f ++ walk (env_of k w.labels) x) (h ⊕ notes_of x))
+  head_variables_read k x c d w f h r =
+      opening_declares (expr n) (pattern n) (head_cover n) r.word (st c k w f h) r.begins ∙ declared_reads r.word r.declarators k x c d w f h r.reads r.is
+
+  pub opening_reads_init : (k : Code) (x : Tree) (c d : Place) → InitRule (ReadsClass n) (ReadsPat n) k x c d → ReadsAs (AsInit x) (opening (expr n) (pattern n) (head_cover n)) k x c d
+  unfolding opening head_expression
+  opening_reads_init k x c d (no_init_rule a b e) w f h =
+      record { value = Nothing; holds = λ s. rw e refl; is = rw (seen c kind.Semi a, e, b, append-nil f, append-nil h.held_back, or_nil h.found_module_item) refl }
+  opening_reads_init k x c d (init_variables_rule r) w f h = record { value = Variables x; holds = λ s. refl; is = head_variables_read k x c d w f h r }
+  opening_reads_init k x c d (init_expression_rule a r) w f h =
+      let g = heads.head_reads n (without_in k) x c d r w f h in
+      record {
+        value = Expression g.value;
+        holds = λ s. covers.close_reads g.value s g.holds.1 ∙ rw g.holds.0 refl;
+        is = opening_starts (expr n) (pattern n) (head_cover n) (st c k w f h) a ∙ rw g.is refl;
+      }
+
+  -- behind it `in` stands, or `of`
+  pub opening_reads_left : (k : Code) (x : Tree) (c d : Place) → LeftRule (ReadsClass n) (ReadsPat n) (ReadsTarget n) k x c d → heads.Heads (without_in k) x d
+      → ReadsAs (AsLeftSide x) (opening (expr n) (pattern n) (head_cover n)) k x c d
+  unfolding head_expression
+  opening_reads_left k x c d (declared_rule r) e w f h = record { value = Variables x; holds = λ s. refl; is = head_variables_read k x c d w f h r }
+  opening_reads_left k x c d (left_target_rule a r) e w f h =
+      let g = heads.head_reads_target n (without_in k) x c d r e w f h in
+      record {
+        value = Expression g.value;
+        holds = λ s. covers.target_reads g.value s x g.holds.1 g.holds.0;
+        is = opening_starts (expr n) (pattern n) (head_cover n) (st c k w f h) a ∙ rw g.is refl;
+      }
+
+-- ---- statements one behind another
+
+-- the code behind statements: a directive may have turned it strict
+abbrev pub code_behind : Code → Bool → List Tree → Code
+code_behind k directives [] = k
+code_behind k directives (x ∷ xs) = code_behind (directed k directives x) false xs
+
+-- without directives it stays
+pub code_stays : (k : Code) (xs : List Tree) → code_behind k false xs ≡ k
+code_stays k [] = refl
+code_stays k (x ∷ xs) = code_stays k xs
+
+-- a directive changes no setting
+pub in_strict_setting : (b : Bool) (k : Code) → (cond b (in_strict k) k).setting ≡ k.setting
+in_strict_setting true k = refl
+in_strict_setting false k = refl
+
+pub behind_setting : (k : Code) (directives : Bool) (xs : List Tree) → (code_behind k directives xs).setting ≡ k.setting
+behind_setting k directives [] = refl
+behind_setting k directives (x ∷ xs) = behind_setting (directed k directives x) false xs ∙ in_strict_setting (directives && is_use_strict x) k
+
+-- behind a first statement there is no directive
+pub directs_behind : (directives : Bool) (found : List Tree) (x : Tree) → directs directives (found ++ x ∷ []) ≡ false
+directs_behind directives [] x = refl
+directs_behind directives (y ∷ ys) x = refl
+
+-- the walk and the reader agree on what a directive turns strict
+pub strict_walk : (b : Bool) (k : Code) (labels : List Text) → env_of (cond b (in_strict k) k) labels ≡ cond b (record (env_of k labels) { strict = true }) (env_of k labels)
+strict_walk true k labels = refl
+strict_walk false k labels = refl
+
+pub directed_walk : (k : Code) (directives : Bool) (x : Tree) (labels : List Text) → env_of (directed k directives x) labels ≡ walks_of.directed (env_of k labels) directives x
+directed_walk k directives x labels = strict_walk (directives && is_use_strict x) k labels
+
+module _ (Inner : Code → Tree → Place → Place → Type 0) (inner : Reader Tree)
+    (reads : (k : Code) (x : Tree) (c d : Place) → Inner k x c d → ReadsCalm inner k x c d)
+    (shorter : (s : State) (x : Tree) (t : State) → inner s ≡ Ok (x, t) → length t.at.left < length s.at.left)
+    (stops : Place → Bool) (goes : (k : Code) (x : Tree) (c d : Place) → Inner k x c d → stops c ≡ false)
+    (starts : (k : Code) (x : Tree) (c d : Place) → Inner k x c d → is_error (kind_at c) ≡ false) where
+  -- no error token stands behind an item: the next begins there, or all end
+  pub no_error : (k : Code) (b : Bool) (xs : List Tree) (m d : Place) → ReadsItems Inner k b xs m d → is_error (kind_at d) ≡ false → is_error (kind_at m) ≡ false
+  no_error k b [] m d r e = ap (λ v. is_error (kind_at v)) (sym r) ∙ e
+  no_error k b (x ∷ xs) m d (i, r, rs) e = starts k x m i r
+
+  pub many_items : (directives : Bool) (xs found : List Tree) (b : Bool) (k : Code) (c d : Place) (w : Scope) (f : List Fault) (h : Notes) → directs directives found ≡ b → ReadsItems Inner k b xs c d → stops d ≡ true
+      → is_error (kind_at d) ≡ false → loop (items_turn inner stops directives) found (st c k w f h) ≡ Ok (found ++ xs, st d (code_behind k b xs) w (f ++ walks (env_of k w.labels) b (trees xs)) (h ⊕ all_notes_of (trees xs)))
+  many_items directives [] found b k c d w f h p r e a =
+      rw (append-nil found, append-nil f, append-nil h.held_back, or_nil h.found_module_item, r) (items_stop inner stops directives found (st c k w f h) (rw (← r) e))
+  many_items directives (x ∷ xs) found b k c d w f h p (m, r, more) e a =
+      let one = reads k x c m r w f h (inr (no_error (directed k b x) (directs_on b x) xs m d more a)) in
+      let first = items_more inner stops directives found (st c k w f h) x (st m k w (f ++ walk (env_of k w.labels) x) (h ⊕ notes_of x)) (goes k x c m r) one
+      (shorter (st c k w f h) x (st m k w (f ++ walk (env_of k w.labels) x) (h ⊕ notes_of x)) one) in
+      let rest = many_items directives xs (found ++ x ∷ []) false (directed k b x) m d w (f ++ walk (env_of k w.labels) x) (h ⊕ notes_of x) (directs_behind directives found x) more e a in
+      let turn = rw p at first in
+      turn ∙ rest ∙ rw (directed_walk k b x w.labels) (simp (append_assoc, or_assoc) refl)
+
+  pub items_read : (directives : Bool) (xs : List Tree) (k : Code) (c d : Place) (w : Scope) (f : List Fault) (h : Notes) → ReadsItems Inner k directives xs c d → stops d ≡ true
+      → is_error (kind_at d) ≡ false → items inner stops directives (st c k w f h) ≡ Ok (xs, st d (code_behind k directives xs) w (f ++ walks (env_of k w.labels) directives (trees xs)) (h ⊕ all_notes_of (trees xs)))
+  unfolding items
+  items_read directives xs k c d w f h r e a = many_items directives xs [] directives k c d w f h refl r e a
+
+pub closes_at : (c : Place) → kind_at c ≡ kind.RBrace → closes c ≡ true
+unfolding closes same_kind
+closes_at c e = rw e refl
+
+-- where clauses end no error token stands
+pub clause_ends : (c : Place) → closes_clause c ≡ true → is_error (kind_at c) ≡ false
+unfolding closes_clause begins_clause closes same_kind
+clause_ends c e = by_kind (kind_at c) e
+  where
+    by_kind : (j : TokenKind) → ((same_kind j kind.Case || same_kind j kind.Default) || (same_kind j kind.RBrace || same_kind j kind.End)) ≡ true → is_error j ≡ false
+    by_kind kind.Error h = cc
+    by_kind _ h = refl
+
+pub at_end_at : (c : Place) → kind_at c ≡ kind.End → at_end c ≡ true
+unfolding at_end same_kind
+at_end_at c e = rw e refl
+
+-- ---- expression statements
+
+-- what a bare name `interface` leaves behind: the grammar has none in module code, and elsewhere its fault is held back
+pub note_by : (b in_module : Bool) (e : Fault) (s : State) → in_module && b ≡ false
+    → ◌≡◌ {A = Outcome (Unit {0})} (cond b (Ok (tt, cond in_module (noted e s) (record s { notes = record s.notes { held_back = s.notes.held_back ++ e ∷ [] } }))) (Ok (tt, s))) (Ok (tt, record s { notes = s.notes ⊕ held (cond b (e ∷ []) []) }))
+note_by false in_module e s g = rw (append-nil s.notes.held_back, or_nil s.notes.found_module_item) refl
+note_by true false e s g = rw (or_nil s.notes.found_module_item) refl
+note_by true true e s g = cc
+
+pub note_reads : (e : Tree) (m : Place) (k : Code) (w : Scope) (f : List Fault) (h : Notes) → k.flags.module && is_ident_named (codes "interface") e ≡ false
+    → note_statement e (st m k w f h) ≡ Ok (tt, st m k w f (h ⊕ held (statement_note e)))
+unfolding note_statement
+note_reads e m k w f h g = note_by (is_ident_named (codes "interface") e) k.flags.module (fault_at (span_of e) faults.InvalidIdentInStrict) (st m k w f h) g
+
+pub expr_stmt_reads : (n : ℕ) (e : Tree) (m : Place) (k : Code) (x : Tree) (c d : Place) → ReadsClass n expression (with_in k) e c m → is_ident e && sees kind.Colon m ≡ false
+    → k.flags.module && is_ident_named (codes "interface") e ≡ false → Ends m d → x ≡ tree.expr_stmt (spanned c d) e → Reads (expr_stmt (expr n expression)) k x c d
+unfolding expr_stmt no_label
+expr_stmt_reads n e m k x c d r l i g j w f h =
+    rw (
+      expr_reads n expression (with_in k) e c m r w f h,
+      l,
+      note_reads e m k w (f ++ walk (env_of k w.labels) e) (h ⊕ notes_of e) i,
+      ends_read faults.ExpectedSemiForExprStmt m d k w (f ++ walk (env_of k w.labels) e) ((h ⊕ notes_of e) ⊕ held (statement_note e)) g,
+      j,
+      append_assoc,
+      or_assoc,
+      or_nil (has_meta e),
+    ) refl
+
+pub import_stmt_reads : (n : ℕ) (e : Tree) (m : Place) (k : Code) (x : Tree) (c d : Place) → begins_import_expression c ≡ true → ReadsClass n expression (with_in k) e c m → OptionalEnds m d
+    → x ≡ tree.expr_stmt (spanned c d) e → Reads (import_stmt (expr n expression)) k x c d
+unfolding import_stmt
+import_stmt_reads n e m k x c d b r g j w f h =
+    rw (
+      expr_reads n expression (with_in k) e c m r w f h,
+      optional_end_reads m d k w (f ++ walk (env_of k w.labels) e) (h ⊕ notes_of e) g,
+      j,
+      import_unnoted n (with_in k) e c m r b,
+      append-nil (notes e),
+    ) refl
+
+-- ---- `throw`, `while` and `do`
+
+-- a token that must stand here
+pub expect_reads : (j : TokenKind) (c : Place) (k : Code) (w : Scope) (f : List Fault) (h : Notes) → kind_at c ≡ j → expect j (st c k w f h) ≡ Ok (tt, st (after c) k w f h)
+unfolding expect
+expect_reads j c k w f h e = rw (seen c j e) refl
+
+pub throw_reads : (n : ℕ) (y : Tree) (m : Place) (k : Code) (x : Tree) (c d : Place) → breaks_at (after c) ≡ false → ReadsClass n expression (with_in k) y (after c) m → Ends m d
+    → x ≡ tree.throw (spanned c d) y → Reads (throw (expr n expression)) k x c d
+unfolding throw thrown
+throw_reads n y m k x c d b r g e w f h =
+    rw (
+      b,
+      (goes_open (kind_at (after c)) (expr_opens n (with_in k) y (after c) m r)).1,
+      expr_reads n expression (with_in k) y (after c) m r w f h,
+      ends_read faults.Expected m d k w (f ++ walk (env_of k w.labels) y) (h ⊕ notes_of y) g,
+      e,
+    ) refl
+
+pub head_reads : (n : ℕ) (k : Code) (x : Tree) (c d : Place) → ReadsHead (ReadsClass n) k x c d → Reads (head (expr n expression)) k x c d
+unfolding head
+head_reads n k x c d r w f h =
+    rw (
+      expect_reads kind.LParen c k w f h r.opens,
+      expr_reads n expression (with_in k) x (after c) r.close r.reads w f h,
+      expect_reads kind.RParen r.close k w (f ++ walk (env_of k w.labels) x) (h ⊕ notes_of x) r.closes,
+      r.next,
+    ) refl
+
+pub condition_reads : (n : ℕ) (k : Code) (x : Tree) (c d : Place) → ReadsHead (ReadsClass n) k x c d → Reads (condition (expr n expression)) k x c d
+unfolding condition labelled
+condition_reads n k x c d r w f h =
+    rw (
+      expect_reads kind.LParen c k w f h r.opens,
+      expr_reads n expression (with_in k) x (after c) r.close r.reads w f h,
+      expect_reads kind.RParen r.close k w (f ++ walk (env_of k w.labels) x) (h ⊕ notes_of x) r.closes,
+      r.next,
+    ) refl
+
+-- ---- a script
+
+-- no `#!` stands where no such token is seen
+pub no_shebang_by : (t : Token) → same_kind (token_kind t) kind.Shebang ≡ false → shebang_of t ≡ None
+unfolding same_kind
+no_shebang_by (token.Shebang text) e = cc
+no_shebang_by _ e = refl
+
+pub no_shebang_in : (c : Place) (ts : List TokenAndSpan) → c.left ≡ ts → sees kind.Shebang c ≡ false → shebang_in ts ≡ None
+unfolding kind_at
+no_shebang_in c [] e h = refl
+no_shebang_in c (t ∷ ts) e h = no_shebang_by t.token (rw e at h)
+
+pub shebang_here : (text : Text) (sp : Span) (c d : Place) → ReadsToken (token.Shebang text) sp c d → shebang_in c.left ≡ Some text
+shebang_here text sp c d r = rw r.is refl
+
+pub shebang_reads : (first : Option Text) (c d : Place) (k : Code) (w : Scope) (f : List Fault) (h : Notes) → ReadsShebang c d first → shebang (st c k w f h) ≡ Ok (first, st d k w f h)
+unfolding shebang
+shebang_reads first c d k w f h (some_shebang text s r) = rw (shebang_here text s c d r, r.next) refl
+shebang_reads first c d k w f h (no_shebang e g) = rw (no_shebang_in c c.left refl e, g) refl
+
+-- ---- labels
+
+-- a name stands there
+pub named_in : (f : Context) (c : Place) (ts : List TokenAndSpan) → c.left ≡ ts → first_is_name f ts ≡ true
+    → (v : Word) × (s : Span) × ReadsToken (token.Word v) s c (after c) × (is_name f (word_text v) ≡ true)
+named_in f c [] e h = cc
+named_in f c (t ∷ ts) e h = by_token t.token refl h
+  where
+    by_token : (u : Token) → t.token ≡ u → token_is_name f u ≡ true → (v : Word) × (s : Span) × ReadsToken (token.Word v) s c (after c) × (is_name f (word_text v) ≡ true)
+    by_token (token.Word v) g i = (v, t.span, record { had_line_break = t.had_line_break; rest = ts; is = e ∙ rw (← g) refl; next = refl }, i)
+    by_token _ g i = cc
+
+pub named_here : (f : Context) (c : Place) → name_at f c ≡ true → (v : Word) × (s : Span) × ReadsToken (token.Word v) s c (after c) × (is_name f (word_text v) ≡ true)
+unfolding name_at
+named_here f c h = named_in f c c.left refl h
+
+pub tree_of : Outcome Tree → Tree
+tree_of (Ok p) = p.0
+tree_of (Err e) = tree.absent
+
+pub place_of : Place → Outcome Tree → Place
+place_of c (Ok p) = p.1.at
+place_of c (Err e) = c
+
+-- what an expression statement begins with is no label: the name would be all of its expression
+pub no_label_here : (n : ℕ) (k : Code) (e : Tree) (c m : Place) → ReadsClass n expression (with_in k) e c m → is_ident e && sees kind.Colon m ≡ false → begins_label k c ≡ false
+unfolding begins_label is_name is_reserved tree_of place_of
+no_label_here zero k e c m r l = absurd r.0
+no_label_here (suc n) k e c m r l = by_test (name_at k.flags c && sees kind.Colon (after c)) refl
+  where
+    by_test : (b : Bool) → (name_at k.flags c && sees kind.Colon (after c)) ≡ b → b ≡ false
+    by_test false h = refl
+    by_test true h =
+        let g = and_yes (name_at k.flags c) (sees kind.Colon (after c)) h in
+        let (v, s, i, f) = named_here k.flags c g.0 in
+        let w : Scope = record { labels = []; mark = None } in
+        let o = sym (expr_reads (suc n) expression (with_in k) e c m r w [] no_notes)
+        ∙ expr_reads (suc n) expression (with_in k) (tree.ident s (word_text v)) c (after c) (name_before_colon n (with_in k) v s c (after c) i f (saw (after c) kind.Colon g.1)) w [] no_notes in
+        absurd (true≢false (sym (ap (λ z. is_ident z && sees kind.Colon m) (ap tree_of o) ∙ ap (sees kind.Colon) (ap (place_of c) o) ∙ g.1) ∙ l))
+
+-- a word is no brace
+pub word_no_brace : (v : Word) → same_kind (word_kind v) kind.LBrace ≡ false
+unfolding same_kind
+word_no_brace (word.Keyword v) = keyword_no_brace v
+  where
+    keyword_no_brace : (v : Keyword) → same_kind (keyword_kind v) kind.LBrace ≡ false
+    keyword_no_brace keyword.Await = refl
+    keyword_no_brace _ = refl
+word_no_brace _ = refl
+
+pub no_brace : (v : Word) (s : Span) (c d : Place) → ReadsToken (token.Word v) s c d → sees kind.LBrace c ≡ false
+unfolding kind_at
+no_brace v s c d r = rw r.is (word_no_brace v)

@@ -1,0 +1,245 @@
+-- No statement that is read is a function, so what a label stands at has no fault of its own; and a label is told once for each
+-- equal one around.
+use Rattle.std.proofs.Common.{◌≡◌, ℕ, zero, suc, ◌+◌, ◌-◌, ◌<◌, Bool, true, false, cond, List, [], ◌∷◌, ◌++◌, length, replicate, count_by, Ok, Err, refl, ap, ◌∙◌, arith}
+use Rattle.std.specs.Str.{bytes_eq}
+use Rattle.swc_ecma_parser_error.specs.Kind.{Fault}
+use Rattle.swc_ecma_parser_grammar.specs.Own.{only, duplicates}
+use Rattle.swc_ecma_parser_grammar.specs.language.Items.{labelled_item}
+use Rattle.swc_ecma_parser_reader.specs.State.{coded, below, below_label, fault, fault_at}
+use Rattle.swc_ecma_parser_reader.specs.Reader.{told}
+use Rattle.swc_ecma_parser_reader.proofs.Meets.{meets_then}
+use Rattle.std.specs.Prelude.{◌&&◌, ◌||◌, codes}
+use Rattle.std.proofs.lemmas.List.Recursion.{is_count_by}
+use Rattle.swc_ecma_parser_common.specs.declared.span.Span.{Span}
+use Rattle.swc_ecma_parser_error.specs.Kind as faults
+use Rattle.swc_ecma_parser_token.specs.declared.kind.TokenKind.{TokenKind}
+use Rattle.swc_ecma_parser_token.specs.declared.kind.TokenKind.TheVariants as kind
+use Rattle.swc_ecma_parser_input.specs.Place.{after}
+use Rattle.swc_ecma_parser_model.specs.declared.leaves.VarDeclKind.{VarDeclKind}
+use Rattle.swc_ecma_parser_model.specs.declared.leaves.VarDeclKind.TheVariants as decl
+use Rattle.swc_ecma_parser_model.specs.Tree as tree
+use Rattle.swc_ecma_parser_model.specs.Tree.{Tree, Text}
+use Rattle.swc_ecma_parser_grammar.specs.declared.position.Position.{Position}
+use Rattle.swc_ecma_parser_grammar.specs.Looks.{kind_at, breaks_at, sees, span_at}
+use Rattle.swc_ecma_parser_grammar.specs.Follows.{word_at, may_begin_expression_statement, begins_import_expression, is_let_declaration}
+use Rattle.swc_ecma_parser_grammar.specs.Own.{labelled_function}
+use Rattle.swc_ecma_parser_grammar.specs.Reads.{nested_item, with_in}
+use Rattle.swc_ecma_parser_grammar.specs.language.Contexts.{in_loop, in_breakable}
+use Rattle.swc_ecma_parser_grammar.specs.language.Goals.{Class, expression, assignment}
+use Rattle.swc_ecma_parser_grammar.specs.language.Items.{sub_statement}
+use Rattle.swc_ecma_parser_reader.specs.State.{State, Outcome, Reader, and_then, moved, within, wanted, name, expect, end}
+use Rattle.swc_ecma_parser_reader.specs.Expressions.{Cover, expr}
+use Rattle.swc_ecma_parser_reader.specs.Heads.{head_cover}
+use Rattle.swc_ecma_parser_reader.specs.Patterns.{pattern}
+use Rattle.swc_ecma_parser_reader.specs.Reader.{items, closes, close, declarators, link, alternative, head, clauses, target, unbroken, uncontinued, operand, braced, handler, finalizer, handled, optional_end, Opening, as_init, as_left, opening, head_part, misdeclared, labelled_body, relabels, no_label, note_statement, empty, debugger, variables, block, block_from, expr_stmt, expr_stmt_at, import_stmt, import_stmt_at, thrown, throw, while_stmt, do_while, for_parts, for_in, for_of, for_behind, for_stmt, goes_on, links, if_stmt, break_stmt, continue_stmt, returned, return_stmt, misplaced, begins_label, labeled_stmt, other_stmt, switch_stmt, try_stmt, const_stmt, let_stmt, stmt_by, stmt_level, stmt}
+use Rattle.swc_ecma_parser_reader.proofs.Meets.{Meets, Refuses, meets_if, wanted_meets, too_deep_meets, refuse_meets, meant}
+use Rattle.swc_ecma_parser_reader.proofs.SoundParts.{after_return_meets}
+
+-- whatever was read before
+always : {A B : Type 0} (Q : B → State → Type 0) (o : Outcome A) (f : A → Reader B) → ((a : A) (s : State) → Meets Q (f a s)) → Meets Q (and_then o f)
+always Q (Ok p) f h = h p.0 p.1
+always Q (Err e) f h = tt
+
+-- no function that a label tells of
+abbrev Plain : Tree → State → Type 0
+Plain x t = (strict : Bool) → labelled_function strict x ≡ []
+
+module _ (inner : Position → Reader Tree) (inner_expr : Class → Reader Tree) (inner_pat : Reader Tree) (inner_head : Reader Cover) where
+  block_plain : (s : State) → Meets Plain (block (inner nested_item) s)
+  unfolding block block_from
+  block_plain s = always Plain (items (inner nested_item) closes false (moved s)) _ (λ xs t. always Plain (close t) _ (λ _ u b. refl))
+
+  debugger_plain : (s : State) → Meets Plain (debugger s)
+  unfolding debugger
+  debugger_plain s = always Plain (end faults.Expected (moved s)) _ (λ _ t b. refl)
+
+  variables_plain : (word : VarDeclKind) (s : State) → Meets Plain (variables inner_expr inner_pat word s)
+  unfolding variables
+  variables_plain word s = always Plain (within with_in (declarators inner_expr inner_pat false word) (moved s)) _ (λ xs t. always Plain (end faults.Unexpected t) _ (λ _ u b. refl))
+
+  const_plain : (at : Position) (s : State) → Meets Plain (const_stmt inner inner_expr inner_pat inner_head at s)
+  unfolding const_stmt
+  const_plain at s = where_declared at.include_decl
+    where
+      where_declared : (b : Bool) → Meets Plain (cond b (variables inner_expr inner_pat decl.Const) (wanted faults.Unexpected) s)
+      where_declared true = variables_plain decl.Const s
+      where_declared false = wanted_meets Plain faults.Unexpected s
+
+  links_plain : (n : ℕ) (s : State) → Meets Plain (links (inner sub_statement) (inner_expr expression) n s)
+  unfolding links
+  links_plain zero s = tt
+  links_plain (suc n) s = always Plain (link (inner sub_statement) (inner_expr expression) s) _ (λ l t. meets_if Plain (goes_on t.at) _ _
+      (λ _. always Plain (links (inner sub_statement) (inner_expr expression) n (moved t)) _ (λ y u b. refl)) (λ _. always Plain (alternative (inner sub_statement) t) _ (λ y u b. refl)))
+
+  switch_plain : (s : State) → Meets Plain (switch_stmt (inner nested_item) (inner_expr expression) s)
+  unfolding switch_stmt
+  switch_plain s = always Plain (head (inner_expr expression) (moved s)) _ (λ x t. always Plain (expect kind.LBrace t) _ (λ _ u.
+      always Plain (within in_breakable (clauses (inner nested_item) (inner_expr expression)) u) _ (λ xs v. always Plain (expect kind.RBrace v) _ (λ _ o b. refl))))
+
+  break_plain : (s : State) → Meets Plain (break_stmt s)
+  unfolding break_stmt
+  break_plain s = always Plain (target (moved s)) _ (λ x t. always Plain (end faults.Expected t) _ (λ _ u.
+      always Plain (unbroken x (record { lo = (span_at s.at).lo; hi = u.at.last.hi }) u) _ (λ _ v b. refl)))
+
+  continue_plain : (s : State) → Meets Plain (continue_stmt s)
+  unfolding continue_stmt
+  continue_plain s = always Plain (target (moved s)) _ (λ x t. always Plain (end faults.Expected t) _ (λ _ u.
+      always Plain (uncontinued x (record { lo = (span_at s.at).lo; hi = u.at.last.hi }) u) _ (λ _ v b. refl)))
+
+  returned_plain : (start : Span) (s : State) → Meets Plain (returned (inner_expr expression) start s)
+  unfolding returned
+  returned_plain start s = always Plain (operand (inner_expr expression) s) _ (λ x t. always Plain (end faults.Expected t) _ (λ _ u b. refl))
+
+  return_plain : (s : State) → Meets Plain (return_stmt (inner_expr expression) s)
+  unfolding return_stmt
+  return_plain s = after_return_meets Plain (span_at s.at) (returned (inner_expr expression) (span_at s.at) (moved s)) (returned_plain (span_at s.at) (moved s))
+      (λ x t h. always Plain (misplaced (span_at s.at) t) _ (λ _ u. h))
+
+  throw_plain : (s : State) → Meets Plain (throw (inner_expr expression) s)
+  unfolding throw thrown
+  throw_plain s = meets_if Plain (breaks_at (after s.at) || sees kind.End (after s.at)) _ _ (λ _. refuse_meets Plain faults.LineBreakInThrow (moved s))
+      (λ _. always Plain (within with_in (inner_expr expression) (moved s)) _ (λ x t. always Plain (end faults.Expected t) _ (λ _ u b. refl)))
+
+  try_plain : (s : State) → Meets Plain (try_stmt (inner nested_item) inner_pat s)
+  unfolding try_stmt
+  try_plain s = always Plain (braced (inner nested_item) (moved s)) _ (λ x t. always Plain (handler (inner nested_item) inner_pat t) _ (λ y u.
+      always Plain (finalizer (inner nested_item) u) _ (λ z v. always Plain (handled t.at v) _ (λ _ o b. refl))))
+
+  while_plain : (s : State) → Meets Plain (while_stmt (inner sub_statement) (inner_expr expression) s)
+  unfolding while_stmt
+  while_plain s = always Plain (head (inner_expr expression) (moved s)) _ (λ x t. always Plain (within in_loop (inner sub_statement) t) _ (λ y u b. refl))
+
+  do_while_plain : (s : State) → Meets Plain (do_while (inner sub_statement) (inner_expr expression) s)
+  unfolding do_while
+  do_while_plain s = always Plain (within in_loop (inner sub_statement) (moved s)) _ (λ y t. always Plain (expect kind.While t) _ (λ _ u.
+      always Plain (head (inner_expr expression) u) _ (λ x v. always Plain (optional_end v) _ (λ _ o b. refl))))
+
+  for_parts_plain : (start : Span) (o : Opening) (s : State) → Meets Plain (for_parts (inner sub_statement) inner_expr start o s)
+  unfolding for_parts
+  for_parts_plain start o s = always Plain (as_init o s) _ (λ x t. always Plain (expect kind.Semi t) _ (λ _ u.
+      always Plain (head_part kind.Semi (inner_expr expression) u) _ (λ y v. always Plain (expect kind.Semi v) _ (λ _ w.
+      always Plain (head_part kind.RParen (inner_expr expression) w) _ (λ z p. always Plain (expect kind.RParen p) _ (λ _ q.
+      always Plain (within in_loop (inner sub_statement) q) _ (λ f r b. refl)))))))
+
+  for_in_plain : (start : Span) (o : Opening) (s : State) → Meets Plain (for_in (inner sub_statement) inner_expr start o s)
+  unfolding for_in
+  for_in_plain start o s = always Plain (as_left o s) _ (λ x t. always Plain (misdeclared t.code.flags.strict x t) _ (λ _ u.
+      always Plain (within with_in (inner_expr expression) (moved u)) _ (λ y v. always Plain (expect kind.RParen v) _ (λ _ w.
+      always Plain (within in_loop (inner sub_statement) w) _ (λ f r b. refl)))))
+
+  for_of_plain : (start : Span) (o : Opening) (s : State) → Meets Plain (for_of (inner sub_statement) inner_expr start o s)
+  unfolding for_of
+  for_of_plain start o s = always Plain (as_left o s) _ (λ x t. always Plain (misdeclared true x t) _ (λ _ u.
+      always Plain (within with_in (inner_expr assignment) (moved u)) _ (λ y v. always Plain (expect kind.RParen v) _ (λ _ w.
+      always Plain (within in_loop (inner sub_statement) w) _ (λ f r b. refl)))))
+
+  for_behind_plain : (start : Span) (o : Opening) (s : State) → Meets Plain (for_behind (inner sub_statement) inner_expr start o s)
+  unfolding for_behind
+  for_behind_plain start o s = meets_if Plain (sees kind.In s.at) _ _ (λ _. for_in_plain start o s)
+      (λ _. meets_if Plain (word_at (codes "of") s.at) _ _ (λ _. for_of_plain start o s) (λ _. for_parts_plain start o s))
+
+  for_plain : (s : State) → Meets Plain (for_stmt (inner sub_statement) inner_expr inner_pat inner_head s)
+  unfolding for_stmt
+  for_plain s = always Plain (expect kind.LParen (moved s)) _ (λ _ t. always Plain (opening inner_expr inner_pat inner_head t) _ (λ o u. for_behind_plain (span_at s.at) o u))
+
+  import_plain : (s : State) → Meets Plain (import_stmt_at (inner_expr expression) s)
+  unfolding import_stmt_at import_stmt
+  import_plain s = meets_if Plain (begins_import_expression s.at) _ _
+      (λ _. always Plain (within with_in (inner_expr expression) s) _ (λ x t. always Plain (optional_end t) _ (λ _ u b. refl))) (λ _. refuse_meets Plain faults.ImportExportInScript s)
+
+  labeled_plain : (s : State) → Meets Plain (labeled_stmt inner s)
+  unfolding labeled_stmt
+  labeled_plain s = always Plain (name faults.ExpectedIdent s) _ (λ i t. always Plain (expect kind.Colon t) _ (λ _ u.
+      always Plain (labelled_body inner i.sym u) _ (λ y v. always Plain (relabels (tree.ident i.span i.sym) y v) _ (λ _ o b. refl))))
+
+  expr_plain : (at : Position) (s : State) → Meets Plain (expr_stmt_at (inner_expr expression) at s)
+  unfolding expr_stmt_at expr_stmt
+  expr_plain at s = meets_if Plain (may_begin_expression_statement at s.at) _ _
+      (λ _. always Plain (within with_in (inner_expr expression) s) _ (λ x t. always Plain (no_label x t) _ (λ _ u. always Plain (note_statement x u) _ (λ _ v.
+      always Plain (end faults.ExpectedSemiForExprStmt v) _ (λ _ o b. refl))))) (λ _. wanted_meets Plain faults.Unexpected s)
+
+  other_plain : (at : Position) (s : State) → Meets Plain (other_stmt inner (inner_expr expression) at s)
+  unfolding other_stmt
+  other_plain at s = meets_if Plain (begins_label s.code s.at) _ _ (λ _. labeled_plain s) (λ _. expr_plain at s)
+
+  let_plain : (at : Position) (s : State) → Meets Plain (let_stmt inner inner_expr inner_pat inner_head at s)
+  unfolding let_stmt
+  let_plain at s = meets_if Plain (at.include_decl && is_let_declaration s.at) _ _ (λ _. variables_plain decl.Let s) (λ _. other_plain at s)
+
+  by_plain : (at : Position) (j : TokenKind) (s : State) → Meets Plain (stmt_by inner inner_expr inner_pat inner_head at j s)
+  unfolding empty if_stmt
+  by_plain at kind.LBrace s = block_plain s
+  by_plain at kind.Semi s = λ b. refl
+  by_plain at kind.Debugger s = debugger_plain s
+  by_plain at kind.Var s = variables_plain decl.Var s
+  by_plain at kind.Const s = const_plain at s
+  by_plain at kind.Let s = let_plain at s
+  by_plain at kind.If s = links_plain (suc (length s.at.left)) s
+  by_plain at kind.Switch s = switch_plain s
+  by_plain at kind.Break s = break_plain s
+  by_plain at kind.Continue s = continue_plain s
+  by_plain at kind.Return s = return_plain s
+  by_plain at kind.Throw s = throw_plain s
+  by_plain at kind.Try s = try_plain s
+  by_plain at kind.While s = while_plain s
+  by_plain at kind.Do s = do_while_plain s
+  by_plain at kind.For s = for_plain s
+  by_plain at kind.Import s = import_plain s
+  by_plain at _ s = other_plain at s
+
+stmt_meets_plain : (n : ℕ) (at : Position) (s : State) → Meets Plain (stmt n at s)
+unfolding stmt stmt_level
+stmt_meets_plain zero at s = too_deep_meets Plain s
+stmt_meets_plain (suc n) at s = by_plain (stmt n) (expr n) (pattern n) (head_cover n) at (kind_at s.at) s
+
+pub stmt_plain : (n : ℕ) (at : Position) (s : State) (x : Tree) (t : State) → stmt n at s ≡ Ok (x, t) → (strict : Bool) → labelled_function strict x ≡ []
+stmt_plain n at s x t e = meant Plain Refuses (stmt n at s) (Ok (x, t)) e (stmt_meets_plain n at s)
+
+-- ---- the faults of a label
+
+labelled_meets_plain : (n : ℕ) (text : Text) (s : State) → Meets Plain (labelled_body (stmt n) text s)
+unfolding labelled_body
+labelled_meets_plain n text s =
+    meets_then {P = Plain} Plain (below_label text (stmt n (labelled_item s.at)) (coded (in_breakable s.code) s)) _
+    (meets_then {P = Plain} Plain (stmt n (labelled_item s.at) (below text (coded (in_breakable s.code) s))) _ (stmt_meets_plain n (labelled_item s.at) (below text (coded (in_breakable s.code) s))) (λ x t h. h))
+    (λ x t h. h)
+
+-- behind what it stands at they are those of equal labels around
+pub relabels_plain : (n : ℕ) (text : Text) (s : State) (x : Tree) (t : State) → labelled_body (stmt n) text s ≡ Ok (x, t) → (label : Tree) (u : State)
+    → relabels label x u ≡ told (duplicates u.scope.labels label) u
+unfolding relabels
+relabels_plain n text s x t e label u =
+    ap (λ fs. told (fs ++ duplicates u.scope.labels label) u) (meant Plain Refuses (labelled_body (stmt n) text s) (Ok (x, t)) e (labelled_meets_plain n text s) u.code.flags.strict)
+
+abbrev pub duplicate : Span → Fault
+duplicate span = fault_at span faults.DuplicateLabel
+
+-- one for each
+abbrev equals : Text → List Text → ℕ
+equals text [] = 0
+equals text (l ∷ ls) = cond (bytes_eq text l) (1 + equals text ls) (equals text ls)
+
+duplicates_by : (b : Bool) (n : ℕ) (span : Span) (fs : List Fault) → fs ≡ replicate n (duplicate span) → only b faults.DuplicateLabel span ++ fs ≡ replicate (cond b (1 + n) n) (duplicate span)
+duplicates_by true n span fs e = let p : suc n ≡ 1 + n = omega arith in ap (λ z. duplicate span ∷ z) e ∙ ap (λ m. replicate m (duplicate span)) p
+duplicates_by false n span fs e = e
+
+duplicates_equal : (labels : List Text) (span : Span) (text : Text) → duplicates labels (tree.ident span text) ≡ replicate (equals text labels) (duplicate span)
+duplicates_equal [] span text = refl
+duplicates_equal (l ∷ ls) span text = duplicates_by (bytes_eq text l) (equals text ls) span (duplicates ls (tree.ident span text)) (duplicates_equal ls span text)
+
+pub duplicates_counted : (labels : List Text) (span : Span) (text : Text) → duplicates labels (tree.ident span text) ≡ replicate (count_by (λ label. bytes_eq text label) labels) (duplicate span)
+duplicates_counted labels span text =
+    duplicates_equal labels span text ∙ ap (λ n. replicate n (duplicate span)) (is_count_by (equals text) (λ label. bytes_eq text label) refl (λ x xs. refl) labels)
+
+-- so many of one fault
+module _ (f : Fault) (s : State) where
+  pub told_none : (n : ℕ) → n ≡ 0 → told (replicate n f) s ≡ Ok (tt, s)
+  told_none n e = rw e refl
+
+  pub told_more : (n : ℕ) (t : State) → 0 < n → fault f s ≡ Ok (tt, t) → told (replicate n f) s ≡ told (replicate (n - 1) f) t
+  told_more zero t h e = absurd (omega arith)
+  told_more (suc n) t h e = let p : suc n - 1 ≡ n = omega arith in rw (e, p) refl
+
+  pub told_err : (n : ℕ) (e : Fault × State) → 0 < n → fault f s ≡ Err e → told (replicate n f) s ≡ Err e
+  told_err zero e h g = absurd (omega arith)
+  told_err (suc n) e h g = rw g refl

@@ -1,0 +1,235 @@
+-- `for`: what its head begins with is sound, as its first part and as what takes each value, and so are the three loops.
+use Rattle.std.proofs.Common.{◌≡◌, Bool, true, false, List, [], ◌∷◌, ◌++◌, Some, None, refl, sym, ◌∙◌, ap, subst}
+use Rattle.std.specs.Prelude.{codes}
+use Rattle.swc_ecma_parser_error.specs.Kind as faults
+use Rattle.swc_ecma_parser_token.specs.declared.kind.TokenKind.{TokenKind}
+use Rattle.swc_ecma_parser_token.specs.declared.kind.TokenKind.TheVariants as kind
+use Rattle.swc_ecma_parser_token.specs.declared.token.Token.{Token}
+use Rattle.swc_ecma_parser_token.specs.declared.token.Token.TheVariants as token
+use Rattle.swc_ecma_parser_token.specs.declared.token.TokenAndSpan.{TokenAndSpan}
+use Rattle.swc_ecma_parser_token.specs.declared.token.Word.TheVariants as word
+use Rattle.swc_ecma_parser_token.specs.Kind.{token_kind}
+use Rattle.swc_ecma_parser_input.specs.Place.{Place, after}
+use Rattle.swc_ecma_parser_model.specs.declared.leaves.VarDeclKind.{VarDeclKind}
+use Rattle.swc_ecma_parser_model.specs.declared.leaves.VarDeclKind.TheVariants as decl
+use Rattle.swc_ecma_parser_model.specs.Tree as tree
+use Rattle.swc_ecma_parser_model.specs.Tree.{Tree, Text, trees}
+use Rattle.swc_ecma_parser_model.specs.Targets.{as_target}
+use Rattle.swc_ecma_parser_grammar.specs.declared.position.Position.{Position}
+use Rattle.swc_ecma_parser_grammar.specs.Looks.{kind_at, first_kind, sees, span_at, spanned}
+use Rattle.swc_ecma_parser_grammar.specs.Names.{Code}
+use Rattle.swc_ecma_parser_grammar.specs.Follows.{token_is, first_is, word_at, is_let_declaration, may_begin_head, is_async_of}
+use Rattle.swc_ecma_parser_grammar.specs.Variables.{begins_variables}
+use Rattle.swc_ecma_parser_grammar.specs.Own.{head_faults}
+use Rattle.swc_ecma_parser_grammar.specs.language.Contexts.{in_loop, without_in}
+use Rattle.swc_ecma_parser_grammar.specs.language.Goals.{Class, expression, assignment}
+use Rattle.swc_ecma_parser_grammar.specs.language.Items.{sub_statement}
+use Rattle.swc_ecma_parser_grammar.specs.Reads.{with_in, head_code, DeclaratorRule, ReadsSeparated, HeadVariables, InitRule, no_init_rule, init_variables_rule, init_expression_rule, LeftRule, declared_rule, left_target_rule, PartRule, no_part_rule, part_rule, StmtRule, for_rule, for_in_rule, for_of_rule}
+use Rattle.swc_ecma_parser_grammar.specs.Walk as walks
+use Rattle.swc_ecma_parser_grammar.specs.Walk.{walk, env_of}
+use Rattle.swc_ecma_parser_reader.specs.Notes.{notes_of, all_notes_of}
+use Rattle.swc_ecma_parser_reader.specs.State.{State, Reader, moved, coded, within, expect}
+use Rattle.swc_ecma_parser_reader.specs.Expressions as exprs
+use Rattle.swc_ecma_parser_reader.specs.Expressions.{Cover}
+use Rattle.swc_ecma_parser_reader.specs.Reader.{declarators, Opening, Nothing, Variables, Expression, as_init, as_left, head_variables, head_expression, opening, head_part, misdeclared, for_parts, for_in, for_of, for_behind, for_stmt}
+use Rattle.swc_ecma_parser_reader.proofs.expressions.Targets.{pattern_alike}
+use Rattle.swc_ecma_parser_reader.proofs.expressions.Covers.{meets_each, close_is, target_is}
+use Rattle.swc_ecma_parser_reader.proofs.expressions.SoundSteps.{paired, stepped, meets_as, Takes, expect_sound}
+use Rattle.swc_ecma_parser_reader.proofs.Notes.{notes_nil}
+use Rattle.swc_ecma_parser_reader.proofs.Meets.{Meets, meets_then, meets_if, wanted_meets, saw}
+use Rattle.swc_ecma_parser_reader.proofs.Errors.{is_error}
+use Rattle.swc_ecma_parser_reader.proofs.Between.{Sound, SoundTree, SoundStep, same, sound_then, sound_more, sound_moved, sound_here, sound_as, sound_after, within_sound}
+use Rattle.swc_ecma_parser_reader.proofs.SoundParts.{inside_sound, declarators_sound, variables_stand, SoundOwn, misdeclared_sound}
+
+-- ---- words
+
+token_stands : (text : Text) (v : Token) → token_is text v ≡ true → is_error (token_kind v) ≡ false
+token_stands text (token.Word (word.Ident t)) h = refl
+token_stands text (token.Word _) h = cc
+token_stands text _ h = cc
+
+-- a word of this text is no error token
+text_stands : (text : Text) (c : Place) → word_at text c ≡ true → is_error (kind_at c) ≡ false
+unfolding word_at kind_at
+text_stands text c h = by_first c.left h
+  where
+    by_first : (ts : List TokenAndSpan) → first_is text ts ≡ true → is_error (first_kind ts) ≡ false
+    by_first [] e = cc
+    by_first (t ∷ ts) e = token_stands text t.token e
+
+-- a word of the head changes neither the settings nor what the walk knows
+head_setting : (word : VarDeclKind) (k : Code) → (head_code word k).setting ≡ k.setting
+head_setting decl.Var k = refl
+head_setting _ k = refl
+
+head_env : (word : VarDeclKind) (k : Code) (labels : List Text) → env_of (head_code word k) labels ≡ env_of k labels
+head_env decl.Var k labels = refl
+head_env _ k labels = refl
+
+-- where nothing is declared and no `;` stands, an expression may begin
+begins_head : (c : Place) → sees kind.Semi c ≡ false → sees kind.Var c ≡ false → sees kind.Const c ≡ false → is_let_declaration c ≡ false → may_begin_head c ≡ true
+unfolding may_begin_head
+begins_head c e f g h = rw (e, f, g, h) refl
+
+-- declared variables are no `async`
+declared_is_no_async : (Expr : Class → Code → Tree → Place → Place → Type 0) (Pat : Code → Tree → Place → Place → Type 0) (k : Code) (x : Tree) (c d : Place) → HeadVariables Expr Pat k x c d → is_async_of false x d ≡ false
+unfolding is_async_of
+declared_is_no_async Expr Pat k x c d r = rw r.is refl
+
+-- ---- what a head begins with
+
+-- an expression where no part is one of a pattern alone, and a target where no comma stands behind a rest
+pub record CoverAs (Expr : Class → Code → Tree → Place → Place → Type 0) (Target : Code → Tree → Place → Place → Type 0) (v : Cover) (k : Code) (c d : Place) : Type 0 where
+  pub plain : v.mark ≡ None → Expr expression k v.x c d
+  pub target : v.comma ≡ false → (p : Tree) → as_target v.x ≡ Some p → Target k p c d × (word_at (codes "of") d ≡ true → is_async_of false p d ≡ false)
+
+abbrev pub SoundAs : (Class → Code → Tree → Place → Place → Type 0) → (Code → Tree → Place → Place → Type 0) → State → Cover → State → Type 0
+SoundAs Expr Target s v t = Sound same (λ k l. walk (env_of k l) v.x) (notes_of v.x) (CoverAs Expr Target v) s t
+
+-- the body of a loop
+pub looped_sound : (Stmt : Code → Position → Tree → Place → Place → Type 0) (inner : Position → Reader Tree) → ((at : Position) (s : State) → Meets (λ x t. SoundTree (λ k. Stmt k at) s x t) (inner at s)) → (s : State)
+    → Meets (λ x t. Sound same (λ k l. walk (env_of (in_loop k) l) x) (notes_of x) (λ k. Stmt (in_loop k) sub_statement x) s t) (within in_loop (inner sub_statement) s)
+looped_sound Stmt inner sound s = within_sound (λ x k l. walk (env_of k l) x) notes_of (λ x k. Stmt k sub_statement x) in_loop (λ k. refl) (inner sub_statement) s (sound sub_statement (coded (in_loop s.code) s))
+
+-- the tree that was read
+abbrev opened : Opening → Tree
+opened Nothing = tree.absent
+opened (Variables x) = x
+opened (Expression v) = v.x
+
+module _ (Stmt : Code → Position → Tree → Place → Place → Type 0) (Expr : Class → Code → Tree → Place → Place → Type 0) (Pat Target : Code → Tree → Place → Place → Type 0)
+    (inner : Position → Reader Tree) (inner_expr : Class → Reader Tree) (inner_pat : Reader Tree) (inner_head : Reader Cover)
+    (sound : (at : Position) (s : State) → Meets (λ x t. SoundTree (λ k. Stmt k at) s x t) (inner at s))
+    (sound_expr : (class : Class) (s : State) → Meets (λ x t. SoundTree (Expr class) s x t) (inner_expr class s))
+    (sound_pat : (s : State) → Meets (λ x t. SoundTree Pat s x t) (inner_pat s))
+    (sound_head : (s : State) → Meets (λ v t. SoundAs Expr Target s v t) (inner_head s)) where
+  abbrev Opens : Opening → Code → Place → Place → Type 0
+  Opens Nothing k c d = (kind_at c ≡ kind.Semi) × (d ≡ c)
+  Opens (Variables x) k c d = HeadVariables Expr Pat k x c d
+  Opens (Expression v) k c d = (may_begin_head c ≡ true) × CoverAs Expr Target v (without_in k) c d
+
+  abbrev SoundOpening : State → Opening → State → Type 0
+  SoundOpening s o t = Sound same (λ k l. walk (env_of k l) (opened o)) (notes_of (opened o)) (Opens o) s t
+
+  head_variables_sound : (word : VarDeclKind) (s : State) → begins_variables word s.at ≡ true → Meets (SoundOpening s) (head_variables inner_expr inner_pat word s)
+  unfolding head_variables spanned
+  head_variables_sound word s h = meets_then _ (within (head_code word) (declarators inner_expr inner_pat true word) (moved s)) _
+      (within_sound (λ xs k l. walks.walks (env_of k l) false (trees xs)) (λ xs. all_notes_of (trees xs)) (λ xs k. ReadsSeparated (DeclaratorRule (Expr assignment) Pat k true word) xs) (head_code word) (head_setting word)
+      (declarators inner_expr inner_pat true word) (moved s) (declarators_sound Expr Pat inner_expr inner_pat sound_expr sound_pat true word (coded (head_code word s.code) (moved s)))) (λ xs t p.
+      sound_after s t refl (variables_stand word s.at h) (ap (λ v. walks.walks v false (trees xs)) (head_env word s.code s.scope.labels)) refl
+      (λ r. record { word = word; declarators = xs; begins = h; reads = r; is = refl }) p)
+
+  head_expression_sound : (s : State) → may_begin_head s.at ≡ true → Meets (SoundOpening s) (head_expression inner_expr inner_pat inner_head s)
+  unfolding head_expression
+  head_expression_sound s h = meets_then _ (within without_in inner_head s) _
+      (within_sound (λ v k l. walk (env_of k l) v.x) (λ v. notes_of v.x) (λ v k. CoverAs Expr Target v k) without_in (λ k. refl) inner_head s (sound_head (coded (without_in s.code) s))) (λ v t p.
+      sound_as s t refl refl refl (λ r. (h, r)) p)
+
+  opening_sound : (s : State) → Meets (SoundOpening s) (opening inner_expr inner_pat inner_head s)
+  unfolding opening
+  opening_sound s = meets_if _ (sees kind.Semi s.at) _ _ (λ e. sound_here {P = Opens Nothing} s (saw s.at kind.Semi e, refl))
+      (λ e. meets_if _ (sees kind.Var s.at) _ _ (λ h. head_variables_sound decl.Var s h)
+      (λ f. meets_if _ (sees kind.Const s.at) _ _ (λ h. head_variables_sound decl.Const s h)
+      (λ g. meets_if _ (is_let_declaration s.at) _ _ (λ h. head_variables_sound decl.Let s h)
+      (λ h. head_expression_sound s (begins_head s.at e f g h)))))
+
+  -- as the first part of three
+  as_init_sound : (s m : State) (o : Opening) → SoundOpening s o m → Meets (λ x t. SoundTree (InitRule Expr Pat) s x t) (as_init o m)
+  as_init_sound s m Nothing p = sound_as s m refl refl refl (λ (e, h). no_init_rule e h refl) p
+  as_init_sound s m (Variables x) p = sound_as s m refl refl refl (λ r. init_variables_rule r) p
+  as_init_sound s m (Expression v) p = meets_each (λ x t. SoundTree (InitRule Expr Pat) s x t) (exprs.close v m) (λ x t e. let (a, b, c) = close_is v m x t e in
+      subst (λ y. SoundTree (InitRule Expr Pat) s y t) b (subst (λ u. SoundTree (InitRule Expr Pat) s v.x u) c (sound_as s m refl refl refl (λ (h, r). init_expression_rule h (r.plain a)) p)))
+
+  -- as what takes each value; `async` before `of` is none
+  Left : Tree → Code → Place → Place → Type 0
+  Left x k c d = LeftRule Expr Pat Target k x c d × (word_at (codes "of") d ≡ true → is_async_of false x d ≡ false)
+
+  SoundLeft : State → State → Tree → State → Type 0
+  SoundLeft s m x t = Sound same (λ k l. walk (env_of k l) x) (notes_of x) (Left x) s t × (t.at ≡ m.at)
+
+  left_sound : (s m : State) (v : Cover) (p : Tree) → v.comma ≡ false → as_target v.x ≡ Some p → SoundOpening s (Expression v) m → SoundLeft s m p m
+  unfolding Left SoundLeft
+  left_sound s m v p c e q = let alike = pattern_alike false v.x p e in
+      (sound_as s m refl (sym (alike.walked (env_of s.code s.scope.labels))) (sym alike.noted) (λ (h, r). let z = r.target c p e in (left_target_rule h z.0, z.1)) q, refl)
+
+  as_left_sound : (s m : State) (o : Opening) → SoundOpening s o m → Meets (SoundLeft s m) (as_left o m)
+  unfolding Left SoundLeft
+  as_left_sound s m Nothing q = wanted_meets _ faults.Unexpected m
+  as_left_sound s m (Variables x) q = (sound_as s m refl refl refl (λ r. (declared_rule r, λ _. declared_is_no_async Expr Pat s.code x s.at m.at r)) q, refl)
+  as_left_sound s m (Expression v) q = meets_each (SoundLeft s m) (exprs.target v m) (λ p t e. let (c, i, h) = target_is v m p t e in subst (SoundLeft s m p) h (left_sound s m v p c i q))
+
+  -- with the faults of what it declares, and the word behind it
+  left_faults : (refused : Code → Bool) (x : Tree) (s m t : State) → Sound same (λ k l. walk (env_of k l) x) (notes_of x) (Left x) s m → SoundOwn (λ k l. head_faults (refused k) x) m t → t.at ≡ m.at → is_error (kind_at m.at) ≡ false
+      → Sound same (λ k l. walk (env_of k l) x ++ head_faults (refused k) x) (notes_of x) (λ k c d. Left x k s.at m.at × (d ≡ after m.at)) s (moved t)
+  left_faults refused x s m t p q e h =
+      let b : Sound same (λ k l. walk (env_of k l) x ++ head_faults (refused k) x) (notes_of x) (λ k c d. Left x k s.at m.at) s t = sound_as s t refl refl (notes_nil (notes_of x)) (λ r. r.0) (paired p q) in
+      sound_as s (moved t) refl refl refl (λ r. (r.0, ap after e)) (stepped b (sound_moved {P = λ k c d. d ≡ after c} t refl (ap (λ c. is_error (kind_at c)) e ∙ h) refl))
+
+  head_part_sound : (j : TokenKind) (s : State) → Meets (λ x t. SoundTree (PartRule Expr) s x t) (head_part j (inner_expr expression) s)
+  unfolding head_part
+  head_part_sound j s = meets_if _ (sees j s.at) _ _ (λ _. sound_here s (no_part_rule refl refl))
+      (λ _. meets_as (within with_in (inner_expr expression) s) (inside_sound Expr Pat inner_expr inner_pat sound_expr sound_pat expression s) (λ x t p. sound_as s t refl refl refl (λ r. part_rule r) p))
+
+  -- ---- the loops
+
+  module _ (at : Position) where
+    abbrev SoundStmt : State → Tree → State → Type 0
+    SoundStmt s x t = SoundTree (λ k. StmtRule Stmt Expr Pat Target k at) s x t
+
+    -- each from behind what its head begins with
+    for_parts_sound : (s i m : State) (o : Opening) → kind_at s.at ≡ kind.For → SoundStep (λ k. Takes kind.LParen) (moved s) i → SoundOpening i o m
+        → Meets (SoundStmt s) (for_parts (inner sub_statement) inner_expr (span_at s.at) o m)
+    unfolding for_parts spanned
+    for_parts_sound s i m o e a q = meets_then _ (as_init o m) _ (as_init_sound i m o q) (λ x j b.
+        meets_then _ (expect kind.Semi j) _ (expect_sound kind.Semi j refl) (λ _ l c.
+        meets_then _ (head_part kind.Semi (inner_expr expression) l) _ (head_part_sound kind.Semi l) (λ y m d.
+        meets_then _ (expect kind.Semi m) _ (expect_sound kind.Semi m refl) (λ _ n f.
+        meets_then _ (head_part kind.RParen (inner_expr expression) n) _ (head_part_sound kind.RParen n) (λ z o g.
+        meets_then _ (expect kind.RParen o) _ (expect_sound kind.RParen o refl) (λ _ p h.
+        meets_then _ (within in_loop (inner sub_statement) p) _ (looped_sound Stmt inner sound p) (λ v t q.
+        sound_after s t e refl refl refl
+        (λ (c7, (c6, (c5, (c4, (c3, (c2, (c1, b1, b2), b3), b4), b5), b6), b7), b8).
+        for_rule x y z v c2 c4 c6 e b1.0 (subst (λ w. InitRule Expr Pat s.code x w c2) b1.1 b2) b3.0 (subst (λ w. PartRule Expr s.code y w c4) b3.1 b4) b5.0
+        (subst (λ w. PartRule Expr s.code z w c6) b5.1 b6) b7.0 (subst (λ w. Stmt (in_loop s.code) sub_statement v w t.at) b7.1 b8) refl)
+        (sound_then (sound_more (sound_then (sound_more (sound_then (sound_more (sound_then a b) c) d) f) g) h) q))))))))
+
+    for_in_sound : (s i m : State) (o : Opening) → kind_at s.at ≡ kind.For → SoundStep (λ k. Takes kind.LParen) (moved s) i → SoundOpening i o m → kind_at m.at ≡ kind.In
+        → Meets (SoundStmt s) (for_in (inner sub_statement) inner_expr (span_at s.at) o m)
+    unfolding for_in spanned Left SoundLeft
+    for_in_sound s i m o e a q h = meets_then _ (as_left o m) _ (as_left_sound i m o q) (λ x n (b, f).
+        let w : kind_at n.at ≡ kind.In = ap kind_at f ∙ h in
+        meets_then _ (misdeclared n.code.flags.strict x n) _ (misdeclared_sound (λ k. k.flags.strict) x n (ap is_error w)) (λ _ l (c, g).
+        meets_then _ (within with_in (inner_expr expression) (moved l)) _ (inside_sound Expr Pat inner_expr inner_pat sound_expr sound_pat expression (moved l)) (λ y j d.
+        meets_then _ (expect kind.RParen j) _ (expect_sound kind.RParen j refl) (λ _ r p.
+        meets_then _ (within in_loop (inner sub_statement) r) _ (looped_sound Stmt inner sound r) (λ z t u.
+        sound_after s t e refl refl refl
+        (λ ((((b1, (b2, b3)), b4), b5), b6).
+        for_in_rule x y z n.at j.at e b1.0 (subst (λ v. LeftRule Expr Pat Target s.code x v n.at) b1.1 b2.0) w (subst (λ v. Expr expression (with_in s.code) y v j.at) b3 b4) b5.0
+        (subst (λ v. Stmt (in_loop s.code) sub_statement z v t.at) b5.1 b6) refl)
+        (paired (stepped (paired (paired a (left_faults (λ k. k.flags.strict) x i n l b c g (ap is_error w))) d) p) u))))))
+
+    for_of_sound : (s i m : State) (o : Opening) → kind_at s.at ≡ kind.For → SoundStep (λ k. Takes kind.LParen) (moved s) i → SoundOpening i o m → word_at (codes "of") m.at ≡ true
+        → Meets (SoundStmt s) (for_of (inner sub_statement) inner_expr (span_at s.at) o m)
+    unfolding for_of spanned Left SoundLeft
+    for_of_sound s i m o e a q h = meets_then _ (as_left o m) _ (as_left_sound i m o q) (λ x n (b, f).
+        let w : word_at (codes "of") n.at ≡ true = ap (word_at (codes "of")) f ∙ h in
+        meets_then _ (misdeclared true x n) _ (misdeclared_sound (λ k. true) x n (text_stands (codes "of") n.at w)) (λ _ l (c, g).
+        meets_then _ (within with_in (inner_expr assignment) (moved l)) _ (inside_sound Expr Pat inner_expr inner_pat sound_expr sound_pat assignment (moved l)) (λ y j d.
+        meets_then _ (expect kind.RParen j) _ (expect_sound kind.RParen j refl) (λ _ r p.
+        meets_then _ (within in_loop (inner sub_statement) r) _ (looped_sound Stmt inner sound r) (λ z t u.
+        sound_after s t e refl refl refl
+        (λ ((((b1, (b2, b3)), b4), b5), b6).
+        for_of_rule x y z n.at j.at e b1.0 (subst (λ v. LeftRule Expr Pat Target s.code x v n.at) b1.1 b2.0) w (b2.1 w) (subst (λ v. Expr assignment (with_in s.code) y v j.at) b3 b4) b5.0
+        (subst (λ v. Stmt (in_loop s.code) sub_statement z v t.at) b5.1 b6) refl)
+        (paired (stepped (paired (paired a (left_faults (λ k. true) x i n l b c g (text_stands (codes "of") n.at w))) d) p) u))))))
+
+    for_behind_sound : (s i m : State) (o : Opening) → kind_at s.at ≡ kind.For → SoundStep (λ k. Takes kind.LParen) (moved s) i → SoundOpening i o m
+        → Meets (SoundStmt s) (for_behind (inner sub_statement) inner_expr (span_at s.at) o m)
+    unfolding for_behind
+    for_behind_sound s i m o e a q = meets_if _ (sees kind.In m.at) _ _ (λ h. for_in_sound s i m o e a q (saw m.at kind.In h))
+        (λ _. meets_if _ (word_at (codes "of") m.at) _ _ (λ h. for_of_sound s i m o e a q h) (λ _. for_parts_sound s i m o e a q))
+
+    pub for_sound : (s : State) → kind_at s.at ≡ kind.For → Meets (SoundStmt s) (for_stmt (inner sub_statement) inner_expr inner_pat inner_head s)
+    unfolding for_stmt
+    for_sound s e = meets_then _ (expect kind.LParen (moved s)) _ (expect_sound kind.LParen (moved s) refl) (λ _ i a.
+        meets_then _ (opening inner_expr inner_pat inner_head i) _ (opening_sound i) (λ o m q. for_behind_sound s i m o e a q))

@@ -1,0 +1,3 @@
+pub mod Labels
+pub mod Literals
+pub mod Wanted

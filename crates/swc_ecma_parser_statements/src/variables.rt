@@ -1,0 +1,147 @@
+//! `var`, `let` and `const`: ECMA-262, sections 14.3.2 and 14.3.1.
+
+ghost use Rattle.std.specs.Prelude.{◌≡◌, ◌&&◌, map};
+ghost use Rattle.swc_ecma_parser_grammar.specs.Variables as variables;
+ghost use Rattle.swc_ecma_parser_left.specs.Nests.{Nests};
+ghost use Rattle.swc_ecma_parser_reader.specs.Expressions as exprs;
+ghost use Rattle.swc_ecma_parser_reader.specs.Heads as heads;
+ghost use Rattle.swc_ecma_parser_reader.specs.Patterns as patterns;
+ghost use Rattle.swc_ecma_parser_reader.specs.Reader as rules;
+ghost use Rattle.swc_ecma_parser_reader.specs.State.{GivesAs};
+
+use swc_ecma_parser_error::{PResult, SyntaxError};
+use swc_ecma_parser_grammar::{Class, Position};
+use swc_ecma_parser_left::cover::{Cover, Reading, nested};
+use swc_ecma_parser_left::grammar::{Grammar, Part};
+use swc_ecma_parser_left::steps::{grown, pushed, since, with_in};
+use swc_ecma_parser_model::VarDeclKind;
+use swc_ecma_parser_patterns::pat::inner_pat;
+use swc_ecma_parser_source::{Source, Wanted};
+use swc_ecma_parser_token::TokenKind;
+use swc_ecma_parser_trees::{BuildsPattern, BuildsStmt, MakerOf};
+
+/// Whether the code is strict, and a declaration one of `const`.
+fn is_strict_const<P: Source>(p: &P, word: VarDeclKind) -> bool
+    ensures { result ≡ (variables.is_const word && (P.seen p.now).code.flags.strict) }
+{
+    matches!(word, VarDeclKind::Const) && p.flags().strict
+}
+
+/// Whether a variable may go without initializer before what stands here.
+fn needs_no_initializer<P: Source, T: BuildsPattern>(
+    p: &P,
+    in_head: bool,
+    word: VarDeclKind,
+    name: &T::Pat,
+) -> bool
+    ensures { result ≡ variables.needs_no_initializer (P.seen p.now).code in_head word (T.pat_of name.now) (P.seen p.now).at }
+{
+    in_head && (p.sees(TokenKind::In) || p.word_at("of"))
+        || T::is_binding_name(name) && !is_strict_const(p, word)
+}
+
+/// A declarator, in the head of a loop or not.
+#[tactic(auto, unfolding(swc_ecma_parser_reader::specs::Reader::declarator, swc_ecma_parser_reader::specs::Reader::initialized))]
+fn declarator<
+    P: Source,
+    T: BuildsStmt + BuildsPattern,
+    S: Fn(&MakerOf<T>, &mut P, usize, Position) -> PResult<T::Stmt>,
+    E: Fn(&MakerOf<T>, &mut P, usize, Reading) -> PResult<Cover<T::Expr>>,
+    N: Fn(&MakerOf<T>, &mut P, usize, Part) -> PResult<T::Pat>,
+>(
+    g: &Grammar<S, E, N>,
+    t: &MakerOf<T>,
+    p: &mut P,
+    in_head: bool,
+    word: VarDeclKind,
+) -> PResult<T::Declarator>
+    requires { Nests P.seen T.expr_of T.pat_of T.stmt_of g.now.depth (S.pre g.now.stmt) (S.post g.now.stmt) (E.pre g.now.expr) (E.post g.now.expr) (N.pre g.now.pat) (N.post g.now.pat) }
+    ensures { GivesAs T.declarator_of (rules.declarator (exprs.expr g.now.depth) (patterns.pattern g.now.depth) in_head word (P.seen p.old)) result (P.seen p.new) }
+{
+    let start = p.span();
+    let name = inner_pat(g, t, p, Part::Pattern)?;
+    if p.sees(TokenKind::Assign) {
+        p.skip()?;
+        let init = nested(g, t, p, Class::Assignment)?;
+        let span = since(p, start);
+        return grown(p, T::declarator(t.alloc, span, name, Some(init)));
+    }
+    let span = since(p, start);
+    if !needs_no_initializer::<P, T>(p, in_head, word, &name) {
+        if !is_strict_const(p, word) {
+            return Err(p.reject(SyntaxError::PatVarWithoutInit, span));
+        }
+        p.fault(SyntaxError::ConstDeclarationsRequireInitialization, span)?;
+    }
+    grown(p, T::declarator(t.alloc, span, name, None))
+}
+
+/// Declarators with commas between.
+#[tactic(auto, unfolding(swc_ecma_parser_reader::specs::Reader::declarators), using(swc_ecma_parser_reader::proofs::Loops::declarators_done, swc_ecma_parser_reader::proofs::Loops::declarators_err, swc_ecma_parser_reader::proofs::Loops::declarators_more, swc_ecma_parser_reader::proofs::Loops::declarators_shorter, std::proofs::lemmas::List::map_push))]
+pub fn declarators<
+    P: Source,
+    T: BuildsStmt + BuildsPattern,
+    S: Fn(&MakerOf<T>, &mut P, usize, Position) -> PResult<T::Stmt>,
+    E: Fn(&MakerOf<T>, &mut P, usize, Reading) -> PResult<Cover<T::Expr>>,
+    N: Fn(&MakerOf<T>, &mut P, usize, Part) -> PResult<T::Pat>,
+>(
+    g: &Grammar<S, E, N>,
+    t: &MakerOf<T>,
+    p: &mut P,
+    in_head: bool,
+    word: VarDeclKind,
+) -> PResult<Vec<T::Declarator>>
+    requires { Nests P.seen T.expr_of T.pat_of T.stmt_of g.now.depth (S.pre g.now.stmt) (S.post g.now.stmt) (E.pre g.now.expr) (E.post g.now.expr) (N.pre g.now.pat) (N.post g.now.pat) }
+    ensures { GivesAs (λ found. map T.declarator_of found.items) (rules.declarators (exprs.expr g.now.depth) (patterns.pattern g.now.depth) in_head word (P.seen p.old)) result (P.seen p.new) }
+{
+    let mut found = Vec::new(t.alloc);
+    'declarators: loop {
+        let declarator = declarator(g, t, p, in_head, word)?;
+        pushed(p, &mut found, declarator)?;
+        if !p.sees(TokenKind::Comma) {
+            return Ok(found);
+        }
+        p.skip()?;
+    }
+}
+
+/// A statement that declares variables.
+#[tactic(auto, unfolding(swc_ecma_parser_reader::specs::Reader::variables, swc_ecma_parser_grammar::specs::Looks::spanned))]
+pub fn variables<
+    P: Source,
+    T: BuildsStmt + BuildsPattern,
+    S: Fn(&MakerOf<T>, &mut P, usize, Position) -> PResult<T::Stmt>,
+    E: Fn(&MakerOf<T>, &mut P, usize, Reading) -> PResult<Cover<T::Expr>>,
+    N: Fn(&MakerOf<T>, &mut P, usize, Part) -> PResult<T::Pat>,
+>(g: &Grammar<S, E, N>, t: &MakerOf<T>, p: &mut P, word: VarDeclKind) -> PResult<T::Stmt>
+    requires { Nests P.seen T.expr_of T.pat_of T.stmt_of g.now.depth (S.pre g.now.stmt) (S.post g.now.stmt) (E.pre g.now.expr) (E.post g.now.expr) (N.pre g.now.pat) (N.post g.now.pat) }
+    ensures { GivesAs T.stmt_of (rules.variables (exprs.expr g.now.depth) (patterns.pattern g.now.depth) word (P.seen p.old)) result (P.seen p.new) }
+{
+    let start = p.span();
+    p.skip()?;
+    let outer = p.flags();
+    p.set_flags(with_in(outer));
+    let found = declarators(g, t, p, false, word)?;
+    p.set_flags(outer);
+    p.end(Wanted::Expression)?;
+    let span = since(p, start);
+    grown(p, T::var(t.alloc, span, word, found))
+}
+
+/// A statement that begins with `const`, where declarations are read.
+#[tactic(auto, unfolding(swc_ecma_parser_reader::specs::Reader::const_stmt))]
+pub fn const_stmt<
+    P: Source,
+    T: BuildsStmt + BuildsPattern,
+    S: Fn(&MakerOf<T>, &mut P, usize, Position) -> PResult<T::Stmt>,
+    E: Fn(&MakerOf<T>, &mut P, usize, Reading) -> PResult<Cover<T::Expr>>,
+    N: Fn(&MakerOf<T>, &mut P, usize, Part) -> PResult<T::Pat>,
+>(g: &Grammar<S, E, N>, t: &MakerOf<T>, p: &mut P, at: Position) -> PResult<T::Stmt>
+    requires { Nests P.seen T.expr_of T.pat_of T.stmt_of g.now.depth (S.pre g.now.stmt) (S.post g.now.stmt) (E.pre g.now.expr) (E.post g.now.expr) (N.pre g.now.pat) (N.post g.now.pat) }
+    ensures { GivesAs T.stmt_of (rules.const_stmt (rules.stmt g.now.depth) (exprs.expr g.now.depth) (patterns.pattern g.now.depth) (heads.head_cover g.now.depth) at (P.seen p.old)) result (P.seen p.new) }
+{
+    if !at.include_decl {
+        return Err(p.wanted(Wanted::Expression));
+    }
+    variables(g, t, p, VarDeclKind::Const)
+}
