@@ -20,12 +20,6 @@ a ? b : c ? d : e → Script 0..17, Expr 0..17 → CondExpr 0..17, CondExpr 8..1
 a, b, c → Script 0..7, Expr 0..7 → SeqExpr 0..7
 var a = b = 1, c; → Script 0..17, Var 0..17 → VarDeclarator 4..13, AssignExpr 8..13, VarDeclarator 15..16";
 
-#[test]
-fn operators(rt: HostRuntime) -> Result<(), Fail> {
-    assert_eq!(rt; report(rt.alloc(), OPERATORS, 1000)?.as_str(), "16 rows");
-    Ok(())
-}
-
 const CALLS: &str = "a¶(b) → Script 0..5, Expr 0..5 → CallExpr 0..5
 this.a[b] → Script 0..9, Expr 0..9 → MemberExpr 0..9, MemberExpr 0..6, ThisExpr 0..4
 a.if → Script 0..4, Expr 0..4 → MemberExpr 0..4
@@ -35,24 +29,12 @@ new a → Script 0..5, Expr 0..5 → NewExpr 0..5
 new a.b(c).d → Script 0..12, Expr 0..12 → MemberExpr 0..12, NewExpr 0..10, MemberExpr 4..7
 new new a(b) → Script 0..12, Expr 0..12 → NewExpr 0..12, NewExpr 4..12";
 
-#[test]
-fn calls(rt: HostRuntime) -> Result<(), Fail> {
-    assert_eq!(rt; report(rt.alloc(), CALLS, 1000)?.as_str(), "8 rows");
-    Ok(())
-}
-
 const ARRAYS: &str = "[] → Script 0..2, Expr 0..2 → ArrayLit 0..2
 [a, , ...b,] → Script 0..12, Expr 0..12 → ArrayLit 0..12
 [[1], [2]][0] → Script 0..13, Expr 0..13 → MemberExpr 0..13, ArrayLit 0..10, ArrayLit 1..4, ArrayLit 6..9
 [a = b, c] → Script 0..10, Expr 0..10 → ArrayLit 0..10, AssignExpr 1..6
 [a, b] += c → refused 0..6 NotSimpleAssign
 [a b] → refused 3..4 Expected";
-
-#[test]
-fn arrays(rt: HostRuntime) -> Result<(), Fail> {
-    assert_eq!(rt; report(rt.alloc(), ARRAYS, 1000)?.as_str(), "6 rows");
-    Ok(())
-}
 
 const OBJECTS: &str = "({}) → Script 0..4, Expr 0..4 → ParenExpr 0..4, ObjectLit 1..3
 ({a, b: 1, 'c': d, 2: e, [f]: g, ...h,}) → Script 0..40, Expr 0..40 → ObjectLit 1..39, KeyValueProp 5..9, KeyValueProp 11..17, KeyValueProp 19..23, ComputedPropName 25..28
@@ -61,12 +43,6 @@ a = {b: {c}} → Script 0..12, Expr 0..12 → AssignExpr 0..12, ObjectLit 4..12,
 ({if}) → refused 2..4 ExpectedIdent
 ({1}) → refused 3..4 Unexpected
 ({a} += b) → refused 1..4 NotSimpleAssign";
-
-#[test]
-fn objects(rt: HostRuntime) -> Result<(), Fail> {
-    assert_eq!(rt; report(rt.alloc(), OBJECTS, 1000)?.as_str(), "7 rows");
-    Ok(())
-}
 
 const PATTERNS: &str = "[a, b] = c → Script 0..10, Expr 0..10 → AssignExpr 0..10, ArrayPat 0..6
 [[a], , b.c, ...d] = e → Script 0..22, Expr 0..22 → ArrayPat 0..18, ArrayPat 1..4, MemberExpr 8..11, RestPat 13..17
@@ -90,12 +66,6 @@ const PATTERNS: &str = "[a, b] = c → Script 0..10, Expr 0..10 → AssignExpr 0
 ({if = 1} = a) → refused 2..4 ExpectedIdent
 ({'a' = 1} = b) → refused 6..7 Unexpected";
 
-#[test]
-fn patterns(rt: HostRuntime) -> Result<(), Fail> {
-    assert_eq!(rt; report(rt.alloc(), PATTERNS, 1000)?.as_str(), "21 rows");
-    Ok(())
-}
-
 const BINDINGS: &str =
     "var [a, , b = c, ...d] = e → Script 0..26, Var 0..26 → VarDeclarator 4..26, ArrayPat 4..22, AssignPat 10..15, RestPat 17..21
 var {f, g: [h], i = j, 'k': l, [m]: n = o, ...p} = q → Script 0..52, Var 0..52 → ObjectPat 4..48, AssignPatProp 5..6, KeyValuePatProp 8..14, ArrayPat 11..14, AssignPatProp 16..21, KeyValuePatProp 23..29, KeyValuePatProp 31..41, ComputedPropName 31..34, AssignPat 36..41, RestPat 43..47
@@ -116,12 +86,6 @@ var [a.b] = c → refused 6..7 Expected
 var [1] = a → refused 5..6 ExpectedIdent
 var (a) = b → refused 4..5 ExpectedIdent";
 
-#[test]
-fn bindings(rt: HostRuntime) -> Result<(), Fail> {
-    assert_eq!(rt; report(rt.alloc(), BINDINGS, 1000)?.as_str(), "18 rows");
-    Ok(())
-}
-
 const SUPERS: &str = "super.a → Script 0..7, Expr 0..7 → SuperPropExpr 0..7
 super[b](c) → Script 0..11, Expr 0..11 → CallExpr 0..11, SuperPropExpr 0..8
 super(a, b).c → Script 0..13, Expr 0..13 → MemberExpr 0..13, CallExpr 0..11, Super 0..5
@@ -132,12 +96,6 @@ super + a → refused 0..5 InvalidSuper
 new super(a) → refused 4..9 InvalidSuper
 super.#a → refused 6..7 Unexpected";
 
-#[test]
-fn supers(rt: HostRuntime) -> Result<(), Fail> {
-    assert_eq!(rt; report(rt.alloc(), SUPERS, 1000)?.as_str(), "9 rows");
-    Ok(())
-}
-
 const PRIVATE_NAMES: &str = "a.#b → Script 0..4, Expr 0..4 → MemberExpr 0..4, PrivateName 2..4
 a.b.#if(c) → Script 0..10, Expr 0..10 → CallExpr 0..10, MemberExpr 0..7, MemberExpr 0..3, PrivateName 4..7
 a.#b = c → Script 0..8, Expr 0..8 → AssignExpr 0..8, MemberExpr 0..4
@@ -145,12 +103,6 @@ new a.#b(c) → Script 0..11, Expr 0..11 → NewExpr 0..11, MemberExpr 4..8
 a.# b → refused 4..5 Unexpected
 a.#1 → refused 3..4 Unexpected
 #a → refused 0..1 Unexpected";
-
-#[test]
-fn private_names(rt: HostRuntime) -> Result<(), Fail> {
-    assert_eq!(rt; report(rt.alloc(), PRIVATE_NAMES, 1000)?.as_str(), "7 rows");
-    Ok(())
-}
 
 const IMPORTS: &str =
     "a = import(b, c) → Script 0..16, Expr 0..16 → AssignExpr 0..16, CallExpr 4..16, Import 4..10, Ident 11..12 b, Ident 14..15 c
@@ -176,12 +128,6 @@ new import(a) → refused 4..10 Unexpected
 a = import b → refused 11..12 Unexpected
 a = import.meta; → Script 0..16, Expr 0..16, fault 4..15 ImportMetaInScript → MetaPropExpr 4..15";
 
-#[test]
-fn imports(rt: HostRuntime) -> Result<(), Fail> {
-    assert_eq!(rt; report(rt.alloc(), IMPORTS, 1000)?.as_str(), "22 rows");
-    Ok(())
-}
-
 const REFUSED: &str = "a ?? b || c → refused 0..11 NullishCoalescingWithLogicalOp
 -a ** b → refused 0..2 UnaryInExp
 1 + f() = 2 → refused 0..7 InvalidPat
@@ -192,8 +138,21 @@ const REFUSED: &str = "a ?? b || c → refused 0..11 NullishCoalescingWithLogica
 a ? b → refused 4..5 Expected";
 
 #[test]
-fn refused(rt: HostRuntime) -> Result<(), Fail> {
-    assert_eq!(rt; report(rt.alloc(), REFUSED, 1000)?.as_str(), "8 rows");
+fn tables(rt: HostRuntime) -> Result<(), Fail> {
+    for (rows, wanted) in [
+        (OPERATORS, "16 rows"),
+        (CALLS, "8 rows"),
+        (ARRAYS, "6 rows"),
+        (OBJECTS, "7 rows"),
+        (PATTERNS, "21 rows"),
+        (BINDINGS, "18 rows"),
+        (SUPERS, "9 rows"),
+        (PRIVATE_NAMES, "7 rows"),
+        (IMPORTS, "22 rows"),
+        (REFUSED, "8 rows"),
+    ] {
+        assert_eq!(rt; report(rt.alloc(), rows, 1000)?.as_str(), wanted);
+    }
     Ok(())
 }
 

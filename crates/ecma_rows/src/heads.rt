@@ -28,14 +28,7 @@ for (;a) b → refused 7..8 Expected
 for (;;a b → refused 9..10 Expected
 for a → refused 4..5 Expected
 for (;;) → refused 8..8 Eof
-for (using a of b) c → refused 11..12 Expected
-for await (a of b) c → refused 4..9 Expected";
-
-#[test]
-fn fors(rt: HostRuntime) -> Result<(), Fail> {
-    assert_eq!(rt; report(rt.alloc(), FORS, 1000)?.as_str(), "26 rows");
-    Ok(())
-}
+for (using a of b) c → refused 11..12 Expected";
 
 const FOR_INS: &str =
     "for (a in b) c → Script 0..14, ForIn 0..14 → ForInStmt 0..14, Ident 5..6 a, ExprStmt 13..14
@@ -54,12 +47,6 @@ for (a + b in c) ; → refused 5..10 InvalidPat
 for (1 in a) ; → refused 5..6 InvalidPat
 for (var a in b → refused 14..15 Expected
 for (in b) c → refused 5..7 Unexpected";
-
-#[test]
-fn for_ins(rt: HostRuntime) -> Result<(), Fail> {
-    assert_eq!(rt; report(rt.alloc(), FOR_INS, 1000)?.as_str(), "16 rows");
-    Ok(())
-}
 
 const FOR_OFS: &str =
     "for (let a of b) c → Script 0..18, ForOf 0..18 → ForOfStmt 0..18, is_await: false, VarDecl 5..10, kind: Let
@@ -83,9 +70,34 @@ for (a, b of c) ; → refused 5..9 InvalidPat
 for ([a + 1] of b) ; → refused 5..12 InvalidPat
 for ([...a,] of b) ; → refused 5..12 InvalidPat";
 
+const FOR_AWAITS: &str =
+    "for await (a of b) c → Script 0..20, ForOf 0..20 → ForOfStmt 0..20, is_await: true, Ident 11..12 a, ExprStmt 19..20
+for await (const a of b) ; → Script 0..26, ForOf 0..26 → is_await: true, VarDecl 11..18, kind: Const
+for await (let [a] of b) ; → Script 0..26, ForOf 0..26 → ArrayPat 15..18
+for await ([a] of b) ; → Script 0..22, ForOf 0..22 → ArrayPat 11..14
+for await (async.a of b) c → Script 0..26, ForOf 0..26 → MemberExpr 11..18
+for await¶(a of b) c → Script 0..20, ForOf 0..20 → is_await: true
+for await (var a, b of c) ; → Script 0..27, ForOf 0..27, fault 18..19 TooManyVarInForInHead
+for await (a in b) ; → refused 4..9 AwaitForStmt
+for await (;;) ; → refused 4..9 AwaitForStmt
+for await (a in b) { → fault 19..20 Expected, refused 4..9 AwaitForStmt
+for await (a in b → refused 16..17 Expected
+for await (a of b, c) ; → refused 17..18 Expected
+for await (let of a) b → refused 18..19 Expected
+for await (async of a) b → refused 17..19 Unexpected
+for await (async¶of a) b → refused 17..19 Unexpected
+for await a → refused 10..11 Expected";
+
 #[test]
-fn for_ofs(rt: HostRuntime) -> Result<(), Fail> {
-    assert_eq!(rt; report(rt.alloc(), FOR_OFS, 1000)?.as_str(), "20 rows");
+fn tables(rt: HostRuntime) -> Result<(), Fail> {
+    for (rows, wanted) in [
+        (FORS, "25 rows"),
+        (FOR_INS, "16 rows"),
+        (FOR_OFS, "20 rows"),
+        (FOR_AWAITS, "16 rows"),
+    ] {
+        assert_eq!(rt; report(rt.alloc(), rows, 1000)?.as_str(), wanted);
+    }
     Ok(())
 }
 
@@ -102,6 +114,8 @@ fn limits(rt: HostRuntime) -> Result<(), Fail> {
         ("for (let a of b) ; → Script 0..18, ForOf 0..18", 2),
         ("for ([a] of b) ; → refused 6..7 TooDeep", 2),
         ("for ([a] of b) ; → Script 0..16, ForOf 0..16", 3),
+        ("for await (a of b) ; → refused 11..12 TooDeep", 1),
+        ("for await (a of b) ; → Script 0..20, ForOf 0..20", 2),
     ] {
         assert_eq!(rt; report(rt.alloc(), rows, limit)?.as_str(), "1 rows");
     }

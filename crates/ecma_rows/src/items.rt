@@ -73,6 +73,8 @@ fn one_statement_is_read_after_the_other(rt: HostRuntime) -> Result<(), Fail> {
             3,
             "refused 0..1 UnexpectedChar\n  Empty 2..3\n  Break 4..10\nfault 4..10 TS1105\n",
         ),
+        ("with (a) return;", false, 1, "  With 0..16\n"),
+        ("for await (const a of b) ;", false, 1, "  ForOf 0..26\n"),
         (
             "'use strict'; var public",
             true,
@@ -137,6 +139,9 @@ fn module_code(alloc: Global, input: StringInput<'_>) -> Result<String, AllocErr
 fn module_code_has_faults_of_its_own(rt: HostRuntime) -> Result<(), Fail> {
     let found = module_code(rt.alloc(), input("interface; a")?)?;
     let wanted = "  Expr 0..10\nfault 0..9 InvalidIdentInStrict\n  Expr 11..12\n";
+    assert_eq!(rt; found.as_str(), wanted);
+    let found = module_code(rt.alloc(), input("with (a) b; c")?)?;
+    let wanted = "  With 0..11\nfault 0..4 WithInStrict\n  Expr 12..13\n";
     assert_eq!(rt; found.as_str(), wanted);
     Ok(())
 }

@@ -233,6 +233,27 @@ fn return_may_stand_outside_of_functions(rt: HostRuntime) -> Result<(), Fail> {
     Ok(())
 }
 
+/// What a script holds back for module code, told once its source is a module's.
+fn held_back(alloc: Global, input: StringInput<'_>) -> Result<String, AllocError> {
+    let mut parser = Parser::new_from(alloc, lexer(alloc, input));
+    let _ = show(alloc, &mut parser);
+    let mut source = parser.into_input();
+    source.set_ctx(Context {
+        module: true,
+        ..Context::default()
+    });
+    let faults = source.take_errors();
+    format!(in alloc; "{:?}", faults.first().map(|it| (it.span, it.kind.name())))
+}
+
+#[test]
+fn the_word_with_is_held_back_for_module_code(rt: HostRuntime) -> Result<(), Fail> {
+    let found = held_back(rt.alloc(), input("with (a) b")?)?;
+    let wanted = "Some((Span { lo: BytePos(0), hi: BytePos(4) }, \"WithInStrict\"))";
+    assert_eq!(rt; found.as_str(), wanted);
+    Ok(())
+}
+
 /// What a text parses to in code that can be a module's.
 fn undecided(alloc: Global, input: StringInput<'_>) -> Result<Shown, AllocError> {
     let mut lexer = lexer(alloc, input);

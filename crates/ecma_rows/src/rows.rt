@@ -23,12 +23,6 @@ null → Script 0..4, Expr 0..4 → Null 0..4
 true → Script 0..4, Expr 0..4 → Bool 0..4, value: true
 false; → Script 0..6, Expr 0..6 → Bool 0..5, value: false";
 
-#[test]
-fn trees(rt: HostRuntime) -> Result<(), Fail> {
-    assert_eq!(rt; report(rt.alloc(), TREES, 1000)?.as_str(), "19 rows");
-    Ok(())
-}
-
 const FAULTS: &str = "{ var a → Script 0..7, Block 0..7, fault 6..7 Expected → Var 2..7
 'use strict'; var public; → refused 18..24 ExpectedIdent
 var a b → refused 6..7 Unexpected
@@ -37,8 +31,10 @@ a b → refused 2..3 ExpectedSemiForExprStmt
 a \\ → fault 2..3 UnexpectedChar, refused 2..3 ExpectedSemiForExprStmt";
 
 #[test]
-fn faults(rt: HostRuntime) -> Result<(), Fail> {
-    assert_eq!(rt; report(rt.alloc(), FAULTS, 1000)?.as_str(), "6 rows");
+fn tables(rt: HostRuntime) -> Result<(), Fail> {
+    for (rows, wanted) in [(TREES, "19 rows"), (FAULTS, "6 rows")] {
+        assert_eq!(rt; report(rt.alloc(), rows, 1000)?.as_str(), wanted);
+    }
     Ok(())
 }
 

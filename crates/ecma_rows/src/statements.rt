@@ -25,12 +25,6 @@ if () → refused 4..5 WithLabel
 if (a.) b → refused 6..7 WithLabel
 else → refused 0..4 Unexpected";
 
-#[test]
-fn branches(rt: HostRuntime) -> Result<(), Fail> {
-    assert_eq!(rt; report(rt.alloc(), BRANCHES, 1000)?.as_str(), "20 rows");
-    Ok(())
-}
-
 const THROWS: &str = "throw a → Script 0..7, Throw 0..7 → ThrowStmt 0..7, Ident 6..7 a
 throw a;b → Script 0..9, Throw 0..8, Expr 8..9 → ThrowStmt 0..8
 throw this → Script 0..10, Throw 0..10 → ThisExpr 6..10
@@ -40,12 +34,6 @@ throw¶a → refused 6..7 LineBreakInThrow
 throw → refused 0..5 LineBreakInThrow
 throw a b → refused 8..9 Expected
 throw ; → refused 6..7 Unexpected";
-
-#[test]
-fn throws(rt: HostRuntime) -> Result<(), Fail> {
-    assert_eq!(rt; report(rt.alloc(), THROWS, 1000)?.as_str(), "9 rows");
-    Ok(())
-}
 
 const LOOPS: &str =
     "while (a) b → Script 0..11, While 0..11 → WhileStmt 0..11, Ident 7..8 a, ExprStmt 10..11
@@ -66,11 +54,20 @@ do a; b → refused 6..7 Expected
 do a; while b → refused 12..13 Expected
 do → refused 2..2 Eof";
 
-#[test]
-fn loops(rt: HostRuntime) -> Result<(), Fail> {
-    assert_eq!(rt; report(rt.alloc(), LOOPS, 1000)?.as_str(), "17 rows");
-    Ok(())
-}
+const WITHS: &str =
+    "with (a) return; → Script 0..16, With 0..16 → WithStmt 0..16, Ident 6..7 a, ReturnStmt 9..16
+with (a) b; c → Script 0..13, With 0..11, Expr 12..13 → ExprStmt 9..11
+with (a in b) c → Script 0..15, With 0..15 → BinExpr 6..12, ExprStmt 14..15
+with (a) with (b) c → Script 0..19, With 0..19 → WithStmt 0..19, WithStmt 9..19
+'use strict'; with (a) b → Script 0..24, Expr 0..13, With 14..24
+while (a) with (b) break → Script 0..24, While 0..24 → BreakStmt 19..24
+with (a) break → Script 0..14, With 0..14, fault 9..14 TS1105
+with (a) const b = 1; → refused 9..14 Unexpected
+with (a) let b → refused 13..14 ExpectedSemiForExprStmt
+with () a → refused 6..7 Unexpected
+with a → refused 5..6 Expected
+with (a → refused 6..7 Expected
+with (a) → refused 8..8 Eof";
 
 const LABELS: &str =
     "a: b → Script 0..4, Labeled 0..4 → LabeledStmt 0..4, Ident 0..1 a, ExprStmt 3..4
@@ -95,12 +92,6 @@ if: a → refused 2..3 Expected
 (a): b → refused 3..4 ExpectedSemiForExprStmt
 'use strict'; a: b; yield: c → refused 20..25 Unexpected";
 
-#[test]
-fn labels(rt: HostRuntime) -> Result<(), Fail> {
-    assert_eq!(rt; report(rt.alloc(), LABELS, 1000)?.as_str(), "21 rows");
-    Ok(())
-}
-
 const SWITCHES: &str = "switch (a) {} → Script 0..13, Switch 0..13 → SwitchStmt 0..13, Ident 8..9 a
 switch (a) {} b → Script 0..15, Switch 0..13, Expr 14..15
 switch (a) { case 1: b; case 2: default: c } → Script 0..44, Switch 0..44 → SwitchCase 13..23, SwitchCase 24..31, SwitchCase 32..42, ExprStmt 41..42, test: None
@@ -121,12 +112,6 @@ switch a {} → refused 7..8 Expected
 switch () {} → refused 8..9 Unexpected
 case 1: → refused 0..4 Unexpected
 default: → refused 0..7 Unexpected";
-
-#[test]
-fn switches(rt: HostRuntime) -> Result<(), Fail> {
-    assert_eq!(rt; report(rt.alloc(), SWITCHES, 1000)?.as_str(), "20 rows");
-    Ok(())
-}
 
 const JUMPS: &str = "while (a) break; → Script 0..16, While 0..16 → BreakStmt 10..16, label: None
 while (a) { break; continue } → Script 0..29, While 0..29 → BreakStmt 12..18, ContinueStmt 19..27
@@ -149,12 +134,6 @@ break 1 → refused 6..7 ExpectedIdent
 break if → refused 6..8 ExpectedIdent
 while (a) break b c → refused 18..19 Expected";
 
-#[test]
-fn jumps(rt: HostRuntime) -> Result<(), Fail> {
-    assert_eq!(rt; report(rt.alloc(), JUMPS, 1000)?.as_str(), "20 rows");
-    Ok(())
-}
-
 const RETURNS: &str =
     "return → Script 0..6, Return 0..6, fault 0..6 ReturnNotAllowed → ReturnStmt 0..6, arg: None
 return a;b → Script 0..10, Return 0..9, Expr 9..10, fault 0..9 ReturnNotAllowed → ReturnStmt 0..9, Ident 7..8 a
@@ -165,12 +144,6 @@ if (a) return; else return b → Script 0..28, If 0..28, fault 7..14 ReturnNotAl
 return a b → fault 0..8 ReturnNotAllowed, refused 9..10 Expected
 return ) → fault 0..6 ReturnNotAllowed, refused 7..8 Unexpected
 return \\ → fault 0..8 ReturnNotAllowed, refused 7..8 UnexpectedChar";
-
-#[test]
-fn returns(rt: HostRuntime) -> Result<(), Fail> {
-    assert_eq!(rt; report(rt.alloc(), RETURNS, 1000)?.as_str(), "9 rows");
-    Ok(())
-}
 
 const TRIES: &str =
     "try {} catch {} → Script 0..15, Try 0..15 → TryStmt 0..15, BlockStmt 4..6, CatchClause 7..15, BlockStmt 13..15, param: None, finalizer: None
@@ -195,8 +168,20 @@ try {} finally {} catch {} → refused 18..23 Unexpected
 catch {} → refused 0..5 Unexpected";
 
 #[test]
-fn tries(rt: HostRuntime) -> Result<(), Fail> {
-    assert_eq!(rt; report(rt.alloc(), TRIES, 1000)?.as_str(), "20 rows");
+fn tables(rt: HostRuntime) -> Result<(), Fail> {
+    for (rows, wanted) in [
+        (BRANCHES, "20 rows"),
+        (THROWS, "9 rows"),
+        (LOOPS, "17 rows"),
+        (WITHS, "13 rows"),
+        (LABELS, "21 rows"),
+        (SWITCHES, "20 rows"),
+        (JUMPS, "20 rows"),
+        (RETURNS, "9 rows"),
+        (TRIES, "20 rows"),
+    ] {
+        assert_eq!(rt; report(rt.alloc(), rows, 1000)?.as_str(), wanted);
+    }
     Ok(())
 }
 
@@ -211,6 +196,9 @@ fn limits(rt: HostRuntime) -> Result<(), Fail> {
         ("throw a → Script 0..7, Throw 0..7", 2),
         ("while (a) while (b) c → refused 20..21 TooDeep", 3),
         ("while (a) while (b) c → Script 0..21, While 0..21", 4),
+        ("with (a) b → refused 6..7 TooDeep", 1),
+        ("with (a) b → refused 9..10 TooDeep", 2),
+        ("with (a) ; → Script 0..10, With 0..10", 2),
         ("do a; while (b) → refused 3..4 TooDeep", 2),
         ("do a; while (b) → Script 0..15, DoWhile 0..15", 3),
         ("a: ; → refused 3..4 TooDeep", 1),

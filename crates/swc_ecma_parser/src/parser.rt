@@ -6,6 +6,7 @@ ghost use Rattle.swc_ecma_parser_error.specs.Kind as kinds;
 ghost use Rattle.swc_ecma_parser_error.specs.Kind.{fault_of, faults_of, kind_of, IsOutOfMemory};
 ghost use Rattle.swc_ecma_parser_error.specs.declared.error.Error.{Error};
 ghost use Rattle.swc_ecma_parser_input.specs.Place as place;
+ghost use Rattle.swc_ecma_parser_reader.specs.Notes.{held_of};
 ghost use Rattle.swc_ecma_parser_reader.specs.Entry.{unmarked, SoundScript, CompleteScript, SoundStatement, CompleteStatement, IsRestored};
 ghost use Rattle.swc_ecma_parser_reader.specs.Limits.{has_too_deep_token, has_out_of_memory_token};
 ghost use Rattle.swc_ecma_parser_state.specs.Opened.{opened};
@@ -209,7 +210,7 @@ impl<I: Tokens> Parser<I> {
         ensures left { (I.seen result).left ≡ drop 2 self.state.at.left }
         ensures context { (I.seen result).context ≡ self.state.code.flags }
         ensures faults { faults_of (I.seen result).recorded ≡ self.state.faults }
-        ensures held_back { faults_of (I.seen result).held_back ≡ self.state.notes.held_back }
+        ensures held_back { held_of (I.seen result).held_back ≡ self.state.notes.held_back }
     {
         let Parser {
             alloc: _,

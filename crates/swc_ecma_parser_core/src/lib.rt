@@ -10,3 +10,4 @@ mod label;
 pub mod script;
 mod stmt;
 mod switch;
+mod with_statement;

@@ -16,6 +16,7 @@ use crate::branch::if_stmt;
 use crate::handler::try_stmt;
 use crate::label::{let_stmt, other_stmt};
 use crate::switch::switch_stmt;
+use crate::with_statement::with_stmt;
 use std::alloc::Global;
 use swc_ecma_parser_common::Atom;
 use swc_ecma_parser_error::{PResult, SyntaxError};
@@ -175,6 +176,7 @@ pub(crate) fn level<
         TokenKind::Return => return_stmt(g, t, p),
         TokenKind::Throw => throw(g, t, p),
         TokenKind::Try => try_stmt(g, t, p),
+        TokenKind::With => with_stmt(g, t, p),
         TokenKind::While => while_stmt(g, t, p),
         TokenKind::Do => do_while(g, t, p),
         TokenKind::For => for_stmt(g, t, p),

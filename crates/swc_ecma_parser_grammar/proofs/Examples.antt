@@ -287,5 +287,5 @@ behind_export = refl
 -- ---- notes
 
 -- `with (a) interface`
-noted : notes (tree.with (at 0 18) a (stmt (name 9 18 (codes "interface")))) ≡ fault kind.WithInStrict 0 18 ∷ fault kind.InvalidIdentInStrict 9 18 ∷ []
+noted : notes (tree.with (at 0 18) a (stmt (name 9 18 (codes "interface")))) ≡ fault kind.WithInStrict 0 0 ∷ fault kind.InvalidIdentInStrict 9 18 ∷ []
 noted = refl

@@ -4,7 +4,7 @@ use Rattle.std.specs.Prelude.{not, ◌&&◌, ◌||◌, if◌then◌else◌}
 use Rattle.std.specs.List.{list_any}
 use Rattle.swc_ecma_parser_error.specs.Kind.{Fault}
 use Rattle.swc_ecma_parser_token.specs.declared.kind.TokenKind.TheVariants as kind
-use Rattle.swc_ecma_parser_grammar.specs.Follows.{is_async_of}
+use Rattle.swc_ecma_parser_grammar.specs.Follows.{is_async_of, await_word, no_await, AwaitWord, is_bare_async}
 use Rattle.swc_ecma_parser_input.specs.Place.{Place, after}
 use Rattle.swc_ecma_parser_model.specs.declared.leaves.VarDeclKind.{VarDeclKind}
 use Rattle.swc_ecma_parser_model.specs.Tree as tree
@@ -13,14 +13,14 @@ use Rattle.swc_ecma_parser_model.specs.Directive.{is_use_strict}
 use Rattle.swc_ecma_parser_grammar.specs.declared.position.Position.{Position}
 use Rattle.swc_ecma_parser_grammar.specs.Looks.{kind_at, sees, same_kind, spanned}
 use Rattle.swc_ecma_parser_grammar.specs.Names.{Code}
-use Rattle.swc_ecma_parser_grammar.specs.Reads.{with_in, in_strict, directed, directs_on, nested_item, top_item, DeclaratorRule, plain_rule, initialized_rule, ReadsSeparated, ReadsItems, StmtRule, block_rule, empty_rule, debugger_rule, variables_rule, if_statement_rule, TargetRule, no_target_rule, target_rule, OperandRule, no_operand_rule, operand_rule, break_rule, continue_rule, return_rule, case_clause_rule, default_clause_rule, ReadsCases, switch_rule, throw_rule, try_rule, while_rule, do_while_rule, expr_rule, import_rule, ReadsBlock, CatchRule, no_catch_rule, catch_rule, catch_parameter_rule, FinallyRule, no_finally_rule, finally_rule, ReadsHead, IfRule, if_rule, ElseRule, no_else_rule, else_rule, else_if_rule}
+use Rattle.swc_ecma_parser_grammar.specs.Reads.{with_in, in_strict, directed, directs_on, nested_item, top_item, DeclaratorRule, plain_rule, initialized_rule, ReadsSeparated, ReadsItems, StmtRule, block_rule, empty_rule, debugger_rule, variables_rule, if_statement_rule, TargetRule, no_target_rule, target_rule, OperandRule, no_operand_rule, operand_rule, break_rule, continue_rule, return_rule, case_clause_rule, default_clause_rule, ReadsCases, switch_rule, throw_rule, try_rule, with_rule, while_rule, do_while_rule, expr_rule, import_rule, ReadsBlock, CatchRule, no_catch_rule, catch_rule, catch_parameter_rule, FinallyRule, no_finally_rule, finally_rule, ReadsHead, IfRule, if_rule, ElseRule, no_else_rule, else_rule, else_if_rule}
 use Rattle.swc_ecma_parser_grammar.specs.Reads.{labeled_rule, head_code, HeadVariables, InitRule, no_init_rule, init_variables_rule, init_expression_rule, LeftRule, declared_rule, left_target_rule, for_in_rule, for_of_rule, PartRule, no_part_rule, part_rule, for_rule}
 use Rattle.swc_ecma_parser_grammar.specs.Entries.{ReadsScript, ReadsShebang, some_shebang, no_shebang, script_code}
-use Rattle.swc_ecma_parser_grammar.specs.Notes.{notes, all_notes, statement_note}
+use Rattle.swc_ecma_parser_grammar.specs.Notes.{notes, all_notes, statement_note, with_note}
 use Rattle.swc_ecma_parser_grammar.specs.Supported.{supported, all_supported}
 use Rattle.swc_ecma_parser_grammar.specs.ReadsSupported.{ReadsClass, ReadsPat, ReadsTarget, ReadsStmt}
 use Rattle.swc_ecma_parser_grammar.specs.language.Goals.{assignment, stmt_goal}
-use Rattle.swc_ecma_parser_grammar.specs.language.Contexts.{in_loop, in_breakable}
+use Rattle.swc_ecma_parser_grammar.specs.language.Contexts.{in_loop, in_breakable, in_with}
 use Rattle.swc_ecma_parser_grammar.specs.language.ForHeads as heads
 use Rattle.swc_ecma_parser_grammar.specs.language.Declarations as declarations
 use Rattle.swc_ecma_parser_grammar.specs.language.Items.{sub_statement, labelled_item, ItemsRule, BlockRule}
@@ -91,16 +91,21 @@ left_narrows n (heads.declared_rule r) h = declared_rule (head_variables_narrow 
 left_narrows n (heads.target_rule i r) h = left_target_rule i (r, h)
 
 -- `using` is not supported before `of`
-of_left_narrows : (n : ℕ) {k : Code} {x : Tree} {c d : Place} → heads.OfLeftRule (Reads n) k false x c d → supported x ≡ true
-    → LeftRule (ReadsClass n) (ReadsPat n) (ReadsTarget n) k x c d × (is_async_of false x d ≡ false)
-of_left_narrows n (heads.of_left_rule r i) h = (left_narrows n r h, i)
-of_left_narrows n {x = x} (heads.of_using_rule i (heads.using_head_rule y r e)) h = refuted x (ap supported e) h
-of_left_narrows n {x = x} (heads.of_using_rule i (heads.await_using_head_rule y a b r e)) h = refuted x (ap supported e) h
+of_left_narrows : (n : ℕ) (is_await : Bool) {k : Code} {x : Tree} {c d : Place} → heads.OfLeftRule (Reads n) k is_await x c d → supported x ≡ true
+    → LeftRule (ReadsClass n) (ReadsPat n) (ReadsTarget n) k x c d × (is_async_of is_await x d ≡ false)
+of_left_narrows n is_await (heads.of_left_rule r i) h = (left_narrows n r h, i)
+of_left_narrows n is_await {x = x} (heads.of_using_rule i (heads.using_head_rule y r e)) h = refuted x (ap supported e) h
+of_left_narrows n is_await {x = x} (heads.of_using_rule i (heads.await_using_head_rule y a b r e)) h = refuted x (ap supported e) h
 
--- and nothing stands before its parenthesis
-no_await_word : {c d : Place} → declarations.AwaitWord false c d → d ≡ c
-no_await_word (declarations.no_await h e) = e
-no_await_word (declarations.await_word h i e) = cc
+-- nor is `async` alone behind `for await`, so `async of` is none there either
+other_async : (w b n : Bool) → not (w && b) ≡ true → (not w && (b && n)) ≡ false → (not false && (b && n)) ≡ false
+other_async true true n h g = cc
+other_async true false n h g = refl
+other_async false b n h g = g
+
+no_async_of : (w : Bool) (x : Tree) (d : Place) → not (w && is_bare_async x) ≡ true → is_async_of w x d ≡ false → is_async_of false x d ≡ false
+unfolding is_async_of
+no_async_of w x d h g = other_async w (is_bare_async x) _ h g
 
 part_narrows : (n : ℕ) {k : Code} {x : Tree} {c d : Place} → heads.PartRule (Reads n) k x c d → supported x ≡ true → PartRule (ReadsClass n) k x c d
 part_narrows n (heads.no_part_rule g e) h = no_part_rule g e
@@ -116,6 +121,11 @@ unnamed : (m b : Bool) (f : Fault) → (m ≡ true → (if b then f ∷ [] else 
 unnamed true true f q = let e : f ∷ [] ≡ [] = q refl in cc
 unnamed true false f q = refl
 unnamed false b f q = refl
+
+-- no `with` stands in it either
+no_with : (b : Bool) (f : Fault) (fs : List Fault) → (b ≡ true → f ∷ fs ≡ []) → b ≡ false
+no_with true f fs q = let e : f ∷ fs ≡ [] = q refl in cc
+no_with false f fs q = refl
 
 module _ (n : ℕ) (narrow : (k : Code) (at : Position) (x : Tree) (c d : Place) → Quiet k (notes x) → Reads n (stmt_goal k at x c d) → supported x ≡ true → ReadsStmt n k at x c d) where
   items_narrow : (k : Code) (directives : Bool) (at : Position) (xs : List Tree) (c d : Place) → Quiet k (all_notes (trees xs)) → ItemsRule (Reads n) k directives at xs c d
@@ -221,7 +231,10 @@ module _ (n : ℕ) (narrow : (k : Code) (at : Position) (x : Tree) (c d : Place)
   form_narrows k at x c d o (statements.block_rule r) h = block_rule (block_narrows o r h)
   form_narrows k at x c d o (statements.empty_rule i n e) h = empty_rule i n e
   form_narrows k at x c d o (statements.debugger_rule i g e) h = debugger_rule i g e
-  form_narrows k at x c d o (statements.with_rule y z m i r s e) h = refuted x (ap supported e) h
+  form_narrows k at x c d o (statements.with_rule y z m i r s e) h =
+      let g = and_yes (supported y) _ (supported_as x (tree.with (spanned c d) y z) e h) in
+      let q = no_with k.flags.module (with_note (spanned c d)) (notes y ++ notes z) (quiet_as k x (tree.with (spanned c d) y z) e o) in
+      with_rule y z m i q (head_narrows r g.0) (narrow (in_with k) sub_statement z m d (λ a. absurd (true≢false (sym a ∙ q))) s g.1) e
   form_narrows k at x c d o (statements.return_rule y m i r g e) h = return_rule y m i (operand_narrows n r (supported_as x (tree.return (spanned c d) y) e h)) g e
   form_narrows k at x c d o (statements.labeled_rule text s y m r i t e) h =
       let g = and_yes (supported (tree.ident s text)) _ (supported_as x (tree.labeled (spanned c d) (tree.ident s text) y) e h) in
@@ -258,14 +271,13 @@ module _ (n : ℕ) (narrow : (k : Code) (at : Position) (x : Tree) (c d : Place)
       let f = and_yes (supported b) _ g.1 in
       let o' = quiet_last k (notes a ++ notes b) (notes y) (quiet_as k x (tree.for_in (spanned c d) a b y) e o) in
       for_in_rule a b y l m i j (left_narrows n r g.0) q (s, f.0) t (narrow (in_loop k) sub_statement y (after m) d o' u f.1) e
-  form_narrows k at x c d o (statements.for_of_rule true a b y l m p i j q r t s u v e) h = refuted x (ap supported e) h
-  form_narrows k at x c d o (statements.for_of_rule false a b y l m p i j q r t s u v e) h =
-      let g = and_yes (supported a) _ (supported_as x (tree.for_of (spanned c d) false a b y) e h) in
-      let f = and_yes (supported b) _ g.1 in
-      let w = no_await_word j in
-      let z = of_left_narrows n r g.0 in
-      for_of_rule a b y m p i (ap kind_at (sym w) ∙ q) (subst (λ l. LeftRule (ReadsClass n) (ReadsPat n) (ReadsTarget n) k a (after l) m) w z.0) t z.1 (s, f.0) u
-      (narrow (in_loop k) sub_statement y (after p) d (quiet_last k (notes a ++ notes b) (notes y) (quiet_as k x (tree.for_of (spanned c d) false a b y) e o)) v f.1) e
+  form_narrows k at x c d o (statements.for_of_rule w a b y l m p i j q r t s u v e) h =
+      let g = and_yes (not (w && is_bare_async a)) _ (supported_as x (tree.for_of (spanned c d) w a b y) e h) in
+      let f = and_yes (supported a) _ g.1 in
+      let f' = and_yes (supported b) _ f.1 in
+      let z = of_left_narrows n w r f.0 in
+      for_of_rule w a b y l m p i j q z.0 t (no_async_of w a m g.0 z.1) g.0 (s, f'.0) u
+      (narrow (in_loop k) sub_statement y (after p) d (quiet_last k (notes a ++ notes b) (notes y) (quiet_as k x (tree.for_of (spanned c d) w a b y) e o)) v f'.1) e
   form_narrows k at x c d o (statements.expr_rule y m i r l g e) h =
       let q = quiet_last k (notes y) (statement_note y) (quiet_as k x (tree.expr_stmt (spanned c d) y) e o) in
       expr_rule y m i (r, supported_as x (tree.expr_stmt (spanned c d) y) e h) l (unnamed k.flags.module _ _ q) g e

@@ -11,11 +11,12 @@ use Rattle.swc_ecma_parser_model.specs.Tree as tree
 use Rattle.swc_ecma_parser_model.specs.Tree.{Tree, listed}
 use Rattle.swc_ecma_parser_grammar.specs.Ends.{by_semicolon, by_a_semicolon}
 use Rattle.swc_ecma_parser_grammar.specs.Walk.{walk, env_of}
+use Rattle.swc_ecma_parser_grammar.specs.Follows.{no_await}
 use Rattle.swc_ecma_parser_grammar.specs.language.Lists.{no_comma}
 use Rattle.swc_ecma_parser_grammar.specs.language.LeftSides.{number_rule, primary_rule}
 use Rattle.swc_ecma_parser_grammar.specs.language.Patterns.{binding_name_rule}
 use Rattle.swc_ecma_parser_grammar.specs.language.Expressions.{assignment_rule}
-use Rattle.swc_ecma_parser_grammar.specs.language.Declarations.{plain_rule, no_await}
+use Rattle.swc_ecma_parser_grammar.specs.language.Declarations.{plain_rule}
 use Rattle.swc_ecma_parser_grammar.specs.language.ForHeads.{declared_rule, of_left_rule}
 use Rattle.swc_ecma_parser_grammar.specs.language.Statements.{case_clause_rule, default_clause_rule, no_target_rule, empty_rule, labeled_rule, break_rule, continue_rule, switch_rule, for_of_rule}
 use Rattle.swc_ecma_parser_grammar.specs.language.ModuleParts.{word_name_rule, string_name_rule}

@@ -10,10 +10,11 @@ use Rattle.swc_ecma_parser_model.specs.declared.operators.BinaryOp.TheVariants a
 use Rattle.swc_ecma_parser_model.specs.Tree as tree
 use Rattle.swc_ecma_parser_model.specs.Tree.{Tree, listed}
 use Rattle.swc_ecma_parser_grammar.specs.Ends.{by_semicolon, by_insertion, by_nothing}
+use Rattle.swc_ecma_parser_grammar.specs.Follows.{await_word}
 use Rattle.swc_ecma_parser_grammar.specs.language.LeftSides.{number_rule, object_rule, primary_rule}
 use Rattle.swc_ecma_parser_grammar.specs.language.Patterns.{binding_name_rule}
 use Rattle.swc_ecma_parser_grammar.specs.language.Expressions.{left_rule, operators_rule, assignment_rule}
-use Rattle.swc_ecma_parser_grammar.specs.language.Declarations.{plain_rule, initialized_rule, await_word}
+use Rattle.swc_ecma_parser_grammar.specs.language.Declarations.{plain_rule, initialized_rule}
 use Rattle.swc_ecma_parser_grammar.specs.language.ForHeads.{no_init_rule, no_part_rule, part_rule, declared_rule, of_left_rule}
 use Rattle.swc_ecma_parser_grammar.specs.language.Statements.{if_rule, else_rule, no_target_rule, block_rule, empty_rule, break_rule, continue_rule, if_statement_rule, while_rule, do_while_rule, for_rule, for_in_rule, for_of_rule, expr_rule}
 use Rattle.swc_ecma_parser_grammar.specs.language.Programs.{Spells, script, stmt}

@@ -1,5 +1,5 @@
 -- What an entry reads for one statement: in module code too, where the rules of the first forms read nothing that is noted.
-use Rattle.std.proofs.Common.{◌≡◌, ℕ, zero, suc, Bool, true, false, List, [], ◌∷◌, ◌++◌, refl, ◌∙◌, ap}
+use Rattle.std.proofs.Common.{◌≡◌, ℕ, zero, suc, Bool, true, false, true≢false, List, [], ◌∷◌, ◌++◌, refl, sym, ◌∙◌, ap}
 use Rattle.std.specs.Prelude.{◌&&◌, ◌||◌, if◌then◌else◌}
 use Rattle.swc_ecma_parser_error.specs.Kind.{Fault}
 use Rattle.swc_ecma_parser_token.specs.declared.kind.TokenKind.TheVariants as kind
@@ -13,7 +13,7 @@ use Rattle.swc_ecma_parser_grammar.specs.declared.position.Position.{Position}
 use Rattle.swc_ecma_parser_grammar.specs.Looks.{sees}
 use Rattle.swc_ecma_parser_grammar.specs.Names.{Code}
 use Rattle.swc_ecma_parser_grammar.specs.Notes.{notes, all_notes, statement_note}
-use Rattle.swc_ecma_parser_grammar.specs.Reads.{with_in, directed, directs_on, nested_item, DeclaratorRule, plain_rule, initialized_rule, ReadsSeparated, ReadsItems, StmtRule, block_rule, empty_rule, debugger_rule, variables_rule, if_statement_rule, TargetRule, no_target_rule, target_rule, OperandRule, no_operand_rule, operand_rule, break_rule, continue_rule, return_rule, labeled_rule, HeadVariables, InitRule, no_init_rule, init_variables_rule, init_expression_rule, LeftRule, declared_rule, left_target_rule, for_in_rule, for_of_rule, head_code, PartRule, no_part_rule, part_rule, for_rule, CaseRule, case_clause_rule, default_clause_rule, ReadsCases, switch_rule, throw_rule, try_rule, while_rule, do_while_rule, expr_rule, import_rule, ReadsBlock, CatchRule, no_catch_rule, catch_rule, catch_parameter_rule, FinallyRule, no_finally_rule, finally_rule, ReadsHead, IfRule, if_rule, ElseRule, no_else_rule, else_rule, else_if_rule}
+use Rattle.swc_ecma_parser_grammar.specs.Reads.{with_in, directed, directs_on, nested_item, DeclaratorRule, plain_rule, initialized_rule, ReadsSeparated, ReadsItems, StmtRule, block_rule, empty_rule, debugger_rule, variables_rule, if_statement_rule, TargetRule, no_target_rule, target_rule, OperandRule, no_operand_rule, operand_rule, break_rule, continue_rule, return_rule, labeled_rule, HeadVariables, InitRule, no_init_rule, init_variables_rule, init_expression_rule, LeftRule, declared_rule, left_target_rule, for_in_rule, for_of_rule, head_code, PartRule, no_part_rule, part_rule, for_rule, CaseRule, case_clause_rule, default_clause_rule, ReadsCases, switch_rule, throw_rule, try_rule, with_rule, while_rule, do_while_rule, expr_rule, import_rule, ReadsBlock, CatchRule, no_catch_rule, catch_rule, catch_parameter_rule, FinallyRule, no_finally_rule, finally_rule, ReadsHead, IfRule, if_rule, ElseRule, no_else_rule, else_rule, else_if_rule}
 use Rattle.swc_ecma_parser_grammar.specs.Supported.{supported}
 use Rattle.swc_ecma_parser_grammar.specs.ReadsSupported.{ReadsClass, ReadsPat, ReadsTarget, ReadsStmt}
 use Rattle.swc_ecma_parser_grammar.specs.language.Goals.{binding, assigning, expression, assignment, stmt_goal}
@@ -130,12 +130,13 @@ module _ (n : ℕ) (small : (k : Code) (at : Position) (x : Tree) (c d : Place) 
   rule_unnoted k at x c d o (for_in_rule a b y m i h g r j s p t e) =
       ap notes e ∙ joined (notes a ++ notes b) (notes y) (joined (notes a) (notes b) (left_unnoted n r) (expr_unnoted n expression (with_in k) b (after m) i s.0 s.1))
       (small (in_loop k) sub_statement y (after i) d o t)
-  rule_unnoted k at x c d o (for_of_rule a b y m i h g r j l s p t e) =
+  rule_unnoted k at x c d o (for_of_rule w a b y l m i h v g r j z q s p t e) =
       ap notes e ∙ joined (notes a ++ notes b) (notes y) (joined (notes a) (notes b) (left_unnoted n r) (expr_unnoted n assignment (with_in k) b (after m) i s.0 s.1))
       (small (in_loop k) sub_statement y (after i) d o t)
   rule_unnoted k at x c d o (throw_rule y m h b r g e) = ap notes e ∙ expr_unnoted n expression (with_in k) y (after c) m r.0 r.1
   rule_unnoted k at x c d o (try_rule y z w m i h r s t a e) =
       ap notes e ∙ joined (notes y ++ notes z) (notes w) (joined (notes y) (notes z) (block_unnoted o r) (catch_unnoted o s)) (finally_unnoted o t)
+  rule_unnoted k at x c d o (with_rule y z m h p r s e) = absurd (true≢false (sym o ∙ p))
   rule_unnoted k at x c d o (while_rule y z m h r s e) = ap notes e ∙ joined (notes y) (notes z) (head_unnoted n r) (small (in_loop k) sub_statement z m d o s)
   rule_unnoted k at x c d o (do_while_rule y z m i h s j r g e) = ap notes e ∙ joined (notes z) (notes y) (small (in_loop k) sub_statement z (after c) m o s) (head_unnoted n r)
   rule_unnoted k at x c d o (expr_rule y m h r a b g e) =

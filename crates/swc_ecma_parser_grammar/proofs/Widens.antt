@@ -14,14 +14,14 @@ use Rattle.swc_ecma_parser_model.specs.Forms.{is_absent}
 use Rattle.swc_ecma_parser_grammar.specs.declared.position.Position.{Position}
 use Rattle.swc_ecma_parser_grammar.specs.Looks.{kind_at, sees, same_kind}
 use Rattle.swc_ecma_parser_grammar.specs.Names.{Code}
-use Rattle.swc_ecma_parser_grammar.specs.Follows.{is_let_declaration}
+use Rattle.swc_ecma_parser_grammar.specs.Follows.{is_let_declaration, no_await, is_async_of, is_bare_async}
 use Rattle.swc_ecma_parser_grammar.specs.Variables.{begins_variables}
-use Rattle.swc_ecma_parser_grammar.specs.Reads.{with_in, directed, directs_on, nested_item, top_item, DeclaratorRule, plain_rule, initialized_rule, ReadsSeparated, ReadsItems, StmtRule, block_rule, empty_rule, debugger_rule, variables_rule, if_statement_rule, TargetRule, no_target_rule, target_rule, OperandRule, no_operand_rule, operand_rule, break_rule, continue_rule, return_rule, labeled_rule, HeadVariables, InitRule, no_init_rule, init_variables_rule, init_expression_rule, LeftRule, declared_rule, left_target_rule, for_in_rule, for_of_rule, head_code, PartRule, no_part_rule, part_rule, for_rule, CaseRule, case_clause_rule, default_clause_rule, ReadsCases, switch_rule, throw_rule, try_rule, while_rule, do_while_rule, expr_rule, import_rule, ReadsBlock, CatchRule, no_catch_rule, catch_rule, catch_parameter_rule, FinallyRule, no_finally_rule, finally_rule, ReadsHead, IfRule, if_rule, ElseRule, no_else_rule, else_rule, else_if_rule}
+use Rattle.swc_ecma_parser_grammar.specs.Reads.{with_in, directed, directs_on, nested_item, top_item, DeclaratorRule, plain_rule, initialized_rule, ReadsSeparated, ReadsItems, StmtRule, block_rule, empty_rule, debugger_rule, variables_rule, if_statement_rule, TargetRule, no_target_rule, target_rule, OperandRule, no_operand_rule, operand_rule, break_rule, continue_rule, return_rule, labeled_rule, HeadVariables, InitRule, no_init_rule, init_variables_rule, init_expression_rule, LeftRule, declared_rule, left_target_rule, for_in_rule, for_of_rule, head_code, PartRule, no_part_rule, part_rule, for_rule, CaseRule, case_clause_rule, default_clause_rule, ReadsCases, switch_rule, throw_rule, try_rule, with_rule, while_rule, do_while_rule, expr_rule, import_rule, ReadsBlock, CatchRule, no_catch_rule, catch_rule, catch_parameter_rule, FinallyRule, no_finally_rule, finally_rule, ReadsHead, IfRule, if_rule, ElseRule, no_else_rule, else_rule, else_if_rule}
 use Rattle.swc_ecma_parser_grammar.specs.Entries.{ReadsScript, ReadsShebang, some_shebang, no_shebang, script_code}
 use Rattle.swc_ecma_parser_grammar.specs.Supported.{supported, all_supported}
 use Rattle.swc_ecma_parser_grammar.specs.ReadsSupported.{ReadsClass, ReadsPat, ReadsTarget, ReadsStmt}
 use Rattle.swc_ecma_parser_grammar.specs.language.Goals.{expression, assignment, expr_goal, stmt_goal}
-use Rattle.swc_ecma_parser_grammar.specs.language.Contexts.{in_loop, in_breakable}
+use Rattle.swc_ecma_parser_grammar.specs.language.Contexts.{in_loop, in_breakable, in_with}
 use Rattle.swc_ecma_parser_grammar.specs.language.ForHeads as heads
 use Rattle.swc_ecma_parser_grammar.specs.language.Declarations as declarations
 use Rattle.swc_ecma_parser_grammar.specs.language.Items.{sub_statement, labelled_item, ItemsRule, BlockRule}
@@ -191,10 +191,12 @@ module _ (n : ℕ) (small : (k : Code) (at : Position) (x : Tree) (c d : Place) 
       ap supported e ∙ and_both (supported a) _ (init_supported n r) (and_both (supported b) _ (part_supported n s) (and_both (supported f) _ (part_supported n t) (small (in_loop k) sub_statement y (after i) d u)))
   rule_supported k at x c d (for_in_rule a b y m i h g r j s o t e) =
       ap supported e ∙ and_both (supported a) _ (left_supported n r) (and_both (supported b) _ s.1 (small (in_loop k) sub_statement y (after i) d t))
-  rule_supported k at x c d (for_of_rule a b y m i h g r j l s o t e) =
-      ap supported e ∙ and_both (supported a) _ (left_supported n r) (and_both (supported b) _ s.1 (small (in_loop k) sub_statement y (after i) d t))
+  rule_supported k at x c d (for_of_rule w a b y l m i h v g r j z q s o t e) =
+      ap supported e
+      ∙ and_both (not (w && is_bare_async a)) _ q (and_both (supported a) _ (left_supported n r) (and_both (supported b) _ s.1 (small (in_loop k) sub_statement y (after i) d t)))
   rule_supported k at x c d (throw_rule y m h b r g e) = ap supported e ∙ r.1
   rule_supported k at x c d (try_rule y z w m i h r s t a e) = ap supported e ∙ and_both (supported y) _ (block_supported r) (and_both (supported z) _ (catch_supported s) (finally_supported t))
+  rule_supported k at x c d (with_rule y z m h o r s e) = ap supported e ∙ and_both (supported y) _ r.reads.1 (small (in_with k) sub_statement z m d s)
   rule_supported k at x c d (while_rule y z m h r s e) = ap supported e ∙ and_both (supported y) _ r.reads.1 (small (in_loop k) sub_statement z m d s)
   rule_supported k at x c d (do_while_rule y z m i h s j r g e) = ap supported e ∙ and_both (supported y) _ r.reads.1 (small (in_loop k) sub_statement z (after c) m s)
   rule_supported k at x c d (expr_rule y m h r a b g e) = ap supported e ∙ r.1
@@ -212,6 +214,12 @@ stands_there (suc n) k x c d h = expr_stands (Reads n) expression k x c d h
 either_no : (a b : Bool) → a ≡ false → b ≡ false → (a || b) ≡ false
 either_no true b h g = cc
 either_no false b h g = g
+
+-- what is no `async of` is none behind `for await`
+of_async : (w : Bool) (x : Tree) (d : Place) → is_async_of false x d ≡ false → is_async_of w x d ≡ false
+unfolding is_async_of
+of_async true x d h = refl
+of_async false x d h = h
 
 module _ (n : ℕ) (widen : (k : Code) (at : Position) (x : Tree) (c d : Place) → ReadsStmt n k at x c d → Reads n (stmt_goal k at x c d)) where
   items_widen : (k : Code) (directives : Bool) (at : Position) (xs : List Tree) (c d : Place) → ReadsItems (λ j. ReadsStmt n j at) k directives xs c d → ItemsRule (Reads n) k directives at xs c d
@@ -283,10 +291,11 @@ module _ (n : ℕ) (widen : (k : Code) (at : Position) (x : Tree) (c d : Place) 
       statements.for_rule a b f y l m i h g (init_widens n r) j (part_widens n s) o (part_widens n t) p (widen (in_loop k) sub_statement y (after i) d u) e
   form_widens k at x c d (for_in_rule a b y m i h g r j s o t e) =
       statements.for_in_rule a b y m i h g (left_widens n r) j s.0 o (widen (in_loop k) sub_statement y (after i) d t) e
-  form_widens k at x c d (for_of_rule a b y m i h g r j l s o t e) =
-      statements.for_of_rule false a b y (after c) m i h (declarations.no_await refl refl) g (heads.of_left_rule (left_widens n r) l) j s.0 o (widen (in_loop k) sub_statement y (after i) d t) e
+  form_widens k at x c d (for_of_rule w a b y l m i h v g r j z q s o t e) =
+      statements.for_of_rule w a b y l m i h v g (heads.of_left_rule (left_widens n r) (of_async w a m z)) j s.0 o (widen (in_loop k) sub_statement y (after i) d t) e
   form_widens k at x c d (throw_rule y m h b r g e) = statements.throw_rule y m h b r.0 g e
   form_widens k at x c d (try_rule y z w m i h r s t a e) = statements.try_rule y z w m i h (block_widens r) (catch_widens s) (finally_widens t) a e
+  form_widens k at x c d (with_rule y z m h o r s e) = statements.with_rule y z m h (head_widens r) (widen (in_with k) sub_statement z m d s) e
   form_widens k at x c d (while_rule y z m h r s e) = statements.while_rule y z m h (head_widens r) (widen (in_loop k) sub_statement z m d s) e
   form_widens k at x c d (do_while_rule y z m i h s j r g e) = statements.do_while_rule y z m i h (widen (in_loop k) sub_statement z (after c) m s) j (head_widens r) g e
   form_widens k at x c d (expr_rule y m h r a b g e) = statements.expr_rule y m h r.0 a g e
@@ -313,9 +322,10 @@ rule_begins n k at x c d (continue_rule y m h r g e) = rw h refl
 rule_begins n k at x c d (return_rule y m h r g e) = rw h refl
 rule_begins n k at x c d (for_rule a b f y l m i h g r j s o t p u e) = rw h refl
 rule_begins n k at x c d (for_in_rule a b y m i h g r j s o t e) = rw h refl
-rule_begins n k at x c d (for_of_rule a b y m i h g r j l s o t e) = rw h refl
+rule_begins n k at x c d (for_of_rule w a b y l m i h v g r j z q s o t e) = rw h refl
 rule_begins n k at x c d (throw_rule y m h b r g e) = rw h refl
 rule_begins n k at x c d (try_rule y z w m i h r s t a e) = rw h refl
+rule_begins n k at x c d (with_rule y z m h o r s e) = rw h refl
 rule_begins n k at x c d (while_rule y z m h r s e) = rw h refl
 rule_begins n k at x c d (do_while_rule y z m i h s j r g e) = rw h refl
 rule_begins n k at x c d (expr_rule y m h r a b g e) = expr_begins n (with_in k) y c m r

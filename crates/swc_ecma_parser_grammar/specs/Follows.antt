@@ -1,5 +1,5 @@
 -- What must not follow an expression that ends: the tokens that go on with it, and what may begin an expression statement.
-use Rattle.std.specs.Prelude.{Bool, true, false, not, ◌&&◌, ◌||◌, List, [], ◌∷◌, codes}
+use Rattle.std.specs.Prelude.{Bool, true, false, not, ◌&&◌, ◌||◌, List, [], ◌∷◌, codes, ◌≡◌}
 use Rattle.std.specs.Str.{bytes_eq}
 use Rattle.swc_ecma_parser_token.specs.declared.kind.TokenKind.{TokenKind}
 use Rattle.swc_ecma_parser_token.specs.declared.kind.TokenKind.TheVariants as kind
@@ -117,6 +117,11 @@ is_let_declaration c = sees kind.Let c && first_follows_let (after c).left
 unfoldable pub may_begin_expression_statement : Position → Place → Bool
 may_begin_expression_statement at c =
     not (sees kind.LBrace c || (sees kind.Function c || (sees kind.Class c || (sees kind.Import c || (is_async_function c || (at.include_decl && is_let_declaration c))))))
+
+-- `await`, or nothing
+pub data AwaitWord (is_await : Bool) (c d : Place) : Type 0 where
+  no_await : is_await ≡ false → d ≡ c → AwaitWord is_await c d
+  await_word : is_await ≡ true → kind_at c ≡ kind.Await → d ≡ after c → AwaitWord is_await c d
 
 -- what the head of a `for` begins with where it declares nothing: ECMA-262, section 14.7.4
 unfoldable pub may_begin_head : Place → Bool

@@ -2,7 +2,7 @@
 -- order of the text, which is that of a form's parts but where a comment says otherwise.
 use Rattle.std.specs.Prelude.{if◌then◌else◌, List, [], ◌∷◌, ◌++◌, codes}
 use Rattle.swc_ecma_parser_common.specs.declared.span.Span.{Span}
-use Rattle.swc_ecma_parser_error.specs.Kind.{Fault, InvalidIdentInStrict, WithInStrict}
+use Rattle.swc_ecma_parser_error.specs.Kind.{Kind, Fault, InvalidIdentInStrict, WithInStrict}
 use Rattle.swc_ecma_parser_model.specs.Tree as tree
 use Rattle.swc_ecma_parser_model.specs.Tree.{Tree, Trees, none, also}
 use Rattle.swc_ecma_parser_model.specs.Forms.{is_ident_named, span_of}
@@ -10,10 +10,16 @@ use Rattle.swc_ecma_parser_model.specs.Forms.{is_ident_named, span_of}
 abbrev pub statement_note : Tree → List Fault
 statement_note e = if is_ident_named (codes "interface") e then record { span = span_of e; kind = InvalidIdentInStrict } ∷ [] else []
 
--- The fault is said at the word `with`. A tree does not hold where that word ends, so the note has the span of the statement,
--- which begins where the word does.
+-- The fault of a `with` is said at that word. A tree does not hold where the word ends, so the note of it has where it begins alone.
+abbrev pub note_span : Kind → Span → Span
+note_span WithInStrict s = record { lo = s.lo; hi = s.lo }
+note_span _ s = s
+
+abbrev pub as_note : Fault → Fault
+as_note f = record { span = note_span f.kind f.span; kind = f.kind }
+
 abbrev pub with_note : Span → Fault
-with_note s = record { span = s; kind = WithInStrict }
+with_note s = as_note (record { span = s; kind = WithInStrict })
 
 abbrev mutual
   pub notes : Tree → List Fault

@@ -1,5 +1,5 @@
 -- What the rules of the first statements are made of. Their expressions and patterns are those of the whole language.
-use Rattle.std.specs.Prelude.{◌≡◌, Bool, true, false, ◌&&◌, ◌||◌, if◌then◌else◌, List, [], ◌∷◌, codes}
+use Rattle.std.specs.Prelude.{◌≡◌, Bool, true, false, ◌&&◌, ◌||◌, if◌then◌else◌, List, [], ◌∷◌, codes, not}
 use Rattle.swc_ecma_parser_common.specs.declared.span.Span.{Span}
 use Rattle.swc_ecma_parser_token.specs.declared.kind.TokenKind.TheVariants as kind
 use Rattle.swc_ecma_parser_token.specs.declared.token.Token.{Token}
@@ -17,10 +17,10 @@ use Rattle.swc_ecma_parser_grammar.specs.declared.position.Position.{Position}
 use Rattle.swc_ecma_parser_grammar.specs.Looks.{kind_at, breaks_at, sees, spanned}
 use Rattle.swc_ecma_parser_grammar.specs.Names.{Code, is_name}
 use Rattle.swc_ecma_parser_grammar.specs.Ends.{Ends, OptionalEnds, ends_at}
-use Rattle.swc_ecma_parser_grammar.specs.Follows.{word_at, may_begin_expression_statement, begins_import_expression, may_begin_head, is_async_of}
+use Rattle.swc_ecma_parser_grammar.specs.Follows.{word_at, may_begin_expression_statement, begins_import_expression, may_begin_head, is_bare_async, is_async_of, AwaitWord}
 use Rattle.swc_ecma_parser_grammar.specs.Variables.{begins_variables, is_var, needs_no_initializer}
 use Rattle.swc_ecma_parser_grammar.specs.language.Goals.{Class, expression, assignment}
-use Rattle.swc_ecma_parser_grammar.specs.language.Contexts.{in_loop, in_breakable, without_in}
+use Rattle.swc_ecma_parser_grammar.specs.language.Contexts.{in_loop, in_breakable, in_with, without_in}
 use Rattle.swc_ecma_parser_grammar.specs.language.Items.{sub_statement, labelled_item}
 
 -- ---- contexts
@@ -180,6 +180,9 @@ pub data StmtRule (Stmt : Code → Position → Tree → Place → Place → Typ
       → ReadsSeparated (DeclaratorRule (Expr assignment) Pat (with_in k) false word) xs (after c) m → Ends m d → x ≡ tree.var (spanned c d) word (listed xs)
       → StmtRule Stmt Expr Pat Target k at x c d
   if_statement_rule : IfRule Stmt Expr k x c d → StmtRule Stmt Expr Pat Target k at x c d
+  -- section 14.11; in module code it is a fault, in strict code it is none
+  with_rule : (e y : Tree) (m : Place) → kind_at c ≡ kind.With → k.flags.module ≡ false → ReadsHead Expr k e (after c) m → Stmt (in_with k) sub_statement y m d
+      → x ≡ tree.with (spanned c d) e y → StmtRule Stmt Expr Pat Target k at x c d
   -- section 14.12
   switch_rule : (e : Tree) (xs : List Tree) (m n : Place) → kind_at c ≡ kind.Switch → ReadsHead Expr k e (after c) m → kind_at m ≡ kind.LBrace
       → ReadsCases Stmt Expr (in_breakable k) false xs (after m) n → kind_at n ≡ kind.RBrace → d ≡ after n → x ≡ tree.switch (spanned c d) e (listed xs)
@@ -212,9 +215,10 @@ pub data StmtRule (Stmt : Code → Position → Tree → Place → Place → Typ
   for_in_rule : (left right y : Tree) (m n : Place) → kind_at c ≡ kind.For → kind_at (after c) ≡ kind.LParen → LeftRule Expr Pat Target k left (after (after c)) m → kind_at m ≡ kind.In
       → Expr expression (with_in k) right (after m) n → kind_at n ≡ kind.RParen → Stmt (in_loop k) sub_statement y (after n) d → x ≡ tree.for_in (spanned c d) left right y
       → StmtRule Stmt Expr Pat Target k at x c d
-  for_of_rule : (left right y : Tree) (m n : Place) → kind_at c ≡ kind.For → kind_at (after c) ≡ kind.LParen → LeftRule Expr Pat Target k left (after (after c)) m
-      → word_at (codes "of") m ≡ true → is_async_of false left m ≡ false → Expr assignment (with_in k) right (after m) n → kind_at n ≡ kind.RParen
-      → Stmt (in_loop k) sub_statement y (after n) d → x ≡ tree.for_of (spanned c d) false left right y → StmtRule Stmt Expr Pat Target k at x c d
+  for_of_rule : (is_await : Bool) (left right y : Tree) (l m n : Place) → kind_at c ≡ kind.For → AwaitWord is_await (after c) l → kind_at l ≡ kind.LParen
+      → LeftRule Expr Pat Target k left (after l) m → word_at (codes "of") m ≡ true → is_async_of false left m ≡ false → not (is_await && is_bare_async left) ≡ true
+      → Expr assignment (with_in k) right (after m) n → kind_at n ≡ kind.RParen → Stmt (in_loop k) sub_statement y (after n) d
+      → x ≡ tree.for_of (spanned c d) is_await left right y → StmtRule Stmt Expr Pat Target k at x c d
   -- section 14.5. A bare name before `:` is a label; in module code the bare name `interface` is none.
   expr_rule : (e : Tree) (m : Place) → may_begin_expression_statement at c ≡ true → Expr expression (with_in k) e c m → is_ident e && sees kind.Colon m ≡ false
       → k.flags.module && is_ident_named (codes "interface") e ≡ false → Ends m d → x ≡ tree.expr_stmt (spanned c d) e → StmtRule Stmt Expr Pat Target k at x c d

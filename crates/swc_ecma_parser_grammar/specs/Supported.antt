@@ -3,6 +3,7 @@ use Rattle.std.specs.Prelude.{Bool, true, false, not, ◌&&◌, codes}
 use Rattle.std.specs.Str.{bytes_eq}
 use Rattle.swc_ecma_parser_model.specs.Tree as tree
 use Rattle.swc_ecma_parser_model.specs.Tree.{Tree, Trees, none, also}
+use Rattle.swc_ecma_parser_grammar.specs.Follows.{is_bare_async}
 
 -- whether a tree is made of these forms alone
 abbrev mutual
@@ -56,10 +57,10 @@ abbrev mutual
   supported (tree.empty s) = true
   supported (tree.debugger s) = true
   supported (tree.expr_stmt s e) = supported e
-  -- `for` of three parts, with `in` and with `of`: sections 14.7.4 and 14.7.5
+  -- `for` of three parts, with `in` and with `of`, but for `async` alone behind `for await`: sections 14.7.4 and 14.7.5
   supported (tree.for s init test next body) = supported init && (supported test && (supported next && supported body))
   supported (tree.for_in s left right body) = supported left && (supported right && supported body)
-  supported (tree.for_of s is_await left right body) = not is_await && (supported left && (supported right && supported body))
+  supported (tree.for_of s is_await left right body) = not (is_await && is_bare_async left) && (supported left && (supported right && supported body))
   -- `if`, `switch`, `throw`, `try`, `while` and `do`: sections 14.6, 14.12, 14.14, 14.15, 14.7.3 and 14.7.2
   supported (tree.if_stmt s test cons alt) = supported test && (supported cons && supported alt)
   supported (tree.switch s discriminant cases) = supported discriminant && supported cases
@@ -69,6 +70,8 @@ abbrev mutual
   supported (tree.catch s p body) = supported p && supported body
   supported (tree.while s test body) = supported test && supported body
   supported (tree.do_while s test body) = supported test && supported body
+  -- `with`: section 14.11
+  supported (tree.with s obj body) = supported obj && supported body
   -- labels, and what they stand at: section 14.13
   supported (tree.labeled s label body) = supported label && supported body
   -- `break`, `continue` and `return`: sections 14.9, 14.8 and 14.10

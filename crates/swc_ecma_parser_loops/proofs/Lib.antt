@@ -1,3 +1,4 @@
+mod Awaited
 mod Flags
 mod Misdeclared
 mod Targets

@@ -9,13 +9,13 @@ ghost use Rattle.swc_ecma_parser_reader.specs.Expressions as exprs;
 ghost use Rattle.swc_ecma_parser_reader.specs.Heads as heads;
 ghost use Rattle.swc_ecma_parser_reader.specs.Patterns as patterns;
 ghost use Rattle.swc_ecma_parser_reader.specs.Reader as rules;
-ghost use Rattle.swc_ecma_parser_reader.specs.State.{GivesAs};
+ghost use Rattle.swc_ecma_parser_reader.specs.State.{Gives, GivesAs, pure};
 ghost use Rattle.swc_ecma_parser_trees.specs.Parts.{part_of};
 
 use crate::head::{Opening, as_init, as_left, head_of, head_opening, misdeclared};
 use crate::simple::looped;
 use swc_ecma_parser_common::Span;
-use swc_ecma_parser_error::PResult;
+use swc_ecma_parser_error::{PResult, SyntaxError};
 use swc_ecma_parser_grammar::{Class, Position};
 use swc_ecma_parser_left::access::inside;
 use swc_ecma_parser_left::cover::{Cover, Reading};
@@ -24,7 +24,7 @@ use swc_ecma_parser_left::steps::{grown, since};
 use swc_ecma_parser_source::Source;
 use swc_ecma_parser_token::TokenKind;
 use swc_ecma_parser_trees::{
-    BuildsCall, BuildsExpr, BuildsLoop, BuildsPattern, BuildsStmt, MakerOf,
+    BuildsCall, BuildsExpr, BuildsLoop, BuildsPattern, BuildsStmt, MakerOf, Trees,
 };
 
 /// A further part of a head, if what stands behind it does not stand here.
@@ -93,7 +93,7 @@ fn for_in<
     requires { Nests P.seen T.expr_of T.pat_of T.stmt_of g.now.depth (S.pre g.now.stmt) (S.post g.now.stmt) (E.pre g.now.expr) (E.post g.now.expr) (N.pre g.now.pat) (N.post g.now.pat) }
     ensures { GivesAs T.stmt_of (rules.for_in (rules.stmt g.now.depth sub_statement) (exprs.expr g.now.depth) start (opening_of T.declarator_of T.expr_of first) (P.seen p.old)) result (P.seen p.new) }
 {
-    let left = as_left(t, p, first)?;
+    let left = as_left(t, p, false, first)?;
     let refused = p.flags().strict;
     misdeclared::<P, T>(p, refused, &left)?;
     p.skip()?;
@@ -117,13 +117,14 @@ fn for_of<
     g: &Grammar<S, E, N>,
     t: &MakerOf<T>,
     p: &mut P,
+    is_await: bool,
     start: Span,
     first: Opening<T::Declarator, T::Expr>,
 ) -> PResult<T::Stmt>
     requires { Nests P.seen T.expr_of T.pat_of T.stmt_of g.now.depth (S.pre g.now.stmt) (S.post g.now.stmt) (E.pre g.now.expr) (E.post g.now.expr) (N.pre g.now.pat) (N.post g.now.pat) }
-    ensures { GivesAs T.stmt_of (rules.for_of (rules.stmt g.now.depth sub_statement) (exprs.expr g.now.depth) start (opening_of T.declarator_of T.expr_of first) (P.seen p.old)) result (P.seen p.new) }
+    ensures { GivesAs T.stmt_of (rules.for_of (rules.stmt g.now.depth sub_statement) (exprs.expr g.now.depth) is_await start (opening_of T.declarator_of T.expr_of first) (P.seen p.old)) result (P.seen p.new) }
 {
-    let left = as_left(t, p, first)?;
+    let left = as_left(t, p, is_await, first)?;
     misdeclared::<P, T>(p, true, &left)?;
     p.skip()?;
     let right = inside(g, t, p, Class::Assignment)?;
@@ -131,11 +132,68 @@ fn for_of<
     let body = looped(g, t, p)?;
     let span = since(p, start);
     let head = head_of(t, p, left)?;
-    grown(p, T::for_of(t.alloc, span, false, head, right, body))
+    grown(p, T::for_of(t.alloc, span, is_await, head, right, body))
+}
+
+/// The word `await` behind `for`, if it stands there.
+#[tactic(auto, unfolding(swc_ecma_parser_reader::specs::Reader::await_here))]
+fn await_here<P: Source>(p: &mut P) -> PResult<Option<Span>>
+    ensures { Gives (rules.await_here (P.seen p.old)) result (P.seen p.new) }
+{
+    if !p.sees(TokenKind::Await) {
+        return Ok(None);
+    }
+    let word = p.span();
+    p.skip()?;
+    Ok(Some(word))
+}
+
+/// A loop without `of`, from behind its body: with `await` it is refused.
+fn unless_awaited<P: Source, T: Trees>(
+    p: &mut P,
+    word: Option<Span>,
+    stmt: T::Stmt,
+) -> PResult<T::Stmt>
+    ensures { GivesAs T.stmt_of (rules.unless_awaited word (pure (T.stmt_of stmt)) (P.seen p.old)) result (P.seen p.new) }
+{
+    match word {
+        None => Ok(stmt),
+        Some(word) => Err(p.reject(SyntaxError::AwaitForStmt, word)),
+    }
+}
+
+/// A `for` statement, from behind its first part.
+#[tactic(auto, unfolding(swc_ecma_parser_reader::specs::Reader::for_behind), using(crate::proofs::Awaited::awaited, crate::proofs::Awaited::refused))]
+fn for_behind<
+    P: Source,
+    T: BuildsExpr + BuildsStmt + BuildsPattern + BuildsCall + BuildsLoop,
+    S: Fn(&MakerOf<T>, &mut P, usize, Position) -> PResult<T::Stmt>,
+    E: Fn(&MakerOf<T>, &mut P, usize, Reading) -> PResult<Cover<T::Expr>>,
+    N: Fn(&MakerOf<T>, &mut P, usize, Part) -> PResult<T::Pat>,
+>(
+    g: &Grammar<S, E, N>,
+    t: &MakerOf<T>,
+    p: &mut P,
+    start: Span,
+    word: Option<Span>,
+    first: Opening<T::Declarator, T::Expr>,
+) -> PResult<T::Stmt>
+    requires { Nests P.seen T.expr_of T.pat_of T.stmt_of g.now.depth (S.pre g.now.stmt) (S.post g.now.stmt) (E.pre g.now.expr) (E.post g.now.expr) (N.pre g.now.pat) (N.post g.now.pat) }
+    ensures { GivesAs T.stmt_of (rules.for_behind (rules.stmt g.now.depth sub_statement) (exprs.expr g.now.depth) start word (opening_of T.declarator_of T.expr_of first) (P.seen p.old)) result (P.seen p.new) }
+{
+    if p.sees(TokenKind::In) {
+        let stmt = for_in(g, t, p, start, first)?;
+        return unless_awaited::<P, T>(p, word, stmt);
+    }
+    if p.word_at("of") {
+        return for_of(g, t, p, word.is_some(), start, first);
+    }
+    let stmt = for_parts(g, t, p, start, first)?;
+    unless_awaited::<P, T>(p, word, stmt)
 }
 
 /// A `for` statement.
-#[tactic(auto, unfolding(swc_ecma_parser_reader::specs::Reader::for_stmt, swc_ecma_parser_reader::specs::Reader::for_behind))]
+#[tactic(auto, unfolding(swc_ecma_parser_reader::specs::Reader::for_stmt))]
 pub fn for_stmt<
     P: Source,
     T: BuildsExpr + BuildsStmt + BuildsPattern + BuildsCall + BuildsLoop,
@@ -148,13 +206,8 @@ pub fn for_stmt<
 {
     let start = p.span();
     p.skip()?;
+    let word = await_here(p)?;
     p.expect(TokenKind::LParen, "(")?;
     let first = head_opening(g, t, p)?;
-    if p.sees(TokenKind::In) {
-        return for_in(g, t, p, start, first);
-    }
-    if p.word_at("of") {
-        return for_of(g, t, p, start, first);
-    }
-    for_parts(g, t, p, start, first)
+    for_behind(g, t, p, start, word, first)
 }

@@ -164,20 +164,26 @@ pub(crate) fn as_init<P: Source, T: BuildsExpr + BuildsStmt + BuildsLoop>(
     Ok(Some(grown(p, init)?))
 }
 
-/// It as what takes each value.
+/// It as what takes each value. Behind `for await` the name `async` alone is not read yet.
 #[tactic(auto, using(crate::proofs::Targets::read_target))]
 pub(crate) fn as_left<P: Source, T: BuildsExpr + BuildsStmt + BuildsPattern>(
     t: &MakerOf<T>,
     p: &mut P,
+    is_await: bool,
     first: Opening<T::Declarator, T::Expr>,
 ) -> PResult<Left<T::Declarator, T::Pat>>
-    ensures gives { GivesAs (left_of T.declarator_of T.pat_of) (rules.as_left (opening_of T.declarator_of T.expr_of first) (P.seen p.old)) result (P.seen p.new) }
+    ensures gives { GivesAs (left_of T.declarator_of T.pat_of) (rules.as_left is_await (opening_of T.declarator_of T.expr_of first) (P.seen p.old)) result (P.seen p.new) }
     ensures target { IfOk result (λ left. IsTarget T.pat_of left) }
 {
     match first {
         Opening::Nothing => Err(p.wanted(Wanted::Expression)),
         Opening::Variables(x) => Ok(Left::Variables(x)),
-        Opening::Expression(v) => Ok(Left::Pattern(target(t, p, v)?)),
+        Opening::Expression(v) => {
+            if is_await && T::is_ident_named(&v.tree, "async") {
+                return Err(p.wanted(Wanted::Expression));
+            }
+            Ok(Left::Pattern(target(t, p, v)?))
+        }
     }
 }
 

@@ -4,20 +4,20 @@ use Rattle.swc_ecma_parser_token.specs.declared.token.Word.{Word}
 use Rattle.swc_ecma_parser_grammar.proofs.Tests.{and_both, and_no}
 use Rattle.swc_ecma_parser_grammar.proofs.SupportedBegins.{word_begins, name_begins}
 use Rattle.swc_ecma_parser_grammar.specs.Own.{labelled_function, duplicates}
-use Rattle.swc_ecma_parser_grammar.specs.Reads.{labeled_rule}
+use Rattle.swc_ecma_parser_grammar.specs.Reads.{labeled_rule, with_rule}
 use Rattle.swc_ecma_parser_grammar.specs.Names.{is_name, name_at, first_is_name}
 use Rattle.swc_ecma_parser_grammar.specs.language.Items.{labelled_item}
-use Rattle.swc_ecma_parser_reader.specs.Reader.{begins_label, relabels, labelled_body, labeled_stmt, other_stmt}
+use Rattle.swc_ecma_parser_reader.specs.Reader.{begins_label, relabels, labelled_body, labeled_stmt, other_stmt, with_stmt, await_here}
 use Rattle.swc_ecma_parser_grammar.proofs.SupportedBegins.{opens}
 use Rattle.swc_ecma_parser_grammar.proofs.Marks.{no_word}
 use Rattle.swc_ecma_parser_reader.proofs.Opens.{unopened, let_stands, let_before_colon}
 use Rattle.swc_ecma_parser_reader.proofs.expressions.SoundLefts.{word_stands}
 use Rattle.swc_ecma_parser_reader.specs.Reader.{head_part, misdeclared, for_parts, for_in, for_of, for_behind, for_stmt, const_stmt, let_stmt}
-use Rattle.swc_ecma_parser_grammar.specs.Follows.{word_at, is_async_of}
+use Rattle.swc_ecma_parser_grammar.specs.Follows.{word_at, is_async_of, AwaitWord, is_bare_async, no_await, await_word}
 use Rattle.swc_ecma_parser_grammar.specs.Own.{head_faults}
 use Rattle.swc_ecma_parser_grammar.specs.Reads.{InitRule, LeftRule, PartRule, no_part_rule, part_rule, for_rule, for_in_rule, for_of_rule}
 use Rattle.swc_ecma_parser_model.specs.declared.leaves.VarDeclKind.TheVariants as decl
-use Rattle.std.proofs.Common.{◌≡◌, inl, inr, ℕ, zero, suc, Bool, true, false, List, [], ◌∷◌, ◌++◌, Ok, refl, sym, ◌∙◌, ap, subst, append_assoc, append-nil}
+use Rattle.std.proofs.Common.{◌≡◌, inl, inr, ℕ, zero, suc, Bool, true, false, List, [], ◌∷◌, ◌++◌, Ok, refl, sym, ◌∙◌, ap, subst, append_assoc, append-nil, Option, not, is_some, None, Some}
 use Rattle.std.specs.Prelude.{◌&&◌, ◌||◌, codes}
 use Rattle.swc_ecma_parser_common.specs.declared.span.Span.{Span}
 use Rattle.swc_ecma_parser_error.specs.Kind as faults
@@ -35,14 +35,14 @@ use Rattle.swc_ecma_parser_grammar.specs.Names.{Code}
 use Rattle.swc_ecma_parser_grammar.specs.Ends.{OptionalEnds}
 use Rattle.swc_ecma_parser_grammar.specs.Reads.{with_in, nested_item, top_item, ReadsToken, ReadsItems, break_rule, continue_rule, return_rule, StmtRule, block_rule, empty_rule, debugger_rule, variables_rule, if_statement_rule, CaseRule, case_clause_rule, default_clause_rule, ReadsCases, switch_rule, throw_rule, try_rule, while_rule, do_while_rule, expr_rule, import_rule, ReadsBlock, CatchRule, no_catch_rule, catch_rule, catch_parameter_rule, FinallyRule, no_finally_rule, finally_rule, ReadsHead, IfRule, if_rule, no_else_rule, else_rule, else_if_rule}
 use Rattle.swc_ecma_parser_grammar.specs.ReadsSupported.{ReadsClass, ReadsPat, ReadsTarget, ReadsStmt}
-use Rattle.swc_ecma_parser_grammar.specs.language.Contexts.{in_loop, in_breakable}
+use Rattle.swc_ecma_parser_grammar.specs.language.Contexts.{in_loop, in_breakable, in_with}
 use Rattle.swc_ecma_parser_grammar.specs.language.Goals.{expression, assignment}
 use Rattle.swc_ecma_parser_grammar.specs.language.Items.{sub_statement}
 use Rattle.swc_ecma_parser_grammar.specs.Entries.{script_code, ReadsScript}
-use Rattle.swc_ecma_parser_grammar.specs.Notes.{notes}
+use Rattle.swc_ecma_parser_grammar.specs.Notes.{notes, with_note}
 use Rattle.swc_ecma_parser_grammar.specs.language.Noted.{has_meta}
 use Rattle.swc_ecma_parser_grammar.specs.Walk.{env_of, walk, walks}
-use Rattle.swc_ecma_parser_reader.specs.Notes.{Notes, ◌⊕◌, notes_of, all_notes_of}
+use Rattle.swc_ecma_parser_reader.specs.Notes.{Notes, ◌⊕◌, notes_of, all_notes_of, held}
 use Rattle.swc_ecma_parser_reader.specs.State.{Scope, State, Outcome, and_then, loop}
 use Rattle.swc_ecma_parser_reader.specs.Expressions.{expr}
 use Rattle.swc_ecma_parser_reader.specs.Heads.{head_cover}
@@ -61,7 +61,7 @@ use Rattle.swc_ecma_parser_reader.proofs.Loops.{stmt_shorter, clauses_done, clau
 use Rattle.swc_ecma_parser_grammar.proofs.SupportedBegins.{expr_opens}
 use Rattle.swc_ecma_parser_reader.proofs.Opens.{opened, no_block_or_import, import_stands, stmt_goes}
 use Rattle.swc_ecma_parser_reader.proofs.Chains.{if_last, if_more}
-use Rattle.swc_ecma_parser_reader.proofs.CompleteParts.{at_end_at, behind_setting, break_reads, calm_first, calm_last, clause_ends, close_reads, closes_at, code_stays, condition_reads, continue_reads, debugger_reads, empty_reads, expect_reads, expr_stmt_reads, head_reads, import_stmt_reads, items_read, no_brace, no_label_here, opening_reads_init, opening_reads_left, optional_end_reads, return_reads, shebang_reads, throw_reads, told_reads, variables_reads}
+use Rattle.swc_ecma_parser_reader.proofs.CompleteParts.{at_end_at, behind_setting, break_reads, calm_first, calm_last, clause_ends, close_reads, closes_at, code_stays, condition_reads, continue_reads, debugger_reads, empty_reads, expect_reads, expr_stmt_reads, head_reads, import_stmt_reads, items_read, no_brace, no_label_here, opening_reads_init, opening_reads_left, optional_end_reads, return_reads, shebang_reads, throw_reads, told_reads, variables_reads, note_with_reads}
 
 -- ---- all levels
 
@@ -253,11 +253,22 @@ module _ (n : ℕ) (reads : (at : Position) (k : Code) (x : Tree) (c d : Place) 
   unfolding same_kind
   of_stands c e = let g = word_stands (codes "of") c e in (rw g refl, rw g refl)
 
+  -- `await` behind `for`, or nothing
+  no_await_here : (c : Place) → kind_at c ≡ kind.LParen → sees kind.Await c ≡ false
+  unfolding same_kind
+  no_await_here c e = rw e refl
+
+  await_reads : (v : Bool) (k : Code) (c l : Place) (w : Scope) (f : List Fault) (h : Notes) → AwaitWord v c l → kind_at l ≡ kind.LParen
+      → (word : Option Span) × (await_here (st c k w f h) ≡ Ok (word, st l k w f h)) × (is_some word ≡ v)
+  unfolding await_here
+  await_reads v k c l w f h (no_await e i) o = (None, rw (no_await_here c (ap kind_at (sym i) ∙ o), i) refl, sym e)
+  await_reads v k c l w f h (await_word e i g) o = (Some (span_at c), rw (seen c kind.Await i, g) refl, sym e)
+
   for_reads : (a b g y : Tree) (l m i : Place) (k : Code) (x : Tree) (c d : Place) → kind_at (after c) ≡ kind.LParen → InitRule (ReadsClass n) (ReadsPat n) k a (after (after c)) l
       → kind_at l ≡ kind.Semi → PartRule (ReadsClass n) k b (after l) m → kind_at m ≡ kind.Semi → PartRule (ReadsClass n) k g (after m) i → kind_at i ≡ kind.RParen
       → ReadsStmt n (in_loop k) sub_statement y (after i) d → x ≡ tree.for (spanned c d) a b g y
       → ReadsCalm (for_stmt (stmt n sub_statement) (expr n) (pattern n) (head_cover n)) k x c d
-  unfolding for_stmt for_behind for_parts spanned
+  unfolding for_stmt for_behind for_parts await_here spanned
   for_reads a b g y l m i k x c d o r s t u v z j e w f h q =
       let env = env_of k w.labels in
       let f1 = f ++ walk env a in
@@ -268,6 +279,7 @@ module _ (n : ℕ) (reads : (at : Position) (k : Code) (x : Tree) (c d : Place) 
       let h3 = h2 ⊕ notes_of g in
       let first = opening_reads_init n k a (after (after c)) l r w f h in
       rw (
+        no_await_here (after c) o,
         expect_reads kind.LParen (after c) k w f h o,
         first.is,
         (no_head_word l s).0,
@@ -288,7 +300,7 @@ module _ (n : ℕ) (reads : (at : Position) (k : Code) (x : Tree) (c d : Place) 
       → LeftRule (ReadsClass n) (ReadsPat n) (ReadsTarget n) k a (after (after c)) m → kind_at m ≡ kind.In → ReadsClass n expression (with_in k) b (after m) i → kind_at i ≡ kind.RParen
       → ReadsStmt n (in_loop k) sub_statement y (after i) d → x ≡ tree.for_in (spanned c d) a b y
       → ReadsCalm (for_stmt (stmt n sub_statement) (expr n) (pattern n) (head_cover n)) k x c d
-  unfolding for_stmt for_behind for_in misdeclared spanned
+  unfolding for_stmt for_behind for_in misdeclared await_here spanned
   for_in_reads a b y m i k x c d o r s t z j e w f h q =
       let env = env_of k w.labels in
       let l = head_faults k.flags.strict a in
@@ -297,8 +309,9 @@ module _ (n : ℕ) (reads : (at : Position) (k : Code) (x : Tree) (c d : Place) 
       let f3 = f2 ++ walk env b in
       let h1 = h ⊕ notes_of a in
       let h2 = h1 ⊕ notes_of b in
-      let first = opening_reads_left n k a (after (after c)) m r (inl (s, refl)) w f h in
+      let first = opening_reads_left n false k a (after (after c)) m r (inl (s, refl)) refl w f h in
       rw (
+        no_await_here (after c) o,
         expect_reads kind.LParen (after c) k w f h o,
         first.is,
         seen m kind.In s,
@@ -311,12 +324,12 @@ module _ (n : ℕ) (reads : (at : Position) (k : Code) (x : Tree) (c d : Place) 
         e,
       ) (simp (append_assoc, or_assoc) refl)
 
-  for_of_reads : (a b y : Tree) (m i : Place) (k : Code) (x : Tree) (c d : Place) → kind_at (after c) ≡ kind.LParen
-      → LeftRule (ReadsClass n) (ReadsPat n) (ReadsTarget n) k a (after (after c)) m → word_at (codes "of") m ≡ true → is_async_of false a m ≡ false
-      → ReadsClass n assignment (with_in k) b (after m) i → kind_at i ≡ kind.RParen → ReadsStmt n (in_loop k) sub_statement y (after i) d → x ≡ tree.for_of (spanned c d) false a b y
+  for_of_reads : (v : Bool) (a b y : Tree) (p m i : Place) (k : Code) (x : Tree) (c d : Place) → AwaitWord v (after c) p → kind_at p ≡ kind.LParen
+      → LeftRule (ReadsClass n) (ReadsPat n) (ReadsTarget n) k a (after p) m → word_at (codes "of") m ≡ true → is_async_of false a m ≡ false → not (v && is_bare_async a) ≡ true
+      → ReadsClass n assignment (with_in k) b (after m) i → kind_at i ≡ kind.RParen → ReadsStmt n (in_loop k) sub_statement y (after i) d → x ≡ tree.for_of (spanned c d) v a b y
       → ReadsCalm (for_stmt (stmt n sub_statement) (expr n) (pattern n) (head_cover n)) k x c d
   unfolding for_stmt for_behind for_of misdeclared spanned
-  for_of_reads a b y m i k x c d o r s u t z j e w f h q =
+  for_of_reads v a b y p m i k x c d g o r s u n' t z j e w f h q =
       let env = env_of k w.labels in
       let l = head_faults true a in
       let f1 = f ++ walk env a in
@@ -324,11 +337,14 @@ module _ (n : ℕ) (reads : (at : Position) (k : Code) (x : Tree) (c d : Place) 
       let f3 = f2 ++ walk env b in
       let h1 = h ⊕ notes_of a in
       let h2 = h1 ⊕ notes_of b in
-      let first = opening_reads_left n k a (after (after c)) m r (inr (s, u)) w f h in
+      let first = opening_reads_left n v k a (after p) m r (inr (s, u)) n' w f h in
+      let begun = await_reads v k (after c) p w f h g o in
       rw (
-        expect_reads kind.LParen (after c) k w f h o,
+        begun.1,
+        expect_reads kind.LParen p k w f h o,
         first.is,
         (of_stands m s).0,
+        begun.2,
         s,
         first.holds (st m k w f1 h1),
         told_reads l m k w f1 h1 (inr (of_stands m s).1),
@@ -352,6 +368,20 @@ module _ (n : ℕ) (reads : (at : Position) (k : Code) (x : Tree) (c d : Place) 
         append_assoc h.held_back (notes y) (notes z),
         or_assoc h.found_module_item (has_meta y) (has_meta z),
       ) refl
+
+  with_reads : (y z : Tree) (m : Place) (k : Code) (x : Tree) (c d : Place) → k.flags.module ≡ false → ReadsHead (ReadsClass n) k y (after c) m → ReadsStmt n (in_with k) sub_statement z m d
+      → x ≡ tree.with (spanned c d) y z → ReadsCalm (with_stmt (stmt n sub_statement) (expr n expression)) k x c d
+  unfolding with_stmt spanned
+  with_reads y z m k x c d o r s e w f h q =
+      let g : Notes = h ⊕ held (with_note (span_at c) ∷ []) in
+      rw (
+        note_with_reads (span_at c) (after c) k w f h o,
+        head_reads n k y (after c) m r w f g,
+        reads sub_statement (in_with k) z m d s w (f ++ walk (env_of k w.labels) y) (g ⊕ notes_of y)
+            (calm_last d (walk (env_of k w.labels) y) (walk (env_of (in_with k) w.labels) z) (walk (env_of k w.labels) x) (ap (walk (env_of k w.labels)) e) q),
+        e,
+        or_nil h.found_module_item,
+      ) (simp (append_assoc, or_assoc) refl)
 
   do_while_reads : (y z : Tree) (m i : Place) (k : Code) (x : Tree) (c d : Place) → ReadsStmt n (in_loop k) sub_statement z (after c) m → kind_at m ≡ kind.While
       → ReadsHead (ReadsClass n) k y (after m) i → OptionalEnds i d → x ≡ tree.do_while (spanned c d) y z → Reads (do_while (stmt n sub_statement) (expr n expression)) k x c d
@@ -440,7 +470,7 @@ module _ (n : ℕ) (reads : (at : Position) (k : Code) (x : Tree) (c d : Place) 
   by_rules at k x c d (return_rule y m e r g i) w f h q = rw e (return_reads n y m k x c d r g i w f h q)
   by_rules at k x c d (for_rule a b g y l m i e o r s t u v z j p) w f h q = rw e (for_reads a b g y l m i k x c d o r s t u v z j p w f h q)
   by_rules at k x c d (for_in_rule a b y m i e o r s t z j p) w f h q = rw e (for_in_reads a b y m i k x c d o r s t z j p w f h q)
-  by_rules at k x c d (for_of_rule a b y m i e o r s u t z j p) w f h q = rw e (for_of_reads a b y m i k x c d o r s u t z j p w f h q)
+  by_rules at k x c d (for_of_rule b a g y l m i e v o r s u n' t z j p) w f h q = rw e (for_of_reads b a g y l m i k x c d v o r s u n' t z j p w f h q)
   by_rules at k x c d (labeled_rule v s y m r o i t e) w f h q =
       let b = name_begins k.flags v s c m r o in
       opened (stmt n) (expr n) (pattern n) (head_cover n) at (st c k w f h) (kind_at c) (word_begins k.flags v s c m r o) (no_brace v s c m r) b.1 (name_no_const k.flags v s c m r o)
@@ -448,6 +478,7 @@ module _ (n : ℕ) (reads : (at : Position) (k : Code) (x : Tree) (c d : Place) 
       ∙ rw (label_begins k v s c m r o i) (labeled_reads v s y m k x c d r o i t e w f h q)
   by_rules at k x c d (throw_rule y m e b r g i) w f h q = rw e (throw_reads n y m k x c d b r g i w f h)
   by_rules at k x c d (try_rule y z v m i e r s t b g) w f h q = rw e (try_reads y z v m i k x c d r s t b g w f h)
+  by_rules at k x c d (with_rule y z m e o r s i) w f h q = rw e (with_reads y z m k x c d o r s i w f h q)
   by_rules at k x c d (while_rule y z m e r s i) w f h q = rw e (while_reads y z m k x c d r s i w f h q)
   by_rules at k x c d (do_while_rule y z m i e s j r g o) w f h q = rw e (do_while_reads y z m i k x c d s j r g o w f h)
   by_rules at k x c d (expr_rule e m b r l i g j) w f h q =

@@ -1,18 +1,19 @@
 -- What the grammar allows of the parts of statements is read: ends, declarators, statements one behind another, what is told, and
 -- statements that hold no other.
+use Rattle.swc_ecma_parser_reader.proofs.expressions.Targets.{target_async}
 use Rattle.swc_ecma_parser_token.specs.declared.token.Word.TheVariants as word
 use Rattle.swc_ecma_parser_token.specs.declared.keyword.Keyword.TheVariants as keyword
 use Rattle.swc_ecma_parser_input.specs.declared.context.Context.{Context}
 use Rattle.swc_ecma_parser_token.specs.Text.{word_text}
 use Rattle.swc_ecma_parser_token.specs.declared.keyword.Keyword.{Keyword}
 use Rattle.swc_ecma_parser_token.specs.declared.token.Word.{Word}
-use Rattle.std.proofs.Common.{Err, true≢false}
+use Rattle.std.proofs.Common.{Err, true≢false, not}
 use Rattle.swc_ecma_parser_reader.proofs.Meets.{saw}
 use Rattle.swc_ecma_parser_reader.specs.Notes.{no_notes}
 use Rattle.swc_ecma_parser_grammar.proofs.Tests.{and_yes}
 use Rattle.swc_ecma_parser_grammar.proofs.Marks.{name_before_colon}
 use Rattle.swc_ecma_parser_grammar.specs.Names.{is_name, is_reserved, name_at, first_is_name, token_is_name}
-use Rattle.swc_ecma_parser_reader.specs.Reader.{begins_label}
+use Rattle.swc_ecma_parser_reader.specs.Reader.{begins_label, note_with}
 use Rattle.std.proofs.Common.{◌≡◌, ◌⊎◌, inl, inr, ℕ, zero, suc, ◌<◌, Bool, true, false, cond, List, [], ◌∷◌, ◌++◌, length, Option, Some, None, Ok, refl, sym, ◌∙◌, ap, append_assoc, append-nil}
 use Rattle.std.specs.Prelude.{◌&&◌, ◌||◌, codes}
 use Rattle.swc_ecma_parser_common.specs.declared.span.Span.{Span}
@@ -34,19 +35,19 @@ use Rattle.swc_ecma_parser_model.specs.Forms.{is_ident, is_ident_named, span_of}
 use Rattle.swc_ecma_parser_grammar.specs.Looks.{kind_at, breaks_at, sees, same_kind, spanned}
 use Rattle.swc_ecma_parser_grammar.specs.Names.{Code}
 use Rattle.swc_ecma_parser_grammar.specs.Ends.{Ends, by_semicolon, by_insertion, OptionalEnds, by_a_semicolon, by_nothing}
-use Rattle.swc_ecma_parser_grammar.specs.Follows.{begins_import_expression, may_begin_head}
+use Rattle.swc_ecma_parser_grammar.specs.Follows.{begins_import_expression, may_begin_head, is_bare_async}
 use Rattle.swc_ecma_parser_grammar.specs.Variables.{begins_variables}
 use Rattle.swc_ecma_parser_grammar.specs.language.Contexts.{without_in}
 use Rattle.swc_ecma_parser_grammar.specs.Reads.{with_in, in_strict, head_code, HeadVariables, InitRule, no_init_rule, init_variables_rule, init_expression_rule, LeftRule, declared_rule, left_target_rule, ReadsToken, DeclaratorRule, plain_rule, initialized_rule, ReadsSeparated, directed, directs_on, ReadsItems, TargetRule, no_target_rule, target_rule, OperandRule, no_operand_rule, operand_rule, ReadsHead}
 use Rattle.swc_ecma_parser_grammar.specs.ReadsSupported.{ReadsClass, ReadsPat, ReadsTarget}
 use Rattle.swc_ecma_parser_grammar.specs.language.Goals.{Class, expression, assignment}
 use Rattle.swc_ecma_parser_grammar.specs.Entries.{ReadsShebang, some_shebang, no_shebang}
-use Rattle.swc_ecma_parser_grammar.specs.Notes.{notes, statement_note}
+use Rattle.swc_ecma_parser_grammar.specs.Notes.{notes, statement_note, as_note, with_note}
 use Rattle.swc_ecma_parser_grammar.specs.language.Noted.{has_meta}
 use Rattle.swc_ecma_parser_grammar.specs.Walk as walks_of
 use Rattle.swc_ecma_parser_grammar.specs.Walk.{Env, env_of, walk, walks}
 use Rattle.swc_ecma_parser_reader.specs.Notes.{Notes, held, ◌⊕◌, notes_of, all_notes_of}
-use Rattle.swc_ecma_parser_reader.specs.State.{Scope, State, Outcome, Reader, noted, recorded_at, recorded_in, fault, labelled, expect, end, fault_at, loop}
+use Rattle.swc_ecma_parser_reader.specs.State.{Scope, State, Outcome, Reader, noted, holding_back, recorded_at, recorded_in, fault, labelled, expect, end, fault_at, loop}
 use Rattle.swc_ecma_parser_reader.specs.Expressions.{Cover, expr}
 use Rattle.swc_ecma_parser_reader.specs.Heads.{head_cover}
 use Rattle.swc_ecma_parser_reader.specs.Patterns.{pattern}
@@ -235,8 +236,14 @@ variables_reads n word xs m k x c d r e g w f h =
 abbrev pub AsInit : Tree → Opening → Type 0
 AsInit x o = (s : State) → as_init o s ≡ Ok (x, s)
 
-abbrev pub AsLeftSide : Tree → Opening → Type 0
-AsLeftSide x o = (s : State) → as_left o s ≡ Ok (x, s)
+abbrev pub AsLeftSide : (is_await : Bool) → Tree → Opening → Type 0
+AsLeftSide is_await x o = (s : State) → as_left is_await o s ≡ Ok (x, s)
+
+-- `async` alone is none behind `for await`
+unnamed_async : (w a b : Bool) → a ≡ b → not (w && a) ≡ true → (w && b) ≡ false
+unnamed_async true true b e h = cc
+unnamed_async true false b e h = sym e
+unnamed_async false a b e h = refl
 
 module _ (inner_expr : Class → Reader Tree) (inner_pat : Reader Tree) (inner_cover : Reader Cover) where
   -- the word of a declaration tells that variables are declared
@@ -278,15 +285,15 @@ module _ (n : ℕ) where
       }
 
   -- behind it `in` stands, or `of`
-  pub opening_reads_left : (k : Code) (x : Tree) (c d : Place) → LeftRule (ReadsClass n) (ReadsPat n) (ReadsTarget n) k x c d → heads.Heads (without_in k) x d
-      → ReadsAs (AsLeftSide x) (opening (expr n) (pattern n) (head_cover n)) k x c d
+  pub opening_reads_left : (is_await : Bool) (k : Code) (x : Tree) (c d : Place) → LeftRule (ReadsClass n) (ReadsPat n) (ReadsTarget n) k x c d → heads.Heads (without_in k) x d
+      → not (is_await && is_bare_async x) ≡ true → ReadsAs (AsLeftSide is_await x) (opening (expr n) (pattern n) (head_cover n)) k x c d
   unfolding head_expression
-  opening_reads_left k x c d (declared_rule r) e w f h = record { value = Variables x; holds = λ s. refl; is = head_variables_read k x c d w f h r }
-  opening_reads_left k x c d (left_target_rule a r) e w f h =
+  opening_reads_left b k x c d (declared_rule r) e o w f h = record { value = Variables x; holds = λ s. refl; is = head_variables_read k x c d w f h r }
+  opening_reads_left b k x c d (left_target_rule a r) e o w f h =
       let g = heads.head_reads_target n (without_in k) x c d r e w f h in
       record {
         value = Expression g.value;
-        holds = λ s. covers.target_reads g.value s x g.holds.1 g.holds.0;
+        holds = λ s. rw (unnamed_async b _ _ (target_async g.value.x x g.holds.0) o) (covers.target_reads g.value s x g.holds.1 g.holds.0);
         is = opening_starts (expr n) (pattern n) (head_cover n) (st c k w f h) a ∙ rw g.is refl;
       }
 
@@ -372,7 +379,7 @@ at_end_at c e = rw e refl
 
 -- what a bare name `interface` leaves behind: the grammar has none in module code, and elsewhere its fault is held back
 pub note_by : (b in_module : Bool) (e : Fault) (s : State) → in_module && b ≡ false
-    → ◌≡◌ {A = Outcome (Unit {0})} (cond b (Ok (tt, cond in_module (noted e s) (record s { notes = record s.notes { held_back = s.notes.held_back ++ e ∷ [] } }))) (Ok (tt, s))) (Ok (tt, record s { notes = s.notes ⊕ held (cond b (e ∷ []) []) }))
+    → ◌≡◌ {A = Outcome (Unit {0})} (cond b (Ok (tt, cond in_module (noted e s) (holding_back e s))) (Ok (tt, s))) (Ok (tt, record s { notes = s.notes ⊕ held (cond b (as_note e ∷ []) []) }))
 note_by false in_module e s g = rw (append-nil s.notes.held_back, or_nil s.notes.found_module_item) refl
 note_by true false e s g = rw (or_nil s.notes.found_module_item) refl
 note_by true true e s g = cc
@@ -381,6 +388,12 @@ pub note_reads : (e : Tree) (m : Place) (k : Code) (w : Scope) (f : List Fault) 
     → note_statement e (st m k w f h) ≡ Ok (tt, st m k w f (h ⊕ held (statement_note e)))
 unfolding note_statement
 note_reads e m k w f h g = note_by (is_ident_named (codes "interface") e) k.flags.module (fault_at (span_of e) faults.InvalidIdentInStrict) (st m k w f h) g
+
+-- a `with` is none in module code, and elsewhere its fault is held back
+pub note_with_reads : (span : Span) (m : Place) (k : Code) (w : Scope) (f : List Fault) (h : Notes) → k.flags.module ≡ false
+    → note_with span (st m k w f h) ≡ Ok (tt, st m k w f (h ⊕ held (with_note span ∷ [])))
+unfolding note_with
+note_with_reads span m k w f h o = rw (o, or_nil h.found_module_item) refl
 
 pub expr_stmt_reads : (n : ℕ) (e : Tree) (m : Place) (k : Code) (x : Tree) (c d : Place) → ReadsClass n expression (with_in k) e c m → is_ident e && sees kind.Colon m ≡ false
     → k.flags.module && is_ident_named (codes "interface") e ≡ false → Ends m d → x ≡ tree.expr_stmt (spanned c d) e → Reads (expr_stmt (expr n expression)) k x c d

@@ -1,7 +1,7 @@
 -- A statement takes a token at least.
 use Rattle.swc_ecma_parser_reader.specs.State.{Scope, and_then, below, relabelled, below_label}
 use Rattle.swc_ecma_parser_grammar.specs.language.Items.{labelled_item}
-use Rattle.swc_ecma_parser_reader.specs.Reader.{begins_label, relabels, labelled_body, labeled_stmt, other_stmt}
+use Rattle.swc_ecma_parser_reader.specs.Reader.{begins_label, relabels, labelled_body, labeled_stmt, other_stmt, note_with, with_stmt, await_here, unless_awaited}
 use Rattle.swc_ecma_parser_reader.specs.Reader.{missing_initializer, Opening, Nothing, Variables, Expression, as_init, as_left, head_variables, head_expression, opening, head_part, misdeclared, for_parts, for_in, for_of, for_behind, for_stmt, const_stmt, let_stmt}
 use Rattle.swc_ecma_parser_grammar.specs.language.Contexts.{without_in}
 use Rattle.swc_ecma_parser_grammar.specs.Variables.{is_const, needs_no_initializer}
@@ -24,7 +24,7 @@ use Rattle.swc_ecma_parser_grammar.specs.Follows.{word_at, may_begin_expression_
 use Rattle.swc_ecma_parser_grammar.specs.Reads.{with_in, head_code, nested_item, top_item}
 use Rattle.swc_ecma_parser_grammar.specs.Ends.{ends_at}
 use Rattle.swc_ecma_parser_grammar.specs.Entries.{script_code}
-use Rattle.swc_ecma_parser_grammar.specs.language.Contexts.{in_loop, in_breakable}
+use Rattle.swc_ecma_parser_grammar.specs.language.Contexts.{in_loop, in_breakable, in_with}
 use Rattle.swc_ecma_parser_grammar.specs.language.Goals.{Class, expression, assignment}
 use Rattle.swc_ecma_parser_grammar.specs.language.Items.{sub_statement}
 use Rattle.swc_ecma_parser_reader.specs.State.{State, Outcome, Reader, moved, coded, within, fault, labelled, labelled_as, name, expect, end}
@@ -136,6 +136,10 @@ note_falls : (x : Tree) (s : State) → Falls 0 (length s.at.left) (note_stateme
 unfolding note_statement
 note_falls x s = falls_if 0 (length s.at.left) (is_ident_named (codes "interface") x) _ _ (noted_either s.code.flags.module (length s.at.left) _ _ (omega arith) (omega arith)) (omega arith)
 
+note_with_falls : (span : Span) (s : State) → Falls 0 (length s.at.left) (note_with span s)
+unfolding note_with
+note_with_falls span s = noted_either s.code.flags.module (length s.at.left) _ _ (omega arith) (omega arith)
+
 optional_end_falls : (s : State) → Falls 0 (length s.at.left) (optional_end s)
 unfolding optional_end
 optional_end_falls s = falls_if 0 (length s.at.left) (sees kind.Semi s.at) _ _ (let m = moves s.at in omega arith) (omega arith)
@@ -211,6 +215,13 @@ module _ (inner : Reader Tree) (h : (s : State) → Falls 1 (length s.at.left) (
   while_falls s e = falls_past s _ e (falls_then 0 0 (length (after s.at).left) (head inner_expr (moved s)) _ (head_falls inner_expr g (moved s)) (λ x t.
       falls_last 0 (length t.at.left) (within in_loop inner t) _ (looped_falls t)))
 
+  with_falls : (s : State) → kind_at s.at ≢ kind.End → Falls 1 (length s.at.left) (with_stmt inner inner_expr s)
+  unfolding with_stmt
+  with_falls s e = falls_past s _ e (falls_then 0 0 (length (after s.at).left) (note_with (span_at s.at) (moved s)) _ (note_with_falls (span_at s.at) (moved s)) (λ _ t.
+      falls_then 0 0 (length t.at.left) (head inner_expr t) _ (head_falls inner_expr g t) (λ x u.
+      falls_last 0 (length u.at.left) (within in_with inner u) _
+      (falls_coded 0 (length u.at.left) (inner (coded (in_with u.code) u)) _ _ (less (length u.at.left) (inner (coded (in_with u.code) u)) (h (coded (in_with u.code) u)))))))
+
   do_while_falls : (s : State) → kind_at s.at ≢ kind.End → Falls 1 (length s.at.left) (do_while inner inner_expr s)
   unfolding do_while
   do_while_falls s e = falls_past s _ e (falls_then 0 0 (length (after s.at).left) (within in_loop inner (moved s)) _ (looped_falls (moved s)) (λ x t.
@@ -258,10 +269,19 @@ as_init_falls Nothing s = omega arith
 as_init_falls (Variables x) s = omega arith
 as_init_falls (Expression v) s = exprs.close_falls v s
 
-as_left_falls : (first : Opening) (s : State) → Falls 0 (length s.at.left) (as_left first s)
-as_left_falls Nothing s = wanted_falls Tree 0 (length s.at.left) faults.Unexpected s
-as_left_falls (Variables x) s = omega arith
-as_left_falls (Expression v) s = exprs.target_falls v s
+as_left_falls : (is_await : Bool) (first : Opening) (s : State) → Falls 0 (length s.at.left) (as_left is_await first s)
+as_left_falls is_await Nothing s = wanted_falls Tree 0 (length s.at.left) faults.Unexpected s
+as_left_falls is_await (Variables x) s = omega arith
+as_left_falls is_await (Expression v) s =
+    falls_if 0 (length s.at.left) (is_await && is_ident_named (codes "async") v.x) _ _ (wanted_falls Tree 0 (length s.at.left) faults.Unexpected s) (exprs.target_falls v s)
+
+await_here_falls : (s : State) → Falls 0 (length s.at.left) (await_here s)
+unfolding await_here
+await_here_falls s = falls_if 0 (length s.at.left) (sees kind.Await s.at) _ _ (let m = moves s.at in omega arith) (omega arith)
+
+unless_awaited_falls : (word : Option Span) (p : Reader Tree) (s : State) → Falls 0 (length s.at.left) (p s) → Falls 0 (length s.at.left) (unless_awaited word p s)
+unless_awaited_falls None p s h = h
+unless_awaited_falls (Some w) p s h = falls_then 0 0 (length s.at.left) (p s) _ h (λ _ t. exprs.reject_falls Tree 0 (length t.at.left) _ t)
 
 misdeclared_falls : (refused : Bool) (left : Tree) (s : State) → Falls 0 (length s.at.left) (misdeclared refused left s)
 unfolding misdeclared
@@ -314,25 +334,28 @@ module _ (inner : Reader Tree) (h : (s : State) → Falls 1 (length s.at.left) (
 
   for_in_falls : (start : Span) (first : Opening) (s : State) → Falls 0 (length s.at.left) (for_in inner inner_expr start first s)
   unfolding for_in
-  for_in_falls start first s = falls_then 0 0 (length s.at.left) (as_left first s) _ (as_left_falls first s) (λ left a.
+  for_in_falls start first s = falls_then 0 0 (length s.at.left) (as_left false first s) _ (as_left_falls false first s) (λ left a.
       falls_then 0 0 (length a.at.left) (misdeclared a.code.flags.strict left a) _ (misdeclared_falls a.code.flags.strict left a) (λ _ b.
       falls_moved 0 b _ (for_right_falls expression (moved b) _)))
 
-  for_of_falls : (start : Span) (first : Opening) (s : State) → Falls 0 (length s.at.left) (for_of inner inner_expr start first s)
+  for_of_falls : (is_await : Bool) (start : Span) (first : Opening) (s : State) → Falls 0 (length s.at.left) (for_of inner inner_expr is_await start first s)
   unfolding for_of
-  for_of_falls start first s = falls_then 0 0 (length s.at.left) (as_left first s) _ (as_left_falls first s) (λ left a.
+  for_of_falls is_await start first s = falls_then 0 0 (length s.at.left) (as_left is_await first s) _ (as_left_falls is_await first s) (λ left a.
       falls_then 0 0 (length a.at.left) (misdeclared true left a) _ (misdeclared_falls true left a) (λ _ b.
       falls_moved 0 b _ (for_right_falls assignment (moved b) _)))
 
-  for_behind_falls : (start : Span) (first : Opening) (s : State) → Falls 0 (length s.at.left) (for_behind inner inner_expr start first s)
+  for_behind_falls : (start : Span) (word : Option Span) (first : Opening) (s : State) → Falls 0 (length s.at.left) (for_behind inner inner_expr start word first s)
   unfolding for_behind
-  for_behind_falls start first s = falls_if 0 (length s.at.left) (sees kind.In s.at) _ _ (for_in_falls start first s)
-      (falls_if 0 (length s.at.left) (word_at (codes "of") s.at) _ _ (for_of_falls start first s) (for_parts_falls start first s))
+  for_behind_falls start word first s =
+      falls_if 0 (length s.at.left) (sees kind.In s.at) _ _ (unless_awaited_falls word (for_in inner inner_expr start first) s (for_in_falls start first s))
+      (falls_if 0 (length s.at.left) (word_at (codes "of") s.at) _ _ (for_of_falls (is_some word) start first s)
+      (unless_awaited_falls word (for_parts inner inner_expr start first) s (for_parts_falls start first s)))
 
   for_falls : (s : State) → kind_at s.at ≢ kind.End → Falls 1 (length s.at.left) (for_stmt inner inner_expr inner_pat inner_cover s)
   unfolding for_stmt
-  for_falls s e = falls_past s _ e (falls_then 0 0 (length (after s.at).left) (expect kind.LParen (moved s)) _ (expect_falls kind.LParen (moved s)) (λ _ a.
-      falls_then 0 0 (length a.at.left) (opening inner_expr inner_pat inner_cover a) _ (opening_falls a) (λ first b. for_behind_falls (span_at s.at) first b)))
+  for_falls s e = falls_past s _ e (falls_then 0 0 (length (after s.at).left) (await_here (moved s)) _ (await_here_falls (moved s)) (λ word c.
+      falls_then 0 0 (length c.at.left) (expect kind.LParen c) _ (expect_falls kind.LParen c) (λ _ a.
+      falls_then 0 0 (length a.at.left) (opening inner_expr inner_pat inner_cover a) _ (opening_falls a) (λ first b. for_behind_falls (span_at s.at) word first b))))
 
 -- ---- `break`, `continue` and `return`
 
@@ -498,6 +521,7 @@ module _ (inner : Position → Reader Tree) (h : (at : Position) (s : State) →
   stmt_by_falls at kind.Return s e = return_falls (inner_expr expression) (g expression) s (λ h. cc)
   stmt_by_falls at kind.Throw s e = throw_falls (inner_expr expression) (g expression) s (λ h. cc)
   stmt_by_falls at kind.Try s e = try_falls (inner nested_item) (h nested_item) inner_pat i s (λ h. cc)
+  stmt_by_falls at kind.With s e = with_falls (inner sub_statement) (h sub_statement) (inner_expr expression) (g expression) s (λ h. cc)
   stmt_by_falls at kind.While s e = while_falls (inner sub_statement) (h sub_statement) (inner_expr expression) (g expression) s (λ h. cc)
   stmt_by_falls at kind.Do s e = do_while_falls (inner sub_statement) (h sub_statement) (inner_expr expression) (g expression) s (λ h. cc)
   stmt_by_falls at kind.For s e = for_falls (inner sub_statement) (h sub_statement) inner_expr g inner_pat i inner_cover j s (λ h. cc)

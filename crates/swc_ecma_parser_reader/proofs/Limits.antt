@@ -4,7 +4,7 @@ use Rattle.swc_ecma_parser_reader.proofs.Meets.{saw}
 use Rattle.swc_ecma_parser_model.specs.Tree.{Text}
 use Rattle.swc_ecma_parser_reader.specs.State.{below, below_label}
 use Rattle.swc_ecma_parser_grammar.specs.language.Items.{labelled_item}
-use Rattle.swc_ecma_parser_reader.specs.Reader.{begins_label, relabels, labelled_body, labeled_stmt, other_stmt}
+use Rattle.swc_ecma_parser_reader.specs.Reader.{begins_label, relabels, labelled_body, labeled_stmt, other_stmt, note_with, with_stmt, await_here, unless_awaited}
 use Rattle.swc_ecma_parser_reader.specs.Reader.{missing_initializer, variables, Opening, Nothing, Variables, Expression, as_init, as_left, head_variables, head_expression, opening, head_part, misdeclared, for_parts, for_in, for_of, for_behind, for_stmt, const_stmt, let_stmt}
 use Rattle.swc_ecma_parser_reader.specs.Expressions as exprs
 use Rattle.swc_ecma_parser_reader.proofs.expressions.Heads as heads
@@ -38,10 +38,10 @@ use Rattle.swc_ecma_parser_grammar.specs.Follows.{may_begin_expression_statement
 use Rattle.swc_ecma_parser_grammar.specs.Reads.{with_in, head_code, nested_item, top_item}
 use Rattle.swc_ecma_parser_grammar.specs.Ends.{ends_at}
 use Rattle.swc_ecma_parser_grammar.specs.Entries.{script_code}
-use Rattle.swc_ecma_parser_grammar.specs.language.Contexts.{in_loop, in_breakable}
+use Rattle.swc_ecma_parser_grammar.specs.language.Contexts.{in_loop, in_breakable, in_with}
 use Rattle.swc_ecma_parser_grammar.specs.language.Goals.{Class, expression, assignment}
 use Rattle.swc_ecma_parser_grammar.specs.language.Items.{sub_statement}
-use Rattle.swc_ecma_parser_reader.specs.State.{State, Outcome, Reader, moved, coded, within, noted, module_fault, recorded_at, recorded_in, fault, fault_at, wanted, refused, labelled, labelled_as, name, expect, end}
+use Rattle.swc_ecma_parser_reader.specs.State.{State, Outcome, Reader, moved, coded, within, noted, holding_back, module_fault, recorded_at, recorded_in, fault, fault_at, wanted, refused, labelled, labelled_as, name, expect, end}
 use Rattle.swc_ecma_parser_reader.specs.Expressions.{Cover, expr}
 use Rattle.swc_ecma_parser_reader.specs.Heads.{head_cover}
 use Rattle.swc_ecma_parser_reader.specs.Patterns.{pattern}
@@ -100,9 +100,13 @@ items_shallow inner n below stops directives m h s f = loop_answers (items_turn 
 module_fault_fine : (m : ℕ) (g : Fault) (s : State) → Fine m s.at.left → Fine m (module_fault g s).at.left
 module_fault_fine m g s f = by_module s.code.flags.module
   where
-    by_module : (b : Bool) → Fine m (cond b (noted g s) (record s { notes = record s.notes { held_back = s.notes.held_back ++ g ∷ [] } })).at.left
+    by_module : (b : Bool) → Fine m (cond b (noted g s) (holding_back g s)).at.left
     by_module true = f
     by_module false = f
+
+note_with_shallow : (m : ℕ) (span : Span) (s : State) → Fine m s.at.left → Answers (Kept m) Shallow (note_with span s)
+unfolding note_with
+note_with_shallow m span s f = module_fault_fine m (fault_at span faults.WithInStrict) s f
 
 optional_end_shallow : (m : ℕ) (s : State) → Fine m s.at.left → Answers (Kept m) Shallow (optional_end s)
 unfolding optional_end
@@ -159,15 +163,24 @@ as_init_shallow m (Expression v) s f = by_mark v.mark
     by_mark None = f
     by_mark (Some k) = reject_shallow _ faults.AssignProperty k (λ e. cc) m s f
 
-as_left_shallow : (m : ℕ) (o : Opening) (s : State) → Fine m s.at.left → Answers (Kept m) Shallow (as_left o s)
+as_left_shallow : (m : ℕ) (w : Bool) (o : Opening) (s : State) → Fine m s.at.left → Answers (Kept m) Shallow (as_left w o s)
 unfolding exprs.target
-as_left_shallow m Nothing s f = wanted_shallow _ faults.Unexpected (λ e. cc) m s f
-as_left_shallow m (Variables x) s f = f
-as_left_shallow m (Expression v) s f = by_target (cond v.comma None (as_target v.x))
+as_left_shallow m w Nothing s f = wanted_shallow _ faults.Unexpected (λ e. cc) m s f
+as_left_shallow m w (Variables x) s f = f
+as_left_shallow m w (Expression v) s f =
+    answers_if _ _ (w && is_ident_named (codes "async") v.x) _ _ (λ _. wanted_shallow _ faults.Unexpected (λ e. cc) m s f) (λ _. by_target (cond v.comma None (as_target v.x)))
   where
     by_target : (o : Option Tree) → Answers (Kept m) Shallow (exprs.target_or v.x o s)
     by_target (Some p) = f
     by_target None = reject_shallow _ faults.InvalidPat (span_of v.x) (λ e. cc) m s f
+
+await_here_shallow : (m : ℕ) (s : State) → Fine m s.at.left → Answers (Kept m) Shallow (await_here s)
+unfolding await_here
+await_here_shallow m s f = answers_if _ _ (sees kind.Await s.at) _ _ (λ _. fine_after m s.at f) (λ _. f)
+
+unless_awaited_shallow : (m : ℕ) (word : Option Span) (p : Reader Tree) (s : State) → Answers (Kept m) Shallow (p s) → Answers (Kept m) Shallow (unless_awaited word p s)
+unless_awaited_shallow m None p s h = h
+unless_awaited_shallow m (Some w) p s h = answers_then _ _ (p s) _ h (λ _ t k. reject_shallow _ faults.AwaitForStmt w (λ e. cc) m t k)
 
 misdeclared_shallow : (m : ℕ) (refused : Bool) (left : Tree) (s : State) → Fine m s.at.left → Answers (Kept m) Shallow (misdeclared refused left s)
 unfolding misdeclared
@@ -342,6 +355,16 @@ module _ (inner : Position → Reader Tree) (inner_expr : Class → Reader Tree)
       answers_then _ _ (head (inner_expr expression) (moved s)) _ (head_shallow i (omega arith) (moved s) g) (λ x t k.
       answers_then _ _ (within in_loop (inner sub_statement) t) _ (looped_shallow i (omega arith) t k) (λ y u j. fine_more i m u.at.left (omega arith) j))
 
+  with_shallow : kind_at s.at ≡ kind.With → Answers (Kept m) Shallow (with_stmt (inner sub_statement) (inner_expr expression) s)
+  unfolding with_stmt
+  with_shallow e =
+      let (i, h, g) = fine_taken m s.at kind.With e (λ z. cc) f in
+      answers_then (Kept m) _ (note_with (span_at s.at) (moved s)) _ (note_with_shallow i (span_at s.at) (moved s) g) (λ _ r o.
+      answers_then _ _ (head (inner_expr expression) r) _ (head_shallow i (omega arith) r o) (λ x t k.
+      answers_then _ _ (within in_with (inner sub_statement) t) _
+      (answers_then (Kept i) _ (inner sub_statement (coded (in_with t.code) t)) _ (below_stmt sub_statement i (coded (in_with t.code) t) (omega arith) k) (λ y u j. j))
+      (λ y u j. fine_more i m u.at.left (omega arith) j)))
+
   do_while_shallow : kind_at s.at ≡ kind.Do → Answers (Kept m) Shallow (do_while (inner sub_statement) (inner_expr expression) s)
   unfolding do_while
   do_while_shallow e =
@@ -391,35 +414,38 @@ module _ (inner : Position → Reader Tree) (inner_expr : Class → Reader Tree)
       → Answers (Kept i) Shallow (for_in (inner sub_statement) inner_expr start o t)
   unfolding for_in
   for_in_shallow i h start o t g =
-      answers_then _ _ (as_left o t) _ (as_left_shallow i o t g) (λ x u b.
+      answers_then _ _ (as_left false o t) _ (as_left_shallow i false o t g) (λ x u b.
       answers_then _ _ (misdeclared u.code.flags.strict x u) _ (misdeclared_shallow i u.code.flags.strict x u b) (λ _ v c.
       answers_then _ _ (within with_in (inner_expr expression) (moved v)) _ (behind_shallow expression i (omega arith) (moved v) (fine_after i v.at c)) (λ y w d.
       answers_then _ _ (expect kind.RParen w) _ (expect_shallow i w d kind.RParen) (λ _ r j.
       answers_then _ _ (within in_loop (inner sub_statement) r) _ (looped_shallow i h r j) (λ _ b a. a)))))
 
-  for_of_shallow : (i : ℕ) → 2 * i + 1 ≤ n → (start : Span) (o : Opening) (t : State) → Fine i t.at.left
-      → Answers (Kept i) Shallow (for_of (inner sub_statement) inner_expr start o t)
+  for_of_shallow : (i : ℕ) → 2 * i + 1 ≤ n → (w : Bool) (start : Span) (o : Opening) (t : State) → Fine i t.at.left
+      → Answers (Kept i) Shallow (for_of (inner sub_statement) inner_expr w start o t)
   unfolding for_of
-  for_of_shallow i h start o t g =
-      answers_then _ _ (as_left o t) _ (as_left_shallow i o t g) (λ x u b.
+  for_of_shallow i h w start o t g =
+      answers_then _ _ (as_left w o t) _ (as_left_shallow i w o t g) (λ x u b.
       answers_then _ _ (misdeclared true x u) _ (misdeclared_shallow i true x u b) (λ _ v c.
       answers_then _ _ (within with_in (inner_expr assignment) (moved v)) _ (behind_shallow assignment i (omega arith) (moved v) (fine_after i v.at c)) (λ y w d.
       answers_then _ _ (expect kind.RParen w) _ (expect_shallow i w d kind.RParen) (λ _ r j.
       answers_then _ _ (within in_loop (inner sub_statement) r) _ (looped_shallow i h r j) (λ _ b a. a)))))
 
-  for_behind_shallow : (i : ℕ) → 2 * i + 1 ≤ n → (start : Span) (o : Opening) (t : State) → Fine i t.at.left
-      → Answers (Kept i) Shallow (for_behind (inner sub_statement) inner_expr start o t)
+  for_behind_shallow : (i : ℕ) → 2 * i + 1 ≤ n → (start : Span) (word : Option Span) (o : Opening) (t : State) → Fine i t.at.left
+      → Answers (Kept i) Shallow (for_behind (inner sub_statement) inner_expr start word o t)
   unfolding for_behind
-  for_behind_shallow i h start o t g = answers_if _ _ (sees kind.In t.at) _ _ (λ _. for_in_shallow i h start o t g)
-      (λ _. answers_if _ _ (word_at (codes "of") t.at) _ _ (λ _. for_of_shallow i h start o t g) (λ _. for_parts_shallow i h start o t g))
+  for_behind_shallow i h start word o t g =
+      answers_if _ _ (sees kind.In t.at) _ _ (λ _. unless_awaited_shallow i word (for_in (inner sub_statement) inner_expr start o) t (for_in_shallow i h start o t g))
+      (λ _. answers_if _ _ (word_at (codes "of") t.at) _ _ (λ _. for_of_shallow i h (is_some word) start o t g)
+      (λ _. unless_awaited_shallow i word (for_parts (inner sub_statement) inner_expr start o) t (for_parts_shallow i h start o t g)))
 
   for_shallow : kind_at s.at ≡ kind.For → Answers (Kept m) Shallow (for_stmt (inner sub_statement) inner_expr inner_pat inner_head s)
   unfolding for_stmt
   for_shallow e =
       let (i, h, g) = fine_taken m s.at kind.For e (λ z. cc) f in
-      answers_then _ _ (expect kind.LParen (moved s)) _ (expect_shallow i (moved s) g kind.LParen) (λ _ t a.
+      answers_then _ _ (await_here (moved s)) _ (await_here_shallow i (moved s) g) (λ word v c.
+      answers_then _ _ (expect kind.LParen v) _ (expect_shallow i v c kind.LParen) (λ _ t a.
       answers_then _ _ (opening inner_expr inner_pat inner_head t) _ (opening_shallow i (omega arith) t a) (λ o u b.
-      kept_more i m (omega arith) (for_behind (inner sub_statement) inner_expr (span_at s.at) o u) (for_behind_shallow i (omega arith) (span_at s.at) o u b)))
+      kept_more i m (omega arith) (for_behind (inner sub_statement) inner_expr (span_at s.at) word o u) (for_behind_shallow i (omega arith) (span_at s.at) word o u b))))
 
   clause_from_shallow : (i : ℕ) → 2 * i + 1 ≤ n → (start : Span) (test : Tree) (t : State) → Fine i t.at.left → Answers (Kept i) Shallow (clause_from (inner nested_item) start test t)
   unfolding clause_from
@@ -495,6 +521,7 @@ module _ (inner : Position → Reader Tree) (inner_expr : Class → Reader Tree)
   by_shallow kind.Return e = return_shallow e
   by_shallow kind.Throw e = throw_shallow e
   by_shallow kind.Try e = try_shallow e
+  by_shallow kind.With e = with_shallow e
   by_shallow kind.While e = while_shallow e
   by_shallow kind.Do e = do_while_shallow e
   by_shallow kind.For e = for_shallow e

@@ -22,7 +22,7 @@ use Rattle.swc_ecma_parser_grammar.specs.Looks.{kind_at, sees, same_kind, first_
 use Rattle.swc_ecma_parser_grammar.specs.Names.{Code}
 use Rattle.swc_ecma_parser_grammar.specs.Follows.{may_begin_expression_statement, begins_import_expression, may_begin_head, token_follows_let, first_follows_let, is_let_declaration, is_async_function}
 use Rattle.swc_ecma_parser_grammar.specs.Variables.{begins_variables}
-use Rattle.swc_ecma_parser_grammar.specs.Reads.{with_in, StmtRule, block_rule, empty_rule, debugger_rule, variables_rule, if_statement_rule, switch_rule, labeled_rule, break_rule, continue_rule, return_rule, throw_rule, try_rule, while_rule, do_while_rule, for_rule, for_in_rule, for_of_rule, expr_rule, import_rule, if_rule}
+use Rattle.swc_ecma_parser_grammar.specs.Reads.{with_in, StmtRule, block_rule, empty_rule, debugger_rule, variables_rule, if_statement_rule, switch_rule, labeled_rule, break_rule, continue_rule, return_rule, throw_rule, try_rule, while_rule, do_while_rule, for_rule, for_in_rule, for_of_rule, expr_rule, import_rule, if_rule, with_rule}
 use Rattle.swc_ecma_parser_grammar.specs.Notes.{statement_note}
 use Rattle.swc_ecma_parser_grammar.specs.ReadsSupported.{ReadsClass, ReadsPat, ReadsTarget, ReadsStmt}
 use Rattle.swc_ecma_parser_grammar.specs.language.Goals.{Class, expression}
@@ -54,6 +54,7 @@ opened stmt expr pat cover at s kind.For e h g i l = cc
 opened stmt expr pat cover at s kind.Throw e h g i l = cc
 opened stmt expr pat cover at s kind.Switch e h g i l = cc
 opened stmt expr pat cover at s kind.Try e h g i l = cc
+opened stmt expr pat cover at s kind.With e h g i l = cc
 opened stmt expr pat cover at s kind.While e h g i l = cc
 opened stmt expr pat cover at s kind.Do e h g i l = cc
 opened stmt expr pat cover at s kind.Import e h g i l = cc
@@ -203,10 +204,11 @@ rule_goes Stmt Expr Pat Target h k at x c d (continue_rule y m e r g i) = goes_b
 rule_goes Stmt Expr Pat Target h k at x c d (return_rule y m e r g i) = goes_by c kind.Return e (refl, refl, refl, refl, refl)
 rule_goes Stmt Expr Pat Target h k at x c d (for_rule a b f y l m n e i r j s o t p u z) = goes_by c kind.For e (refl, refl, refl, refl, refl)
 rule_goes Stmt Expr Pat Target h k at x c d (for_in_rule a b y m n e i r j s o t z) = goes_by c kind.For e (refl, refl, refl, refl, refl)
-rule_goes Stmt Expr Pat Target h k at x c d (for_of_rule a b y m n e i r j l s o t z) = goes_by c kind.For e (refl, refl, refl, refl, refl)
+rule_goes Stmt Expr Pat Target h k at x c d (for_of_rule w a b y l m n e v i r j z q s o t g) = goes_by c kind.For e (refl, refl, refl, refl, refl)
 rule_goes Stmt Expr Pat Target h k at x c d (labeled_rule w s y m r f e t i) = goes_by c (kind_at c) refl (goes_open (kind_at c) (word_begins k.flags w s c m r f))
 rule_goes Stmt Expr Pat Target h k at x c d (throw_rule y m e b r g i) = goes_by c kind.Throw e (refl, refl, refl, refl, refl)
 rule_goes Stmt Expr Pat Target h k at x c d (try_rule y z w m n e r s o a i) = goes_by c kind.Try e (refl, refl, refl, refl, refl)
+rule_goes Stmt Expr Pat Target h k at x c d (with_rule y z m e o r s i) = goes_by c kind.With e (refl, refl, refl, refl, refl)
 rule_goes Stmt Expr Pat Target h k at x c d (while_rule y z m e r s i) = goes_by c kind.While e (refl, refl, refl, refl, refl)
 rule_goes Stmt Expr Pat Target h k at x c d (do_while_rule y z m n e s j r g i) = goes_by c kind.Do e (refl, refl, refl, refl, refl)
 rule_goes Stmt Expr Pat Target h k at x c d (expr_rule e m b r l i g j) = goes_by c (kind_at c) refl (goes_open (kind_at c) (h (with_in k) e c m r))

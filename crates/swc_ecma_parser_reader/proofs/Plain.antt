@@ -1,12 +1,13 @@
 -- No statement that is read is a function, so what a label stands at has no fault of its own; and a label is told once for each
 -- equal one around.
-use Rattle.std.proofs.Common.{◌≡◌, ℕ, zero, suc, ◌+◌, ◌-◌, ◌<◌, Bool, true, false, cond, List, [], ◌∷◌, ◌++◌, length, replicate, count_by, Ok, Err, refl, ap, ◌∙◌, arith}
+use Rattle.swc_ecma_parser_reader.proofs.expressions.SoundSteps.{reject_meets}
+use Rattle.std.proofs.Common.{◌≡◌, ℕ, zero, suc, ◌+◌, ◌-◌, ◌<◌, Bool, true, false, cond, List, [], ◌∷◌, ◌++◌, length, replicate, count_by, Ok, Err, refl, ap, ◌∙◌, arith, Option, is_some, Some, None}
 use Rattle.std.specs.Str.{bytes_eq}
 use Rattle.swc_ecma_parser_error.specs.Kind.{Fault}
 use Rattle.swc_ecma_parser_grammar.specs.Own.{only, duplicates}
 use Rattle.swc_ecma_parser_grammar.specs.language.Items.{labelled_item}
 use Rattle.swc_ecma_parser_reader.specs.State.{coded, below, below_label, fault, fault_at}
-use Rattle.swc_ecma_parser_reader.specs.Reader.{told}
+use Rattle.swc_ecma_parser_reader.specs.Reader.{told, with_stmt, note_with, await_here, unless_awaited}
 use Rattle.swc_ecma_parser_reader.proofs.Meets.{meets_then}
 use Rattle.std.specs.Prelude.{◌&&◌, ◌||◌, codes}
 use Rattle.std.proofs.lemmas.List.Recursion.{is_count_by}
@@ -24,7 +25,7 @@ use Rattle.swc_ecma_parser_grammar.specs.Looks.{kind_at, breaks_at, sees, span_a
 use Rattle.swc_ecma_parser_grammar.specs.Follows.{word_at, may_begin_expression_statement, begins_import_expression, is_let_declaration}
 use Rattle.swc_ecma_parser_grammar.specs.Own.{labelled_function}
 use Rattle.swc_ecma_parser_grammar.specs.Reads.{nested_item, with_in}
-use Rattle.swc_ecma_parser_grammar.specs.language.Contexts.{in_loop, in_breakable}
+use Rattle.swc_ecma_parser_grammar.specs.language.Contexts.{in_loop, in_breakable, in_with}
 use Rattle.swc_ecma_parser_grammar.specs.language.Goals.{Class, expression, assignment}
 use Rattle.swc_ecma_parser_grammar.specs.language.Items.{sub_statement}
 use Rattle.swc_ecma_parser_reader.specs.State.{State, Outcome, Reader, and_then, moved, within, wanted, name, expect, end}
@@ -109,6 +110,11 @@ module _ (inner : Position → Reader Tree) (inner_expr : Class → Reader Tree)
   unfolding while_stmt
   while_plain s = always Plain (head (inner_expr expression) (moved s)) _ (λ x t. always Plain (within in_loop (inner sub_statement) t) _ (λ y u b. refl))
 
+  with_plain : (s : State) → Meets Plain (with_stmt (inner sub_statement) (inner_expr expression) s)
+  unfolding with_stmt
+  with_plain s = always Plain (note_with (span_at s.at) (moved s)) _ (λ _ t. always Plain (head (inner_expr expression) t) _ (λ x u.
+      always Plain (within in_with (inner sub_statement) u) _ (λ y v b. refl)))
+
   do_while_plain : (s : State) → Meets Plain (do_while (inner sub_statement) (inner_expr expression) s)
   unfolding do_while
   do_while_plain s = always Plain (within in_loop (inner sub_statement) (moved s)) _ (λ y t. always Plain (expect kind.While t) _ (λ _ u.
@@ -123,24 +129,31 @@ module _ (inner : Position → Reader Tree) (inner_expr : Class → Reader Tree)
 
   for_in_plain : (start : Span) (o : Opening) (s : State) → Meets Plain (for_in (inner sub_statement) inner_expr start o s)
   unfolding for_in
-  for_in_plain start o s = always Plain (as_left o s) _ (λ x t. always Plain (misdeclared t.code.flags.strict x t) _ (λ _ u.
+  for_in_plain start o s = always Plain (as_left false o s) _ (λ x t. always Plain (misdeclared t.code.flags.strict x t) _ (λ _ u.
       always Plain (within with_in (inner_expr expression) (moved u)) _ (λ y v. always Plain (expect kind.RParen v) _ (λ _ w.
       always Plain (within in_loop (inner sub_statement) w) _ (λ f r b. refl)))))
 
-  for_of_plain : (start : Span) (o : Opening) (s : State) → Meets Plain (for_of (inner sub_statement) inner_expr start o s)
+  for_of_plain : (w : Bool) (start : Span) (o : Opening) (s : State) → Meets Plain (for_of (inner sub_statement) inner_expr w start o s)
   unfolding for_of
-  for_of_plain start o s = always Plain (as_left o s) _ (λ x t. always Plain (misdeclared true x t) _ (λ _ u.
+  for_of_plain w start o s = always Plain (as_left w o s) _ (λ x t. always Plain (misdeclared true x t) _ (λ _ u.
       always Plain (within with_in (inner_expr assignment) (moved u)) _ (λ y v. always Plain (expect kind.RParen v) _ (λ _ w.
       always Plain (within in_loop (inner sub_statement) w) _ (λ f r b. refl)))))
 
-  for_behind_plain : (start : Span) (o : Opening) (s : State) → Meets Plain (for_behind (inner sub_statement) inner_expr start o s)
+  unless_awaited_plain : (word : Option Span) (p : Reader Tree) (s : State) → Meets Plain (p s) → Meets Plain (unless_awaited word p s)
+  unless_awaited_plain None p s h = h
+  unless_awaited_plain (Some w) p s h = always Plain (p s) _ (λ _ t. reject_meets Plain _ t)
+
+  for_behind_plain : (start : Span) (word : Option Span) (o : Opening) (s : State) → Meets Plain (for_behind (inner sub_statement) inner_expr start word o s)
   unfolding for_behind
-  for_behind_plain start o s = meets_if Plain (sees kind.In s.at) _ _ (λ _. for_in_plain start o s)
-      (λ _. meets_if Plain (word_at (codes "of") s.at) _ _ (λ _. for_of_plain start o s) (λ _. for_parts_plain start o s))
+  for_behind_plain start word o s =
+      meets_if Plain (sees kind.In s.at) _ _ (λ _. unless_awaited_plain word (for_in (inner sub_statement) inner_expr start o) s (for_in_plain start o s))
+      (λ _. meets_if Plain (word_at (codes "of") s.at) _ _ (λ _. for_of_plain (is_some word) start o s)
+      (λ _. unless_awaited_plain word (for_parts (inner sub_statement) inner_expr start o) s (for_parts_plain start o s)))
 
   for_plain : (s : State) → Meets Plain (for_stmt (inner sub_statement) inner_expr inner_pat inner_head s)
   unfolding for_stmt
-  for_plain s = always Plain (expect kind.LParen (moved s)) _ (λ _ t. always Plain (opening inner_expr inner_pat inner_head t) _ (λ o u. for_behind_plain (span_at s.at) o u))
+  for_plain s = always Plain (await_here (moved s)) _ (λ word v. always Plain (expect kind.LParen v) _ (λ _ t.
+      always Plain (opening inner_expr inner_pat inner_head t) _ (λ o u. for_behind_plain (span_at s.at) word o u)))
 
   import_plain : (s : State) → Meets Plain (import_stmt_at (inner_expr expression) s)
   unfolding import_stmt_at import_stmt
@@ -181,6 +194,7 @@ module _ (inner : Position → Reader Tree) (inner_expr : Class → Reader Tree)
   by_plain at kind.Return s = return_plain s
   by_plain at kind.Throw s = throw_plain s
   by_plain at kind.Try s = try_plain s
+  by_plain at kind.With s = with_plain s
   by_plain at kind.While s = while_plain s
   by_plain at kind.Do s = do_while_plain s
   by_plain at kind.For s = for_plain s

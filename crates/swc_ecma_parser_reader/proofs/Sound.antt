@@ -3,12 +3,12 @@ use Rattle.std.proofs.Common.{append_assoc}
 use Rattle.swc_ecma_parser_reader.specs.Notes.{no_notes}
 use Rattle.swc_ecma_parser_reader.proofs.Between.{sound_below}
 use Rattle.swc_ecma_parser_reader.specs.State.{name}
-use Rattle.swc_ecma_parser_grammar.specs.Reads.{labeled_rule}
+use Rattle.swc_ecma_parser_grammar.specs.Reads.{labeled_rule, with_rule}
 use Rattle.swc_ecma_parser_grammar.specs.Own.{labelled_function, duplicates}
-use Rattle.swc_ecma_parser_reader.proofs.SoundParts.{relabels_sound}
+use Rattle.swc_ecma_parser_reader.proofs.SoundParts.{relabels_sound, SoundWith, note_with_sound}
 use Rattle.swc_ecma_parser_reader.specs.State.{below, below_label}
 use Rattle.swc_ecma_parser_grammar.specs.language.Items.{labelled_item}
-use Rattle.swc_ecma_parser_reader.specs.Reader.{begins_label, relabels, labelled_body, labeled_stmt, other_stmt}
+use Rattle.swc_ecma_parser_reader.specs.Reader.{begins_label, relabels, labelled_body, labeled_stmt, other_stmt, with_stmt, note_with}
 use Rattle.swc_ecma_parser_model.specs.declared.leaves.VarDeclKind.{VarDeclKind}
 use Rattle.swc_ecma_parser_model.specs.declared.leaves.VarDeclKind.TheVariants as decl
 use Rattle.swc_ecma_parser_grammar.specs.Variables.{begins_variables, is_var}
@@ -44,7 +44,7 @@ use Rattle.swc_ecma_parser_grammar.specs.Looks.{kind_at, breaks_at, sees, same_k
 use Rattle.swc_ecma_parser_grammar.specs.Names.{Code}
 use Rattle.swc_ecma_parser_grammar.specs.Ends.{Ends, ends_at}
 use Rattle.swc_ecma_parser_grammar.specs.Follows.{may_begin_expression_statement, begins_import_expression, is_let_declaration}
-use Rattle.swc_ecma_parser_grammar.specs.language.Contexts.{in_loop, in_breakable}
+use Rattle.swc_ecma_parser_grammar.specs.language.Contexts.{in_loop, in_breakable, in_with}
 use Rattle.swc_ecma_parser_grammar.specs.language.Goals.{Class, expression}
 use Rattle.swc_ecma_parser_grammar.specs.language.Items.{sub_statement}
 use Rattle.swc_ecma_parser_grammar.specs.Reads.{with_in, nested_item, top_item, ReadsItems, TargetRule, OperandRule, no_operand_rule, operand_rule, break_rule, continue_rule, return_rule, StmtRule, block_rule, empty_rule, debugger_rule, if_statement_rule, CaseRule, case_clause_rule, default_clause_rule, ReadsCases, switch_rule, throw_rule, try_rule, while_rule, do_while_rule, expr_rule, import_rule, ReadsBlock, CatchRule, no_catch_rule, catch_rule, catch_parameter_rule, FinallyRule, no_finally_rule, finally_rule, ReadsHead, IfRule, if_rule, ElseRule, no_else_rule, else_rule, else_if_rule}
@@ -219,6 +219,14 @@ module _ (Stmt : Code → Position → Tree → Place → Place → Type 0) (Exp
   while_sound s e = meets_then _ (head (inner_expr expression) (moved s)) _ (head_sound (moved s)) (λ x m p.
       meets_then _ (within in_loop (inner sub_statement) m) _ (looped_sound Stmt inner sound m) (λ y t q.
       sound_after s t e refl refl refl (λ (i, r, z). while_rule x y i e r z refl) (sound_then p q)))
+
+  with_sound : (s : State) → kind_at s.at ≡ kind.With → Meets (SoundStmt s) (with_stmt (inner sub_statement) (inner_expr expression) s)
+  unfolding with_stmt spanned SoundWith
+  with_sound s e = meets_then _ (note_with (span_at s.at) (moved s)) _ (note_with_sound (span_at s.at) (moved s)) (λ _ i o.
+      meets_then _ (head (inner_expr expression) i) _ (head_sound i) (λ x m p.
+      meets_then _ (within in_with (inner sub_statement) m) _
+      (within_sound (λ z k l. walk (env_of k l) z) notes_of (λ z k. Stmt k sub_statement z) in_with (λ k. refl) (inner sub_statement) m (sound sub_statement (coded (in_with m.code) m))) (λ y t q.
+      sound_after s t e refl refl refl (λ (j, (l, (a, b), r), z). with_rule x y j e a (subst (λ v. ReadsHead Expr s.code x v j) b r) z refl) (sound_then (sound_then o p) q))))
 
   do_while_sound : (s : State) → kind_at s.at ≡ kind.Do → Meets (SoundStmt s) (do_while (inner sub_statement) (inner_expr expression) s)
   unfolding do_while
@@ -520,6 +528,7 @@ module _ (Stmt : Code → Position → Tree → Place → Place → Type 0) (Exp
   by_sound kind.Return s e = return_sound s e
   by_sound kind.Throw s e = throw_sound s e
   by_sound kind.Try s e = try_sound s e
+  by_sound kind.With s e = with_sound s e
   by_sound kind.While s e = while_sound s e
   by_sound kind.Do s e = do_while_sound s e
   by_sound kind.For s e = for_sound Stmt Expr Pat Target inner inner_expr inner_pat inner_head sound sound_expr sound_pat sound_head at s e

@@ -1,6 +1,8 @@
 -- `for`: what its head begins with is sound, as its first part and as what takes each value, and so are the three loops.
-use Rattle.std.proofs.Common.{◌≡◌, Bool, true, false, List, [], ◌∷◌, ◌++◌, Some, None, refl, sym, ◌∙◌, ap, subst}
-use Rattle.std.specs.Prelude.{codes}
+use Rattle.swc_ecma_parser_model.specs.Forms.{is_ident_named}
+use Rattle.swc_ecma_parser_common.specs.declared.span.Span.{Span}
+use Rattle.std.proofs.Common.{◌≡◌, Bool, true, false, List, [], ◌∷◌, ◌++◌, Some, None, refl, sym, ◌∙◌, ap, subst, Option, not, is_some, scan}
+use Rattle.std.specs.Prelude.{codes, ◌&&◌}
 use Rattle.swc_ecma_parser_error.specs.Kind as faults
 use Rattle.swc_ecma_parser_token.specs.declared.kind.TokenKind.{TokenKind}
 use Rattle.swc_ecma_parser_token.specs.declared.kind.TokenKind.TheVariants as kind
@@ -18,7 +20,7 @@ use Rattle.swc_ecma_parser_model.specs.Targets.{as_target}
 use Rattle.swc_ecma_parser_grammar.specs.declared.position.Position.{Position}
 use Rattle.swc_ecma_parser_grammar.specs.Looks.{kind_at, first_kind, sees, span_at, spanned}
 use Rattle.swc_ecma_parser_grammar.specs.Names.{Code}
-use Rattle.swc_ecma_parser_grammar.specs.Follows.{token_is, first_is, word_at, is_let_declaration, may_begin_head, is_async_of}
+use Rattle.swc_ecma_parser_grammar.specs.Follows.{token_is, first_is, word_at, is_let_declaration, may_begin_head, is_async_of, AwaitWord, is_bare_async, no_await, await_word}
 use Rattle.swc_ecma_parser_grammar.specs.Variables.{begins_variables}
 use Rattle.swc_ecma_parser_grammar.specs.Own.{head_faults}
 use Rattle.swc_ecma_parser_grammar.specs.language.Contexts.{in_loop, without_in}
@@ -31,10 +33,10 @@ use Rattle.swc_ecma_parser_reader.specs.Notes.{notes_of, all_notes_of}
 use Rattle.swc_ecma_parser_reader.specs.State.{State, Reader, moved, coded, within, expect}
 use Rattle.swc_ecma_parser_reader.specs.Expressions as exprs
 use Rattle.swc_ecma_parser_reader.specs.Expressions.{Cover}
-use Rattle.swc_ecma_parser_reader.specs.Reader.{declarators, Opening, Nothing, Variables, Expression, as_init, as_left, head_variables, head_expression, opening, head_part, misdeclared, for_parts, for_in, for_of, for_behind, for_stmt}
-use Rattle.swc_ecma_parser_reader.proofs.expressions.Targets.{pattern_alike}
+use Rattle.swc_ecma_parser_reader.specs.Reader.{declarators, Opening, Nothing, Variables, Expression, as_init, as_left, head_variables, head_expression, opening, head_part, misdeclared, for_parts, for_in, for_of, for_behind, for_stmt, await_here, unless_awaited}
+use Rattle.swc_ecma_parser_reader.proofs.expressions.Targets.{pattern_alike, target_async}
 use Rattle.swc_ecma_parser_reader.proofs.expressions.Covers.{meets_each, close_is, target_is}
-use Rattle.swc_ecma_parser_reader.proofs.expressions.SoundSteps.{paired, stepped, meets_as, Takes, expect_sound}
+use Rattle.swc_ecma_parser_reader.proofs.expressions.SoundSteps.{paired, stepped, meets_as, Takes, expect_sound, reject_meets}
 use Rattle.swc_ecma_parser_reader.proofs.Notes.{notes_nil}
 use Rattle.swc_ecma_parser_reader.proofs.Meets.{Meets, meets_then, meets_if, wanted_meets, saw}
 use Rattle.swc_ecma_parser_reader.proofs.Errors.{is_error}
@@ -91,6 +93,11 @@ pub looped_sound : (Stmt : Code → Position → Tree → Place → Place → Ty
     → Meets (λ x t. Sound same (λ k l. walk (env_of (in_loop k) l) x) (notes_of x) (λ k. Stmt (in_loop k) sub_statement x) s t) (within in_loop (inner sub_statement) s)
 looped_sound Stmt inner sound s = within_sound (λ x k l. walk (env_of k l) x) notes_of (λ x k. Stmt k sub_statement x) in_loop (λ k. refl) (inner sub_statement) s (sound sub_statement (coded (in_loop s.code) s))
 
+-- without the word nothing stands there
+unawaited : {c l : Place} → AwaitWord false c l → l ≡ c
+unawaited (no_await h e) = e
+unawaited (await_word h i e) = cc
+
 -- the tree that was read
 abbrev opened : Opening → Tree
 opened Nothing = tree.absent
@@ -140,29 +147,40 @@ module _ (Stmt : Code → Position → Tree → Place → Place → Type 0) (Exp
   as_init_sound s m (Expression v) p = meets_each (λ x t. SoundTree (InitRule Expr Pat) s x t) (exprs.close v m) (λ x t e. let (a, b, c) = close_is v m x t e in
       subst (λ y. SoundTree (InitRule Expr Pat) s y t) b (subst (λ u. SoundTree (InitRule Expr Pat) s v.x u) c (sound_as s m refl refl refl (λ (h, r). init_expression_rule h (r.plain a)) p)))
 
-  -- as what takes each value; `async` before `of` is none
-  Left : Tree → Code → Place → Place → Type 0
-  Left x k c d = LeftRule Expr Pat Target k x c d × (word_at (codes "of") d ≡ true → is_async_of false x d ≡ false)
+  -- As what takes each value; `async` before `of` is none, nor is it alone behind `for await`.
+  Left : (is_await : Bool) → Tree → Code → Place → Place → Type 0
+  Left w x k c d = LeftRule Expr Pat Target k x c d × (word_at (codes "of") d ≡ true → is_async_of false x d ≡ false) × (not (w && is_bare_async x) ≡ true)
 
-  SoundLeft : State → State → Tree → State → Type 0
-  SoundLeft s m x t = Sound same (λ k l. walk (env_of k l) x) (notes_of x) (Left x) s t × (t.at ≡ m.at)
+  SoundLeft : Bool → State → State → Tree → State → Type 0
+  SoundLeft w s m x t = Sound same (λ k l. walk (env_of k l) x) (notes_of x) (Left w x) s t × (t.at ≡ m.at)
 
-  left_sound : (s m : State) (v : Cover) (p : Tree) → v.comma ≡ false → as_target v.x ≡ Some p → SoundOpening s (Expression v) m → SoundLeft s m p m
+  no_async : (w b : Bool) → b ≡ false → not (w && b) ≡ true
+  no_async true b e = ap not e
+  no_async false b e = refl
+
+  left_sound : (w : Bool) (s m : State) (v : Cover) (p : Tree) → (w && is_ident_named (codes "async") v.x) ≡ false → v.comma ≡ false → as_target v.x ≡ Some p → SoundOpening s (Expression v) m
+      → SoundLeft w s m p m
   unfolding Left SoundLeft
-  left_sound s m v p c e q = let alike = pattern_alike false v.x p e in
-      (sound_as s m refl (sym (alike.walked (env_of s.code s.scope.labels))) (sym alike.noted) (λ (h, r). let z = r.target c p e in (left_target_rule h z.0, z.1)) q, refl)
+  left_sound w s m v p n c e q = let alike = pattern_alike false v.x p e in (
+    sound_as s m refl (sym (alike.walked (env_of s.code s.scope.labels))) (sym alike.noted)
+        (λ (h, r). let z = r.target c p e in (left_target_rule h z.0, z.1, ap (λ b. not (w && b)) (target_async v.x p e) ∙ ap not n)) q,
+    refl,
+  )
 
-  as_left_sound : (s m : State) (o : Opening) → SoundOpening s o m → Meets (SoundLeft s m) (as_left o m)
+  as_left_sound : (w : Bool) (s m : State) (o : Opening) → SoundOpening s o m → Meets (SoundLeft w s m) (as_left w o m)
   unfolding Left SoundLeft
-  as_left_sound s m Nothing q = wanted_meets _ faults.Unexpected m
-  as_left_sound s m (Variables x) q = (sound_as s m refl refl refl (λ r. (declared_rule r, λ _. declared_is_no_async Expr Pat s.code x s.at m.at r)) q, refl)
-  as_left_sound s m (Expression v) q = meets_each (SoundLeft s m) (exprs.target v m) (λ p t e. let (c, i, h) = target_is v m p t e in subst (SoundLeft s m p) h (left_sound s m v p c i q))
+  as_left_sound w s m Nothing q = wanted_meets _ faults.Unexpected m
+  as_left_sound w s m (Variables x) q =
+      (sound_as s m refl refl refl (λ r. (declared_rule r, (λ _. declared_is_no_async Expr Pat s.code x s.at m.at r), no_async w (is_bare_async x) (ap is_bare_async r.is))) q, refl)
+  as_left_sound w s m (Expression v) q = meets_if _ (w && is_ident_named (codes "async") v.x) _ _ (λ _. wanted_meets _ faults.Unexpected m)
+      (λ n. meets_each (SoundLeft w s m) (exprs.target v m) (λ p t e. let (c, i, h) = target_is v m p t e in subst (SoundLeft w s m p) h (left_sound w s m v p n c i q)))
 
   -- with the faults of what it declares, and the word behind it
-  left_faults : (refused : Code → Bool) (x : Tree) (s m t : State) → Sound same (λ k l. walk (env_of k l) x) (notes_of x) (Left x) s m → SoundOwn (λ k l. head_faults (refused k) x) m t → t.at ≡ m.at → is_error (kind_at m.at) ≡ false
-      → Sound same (λ k l. walk (env_of k l) x ++ head_faults (refused k) x) (notes_of x) (λ k c d. Left x k s.at m.at × (d ≡ after m.at)) s (moved t)
-  left_faults refused x s m t p q e h =
-      let b : Sound same (λ k l. walk (env_of k l) x ++ head_faults (refused k) x) (notes_of x) (λ k c d. Left x k s.at m.at) s t = sound_as s t refl refl (notes_nil (notes_of x)) (λ r. r.0) (paired p q) in
+  left_faults : (w : Bool) (refused : Code → Bool) (x : Tree) (s m t : State) → Sound same (λ k l. walk (env_of k l) x) (notes_of x) (Left w x) s m → SoundOwn (λ k l. head_faults (refused k) x) m t → t.at ≡ m.at
+      → is_error (kind_at m.at) ≡ false
+      → Sound same (λ k l. walk (env_of k l) x ++ head_faults (refused k) x) (notes_of x) (λ k c d. Left w x k s.at m.at × (d ≡ after m.at)) s (moved t)
+  left_faults w refused x s m t p q e h =
+      let b : Sound same (λ k l. walk (env_of k l) x ++ head_faults (refused k) x) (notes_of x) (λ k c d. Left w x k s.at m.at) s t = sound_as s t refl refl (notes_nil (notes_of x)) (λ r. r.0) (paired p q) in
       sound_as s (moved t) refl refl refl (λ r. (r.0, ap after e)) (stepped b (sound_moved {P = λ k c d. d ≡ after c} t refl (ap (λ c. is_error (kind_at c)) e ∙ h) refl))
 
   head_part_sound : (j : TokenKind) (s : State) → Meets (λ x t. SoundTree (PartRule Expr) s x t) (head_part j (inner_expr expression) s)
@@ -196,7 +214,7 @@ module _ (Stmt : Code → Position → Tree → Place → Place → Type 0) (Exp
     for_in_sound : (s i m : State) (o : Opening) → kind_at s.at ≡ kind.For → SoundStep (λ k. Takes kind.LParen) (moved s) i → SoundOpening i o m → kind_at m.at ≡ kind.In
         → Meets (SoundStmt s) (for_in (inner sub_statement) inner_expr (span_at s.at) o m)
     unfolding for_in spanned Left SoundLeft
-    for_in_sound s i m o e a q h = meets_then _ (as_left o m) _ (as_left_sound i m o q) (λ x n (b, f).
+    for_in_sound s i m o e a q h = meets_then _ (as_left false o m) _ (as_left_sound false i m o q) (λ x n (b, f).
         let w : kind_at n.at ≡ kind.In = ap kind_at f ∙ h in
         meets_then _ (misdeclared n.code.flags.strict x n) _ (misdeclared_sound (λ k. k.flags.strict) x n (ap is_error w)) (λ _ l (c, g).
         meets_then _ (within with_in (inner_expr expression) (moved l)) _ (inside_sound Expr Pat inner_expr inner_pat sound_expr sound_pat expression (moved l)) (λ y j d.
@@ -206,30 +224,48 @@ module _ (Stmt : Code → Position → Tree → Place → Place → Type 0) (Exp
         (λ ((((b1, (b2, b3)), b4), b5), b6).
         for_in_rule x y z n.at j.at e b1.0 (subst (λ v. LeftRule Expr Pat Target s.code x v n.at) b1.1 b2.0) w (subst (λ v. Expr expression (with_in s.code) y v j.at) b3 b4) b5.0
         (subst (λ v. Stmt (in_loop s.code) sub_statement z v t.at) b5.1 b6) refl)
-        (paired (stepped (paired (paired a (left_faults (λ k. k.flags.strict) x i n l b c g (ap is_error w))) d) p) u))))))
+        (paired (stepped (paired (paired a (left_faults false (λ k. k.flags.strict) x i n l b c g (ap is_error w))) d) p) u))))))
 
-    for_of_sound : (s i m : State) (o : Opening) → kind_at s.at ≡ kind.For → SoundStep (λ k. Takes kind.LParen) (moved s) i → SoundOpening i o m → word_at (codes "of") m.at ≡ true
-        → Meets (SoundStmt s) (for_of (inner sub_statement) inner_expr (span_at s.at) o m)
+    -- what stands up to the parenthesis
+    abbrev Opened : Bool → Code → Place → Place → Type 0
+    Opened w k c d = (l : Place) × AwaitWord w c l × Takes kind.LParen l d
+
+    for_of_sound : (w : Bool) (s i m : State) (o : Opening) → kind_at s.at ≡ kind.For → SoundStep (Opened w) (moved s) i → SoundOpening i o m → word_at (codes "of") m.at ≡ true
+        → Meets (SoundStmt s) (for_of (inner sub_statement) inner_expr w (span_at s.at) o m)
     unfolding for_of spanned Left SoundLeft
-    for_of_sound s i m o e a q h = meets_then _ (as_left o m) _ (as_left_sound i m o q) (λ x n (b, f).
+    for_of_sound awaits s i m o e a q h = meets_then _ (as_left awaits o m) _ (as_left_sound awaits i m o q) (λ x n (b, f).
         let w : word_at (codes "of") n.at ≡ true = ap (word_at (codes "of")) f ∙ h in
         meets_then _ (misdeclared true x n) _ (misdeclared_sound (λ k. true) x n (text_stands (codes "of") n.at w)) (λ _ l (c, g).
         meets_then _ (within with_in (inner_expr assignment) (moved l)) _ (inside_sound Expr Pat inner_expr inner_pat sound_expr sound_pat assignment (moved l)) (λ y j d.
         meets_then _ (expect kind.RParen j) _ (expect_sound kind.RParen j refl) (λ _ r p.
         meets_then _ (within in_loop (inner sub_statement) r) _ (looped_sound Stmt inner sound r) (λ z t u.
         sound_after s t e refl refl refl
-        (λ ((((b1, (b2, b3)), b4), b5), b6).
-        for_of_rule x y z n.at j.at e b1.0 (subst (λ v. LeftRule Expr Pat Target s.code x v n.at) b1.1 b2.0) w (b2.1 w) (subst (λ v. Expr assignment (with_in s.code) y v j.at) b3 b4) b5.0
+        (λ (((((c1, c2, b1), (b2, b3)), b4), b5), b6).
+        for_of_rule awaits x y z c1 n.at j.at e c2 b1.0 (subst (λ v. LeftRule Expr Pat Target s.code x v n.at) b1.1 b2.0) w (b2.1 w) b2.2 (subst (λ v. Expr assignment (with_in s.code) y v j.at) b3 b4) b5.0
         (subst (λ v. Stmt (in_loop s.code) sub_statement z v t.at) b5.1 b6) refl)
-        (paired (stepped (paired (paired a (left_faults (λ k. true) x i n l b c g (text_stands (codes "of") n.at w))) d) p) u))))))
+        (paired (stepped (paired (paired a (left_faults awaits (λ k. true) x i n l b c g (text_stands (codes "of") n.at w))) d) p) u))))))
 
-    for_behind_sound : (s i m : State) (o : Opening) → kind_at s.at ≡ kind.For → SoundStep (λ k. Takes kind.LParen) (moved s) i → SoundOpening i o m
-        → Meets (SoundStmt s) (for_behind (inner sub_statement) inner_expr (span_at s.at) o m)
+    -- without `of` a loop is read where no `await` stands
+    unless_awaited_sound : (s i : State) (word : Option Span) (p : Reader Tree) (m : State) → SoundStep (Opened (is_some word)) (moved s) i
+        → (SoundStep (λ k. Takes kind.LParen) (moved s) i → Meets (SoundStmt s) (p m)) → Meets (SoundStmt s) (unless_awaited word p m)
+    unless_awaited_sound s i None p m a h = h (sound_as (moved s) i refl refl refl (λ (l, v, t). subst (λ z. Takes kind.LParen z i.at) (unawaited v) t) a)
+    unless_awaited_sound s i (Some w) p m a h = meets_then {P = λ _ _. Unit {0}} _ (p m) _ (meets_each _ (p m) (λ _ _ _. tt)) (λ _ t _. reject_meets _ _ t)
+
+    for_behind_sound : (s i m : State) (word : Option Span) (o : Opening) → kind_at s.at ≡ kind.For → SoundStep (Opened (is_some word)) (moved s) i → SoundOpening i o m
+        → Meets (SoundStmt s) (for_behind (inner sub_statement) inner_expr (span_at s.at) word o m)
     unfolding for_behind
-    for_behind_sound s i m o e a q = meets_if _ (sees kind.In m.at) _ _ (λ h. for_in_sound s i m o e a q (saw m.at kind.In h))
-        (λ _. meets_if _ (word_at (codes "of") m.at) _ _ (λ h. for_of_sound s i m o e a q h) (λ _. for_parts_sound s i m o e a q))
+    for_behind_sound s i m word o e a q =
+        meets_if _ (sees kind.In m.at) _ _
+        (λ h. unless_awaited_sound s i word (for_in (inner sub_statement) inner_expr (span_at s.at) o) m a (λ b. for_in_sound s i m o e b q (saw m.at kind.In h)))
+        (λ _. meets_if _ (word_at (codes "of") m.at) _ _ (λ h. for_of_sound (is_some word) s i m o e a q h)
+        (λ _. unless_awaited_sound s i word (for_parts (inner sub_statement) inner_expr (span_at s.at) o) m a (λ b. for_parts_sound s i m o e b q)))
+
+    await_here_sound : (s : State) → Meets (λ word t. SoundStep (λ k. AwaitWord (is_some word)) s t) (await_here s)
+    unfolding await_here
+    await_here_sound s = meets_if _ (sees kind.Await s.at) _ _ (λ h. sound_moved s (saw s.at kind.Await h) refl (await_word refl (saw s.at kind.Await h) refl)) (λ _. sound_here s (no_await refl refl))
 
     pub for_sound : (s : State) → kind_at s.at ≡ kind.For → Meets (SoundStmt s) (for_stmt (inner sub_statement) inner_expr inner_pat inner_head s)
     unfolding for_stmt
-    for_sound s e = meets_then _ (expect kind.LParen (moved s)) _ (expect_sound kind.LParen (moved s) refl) (λ _ i a.
-        meets_then _ (opening inner_expr inner_pat inner_head i) _ (opening_sound i) (λ o m q. for_behind_sound s i m o e a q))
+    for_sound s e = meets_then _ (await_here (moved s)) _ (await_here_sound (moved s)) (λ word r v.
+        meets_then _ (expect kind.LParen r) _ (expect_sound kind.LParen r refl) (λ _ i a.
+        meets_then _ (opening inner_expr inner_pat inner_head i) _ (opening_sound i) (λ o m q. for_behind_sound s i m word o e (sound_more v a) q)))

@@ -28,10 +28,10 @@ use Rattle.swc_ecma_parser_grammar.specs.language.Goals.{Class, assignment}
 use Rattle.swc_ecma_parser_grammar.specs.Reads.{with_in, in_strict, directed, directs_on, DeclaratorRule, plain_rule, initialized_rule, ReadsSeparated, ReadsItems, TargetRule, no_target_rule, target_rule, StmtRule, variables_rule}
 use Rattle.swc_ecma_parser_grammar.specs.Walk as walks
 use Rattle.swc_ecma_parser_grammar.specs.Walk.{walk, env_of}
-use Rattle.swc_ecma_parser_grammar.specs.Notes.{statement_note}
+use Rattle.swc_ecma_parser_grammar.specs.Notes.{statement_note, with_note}
 use Rattle.swc_ecma_parser_reader.specs.Notes.{no_notes, held, notes_of, all_notes_of}
-use Rattle.swc_ecma_parser_reader.specs.State.{State, Reader, moved, coded, within, noted, module_fault, fault_at, Outcome, and_then, recorded_at, recorded_in, fault, name, end}
-use Rattle.swc_ecma_parser_reader.specs.Reader.{told, target, unbroken, uncontinued, misplaced, misdeclared, after_return, relabels, missing_initializer, initialized, declarator, declarators_turn, declarators, variables, close, directs, items_turn, items, note_statement, no_label, optional_end}
+use Rattle.swc_ecma_parser_reader.specs.State.{State, Reader, moved, coded, within, noted, holding_back, module_fault, fault_at, Outcome, and_then, recorded_at, recorded_in, fault, name, end}
+use Rattle.swc_ecma_parser_reader.specs.Reader.{told, target, unbroken, uncontinued, misplaced, misdeclared, after_return, relabels, missing_initializer, initialized, declarator, declarators_turn, declarators, variables, close, directs, items_turn, items, note_statement, no_label, optional_end, note_with}
 use Rattle.swc_ecma_parser_reader.proofs.expressions.SoundSteps.{meets_as, reject_meets, refused_meets, name_sound, Takes, noted_sound, fault_sound, walks_push, notes_push}
 use Rattle.swc_ecma_parser_grammar.proofs.Tests.{and_yes}
 use Rattle.swc_ecma_parser_reader.proofs.Notes.{or_nil, notes_nil}
@@ -273,7 +273,7 @@ module_fault_sound x s e = by_module s.code.flags.module refl
     f : Fault
     f = fault_at (span_of x) faults.InvalidIdentInStrict
 
-    by_module : (b : Bool) → s.code.flags.module ≡ b → Sound same no_faults (held (statement_note x)) (NoNote x) s (cond b (noted f s) (record s { notes = record s.notes { held_back = s.notes.held_back ++ f ∷ [] } }))
+    by_module : (b : Bool) → s.code.flags.module ≡ b → Sound same no_faults (held (statement_note x)) (NoNote x) s (cond b (noted f s) (holding_back f s))
     by_module true h = noted_sound (NoNote x) f s refl (statement_note x)
     by_module false h = record {
       code = refl;
@@ -287,6 +287,33 @@ module_fault_sound x s e = by_module s.code.flags.module refl
       fewer = same-fewer (error_tokens s.at.left) (error_tokens s.at.left) refl;
       remembers = λ i. i;
       reads = λ i. (rw h refl, refl);
+    }
+
+-- `with` is a fault in module code, and else held back
+unfoldable pub SoundWith : Span → State → State → Type 0
+SoundWith span s t = Sound same no_faults (held (with_note span ∷ [])) (λ k c d. (k.flags.module ≡ false) × (d ≡ c)) s t
+
+pub note_with_sound : (span : Span) (s : State) → Meets (λ _ t. SoundWith span s t) (note_with span s)
+unfolding note_with SoundWith
+note_with_sound span s = by_module s.code.flags.module refl
+  where
+    f : Fault
+    f = fault_at span faults.WithInStrict
+
+    by_module : (b : Bool) → s.code.flags.module ≡ b → Sound same no_faults (held (with_note span ∷ [])) (λ k c d. (k.flags.module ≡ false) × (d ≡ c)) s (cond b (noted f s) (holding_back f s))
+    by_module true h = noted_sound (λ k c d. (k.flags.module ≡ false) × (d ≡ c)) f s refl (with_note span ∷ [])
+    by_module false h = record {
+      code = refl;
+      scope = refl;
+      added = [];
+      faults = sym (append-nil s.faults);
+      notes = λ i. rw (or_nil s.notes.found_module_item) refl;
+      found = sym (or_nil s.notes.found_module_item);
+      walked = λ i d. refl;
+      clean = λ i. refl;
+      fewer = same-fewer (error_tokens s.at.left) (error_tokens s.at.left) refl;
+      remembers = λ i. i;
+      reads = λ i. (h, refl);
     }
 
 -- a conjunction is false where its second part is

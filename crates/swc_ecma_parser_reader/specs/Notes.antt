@@ -1,17 +1,23 @@
 -- What is noted while a tree is read, beside the faults that are recorded.
-use Rattle.std.specs.Prelude.{Bool, false, ◌||◌, List, [], ◌++◌}
-use Rattle.swc_ecma_parser_error.specs.Kind.{Fault}
+use Rattle.std.specs.Prelude.{Bool, false, ◌||◌, List, [], ◌++◌, map}
+use Rattle.swc_ecma_parser_error.specs.declared.error.Error.{Error}
+use Rattle.swc_ecma_parser_error.specs.Kind.{Fault, fault_of}
 use Rattle.swc_ecma_parser_model.specs.Tree.{Tree, Trees}
-use Rattle.swc_ecma_parser_grammar.specs.Notes.{notes, all_notes}
+use Rattle.swc_ecma_parser_grammar.specs.Notes.{notes, all_notes, as_note}
 use Rattle.swc_ecma_parser_grammar.specs.language.Noted.{has_meta, any_has_meta}
 
--- the faults held back until the code is a module's, and whether something was read that makes a program a module
+-- The faults held back until the code is a module's, that of a `with` where it begins alone (`as_note`), and whether something
+-- was read that makes a program a module.
 pub record Notes : Type 0 where
   pub held_back : List Fault
   pub found_module_item : Bool
 
 abbrev pub no_notes : Notes
 no_notes = record { held_back = []; found_module_item = false }
+
+-- errors that are held back, as notes
+abbrev pub held_of : List Error → List Fault
+held_of = map (λ e. as_note (fault_of e))
 
 -- faults that are held back, and nothing else
 abbrev pub held : List Fault → Notes

@@ -23,7 +23,7 @@ use Rattle.swc_ecma_parser_grammar.specs.Reads.{with_in, head_code, directed, ne
 use Rattle.swc_ecma_parser_grammar.specs.Ends.{ends_at}
 use Rattle.swc_ecma_parser_grammar.specs.Own.{break_faults, continue_faults, return_faults, labelled_function, duplicates, head_faults}
 use Rattle.swc_ecma_parser_grammar.specs.Entries.{script_code}
-use Rattle.swc_ecma_parser_grammar.specs.language.Contexts.{in_loop, in_breakable, without_in}
+use Rattle.swc_ecma_parser_grammar.specs.language.Contexts.{in_loop, in_breakable, in_with, without_in}
 use Rattle.swc_ecma_parser_grammar.specs.language.Goals.{Class, expression, assignment}
 use Rattle.swc_ecma_parser_grammar.specs.language.Items.{sub_statement, labelled_item}
 use Rattle.swc_ecma_parser_reader.specs.Expressions as exprs
@@ -153,6 +153,10 @@ module _ (stmt : Reader Tree) where
     block_from start
 
 -- the bare name `interface` is a fault in module code
+-- in module code `with` is a fault, which is said at that word
+unfoldable pub note_with : Span → Reader (Unit {0})
+note_with span = λ s. Ok (tt, module_fault (fault_at span faults.WithInStrict) s)
+
 unfoldable pub note_statement : Tree → Reader (Unit {0})
 note_statement x = λ s. if is_ident_named (codes "interface") x then Ok (tt, module_fault (fault_at (span_of x) faults.InvalidIdentInStrict) s) else Ok (tt, s)
 
@@ -226,6 +230,17 @@ module _ (stmt : Reader Tree) (expr : Reader Tree) where
     span ← spanned_from start
     pure (tree.while span test body)
 
+  -- `with`, whose body counts as a function's
+  unfoldable pub with_stmt : Reader Tree
+  with_stmt = do
+    start ← span_here
+    skip
+    note_with start
+    obj ← head expr
+    body ← within in_with stmt
+    span ← since start
+    pure (tree.with span obj body)
+
   unfoldable pub do_while : Reader Tree
   do_while = do
     start ← here
@@ -251,11 +266,11 @@ as_init Nothing = pure tree.absent
 as_init (Variables x) = pure x
 as_init (Expression v) = exprs.close v
 
--- as what takes each value
-abbrev pub as_left : Opening → Reader Tree
-as_left Nothing = wanted faults.Unexpected
-as_left (Variables x) = pure x
-as_left (Expression v) = exprs.target v
+-- as what takes each value; behind `for await` the name `async` alone is not read yet
+abbrev pub as_left : (is_await : Bool) → Opening → Reader Tree
+as_left is_await Nothing = wanted faults.Unexpected
+as_left is_await (Variables x) = pure x
+as_left is_await (Expression v) = λ s. if is_await && is_ident_named (codes "async") v.x then wanted faults.Unexpected s else exprs.target v s
 
 module _ (expr : Class → Reader Tree) (pat : Reader Tree) where
   -- what a head declares, without an end
@@ -285,6 +300,17 @@ module _ (expr : Class → Reader Tree) (pat : Reader Tree) where
 unfoldable pub head_part : TokenKind → Reader Tree → Reader Tree
 head_part behind expr = λ s. if sees behind s.at then Ok (tree.absent, s) else within with_in expr s
 
+-- where `await` stands, if it does
+unfoldable pub await_here : Reader (Option Span)
+await_here = λ s. if sees kind.Await s.at then Ok (Some (span_at s.at), moved s) else Ok (None, s)
+
+-- a loop without `of`: with `await` it is refused, behind its body
+abbrev pub unless_awaited : Option Span → Reader Tree → Reader Tree
+unless_awaited None p = p
+unless_awaited (Some word) p = do
+  _ ← p
+  reject (fault_at word faults.AwaitForStmt)
+
 -- the faults of what is declared before `in` and `of`
 unfoldable pub misdeclared : Bool → Tree → Reader (Unit {0})
 misdeclared refused left = told (head_faults refused left)
@@ -305,7 +331,7 @@ module _ (stmt : Reader Tree) (expr : Class → Reader Tree) where
 
   unfoldable pub for_in : Span → Opening → Reader Tree
   for_in start first = do
-    left ← as_left first
+    left ← as_left false first
     λ s. misdeclared s.code.flags.strict left s
     skip
     right ← within with_in (expr expression)
@@ -314,30 +340,31 @@ module _ (stmt : Reader Tree) (expr : Class → Reader Tree) where
     span ← since start
     pure (tree.for_in span left right body)
 
-  unfoldable pub for_of : Span → Opening → Reader Tree
-  for_of start first = do
-    left ← as_left first
+  unfoldable pub for_of : (is_await : Bool) → Span → Opening → Reader Tree
+  for_of is_await start first = do
+    left ← as_left is_await first
     misdeclared true left
     skip
     right ← within with_in (expr assignment)
     expect kind.RParen
     body ← within in_loop stmt
     span ← since start
-    pure (tree.for_of span false left right body)
+    pure (tree.for_of span is_await left right body)
 
-  unfoldable pub for_behind : Span → Opening → Reader Tree
-  for_behind start first = λ s.
-      if sees kind.In s.at then for_in start first s
-      else if word_at (codes "of") s.at then for_of start first s
-      else for_parts start first s
+  unfoldable pub for_behind : Span → Option Span → Opening → Reader Tree
+  for_behind start word first = λ s.
+      if sees kind.In s.at then unless_awaited word (for_in start first) s
+      else if word_at (codes "of") s.at then for_of (is_some word) start first s
+      else unless_awaited word (for_parts start first) s
 
   unfoldable pub for_stmt : Reader Tree → Reader Cover → Reader Tree
   for_stmt pat head_cover = do
     start ← span_here
     skip
+    word ← await_here
     expect kind.LParen
     first ← opening expr pat head_cover
-    for_behind start first
+    for_behind start word first
 
 -- ---- `if`: a chain of `else if` is one level
 
@@ -624,6 +651,7 @@ module _ (stmt : Position → Reader Tree) (expr : Class → Reader Tree) (pat :
   stmt_by at kind.Return = return_stmt (expr expression)
   stmt_by at kind.Throw = throw (expr expression)
   stmt_by at kind.Try = try_stmt (stmt nested_item) pat
+  stmt_by at kind.With = with_stmt (stmt sub_statement) (expr expression)
   stmt_by at kind.While = while_stmt (stmt sub_statement) (expr expression)
   stmt_by at kind.Do = do_while (stmt sub_statement) (expr expression)
   stmt_by at kind.For = for_stmt (stmt sub_statement) expr pat head_cover

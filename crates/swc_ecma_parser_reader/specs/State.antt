@@ -17,6 +17,7 @@ use Rattle.swc_ecma_parser_model.specs.Tree.{Text}
 use Rattle.swc_ecma_parser_grammar.specs.Looks.{sees, span_at, spanned}
 use Rattle.swc_ecma_parser_grammar.specs.Names.{Code, is_name}
 use Rattle.swc_ecma_parser_grammar.specs.Ends.{can_end}
+use Rattle.swc_ecma_parser_grammar.specs.Notes.{as_note}
 use Rattle.swc_ecma_parser_reader.specs.Notes.{Notes}
 use Rattle.swc_ecma_parser_reader.specs.declared.mark.Mark.{Mark}
 use Rattle.swc_ecma_parser_reader.specs.declared.mark.Mark.TheVariants as mark
@@ -116,9 +117,13 @@ module_found s = record s { notes = record s.notes { found_module_item = true } 
 abbrev pub note_module_item : Reader (Unit {0})
 note_module_item = λ s. Ok (tt, module_found s)
 
+-- a fault that is held back
+abbrev pub holding_back : Fault → State → State
+holding_back f s = record s { notes = record s.notes { held_back = s.notes.held_back ++ as_note f ∷ [] } }
+
 -- a fault that counts in module code alone
 abbrev pub module_fault : Fault → State → State
-module_fault f s = if s.code.flags.module then noted f s else record s { notes = record s.notes { held_back = s.notes.held_back ++ f ∷ [] } }
+module_fault f s = if s.code.flags.module then noted f s else holding_back f s
 
 -- ---- recording: an error token that stands here is read and recorded first, and one for want of memory answered
 

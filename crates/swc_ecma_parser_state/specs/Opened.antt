@@ -4,6 +4,7 @@ use Rattle.swc_ecma_parser_error.specs.Kind.{faults_of}
 use Rattle.swc_ecma_parser_input.specs.Setting.{setting_of}
 use Rattle.swc_ecma_parser_input.specs.TokenSource.{TokenSource, with_context}
 use Rattle.swc_ecma_parser_input.specs.Place.{outset}
+use Rattle.swc_ecma_parser_reader.specs.Notes.{held_of}
 use Rattle.swc_ecma_parser_reader.specs.State.{State}
 
 -- the source's own context is set on it once more
@@ -13,5 +14,5 @@ opened s = record {
   code = record { flags = s.context; setting = setting_of s.syntax };
   scope = record { labels = []; mark = None };
   faults = faults_of (with_context s.context s).recorded;
-  notes = record { held_back = faults_of (with_context s.context s).held_back; found_module_item = false };
+  notes = record { held_back = held_of (with_context s.context s).held_back; found_module_item = false };
 }

@@ -4,6 +4,7 @@ ghost use Rattle.std.specs.Prelude.{◌≡◌, ◌||◌, false, [], None, length
 ghost use Rattle.swc_ecma_parser_error.specs.Kind.{faults_of, IsOutOfMemory};
 ghost use Rattle.swc_ecma_parser_grammar.specs.Entries.{script_code};
 ghost use Rattle.swc_ecma_parser_input.specs.Place as place;
+ghost use Rattle.swc_ecma_parser_reader.specs.Notes.{held_of};
 ghost use Rattle.swc_ecma_parser_reader.specs.Entry.{unmarked};
 ghost use Rattle.swc_ecma_parser_reader.specs.State as reader;
 ghost use Rattle.swc_ecma_parser_state.specs.Opened.{opened};
@@ -90,7 +91,7 @@ impl<I: Tokens> State<I> {
         ensures left { (I.seen result).left ≡ drop 2 self.at.left }
         ensures context { (I.seen result).context ≡ self.code.flags }
         ensures faults { faults_of (I.seen result).recorded ≡ self.faults }
-        ensures held_back { faults_of (I.seen result).held_back ≡ self.notes.held_back }
+        ensures held_back { held_of (I.seen result).held_back ≡ self.notes.held_back }
     {
         let State {
             buffer,

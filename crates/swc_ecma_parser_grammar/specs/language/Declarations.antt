@@ -9,7 +9,7 @@ use Rattle.swc_ecma_parser_model.specs.Forms.{is_binding_name}
 use Rattle.swc_ecma_parser_grammar.specs.declared.position.Position.{Position}
 use Rattle.swc_ecma_parser_grammar.specs.Looks.{kind_at, breaks_at, sees, spanned}
 use Rattle.swc_ecma_parser_grammar.specs.Names.{Code, identifier_at}
-use Rattle.swc_ecma_parser_grammar.specs.Follows.{word_at}
+use Rattle.swc_ecma_parser_grammar.specs.Follows.{word_at, AwaitWord}
 use Rattle.swc_ecma_parser_grammar.specs.Variables.{begins_variables, needs_no_initializer}
 use Rattle.swc_ecma_parser_grammar.specs.Reads.{with_in, ReadsSeparated}
 use Rattle.swc_ecma_parser_grammar.specs.language.Goals.{Goal, expr_goal, assignment, pattern_goal, binding}
@@ -28,10 +28,6 @@ abbrev pub VariablesRule : (Goal → Type 0) → Code → (loop : Bool) → VarD
 VariablesRule In k loop word xs c d = (begins_variables word c ≡ true) × ReadsSeparated (DeclaratorRule In k loop word) xs (after c) d
 
 -- ---- `using` and `await using`
-
-pub data AwaitWord (is_await : Bool) (c d : Place) : Type 0 where
-  no_await : is_await ≡ false → d ≡ c → AwaitWord is_await c d
-  await_word : is_await ≡ true → kind_at c ≡ kind.Await → d ≡ after c → AwaitWord is_await c d
 
 -- `using` begins a declaration before a name on its line
 unfoldable pub is_using_declaration : Code → Place → Bool

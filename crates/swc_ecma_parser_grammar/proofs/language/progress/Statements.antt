@@ -6,12 +6,14 @@ use Rattle.swc_ecma_parser_model.specs.declared.leaves.ImportPhase.{ImportPhase}
 use Rattle.swc_ecma_parser_model.specs.Tree.{Tree}
 use Rattle.swc_ecma_parser_grammar.specs.declared.position.Position.{Position}
 use Rattle.swc_ecma_parser_grammar.specs.Names.{Code}
+use Rattle.swc_ecma_parser_grammar.specs.Follows.{AwaitWord}
 use Rattle.swc_ecma_parser_grammar.specs.Reads.{with_in}
+use Rattle.swc_ecma_parser_grammar.specs.Follows as follows
 use Rattle.swc_ecma_parser_grammar.specs.language.Goals.{Goal, expr_goal, callee_goal, pattern_goal, element_goal, stmt_goal, member_goal, decorator_goal, using_goal, attributes_goal, item_goal}
 use Rattle.swc_ecma_parser_grammar.specs.language.Contexts.{in_breakable}
 use Rattle.swc_ecma_parser_grammar.specs.language.Items.{nested_item}
 use Rattle.swc_ecma_parser_grammar.specs.language.Declarations as declarations
-use Rattle.swc_ecma_parser_grammar.specs.language.Declarations.{DeclaratorRule, VariablesRule, AwaitWord, UsingDeclaratorRule, UsingRule}
+use Rattle.swc_ecma_parser_grammar.specs.language.Declarations.{DeclaratorRule, VariablesRule, UsingDeclaratorRule, UsingRule}
 use Rattle.swc_ecma_parser_grammar.specs.Reads.{head_code}
 use Rattle.swc_ecma_parser_grammar.specs.language.ForHeads as heads
 use Rattle.swc_ecma_parser_grammar.specs.language.ForHeads.{HeadVariablesRule, InitRule, PartRule, LeftRule, UsingNameRule, UsingHeadRule, OfLeftRule}
@@ -34,8 +36,8 @@ use Rattle.swc_ecma_parser_grammar.proofs.language.progress.Expressions.{each, l
 -- ---- words
 
 pub await_word : {is_await : Bool} {c d : Place} → AwaitWord is_await c d → Onward c d
-await_word (declarations.no_await a e) = stays e
-await_word (declarations.await_word a h e) = any_token_to e
+await_word (follows.no_await a e) = stays e
+await_word (follows.await_word a h e) = any_token_to e
 
 pub target : {k : Code} {x : Tree} {c d : Place} → TargetRule k x c d → Onward c d
 target (statements.no_target_rule a e b) = stays e
