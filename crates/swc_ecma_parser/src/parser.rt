@@ -7,7 +7,7 @@ ghost use Rattle.swc_ecma_parser_error.specs.Kind.{fault_of, faults_of, kind_of,
 ghost use Rattle.swc_ecma_parser_error.specs.declared.error.Error.{Error};
 ghost use Rattle.swc_ecma_parser_input.specs.Place as place;
 ghost use Rattle.swc_ecma_parser_reader.specs.Notes.{held_of};
-ghost use Rattle.swc_ecma_parser_reader.specs.Entry.{unmarked, SoundScript, CompleteScript, SoundStatement, CompleteStatement, IsRestored};
+ghost use Rattle.swc_ecma_parser_reader.specs.Entry.{unmarked, SoundScript, CompleteScript, SoundStatement, CompleteStatement, IsRestored, Stays};
 ghost use Rattle.swc_ecma_parser_reader.specs.Limits.{has_too_deep_token, has_out_of_memory_token};
 ghost use Rattle.swc_ecma_parser_state.specs.Opened.{opened};
 ghost use Rattle.swc_ecma_parser_token.specs.declared.token.Token.TheVariants as token;
@@ -100,6 +100,9 @@ impl<I: Tokens> Parser<I> {
         // An empty list is read, whatever memory is left.
         ensures outright { self.old.state.at.left ≡ [] → IsOk result }
         ensures refused { OnErr result (IsRestored self.old.state self.new.state) }
+
+        // Whatever comes but want of memory: the tokens that are left are the last of those that were, and no recorded fault is lost.
+        ensures stays { Stays self.old.state result self.new.state }
     {
         let alloc = self.alloc;
         let limit = self.limit as usize;
@@ -131,6 +134,9 @@ impl<I: Tokens> Parser<I> {
             → IsErrAnd result (λ e. kind_of e.kind ≢ kinds.OutOfMemory → fault_of e ≡ fault_of d) }
         ensures at_end { self.old.state.at.left ≡ [] → IsErrAnd result (λ e. kind_of e.kind ≢ kinds.OutOfMemory → kind_of e.kind ≡ kinds.Eof) }
         ensures refused { OnErr result (IsRestored self.old.state self.new.state) }
+
+        // Whatever comes but want of memory: the tokens that are left are the last of those that were, and no recorded fault is lost.
+        ensures stays { Stays self.old.state result self.new.state }
     {
         let alloc = self.alloc;
         let limit = self.limit as usize;
@@ -165,6 +171,9 @@ impl<I: Tokens> Parser<I> {
             → IsErrAnd result (λ e. kind_of e.kind ≢ kinds.OutOfMemory → fault_of e ≡ fault_of d) }
         ensures at_end { self.old.state.at.left ≡ [] → IsErrAnd result (λ e. kind_of e.kind ≢ kinds.OutOfMemory → kind_of e.kind ≡ kinds.Eof) }
         ensures refused { OnErr result (IsRestored self.old.state self.new.state) }
+
+        // Whatever comes but want of memory: the tokens that are left are the last of those that were, and no recorded fault is lost.
+        ensures stays { Stays self.old.state result self.new.state }
     {
         let alloc = self.alloc;
         let limit = self.limit as usize;

@@ -6,6 +6,7 @@ pub mod expressions
 pub mod patterns
 pub mod Loops
 pub mod Meets
+pub mod Behind
 pub mod Errors
 pub mod Between
 pub mod SoundParts
@@ -21,6 +22,7 @@ pub mod Unique
 pub mod Empty
 pub mod Shallow
 pub mod Limits
+pub mod Keeps
 pub mod Refusals
 pub mod Entries
 pub mod Statements

@@ -1,6 +1,7 @@
 pub mod Falls
 pub mod Loops
 pub mod Limits
+pub mod Keeps
 pub mod CompleteKinds
 pub mod Covers
 pub mod Targets

@@ -67,10 +67,35 @@ pub record IsRestored (s t : State) : Type 0 where
   pub labels : t.scope.labels ≡ []
   pub found_module_item : t.notes.found_module_item ≡ s.notes.found_module_item
 
--- what the reader answers; of the state after a refusal nothing is said
+-- Behind a place of a list: tokens were read from there on, and faults recorded behind those that were there.
+pub record Behind (fs : List Fault) (ts : List TokenAndSpan) (gs : List Fault) (us : List TokenAndSpan) : Type 0 where
+  pub added : List Fault
+  pub faults : gs ≡ fs ++ added
+  pub read : List TokenAndSpan
+  pub tokens : ts ≡ read ++ us
+
+abbrev pub IsBehind : State → State → Type 0
+IsBehind s t = Behind s.faults s.at.left t.faults t.at.left
+
+-- Whatever a call answers: the tokens that are left are the last of those that were, and no recorded fault is lost. Of a refusal
+-- for want of memory it is not said.
+abbrev pub Stays : {X : Type 0} → State → Result X Error → State → Type 0
+Stays s (Ok x) t = IsBehind s t
+Stays s (Err e) t = kind_of e.kind ≢ OutOfMemory → IsBehind s t
+
+-- faults that stand behind those that were there
+abbrev pub IsLater : List Fault → List Fault → Type 0
+IsLater fs gs = (added : List Fault) × (gs ≡ fs ++ added)
+
+-- as much is read; where the code is a module's again, faults that were held back are recorded
+pub record IsSetBack (s t : State) : Type 0 where
+  pub at : t.at ≡ s.at
+  pub faults : IsLater s.faults t.faults
+
+-- what the reader answers, or refuses, with the state set back
 abbrev pub AnswersScript : {X : Type 0} → (X → Tree) → ℕ → State → Result X Error → State → Type 0
 AnswersScript view limit s (Ok x) t = script limit s ≡ Ok (view x, t)
-AnswersScript view limit s (Err e) t = kind_of e.kind ≢ OutOfMemory → (u : State) × (script limit s ≡ Err (fault_of e, u))
+AnswersScript view limit s (Err e) t = kind_of e.kind ≢ OutOfMemory → (u : State) × (script limit s ≡ Err (fault_of e, u)) × IsSetBack u t
 
 -- ---- one statement, or one that may be a declaration, behind which anything may stand
 
@@ -119,7 +144,7 @@ CompleteStatement view limit include_decl top_level s result t =
     (x : Tree) (d : Place) → ReadsSupportedStatement limit include_decl top_level s.code x s.at d → (statement_walk s x ≡ []) ⊎ (sees kind.Error d ≡ false)
     → GivesAs view (Ok (x, statement_left s x d)) result t
 
--- what the reader answers; of the state after a refusal nothing is said
+-- what the reader answers, or refuses, with the state set back
 abbrev pub AnswersStatement : {X : Type 0} → (X → Tree) → ℕ → (include_decl top_level : Bool) → State → Result X Error → State → Type 0
 AnswersStatement view limit include_decl top_level s (Ok x) t = stmt limit (at_top include_decl top_level) s ≡ Ok (view x, t)
-AnswersStatement view limit include_decl top_level s (Err e) t = kind_of e.kind ≢ OutOfMemory → (u : State) × (stmt limit (at_top include_decl top_level) s ≡ Err (fault_of e, u))
+AnswersStatement view limit include_decl top_level s (Err e) t = kind_of e.kind ≢ OutOfMemory → (u : State) × (stmt limit (at_top include_decl top_level) s ≡ Err (fault_of e, u)) × IsSetBack u t

@@ -152,11 +152,11 @@ module _ (stmt : Reader Tree) where
     expect kind.LBrace
     block_from start
 
--- the bare name `interface` is a fault in module code
 -- in module code `with` is a fault, which is said at that word
 unfoldable pub note_with : Span → Reader (Unit {0})
 note_with span = λ s. Ok (tt, module_fault (fault_at span faults.WithInStrict) s)
 
+-- the bare name `interface` is a fault in module code
 unfoldable pub note_statement : Tree → Reader (Unit {0})
 note_statement x = λ s. if is_ident_named (codes "interface") x then Ok (tt, module_fault (fault_at (span_of x) faults.InvalidIdentInStrict) s) else Ok (tt, s)
 

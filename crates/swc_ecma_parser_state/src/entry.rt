@@ -5,7 +5,7 @@ ghost use Rattle.swc_ecma_parser_error.specs.Kind.{faults_of, IsOutOfMemory};
 ghost use Rattle.swc_ecma_parser_grammar.specs.Entries.{script_code};
 ghost use Rattle.swc_ecma_parser_input.specs.Place as place;
 ghost use Rattle.swc_ecma_parser_reader.specs.Notes.{held_of};
-ghost use Rattle.swc_ecma_parser_reader.specs.Entry.{unmarked};
+ghost use Rattle.swc_ecma_parser_reader.specs.Entry.{unmarked, IsLater};
 ghost use Rattle.swc_ecma_parser_reader.specs.State as reader;
 ghost use Rattle.swc_ecma_parser_state.specs.Opened.{opened};
 
@@ -134,6 +134,7 @@ impl<I: Tokens> State<I> {
         ensures scope { self.new.scope ≡ record self.old.scope { labels = [] } }
         ensures noted { self.new.notes.found_module_item ≡ found_module_item }
         ensures at { self.new.at ≡ self.old.at }
+        ensures faults { IsLater self.old.faults self.new.faults }
     {
         self.labels.clear();
         self.found_module_item = found_module_item;

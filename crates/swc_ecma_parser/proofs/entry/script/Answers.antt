@@ -11,4 +11,5 @@ returns-in-Err-clause-answers g c = λ h. (
   c.script_body-read.new.p,
   script_refused c.args.limit (unmarked c.args.state.now) _
       (ap (script_body c.args.limit) (sym (c.enter_script.ensures ∙ ap (λ s. coded (script_code s.code) s) c.begin.ensures)) ∙ c.in-Err.ensures.gives h),
+  record { at = c.restore.ensures.at; faults = c.restore.ensures.faults },
 )

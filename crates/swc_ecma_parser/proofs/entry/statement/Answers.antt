@@ -3,4 +3,8 @@ use Rattle.swc_ecma_parser_reader.specs.Reader.{stmt}
 use Rattle.swc_ecma_parser.proofs.entry.statement.Goals as goal
 
 pub returns-in-Err-clause-answers : goal.returns-in-Err-clause-answers
-returns-in-Err-clause-answers g c = λ h. (c.stmt-read.new.p, ap (λ s. stmt c.args.limit c.args.at s) (sym c.begin.ensures) ∙ c.in-Err.ensures h)
+returns-in-Err-clause-answers g c = λ h. (
+  c.stmt-read.new.p,
+  ap (λ s. stmt c.args.limit c.args.at s) (sym c.begin.ensures) ∙ c.in-Err.ensures h,
+  record { at = c.restore.ensures.at; faults = c.restore.ensures.faults },
+)

@@ -1,6 +1,7 @@
 use Rattle.swc_ecma_parser_ast.specs.View.{view_script}
 use Rattle.swc_ecma_parser_reader.specs.Entry.{unmarked}
 use Rattle.swc_ecma_parser_reader.proofs.Entries as entries
+use Rattle.swc_ecma_parser_reader.proofs.Keeps as keeps
 use Rattle.swc_ecma_parser.proofs.parser.Parser.parse_script.Goals as goal
 
 pub returns-clause-sound : goal.returns-clause-sound
@@ -17,3 +18,6 @@ returns-clause-fits g c = rw (← c.self.view_is) (entries.entry_fits _ view_scr
 
 pub returns-clause-error_token : goal.returns-clause-error_token
 returns-clause-error_token g c = rw (← c.self.view_is) (entries.entry_of_error_token _ view_script c.self.inside.limit (unmarked c.self.inside.state) c.script.result c.script.new.state c.script.ensures.answers)
+
+pub returns-clause-stays : goal.returns-clause-stays
+returns-clause-stays g c = rw (← c.self.view_is) (keeps.script_stays _ view_script c.self.inside.limit c.self.inside.state c.script.result c.script.new.state c.script.ensures.answers)

@@ -1,0 +1,566 @@
+-- Whatever an expression is read as, or refused, the tokens that are left are the last of those that were, and no recorded fault is lost.
+use Rattle.std.proofs.Common.{◌≡◌, ◌≢◌, ℕ, zero, suc, Bool, true, false, cond, List, [], ◌∷◌, Option, Some, None, refl, sym, ◌∙◌, ap}
+use Rattle.std.specs.Prelude.{nat_eq, not, ◌&&◌, ◌||◌, codes}
+use Rattle.std.proofs.lemmas.Bool.{and_parts}
+use Rattle.swc_ecma_parser_common.specs.declared.span.Span.{Span}
+use Rattle.swc_ecma_parser_error.specs.Kind as faults
+use Rattle.swc_ecma_parser_token.specs.declared.kind.TokenKind.{TokenKind}
+use Rattle.swc_ecma_parser_token.specs.declared.kind.TokenKind.TheVariants as kind
+use Rattle.swc_ecma_parser_token.specs.declared.token.Token.{Token}
+use Rattle.swc_ecma_parser_token.specs.declared.token.Token.TheVariants as token
+use Rattle.swc_ecma_parser_token.specs.declared.token.TokenAndSpan.{TokenAndSpan}
+use Rattle.swc_ecma_parser_input.specs.Place.{after}
+use Rattle.swc_ecma_parser_model.specs.declared.operators.UnaryOp.{UnaryOp}
+use Rattle.swc_ecma_parser_model.specs.declared.operators.UpdateOp.{UpdateOp}
+use Rattle.swc_ecma_parser_model.specs.declared.operators.BinaryOp.{BinaryOp}
+use Rattle.swc_ecma_parser_model.specs.declared.operators.AssignOp.{AssignOp}
+use Rattle.swc_ecma_parser_model.specs.declared.operators.AssignOp.TheVariants as assign
+use Rattle.swc_ecma_parser_model.specs.Tree as tree
+use Rattle.swc_ecma_parser_model.specs.Tree.{Tree, Text}
+use Rattle.swc_ecma_parser_model.specs.Forms.{is_simple_target, span_of}
+use Rattle.swc_ecma_parser_model.specs.Targets.{as_target}
+use Rattle.swc_ecma_parser_grammar.specs.Looks.{kind_at, sees, span_at}
+use Rattle.swc_ecma_parser_grammar.specs.Names.{is_name, name_at}
+use Rattle.swc_ecma_parser_grammar.specs.Follows.{word_at, is_async_function, continues_left_side}
+use Rattle.swc_ecma_parser_grammar.specs.Reads.{with_in}
+use Rattle.swc_ecma_parser_grammar.specs.language.Goals.{Class, expression, assignment, operator, unary, left_side, callee}
+use Rattle.swc_ecma_parser_grammar.specs.language.Operators.{unary_operator, update_operator, binary_operator, assign_operator, groups_left, mixes, is_unary}
+use Rattle.swc_ecma_parser_grammar.specs.language.Continues.{continues_conditional}
+use Rattle.swc_ecma_parser_reader.specs.State.{State, Reader, ◌>>=◌, moved, module_found, coded, wanted, fault_at, fault, expect, name, loop}
+use Rattle.swc_ecma_parser_reader.specs.Expressions.{Cover, no_covers, unmarked, close, target_or, target, goes_on, literal, literal_in, taken, any_word, word_in, word_by, touching_word, private_name, word_property, is_word_at, key_or, literal_key, shorthand_name, shorthand, dotted, ident_expr, this, bare_new, closed_left, simple, update_behind, behind_operand, postfix_at, right_class, read_operator, operator_at, left_operand, unmixed, unassigned, unassignable, unheaded, heads_arrow, begins_async_call, inside, brackets, access, spread_element, plain_element, element, arguments_turn, arguments, covered, spread_item, plain_item, item, array_turn, elements, array, computed_key, key, key_value, initialized, initialized_name, initialized_key, bare_key, behind_key, keyed_property, spread_property, property, object_turn, properties, object, paren, marked_primary, literal_or, primary, accessed, called, left_turn, left_from, super_call, super_property, super_access, behind_super, super_head, constructed, new_head, import_call, meta_fault, import_meta, import_head, left_head, left, left_expr, prefixed, update_before, postfix, updated, unary_by, unary_expr, operated, binary_by, binary_turn, binary_from, binary_expr, conditional, assigned_to, assigned, assigned_or, behind_operators, operators_expr, postfixed, continued, closed, assigned_pattern, behind_literal, open_literal, done_expr, cover_expr, assignment_expr, sequence_turn, sequence_from, expression_expr, expr_level, expr, cover}
+use Rattle.swc_ecma_parser_reader.specs.Heads.{sequenced, head_expr}
+use Rattle.swc_ecma_parser_reader.proofs.Meets.{Answers, answers_then, answers_if, saw}
+use Rattle.swc_ecma_parser_reader.proofs.Behind.{Kept, Lost, Passes, behind_after, too_deep_keeps, fault_keeps, wanted_keeps, reject_keeps, expect_keeps, name_keeps, loop_keeps}
+use Rattle.swc_ecma_parser_reader.specs.Entry.{IsBehind}
+
+-- ---- what is known of the first token
+
+-- the second of two tests
+other_test : (a b : Bool) → (a || b) ≡ true → a ≡ false → b ≡ true
+other_test true b h e = cc
+other_test false b h e = h
+
+-- an operator is a token
+no_end_by : {A : Type 0} (f : TokenKind → Option A) (k : TokenKind) (x : A) → f kind.End ≡ None → f k ≡ Some x → k ≢ kind.End
+no_end_by f k x n h = λ e. let g : Some x ≡ None = sym h ∙ ap f e ∙ n in cc
+
+-- ---- steps that read nothing further in
+
+module _ (b : State) (s : State) (f : IsBehind b s) where
+  pub unexpected_keeps : {A : Type 0} (P : A → State → Type 0) → Answers P (Lost b) (wanted faults.Unexpected s)
+  unexpected_keeps P = wanted_keeps P faults.Unexpected b s f
+
+  taken_keeps : (o : Option Tree) → Answers (Kept b) (Lost b) (taken o s)
+  taken_keeps None = f
+  taken_keeps (Some x) = behind_after b s f
+
+  literal_keeps : Answers (Kept b) (Lost b) (literal s)
+  unfolding literal
+  literal_keeps = taken_keeps (literal_in s.at.left)
+
+  word_by_keeps : (v : Token) (span : Span) → Answers (Kept b) (Lost b) (word_by s v span)
+  word_by_keeps (token.Word w) span = behind_after b s f
+  word_by_keeps _ span = unexpected_keeps _
+
+  word_in_keeps : (ts : List TokenAndSpan) → Answers (Kept b) (Lost b) (word_in s ts)
+  word_in_keeps [] = unexpected_keeps _
+  word_in_keeps (u ∷ ts) = word_by_keeps u.token u.span
+
+  any_word_keeps : Answers (Kept b) (Lost b) (any_word s)
+  unfolding any_word
+  any_word_keeps = word_in_keeps s.at.left
+
+  touching_keeps : Answers (Kept b) (Lost b) (touching_word s)
+  unfolding touching_word
+  touching_keeps = answers_if _ _ (nat_eq s.at.last.hi.0 (span_at s.at).lo.0) _ _ (λ _. any_word_keeps) (λ _. unexpected_keeps _)
+
+  ident_keeps : Answers (Kept b) (Lost b) (ident_expr s)
+  unfolding ident_expr
+  ident_keeps = answers_then _ _ (name faults.Unexpected s) _ (name_keeps b s f faults.Unexpected) (λ i t g.
+      answers_if _ _ (is_async_function s.at) _ _ (λ _. wanted_keeps _ faults.Unexpected b t g) (λ _. g))
+
+  this_keeps : Answers (Kept b) (Lost b) (this s)
+  unfolding this
+  this_keeps = behind_after b s f
+
+  simple_keeps : (x : Tree) → Answers (Kept b) (Lost b) (simple x s)
+  unfolding simple
+  simple_keeps x = answers_if _ _ (is_simple_target x) _ _ (λ _. f) (λ _. reject_keeps _ faults.NotSimpleAssign (span_of x) b s f)
+
+  closed_keeps : (x : Tree) → Answers (Kept b) (Lost b) (closed_left x s)
+  unfolding closed_left
+  closed_keeps x = answers_if _ _ (continues_left_side s.at) _ _ (λ _. unexpected_keeps _) (λ _. f)
+
+  unmixed_keeps : (start : Span) (op : BinaryOp) (x y : Tree) → Answers (Kept b) (Lost b) (unmixed start op x y s)
+  unfolding unmixed
+  unmixed_keeps start op x y = answers_if _ _ (mixes op x || mixes op y) _ _ (λ _. reject_keeps _ faults.NullishCoalescingWithLogicalOp _ b s f) (λ _. f)
+
+  unassigned_keeps : (x : Tree) → Answers (Kept b) (Lost b) (unassigned x s)
+  unfolding unassigned
+  unassigned_keeps x = answers_if _ _ (continues_conditional s.at) _ _ (λ _. unexpected_keeps _) (λ _. f)
+
+  unheaded_keeps : (is_async : Bool) (x : Tree) → Answers (Kept b) (Lost b) (unheaded is_async x s)
+  unfolding unheaded
+  unheaded_keeps is_async x = answers_if _ _ (heads_arrow is_async x s) _ _ (λ _. unexpected_keeps _) (λ _. f)
+
+  shorthand_name_keeps : (span : Span) (text : Text) → Answers (Kept b) (Lost b) (shorthand_name span text s)
+  unfolding shorthand_name
+  shorthand_name_keeps span text = answers_if _ _ (is_name s.code.flags text) _ _ (λ _. f) (λ _. reject_keeps _ faults.ExpectedIdent span b s f)
+
+  shorthand_keeps : (x : Tree) → Answers (Kept b) (Lost b) (shorthand x s)
+  shorthand_keeps (tree.ident span text) = shorthand_name_keeps span text
+  shorthand_keeps _ = unexpected_keeps _
+
+  -- a refusal of the left operand, or the state as it is
+  left_operand_keeps : (op : BinaryOp) (x : Tree) → Answers (λ _ t. t ≡ s) (Lost b) (left_operand op x s)
+  unfolding left_operand
+  left_operand_keeps op x = answers_if _ _ (not (groups_left op) && is_unary x) _ _ (λ _. reject_keeps _ faults.UnaryInExp (span_of x) b s f) (λ _. refl)
+
+  -- ---- what is closed, and what is a target
+
+  unmarked_keeps : (x : Tree) (o : Option Span) → Answers (Kept b) (Lost b) (unmarked x o s)
+  unmarked_keeps x None = f
+  unmarked_keeps x (Some k) = reject_keeps _ faults.AssignProperty k b s f
+
+  close_keeps : (v : Cover) → Answers (Kept b) (Lost b) (close v s)
+  unfolding close
+  close_keeps v = unmarked_keeps v.x v.mark
+
+  -- a target is refused, or the state is as it is
+  target_or_keeps : (x : Tree) (o : Option Tree) → Answers (λ _ t. t ≡ s) (Lost b) (target_or x o s)
+  target_or_keeps x (Some p) = refl
+  target_or_keeps x None = reject_keeps _ faults.InvalidPat (span_of x) b s f
+
+  target_keeps : (v : Cover) → Answers (λ _ t. t ≡ s) (Lost b) (target v s)
+  unfolding target
+  target_keeps v = target_or_keeps v.x (cond v.comma None (as_target v.x))
+
+literal_key_keeps : (b : State) (s : State) → IsBehind b s → Answers (Kept b) (Lost b) (literal_key s)
+unfolding literal_key
+literal_key_keeps b s f = answers_then _ _ (literal s) _ (literal_keeps b s f) by_key
+  where
+    by_key : (o : Option Tree) (t : State) → IsBehind b t → Answers (Kept b) (Lost b) (key_or o t)
+    by_key (Some (tree.str span value raw)) t g = g
+    by_key (Some (tree.num span raw)) t g = g
+    by_key (Some (tree.big_int span raw)) t g = g
+    by_key _ t g = unexpected_keeps b t g _
+
+private_keeps : (b : State) (s : State) → IsBehind b s → Answers (Kept b) (Lost b) (private_name s)
+unfolding private_name
+private_keeps b s f = answers_then _ _ (touching_word (moved s)) _ (touching_keeps b (moved s) (behind_after b s f)) (λ i t g. g)
+
+dotted_keeps : (b : State) (s : State) → IsBehind b s → Answers (Kept b) (Lost b) (dotted s)
+unfolding dotted word_property
+dotted_keeps b s f = answers_if _ _ (sees kind.Hash s.at) _ _ (λ _. private_keeps b s f) (λ _. answers_then _ _ (any_word s) _ (any_word_keeps b s f) (λ i t g. g))
+
+update_behind_keeps : (b : State) (start : Span) (x : Tree) (op : UpdateOp) (s : State) → IsBehind b s → Answers (Kept b) (Lost b) (update_behind start x op s)
+unfolding update_behind
+update_behind_keeps b start x op s f = answers_then _ _ (simple x s) _ (simple_keeps b s f x) (λ _ t g. behind_after b t g)
+
+behind_operand_keeps : (b : State) (start : Span) (x : Tree) (o : Option UpdateOp) (s : State) → IsBehind b s → Answers (Kept b) (Lost b) (behind_operand start x o s)
+behind_operand_keeps b start x None s f = f
+behind_operand_keeps b start x (Some op) s f = update_behind_keeps b start x op s f
+
+-- ---- what is read one level further in
+
+module _ (inner : Class → Reader Tree) (cover : Reader Cover) (below : (class : Class) → Passes (inner class)) (below_cover : Passes cover) where
+  pub inside_keeps : (class : Class) (b : State) (s : State) → IsBehind b s → Answers (Kept b) (Lost b) (inside inner cover class s)
+  unfolding inside
+  inside_keeps class b s f = answers_then (Kept b) _ (inner class (coded (with_in s.code) s)) _ (below class b (coded (with_in s.code) s) f) (λ x t k. k)
+
+  element_keeps : (b : State) (s : State) → IsBehind b s → Answers (Kept b) (Lost b) (element inner cover s)
+  unfolding element spread_element plain_element
+  element_keeps b s f = answers_if _ _ (sees kind.DotDotDot s.at) _ _
+      (λ _. answers_then _ _ (inside inner cover assignment (moved s)) _ (inside_keeps assignment b (moved s) (behind_after b s f)) (λ x t k. k))
+      (λ _. answers_then _ _ (inside inner cover assignment s) _ (inside_keeps assignment b s f) (λ x t k. k))
+
+  many_arguments_keeps : (commas : Bool) (b : State) (s : State) → IsBehind b s → Answers (Kept b) (Lost b) (loop (arguments_turn inner cover commas) [] s)
+  unfolding arguments_turn
+  many_arguments_keeps commas b s f = loop_keeps (arguments_turn inner cover commas) b
+      (λ xs t g. answers_if _ _ (sees kind.RParen t.at) _ _ (λ _. behind_after b t g) (λ _.
+      answers_then _ _ (element inner cover t) _ (element_keeps b t g) (λ x u k.
+      answers_if _ _ (sees kind.RParen u.at) _ _ (λ _. k) (λ _. answers_then _ _ (expect kind.Comma u) _ (expect_keeps b u k kind.Comma) (λ _ v j.
+      answers_if _ _ (not commas && sees kind.RParen v.at) _ _
+      (λ _. answers_then _ _ (fault (fault_at v.at.last faults.TrailingCommaInsideImport) v) _ (fault_keeps b v j _) (λ _ w l. l)) (λ _. j)))))) [] s f
+
+  covered_keeps : (b : State) (s : State) → IsBehind b s → Answers (Kept b) (Lost b) (covered inner cover s)
+  unfolding covered
+  covered_keeps b s f = answers_then (Kept b) _ (cover (coded (with_in s.code) s)) _ (below_cover b (coded (with_in s.code) s) f) (λ v t k. k)
+
+  item_keeps : (b : State) (s : State) → IsBehind b s → Answers (Kept b) (Lost b) (item inner cover s)
+  unfolding item spread_item plain_item
+  item_keeps b s f = answers_if _ _ (sees kind.DotDotDot s.at) _ _
+      (λ _. answers_then _ _ (covered inner cover (moved s)) _ (covered_keeps b (moved s) (behind_after b s f)) (λ v t k. k))
+      (λ _. answers_then _ _ (covered inner cover s) _ (covered_keeps b s f) (λ v t k. k))
+
+  many_elements_keeps : (b : State) (s : State) → IsBehind b s → Answers (Kept b) (Lost b) (loop (array_turn inner cover) no_covers s)
+  unfolding array_turn
+  many_elements_keeps b s f = loop_keeps (array_turn inner cover) b
+      (λ found t g. answers_if _ _ (sees kind.RBracket t.at) _ _ (λ _. behind_after b t g) (λ _.
+      answers_if _ _ (sees kind.Comma t.at) _ _ (λ _. behind_after b t g) (λ _.
+      answers_then _ _ (item inner cover t) _ (item_keeps b t g) (λ v u k.
+      answers_if _ _ (sees kind.RBracket u.at) _ _ (λ _. k) (λ _. answers_then _ _ (expect kind.Comma u) _ (expect_keeps b u k kind.Comma) (λ _ w j. j)))))) no_covers s f
+
+  -- ---- properties
+
+  computed_key_keeps : (b : State) (s : State) → IsBehind b s → Answers (Kept b) (Lost b) (computed_key inner cover s)
+  unfolding computed_key
+  computed_key_keeps b s f = answers_then _ _ (inside inner cover assignment (moved s)) _ (inside_keeps assignment b (moved s) (behind_after b s f)) (λ x t k.
+      answers_then _ _ (expect kind.RBracket t) _ (expect_keeps b t k kind.RBracket) (λ _ u j. j))
+
+  pub key_keeps : (b : State) (s : State) → IsBehind b s → Answers (Kept b) (Lost b) (key inner cover s)
+  unfolding key word_property
+  key_keeps b s f = answers_if _ _ (is_word_at s.at) _ _ (λ _. answers_then _ _ (any_word s) _ (any_word_keeps b s f) (λ x t k. k))
+      (λ _. answers_if _ _ (sees kind.LBracket s.at) _ _ (λ _. computed_key_keeps b s f) (λ _. literal_key_keeps b s f))
+
+  initialized_keeps : (b : State) (start : Span) (x : Tree) (s : State) → IsBehind b s → Answers (Kept b) (Lost b) (initialized inner cover start x s)
+  unfolding initialized
+  initialized_keeps b start x s f = answers_then _ _ (inside inner cover assignment (moved s)) _ (inside_keeps assignment b (moved s) (behind_after b s f)) (λ y t k. k)
+
+  initialized_key_keeps : (b : State) (start : Span) (x : Tree) (s : State) → IsBehind b s → Answers (Kept b) (Lost b) (initialized_key inner cover start x s)
+  unfolding initialized_name
+  initialized_key_keeps b start (tree.ident span text) s f = answers_if _ _ (is_name s.code.flags text) _ _ (λ _. initialized_keeps b start (tree.ident span text) s f)
+      (λ _. reject_keeps _ faults.ExpectedIdent span b s f)
+  initialized_key_keeps b start _ s f = unexpected_keeps b s f _
+
+  behind_key_keeps : (b : State) (start : Span) (x : Tree) (s : State) → IsBehind b s → Answers (Kept b) (Lost b) (behind_key inner cover start x s)
+  unfolding behind_key key_value bare_key
+  behind_key_keeps b start x s f = answers_if _ _ (sees kind.Colon s.at) _ _
+      (λ _. answers_then _ _ (covered inner cover (moved s)) _ (covered_keeps b (moved s) (behind_after b s f)) (λ v t k. k))
+      (λ _. answers_if _ _ (sees kind.Assign s.at) _ _ (λ _. initialized_key_keeps b start x s f)
+      (λ _. answers_then _ _ (shorthand x s) _ (shorthand_keeps b s f x) (λ y t k. k)))
+
+  property_keeps : (b : State) (s : State) → IsBehind b s → Answers (Kept b) (Lost b) (property inner cover s)
+  unfolding property spread_property keyed_property
+  property_keeps b s f = answers_if _ _ (sees kind.DotDotDot s.at) _ _
+      (λ _. answers_then _ _ (covered inner cover (moved s)) _ (covered_keeps b (moved s) (behind_after b s f)) (λ v t k. k))
+      (λ _. answers_then _ _ (key inner cover s) _ (key_keeps b s f) (λ x t k. behind_key_keeps b (span_at s.at) x t k))
+
+  many_properties_keeps : (b : State) (s : State) → IsBehind b s → Answers (Kept b) (Lost b) (loop (object_turn inner cover) no_covers s)
+  unfolding object_turn
+  many_properties_keeps b s f = loop_keeps (object_turn inner cover) b
+      (λ found t g. answers_if _ _ (sees kind.RBrace t.at) _ _ (λ _. behind_after b t g) (λ _.
+      answers_then _ _ (property inner cover t) _ (property_keeps b t g) (λ v u k.
+      answers_if _ _ (sees kind.RBrace u.at) _ _ (λ _. k) (λ _. answers_then _ _ (expect kind.Comma u) _ (expect_keeps b u k kind.Comma) (λ _ w j. j))))) no_covers s f
+
+  -- ---- left-hand sides and what stands in brackets
+
+  module _ (b : State) where
+    brackets_keeps : (s : State) → kind_at s.at ≡ kind.LBracket → IsBehind b s → Answers (Kept b) (Lost b) (brackets inner cover s)
+    unfolding brackets
+    brackets_keeps s e f =
+        let g = behind_after b s f in
+        answers_then _ _ (inside inner cover expression (moved s)) _ (inside_keeps expression b (moved s) g) (λ x t k.
+        answers_then _ _ (expect kind.RBracket t) _ (expect_keeps b t k kind.RBracket) (λ _ u j. j))
+
+    access_keeps : (s : State) → (sees kind.Dot s.at || sees kind.LBracket s.at) ≡ true → IsBehind b s → Answers (Kept b) (Lost b) (access inner cover s)
+    unfolding access
+    access_keeps s h f = answers_if _ _ (sees kind.Dot s.at) _ _ (λ _. dotted_keeps b (moved s) (behind_after b s f))
+        (λ e. brackets_keeps s (saw s.at kind.LBracket (other_test (sees kind.Dot s.at) (sees kind.LBracket s.at) h e)) f)
+
+    super_property_keeps : (s : State) → (sees kind.Dot s.at || sees kind.LBracket s.at) ≡ true → IsBehind b s → Answers (Kept b) (Lost b) (super_property inner cover s)
+    unfolding super_property word_property
+    super_property_keeps s h f = answers_if _ _ (sees kind.Dot s.at) _ _
+        (λ _. answers_then _ _ (any_word (moved s)) _ (any_word_keeps b (moved s) (behind_after b s f)) (λ i t g. g))
+        (λ e. brackets_keeps s (saw s.at kind.LBracket (other_test (sees kind.Dot s.at) (sees kind.LBracket s.at) h e)) f)
+
+    arguments_keeps : (commas : Bool) (s : State) → kind_at s.at ≡ kind.LParen → IsBehind b s → Answers (Kept b) (Lost b) (arguments inner cover commas s)
+    unfolding arguments
+    arguments_keeps commas s e f =
+        let g = behind_after b s f in
+        (many_arguments_keeps commas b (moved s) g)
+
+    elements_keeps : (s : State) → kind_at s.at ≡ kind.LBracket → IsBehind b s → Answers (Kept b) (Lost b) (elements inner cover s)
+    unfolding elements
+    elements_keeps s e f =
+        let g = behind_after b s f in
+        (many_elements_keeps b (moved s) g)
+
+    array_keeps : (s : State) → kind_at s.at ≡ kind.LBracket → IsBehind b s → Answers (Kept b) (Lost b) (array inner cover s)
+    unfolding array
+    array_keeps s e f = answers_then _ _ (elements inner cover s) _ (elements_keeps s e f) (λ xs t g. g)
+
+    properties_keeps : (s : State) → kind_at s.at ≡ kind.LBrace → IsBehind b s → Answers (Kept b) (Lost b) (properties inner cover s)
+    unfolding properties
+    properties_keeps s e f =
+        let g = behind_after b s f in
+        (many_properties_keeps b (moved s) g)
+
+    object_keeps : (s : State) → kind_at s.at ≡ kind.LBrace → IsBehind b s → Answers (Kept b) (Lost b) (object inner cover s)
+    unfolding object
+    object_keeps s e f = answers_then _ _ (properties inner cover s) _ (properties_keeps s e f) (λ xs t g. g)
+
+    paren_keeps : (s : State) → kind_at s.at ≡ kind.LParen → IsBehind b s → Answers (Kept b) (Lost b) (paren inner cover s)
+    unfolding paren
+    paren_keeps s e f =
+        let g = behind_after b s f in
+        answers_then _ _ (inside inner cover expression (moved s)) _ (inside_keeps expression b (moved s) g) (λ x t k.
+        answers_then _ _ (expect kind.RParen t) _ (expect_keeps b t k kind.RParen) (λ _ u j. j))
+
+    marked_keeps : (s : State) → IsBehind b s → Answers (Kept b) (Lost b) (marked_primary inner cover s)
+    unfolding marked_primary
+    marked_keeps s f = answers_if _ _ (sees kind.LParen s.at) _ _ (λ e. paren_keeps s (saw s.at kind.LParen e) f)
+        (λ _. answers_if _ _ (sees kind.LBracket s.at) _ _ (λ e. answers_then _ _ (array inner cover s) _ (array_keeps s (saw s.at kind.LBracket e) f) (λ v t g. close_keeps b t g v))
+        (λ _. answers_if _ _ (sees kind.LBrace s.at) _ _ (λ e. answers_then _ _ (object inner cover s) _ (object_keeps s (saw s.at kind.LBrace e) f) (λ v t g. close_keeps b t g v))
+        (λ _. answers_if _ _ (sees kind.This s.at) _ _ (λ _. this_keeps b s f) (λ _. unexpected_keeps b s f _))))
+
+    literal_or_keeps : (o : Option Tree) (s : State) → IsBehind b s → Answers (Kept b) (Lost b) (literal_or inner cover o s)
+    literal_or_keeps (Some x) s f = f
+    literal_or_keeps None s f = marked_keeps s f
+
+    primary_keeps : (s : State) → IsBehind b s → Answers (Kept b) (Lost b) (primary inner cover s)
+    unfolding primary
+    primary_keeps s f = answers_if _ _ (name_at s.code.flags s.at) _ _ (λ _. ident_keeps b s f) (λ _. answers_then _ _ (literal s) _ (literal_keeps b s f) literal_or_keeps)
+
+    -- ---- left-hand sides
+
+    accessed_keeps : (start : Span) (x : Tree) (s : State) → (sees kind.Dot s.at || sees kind.LBracket s.at) ≡ true → IsBehind b s → Answers (Kept b) (Lost b) (accessed inner cover start x s)
+    unfolding accessed
+    accessed_keeps start x s h f = answers_then _ _ (access inner cover s) _ (access_keeps s h f) (λ y t g. g)
+
+    called_keeps : (start : Span) (x : Tree) (s : State) → kind_at s.at ≡ kind.LParen → IsBehind b s → Answers (Kept b) (Lost b) (called inner cover start x s)
+    unfolding called
+    called_keeps start x s e f = answers_then _ _ (arguments inner cover true s) _ (arguments_keeps true s e f) (λ xs t g. g)
+
+    left_from_keeps : (calls : Bool) (start : Span) (x : Tree) (s : State) → IsBehind b s → Answers (Kept b) (Lost b) (left_from inner cover calls start x s)
+    unfolding left_from left_turn
+    left_from_keeps calls start x s f = loop_keeps (left_turn inner cover calls start) b
+        (λ y t g. answers_if _ _ (sees kind.Dot t.at || sees kind.LBracket t.at) _ _
+        (λ h. answers_then _ _ (accessed inner cover start y t) _ (accessed_keeps start y t h g) (λ z u k. k))
+        (λ _. answers_if _ _ (calls && sees kind.LParen t.at) _ _
+        (λ h. answers_then _ _ (called inner cover start y t) _ (called_keeps start y t (saw t.at kind.LParen (and_parts calls (sees kind.LParen t.at) h).1) g) (λ z u k. k)) (λ _. g))) x s f
+
+    behind_super_keeps : (calls : Bool) (start : Span) (s : State) → IsBehind b s → Answers (Kept b) (Lost b) (behind_super inner cover calls start s)
+    unfolding behind_super super_call super_access
+    behind_super_keeps calls start s f = answers_if _ _ (calls && sees kind.LParen s.at) _ _
+        (λ h. answers_then _ _ (arguments inner cover true s) _ (arguments_keeps true s (saw s.at kind.LParen (and_parts calls (sees kind.LParen s.at) h).1) f) (λ xs t g. g))
+        (λ _. answers_if _ _ (sees kind.Dot s.at || sees kind.LBracket s.at) _ _
+        (λ h. answers_then _ _ (super_property inner cover s) _ (super_property_keeps s h f) (λ x t g. g)) (λ _. reject_keeps _ faults.InvalidSuper start b s f))
+
+    super_keeps : (calls : Bool) (s : State) → IsBehind b s → Answers (Kept b) (Lost b) (super_head inner cover calls s)
+    unfolding super_head
+    super_keeps calls s f = behind_super_keeps calls (span_at s.at) (moved s) (behind_after b s f)
+
+    constructed_keeps : (start : Span) (x : Tree) (s : State) → kind_at s.at ≡ kind.LParen → IsBehind b s → Answers (Kept b) (Lost b) (constructed inner cover start x s)
+    unfolding constructed
+    constructed_keeps start x s e f = answers_then _ _ (arguments inner cover true s) _ (arguments_keeps true s e f) (λ xs t g. g)
+
+    new_keeps : (s : State) → kind_at s.at ≡ kind.New → IsBehind b s → Answers (Kept b) (Lost b) (new_head inner cover s)
+    unfolding new_head bare_new
+    new_keeps s e f =
+        let g = behind_after b s f in
+        answers_then _ _ (inner callee (moved s)) _ (below callee b (moved s) g) (λ x t k.
+        let j : IsBehind b t = k in
+        answers_if _ _ (sees kind.LParen t.at) _ _ (λ o. constructed_keeps (span_at s.at) x t (saw t.at kind.LParen o) j) (λ _. j))
+
+    import_call_keeps : (start : Span) (s : State) → kind_at s.at ≡ kind.LParen → IsBehind b s → Answers (Kept b) (Lost b) (import_call inner cover start s)
+    unfolding import_call
+    import_call_keeps start s e f =
+        answers_then _ _ (arguments inner cover s.code.setting.import_attributes s) _ (arguments_keeps s.code.setting.import_attributes s e f) (λ xs t g. g)
+
+    meta_fault_keeps : (span : Span) (s : State) → IsBehind b s → Answers (Kept b) (Lost b) (meta_fault span s)
+    unfolding meta_fault
+    meta_fault_keeps span s f = answers_if _ _ s.code.flags.can_be_module _ _ (λ _. f) (λ _. fault_keeps b s f _)
+
+    import_meta_keeps : (start : Span) (s : State) → IsBehind b s → Answers (Kept b) (Lost b) (import_meta start s)
+    unfolding import_meta
+    import_meta_keeps start s f = answers_if _ _ (word_at (codes "meta") s.at) _ _
+        (λ _. answers_then _ _ (meta_fault _ (module_found (moved s))) _ (meta_fault_keeps _ (module_found (moved s)) (behind_after b s f)) (λ _ t g. g)) (λ _. unexpected_keeps b s f _)
+
+    import_keeps : (s : State) → IsBehind b s → Answers (Kept b) (Lost b) (import_head inner cover s)
+    unfolding import_head
+    import_keeps s f =
+        let g : IsBehind b (moved s) = behind_after b s f in
+        answers_if _ _ (sees kind.LParen (after s.at)) _ _ (λ o. import_call_keeps (span_at s.at) (moved s) (saw (after s.at) kind.LParen o) g)
+        (λ _. answers_if _ _ (sees kind.Dot (after s.at)) _ _ (λ _. import_meta_keeps (span_at s.at) (moved (moved s)) (behind_after b (moved s) g))
+        (λ _. unexpected_keeps b (moved s) g _))
+
+    left_head_keeps : (calls : Bool) (s : State) → IsBehind b s → Answers (Kept b) (Lost b) (left_head inner cover calls s)
+    unfolding left_head
+    left_head_keeps calls s f = answers_if _ _ (sees kind.Super s.at) _ _ (λ _. super_keeps calls s f)
+        (λ _. answers_if _ _ (sees kind.New s.at) _ _ (λ e. new_keeps s (saw s.at kind.New e) f)
+        (λ _. answers_if _ _ (calls && sees kind.Import s.at) _ _ (λ _. import_keeps s f) (λ _. primary_keeps s f)))
+
+    left_keeps : (calls : Bool) (s : State) → IsBehind b s → Answers (Kept b) (Lost b) (left inner cover calls s)
+    unfolding left
+    left_keeps calls s f = answers_then _ _ (left_head inner cover calls s) _ (left_head_keeps calls s f) (λ x t g. left_from_keeps calls (span_at s.at) x t g)
+
+    left_expr_keeps : (s : State) → IsBehind b s → Answers (Kept b) (Lost b) (left_expr inner cover s)
+    unfolding left_expr
+    left_expr_keeps s f = answers_then _ _ (left inner cover true s) _ (left_keeps true s f) (λ x t g. closed_keeps b t g x)
+
+    -- ---- operators before and behind an operand
+
+    prefixed_keeps : (op : UnaryOp) (s : State) → kind_at s.at ≢ kind.End → IsBehind b s → Answers (Kept b) (Lost b) (prefixed inner cover op s)
+    unfolding prefixed
+    prefixed_keeps op s e f =
+        let g = behind_after b s f in
+        answers_then _ _ (inner unary (moved s)) _ (below unary b (moved s) g) (λ x t k. k)
+
+    update_before_keeps : (op : UpdateOp) (s : State) → kind_at s.at ≢ kind.End → IsBehind b s → Answers (Kept b) (Lost b) (update_before inner cover op s)
+    unfolding update_before
+    update_before_keeps op s e f =
+        let g = behind_after b s f in
+        answers_then _ _ (inner unary (moved s)) _ (below unary b (moved s) g) (λ x t k.
+        answers_then _ _ (simple x t) _ (simple_keeps b t k x) (λ _ u j. j))
+
+    postfix_keeps : (s : State) → IsBehind b s → Answers (Kept b) (Lost b) (postfix inner cover s)
+    unfolding postfix
+    postfix_keeps s f = answers_then _ _ (left inner cover true s) _ (left_keeps true s f) (λ x t g. behind_operand_keeps b (span_at s.at) x (postfix_at t.at) t g)
+
+    updated_keeps : (o : Option UpdateOp) (s : State) → update_operator (kind_at s.at) ≡ o → IsBehind b s → Answers (Kept b) (Lost b) (updated inner cover o s)
+    updated_keeps (Some op) s e f = update_before_keeps op s (no_end_by update_operator (kind_at s.at) op refl e) f
+    updated_keeps None s e f = postfix_keeps s f
+
+    unary_by_keeps : (o : Option UnaryOp) (s : State) → unary_operator (kind_at s.at) ≡ o → IsBehind b s → Answers (Kept b) (Lost b) (unary_by inner cover o s)
+    unary_by_keeps (Some op) s e f = prefixed_keeps op s (no_end_by unary_operator (kind_at s.at) op refl e) f
+    unary_by_keeps None s e f = updated_keeps (update_operator (kind_at s.at)) s refl f
+
+    unary_keeps : (s : State) → IsBehind b s → Answers (Kept b) (Lost b) (unary_expr inner cover s)
+    unfolding unary_expr
+    unary_keeps s f = unary_by_keeps (unary_operator (kind_at s.at)) s refl f
+
+    -- ---- operators between two operands
+
+    -- behind an operand that may stand there
+    right_keeps : (start : Span) (x : Tree) (op : BinaryOp) (s : State) → kind_at s.at ≢ kind.End → IsBehind b s
+        → Answers (Kept b) (Lost b) (((λ t. inner (right_class op) (moved t)) >>= unmixed start op x) s)
+    right_keeps start x op s e f =
+        let g = behind_after b s f in
+        answers_then _ _ (inner (right_class op) (moved s)) _ (below (right_class op) b (moved s) g) (λ y t k.
+        (unmixed_keeps b t k start op x y))
+
+    operated_keeps : (start : Span) (x : Tree) (op : BinaryOp) (s : State) → kind_at s.at ≢ kind.End → IsBehind b s → Answers (Kept b) (Lost b) (operated inner cover start x op s)
+    unfolding operated
+    operated_keeps start x op s e f = answers_then _ _ (left_operand op x s) _ (left_operand_keeps b s f op x) (λ _ t g. right_keeps start x op t (rw g e) (rw g f))
+
+    binary_by_keeps : (least : ℕ) (start : Span) (x : Tree) (o : Option BinaryOp) (s : State) → operator_at least s ≡ o → IsBehind b s
+        → Answers (Kept b) (Lost b) (binary_by inner cover start x o s)
+    unfolding operator_at
+    binary_by_keeps least start x None s e f = f
+    binary_by_keeps least start x (Some op) s e f = answers_then _ _ (operated inner cover start x op s) _
+        (operated_keeps start x op s (no_end_by (λ k. read_operator least s.code (binary_operator k)) (kind_at s.at) op refl e) f) (λ y t g. g)
+
+    binary_from_keeps : (least : ℕ) (start : Span) (x : Tree) (s : State) → IsBehind b s → Answers (Kept b) (Lost b) (binary_from inner cover least start x s)
+    unfolding binary_from binary_turn
+    binary_from_keeps least start x s f = loop_keeps (binary_turn inner cover least start) b
+        (λ y u k. binary_by_keeps least start y (operator_at least u) u refl k) x s f
+
+    binary_keeps : (least : ℕ) (s : State) → IsBehind b s → Answers (Kept b) (Lost b) (binary_expr inner cover least s)
+    unfolding binary_expr
+    binary_keeps least s f = answers_then _ _ (unary_expr inner cover s) _ (unary_keeps s f) (λ x t g. binary_from_keeps least (span_at s.at) x t g)
+
+    -- ---- conditionals, assignments and sequences
+
+    conditional_keeps : (start : Span) (x : Tree) (s : State) → kind_at s.at ≡ kind.QuestionMark → IsBehind b s → Answers (Kept b) (Lost b) (conditional inner cover start x s)
+    unfolding conditional
+    conditional_keeps start x s e f =
+        let g = behind_after b s f in
+        answers_then _ _ (inside inner cover assignment (moved s)) _ (inside_keeps assignment b (moved s) g) (λ y t k.
+        answers_then _ _ (expect kind.Colon t) _ (expect_keeps b t k kind.Colon) (λ _ u j.
+        answers_then _ _ (inner assignment u) _ (below assignment b u j) (λ z v l. (unassigned_keeps b v l _))))
+
+    assigned_to_keeps : (start : Span) (x : Tree) (op : AssignOp) (s : State) → kind_at s.at ≢ kind.End → IsBehind b s → Answers (Kept b) (Lost b) (assigned_to inner cover start x op s)
+    unfolding assigned_to
+    assigned_to_keeps start x op s e f =
+        let g = behind_after b s f in
+        answers_then _ _ (inner assignment (moved s)) _ (below assignment b (moved s) g) (λ y t k. k)
+
+    assigned_keeps : (start : Span) (x : Tree) (op : AssignOp) (s : State) → kind_at s.at ≢ kind.End → IsBehind b s → Answers (Kept b) (Lost b) (assigned inner cover start x op s)
+    unfolding assigned
+    assigned_keeps start x op s e f = answers_if _ _ (is_simple_target x) _ _ (λ _. assigned_to_keeps start x op s e f)
+        (λ _. reject_keeps _ (unassignable op) (span_of x) b s f)
+
+    assigned_or_keeps : (is_async : Bool) (start : Span) (x : Tree) (o : Option AssignOp) (s : State) → assign_operator (kind_at s.at) ≡ o → IsBehind b s
+        → Answers (Kept b) (Lost b) (assigned_or inner cover is_async start x o s)
+    assigned_or_keeps is_async start x (Some op) s e f = assigned_keeps start x op s (no_end_by assign_operator (kind_at s.at) op refl e) f
+    assigned_or_keeps is_async start x None s e f = unheaded_keeps b s f is_async x
+
+    behind_operators_keeps : (is_async : Bool) (start : Span) (x : Tree) (s : State) → IsBehind b s → Answers (Kept b) (Lost b) (behind_operators inner cover is_async start x s)
+    unfolding behind_operators
+    behind_operators_keeps is_async start x s f = answers_if _ _ (sees kind.QuestionMark s.at) _ _ (λ e. conditional_keeps start x s (saw s.at kind.QuestionMark e) f)
+        (λ _. assigned_or_keeps is_async start x (assign_operator (kind_at s.at)) s refl f)
+
+    operators_keeps : (s : State) → IsBehind b s → Answers (Kept b) (Lost b) (operators_expr inner cover s)
+    unfolding operators_expr
+    operators_keeps s f = answers_then _ _ (binary_expr inner cover 1 s) _ (binary_keeps 1 s f) (λ x t g. behind_operators_keeps (begins_async_call s.at) (span_at s.at) x t g)
+
+    -- ---- what may still become a pattern
+
+    continued_keeps : (start : Span) (x : Tree) (s : State) → IsBehind b s → Answers (Kept b) (Lost b) (continued inner cover start x s)
+    unfolding continued postfixed
+    continued_keeps start x s f = answers_then _ _ (left_from inner cover true start x s) _ (left_from_keeps true start x s f) (λ y t g.
+        answers_then _ _ (behind_operand start y (postfix_at t.at) t) _ (behind_operand_keeps b start y (postfix_at t.at) t g) (λ z u k.
+        answers_then _ _ (binary_from inner cover 1 start z u) _ (binary_from_keeps 1 start z u k) (λ w v j. behind_operators_keeps false start w v j)))
+
+    closed_literal_keeps : (start : Span) (v : Cover) (s : State) → IsBehind b s → Answers (Kept b) (Lost b) (closed inner cover start v s)
+    unfolding closed
+    closed_literal_keeps start v s f = answers_then _ _ (close v s) _ (close_keeps b s f v) (λ x t g.
+        answers_then _ _ (continued inner cover start x t) _ (continued_keeps start x t g) (λ y u k. k))
+
+    assigned_pattern_keeps : (start : Span) (v : Cover) (s : State) → kind_at s.at ≢ kind.End → IsBehind b s → Answers (Kept b) (Lost b) (assigned_pattern inner cover start v s)
+    unfolding assigned_pattern
+    assigned_pattern_keeps start v s e f = answers_then _ _ (target v s) _ (target_keeps b s f v) (λ p t g.
+        answers_then _ _ (assigned_to inner cover start p assign.Assign t) _ (assigned_to_keeps start p assign.Assign t (rw g e) (rw g f)) (λ y u k. k))
+
+    behind_literal_keeps : (start : Span) (v : Cover) (s : State) → IsBehind b s → Answers (Kept b) (Lost b) (behind_literal inner cover start v s)
+    unfolding behind_literal
+    behind_literal_keeps start v s f = answers_if _ _ (sees kind.Assign s.at) _ _
+        (λ e. assigned_pattern_keeps start v s (λ z. let k = sym z ∙ saw s.at kind.Assign e in cc) f)
+        (λ _. answers_if _ _ (goes_on s) _ _ (λ _. closed_literal_keeps start v s f) (λ _. f))
+
+    open_literal_keeps : (s : State) → (sees kind.LBracket s.at || sees kind.LBrace s.at) ≡ true → IsBehind b s → Answers (Kept b) (Lost b) (open_literal inner cover s)
+    unfolding open_literal
+    open_literal_keeps s h f = answers_then _ _ (cond (sees kind.LBracket s.at) (array inner cover s) (object inner cover s)) _
+        (answers_if _ _ (sees kind.LBracket s.at) _ _ (λ e. array_keeps s (saw s.at kind.LBracket e) f)
+        (λ e. object_keeps s (saw s.at kind.LBrace (other_test (sees kind.LBracket s.at) (sees kind.LBrace s.at) h e)) f))
+        (λ v t g. behind_literal_keeps (span_at s.at) v t g)
+
+    cover_expr_keeps : (s : State) → IsBehind b s → Answers (Kept b) (Lost b) (cover_expr inner cover s)
+    unfolding cover_expr done_expr
+    cover_expr_keeps s f = answers_if _ _ (sees kind.LBracket s.at || sees kind.LBrace s.at) _ _ (λ h. open_literal_keeps s h f)
+        (λ _. answers_then _ _ (operators_expr inner cover s) _ (operators_keeps s f) (λ x t g. g))
+
+    assignment_keeps : (s : State) → IsBehind b s → Answers (Kept b) (Lost b) (assignment_expr inner cover s)
+    unfolding assignment_expr
+    assignment_keeps s f = answers_then _ _ (cover_expr inner cover s) _ (cover_expr_keeps s f) (λ v t g. close_keeps b t g v)
+
+    -- the parts of a sequence
+    sequence_keeps : (start : Span) (x : Tree) (s : State) → IsBehind b s → Answers (Kept b) (Lost b) (sequence_from inner cover start x s)
+    unfolding sequence_from sequence_turn
+    sequence_keeps start x s f = answers_then _ _ (loop (sequence_turn inner cover) (x ∷ []) s) _ (loop_keeps (sequence_turn inner cover) b
+        (λ xs t g. answers_then _ _ (assignment_expr inner cover (moved t)) _ (assignment_keeps (moved t) (behind_after b t g)) (λ y u k.
+        answers_if _ _ (sees kind.Comma u.at) _ _ (λ _. k) (λ _. k))) (x ∷ []) s f) (λ xs t g. g)
+
+    expression_keeps : (s : State) → IsBehind b s → Answers (Kept b) (Lost b) (expression_expr inner cover s)
+    unfolding expression_expr
+    expression_keeps s f = answers_then _ _ (assignment_expr inner cover s) _ (assignment_keeps s f) (λ x t g.
+        answers_if _ _ (sees kind.Comma t.at) _ _ (λ _. sequence_keeps (span_at s.at) x t g) (λ _. g))
+
+    pub head_expr_keeps : (s : State) → IsBehind b s → Answers (Kept b) (Lost b) (head_expr inner cover s)
+    unfolding head_expr sequenced
+    head_expr_keeps s f = answers_then _ _ (cover_expr inner cover s) _ (cover_expr_keeps s f) (λ v t g. answers_if _ _ (sees kind.Comma t.at) _ _
+        (λ _. answers_then _ _ (close v t) _ (close_keeps b t g v) (λ x u k. answers_then _ _ (sequence_from inner cover (span_at s.at) x u) _ (sequence_keeps (span_at s.at) x u k) (λ y w j. j)))
+        (λ _. g))
+
+    level_keeps : (class : Class) (s : State) → IsBehind b s → Answers (Kept b) (Lost b) (expr_level inner cover class s)
+    unfolding expr_level
+    level_keeps expression s f = expression_keeps s f
+    level_keeps assignment s f = assignment_keeps s f
+    level_keeps (operator least) s f = binary_keeps least s f
+    level_keeps unary s f = unary_keeps s f
+    level_keeps left_side s f = left_expr_keeps s f
+    level_keeps callee s f = left_keeps false s f
+
+mutual
+  unfolding expr cover
+
+  -- an expression of any class
+  pub expr_keeps : (n : ℕ) (class : Class) → Passes (expr n class)
+  expr_keeps zero class b s f = too_deep_keeps _ b s f
+  expr_keeps (suc n) class b s f = level_keeps (expr n) (cover n) (expr_keeps n) (cover_keeps n) b class s f
+
+  -- so does what may still become a pattern
+  pub cover_keeps : (n : ℕ) → Passes (cover n)
+  cover_keeps zero b s f = too_deep_keeps _ b s f
+  cover_keeps (suc n) b s f = cover_expr_keeps (expr n) (cover n) (expr_keeps n) (cover_keeps n) b s f
