@@ -15,7 +15,7 @@ use swc_ecma_parser_operators::operator::expr_level;
 use swc_ecma_parser_patterns::pat::{element_level, pattern_level};
 use swc_ecma_parser_source::Source;
 use swc_ecma_parser_trees::{
-    BuildsCall, BuildsControl, BuildsDecl, BuildsExpr, BuildsLoop, BuildsObject, BuildsOperator, BuildsPat,
+    BuildsCall, BuildsControl, BuildsExpr, BuildsLoop, BuildsObject, BuildsOperator, BuildsPat,
     BuildsPattern, BuildsStmt, MakerOf,
 };
 
@@ -32,8 +32,7 @@ pub fn stmt<
         + BuildsLoop
         + BuildsPattern
         + BuildsPat
-        + BuildsStmt
-        + BuildsDecl,
+        + BuildsStmt,
 >(t: &MakerOf<T>, p: &mut P, depth: usize, at: Position) -> PResult<T::Stmt>
     ensures { GivesAs T.stmt_of (rules.stmt depth at (P.seen p.old)) result (P.seen p.new) }
 {
@@ -62,8 +61,7 @@ pub fn expr<
         + BuildsLoop
         + BuildsPattern
         + BuildsPat
-        + BuildsStmt
-        + BuildsDecl,
+        + BuildsStmt,
 >(t: &MakerOf<T>, p: &mut P, depth: usize, asked: Reading) -> PResult<Cover<T::Expr>>
     ensures { GivesAs (cover_of T.expr_of) (read depth asked (P.seen p.old)) result (P.seen p.new) }
 {
@@ -95,8 +93,7 @@ fn pat<
         + BuildsLoop
         + BuildsPattern
         + BuildsPat
-        + BuildsStmt
-        + BuildsDecl,
+        + BuildsStmt,
 >(t: &MakerOf<T>, p: &mut P, depth: usize, part: Part) -> PResult<T::Pat>
     ensures { GivesAs T.pat_of (read_pat depth part (P.seen p.old)) result (P.seen p.new) }
 {

@@ -57,16 +57,6 @@ fn duplicates<P: Source>(p: &mut P, label: &Ident) -> PResult<()>
     duplicate(p, label, times)
 }
 
-/// Records a function of strict code behind a label.
-fn labelled_function<P: Source>(p: &mut P, is_function: bool, span: Span) -> PResult<()>
-    ensures { Gives (rules.told (if is_function then own.only (P.seen p.old).code.flags.strict kinds.LabelledFunctionInStrict span else []) (P.seen p.old)) result (P.seen p.new) }
-{
-    if is_function && p.flags().strict {
-        return p.fault(SyntaxError::LabelledFunctionInStrict, span);
-    }
-    Ok(())
-}
-
 /// What a label stands at, which may break off there.
 #[tactic(auto, unfolding(swc_ecma_parser_reader::specs::Reader::labelled_body))]
 fn labelled_body<
@@ -93,7 +83,7 @@ fn labelled_body<
 }
 
 /// A statement with a label.
-#[tactic(auto, unfolding(swc_ecma_parser_reader::specs::Reader::labeled_stmt), using(swc_ecma_parser_reader::proofs::Plain::relabels_told))]
+#[tactic(auto, unfolding(swc_ecma_parser_reader::specs::Reader::labeled_stmt), using(swc_ecma_parser_reader::proofs::Plain::relabels_plain))]
 fn labeled_stmt<
     P: Source,
     T: BuildsControl,
@@ -108,10 +98,8 @@ fn labeled_stmt<
     let label = p.name(Wanted::Name)?;
     p.expect(TokenKind::Colon, ":")?;
     let text = grown(p, label.sym.try_clone())?;
-    let is_function = p.sees(TokenKind::Function);
     let body = labelled_body(g, t, p, text)?;
     let span = since(p, start);
-    labelled_function(p, is_function, T::stmt_span(&body))?;
     duplicates(p, &label)?;
     grown(p, T::labeled(t.alloc, span, label, body))
 }

@@ -3,5 +3,4 @@
 #![tactic(auto)]
 
 mod object_pat;
-pub mod params;
 pub mod pat;

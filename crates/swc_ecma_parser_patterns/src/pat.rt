@@ -50,9 +50,9 @@ pub fn inner_pat<
     Ok(inner)
 }
 
-/// The rest of an array or of parameters.
+/// The rest of an array.
 #[tactic(auto, unfolding(swc_ecma_parser_reader::specs::Patterns::rest))]
-pub(crate) fn rest<
+fn rest<
     P: Source,
     T: BuildsPattern,
     S: Fn(&MakerOf<T>, &mut P, usize, Position) -> PResult<T::Stmt>,

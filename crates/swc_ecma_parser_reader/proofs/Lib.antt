@@ -11,7 +11,6 @@ pub mod Errors
 pub mod Between
 pub mod SoundParts
 pub mod SoundFor
-pub mod SoundFunctions
 pub mod Sound
 pub mod Plain
 pub mod Opens

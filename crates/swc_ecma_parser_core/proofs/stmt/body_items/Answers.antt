@@ -1,0 +1,22 @@
+use Rattle.std.proofs.Common.{map, false, sym, ◌∙◌}
+use Rattle.std.proofs.lemmas.List.{map_push}
+use Rattle.std.proofs.lemmas.Result.{err_from_is_err_and}
+use Rattle.swc_ecma_parser_grammar.specs.Reads.{nested_item}
+use Rattle.swc_ecma_parser_reader.specs.Reader.{stmt}
+use Rattle.swc_ecma_parser_reader.proofs.Loops.{items_err, stmt_shorter}
+use Rattle.swc_ecma_parser_core.specs.Bodies.{ends_of}
+use Rattle.swc_ecma_parser_core.proofs.Items.{nested_more}
+use Rattle.swc_ecma_parser_core.proofs.stmt.body_items.Goals as goal
+
+pub returns-in_err-stmt : goal.returns-in_err-stmt
+returns-in_err-stmt g c =
+    let p = err_from_is_err_and c.from_residual.result c.from_residual.ensures.1 in
+    rw (p.1, p.2) (λ h. c.items.invariant
+    ∙ items_err (stmt c.args.g.now.depth nested_item) (ends_of c.args.body) false (map g.T.Trees.stmt_of c.items.found.items) (g.P.Source.seen c.items.p) _ (sym c.ends.ensures ∙ c.items-test.true) (c.requires.stmt_gives _ _ _ _ _ c.in_err-stmt.ensures h))
+
+pub items-preserved : goal.items-preserved
+items-preserved g c =
+    let d = c.args.g.now.depth in
+    let s = g.P.Source.seen c.items.p in
+    rw (c.in_ok-pushed.ensures.items, map_push, c.in_ok-pushed.ensures.state) (c.items.invariant
+    ∙ nested_more (stmt d nested_item) (ends_of c.args.body) (map g.T.Trees.stmt_of c.items.found.items) s _ _ (sym c.ends.ensures ∙ c.items-test.true) (c.requires.stmt_gives _ _ _ _ _ c.in_ok-stmt.ensures) (stmt_shorter d nested_item s _ _ (c.requires.stmt_gives _ _ _ _ _ c.in_ok-stmt.ensures)))
