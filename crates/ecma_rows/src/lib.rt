@@ -8,6 +8,8 @@ mod deep;
 #[cfg(test)]
 mod expressions;
 #[cfg(test)]
+mod functions;
+#[cfg(test)]
 mod heads;
 #[cfg(test)]
 mod items;

@@ -86,7 +86,6 @@ a: b: a: c → Script 0..10, Labeled 0..10, fault 6..7 DuplicateLabel
 a: a: a: b → Script 0..10, Labeled 0..10, fault 6..7 DuplicateLabel, fault 6..7 DuplicateLabel, fault 3..4 DuplicateLabel
 a: let b → refused 7..8 ExpectedSemiForExprStmt
 a: const b = 1 → refused 3..8 Unexpected
-a: function f() {} → refused 3..11 Unexpected
 a: → refused 2..2 Eof
 if: a → refused 2..3 Expected
 (a): b → refused 3..4 ExpectedSemiForExprStmt
@@ -174,7 +173,7 @@ fn tables(rt: HostRuntime) -> Result<(), Fail> {
         (THROWS, "9 rows"),
         (LOOPS, "17 rows"),
         (WITHS, "13 rows"),
-        (LABELS, "21 rows"),
+        (LABELS, "20 rows"),
         (SWITCHES, "20 rows"),
         (JUMPS, "20 rows"),
         (RETURNS, "9 rows"),

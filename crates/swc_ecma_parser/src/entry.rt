@@ -12,8 +12,8 @@ use swc_ecma_parser_grammar::Position;
 use swc_ecma_parser_input::Tokens;
 use swc_ecma_parser_state::State;
 use swc_ecma_parser_trees::{
-    BuildsCall, BuildsControl, BuildsExpr, BuildsLoop, BuildsObject, BuildsOperator, BuildsPat,
-    BuildsPattern, BuildsStmt, Maker, MakerOf,
+    BuildsCall, BuildsControl, BuildsDecl, BuildsExpr, BuildsLoop, BuildsObject, BuildsOperator,
+    BuildsPat, BuildsPattern, BuildsStmt, Maker, MakerOf,
 };
 
 /// A script, whose items may stand so many levels deep.
@@ -28,7 +28,8 @@ pub fn script<
         + BuildsLoop
         + BuildsPat
         + BuildsPattern
-        + BuildsStmt,
+        + BuildsStmt
+        + BuildsDecl,
 >(alloc: Global, state: &mut State<I>, limit: usize) -> PResult<T::Script>
     ensures answers { AnswersScript T.script_of limit (unmarked state.old) result state.new }
     ensures outright { state.old.at.left ≡ [] → IsOk result }
@@ -65,7 +66,8 @@ pub fn statement<
         + BuildsLoop
         + BuildsPat
         + BuildsPattern
-        + BuildsStmt,
+        + BuildsStmt
+        + BuildsDecl,
 >(alloc: Global, state: &mut State<I>, limit: usize, at: Position) -> PResult<T::Stmt>
     ensures answers { AnswersStatement T.stmt_of limit at.include_decl at.top_level (unmarked state.old) result state.new }
     ensures refused { OnErr result (IsRestored state.old state.new) }

@@ -1,9 +1,11 @@
 -- What is asked of a reader of expressions, in so many levels.
-use Rattle.std.proofs.Common.{◌≡◌, ℕ, ◌-◌, ◌<◌, Ok, Err, ap, ◌∙◌}
-use Rattle.swc_ecma_parser_error.specs.Kind.{Fault}
+use Rattle.std.proofs.Common.{◌≡◌, ◌≢◌, ℕ, ◌-◌, ◌<◌, Result, Ok, Err, sym, ap, subst, ◌∙◌}
+use Rattle.swc_ecma_parser_error.specs.declared.error.Error.{Error}
+use Rattle.swc_ecma_parser_error.specs.Kind as faults
+use Rattle.swc_ecma_parser_error.specs.Kind.{Fault, fault_of, kind_of}
 use Rattle.swc_ecma_parser_grammar.specs.declared.class.Class.{Class}
 use Rattle.swc_ecma_parser_model.specs.Tree.{Tree}
-use Rattle.swc_ecma_parser_reader.specs.State.{State, Outcome, and_then, pure, too_deep}
+use Rattle.swc_ecma_parser_reader.specs.State.{State, Outcome, and_then, pure, too_deep, GivesAs}
 use Rattle.swc_ecma_parser_reader.specs.Expressions as exprs
 use Rattle.swc_ecma_parser_reader.specs.Classes.{class_of}
 use Rattle.swc_ecma_parser_reader.proofs.expressions.Loops.{expr_lowest, expr_above, cover_lowest}
@@ -27,3 +29,8 @@ module _ (n : ℕ) (s : State) where
 
 pub at_asked : (n : ℕ) (s : State) (asked other : Reading) (o : Outcome exprs.Cover) → asked ≡ other → read n other s ≡ o → read n asked s ≡ o
 at_asked n s asked other o e h = ap (λ a. read n a s) e ∙ h
+
+-- a refusal that is handed on is the reader's, where memory is found
+pub refused_as : {A : Type 0} (view : A → exprs.Cover) (o : Outcome exprs.Cover) (r : Result A Error) (y e : Error) (t : State) → r ≡ Err y → y ≡ e
+    → (kind_of e.kind ≢ faults.OutOfMemory → o ≡ Err (fault_of e, t)) → GivesAs view o r t
+refused_as view o r y e t p q h = subst (λ z. GivesAs view o z t) (sym (p ∙ ap (λ w. Err w) q)) h

@@ -9,18 +9,6 @@ use Rattle.swc_ecma_parser_reader.specs.State.{State, Reader, coded, loop}
 use Rattle.swc_ecma_parser_reader.specs.Reader.{items_turn, directs}
 use Rattle.swc_ecma_parser_reader.proofs.Loops.{items_more}
 
-undirected : (found : List Tree) → directs false found ≡ false
-undirected [] = refl
-undirected (x ∷ xs) = refl
-
--- without directives the code stays
-stays : (found : List Tree) (x : Tree) (t : State) → coded (directed t.code (directs false found) x) t ≡ t
-stays found x t = ap (λ b. coded (directed t.code b x) t) (undirected found)
-
-pub nested_more : (item : Reader Tree) (stops : Place → Bool) (found : List Tree) (s : State) (x : Tree) (t : State) → stops s.at ≡ false → item s ≡ Ok (x, t) → length t.at.left < length s.at.left
-    → loop (items_turn item stops false) found s ≡ loop (items_turn item stops false) (found ++ x ∷ []) t
-nested_more item stops found s x t h g k = items_more item stops false found s x t h g k ∙ ap (loop (items_turn item stops false) (found ++ x ∷ [])) (stays found x t)
-
 -- ---- a body with directives
 
 some_items : (n : ℕ) → nat_eq (suc n) 0 ≡ false

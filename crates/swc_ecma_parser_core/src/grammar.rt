@@ -15,8 +15,8 @@ use swc_ecma_parser_operators::operator::expr_level;
 use swc_ecma_parser_patterns::pat::{element_level, pattern_level};
 use swc_ecma_parser_source::Source;
 use swc_ecma_parser_trees::{
-    BuildsCall, BuildsControl, BuildsExpr, BuildsLoop, BuildsObject, BuildsOperator, BuildsPat,
-    BuildsPattern, BuildsStmt, MakerOf,
+    BuildsCall, BuildsControl, BuildsDecl, BuildsExpr, BuildsLoop, BuildsObject, BuildsOperator,
+    BuildsPat, BuildsPattern, BuildsStmt, MakerOf,
 };
 
 /// A statement in so many levels.
@@ -32,7 +32,8 @@ pub fn stmt<
         + BuildsLoop
         + BuildsPattern
         + BuildsPat
-        + BuildsStmt,
+        + BuildsStmt
+        + BuildsDecl,
 >(t: &MakerOf<T>, p: &mut P, depth: usize, at: Position) -> PResult<T::Stmt>
     ensures { GivesAs T.stmt_of (rules.stmt depth at (P.seen p.old)) result (P.seen p.new) }
 {
@@ -61,7 +62,8 @@ pub fn expr<
         + BuildsLoop
         + BuildsPattern
         + BuildsPat
-        + BuildsStmt,
+        + BuildsStmt
+        + BuildsDecl,
 >(t: &MakerOf<T>, p: &mut P, depth: usize, asked: Reading) -> PResult<Cover<T::Expr>>
     ensures { GivesAs (cover_of T.expr_of) (read depth asked (P.seen p.old)) result (P.seen p.new) }
 {
@@ -93,7 +95,8 @@ fn pat<
         + BuildsLoop
         + BuildsPattern
         + BuildsPat
-        + BuildsStmt,
+        + BuildsStmt
+        + BuildsDecl,
 >(t: &MakerOf<T>, p: &mut P, depth: usize, part: Part) -> PResult<T::Pat>
     ensures { GivesAs T.pat_of (read_pat depth part (P.seen p.old)) result (P.seen p.new) }
 {

@@ -8,9 +8,9 @@ ghost use Rattle.swc_ecma_parser_reader.specs.Reader as rules;
 ghost use Rattle.swc_ecma_parser_reader.specs.State.{GivesAs};
 ghost use Rattle.swc_ecma_parser_trees.specs.Parts.{part_of};
 
-use crate::stmt::{Body, body_items, close};
 use swc_ecma_parser_common::Span;
 use swc_ecma_parser_error::{PResult, SyntaxError};
+use swc_ecma_parser_functions::body::braced;
 use swc_ecma_parser_grammar::Position;
 use swc_ecma_parser_left::cover::{Cover, Reading};
 use swc_ecma_parser_left::grammar::{Grammar, Part};
@@ -19,26 +19,6 @@ use swc_ecma_parser_patterns::pat::inner_pat;
 use swc_ecma_parser_source::Source;
 use swc_ecma_parser_token::TokenKind;
 use swc_ecma_parser_trees::{BuildsBlock, BuildsControl, MakerOf, Trees};
-
-/// A block that must stand here.
-#[tactic(auto, unfolding(swc_ecma_parser_reader::specs::Reader::braced, swc_ecma_parser_reader::specs::Reader::block_from, swc_ecma_parser_grammar::specs::Looks::spanned))]
-fn braced<
-    P: Source,
-    T: BuildsBlock,
-    S: Fn(&MakerOf<T>, &mut P, usize, Position) -> PResult<T::Stmt>,
-    E: Fn(&MakerOf<T>, &mut P, usize, Reading) -> PResult<Cover<T::Expr>>,
-    N: Fn(&MakerOf<T>, &mut P, usize, Part) -> PResult<T::Pat>,
->(g: &Grammar<S, E, N>, t: &MakerOf<T>, p: &mut P) -> PResult<T::Block>
-    requires { Nests P.seen T.expr_of T.pat_of T.stmt_of g.now.depth (S.pre g.now.stmt) (S.post g.now.stmt) (E.pre g.now.expr) (E.post g.now.expr) (N.pre g.now.pat) (N.post g.now.pat) }
-    ensures { GivesAs T.block_of (rules.braced (rules.stmt g.now.depth nested_item) (P.seen p.old)) result (P.seen p.new) }
-{
-    let start = p.span();
-    p.expect(TokenKind::LBrace, "{")?;
-    let stmts = body_items(g, t, p, Body::Block)?;
-    close(t.alloc, p)?;
-    let span = since(p, start);
-    grown(p, T::body(t.alloc, span, stmts))
-}
 
 /// What a catch binds, in parentheses.
 #[tactic(auto, unfolding(swc_ecma_parser_reader::specs::Reader::bound))]

@@ -1,6 +1,7 @@
 //! Labels: ECMA-262, section 14.13.
 
-ghost use Rattle.std.specs.Prelude.{◌≡◌, true, replicate};
+ghost use Rattle.std.specs.Prelude.{◌≡◌, if◌then◌else◌, true, [], replicate};
+ghost use Rattle.swc_ecma_parser_error.specs.Kind as kinds;
 ghost use Rattle.swc_ecma_parser_grammar.specs.Own as own;
 ghost use Rattle.swc_ecma_parser_grammar.specs.language.Goals.{expression};
 ghost use Rattle.swc_ecma_parser_left.specs.Nests.{Nests};
@@ -13,7 +14,7 @@ ghost use Rattle.swc_ecma_parser_reader.specs.Reader as rules;
 ghost use Rattle.swc_ecma_parser_reader.specs.State.{Gives, GivesAs};
 
 use crate::switch::in_breakable;
-use swc_ecma_parser_common::Atom;
+use swc_ecma_parser_common::{Atom, Span};
 use swc_ecma_parser_error::{PResult, SyntaxError};
 use swc_ecma_parser_grammar::Position;
 use swc_ecma_parser_left::cover::{Cover, Reading};
@@ -57,6 +58,16 @@ fn duplicates<P: Source>(p: &mut P, label: &Ident) -> PResult<()>
     duplicate(p, label, times)
 }
 
+/// Records a function of strict code behind a label.
+fn labelled_function<P: Source>(p: &mut P, is_function: bool, span: Span) -> PResult<()>
+    ensures { Gives (rules.told (if is_function then own.only (P.seen p.old).code.flags.strict kinds.LabelledFunctionInStrict span else []) (P.seen p.old)) result (P.seen p.new) }
+{
+    if is_function && p.flags().strict {
+        return p.fault(SyntaxError::LabelledFunctionInStrict, span);
+    }
+    Ok(())
+}
+
 /// What a label stands at, which may break off there.
 #[tactic(auto, unfolding(swc_ecma_parser_reader::specs::Reader::labelled_body))]
 fn labelled_body<
@@ -83,7 +94,7 @@ fn labelled_body<
 }
 
 /// A statement with a label.
-#[tactic(auto, unfolding(swc_ecma_parser_reader::specs::Reader::labeled_stmt), using(swc_ecma_parser_reader::proofs::Plain::relabels_plain))]
+#[tactic(auto, unfolding(swc_ecma_parser_reader::specs::Reader::labeled_stmt), using(swc_ecma_parser_reader::proofs::Plain::relabels_told))]
 fn labeled_stmt<
     P: Source,
     T: BuildsControl,
@@ -98,8 +109,10 @@ fn labeled_stmt<
     let label = p.name(Wanted::Name)?;
     p.expect(TokenKind::Colon, ":")?;
     let text = grown(p, label.sym.try_clone())?;
+    let is_function = p.sees(TokenKind::Function);
     let body = labelled_body(g, t, p, text)?;
     let span = since(p, start);
+    labelled_function(p, is_function, T::stmt_span(&body))?;
     duplicates(p, &label)?;
     grown(p, T::labeled(t.alloc, span, label, body))
 }
@@ -132,7 +145,7 @@ pub(crate) fn let_stmt<
     N: Fn(&MakerOf<T>, &mut P, usize, Part) -> PResult<T::Pat>,
 >(g: &Grammar<S, E, N>, t: &MakerOf<T>, p: &mut P, at: Position) -> PResult<T::Stmt>
     requires { Nests P.seen T.expr_of T.pat_of T.stmt_of g.now.depth (S.pre g.now.stmt) (S.post g.now.stmt) (E.pre g.now.expr) (E.post g.now.expr) (N.pre g.now.pat) (N.post g.now.pat) }
-    ensures { GivesAs T.stmt_of (rules.let_stmt (rules.stmt g.now.depth) (exprs.expr g.now.depth) (patterns.pattern g.now.depth) (heads.head_cover g.now.depth) at (P.seen p.old)) result (P.seen p.new) }
+    ensures { GivesAs T.stmt_of (rules.let_stmt (rules.stmt g.now.depth) (exprs.expr g.now.depth) (patterns.pattern g.now.depth) (heads.head_cover g.now.depth) (patterns.parameters g.now.depth) at (P.seen p.old)) result (P.seen p.new) }
 {
     if at.include_decl && p.is_let_declaration() {
         return variables(g, t, p, VarDeclKind::Let);

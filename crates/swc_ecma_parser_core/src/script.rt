@@ -8,14 +8,15 @@ ghost use Rattle.swc_ecma_parser_reader.specs.State.{GivesAs};
 
 use crate::grammar::stmt;
 use swc_ecma_parser_error::PResult;
+use swc_ecma_parser_functions::body::direct;
 use swc_ecma_parser_grammar::Position;
 use swc_ecma_parser_input::Context;
 use swc_ecma_parser_left::steps::{pushed, since};
 use swc_ecma_parser_source::Source;
 use swc_ecma_parser_token::TokenKind;
 use swc_ecma_parser_trees::{
-    BuildsCall, BuildsControl, BuildsExpr, BuildsLoop, BuildsObject, BuildsOperator, BuildsPat,
-    BuildsPattern, BuildsStmt, MakerOf, Trees,
+    BuildsCall, BuildsControl, BuildsDecl, BuildsExpr, BuildsLoop, BuildsObject, BuildsOperator,
+    BuildsPat, BuildsPattern, BuildsStmt, MakerOf, Trees,
 };
 
 /// A statement of the script itself.
@@ -32,26 +33,6 @@ fn at_end<P: Source>(p: &P) -> bool
     p.sees(TokenKind::End)
 }
 
-/// The context of strict mode code.
-fn in_strict(flags: Context) -> Context
-    ensures { result ≡ record flags { strict = true } }
-{
-    Context {
-        strict: true,
-        ..flags
-    }
-}
-
-/// Turns strict what follows a directive.
-fn direct<P: Source, T: Trees>(p: &mut P, directives: bool, x: &T::Stmt)
-    ensures { P.seen p.new ≡ reader.coded (directed (P.seen p.old).code directives (T.stmt_of x.now)) (P.seen p.old) }
-{
-    if directives && T::is_use_strict(x) {
-        let flags = p.flags();
-        p.set_flags(in_strict(flags));
-    }
-}
-
 /// The statements of a script, the first of which can be a directive.
 #[tactic(auto, unfolding(swc_ecma_parser_reader::specs::Reader::items), using(swc_ecma_parser_reader::proofs::Loops::items_stop, swc_ecma_parser_reader::proofs::Loops::items_err, crate::proofs::Items::script_more, swc_ecma_parser_reader::proofs::Loops::stmt_shorter, std::proofs::lemmas::List::map_push))]
 fn items<
@@ -64,7 +45,8 @@ fn items<
         + BuildsLoop
         + BuildsPattern
         + BuildsPat
-        + BuildsStmt,
+        + BuildsStmt
+        + BuildsDecl,
 >(t: &MakerOf<T>, p: &mut P, limit: usize) -> PResult<Vec<T::Stmt>>
     ensures gives { GivesAs (λ found. map T.stmt_of found.items) (rules.items (rules.stmt limit top_item) rules.at_end true (P.seen p.old)) result (P.seen p.new) }
     ensures outright { (P.seen p.old).at.left ≡ [] → IsOk result }
@@ -90,7 +72,8 @@ pub fn script_body<
         + BuildsLoop
         + BuildsPattern
         + BuildsPat
-        + BuildsStmt,
+        + BuildsStmt
+        + BuildsDecl,
 >(t: &MakerOf<T>, p: &mut P, limit: usize) -> PResult<T::Script>
     ensures gives { GivesAs T.script_of (rules.script_body limit (P.seen p.old)) result (P.seen p.new) }
     ensures outright { (P.seen p.old).at.left ≡ [] → IsOk result }

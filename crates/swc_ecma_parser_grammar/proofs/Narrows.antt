@@ -1,27 +1,36 @@
 -- What the whole language reads and is supported, the rules of the first forms read.
-use Rattle.std.proofs.Common.{◌≡◌, ℕ, zero, suc, Bool, true, false, cond, List, [], ◌∷◌, ◌++◌, Option, refl, true≢false, sym, ◌∙◌, ap, subst}
+use Rattle.swc_ecma_parser_token.specs.declared.token.Token.TheVariants as token
+use Rattle.swc_ecma_parser_grammar.specs.language.Parts.{ReadsName}
+use Rattle.swc_ecma_parser_grammar.proofs.StatementBegins.{word_place}
+use Rattle.swc_ecma_parser_model.specs.Forms.{is_absent}
+use Rattle.swc_ecma_parser_common.specs.declared.span.Span.{Span}
+use Rattle.swc_ecma_parser_grammar.specs.Parameters.{parameters}
+use Rattle.std.proofs.Common.{◌≡◌, ℕ, zero, suc, Bool, true, false, cond, List, [], ◌∷◌, ◌++◌, Option, refl, true≢false, sym, ◌∙◌, ap, subst, scan, codes, bytes_eq}
 use Rattle.std.specs.Prelude.{not, ◌&&◌, ◌||◌, if◌then◌else◌}
 use Rattle.std.specs.List.{list_any}
 use Rattle.swc_ecma_parser_error.specs.Kind.{Fault}
 use Rattle.swc_ecma_parser_token.specs.declared.kind.TokenKind.TheVariants as kind
-use Rattle.swc_ecma_parser_grammar.specs.Follows.{is_async_of, await_word, no_await, AwaitWord, is_bare_async}
+use Rattle.swc_ecma_parser_grammar.specs.Follows.{is_async_of, await_word, no_await, AwaitWord, is_bare_async, is_async_function, word_at}
 use Rattle.swc_ecma_parser_input.specs.Place.{Place, after}
 use Rattle.swc_ecma_parser_model.specs.declared.leaves.VarDeclKind.{VarDeclKind}
 use Rattle.swc_ecma_parser_model.specs.Tree as tree
-use Rattle.swc_ecma_parser_model.specs.Tree.{Tree, Text, trees, listed}
+use Rattle.swc_ecma_parser_model.specs.Tree.{Tree, Text, trees, listed, absent}
 use Rattle.swc_ecma_parser_model.specs.Directive.{is_use_strict}
 use Rattle.swc_ecma_parser_grammar.specs.declared.position.Position.{Position}
-use Rattle.swc_ecma_parser_grammar.specs.Looks.{kind_at, sees, same_kind, spanned}
+use Rattle.swc_ecma_parser_grammar.specs.Looks.{kind_at, sees, same_kind, spanned, breaks_at}
 use Rattle.swc_ecma_parser_grammar.specs.Names.{Code}
-use Rattle.swc_ecma_parser_grammar.specs.Reads.{with_in, in_strict, directed, directs_on, nested_item, top_item, DeclaratorRule, plain_rule, initialized_rule, ReadsSeparated, ReadsItems, StmtRule, block_rule, empty_rule, debugger_rule, variables_rule, if_statement_rule, TargetRule, no_target_rule, target_rule, OperandRule, no_operand_rule, operand_rule, break_rule, continue_rule, return_rule, case_clause_rule, default_clause_rule, ReadsCases, switch_rule, throw_rule, try_rule, with_rule, while_rule, do_while_rule, expr_rule, import_rule, ReadsBlock, CatchRule, no_catch_rule, catch_rule, catch_parameter_rule, FinallyRule, no_finally_rule, finally_rule, ReadsHead, IfRule, if_rule, ElseRule, no_else_rule, else_rule, else_if_rule}
+use Rattle.swc_ecma_parser_grammar.specs.Reads.{with_in, in_strict, directed, directs_on, nested_item, top_item, DeclaratorRule, plain_rule, initialized_rule, ReadsSeparated, ReadsItems, StmtRule, block_rule, empty_rule, debugger_rule, variables_rule, if_statement_rule, TargetRule, no_target_rule, target_rule, OperandRule, no_operand_rule, operand_rule, break_rule, continue_rule, return_rule, case_clause_rule, default_clause_rule, ReadsCases, switch_rule, throw_rule, try_rule, with_rule, while_rule, do_while_rule, expr_rule, import_rule, ReadsBlock, CatchRule, no_catch_rule, catch_rule, catch_parameter_rule, FinallyRule, no_finally_rule, finally_rule, ReadsHead, IfRule, if_rule, ElseRule, no_else_rule, else_rule, else_if_rule, ReadsBraced, function_rule, ReadsToken}
 use Rattle.swc_ecma_parser_grammar.specs.Reads.{labeled_rule, head_code, HeadVariables, InitRule, no_init_rule, init_variables_rule, init_expression_rule, LeftRule, declared_rule, left_target_rule, for_in_rule, for_of_rule, PartRule, no_part_rule, part_rule, for_rule}
 use Rattle.swc_ecma_parser_grammar.specs.Entries.{ReadsScript, ReadsShebang, some_shebang, no_shebang, script_code}
 use Rattle.swc_ecma_parser_grammar.specs.Notes.{notes, all_notes, statement_note, with_note}
-use Rattle.swc_ecma_parser_grammar.specs.Supported.{supported, all_supported}
-use Rattle.swc_ecma_parser_grammar.specs.ReadsSupported.{ReadsClass, ReadsPat, ReadsTarget, ReadsStmt}
+use Rattle.swc_ecma_parser_grammar.specs.Supported.{supported, all_supported, has_none}
+use Rattle.swc_ecma_parser_grammar.specs.ReadsSupported.{ReadsClass, ReadsPat, ReadsTarget, ReadsStmt, ReadsParams}
 use Rattle.swc_ecma_parser_grammar.specs.language.Goals.{assignment, stmt_goal}
 use Rattle.swc_ecma_parser_grammar.specs.language.Contexts.{in_loop, in_breakable, in_with}
 use Rattle.swc_ecma_parser_grammar.specs.language.ForHeads as heads
+use Rattle.swc_ecma_parser_grammar.specs.language.Classes as classes
+use Rattle.swc_ecma_parser_grammar.specs.language.Functions as functions
+use Rattle.swc_ecma_parser_grammar.specs.language.Parts as parts
 use Rattle.swc_ecma_parser_grammar.specs.language.Declarations as declarations
 use Rattle.swc_ecma_parser_grammar.specs.language.Items.{sub_statement, labelled_item, ItemsRule, BlockRule}
 use Rattle.swc_ecma_parser_grammar.specs.language.Lists.{ReadsEach}
@@ -34,7 +43,7 @@ use Rattle.swc_ecma_parser_grammar.proofs.Tests.{and_yes}
 use Rattle.swc_ecma_parser_grammar.proofs.SupportedBegins.{refuted, supported_as}
 use Rattle.swc_ecma_parser_grammar.proofs.Unnoted.{Quiet, quiet_first, quiet_last, quiet_as}
 use Rattle.swc_ecma_parser_grammar.proofs.Naming.{name_is_name}
-use Rattle.swc_ecma_parser_grammar.proofs.Widens.{saw, stands_there}
+use Rattle.swc_ecma_parser_grammar.proofs.Widens.{saw, stands_there, parameters_same}
 use Rattle.swc_ecma_parser_grammar.proofs.language.Asked.{or_left, or_right}
 
 -- ---- declarators
@@ -122,6 +131,29 @@ unnamed true true f q = let e : f ∷ [] ≡ [] = q refl in cc
 unnamed true false f q = refl
 unnamed false b f q = refl
 
+-- ---- functions
+
+unasync : {c d : Place} → functions.AsyncWord false c d → d ≡ c
+unasync (functions.not_async e h) = h
+unasync (functions.async_word e h g i) = cc
+
+unstarred : {c d : Place} → functions.Star false c d → d ≡ c
+unstarred (functions.no_star e h) = h
+unstarred (functions.star e h g) = cc
+
+-- `function` is no `async`
+no_async_function : (c : Place) → kind_at c ≡ kind.Function → is_async_function c ≡ false
+unfolding is_async_function
+no_async_function c e = by_word (word_at (codes "async") c) refl
+  where
+    by_word : (b : Bool) → word_at (codes "async") c ≡ b → (b && (sees kind.Function (after c) && not (breaks_at (after c)))) ≡ false
+    by_word true h = let g : kind.Ident ≡ kind.Function = sym (word_place (codes "async") c h) ∙ e in cc
+    by_word false h = refl
+
+declared_here : (a b : Bool) → a || b ≡ true → b ≡ false → a ≡ true
+declared_here true b h g = refl
+declared_here false b h g = absurd (true≢false (sym h ∙ g))
+
 -- no `with` stands in it either
 no_with : (b : Bool) (f : Fault) (fs : List Fault) → (b ≡ true → f ∷ fs ≡ []) → b ≡ false
 no_with true f fs q = let e : f ∷ fs ≡ [] = q refl in cc
@@ -142,16 +174,19 @@ module _ (n : ℕ) (narrow : (k : Code) (at : Position) (x : Tree) (c d : Place)
   head_narrows : {k : Code} {x : Tree} {c d : Place} → statements.HeadRule (Reads n) k x c d → supported x ≡ true → ReadsHead (ReadsClass n) k x c d
   head_narrows r h = record { close = r.close; opens = r.opens; reads = (r.reads, h); closes = r.closes; next = r.next }
 
-  block_narrows : {k : Code} {x : Tree} {c d : Place} → Quiet k (notes x) → BlockRule (Reads n) k false x c d → supported x ≡ true → ReadsBlock (ReadsStmt n) k x c d
-  block_narrows {k = k} {x = x} {c = c} {d = d} o r h = record {
+  braced_narrows : (directives : Bool) {k : Code} {x : Tree} {c d : Place} → Quiet k (notes x) → BlockRule (Reads n) k directives x c d → supported x ≡ true → ReadsBraced (ReadsStmt n) directives k x c d
+  braced_narrows directives {k = k} {x = x} {c = c} {d = d} o r h = record {
     items = r.items;
     close = r.close;
     opens = r.opens;
-    reads_items = items_narrow k false nested_item r.items (after c) r.close (quiet_as k x (tree.block (spanned c d) (listed r.items)) r.is o) r.reads_items (supported_as x (tree.block (spanned c d) (listed r.items)) r.is h);
+    reads_items = items_narrow k directives nested_item r.items (after c) r.close (quiet_as k x (tree.block (spanned c d) (listed r.items)) r.is o) r.reads_items (supported_as x (tree.block (spanned c d) (listed r.items)) r.is h);
     closes = r.closes;
     next = r.next;
     is = r.is;
   }
+
+  block_narrows : {k : Code} {x : Tree} {c d : Place} → Quiet k (notes x) → BlockRule (Reads n) k false x c d → supported x ≡ true → ReadsBlock (ReadsStmt n) k x c d
+  block_narrows o r h = braced_narrows false o r h
 
   -- Clauses with a `default` before them or without: where one is, none is behind it.
   abbrev Defaults : Bool → List Tree → Type 0
@@ -221,10 +256,58 @@ module _ (n : ℕ) (narrow : (k : Code) (at : Position) (x : Tree) (c d : Place)
     else_narrows {k = k} {x = x} {c = c} {d = d} o (statements.else_rule i j s) h = else_rule i j (narrow k sub_statement x (after c) d o s h)
     else_narrows o (statements.else_if_rule i r) h = else_if_rule i (if_narrows o r h)
 
+  -- a function that is neither async nor a generator
+  plain_function : (k : Code) (at : Position) (x : Tree) (c m d : Place) (w g : Bool) (text : Text) (sp : Span) (ps : List Tree) (body : Tree) (word behind_word behind_name : Place) → m ≡ c
+      → functions.AsyncWord w m word → kind_at word ≡ kind.Function → functions.Star g (after word) behind_word → (r : ReadsName k text sp behind_word behind_name)
+      → functions.FunctionParts (Reads n) k w g ps body behind_name d → at.include_decl || is_async_function m ≡ true → not (bytes_eq text (codes "await")) ≡ true
+      → not w && (not g && (supported (parameters ps) && supported body)) ≡ true → Quiet k (notes body)
+      → x ≡ tree.fn_decl (tree.ident sp text) (tree.function (spanned m d) (listed []) (parameters ps) body w g)
+      → StmtRule (ReadsStmt n) (ReadsClass n) (ReadsPat n) (ReadsTarget n) (ReadsParams n) k at x c d
+  plain_function k at x c m d true g text sp ps body word bw bn o a f s r p i t h q e = cc
+  plain_function k at x c m d false true text sp ps body word bw bn o a f s r p i t h q e = cc
+  plain_function k at x c m d false false text sp ps body word bw bn o a f s r p i t h q e =
+      let z : word ≡ c = unasync a ∙ o in
+      let v : kind_at c ≡ kind.Function = ap kind_at (sym z) ∙ f in
+      let u = and_yes (supported (parameters ps)) _ h in
+      function_rule (declared_here at.include_decl _ i (ap is_async_function o ∙ no_async_function c v)) (record {
+        name = r.word;
+        name_span = sp;
+        patterns = ps;
+        body = body;
+        behind_name = bn;
+        middle = p.middle;
+        is_function = v;
+        reads_name = subst (λ b. ReadsToken (token.Word r.word) sp b bn) (unstarred s ∙ ap after z) r.reads_word;
+        is_named = name_is_name k text sp bw bn r t;
+        reads_parameters = (p.reads_parameters, sym (parameters_same ps) ∙ u.0);
+        reads_body = braced_narrows true q p.reads_body u.1;
+        is = e ∙ ap (λ b. tree.fn_decl (tree.ident sp text) (tree.function (spanned b d) (listed []) (parameters ps) body false false)) o
+            ∙ ap (λ b. tree.fn_decl (tree.ident sp b) (tree.function (spanned c d) (listed []) (parameters ps) body false false)) r.is_text;
+      })
+
+  -- with a name, and behind no decorators
+  function_narrows : (k : Code) (at : Position) (a name x y : Tree) (c m d : Place) → Quiet k (notes y) → classes.DecoratorsRule (Reads n) k a c m → at.include_decl || is_async_function m ≡ true
+      → (s : functions.FunctionRule (Reads n) false k a name y m d) → parts.OptionalName k name s.behind_word s.behind_name → is_absent name ≡ false → supported name ≡ true → supported y ≡ true
+      → x ≡ tree.fn_decl name y → StmtRule (ReadsStmt n) (ReadsClass n) (ReadsPat n) (ReadsTarget n) (ReadsParams n) k at x c d
+  function_narrows k at a name x y c m d o (classes.some_decorators z zs v r l) i s u b h t e =
+      let f = supported_as y (tree.function (spanned m d) a (parameters s.patterns) s.body s.is_async s.is_generator) s.is t in
+      let q = and_yes (not s.is_generator) _ (and_yes (not s.is_async) _ f).1 in
+      absurd (true≢false (sym (and_yes (has_none a) _ q.1).0 ∙ ap has_none l))
+  function_narrows k at a name x y c m d o (classes.no_decorators g l) i s (parts.no_name j u) b h t e = absurd (true≢false (sym (ap is_absent u) ∙ b))
+  function_narrows k at a name x y c m d o (classes.no_decorators g l) i s (parts.a_name text sp r u) b h t e =
+      let v : y ≡ tree.function (spanned m d) (listed []) (parameters s.patterns) s.body s.is_async s.is_generator = s.is ∙ ap (λ z. tree.function (spanned m d) z (parameters s.patterns) s.body s.is_async s.is_generator) l in
+      plain_function k at x c m d s.is_async s.is_generator text sp s.patterns s.body s.word s.behind_word s.behind_name g s.reads_async s.is_function s.reads_star r s.reads_parts i
+      (supported_as name (tree.ident sp text) u h) (supported_as y (tree.function (spanned m d) (listed []) (parameters s.patterns) s.body s.is_async s.is_generator) v t)
+      (quiet_last k (notes (parameters s.patterns)) (notes s.body) (quiet_as k y (tree.function (spanned m d) (listed []) (parameters s.patterns) s.body s.is_async s.is_generator) v o))
+      (e ∙ ap (λ z. tree.fn_decl z y) u ∙ ap (tree.fn_decl (tree.ident sp text)) v)
+
   form_narrows : (k : Code) (at : Position) (x : Tree) (c d : Place) → Quiet k (notes x) → statements.FormRule (Reads n) k at x c d → supported x ≡ true
-      → StmtRule (ReadsStmt n) (ReadsClass n) (ReadsPat n) (ReadsTarget n) k at x c d
+      → StmtRule (ReadsStmt n) (ReadsClass n) (ReadsPat n) (ReadsTarget n) (ReadsParams n) k at x c d
   form_narrows k at x c d o (statements.class_rule a name y m i r s b e) h = refuted x (ap supported e) h
-  form_narrows k at x c d o (statements.function_rule a name y m r i s b e) h = refuted x (ap supported e) h
+  form_narrows k at x c d o (statements.function_rule a name y m r i s b e) h =
+      let g = and_yes (supported name) _ (supported_as x (tree.fn_decl name y) e h) in
+      let q = quiet_last k (notes name) (notes y) (quiet_as k x (tree.fn_decl name y) e o) in
+      function_narrows k at a name x y c m d q r i s s.reads_name b g.0 g.1 e
   form_narrows k at x c d o (statements.variables_rule word xs m i (b, r) g e) h =
       variables_rule word xs m i b (declarators_narrow n (with_in k) false word xs (after c) m r (supported_as x (tree.var (spanned c d) word (listed xs)) e h)) g e
   form_narrows k at x c d o (statements.using_rule r) h = refuted x (ap supported r.is) h

@@ -124,7 +124,7 @@ formless In k x c d kind.Catch h = cc
 formless In k x c d kind.Default h = cc
 formless In k x c d _ h = tt
 
-word_place : (text : Text) (c : Place) → word_at text c ≡ true → kind_at c ≡ kind.Ident
+pub word_place : (text : Text) (c : Place) → word_at text c ≡ true → kind_at c ≡ kind.Ident
 unfolding word_at kind_at
 word_place text c h = go c.left h
   where

@@ -1,4 +1,8 @@
 -- What an entry reads for one statement: in module code too, where the rules of the first forms read nothing that is noted.
+use Rattle.swc_ecma_parser_grammar.proofs.Tests.{and_yes}
+use Rattle.swc_ecma_parser_grammar.specs.language.Functions.{PatternItemRule}
+use Rattle.swc_ecma_parser_grammar.specs.language.Lists.{ReadsListed}
+use Rattle.swc_ecma_parser_grammar.specs.Parameters.{parameters}
 use Rattle.std.proofs.Common.{◌≡◌, ℕ, zero, suc, Bool, true, false, true≢false, List, [], ◌∷◌, ◌++◌, refl, sym, ◌∙◌, ap}
 use Rattle.std.specs.Prelude.{◌&&◌, ◌||◌, if◌then◌else◌}
 use Rattle.swc_ecma_parser_error.specs.Kind.{Fault}
@@ -13,15 +17,15 @@ use Rattle.swc_ecma_parser_grammar.specs.declared.position.Position.{Position}
 use Rattle.swc_ecma_parser_grammar.specs.Looks.{sees}
 use Rattle.swc_ecma_parser_grammar.specs.Names.{Code}
 use Rattle.swc_ecma_parser_grammar.specs.Notes.{notes, all_notes, statement_note}
-use Rattle.swc_ecma_parser_grammar.specs.Reads.{with_in, directed, directs_on, nested_item, DeclaratorRule, plain_rule, initialized_rule, ReadsSeparated, ReadsItems, StmtRule, block_rule, empty_rule, debugger_rule, variables_rule, if_statement_rule, TargetRule, no_target_rule, target_rule, OperandRule, no_operand_rule, operand_rule, break_rule, continue_rule, return_rule, labeled_rule, HeadVariables, InitRule, no_init_rule, init_variables_rule, init_expression_rule, LeftRule, declared_rule, left_target_rule, for_in_rule, for_of_rule, head_code, PartRule, no_part_rule, part_rule, for_rule, CaseRule, case_clause_rule, default_clause_rule, ReadsCases, switch_rule, throw_rule, try_rule, with_rule, while_rule, do_while_rule, expr_rule, import_rule, ReadsBlock, CatchRule, no_catch_rule, catch_rule, catch_parameter_rule, FinallyRule, no_finally_rule, finally_rule, ReadsHead, IfRule, if_rule, ElseRule, no_else_rule, else_rule, else_if_rule}
-use Rattle.swc_ecma_parser_grammar.specs.Supported.{supported}
-use Rattle.swc_ecma_parser_grammar.specs.ReadsSupported.{ReadsClass, ReadsPat, ReadsTarget, ReadsStmt}
+use Rattle.swc_ecma_parser_grammar.specs.Reads.{with_in, directed, directs_on, nested_item, DeclaratorRule, plain_rule, initialized_rule, ReadsSeparated, ReadsItems, StmtRule, block_rule, empty_rule, debugger_rule, variables_rule, if_statement_rule, TargetRule, no_target_rule, target_rule, OperandRule, no_operand_rule, operand_rule, break_rule, continue_rule, return_rule, labeled_rule, HeadVariables, InitRule, no_init_rule, init_variables_rule, init_expression_rule, LeftRule, declared_rule, left_target_rule, for_in_rule, for_of_rule, head_code, PartRule, no_part_rule, part_rule, for_rule, CaseRule, case_clause_rule, default_clause_rule, ReadsCases, switch_rule, throw_rule, try_rule, with_rule, while_rule, do_while_rule, expr_rule, import_rule, ReadsBlock, CatchRule, no_catch_rule, catch_rule, catch_parameter_rule, FinallyRule, no_finally_rule, finally_rule, ReadsHead, IfRule, if_rule, ElseRule, no_else_rule, else_rule, else_if_rule, ReadsBraced, function_rule}
+use Rattle.swc_ecma_parser_grammar.specs.Supported.{supported, all_supported}
+use Rattle.swc_ecma_parser_grammar.specs.ReadsSupported.{ReadsClass, ReadsPat, ReadsTarget, ReadsStmt, ReadsParams}
 use Rattle.swc_ecma_parser_grammar.specs.language.Goals.{binding, assigning, expression, assignment, stmt_goal}
 use Rattle.swc_ecma_parser_grammar.specs.language.Contexts.{in_module, in_loop, in_breakable}
 use Rattle.swc_ecma_parser_grammar.specs.language.Items.{sub_statement, labelled_item}
 use Rattle.swc_ecma_parser_grammar.specs.language.Reads.{Reads}
 use Rattle.swc_ecma_parser_grammar.specs.language.Programs.{is_module_program, is_module_code}
-use Rattle.swc_ecma_parser_grammar.proofs.Unnoted.{joined, expr_unnoted, pattern_unnoted, import_unnoted}
+use Rattle.swc_ecma_parser_grammar.proofs.Unnoted.{joined, expr_unnoted, pattern_unnoted, import_unnoted, parameter_unnoted}
 use Rattle.swc_ecma_parser_grammar.proofs.Widens.{stmt_widens, stmt_supported}
 use Rattle.swc_ecma_parser_grammar.proofs.Narrows.{strict_module, stmt_narrows}
 
@@ -66,6 +70,15 @@ part_unnoted n {k = k} {x = x} {c = c} {d = d} (part_rule r) = expr_unnoted n ex
 head_unnoted : (n : ℕ) {k : Code} {x : Tree} {c d : Place} → ReadsHead (ReadsClass n) k x c d → notes x ≡ []
 head_unnoted n {k = k} {x = x} {c = c} r = expr_unnoted n expression (with_in k) x (after c) r.close r.reads.0 r.reads.1
 
+patterns_unnoted : (n : ℕ) (k : Code) (ps : List Tree) (c d : Place) → ReadsListed true (PatternItemRule (Reads n) binding k) ps c d → all_supported (trees ps) ≡ true → notes (parameters ps) ≡ []
+patterns_unnoted n k [] c d r h = refl
+patterns_unnoted n k (x ∷ []) c d (m, r, l) h = joined (notes x) [] (parameter_unnoted n k x c m r (and_yes (supported x) _ h).0) refl
+patterns_unnoted n k (x ∷ y ∷ ys) c d (m, r, b, o, rs) h =
+    let g = and_yes (supported x) _ h in joined (notes x) _ (parameter_unnoted n k x c m r g.0) (patterns_unnoted n k (y ∷ ys) (after m) d rs g.1)
+
+params_unnoted : (n : ℕ) {k : Code} (ps : List Tree) {c d : Place} → ReadsParams n k ps c d → notes (parameters ps) ≡ []
+params_unnoted n {k = k} ps {c = c} r = patterns_unnoted n (with_in k) ps (after c) r.0.close r.0.reads_patterns r.1
+
 -- ---- statements of module code
 
 -- an expression that is a statement of it is no bare name `interface`
@@ -81,8 +94,11 @@ module _ (n : ℕ) (small : (k : Code) (at : Position) (x : Tree) (c d : Place) 
   items_unnoted k directives at (x ∷ xs) c d o (m, r, rs) =
       joined (notes x) _ (small k at x c m o r) (items_unnoted (directed k directives x) (directs_on directives x) at xs m d (strict_module (directives && is_use_strict x) k ∙ o) rs)
 
+  braced_unnoted : (directives : Bool) {k : Code} {x : Tree} {c d : Place} → k.flags.module ≡ true → ReadsBraced (ReadsStmt n) directives k x c d → notes x ≡ []
+  braced_unnoted directives {k = k} {c = c} o r = ap notes r.is ∙ items_unnoted k directives nested_item r.items (after c) r.close o r.reads_items
+
   block_unnoted : {k : Code} {x : Tree} {c d : Place} → k.flags.module ≡ true → ReadsBlock (ReadsStmt n) k x c d → notes x ≡ []
-  block_unnoted {k = k} {c = c} o r = ap notes r.is ∙ items_unnoted k false nested_item r.items (after c) r.close o r.reads_items
+  block_unnoted o r = braced_unnoted false o r
 
   case_unnoted : {k : Code} {b : Bool} {x : Tree} {c d : Place} → k.flags.module ≡ true → CaseRule (ReadsStmt n) (ReadsClass n) k b x c d → notes x ≡ []
   case_unnoted {k = k} {c = c} {d = d} o (case_clause_rule test xs m h r i s e) =
@@ -113,7 +129,9 @@ module _ (n : ℕ) (small : (k : Code) (at : Position) (x : Tree) (c d : Place) 
     else_unnoted {k = k} {x = x} {c = c} {d = d} o (else_rule h i s) = small k sub_statement x (after c) d o s
     else_unnoted o (else_if_rule h r) = if_unnoted o r
 
-  rule_unnoted : (k : Code) (at : Position) (x : Tree) (c d : Place) → k.flags.module ≡ true → StmtRule (ReadsStmt n) (ReadsClass n) (ReadsPat n) (ReadsTarget n) k at x c d → notes x ≡ []
+  rule_unnoted : (k : Code) (at : Position) (x : Tree) (c d : Place) → k.flags.module ≡ true → StmtRule (ReadsStmt n) (ReadsClass n) (ReadsPat n) (ReadsTarget n) (ReadsParams n) k at x c d → notes x ≡ []
+  rule_unnoted k at x c d o (function_rule a r) =
+      ap notes r.is ∙ joined (notes (parameters r.patterns)) (notes r.body) (params_unnoted n r.patterns r.reads_parameters) (braced_unnoted true o r.reads_body)
   rule_unnoted k at x c d o (block_rule r) = block_unnoted o r
   rule_unnoted k at x c d o (empty_rule h g e) = ap notes e
   rule_unnoted k at x c d o (debugger_rule h g e) = ap notes e

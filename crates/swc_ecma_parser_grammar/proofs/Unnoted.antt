@@ -17,7 +17,7 @@ use Rattle.swc_ecma_parser_grammar.specs.Notes.{notes, all_notes, statement_note
 use Rattle.swc_ecma_parser_grammar.specs.Reads.{with_in, ReadsSeparated}
 use Rattle.swc_ecma_parser_grammar.specs.Supported.{supported, all_supported, is_supported_key, is_supported_property}
 use Rattle.swc_ecma_parser_grammar.specs.ReadsSupported.{ReadsClass}
-use Rattle.swc_ecma_parser_grammar.specs.language.Goals.{Goal, Class, Purpose, expression, assignment, operator, unary, left_side, callee, expr_goal, callee_goal, pattern_goal, element_goal, stmt_goal, member_goal, decorator_goal, using_goal, attributes_goal, item_goal}
+use Rattle.swc_ecma_parser_grammar.specs.language.Goals.{Goal, Class, Purpose, binding, expression, assignment, operator, unary, left_side, callee, expr_goal, callee_goal, pattern_goal, element_goal, stmt_goal, member_goal, decorator_goal, using_goal, attributes_goal, item_goal}
 use Rattle.swc_ecma_parser_grammar.specs.language.Lists.{ReadsListed, Elements, no_elements, hole, last_element, more_elements}
 use Rattle.swc_ecma_parser_grammar.specs.language.Parts as parts
 use Rattle.swc_ecma_parser_grammar.specs.language.Parts.{KeyRule, AccessRule, ElementRule, ArgumentsRule}
@@ -262,6 +262,10 @@ expr_unnoted n class k x c d r = silent n (expr_goal class k x c d) r
 
 pub pattern_unnoted : (n : ℕ) (p : Purpose) (k : Code) (x : Tree) (c d : Place) → Reads n (pattern_goal p k x c d) → supported x ≡ true → notes x ≡ []
 pattern_unnoted n p k x c d r = silent n (pattern_goal p k x c d) r
+
+pub parameter_unnoted : (n : ℕ) (k : Code) (x : Tree) (c d : Place) → PatternItemRule (Reads n) binding k x c d → supported x ≡ true → notes x ≡ []
+parameter_unnoted n k x c d (functions.element_rule r) h = silent n (element_goal binding k x c d) r h
+parameter_unnoted n k x c d (functions.rest_rule y o r e) h = ap notes e ∙ silent n (pattern_goal binding k y (after c) d) r (supported_as x (tree.rest_pat (spanned c d) y) e h)
 
 -- ---- an expression that begins with `import`
 

@@ -1,4 +1,5 @@
 -- What the rules of the first forms read, the whole language reads, and it is supported.
+use Rattle.swc_ecma_parser_grammar.specs.Parameters.{parameters}
 use Rattle.std.proofs.Common.{◌≡◌, ℕ, zero, suc, Bool, true, false, rules, List, [], ◌∷◌, Option, refl, ◌∙◌, ap, subst}
 use Rattle.std.specs.List.{list_any}
 use Rattle.std.specs.Prelude.{not, ◌&&◌, ◌||◌}
@@ -9,20 +10,23 @@ use Rattle.swc_ecma_parser_token.specs.declared.kind.TokenKind.TheVariants as ki
 use Rattle.swc_ecma_parser_input.specs.Place.{Place, after}
 use Rattle.swc_ecma_parser_model.specs.declared.leaves.VarDeclKind.{VarDeclKind}
 use Rattle.swc_ecma_parser_model.specs.declared.leaves.VarDeclKind.TheVariants as decl
-use Rattle.swc_ecma_parser_model.specs.Tree.{Tree, Text, trees}
+use Rattle.swc_ecma_parser_model.specs.Tree.{Tree, Text, trees, listed}
 use Rattle.swc_ecma_parser_model.specs.Forms.{is_absent}
 use Rattle.swc_ecma_parser_grammar.specs.declared.position.Position.{Position}
 use Rattle.swc_ecma_parser_grammar.specs.Looks.{kind_at, sees, same_kind}
 use Rattle.swc_ecma_parser_grammar.specs.Names.{Code}
 use Rattle.swc_ecma_parser_grammar.specs.Follows.{is_let_declaration, no_await, is_async_of, is_bare_async}
 use Rattle.swc_ecma_parser_grammar.specs.Variables.{begins_variables}
-use Rattle.swc_ecma_parser_grammar.specs.Reads.{with_in, directed, directs_on, nested_item, top_item, DeclaratorRule, plain_rule, initialized_rule, ReadsSeparated, ReadsItems, StmtRule, block_rule, empty_rule, debugger_rule, variables_rule, if_statement_rule, TargetRule, no_target_rule, target_rule, OperandRule, no_operand_rule, operand_rule, break_rule, continue_rule, return_rule, labeled_rule, HeadVariables, InitRule, no_init_rule, init_variables_rule, init_expression_rule, LeftRule, declared_rule, left_target_rule, for_in_rule, for_of_rule, head_code, PartRule, no_part_rule, part_rule, for_rule, CaseRule, case_clause_rule, default_clause_rule, ReadsCases, switch_rule, throw_rule, try_rule, with_rule, while_rule, do_while_rule, expr_rule, import_rule, ReadsBlock, CatchRule, no_catch_rule, catch_rule, catch_parameter_rule, FinallyRule, no_finally_rule, finally_rule, ReadsHead, IfRule, if_rule, ElseRule, no_else_rule, else_rule, else_if_rule}
+use Rattle.swc_ecma_parser_grammar.specs.Reads.{with_in, directed, directs_on, nested_item, top_item, DeclaratorRule, plain_rule, initialized_rule, ReadsSeparated, ReadsItems, StmtRule, block_rule, empty_rule, debugger_rule, variables_rule, if_statement_rule, TargetRule, no_target_rule, target_rule, OperandRule, no_operand_rule, operand_rule, break_rule, continue_rule, return_rule, labeled_rule, HeadVariables, InitRule, no_init_rule, init_variables_rule, init_expression_rule, LeftRule, declared_rule, left_target_rule, for_in_rule, for_of_rule, head_code, PartRule, no_part_rule, part_rule, for_rule, CaseRule, case_clause_rule, default_clause_rule, ReadsCases, switch_rule, throw_rule, try_rule, with_rule, while_rule, do_while_rule, expr_rule, import_rule, ReadsBlock, CatchRule, no_catch_rule, catch_rule, catch_parameter_rule, FinallyRule, no_finally_rule, finally_rule, ReadsHead, IfRule, if_rule, ElseRule, no_else_rule, else_rule, else_if_rule, ReadsBraced, function_rule}
 use Rattle.swc_ecma_parser_grammar.specs.Entries.{ReadsScript, ReadsShebang, some_shebang, no_shebang, script_code}
 use Rattle.swc_ecma_parser_grammar.specs.Supported.{supported, all_supported}
-use Rattle.swc_ecma_parser_grammar.specs.ReadsSupported.{ReadsClass, ReadsPat, ReadsTarget, ReadsStmt}
+use Rattle.swc_ecma_parser_grammar.specs.ReadsSupported.{ReadsClass, ReadsPat, ReadsTarget, ReadsStmt, ReadsParams}
 use Rattle.swc_ecma_parser_grammar.specs.language.Goals.{expression, assignment, expr_goal, stmt_goal}
 use Rattle.swc_ecma_parser_grammar.specs.language.Contexts.{in_loop, in_breakable, in_with}
 use Rattle.swc_ecma_parser_grammar.specs.language.ForHeads as heads
+use Rattle.swc_ecma_parser_grammar.specs.language.Classes as classes
+use Rattle.swc_ecma_parser_grammar.specs.language.Functions as functions
+use Rattle.swc_ecma_parser_grammar.specs.language.Parts as parts
 use Rattle.swc_ecma_parser_grammar.specs.language.Declarations as declarations
 use Rattle.swc_ecma_parser_grammar.specs.language.Items.{sub_statement, labelled_item, ItemsRule, BlockRule}
 use Rattle.swc_ecma_parser_grammar.specs.language.Lists.{ReadsEach}
@@ -141,13 +145,21 @@ part_widens : (n : ℕ) {k : Code} {x : Tree} {c d : Place} → PartRule (ReadsC
 part_widens n (no_part_rule g e) = heads.no_part_rule g e
 part_widens n (part_rule r) = heads.part_rule r.0
 
+-- parameters are as their patterns are
+pub parameters_same : (ps : List Tree) → supported (parameters ps) ≡ all_supported (trees ps)
+parameters_same [] = refl
+parameters_same (p ∷ ps) = ap (λ b. supported p && b) (parameters_same ps)
+
 module _ (n : ℕ) (small : (k : Code) (at : Position) (x : Tree) (c d : Place) → ReadsStmt n k at x c d → supported x ≡ true) where
   items_supported : (k : Code) (directives : Bool) (at : Position) (xs : List Tree) (c d : Place) → ReadsItems (λ j. ReadsStmt n j at) k directives xs c d → all_supported (trees xs) ≡ true
   items_supported k directives at [] c d h = refl
   items_supported k directives at (x ∷ xs) c d (m, r, rs) = and_both _ _ (small k at x c m r) (items_supported (directed k directives x) (directs_on directives x) at xs m d rs)
 
+  braced_supported : (directives : Bool) {k : Code} {x : Tree} {c d : Place} → ReadsBraced (ReadsStmt n) directives k x c d → supported x ≡ true
+  braced_supported directives {k = k} {c = c} r = ap supported r.is ∙ items_supported k directives nested_item r.items (after c) r.close r.reads_items
+
   block_supported : {k : Code} {x : Tree} {c d : Place} → ReadsBlock (ReadsStmt n) k x c d → supported x ≡ true
-  block_supported {k = k} {c = c} r = ap supported r.is ∙ items_supported k false nested_item r.items (after c) r.close r.reads_items
+  block_supported r = braced_supported false r
 
   case_supported : {k : Code} {b : Bool} {x : Tree} {c d : Place} → CaseRule (ReadsStmt n) (ReadsClass n) k b x c d → supported x ≡ true
   case_supported {k = k} {d = d} (case_clause_rule test xs m h r i s e) = ap supported e ∙ and_both (supported test) _ r.1 (items_supported k false nested_item xs (after m) d s)
@@ -175,7 +187,10 @@ module _ (n : ℕ) (small : (k : Code) (at : Position) (x : Tree) (c d : Place) 
     else_supported {k = k} {x = x} {c = c} {d = d} (else_rule h i s) = small k sub_statement x (after c) d s
     else_supported (else_if_rule h r) = if_supported r
 
-  rule_supported : (k : Code) (at : Position) (x : Tree) (c d : Place) → StmtRule (ReadsStmt n) (ReadsClass n) (ReadsPat n) (ReadsTarget n) k at x c d → supported x ≡ true
+  rule_supported : (k : Code) (at : Position) (x : Tree) (c d : Place) → StmtRule (ReadsStmt n) (ReadsClass n) (ReadsPat n) (ReadsTarget n) (ReadsParams n) k at x c d → supported x ≡ true
+  rule_supported k at x c d (function_rule a r) =
+      ap supported r.is ∙ and_both _ _ (name_is_supported k.flags (word_text r.name) r.is_named)
+      (and_both (supported (parameters r.patterns)) _ (parameters_same r.patterns ∙ r.reads_parameters.1) (braced_supported true r.reads_body))
   rule_supported k at x c d (block_rule r) = block_supported r
   rule_supported k at x c d (empty_rule h g e) = ap supported e
   rule_supported k at x c d (debugger_rule h g e) = ap supported e
@@ -229,9 +244,19 @@ module _ (n : ℕ) (widen : (k : Code) (at : Position) (x : Tree) (c d : Place) 
   head_widens : {k : Code} {x : Tree} {c d : Place} → ReadsHead (ReadsClass n) k x c d → statements.HeadRule (Reads n) k x c d
   head_widens r = record { close = r.close; opens = r.opens; reads = r.reads.0; closes = r.closes; next = r.next }
 
+  braced_widens : (directives : Bool) {k : Code} {x : Tree} {c d : Place} → ReadsBraced (ReadsStmt n) directives k x c d → BlockRule (Reads n) k directives x c d
+  braced_widens directives {k = k} {c = c} r = record {
+    items = r.items;
+    close = r.close;
+    opens = r.opens;
+    reads_items = items_widen k directives nested_item r.items (after c) r.close r.reads_items;
+    closes = r.closes;
+    next = r.next;
+    is = r.is;
+  }
+
   block_widens : {k : Code} {x : Tree} {c d : Place} → ReadsBlock (ReadsStmt n) k x c d → BlockRule (Reads n) k false x c d
-  block_widens {k = k} {c = c} r =
-      record { items = r.items; close = r.close; opens = r.opens; reads_items = items_widen k false nested_item r.items (after c) r.close r.reads_items; closes = r.closes; next = r.next; is = r.is }
+  block_widens r = braced_widens false r
 
   case_widens : {k : Code} {b : Bool} {x : Tree} {c d : Place} → CaseRule (ReadsStmt n) (ReadsClass n) k b x c d → statements.CaseRule (Reads n) k x c d
   case_widens {k = k} {d = d} (case_clause_rule test xs m h r i s e) = statements.case_clause_rule test xs m h r.0 i (items_widen k false nested_item xs (after m) d s) e
@@ -273,7 +298,22 @@ module _ (n : ℕ) (widen : (k : Code) (at : Position) (x : Tree) (c d : Place) 
     else_widens {k = k} {x = x} {c = c} {d = d} (else_rule h i s) = statements.else_rule h i (widen k sub_statement x (after c) d s)
     else_widens (else_if_rule h r) = statements.else_if_rule h (if_widens r)
 
-  form_widens : (k : Code) (at : Position) (x : Tree) (c d : Place) → StmtRule (ReadsStmt n) (ReadsClass n) (ReadsPat n) (ReadsTarget n) k at x c d → statements.FormRule (Reads n) k at x c d
+  form_widens : (k : Code) (at : Position) (x : Tree) (c d : Place) → StmtRule (ReadsStmt n) (ReadsClass n) (ReadsPat n) (ReadsTarget n) (ReadsParams n) k at x c d → statements.FormRule (Reads n) k at x c d
+  form_widens k at x c d (function_rule a r) = statements.function_rule (listed []) _ _ c (classes.no_decorators refl refl) (rw a refl) (record {
+    is_async = false;
+    is_generator = false;
+    patterns = r.patterns;
+    body = r.body;
+    word = c;
+    behind_word = after c;
+    behind_name = r.behind_name;
+    reads_async = functions.not_async refl refl;
+    is_function = r.is_function;
+    reads_star = functions.no_star refl refl;
+    reads_name = parts.a_name (word_text r.name) r.name_span (record { word = r.name; reads_word = r.reads_name; is_text = refl; is_name = name_is_clean k.flags (word_text r.name) r.is_named }) refl;
+    reads_parts = record { middle = r.middle; reads_parameters = r.reads_parameters.0; reads_body = braced_widens true r.reads_body };
+    is = refl;
+  }) refl r.is
   form_widens k at x c d (block_rule r) = statements.block_rule (block_widens r)
   form_widens k at x c d (empty_rule h g e) = statements.empty_rule h g e
   form_widens k at x c d (debugger_rule h g e) = statements.debugger_rule h g e
@@ -308,8 +348,9 @@ variables_begin decl.Var c h = rw (saw c kind.Var h) refl
 variables_begin decl.Const c h = rw (saw c kind.Const h) refl
 variables_begin decl.Let c h = rw (saw c kind.Let (and_yes (sees kind.Let c) _ h).0) refl
 
-rule_begins : (n : ℕ) (k : Code) (at : Position) (x : Tree) (c d : Place) → StmtRule (ReadsStmt n) (ReadsClass n) (ReadsPat n) (ReadsTarget n) k at x c d → sees kind.Await c ≡ false
+rule_begins : (n : ℕ) (k : Code) (at : Position) (x : Tree) (c d : Place) → StmtRule (ReadsStmt n) (ReadsClass n) (ReadsPat n) (ReadsTarget n) (ReadsParams n) k at x c d → sees kind.Await c ≡ false
 unfolding same_kind
+rule_begins n k at x c d (function_rule a r) = rw r.is_function refl
 rule_begins n k at x c d (block_rule r) = rw r.opens refl
 rule_begins n k at x c d (empty_rule h g e) = rw h refl
 rule_begins n k at x c d (debugger_rule h g e) = rw h refl

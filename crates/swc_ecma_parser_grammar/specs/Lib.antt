@@ -3,6 +3,7 @@ pub mod Names
 pub mod Ends
 pub mod Follows
 pub mod Variables
+pub mod Parameters
 pub mod Reads
 pub mod Entries
 pub mod Depth

@@ -1,14 +1,15 @@
 -- The part of the relation of the whole language that the parser reads so far.
-use Rattle.std.specs.Prelude.{◌≡◌, ℕ, zero, suc, true, false, ◌||◌}
+use Rattle.std.specs.Prelude.{◌≡◌, ℕ, zero, suc, true, false, ◌||◌, List}
 use Rattle.swc_ecma_parser_token.specs.declared.kind.TokenKind.TheVariants as kind
 use Rattle.swc_ecma_parser_input.specs.Place.{Place}
-use Rattle.swc_ecma_parser_model.specs.Tree.{Tree}
+use Rattle.swc_ecma_parser_model.specs.Tree.{Tree, trees}
 use Rattle.swc_ecma_parser_grammar.specs.declared.position.Position.{Position}
 use Rattle.swc_ecma_parser_grammar.specs.Looks.{sees}
 use Rattle.swc_ecma_parser_grammar.specs.Names.{Code}
 use Rattle.swc_ecma_parser_grammar.specs.Reads.{StmtRule}
-use Rattle.swc_ecma_parser_grammar.specs.Supported.{supported}
+use Rattle.swc_ecma_parser_grammar.specs.Supported.{supported, all_supported}
 use Rattle.swc_ecma_parser_grammar.specs.language.Goals.{Class, callee, binding, assigning, expr_goal, callee_goal, pattern_goal, element_goal}
+use Rattle.swc_ecma_parser_grammar.specs.language.Functions.{ParametersRule}
 use Rattle.swc_ecma_parser_grammar.specs.language.Reads.{Reads}
 
 -- An expression of a class within so many levels. Behind what `new` calls its arguments may stand.
@@ -27,7 +28,11 @@ ReadsElement n k x c d = Reads n (element_goal binding k x c d) × (supported x 
 abbrev pub ReadsTarget : ℕ → Code → Tree → Place → Place → Type 0
 ReadsTarget n k x c d = Reads n (pattern_goal assigning k x c d) × (supported x ≡ true)
 
+-- the parameters of a function
+abbrev pub ReadsParams : ℕ → Code → List Tree → Place → Place → Type 0
+ReadsParams n k ps c d = ParametersRule (Reads n) k ps c d × (all_supported (trees ps) ≡ true)
+
 -- a statement within so many levels
 abbrev pub ReadsStmt : ℕ → Code → Position → Tree → Place → Place → Type 0
 ReadsStmt zero k at x c d = ⊥
-ReadsStmt (suc n) k at x c d = StmtRule (ReadsStmt n) (ReadsClass n) (ReadsPat n) (ReadsTarget n) k at x c d
+ReadsStmt (suc n) k at x c d = StmtRule (ReadsStmt n) (ReadsClass n) (ReadsPat n) (ReadsTarget n) (ReadsParams n) k at x c d

@@ -5,6 +5,11 @@ use Rattle.swc_ecma_parser_model.specs.Tree as tree
 use Rattle.swc_ecma_parser_model.specs.Tree.{Tree, Trees, none, also}
 use Rattle.swc_ecma_parser_grammar.specs.Follows.{is_bare_async}
 
+-- no decorator
+abbrev pub has_none : Tree → Bool
+has_none (tree.list none) = true
+has_none _ = false
+
 -- whether a tree is made of these forms alone
 abbrev mutual
   pub supported : Tree → Bool
@@ -78,6 +83,10 @@ abbrev mutual
   supported (tree.break s label) = supported label
   supported (tree.continue s label) = supported label
   supported (tree.return s arg) = supported arg
+  -- functions that are declared, neither async nor generators: section 15.2
+  supported (tree.fn_decl name fn) = supported name && supported fn
+  supported (tree.function s decorators params body is_async is_generator) = not is_async && (not is_generator && (has_none decorators && (supported params && supported body)))
+  supported (tree.param s decorators p) = has_none decorators && supported p
   -- section 16.1
   supported (tree.script s body shebang) = supported body
   supported _ = false

@@ -24,7 +24,6 @@ abbrev pub left_of : {D N : Type 0} → (D → Tree) → (N → Tree) → Left D
 left_of declarator pat (left.Variables x) = declared_of declarator x
 left_of declarator pat (left.Pattern p) = pat p
 
--- what takes each value is declared, or declares nothing
+-- a pattern that takes each value declares nothing
 abbrev pub IsTarget : {D N : Type 0} → (N → Tree) → Left D N → Type 0
-IsTarget pat (left.Variables x) = Unit {0}
-IsTarget pat (left.Pattern p) = (refused : Bool) → head_faults refused (pat p) ≡ []
+IsTarget {D} {N} pat x = (p : N) → x ≡ left.Pattern p → (refused : Bool) → head_faults refused (pat p) ≡ []

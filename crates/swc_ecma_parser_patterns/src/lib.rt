@@ -3,4 +3,5 @@
 #![tactic(auto)]
 
 mod object_pat;
+pub mod params;
 pub mod pat;

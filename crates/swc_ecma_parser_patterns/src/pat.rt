@@ -50,9 +50,9 @@ pub fn inner_pat<
     Ok(inner)
 }
 
-/// The rest of an array.
+/// The rest of an array or of parameters.
 #[tactic(auto, unfolding(swc_ecma_parser_reader::specs::Patterns::rest))]
-fn rest<
+pub(crate) fn rest<
     P: Source,
     T: BuildsPattern,
     S: Fn(&MakerOf<T>, &mut P, usize, Position) -> PResult<T::Stmt>,

@@ -1,7 +1,7 @@
 -- What is read between two states: the scope and the code stay as said, faults and notes are added, and where no fault is
 -- added the grammar has it.
 use Rattle.swc_ecma_parser_reader.specs.State.{Scope}
-use Rattle.swc_ecma_parser_reader.specs.State.{below, relabelled}
+use Rattle.swc_ecma_parser_reader.specs.State.{below, relabelled, unlabelled, found_as, noted}
 use Rattle.std.proofs.Common.{◌≡◌, ℕ, ◌≤◌, arith, Bool, true, false, cond, List, [], ◌∷◌, ◌++◌, refl, sym, ◌∙◌, ap, subst, append_assoc, append-nil}
 use Rattle.std.specs.Prelude.{◌||◌}
 use Rattle.swc_ecma_parser_error.specs.Kind.{Fault}
@@ -216,8 +216,8 @@ pub flags_back : (k j : Code) → j.setting ≡ k.setting → ◌≡◌ {A = Cod
 flags_back k j e = λ i. record { flags = k.flags; setting = e i }
 
 -- under other flags
-pub sound_under : {w : Walk} {ns : Notes} {P : Code → Place → Place → Type 0} (change : Code → Code) → ((k : Code) → (change k).setting ≡ k.setting) → (s t : State)
-    → Sound same w ns P (coded (change s.code) s) t → Sound same (λ k l. w (change k) l) ns (λ k. P (change k)) s (flagged s.code t)
+pub sound_under : {f : Code → Code} {w : Walk} {ns : Notes} {P : Code → Place → Place → Type 0} (change : Code → Code) → ((k : Code) → (f (change k)).setting ≡ k.setting) → (s t : State)
+    → Sound f w ns P (coded (change s.code) s) t → Sound same (λ k l. w (change k) l) ns (λ k. P (change k)) s (flagged s.code t)
 sound_under change keeps s t p = record {
   code = flags_back s.code t.code (ap (λ k. k.setting) p.code ∙ keeps s.code);
   scope = p.scope;
@@ -247,6 +247,40 @@ sound_below text s t p = record {
   fewer = p.fewer;
   remembers = p.remembers;
   reads = p.reads;
+}
+
+-- in a body of its own
+pub sound_enclosed : {f : Code → Code} {w : Walk} {ns : Notes} {P : Code → Place → Place → Type 0} (s t : State) → Sound f w ns P (unlabelled s) t
+    → Sound f (λ k l. w k []) (record ns { found_module_item = false }) P s (found_as s.notes (relabelled s.scope t))
+sound_enclosed {ns = ns} s t p = record {
+  code = p.code;
+  scope = ap {A = Scope} (λ z. record z { labels = s.scope.labels }) p.scope;
+  added = p.added;
+  faults = p.faults;
+  notes = λ e. ap {A = Notes} (λ z. record z { found_module_item = s.notes.found_module_item }) (p.notes e)
+      ∙ ap {A = Bool} (λ b. record { held_back = s.notes.held_back ++ ns.held_back; found_module_item = b }) (sym (or_nil s.notes.found_module_item));
+  found = sym (or_nil s.notes.found_module_item);
+  walked = p.walked;
+  clean = p.clean;
+  fewer = p.fewer;
+  remembers = p.remembers;
+  reads = p.reads;
+}
+
+-- behind a fault that is none of the table and drops nothing
+pub sound_noted : {f : Code → Code} {w : Walk} {ns : Notes} {P Q : Code → Place → Place → Type 0} (s t : State) (g : Fault) → is_tabled g.kind ≡ false → Sound f w ns P (noted g s) t → Sound f w ns Q s t
+sound_noted s t g n p = record {
+  code = p.code;
+  scope = p.scope;
+  added = g ∷ p.added;
+  faults = p.faults ∙ append_assoc s.faults (g ∷ []) p.added;
+  notes = λ e. some_fault g p.added e;
+  found = p.found;
+  walked = λ h d. rw n (p.walked h (drops-split (g ∷ []) p.added d).1);
+  clean = λ e. some_fault g p.added e;
+  fewer = p.fewer;
+  remembers = p.remembers;
+  reads = λ e. some_fault g p.added e;
 }
 
 -- a reader under other flags

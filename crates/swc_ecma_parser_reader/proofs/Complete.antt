@@ -1,13 +1,16 @@
 -- What the grammar allows is read, with the faults of the walk and the notes held back, and no others.
+use Rattle.swc_ecma_parser_reader.proofs.SoundFunctions.{parameters_walk, parameters_notes}
+use Rattle.swc_ecma_parser_grammar.specs.Parameters.{parameters as parameter_trees}
+use Rattle.swc_ecma_parser_grammar.specs.Walk.{in_body as walks_in_body, in_params, walk_body}
 use Rattle.swc_ecma_parser_token.specs.Text.{word_text}
 use Rattle.swc_ecma_parser_token.specs.declared.token.Word.{Word}
 use Rattle.swc_ecma_parser_grammar.proofs.Tests.{and_both, and_no}
 use Rattle.swc_ecma_parser_grammar.proofs.SupportedBegins.{word_begins, name_begins}
-use Rattle.swc_ecma_parser_grammar.specs.Own.{labelled_function, duplicates}
-use Rattle.swc_ecma_parser_grammar.specs.Reads.{labeled_rule, with_rule}
+use Rattle.swc_ecma_parser_grammar.specs.Own.{labelled_function, duplicates, misplaced_directive}
+use Rattle.swc_ecma_parser_grammar.specs.Reads.{labeled_rule, with_rule, function_rule, ReadsFunction, ReadsBraced}
 use Rattle.swc_ecma_parser_grammar.specs.Names.{is_name, name_at, first_is_name}
 use Rattle.swc_ecma_parser_grammar.specs.language.Items.{labelled_item}
-use Rattle.swc_ecma_parser_reader.specs.Reader.{begins_label, relabels, labelled_body, labeled_stmt, other_stmt, with_stmt, await_here}
+use Rattle.swc_ecma_parser_reader.specs.Reader.{begins_label, relabels, labelled_body, labeled_stmt, other_stmt, with_stmt, await_here, misdirected, function_body, function_parts, function_decl, function_stmt}
 use Rattle.swc_ecma_parser_grammar.proofs.SupportedBegins.{opens}
 use Rattle.swc_ecma_parser_grammar.proofs.Marks.{no_word}
 use Rattle.swc_ecma_parser_reader.proofs.Opens.{unopened, let_stands, let_before_colon}
@@ -28,14 +31,14 @@ use Rattle.swc_ecma_parser_token.specs.declared.token.Token.TheVariants as token
 use Rattle.swc_ecma_parser_input.specs.Place.{Place, after}
 use Rattle.swc_ecma_parser_model.specs.Tree as tree
 use Rattle.swc_ecma_parser_model.specs.Tree.{Tree, Text, listed, trees}
-use Rattle.swc_ecma_parser_model.specs.Forms.{is_absent}
+use Rattle.swc_ecma_parser_model.specs.Forms.{is_absent, has_plain_params}
 use Rattle.swc_ecma_parser_grammar.specs.declared.position.Position.{Position}
 use Rattle.swc_ecma_parser_grammar.specs.Looks.{kind_at, sees, same_kind, span_at, spanned}
 use Rattle.swc_ecma_parser_grammar.specs.Names.{Code}
 use Rattle.swc_ecma_parser_grammar.specs.Ends.{OptionalEnds}
 use Rattle.swc_ecma_parser_grammar.specs.Reads.{with_in, nested_item, top_item, ReadsToken, ReadsItems, break_rule, continue_rule, return_rule, StmtRule, block_rule, empty_rule, debugger_rule, variables_rule, if_statement_rule, CaseRule, case_clause_rule, default_clause_rule, ReadsCases, switch_rule, throw_rule, try_rule, while_rule, do_while_rule, expr_rule, import_rule, ReadsBlock, CatchRule, no_catch_rule, catch_rule, catch_parameter_rule, FinallyRule, no_finally_rule, finally_rule, ReadsHead, IfRule, if_rule, no_else_rule, else_rule, else_if_rule}
-use Rattle.swc_ecma_parser_grammar.specs.ReadsSupported.{ReadsClass, ReadsPat, ReadsTarget, ReadsStmt}
-use Rattle.swc_ecma_parser_grammar.specs.language.Contexts.{in_loop, in_breakable, in_with}
+use Rattle.swc_ecma_parser_grammar.specs.ReadsSupported.{ReadsClass, ReadsPat, ReadsTarget, ReadsStmt, ReadsParams}
+use Rattle.swc_ecma_parser_grammar.specs.language.Contexts.{in_loop, in_breakable, in_with, in_parameters, in_body}
 use Rattle.swc_ecma_parser_grammar.specs.language.Goals.{expression, assignment}
 use Rattle.swc_ecma_parser_grammar.specs.language.Items.{sub_statement}
 use Rattle.swc_ecma_parser_grammar.specs.Entries.{script_code, ReadsScript}
@@ -46,7 +49,7 @@ use Rattle.swc_ecma_parser_reader.specs.Notes.{Notes, ◌⊕◌, notes_of, all_n
 use Rattle.swc_ecma_parser_reader.specs.State.{Scope, State, Outcome, and_then, loop}
 use Rattle.swc_ecma_parser_reader.specs.Expressions.{expr}
 use Rattle.swc_ecma_parser_reader.specs.Heads.{head_cover}
-use Rattle.swc_ecma_parser_reader.specs.Patterns.{pattern}
+use Rattle.swc_ecma_parser_reader.specs.Patterns.{pattern, parameters}
 use Rattle.swc_ecma_parser_reader.specs.Reader.{closes, at_end, block_from, block, braced, expr_stmt_at, import_stmt_at, while_stmt, do_while, goes_on, closed_link, alternative, link_from, link, if_stmt, begins_clause, closes_clause, clause_from, default_clause, case_clause, clause, clauses_turn, clauses, switch_stmt, is_handled, handled, bound, parameter, finalizer, caught, handler, try_stmt, stmt_level, stmt, script_body, script}
 use Rattle.swc_ecma_parser_reader.specs.Entry.{script_left}
 use Rattle.swc_ecma_parser_reader.proofs.Notes.{or_nil, or_assoc}
@@ -56,36 +59,67 @@ use Rattle.swc_ecma_parser_reader.proofs.Meets.{saw}
 use Rattle.swc_ecma_parser_reader.proofs.expressions.CompleteParts.{name_reads}
 use Rattle.swc_ecma_parser_reader.proofs.expressions.CompleteKinds.{seen, expr_no_const, name_no_const}
 use Rattle.swc_ecma_parser_reader.proofs.expressions.Complete.{expr_reads}
-use Rattle.swc_ecma_parser_reader.proofs.patterns.Complete.{pattern_reads}
+use Rattle.swc_ecma_parser_reader.proofs.patterns.Complete.{pattern_reads, parameters_reads}
 use Rattle.swc_ecma_parser_reader.proofs.Loops.{stmt_shorter, clauses_done, clauses_more}
 use Rattle.swc_ecma_parser_grammar.proofs.SupportedBegins.{expr_opens}
 use Rattle.swc_ecma_parser_reader.proofs.Opens.{opened, no_block_or_import, import_stands, stmt_goes}
 use Rattle.swc_ecma_parser_reader.proofs.Chains.{if_last, if_more}
-use Rattle.swc_ecma_parser_reader.proofs.CompleteParts.{at_end_at, behind_setting, break_reads, calm_first, calm_last, clause_ends, close_reads, closes_at, code_stays, condition_reads, continue_reads, debugger_reads, empty_reads, expect_reads, expr_stmt_reads, head_reads, import_stmt_reads, items_read, no_brace, no_label_here, opening_reads_init, opening_reads_left, optional_end_reads, return_reads, shebang_reads, throw_reads, told_reads, variables_reads, note_with_reads}
+use Rattle.swc_ecma_parser_reader.proofs.CompleteParts.{at_end_at, behind_setting, break_reads, calm_first, calm_last, clause_ends, close_reads, closes_at, code_stays, condition_reads, continue_reads, debugger_reads, empty_reads, expect_reads, expr_stmt_reads, head_reads, import_stmt_reads, items_read, no_brace, no_label_here, opening_reads_init, opening_reads_left, optional_end_reads, return_reads, shebang_reads, throw_reads, told_reads, variables_reads, note_with_reads, code_behind}
 
 -- ---- all levels
 
 module _ (n : ℕ) (reads : (at : Position) (k : Code) (x : Tree) (c d : Place) → ReadsStmt n k at x c d → ReadsCalm (stmt n at) k x c d) where
-  block_from_reads : (k : Code) (x : Tree) (c d : Place) (w : Scope) (f : List Fault) (h : Notes) → ReadsBlock (ReadsStmt n) k x c d
-      → block_from (stmt n nested_item) c (st (after c) k w f h) ≡ Ok (x, st d k w (f ++ walk (env_of k w.labels) x) (h ⊕ notes_of x))
+  block_from_reads : (directives : Bool) (k : Code) (x : Tree) (c d : Place) (w : Scope) (f : List Fault) (h : Notes) (r : ReadsBraced (ReadsStmt n) directives k x c d)
+      → block_from (stmt n nested_item) directives c (st (after c) k w f h) ≡ Ok (x, st d (code_behind k directives r.items) w (f ++ walks (env_of k w.labels) directives (trees r.items)) (h ⊕ notes_of x))
   unfolding block_from
-  block_from_reads k x c d w f h r =
+  block_from_reads directives k x c d w f h r =
       rw (
         items_read (λ j. ReadsStmt n j nested_item) (stmt n nested_item) (reads nested_item) (stmt_shorter n nested_item) closes (λ j y a b q. (stmt_goes n j nested_item y a b q).0)
-            (λ j y a b q. (stmt_goes n j nested_item y a b q).3) false r.items k (after c) r.close w f h r.reads_items (closes_at r.close r.closes) (ap is_error r.closes),
-        code_stays k r.items,
-        close_reads r.close k w (f ++ walks (env_of k w.labels) false (trees r.items)) (h ⊕ all_notes_of (trees r.items)) r.closes,
+            (λ j y a b q. (stmt_goes n j nested_item y a b q).3) directives r.items k (after c) r.close w f h r.reads_items (closes_at r.close r.closes) (ap is_error r.closes),
+        close_reads r.close (code_behind k directives r.items) w (f ++ walks (env_of k w.labels) directives (trees r.items)) (h ⊕ all_notes_of (trees r.items)) r.closes,
         r.is,
         r.next,
       ) refl
 
   block_reads : (k : Code) (x : Tree) (c d : Place) → ReadsBlock (ReadsStmt n) k x c d → Reads (block (stmt n nested_item)) k x c d
   unfolding block
-  block_reads k x c d r w f h = block_from_reads k x c d w f h r
+  block_reads k x c d r w f h = rw (block_from_reads false k x c d w f h r, code_stays k r.items, r.is) refl
 
-  braced_reads : (k : Code) (x : Tree) (c d : Place) → ReadsBlock (ReadsStmt n) k x c d → Reads (braced (stmt n nested_item)) k x c d
+  body_reads : (directives : Bool) (k : Code) (x : Tree) (c d : Place) (w : Scope) (f : List Fault) (h : Notes) (r : ReadsBraced (ReadsStmt n) directives k x c d)
+      → braced (stmt n nested_item) directives (st c k w f h) ≡ Ok (x, st d (code_behind k directives r.items) w (f ++ walks (env_of k w.labels) directives (trees r.items)) (h ⊕ notes_of x))
   unfolding braced
-  braced_reads k x c d r w f h = rw (expect_reads kind.LBrace c k w f h r.opens) (block_from_reads k x c d w f h r)
+  body_reads directives k x c d w f h r = rw (expect_reads kind.LBrace c k w f h r.opens) (block_from_reads directives k x c d w f h r)
+
+  braced_reads : (k : Code) (x : Tree) (c d : Place) → ReadsBlock (ReadsStmt n) k x c d → Reads (braced (stmt n nested_item) false) k x c d
+  braced_reads k x c d r w f h = rw (body_reads false k x c d w f h r, code_stays k r.items, r.is) refl
+
+  -- ---- functions
+
+  -- a body has labels of its own, and what is found in it is not told
+  function_body_reads : (k : Code) (x : Tree) (c d : Place) (w : Scope) (f : List Fault) (h : Notes) → ReadsBraced (ReadsStmt n) true (in_body k false false) x c d
+      → function_body (stmt n nested_item) (parameters n) (st c k w f h)
+      ≡ Ok (x, st d k w (f ++ walk_body (walks_in_body (env_of k w.labels)) x) (record { held_back = h.held_back ++ notes x; found_module_item = h.found_module_item }))
+  unfolding function_body
+  function_body_reads k x c d w f h r =
+      rw (body_reads true (in_body k false false) x c d (record w { labels = [] }) f h r, behind_setting (in_body k false false) true r.items, r.is) refl
+
+  function_reads : (k : Code) (x : Tree) (c d : Place) → ReadsFunction (ReadsStmt n) (ReadsParams n) k x c d → ReadsCalm (function_decl (stmt n nested_item) (parameters n)) k x c d
+  unfolding function_decl function_parts misdirected spanned
+  function_reads k x c d r w f h q =
+      let env = env_of k w.labels in
+      let a = walks (in_params env) false (trees r.patterns) in
+      let b = walk_body (walks_in_body env) r.body in
+      let l = misplaced_directive (has_plain_params (parameter_trees r.patterns)) r.body in
+      rw (
+        name_reads faults.ExpectedIdent r.name r.name_span (after c) r.behind_name k w f h r.reads_name r.is_named,
+        parameters_reads n (in_parameters k false false) r.patterns r.behind_name r.middle r.reads_parameters w f h,
+        function_body_reads k r.body r.middle d w (f ++ a) (h ⊕ all_notes_of (trees r.patterns)) r.reads_body,
+        told_reads l d k w (f ++ a ++ b) _ (calm_last d (a ++ b) l (walk env x) (ap (walk env) r.is ∙ ap (λ z. z ++ b ++ l) (parameters_walk (in_params env) r.patterns)) q),
+        r.is,
+        parameters_walk (in_params env) r.patterns,
+        ap (λ z. z.held_back) (parameters_notes r.patterns),
+        ap (λ z. z.found_module_item) (parameters_notes r.patterns),
+      ) (simp (append_assoc) refl)
 
   -- ---- `switch`
 
@@ -454,9 +488,10 @@ module _ (n : ℕ) (reads : (at : Position) (k : Code) (x : Tree) (c d : Place) 
       by_test true g = refl
       by_test false g = cc
 
-  by_rules : (at : Position) (k : Code) (x : Tree) (c d : Place) → StmtRule (ReadsStmt n) (ReadsClass n) (ReadsPat n) (ReadsTarget n) k at x c d
-      → ReadsCalm (stmt_level (stmt n) (expr n) (pattern n) (head_cover n) at) k x c d
-  unfolding stmt_level other_stmt const_stmt let_stmt expr_stmt_at import_stmt_at
+  by_rules : (at : Position) (k : Code) (x : Tree) (c d : Place) → StmtRule (ReadsStmt n) (ReadsClass n) (ReadsPat n) (ReadsTarget n) (ReadsParams n) k at x c d
+      → ReadsCalm (stmt_level (stmt n) (expr n) (pattern n) (head_cover n) (parameters n) at) k x c d
+  unfolding stmt_level other_stmt const_stmt let_stmt expr_stmt_at import_stmt_at function_stmt
+  by_rules at k x c d (function_rule a r) w f h q = rw (r.is_function, a) (function_reads k x c d r w f h q)
   by_rules at k x c d (block_rule r) w f h q = rw r.opens (block_reads k x c d r w f h)
   by_rules at k x c d (empty_rule e g i) w f h q = rw e (empty_reads k x c d g i w f h)
   by_rules at k x c d (debugger_rule e g i) w f h q = rw e (debugger_reads k x c d g i w f h)
@@ -473,7 +508,7 @@ module _ (n : ℕ) (reads : (at : Position) (k : Code) (x : Tree) (c d : Place) 
   by_rules at k x c d (for_of_rule b a g y l m i e v o r s u n' t z j p) w f h q = rw e (for_of_reads b a g y l m i k x c d v o r s u n' t z j p w f h q)
   by_rules at k x c d (labeled_rule v s y m r o i t e) w f h q =
       let b = name_begins k.flags v s c m r o in
-      opened (stmt n) (expr n) (pattern n) (head_cover n) at (st c k w f h) (kind_at c) (word_begins k.flags v s c m r o) (no_brace v s c m r) b.1 (name_no_const k.flags v s c m r o)
+      opened (stmt n) (expr n) (pattern n) (head_cover n) (parameters n) at (st c k w f h) (kind_at c) (word_begins k.flags v s c m r o) (no_brace v s c m r) b.1 (name_no_const k.flags v s c m r o)
       (and_no at.include_decl _ (let_before_colon c (seen (after c) kind.Colon (ap kind_at (sym r.next) ∙ i))))
       ∙ rw (label_begins k v s c m r o i) (labeled_reads v s y m k x c d r o i t e w f h q)
   by_rules at k x c d (throw_rule y m e b r g i) w f h q = rw e (throw_reads n y m k x c d b r g i w f h)
@@ -483,7 +518,7 @@ module _ (n : ℕ) (reads : (at : Position) (k : Code) (x : Tree) (c d : Place) 
   by_rules at k x c d (do_while_rule y z m i e s j r g o) w f h q = rw e (do_while_reads y z m i k x c d s j r g o w f h)
   by_rules at k x c d (expr_rule e m b r l i g j) w f h q =
       let o = no_block_or_import at c b in
-      opened (stmt n) (expr n) (pattern n) (head_cover n) at (st c k w f h) (kind_at c) (expr_opens n (with_in k) e c m r) o.0 o.1 (expr_no_const n (with_in k) e c m r) o.2
+      opened (stmt n) (expr n) (pattern n) (head_cover n) (parameters n) at (st c k w f h) (kind_at c) (expr_opens n (with_in k) e c m r) o.0 o.1 (expr_no_const n (with_in k) e c m r) o.2
       ∙ rw (no_label_here n k e c m r l, b) (expr_stmt_reads n e m k x c d r l i g j w f h)
   by_rules at k x c d (import_rule e m b r g j) w f h q = rw (import_stands c b, b) (import_stmt_reads n e m k x c d b r g j w f h)
 

@@ -54,7 +54,7 @@ use Rattle.swc_ecma_parser_reader.specs.Patterns.{pattern}
 use Rattle.swc_ecma_parser_reader.specs.Reader.{told, target, unbroken, break_stmt, uncontinued, continue_stmt, misplaced, operand, returned, return_stmt, empty, debugger, initialized, declarator, declarators_turn, declarators, variables, Opening, Nothing, Variables, Expression, as_init, as_left, head_variables, head_expression, opening, closes, at_end, close, directs, items_turn, items, note_statement, no_label, expr_stmt, optional_end, import_stmt, thrown, throw, head, condition, begins_clause, closes_clause, shebang_of, shebang_in, shebang}
 use Rattle.swc_ecma_parser_reader.proofs.Notes.{or_nil, or_assoc}
 use Rattle.swc_ecma_parser_reader.proofs.Answered.{st, Reads, ReadsCalm, ReadsAs}
-use Rattle.swc_ecma_parser_reader.proofs.Errors.{is_error}
+use Rattle.swc_ecma_parser_reader.proofs.Errors.{is_error, fault_here}
 use Rattle.swc_ecma_parser_reader.proofs.Between.{nil-split}
 use Rattle.swc_ecma_parser_reader.proofs.expressions.CompleteParts.{name_reads}
 use Rattle.swc_ecma_parser_grammar.specs.Own.{break_faults, continue_faults, return_faults}
@@ -86,18 +86,8 @@ close_reads c k w f h e = rw (seen c kind.RBrace e) refl
 
 -- ---- faults that are told
 
-pub recorded_at_reads : (g : Fault) (s : State) (t : Token) → is_error (token_kind t) ≡ false → recorded_at g s t ≡ Ok (tt, noted g s)
-recorded_at_reads g s (token.Error e) h = cc
-recorded_at_reads g s _ h = refl
-
-pub recorded_in_reads : (g : Fault) (s : State) (ts : List TokenAndSpan) → s.at.left ≡ ts → is_error (kind_at s.at) ≡ false → recorded_in g s ts ≡ Ok (tt, noted g s)
-unfolding kind_at
-recorded_in_reads g s [] e h = refl
-recorded_in_reads g s (t ∷ ts) e h = recorded_at_reads g s t.token (rw e at h)
-
 pub fault_reads : (g : Fault) (d : Place) (k : Code) (w : Scope) (f : List Fault) (h : Notes) → is_error (kind_at d) ≡ false → fault g (st d k w f h) ≡ Ok (tt, st d k w (f ++ g ∷ []) h)
-unfolding fault
-fault_reads g d k w f h e = recorded_in_reads g (st d k w f h) d.left refl e
+fault_reads g d k w f h e = fault_here (st d k w f h) g e
 
 -- each by itself, where no error token stands
 pub told_reads : (fs : List Fault) (d : Place) (k : Code) (w : Scope) (f : List Fault) (h : Notes) → (fs ≡ []) ⊎ (is_error (kind_at d) ≡ false) → told fs (st d k w f h) ≡ Ok (tt, st d k w (f ++ fs) h)

@@ -1,5 +1,7 @@
 -- Error tokens: what is taken is none where its kind is known, and no token is left where the list has ended.
-use Rattle.std.proofs.Common.{◌≡◌, ◌≢◌, suc, Bool, true, false, cond, List, [], ◌∷◌, refl, sym, ◌∙◌, ap}
+use Rattle.swc_ecma_parser_reader.specs.State.{State, noted, recorded_at, recorded_in, fault}
+use Rattle.swc_ecma_parser_error.specs.Kind.{Fault}
+use Rattle.std.proofs.Common.{◌≡◌, ◌≢◌, suc, Bool, true, false, cond, List, [], ◌∷◌, refl, sym, ◌∙◌, ap, Ok}
 use Rattle.std.specs.Prelude.{◌||◌}
 use Rattle.swc_ecma_parser_token.specs.declared.kind.TokenKind.{TokenKind}
 use Rattle.swc_ecma_parser_token.specs.declared.kind.TokenKind.TheVariants as kind
@@ -127,3 +129,18 @@ nothing_in (u ∷ ts) e = absurd (token_no_end u.token e)
 pub nothing_at_end : (c : Place) → kind_at c ≡ kind.End → c.left ≡ []
 unfolding kind_at
 nothing_at_end c e = nothing_in c.left e
+
+-- ---- a fault is recorded where no error token stands
+
+recorded_at_reads : (g : Fault) (s : State) (t : Token) → is_error (token_kind t) ≡ false → recorded_at g s t ≡ Ok (tt, noted g s)
+recorded_at_reads g s (token.Error e) h = cc
+recorded_at_reads g s _ h = refl
+
+recorded_in_reads : (g : Fault) (s : State) (ts : List TokenAndSpan) → s.at.left ≡ ts → is_error (kind_at s.at) ≡ false → recorded_in g s ts ≡ Ok (tt, noted g s)
+unfolding kind_at
+recorded_in_reads g s [] e h = refl
+recorded_in_reads g s (t ∷ ts) e h = recorded_at_reads g s t.token (rw e at h)
+
+pub fault_here : (s : State) (g : Fault) → is_error (kind_at s.at) ≡ false → fault g s ≡ Ok (tt, noted g s)
+unfolding fault
+fault_here s g e = recorded_in_reads g s s.at.left refl e

@@ -1,13 +1,16 @@
 -- A statement takes a token at least.
-use Rattle.swc_ecma_parser_reader.specs.State.{Scope, and_then, below, relabelled, below_label}
+use Rattle.swc_ecma_parser_grammar.specs.Parameters.{parameters}
+use Rattle.swc_ecma_parser_reader.proofs.Errors.{is_error, fault_here}
+use Rattle.swc_ecma_parser_reader.specs.Patterns as patterns
+use Rattle.swc_ecma_parser_reader.specs.State.{Scope, and_then, below, relabelled, below_label, enclosed, unlabelled, fault_at, noted}
 use Rattle.swc_ecma_parser_grammar.specs.language.Items.{labelled_item}
-use Rattle.swc_ecma_parser_reader.specs.Reader.{begins_label, relabels, labelled_body, labeled_stmt, other_stmt, note_with, with_stmt, await_here, unless_awaited}
+use Rattle.swc_ecma_parser_reader.specs.Reader.{begins_label, relabels, labelled_body, labeled_stmt, other_stmt, note_with, with_stmt, await_here, unless_awaited, function_body, function_decl, function_parts, function_stmt, misdirected}
 use Rattle.swc_ecma_parser_reader.specs.Reader.{missing_initializer, Opening, Nothing, Variables, Expression, as_init, as_left, head_variables, head_expression, opening, head_part, misdeclared, for_parts, for_in, for_of, for_behind, for_stmt, const_stmt, let_stmt}
-use Rattle.swc_ecma_parser_grammar.specs.language.Contexts.{without_in}
+use Rattle.swc_ecma_parser_grammar.specs.language.Contexts.{without_in, in_body, in_parameters}
 use Rattle.swc_ecma_parser_grammar.specs.Variables.{is_const, needs_no_initializer}
 use Rattle.swc_ecma_parser_model.specs.declared.leaves.VarDeclKind.{VarDeclKind}
 use Rattle.swc_ecma_parser_model.specs.declared.leaves.VarDeclKind.TheVariants as decl
-use Rattle.std.proofs.Common.{◌≡◌, ◌≢◌, ℕ, zero, suc, ◌+◌, ◌≤◌, Bool, true, false, cond, List, [], ◌∷◌, length, Option, Some, None, Ok, Err, refl, true≢false, sym, ◌∙◌, arith}
+use Rattle.std.proofs.Common.{◌≡◌, ◌≢◌, ℕ, zero, suc, ◌+◌, ◌≤◌, Bool, true, false, cond, List, [], ◌∷◌, length, Option, Some, None, Ok, Err, refl, true≢false, sym, ◌∙◌, arith, subst, ap}
 use Rattle.std.specs.Prelude.{◌&&◌, ◌||◌, is_some, codes}
 use Rattle.swc_ecma_parser_common.specs.declared.span.Span.{Span}
 use Rattle.swc_ecma_parser_error.specs.Kind as faults
@@ -36,7 +39,7 @@ use Rattle.swc_ecma_parser_reader.proofs.Takes.{Falls, falls_then, falls_last, f
 use Rattle.swc_ecma_parser_reader.proofs.expressions.Falls as exprs
 use Rattle.swc_ecma_parser_reader.proofs.expressions.Falls.{reject_falls, expr_falls}
 use Rattle.swc_ecma_parser_reader.proofs.expressions.Heads as heads
-use Rattle.swc_ecma_parser_reader.proofs.patterns.Falls.{pattern_falls}
+use Rattle.swc_ecma_parser_reader.proofs.patterns.Falls.{pattern_falls, parameters_fall}
 
 -- a choice whose test is known
 falls_where : {A : Type 0} (k n : ℕ) (b : Bool) (x y : Outcome A) → (b ≡ true → Falls k n x) → Falls k n y → Falls k n (cond b x y)
@@ -114,18 +117,18 @@ module _ (inner : Reader Tree) (h : (s : State) → Falls 1 (length s.at.left) (
   unfolding items
   items_fall stops directives s = loop_falls (items_turn inner stops directives) (items_turn_falls stops directives) [] s
 
-  block_from_falls : (start : Place) (s : State) → Falls 0 (length s.at.left) (block_from inner start s)
+  block_from_falls : (directives : Bool) (start : Place) (s : State) → Falls 0 (length s.at.left) (block_from inner directives start s)
   unfolding block_from
-  block_from_falls start s = falls_then 0 0 (length s.at.left) (items inner closes false s) _ (items_fall closes false s) (λ body u.
+  block_from_falls directives start s = falls_then 0 0 (length s.at.left) (items inner closes directives s) _ (items_fall closes directives s) (λ body u.
       falls_last 0 (length u.at.left) (close u) _ (close_falls u))
 
   block_falls : (s : State) → kind_at s.at ≢ kind.End → Falls 1 (length s.at.left) (block inner s)
   unfolding block
-  block_falls s e = falls_past s _ e (block_from_falls s.at (moved s))
+  block_falls s e = falls_past s _ e (block_from_falls false s.at (moved s))
 
-  braced_falls : (s : State) → Falls 0 (length s.at.left) (braced inner s)
+  braced_falls : (directives : Bool) (s : State) → Falls 0 (length s.at.left) (braced inner directives s)
   unfolding braced
-  braced_falls s = falls_then 0 0 (length s.at.left) (expect kind.LBrace s) _ (expect_falls kind.LBrace s) (λ _ t. block_from_falls s.at t)
+  braced_falls directives s = falls_then 0 0 (length s.at.left) (expect kind.LBrace s) _ (expect_falls kind.LBrace s) (λ _ t. block_from_falls directives s.at t)
 
 -- a fault of module code is no token, whether recorded or held back
 noted_either : (b : Bool) (n : ℕ) (s t : State) → length s.at.left + 0 ≤ n → length t.at.left + 0 ≤ n → length (cond b s t).at.left + 0 ≤ n
@@ -478,7 +481,7 @@ module _ (inner : Reader Tree) (h : (s : State) → Falls 1 (length s.at.left) (
   caught_falls : (start : Place) (s : State) → Falls 0 (length s.at.left) (caught inner inner_pat start s)
   unfolding caught
   caught_falls start s = falls_then 0 0 (length s.at.left) (parameter inner_pat s) _ (parameter_falls s) (λ p t.
-      falls_last 0 (length t.at.left) (braced inner t) _ (braced_falls inner h t))
+      falls_last 0 (length t.at.left) (braced inner false t) _ (braced_falls inner h false t))
 
   handler_falls : (s : State) → Falls 0 (length s.at.left) (handler inner inner_pat s)
   unfolding handler
@@ -486,28 +489,62 @@ module _ (inner : Reader Tree) (h : (s : State) → Falls 1 (length s.at.left) (
 
   finalizer_falls : (s : State) → Falls 0 (length s.at.left) (finalizer inner s)
   unfolding finalizer
-  finalizer_falls s = falls_if 0 (length s.at.left) (sees kind.Finally s.at) _ _ (falls_moved 0 s _ (braced_falls inner h (moved s))) (omega arith)
+  finalizer_falls s = falls_if 0 (length s.at.left) (sees kind.Finally s.at) _ _ (falls_moved 0 s _ (braced_falls inner h false (moved s))) (omega arith)
 
   try_falls : (s : State) → kind_at s.at ≢ kind.End → Falls 1 (length s.at.left) (try_stmt inner inner_pat s)
   unfolding try_stmt
-  try_falls s e = falls_past s _ e (falls_then 0 0 (length (after s.at).left) (braced inner (moved s)) _ (braced_falls inner h (moved s)) (λ y t.
+  try_falls s e = falls_past s _ e (falls_then 0 0 (length (after s.at).left) (braced inner false (moved s)) _ (braced_falls inner h false (moved s)) (λ y t.
       falls_then 0 0 (length t.at.left) (handler inner inner_pat t) _ (handler_falls t) (λ z u.
       falls_then 0 0 (length u.at.left) (finalizer inner u) _ (finalizer_falls u) (λ w v.
       falls_last 0 (length v.at.left) (handled t.at v) _ (handled_falls t.at v)))))
 
+-- ---- functions
+
+-- nor is whether something was found
+found_falls : {A B : Type 0} (n : ℕ) (o : Outcome A) (f : A → State → State) (g : A → State → B) → ((a : A) (t : State) → (f a t).at ≡ t.at) → Falls 0 n o → Falls 0 n (and_then o (λ a t. Ok (g a t, f a t)))
+found_falls n (Ok p) f g e h = subst (λ c. length c.left + 0 ≤ n) (sym (e p.0 p.1)) h
+found_falls n (Err e) f g k h = tt
+
+module _ (inner : Reader Tree) (h : (s : State) → Falls 1 (length s.at.left) (inner s)) (params : Reader (List Tree)) (g : (s : State) → Falls 0 (length s.at.left) (params s)) where
+  function_body_falls : (s : State) → Falls 0 (length s.at.left) (function_body inner params s)
+  unfolding function_body
+  function_body_falls s = let t = coded (in_body s.code false false) s in
+      falls_coded 0 (length s.at.left) (enclosed (braced inner true) t) _ _
+      (found_falls (length s.at.left) (braced inner true (unlabelled t)) _ _ (λ _ u. refl) (braced_falls inner h true (unlabelled t)))
+
+  function_parts_falls : (start : Span) (s : State) → Falls 0 (length s.at.left) (function_parts inner params start s)
+  unfolding function_parts misdirected
+  function_parts_falls start s = falls_then 0 0 (length s.at.left) (within (λ k. in_parameters k false false) params s) _
+      (falls_coded 0 (length s.at.left) (params (coded (in_parameters s.code false false) s)) _ _ (g (coded (in_parameters s.code false false) s))) (λ ps t.
+      falls_then 0 0 (length t.at.left) (function_body inner params t) _ (function_body_falls t) (λ x u.
+      falls_last 0 (length u.at.left) (misdirected (parameters ps) x u) _ (told_falls _ u)))
+
+  function_falls : (s : State) → kind_at s.at ≢ kind.End → Falls 1 (length s.at.left) (function_decl inner params s)
+  unfolding function_decl
+  function_falls s e = falls_past s _ e (falls_then 0 0 (length (after s.at).left) (name faults.ExpectedIdent (moved s)) _
+      (less (length (after s.at).left) (name faults.ExpectedIdent (moved s)) (name_falls faults.ExpectedIdent (moved s))) (λ i t.
+      falls_last 0 (length t.at.left) (function_parts inner params (span_at s.at) t) _ (function_parts_falls (span_at s.at) t)))
+
+  -- no error token stands where the word does
+  function_stmt_falls : (at : Position) (s : State) → kind_at s.at ≡ kind.Function → Falls 1 (length s.at.left) (function_stmt inner params at s)
+  unfolding function_stmt
+  function_stmt_falls at s e = falls_if 1 (length s.at.left) at.include_decl _ _ (function_falls s (λ h. cc)) (rw (fault_here s (fault_at (span_at s.at) faults.DeclNotAllowed) (ap is_error e))
+      (function_falls (noted (fault_at (span_at s.at) faults.DeclNotAllowed) s) (λ h. cc)))
+
 module _ (inner : Position → Reader Tree) (h : (at : Position) (s : State) → Falls 1 (length s.at.left) (inner at s))
     (inner_expr : Class → Reader Tree) (g : (class : Class) (s : State) → Falls 1 (length s.at.left) (inner_expr class s))
-    (inner_pat : Reader Tree) (i : (s : State) → Falls 1 (length s.at.left) (inner_pat s)) (inner_cover : Reader Cover) (j : (s : State) → Falls 1 (length s.at.left) (inner_cover s)) where
-  const_falls : (at : Position) (s : State) → kind_at s.at ≢ kind.End → Falls 1 (length s.at.left) (const_stmt inner inner_expr inner_pat inner_cover at s)
+    (inner_pat : Reader Tree) (i : (s : State) → Falls 1 (length s.at.left) (inner_pat s)) (inner_cover : Reader Cover) (j : (s : State) → Falls 1 (length s.at.left) (inner_cover s))
+    (inner_params : Reader (List Tree)) (l : (s : State) → Falls 0 (length s.at.left) (inner_params s)) where
+  const_falls : (at : Position) (s : State) → kind_at s.at ≢ kind.End → Falls 1 (length s.at.left) (const_stmt inner inner_expr inner_pat inner_cover inner_params at s)
   unfolding const_stmt
   const_falls at s e = falls_choice 1 (length s.at.left) at.include_decl _ _ s (variables_falls inner_expr g inner_pat i decl.Const s e) (wanted_falls Tree 1 (length s.at.left) faults.Unexpected s)
 
-  let_falls : (at : Position) (s : State) → kind_at s.at ≢ kind.End → Falls 1 (length s.at.left) (let_stmt inner inner_expr inner_pat inner_cover at s)
+  let_falls : (at : Position) (s : State) → kind_at s.at ≢ kind.End → Falls 1 (length s.at.left) (let_stmt inner inner_expr inner_pat inner_cover inner_params at s)
   unfolding let_stmt
   let_falls at s e = falls_if 1 (length s.at.left) (at.include_decl && is_let_declaration s.at) _ _ (variables_falls inner_expr g inner_pat i decl.Let s e)
       (other_falls inner h (inner_expr expression) (g expression) at s)
 
-  stmt_by_falls : (at : Position) (k : TokenKind) (s : State) → kind_at s.at ≡ k → Falls 1 (length s.at.left) (stmt_by inner inner_expr inner_pat inner_cover at k s)
+  stmt_by_falls : (at : Position) (k : TokenKind) (s : State) → kind_at s.at ≡ k → Falls 1 (length s.at.left) (stmt_by inner inner_expr inner_pat inner_cover inner_params at k s)
   stmt_by_falls at kind.LBrace s e = block_falls (inner nested_item) (h nested_item) s (λ h. cc)
   stmt_by_falls at kind.Semi s e = empty_falls s (λ h. cc)
   stmt_by_falls at kind.Debugger s e = debugger_falls s (λ h. cc)
@@ -525,10 +562,11 @@ module _ (inner : Position → Reader Tree) (h : (at : Position) (s : State) →
   stmt_by_falls at kind.While s e = while_falls (inner sub_statement) (h sub_statement) (inner_expr expression) (g expression) s (λ h. cc)
   stmt_by_falls at kind.Do s e = do_while_falls (inner sub_statement) (h sub_statement) (inner_expr expression) (g expression) s (λ h. cc)
   stmt_by_falls at kind.For s e = for_falls (inner sub_statement) (h sub_statement) inner_expr g inner_pat i inner_cover j s (λ h. cc)
+  stmt_by_falls at kind.Function s e = function_stmt_falls (inner nested_item) (h nested_item) inner_params l at s e
   stmt_by_falls at kind.Import s e = import_stmt_at_falls (inner_expr expression) (g expression) s
   stmt_by_falls at _ s e = other_falls inner h (inner_expr expression) (g expression) at s
 
-  stmt_level_falls : (at : Position) (s : State) → Falls 1 (length s.at.left) (stmt_level inner inner_expr inner_pat inner_cover at s)
+  stmt_level_falls : (at : Position) (s : State) → Falls 1 (length s.at.left) (stmt_level inner inner_expr inner_pat inner_cover inner_params at s)
   unfolding stmt_level
   stmt_level_falls at s = stmt_by_falls at (kind_at s.at) s refl
 
@@ -547,7 +585,7 @@ shebang_falls s = shebang_taken_falls s (shebang_in s.at.left)
 pub stmt_falls : (n : ℕ) (at : Position) (s : State) → Falls 1 (length s.at.left) (stmt n at s)
 unfolding stmt
 stmt_falls zero at s = too_deep_falls Tree 1 (length s.at.left) s
-stmt_falls (suc n) at s = stmt_level_falls (stmt n) (stmt_falls n) (expr n) (expr_falls n) (pattern n) (pattern_falls n) (head_cover n) (heads.head_falls n) at s
+stmt_falls (suc n) at s = stmt_level_falls (stmt n) (stmt_falls n) (expr n) (expr_falls n) (pattern n) (pattern_falls n) (head_cover n) (heads.head_falls n) (patterns.parameters n) (parameters_fall n) at s
 
 script_body_falls : (n : ℕ) (s : State) → Falls 0 (length s.at.left) (script_body n s)
 unfolding script_body

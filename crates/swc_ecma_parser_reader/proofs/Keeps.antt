@@ -1,11 +1,13 @@
 -- Whatever a statement or a script is read as, or refused, the tokens that are left are the last of those that were, and no recorded
 -- fault is lost.
+use Rattle.swc_ecma_parser_grammar.specs.Parameters.{parameters}
+use Rattle.swc_ecma_parser_reader.specs.Patterns as patterns
 use Rattle.swc_ecma_parser_error.specs.declared.error.Error.{Error}
 use Rattle.swc_ecma_parser_grammar.specs.language.Programs.{at_top}
 use Rattle.swc_ecma_parser_model.specs.Tree.{Text}
-use Rattle.swc_ecma_parser_reader.specs.State.{below, below_label}
+use Rattle.swc_ecma_parser_reader.specs.State.{below, below_label, enclosed, unlabelled}
 use Rattle.swc_ecma_parser_grammar.specs.language.Items.{labelled_item}
-use Rattle.swc_ecma_parser_reader.specs.Reader.{begins_label, relabels, labelled_body, labeled_stmt, other_stmt, note_with, with_stmt, await_here, unless_awaited}
+use Rattle.swc_ecma_parser_reader.specs.Reader.{begins_label, relabels, labelled_body, labeled_stmt, other_stmt, note_with, with_stmt, await_here, unless_awaited, function_decl, function_stmt, function_parts, function_body, misdirected}
 use Rattle.swc_ecma_parser_reader.specs.Reader.{missing_initializer, variables, Opening, Nothing, Variables, Expression, as_init, as_left, head_variables, head_expression, opening, head_part, misdeclared, for_parts, for_in, for_of, for_behind, for_stmt, const_stmt, let_stmt}
 use Rattle.swc_ecma_parser_reader.specs.Expressions as exprs
 use Rattle.swc_ecma_parser_model.specs.declared.leaves.VarDeclKind.{VarDeclKind}
@@ -13,7 +15,7 @@ use Rattle.swc_ecma_parser_model.specs.declared.leaves.VarDeclKind.TheVariants a
 use Rattle.swc_ecma_parser_model.specs.Targets.{as_target}
 use Rattle.swc_ecma_parser_grammar.specs.Variables.{is_const, needs_no_initializer}
 use Rattle.swc_ecma_parser_grammar.specs.Own.{head_faults}
-use Rattle.swc_ecma_parser_grammar.specs.language.Contexts.{without_in}
+use Rattle.swc_ecma_parser_grammar.specs.language.Contexts.{without_in, in_parameters, in_body}
 use Rattle.swc_ecma_parser_grammar.specs.Follows.{word_at, is_let_declaration}
 use Rattle.std.proofs.Common.{◌≡◌, ℕ, zero, suc, ◌+◌, Bool, true, false, cond, List, [], ◌∷◌, ◌++◌, length, Option, Some, None, Ok, Err, refl, Result, sym, ◌∙◌, ap, append_assoc}
 use Rattle.std.specs.Prelude.{◌&&◌, ◌||◌, is_some, codes}
@@ -45,7 +47,7 @@ use Rattle.swc_ecma_parser_reader.proofs.Behind.{Kept, Lost, Passes, behind_self
 use Rattle.swc_ecma_parser_reader.specs.Entry.{unmarked, IsBehind, IsSetBack, AnswersScript, AnswersStatement, Stays}
 use Rattle.swc_ecma_parser_reader.proofs.Opens.{chain_goes}
 use Rattle.swc_ecma_parser_reader.proofs.expressions.Keeps.{expr_keeps, cover_keeps, head_expr_keeps}
-use Rattle.swc_ecma_parser_reader.proofs.patterns.Keeps.{pattern_keeps}
+use Rattle.swc_ecma_parser_reader.proofs.patterns.Keeps.{pattern_keeps, parameters_keep}
 
 -- ---- statements
 
@@ -179,12 +181,12 @@ module _ (inner : Position → Reader Tree) (inner_expr : Class → Reader Tree)
       (links_keeps l b (moved t) (chain_goes t.at o).1 (behind_after b t j)) (λ y u z. z))
       (λ _. answers_then (Kept b) _ (alternative (inner sub_statement) t) _ (alternative_keeps b t j) (λ y u z. z)))
 
-module _ (inner : Position → Reader Tree) (inner_expr : Class → Reader Tree) (inner_pat : Reader Tree) (inner_head : Reader Cover)
+module _ (inner : Position → Reader Tree) (inner_expr : Class → Reader Tree) (inner_pat : Reader Tree) (inner_head : Reader Cover) (inner_params : Reader (List Tree))
     (below_stmt : (at : Position) → Passes (inner at)) (below_expr : (class : Class) → Passes (inner_expr class)) (below_pat : Passes inner_pat) (below_head : Passes inner_head)
-    (at : Position) (b : State) (s : State) (f : IsBehind b s) where
-  block_from_keeps : (start : Place) (t : State) → IsBehind b t → Answers (Kept b) (Lost b) (block_from (inner nested_item) start t)
+    (below_params : Passes inner_params) (at : Position) (b : State) (s : State) (f : IsBehind b s) where
+  block_from_keeps : (directives : Bool) (start : Place) (t : State) → IsBehind b t → Answers (Kept b) (Lost b) (block_from (inner nested_item) directives start t)
   unfolding block_from
-  block_from_keeps start t g = answers_then _ _ (items (inner nested_item) closes false t) _ (items_keeps (inner nested_item) (below_stmt nested_item) closes false b t g) (λ x u k.
+  block_from_keeps directives start t g = answers_then _ _ (items (inner nested_item) closes directives t) _ (items_keeps (inner nested_item) (below_stmt nested_item) closes directives b t g) (λ x u k.
       answers_then _ _ (close u) _ (close_keeps b u k) (λ _ v j. j))
 
   -- a block
@@ -192,11 +194,11 @@ module _ (inner : Position → Reader Tree) (inner_expr : Class → Reader Tree)
   unfolding block
   block_keeps e =
       let g = behind_after b s f in
-      block_from_keeps s.at (moved s) g
+      block_from_keeps false s.at (moved s) g
 
-  braced_keeps : (t : State) → IsBehind b t → Answers (Kept b) (Lost b) (braced (inner nested_item) t)
+  braced_keeps : (directives : Bool) (t : State) → IsBehind b t → Answers (Kept b) (Lost b) (braced (inner nested_item) directives t)
   unfolding braced
-  braced_keeps t g = answers_then _ _ (expect kind.LBrace t) _ (expect_keeps b t g kind.LBrace) (λ _ u k. block_from_keeps t.at u k)
+  braced_keeps directives t g = answers_then _ _ (expect kind.LBrace t) _ (expect_keeps b t g kind.LBrace) (λ _ u k. block_from_keeps directives t.at u k)
 
   debugger_keeps : Answers (Kept b) (Lost b) (debugger s)
   unfolding debugger
@@ -209,7 +211,7 @@ module _ (inner : Position → Reader Tree) (inner_expr : Class → Reader Tree)
       (declarators_keeps inner_expr inner_pat below_expr below_pat b false word (coded (with_in s.code) (moved s)) (behind_after b s f)) (λ x t k. k)) (λ x t k.
       answers_then _ _ (end faults.Unexpected t) _ (end_keeps b t k faults.Unexpected) (λ _ u j. j))
 
-  const_keeps : Answers (Kept b) (Lost b) (const_stmt inner inner_expr inner_pat inner_head at s)
+  const_keeps : Answers (Kept b) (Lost b) (const_stmt inner inner_expr inner_pat inner_head inner_params at s)
   unfolding const_stmt
   const_keeps = where_declared at.include_decl
     where
@@ -265,7 +267,7 @@ module _ (inner : Position → Reader Tree) (inner_expr : Class → Reader Tree)
   unfolding other_stmt
   other_keeps = answers_if _ _ (begins_label s.code s.at) _ _ (λ _. labeled_keeps) (λ _. expr_stmt_at_keeps)
 
-  let_keeps : Answers (Kept b) (Lost b) (let_stmt inner inner_expr inner_pat inner_head at s)
+  let_keeps : Answers (Kept b) (Lost b) (let_stmt inner inner_expr inner_pat inner_head inner_params at s)
   unfolding let_stmt
   let_keeps = answers_if _ _ (at.include_decl && is_let_declaration s.at) _ _ (λ _. variables_keeps decl.Let) (λ _. other_keeps)
 
@@ -441,11 +443,11 @@ module _ (inner : Position → Reader Tree) (inner_expr : Class → Reader Tree)
   unfolding handler caught
   handler_keeps t g = answers_if _ _ (sees kind.Catch t.at) _ _ (λ _.
       answers_then _ _ (parameter inner_pat (moved t)) _ (parameter_keeps (moved t) (behind_after b t g)) (λ x u k.
-      answers_then _ _ (braced (inner nested_item) u) _ (braced_keeps u k) (λ y v j. j))) (λ _. g)
+      answers_then _ _ (braced (inner nested_item) false u) _ (braced_keeps false u k) (λ y v j. j))) (λ _. g)
 
   finalizer_keeps : (t : State) → IsBehind b t → Answers (Kept b) (Lost b) (finalizer (inner nested_item) t)
   unfolding finalizer
-  finalizer_keeps t g = answers_if _ _ (sees kind.Finally t.at) _ _ (λ _. braced_keeps (moved t) (behind_after b t g)) (λ _. g)
+  finalizer_keeps t g = answers_if _ _ (sees kind.Finally t.at) _ _ (λ _. braced_keeps false (moved t) (behind_after b t g)) (λ _. g)
 
   handled_keeps : (b : State) (behind : Place) (t : State) → IsBehind b t → Answers (Kept b) (Lost b) (handled behind t)
   unfolding handled
@@ -455,12 +457,28 @@ module _ (inner : Position → Reader Tree) (inner_expr : Class → Reader Tree)
   unfolding try_stmt
   try_keeps e =
       let g = behind_after b s f in
-      answers_then _ _ (braced (inner nested_item) (moved s)) _ (braced_keeps (moved s) g) (λ x t k.
+      answers_then _ _ (braced (inner nested_item) false (moved s)) _ (braced_keeps false (moved s) g) (λ x t k.
       answers_then _ _ (handler (inner nested_item) inner_pat t) _ (handler_keeps t k) (λ y u j.
       answers_then _ _ (finalizer (inner nested_item) u) _ (finalizer_keeps u j) (λ z v l.
       answers_then _ _ (handled t.at v) _ (handled_keeps b t.at v l) (λ _ b a. a))))
 
-  by_keeps : (k : TokenKind) → kind_at s.at ≡ k → Answers (Kept b) (Lost b) (stmt_by inner inner_expr inner_pat inner_head at k s)
+  function_keeps : (t : State) → IsBehind b t → Answers (Kept b) (Lost b) (function_decl (inner nested_item) inner_params t)
+  unfolding function_decl function_parts function_body misdirected
+  function_keeps t g = answers_then (Kept b) _ (name faults.ExpectedIdent (moved t)) _ (name_keeps b (moved t) (behind_after b t g) faults.ExpectedIdent) (λ i u k.
+      answers_then (Kept b) _ (function_parts (inner nested_item) inner_params (span_at t.at) u) _
+      (answers_then (Kept b) _ (within (λ k. in_parameters k false false) inner_params u) _
+      (answers_then (Kept b) _ (inner_params (coded (in_parameters u.code false false) u)) _ (below_params b (coded (in_parameters u.code false false) u) k) (λ ps v j. j)) (λ ps v j.
+      answers_then (Kept b) _ (function_body (inner nested_item) inner_params v) _
+      (answers_then (Kept b) _ (enclosed (braced (inner nested_item) true) (coded (in_body v.code false false) v)) _
+      (answers_then (Kept b) _ (braced (inner nested_item) true (unlabelled (coded (in_body v.code false false) v))) _ (braced_keeps true (unlabelled (coded (in_body v.code false false) v)) j) (λ x w z. z))
+      (λ x w z. z)) (λ x w z. answers_then (Kept b) _ (misdirected (parameters ps) x w) _ (told_keeps b _ w z) (λ _ a c. c)))) (λ x v j. j))
+
+  function_stmt_keeps : Answers (Kept b) (Lost b) (function_stmt (inner nested_item) inner_params at s)
+  unfolding function_stmt
+  function_stmt_keeps = answers_if _ _ at.include_decl _ _ (λ _. function_keeps s f) (λ _. answers_then (Kept b) _ (fault (fault_at (span_at s.at) faults.DeclNotAllowed) s) _
+      (fault_keeps b s f (fault_at (span_at s.at) faults.DeclNotAllowed)) (λ _ t g. function_keeps t g))
+
+  by_keeps : (k : TokenKind) → kind_at s.at ≡ k → Answers (Kept b) (Lost b) (stmt_by inner inner_expr inner_pat inner_head inner_params at k s)
   unfolding empty if_stmt
   by_keeps kind.LBrace e = block_keeps e
   by_keeps kind.Semi e = behind_after b s f
@@ -479,10 +497,11 @@ module _ (inner : Position → Reader Tree) (inner_expr : Class → Reader Tree)
   by_keeps kind.While e = while_keeps e
   by_keeps kind.Do e = do_while_keeps e
   by_keeps kind.For e = for_keeps e
+  by_keeps kind.Function e = function_stmt_keeps
   by_keeps kind.Import e = import_stmt_at_keeps
   by_keeps _ e = other_keeps
 
-  level_keeps : Answers (Kept b) (Lost b) (stmt_level inner inner_expr inner_pat inner_head at s)
+  level_keeps : Answers (Kept b) (Lost b) (stmt_level inner inner_expr inner_pat inner_head inner_params at s)
   unfolding stmt_level
   level_keeps = by_keeps (kind_at s.at) refl
 
@@ -497,7 +516,7 @@ heads_keep (suc n) b s f = head_expr_keeps (expr n) (cover n) (expr_keeps n) (co
 pub stmt_keeps : (n : ℕ) (at : Position) → Passes (stmt n at)
 unfolding stmt
 stmt_keeps zero at b s f = too_deep_keeps _ b s f
-stmt_keeps (suc n) at b s f = level_keeps (stmt n) (expr n) (pattern n) (head_cover n) (stmt_keeps n) (expr_keeps n) (pattern_keeps n) (heads_keep n) at b s f
+stmt_keeps (suc n) at b s f = level_keeps (stmt n) (expr n) (pattern n) (head_cover n) (patterns.parameters n) (stmt_keeps n) (expr_keeps n) (pattern_keeps n) (heads_keep n) (parameters_keep n) at b s f
 
 -- a script
 pub script_keeps : (n : ℕ) → Passes (script n)

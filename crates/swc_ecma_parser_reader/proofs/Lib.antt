@@ -11,6 +11,7 @@ pub mod Errors
 pub mod Between
 pub mod SoundParts
 pub mod SoundFor
+pub mod SoundFunctions
 pub mod Sound
 pub mod Plain
 pub mod Opens

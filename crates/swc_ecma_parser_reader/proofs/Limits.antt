@@ -1,10 +1,13 @@
 -- With twice as many levels as tokens, and two more, nothing is too deep but what an error token says: a statement and an
 -- expression below need a token, and the two can share their first.
+use Rattle.swc_ecma_parser_grammar.specs.Parameters.{parameters}
+use Rattle.swc_ecma_parser_reader.proofs.Errors.{is_error, fault_here}
+use Rattle.swc_ecma_parser_reader.specs.Patterns as patterns
 use Rattle.swc_ecma_parser_reader.proofs.Meets.{saw}
 use Rattle.swc_ecma_parser_model.specs.Tree.{Text}
-use Rattle.swc_ecma_parser_reader.specs.State.{below, below_label}
+use Rattle.swc_ecma_parser_reader.specs.State.{below, below_label, enclosed, unlabelled}
 use Rattle.swc_ecma_parser_grammar.specs.language.Items.{labelled_item}
-use Rattle.swc_ecma_parser_reader.specs.Reader.{begins_label, relabels, labelled_body, labeled_stmt, other_stmt, note_with, with_stmt, await_here, unless_awaited}
+use Rattle.swc_ecma_parser_reader.specs.Reader.{begins_label, relabels, labelled_body, labeled_stmt, other_stmt, note_with, with_stmt, await_here, unless_awaited, function_decl, function_stmt, function_parts, function_body, misdirected}
 use Rattle.swc_ecma_parser_reader.specs.Reader.{missing_initializer, variables, Opening, Nothing, Variables, Expression, as_init, as_left, head_variables, head_expression, opening, head_part, misdeclared, for_parts, for_in, for_of, for_behind, for_stmt, const_stmt, let_stmt}
 use Rattle.swc_ecma_parser_reader.specs.Expressions as exprs
 use Rattle.swc_ecma_parser_reader.proofs.expressions.Heads as heads
@@ -13,9 +16,9 @@ use Rattle.swc_ecma_parser_model.specs.declared.leaves.VarDeclKind.TheVariants a
 use Rattle.swc_ecma_parser_model.specs.Targets.{as_target}
 use Rattle.swc_ecma_parser_grammar.specs.Variables.{is_const, needs_no_initializer}
 use Rattle.swc_ecma_parser_grammar.specs.Own.{head_faults}
-use Rattle.swc_ecma_parser_grammar.specs.language.Contexts.{without_in}
+use Rattle.swc_ecma_parser_grammar.specs.language.Contexts.{without_in, in_parameters, in_body}
 use Rattle.swc_ecma_parser_grammar.specs.Follows.{word_at, is_let_declaration}
-use Rattle.std.proofs.Common.{◌≡◌, ◌≢◌, ℕ, zero, suc, ◌+◌, ◌*◌, ◌≤◌, Bool, true, false, cond, List, [], ◌∷◌, ◌++◌, length, Option, Some, None, Ok, Err, refl, arith}
+use Rattle.std.proofs.Common.{◌≡◌, ◌≢◌, ℕ, zero, suc, ◌+◌, ◌*◌, ◌≤◌, Bool, true, false, cond, List, [], ◌∷◌, ◌++◌, length, Option, Some, None, Ok, Err, refl, arith, ap}
 use Rattle.std.specs.Prelude.{◌&&◌, ◌||◌, is_some, codes}
 use Rattle.swc_ecma_parser_common.specs.declared.span.Span.{Span}
 use Rattle.swc_ecma_parser_error.specs.declared.kind.SyntaxError.{SyntaxError}
@@ -51,7 +54,7 @@ use Rattle.swc_ecma_parser_reader.proofs.Meets.{Answers, answers_then, answers_i
 use Rattle.swc_ecma_parser_reader.proofs.Shallow.{Fine, fine_more, fine_after, fine_taken, Shallow, Kept, name_shallow, fault_shallow, wanted_shallow, refuse_shallow, end_shallow, expect_shallow, close_shallow, shebang_shallow, Levels}
 use Rattle.swc_ecma_parser_reader.proofs.Opens.{chain_goes}
 use Rattle.swc_ecma_parser_reader.proofs.expressions.Limits.{reject_shallow, expr_shallow}
-use Rattle.swc_ecma_parser_reader.proofs.patterns.Limits.{pattern_shallow}
+use Rattle.swc_ecma_parser_reader.proofs.patterns.Limits.{pattern_shallow, parameters_shallow}
 
 -- ---- statements: one level more, for an expression that begins with the same token
 
@@ -219,12 +222,12 @@ module _ (inner : Position → Reader Tree) (inner_expr : Class → Reader Tree)
       (links_shallow l i (omega arith) (moved t) (chain_goes t.at b).1 (fine_after i t.at j)) (λ y u z. fine_more i m u.at.left (omega arith) z))
       (λ _. answers_then (Kept m) _ (alternative (inner sub_statement) t) _ (alternative_shallow i (omega arith) t j) (λ y u z. fine_more i m u.at.left (omega arith) z)))
 
-module _ (inner : Position → Reader Tree) (inner_expr : Class → Reader Tree) (inner_pat : Reader Tree) (inner_head : Reader Cover) (n : ℕ)
+module _ (inner : Position → Reader Tree) (inner_expr : Class → Reader Tree) (inner_pat : Reader Tree) (inner_head : Reader Cover) (inner_params : Reader (List Tree)) (n : ℕ)
     (below_stmt : (at : Position) → StmtLevels n (inner at)) (below_expr : (class : Class) → Levels n (inner_expr class)) (below_pat : Levels n inner_pat) (below_head : Levels n inner_head)
-    (at : Position) (m : ℕ) (enough : 2 * m + 1 ≤ suc n) (s : State) (f : Fine m s.at.left) where
-  block_from_shallow : (i : ℕ) → 2 * i + 1 ≤ n → (start : Place) (t : State) → Fine i t.at.left → Answers (Kept i) Shallow (block_from (inner nested_item) start t)
+    (below_params : Levels n inner_params) (at : Position) (m : ℕ) (enough : 2 * m + 1 ≤ suc n) (s : State) (f : Fine m s.at.left) where
+  block_from_shallow : (i : ℕ) → 2 * i + 1 ≤ n → (directives : Bool) (start : Place) (t : State) → Fine i t.at.left → Answers (Kept i) Shallow (block_from (inner nested_item) directives start t)
   unfolding block_from
-  block_from_shallow i h start t g = answers_then _ _ (items (inner nested_item) closes false t) _ (items_shallow (inner nested_item) n (below_stmt nested_item) closes false i h t g) (λ x u k.
+  block_from_shallow i h directives start t g = answers_then _ _ (items (inner nested_item) closes directives t) _ (items_shallow (inner nested_item) n (below_stmt nested_item) closes directives i h t g) (λ x u k.
       answers_then _ _ (close u) _ (close_shallow i u k) (λ _ v j. j))
 
   -- a block takes a token before the level below
@@ -232,11 +235,11 @@ module _ (inner : Position → Reader Tree) (inner_expr : Class → Reader Tree)
   unfolding block
   block_shallow e =
       let (i, h, g) = fine_taken m s.at kind.LBrace e (λ z. cc) f in
-      kept_more i m (omega arith) (block_from (inner nested_item) s.at (moved s)) (block_from_shallow i (omega arith) s.at (moved s) g)
+      kept_more i m (omega arith) (block_from (inner nested_item) false s.at (moved s)) (block_from_shallow i (omega arith) false s.at (moved s) g)
 
-  braced_shallow : (i : ℕ) → 2 * i + 1 ≤ n → (t : State) → Fine i t.at.left → Answers (Kept i) Shallow (braced (inner nested_item) t)
+  braced_shallow : (i : ℕ) → 2 * i + 1 ≤ n → (directives : Bool) (t : State) → Fine i t.at.left → Answers (Kept i) Shallow (braced (inner nested_item) directives t)
   unfolding braced
-  braced_shallow i h t g = answers_then _ _ (expect kind.LBrace t) _ (expect_shallow i t g kind.LBrace) (λ _ u k. block_from_shallow i h t.at u k)
+  braced_shallow i h directives t g = answers_then _ _ (expect kind.LBrace t) _ (expect_shallow i t g kind.LBrace) (λ _ u k. block_from_shallow i h directives t.at u k)
 
   debugger_shallow : Answers (Kept m) Shallow (debugger s)
   unfolding debugger
@@ -249,7 +252,7 @@ module _ (inner : Position → Reader Tree) (inner_expr : Class → Reader Tree)
       (declarators_shallow inner_expr inner_pat n below_expr below_pat m (omega arith) false word (coded (with_in s.code) (moved s)) (fine_after m s.at f)) (λ x t k. k)) (λ x t k.
       answers_then _ _ (end faults.Unexpected t) _ (end_shallow m t k faults.Unexpected (λ e. cc)) (λ _ u j. j))
 
-  const_shallow : Answers (Kept m) Shallow (const_stmt inner inner_expr inner_pat inner_head at s)
+  const_shallow : Answers (Kept m) Shallow (const_stmt inner inner_expr inner_pat inner_head inner_params at s)
   unfolding const_stmt
   const_shallow = where_declared at.include_decl
     where
@@ -310,7 +313,7 @@ module _ (inner : Position → Reader Tree) (inner_expr : Class → Reader Tree)
   unfolding other_stmt
   other_shallow = answers_if _ _ (begins_label s.code s.at) _ _ (λ _. labeled_shallow) (λ _. expr_stmt_at_shallow)
 
-  let_shallow : Answers (Kept m) Shallow (let_stmt inner inner_expr inner_pat inner_head at s)
+  let_shallow : Answers (Kept m) Shallow (let_stmt inner inner_expr inner_pat inner_head inner_params at s)
   unfolding let_stmt
   let_shallow = answers_if _ _ (at.include_decl && is_let_declaration s.at) _ _ (λ _. variables_shallow decl.Let) (λ _. other_shallow)
 
@@ -487,11 +490,11 @@ module _ (inner : Position → Reader Tree) (inner_expr : Class → Reader Tree)
   unfolding handler caught
   handler_shallow i h t g = answers_if _ _ (sees kind.Catch t.at) _ _ (λ _.
       answers_then _ _ (parameter inner_pat (moved t)) _ (parameter_shallow i (omega arith) (moved t) (fine_after i t.at g)) (λ x u k.
-      answers_then _ _ (braced (inner nested_item) u) _ (braced_shallow i h u k) (λ y v j. j))) (λ _. g)
+      answers_then _ _ (braced (inner nested_item) false u) _ (braced_shallow i h false u k) (λ y v j. j))) (λ _. g)
 
   finalizer_shallow : (i : ℕ) → 2 * i + 1 ≤ n → (t : State) → Fine i t.at.left → Answers (Kept i) Shallow (finalizer (inner nested_item) t)
   unfolding finalizer
-  finalizer_shallow i h t g = answers_if _ _ (sees kind.Finally t.at) _ _ (λ _. braced_shallow i h (moved t) (fine_after i t.at g)) (λ _. g)
+  finalizer_shallow i h t g = answers_if _ _ (sees kind.Finally t.at) _ _ (λ _. braced_shallow i h false (moved t) (fine_after i t.at g)) (λ _. g)
 
   handled_shallow : (i : ℕ) (behind : Place) (t : State) → Fine i t.at.left → Answers (Kept i) Shallow (handled behind t)
   unfolding handled
@@ -501,12 +504,32 @@ module _ (inner : Position → Reader Tree) (inner_expr : Class → Reader Tree)
   unfolding try_stmt
   try_shallow e =
       let (i, h, g) = fine_taken m s.at kind.Try e (λ z. cc) f in
-      answers_then _ _ (braced (inner nested_item) (moved s)) _ (braced_shallow i (omega arith) (moved s) g) (λ x t k.
+      answers_then _ _ (braced (inner nested_item) false (moved s)) _ (braced_shallow i (omega arith) false (moved s) g) (λ x t k.
       answers_then _ _ (handler (inner nested_item) inner_pat t) _ (handler_shallow i (omega arith) t k) (λ y u j.
       answers_then _ _ (finalizer (inner nested_item) u) _ (finalizer_shallow i (omega arith) u j) (λ z v l.
       answers_then _ _ (handled t.at v) _ (handled_shallow i t.at v l) (λ _ b a. fine_more i m b.at.left (omega arith) a))))
 
-  by_shallow : (k : TokenKind) → kind_at s.at ≡ k → Answers (Kept m) Shallow (stmt_by inner inner_expr inner_pat inner_head at k s)
+  function_shallow : (t : State) → kind_at t.at ≡ kind.Function → Fine m t.at.left → Answers (Kept m) Shallow (function_decl (inner nested_item) inner_params t)
+  unfolding function_decl function_parts function_body misdirected
+  function_shallow t e f =
+      let (i, h, g) = fine_taken m t.at kind.Function e (λ z. cc) f in
+      answers_then (Kept m) _ (name faults.ExpectedIdent (moved t)) _ (name_shallow i (moved t) g faults.ExpectedIdent (λ z. cc)) (λ x u k.
+      answers_then (Kept m) _ (function_parts (inner nested_item) inner_params (span_at t.at) u) _
+      (answers_then (Kept i) _ (within (λ k. in_parameters k false false) inner_params u) _
+      (answers_then (Kept i) _ (inner_params (coded (in_parameters u.code false false) u)) _ (below_params i (coded (in_parameters u.code false false) u) (omega arith) k) (λ ps v j. j)) (λ ps v j.
+      answers_then (Kept i) _ (function_body (inner nested_item) inner_params v) _
+      (answers_then (Kept i) _ (enclosed (braced (inner nested_item) true) (coded (in_body v.code false false) v)) _
+      (answers_then (Kept i) _ (braced (inner nested_item) true (unlabelled (coded (in_body v.code false false) v))) _
+      (braced_shallow i (omega arith) true (unlabelled (coded (in_body v.code false false) v)) j) (λ x w z. z))
+      (λ x w z. z)) (λ x w z. answers_then (Kept i) _ (misdirected (parameters ps) x w) _ (told_shallow i _ w z) (λ _ a c. c)))) (λ y v j. fine_more i m v.at.left (omega arith) j))
+
+  -- no error token stands where the word does
+  function_stmt_shallow : kind_at s.at ≡ kind.Function → Answers (Kept m) Shallow (function_stmt (inner nested_item) inner_params at s)
+  unfolding function_stmt
+  function_stmt_shallow e = answers_if _ _ at.include_decl _ _ (λ _. function_shallow s e f) (λ _. rw (fault_here s (fault_at (span_at s.at) faults.DeclNotAllowed) (ap is_error e))
+      (function_shallow (noted (fault_at (span_at s.at) faults.DeclNotAllowed) s) e f))
+
+  by_shallow : (k : TokenKind) → kind_at s.at ≡ k → Answers (Kept m) Shallow (stmt_by inner inner_expr inner_pat inner_head inner_params at k s)
   unfolding empty if_stmt
   by_shallow kind.LBrace e = block_shallow e
   by_shallow kind.Semi e = fine_after m s.at f
@@ -525,10 +548,11 @@ module _ (inner : Position → Reader Tree) (inner_expr : Class → Reader Tree)
   by_shallow kind.While e = while_shallow e
   by_shallow kind.Do e = do_while_shallow e
   by_shallow kind.For e = for_shallow e
+  by_shallow kind.Function e = function_stmt_shallow e
   by_shallow kind.Import e = import_stmt_at_shallow
   by_shallow _ e = other_shallow
 
-  level_shallow : Answers (Kept m) Shallow (stmt_level inner inner_expr inner_pat inner_head at s)
+  level_shallow : Answers (Kept m) Shallow (stmt_level inner inner_expr inner_pat inner_head inner_params at s)
   unfolding stmt_level
   level_shallow = by_shallow (kind_at s.at) refl
 
@@ -538,7 +562,7 @@ module _ (inner : Position → Reader Tree) (inner_expr : Class → Reader Tree)
 stmt_shallow : (n : ℕ) (at : Position) → StmtLevels n (stmt n at)
 unfolding stmt
 stmt_shallow zero at m s h f = absurd (omega arith)
-stmt_shallow (suc n) at m s h f = level_shallow (stmt n) (expr n) (pattern n) (head_cover n) n (stmt_shallow n) (expr_shallow n) (pattern_shallow n) (heads.head_shallow n) at m h s f
+stmt_shallow (suc n) at m s h f = level_shallow (stmt n) (expr n) (pattern n) (head_cover n) (patterns.parameters n) n (stmt_shallow n) (expr_shallow n) (pattern_shallow n) (heads.head_shallow n) (λ m s h f. parameters_shallow n m s (omega arith) f) at m h s f
 
 -- a script needs no more
 script_shallow : (n m : ℕ) (s : State) → 2 * m + 2 ≤ n → Fine m s.at.left → Answers (Kept m) Shallow (script n s)

@@ -13,7 +13,7 @@ use Rattle.swc_ecma_parser_grammar.specs.language.Goals.{expression}
 use Rattle.swc_ecma_parser_reader.specs.State.{State, Reader, coded, moved, too_deep, loop}
 use Rattle.swc_ecma_parser_reader.specs.Expressions.{expr}
 use Rattle.swc_ecma_parser_reader.specs.Heads.{head_cover}
-use Rattle.swc_ecma_parser_reader.specs.Patterns.{pattern}
+use Rattle.swc_ecma_parser_reader.specs.Patterns.{pattern, parameters}
 use Rattle.swc_ecma_parser_reader.specs.Reader.{declarator, declarators_turn, directs, items_turn, begins_clause, Clauses, clause, clauses_turn, stmt_level, stmt}
 use Rattle.swc_ecma_parser_reader.proofs.Steps.{loop_more, loop_done, loop_err}
 use Rattle.swc_ecma_parser_reader.proofs.Takes.{moves}
@@ -95,6 +95,6 @@ pub stmt_lowest : (n : ℕ) (at : Position) (s : State) → n ≡ 0 → stmt n a
 unfolding stmt
 stmt_lowest n at s e = rw e refl
 
-pub stmt_above : (n : ℕ) (at : Position) (s : State) → 0 < n → stmt n at s ≡ stmt_level (stmt (n - 1)) (expr (n - 1)) (pattern (n - 1)) (head_cover (n - 1)) at s
+pub stmt_above : (n : ℕ) (at : Position) (s : State) → 0 < n → stmt n at s ≡ stmt_level (stmt (n - 1)) (expr (n - 1)) (pattern (n - 1)) (head_cover (n - 1)) (parameters (n - 1)) at s
 unfolding stmt
 stmt_above n at s h = deeper (λ k. stmt k at s) n h

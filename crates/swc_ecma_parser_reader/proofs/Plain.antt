@@ -1,13 +1,21 @@
 -- No statement that is read is a function, so what a label stands at has no fault of its own; and a label is told once for each
 -- equal one around.
-use Rattle.swc_ecma_parser_reader.proofs.expressions.SoundSteps.{reject_meets}
-use Rattle.std.proofs.Common.{◌≡◌, ℕ, zero, suc, ◌+◌, ◌-◌, ◌<◌, Bool, true, false, cond, List, [], ◌∷◌, ◌++◌, length, replicate, count_by, Ok, Err, refl, ap, ◌∙◌, arith, Option, is_some, Some, None}
+use Rattle.swc_ecma_parser_input.specs.TokenSource.{means_out_of_memory}
+use Rattle.swc_ecma_parser_token.specs.declared.token.Token.{Token}
+use Rattle.swc_ecma_parser_token.specs.declared.token.Token.TheVariants as token
+use Rattle.swc_ecma_parser_token.specs.declared.token.TokenAndSpan.{TokenAndSpan}
+use Rattle.swc_ecma_parser_model.specs.Forms.{span_of}
+use Rattle.swc_ecma_parser_reader.specs.Patterns as patterns
+use Rattle.swc_ecma_parser_model.specs.declared.leaves.Ident.{Ident}
+use Rattle.swc_ecma_parser_grammar.specs.Parameters.{parameters}
+use Rattle.swc_ecma_parser_reader.proofs.expressions.SoundSteps.{reject_meets, meets_as}
+use Rattle.std.proofs.Common.{◌≡◌, ℕ, zero, suc, ◌+◌, ◌-◌, ◌<◌, Bool, true, false, cond, List, [], ◌∷◌, ◌++◌, length, replicate, count_by, Ok, Err, refl, ap, ◌∙◌, arith, Option, is_some, Some, None, append-nil}
 use Rattle.std.specs.Str.{bytes_eq}
 use Rattle.swc_ecma_parser_error.specs.Kind.{Fault}
 use Rattle.swc_ecma_parser_grammar.specs.Own.{only, duplicates}
 use Rattle.swc_ecma_parser_grammar.specs.language.Items.{labelled_item}
-use Rattle.swc_ecma_parser_reader.specs.State.{coded, below, below_label, fault, fault_at}
-use Rattle.swc_ecma_parser_reader.specs.Reader.{told, with_stmt, note_with, await_here, unless_awaited}
+use Rattle.swc_ecma_parser_reader.specs.State.{coded, below, below_label, fault, fault_at, recorded_at, recorded_in}
+use Rattle.swc_ecma_parser_reader.specs.Reader.{told, with_stmt, note_with, await_here, unless_awaited, misdirected, function_body, function_parts, function_decl, function_stmt}
 use Rattle.swc_ecma_parser_reader.proofs.Meets.{meets_then}
 use Rattle.std.specs.Prelude.{◌&&◌, ◌||◌, codes}
 use Rattle.std.proofs.lemmas.List.Recursion.{is_count_by}
@@ -21,15 +29,15 @@ use Rattle.swc_ecma_parser_model.specs.declared.leaves.VarDeclKind.TheVariants a
 use Rattle.swc_ecma_parser_model.specs.Tree as tree
 use Rattle.swc_ecma_parser_model.specs.Tree.{Tree, Text}
 use Rattle.swc_ecma_parser_grammar.specs.declared.position.Position.{Position}
-use Rattle.swc_ecma_parser_grammar.specs.Looks.{kind_at, breaks_at, sees, span_at}
+use Rattle.swc_ecma_parser_grammar.specs.Looks.{kind_at, breaks_at, sees, span_at, same_kind}
 use Rattle.swc_ecma_parser_grammar.specs.Follows.{word_at, may_begin_expression_statement, begins_import_expression, is_let_declaration}
 use Rattle.swc_ecma_parser_grammar.specs.Own.{labelled_function}
 use Rattle.swc_ecma_parser_grammar.specs.Reads.{nested_item, with_in}
-use Rattle.swc_ecma_parser_grammar.specs.language.Contexts.{in_loop, in_breakable, in_with}
+use Rattle.swc_ecma_parser_grammar.specs.language.Contexts.{in_loop, in_breakable, in_with, in_parameters}
 use Rattle.swc_ecma_parser_grammar.specs.language.Goals.{Class, expression, assignment}
 use Rattle.swc_ecma_parser_grammar.specs.language.Items.{sub_statement}
 use Rattle.swc_ecma_parser_reader.specs.State.{State, Outcome, Reader, and_then, moved, within, wanted, name, expect, end}
-use Rattle.swc_ecma_parser_reader.specs.Expressions.{Cover, expr}
+use Rattle.swc_ecma_parser_reader.specs.Expressions.{Cover, expr, taken}
 use Rattle.swc_ecma_parser_reader.specs.Heads.{head_cover}
 use Rattle.swc_ecma_parser_reader.specs.Patterns.{pattern}
 use Rattle.swc_ecma_parser_reader.specs.Reader.{items, closes, close, declarators, link, alternative, head, clauses, target, unbroken, uncontinued, operand, braced, handler, finalizer, handled, optional_end, Opening, as_init, as_left, opening, head_part, misdeclared, labelled_body, relabels, no_label, note_statement, empty, debugger, variables, block, block_from, expr_stmt, expr_stmt_at, import_stmt, import_stmt_at, thrown, throw, while_stmt, do_while, for_parts, for_in, for_of, for_behind, for_stmt, goes_on, links, if_stmt, break_stmt, continue_stmt, returned, return_stmt, misplaced, begins_label, labeled_stmt, other_stmt, switch_stmt, try_stmt, const_stmt, let_stmt, stmt_by, stmt_level, stmt}
@@ -45,7 +53,15 @@ always Q (Err e) f h = tt
 abbrev Plain : Tree → State → Type 0
 Plain x t = (strict : Bool) → labelled_function strict x ≡ []
 
-module _ (inner : Position → Reader Tree) (inner_expr : Class → Reader Tree) (inner_pat : Reader Tree) (inner_head : Reader Cover) where
+-- a function's node, behind a name
+abbrev IsFunction : Tree → State → Type 0
+IsFunction x t = (i : Ident) (strict : Bool) → labelled_function strict (tree.fn_decl (tree.ident i.span i.sym) x) ≡ only strict faults.LabelledFunctionInStrict (span_of x)
+
+-- what a label tells of what it stands at: a function that strict code has there
+abbrev Told : TokenKind → Tree → State → Type 0
+Told j x t = (strict : Bool) → labelled_function strict x ≡ cond (same_kind j kind.Function) (only strict faults.LabelledFunctionInStrict (span_of x)) []
+
+module _ (inner : Position → Reader Tree) (inner_expr : Class → Reader Tree) (inner_pat : Reader Tree) (inner_head : Reader Cover) (inner_params : Reader (List Tree)) where
   block_plain : (s : State) → Meets Plain (block (inner nested_item) s)
   unfolding block block_from
   block_plain s = always Plain (items (inner nested_item) closes false (moved s)) _ (λ xs t. always Plain (close t) _ (λ _ u b. refl))
@@ -58,7 +74,7 @@ module _ (inner : Position → Reader Tree) (inner_expr : Class → Reader Tree)
   unfolding variables
   variables_plain word s = always Plain (within with_in (declarators inner_expr inner_pat false word) (moved s)) _ (λ xs t. always Plain (end faults.Unexpected t) _ (λ _ u b. refl))
 
-  const_plain : (at : Position) (s : State) → Meets Plain (const_stmt inner inner_expr inner_pat inner_head at s)
+  const_plain : (at : Position) (s : State) → Meets Plain (const_stmt inner inner_expr inner_pat inner_head inner_params at s)
   unfolding const_stmt
   const_plain at s = where_declared at.include_decl
     where
@@ -103,7 +119,7 @@ module _ (inner : Position → Reader Tree) (inner_expr : Class → Reader Tree)
 
   try_plain : (s : State) → Meets Plain (try_stmt (inner nested_item) inner_pat s)
   unfolding try_stmt
-  try_plain s = always Plain (braced (inner nested_item) (moved s)) _ (λ x t. always Plain (handler (inner nested_item) inner_pat t) _ (λ y u.
+  try_plain s = always Plain (braced (inner nested_item) false (moved s)) _ (λ x t. always Plain (handler (inner nested_item) inner_pat t) _ (λ y u.
       always Plain (finalizer (inner nested_item) u) _ (λ z v. always Plain (handled t.at v) _ (λ _ o b. refl))))
 
   while_plain : (s : State) → Meets Plain (while_stmt (inner sub_statement) (inner_expr expression) s)
@@ -175,55 +191,67 @@ module _ (inner : Position → Reader Tree) (inner_expr : Class → Reader Tree)
   unfolding other_stmt
   other_plain at s = meets_if Plain (begins_label s.code s.at) _ _ (λ _. labeled_plain s) (λ _. expr_plain at s)
 
-  let_plain : (at : Position) (s : State) → Meets Plain (let_stmt inner inner_expr inner_pat inner_head at s)
+  let_plain : (at : Position) (s : State) → Meets Plain (let_stmt inner inner_expr inner_pat inner_head inner_params at s)
   unfolding let_stmt
   let_plain at s = meets_if Plain (at.include_decl && is_let_declaration s.at) _ _ (λ _. variables_plain decl.Let s) (λ _. other_plain at s)
 
-  by_plain : (at : Position) (j : TokenKind) (s : State) → Meets Plain (stmt_by inner inner_expr inner_pat inner_head at j s)
-  unfolding empty if_stmt
-  by_plain at kind.LBrace s = block_plain s
-  by_plain at kind.Semi s = λ b. refl
-  by_plain at kind.Debugger s = debugger_plain s
-  by_plain at kind.Var s = variables_plain decl.Var s
-  by_plain at kind.Const s = const_plain at s
-  by_plain at kind.Let s = let_plain at s
-  by_plain at kind.If s = links_plain (suc (length s.at.left)) s
-  by_plain at kind.Switch s = switch_plain s
-  by_plain at kind.Break s = break_plain s
-  by_plain at kind.Continue s = continue_plain s
-  by_plain at kind.Return s = return_plain s
-  by_plain at kind.Throw s = throw_plain s
-  by_plain at kind.Try s = try_plain s
-  by_plain at kind.With s = with_plain s
-  by_plain at kind.While s = while_plain s
-  by_plain at kind.Do s = do_while_plain s
-  by_plain at kind.For s = for_plain s
-  by_plain at kind.Import s = import_plain s
-  by_plain at _ s = other_plain at s
+  function_told : (s : State) → Meets (Told kind.Function) (function_decl (inner nested_item) inner_params s)
+  unfolding function_decl function_parts same_kind
+  function_told s = always (Told kind.Function) (name faults.ExpectedIdent (moved s)) _ (λ i t.
+      meets_then {P = IsFunction} (Told kind.Function) (function_parts (inner nested_item) inner_params (span_at s.at) t) _
+      (always IsFunction (within (λ k. in_parameters k false false) inner_params t) _ (λ ps u. always IsFunction (function_body (inner nested_item) inner_params u) _ (λ x v.
+      always IsFunction (misdirected (parameters ps) x v) _ (λ _ w i strict. append-nil (only strict faults.LabelledFunctionInStrict (record { lo = (span_at s.at).lo; hi = v.at.last.hi })))))) (λ x u h. h i))
 
-stmt_meets_plain : (n : ℕ) (at : Position) (s : State) → Meets Plain (stmt n at s)
+  function_stmt_told : (at : Position) (s : State) → Meets (Told kind.Function) (function_stmt (inner nested_item) inner_params at s)
+  unfolding function_stmt
+  function_stmt_told at s = meets_if (Told kind.Function) at.include_decl _ _ (λ _. function_told s)
+      (λ _. always (Told kind.Function) (fault (fault_at (span_at s.at) faults.DeclNotAllowed) s) _ (λ _ t. function_told t))
+
+  by_told : (at : Position) (j : TokenKind) (s : State) → Meets (Told j) (stmt_by inner inner_expr inner_pat inner_head inner_params at j s)
+  unfolding empty if_stmt same_kind
+  by_told at kind.LBrace s = block_plain s
+  by_told at kind.Semi s = λ b. refl
+  by_told at kind.Debugger s = debugger_plain s
+  by_told at kind.Var s = variables_plain decl.Var s
+  by_told at kind.Const s = const_plain at s
+  by_told at kind.Let s = let_plain at s
+  by_told at kind.If s = links_plain (suc (length s.at.left)) s
+  by_told at kind.Switch s = switch_plain s
+  by_told at kind.Break s = break_plain s
+  by_told at kind.Continue s = continue_plain s
+  by_told at kind.Return s = return_plain s
+  by_told at kind.Throw s = throw_plain s
+  by_told at kind.Try s = try_plain s
+  by_told at kind.With s = with_plain s
+  by_told at kind.While s = while_plain s
+  by_told at kind.Do s = do_while_plain s
+  by_told at kind.For s = for_plain s
+  by_told at kind.Function s = function_stmt_told at s
+  by_told at kind.Import s = import_plain s
+  by_told at _ s = other_plain at s
+
+stmt_meets_told : (n : ℕ) (at : Position) (s : State) → Meets (Told (kind_at s.at)) (stmt n at s)
 unfolding stmt stmt_level
-stmt_meets_plain zero at s = too_deep_meets Plain s
-stmt_meets_plain (suc n) at s = by_plain (stmt n) (expr n) (pattern n) (head_cover n) at (kind_at s.at) s
-
-pub stmt_plain : (n : ℕ) (at : Position) (s : State) (x : Tree) (t : State) → stmt n at s ≡ Ok (x, t) → (strict : Bool) → labelled_function strict x ≡ []
-stmt_plain n at s x t e = meant Plain Refuses (stmt n at s) (Ok (x, t)) e (stmt_meets_plain n at s)
+stmt_meets_told zero at s = too_deep_meets (Told (kind_at s.at)) s
+stmt_meets_told (suc n) at s = by_told (stmt n) (expr n) (pattern n) (head_cover n) (patterns.parameters n) at (kind_at s.at) s
 
 -- ---- the faults of a label
 
-labelled_meets_plain : (n : ℕ) (text : Text) (s : State) → Meets Plain (labelled_body (stmt n) text s)
+labelled_meets_told : (n : ℕ) (text : Text) (s : State) → Meets (Told (kind_at s.at)) (labelled_body (stmt n) text s)
 unfolding labelled_body
-labelled_meets_plain n text s =
-    meets_then {P = Plain} Plain (below_label text (stmt n (labelled_item s.at)) (coded (in_breakable s.code) s)) _
-    (meets_then {P = Plain} Plain (stmt n (labelled_item s.at) (below text (coded (in_breakable s.code) s))) _ (stmt_meets_plain n (labelled_item s.at) (below text (coded (in_breakable s.code) s))) (λ x t h. h))
+labelled_meets_told n text s =
+    let P = Told (kind_at s.at) in
+    meets_then {P = P} P (below_label text (stmt n (labelled_item s.at)) (coded (in_breakable s.code) s)) _
+    (meets_then {P = P} P (stmt n (labelled_item s.at) (below text (coded (in_breakable s.code) s))) _ (stmt_meets_told n (labelled_item s.at) (below text (coded (in_breakable s.code) s))) (λ x t h. h))
     (λ x t h. h)
 
--- behind what it stands at they are those of equal labels around
-pub relabels_plain : (n : ℕ) (text : Text) (s : State) (x : Tree) (t : State) → labelled_body (stmt n) text s ≡ Ok (x, t) → (label : Tree) (u : State)
-    → relabels label x u ≡ told (duplicates u.scope.labels label) u
+-- behind what it stands at they are that of a function in strict code, and those of equal labels around
+pub relabels_told : (n : ℕ) (text : Text) (s : State) (x : Tree) (t : State) → labelled_body (stmt n) text s ≡ Ok (x, t) → (label : Tree) (u : State)
+    → relabels label x u
+    ≡ told (cond (sees kind.Function s.at) (only u.code.flags.strict faults.LabelledFunctionInStrict (span_of x)) [] ++ duplicates u.scope.labels label) u
 unfolding relabels
-relabels_plain n text s x t e label u =
-    ap (λ fs. told (fs ++ duplicates u.scope.labels label) u) (meant Plain Refuses (labelled_body (stmt n) text s) (Ok (x, t)) e (labelled_meets_plain n text s) u.code.flags.strict)
+relabels_told n text s x t e label u =
+    ap (λ fs. told (fs ++ duplicates u.scope.labels label) u) (meant (Told (kind_at s.at)) Refuses (labelled_body (stmt n) text s) (Ok (x, t)) e (labelled_meets_told n text s) u.code.flags.strict)
 
 abbrev pub duplicate : Span → Fault
 duplicate span = fault_at span faults.DuplicateLabel
@@ -257,3 +285,35 @@ module _ (f : Fault) (s : State) where
   pub told_err : (n : ℕ) (e : Fault × State) → 0 < n → fault f s ≡ Err e → told (replicate n f) s ≡ Err e
   told_err zero e h g = absurd (omega arith)
   told_err (suc n) e h g = rw g refl
+
+-- ---- faults that are told one behind another
+
+told_by : (fs gs : List Fault) (o : Outcome (Unit {0})) → ((t : State) → told (fs ++ gs) t ≡ and_then (told fs t) (λ _. told gs))
+    → and_then o (λ _. told (fs ++ gs)) ≡ and_then (and_then o (λ _. told fs)) (λ _. told gs)
+told_by fs gs (Ok p) h = h p.1
+told_by fs gs (Err e) h = refl
+
+pub told_append : (fs gs : List Fault) (s : State) → told (fs ++ gs) s ≡ and_then (told fs s) (λ _. told gs)
+told_append [] gs s = refl
+told_append (f ∷ fs) gs s = told_by fs gs (fault f s) (told_append fs gs)
+
+-- they change neither the labels nor the code
+abbrev Alike : State → State → Type 0
+Alike s t = (t.scope ≡ s.scope) × (t.code ≡ s.code)
+
+recorded_at_alike : (f : Fault) (s : State) (t : Token) → Meets (λ _ u. Alike s u) (recorded_at f s t)
+recorded_at_alike f s (token.Error e) = meets_if _ (means_out_of_memory e.kind) _ _ (λ _. tt) (λ _. (refl, refl))
+recorded_at_alike f s _ = (refl, refl)
+
+recorded_in_alike : (f : Fault) (s : State) (ts : List TokenAndSpan) → Meets (λ _ u. Alike s u) (recorded_in f s ts)
+recorded_in_alike f s [] = (refl, refl)
+recorded_in_alike f s (t ∷ ts) = recorded_at_alike f s t.token
+
+told_meets_alike : (fs : List Fault) (s : State) → Meets (λ _ u. Alike s u) (told fs s)
+unfolding fault
+told_meets_alike [] s = (refl, refl)
+told_meets_alike (f ∷ fs) s = meets_then _ (fault f s) _ (recorded_in_alike f s s.at.left) (λ _ m e.
+    meets_as (told fs m) (told_meets_alike fs m) (λ _ t g. (g.0 ∙ e.0, g.1 ∙ e.1)))
+
+pub told_alike : (fs : List Fault) (s t : State) → told fs s ≡ Ok (tt, t) → Alike s t
+told_alike fs s t e = meant (λ _ u. Alike s u) Refuses (told fs s) (Ok (tt, t)) e (told_meets_alike fs s)

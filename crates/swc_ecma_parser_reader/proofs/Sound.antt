@@ -1,14 +1,16 @@
 -- What is read is in the grammar where nothing was recorded, and the faults of the table are the walk's.
+use Rattle.swc_ecma_parser_reader.proofs.SoundFunctions.{SoundBraces, InBraces, body_from_sound, braces_sound, in_braces, function_stmt_sound}
+use Rattle.swc_ecma_parser_reader.specs.Patterns as patterns
 use Rattle.std.proofs.Common.{append_assoc}
 use Rattle.swc_ecma_parser_reader.specs.Notes.{no_notes}
-use Rattle.swc_ecma_parser_reader.proofs.Between.{sound_below}
+use Rattle.swc_ecma_parser_reader.proofs.Between.{sound_below, sound_coded}
 use Rattle.swc_ecma_parser_reader.specs.State.{name}
-use Rattle.swc_ecma_parser_grammar.specs.Reads.{labeled_rule, with_rule}
+use Rattle.swc_ecma_parser_grammar.specs.Reads.{labeled_rule, with_rule, function_rule}
 use Rattle.swc_ecma_parser_grammar.specs.Own.{labelled_function, duplicates}
 use Rattle.swc_ecma_parser_reader.proofs.SoundParts.{relabels_sound, SoundWith, note_with_sound}
 use Rattle.swc_ecma_parser_reader.specs.State.{below, below_label}
 use Rattle.swc_ecma_parser_grammar.specs.language.Items.{labelled_item}
-use Rattle.swc_ecma_parser_reader.specs.Reader.{begins_label, relabels, labelled_body, labeled_stmt, other_stmt, with_stmt, note_with}
+use Rattle.swc_ecma_parser_reader.specs.Reader.{begins_label, relabels, labelled_body, labeled_stmt, other_stmt, with_stmt, note_with, function_stmt}
 use Rattle.swc_ecma_parser_model.specs.declared.leaves.VarDeclKind.{VarDeclKind}
 use Rattle.swc_ecma_parser_model.specs.declared.leaves.VarDeclKind.TheVariants as decl
 use Rattle.swc_ecma_parser_grammar.specs.Variables.{begins_variables, is_var}
@@ -48,7 +50,7 @@ use Rattle.swc_ecma_parser_grammar.specs.language.Contexts.{in_loop, in_breakabl
 use Rattle.swc_ecma_parser_grammar.specs.language.Goals.{Class, expression}
 use Rattle.swc_ecma_parser_grammar.specs.language.Items.{sub_statement}
 use Rattle.swc_ecma_parser_grammar.specs.Reads.{with_in, nested_item, top_item, ReadsItems, TargetRule, OperandRule, no_operand_rule, operand_rule, break_rule, continue_rule, return_rule, StmtRule, block_rule, empty_rule, debugger_rule, if_statement_rule, CaseRule, case_clause_rule, default_clause_rule, ReadsCases, switch_rule, throw_rule, try_rule, while_rule, do_while_rule, expr_rule, import_rule, ReadsBlock, CatchRule, no_catch_rule, catch_rule, catch_parameter_rule, FinallyRule, no_finally_rule, finally_rule, ReadsHead, IfRule, if_rule, ElseRule, no_else_rule, else_rule, else_if_rule}
-use Rattle.swc_ecma_parser_grammar.specs.ReadsSupported.{ReadsClass, ReadsPat, ReadsElement, ReadsTarget, ReadsStmt}
+use Rattle.swc_ecma_parser_grammar.specs.ReadsSupported.{ReadsClass, ReadsPat, ReadsElement, ReadsTarget, ReadsStmt, ReadsParams}
 use Rattle.swc_ecma_parser_grammar.specs.Entries.{ReadsScript, ReadsShebang, some_shebang, no_shebang, script_code}
 use Rattle.swc_ecma_parser_grammar.specs.Walk as walks
 use Rattle.swc_ecma_parser_grammar.specs.Walk.{walk, env_of, tabled, drops}
@@ -67,26 +69,28 @@ use Rattle.swc_ecma_parser_reader.specs.Limits.{has_out_of_memory_token}
 use Rattle.swc_ecma_parser_reader.proofs.expressions.SoundCovers.{SoundCover}
 use Rattle.swc_ecma_parser_reader.proofs.expressions.Sound.{expr_sound, cover_sound}
 use Rattle.swc_ecma_parser_reader.proofs.expressions.SoundSteps.{meets_as, FreeWord, name_sound, Takes, expect_sound, fault_sound, walks_push, notes_push}
-use Rattle.swc_ecma_parser_reader.proofs.patterns.Sound.{pattern_sound, element_sound}
+use Rattle.swc_ecma_parser_reader.proofs.patterns.Sound.{pattern_sound, element_sound, parameters_sound}
 use Rattle.swc_ecma_parser_reader.proofs.Notes.{or_nil, or_true, notes_nil}
 use Rattle.swc_ecma_parser_reader.proofs.Meets.{Meets, Refuses, meets_then, meets_if, wanted_meets, too_deep_meets, refuse_meets, Turned, loop_answers, saw, meant}
 use Rattle.swc_ecma_parser_reader.proofs.Errors.{kind_here, none_counted, nothing_at_end}
 use Rattle.swc_ecma_parser_reader.proofs.Opens.{import_unnoted, chain_goes, chain_stops}
 use Rattle.swc_ecma_parser_reader.proofs.Between.{Sound, SoundTree, SoundStep, no_faults, same, sound_then, sound_more, sound_moved, sound_here, sound_as, sound_held, sound_after, within_sound, flags_back}
-use Rattle.swc_ecma_parser_reader.proofs.SoundParts.{end_sound, optional_end_sound, Declarators, declarators_sound, inside_sound, variables_sound, code_after, code_stays, code_setting, items_sound, close_sound, NoLabel, no_label_sound, NoNote, SoundNote, note_sound, and_false, unbroken_sound, uncontinued_sound, misplaced_sound, target_sound, after_return_meets}
+use Rattle.swc_ecma_parser_reader.proofs.SoundParts.{end_sound, optional_end_sound, Declarators, declarators_sound, inside_sound, variables_sound, code_after, code_stays, code_setting, code_module, items_sound, close_sound, NoLabel, no_label_sound, NoNote, SoundNote, note_sound, and_false, unbroken_sound, uncontinued_sound, misplaced_sound, target_sound, after_return_meets}
 
 -- ---- statements
 
 module _ (Stmt : Code → Position → Tree → Place → Place → Type 0) (Expr : Class → Code → Tree → Place → Place → Type 0) (Pat Target : Code → Tree → Place → Place → Type 0)
-    (inner : Position → Reader Tree) (inner_expr : Class → Reader Tree) (inner_pat : Reader Tree) (inner_head : Reader Cover)
+    (Params : Code → List Tree → Place → Place → Type 0) (inner : Position → Reader Tree) (inner_expr : Class → Reader Tree) (inner_pat : Reader Tree) (inner_head : Reader Cover)
+    (inner_params : Reader (List Tree))
     (sound : (at : Position) (s : State) → Meets (λ x t. SoundTree (λ k. Stmt k at) s x t) (inner at s))
     (sound_expr : (class : Class) (s : State) → Meets (λ x t. SoundTree (Expr class) s x t) (inner_expr class s))
     (sound_pat : (s : State) → Meets (λ x t. SoundTree Pat s x t) (inner_pat s))
     (sound_head : (s : State) → Meets (λ v t. SoundAs Expr Target s v t) (inner_head s))
+    (sound_params : (s : State) → Meets (λ ps t. Sound same (λ k l. walks.walks (env_of k l) false (trees ps)) (all_notes_of (trees ps)) (λ k. Params k ps) s t) (inner_params s))
     (unnoted : (k : Code) (x : Tree) (c d : Place) → begins_import_expression c ≡ true → Expr expression k x c d → statement_note x ≡ []) (at : Position) where
   -- a statement in its place
   abbrev SoundStmt : State → Tree → State → Type 0
-  SoundStmt s x t = SoundTree (λ k. StmtRule Stmt Expr Pat Target k at) s x t
+  SoundStmt s x t = SoundTree (λ k. StmtRule Stmt Expr Pat Target Params k at) s x t
 
   empty_sound : (s : State) → kind_at s.at ≡ kind.Semi → Meets (SoundStmt s) (empty s)
   unfolding empty
@@ -96,28 +100,15 @@ module _ (Stmt : Code → Position → Tree → Place → Place → Type 0) (Exp
   unfolding debugger
   debugger_sound s e = meets_then _ (end faults.Expected (moved s)) _ (end_sound faults.Expected (moved s)) (λ _ t p. sound_after s t e refl refl refl (λ h. debugger_rule e h refl) p)
 
-  -- statements up to their `}`, of a block that begins at a place before them
-  BehindBrace : Place → Tree → Code → Place → Place → Type 0
-  BehindBrace start x k c d = (xs : List Tree) × (i : Place) × ReadsItems (λ j. Stmt j nested_item) k false xs c i × Takes kind.RBrace i d × (x ≡ tree.block (spanned start d) (listed xs))
-
-  block_from_sound : (start : Place) (s : State) → Meets (λ x t. Sound same (λ k l. walk (env_of k l) x) (notes_of x) (BehindBrace start x) s t) (block_from (inner nested_item) start s)
-  unfolding block_from BehindBrace
-  block_from_sound start s = meets_then _ (items (inner nested_item) closes false s) _
-      (items_sound (λ j. Stmt j nested_item) (inner nested_item) (sound nested_item) closes false s) (λ xs m p.
-      meets_then _ (close m) _ (close_sound m) (λ _ t q. sound_as s t (code_stays s.code xs) refl refl
-      (λ (i, r, z). (xs, i, r, subst (λ k. Takes kind.RBrace i t.at) (code_stays s.code xs) z, refl)) (sound_more p.0 q)))
-
   block_sound : (s : State) → kind_at s.at ≡ kind.LBrace → Meets (SoundStmt s) (block (inner nested_item) s)
-  unfolding block BehindBrace
-  block_sound s e = meets_as (block_from (inner nested_item) s.at (moved s)) (block_from_sound s.at (moved s)) (λ x t p.
-      sound_after s t e refl refl refl (λ (xs, i, r, z, g). block_rule (record { items = xs; close = i; opens = e; reads_items = r; closes = z.0; next = z.1; is = g })) p)
+  unfolding block
+  block_sound s e = meets_as (block_from (inner nested_item) false s.at (moved s)) (body_from_sound Stmt (inner nested_item) (sound nested_item) false s.at (moved s)) (λ x t (xs, g, p).
+      sound_coded s t t.code (p.code ∙ code_stays s.code xs) (sound_after s t e refl (sym (ap (walk (env_of s.code s.scope.labels)) g)) (sym (ap notes_of g))
+      (λ r. block_rule (in_braces Stmt (inner nested_item) (sound nested_item) false xs g (e, r))) p))
 
-  braced_sound : (s : State) → Meets (λ x t. SoundTree (λ k. ReadsBlock Stmt k) s x t) (braced (inner nested_item) s)
-  unfolding braced BehindBrace
-  braced_sound s = meets_then _ (expect kind.LBrace s) _ (expect_sound kind.LBrace s refl) (λ _ m p.
-      meets_as (block_from (inner nested_item) s.at m) (block_from_sound s.at m) (λ x t q. sound_as s t refl refl refl
-      (λ (a, (b, c), (xs, i, r, z, g)). record { items = xs; close = i; opens = b; reads_items = subst (λ v. ReadsItems (λ j. Stmt j nested_item) s.code false xs v i) c r; closes = z.0; next = z.1; is = g })
-      (sound_then p q)))
+  braced_sound : (s : State) → Meets (λ x t. SoundTree (λ k. ReadsBlock Stmt k) s x t) (braced (inner nested_item) false s)
+  braced_sound s = meets_as (braced (inner nested_item) false s) (braces_sound Stmt (inner nested_item) (sound nested_item) false s) (λ x t (xs, g, p).
+      sound_as s t (code_stays s.code xs) (sym (ap (walk (env_of s.code s.scope.labels)) g)) (sym (ap notes_of g)) (λ r. in_braces Stmt (inner nested_item) (sound nested_item) false xs g r) p)
 
   expr_stmt_sound : (s : State) → may_begin_expression_statement at s.at ≡ true → Meets (SoundStmt s) (expr_stmt (inner_expr expression) s)
   unfolding expr_stmt SoundNote NoNote NoLabel
@@ -412,14 +403,14 @@ module _ (Stmt : Code → Position → Tree → Place → Place → Type 0) (Exp
   unfolding handler caught
   handler_sound s = meets_if _ (sees kind.Catch s.at) _ _
       (λ e. meets_then _ (parameter inner_pat (moved s)) _ (parameter_sound (moved s)) (λ x m p.
-      meets_then _ (braced (inner nested_item) m) _ (braced_sound m) (λ y t q.
+      meets_then _ (braced (inner nested_item) false m) _ (braced_sound m) (λ y t q.
       sound_after s t (saw s.at kind.Catch e) refl refl refl (λ (i, r, z). caught_as (saw s.at kind.Catch e) r z) (sound_then p q))))
       (λ e. sound_here s (no_catch_rule e refl refl))
 
   finalizer_sound : (s : State) → Meets (λ x t. SoundTree (λ k. FinallyRule Stmt k) s x t) (finalizer (inner nested_item) s)
   unfolding finalizer
   finalizer_sound s = meets_if _ (sees kind.Finally s.at) _ _
-      (λ e. meets_as (braced (inner nested_item) (moved s)) (braced_sound (moved s)) (λ y t q.
+      (λ e. meets_as (braced (inner nested_item) false (moved s)) (braced_sound (moved s)) (λ y t q.
       sound_after s t (saw s.at kind.Finally e) refl refl refl (λ r. finally_rule (saw s.at kind.Finally e) r) q))
       (λ e. sound_here s (no_finally_rule e refl refl))
 
@@ -445,7 +436,7 @@ module _ (Stmt : Code → Position → Tree → Place → Place → Type 0) (Exp
 
   try_sound : (s : State) → kind_at s.at ≡ kind.Try → Meets (SoundStmt s) (try_stmt (inner nested_item) inner_pat s)
   unfolding try_stmt Handled
-  try_sound s e = meets_then _ (braced (inner nested_item) (moved s)) _ (braced_sound (moved s)) (λ x m p.
+  try_sound s e = meets_then _ (braced (inner nested_item) false (moved s)) _ (braced_sound (moved s)) (λ x m p.
       meets_then _ (handler (inner nested_item) inner_pat m) _ (handler_sound m) (λ y n q.
       meets_then _ (finalizer (inner nested_item) n) _ (finalizer_sound n) (λ z i r.
       meets_then _ (handled m.at i) _ (handled_sound m.at i) (λ _ t o.
@@ -494,13 +485,13 @@ module _ (Stmt : Code → Position → Tree → Place → Place → Type 0) (Exp
   -- ---- declarations
 
   declared_sound : (word : VarDeclKind) (s : State) → at.include_decl || is_var word ≡ true → begins_variables word s.at ≡ true → Meets (SoundStmt s) (variables inner_expr inner_pat word s)
-  declared_sound = variables_sound Expr Pat inner_expr inner_pat sound_expr sound_pat Stmt Target at
+  declared_sound = variables_sound Expr Pat inner_expr inner_pat sound_expr sound_pat Stmt Target Params at
 
   -- where declarations are read
   allowed : (word : VarDeclKind) → at.include_decl ≡ true → at.include_decl || is_var word ≡ true
   allowed word h = rw h refl
 
-  const_stmt_sound : (s : State) → begins_variables decl.Const s.at ≡ true → Meets (SoundStmt s) (const_stmt inner inner_expr inner_pat inner_head at s)
+  const_stmt_sound : (s : State) → begins_variables decl.Const s.at ≡ true → Meets (SoundStmt s) (const_stmt inner inner_expr inner_pat inner_head inner_params at s)
   unfolding const_stmt
   const_stmt_sound s e = by_place at.include_decl refl
     where
@@ -508,13 +499,13 @@ module _ (Stmt : Code → Position → Tree → Place → Place → Type 0) (Exp
       by_place true h = declared_sound decl.Const s (allowed decl.Const h) e
       by_place false h = wanted_meets _ faults.Unexpected s
 
-  let_stmt_sound : (s : State) → Meets (SoundStmt s) (let_stmt inner inner_expr inner_pat inner_head at s)
+  let_stmt_sound : (s : State) → Meets (SoundStmt s) (let_stmt inner inner_expr inner_pat inner_head inner_params at s)
   unfolding let_stmt
   let_stmt_sound s = meets_if _ (at.include_decl && is_let_declaration s.at) _ _
       (λ h. let b = and_yes at.include_decl (is_let_declaration s.at) h in declared_sound decl.Let s (allowed decl.Let b.0) b.1) (λ _. other_sound s)
 
   -- each kind of token begins its statement
-  by_sound : (j : TokenKind) (s : State) → kind_at s.at ≡ j → Meets (SoundStmt s) (stmt_by inner inner_expr inner_pat inner_head at j s)
+  by_sound : (j : TokenKind) (s : State) → kind_at s.at ≡ j → Meets (SoundStmt s) (stmt_by inner inner_expr inner_pat inner_head inner_params at j s)
   by_sound kind.LBrace s e = block_sound s e
   by_sound kind.Semi s e = empty_sound s e
   by_sound kind.Debugger s e = debugger_sound s e
@@ -531,11 +522,13 @@ module _ (Stmt : Code → Position → Tree → Place → Place → Type 0) (Exp
   by_sound kind.With s e = with_sound s e
   by_sound kind.While s e = while_sound s e
   by_sound kind.Do s e = do_while_sound s e
-  by_sound kind.For s e = for_sound Stmt Expr Pat Target inner inner_expr inner_pat inner_head sound sound_expr sound_pat sound_head at s e
+  by_sound kind.For s e = for_sound Stmt Expr Pat Target inner inner_expr inner_pat inner_head sound sound_expr sound_pat sound_head Params at s e
+  by_sound kind.Function s e = meets_as (function_stmt (inner nested_item) inner_params at s)
+      (function_stmt_sound Stmt Params (inner nested_item) (sound nested_item) inner_params sound_params at s e) (λ x t p. sound_as s t refl refl refl (λ (h, r). function_rule h r) p)
   by_sound kind.Import s e = import_stmt_at_sound s
   by_sound _ s e = other_sound s
 
-  level_sound : (s : State) → Meets (SoundStmt s) (stmt_level inner inner_expr inner_pat inner_head at s)
+  level_sound : (s : State) → Meets (SoundStmt s) (stmt_level inner inner_expr inner_pat inner_head inner_params at s)
   unfolding stmt_level
   level_sound s = by_sound (kind_at s.at) s refl
 
@@ -634,7 +627,7 @@ opens_sound n s = meets_as (head_cover n s) (heads.head_sound n s) (λ v t p. so
 pub stmt_sound : (n : ℕ) (at : Position) (s : State) → Meets (λ x t. SoundTree (λ k. ReadsStmt n k at) s x t) (stmt n at s)
 unfolding stmt
 stmt_sound zero at s = too_deep_meets _ s
-stmt_sound (suc n) at s = level_sound (ReadsStmt n) (ReadsClass n) (ReadsPat n) (ReadsTarget n) (stmt n) (expr n) (pattern n) (head_cover n) (stmt_sound n) (expr_sound n) (pattern_sound n) (opens_sound n) (λ k x c d h r. import_unnoted n k x c d r h) at s
+stmt_sound (suc n) at s = level_sound (ReadsStmt n) (ReadsClass n) (ReadsPat n) (ReadsTarget n) (ReadsParams n) (stmt n) (expr n) (pattern n) (head_cover n) (patterns.parameters n) (stmt_sound n) (expr_sound n) (pattern_sound n) (opens_sound n) (parameters_sound n) (λ k x c d h r. import_unnoted n k x c d r h) at s
 
 -- a first line and statements up to the end
 body_sound : (n : ℕ) (s : State) → Meets (SoundBody n s) (script_body n s)
@@ -695,12 +688,26 @@ pattern_code n s x t e = let p : SoundTree (ReadsPat n) s x t = meant (λ y u. S
 pub element_code : (n : ℕ) (s : State) (x : Tree) (t : State) → element n s ≡ Ok (x, t) → t.code ≡ s.code
 element_code n s x t e = let p : SoundTree (ReadsElement n) s x t = meant (λ y u. SoundTree (ReadsElement n) s y u) Refuses (element n s) (Ok (x, t)) e (element_sound n s) in p.code
 
+-- a body leaves what is a module's as it was, and the labels and the mark
+module _ (n : ℕ) (s : State) (x : Tree) (t : State) (e : braced (stmt n nested_item) true s ≡ Ok (x, t)) where
+  abbrev Body : Tree → State → Type 0
+  Body = SoundBraces (ReadsStmt n) (stmt n nested_item) (stmt_sound n nested_item) true (InBraces (ReadsStmt n) (stmt n nested_item) (stmt_sound n nested_item) true) s.at s
+
+  body_is : Body x t
+  body_is = meant Body Refuses (braced (stmt n nested_item) true s) (Ok (x, t)) e (braces_sound (ReadsStmt n) (stmt n nested_item) (stmt_sound n nested_item) true s)
+
+  pub body_module : t.code.flags.«module» ≡ s.code.flags.«module»
+  body_module = ap (λ k. k.flags.«module») body_is.2.code ∙ code_module s.code true body_is.0
+
+  pub body_setting : t.code.setting ≡ s.code.setting
+  body_setting = ap (λ k. k.setting) body_is.2.code ∙ code_setting s.code true body_is.0
+
 pub clauses_code : (n : ℕ) (s : State) (xs : List Tree) (t : State) → clauses (stmt n nested_item) (expr n expression) s ≡ Ok (xs, t) → t.code ≡ s.code
 clauses_code n s xs t e =
     let noted : (k : Code) (x : Tree) (c d : Place) → begins_import_expression c ≡ true → ReadsClass n expression k x c d → statement_note x ≡ [] = λ k x c d h r. import_unnoted n k x c d r h in
-    let P : List Tree → State → Type 0 = SoundCases (ReadsStmt n) (ReadsClass n) (ReadsPat n) (ReadsTarget n) (stmt n) (expr n) (pattern n) (head_cover n) (stmt_sound n) (expr_sound n) (pattern_sound n) (opens_sound n) noted nested_item s in
+    let P : List Tree → State → Type 0 = SoundCases (ReadsStmt n) (ReadsClass n) (ReadsPat n) (ReadsTarget n) (ReadsParams n) (stmt n) (expr n) (pattern n) (head_cover n) (patterns.parameters n) (stmt_sound n) (expr_sound n) (pattern_sound n) (opens_sound n) (parameters_sound n) noted nested_item s in
     let p : P xs t = meant P Refuses (clauses (stmt n nested_item) (expr n expression) s) (Ok (xs, t)) e
-    (clauses_sound (ReadsStmt n) (ReadsClass n) (ReadsPat n) (ReadsTarget n) (stmt n) (expr n) (pattern n) (head_cover n) (stmt_sound n) (expr_sound n) (pattern_sound n) (opens_sound n) noted nested_item s) in p.code
+    (clauses_sound (ReadsStmt n) (ReadsClass n) (ReadsPat n) (ReadsTarget n) (ReadsParams n) (stmt n) (expr n) (pattern n) (head_cover n) (patterns.parameters n) (stmt_sound n) (expr_sound n) (pattern_sound n) (opens_sound n) (parameters_sound n) noted nested_item s) in p.code
 
 pub declarators_code : (n : ℕ) (in_head : Bool) (word : VarDeclKind) (s : State) (xs : List Tree) (t : State) → declarators (expr n) (pattern n) in_head word s ≡ Ok (xs, t) → t.code ≡ s.code
 declarators_code n in_head word s xs t e =

@@ -14,15 +14,15 @@ use Rattle.swc_ecma_parser_model.specs.declared.leaves.VarDeclKind.{VarDeclKind}
 use Rattle.swc_ecma_parser_model.specs.declared.leaves.VarDeclKind.TheVariants as decl
 use Rattle.swc_ecma_parser_model.specs.Tree as tree
 use Rattle.swc_ecma_parser_model.specs.Tree.{Tree, Trees, Text, none, also, trees}
-use Rattle.swc_ecma_parser_model.specs.Directive.{is_use_strict}
-use Rattle.swc_ecma_parser_model.specs.Forms.{is_ident, is_ident_named, span_of}
+use Rattle.swc_ecma_parser_model.specs.Directive.{is_use_strict, is_string_statement}
+use Rattle.swc_ecma_parser_model.specs.Forms.{is_ident, is_ident_named, span_of, has_plain_params}
 use Rattle.swc_ecma_parser_grammar.specs.declared.position.Position.{Position}
 use Rattle.swc_ecma_parser_grammar.specs.Looks.{kind_at, sees, span_at, spanned}
 use Rattle.swc_ecma_parser_grammar.specs.Names.{Code}
 use Rattle.swc_ecma_parser_grammar.specs.Follows.{is_let_declaration}
 use Rattle.swc_ecma_parser_grammar.specs.Variables.{begins_variables, is_var, is_const, needs_no_initializer}
 use Rattle.swc_ecma_parser_model.specs.Within.{is_initialized}
-use Rattle.swc_ecma_parser_grammar.specs.Own.{only, stands_around, break_faults, continue_faults, return_faults, labelled_function, duplicates, surplus, head_faults}
+use Rattle.swc_ecma_parser_grammar.specs.Own.{only, stands_around, break_faults, continue_faults, return_faults, labelled_function, duplicates, surplus, head_faults, first_use_strict, misplaced_directive}
 use Rattle.swc_ecma_parser_grammar.specs.Ends.{Ends, by_semicolon, by_insertion, OptionalEnds, by_a_semicolon, by_nothing, can_end, ends_at}
 use Rattle.swc_ecma_parser_grammar.specs.language.Goals.{Class, assignment}
 use Rattle.swc_ecma_parser_grammar.specs.Reads.{with_in, in_strict, directed, directs_on, DeclaratorRule, plain_rule, initialized_rule, ReadsSeparated, ReadsItems, TargetRule, no_target_rule, target_rule, StmtRule, variables_rule}
@@ -31,7 +31,7 @@ use Rattle.swc_ecma_parser_grammar.specs.Walk.{walk, env_of}
 use Rattle.swc_ecma_parser_grammar.specs.Notes.{statement_note, with_note}
 use Rattle.swc_ecma_parser_reader.specs.Notes.{no_notes, held, notes_of, all_notes_of}
 use Rattle.swc_ecma_parser_reader.specs.State.{State, Reader, moved, coded, within, noted, holding_back, module_fault, fault_at, Outcome, and_then, recorded_at, recorded_in, fault, name, end}
-use Rattle.swc_ecma_parser_reader.specs.Reader.{told, target, unbroken, uncontinued, misplaced, misdeclared, after_return, relabels, missing_initializer, initialized, declarator, declarators_turn, declarators, variables, close, directs, items_turn, items, note_statement, no_label, optional_end, note_with}
+use Rattle.swc_ecma_parser_reader.specs.Reader.{told, target, unbroken, uncontinued, misplaced, misdeclared, after_return, relabels, missing_initializer, initialized, declarator, declarators_turn, declarators, variables, close, directs, items_turn, items, note_statement, no_label, optional_end, note_with, misdirected}
 use Rattle.swc_ecma_parser_reader.proofs.expressions.SoundSteps.{meets_as, reject_meets, refused_meets, name_sound, Takes, noted_sound, fault_sound, walks_push, notes_push}
 use Rattle.swc_ecma_parser_grammar.proofs.Tests.{and_yes}
 use Rattle.swc_ecma_parser_reader.proofs.Notes.{or_nil, notes_nil}
@@ -142,10 +142,10 @@ module _ (Expr : Class → Code → Tree → Place → Place → Type 0) (Pat : 
     declarators_sound s = loop_answers (declarators_turn expr pat in_head word) (DeclaratorsSoFar s) (Declarators s) Refuses (declarators_turn_sound s) (λ t. tt) [] s (sound_here s refl)
 
   -- `var`, `let` or `const`
-  pub variables_sound : (Stmt : Code → Position → Tree → Place → Place → Type 0) (Target : Code → Tree → Place → Place → Type 0) (at : Position) (word : VarDeclKind) (s : State)
-      → at.include_decl || is_var word ≡ true → begins_variables word s.at ≡ true → Meets (λ x t. SoundTree (λ k. StmtRule Stmt Expr Pat Target k at) s x t) (variables expr pat word s)
+  pub variables_sound : (Stmt : Code → Position → Tree → Place → Place → Type 0) (Target : Code → Tree → Place → Place → Type 0) (Params : Code → List Tree → Place → Place → Type 0)
+      (at : Position) (word : VarDeclKind) (s : State) → at.include_decl || is_var word ≡ true → begins_variables word s.at ≡ true → Meets (λ x t. SoundTree (λ k. StmtRule Stmt Expr Pat Target Params k at) s x t) (variables expr pat word s)
   unfolding variables
-  variables_sound Stmt Target at word s b e = meets_then _ (within with_in (declarators expr pat false word) (moved s)) _
+  variables_sound Stmt Target Params at word s b e = meets_then _ (within with_in (declarators expr pat false word) (moved s)) _
       (within_sound (λ xs k l. walks.walks (env_of k l) false (trees xs)) (λ xs. all_notes_of (trees xs)) (λ xs k. ReadsSeparated (Declared false word k) xs) with_in (λ k. refl)
       (declarators expr pat false word) (moved s) (declarators_sound false word (coded (with_in s.code) (moved s)))) (λ xs m p.
       meets_then _ (end faults.Unexpected m) _ (end_sound faults.Unexpected m) (λ _ t q.
@@ -185,6 +185,15 @@ in_strict_setting false k = refl
 pub code_setting : (k : Code) (directives : Bool) (xs : List Tree) → (code_after k directives xs).setting ≡ k.setting
 code_setting k directives [] = refl
 code_setting k directives (x ∷ xs) = code_setting (directed k directives x) (directs_on directives x) xs ∙ in_strict_setting (directives && is_use_strict x) k
+
+-- nor whether it is a module's
+in_strict_module : (b : Bool) (k : Code) → (cond b (in_strict k) k).flags.«module» ≡ k.flags.«module»
+in_strict_module true k = refl
+in_strict_module false k = refl
+
+pub code_module : (k : Code) (directives : Bool) (xs : List Tree) → (code_after k directives xs).flags.«module» ≡ k.flags.«module»
+code_module k directives [] = refl
+code_module k directives (x ∷ xs) = code_module (directed k directives x) (directs_on directives x) xs ∙ in_strict_module (directives && is_use_strict x) k
 
 -- the code behind one statement more
 pub code_push : (k : Code) (directives : Bool) (xs : List Tree) (x : Tree) → directed (code_after k directives xs) (directs_after directives xs) x ≡ code_after k directives (xs ++ x ∷ [])
@@ -422,6 +431,19 @@ pub relabels_sound : (label body : Tree) (s : State) → Meets (λ _ t. SoundOwn
 unfolding relabels SoundTold
 relabels_sound label body s = meets_as (relabels label body s) (told_sound _ (both_tabled _ _ (function_tabled s.code.flags.strict body) (duplicates_tabled s.scope.labels label)) s)
     (λ _ t p. sound_as s t refl refl refl (λ h. h) p)
+
+first_tabled : (xs : Trees) → AllTabled (first_use_strict xs)
+first_tabled none = tt
+first_tabled (also x xs) = if_tabled (is_use_strict x) _ _ (refl, tt) (if_tabled (is_string_statement x) _ _ (first_tabled xs) tt)
+
+misplaced_tabled : (plain : Bool) (body : Tree) → AllTabled (misplaced_directive plain body)
+misplaced_tabled plain (tree.block s (tree.list xs)) = if_tabled plain _ _ tt (first_tabled xs)
+misplaced_tabled plain _ = tt
+
+-- of a directive behind parameters that are no plain names
+pub misdirected_sound : (params body : Tree) (s : State) → Meets (λ _ t. SoundOwn (λ k l. misplaced_directive (has_plain_params params) body) s t) (misdirected params body s)
+unfolding misdirected SoundTold
+misdirected_sound params body s = meets_as (misdirected params body s) (told_sound _ (misplaced_tabled (has_plain_params params) body) s) (λ _ t p. sound_as s t refl refl refl (λ h. h) p)
 
 -- the label of `break` and `continue`, in which the walk finds nothing
 pub target_sound : (s : State) → Meets (λ x t. Sound same no_faults (notes_of x) (λ k. TargetRule k x) s t) (target s)

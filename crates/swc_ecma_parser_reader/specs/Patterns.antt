@@ -59,6 +59,34 @@ module _ (inner : Class → Reader Tree) (cover : Reader Cover) (pattern element
   unfoldable pub elements : Reader (List Tree)
   elements = skip >> loop array_turn []
 
+  -- ---- the parameters of a function: section 15.1
+
+  -- behind a parameter a comma stands, or the end
+  abbrev pub behind_parameter : List Tree → Reader (Step (List Tree) (List Tree))
+  behind_parameter found = λ s. if sees kind.RParen s.at then Ok (More found, s) else (do
+    expect kind.Comma
+    pure (More found)) s
+
+  -- the rest is the last: no comma stands behind it
+  abbrev pub behind_rest_parameter : List Tree → Reader (Step (List Tree) (List Tree))
+  behind_rest_parameter found = do
+    expect kind.RParen
+    pure (Done found)
+
+  unfoldable pub parameters_turn : List Tree → Reader (Step (List Tree) (List Tree))
+  parameters_turn found = λ s.
+      if sees kind.RParen s.at then Ok (Done found, moved s)
+      else if sees kind.DotDotDot s.at then (do
+        x ← rest
+        behind_rest_parameter (found ++ x ∷ [])) s
+      else (do
+        x ← within with_in element
+        behind_parameter (found ++ x ∷ [])) s
+
+  -- from `(` to `)`
+  unfoldable pub parameter_list : Reader (List Tree)
+  parameter_list = expect kind.LParen >> loop parameters_turn []
+
   unfoldable pub array : Reader Tree
   array = do
     start ← span_here
@@ -184,3 +212,7 @@ unfoldable mutual
   pub element : ℕ → Reader Tree
   element zero = too_deep
   element (suc n) = element_level (expr n) (cover n) (pattern n) (element n)
+
+-- the parameters of a function, each with its default, if one stands there, in so many levels
+unfoldable pub parameters : ℕ → Reader (List Tree)
+parameters n = parameter_list (expr n) (cover n) (pattern n) (element n)

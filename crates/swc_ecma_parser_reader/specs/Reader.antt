@@ -13,24 +13,26 @@ use Rattle.swc_ecma_parser_model.specs.declared.leaves.VarDeclKind.{VarDeclKind}
 use Rattle.swc_ecma_parser_model.specs.declared.leaves.VarDeclKind.TheVariants as decl
 use Rattle.swc_ecma_parser_model.specs.Tree as tree
 use Rattle.swc_ecma_parser_model.specs.Tree.{Tree, Text, listed}
-use Rattle.swc_ecma_parser_model.specs.Forms.{is_ident, is_ident_named, span_of}
+use Rattle.swc_ecma_parser_model.specs.Forms.{is_ident, is_ident_named, span_of, has_plain_params}
 use Rattle.swc_ecma_parser_grammar.specs.declared.position.Position.{Position}
 use Rattle.swc_ecma_parser_grammar.specs.Looks.{kind_at, breaks_at, sees, span_at}
 use Rattle.swc_ecma_parser_grammar.specs.Names.{Code, name_at}
 use Rattle.swc_ecma_parser_grammar.specs.Follows.{word_at, may_begin_expression_statement, begins_import_expression, is_let_declaration}
 use Rattle.swc_ecma_parser_grammar.specs.Variables.{is_const, needs_no_initializer}
+use Rattle.swc_ecma_parser_grammar.specs.Parameters.{parameters}
 use Rattle.swc_ecma_parser_grammar.specs.Reads.{with_in, head_code, directed, nested_item, top_item}
 use Rattle.swc_ecma_parser_grammar.specs.Ends.{ends_at}
-use Rattle.swc_ecma_parser_grammar.specs.Own.{break_faults, continue_faults, return_faults, labelled_function, duplicates, head_faults}
+use Rattle.swc_ecma_parser_grammar.specs.Own.{break_faults, continue_faults, return_faults, labelled_function, duplicates, misplaced_directive, head_faults}
 use Rattle.swc_ecma_parser_grammar.specs.Entries.{script_code}
-use Rattle.swc_ecma_parser_grammar.specs.language.Contexts.{in_loop, in_breakable, in_with, without_in}
+use Rattle.swc_ecma_parser_grammar.specs.language.Contexts.{in_parameters, in_body, in_loop, in_breakable, in_with, without_in}
 use Rattle.swc_ecma_parser_grammar.specs.language.Goals.{Class, expression, assignment}
 use Rattle.swc_ecma_parser_grammar.specs.language.Items.{sub_statement, labelled_item}
 use Rattle.swc_ecma_parser_reader.specs.Expressions as exprs
 use Rattle.swc_ecma_parser_reader.specs.Expressions.{Cover, expr}
 use Rattle.swc_ecma_parser_reader.specs.Heads.{head_cover}
+use Rattle.swc_ecma_parser_reader.specs.Patterns as patterns
 use Rattle.swc_ecma_parser_reader.specs.Patterns.{pattern}
-use Rattle.swc_ecma_parser_reader.specs.State.{Outcome, Reader, ◌>>=◌, ◌>>◌, pure, here, span_here, since, skip, moved, spanned_from, coded, flagged, within, below_label, fault, fault_at, end_of, module_fault, wanted, too_deep, refuse, reject, refused, labelled, name, expect, end, stuck, Step, More, Done, loop}
+use Rattle.swc_ecma_parser_reader.specs.State.{Outcome, Reader, ◌>>=◌, ◌>>◌, pure, here, span_here, since, skip, moved, spanned_from, coded, flagged, within, below_label, enclosed, fault, fault_at, end_of, module_fault, wanted, too_deep, refuse, reject, refused, labelled, name, expect, end, stuck, Step, More, Done, loop}
 
 -- ---- what is told
 
@@ -131,10 +133,10 @@ module _ (stmt : Reader Tree) where
   unfoldable pub items : (Place → Bool) → Bool → Reader (List Tree)
   items stops directives = loop (items_turn stops directives) []
 
-  -- a block, from behind its `{`
-  unfoldable pub block_from : Place → Reader Tree
-  block_from start = do
-    body ← items closes false
+  -- statements in braces, from behind the `{`, with directives or without
+  unfoldable pub block_from : Bool → Place → Reader Tree
+  block_from directives start = do
+    body ← items closes directives
     close
     span ← spanned_from start
     pure (tree.block span (listed body))
@@ -143,14 +145,14 @@ module _ (stmt : Reader Tree) where
   block = do
     start ← here
     skip
-    block_from start
+    block_from false start
 
-  -- a block that must stand here
-  unfoldable pub braced : Reader Tree
-  braced = do
+  -- statements in braces that must stand here
+  unfoldable pub braced : Bool → Reader Tree
+  braced directives = do
     start ← here
     expect kind.LBrace
-    block_from start
+    block_from directives start
 
 -- in module code `with` is a fault, which is said at that word
 unfoldable pub note_with : Span → Reader (Unit {0})
@@ -602,14 +604,14 @@ module _ (pat : Reader Tree) where
 
 module _ (stmt : Reader Tree) where
   unfoldable pub finalizer : Reader Tree
-  finalizer = λ s. if sees kind.Finally s.at then braced stmt (moved s) else Ok (tree.absent, s)
+  finalizer = λ s. if sees kind.Finally s.at then braced stmt false (moved s) else Ok (tree.absent, s)
 
   module _ (pat : Reader Tree) where
     -- a catch, from behind its word
     unfoldable pub caught : Place → Reader Tree
     caught start = do
       p ← parameter pat
-      body ← braced stmt
+      body ← braced stmt false
       span ← spanned_from start
       pure (tree.catch span p body)
 
@@ -620,7 +622,7 @@ module _ (stmt : Reader Tree) where
     try_stmt = do
       start ← here
       skip
-      body ← braced stmt
+      body ← braced stmt false
       behind ← here
       h ← handler
       f ← finalizer
@@ -628,7 +630,41 @@ module _ (stmt : Reader Tree) where
       span ← spanned_from start
       pure (tree.try span body h f)
 
-module _ (stmt : Position → Reader Tree) (expr : Class → Reader Tree) (pat : Reader Tree) (head_cover : Reader Cover) where
+-- ---- functions
+
+-- parameters that are no plain names, before a body that says it is strict
+unfoldable pub misdirected : (params body : Tree) → Reader (Unit {0})
+misdirected params body = told (misplaced_directive (has_plain_params params) body)
+
+module _ (stmt : Reader Tree) (params : Reader (List Tree)) where
+  -- a body, which has labels and an entry of its own
+  unfoldable pub function_body : Reader Tree
+  function_body = within (λ k. in_body k false false) (enclosed (braced stmt true))
+
+  -- from behind the name
+  unfoldable pub function_parts : Span → Reader Tree
+  function_parts start = do
+    ps ← within (λ k. in_parameters k false false) params
+    body ← function_body
+    span ← since start
+    misdirected (parameters ps) body
+    pure (tree.function span (listed []) (parameters ps) body false false)
+
+  unfoldable pub function_decl : Reader Tree
+  function_decl = do
+    start ← span_here
+    skip
+    i ← name faults.ExpectedIdent
+    fn ← function_parts start
+    pure (tree.fn_decl (tree.ident i.span i.sym) fn)
+
+  -- where no declaration is read, its word is a fault
+  unfoldable pub function_stmt : Position → Reader Tree
+  function_stmt at = λ s. if at.include_decl then function_decl s else (do
+    fault (fault_at (span_at s.at) faults.DeclNotAllowed)
+    function_decl) s
+
+module _ (stmt : Position → Reader Tree) (expr : Class → Reader Tree) (pat : Reader Tree) (head_cover : Reader Cover) (params : Reader (List Tree)) where
   -- `const`, where declarations are read
   unfoldable pub const_stmt : Position → Reader Tree
   const_stmt at = if at.include_decl then variables expr pat decl.Const else wanted faults.Unexpected
@@ -655,6 +691,7 @@ module _ (stmt : Position → Reader Tree) (expr : Class → Reader Tree) (pat :
   stmt_by at kind.While = while_stmt (stmt sub_statement) (expr expression)
   stmt_by at kind.Do = do_while (stmt sub_statement) (expr expression)
   stmt_by at kind.For = for_stmt (stmt sub_statement) expr pat head_cover
+  stmt_by at kind.Function = function_stmt (stmt nested_item) params at
   stmt_by at kind.Import = import_stmt_at (expr expression)
   stmt_by at _ = other_stmt stmt (expr expression) at
 
@@ -664,7 +701,7 @@ module _ (stmt : Position → Reader Tree) (expr : Class → Reader Tree) (pat :
 -- a statement in so many levels
 unfoldable pub stmt : ℕ → Position → Reader Tree
 stmt zero at = too_deep
-stmt (suc n) at = stmt_level (stmt n) (expr n) (pattern n) (head_cover n) at
+stmt (suc n) at = stmt_level (stmt n) (expr n) (pattern n) (head_cover n) (patterns.parameters n) at
 
 -- ---- a script
 

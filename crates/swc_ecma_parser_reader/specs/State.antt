@@ -107,6 +107,18 @@ relabelled w s = record s { scope = record s.scope { labels = w.labels } }
 abbrev pub below_label : {A : Type 0} → Text → Reader A → Reader A
 below_label text p = λ s. and_then (p (below text s)) (λ a t. Ok (a, relabelled s.scope t))
 
+-- below no label
+abbrev pub unlabelled : State → State
+unlabelled s = record s { scope = record s.scope { labels = [] } }
+
+-- whether what makes a program a module was read is what it was
+abbrev pub found_as : Notes → State → State
+found_as ns s = record s { notes = record s.notes { found_module_item = ns.found_module_item } }
+
+-- A reader of a function's body: no label stands around it, and nothing in it makes a program a module.
+abbrev pub enclosed : {A : Type 0} → Reader A → Reader A
+enclosed p = λ s. and_then (p (unlabelled s)) (λ a t. Ok (a, found_as s.notes (relabelled s.scope t)))
+
 abbrev pub noted : Fault → State → State
 noted f s = record s { faults = s.faults ++ f ∷ [] }
 

@@ -1,3 +1,4 @@
+pub mod Around
 pub mod Labels
 pub mod Literals
 pub mod Wanted

@@ -1,12 +1,14 @@
 //! What the rules read from, as a trait over the state of a parser; what they want of it; and the tables of names and operators.
 #![tactic(auto)]
 
+mod around;
 mod literal;
 mod names;
 mod operators;
 mod source;
 mod wanted;
 
+pub use around::Around;
 pub use literal::Literal;
 pub use names::{count_labels, is_identifier, is_label, is_name, is_reserved_word};
 pub use operators::{

@@ -14,12 +14,15 @@ ghost use Rattle.swc_ecma_parser_reader.specs.Expressions as exprs;
 ghost use Rattle.swc_ecma_parser_reader.specs.Reader as rules;
 ghost use Rattle.swc_ecma_parser_reader.specs.State as reader;
 ghost use Rattle.swc_ecma_parser_reader.specs.State.{Gives, GivesAs};
+ghost use Rattle.swc_ecma_parser_source.specs.Around.{left_body};
 ghost use Rattle.swc_ecma_parser_source.specs.Labels.{LeavesLabel};
 ghost use Rattle.swc_ecma_parser_source.specs.Literals.{literal_tree};
 ghost use Rattle.swc_ecma_parser_source.specs.Wanted.{wanted_kind};
 
+use crate::around::Around;
 use crate::literal::Literal;
 use crate::wanted::Wanted;
+use std::alloc::Global;
 use swc_ecma_parser_common::{Atom, Span};
 use swc_ecma_parser_error::{Error, PResult, SyntaxError};
 use swc_ecma_parser_grammar::Position;
@@ -82,6 +85,17 @@ pub trait Source {
     /// Leaves the innermost label.
     fn pop_label(&mut self)
         ensures { LeavesLabel (seen self.old) (seen self.new) };
+
+    /// Enters the body of a function: no label stands around it, and nothing in it makes a program a module. What stood around
+    /// is handed out.
+    fn enter_body(&mut self, alloc: Global) -> Around
+        ensures state { seen self.new ≡ reader.unlabelled (seen self.old) }
+        ensures labels { result.labels.items ≡ (seen self.old).scope.labels }
+        ensures found { result.found_module_item ≡ (seen self.old).notes.found_module_item };
+
+    /// Leaves it: this stands around again.
+    fn leave_body(&mut self, around: Around)
+        ensures { seen self.new ≡ left_body around (seen self.old) };
 
     /// Whether a name stands here.
     fn name_at(&self) -> bool

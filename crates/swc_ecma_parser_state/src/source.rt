@@ -1,12 +1,13 @@
 //! The state as what the rules read from.
 
 use crate::state::State;
+use std::alloc::Global;
 use swc_ecma_parser_common::{Atom, Span};
 use swc_ecma_parser_error::{Error, PResult, SyntaxError};
 use swc_ecma_parser_grammar::Position;
 use swc_ecma_parser_input::{Context, Tokens};
 use swc_ecma_parser_model::Ident;
-use swc_ecma_parser_source::{Literal, Source, Wanted};
+use swc_ecma_parser_source::{Around, Literal, Source, Wanted};
 use swc_ecma_parser_token::TokenKind;
 
 impl<I: Tokens> Source for State<I> {
@@ -58,6 +59,14 @@ impl<I: Tokens> Source for State<I> {
 
     fn pop_label(&mut self) {
         State::pop_label(self);
+    }
+
+    fn enter_body(&mut self, alloc: Global) -> Around {
+        State::enter_body(self, alloc)
+    }
+
+    fn leave_body(&mut self, around: Around) {
+        State::leave_body(self, around);
     }
 
     fn name_at(&self) -> bool {

@@ -12,6 +12,7 @@ ghost use Rattle.swc_ecma_parser_reader.specs.State as reader;
 ghost use Rattle.swc_ecma_parser_reader.specs.State.{Gives, GivesAs};
 ghost use Rattle.swc_ecma_parser_reader.specs.declared.mark.Mark.TheVariants as mark;
 ghost use Rattle.swc_ecma_parser_state.specs.FirstError as first;
+ghost use Rattle.swc_ecma_parser_source.specs.Around.{left_body};
 ghost use Rattle.swc_ecma_parser_source.specs.Labels.{LeavesLabel};
 ghost use Rattle.swc_ecma_parser_source.specs.Literals.{literal_tree};
 ghost use Rattle.swc_ecma_parser_state.specs.Taken as taken;
@@ -20,12 +21,14 @@ ghost use Rattle.swc_ecma_parser_model.specs.declared.leaves.Ident.{Ident};
 ghost use Rattle.swc_ecma_parser_token.specs.Text.{word_text};
 
 use crate::state::State;
+use std::alloc::Global;
+use std::mem;
 use swc_ecma_parser_common::{Atom, Span};
 use swc_ecma_parser_error::{Error, PResult, SyntaxError};
 use swc_ecma_parser_input::{Context, Tokens};
 use swc_ecma_parser_model::{BigInt, Bool, Ident, Null, Number, Str};
 use swc_ecma_parser_reader::Mark;
-use swc_ecma_parser_source::{Literal, Wanted, missing};
+use swc_ecma_parser_source::{Around, Literal, Wanted, missing};
 use swc_ecma_parser_token::{Token, TokenAndSpan, TokenKind, Word};
 
 impl<I: Tokens> State<I> {
@@ -60,6 +63,31 @@ impl<I: Tokens> State<I> {
         ensures { LeavesLabel self.old self.new }
     {
         let _label = self.labels.pop();
+    }
+
+    /// Enters the body of a function: no label stands around it, and nothing in it makes a program a module. What stood around
+    /// is handed out.
+    pub fn enter_body(&mut self, alloc: Global) -> Around
+        ensures state { self.new ≡ reader.unlabelled self.old }
+        ensures labels { result.labels.items ≡ self.old.scope.labels }
+        ensures found { result.found_module_item ≡ self.old.notes.found_module_item }
+    {
+        Around {
+            labels: mem::replace(&mut self.labels, Vec::new(alloc)),
+            found_module_item: self.found_module_item,
+        }
+    }
+
+    /// Leaves it: this stands around again.
+    pub fn leave_body(&mut self, around: Around)
+        ensures { self.new ≡ left_body around self.old }
+    {
+        let Around {
+            labels,
+            found_module_item,
+        } = around;
+        self.labels = labels;
+        self.found_module_item = found_module_item;
     }
 
     /// Takes the current token. Where the token behind the next one finds no memory, that is answered.

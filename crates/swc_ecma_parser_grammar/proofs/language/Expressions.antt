@@ -10,7 +10,8 @@ use Rattle.swc_ecma_parser_grammar.specs.language.Goals.{Goal, Class, Purpose, b
 use Rattle.swc_ecma_parser_grammar.specs.language.Contexts.{in_arrow}
 use Rattle.swc_ecma_parser_grammar.specs.language.Operators.{precedence}
 use Rattle.swc_ecma_parser_grammar.specs.language.Parts.{ElementRule}
-use Rattle.swc_ecma_parser_grammar.specs.language.Functions.{PatternItemRule, parameters}
+use Rattle.swc_ecma_parser_grammar.specs.Parameters.{parameters}
+use Rattle.swc_ecma_parser_grammar.specs.language.Functions.{PatternItemRule}
 use Rattle.swc_ecma_parser_grammar.specs.language.Objects as objects
 use Rattle.swc_ecma_parser_grammar.specs.language.Objects.{PropertyRule}
 use Rattle.swc_ecma_parser_grammar.specs.language.LeftSides as left

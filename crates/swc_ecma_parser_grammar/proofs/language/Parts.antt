@@ -18,7 +18,8 @@ use Rattle.swc_ecma_parser_grammar.specs.language.Parts as parts
 use Rattle.swc_ecma_parser_grammar.specs.language.Parts.{KeyRule, AccessRule, ComputedRule, ElementRule, ArgumentsRule, is_private}
 use Rattle.swc_ecma_parser_grammar.specs.language.Items.{nested_item, directed, directs_on, ItemsRule, BlockRule}
 use Rattle.swc_ecma_parser_grammar.specs.language.Functions as functions
-use Rattle.swc_ecma_parser_grammar.specs.language.Functions.{PatternItemRule, ParametersRule, parameter, parameters, FunctionParts, FunctionRule, MethodRule}
+use Rattle.swc_ecma_parser_grammar.specs.Parameters.{parameter, parameters}
+use Rattle.swc_ecma_parser_grammar.specs.language.Functions.{PatternItemRule, ParametersRule, FunctionParts, FunctionRule, MethodRule}
 use Rattle.swc_ecma_parser_grammar.specs.language.Classes as classes
 use Rattle.swc_ecma_parser_grammar.specs.language.Classes.{DecoratorRule, DecoratorsRule, MemberKeyRule, method_member, field_member, FieldValueRule, CoreRule, MemberRule, HeritageRule, ClassRule}
 use Rattle.swc_ecma_parser_grammar.proofs.language.Asked.{Inside, Level, Fitting, nothing, part, joined, both, turned, sized, leaf, over, same}

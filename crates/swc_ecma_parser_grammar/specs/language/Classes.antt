@@ -17,7 +17,8 @@ use Rattle.swc_ecma_parser_grammar.specs.language.Contexts.{in_class, in_static_
 use Rattle.swc_ecma_parser_grammar.specs.language.Lists.{ReadsEach}
 use Rattle.swc_ecma_parser_grammar.specs.language.Parts.{OptionalName, PrivateRule, KeyRule, is_private}
 use Rattle.swc_ecma_parser_grammar.specs.language.Items.{BlockRule}
-use Rattle.swc_ecma_parser_grammar.specs.language.Functions.{ParametersRule, parameters, MethodRule}
+use Rattle.swc_ecma_parser_grammar.specs.Parameters.{parameters}
+use Rattle.swc_ecma_parser_grammar.specs.language.Functions.{ParametersRule, MethodRule}
 
 -- ---- decorators
 

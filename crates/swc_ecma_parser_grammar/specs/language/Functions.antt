@@ -10,6 +10,7 @@ use Rattle.swc_ecma_parser_model.specs.Forms.{span_of, is_rest}
 use Rattle.swc_ecma_parser_grammar.specs.Looks.{kind_at, breaks_at, spanned}
 use Rattle.swc_ecma_parser_grammar.specs.Names.{Code}
 use Rattle.swc_ecma_parser_grammar.specs.Follows.{word_at}
+use Rattle.swc_ecma_parser_grammar.specs.Parameters.{parameters}
 use Rattle.swc_ecma_parser_grammar.specs.Reads.{with_in}
 use Rattle.swc_ecma_parser_grammar.specs.language.Goals.{Goal, Purpose, binding, pattern_goal, element_goal}
 use Rattle.swc_ecma_parser_grammar.specs.language.Contexts.{named_by, in_parameters, in_body}
@@ -31,13 +32,6 @@ pub record ParametersRule (In : Goal → Type 0) (k : Code) (patterns : List Tre
   pub reads_patterns : ReadsListed true (PatternItemRule In binding (with_in k)) patterns (after c) close
   pub closes : kind_at close ≡ kind.RParen
   pub next : d ≡ after close
-
--- A parameter of a function is as long as its pattern. No decorators stand before it.
-abbrev pub parameter : Tree → Tree
-parameter p = tree.param (span_of p) (listed []) p
-
-abbrev pub parameters : List Tree → Tree
-parameters ps = listed (map parameter ps)
 
 -- ---- parameters and body, from `(` to `}`
 

@@ -11,7 +11,8 @@ use Rattle.swc_ecma_parser_grammar.specs.Names.{Code}
 use Rattle.swc_ecma_parser_grammar.specs.Reads.{with_in}
 use Rattle.swc_ecma_parser_grammar.specs.language.Goals.{Goal, expr_goal, assignment}
 use Rattle.swc_ecma_parser_grammar.specs.language.Parts.{ReadsName, KeyRule}
-use Rattle.swc_ecma_parser_grammar.specs.language.Functions.{parameters, MethodRule}
+use Rattle.swc_ecma_parser_grammar.specs.Parameters.{parameters}
+use Rattle.swc_ecma_parser_grammar.specs.language.Functions.{MethodRule}
 
 -- PropertyDefinition: what stands in its parts is one level further in than the object
 pub data PropertyRule (In : Goal → Type 0) (k : Code) (x : Tree) (c d : Place) : Type 0 where

@@ -17,13 +17,13 @@ use Rattle.swc_ecma_parser_grammar.specs.Notes.{notes}
 use Rattle.swc_ecma_parser_grammar.specs.language.Noted.{has_meta}
 use Rattle.swc_ecma_parser_grammar.specs.Walk.{env_of, walk, walks}
 use Rattle.swc_ecma_parser_grammar.specs.Supported.{supported, is_supported_key, all_supported}
-use Rattle.swc_ecma_parser_grammar.specs.ReadsSupported.{ReadsPat, ReadsElement}
+use Rattle.swc_ecma_parser_grammar.specs.ReadsSupported.{ReadsPat, ReadsElement, ReadsParams}
 use Rattle.swc_ecma_parser_grammar.specs.language.Goals.{Goal, Class, assignment, binding, expr_goal, pattern_goal, element_goal}
 use Rattle.swc_ecma_parser_grammar.specs.language.Lists.{ReadsListed, LastComma, Elements, no_elements, hole, last_element, more_elements}
 use Rattle.swc_ecma_parser_grammar.specs.language.Parts as parts
 use Rattle.swc_ecma_parser_grammar.specs.language.Parts.{ReadsName, KeyRule}
 use Rattle.swc_ecma_parser_grammar.specs.language.Functions as functions
-use Rattle.swc_ecma_parser_grammar.specs.language.Functions.{PatternItemRule}
+use Rattle.swc_ecma_parser_grammar.specs.language.Functions.{PatternItemRule, ParametersRule}
 use Rattle.swc_ecma_parser_grammar.specs.language.Patterns as patterns
 use Rattle.swc_ecma_parser_grammar.specs.language.Patterns.{PatternRule, PatternPropertyRule, PatternElementRule}
 use Rattle.swc_ecma_parser_grammar.specs.language.Reads as language
@@ -32,7 +32,7 @@ use Rattle.swc_ecma_parser_reader.specs.Notes.{Notes, no_notes, ◌⊕◌, notes
 use Rattle.swc_ecma_parser_reader.specs.State.{Scope, State, Reader, loop}
 use Rattle.swc_ecma_parser_reader.specs.Expressions.{Cover, expr, cover}
 use Rattle.swc_ecma_parser_reader.specs.Patterns as reader
-use Rattle.swc_ecma_parser_reader.specs.Patterns.{rest, array_turn, elements, array, rest_name, rest_property, key_value, initialized_name, bare_name, named, behind_key, property, object_turn, properties, object, pattern_level, initialized, element_level, pattern, element}
+use Rattle.swc_ecma_parser_reader.specs.Patterns.{rest, array_turn, elements, parameters_turn, parameter_list, array, rest_name, rest_property, key_value, initialized_name, bare_name, named, behind_key, property, object_turn, properties, object, pattern_level, initialized, element_level, pattern, element, parameters}
 use Rattle.swc_ecma_parser_reader.proofs.Notes.{or_nil, or_assoc}
 use Rattle.swc_ecma_parser_reader.proofs.Answered.{st, Reads}
 use Rattle.swc_ecma_parser_reader.proofs.Takes.{Falls, moves, takes}
@@ -46,6 +46,13 @@ use Rattle.swc_ecma_parser_reader.proofs.expressions.CompleteParts.{expect_reads
 use Rattle.swc_ecma_parser_reader.proofs.expressions.CompleteCovers.{rest_ends, part_begins, word_of, key_outside, name_there}
 use Rattle.swc_ecma_parser_reader.proofs.expressions.Complete.{is_read}
 use Rattle.swc_ecma_parser_reader.proofs.patterns.Falls.{property_falls, pattern_falls, element_falls}
+
+-- ---- lists
+
+-- a list of trees is read, with the faults of their walks and their notes held back
+abbrev pub ReadsList : Reader (List Tree) → Code → List Tree → Place → Place → Type 0
+ReadsList reader k xs c d = (w : Scope) (f : List Fault) (h : Notes)
+    → reader (st c k w f h) ≡ Ok (xs, st d k w (f ++ walks (env_of k w.labels) false (trees xs)) (h ⊕ all_notes_of (trees xs)))
 
 -- ---- the first token
 
@@ -175,6 +182,72 @@ module _ (In : Goal → Type 0) (inner : Class → Reader Tree) (cover : Reader 
       → kind_at m ≡ kind.RBracket → d ≡ after m → x ≡ tree.array_pat (spanned c d) (listed xs) → Reads (array inner cover pattern element) k x c d
   unfolding array elements spanned
   array_reads xs m k x c d r s g i j w f h = rw (many_elements k xs [] (after c) m w f h r s g, j, i) refl
+
+  -- ---- the parameters of a function
+
+  -- a parameter, and what stands behind it
+  parameter_more : (found : List Tree) (k : Code) (x : Tree) (c m d : Place) (w : Scope) (f : List Fault) (h : Notes) → In (element_goal binding (with_in k) x c m) → supported x ≡ true
+      → Behind kind.RParen m d
+      → loop (parameters_turn inner cover pattern element) found (st c k w f h)
+      ≡ loop (parameters_turn inner cover pattern element) (found ++ x ∷ []) (st d k w (f ++ walk (env_of k w.labels) x) (h ⊕ notes_of x))
+  unfolding parameters_turn same_kind
+  parameter_more found k x c m d w f h r s (inl (e, i)) =
+      let (dots, parenthesis, bracket, comma) = begin_seen c (within.begins (with_in k) x c m r s) in
+      loop_more (parameters_turn inner cover pattern element) found (found ++ x ∷ []) (st c k w f h) (st d k w (f ++ walk (env_of k w.labels) x) (h ⊕ notes_of x))
+      (rw (parenthesis, dots, within.reads_element (with_in k) x c m r s w f h, e, i) refl) (rw i (element_shorter k x c m w r s))
+  parameter_more found k x c m d w f h r s (inr (e, i)) =
+      let (dots, parenthesis, bracket, comma) = begin_seen c (within.begins (with_in k) x c m r s) in
+      loop_more (parameters_turn inner cover pattern element) found (found ++ x ∷ []) (st c k w f h) (st d k w (f ++ walk (env_of k w.labels) x) (h ⊕ notes_of x))
+      (rw (
+        parenthesis,
+        dots,
+        within.reads_element (with_in k) x c m r s w f h,
+        e,
+        expect_reads kind.Comma m k w (f ++ walk (env_of k w.labels) x) (h ⊕ notes_of x) e,
+        i,
+      ) refl)
+      (rw i (let a = element_shorter k x c m w r s in let b = moves m in omega arith))
+
+  parameters_end : (found : List Tree) (k : Code) (c : Place) (w : Scope) (f : List Fault) (h : Notes) → kind_at c ≡ kind.RParen
+      → loop (parameters_turn inner cover pattern element) found (st c k w f h) ≡ Ok (found, st (after c) k w f h)
+  unfolding parameters_turn
+  parameters_end found k c w f h e = loop_done (parameters_turn inner cover pattern element) found found (st c k w f h) (st (after c) k w f h) (rw (seen c kind.RParen e) refl)
+
+  -- a rest, behind which the list ends
+  rest_parameter_last : (found : List Tree) (y : Tree) (k : Code) (x : Tree) (c m : Place) (w : Scope) (f : List Fault) (h : Notes) → kind_at c ≡ kind.DotDotDot
+      → In (pattern_goal binding (with_in k) y (after c) m) → supported y ≡ true → x ≡ tree.rest_pat (spanned c m) y → kind_at m ≡ kind.RParen
+      → loop (parameters_turn inner cover pattern element) found (st c k w f h) ≡ Ok (found ++ x ∷ [], st (after m) k w (f ++ walk (env_of k w.labels) x) (h ⊕ notes_of x))
+  unfolding parameters_turn same_kind
+  rest_parameter_last found y k x c m w f h o r s e i =
+      loop_done (parameters_turn inner cover pattern element) found (found ++ x ∷ []) (st c k w f h) (st (after m) k w (f ++ walk (env_of k w.labels) x) (h ⊕ notes_of x))
+      (rw (o, rest_reads y k x c m r s e w f h, expect_reads kind.RParen m k w (f ++ walk (env_of k w.labels) x) (h ⊕ notes_of x) i) refl)
+
+  last_parameter : (found : List Tree) (k : Code) (x : Tree) (c m d : Place) (w : Scope) (f : List Fault) (h : Notes) → PatternItemRule In binding (with_in k) x c m → LastComma true x m d
+      → supported x ≡ true → kind_at d ≡ kind.RParen
+      → loop (parameters_turn inner cover pattern element) found (st c k w f h) ≡ Ok (found ++ x ∷ [], st (after d) k w (f ++ walk (env_of k w.labels) x) (h ⊕ notes_of x))
+  last_parameter found k x c m d w f h (functions.element_rule r) l s e =
+      parameter_more found k x c m d w f h r s (behind_last kind.RParen x m d l e)
+      ∙ parameters_end (found ++ x ∷ []) k d w (f ++ walk (env_of k w.labels) x) (h ⊕ notes_of x) e
+  last_parameter found k x c m d w f h (functions.rest_rule y o r i) l s e =
+      let g = rest_ends x m d (ap is_rest i) l in
+      rw g (rest_parameter_last found y k x c m w f h o r (supported_as x (tree.rest_pat (spanned c m) y) i s) i (ap kind_at (sym g) ∙ e))
+
+  many_parameters : (xs found : List Tree) (k : Code) (c d : Place) (w : Scope) (f : List Fault) (h : Notes) → ReadsListed true (PatternItemRule In binding (with_in k)) xs c d
+      → all_supported (trees xs) ≡ true → kind_at d ≡ kind.RParen
+      → loop (parameters_turn inner cover pattern element) found (st c k w f h)
+      ≡ Ok (found ++ xs, st (after d) k w (f ++ walks (env_of k w.labels) false (trees xs)) (h ⊕ all_notes_of (trees xs)))
+  many_parameters [] found k c d w f h r s e = rw (append-nil found, append-nil f, append-nil h.held_back, or_nil h.found_module_item, r) (parameters_end found k c w f h (ap kind_at (sym r) ∙ e))
+  many_parameters (x ∷ []) found k c d w f h (m, r, l) s e =
+      rw (append-nil (walk (env_of k w.labels) x), append-nil (notes x), or_nil (has_meta x)) (last_parameter found k x c m d w f h r l (and_yes (supported x) _ s).0 e)
+  many_parameters (x ∷ y ∷ ys) found k c d w f h (m, r, a, i, more) s e =
+      let t = and_yes (supported x) _ s in
+      parameter_more found k x c m (after m) w f h (no_rest (with_in k) x c m r a) t.0 (inr (i, refl))
+      ∙ many_parameters (y ∷ ys) (found ++ x ∷ []) k (after m) d w (f ++ walk (env_of k w.labels) x) (h ⊕ notes_of x) more t.1 e ∙ simp (append_assoc, or_assoc) refl
+
+  -- from `(` to `)`
+  parameter_list_reads : (k : Code) (ps : List Tree) (c d : Place) → ParametersRule In k ps c d → all_supported (trees ps) ≡ true → ReadsList (parameter_list inner cover pattern element) k ps c d
+  unfolding parameter_list
+  parameter_list_reads k ps c d r s w f h = rw (expect_reads kind.LParen c k w f h r.opens, many_parameters ps [] k (after c) r.close w f h r.reads_patterns s r.closes, r.next) refl
 
   -- ---- the properties of an object
 
@@ -402,3 +475,8 @@ pattern_reads n k x c d r = (is_pattern_read n).reads_pattern k x c d r.0 r.1
 
 pub element_reads : (n : ℕ) (k : Code) (x : Tree) (c d : Place) → ReadsElement n k x c d → Reads (element n) k x c d
 element_reads n k x c d r = (is_pattern_read n).reads_element k x c d r.0 r.1
+
+-- the parameters of a function
+pub parameters_reads : (n : ℕ) (k : Code) (ps : List Tree) (c d : Place) → ReadsParams n k ps c d → ReadsList (parameters n) k ps c d
+unfolding parameters
+parameters_reads n k ps c d r = parameter_list_reads (language.Reads n) (expr n) (cover n) (is_read n) (pattern n) (element n) (is_pattern_read n) k ps c d r.0 r.1

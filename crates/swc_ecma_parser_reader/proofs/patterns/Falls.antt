@@ -13,13 +13,19 @@ use Rattle.swc_ecma_parser_grammar.specs.Reads.{with_in}
 use Rattle.swc_ecma_parser_grammar.specs.language.Goals.{Class, assignment}
 use Rattle.swc_ecma_parser_reader.specs.State.{State, Reader, moved, coded, within, expect, name}
 use Rattle.swc_ecma_parser_reader.specs.Expressions.{Cover, inside, key, expr, cover}
-use Rattle.swc_ecma_parser_reader.specs.Patterns.{binding, rest, behind_element, behind_rest, array_turn, elements, array, rest_name, rest_property, key_value, initialized_name, bare_name, named, bare_key, behind_key, property, behind_property, behind_rest_property, object_turn, properties, object, pattern_level, initialized, element_level, pattern, element}
-use Rattle.swc_ecma_parser_reader.proofs.Takes.{Falls, falls_then, falls_last, falls_coded, falls_if, less, falls_next, moves, falls_past, falls_moved, wanted_falls, too_deep_falls, expect_falls, name_falls, loop_falls}
+use Rattle.swc_ecma_parser_reader.specs.Patterns.{binding, rest, behind_element, behind_rest, array_turn, elements, behind_parameter, behind_rest_parameter, parameters_turn, parameter_list, array, rest_name, rest_property, key_value, initialized_name, bare_name, named, bare_key, behind_key, property, behind_property, behind_rest_property, object_turn, properties, object, pattern_level, initialized, element_level, pattern, element, parameters}
+use Rattle.swc_ecma_parser_reader.proofs.Takes.{Falls, falls_then, falls_last, falls_coded, falls_if, less, falls_next, moves, takes, falls_past, falls_moved, wanted_falls, too_deep_falls, refuse_falls, expect_falls, name_falls, loop_falls}
 use Rattle.swc_ecma_parser_reader.proofs.expressions.Falls.{reject_falls, no_end, falls_when, inside_falls, key_falls, expr_falls, cover_falls}
 
 binding_falls : (s : State) → Falls 1 (length s.at.left) (binding s)
 unfolding binding
 binding_falls s = falls_last 1 (length s.at.left) (name faults.ExpectedIdent s) _ (name_falls faults.ExpectedIdent s)
+
+-- `(` is taken: where it does not stand the list is refused
+opened_falls : (s : State) → Falls 1 (length s.at.left) (expect kind.LParen s)
+unfolding expect
+opened_falls s = falls_when 1 (length s.at.left) (sees kind.LParen s.at) _ _ (λ e. takes s.at (no_end s kind.LParen (λ z. cc) e)) (λ _.
+    refuse_falls (Unit {0}) 1 (length s.at.left) faults.Expected s)
 
 module _ (inner : Class → Reader Tree) (falls : (class : Class) (s : State) → Falls 1 (length s.at.left) (inner class s))
     (cover : Reader Cover) (falls_cover : (s : State) → Falls 1 (length s.at.left) (cover s))
@@ -62,6 +68,29 @@ module _ (inner : Class → Reader Tree) (falls : (class : Class) (s : State) �
   unfolding array elements
   array_falls s e = falls_last 1 (length s.at.left) (elements inner cover pattern element s) _
       (falls_past s _ e (loop_falls (array_turn inner cover pattern element) array_turn_falls [] (moved s)))
+
+  -- ---- parameters
+
+  behind_parameter_falls : (found : List Tree) (s : State) → Falls 0 (length s.at.left) (behind_parameter inner cover pattern element found s)
+  behind_parameter_falls found s = falls_if 0 (length s.at.left) (sees kind.RParen s.at) _ _ (omega arith)
+      (falls_last 0 (length s.at.left) (expect kind.Comma s) _ (expect_falls kind.Comma s))
+
+  behind_rest_parameter_falls : (found : List Tree) (s : State) → Falls 0 (length s.at.left) (behind_rest_parameter inner cover pattern element found s)
+  behind_rest_parameter_falls found s = falls_last 0 (length s.at.left) (expect kind.RParen s) _ (expect_falls kind.RParen s)
+
+  parameters_turn_falls : (found : List Tree) (s : State) → Falls 0 (length s.at.left) (parameters_turn inner cover pattern element found s)
+  unfolding parameters_turn
+  parameters_turn_falls found s = falls_if 0 (length s.at.left) (sees kind.RParen s.at) _ _ (let m = moves s.at in omega arith)
+      (falls_if 0 (length s.at.left) (sees kind.DotDotDot s.at) _ _
+      (falls_then 0 0 (length s.at.left) (rest inner cover pattern element s) _ (less (length s.at.left) (rest inner cover pattern element s) (rest_falls s)) (λ x t.
+      behind_rest_parameter_falls (found ++ x ∷ []) t))
+      (falls_then 0 0 (length s.at.left) (within with_in element s) _ (less (length s.at.left) (within with_in element s) (within_element_falls s)) (λ x t.
+      behind_parameter_falls (found ++ x ∷ []) t)))
+
+  pub parameter_list_falls : (s : State) → Falls 1 (length s.at.left) (parameter_list inner cover pattern element s)
+  unfolding parameter_list
+  parameter_list_falls s = falls_next (length s.at.left) (expect kind.LParen s) _ (opened_falls s) (λ _ t.
+      loop_falls (parameters_turn inner cover pattern element) parameters_turn_falls [] t)
 
   -- ---- objects
 
@@ -151,3 +180,9 @@ mutual
   pub element_falls : (n : ℕ) (s : State) → Falls 1 (length s.at.left) (element n s)
   element_falls zero s = too_deep_falls Tree 1 (length s.at.left) s
   element_falls (suc n) s = element_level_falls (expr n) (expr_falls n) (cover n) (cover_falls n) (pattern n) (pattern_falls n) (element n) (element_falls n) s
+
+-- the parameters of a function
+pub parameters_fall : (n : ℕ) (s : State) → Falls 0 (length s.at.left) (parameters n s)
+unfolding parameters
+parameters_fall n s = less (length s.at.left) (parameters n s)
+    (parameter_list_falls (expr n) (expr_falls n) (cover n) (cover_falls n) (pattern n) (pattern_falls n) (element n) (element_falls n) s)

@@ -12,7 +12,7 @@ use Rattle.swc_ecma_parser_grammar.specs.Reads.{with_in}
 use Rattle.swc_ecma_parser_grammar.specs.language.Goals.{Class, assignment}
 use Rattle.swc_ecma_parser_reader.specs.State.{State, Reader, moved, coded, within, expect, name, loop}
 use Rattle.swc_ecma_parser_reader.specs.Expressions.{Cover, inside, key, expr, cover}
-use Rattle.swc_ecma_parser_reader.specs.Patterns.{binding, rest, array_turn, elements, array, rest_name, rest_property, key_value, initialized_name, bare_name, named, bare_key, behind_key, property, object_turn, properties, object, pattern_level, initialized, element_level, pattern, element}
+use Rattle.swc_ecma_parser_reader.specs.Patterns.{binding, rest, array_turn, elements, parameters_turn, parameter_list, array, rest_name, rest_property, key_value, initialized_name, bare_name, named, bare_key, behind_key, property, object_turn, properties, object, pattern_level, initialized, element_level, pattern, element, parameters}
 use Rattle.swc_ecma_parser_reader.proofs.Meets.{Answers, answers_then, answers_if, saw}
 use Rattle.swc_ecma_parser_reader.proofs.Behind.{Kept, Lost, Passes, behind_after, too_deep_keeps, wanted_keeps, reject_keeps, expect_keeps, name_keeps, loop_keeps}
 use Rattle.swc_ecma_parser_reader.specs.Entry.{IsBehind}
@@ -50,6 +50,16 @@ module _ (inner : Class → Reader Tree) (cover : Reader Cover) (pattern element
         answers_then _ _ (expect kind.RBracket u) _ (expect_keeps b u k kind.RBracket) (λ _ v j. j)))
         (λ _. answers_then _ _ (within with_in element t) _ (within_element_keeps t g) (λ x u k.
         answers_if _ _ (sees kind.RBracket u.at) _ _ (λ _. k) (λ _. answers_then _ _ (expect kind.Comma u) _ (expect_keeps b u k kind.Comma) (λ _ v j. j))))))) [] s f
+
+    many_parameters_keeps : (s : State) → IsBehind b s → Answers (Kept b) (Lost b) (loop (parameters_turn inner cover pattern element) [] s)
+    unfolding parameters_turn
+    many_parameters_keeps s f = loop_keeps (parameters_turn inner cover pattern element) b
+        (λ found t g. answers_if _ _ (sees kind.RParen t.at) _ _ (λ _. behind_after b t g) (λ _.
+        answers_if _ _ (sees kind.DotDotDot t.at) _ _
+        (λ _. answers_then _ _ (rest inner cover pattern element t) _ (rest_keeps t g) (λ x u k.
+        answers_then _ _ (expect kind.RParen u) _ (expect_keeps b u k kind.RParen) (λ _ v j. j)))
+        (λ _. answers_then _ _ (within with_in element t) _ (within_element_keeps t g) (λ x u k.
+        answers_if _ _ (sees kind.RParen u.at) _ _ (λ _. k) (λ _. answers_then _ _ (expect kind.Comma u) _ (expect_keeps b u k kind.Comma) (λ _ v j. j)))))) [] s f
 
     -- ---- properties
 
@@ -92,7 +102,7 @@ module _ (inner : Class → Reader Tree) (cover : Reader Cover) (pattern element
         (λ _. answers_then _ _ (property inner cover pattern element t) _ (property_keeps t g) (λ x u k.
         answers_if _ _ (sees kind.RBrace u.at) _ _ (λ _. k) (λ _. answers_then _ _ (expect kind.Comma u) _ (expect_keeps b u k kind.Comma) (λ _ v j. j)))))) [] s f
 
-  -- ---- arrays, objects and defaults
+  -- ---- arrays, parameters, objects and defaults
 
   module _ (b : State) where
     elements_keeps : (s : State) → kind_at s.at ≡ kind.LBracket → IsBehind b s → Answers (Kept b) (Lost b) (elements inner cover pattern element s)
@@ -104,6 +114,10 @@ module _ (inner : Class → Reader Tree) (cover : Reader Cover) (pattern element
     array_keeps : (s : State) → kind_at s.at ≡ kind.LBracket → IsBehind b s → Answers (Kept b) (Lost b) (array inner cover pattern element s)
     unfolding array
     array_keeps s e f = answers_then _ _ (elements inner cover pattern element s) _ (elements_keeps s e f) (λ xs t g. g)
+
+    parameter_list_keeps : (s : State) → IsBehind b s → Answers (Kept b) (Lost b) (parameter_list inner cover pattern element s)
+    unfolding parameter_list
+    parameter_list_keeps s f = answers_then _ _ (expect kind.LParen s) _ (expect_keeps b s f kind.LParen) (λ _ t g. many_parameters_keeps b t g)
 
     properties_keeps : (s : State) → kind_at s.at ≡ kind.LBrace → IsBehind b s → Answers (Kept b) (Lost b) (properties inner cover pattern element s)
     unfolding properties
@@ -146,3 +160,8 @@ mutual
   element_keeps zero b s f = too_deep_keeps _ b s f
   element_keeps (suc n) b s f =
       element_level_keeps (expr n) (cover n) (pattern n) (element n) (expr_keeps n) (cover_keeps n) (pattern_keeps n) (element_keeps n) b s f
+
+-- the parameters of a function
+pub parameters_keep : (n : ℕ) → Passes (parameters n)
+unfolding parameters
+parameters_keep n b s f = parameter_list_keeps (expr n) (cover n) (pattern n) (element n) (expr_keeps n) (cover_keeps n) (pattern_keeps n) (element_keeps n) b s f

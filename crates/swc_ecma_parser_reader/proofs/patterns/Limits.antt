@@ -12,14 +12,23 @@ use Rattle.swc_ecma_parser_grammar.specs.Reads.{with_in}
 use Rattle.swc_ecma_parser_grammar.specs.language.Goals.{Class, assignment}
 use Rattle.swc_ecma_parser_reader.specs.State.{State, Reader, moved, coded, within, expect, name, loop}
 use Rattle.swc_ecma_parser_reader.specs.Expressions.{Cover, inside, key, expr, cover}
-use Rattle.swc_ecma_parser_reader.specs.Patterns.{binding, rest, array_turn, elements, array, rest_name, rest_property, key_value, initialized_name, bare_name, named, bare_key, behind_key, property, object_turn, properties, object, pattern_level, initialized, element_level, pattern, element}
+use Rattle.swc_ecma_parser_reader.specs.Patterns.{binding, rest, array_turn, elements, parameters_turn, parameter_list, array, rest_name, rest_property, key_value, initialized_name, bare_name, named, bare_key, behind_key, property, object_turn, properties, object, pattern_level, initialized, element_level, pattern, element, parameters}
 use Rattle.swc_ecma_parser_reader.proofs.Meets.{Answers, answers_then, answers_if, loop_answers, saw}
-use Rattle.swc_ecma_parser_reader.proofs.Shallow.{Fine, fine_more, fine_after, fine_taken, Shallow, Kept, too_deep_shallow, wanted_shallow, expect_shallow, name_shallow, Levels}
+use Rattle.swc_ecma_parser_reader.proofs.Shallow.{Fine, fine_more, fine_after, fine_taken, Shallow, Kept, too_deep_shallow, wanted_shallow, refuse_shallow, expect_shallow, name_shallow, Levels}
 use Rattle.swc_ecma_parser_reader.proofs.expressions.Limits.{kept_more, reject_shallow, unexpected_shallow, inside_shallow, key_shallow, expr_shallow, cover_shallow}
 
 binding_shallow : (m : ℕ) (s : State) → Fine m s.at.left → Answers (Kept m) Shallow (binding s)
 unfolding binding
 binding_shallow m s f = answers_then _ _ (name faults.ExpectedIdent s) _ (name_shallow m s f faults.ExpectedIdent (λ e. cc)) (λ i t g. g)
+
+-- `(` is taken: where it does not stand the list is refused
+abbrev Opened : ℕ → State → Type 0
+Opened m t = (i : ℕ) × (m ≡ suc i) × Fine i t.at.left
+
+opened_shallow : (m : ℕ) (s : State) → Fine m s.at.left → Answers (λ _ t. Opened m t) Shallow (expect kind.LParen s)
+unfolding expect
+opened_shallow m s f = answers_if _ _ (sees kind.LParen s.at) _ _ (λ e. fine_taken m s.at kind.LParen (saw s.at kind.LParen e) (λ z. cc) f)
+    (λ _. refuse_shallow _ faults.Expected (λ e. cc) m s f)
 
 module _ (inner : Class → Reader Tree) (cover : Reader Cover) (pattern element : Reader Tree) (n : ℕ)
     (below : (class : Class) → Levels n (inner class)) (below_cover : Levels n cover) (below_pattern : Levels n pattern) (below_element : Levels n element) where
@@ -49,6 +58,17 @@ module _ (inner : Class → Reader Tree) (cover : Reader Cover) (pattern element
         answers_then _ _ (expect kind.RBracket u) _ (expect_shallow i u k kind.RBracket) (λ _ v j. j)))
         (λ _. answers_then _ _ (within with_in element t) _ (within_element_shallow t g) (λ x u k.
         answers_if _ _ (sees kind.RBracket u.at) _ _ (λ _. k) (λ _. answers_then _ _ (expect kind.Comma u) _ (expect_shallow i u k kind.Comma) (λ _ v j. j)))))))
+        (λ t e. cc) [] s f
+
+    many_parameters_shallow : (s : State) → Fine i s.at.left → Answers (Kept i) Shallow (loop (parameters_turn inner cover pattern element) [] s)
+    unfolding parameters_turn
+    many_parameters_shallow s f = loop_answers (parameters_turn inner cover pattern element) (Kept i) (Kept i) Shallow
+        (λ found t g. answers_if _ _ (sees kind.RParen t.at) _ _ (λ _. fine_after i t.at g) (λ _.
+        answers_if _ _ (sees kind.DotDotDot t.at) _ _
+        (λ _. answers_then _ _ (rest inner cover pattern element t) _ (rest_shallow t g) (λ x u k.
+        answers_then _ _ (expect kind.RParen u) _ (expect_shallow i u k kind.RParen) (λ _ v j. j)))
+        (λ _. answers_then _ _ (within with_in element t) _ (within_element_shallow t g) (λ x u k.
+        answers_if _ _ (sees kind.RParen u.at) _ _ (λ _. k) (λ _. answers_then _ _ (expect kind.Comma u) _ (expect_shallow i u k kind.Comma) (λ _ v j. j))))))
         (λ t e. cc) [] s f
 
     -- ---- properties
@@ -106,6 +126,12 @@ module _ (inner : Class → Reader Tree) (cover : Reader Cover) (pattern element
     unfolding array
     array_shallow s e f = answers_then _ _ (elements inner cover pattern element s) _ (elements_shallow s e f) (λ xs t g. g)
 
+    -- `(` stands before the parameters, or the list is refused
+    parameter_list_shallow : (s : State) → Fine m s.at.left → Answers (Kept m) Shallow (parameter_list inner cover pattern element s)
+    unfolding parameter_list
+    parameter_list_shallow s f = answers_then _ _ (expect kind.LParen s) _ (opened_shallow m s f) (λ _ t (i, h, g).
+        kept_more i m (loop (parameters_turn inner cover pattern element) [] t) (omega arith) (many_parameters_shallow i (omega arith) t g))
+
     properties_shallow : (s : State) → kind_at s.at ≡ kind.LBrace → Fine m s.at.left → Answers (Kept m) Shallow (properties inner cover pattern element s)
     unfolding properties
     properties_shallow s e f =
@@ -147,3 +173,9 @@ mutual
   element_shallow zero m s h f = too_deep_shallow _ s (omega arith)
   element_shallow (suc n) m s h f =
       element_level_shallow (expr n) (cover n) (pattern n) (element n) n (expr_shallow n) (cover_shallow n) (pattern_shallow n) (element_shallow n) m h s f
+
+-- the parameters of a function need a level less, for the token that opens them
+pub parameters_shallow : (n : ℕ) → Levels (suc n) (parameters n)
+unfolding parameters
+parameters_shallow n m s h f =
+    parameter_list_shallow (expr n) (cover n) (pattern n) (element n) n (expr_shallow n) (cover_shallow n) (pattern_shallow n) (element_shallow n) m h s f

@@ -8,7 +8,7 @@ use Rattle.swc_ecma_parser_grammar.specs.Looks.{sees}
 use Rattle.swc_ecma_parser_grammar.specs.Reads.{with_in}
 use Rattle.swc_ecma_parser_reader.specs.State.{State, Reader, coded, moved, within, too_deep, expect, Step, loop}
 use Rattle.swc_ecma_parser_reader.specs.Expressions.{expr, cover}
-use Rattle.swc_ecma_parser_reader.specs.Patterns.{rest, array_turn, rest_property, property, object_turn, pattern_level, element_level, pattern, element}
+use Rattle.swc_ecma_parser_reader.specs.Patterns.{rest, array_turn, parameters_turn, rest_property, property, object_turn, pattern_level, element_level, pattern, element}
 use Rattle.swc_ecma_parser_reader.proofs.Steps.{loop_more, loop_done, loop_err}
 use Rattle.swc_ecma_parser_reader.proofs.Takes.{falls_coded, expect_falls}
 use Rattle.swc_ecma_parser_reader.proofs.expressions.Falls.{expr_falls, cover_falls}
@@ -132,6 +132,53 @@ module _ (n : ℕ) where
             → expect kind.Comma t ≡ Err e → loop property_turn found s ≡ Err e
         unfolding object_turn
         properties_comma_err x t e h g k = loop_err property_turn found s e (rw (more, no_rest, h, g, k) refl)
+
+-- ---- parameters: `)` ends them, and stands behind the rest; behind each other it stands, or a comma
+
+module _ (n : ℕ) where
+  abbrev parameter_turn : List Tree → Reader (Step (List Tree) (List Tree))
+  parameter_turn found = parameters_turn (expr n) (cover n) (pattern n) (element n) found
+
+  module _ (found : List Tree) (s : State) where
+    pub parameters_done : sees kind.RParen s.at ≡ true → loop parameter_turn found s ≡ Ok (found, moved s)
+    unfolding parameters_turn
+    parameters_done e = loop_done parameter_turn found found s (moved s) (rw e refl)
+
+    module _ (more : sees kind.RParen s.at ≡ false) where
+      module _ (is_rest : sees kind.DotDotDot s.at ≡ true) where
+        pub parameters_rest_err : (e : Fault × State) → rest (expr n) (cover n) (pattern n) (element n) s ≡ Err e → loop parameter_turn found s ≡ Err e
+        unfolding parameters_turn
+        parameters_rest_err e h = loop_err parameter_turn found s e (rw (more, is_rest, h) refl)
+
+        pub parameters_rest : (x : Tree) (t u : State) → rest (expr n) (cover n) (pattern n) (element n) s ≡ Ok (x, t) → expect kind.RParen t ≡ Ok (tt, u)
+            → loop parameter_turn found s ≡ Ok (found ++ x ∷ [], u)
+        unfolding parameters_turn
+        parameters_rest x t u h e = loop_done parameter_turn found (found ++ x ∷ []) s u (rw (more, is_rest, h, e) refl)
+
+        pub parameters_rest_close_err : (x : Tree) (t : State) (e : Fault × State) → rest (expr n) (cover n) (pattern n) (element n) s ≡ Ok (x, t)
+            → expect kind.RParen t ≡ Err e → loop parameter_turn found s ≡ Err e
+        unfolding parameters_turn
+        parameters_rest_close_err x t e h g = loop_err parameter_turn found s e (rw (more, is_rest, h, g) refl)
+
+      module _ (no_rest : sees kind.DotDotDot s.at ≡ false) where
+        pub parameters_err : (e : Fault × State) → within with_in (element n) s ≡ Err e → loop parameter_turn found s ≡ Err e
+        unfolding parameters_turn
+        parameters_err e h = loop_err parameter_turn found s e (rw (more, no_rest, h) refl)
+
+        pub parameters_last : (x : Tree) (t : State) → within with_in (element n) s ≡ Ok (x, t) → sees kind.RParen t.at ≡ true
+            → loop parameter_turn found s ≡ loop parameter_turn (found ++ x ∷ []) t
+        unfolding parameters_turn
+        parameters_last x t h e = loop_more parameter_turn found (found ++ x ∷ []) s t (rw (more, no_rest, h, e) refl) (element_shorter n s x t h)
+
+        pub parameters_more : (x : Tree) (t u : State) → within with_in (element n) s ≡ Ok (x, t) → sees kind.RParen t.at ≡ false → expect kind.Comma t ≡ Ok (tt, u)
+            → loop parameter_turn found s ≡ loop parameter_turn (found ++ x ∷ []) u
+        unfolding parameters_turn
+        parameters_more x t u h e k = loop_more parameter_turn found (found ++ x ∷ []) s u (rw (more, no_rest, h, e, k) refl) (elements_shorter n s x t h u k)
+
+        pub parameters_comma_err : (x : Tree) (t : State) (e : Fault × State) → within with_in (element n) s ≡ Ok (x, t) → sees kind.RParen t.at ≡ false
+            → expect kind.Comma t ≡ Err e → loop parameter_turn found s ≡ Err e
+        unfolding parameters_turn
+        parameters_comma_err x t e h g k = loop_err parameter_turn found s e (rw (more, no_rest, h, g, k) refl)
 
 -- ---- levels, where a number is 0 or not
 

@@ -15,7 +15,7 @@ use Rattle.swc_ecma_parser_grammar.specs.Looks.{kind_at, sees, same_kind, span_a
 use Rattle.swc_ecma_parser_grammar.specs.Names.{Code, is_name}
 use Rattle.swc_ecma_parser_grammar.specs.Reads.{with_in}
 use Rattle.swc_ecma_parser_grammar.specs.Supported.{supported, is_supported_key}
-use Rattle.swc_ecma_parser_grammar.specs.ReadsSupported.{ReadsClass, ReadsPat, ReadsElement}
+use Rattle.swc_ecma_parser_grammar.specs.ReadsSupported.{ReadsClass, ReadsPat, ReadsElement, ReadsParams}
 use Rattle.swc_ecma_parser_grammar.specs.language.Goals.{Goal, Class, Purpose, assignment, binding}
 use Rattle.swc_ecma_parser_grammar.specs.language.Lists.{ReadsListed, Elements, hole}
 use Rattle.swc_ecma_parser_grammar.specs.language.Parts.{ReadsName}
@@ -31,7 +31,7 @@ use Rattle.swc_ecma_parser_reader.specs.Notes.{notes_of, all_notes_of}
 use Rattle.swc_ecma_parser_reader.specs.State.{State, Reader, and_then, moved, coded, within, expect, name, Step, More, loop}
 use Rattle.swc_ecma_parser_reader.specs.Expressions.{Cover, inside, key, expr, cover}
 use Rattle.swc_ecma_parser_reader.specs.Patterns as reader
-use Rattle.swc_ecma_parser_reader.specs.Patterns.{rest, array_turn, elements, array, rest_name, rest_property, key_value, initialized_name, bare_name, named, bare_key, behind_key, property, object_turn, properties, object, pattern_level, initialized, element_level, pattern, element}
+use Rattle.swc_ecma_parser_reader.specs.Patterns.{rest, array_turn, elements, parameters_turn, parameter_list, array, rest_name, rest_property, key_value, initialized_name, bare_name, named, bare_key, behind_key, property, object_turn, properties, object, pattern_level, initialized, element_level, pattern, element, parameters}
 use Rattle.swc_ecma_parser_reader.proofs.Meets.{Meets, Refuses, meets_then, meets_if, wanted_meets, too_deep_meets, Turned, loop_answers, saw}
 use Rattle.swc_ecma_parser_reader.proofs.Errors.{is_error}
 use Rattle.swc_ecma_parser_reader.proofs.Between.{SoundTree, Sound, same, sound_moved, sound_here, sound_as, sound_after, within_sound}
@@ -125,13 +125,15 @@ module _ (Rule : Code → Tree → Place → Place → Type 0) (L : Code → Lis
             (λ ((a, b), o). (m.at, begun_all (Plain (L s.code)) j s.at m.at (xs ++ x ∷ []) (nothing_plain (Rule s.code) (L s.code) (lists s.code) m.at) (last_part s.code a b o.0), o.0, o.1))
             (stepped (paired p q) r))
 
-    -- all of them, from the token that opens the list
+    -- all of them, from where the first stands
+    all_sound : (s : State) → ((xs : List Tree) (t : State) → ListSoFar s xs t → Meets (Turned body (ListSoFar s) (SoundList s) Refuses) (body xs t)) → Meets (SoundList s) (loop body [] s)
+    all_sound s turn = loop_answers body (ListSoFar s) (SoundList s) Refuses turn (λ t. tt) [] s (sound_here s (at_more (λ ys d r. r)))
+
+    -- and from the token that opens the list
     list_sound : (i : TokenKind) (s : State) → kind_at s.at ≡ i → is_error i ≡ false
         → ((xs : List Tree) (t : State) → ListSoFar (moved s) xs t → Meets (Turned body (ListSoFar (moved s)) (SoundList (moved s)) Refuses) (body xs t))
         → Meets (λ xs t. Sound same (λ k l. walk (env_of k l) (listed xs)) (notes_of (listed xs)) (λ k c d. Closed xs k (after c) d) s t) (loop body [] (moved s))
-    list_sound i s e h turn = meets_as (loop body [] (moved s))
-        (loop_answers body (ListSoFar (moved s)) (SoundList (moved s)) Refuses turn (λ t. tt) [] (moved s) (sound_here (moved s) (at_more (λ ys d r. r))))
-        (λ xs t p. sound_after s t e h refl refl (λ r. r) p)
+    list_sound i s e h turn = meets_as (loop body [] (moved s)) (all_sound (moved s) turn) (λ xs t p. sound_after s t e h refl refl (λ r. r) p)
 
 -- ---- names
 
@@ -145,6 +147,10 @@ binding_sound n s = meets_then _ (name faults.ExpectedIdent s) _ (name_sound fau
       patterns.binding_name_rule i.sym i.span refl (record { word = r.word; reads_word = r.token; is_text = r.text; is_name = name_is_clean s.code.flags i.sym free }) refl,
       name_is_supported s.code.flags i.sym free,
     )
+
+-- the parameters of a function
+abbrev pub SoundParams : ℕ → State → List Tree → State → Type 0
+SoundParams n s ps t = Sound same (λ k l. walks.walks (env_of k l) false (trees ps)) (all_notes_of (trees ps)) (λ k. ReadsParams n k ps) s t
 
 module _ (n : ℕ) (inner : Class → Reader Tree) (cover : Reader Cover) (pattern element : Reader Tree)
     (sound : (class : Class) (s : State) → Meets (λ x t. SoundTree (ReadsClass n class) s x t) (inner class s)) (covers : (s : State) → Meets (λ v t. SoundCover n s v t) (cover s))
@@ -207,6 +213,49 @@ module _ (n : ℕ) (inner : Class → Reader Tree) (cover : Reader Cover) (patte
   array_sound s e = meets_then _ (loop (array_turn inner cover pattern element) [] (moved s)) _
       (list_sound Item Items items_list kind.RBracket refl (array_turn inner cover pattern element) kind.LBracket s e refl (array_turn_sound (moved s))) (λ xs t p.
       sound_as s t refl refl refl (λ (m, r, h, g). (patterns.array_rule xs m e r.0 h g refl, r.1)) p)
+
+  -- ---- parameters
+
+  abbrev Parameters : Code → List Tree → Place → Place → Type 0
+  Parameters k = ReadsListed true (Item k)
+
+  all_parameters : (k : Code) → Lists (Item k) (Parameters k)
+  all_parameters k = properties_list (Item k)
+
+  -- the parameters so far, and all
+  abbrev ParametersSoFar : State → List Tree → State → Type 0
+  ParametersSoFar = ListSoFar Item Parameters all_parameters kind.RParen refl
+
+  abbrev SoundParameters : State → List Tree → State → Type 0
+  SoundParameters = SoundList Item Parameters all_parameters kind.RParen refl
+
+  parameters_turn_sound : (s : State) (xs : List Tree) (t : State) → ParametersSoFar s xs t
+      → Meets (Turned (parameters_turn inner cover pattern element) (ParametersSoFar s) (SoundParameters s) Refuses) (parameters_turn inner cover pattern element xs t)
+  unfolding parameters_turn
+  parameters_turn_sound s xs t p = meets_if _ (sees kind.RParen t.at) _ _
+      (λ e. end_sound Item Parameters all_parameters kind.RParen refl (parameters_turn inner cover pattern element) s xs t p (saw t.at kind.RParen e))
+      (λ e. meets_if _ (sees kind.DotDotDot t.at) _ _
+      (λ h. meets_then _ (rest inner cover pattern element t) _ (rest_sound t (saw t.at kind.DotDotDot h)) (λ x m q.
+      last_sound Item Parameters all_parameters kind.RParen refl (parameters_turn inner cover pattern element) s xs t p e x m q))
+      (λ _. meets_then _ (within with_in element t) _ (item_sound t) (λ x m q.
+      behind_sound Item Parameters all_parameters kind.RParen refl (parameters_turn inner cover pattern element) s xs t p e x m q)))
+
+  -- from `(` to `)`
+  parameter_list_sound : (s : State) → Meets (SoundParams n s) (parameter_list inner cover pattern element s)
+  unfolding parameter_list
+  parameter_list_sound s = meets_then _ (expect kind.LParen s) _ (expect_sound kind.LParen s refl) (λ _ m p.
+      meets_as (loop (parameters_turn inner cover pattern element) [] m)
+      (all_sound Item Parameters all_parameters kind.RParen refl (parameters_turn inner cover pattern element) m (parameters_turn_sound m)) (λ xs t q.
+      sound_as s t refl refl refl (λ (a, (e, r, h, g)). (
+        record {
+          close = e;
+          opens = a.0;
+          reads_patterns = subst (λ z. Parameters s.code xs z e) a.1 r.0;
+          closes = h;
+          next = g;
+        },
+        r.1,
+      )) (paired p q)))
 
   -- ---- objects
 
@@ -353,3 +402,8 @@ pattern_sound n s = (both_sound n).0 s
 -- and one with its default, if one stands there
 pub element_sound : (n : ℕ) (s : State) → Meets (λ x t. SoundTree (ReadsElement n) s x t) (element n s)
 element_sound n s = (both_sound n).1 s
+
+-- and so are the parameters of a function
+pub parameters_sound : (n : ℕ) (s : State) → Meets (λ ps t. SoundParams n s ps t) (parameters n s)
+unfolding parameters
+parameters_sound n s = parameter_list_sound n (expr n) (cover n) (pattern n) (element n) (expr_sound n) (cover_sound n) (pattern_sound n) (element_sound n) s

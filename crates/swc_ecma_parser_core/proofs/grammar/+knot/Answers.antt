@@ -1,11 +1,12 @@
-use Rattle.std.proofs.Common.{Ok, arith, sym, ap, subst, ◌∙◌}
+use Rattle.std.proofs.Common.{Ok, Err, arith, sym, ap, subst, ◌∙◌}
 use Rattle.std.proofs.lemmas.Result.{err_from_is_err_and}
-use Rattle.swc_ecma_parser_reader.specs.State.{GivesAs}
+use Rattle.swc_ecma_parser_error.specs.Kind.{Fault, fault_of}
+use Rattle.swc_ecma_parser_reader.specs.State.{State, GivesAs}
 use Rattle.swc_ecma_parser_reader.proofs.expressions.Loops.{cover_above}
 use Rattle.swc_ecma_parser_reader.proofs.expressions.Heads.{head_above}
 use Rattle.swc_ecma_parser_reader.proofs.patterns.Loops.{pattern_above, element_above}
-use Rattle.swc_ecma_parser_left.specs.Covers.{cover_of}
-use Rattle.swc_ecma_parser_core.proofs.Covers.{read_lowest, read_expr, read_expr_err, at_asked}
+use Rattle.swc_ecma_parser_left.specs.Covers.{cover_of, read}
+use Rattle.swc_ecma_parser_core.proofs.Covers.{read_lowest, read_expr, read_expr_err, at_asked, refused_as}
 use Rattle.swc_ecma_parser_patterns.proofs.Patterns.{read_pat_lowest, as_asked}
 use Rattle.swc_ecma_parser_core.proofs.grammar.+knot.Goals as goal
 
@@ -15,8 +16,10 @@ expr-returns-then-depth-eq0 g t c = λ h. read_lowest c.args.depth (g.P.Source.s
 pub expr-returns-in_err-expr_level-in-Expr : goal.expr-returns-in_err-expr_level-in-Expr
 expr-returns-in_err-expr_level-in-Expr g t c =
     let p = err_from_is_err_and c.from_residual.result c.from_residual.ensures.1 in
-    rw (p.1, p.2) (λ h. at_asked c.args.depth (g.P.Source.seen c.args.p.now) c.args.asked _ _ c.in-Expr.is
-    (read_expr_err c.args.depth (g.P.Source.seen c.args.p.now) c.in-Expr.class _ (omega arith) (c.in_err-expr_level-in-Expr.ensures h)))
+    let s = g.P.Source.seen c.args.p.now in
+    let e : Fault × State = (fault_of c.in_err-expr_level-in-Expr.field-0.0, g.P.Source.seen c.expr_level.new.p) in
+    refused_as (cover_of g.T.Trees.expr_of) (read c.args.depth c.args.asked s) c.from_residual.result p.0 c.in_err-expr_level-in-Expr.field-0.0 (g.P.Source.seen c.expr_level.new.p) p.1 p.2
+    (λ h. at_asked c.args.depth s c.args.asked _ (Err e) c.in-Expr.is (read_expr_err c.args.depth s c.in-Expr.class e (omega arith) (c.in_err-expr_level-in-Expr.ensures h)))
 
 pub expr-returns-in_ok-expr_level-in-Expr : goal.expr-returns-in_ok-expr_level-in-Expr
 expr-returns-in_ok-expr_level-in-Expr g t c =

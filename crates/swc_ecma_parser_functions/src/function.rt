@@ -1,0 +1,255 @@
+//! Functions that are declared, neither async nor generators: ECMA-262, section 15.2.
+
+ghost use Rattle.std.specs.Prelude.{◌≡◌, true, false, [], map, IfOk, IfErr};
+ghost use Rattle.swc_ecma_parser_error.specs.Kind.{IsOutOfMemory};
+ghost use Rattle.swc_ecma_parser_functions.specs.Late.{late};
+ghost use Rattle.swc_ecma_parser_grammar.specs.Own as own;
+ghost use Rattle.swc_ecma_parser_grammar.specs.Parameters.{parameter};
+ghost use Rattle.swc_ecma_parser_grammar.specs.Reads.{nested_item};
+ghost use Rattle.swc_ecma_parser_grammar.specs.language.Contexts as contexts;
+ghost use Rattle.swc_ecma_parser_left.specs.Nests.{Nests};
+ghost use Rattle.swc_ecma_parser_model.specs.Forms as forms;
+ghost use Rattle.swc_ecma_parser_model.specs.Tree as tree;
+ghost use Rattle.swc_ecma_parser_reader.specs.Patterns as patterns;
+ghost use Rattle.swc_ecma_parser_reader.specs.Reader as rules;
+ghost use Rattle.swc_ecma_parser_reader.specs.State.{Gives, GivesAs, within};
+
+use crate::body::{Body, body_items, close};
+use swc_ecma_parser_common::Span;
+use swc_ecma_parser_error::{PResult, SyntaxError};
+use swc_ecma_parser_grammar::Position;
+use swc_ecma_parser_input::Context;
+use swc_ecma_parser_left::cover::{Cover, Reading};
+use swc_ecma_parser_left::grammar::{Grammar, Part};
+use swc_ecma_parser_left::steps::{grown, pushed, since};
+use swc_ecma_parser_patterns::params::parameters;
+use swc_ecma_parser_source::{Source, Wanted};
+use swc_ecma_parser_token::TokenKind;
+use swc_ecma_parser_trees::{BuildsBlock, BuildsDecl, BuildsFunction, BuildsPattern, MakerOf};
+
+/// A body, with the first directive that says it is strict.
+#[derive(Drop)]
+pub(crate) struct FunctionBody<B> {
+    block: B,
+    strict_directive: Option<Span>,
+}
+
+/// What stands around parameters.
+fn in_parameters(flags: Context) -> Context
+    ensures { result ≡ record flags { in_parameters = true; in_function = false; in_async = false; in_generator = false; include_in_expr = true } }
+{
+    Context {
+        in_parameters: true,
+        in_function: false,
+        in_async: false,
+        in_generator: false,
+        include_in_expr: true,
+        ..flags
+    }
+}
+
+/// What stands around the statements of a body.
+fn in_body(flags: Context) -> Context
+    ensures { result ≡ record flags { in_function = true; in_static_block = false; is_break_allowed = false; is_continue_allowed = false; in_async = false; in_generator = false; include_in_expr = true } }
+{
+    Context {
+        in_function: true,
+        in_static_block: false,
+        is_break_allowed: false,
+        is_continue_allowed: false,
+        in_async: false,
+        in_generator: false,
+        include_in_expr: true,
+        ..flags
+    }
+}
+
+/// The first of these statements that says the code is strict, where only strings stand before it.
+fn first_use_strict<T: BuildsBlock>(stmts: &[T::Stmt]) -> Option<Span>
+    ensures { own.first_use_strict (tree.trees (map T.stmt_of stmts.now)) ≡ late result }
+{
+    let mut rest = stmts;
+    'strings: while let Some((stmt, others)) = rest.split_first() {
+        if T::is_use_strict(stmt) {
+            return Some(T::stmt_span(stmt));
+        }
+        if !T::is_string_statement(stmt) {
+            return None;
+        }
+        rest = others;
+    }
+    None
+}
+
+/// Parameters, in what stands around them.
+fn parameters_inside<
+    P: Source,
+    T: BuildsPattern,
+    S: Fn(&MakerOf<T>, &mut P, usize, Position) -> PResult<T::Stmt>,
+    E: Fn(&MakerOf<T>, &mut P, usize, Reading) -> PResult<Cover<T::Expr>>,
+    N: Fn(&MakerOf<T>, &mut P, usize, Part) -> PResult<T::Pat>,
+>(g: &Grammar<S, E, N>, t: &MakerOf<T>, p: &mut P) -> PResult<Vec<T::Pat>>
+    requires { Nests P.seen T.expr_of T.pat_of T.stmt_of g.now.depth (S.pre g.now.stmt) (S.post g.now.stmt) (E.pre g.now.expr) (E.post g.now.expr) (N.pre g.now.pat) (N.post g.now.pat) }
+    ensures { GivesAs (λ found. map T.pat_of found.items) (within (λ k. contexts.in_parameters k false false) (patterns.parameters g.now.depth) (P.seen p.old)) result (P.seen p.new) }
+{
+    let outer = p.flags();
+    p.set_flags(in_parameters(outer));
+    let found = parameters(g, t, p)?;
+    p.set_flags(outer);
+    Ok(found)
+}
+
+/// The statements of a body, from its `{` to its `}`.
+#[tactic(auto, unfolding(swc_ecma_parser_reader::specs::Reader::braced, swc_ecma_parser_reader::specs::Reader::block_from, swc_ecma_parser_grammar::specs::Looks::spanned))]
+fn block<
+    P: Source,
+    T: BuildsBlock,
+    S: Fn(&MakerOf<T>, &mut P, usize, Position) -> PResult<T::Stmt>,
+    E: Fn(&MakerOf<T>, &mut P, usize, Reading) -> PResult<Cover<T::Expr>>,
+    N: Fn(&MakerOf<T>, &mut P, usize, Part) -> PResult<T::Pat>,
+>(g: &Grammar<S, E, N>, t: &MakerOf<T>, p: &mut P) -> PResult<FunctionBody<T::Block>>
+    requires { Nests P.seen T.expr_of T.pat_of T.stmt_of g.now.depth (S.pre g.now.stmt) (S.post g.now.stmt) (E.pre g.now.expr) (E.post g.now.expr) (N.pre g.now.pat) (N.post g.now.pat) }
+    ensures gives { GivesAs (λ body. T.block_of body.block) (rules.braced (rules.stmt g.now.depth nested_item) true (P.seen p.old)) result (P.seen p.new) }
+    ensures directive { IfOk result (λ body. own.misplaced_directive false (T.block_of body.block) ≡ late body.strict_directive) }
+{
+    let start = p.span();
+    p.expect(TokenKind::LBrace, "{")?;
+    let stmts = body_items(g, t, p, Body::Function)?;
+    close(t.alloc, p)?;
+    let span = since(p, start);
+    let strict_directive = first_use_strict::<T>(&stmts);
+    let block = grown(p, T::body(t.alloc, span, stmts))?;
+    Ok(FunctionBody {
+        block,
+        strict_directive,
+    })
+}
+
+/// A body, in what stands around its statements.
+fn function_body<
+    P: Source,
+    T: BuildsBlock,
+    S: Fn(&MakerOf<T>, &mut P, usize, Position) -> PResult<T::Stmt>,
+    E: Fn(&MakerOf<T>, &mut P, usize, Reading) -> PResult<Cover<T::Expr>>,
+    N: Fn(&MakerOf<T>, &mut P, usize, Part) -> PResult<T::Pat>,
+>(g: &Grammar<S, E, N>, t: &MakerOf<T>, p: &mut P) -> PResult<FunctionBody<T::Block>>
+    requires { Nests P.seen T.expr_of T.pat_of T.stmt_of g.now.depth (S.pre g.now.stmt) (S.post g.now.stmt) (E.pre g.now.expr) (E.post g.now.expr) (N.pre g.now.pat) (N.post g.now.pat) }
+    ensures gives { GivesAs (λ body. T.block_of body.block) (rules.function_body (rules.stmt g.now.depth nested_item) (patterns.parameters g.now.depth) (P.seen p.old)) result (P.seen p.new) }
+    ensures directive { IfOk result (λ body. own.misplaced_directive false (T.block_of body.block) ≡ late body.strict_directive) }
+{
+    let outer = p.flags();
+    p.set_flags(in_body(outer));
+    let around = p.enter_body(t.alloc);
+    let body = block(g, t, p)?;
+    p.leave_body(around);
+    p.set_flags(outer);
+    Ok(body)
+}
+
+/// Patterns as parameters, each as long as its pattern.
+fn as_params<P: Source, T: BuildsFunction + BuildsPattern>(
+    t: &MakerOf<T>,
+    p: &mut P,
+    pats: Vec<T::Pat>,
+) -> PResult<Vec<T::Param>>
+    ensures made { IfOk result (λ params. map T.param_of params.items ≡ map parameter (map T.pat_of pats.items)) }
+    ensures state { IfOk result (λ params. P.seen p.new ≡ P.seen p.old) }
+    ensures err { IfErr result IsOutOfMemory }
+{
+    let mut params = Vec::new(t.alloc);
+    'pats: for pat in pats {
+        let span = T::pat_span(&pat);
+        let param = grown(p, T::param(t.alloc, span, Vec::new(t.alloc), pat))?;
+        pushed(p, &mut params, param)?;
+    }
+    Ok(params)
+}
+
+/// Whether each of these is a plain name.
+fn are_plain<T: BuildsFunction>(params: &[T::Param]) -> bool
+    ensures { result ≡ forms.are_plain_params (tree.trees (map T.param_of params.now)) }
+{
+    params.iter().all(|param| T::is_plain_param(param))
+}
+
+/// Records a directive that says a body is strict, where a parameter is no plain name.
+fn misdirected<P: Source>(p: &mut P, is_plain: bool, directive: Option<Span>) -> PResult<()>
+    ensures plain { is_plain ≡ true → Gives (rules.told [] (P.seen p.old)) result (P.seen p.new) }
+    ensures late { is_plain ≡ false → Gives (rules.told (late directive) (P.seen p.old)) result (P.seen p.new) }
+{
+    match directive {
+        Some(span) if !is_plain => p.fault(SyntaxError::IllegalLanguageModeDirective, span),
+        _ => Ok(()),
+    }
+}
+
+/// A function, from behind its name.
+#[tactic(auto, unfolding(swc_ecma_parser_reader::specs::Reader::function_parts, swc_ecma_parser_reader::specs::Reader::misdirected))]
+fn function_parts<
+    P: Source,
+    T: BuildsFunction + BuildsPattern,
+    S: Fn(&MakerOf<T>, &mut P, usize, Position) -> PResult<T::Stmt>,
+    E: Fn(&MakerOf<T>, &mut P, usize, Reading) -> PResult<Cover<T::Expr>>,
+    N: Fn(&MakerOf<T>, &mut P, usize, Part) -> PResult<T::Pat>,
+>(g: &Grammar<S, E, N>, t: &MakerOf<T>, p: &mut P, start: Span) -> PResult<T::Function>
+    requires { Nests P.seen T.expr_of T.pat_of T.stmt_of g.now.depth (S.pre g.now.stmt) (S.post g.now.stmt) (E.pre g.now.expr) (E.post g.now.expr) (N.pre g.now.pat) (N.post g.now.pat) }
+    ensures { GivesAs T.function_of (rules.function_parts (rules.stmt g.now.depth nested_item) (patterns.parameters g.now.depth) start (P.seen p.old)) result (P.seen p.new) }
+{
+    let pats = parameters_inside(g, t, p)?;
+    let FunctionBody {
+        block,
+        strict_directive,
+    } = function_body(g, t, p)?;
+    let span = since(p, start);
+    let params = as_params::<P, T>(t, p, pats)?;
+    misdirected(p, are_plain::<T>(&params), strict_directive)?;
+    let function = T::function(
+        t.alloc,
+        span,
+        Vec::new(t.alloc),
+        params,
+        block,
+        false,
+        false,
+    );
+    grown(p, function)
+}
+
+/// A function that is declared.
+#[tactic(auto, unfolding(swc_ecma_parser_reader::specs::Reader::function_decl))]
+fn function_decl<
+    P: Source,
+    T: BuildsDecl + BuildsPattern,
+    S: Fn(&MakerOf<T>, &mut P, usize, Position) -> PResult<T::Stmt>,
+    E: Fn(&MakerOf<T>, &mut P, usize, Reading) -> PResult<Cover<T::Expr>>,
+    N: Fn(&MakerOf<T>, &mut P, usize, Part) -> PResult<T::Pat>,
+>(g: &Grammar<S, E, N>, t: &MakerOf<T>, p: &mut P) -> PResult<T::Stmt>
+    requires { Nests P.seen T.expr_of T.pat_of T.stmt_of g.now.depth (S.pre g.now.stmt) (S.post g.now.stmt) (E.pre g.now.expr) (E.post g.now.expr) (N.pre g.now.pat) (N.post g.now.pat) }
+    ensures { GivesAs T.stmt_of (rules.function_decl (rules.stmt g.now.depth nested_item) (patterns.parameters g.now.depth) (P.seen p.old)) result (P.seen p.new) }
+{
+    let start = p.span();
+    p.skip()?;
+    let name = p.name(Wanted::Name)?;
+    let function = function_parts(g, t, p, start)?;
+    let decl = grown(p, T::fn_decl(t.alloc, name, function))?;
+    grown(p, T::decl_stmt(t.alloc, decl))
+}
+
+/// The same, where declarations are read or with a fault of its word.
+#[tactic(auto, unfolding(swc_ecma_parser_reader::specs::Reader::function_stmt))]
+pub fn function_stmt<
+    P: Source,
+    T: BuildsDecl + BuildsPattern,
+    S: Fn(&MakerOf<T>, &mut P, usize, Position) -> PResult<T::Stmt>,
+    E: Fn(&MakerOf<T>, &mut P, usize, Reading) -> PResult<Cover<T::Expr>>,
+    N: Fn(&MakerOf<T>, &mut P, usize, Part) -> PResult<T::Pat>,
+>(g: &Grammar<S, E, N>, t: &MakerOf<T>, p: &mut P, at: Position) -> PResult<T::Stmt>
+    requires { Nests P.seen T.expr_of T.pat_of T.stmt_of g.now.depth (S.pre g.now.stmt) (S.post g.now.stmt) (E.pre g.now.expr) (E.post g.now.expr) (N.pre g.now.pat) (N.post g.now.pat) }
+    ensures { GivesAs T.stmt_of (rules.function_stmt (rules.stmt g.now.depth nested_item) (patterns.parameters g.now.depth) at (P.seen p.old)) result (P.seen p.new) }
+{
+    if !at.include_decl {
+        let word = p.span();
+        p.fault(SyntaxError::DeclNotAllowed, word)?;
+    }
+    function_decl(g, t, p)
+}

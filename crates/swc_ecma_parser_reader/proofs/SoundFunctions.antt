@@ -1,0 +1,166 @@
+-- Functions are sound: their parameters, their bodies with directives, and what is told of a directive that comes too late.
+use Rattle.std.proofs.Common.{◌≡◌, Bool, true, false, List, [], ◌∷◌, ◌++◌, map, refl, sym, ◌∙◌, ap, subst}
+use Rattle.std.specs.Prelude.{◌||◌}
+use Rattle.swc_ecma_parser_common.specs.declared.span.Span.{Span}
+use Rattle.swc_ecma_parser_error.specs.Kind as faults
+use Rattle.swc_ecma_parser_token.specs.declared.kind.TokenKind.TheVariants as kind
+use Rattle.swc_ecma_parser_token.specs.Text.{word_text}
+use Rattle.swc_ecma_parser_input.specs.Place.{Place, after}
+use Rattle.swc_ecma_parser_model.specs.Tree as tree
+use Rattle.swc_ecma_parser_model.specs.Tree.{Tree, Text, listed, trees}
+use Rattle.swc_ecma_parser_model.specs.Forms.{has_plain_params}
+use Rattle.swc_ecma_parser_grammar.specs.declared.position.Position.{Position}
+use Rattle.swc_ecma_parser_grammar.specs.Looks.{kind_at, span_at, spanned}
+use Rattle.swc_ecma_parser_grammar.specs.Names.{Code}
+use Rattle.swc_ecma_parser_grammar.specs.Own.{misplaced_directive, first_use_strict}
+use Rattle.swc_ecma_parser_grammar.specs.Parameters.{parameter, parameters}
+use Rattle.swc_ecma_parser_grammar.specs.Reads.{nested_item, ReadsItems, ReadsBraced, ReadsFunction}
+use Rattle.swc_ecma_parser_grammar.specs.language.Contexts.{in_parameters, in_body}
+use Rattle.swc_ecma_parser_grammar.specs.Walk as walks
+use Rattle.swc_ecma_parser_grammar.specs.Walk.{Env, walk, env_of}
+use Rattle.swc_ecma_parser_reader.specs.Notes.{Notes, ◌⊕◌, notes_of, all_notes_of}
+use Rattle.swc_ecma_parser_reader.specs.State.{State, Reader, moved, coded, unlabelled, relabelled, found_as, enclosed, within, expect, name, noted, fault_at}
+use Rattle.swc_ecma_parser_reader.specs.Reader.{closes, close, items, block_from, braced, misdirected, function_body, function_parts, function_decl, function_stmt}
+use Rattle.swc_ecma_parser_reader.proofs.Notes.{or_nil, notes_nil}
+use Rattle.swc_ecma_parser_reader.proofs.Meets.{Meets, meets_then, meets_if}
+use Rattle.swc_ecma_parser_reader.proofs.Errors.{is_error, fault_here}
+use Rattle.swc_ecma_parser_reader.proofs.Between.{Sound, SoundTree, same, sound_then, sound_more, sound_as, sound_after, sound_under, sound_enclosed, sound_noted, within_sound}
+use Rattle.swc_ecma_parser_reader.proofs.expressions.SoundSteps.{meets_as, name_sound, Takes, expect_sound, FreeWord}
+use Rattle.swc_ecma_parser_reader.proofs.SoundParts.{code_after, code_setting, items_sound, close_sound, SoundOwn, misdirected_sound}
+
+-- ---- statements in braces
+
+module _ (Stmt : Code → Position → Tree → Place → Place → Type 0) (inner : Reader Tree) (sound : (s : State) → Meets (λ x t. SoundTree (λ k. Stmt k nested_item) s x t) (inner s)) (directives : Bool) where
+  -- a block that begins at a place, with the code behind its statements
+  abbrev pub SoundBraces : (List Tree → Code → Place → Place → Type 0) → Place → State → Tree → State → Type 0
+  SoundBraces P start s x t = (xs : List Tree) × (x ≡ tree.block (spanned start t.at) (listed xs))
+      × Sound (λ k. code_after k directives xs) (λ k l. walks.walks (env_of k l) directives (trees xs)) (all_notes_of (trees xs)) (P xs) s t
+
+  -- from behind the `{`, and from it on
+  abbrev pub BehindBrace : List Tree → Code → Place → Place → Type 0
+  BehindBrace xs k c d = (i : Place) × ReadsItems (λ j. Stmt j nested_item) k directives xs c i × Takes kind.RBrace i d
+
+  abbrev pub InBraces : List Tree → Code → Place → Place → Type 0
+  InBraces xs k c d = (kind_at c ≡ kind.LBrace) × BehindBrace xs k (after c) d
+
+  pub body_from_sound : (start : Place) (s : State) → Meets (SoundBraces BehindBrace start s) (block_from inner directives start s)
+  unfolding block_from
+  body_from_sound start s = meets_then _ (items inner closes directives s) _ (items_sound (λ j. Stmt j nested_item) inner sound closes directives s) (λ xs m p.
+      meets_then _ (close m) _ (close_sound m) (λ _ t q. (xs, refl, sound_as s t refl refl refl (λ r. r) (sound_more p.0 q))))
+
+  pub braces_sound : (s : State) → Meets (SoundBraces InBraces s.at s) (braced inner directives s)
+  unfolding braced
+  braces_sound s = meets_then _ (expect kind.LBrace s) _ (expect_sound kind.LBrace s refl) (λ _ m p.
+      meets_as (block_from inner directives s.at m) (body_from_sound s.at m) (λ x t (xs, e, q). (
+        xs,
+        e,
+        sound_as s t refl refl refl
+            (λ (a, (b, c), (i, r, z)). (b, (i, subst (λ v. ReadsItems (λ j. Stmt j nested_item) s.code directives xs v i) c r, z))) (sound_then p q),
+      )))
+
+  -- as the rule has them
+  pub in_braces : {k : Code} {x : Tree} {c d : Place} (xs : List Tree) → x ≡ tree.block (spanned c d) (listed xs) → InBraces xs k c d → ReadsBraced Stmt directives k x c d
+  in_braces xs e (b, (i, r, z)) = record { items = xs; close = i; opens = b; reads_items = r; closes = z.0; next = z.1; is = e }
+
+-- ---- parameters: each is as its pattern is
+
+pub parameters_walk : (env : Env) (ps : List Tree) → walks.walks env false (trees (map parameter ps)) ≡ walks.walks env false (trees ps)
+parameters_walk env [] = refl
+parameters_walk env (p ∷ ps) = ap (λ z. walk env p ++ z) (parameters_walk env ps)
+
+pub parameters_notes : (ps : List Tree) → all_notes_of (trees (map parameter ps)) ≡ all_notes_of (trees ps)
+parameters_notes [] = refl
+parameters_notes (p ∷ ps) = ap (λ z. notes_of p ⊕ z) (parameters_notes ps)
+
+-- the notes of a function: nothing in its body makes a program a module
+pub function_notes : (s : Span) (ps : List Tree) (body : Tree)
+    → all_notes_of (trees ps) ⊕ record (notes_of body) { found_module_item = false } ≡ notes_of (tree.function s (listed []) (parameters ps) body false false)
+function_notes s ps body = ap (λ z. z ⊕ record (notes_of body) { found_module_item = false }) (sym (parameters_notes ps))
+    ∙ ap {A = Bool} (λ b. record { held_back = (notes_of (tree.function s (listed []) (parameters ps) body false false)).held_back; found_module_item = b }) (or_nil (all_notes_of (trees (map parameter ps))).found_module_item)
+
+-- ---- functions
+
+module _ (Stmt : Code → Position → Tree → Place → Place → Type 0) (Params : Code → List Tree → Place → Place → Type 0) (inner : Reader Tree)
+    (sound : (s : State) → Meets (λ x t. SoundTree (λ k. Stmt k nested_item) s x t) (inner s)) (params : Reader (List Tree))
+    (sound_params : (s : State) → Meets (λ ps t. Sound same (λ k l. walks.walks (env_of k l) false (trees ps)) (all_notes_of (trees ps)) (λ k. Params k ps) s t) (params s)) where
+  -- a body has labels of its own, and what is found in it is not told
+  SoundEnclosed : State → Tree → State → Type 0
+  SoundEnclosed j x t = (xs : List Tree) × Sound (λ k. code_after k true xs) (λ k l. walks.walk_body (env_of k []) x) (record (notes_of x) { found_module_item = false }) (λ k. ReadsBraced Stmt true k x) j t
+
+  enclosed_sound : (j : State) → Meets (SoundEnclosed j) (enclosed (braced inner true) j)
+  unfolding SoundEnclosed
+  enclosed_sound j = meets_then _ (braced inner true (unlabelled j)) _ (braces_sound Stmt inner sound true (unlabelled j)) (λ x t (xs, e, p). (
+    xs,
+    sound_as j (found_as j.notes (relabelled j.scope t)) refl (sym (ap (walks.walk_body (env_of j.code [])) e)) (sym (ap (λ z. record (notes_of z) { found_module_item = false }) e))
+        (λ r. in_braces Stmt inner sound true xs e r) (sound_enclosed j t p),
+  ))
+
+  -- under the flags of one
+  function_body_sound : (s : State)
+      → Meets (λ x t. Sound same (λ k l. walks.walk_body (walks.in_body (env_of k l)) x) (record (notes_of x) { found_module_item = false }) (λ k. ReadsBraced Stmt true (in_body k false false) x) s t)
+      (function_body inner params s)
+  unfolding function_body SoundEnclosed
+  function_body_sound s = let j = coded (in_body s.code false false) s in
+      meets_then _ (enclosed (braced inner true) j) _ (enclosed_sound j) (λ x t (xs, p).
+      sound_under {f = λ k. code_after k true xs} {w = λ k l. walks.walk_body (env_of k []) x} {P = λ k. ReadsBraced Stmt true k x}
+      (λ k. in_body k false false) (λ k. code_setting (in_body k false false) true xs) s t p)
+
+  -- from behind the name
+  Parts : Span → Tree → Code → Place → Place → Type 0
+  Parts start x k c d = (ps : List Tree) × (body : Tree) × (m : Place) × Params (in_parameters k false false) ps c m × ReadsBraced Stmt true (in_body k false false) body m d
+      × (x ≡ tree.function (record { lo = start.lo; hi = d.last.hi }) (listed []) (parameters ps) body false false)
+
+  function_parts_sound : (start : Span) (s : State) → Meets (λ x t. Sound same (λ k l. walk (env_of k l) x) (notes_of x) (Parts start x) s t) (function_parts inner params start s)
+  unfolding function_parts Parts
+  function_parts_sound start s = meets_then _ (within (λ k. in_parameters k false false) params s) _
+      (within_sound (λ ps k l. walks.walks (env_of k l) false (trees ps)) (λ ps. all_notes_of (trees ps)) (λ ps k. Params k ps) (λ k. in_parameters k false false) (λ k. refl) params s
+      (sound_params (coded (in_parameters s.code false false) s))) (λ ps m p.
+      meets_then _ (function_body inner params m) _ (function_body_sound m) (λ x u q.
+      meets_then _ (misdirected (parameters ps) x u) _ (misdirected_sound (parameters ps) x u) (λ _ t r.
+      let here : Span = record { lo = start.lo; hi = u.at.last.hi } in
+      let both : Sound same (λ k l. walks.walks (walks.in_params (env_of k l)) false (trees ps) ++ walks.walk_body (walks.in_body (env_of k l)) x)
+      (all_notes_of (trees ps) ⊕ record (notes_of x) { found_module_item = false })
+      (λ k c d. ((j : Place) × Params (in_parameters k false false) ps c j × ReadsBraced Stmt true (in_body k false false) x j d) × (d ≡ u.at)) s u =
+      sound_as s u refl refl refl (λ z. (z, refl)) (sound_then p q) in
+      sound_as s t refl
+      (ap (λ z. z ++ walks.walk_body (walks.in_body (env_of s.code s.scope.labels)) x ++ misplaced_directive (has_plain_params (parameters ps)) x) (sym (parameters_walk (walks.in_params (env_of s.code s.scope.labels)) ps)))
+      (notes_nil (all_notes_of (trees ps) ⊕ record (notes_of x) { found_module_item = false }) ∙ function_notes here ps x)
+      (λ (i, ((j, a, b), g), c). (
+        ps,
+        x,
+        j,
+        a,
+        subst (ReadsBraced Stmt true (in_body s.code false false) x j) (sym c) b,
+        ap (λ d. tree.function (record { lo = start.lo; hi = d.last.hi }) (listed []) (parameters ps) x false false) (sym (c ∙ g)),
+      ))
+      (sound_then both r))))
+
+  -- from its word on
+  function_sound : (s : State) → kind_at s.at ≡ kind.Function → Meets (λ x t. SoundTree (λ k. ReadsFunction Stmt Params k) s x t) (function_decl inner params s)
+  unfolding function_decl spanned Parts
+  function_sound s e = meets_then _ (name faults.ExpectedIdent (moved s)) _ (name_sound faults.ExpectedIdent (moved s)) (λ i m p.
+      meets_then _ (function_parts inner params (span_at s.at) m) _ (function_parts_sound (span_at s.at) m) (λ x t q.
+      sound_after s t e refl refl refl (λ (j, w, (ps, body, n, a, b, z)). record {
+        name = w.word;
+        name_span = i.span;
+        patterns = ps;
+        body = body;
+        behind_name = j;
+        middle = n;
+        is_function = e;
+        reads_name = w.token;
+        is_named = w.free;
+        reads_parameters = a;
+        reads_body = b;
+        is = ap (λ v. tree.fn_decl (tree.ident i.span v) x) w.text ∙ ap (tree.fn_decl (tree.ident i.span (word_text w.word))) z;
+      }) (sound_then p q)))
+
+  -- where no declaration is read the fault of its word is no fault of the table
+  pub function_stmt_sound : (at : Position) (s : State) → kind_at s.at ≡ kind.Function
+      → Meets (λ x t. Sound same (λ k l. walk (env_of k l) x) (notes_of x) (λ k c d. (at.include_decl ≡ true) × ReadsFunction Stmt Params k x c d) s t) (function_stmt inner params at s)
+  unfolding function_stmt
+  function_stmt_sound at s e = meets_if _ at.include_decl _ _
+      (λ h. meets_as (function_decl inner params s) (function_sound s e) (λ x t p. sound_as s t refl refl refl (λ r. (h, r)) p))
+      (λ _. rw (fault_here s (fault_at (span_at s.at) faults.DeclNotAllowed) (ap is_error e))
+      (meets_as (function_decl inner params (noted (fault_at (span_at s.at) faults.DeclNotAllowed) s)) (function_sound (noted (fault_at (span_at s.at) faults.DeclNotAllowed) s) e)
+      (λ x t p. sound_noted s t (fault_at (span_at s.at) faults.DeclNotAllowed) refl p)))
