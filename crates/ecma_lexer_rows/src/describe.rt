@@ -50,18 +50,30 @@ fn write_value(out: &mut String, token: &Token) -> Result<(), AllocError> {
     }
 }
 
+fn write_found(alloc: Global, out: &mut String, found: &TokenAndSpan) -> Result<(), AllocError> {
+    write_token(alloc, out, found)?;
+    write_value(out, &found.token)
+}
+
+fn write_tokens<I: Tokens>(
+    alloc: Global,
+    out: &mut String,
+    source: &mut I,
+) -> Result<(), AllocError> {
+    for _ in 0..1000 {
+        match source.next() {
+            Some(found) => write_found(alloc, out, &found)?,
+            None => break,
+        }
+    }
+    Ok(())
+}
+
 /// The tokens of a text.
 fn tokens(alloc: Global, text: &str) -> Result<String, AllocError> {
     let mut out = String::new(alloc);
-    let Some(mut lexer) = lexer(alloc, text, true) else {
-        return Ok(out);
-    };
-    for _ in 0..1000 {
-        let Some(found) = lexer.next() else {
-            return Ok(out);
-        };
-        write_token(alloc, &mut out, &found)?;
-        write_value(&mut out, &found.token)?;
+    if let Some(mut lexer) = lexer(alloc, text, true) {
+        write_tokens(alloc, &mut out, &mut lexer)?;
     }
     Ok(out)
 }

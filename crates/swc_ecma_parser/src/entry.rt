@@ -11,26 +11,15 @@ use swc_ecma_parser_error::PResult;
 use swc_ecma_parser_grammar::Position;
 use swc_ecma_parser_input::Tokens;
 use swc_ecma_parser_state::State;
-use swc_ecma_parser_trees::{
-    BuildsCall, BuildsControl, BuildsDecl, BuildsExpr, BuildsLoop, BuildsObject, BuildsOperator,
-    BuildsPat, BuildsPattern, BuildsStmt, Maker, MakerOf,
-};
+use swc_ecma_parser_trees::{BuildsScript, BuildsStatements, Maker, MakerOf};
 
 /// A script, whose items may stand so many levels deep.
 #[tactic(auto, unfolding(swc_ecma_parser_reader::specs::Reader::script))]
-pub fn script<
-    I: Tokens,
-    T: BuildsExpr
-        + BuildsCall
-        + BuildsObject
-        + BuildsOperator
-        + BuildsControl
-        + BuildsLoop
-        + BuildsPat
-        + BuildsPattern
-        + BuildsStmt
-        + BuildsDecl,
->(alloc: Global, state: &mut State<I>, limit: usize) -> PResult<T::Script>
+pub fn script<I: Tokens, T: BuildsStatements + BuildsScript>(
+    alloc: Global,
+    state: &mut State<I>,
+    limit: usize,
+) -> PResult<T::Script>
     ensures answers { AnswersScript T.script_of limit (unmarked state.old) result state.new }
     ensures outright { state.old.at.left ≡ [] → IsOk result }
     ensures refused { OnErr result (IsRestored state.old state.new) }
@@ -56,19 +45,12 @@ pub fn script<
 }
 
 /// A statement in its place, which may nest so many levels deep.
-pub fn statement<
-    I: Tokens,
-    T: BuildsExpr
-        + BuildsCall
-        + BuildsObject
-        + BuildsOperator
-        + BuildsControl
-        + BuildsLoop
-        + BuildsPat
-        + BuildsPattern
-        + BuildsStmt
-        + BuildsDecl,
->(alloc: Global, state: &mut State<I>, limit: usize, at: Position) -> PResult<T::Stmt>
+pub fn statement<I: Tokens, T: BuildsStatements>(
+    alloc: Global,
+    state: &mut State<I>,
+    limit: usize,
+    at: Position,
+) -> PResult<T::Stmt>
     ensures answers { AnswersStatement T.stmt_of limit at.include_decl at.top_level (unmarked state.old) result state.new }
     ensures refused { OnErr result (IsRestored state.old state.new) }
 {

@@ -10,19 +10,11 @@ use swc_ecma_parser_ast::{
 };
 use swc_ecma_parser_ast_parts::boxes::{beside, both, optional_stmt};
 use swc_ecma_parser_ast_parts::made::Made;
-use swc_ecma_parser_trees::BuildsControl;
+use swc_ecma_parser_trees::{BuildsControl, BuildsSwitch, BuildsTry};
 
 impl BuildsControl for Ast {
     ghost use Rattle.swc_ecma_parser_model.specs.Tree as tree;
     ghost use Rattle.swc_ecma_parser_trees.specs.Parts as parts;
-
-    type Case = SwitchCase;
-
-    type Catch = CatchClause;
-
-    ghost case_of = { view_switch_case };
-
-    ghost catch_of = { view_catch_clause };
 
     fn with(alloc: Global, span: Span, obj: Made, body: Stmt) -> Result<Stmt, AllocError> {
         let (body, obj) = beside(StmtBox::new(alloc, body), obj.into_handle())?;
@@ -70,6 +62,27 @@ impl BuildsControl for Ast {
         }))
     }
 
+    fn throw(alloc: Global, span: Span, arg: Made) -> Result<Stmt, AllocError> {
+        let arg = arg.into_handle();
+        Ok(Stmt::Throw(ThrowStmt { span, arg }))
+    }
+
+    fn is_if(stmt: &Stmt) -> bool {
+        match stmt {
+            Stmt::If(_) => true,
+            _ => false,
+        }
+    }
+}
+
+impl BuildsSwitch for Ast {
+    ghost use Rattle.swc_ecma_parser_model.specs.Tree as tree;
+    ghost use Rattle.swc_ecma_parser_trees.specs.Parts as parts;
+
+    type Case = SwitchCase;
+
+    ghost case_of = { view_switch_case };
+
     fn switch(
         alloc: Global,
         span: Span,
@@ -100,11 +113,15 @@ impl BuildsControl for Ast {
         let cons = StmtList::new(cons);
         Ok(SwitchCase { span, test, cons })
     }
+}
 
-    fn throw(alloc: Global, span: Span, arg: Made) -> Result<Stmt, AllocError> {
-        let arg = arg.into_handle();
-        Ok(Stmt::Throw(ThrowStmt { span, arg }))
-    }
+impl BuildsTry for Ast {
+    ghost use Rattle.swc_ecma_parser_model.specs.Tree as tree;
+    ghost use Rattle.swc_ecma_parser_trees.specs.Parts as parts;
+
+    type Catch = CatchClause;
+
+    ghost catch_of = { view_catch_clause };
 
     fn try_stmt(
         alloc: Global,
@@ -134,12 +151,5 @@ impl BuildsControl for Ast {
             ≡ tree.catch span (parts.part_of view_pat param) (view_block_stmt body)) }
     {
         Ok(CatchClause { span, param, body })
-    }
-
-    fn is_if(stmt: &Stmt) -> bool {
-        match stmt {
-            Stmt::If(_) => true,
-            _ => false,
-        }
     }
 }

@@ -7,11 +7,9 @@ use swc_ecma_parser_ast::{
     Class, ClassDecl, Decl, FnDecl, Function, Ident, Span, Spanned, Stmt, UsingDecl, VarDecl,
     VarDeclKind, VarDeclarator,
 };
-use swc_ecma_parser_trees::BuildsDecl;
+use swc_ecma_parser_trees::{BuildsClassDecl, BuildsDecl, BuildsVarDecl};
 
 impl BuildsDecl for Ast {
-    ghost use Rattle.swc_ecma_parser_model.specs.Tree as tree;
-
     type Decl = Decl;
 
     ghost decl_of = { view_decl };
@@ -23,9 +21,23 @@ impl BuildsDecl for Ast {
         }))
     }
 
+    fn decl_stmt(alloc: Global, decl: Decl) -> Result<Stmt, AllocError> {
+        Ok(Stmt::Decl(decl))
+    }
+
+    fn decl_span(decl: &Decl) -> Span {
+        decl.span()
+    }
+}
+
+impl BuildsClassDecl for Ast {
     fn class_decl(alloc: Global, name: Ident, class: Class) -> Result<Decl, AllocError> {
         Ok(Decl::Class(ClassDecl { ident: name, class }))
     }
+}
+
+impl BuildsVarDecl for Ast {
+    ghost use Rattle.swc_ecma_parser_model.specs.Tree as tree;
 
     fn var_decl(
         alloc: Global,
@@ -51,13 +63,5 @@ impl BuildsDecl for Ast {
             is_await,
             decls,
         }))
-    }
-
-    fn decl_stmt(alloc: Global, decl: Decl) -> Result<Stmt, AllocError> {
-        Ok(Stmt::Decl(decl))
-    }
-
-    fn decl_span(decl: &Decl) -> Span {
-        decl.span()
     }
 }

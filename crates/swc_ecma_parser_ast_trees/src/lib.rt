@@ -2,7 +2,7 @@
 #![tactic(auto)]
 
 ghost use Rattle.std.specs.Prelude.{◌≡◌, IfOk, map};
-ghost use Rattle.swc_ecma_parser_ast.specs.View.{view_pat, view_declarator, view_stmt, view_script};
+ghost use Rattle.swc_ecma_parser_ast.specs.View.{view_pat, view_stmt, view_script};
 ghost use Rattle.swc_ecma_parser_ast_parts.specs.View.{view_made};
 
 mod block;
@@ -19,15 +19,17 @@ mod loops;
 mod object;
 mod operator;
 mod pattern;
+mod variables;
 
 use std::alloc::{AllocError, Global};
 use swc_ecma_parser_ast::{
-    Atom, BigInt, BindingIdent, BlockStmt, Bool, DebuggerStmt, Decl, EmptyStmt, Expr, ExprStmt,
-    Ident, Lit, Null, Number, ParenExpr, Pat, Script, Span, Spanned, Stmt, StmtList, Str, VarDecl,
-    VarDeclKind, VarDeclarator,
+    Atom, BigInt, BindingIdent, BlockStmt, Bool, DebuggerStmt, EmptyStmt, Expr, ExprStmt, Ident,
+    Lit, Null, Number, ParenExpr, Pat, Script, Span, Spanned, Stmt, StmtList, Str,
 };
 use swc_ecma_parser_ast_parts::made::Made;
-use swc_ecma_parser_trees::{BuildsExpr, BuildsPat, BuildsStmt, Trees};
+use swc_ecma_parser_trees::{
+    BuildsExpr, BuildsPat, BuildsScript, BuildsStatements, BuildsStmt, Trees,
+};
 
 /// The trees of `swc_ecma_parser_ast`.
 pub struct Ast;
@@ -37,21 +39,13 @@ impl Trees for Ast {
 
     type Pat = Pat;
 
-    type Declarator = VarDeclarator;
-
     type Stmt = Stmt;
-
-    type Script = Script;
 
     ghost expr_of = { view_made };
 
     ghost pat_of = { view_pat };
 
-    ghost declarator_of = { view_declarator };
-
     ghost stmt_of = { view_stmt };
-
-    ghost script_of = { view_script };
 
     fn is_use_strict(stmt: &Stmt) -> bool {
         stmt.is_use_strict()
@@ -122,30 +116,6 @@ impl BuildsPat for Ast {
 
 impl BuildsStmt for Ast {
     ghost use Rattle.swc_ecma_parser_model.specs.Tree as tree;
-    ghost use Rattle.swc_ecma_parser_trees.specs.Parts as parts;
-
-    fn declarator(
-        alloc: Global,
-        span: Span,
-        name: Pat,
-        init: Option<Made>,
-    ) -> Result<VarDeclarator, AllocError>
-        ensures { IfOk result (λ x. view_declarator x ≡ tree.declarator span (view_pat name) (parts.part_of view_made init)) }
-    {
-        let init = Made::optional(init);
-        Ok(VarDeclarator { span, name, init })
-    }
-
-    fn var(
-        alloc: Global,
-        span: Span,
-        kind: VarDeclKind,
-        decls: Vec<VarDeclarator>,
-    ) -> Result<Stmt, AllocError>
-        ensures { IfOk result (λ x. view_stmt x ≡ tree.var span kind (tree.listed (map view_declarator decls.items))) }
-    {
-        Ok(Stmt::Decl(Decl::Var(VarDecl { span, kind, decls })))
-    }
 
     fn block(alloc: Global, span: Span, stmts: Vec<Stmt>) -> Result<Stmt, AllocError>
         ensures { IfOk result (λ x. view_stmt x ≡ tree.block span (tree.listed (map view_stmt stmts.items))) }
@@ -166,6 +136,14 @@ impl BuildsStmt for Ast {
         let expr = expr.into_handle();
         Ok(Stmt::Expr(ExprStmt { span, expr }))
     }
+}
+
+impl BuildsScript for Ast {
+    ghost use Rattle.swc_ecma_parser_model.specs.Tree as tree;
+
+    type Script = Script;
+
+    ghost script_of = { view_script };
 
     fn script(span: Span, body: Vec<Stmt>, shebang: Option<Atom>) -> Script
         ensures { view_script result ≡ tree.script span (tree.listed (map view_stmt body.items)) shebang }
@@ -177,3 +155,5 @@ impl BuildsStmt for Ast {
         }
     }
 }
+
+impl BuildsStatements for Ast {}

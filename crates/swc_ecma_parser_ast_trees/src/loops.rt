@@ -10,9 +10,21 @@ use swc_ecma_parser_ast::{
 };
 use swc_ecma_parser_ast_parts::boxes::beside;
 use swc_ecma_parser_ast_parts::made::Made;
-use swc_ecma_parser_trees::BuildsLoop;
+use swc_ecma_parser_trees::{BuildsFor, BuildsLoop};
 
 impl BuildsLoop for Ast {
+    fn while_stmt(alloc: Global, span: Span, test: Made, body: Stmt) -> Result<Stmt, AllocError> {
+        let (body, test) = beside(StmtBox::new(alloc, body), test.into_handle())?;
+        Ok(Stmt::While(WhileStmt { span, test, body }))
+    }
+
+    fn do_while(alloc: Global, span: Span, test: Made, body: Stmt) -> Result<Stmt, AllocError> {
+        let (body, test) = beside(StmtBox::new(alloc, body), test.into_handle())?;
+        Ok(Stmt::DoWhile(DoWhileStmt { span, test, body }))
+    }
+}
+
+impl BuildsFor for Ast {
     ghost use Rattle.swc_ecma_parser_model.specs.Tree as tree;
     ghost use Rattle.swc_ecma_parser_trees.specs.Parts as parts;
 
@@ -23,16 +35,6 @@ impl BuildsLoop for Ast {
     ghost init_of = { view_var_decl_or_expr };
 
     ghost head_of = { view_for_head };
-
-    fn while_stmt(alloc: Global, span: Span, test: Made, body: Stmt) -> Result<Stmt, AllocError> {
-        let (body, test) = beside(StmtBox::new(alloc, body), test.into_handle())?;
-        Ok(Stmt::While(WhileStmt { span, test, body }))
-    }
-
-    fn do_while(alloc: Global, span: Span, test: Made, body: Stmt) -> Result<Stmt, AllocError> {
-        let (body, test) = beside(StmtBox::new(alloc, body), test.into_handle())?;
-        Ok(Stmt::DoWhile(DoWhileStmt { span, test, body }))
-    }
 
     fn for_stmt(
         alloc: Global,
@@ -149,18 +151,6 @@ impl BuildsLoop for Ast {
 
     fn pat_head(alloc: Global, pat: Pat) -> Result<ForHead, AllocError> {
         Ok(ForHead::Pat(pat))
-    }
-
-    fn declarator_span(declarator: &VarDeclarator) -> Span {
-        declarator.span
-    }
-
-    fn declared_span(declarator: &VarDeclarator) -> Span {
-        declarator.name.span()
-    }
-
-    fn is_initialized(declarator: &VarDeclarator) -> bool {
-        declarator.init.is_some()
     }
 }
 

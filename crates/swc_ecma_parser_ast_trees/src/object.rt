@@ -9,7 +9,7 @@ use swc_ecma_parser_ast::{
     Pat, Prop, PropName, PropOrSpread, SetterProp, Span, SpreadElement,
 };
 use swc_ecma_parser_ast_parts::made::Made;
-use swc_ecma_parser_trees::BuildsObject;
+use swc_ecma_parser_trees::{BuildsMethod, BuildsObject};
 
 impl BuildsObject for Ast {
     ghost use Rattle.swc_ecma_parser_model.specs.Tree as tree;
@@ -57,7 +57,9 @@ impl BuildsObject for Ast {
         let prop = Prop::Assign(AssignProp { span, key, value });
         Ok(PropOrSpread::Prop(prop))
     }
+}
 
+impl BuildsMethod for Ast {
     fn getter_prop(
         alloc: Global,
         span: Span,

@@ -11,15 +11,11 @@ use swc_ecma_parser_ast::{
 use swc_ecma_parser_ast_parts::boxes::{beside, key_value_pattern, pattern_elements};
 use swc_ecma_parser_ast_parts::made::Made;
 use swc_ecma_parser_ast_parts::target::as_pattern;
-use swc_ecma_parser_trees::BuildsPattern;
+use swc_ecma_parser_trees::{BuildsObjectPat, BuildsPattern};
 
 impl BuildsPattern for Ast {
     ghost use Rattle.swc_ecma_parser_model.specs.Tree as tree;
     ghost use Rattle.swc_ecma_parser_trees.specs.Parts as parts;
-
-    type PatProp = ObjectPatProp;
-
-    ghost pat_prop_of = { view_object_pat_prop };
 
     fn array_pat(alloc: Global, span: Span, elems: Vec<Option<Pat>>) -> Result<Pat, AllocError>
         ensures { IfOk result (λ x. view_pat x ≡ tree.array_pat span (tree.listed (map (parts.part_of view_pat) elems.items))) }
@@ -31,41 +27,6 @@ impl BuildsPattern for Ast {
     fn rest_pat(alloc: Global, span: Span, arg: Pat) -> Result<Pat, AllocError> {
         let arg = PatBox::new(alloc, arg)?;
         Ok(Pat::Rest(RestPat { span, arg }))
-    }
-
-    fn object_pat(alloc: Global, span: Span, props: Vec<ObjectPatProp>) -> Result<Pat, AllocError>
-        ensures { IfOk result (λ x. view_pat x ≡ tree.object_pat span (tree.listed (map view_object_pat_prop props.items))) }
-    {
-        Ok(Pat::Object(ObjectPat { span, props }))
-    }
-
-    fn key_value_pat_prop(
-        alloc: Global,
-        span: Span,
-        key: PropName,
-        value: Pat,
-    ) -> Result<ObjectPatProp, AllocError> {
-        let prop = key_value_pattern(alloc, span, key, value)?;
-        Ok(ObjectPatProp::KeyValue(prop))
-    }
-
-    fn assign_pat_prop(
-        alloc: Global,
-        span: Span,
-        key: Ident,
-        value: Option<Made>,
-    ) -> Result<ObjectPatProp, AllocError>
-        ensures { IfOk result (λ x. view_object_pat_prop x
-            ≡ tree.assign_pat_prop span (tree.ident_pat key.span key.sym) (parts.part_of view_made value)) }
-    {
-        let value = Made::optional(value);
-        let key = BindingIdent { id: key };
-        Ok(ObjectPatProp::Assign(AssignPatProp { span, key, value }))
-    }
-
-    fn rest_pat_prop(alloc: Global, span: Span, arg: Pat) -> Result<ObjectPatProp, AllocError> {
-        let arg = PatBox::new(alloc, arg)?;
-        Ok(ObjectPatProp::Rest(RestPat { span, arg }))
     }
 
     fn assign_pat(alloc: Global, span: Span, left: Pat, right: Made) -> Result<Pat, AllocError> {
@@ -109,5 +70,49 @@ impl BuildsPattern for Ast {
             Pat::Object(_) => true,
             _ => false,
         }
+    }
+}
+
+impl BuildsObjectPat for Ast {
+    ghost use Rattle.swc_ecma_parser_model.specs.Tree as tree;
+    ghost use Rattle.swc_ecma_parser_trees.specs.Parts as parts;
+
+    type PatProp = ObjectPatProp;
+
+    ghost pat_prop_of = { view_object_pat_prop };
+
+    fn object_pat(alloc: Global, span: Span, props: Vec<ObjectPatProp>) -> Result<Pat, AllocError>
+        ensures { IfOk result (λ x. view_pat x ≡ tree.object_pat span (tree.listed (map view_object_pat_prop props.items))) }
+    {
+        Ok(Pat::Object(ObjectPat { span, props }))
+    }
+
+    fn key_value_pat_prop(
+        alloc: Global,
+        span: Span,
+        key: PropName,
+        value: Pat,
+    ) -> Result<ObjectPatProp, AllocError> {
+        let prop = key_value_pattern(alloc, span, key, value)?;
+        Ok(ObjectPatProp::KeyValue(prop))
+    }
+
+    fn assign_pat_prop(
+        alloc: Global,
+        span: Span,
+        key: Ident,
+        value: Option<Made>,
+    ) -> Result<ObjectPatProp, AllocError>
+        ensures { IfOk result (λ x. view_object_pat_prop x
+            ≡ tree.assign_pat_prop span (tree.ident_pat key.span key.sym) (parts.part_of view_made value)) }
+    {
+        let value = Made::optional(value);
+        let key = BindingIdent { id: key };
+        Ok(ObjectPatProp::Assign(AssignPatProp { span, key, value }))
+    }
+
+    fn rest_pat_prop(alloc: Global, span: Span, arg: Pat) -> Result<ObjectPatProp, AllocError> {
+        let arg = PatBox::new(alloc, arg)?;
+        Ok(ObjectPatProp::Rest(RestPat { span, arg }))
     }
 }

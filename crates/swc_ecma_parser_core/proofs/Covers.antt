@@ -10,9 +10,9 @@ use Rattle.swc_ecma_parser_reader.specs.Expressions as exprs
 use Rattle.swc_ecma_parser_reader.specs.Classes.{class_of}
 use Rattle.swc_ecma_parser_reader.proofs.expressions.Loops.{expr_lowest, expr_above, cover_lowest}
 use Rattle.swc_ecma_parser_reader.proofs.expressions.Heads.{head_lowest}
-use Rattle.swc_ecma_parser_left.specs.declared.cover.Reading.{Reading}
-use Rattle.swc_ecma_parser_left.specs.declared.cover.Reading.TheVariants as reading
-use Rattle.swc_ecma_parser_left.specs.Covers.{read}
+use Rattle.swc_ecma_parser_inner.specs.declared.cover.Reading.{Reading}
+use Rattle.swc_ecma_parser_inner.specs.declared.cover.Reading.TheVariants as reading
+use Rattle.swc_ecma_parser_inner.specs.Covers.{read}
 use Rattle.swc_ecma_parser_core.proofs.Refusals.{too_deep_as}
 
 module _ (n : ℕ) (s : State) where

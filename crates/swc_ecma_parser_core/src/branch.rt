@@ -7,7 +7,7 @@ ghost use Rattle.swc_ecma_parser_error.specs.Kind as kinds;
 ghost use Rattle.swc_ecma_parser_error.specs.Kind.{fault_of, kind_of, IsOutOfMemory};
 ghost use Rattle.swc_ecma_parser_grammar.specs.language.Goals.{expression};
 ghost use Rattle.swc_ecma_parser_grammar.specs.language.Items.{sub_statement};
-ghost use Rattle.swc_ecma_parser_left.specs.Nests.{Nests};
+ghost use Rattle.swc_ecma_parser_inner.specs.Nests.{Nests};
 ghost use Rattle.swc_ecma_parser_model.specs.Tree.{Tree};
 ghost use Rattle.swc_ecma_parser_reader.specs.Expressions as exprs;
 ghost use Rattle.swc_ecma_parser_reader.specs.Reader as rules;
@@ -19,14 +19,13 @@ use std::alloc::{AllocError, Global};
 use swc_ecma_parser_common::{Atom, Boxed, Span};
 use swc_ecma_parser_error::{Error, PResult, SyntaxError};
 use swc_ecma_parser_grammar::{Class, Position};
-use swc_ecma_parser_left::access::inside;
-use swc_ecma_parser_left::cover::{Cover, Reading};
-use swc_ecma_parser_left::grammar::{Grammar, Part};
-use swc_ecma_parser_left::steps::{grown, pushed, since};
+use swc_ecma_parser_inner::cover::{Cover, Reading, inside};
+use swc_ecma_parser_inner::grammar::{Grammar, Part};
+use swc_ecma_parser_inner::steps::{grown, pushed, since};
 use swc_ecma_parser_loops::simple::SUB_STATEMENT;
 use swc_ecma_parser_source::Source;
 use swc_ecma_parser_token::TokenKind;
-use swc_ecma_parser_trees::{BuildsCall, BuildsControl, MakerOf, Trees};
+use swc_ecma_parser_trees::{BuildsControl, MakerOf, Trees};
 
 /// An `if` up to its first statement.
 #[derive(Drop)]
@@ -69,7 +68,7 @@ fn labelled<P: Source>(alloc: Global, p: &mut P, error: Error, word: Span) -> Er
 #[tactic(auto, unfolding(swc_ecma_parser_reader::specs::Reader::condition, swc_ecma_parser_reader::specs::State::labelled, swc_ecma_parser_reader::specs::Expressions::inside))]
 fn condition<
     P: Source,
-    T: BuildsCall,
+    T: Trees,
     S: Fn(&MakerOf<T>, &mut P, usize, Position) -> PResult<T::Stmt>,
     E: Fn(&MakerOf<T>, &mut P, usize, Reading) -> PResult<Cover<T::Expr>>,
     N: Fn(&MakerOf<T>, &mut P, usize, Part) -> PResult<T::Pat>,
@@ -90,7 +89,7 @@ fn condition<
 #[tactic(auto, unfolding(swc_ecma_parser_reader::specs::Reader::link, swc_ecma_parser_reader::specs::Reader::link_from))]
 fn next_link<
     P: Source,
-    T: BuildsCall,
+    T: Trees,
     S: Fn(&MakerOf<T>, &mut P, usize, Position) -> PResult<T::Stmt>,
     E: Fn(&MakerOf<T>, &mut P, usize, Reading) -> PResult<Cover<T::Expr>>,
     N: Fn(&MakerOf<T>, &mut P, usize, Part) -> PResult<T::Pat>,
@@ -171,7 +170,7 @@ fn enclosed<P: Source, T: BuildsControl>(
 /// An `if` statement.
 pub(crate) fn if_stmt<
     P: Source,
-    T: BuildsCall + BuildsControl,
+    T: BuildsControl,
     S: Fn(&MakerOf<T>, &mut P, usize, Position) -> PResult<T::Stmt>,
     E: Fn(&MakerOf<T>, &mut P, usize, Reading) -> PResult<Cover<T::Expr>>,
     N: Fn(&MakerOf<T>, &mut P, usize, Part) -> PResult<T::Pat>,

@@ -2,7 +2,7 @@
 
 ghost use Rattle.std.specs.Prelude.{◌≡◌};
 ghost use Rattle.swc_ecma_parser_grammar.specs.Reads.{nested_item};
-ghost use Rattle.swc_ecma_parser_left.specs.Nests.{Nests};
+ghost use Rattle.swc_ecma_parser_inner.specs.Nests.{Nests};
 ghost use Rattle.swc_ecma_parser_reader.specs.Patterns as patterns;
 ghost use Rattle.swc_ecma_parser_reader.specs.Reader as rules;
 ghost use Rattle.swc_ecma_parser_reader.specs.State.{GivesAs};
@@ -12,13 +12,13 @@ use swc_ecma_parser_common::Span;
 use swc_ecma_parser_error::{PResult, SyntaxError};
 use swc_ecma_parser_functions::body::braced;
 use swc_ecma_parser_grammar::Position;
-use swc_ecma_parser_left::cover::{Cover, Reading};
-use swc_ecma_parser_left::grammar::{Grammar, Part};
-use swc_ecma_parser_left::steps::{grown, since};
+use swc_ecma_parser_inner::cover::{Cover, Reading};
+use swc_ecma_parser_inner::grammar::{Grammar, Part};
+use swc_ecma_parser_inner::steps::{grown, since};
 use swc_ecma_parser_patterns::pat::inner_pat;
 use swc_ecma_parser_source::Source;
 use swc_ecma_parser_token::TokenKind;
-use swc_ecma_parser_trees::{BuildsBlock, BuildsControl, MakerOf, Trees};
+use swc_ecma_parser_trees::{BuildsBlock, BuildsTry, MakerOf, Trees};
 
 /// What a catch binds, in parentheses.
 #[tactic(auto, unfolding(swc_ecma_parser_reader::specs::Reader::bound))]
@@ -61,7 +61,7 @@ fn parameter<
 #[tactic(auto, unfolding(swc_ecma_parser_reader::specs::Reader::handler, swc_ecma_parser_reader::specs::Reader::caught, swc_ecma_parser_grammar::specs::Looks::spanned))]
 fn handler<
     P: Source,
-    T: BuildsControl,
+    T: BuildsTry,
     S: Fn(&MakerOf<T>, &mut P, usize, Position) -> PResult<T::Stmt>,
     E: Fn(&MakerOf<T>, &mut P, usize, Reading) -> PResult<Cover<T::Expr>>,
     N: Fn(&MakerOf<T>, &mut P, usize, Part) -> PResult<T::Pat>,
@@ -127,7 +127,7 @@ fn is_handled<P: Source>(p: &P) -> bool
 #[tactic(auto, unfolding(swc_ecma_parser_reader::specs::Reader::try_stmt, swc_ecma_parser_reader::specs::Reader::handled, swc_ecma_parser_grammar::specs::Looks::spanned))]
 pub(crate) fn try_stmt<
     P: Source,
-    T: BuildsControl,
+    T: BuildsTry,
     S: Fn(&MakerOf<T>, &mut P, usize, Position) -> PResult<T::Stmt>,
     E: Fn(&MakerOf<T>, &mut P, usize, Reading) -> PResult<Cover<T::Expr>>,
     N: Fn(&MakerOf<T>, &mut P, usize, Part) -> PResult<T::Pat>,

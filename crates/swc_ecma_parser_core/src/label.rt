@@ -4,7 +4,7 @@ ghost use Rattle.std.specs.Prelude.{◌≡◌, if◌then◌else◌, true, [], re
 ghost use Rattle.swc_ecma_parser_error.specs.Kind as kinds;
 ghost use Rattle.swc_ecma_parser_grammar.specs.Own as own;
 ghost use Rattle.swc_ecma_parser_grammar.specs.language.Goals.{expression};
-ghost use Rattle.swc_ecma_parser_left.specs.Nests.{Nests};
+ghost use Rattle.swc_ecma_parser_inner.specs.Nests.{Nests};
 ghost use Rattle.swc_ecma_parser_model.specs.Tree as tree;
 ghost use Rattle.swc_ecma_parser_reader.proofs.Plain.{duplicate};
 ghost use Rattle.swc_ecma_parser_reader.specs.Expressions as exprs;
@@ -17,15 +17,17 @@ use crate::switch::in_breakable;
 use swc_ecma_parser_common::{Atom, Span};
 use swc_ecma_parser_error::{PResult, SyntaxError};
 use swc_ecma_parser_grammar::Position;
-use swc_ecma_parser_left::cover::{Cover, Reading};
-use swc_ecma_parser_left::grammar::{Grammar, Part};
-use swc_ecma_parser_left::steps::{grown, since};
+use swc_ecma_parser_inner::cover::{Cover, Reading};
+use swc_ecma_parser_inner::grammar::{Grammar, Part};
+use swc_ecma_parser_inner::steps::{grown, since};
 use swc_ecma_parser_model::{Ident, VarDeclKind};
 use swc_ecma_parser_source::{Source, Wanted};
 use swc_ecma_parser_statements::simple::expr_stmt_at;
 use swc_ecma_parser_statements::variables::variables;
 use swc_ecma_parser_token::TokenKind;
-use swc_ecma_parser_trees::{BuildsControl, BuildsPattern, BuildsStmt, MakerOf, Trees};
+use swc_ecma_parser_trees::{
+    BuildsBlock, BuildsControl, BuildsPattern, BuildsStmt, BuildsVariables, MakerOf, Trees,
+};
 
 /// Whether a label stands here.
 #[tactic(auto, unfolding(swc_ecma_parser_reader::specs::Reader::begins_label))]
@@ -97,7 +99,7 @@ fn labelled_body<
 #[tactic(auto, unfolding(swc_ecma_parser_reader::specs::Reader::labeled_stmt), using(swc_ecma_parser_reader::proofs::Plain::relabels_told))]
 fn labeled_stmt<
     P: Source,
-    T: BuildsControl,
+    T: BuildsControl + BuildsBlock,
     S: Fn(&MakerOf<T>, &mut P, usize, Position) -> PResult<T::Stmt>,
     E: Fn(&MakerOf<T>, &mut P, usize, Reading) -> PResult<Cover<T::Expr>>,
     N: Fn(&MakerOf<T>, &mut P, usize, Part) -> PResult<T::Pat>,
@@ -121,7 +123,7 @@ fn labeled_stmt<
 #[tactic(auto, unfolding(swc_ecma_parser_reader::specs::Reader::other_stmt))]
 pub(crate) fn other_stmt<
     P: Source,
-    T: BuildsStmt + BuildsControl,
+    T: BuildsStmt + BuildsControl + BuildsBlock,
     S: Fn(&MakerOf<T>, &mut P, usize, Position) -> PResult<T::Stmt>,
     E: Fn(&MakerOf<T>, &mut P, usize, Reading) -> PResult<Cover<T::Expr>>,
     N: Fn(&MakerOf<T>, &mut P, usize, Part) -> PResult<T::Pat>,
@@ -139,7 +141,7 @@ pub(crate) fn other_stmt<
 #[tactic(auto, unfolding(swc_ecma_parser_reader::specs::Reader::let_stmt))]
 pub(crate) fn let_stmt<
     P: Source,
-    T: BuildsStmt + BuildsPattern + BuildsControl,
+    T: BuildsPattern + BuildsStmt + BuildsVariables + BuildsControl + BuildsBlock,
     S: Fn(&MakerOf<T>, &mut P, usize, Position) -> PResult<T::Stmt>,
     E: Fn(&MakerOf<T>, &mut P, usize, Reading) -> PResult<Cover<T::Expr>>,
     N: Fn(&MakerOf<T>, &mut P, usize, Part) -> PResult<T::Pat>,

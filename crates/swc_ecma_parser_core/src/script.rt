@@ -10,14 +10,11 @@ use crate::grammar::stmt;
 use swc_ecma_parser_error::PResult;
 use swc_ecma_parser_functions::body::direct;
 use swc_ecma_parser_grammar::Position;
+use swc_ecma_parser_inner::steps::{pushed, since};
 use swc_ecma_parser_input::Context;
-use swc_ecma_parser_left::steps::{pushed, since};
 use swc_ecma_parser_source::Source;
 use swc_ecma_parser_token::TokenKind;
-use swc_ecma_parser_trees::{
-    BuildsCall, BuildsControl, BuildsDecl, BuildsExpr, BuildsLoop, BuildsObject, BuildsOperator,
-    BuildsPat, BuildsPattern, BuildsStmt, MakerOf, Trees,
-};
+use swc_ecma_parser_trees::{BuildsScript, BuildsStatements, MakerOf};
 
 /// A statement of the script itself.
 const TOP_ITEM: Position = Position {
@@ -35,19 +32,11 @@ fn at_end<P: Source>(p: &P) -> bool
 
 /// The statements of a script, the first of which can be a directive.
 #[tactic(auto, unfolding(swc_ecma_parser_reader::specs::Reader::items), using(swc_ecma_parser_reader::proofs::Loops::items_stop, swc_ecma_parser_reader::proofs::Loops::items_err, crate::proofs::Items::script_more, swc_ecma_parser_reader::proofs::Loops::stmt_shorter, std::proofs::lemmas::List::map_push))]
-fn items<
-    P: Source,
-    T: BuildsExpr
-        + BuildsCall
-        + BuildsObject
-        + BuildsOperator
-        + BuildsControl
-        + BuildsLoop
-        + BuildsPattern
-        + BuildsPat
-        + BuildsStmt
-        + BuildsDecl,
->(t: &MakerOf<T>, p: &mut P, limit: usize) -> PResult<Vec<T::Stmt>>
+fn items<P: Source, T: BuildsStatements>(
+    t: &MakerOf<T>,
+    p: &mut P,
+    limit: usize,
+) -> PResult<Vec<T::Stmt>>
     ensures gives { GivesAs (λ found. map T.stmt_of found.items) (rules.items (rules.stmt limit top_item) rules.at_end true (P.seen p.old)) result (P.seen p.new) }
     ensures outright { (P.seen p.old).at.left ≡ [] → IsOk result }
 {
@@ -62,19 +51,11 @@ fn items<
 
 /// A script, whose items may stand so many levels deep.
 #[tactic(auto, unfolding(swc_ecma_parser_reader::specs::Reader::script_body, swc_ecma_parser_grammar::specs::Looks::spanned))]
-pub fn script_body<
-    P: Source,
-    T: BuildsExpr
-        + BuildsCall
-        + BuildsObject
-        + BuildsOperator
-        + BuildsControl
-        + BuildsLoop
-        + BuildsPattern
-        + BuildsPat
-        + BuildsStmt
-        + BuildsDecl,
->(t: &MakerOf<T>, p: &mut P, limit: usize) -> PResult<T::Script>
+pub fn script_body<P: Source, T: BuildsStatements + BuildsScript>(
+    t: &MakerOf<T>,
+    p: &mut P,
+    limit: usize,
+) -> PResult<T::Script>
     ensures gives { GivesAs T.script_of (rules.script_body limit (P.seen p.old)) result (P.seen p.new) }
     ensures outright { (P.seen p.old).at.left ≡ [] → IsOk result }
 {

@@ -1,7 +1,7 @@
 //! Statements: ECMA-262, section 14.
 
 ghost use Rattle.std.specs.Prelude.{◌≡◌};
-ghost use Rattle.swc_ecma_parser_left.specs.Nests.{Nests};
+ghost use Rattle.swc_ecma_parser_inner.specs.Nests.{Nests};
 ghost use Rattle.swc_ecma_parser_reader.specs.Expressions as exprs;
 ghost use Rattle.swc_ecma_parser_reader.specs.Heads as heads;
 ghost use Rattle.swc_ecma_parser_reader.specs.Patterns as patterns;
@@ -17,8 +17,8 @@ use swc_ecma_parser_error::PResult;
 use swc_ecma_parser_functions::body::block;
 use swc_ecma_parser_functions::function::function_stmt;
 use swc_ecma_parser_grammar::Position;
-use swc_ecma_parser_left::cover::{Cover, Reading};
-use swc_ecma_parser_left::grammar::{Grammar, Part};
+use swc_ecma_parser_inner::cover::{Cover, Reading};
+use swc_ecma_parser_inner::grammar::{Grammar, Part};
 use swc_ecma_parser_loops::for_loop::for_stmt;
 use swc_ecma_parser_loops::simple::{do_while, while_stmt};
 use swc_ecma_parser_model::VarDeclKind;
@@ -29,20 +29,21 @@ use swc_ecma_parser_statements::simple::{debugger, empty, import_stmt_at};
 use swc_ecma_parser_statements::variables::{const_stmt, variables};
 use swc_ecma_parser_token::TokenKind;
 use swc_ecma_parser_trees::{
-    BuildsCall, BuildsControl, BuildsDecl, BuildsExpr, BuildsLoop, BuildsPattern, BuildsStmt,
-    MakerOf,
+    BuildsControl, BuildsDecl, BuildsFor, BuildsLoop, BuildsPattern, BuildsStmt, BuildsSwitch,
+    BuildsTry, MakerOf,
 };
 
 /// A statement, by its first token.
 #[tactic(auto, unfolding(swc_ecma_parser_reader::specs::Reader::stmt_level))]
 pub(crate) fn level<
     P: Source,
-    T: BuildsExpr
+    T: BuildsPattern
         + BuildsStmt
-        + BuildsPattern
-        + BuildsCall
         + BuildsControl
+        + BuildsSwitch
+        + BuildsTry
         + BuildsLoop
+        + BuildsFor
         + BuildsDecl,
     S: Fn(&MakerOf<T>, &mut P, usize, Position) -> PResult<T::Stmt>,
     E: Fn(&MakerOf<T>, &mut P, usize, Reading) -> PResult<Cover<T::Expr>>,

@@ -3,7 +3,7 @@
 ghost use Rattle.std.specs.Prelude.{◌≡◌, true, is_some, map};
 ghost use Rattle.swc_ecma_parser_grammar.specs.Reads.{nested_item};
 ghost use Rattle.swc_ecma_parser_grammar.specs.language.Goals.{expression};
-ghost use Rattle.swc_ecma_parser_left.specs.Nests.{Nests};
+ghost use Rattle.swc_ecma_parser_inner.specs.Nests.{Nests};
 ghost use Rattle.swc_ecma_parser_reader.specs.Expressions as exprs;
 ghost use Rattle.swc_ecma_parser_reader.specs.Reader as rules;
 ghost use Rattle.swc_ecma_parser_reader.specs.State.{GivesAs};
@@ -13,21 +13,20 @@ use swc_ecma_parser_common::Span;
 use swc_ecma_parser_error::{PResult, SyntaxError};
 use swc_ecma_parser_functions::body::{Body, begins_clause, body_items};
 use swc_ecma_parser_grammar::{Class, Position};
+use swc_ecma_parser_inner::cover::{Cover, Reading, inside};
+use swc_ecma_parser_inner::grammar::{Grammar, Part};
+use swc_ecma_parser_inner::steps::{grown, pushed, since};
 use swc_ecma_parser_input::Context;
-use swc_ecma_parser_left::access::inside;
-use swc_ecma_parser_left::cover::{Cover, Reading};
-use swc_ecma_parser_left::grammar::{Grammar, Part};
-use swc_ecma_parser_left::steps::{grown, pushed, since};
 use swc_ecma_parser_loops::simple::head;
 use swc_ecma_parser_source::Source;
 use swc_ecma_parser_token::TokenKind;
-use swc_ecma_parser_trees::{BuildsCall, BuildsControl, MakerOf};
+use swc_ecma_parser_trees::{BuildsSwitch, MakerOf};
 
 /// A clause from its `:` on.
 #[tactic(auto, unfolding(swc_ecma_parser_reader::specs::Reader::clause_from))]
 fn clause_from<
     P: Source,
-    T: BuildsControl,
+    T: BuildsSwitch,
     S: Fn(&MakerOf<T>, &mut P, usize, Position) -> PResult<T::Stmt>,
     E: Fn(&MakerOf<T>, &mut P, usize, Reading) -> PResult<Cover<T::Expr>>,
     N: Fn(&MakerOf<T>, &mut P, usize, Part) -> PResult<T::Pat>,
@@ -51,7 +50,7 @@ fn clause_from<
 #[tactic(auto, unfolding(swc_ecma_parser_reader::specs::Reader::case_clause, swc_ecma_parser_reader::specs::Expressions::inside))]
 fn case_clause<
     P: Source,
-    T: BuildsCall + BuildsControl,
+    T: BuildsSwitch,
     S: Fn(&MakerOf<T>, &mut P, usize, Position) -> PResult<T::Stmt>,
     E: Fn(&MakerOf<T>, &mut P, usize, Reading) -> PResult<Cover<T::Expr>>,
     N: Fn(&MakerOf<T>, &mut P, usize, Part) -> PResult<T::Pat>,
@@ -69,7 +68,7 @@ fn case_clause<
 #[tactic(auto, unfolding(swc_ecma_parser_reader::specs::Reader::default_clause))]
 fn default_clause<
     P: Source,
-    T: BuildsControl,
+    T: BuildsSwitch,
     S: Fn(&MakerOf<T>, &mut P, usize, Position) -> PResult<T::Stmt>,
     E: Fn(&MakerOf<T>, &mut P, usize, Reading) -> PResult<Cover<T::Expr>>,
     N: Fn(&MakerOf<T>, &mut P, usize, Part) -> PResult<T::Pat>,
@@ -89,7 +88,7 @@ fn default_clause<
 #[tactic(auto, unfolding(swc_ecma_parser_reader::specs::Reader::clause))]
 fn clause<
     P: Source,
-    T: BuildsCall + BuildsControl,
+    T: BuildsSwitch,
     S: Fn(&MakerOf<T>, &mut P, usize, Position) -> PResult<T::Stmt>,
     E: Fn(&MakerOf<T>, &mut P, usize, Reading) -> PResult<Cover<T::Expr>>,
     N: Fn(&MakerOf<T>, &mut P, usize, Part) -> PResult<T::Pat>,
@@ -107,7 +106,7 @@ fn clause<
 #[tactic(auto, unfolding(swc_ecma_parser_reader::specs::Reader::clauses), using(swc_ecma_parser_reader::proofs::Loops::clauses_done, swc_ecma_parser_reader::proofs::Loops::clauses_err, swc_ecma_parser_reader::proofs::Loops::clauses_more, swc_ecma_parser_reader::proofs::Loops::clause_shorter, std::proofs::lemmas::List::map_push))]
 fn clauses<
     P: Source,
-    T: BuildsCall + BuildsControl,
+    T: BuildsSwitch,
     S: Fn(&MakerOf<T>, &mut P, usize, Position) -> PResult<T::Stmt>,
     E: Fn(&MakerOf<T>, &mut P, usize, Reading) -> PResult<Cover<T::Expr>>,
     N: Fn(&MakerOf<T>, &mut P, usize, Part) -> PResult<T::Pat>,
@@ -143,7 +142,7 @@ pub(crate) fn in_breakable(flags: Context) -> Context
 #[tactic(auto, unfolding(swc_ecma_parser_reader::specs::Reader::switch_stmt, swc_ecma_parser_grammar::specs::Looks::spanned))]
 pub(crate) fn switch_stmt<
     P: Source,
-    T: BuildsCall + BuildsControl,
+    T: BuildsSwitch,
     S: Fn(&MakerOf<T>, &mut P, usize, Position) -> PResult<T::Stmt>,
     E: Fn(&MakerOf<T>, &mut P, usize, Reading) -> PResult<Cover<T::Expr>>,
     N: Fn(&MakerOf<T>, &mut P, usize, Part) -> PResult<T::Pat>,

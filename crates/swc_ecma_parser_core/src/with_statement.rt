@@ -4,7 +4,7 @@ ghost use Rattle.std.specs.Prelude.{◌≡◌, true};
 ghost use Rattle.swc_ecma_parser_grammar.specs.language.Contexts as contexts;
 ghost use Rattle.swc_ecma_parser_grammar.specs.language.Goals.{expression};
 ghost use Rattle.swc_ecma_parser_grammar.specs.language.Items.{sub_statement};
-ghost use Rattle.swc_ecma_parser_left.specs.Nests.{Nests};
+ghost use Rattle.swc_ecma_parser_inner.specs.Nests.{Nests};
 ghost use Rattle.swc_ecma_parser_reader.specs.Expressions as exprs;
 ghost use Rattle.swc_ecma_parser_reader.specs.Reader as rules;
 ghost use Rattle.swc_ecma_parser_reader.specs.State.{Gives, GivesAs, within};
@@ -12,13 +12,13 @@ ghost use Rattle.swc_ecma_parser_reader.specs.State.{Gives, GivesAs, within};
 use swc_ecma_parser_common::Span;
 use swc_ecma_parser_error::{PResult, SyntaxError};
 use swc_ecma_parser_grammar::Position;
+use swc_ecma_parser_inner::cover::{Cover, Reading};
+use swc_ecma_parser_inner::grammar::{Grammar, Part};
+use swc_ecma_parser_inner::steps::{grown, since};
 use swc_ecma_parser_input::Context;
-use swc_ecma_parser_left::cover::{Cover, Reading};
-use swc_ecma_parser_left::grammar::{Grammar, Part};
-use swc_ecma_parser_left::steps::{grown, since};
 use swc_ecma_parser_loops::simple::{SUB_STATEMENT, head};
 use swc_ecma_parser_source::Source;
-use swc_ecma_parser_trees::{BuildsCall, BuildsControl, MakerOf, Trees};
+use swc_ecma_parser_trees::{BuildsControl, MakerOf, Trees};
 
 /// Says that `with` stands at this word: a fault of module code.
 #[tactic(auto, unfolding(swc_ecma_parser_reader::specs::Reader::note_with))]
@@ -60,7 +60,7 @@ fn scoped<
 #[tactic(auto, unfolding(swc_ecma_parser_reader::specs::Reader::with_stmt))]
 pub(crate) fn with_stmt<
     P: Source,
-    T: BuildsCall + BuildsControl,
+    T: BuildsControl,
     S: Fn(&MakerOf<T>, &mut P, usize, Position) -> PResult<T::Stmt>,
     E: Fn(&MakerOf<T>, &mut P, usize, Reading) -> PResult<Cover<T::Expr>>,
     N: Fn(&MakerOf<T>, &mut P, usize, Part) -> PResult<T::Pat>,

@@ -1,15 +1,10 @@
--- What stands behind an object, and keys, as parts of the model's tree.
-use Rattle.swc_ecma_parser_model.specs.declared.leaves.Ident.{Ident}
+-- What stands behind an object, as a part of the model's tree.
 use Rattle.swc_ecma_parser_model.specs.declared.leaves.PrivateName.{PrivateName}
 use Rattle.swc_ecma_parser_model.specs.Tree as tree
 use Rattle.swc_ecma_parser_model.specs.Tree.{Tree}
+use Rattle.swc_ecma_parser_inner.specs.Keys.{word_of}
 use Rattle.swc_ecma_parser_left.specs.declared.access.Property.{Property}
 use Rattle.swc_ecma_parser_left.specs.declared.access.Property.TheVariants as access
-use Rattle.swc_ecma_parser_left.specs.declared.object.Key.{Key}
-use Rattle.swc_ecma_parser_left.specs.declared.object.Key.TheVariants as key
-
-abbrev pub word_of : Ident → Tree
-word_of i = tree.ident i.span i.sym
 
 abbrev pub private_of : PrivateName → Tree
 private_of x = tree.private_name x.span x.id.span x.id.sym
@@ -18,10 +13,3 @@ abbrev pub property_of : {E : Type 0} → (E → Tree) → Property E → Tree
 property_of view (access.Word i) = word_of i
 property_of view (access.Private x) = private_of x
 property_of view (access.Brackets s e) = tree.computed s (view e)
-
-abbrev pub key_of : {E : Type 0} → (E → Tree) → Key E → Tree
-key_of view (key.Word i) = word_of i
-key_of view (key.Str x) = tree.str x.span x.value x.raw
-key_of view (key.Num x) = tree.num x.span x.raw
-key_of view (key.BigInt x) = tree.big_int x.span x.raw
-key_of view (key.Computed s e) = tree.computed s (view e)

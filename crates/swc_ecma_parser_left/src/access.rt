@@ -2,25 +2,24 @@
 
 ghost use Rattle.std.specs.Prelude.{◌≡◌, ◌&&◌, ◌||◌, not, IfOk, map, nat_eq};
 ghost use Rattle.swc_ecma_parser_grammar.specs.Looks.{sees, span_at};
-ghost use Rattle.swc_ecma_parser_left.specs.Accesses.{private_of, property_of, word_of};
-ghost use Rattle.swc_ecma_parser_left.specs.Nests.{Nests};
+ghost use Rattle.swc_ecma_parser_inner.specs.Nests.{Nests};
+ghost use Rattle.swc_ecma_parser_left.specs.Accesses.{private_of, property_of};
 ghost use Rattle.swc_ecma_parser_model.specs.Tree as tree;
-ghost use Rattle.swc_ecma_parser_reader.specs.Classes.{class_of};
 ghost use Rattle.swc_ecma_parser_reader.specs.Expressions as exprs;
 ghost use Rattle.swc_ecma_parser_reader.specs.State.{Gives, GivesAs};
 ghost use Rattle.swc_ecma_parser_token.specs.declared.kind.TokenKind.TheVariants as kind;
 
-use crate::cover::{Cover, Reading, nested};
-use crate::grammar::{Grammar, Part};
-use crate::steps::{grown, pushed, since, with_in};
-use std::alloc::{AllocError, Global};
 use swc_ecma_parser_common::Span;
 use swc_ecma_parser_error::{PResult, SyntaxError};
 use swc_ecma_parser_grammar::{Class, Position};
+use swc_ecma_parser_inner::cover::{Cover, Reading, inside};
+use swc_ecma_parser_inner::grammar::{Grammar, Part};
+use swc_ecma_parser_inner::keys::word_property;
+use swc_ecma_parser_inner::steps::{grown, pushed, since};
 use swc_ecma_parser_model::{Ident, PrivateName};
 use swc_ecma_parser_source::{Source, Wanted};
 use swc_ecma_parser_token::TokenKind;
-use swc_ecma_parser_trees::{BuildsCall, MakerOf};
+use swc_ecma_parser_trees::{BuildsCall, MakerOf, Trees};
 
 /// What stands behind an object.
 pub enum Property<E> {
@@ -62,17 +61,9 @@ fn private_name<P: Source>(p: &mut P) -> PResult<PrivateName>
     Ok(PrivateName { span, id })
 }
 
-/// A word as a property.
-#[tactic(auto, unfolding(swc_ecma_parser_reader::specs::Expressions::word_property))]
-pub(crate) fn word_property<P: Source>(p: &mut P) -> PResult<Ident>
-    ensures { GivesAs word_of (exprs.word_property (P.seen p.old)) result (P.seen p.new) }
-{
-    p.any_word()
-}
-
 /// What stands behind `.`.
 #[tactic(auto, unfolding(swc_ecma_parser_reader::specs::Expressions::dotted))]
-fn dotted<P: Source, T: BuildsCall>(p: &mut P) -> PResult<Property<T::Expr>>
+fn dotted<P: Source, T: Trees>(p: &mut P) -> PResult<Property<T::Expr>>
     ensures { GivesAs (property_of T.expr_of) (exprs.dotted (P.seen p.old)) result (P.seen p.new) }
 {
     if p.sees(TokenKind::Hash) {
@@ -81,30 +72,11 @@ fn dotted<P: Source, T: BuildsCall>(p: &mut P) -> PResult<Property<T::Expr>>
     Ok(Property::Word(word_property(p)?))
 }
 
-/// An expression of a class, where `in` is an operator.
-#[tactic(auto, unfolding(swc_ecma_parser_reader::specs::Expressions::inside))]
-pub fn inside<
-    P: Source,
-    T: BuildsCall,
-    S: Fn(&MakerOf<T>, &mut P, usize, Position) -> PResult<T::Stmt>,
-    E: Fn(&MakerOf<T>, &mut P, usize, Reading) -> PResult<Cover<T::Expr>>,
-    N: Fn(&MakerOf<T>, &mut P, usize, Part) -> PResult<T::Pat>,
->(g: &Grammar<S, E, N>, t: &MakerOf<T>, p: &mut P, class: Class) -> PResult<T::Expr>
-    requires { Nests P.seen T.expr_of T.pat_of T.stmt_of g.now.depth (S.pre g.now.stmt) (S.post g.now.stmt) (E.pre g.now.expr) (E.post g.now.expr) (N.pre g.now.pat) (N.post g.now.pat) }
-    ensures { GivesAs (T.expr_of) (exprs.inside (exprs.expr g.now.depth) (exprs.cover g.now.depth) (class_of class) (P.seen p.old)) result (P.seen p.new) }
-{
-    let outer = p.flags();
-    p.set_flags(with_in(outer));
-    let inner = nested(g, t, p, class)?;
-    p.set_flags(outer);
-    Ok(inner)
-}
-
 /// An expression in brackets, with their place.
 #[tactic(auto, unfolding(swc_ecma_parser_reader::specs::Expressions::brackets))]
 pub(crate) fn brackets<
     P: Source,
-    T: BuildsCall,
+    T: Trees,
     S: Fn(&MakerOf<T>, &mut P, usize, Position) -> PResult<T::Stmt>,
     E: Fn(&MakerOf<T>, &mut P, usize, Reading) -> PResult<Cover<T::Expr>>,
     N: Fn(&MakerOf<T>, &mut P, usize, Part) -> PResult<T::Pat>,
@@ -130,7 +102,7 @@ pub(crate) fn begins_access<P: Source>(p: &P) -> bool
 #[tactic(auto, unfolding(swc_ecma_parser_reader::specs::Expressions::access))]
 pub(crate) fn access<
     P: Source,
-    T: BuildsCall,
+    T: Trees,
     S: Fn(&MakerOf<T>, &mut P, usize, Position) -> PResult<T::Stmt>,
     E: Fn(&MakerOf<T>, &mut P, usize, Reading) -> PResult<Cover<T::Expr>>,
     N: Fn(&MakerOf<T>, &mut P, usize, Part) -> PResult<T::Pat>,

@@ -1,18 +1,18 @@
 //! Arrays: ECMA-262, section 13.2.4.
 
 ghost use Rattle.std.specs.Prelude.{◌≡◌, true, IfOk};
-ghost use Rattle.swc_ecma_parser_left.specs.Covers.{cover_of, covers_of};
-ghost use Rattle.swc_ecma_parser_reader.specs.Expressions.{is_literal};
-ghost use Rattle.swc_ecma_parser_left.specs.Nests.{Nests};
+ghost use Rattle.swc_ecma_parser_inner.specs.Covers.{cover_of, covers_of};
+ghost use Rattle.swc_ecma_parser_inner.specs.Nests.{Nests};
 ghost use Rattle.swc_ecma_parser_reader.specs.Expressions as exprs;
+ghost use Rattle.swc_ecma_parser_reader.specs.Expressions.{is_literal};
 ghost use Rattle.swc_ecma_parser_reader.specs.State.{GivesAs};
 ghost use Rattle.swc_ecma_parser_trees.specs.Parts.{part_of};
 
-use crate::cover::{Cover, Covers, Reading, behind_comma, covered, done, joined};
-use crate::grammar::{Grammar, Part};
-use crate::steps::{grown, since};
 use swc_ecma_parser_error::PResult;
 use swc_ecma_parser_grammar::Position;
+use swc_ecma_parser_inner::cover::{Cover, Covers, Reading, behind_comma, covered, done, joined};
+use swc_ecma_parser_inner::grammar::{Grammar, Part};
+use swc_ecma_parser_inner::steps::{grown, since};
 use swc_ecma_parser_source::Source;
 use swc_ecma_parser_token::TokenKind;
 use swc_ecma_parser_trees::{BuildsCall, MakerOf};

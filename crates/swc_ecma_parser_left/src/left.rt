@@ -2,25 +2,25 @@
 
 ghost use Rattle.std.specs.Prelude.{◌≡◌, ◌&&◌, IfOk};
 ghost use Rattle.swc_ecma_parser_grammar.specs.Looks.{sees};
+ghost use Rattle.swc_ecma_parser_inner.specs.Nests.{Nests};
 ghost use Rattle.swc_ecma_parser_left.specs.Accesses.{property_of};
-ghost use Rattle.swc_ecma_parser_left.specs.Nests.{Nests};
 ghost use Rattle.swc_ecma_parser_model.specs.Tree as tree;
-ghost use Rattle.swc_ecma_parser_source.specs.Literals.{literal_tree};
-ghost use Rattle.swc_ecma_parser_reader.specs.Classes.{class_of};
 ghost use Rattle.swc_ecma_parser_reader.specs.Expressions as exprs;
 ghost use Rattle.swc_ecma_parser_reader.specs.State.{Gives, GivesAs};
+ghost use Rattle.swc_ecma_parser_source.specs.Literals.{literal_tree};
 ghost use Rattle.swc_ecma_parser_token.specs.declared.kind.TokenKind.TheVariants as kind;
 
-use crate::access::{Property, access, arguments, begins_access, brackets, inside, word_property};
+use crate::access::{Property, access, arguments, begins_access, brackets};
 use crate::array::array;
-use crate::cover::{Cover, Reading, close, nested};
-use crate::grammar::{Grammar, Part};
 use crate::object::object;
-use crate::steps::{grown, since};
 use std::alloc::{AllocError, Global};
 use swc_ecma_parser_common::Span;
 use swc_ecma_parser_error::{PResult, SyntaxError};
 use swc_ecma_parser_grammar::{Class, Position};
+use swc_ecma_parser_inner::cover::{Cover, Reading, close, inside, nested};
+use swc_ecma_parser_inner::grammar::{Grammar, Part};
+use swc_ecma_parser_inner::keys::word_property;
+use swc_ecma_parser_inner::steps::{grown, since};
 use swc_ecma_parser_model::MetaPropKind;
 use swc_ecma_parser_source::{Literal, Source, Wanted};
 use swc_ecma_parser_token::TokenKind;
@@ -106,7 +106,7 @@ fn member<T: BuildsCall>(
 #[tactic(auto, unfolding(swc_ecma_parser_reader::specs::Expressions::paren))]
 fn paren<
     P: Source,
-    T: BuildsExpr + BuildsCall + BuildsObject + BuildsOperator,
+    T: BuildsExpr,
     S: Fn(&MakerOf<T>, &mut P, usize, Position) -> PResult<T::Stmt>,
     E: Fn(&MakerOf<T>, &mut P, usize, Reading) -> PResult<Cover<T::Expr>>,
     N: Fn(&MakerOf<T>, &mut P, usize, Part) -> PResult<T::Pat>,
@@ -176,7 +176,7 @@ fn primary<
 #[tactic(auto, unfolding(swc_ecma_parser_reader::specs::Expressions::accessed))]
 fn accessed<
     P: Source,
-    T: BuildsExpr + BuildsCall + BuildsObject + BuildsOperator,
+    T: BuildsCall,
     S: Fn(&MakerOf<T>, &mut P, usize, Position) -> PResult<T::Stmt>,
     E: Fn(&MakerOf<T>, &mut P, usize, Reading) -> PResult<Cover<T::Expr>>,
     N: Fn(&MakerOf<T>, &mut P, usize, Part) -> PResult<T::Pat>,
@@ -193,7 +193,7 @@ fn accessed<
 #[tactic(auto, unfolding(swc_ecma_parser_reader::specs::Expressions::called))]
 fn called<
     P: Source,
-    T: BuildsExpr + BuildsCall + BuildsObject + BuildsOperator,
+    T: BuildsCall,
     S: Fn(&MakerOf<T>, &mut P, usize, Position) -> PResult<T::Stmt>,
     E: Fn(&MakerOf<T>, &mut P, usize, Reading) -> PResult<Cover<T::Expr>>,
     N: Fn(&MakerOf<T>, &mut P, usize, Part) -> PResult<T::Pat>,
@@ -217,7 +217,7 @@ fn begins_call<P: Source>(p: &P, calls: bool) -> bool
 #[tactic(auto, unfolding(swc_ecma_parser_reader::specs::Expressions::left_from), using(swc_ecma_parser_reader::proofs::expressions::Loops::left_done, swc_ecma_parser_reader::proofs::expressions::Loops::left_accessed, swc_ecma_parser_reader::proofs::expressions::Loops::left_access_err, swc_ecma_parser_reader::proofs::expressions::Loops::left_called, swc_ecma_parser_reader::proofs::expressions::Loops::left_call_err, swc_ecma_parser_reader::proofs::expressions::Loops::accessed_shorter, swc_ecma_parser_reader::proofs::expressions::Loops::called_shorter))]
 pub fn left_from<
     P: Source,
-    T: BuildsExpr + BuildsCall + BuildsObject + BuildsOperator,
+    T: BuildsCall,
     S: Fn(&MakerOf<T>, &mut P, usize, Position) -> PResult<T::Stmt>,
     E: Fn(&MakerOf<T>, &mut P, usize, Reading) -> PResult<Cover<T::Expr>>,
     N: Fn(&MakerOf<T>, &mut P, usize, Part) -> PResult<T::Pat>,
@@ -248,7 +248,7 @@ pub fn left_from<
 #[tactic(auto, unfolding(swc_ecma_parser_reader::specs::Expressions::super_call))]
 fn super_call<
     P: Source,
-    T: BuildsExpr + BuildsCall + BuildsObject + BuildsOperator,
+    T: BuildsCall,
     S: Fn(&MakerOf<T>, &mut P, usize, Position) -> PResult<T::Stmt>,
     E: Fn(&MakerOf<T>, &mut P, usize, Reading) -> PResult<Cover<T::Expr>>,
     N: Fn(&MakerOf<T>, &mut P, usize, Part) -> PResult<T::Pat>,
@@ -265,7 +265,7 @@ fn super_call<
 #[tactic(auto, unfolding(swc_ecma_parser_reader::specs::Expressions::super_access, swc_ecma_parser_reader::specs::Expressions::super_property))]
 fn super_access<
     P: Source,
-    T: BuildsExpr + BuildsCall + BuildsObject + BuildsOperator,
+    T: BuildsCall,
     S: Fn(&MakerOf<T>, &mut P, usize, Position) -> PResult<T::Stmt>,
     E: Fn(&MakerOf<T>, &mut P, usize, Reading) -> PResult<Cover<T::Expr>>,
     N: Fn(&MakerOf<T>, &mut P, usize, Part) -> PResult<T::Pat>,
@@ -288,7 +288,7 @@ fn super_access<
 #[tactic(auto, unfolding(swc_ecma_parser_reader::specs::Expressions::behind_super))]
 fn behind_super<
     P: Source,
-    T: BuildsExpr + BuildsCall + BuildsObject + BuildsOperator,
+    T: BuildsCall,
     S: Fn(&MakerOf<T>, &mut P, usize, Position) -> PResult<T::Stmt>,
     E: Fn(&MakerOf<T>, &mut P, usize, Reading) -> PResult<Cover<T::Expr>>,
     N: Fn(&MakerOf<T>, &mut P, usize, Part) -> PResult<T::Pat>,
@@ -309,7 +309,7 @@ fn behind_super<
 #[tactic(auto, unfolding(swc_ecma_parser_reader::specs::Expressions::super_head))]
 fn super_head<
     P: Source,
-    T: BuildsExpr + BuildsCall + BuildsObject + BuildsOperator,
+    T: BuildsCall,
     S: Fn(&MakerOf<T>, &mut P, usize, Position) -> PResult<T::Stmt>,
     E: Fn(&MakerOf<T>, &mut P, usize, Reading) -> PResult<Cover<T::Expr>>,
     N: Fn(&MakerOf<T>, &mut P, usize, Part) -> PResult<T::Pat>,
@@ -326,7 +326,7 @@ fn super_head<
 #[tactic(auto, unfolding(swc_ecma_parser_reader::specs::Expressions::constructed))]
 fn constructed<
     P: Source,
-    T: BuildsExpr + BuildsCall + BuildsObject + BuildsOperator,
+    T: BuildsCall,
     S: Fn(&MakerOf<T>, &mut P, usize, Position) -> PResult<T::Stmt>,
     E: Fn(&MakerOf<T>, &mut P, usize, Reading) -> PResult<Cover<T::Expr>>,
     N: Fn(&MakerOf<T>, &mut P, usize, Part) -> PResult<T::Pat>,
@@ -357,7 +357,7 @@ fn bare_new<P: Source, T: BuildsCall>(
 #[tactic(auto, unfolding(swc_ecma_parser_reader::specs::Expressions::new_head))]
 fn new_head<
     P: Source,
-    T: BuildsExpr + BuildsCall + BuildsObject + BuildsOperator,
+    T: BuildsCall,
     S: Fn(&MakerOf<T>, &mut P, usize, Position) -> PResult<T::Stmt>,
     E: Fn(&MakerOf<T>, &mut P, usize, Reading) -> PResult<Cover<T::Expr>>,
     N: Fn(&MakerOf<T>, &mut P, usize, Part) -> PResult<T::Pat>,
@@ -378,7 +378,7 @@ fn new_head<
 #[tactic(auto, unfolding(swc_ecma_parser_reader::specs::Expressions::import_call))]
 fn import_call<
     P: Source,
-    T: BuildsExpr + BuildsCall + BuildsObject + BuildsOperator,
+    T: BuildsCall,
     S: Fn(&MakerOf<T>, &mut P, usize, Position) -> PResult<T::Stmt>,
     E: Fn(&MakerOf<T>, &mut P, usize, Reading) -> PResult<Cover<T::Expr>>,
     N: Fn(&MakerOf<T>, &mut P, usize, Part) -> PResult<T::Pat>,
@@ -396,7 +396,7 @@ fn import_call<
 #[tactic(auto, unfolding(swc_ecma_parser_reader::specs::Expressions::import_head))]
 fn import_head<
     P: Source,
-    T: BuildsExpr + BuildsCall + BuildsObject + BuildsOperator,
+    T: BuildsCall + BuildsOperator,
     S: Fn(&MakerOf<T>, &mut P, usize, Position) -> PResult<T::Stmt>,
     E: Fn(&MakerOf<T>, &mut P, usize, Reading) -> PResult<Cover<T::Expr>>,
     N: Fn(&MakerOf<T>, &mut P, usize, Part) -> PResult<T::Pat>,

@@ -1,107 +1,27 @@
 //! Objects without methods: ECMA-262, section 13.2.5.
 
 ghost use Rattle.std.specs.Prelude.{◌≡◌, true, IfOk};
-ghost use Rattle.swc_ecma_parser_left.specs.Accesses.{key_of, word_of};
-ghost use Rattle.swc_ecma_parser_left.specs.Covers.{bare, cover_of, covers_of};
-ghost use Rattle.swc_ecma_parser_reader.specs.Expressions.{is_literal};
-ghost use Rattle.swc_ecma_parser_left.specs.Nests.{Nests};
-ghost use Rattle.swc_ecma_parser_reader.specs.Classes.{class_of};
+ghost use Rattle.swc_ecma_parser_inner.specs.Covers.{bare, cover_of, covers_of};
+ghost use Rattle.swc_ecma_parser_inner.specs.Keys.{key_of, word_of};
+ghost use Rattle.swc_ecma_parser_inner.specs.Nests.{Nests};
 ghost use Rattle.swc_ecma_parser_reader.specs.Expressions as exprs;
+ghost use Rattle.swc_ecma_parser_reader.specs.Expressions.{is_literal};
 ghost use Rattle.swc_ecma_parser_reader.specs.State.{GivesAs};
 
-use crate::access::{inside, word_property};
-use crate::cover::{Cover, Covers, Reading, behind_comma, covered, done, joined};
-use crate::grammar::{Grammar, Part};
-use crate::steps::{grown, since};
-use std::alloc::{AllocError, Global};
+use std::alloc::Global;
 use swc_ecma_parser_common::Span;
 use swc_ecma_parser_error::{PResult, SyntaxError};
 use swc_ecma_parser_grammar::{Class, Position};
-use swc_ecma_parser_model::{BigInt, Ident, Number, Str};
-use swc_ecma_parser_source::{Literal, Source, Wanted, is_name};
+use swc_ecma_parser_inner::cover::{
+    Cover, Covers, Reading, behind_comma, covered, done, inside, joined,
+};
+use swc_ecma_parser_inner::grammar::{Grammar, Part};
+use swc_ecma_parser_inner::keys::{Key, made_key, property_key};
+use swc_ecma_parser_inner::steps::{grown, since};
+use swc_ecma_parser_model::Ident;
+use swc_ecma_parser_source::{Source, Wanted, is_name};
 use swc_ecma_parser_token::TokenKind;
-use swc_ecma_parser_trees::{BuildsCall, BuildsKey, BuildsObject, MakerOf};
-
-/// A key.
-#[derive(Drop)]
-pub enum Key<E> {
-    Word(Ident),
-    Str(Str),
-    Num(Number),
-    BigInt(BigInt),
-    /// An expression in brackets, which stand there.
-    Computed(Span, E),
-}
-
-/// The tree's key.
-pub fn made_key<T: BuildsKey>(alloc: Global, key: Key<T::Expr>) -> Result<T::Key, AllocError>
-    ensures { IfOk result (λ x. T.key_of x ≡ key_of T.expr_of key) }
-{
-    match key {
-        Key::Word(x) => T::ident_key(alloc, x),
-        Key::Str(x) => T::str_key(alloc, x),
-        Key::Num(x) => T::num_key(alloc, x),
-        Key::BigInt(x) => T::big_int_key(alloc, x),
-        Key::Computed(brackets, expr) => T::computed_key(alloc, brackets, expr),
-    }
-}
-
-/// A string or a number as a key.
-#[tactic(auto, unfolding(swc_ecma_parser_reader::specs::Expressions::literal_key))]
-fn literal_key<P: Source, T: BuildsKey>(p: &mut P) -> PResult<Key<T::Expr>>
-    ensures { GivesAs (key_of T.expr_of) (exprs.literal_key (P.seen p.old)) result (P.seen p.new) }
-{
-    let Some(literal) = p.literal()? else {
-        return Err(p.wanted(Wanted::Expression));
-    };
-    match literal {
-        Literal::Str(x) => Ok(Key::Str(x)),
-        Literal::Num(x) => Ok(Key::Num(x)),
-        Literal::BigInt(x) => Ok(Key::BigInt(x)),
-        Literal::Null(_) | Literal::Bool(_) => Err(p.wanted(Wanted::Expression)),
-    }
-}
-
-/// A key in brackets.
-#[tactic(auto, unfolding(swc_ecma_parser_reader::specs::Expressions::computed_key))]
-fn computed_key<
-    P: Source,
-    T: BuildsCall + BuildsKey,
-    S: Fn(&MakerOf<T>, &mut P, usize, Position) -> PResult<T::Stmt>,
-    E: Fn(&MakerOf<T>, &mut P, usize, Reading) -> PResult<Cover<T::Expr>>,
-    N: Fn(&MakerOf<T>, &mut P, usize, Part) -> PResult<T::Pat>,
->(g: &Grammar<S, E, N>, t: &MakerOf<T>, p: &mut P) -> PResult<Key<T::Expr>>
-    requires { Nests P.seen T.expr_of T.pat_of T.stmt_of g.now.depth (S.pre g.now.stmt) (S.post g.now.stmt) (E.pre g.now.expr) (E.post g.now.expr) (N.pre g.now.pat) (N.post g.now.pat) }
-    ensures { GivesAs (key_of T.expr_of) (exprs.computed_key (exprs.expr g.now.depth) (exprs.cover g.now.depth) (P.seen p.old)) result (P.seen p.new) }
-{
-    let start = p.span();
-    p.skip()?;
-    let expr = inside(g, t, p, Class::Assignment)?;
-    p.expect(TokenKind::RBracket, "]")?;
-    let span = since(p, start);
-    Ok(Key::Computed(span, expr))
-}
-
-/// A key.
-#[tactic(auto, unfolding(swc_ecma_parser_reader::specs::Expressions::key))]
-pub fn property_key<
-    P: Source,
-    T: BuildsCall + BuildsKey,
-    S: Fn(&MakerOf<T>, &mut P, usize, Position) -> PResult<T::Stmt>,
-    E: Fn(&MakerOf<T>, &mut P, usize, Reading) -> PResult<Cover<T::Expr>>,
-    N: Fn(&MakerOf<T>, &mut P, usize, Part) -> PResult<T::Pat>,
->(g: &Grammar<S, E, N>, t: &MakerOf<T>, p: &mut P) -> PResult<Key<T::Expr>>
-    requires { Nests P.seen T.expr_of T.pat_of T.stmt_of g.now.depth (S.pre g.now.stmt) (S.post g.now.stmt) (E.pre g.now.expr) (E.post g.now.expr) (N.pre g.now.pat) (N.post g.now.pat) }
-    ensures { GivesAs (key_of T.expr_of) (exprs.key (exprs.expr g.now.depth) (exprs.cover g.now.depth) (P.seen p.old)) result (P.seen p.new) }
-{
-    if p.is_word_here() {
-        return Ok(Key::Word(word_property(p)?));
-    }
-    if p.sees(TokenKind::LBracket) {
-        return computed_key(g, t, p);
-    }
-    literal_key::<P, T>(p)
-}
+use swc_ecma_parser_trees::{BuildsObject, MakerOf};
 
 /// A key with nothing behind it: a name.
 #[tactic(auto, unfolding(swc_ecma_parser_reader::specs::Expressions::shorthand_name))]
@@ -122,7 +42,7 @@ fn shorthand_name<P: Source, T: BuildsObject>(
 #[tactic(auto, unfolding(swc_ecma_parser_reader::specs::Expressions::key_value))]
 fn key_value<
     P: Source,
-    T: BuildsCall + BuildsObject,
+    T: BuildsObject,
     S: Fn(&MakerOf<T>, &mut P, usize, Position) -> PResult<T::Stmt>,
     E: Fn(&MakerOf<T>, &mut P, usize, Reading) -> PResult<Cover<T::Expr>>,
     N: Fn(&MakerOf<T>, &mut P, usize, Part) -> PResult<T::Pat>,
@@ -148,7 +68,7 @@ fn key_value<
 #[tactic(auto, unfolding(swc_ecma_parser_reader::specs::Expressions::initialized))]
 fn initialized<
     P: Source,
-    T: BuildsCall + BuildsObject,
+    T: BuildsObject,
     S: Fn(&MakerOf<T>, &mut P, usize, Position) -> PResult<T::Stmt>,
     E: Fn(&MakerOf<T>, &mut P, usize, Reading) -> PResult<Cover<T::Expr>>,
     N: Fn(&MakerOf<T>, &mut P, usize, Part) -> PResult<T::Pat>,
@@ -177,7 +97,7 @@ fn initialized<
 #[tactic(auto, unfolding(swc_ecma_parser_reader::specs::Expressions::initialized_name), using(crate::proofs::Refusals::reject_cover))]
 fn initialized_name<
     P: Source,
-    T: BuildsCall + BuildsObject,
+    T: BuildsObject,
     S: Fn(&MakerOf<T>, &mut P, usize, Position) -> PResult<T::Stmt>,
     E: Fn(&MakerOf<T>, &mut P, usize, Reading) -> PResult<Cover<T::Expr>>,
     N: Fn(&MakerOf<T>, &mut P, usize, Part) -> PResult<T::Pat>,
@@ -215,7 +135,7 @@ fn bare_key<P: Source, T: BuildsObject>(
 #[tactic(auto, using(crate::proofs::Refusals::wanted_cover))]
 fn initialized_key<
     P: Source,
-    T: BuildsCall + BuildsObject,
+    T: BuildsObject,
     S: Fn(&MakerOf<T>, &mut P, usize, Position) -> PResult<T::Stmt>,
     E: Fn(&MakerOf<T>, &mut P, usize, Reading) -> PResult<Cover<T::Expr>>,
     N: Fn(&MakerOf<T>, &mut P, usize, Part) -> PResult<T::Pat>,
@@ -239,7 +159,7 @@ fn initialized_key<
 #[tactic(auto, unfolding(swc_ecma_parser_reader::specs::Expressions::behind_key, swc_ecma_parser_reader::specs::Expressions::bare_key))]
 fn behind_key<
     P: Source,
-    T: BuildsCall + BuildsObject,
+    T: BuildsObject,
     S: Fn(&MakerOf<T>, &mut P, usize, Position) -> PResult<T::Stmt>,
     E: Fn(&MakerOf<T>, &mut P, usize, Reading) -> PResult<Cover<T::Expr>>,
     N: Fn(&MakerOf<T>, &mut P, usize, Part) -> PResult<T::Pat>,
@@ -266,7 +186,7 @@ fn behind_key<
 #[tactic(auto, unfolding(swc_ecma_parser_reader::specs::Expressions::keyed_property))]
 fn keyed_property<
     P: Source,
-    T: BuildsCall + BuildsObject,
+    T: BuildsObject,
     S: Fn(&MakerOf<T>, &mut P, usize, Position) -> PResult<T::Stmt>,
     E: Fn(&MakerOf<T>, &mut P, usize, Reading) -> PResult<Cover<T::Expr>>,
     N: Fn(&MakerOf<T>, &mut P, usize, Part) -> PResult<T::Pat>,
@@ -283,7 +203,7 @@ fn keyed_property<
 #[tactic(auto, unfolding(swc_ecma_parser_reader::specs::Expressions::spread_property))]
 fn spread_property<
     P: Source,
-    T: BuildsCall + BuildsObject,
+    T: BuildsObject,
     S: Fn(&MakerOf<T>, &mut P, usize, Position) -> PResult<T::Stmt>,
     E: Fn(&MakerOf<T>, &mut P, usize, Reading) -> PResult<Cover<T::Expr>>,
     N: Fn(&MakerOf<T>, &mut P, usize, Part) -> PResult<T::Pat>,
@@ -302,7 +222,7 @@ fn spread_property<
 #[tactic(auto, unfolding(swc_ecma_parser_reader::specs::Expressions::property))]
 fn property<
     P: Source,
-    T: BuildsCall + BuildsObject,
+    T: BuildsObject,
     S: Fn(&MakerOf<T>, &mut P, usize, Position) -> PResult<T::Stmt>,
     E: Fn(&MakerOf<T>, &mut P, usize, Reading) -> PResult<Cover<T::Expr>>,
     N: Fn(&MakerOf<T>, &mut P, usize, Part) -> PResult<T::Pat>,
@@ -320,7 +240,7 @@ fn property<
 #[tactic(auto, unfolding(swc_ecma_parser_reader::specs::Expressions::properties), using(swc_ecma_parser_reader::proofs::expressions::Loops::properties_done, swc_ecma_parser_reader::proofs::expressions::Loops::properties_err, swc_ecma_parser_reader::proofs::expressions::Loops::properties_last, swc_ecma_parser_reader::proofs::expressions::Loops::properties_more, swc_ecma_parser_reader::proofs::expressions::Loops::properties_comma_err, swc_ecma_parser_reader::proofs::expressions::Loops::property_shorter, swc_ecma_parser_reader::proofs::expressions::Loops::properties_shorter))]
 fn properties<
     P: Source,
-    T: BuildsCall + BuildsObject,
+    T: BuildsObject,
     S: Fn(&MakerOf<T>, &mut P, usize, Position) -> PResult<T::Stmt>,
     E: Fn(&MakerOf<T>, &mut P, usize, Reading) -> PResult<Cover<T::Expr>>,
     N: Fn(&MakerOf<T>, &mut P, usize, Part) -> PResult<T::Pat>,
@@ -353,7 +273,7 @@ fn properties<
 #[tactic(auto, unfolding(swc_ecma_parser_reader::specs::Expressions::object))]
 pub fn object<
     P: Source,
-    T: BuildsCall + BuildsObject,
+    T: BuildsObject,
     S: Fn(&MakerOf<T>, &mut P, usize, Position) -> PResult<T::Stmt>,
     E: Fn(&MakerOf<T>, &mut P, usize, Reading) -> PResult<Cover<T::Expr>>,
     N: Fn(&MakerOf<T>, &mut P, usize, Part) -> PResult<T::Pat>,

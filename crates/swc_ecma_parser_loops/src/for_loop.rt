@@ -3,7 +3,7 @@
 ghost use Rattle.std.specs.Prelude.{◌≡◌};
 ghost use Rattle.swc_ecma_parser_grammar.specs.language.Goals.{expression};
 ghost use Rattle.swc_ecma_parser_grammar.specs.language.Items.{sub_statement};
-ghost use Rattle.swc_ecma_parser_left.specs.Nests.{Nests};
+ghost use Rattle.swc_ecma_parser_inner.specs.Nests.{Nests};
 ghost use Rattle.swc_ecma_parser_loops.specs.Openings.{opening_of};
 ghost use Rattle.swc_ecma_parser_reader.specs.Expressions as exprs;
 ghost use Rattle.swc_ecma_parser_reader.specs.Heads as heads;
@@ -17,21 +17,18 @@ use crate::simple::looped;
 use swc_ecma_parser_common::Span;
 use swc_ecma_parser_error::{PResult, SyntaxError};
 use swc_ecma_parser_grammar::{Class, Position};
-use swc_ecma_parser_left::access::inside;
-use swc_ecma_parser_left::cover::{Cover, Reading};
-use swc_ecma_parser_left::grammar::{Grammar, Part};
-use swc_ecma_parser_left::steps::{grown, since};
+use swc_ecma_parser_inner::cover::{Cover, Reading, inside};
+use swc_ecma_parser_inner::grammar::{Grammar, Part};
+use swc_ecma_parser_inner::steps::{grown, since};
 use swc_ecma_parser_source::Source;
 use swc_ecma_parser_token::TokenKind;
-use swc_ecma_parser_trees::{
-    BuildsCall, BuildsExpr, BuildsLoop, BuildsPattern, BuildsStmt, MakerOf, Trees,
-};
+use swc_ecma_parser_trees::{BuildsFor, BuildsPattern, MakerOf, Trees};
 
 /// A further part of a head, if what stands behind it does not stand here.
 #[tactic(auto, unfolding(swc_ecma_parser_reader::specs::Reader::head_part, swc_ecma_parser_reader::specs::Expressions::inside))]
 fn head_part<
     P: Source,
-    T: BuildsCall,
+    T: Trees,
     S: Fn(&MakerOf<T>, &mut P, usize, Position) -> PResult<T::Stmt>,
     E: Fn(&MakerOf<T>, &mut P, usize, Reading) -> PResult<Cover<T::Expr>>,
     N: Fn(&MakerOf<T>, &mut P, usize, Part) -> PResult<T::Pat>,
@@ -50,7 +47,7 @@ fn head_part<
 #[tactic(auto, unfolding(swc_ecma_parser_reader::specs::Reader::for_parts))]
 fn for_parts<
     P: Source,
-    T: BuildsExpr + BuildsStmt + BuildsCall + BuildsLoop,
+    T: BuildsFor,
     S: Fn(&MakerOf<T>, &mut P, usize, Position) -> PResult<T::Stmt>,
     E: Fn(&MakerOf<T>, &mut P, usize, Reading) -> PResult<Cover<T::Expr>>,
     N: Fn(&MakerOf<T>, &mut P, usize, Part) -> PResult<T::Pat>,
@@ -79,7 +76,7 @@ fn for_parts<
 #[tactic(auto, unfolding(swc_ecma_parser_reader::specs::Reader::for_in, swc_ecma_parser_reader::specs::Expressions::inside))]
 fn for_in<
     P: Source,
-    T: BuildsExpr + BuildsStmt + BuildsPattern + BuildsCall + BuildsLoop,
+    T: BuildsPattern + BuildsFor,
     S: Fn(&MakerOf<T>, &mut P, usize, Position) -> PResult<T::Stmt>,
     E: Fn(&MakerOf<T>, &mut P, usize, Reading) -> PResult<Cover<T::Expr>>,
     N: Fn(&MakerOf<T>, &mut P, usize, Part) -> PResult<T::Pat>,
@@ -109,7 +106,7 @@ fn for_in<
 #[tactic(auto, unfolding(swc_ecma_parser_reader::specs::Reader::for_of, swc_ecma_parser_reader::specs::Expressions::inside))]
 fn for_of<
     P: Source,
-    T: BuildsExpr + BuildsStmt + BuildsPattern + BuildsCall + BuildsLoop,
+    T: BuildsPattern + BuildsFor,
     S: Fn(&MakerOf<T>, &mut P, usize, Position) -> PResult<T::Stmt>,
     E: Fn(&MakerOf<T>, &mut P, usize, Reading) -> PResult<Cover<T::Expr>>,
     N: Fn(&MakerOf<T>, &mut P, usize, Part) -> PResult<T::Pat>,
@@ -166,7 +163,7 @@ fn unless_awaited<P: Source, T: Trees>(
 #[tactic(auto, unfolding(swc_ecma_parser_reader::specs::Reader::for_behind), using(crate::proofs::Awaited::awaited, crate::proofs::Awaited::refused))]
 fn for_behind<
     P: Source,
-    T: BuildsExpr + BuildsStmt + BuildsPattern + BuildsCall + BuildsLoop,
+    T: BuildsPattern + BuildsFor,
     S: Fn(&MakerOf<T>, &mut P, usize, Position) -> PResult<T::Stmt>,
     E: Fn(&MakerOf<T>, &mut P, usize, Reading) -> PResult<Cover<T::Expr>>,
     N: Fn(&MakerOf<T>, &mut P, usize, Part) -> PResult<T::Pat>,
@@ -196,7 +193,7 @@ fn for_behind<
 #[tactic(auto, unfolding(swc_ecma_parser_reader::specs::Reader::for_stmt))]
 pub fn for_stmt<
     P: Source,
-    T: BuildsExpr + BuildsStmt + BuildsPattern + BuildsCall + BuildsLoop,
+    T: BuildsPattern + BuildsFor,
     S: Fn(&MakerOf<T>, &mut P, usize, Position) -> PResult<T::Stmt>,
     E: Fn(&MakerOf<T>, &mut P, usize, Reading) -> PResult<Cover<T::Expr>>,
     N: Fn(&MakerOf<T>, &mut P, usize, Part) -> PResult<T::Pat>,

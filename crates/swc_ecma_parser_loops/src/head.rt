@@ -4,7 +4,7 @@ ghost use Rattle.std.specs.Prelude.{◌≡◌, ◌&&◌, false, map, IfOk, IfErr
 ghost use Rattle.swc_ecma_parser_error.specs.Kind as kinds;
 ghost use Rattle.swc_ecma_parser_error.specs.Kind.{IsOutOfMemory};
 ghost use Rattle.swc_ecma_parser_grammar.specs.Own as own;
-ghost use Rattle.swc_ecma_parser_left.specs.Nests.{Nests};
+ghost use Rattle.swc_ecma_parser_inner.specs.Nests.{Nests};
 ghost use Rattle.swc_ecma_parser_loops.specs.Flags as flags_of;
 ghost use Rattle.swc_ecma_parser_loops.specs.Openings.{declared_of, opening_of, left_of, IsTarget};
 ghost use Rattle.swc_ecma_parser_model.specs.Forms as forms;
@@ -20,15 +20,15 @@ ghost use Rattle.swc_ecma_parser_trees.specs.Parts.{part_of};
 use swc_ecma_parser_common::Span;
 use swc_ecma_parser_error::{PResult, SyntaxError};
 use swc_ecma_parser_grammar::Position;
+use swc_ecma_parser_inner::cover::{Cover, Reading, close, target};
+use swc_ecma_parser_inner::grammar::{Grammar, Part};
+use swc_ecma_parser_inner::steps::{grown, since, with_in};
 use swc_ecma_parser_input::Context;
-use swc_ecma_parser_left::cover::{Cover, Reading, close, target};
-use swc_ecma_parser_left::grammar::{Grammar, Part};
-use swc_ecma_parser_left::steps::{grown, since, with_in};
 use swc_ecma_parser_model::VarDeclKind;
 use swc_ecma_parser_source::{Source, Wanted};
 use swc_ecma_parser_statements::variables::declarators;
 use swc_ecma_parser_token::TokenKind;
-use swc_ecma_parser_trees::{BuildsExpr, BuildsLoop, BuildsPattern, BuildsStmt, MakerOf};
+use swc_ecma_parser_trees::{BuildsFor, BuildsPattern, BuildsVariables, MakerOf};
 
 /// Variables that a head declares.
 #[derive(Drop)]
@@ -79,7 +79,7 @@ fn head_flags(word: VarDeclKind, flags: Context) -> Context
 #[tactic(auto, unfolding(swc_ecma_parser_reader::specs::Reader::head_variables), using(crate::proofs::Flags::head_code_is, crate::proofs::Flags::head_module))]
 fn head_variables<
     P: Source,
-    T: BuildsExpr + BuildsStmt + BuildsPattern,
+    T: BuildsPattern + BuildsVariables,
     S: Fn(&MakerOf<T>, &mut P, usize, Position) -> PResult<T::Stmt>,
     E: Fn(&MakerOf<T>, &mut P, usize, Reading) -> PResult<Cover<T::Expr>>,
     N: Fn(&MakerOf<T>, &mut P, usize, Part) -> PResult<T::Pat>,
@@ -106,7 +106,7 @@ fn head_variables<
 #[tactic(auto, unfolding(swc_ecma_parser_reader::specs::Reader::head_expression))]
 fn head_expression<
     P: Source,
-    T: BuildsExpr + BuildsStmt,
+    T: BuildsVariables,
     S: Fn(&MakerOf<T>, &mut P, usize, Position) -> PResult<T::Stmt>,
     E: Fn(&MakerOf<T>, &mut P, usize, Reading) -> PResult<Cover<T::Expr>>,
     N: Fn(&MakerOf<T>, &mut P, usize, Part) -> PResult<T::Pat>,
@@ -125,7 +125,7 @@ fn head_expression<
 #[tactic(auto, unfolding(swc_ecma_parser_reader::specs::Reader::opening))]
 pub(crate) fn head_opening<
     P: Source,
-    T: BuildsExpr + BuildsStmt + BuildsPattern,
+    T: BuildsPattern + BuildsVariables,
     S: Fn(&MakerOf<T>, &mut P, usize, Position) -> PResult<T::Stmt>,
     E: Fn(&MakerOf<T>, &mut P, usize, Reading) -> PResult<Cover<T::Expr>>,
     N: Fn(&MakerOf<T>, &mut P, usize, Part) -> PResult<T::Pat>,
@@ -149,7 +149,7 @@ pub(crate) fn head_opening<
 }
 
 /// It as the first part of three.
-pub(crate) fn as_init<P: Source, T: BuildsExpr + BuildsStmt + BuildsLoop>(
+pub(crate) fn as_init<P: Source, T: BuildsFor>(
     t: &MakerOf<T>,
     p: &mut P,
     first: Opening<T::Declarator, T::Expr>,
@@ -166,7 +166,7 @@ pub(crate) fn as_init<P: Source, T: BuildsExpr + BuildsStmt + BuildsLoop>(
 
 /// It as what takes each value. Behind `for await` the name `async` alone is not read yet.
 #[tactic(auto, using(crate::proofs::Targets::read_target))]
-pub(crate) fn as_left<P: Source, T: BuildsExpr + BuildsStmt + BuildsPattern>(
+pub(crate) fn as_left<P: Source, T: BuildsPattern + BuildsVariables>(
     t: &MakerOf<T>,
     p: &mut P,
     is_await: bool,
@@ -188,10 +188,7 @@ pub(crate) fn as_left<P: Source, T: BuildsExpr + BuildsStmt + BuildsPattern>(
 }
 
 /// Records that variables behind the first stand in a head.
-fn surplus<P: Source, T: BuildsStmt + BuildsLoop>(
-    p: &mut P,
-    others: &[T::Declarator],
-) -> PResult<()>
+fn surplus<P: Source, T: BuildsVariables>(p: &mut P, others: &[T::Declarator]) -> PResult<()>
     ensures { Gives (rules.told (own.surplus (trees (map T.declarator_of others.now))) (P.seen p.old)) result (P.seen p.new) }
 {
     'others: for other in others {
@@ -201,7 +198,7 @@ fn surplus<P: Source, T: BuildsStmt + BuildsLoop>(
 }
 
 /// Records that the only variable of a head has an initializer, where that is refused.
-fn initialized<P: Source, T: BuildsStmt + BuildsLoop>(
+fn initialized<P: Source, T: BuildsVariables>(
     p: &mut P,
     refused: bool,
     only: &T::Declarator,
@@ -220,7 +217,7 @@ fn initialized<P: Source, T: BuildsStmt + BuildsLoop>(
 
 /// Records what may not be declared before `in` or `of`.
 #[tactic(auto, using(crate::proofs::Misdeclared::nothing_declared, crate::proofs::Misdeclared::one_declared, crate::proofs::Misdeclared::many_declared))]
-fn misdeclared_variables<P: Source, T: BuildsStmt + BuildsLoop>(
+fn misdeclared_variables<P: Source, T: BuildsVariables>(
     p: &mut P,
     refused: bool,
     declared: &Declared<T::Declarator>,
@@ -239,7 +236,7 @@ fn misdeclared_variables<P: Source, T: BuildsStmt + BuildsLoop>(
 
 /// The same of what takes each value, which is declared or not.
 #[tactic(auto, unfolding(swc_ecma_parser_reader::specs::Reader::misdeclared))]
-pub(crate) fn misdeclared<P: Source, T: BuildsStmt + BuildsLoop>(
+pub(crate) fn misdeclared<P: Source, T: BuildsVariables>(
     p: &mut P,
     refused: bool,
     left: &Left<T::Declarator, T::Pat>,
@@ -254,7 +251,7 @@ pub(crate) fn misdeclared<P: Source, T: BuildsStmt + BuildsLoop>(
 }
 
 /// It as a part of the tree.
-pub(crate) fn head_of<P: Source, T: BuildsStmt + BuildsLoop>(
+pub(crate) fn head_of<P: Source, T: BuildsFor>(
     t: &MakerOf<T>,
     p: &mut P,
     left: Left<T::Declarator, T::Pat>,

@@ -4,22 +4,21 @@ ghost use Rattle.std.specs.Prelude.{◌≡◌, true};
 ghost use Rattle.swc_ecma_parser_grammar.specs.language.Contexts as contexts;
 ghost use Rattle.swc_ecma_parser_grammar.specs.language.Goals.{expression};
 ghost use Rattle.swc_ecma_parser_grammar.specs.language.Items.{sub_statement};
-ghost use Rattle.swc_ecma_parser_left.specs.Nests.{Nests};
+ghost use Rattle.swc_ecma_parser_inner.specs.Nests.{Nests};
 ghost use Rattle.swc_ecma_parser_reader.specs.Expressions as exprs;
 ghost use Rattle.swc_ecma_parser_reader.specs.Reader as rules;
 ghost use Rattle.swc_ecma_parser_reader.specs.State.{GivesAs, within};
 
 use swc_ecma_parser_error::PResult;
 use swc_ecma_parser_grammar::{Class, Position};
+use swc_ecma_parser_inner::cover::{Cover, Reading, inside};
+use swc_ecma_parser_inner::grammar::{Grammar, Part};
+use swc_ecma_parser_inner::steps::{grown, since};
 use swc_ecma_parser_input::Context;
-use swc_ecma_parser_left::access::inside;
-use swc_ecma_parser_left::cover::{Cover, Reading};
-use swc_ecma_parser_left::grammar::{Grammar, Part};
-use swc_ecma_parser_left::steps::{grown, since};
 use swc_ecma_parser_source::Source;
 use swc_ecma_parser_statements::simple::optional_end;
 use swc_ecma_parser_token::TokenKind;
-use swc_ecma_parser_trees::{BuildsCall, BuildsLoop, MakerOf, Trees};
+use swc_ecma_parser_trees::{BuildsLoop, MakerOf, Trees};
 
 /// A statement that is a part of another, and no declaration.
 pub const SUB_STATEMENT: Position = Position {
@@ -31,7 +30,7 @@ pub const SUB_STATEMENT: Position = Position {
 #[tactic(auto, unfolding(swc_ecma_parser_reader::specs::Reader::head, swc_ecma_parser_reader::specs::Expressions::inside))]
 pub fn head<
     P: Source,
-    T: BuildsCall,
+    T: Trees,
     S: Fn(&MakerOf<T>, &mut P, usize, Position) -> PResult<T::Stmt>,
     E: Fn(&MakerOf<T>, &mut P, usize, Reading) -> PResult<Cover<T::Expr>>,
     N: Fn(&MakerOf<T>, &mut P, usize, Part) -> PResult<T::Pat>,
@@ -78,7 +77,7 @@ pub(crate) fn looped<
 #[tactic(auto, unfolding(swc_ecma_parser_reader::specs::Reader::while_stmt, swc_ecma_parser_grammar::specs::Looks::spanned))]
 pub fn while_stmt<
     P: Source,
-    T: BuildsCall + BuildsLoop,
+    T: BuildsLoop,
     S: Fn(&MakerOf<T>, &mut P, usize, Position) -> PResult<T::Stmt>,
     E: Fn(&MakerOf<T>, &mut P, usize, Reading) -> PResult<Cover<T::Expr>>,
     N: Fn(&MakerOf<T>, &mut P, usize, Part) -> PResult<T::Pat>,
@@ -98,7 +97,7 @@ pub fn while_stmt<
 #[tactic(auto, unfolding(swc_ecma_parser_reader::specs::Reader::do_while, swc_ecma_parser_grammar::specs::Looks::spanned))]
 pub fn do_while<
     P: Source,
-    T: BuildsCall + BuildsLoop,
+    T: BuildsLoop,
     S: Fn(&MakerOf<T>, &mut P, usize, Position) -> PResult<T::Stmt>,
     E: Fn(&MakerOf<T>, &mut P, usize, Reading) -> PResult<Cover<T::Expr>>,
     N: Fn(&MakerOf<T>, &mut P, usize, Part) -> PResult<T::Pat>,

@@ -1,10 +1,10 @@
 //! Assignment expressions, and arrays and objects that may become patterns: ECMA-262, section 13.15.
 
 ghost use Rattle.std.specs.Prelude.{◌≡◌, true};
-ghost use Rattle.swc_ecma_parser_left.specs.Covers.{cover_of};
-ghost use Rattle.swc_ecma_parser_reader.specs.Expressions.{is_literal};
-ghost use Rattle.swc_ecma_parser_left.specs.Nests.{Nests};
+ghost use Rattle.swc_ecma_parser_inner.specs.Covers.{cover_of};
+ghost use Rattle.swc_ecma_parser_inner.specs.Nests.{Nests};
 ghost use Rattle.swc_ecma_parser_reader.specs.Expressions as exprs;
+ghost use Rattle.swc_ecma_parser_reader.specs.Expressions.{is_literal};
 ghost use Rattle.swc_ecma_parser_reader.specs.Heads as heads;
 ghost use Rattle.swc_ecma_parser_reader.specs.State.{GivesAs};
 
@@ -15,12 +15,12 @@ use crate::operator::{
 use swc_ecma_parser_common::Span;
 use swc_ecma_parser_error::PResult;
 use swc_ecma_parser_grammar::{Class, Position};
+use swc_ecma_parser_inner::cover::{Cover, Reading, close, done, nested, target};
+use swc_ecma_parser_inner::grammar::{Grammar, Part};
+use swc_ecma_parser_inner::steps::{grown, since};
 use swc_ecma_parser_left::array::array;
-use swc_ecma_parser_left::cover::{Cover, Reading, close, done, nested, target};
-use swc_ecma_parser_left::grammar::{Grammar, Part};
 use swc_ecma_parser_left::left::left_from;
 use swc_ecma_parser_left::object::object;
-use swc_ecma_parser_left::steps::{grown, since};
 use swc_ecma_parser_model::AssignOp;
 use swc_ecma_parser_source::Source;
 use swc_ecma_parser_token::TokenKind;
@@ -43,7 +43,7 @@ fn goes_on<P: Source>(p: &P) -> bool
 #[tactic(auto, unfolding(swc_ecma_parser_reader::specs::Expressions::continued, swc_ecma_parser_reader::specs::Expressions::postfixed))]
 fn continued<
     P: Source,
-    T: BuildsExpr + BuildsCall + BuildsObject + BuildsOperator,
+    T: BuildsCall + BuildsOperator,
     S: Fn(&MakerOf<T>, &mut P, usize, Position) -> PResult<T::Stmt>,
     E: Fn(&MakerOf<T>, &mut P, usize, Reading) -> PResult<Cover<T::Expr>>,
     N: Fn(&MakerOf<T>, &mut P, usize, Part) -> PResult<T::Pat>,
@@ -61,7 +61,7 @@ fn continued<
 #[tactic(auto, unfolding(swc_ecma_parser_reader::specs::Expressions::closed))]
 fn closed<
     P: Source,
-    T: BuildsExpr + BuildsCall + BuildsObject + BuildsOperator,
+    T: BuildsCall + BuildsOperator,
     S: Fn(&MakerOf<T>, &mut P, usize, Position) -> PResult<T::Stmt>,
     E: Fn(&MakerOf<T>, &mut P, usize, Reading) -> PResult<Cover<T::Expr>>,
     N: Fn(&MakerOf<T>, &mut P, usize, Part) -> PResult<T::Pat>,
@@ -83,7 +83,7 @@ fn closed<
 #[tactic(auto, unfolding(swc_ecma_parser_reader::specs::Expressions::assigned_pattern, swc_ecma_parser_reader::specs::Expressions::assigned_to))]
 fn assigned_pattern<
     P: Source,
-    T: BuildsExpr + BuildsCall + BuildsObject + BuildsOperator + BuildsPattern,
+    T: BuildsOperator + BuildsPattern,
     S: Fn(&MakerOf<T>, &mut P, usize, Position) -> PResult<T::Stmt>,
     E: Fn(&MakerOf<T>, &mut P, usize, Reading) -> PResult<Cover<T::Expr>>,
     N: Fn(&MakerOf<T>, &mut P, usize, Part) -> PResult<T::Pat>,
@@ -113,7 +113,7 @@ fn assigned_pattern<
 #[tactic(auto, unfolding(swc_ecma_parser_reader::specs::Expressions::behind_literal))]
 fn behind_literal<
     P: Source,
-    T: BuildsExpr + BuildsCall + BuildsObject + BuildsOperator + BuildsPattern,
+    T: BuildsCall + BuildsOperator + BuildsPattern,
     S: Fn(&MakerOf<T>, &mut P, usize, Position) -> PResult<T::Stmt>,
     E: Fn(&MakerOf<T>, &mut P, usize, Reading) -> PResult<Cover<T::Expr>>,
     N: Fn(&MakerOf<T>, &mut P, usize, Part) -> PResult<T::Pat>,
@@ -141,7 +141,7 @@ fn behind_literal<
 #[tactic(auto, unfolding(swc_ecma_parser_reader::specs::Expressions::open_literal))]
 fn open_literal<
     P: Source,
-    T: BuildsExpr + BuildsCall + BuildsObject + BuildsOperator + BuildsPattern,
+    T: BuildsCall + BuildsObject + BuildsOperator + BuildsPattern,
     S: Fn(&MakerOf<T>, &mut P, usize, Position) -> PResult<T::Stmt>,
     E: Fn(&MakerOf<T>, &mut P, usize, Reading) -> PResult<Cover<T::Expr>>,
     N: Fn(&MakerOf<T>, &mut P, usize, Part) -> PResult<T::Pat>,

@@ -4,7 +4,7 @@ ghost use Rattle.std.specs.Prelude.{◌≡◌, ◌&&◌, IfOk, map};
 ghost use Rattle.swc_ecma_parser_error.specs.Kind.{kind_of};
 ghost use Rattle.swc_ecma_parser_grammar.specs.language.Continues.{continues_conditional};
 ghost use Rattle.swc_ecma_parser_grammar.specs.language.Operators as operators;
-ghost use Rattle.swc_ecma_parser_left.specs.Nests.{Nests};
+ghost use Rattle.swc_ecma_parser_inner.specs.Nests.{Nests};
 ghost use Rattle.swc_ecma_parser_reader.specs.Classes.{class_of};
 ghost use Rattle.swc_ecma_parser_reader.specs.Expressions as exprs;
 ghost use Rattle.swc_ecma_parser_reader.specs.State.{Gives, GivesAs};
@@ -14,11 +14,10 @@ use std::alloc::Global;
 use swc_ecma_parser_common::Span;
 use swc_ecma_parser_error::{PResult, SyntaxError};
 use swc_ecma_parser_grammar::{Class, Position};
-use swc_ecma_parser_left::access::inside;
-use swc_ecma_parser_left::cover::{Cover, Reading, nested};
-use swc_ecma_parser_left::grammar::{Grammar, Part};
+use swc_ecma_parser_inner::cover::{Cover, Reading, inside, nested};
+use swc_ecma_parser_inner::grammar::{Grammar, Part};
+use swc_ecma_parser_inner::steps::{grown, pushed, since};
 use swc_ecma_parser_left::left::{left, left_expr};
-use swc_ecma_parser_left::steps::{grown, pushed, since};
 use swc_ecma_parser_model::{AssignOp, BinaryOp, UnaryOp, UpdateOp};
 use swc_ecma_parser_source::{
     Source, Wanted, assign_operator, binary_operator, groups_left, mixes, precedence,
@@ -33,7 +32,7 @@ use swc_ecma_parser_trees::{
 #[tactic(auto, unfolding(swc_ecma_parser_reader::specs::Expressions::prefixed))]
 fn prefixed<
     P: Source,
-    T: BuildsExpr + BuildsCall + BuildsObject + BuildsOperator,
+    T: BuildsOperator,
     S: Fn(&MakerOf<T>, &mut P, usize, Position) -> PResult<T::Stmt>,
     E: Fn(&MakerOf<T>, &mut P, usize, Reading) -> PResult<Cover<T::Expr>>,
     N: Fn(&MakerOf<T>, &mut P, usize, Part) -> PResult<T::Pat>,
@@ -63,7 +62,7 @@ fn simple<P: Source, T: BuildsOperator>(p: &mut P, x: &T::Expr) -> PResult<()>
 #[tactic(auto, unfolding(swc_ecma_parser_reader::specs::Expressions::update_before))]
 fn update_before<
     P: Source,
-    T: BuildsExpr + BuildsCall + BuildsObject + BuildsOperator,
+    T: BuildsOperator,
     S: Fn(&MakerOf<T>, &mut P, usize, Position) -> PResult<T::Stmt>,
     E: Fn(&MakerOf<T>, &mut P, usize, Reading) -> PResult<Cover<T::Expr>>,
     N: Fn(&MakerOf<T>, &mut P, usize, Part) -> PResult<T::Pat>,
@@ -216,7 +215,7 @@ fn right_class(op: BinaryOp) -> Class
 #[tactic(auto, unfolding(swc_ecma_parser_reader::specs::Expressions::operated))]
 fn operated<
     P: Source,
-    T: BuildsExpr + BuildsCall + BuildsObject + BuildsOperator,
+    T: BuildsOperator,
     S: Fn(&MakerOf<T>, &mut P, usize, Position) -> PResult<T::Stmt>,
     E: Fn(&MakerOf<T>, &mut P, usize, Reading) -> PResult<Cover<T::Expr>>,
     N: Fn(&MakerOf<T>, &mut P, usize, Part) -> PResult<T::Pat>,
@@ -253,7 +252,7 @@ pub(crate) fn operator_here<P: Source>(p: &P, n: usize) -> Option<BinaryOp>
 #[tactic(auto, unfolding(swc_ecma_parser_reader::specs::Expressions::binary_from), using(swc_ecma_parser_reader::proofs::expressions::Loops::binary_done, swc_ecma_parser_reader::proofs::expressions::Loops::binary_more, swc_ecma_parser_reader::proofs::expressions::Loops::binary_err, swc_ecma_parser_reader::proofs::expressions::Loops::operated_shorter))]
 pub(crate) fn binary_from<
     P: Source,
-    T: BuildsExpr + BuildsCall + BuildsObject + BuildsOperator,
+    T: BuildsOperator,
     S: Fn(&MakerOf<T>, &mut P, usize, Position) -> PResult<T::Stmt>,
     E: Fn(&MakerOf<T>, &mut P, usize, Reading) -> PResult<Cover<T::Expr>>,
     N: Fn(&MakerOf<T>, &mut P, usize, Part) -> PResult<T::Pat>,
@@ -306,7 +305,7 @@ pub(crate) fn assigns_here<P: Source>(p: &P) -> bool
 #[tactic(auto, unfolding(swc_ecma_parser_reader::specs::Expressions::conditional, swc_ecma_parser_reader::specs::Expressions::unassigned))]
 fn conditional<
     P: Source,
-    T: BuildsExpr + BuildsCall + BuildsObject + BuildsOperator,
+    T: BuildsOperator,
     S: Fn(&MakerOf<T>, &mut P, usize, Position) -> PResult<T::Stmt>,
     E: Fn(&MakerOf<T>, &mut P, usize, Reading) -> PResult<Cover<T::Expr>>,
     N: Fn(&MakerOf<T>, &mut P, usize, Part) -> PResult<T::Pat>,
@@ -339,7 +338,7 @@ fn unassignable(op: AssignOp) -> SyntaxError
 #[tactic(auto, unfolding(swc_ecma_parser_reader::specs::Expressions::assigned, swc_ecma_parser_reader::specs::Expressions::assigned_to))]
 fn assigned<
     P: Source,
-    T: BuildsExpr + BuildsCall + BuildsObject + BuildsOperator,
+    T: BuildsOperator,
     S: Fn(&MakerOf<T>, &mut P, usize, Position) -> PResult<T::Stmt>,
     E: Fn(&MakerOf<T>, &mut P, usize, Reading) -> PResult<Cover<T::Expr>>,
     N: Fn(&MakerOf<T>, &mut P, usize, Part) -> PResult<T::Pat>,
@@ -366,7 +365,7 @@ fn assigned<
 /// Whether what was read, and the token that stands here, begin an arrow function; `is_async` where it was read from `async` and
 /// `(` on.
 #[tactic(auto, unfolding(swc_ecma_parser_reader::specs::Expressions::heads_arrow), using(crate::proofs::Heads::is_head_by))]
-fn heads_arrow<P: Source, T: BuildsExpr + BuildsCall>(p: &P, is_async: bool, x: &T::Expr) -> bool
+fn heads_arrow<P: Source, T: BuildsCall>(p: &P, is_async: bool, x: &T::Expr) -> bool
     ensures { result ≡ exprs.heads_arrow is_async (T.expr_of x.now) (P.seen p.now) }
 {
     (T::is_ident(x) || T::is_paren(x) || is_async && T::is_async_call(x))
@@ -378,7 +377,7 @@ fn heads_arrow<P: Source, T: BuildsExpr + BuildsCall>(p: &P, is_async: bool, x: 
 #[tactic(auto, unfolding(swc_ecma_parser_reader::specs::Expressions::behind_operators, swc_ecma_parser_reader::specs::Expressions::unheaded))]
 pub(crate) fn behind_operators<
     P: Source,
-    T: BuildsExpr + BuildsCall + BuildsObject + BuildsOperator,
+    T: BuildsCall + BuildsOperator,
     S: Fn(&MakerOf<T>, &mut P, usize, Position) -> PResult<T::Stmt>,
     E: Fn(&MakerOf<T>, &mut P, usize, Reading) -> PResult<Cover<T::Expr>>,
     N: Fn(&MakerOf<T>, &mut P, usize, Part) -> PResult<T::Pat>,

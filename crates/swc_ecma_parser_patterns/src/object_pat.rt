@@ -1,8 +1,8 @@
 //! Object patterns of bindings: ECMA-262, section 14.3.3.
 
 ghost use Rattle.std.specs.Prelude.{map};
-ghost use Rattle.swc_ecma_parser_left.specs.Accesses.{key_of};
-ghost use Rattle.swc_ecma_parser_left.specs.Nests.{Nests};
+ghost use Rattle.swc_ecma_parser_inner.specs.Keys.{key_of};
+ghost use Rattle.swc_ecma_parser_inner.specs.Nests.{Nests};
 ghost use Rattle.swc_ecma_parser_reader.specs.Expressions as exprs;
 ghost use Rattle.swc_ecma_parser_reader.specs.Patterns as patterns;
 ghost use Rattle.swc_ecma_parser_reader.specs.State.{GivesAs};
@@ -11,21 +11,20 @@ use crate::pat::inner_pat;
 use swc_ecma_parser_common::Span;
 use swc_ecma_parser_error::{PResult, SyntaxError};
 use swc_ecma_parser_grammar::{Class, Position};
-use swc_ecma_parser_left::access::inside;
-use swc_ecma_parser_left::cover::{Cover, Reading};
-use swc_ecma_parser_left::grammar::{Grammar, Part};
-use swc_ecma_parser_left::object::{Key, made_key, property_key};
-use swc_ecma_parser_left::steps::{grown, pushed, since};
+use swc_ecma_parser_inner::cover::{Cover, Reading, inside};
+use swc_ecma_parser_inner::grammar::{Grammar, Part};
+use swc_ecma_parser_inner::keys::{Key, made_key, property_key};
+use swc_ecma_parser_inner::steps::{grown, pushed, since};
 use swc_ecma_parser_model::Ident;
 use swc_ecma_parser_source::{Source, Wanted, is_name};
 use swc_ecma_parser_token::TokenKind;
-use swc_ecma_parser_trees::{BuildsCall, BuildsPattern, MakerOf};
+use swc_ecma_parser_trees::{BuildsObjectPat, MakerOf, Trees};
 
 /// The rest of an object, which is a name.
 #[tactic(auto, unfolding(swc_ecma_parser_reader::specs::Patterns::rest_name))]
 fn rest_name<
     P: Source,
-    T: BuildsPattern,
+    T: Trees,
     S: Fn(&MakerOf<T>, &mut P, usize, Position) -> PResult<T::Stmt>,
     E: Fn(&MakerOf<T>, &mut P, usize, Reading) -> PResult<Cover<T::Expr>>,
     N: Fn(&MakerOf<T>, &mut P, usize, Part) -> PResult<T::Pat>,
@@ -43,7 +42,7 @@ fn rest_name<
 #[tactic(auto, unfolding(swc_ecma_parser_reader::specs::Patterns::rest_property))]
 fn rest_property<
     P: Source,
-    T: BuildsPattern,
+    T: BuildsObjectPat,
     S: Fn(&MakerOf<T>, &mut P, usize, Position) -> PResult<T::Stmt>,
     E: Fn(&MakerOf<T>, &mut P, usize, Reading) -> PResult<Cover<T::Expr>>,
     N: Fn(&MakerOf<T>, &mut P, usize, Part) -> PResult<T::Pat>,
@@ -62,7 +61,7 @@ fn rest_property<
 #[tactic(auto, unfolding(swc_ecma_parser_reader::specs::Patterns::key_value))]
 fn key_value<
     P: Source,
-    T: BuildsPattern,
+    T: BuildsObjectPat,
     S: Fn(&MakerOf<T>, &mut P, usize, Position) -> PResult<T::Stmt>,
     E: Fn(&MakerOf<T>, &mut P, usize, Reading) -> PResult<Cover<T::Expr>>,
     N: Fn(&MakerOf<T>, &mut P, usize, Part) -> PResult<T::Pat>,
@@ -87,7 +86,7 @@ fn key_value<
 #[tactic(auto, unfolding(swc_ecma_parser_reader::specs::Patterns::initialized_name))]
 fn initialized_name<
     P: Source,
-    T: BuildsCall + BuildsPattern,
+    T: BuildsObjectPat,
     S: Fn(&MakerOf<T>, &mut P, usize, Position) -> PResult<T::Stmt>,
     E: Fn(&MakerOf<T>, &mut P, usize, Reading) -> PResult<Cover<T::Expr>>,
     N: Fn(&MakerOf<T>, &mut P, usize, Part) -> PResult<T::Pat>,
@@ -105,7 +104,7 @@ fn initialized_name<
 #[tactic(auto, unfolding(swc_ecma_parser_reader::specs::Patterns::named, swc_ecma_parser_reader::specs::Patterns::bare_name))]
 fn named<
     P: Source,
-    T: BuildsCall + BuildsPattern,
+    T: BuildsObjectPat,
     S: Fn(&MakerOf<T>, &mut P, usize, Position) -> PResult<T::Stmt>,
     E: Fn(&MakerOf<T>, &mut P, usize, Reading) -> PResult<Cover<T::Expr>>,
     N: Fn(&MakerOf<T>, &mut P, usize, Part) -> PResult<T::Pat>,
@@ -126,7 +125,7 @@ fn named<
 /// A key with no pattern behind it, which is a name.
 fn bare_key<
     P: Source,
-    T: BuildsCall + BuildsPattern,
+    T: BuildsObjectPat,
     S: Fn(&MakerOf<T>, &mut P, usize, Position) -> PResult<T::Stmt>,
     E: Fn(&MakerOf<T>, &mut P, usize, Reading) -> PResult<Cover<T::Expr>>,
     N: Fn(&MakerOf<T>, &mut P, usize, Part) -> PResult<T::Pat>,
@@ -150,7 +149,7 @@ fn bare_key<
 #[tactic(auto, unfolding(swc_ecma_parser_reader::specs::Patterns::behind_key))]
 fn behind_key<
     P: Source,
-    T: BuildsCall + BuildsPattern,
+    T: BuildsObjectPat,
     S: Fn(&MakerOf<T>, &mut P, usize, Position) -> PResult<T::Stmt>,
     E: Fn(&MakerOf<T>, &mut P, usize, Reading) -> PResult<Cover<T::Expr>>,
     N: Fn(&MakerOf<T>, &mut P, usize, Part) -> PResult<T::Pat>,
@@ -174,7 +173,7 @@ fn behind_key<
 #[tactic(auto, unfolding(swc_ecma_parser_reader::specs::Patterns::property))]
 fn property<
     P: Source,
-    T: BuildsCall + BuildsPattern,
+    T: BuildsObjectPat,
     S: Fn(&MakerOf<T>, &mut P, usize, Position) -> PResult<T::Stmt>,
     E: Fn(&MakerOf<T>, &mut P, usize, Reading) -> PResult<Cover<T::Expr>>,
     N: Fn(&MakerOf<T>, &mut P, usize, Part) -> PResult<T::Pat>,
@@ -191,7 +190,7 @@ fn property<
 #[tactic(auto, unfolding(swc_ecma_parser_reader::specs::Patterns::properties), using(swc_ecma_parser_reader::proofs::patterns::Loops::properties_done, swc_ecma_parser_reader::proofs::patterns::Loops::properties_rest, swc_ecma_parser_reader::proofs::patterns::Loops::properties_last, swc_ecma_parser_reader::proofs::patterns::Loops::properties_more, swc_ecma_parser_reader::proofs::patterns::Loops::property_shorter, swc_ecma_parser_reader::proofs::patterns::Loops::properties_shorter, std::proofs::lemmas::List::map_push))]
 fn properties<
     P: Source,
-    T: BuildsCall + BuildsPattern,
+    T: BuildsObjectPat,
     S: Fn(&MakerOf<T>, &mut P, usize, Position) -> PResult<T::Stmt>,
     E: Fn(&MakerOf<T>, &mut P, usize, Reading) -> PResult<Cover<T::Expr>>,
     N: Fn(&MakerOf<T>, &mut P, usize, Part) -> PResult<T::Pat>,
@@ -224,7 +223,7 @@ fn properties<
 #[tactic(auto, unfolding(swc_ecma_parser_reader::specs::Patterns::object))]
 pub(crate) fn object_pat<
     P: Source,
-    T: BuildsCall + BuildsPattern,
+    T: BuildsObjectPat,
     S: Fn(&MakerOf<T>, &mut P, usize, Position) -> PResult<T::Stmt>,
     E: Fn(&MakerOf<T>, &mut P, usize, Reading) -> PResult<Cover<T::Expr>>,
     N: Fn(&MakerOf<T>, &mut P, usize, Part) -> PResult<T::Pat>,

@@ -2,8 +2,8 @@
 
 ghost use Rattle.std.specs.Prelude.{map};
 ghost use Rattle.swc_ecma_parser_grammar.specs.Reads as language;
-ghost use Rattle.swc_ecma_parser_left.specs.Nests.{Nests};
-ghost use Rattle.swc_ecma_parser_left.specs.Patterns.{read_pat};
+ghost use Rattle.swc_ecma_parser_inner.specs.Nests.{Nests};
+ghost use Rattle.swc_ecma_parser_inner.specs.Patterns.{read_pat};
 ghost use Rattle.swc_ecma_parser_reader.specs.Expressions as exprs;
 ghost use Rattle.swc_ecma_parser_reader.specs.Patterns as patterns;
 ghost use Rattle.swc_ecma_parser_reader.specs.State as reader;
@@ -15,13 +15,12 @@ use std::alloc::Global;
 use swc_ecma_parser_common::Span;
 use swc_ecma_parser_error::PResult;
 use swc_ecma_parser_grammar::{Class, Position};
-use swc_ecma_parser_left::access::inside;
-use swc_ecma_parser_left::cover::{Cover, Reading};
-use swc_ecma_parser_left::grammar::{Grammar, Part};
-use swc_ecma_parser_left::steps::{grown, pushed, since, with_in};
+use swc_ecma_parser_inner::cover::{Cover, Reading, inside};
+use swc_ecma_parser_inner::grammar::{Grammar, Part};
+use swc_ecma_parser_inner::steps::{grown, pushed, since, with_in};
 use swc_ecma_parser_source::{Source, Wanted};
 use swc_ecma_parser_token::TokenKind;
-use swc_ecma_parser_trees::{BuildsCall, BuildsPat, BuildsPattern, MakerOf, Trees};
+use swc_ecma_parser_trees::{BuildsObjectPat, BuildsPat, BuildsPattern, MakerOf, Trees};
 
 /// A name that is bound.
 #[tactic(auto, unfolding(swc_ecma_parser_reader::specs::Patterns::binding))]
@@ -130,7 +129,7 @@ fn array_pat<
 #[tactic(auto, unfolding(swc_ecma_parser_reader::specs::Patterns::pattern_level))]
 pub fn pattern_level<
     P: Source,
-    T: BuildsCall + BuildsPattern + BuildsPat,
+    T: BuildsPat + BuildsPattern + BuildsObjectPat,
     S: Fn(&MakerOf<T>, &mut P, usize, Position) -> PResult<T::Stmt>,
     E: Fn(&MakerOf<T>, &mut P, usize, Reading) -> PResult<Cover<T::Expr>>,
     N: Fn(&MakerOf<T>, &mut P, usize, Part) -> PResult<T::Pat>,
@@ -151,7 +150,7 @@ pub fn pattern_level<
 #[tactic(auto, unfolding(swc_ecma_parser_reader::specs::Patterns::initialized))]
 fn initialized<
     P: Source,
-    T: BuildsCall + BuildsPattern,
+    T: BuildsPattern,
     S: Fn(&MakerOf<T>, &mut P, usize, Position) -> PResult<T::Stmt>,
     E: Fn(&MakerOf<T>, &mut P, usize, Reading) -> PResult<Cover<T::Expr>>,
     N: Fn(&MakerOf<T>, &mut P, usize, Part) -> PResult<T::Pat>,
@@ -169,7 +168,7 @@ fn initialized<
 #[tactic(auto, unfolding(swc_ecma_parser_reader::specs::Patterns::element_level))]
 pub fn element_level<
     P: Source,
-    T: BuildsCall + BuildsPattern + BuildsPat,
+    T: BuildsPat + BuildsPattern + BuildsObjectPat,
     S: Fn(&MakerOf<T>, &mut P, usize, Position) -> PResult<T::Stmt>,
     E: Fn(&MakerOf<T>, &mut P, usize, Reading) -> PResult<Cover<T::Expr>>,
     N: Fn(&MakerOf<T>, &mut P, usize, Part) -> PResult<T::Pat>,

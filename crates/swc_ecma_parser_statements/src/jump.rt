@@ -10,7 +10,7 @@ ghost use Rattle.swc_ecma_parser_statements.specs.Labels.{label_of};
 use std::alloc::Global;
 use swc_ecma_parser_common::Span;
 use swc_ecma_parser_error::{PResult, SyntaxError};
-use swc_ecma_parser_left::steps::{grown, since};
+use swc_ecma_parser_inner::steps::{grown, since};
 use swc_ecma_parser_model::Ident;
 use swc_ecma_parser_source::{Source, Wanted};
 use swc_ecma_parser_token::TokenKind;

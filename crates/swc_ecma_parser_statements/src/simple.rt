@@ -3,7 +3,7 @@
 ghost use Rattle.std.specs.Prelude.{◌≡◌};
 ghost use Rattle.swc_ecma_parser_grammar.specs.Follows as follows;
 ghost use Rattle.swc_ecma_parser_grammar.specs.language.Goals.{expression};
-ghost use Rattle.swc_ecma_parser_left.specs.Nests.{Nests};
+ghost use Rattle.swc_ecma_parser_inner.specs.Nests.{Nests};
 ghost use Rattle.swc_ecma_parser_reader.specs.Expressions as exprs;
 ghost use Rattle.swc_ecma_parser_reader.specs.Reader as rules;
 ghost use Rattle.swc_ecma_parser_reader.specs.State.{Gives, GivesAs};
@@ -12,12 +12,12 @@ use std::alloc::Global;
 use swc_ecma_parser_common::Atom;
 use swc_ecma_parser_error::{PResult, SyntaxError};
 use swc_ecma_parser_grammar::{Class, Position};
-use swc_ecma_parser_left::cover::{Cover, Reading, nested};
-use swc_ecma_parser_left::grammar::{Grammar, Part};
-use swc_ecma_parser_left::steps::{grown, since, with_in};
+use swc_ecma_parser_inner::cover::{Cover, Reading, nested};
+use swc_ecma_parser_inner::grammar::{Grammar, Part};
+use swc_ecma_parser_inner::steps::{grown, since, with_in};
 use swc_ecma_parser_source::{Source, Wanted};
 use swc_ecma_parser_token::TokenKind;
-use swc_ecma_parser_trees::{BuildsStmt, MakerOf};
+use swc_ecma_parser_trees::{BuildsStmt, MakerOf, Trees};
 
 /// `;`
 #[tactic(auto, unfolding(swc_ecma_parser_reader::specs::Reader::empty, swc_ecma_parser_grammar::specs::Looks::spanned))]
@@ -44,7 +44,7 @@ pub fn debugger<P: Source, T: BuildsStmt>(alloc: Global, p: &mut P) -> PResult<T
 
 /// Adds the fault that the bare name `interface` is in module code.
 #[tactic(auto, unfolding(swc_ecma_parser_reader::specs::Reader::note_statement))]
-fn note_statement<P: Source, T: BuildsStmt>(alloc: Global, p: &mut P, x: &T::Expr) -> PResult<()>
+fn note_statement<P: Source, T: Trees>(alloc: Global, p: &mut P, x: &T::Expr) -> PResult<()>
     ensures { Gives (rules.note_statement (T.expr_of x.now) (P.seen p.old)) result (P.seen p.new) }
 {
     if !T::is_ident_named(x, "interface") {
@@ -56,7 +56,7 @@ fn note_statement<P: Source, T: BuildsStmt>(alloc: Global, p: &mut P, x: &T::Exp
 
 /// A bare name before `:` is a label; none is read yet.
 #[tactic(auto, unfolding(swc_ecma_parser_reader::specs::Reader::no_label))]
-fn no_label<P: Source, T: BuildsStmt>(p: &mut P, x: &T::Expr) -> PResult<()>
+fn no_label<P: Source, T: Trees>(p: &mut P, x: &T::Expr) -> PResult<()>
     ensures { Gives (rules.no_label (T.expr_of x.now) (P.seen p.old)) result (P.seen p.new) }
 {
     if T::is_ident(x) && p.sees(TokenKind::Colon) {

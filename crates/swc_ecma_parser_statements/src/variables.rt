@@ -2,7 +2,7 @@
 
 ghost use Rattle.std.specs.Prelude.{◌≡◌, ◌&&◌, map};
 ghost use Rattle.swc_ecma_parser_grammar.specs.Variables as variables;
-ghost use Rattle.swc_ecma_parser_left.specs.Nests.{Nests};
+ghost use Rattle.swc_ecma_parser_inner.specs.Nests.{Nests};
 ghost use Rattle.swc_ecma_parser_reader.specs.Expressions as exprs;
 ghost use Rattle.swc_ecma_parser_reader.specs.Heads as heads;
 ghost use Rattle.swc_ecma_parser_reader.specs.Patterns as patterns;
@@ -11,14 +11,14 @@ ghost use Rattle.swc_ecma_parser_reader.specs.State.{GivesAs};
 
 use swc_ecma_parser_error::{PResult, SyntaxError};
 use swc_ecma_parser_grammar::{Class, Position};
-use swc_ecma_parser_left::cover::{Cover, Reading, nested};
-use swc_ecma_parser_left::grammar::{Grammar, Part};
-use swc_ecma_parser_left::steps::{grown, pushed, since, with_in};
+use swc_ecma_parser_inner::cover::{Cover, Reading, nested};
+use swc_ecma_parser_inner::grammar::{Grammar, Part};
+use swc_ecma_parser_inner::steps::{grown, pushed, since, with_in};
 use swc_ecma_parser_model::VarDeclKind;
 use swc_ecma_parser_patterns::pat::inner_pat;
 use swc_ecma_parser_source::{Source, Wanted};
 use swc_ecma_parser_token::TokenKind;
-use swc_ecma_parser_trees::{BuildsPattern, BuildsStmt, MakerOf};
+use swc_ecma_parser_trees::{BuildsPattern, BuildsVariables, MakerOf};
 
 /// Whether the code is strict, and a declaration one of `const`.
 fn is_strict_const<P: Source>(p: &P, word: VarDeclKind) -> bool
@@ -44,7 +44,7 @@ fn needs_no_initializer<P: Source, T: BuildsPattern>(
 #[tactic(auto, unfolding(swc_ecma_parser_reader::specs::Reader::declarator, swc_ecma_parser_reader::specs::Reader::initialized))]
 fn declarator<
     P: Source,
-    T: BuildsStmt + BuildsPattern,
+    T: BuildsPattern + BuildsVariables,
     S: Fn(&MakerOf<T>, &mut P, usize, Position) -> PResult<T::Stmt>,
     E: Fn(&MakerOf<T>, &mut P, usize, Reading) -> PResult<Cover<T::Expr>>,
     N: Fn(&MakerOf<T>, &mut P, usize, Part) -> PResult<T::Pat>,
@@ -80,7 +80,7 @@ fn declarator<
 #[tactic(auto, unfolding(swc_ecma_parser_reader::specs::Reader::declarators), using(swc_ecma_parser_reader::proofs::Loops::declarators_done, swc_ecma_parser_reader::proofs::Loops::declarators_err, swc_ecma_parser_reader::proofs::Loops::declarators_more, swc_ecma_parser_reader::proofs::Loops::declarators_shorter, std::proofs::lemmas::List::map_push))]
 pub fn declarators<
     P: Source,
-    T: BuildsStmt + BuildsPattern,
+    T: BuildsPattern + BuildsVariables,
     S: Fn(&MakerOf<T>, &mut P, usize, Position) -> PResult<T::Stmt>,
     E: Fn(&MakerOf<T>, &mut P, usize, Reading) -> PResult<Cover<T::Expr>>,
     N: Fn(&MakerOf<T>, &mut P, usize, Part) -> PResult<T::Pat>,
@@ -109,7 +109,7 @@ pub fn declarators<
 #[tactic(auto, unfolding(swc_ecma_parser_reader::specs::Reader::variables, swc_ecma_parser_grammar::specs::Looks::spanned))]
 pub fn variables<
     P: Source,
-    T: BuildsStmt + BuildsPattern,
+    T: BuildsPattern + BuildsVariables,
     S: Fn(&MakerOf<T>, &mut P, usize, Position) -> PResult<T::Stmt>,
     E: Fn(&MakerOf<T>, &mut P, usize, Reading) -> PResult<Cover<T::Expr>>,
     N: Fn(&MakerOf<T>, &mut P, usize, Part) -> PResult<T::Pat>,
@@ -132,7 +132,7 @@ pub fn variables<
 #[tactic(auto, unfolding(swc_ecma_parser_reader::specs::Reader::const_stmt))]
 pub fn const_stmt<
     P: Source,
-    T: BuildsStmt + BuildsPattern,
+    T: BuildsPattern + BuildsVariables,
     S: Fn(&MakerOf<T>, &mut P, usize, Position) -> PResult<T::Stmt>,
     E: Fn(&MakerOf<T>, &mut P, usize, Reading) -> PResult<Cover<T::Expr>>,
     N: Fn(&MakerOf<T>, &mut P, usize, Part) -> PResult<T::Pat>,

@@ -2,28 +2,18 @@
 
 ghost use Rattle.std.specs.Prelude.{◌≡◌, IfOk, map};
 
+use crate::Trees;
 use crate::block::BuildsBlock;
 use std::alloc::{AllocError, Global};
 use swc_ecma_parser_common::Span;
 use swc_ecma_parser_model::Ident;
 
-/// Makes statements that steer control, loops with a head aside: ECMA-262, sections 14.6 to 14.15. Each function that
+/// Makes statements that steer control, but loops, `switch` and `try`: ECMA-262, sections 14.6 to 14.14. Each function that
 /// answers a `Result` fails only where memory runs out, and spans are in byte offsets.
-pub trait BuildsControl: BuildsBlock {
+pub trait BuildsControl: Trees {
     ghost use Rattle.swc_ecma_parser_model.specs.Kinds as kinds;
     ghost use Rattle.swc_ecma_parser_model.specs.Tree as tree;
-    ghost use Rattle.swc_ecma_parser_model.specs.Tree.{Tree};
     ghost use Rattle.swc_ecma_parser_trees.specs.Parts as parts;
-
-    /// A case of a `switch`.
-    type Case: Drop;
-
-    /// What catches what was thrown.
-    type Catch: Drop;
-
-    ghost case_of: { Self.Case → Tree };
-
-    ghost catch_of: { Self.Catch → Tree };
 
     /// `with`: section 14.11.
     fn with(
@@ -78,6 +68,26 @@ pub trait BuildsControl: BuildsBlock {
         ensures { IfOk result (λ x. Self.stmt_of x
             ≡ tree.if_stmt span (Self.expr_of test) (Self.stmt_of cons) (parts.part_of Self.stmt_of alt)) };
 
+    /// `throw`: section 14.14.
+    fn throw(alloc: Global, span: Span, arg: Self::Expr) -> Result<Self::Stmt, AllocError>
+        ensures { IfOk result (λ x. Self.stmt_of x ≡ tree.throw span (Self.expr_of arg)) };
+
+    /// Whether it is `if`, with or without `else`.
+    fn is_if(stmt: &Self::Stmt) -> bool
+        ensures { result ≡ kinds.is_if (Self.stmt_of stmt.now) };
+}
+
+/// Makes `switch`: ECMA-262, section 14.12. Each function fails only where memory runs out, and spans are in byte offsets.
+pub trait BuildsSwitch: Trees {
+    ghost use Rattle.swc_ecma_parser_model.specs.Tree as tree;
+    ghost use Rattle.swc_ecma_parser_model.specs.Tree.{Tree};
+    ghost use Rattle.swc_ecma_parser_trees.specs.Parts as parts;
+
+    /// A case of a `switch`.
+    type Case: Drop;
+
+    ghost case_of: { Self.Case → Tree };
+
     /// `switch`: section 14.12.
     fn switch(
         alloc: Global,
@@ -97,10 +107,18 @@ pub trait BuildsControl: BuildsBlock {
     ) -> Result<Self::Case, AllocError>
         ensures { IfOk result (λ x. case_of x
             ≡ tree.case span (parts.part_of Self.expr_of test) (tree.listed (map Self.stmt_of cons.items))) };
+}
 
-    /// `throw`: section 14.14.
-    fn throw(alloc: Global, span: Span, arg: Self::Expr) -> Result<Self::Stmt, AllocError>
-        ensures { IfOk result (λ x. Self.stmt_of x ≡ tree.throw span (Self.expr_of arg)) };
+/// Makes `try`: ECMA-262, section 14.15. Each function fails only where memory runs out, and spans are in byte offsets.
+pub trait BuildsTry: BuildsBlock {
+    ghost use Rattle.swc_ecma_parser_model.specs.Tree as tree;
+    ghost use Rattle.swc_ecma_parser_model.specs.Tree.{Tree};
+    ghost use Rattle.swc_ecma_parser_trees.specs.Parts as parts;
+
+    /// What catches what was thrown.
+    type Catch: Drop;
+
+    ghost catch_of: { Self.Catch → Tree };
 
     /// `try`: section 14.15.
     fn try_stmt(
@@ -122,8 +140,4 @@ pub trait BuildsControl: BuildsBlock {
     ) -> Result<Self::Catch, AllocError>
         ensures { IfOk result (λ x. catch_of x
             ≡ tree.catch span (parts.part_of Self.pat_of param) (Self.block_of body)) };
-
-    /// Whether it is `if`, with or without `else`.
-    fn is_if(stmt: &Self::Stmt) -> bool
-        ensures { result ≡ kinds.is_if (Self.stmt_of stmt.now) };
 }

@@ -2,6 +2,7 @@
 
 ghost use Rattle.std.specs.Prelude.{◌≡◌, Some, IfOk, map};
 
+use crate::class::BuildsClass;
 use crate::decl::BuildsDecl;
 use crate::imports::BuildsImport;
 use std::alloc::{AllocError, Global};
@@ -10,7 +11,7 @@ use swc_ecma_parser_model::{Ident, Str};
 
 /// Makes exports and their parts: ECMA-262, section 16.2.3. Each function that answers a `Result` fails only where memory
 /// runs out, and spans are in byte offsets.
-pub trait BuildsExport: BuildsImport + BuildsDecl {
+pub trait BuildsExport: BuildsImport + BuildsDecl + BuildsClass {
     ghost use Rattle.swc_ecma_parser_model.specs.Forms as forms;
     ghost use Rattle.swc_ecma_parser_model.specs.Kinds as kinds;
     ghost use Rattle.swc_ecma_parser_model.specs.Tree as tree;

@@ -2,14 +2,14 @@
 
 ghost use Rattle.std.specs.Prelude.{◌≡◌, false, IfOk, map};
 
-use crate::Trees;
+use crate::script::BuildsScript;
 use std::alloc::{AllocError, Global};
 use swc_ecma_parser_common::{Atom, Span};
 use swc_ecma_parser_model::{Ident, Str};
 
 /// Makes items of modules, and wholes of them: ECMA-262, chapter 16. Each function that answers a `Result` fails only
 /// where memory runs out, and spans are in byte offsets.
-pub trait BuildsItem: Trees {
+pub trait BuildsItem: BuildsScript {
     ghost use Rattle.swc_ecma_parser_model.specs.Directive as directive;
     ghost use Rattle.swc_ecma_parser_model.specs.Forms as forms;
     ghost use Rattle.swc_ecma_parser_model.specs.Kinds as kinds;

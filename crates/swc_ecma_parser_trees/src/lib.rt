@@ -18,25 +18,29 @@ mod loops;
 mod object;
 mod operator;
 mod pattern;
+mod script;
+mod variables;
 
 pub use block::BuildsBlock;
 pub use call::BuildsCall;
 pub use class::BuildsClass;
-pub use control::BuildsControl;
-pub use decl::BuildsDecl;
+pub use control::{BuildsControl, BuildsSwitch, BuildsTry};
+pub use decl::{BuildsClassDecl, BuildsDecl, BuildsVarDecl};
 pub use exports::BuildsExport;
 pub use function::BuildsFunction;
 pub use imports::BuildsImport;
 pub use item::BuildsItem;
 pub use key::BuildsKey;
-pub use loops::BuildsLoop;
-pub use object::BuildsObject;
+pub use loops::{BuildsFor, BuildsLoop};
+pub use object::{BuildsMethod, BuildsObject};
 pub use operator::BuildsOperator;
-pub use pattern::BuildsPattern;
+pub use pattern::{BuildsObjectPat, BuildsPattern};
+pub use script::BuildsScript;
 use std::alloc::{AllocError, Global};
 use std::marker::PhantomData;
-use swc_ecma_parser_common::{Atom, Span};
-use swc_ecma_parser_model::{BigInt, Bool, Ident, Null, Number, Str, VarDeclKind};
+use swc_ecma_parser_common::Span;
+use swc_ecma_parser_model::{BigInt, Bool, Ident, Null, Number, Str};
+pub use variables::BuildsVariables;
 
 /// Where trees are made. A function value that answers a node takes this, since its arguments have to name the types of
 /// its answer.
@@ -78,24 +82,14 @@ pub trait Trees {
     /// A pattern.
     type Pat: Drop;
 
-    /// A name that is declared, with what it is given.
-    type Declarator: Drop;
-
     /// A statement.
     type Stmt: Drop;
-
-    /// A whole script.
-    type Script: Drop;
 
     ghost expr_of: { Self.Expr → Tree };
 
     ghost pat_of: { Self.Pat → Tree };
 
-    ghost declarator_of: { Self.Declarator → Tree };
-
     ghost stmt_of: { Self.Stmt → Tree };
-
-    ghost script_of: { Self.Script → Tree };
 
     /// Whether it is `'use strict'` or `"use strict"` as written, with no parentheses.
     fn is_use_strict(stmt: &Self::Stmt) -> bool
@@ -160,31 +154,10 @@ pub trait BuildsPat: Trees {
         ensures { IfOk result (λ x. Self.pat_of x ≡ tree.ident_pat ident.span ident.sym) };
 }
 
-/// Makes statements, and scripts of them. A function that answers a `Result` fails only where memory runs out, and spans
+/// Makes statements that hold at most an expression or statements. Each function fails only where memory runs out, and spans
 /// are in byte offsets.
 pub trait BuildsStmt: Trees {
     ghost use Rattle.swc_ecma_parser_model.specs.Tree as tree;
-    ghost use Rattle.swc_ecma_parser_trees.specs.Parts as parts;
-
-    /// A name that is declared, with or without its initializer.
-    fn declarator(
-        alloc: Global,
-        span: Span,
-        name: Self::Pat,
-        init: Option<Self::Expr>,
-    ) -> Result<Self::Declarator, AllocError>
-        ensures { IfOk result (λ x. Self.declarator_of x
-            ≡ tree.declarator span (Self.pat_of name) (parts.part_of Self.expr_of init)) };
-
-    /// A declaration of one or more names.
-    fn var(
-        alloc: Global,
-        span: Span,
-        kind: VarDeclKind,
-        decls: Vec<Self::Declarator>,
-    ) -> Result<Self::Stmt, AllocError>
-        ensures { IfOk result (λ x. Self.stmt_of x
-            ≡ tree.var span kind (tree.listed (map Self.declarator_of decls.items))) };
 
     /// A block; the span covers its braces.
     fn block(alloc: Global, span: Span, stmts: Vec<Self::Stmt>) -> Result<Self::Stmt, AllocError>
@@ -202,9 +175,21 @@ pub trait BuildsStmt: Trees {
     /// An expression as a statement.
     fn expr_stmt(alloc: Global, span: Span, expr: Self::Expr) -> Result<Self::Stmt, AllocError>
         ensures { IfOk result (λ x. Self.stmt_of x ≡ tree.expr_stmt span (Self.expr_of expr)) };
-
-    /// A whole script, with the text of a first line `#!` behind these two.
-    fn script(span: Span, body: Vec<Self::Stmt>, shebang: Option<Atom>) -> Self::Script
-        ensures { Self.script_of result
-            ≡ tree.script span (tree.listed (map Self.stmt_of body.items)) shebang };
 }
+
+/// Makes all that statements are made of.
+pub trait BuildsStatements: BuildsExpr
+    + BuildsCall
+    + BuildsObject
+    + BuildsOperator
+    + BuildsPat
+    + BuildsPattern
+    + BuildsObjectPat
+    + BuildsStmt
+    + BuildsVariables
+    + BuildsControl
+    + BuildsSwitch
+    + BuildsTry
+    + BuildsLoop
+    + BuildsFor
+    + BuildsDecl {}

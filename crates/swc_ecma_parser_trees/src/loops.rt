@@ -3,28 +3,15 @@
 ghost use Rattle.std.specs.Prelude.{◌≡◌, IfOk, map};
 
 use crate::Trees;
+use crate::variables::BuildsVariables;
 use std::alloc::{AllocError, Global};
 use swc_ecma_parser_common::Span;
 use swc_ecma_parser_model::VarDeclKind;
 
-/// Makes loops and their heads: ECMA-262, section 14.7. Each function that answers a `Result` fails only where memory runs
-/// out, and spans are in byte offsets.
+/// Makes loops without a head of their own: ECMA-262, sections 14.7.2 and 14.7.3. Each function fails only where memory runs out,
+/// and spans are in byte offsets.
 pub trait BuildsLoop: Trees {
-    ghost use Rattle.swc_ecma_parser_model.specs.Forms as forms;
     ghost use Rattle.swc_ecma_parser_model.specs.Tree as tree;
-    ghost use Rattle.swc_ecma_parser_model.specs.Tree.{Tree};
-    ghost use Rattle.swc_ecma_parser_model.specs.Within as within;
-    ghost use Rattle.swc_ecma_parser_trees.specs.Parts as parts;
-
-    /// What a `for` of three parts begins with.
-    type ForInit: Drop;
-
-    /// What stands before `in` or `of`.
-    type ForHead: Drop;
-
-    ghost init_of: { Self.ForInit → Tree };
-
-    ghost head_of: { Self.ForHead → Tree };
 
     /// `while`: section 14.7.3.
     fn while_stmt(
@@ -45,6 +32,24 @@ pub trait BuildsLoop: Trees {
     ) -> Result<Self::Stmt, AllocError>
         ensures { IfOk result (λ x. Self.stmt_of x
             ≡ tree.do_while span (Self.expr_of test) (Self.stmt_of body)) };
+}
+
+/// Makes loops with `for` and their heads: ECMA-262, sections 14.7.4 and 14.7.5. Each function fails only where memory runs out,
+/// and spans are in byte offsets.
+pub trait BuildsFor: BuildsVariables {
+    ghost use Rattle.swc_ecma_parser_model.specs.Tree as tree;
+    ghost use Rattle.swc_ecma_parser_model.specs.Tree.{Tree};
+    ghost use Rattle.swc_ecma_parser_trees.specs.Parts as parts;
+
+    /// What a `for` of three parts begins with.
+    type ForInit: Drop;
+
+    /// What stands before `in` or `of`.
+    type ForHead: Drop;
+
+    ghost init_of: { Self.ForInit → Tree };
+
+    ghost head_of: { Self.ForHead → Tree };
 
     /// A `for` of three parts: section 14.7.4.
     fn for_stmt(
@@ -119,16 +124,4 @@ pub trait BuildsLoop: Trees {
     /// A pattern before `in` or `of`.
     fn pat_head(alloc: Global, pat: Self::Pat) -> Result<Self::ForHead, AllocError>
         ensures { IfOk result (λ x. head_of x ≡ Self.pat_of pat) };
-
-    /// Where a declarator stands.
-    fn declarator_span(declarator: &Self::Declarator) -> Span
-        ensures { result ≡ forms.span_of (Self.declarator_of declarator.now) };
-
-    /// Where the name or pattern of a declarator stands.
-    fn declared_span(declarator: &Self::Declarator) -> Span
-        ensures { result ≡ forms.span_of (within.declared_name (Self.declarator_of declarator.now)) };
-
-    /// Whether a declarator has an initializer.
-    fn is_initialized(declarator: &Self::Declarator) -> bool
-        ensures { result ≡ within.is_initialized (Self.declarator_of declarator.now) };
 }

@@ -8,9 +8,9 @@ use std::alloc::{AllocError, Global};
 use swc_ecma_parser_common::Span;
 use swc_ecma_parser_model::Ident;
 
-/// Makes objects and their parts: ECMA-262, section 13.2.5. Each function fails only where memory runs out, and spans are
+/// Makes objects and their parts, but methods: ECMA-262, section 13.2.5. Each function fails only where memory runs out, and spans are
 /// in byte offsets.
-pub trait BuildsObject: BuildsKey + BuildsFunction {
+pub trait BuildsObject: BuildsKey {
     ghost use Rattle.swc_ecma_parser_model.specs.Tree as tree;
     ghost use Rattle.swc_ecma_parser_model.specs.Tree.{Tree};
 
@@ -51,6 +51,12 @@ pub trait BuildsObject: BuildsKey + BuildsFunction {
     ) -> Result<Self::Prop, AllocError>
         ensures { IfOk result (λ x. prop_of x
             ≡ tree.assign_prop span (tree.ident key.span key.sym) (Self.expr_of value)) };
+}
+
+/// Makes methods of objects: ECMA-262, section 15.4. Each function fails only where memory runs out, and spans are in byte
+/// offsets.
+pub trait BuildsMethod: BuildsObject + BuildsFunction {
+    ghost use Rattle.swc_ecma_parser_model.specs.Tree as tree;
 
     /// `get`: section 15.4.
     fn getter_prop(
@@ -59,7 +65,7 @@ pub trait BuildsObject: BuildsKey + BuildsFunction {
         key: Self::Key,
         body: Self::Block,
     ) -> Result<Self::Prop, AllocError>
-        ensures { IfOk result (λ x. prop_of x
+        ensures { IfOk result (λ x. Self.prop_of x
             ≡ tree.getter_prop span (Self.key_of key) (Self.block_of body)) };
 
     /// `set`: section 15.4.
@@ -70,7 +76,7 @@ pub trait BuildsObject: BuildsKey + BuildsFunction {
         param: Self::Pat,
         body: Self::Block,
     ) -> Result<Self::Prop, AllocError>
-        ensures { IfOk result (λ x. prop_of x
+        ensures { IfOk result (λ x. Self.prop_of x
             ≡ tree.setter_prop span (Self.key_of key) (Self.pat_of param) (Self.block_of body)) };
 
     /// A method: section 15.4.
@@ -80,6 +86,6 @@ pub trait BuildsObject: BuildsKey + BuildsFunction {
         key: Self::Key,
         function: Self::Function,
     ) -> Result<Self::Prop, AllocError>
-        ensures { IfOk result (λ x. prop_of x
+        ensures { IfOk result (λ x. Self.prop_of x
             ≡ tree.method_prop span (Self.key_of key) (Self.function_of function)) };
 }

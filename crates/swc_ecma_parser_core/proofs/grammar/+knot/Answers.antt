@@ -5,7 +5,7 @@ use Rattle.swc_ecma_parser_reader.specs.State.{State, GivesAs}
 use Rattle.swc_ecma_parser_reader.proofs.expressions.Loops.{cover_above}
 use Rattle.swc_ecma_parser_reader.proofs.expressions.Heads.{head_above}
 use Rattle.swc_ecma_parser_reader.proofs.patterns.Loops.{pattern_above, element_above}
-use Rattle.swc_ecma_parser_left.specs.Covers.{cover_of, read}
+use Rattle.swc_ecma_parser_inner.specs.Covers.{cover_of, read}
 use Rattle.swc_ecma_parser_core.proofs.Covers.{read_lowest, read_expr, read_expr_err, at_asked, refused_as}
 use Rattle.swc_ecma_parser_patterns.proofs.Patterns.{read_pat_lowest, as_asked}
 use Rattle.swc_ecma_parser_core.proofs.grammar.+knot.Goals as goal

@@ -7,9 +7,9 @@ use Rattle.swc_ecma_parser_model.specs.Tree.{Tree}
 use Rattle.swc_ecma_parser_grammar.specs.language.Goals.{Class}
 use Rattle.swc_ecma_parser_reader.specs.State.{State, Outcome, Reader, wanted}
 use Rattle.swc_ecma_parser_reader.specs.Expressions as exprs
-use Rattle.swc_ecma_parser_left.specs.Accesses.{key_of}
-use Rattle.swc_ecma_parser_left.specs.declared.object.Key.{Key}
-use Rattle.swc_ecma_parser_left.specs.declared.object.Key.TheVariants as key
+use Rattle.swc_ecma_parser_inner.specs.Keys.{key_of}
+use Rattle.swc_ecma_parser_inner.specs.declared.keys.Key.{Key}
+use Rattle.swc_ecma_parser_inner.specs.declared.keys.Key.TheVariants as key
 use Rattle.swc_ecma_parser_left.proofs.Refusals.{wanted_as}
 use Rattle.swc_ecma_parser_left.proofs.object.initialized_key.Goals as goal
 

@@ -1,7 +1,7 @@
 use Rattle.std.proofs.Common.{◌≡◌, length}
 use Rattle.swc_ecma_parser_reader.specs.State.{loop}
 use Rattle.swc_ecma_parser_reader.specs.Expressions as exprs
-use Rattle.swc_ecma_parser_left.specs.Covers.{covers_of}
+use Rattle.swc_ecma_parser_inner.specs.Covers.{covers_of}
 use Rattle.swc_ecma_parser_left.proofs.object.properties.Given as goal
 
 -- what the whole loop gives is what the rest of it gives

@@ -1,6 +1,6 @@
 use Rattle.std.proofs.Common.{◌≡◌, [], subst}
 use Rattle.swc_ecma_parser_grammar.specs.Own.{head_faults}
-use Rattle.swc_ecma_parser_left.specs.Covers.{cover_of}
+use Rattle.swc_ecma_parser_inner.specs.Covers.{cover_of}
 use Rattle.swc_ecma_parser_loops.proofs.Targets.{read_target}
 use Rattle.swc_ecma_parser_loops.proofs.head.as_left.Goals as goal
 

@@ -10,7 +10,7 @@ use Rattle.swc_ecma_parser_loops.proofs.head.misdeclared_variables.Goals as goal
 
 pub returns : goal.returns
 returns g c =
-    let view = g.T.Trees.declarator_of in
+    let view = g.T.BuildsVariables.declarator_of in
     let x = c.args.declared.now in
     let many : 1 < length x.found.items = grind (arith, common_steps) in
     let same = ap (λ xs. surplus (trees (map view (between 1 (length xs) xs)))) c.as_slice-found.ensures.value in

@@ -12,7 +12,7 @@ invariant-properties g l =
     let pattern = patterns.pattern l.g.depth in
     let element = patterns.element l.g.depth in
     patterns.properties expr cover pattern element (g.P.Source.seen l.fn.p)
-    ≡ loop (patterns.object_turn expr cover pattern element) (map g.T.BuildsPattern.pat_prop_of l.found.items) (g.P.Source.seen l.p)
+    ≡ loop (patterns.object_turn expr cover pattern element) (map g.T.BuildsObjectPat.pat_prop_of l.found.items) (g.P.Source.seen l.p)
 
 abbrev pub decreases-properties : goal.decreases-properties
 decreases-properties g l = length (g.P.Source.seen l.p).at.left

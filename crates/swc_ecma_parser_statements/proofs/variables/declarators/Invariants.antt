@@ -11,7 +11,7 @@ invariant-declarators g l =
     let expr = exprs.expr l.g.depth in
     let pat = patterns.pattern l.g.depth in
     rules.declarators expr pat l.in_head l.word (g.P.Source.seen l.fn.p)
-    ≡ loop (rules.declarators_turn expr pat l.in_head l.word) (map g.T.Trees.declarator_of l.found.items) (g.P.Source.seen l.p)
+    ≡ loop (rules.declarators_turn expr pat l.in_head l.word) (map g.T.BuildsVariables.declarator_of l.found.items) (g.P.Source.seen l.p)
 
 abbrev pub decreases-declarators : goal.decreases-declarators
 decreases-declarators g l = length (g.P.Source.seen l.p).at.left

@@ -1,0 +1,27 @@
+-- What may still become a pattern, as the reader knows it.
+use Rattle.std.specs.Prelude.{ℕ, map}
+use Rattle.swc_ecma_parser_model.specs.Tree.{Tree}
+use Rattle.swc_ecma_parser_reader.specs.Classes.{class_of}
+use Rattle.swc_ecma_parser_reader.specs.State.{Reader, ◌>>=◌, pure}
+use Rattle.swc_ecma_parser_reader.specs.Expressions as exprs
+use Rattle.swc_ecma_parser_reader.specs.Heads.{head_cover}
+use Rattle.swc_ecma_parser_inner.specs.declared.cover.Cover.{Cover}
+use Rattle.swc_ecma_parser_inner.specs.declared.cover.Covers.{Covers}
+use Rattle.swc_ecma_parser_inner.specs.declared.cover.Reading.{Reading}
+use Rattle.swc_ecma_parser_inner.specs.declared.cover.Reading.TheVariants as reading
+
+abbrev pub cover_of : {A : Type 0} → (A → Tree) → Cover A → exprs.Cover
+cover_of view v = record { x = view v.tree; mark = v.mark; comma = v.comma }
+
+abbrev pub covers_of : {A : Type 0} → (A → Tree) → Covers A → exprs.Covers
+covers_of view v = record { xs = map view v.parts.items; mark = v.mark; comma = v.comma }
+
+-- what is read in so many levels
+abbrev pub read : ℕ → Reading → Reader exprs.Cover
+read n (reading.Expr class) = exprs.expr n (class_of class) >>= λ x. pure (exprs.done x)
+read n reading.Cover = exprs.cover n
+read n reading.Head = head_cover n
+
+-- a key by itself, whatever reads what stands further in
+abbrev pub bare : Tree → Reader exprs.Cover
+bare x = exprs.shorthand x >>= λ y. pure (exprs.done y)

@@ -1,0 +1,4 @@
+pub mod Nests
+pub mod Covers
+pub mod Keys
+pub mod Patterns

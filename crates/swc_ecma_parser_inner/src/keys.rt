@@ -1,0 +1,108 @@
+//! Keys of properties: PropertyName, ECMA-262, section 13.2.5.
+
+ghost use Rattle.std.specs.Prelude.{◌≡◌, IfOk};
+ghost use Rattle.swc_ecma_parser_inner.specs.Keys.{key_of, word_of};
+ghost use Rattle.swc_ecma_parser_inner.specs.Nests.{Nests};
+ghost use Rattle.swc_ecma_parser_reader.specs.Expressions as exprs;
+ghost use Rattle.swc_ecma_parser_reader.specs.State.{GivesAs};
+
+use crate::cover::{Cover, Reading, inside};
+use crate::grammar::{Grammar, Part};
+use crate::steps::since;
+use std::alloc::{AllocError, Global};
+use swc_ecma_parser_common::Span;
+use swc_ecma_parser_error::PResult;
+use swc_ecma_parser_grammar::{Class, Position};
+use swc_ecma_parser_model::{BigInt, Ident, Number, Str};
+use swc_ecma_parser_source::{Literal, Source, Wanted};
+use swc_ecma_parser_token::TokenKind;
+use swc_ecma_parser_trees::{BuildsKey, MakerOf, Trees};
+
+/// A key.
+#[derive(Drop)]
+pub enum Key<E> {
+    Word(Ident),
+    Str(Str),
+    Num(Number),
+    BigInt(BigInt),
+    /// An expression in brackets, which stand there.
+    Computed(Span, E),
+}
+
+/// The tree's key.
+pub fn made_key<T: BuildsKey>(alloc: Global, key: Key<T::Expr>) -> Result<T::Key, AllocError>
+    ensures { IfOk result (λ x. T.key_of x ≡ key_of T.expr_of key) }
+{
+    match key {
+        Key::Word(x) => T::ident_key(alloc, x),
+        Key::Str(x) => T::str_key(alloc, x),
+        Key::Num(x) => T::num_key(alloc, x),
+        Key::BigInt(x) => T::big_int_key(alloc, x),
+        Key::Computed(brackets, expr) => T::computed_key(alloc, brackets, expr),
+    }
+}
+
+/// A word as a property.
+#[tactic(auto, unfolding(swc_ecma_parser_reader::specs::Expressions::word_property))]
+pub fn word_property<P: Source>(p: &mut P) -> PResult<Ident>
+    ensures { GivesAs word_of (exprs.word_property (P.seen p.old)) result (P.seen p.new) }
+{
+    p.any_word()
+}
+
+/// A string or a number as a key.
+#[tactic(auto, unfolding(swc_ecma_parser_reader::specs::Expressions::literal_key))]
+fn literal_key<P: Source, T: Trees>(p: &mut P) -> PResult<Key<T::Expr>>
+    ensures { GivesAs (key_of T.expr_of) (exprs.literal_key (P.seen p.old)) result (P.seen p.new) }
+{
+    let Some(literal) = p.literal()? else {
+        return Err(p.wanted(Wanted::Expression));
+    };
+    match literal {
+        Literal::Str(x) => Ok(Key::Str(x)),
+        Literal::Num(x) => Ok(Key::Num(x)),
+        Literal::BigInt(x) => Ok(Key::BigInt(x)),
+        Literal::Null(_) | Literal::Bool(_) => Err(p.wanted(Wanted::Expression)),
+    }
+}
+
+/// A key in brackets.
+#[tactic(auto, unfolding(swc_ecma_parser_reader::specs::Expressions::computed_key))]
+fn computed_key<
+    P: Source,
+    T: Trees,
+    S: Fn(&MakerOf<T>, &mut P, usize, Position) -> PResult<T::Stmt>,
+    E: Fn(&MakerOf<T>, &mut P, usize, Reading) -> PResult<Cover<T::Expr>>,
+    N: Fn(&MakerOf<T>, &mut P, usize, Part) -> PResult<T::Pat>,
+>(g: &Grammar<S, E, N>, t: &MakerOf<T>, p: &mut P) -> PResult<Key<T::Expr>>
+    requires { Nests P.seen T.expr_of T.pat_of T.stmt_of g.now.depth (S.pre g.now.stmt) (S.post g.now.stmt) (E.pre g.now.expr) (E.post g.now.expr) (N.pre g.now.pat) (N.post g.now.pat) }
+    ensures { GivesAs (key_of T.expr_of) (exprs.computed_key (exprs.expr g.now.depth) (exprs.cover g.now.depth) (P.seen p.old)) result (P.seen p.new) }
+{
+    let start = p.span();
+    p.skip()?;
+    let expr = inside(g, t, p, Class::Assignment)?;
+    p.expect(TokenKind::RBracket, "]")?;
+    let span = since(p, start);
+    Ok(Key::Computed(span, expr))
+}
+
+/// A key.
+#[tactic(auto, unfolding(swc_ecma_parser_reader::specs::Expressions::key))]
+pub fn property_key<
+    P: Source,
+    T: Trees,
+    S: Fn(&MakerOf<T>, &mut P, usize, Position) -> PResult<T::Stmt>,
+    E: Fn(&MakerOf<T>, &mut P, usize, Reading) -> PResult<Cover<T::Expr>>,
+    N: Fn(&MakerOf<T>, &mut P, usize, Part) -> PResult<T::Pat>,
+>(g: &Grammar<S, E, N>, t: &MakerOf<T>, p: &mut P) -> PResult<Key<T::Expr>>
+    requires { Nests P.seen T.expr_of T.pat_of T.stmt_of g.now.depth (S.pre g.now.stmt) (S.post g.now.stmt) (E.pre g.now.expr) (E.post g.now.expr) (N.pre g.now.pat) (N.post g.now.pat) }
+    ensures { GivesAs (key_of T.expr_of) (exprs.key (exprs.expr g.now.depth) (exprs.cover g.now.depth) (P.seen p.old)) result (P.seen p.new) }
+{
+    if p.is_word_here() {
+        return Ok(Key::Word(word_property(p)?));
+    }
+    if p.sees(TokenKind::LBracket) {
+        return computed_key(g, t, p);
+    }
+    literal_key::<P, T>(p)
+}
