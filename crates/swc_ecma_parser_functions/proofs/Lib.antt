@@ -1,4 +1,3 @@
 pub mod Items
 pub mod Enclosed
 pub mod Parts
-pub mod OwnNames

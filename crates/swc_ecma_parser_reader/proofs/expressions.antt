@@ -19,4 +19,3 @@ pub mod SoundTargets
 pub mod Stays
 pub mod Sound
 pub mod Heads
-pub mod CompleteHeads
