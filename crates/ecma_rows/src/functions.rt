@@ -1,4 +1,4 @@
-//! Rows of functions that are declared, by hand, from the rules of ECMA-262, section 15.2.
+//! Rows of functions, declared and as expressions, by hand, from the rules of ECMA-262, section 15.2.
 
 use crate::report::report;
 use std::test::Fail;
@@ -31,12 +31,45 @@ function → refused 8..8 Eof
 function () {} → refused 9..10 ExpectedIdent
 function f {} → refused 11..12 Expected
 function* f() {} → refused 8..9 ExpectedIdent
-async function f() {} → refused 0..5 Unexpected
-(function () {}) → refused 1..9 Unexpected";
+async function f() {} → refused 0..5 Unexpected";
+
+const EXPRESSIONS: &str =
+    "(function () {}) → Script 0..16, Expr 0..16 → ParenExpr 0..16, FnExpr 1..15, Function 1..15, BlockStmt 13..15
+(function foo() { return 1 }) → Script 0..29, Expr 0..29 → FnExpr 1..28, Ident 10..13 foo, Function 1..28, ReturnStmt 18..26
+a = function (b, [c], ...d) {} → Script 0..30, Expr 0..30 → FnExpr 4..30, Param 14..15, ArrayPat 17..20, RestPat 22..26
+;(function() {})(window, window.lib || (window.lib = {})) → Script 0..57, Empty 0..1, Expr 1..57 → CallExpr 1..57, FnExpr 2..15
+function f() { return function () { return 1 } } → Script 0..48, Fn 0..48 → FnExpr 22..46, ReturnStmt 36..44
+new function () {} → Script 0..18, Expr 0..18 → NewExpr 0..18, FnExpr 4..18
+a(function () {}, function b() {}) → Script 0..34, Expr 0..34 → FnExpr 2..16, FnExpr 18..33, Ident 27..28 b
+({ a: function () {} }) → Script 0..23, Expr 0..23 → KeyValueProp 3..20, FnExpr 6..20
+(function yield() {}) → Script 0..21, Expr 0..21 → Ident 10..15 yield
+(function () {}).a → Script 0..18, Expr 0..18 → MemberExpr 0..18, FnExpr 1..15
+var a = function () { a: b }, c → Script 0..31, Var 0..31 → FnExpr 8..28, LabeledStmt 22..26
+(function () { with (a) b }) → Script 0..28, Expr 0..28 → WithStmt 15..25
+(function () { 'use strict' }); var public; → Script 0..43, Expr 0..31, Var 32..43 → FnExpr 1..29
+a: (function () { a: b }) → Script 0..25, Labeled 0..25 → LabeledStmt 18..22";
+
+const EXPRESSION_FAULTS: &str =
+    "(function (a = 1) { 'use strict' }) → Script 0..35, Expr 0..35, fault 20..32 IllegalLanguageModeDirective
+(function () { break }) → Script 0..23, Expr 0..23, fault 15..20 TS1105
+while (a) (function () { continue }) → Script 0..36, While 0..36, fault 25..33 TS1115
+a: while (b) (function () { break a }) → Script 0..38, Labeled 0..38, fault 28..35 TS1116
+(function () { return }); return → Script 0..32, Expr 0..25, Return 26..32, fault 26..32 ReturnNotAllowed
+(function () { → fault 13..14 Expected, refused 13..14 Expected
+(function → refused 1..9 Expected
+(function a b) → refused 12..13 Expected
+'use strict'; (function public() {}) → refused 24..30 Expected
+(function* () {}) → refused 9..10 Expected
+(async function () {}) → refused 7..15 Unexpected";
 
 #[test]
 fn tables(rt: HostRuntime) -> Result<(), Fail> {
-    for (rows, wanted) in [(FUNCTIONS, "12 rows"), (FAULTS, "15 rows")] {
+    for (rows, wanted) in [
+        (FUNCTIONS, "12 rows"),
+        (FAULTS, "14 rows"),
+        (EXPRESSIONS, "14 rows"),
+        (EXPRESSION_FAULTS, "11 rows"),
+    ] {
         assert_eq!(rt; report(rt.alloc(), rows, 1000)?.as_str(), wanted);
     }
     Ok(())
@@ -51,6 +84,10 @@ fn limits(rt: HostRuntime) -> Result<(), Fail> {
         ("function f(a) {} → Script 0..16, Fn 0..16", 2),
         ("function f() { ; } → refused 15..16 TooDeep", 1),
         ("function f() { ; } → Script 0..18, Fn 0..18", 2),
+        ("(function () {}) → refused 1..9 TooDeep", 2),
+        ("(function () {}) → Script 0..16, Expr 0..16", 3),
+        ("(function (a) {}) → refused 11..12 TooDeep", 3),
+        ("(function () { ; }) → Script 0..19, Expr 0..19", 4),
     ] {
         assert_eq!(rt; report(rt.alloc(), rows, limit)?.as_str(), "1 rows");
     }

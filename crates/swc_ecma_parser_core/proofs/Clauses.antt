@@ -7,8 +7,7 @@ use Rattle.swc_ecma_parser_grammar.specs.Looks.{sees}
 use Rattle.swc_ecma_parser_grammar.specs.Reads.{nested_item}
 use Rattle.swc_ecma_parser_grammar.specs.language.Goals.{expression}
 use Rattle.swc_ecma_parser_reader.specs.State.{State, loop}
-use Rattle.swc_ecma_parser_reader.specs.Expressions.{expr}
-use Rattle.swc_ecma_parser_reader.specs.Reader.{begins_clause, Clauses, clause, clauses_turn, stmt}
+use Rattle.swc_ecma_parser_reader.specs.Reader.{begins_clause, Clauses, clause, clauses_turn, stmt, expr}
 use Rattle.swc_ecma_parser_reader.proofs.Loops.{clauses_more}
 
 -- behind a clause a `default` stands or none

@@ -8,8 +8,8 @@ use Rattle.swc_ecma_parser_model.specs.Tree.{Tree}
 use Rattle.swc_ecma_parser_reader.specs.State.{State, Outcome, and_then, pure, too_deep, GivesAs}
 use Rattle.swc_ecma_parser_reader.specs.Expressions as exprs
 use Rattle.swc_ecma_parser_reader.specs.Classes.{class_of}
-use Rattle.swc_ecma_parser_reader.proofs.expressions.Loops.{expr_lowest, expr_above, cover_lowest}
-use Rattle.swc_ecma_parser_reader.proofs.expressions.Heads.{head_lowest}
+use Rattle.swc_ecma_parser_reader.specs.Reader as rules
+use Rattle.swc_ecma_parser_reader.proofs.expressions.Loops.{expr_lowest, expr_above, cover_lowest, head_lowest}
 use Rattle.swc_ecma_parser_inner.specs.declared.cover.Reading.{Reading}
 use Rattle.swc_ecma_parser_inner.specs.declared.cover.Reading.TheVariants as reading
 use Rattle.swc_ecma_parser_inner.specs.Covers.{read}
@@ -21,10 +21,10 @@ module _ (n : ℕ) (s : State) where
   read_lowest reading.Cover e h k = cover_lowest n s h ∙ too_deep_as {A = Tree} {B = exprs.Cover} s e k
   read_lowest reading.Head e h k = head_lowest n s h ∙ too_deep_as {A = Tree} {B = exprs.Cover} s e k
 
-  pub read_expr : (class : Class) (x : Tree) (t : State) → 0 < n → exprs.expr_level (exprs.expr (n - 1)) (exprs.cover (n - 1)) (class_of class) s ≡ Ok (x, t) → read n (reading.Expr class) s ≡ Ok (exprs.done x, t)
+  pub read_expr : (class : Class) (x : Tree) (t : State) → 0 < n → exprs.expr_level (rules.expr (n - 1)) (rules.cover (n - 1)) (rules.function (n - 1)) (class_of class) s ≡ Ok (x, t) → read n (reading.Expr class) s ≡ Ok (exprs.done x, t)
   read_expr class x t h k = ap (λ o. and_then o (λ x. pure (exprs.done x))) (expr_above n (class_of class) s h ∙ k)
 
-  pub read_expr_err : (class : Class) (e : Fault × State) → 0 < n → exprs.expr_level (exprs.expr (n - 1)) (exprs.cover (n - 1)) (class_of class) s ≡ Err e → read n (reading.Expr class) s ≡ Err e
+  pub read_expr_err : (class : Class) (e : Fault × State) → 0 < n → exprs.expr_level (rules.expr (n - 1)) (rules.cover (n - 1)) (rules.function (n - 1)) (class_of class) s ≡ Err e → read n (reading.Expr class) s ≡ Err e
   read_expr_err class e h k = ap (λ o. and_then o (λ x. pure (exprs.done x))) (expr_above n (class_of class) s h ∙ k)
 
 pub at_asked : (n : ℕ) (s : State) (asked other : Reading) (o : Outcome exprs.Cover) → asked ≡ other → read n other s ≡ o → read n asked s ≡ o

@@ -8,7 +8,6 @@ use Rattle.swc_ecma_parser_model.specs.Tree.{Tree}
 use Rattle.swc_ecma_parser_grammar.specs.language.Goals.{expression}
 use Rattle.swc_ecma_parser_grammar.specs.language.Items.{sub_statement}
 use Rattle.swc_ecma_parser_reader.specs.State.{State, Outcome, and_then, moved, GivesAs}
-use Rattle.swc_ecma_parser_reader.specs.Expressions as exprs
 use Rattle.swc_ecma_parser_reader.specs.Reader as rules
 use Rattle.swc_ecma_parser_reader.specs.Reader.{Link}
 use Rattle.swc_ecma_parser_reader.proofs.Chains.{if_err, if_last, if_more}
@@ -45,13 +44,13 @@ enclosing_push ls l (Err e) = refl
 module _ (n : ℕ) where
   -- the chain that begins in a state
   abbrev pub chain : State → Outcome Tree
-  chain s = rules.if_stmt (rules.stmt n sub_statement) (exprs.expr n expression) s
+  chain s = rules.if_stmt (rules.stmt n sub_statement) (rules.expr n expression) s
 
   module _ (whole : Outcome Tree) (ls : List Link) (s : State) (h : whole ≡ enclosing ls (chain s)) where
-    pub chain_err : (e : Fault × State) → rules.link (rules.stmt n sub_statement) (exprs.expr n expression) s ≡ Err e → whole ≡ Err e
+    pub chain_err : (e : Fault × State) → rules.link (rules.stmt n sub_statement) (rules.expr n expression) s ≡ Err e → whole ≡ Err e
     chain_err e g = h ∙ ap (enclosing ls) (if_err n s e g)
 
-    module _ (l : Link) (t : State) (g : rules.link (rules.stmt n sub_statement) (exprs.expr n expression) s ≡ Ok (l, t)) where
+    module _ (l : Link) (t : State) (g : rules.link (rules.stmt n sub_statement) (rules.expr n expression) s ≡ Ok (l, t)) where
       pub chain_more : rules.goes_on t.at ≡ true → whole ≡ enclosing (ls ++ l ∷ []) (chain (moved t))
       chain_more b = h ∙ ap (enclosing ls) (if_more n s l t g b) ∙ enclosing_push ls l (chain (moved t))
 

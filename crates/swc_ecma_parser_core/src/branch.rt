@@ -9,7 +9,6 @@ ghost use Rattle.swc_ecma_parser_grammar.specs.language.Goals.{expression};
 ghost use Rattle.swc_ecma_parser_grammar.specs.language.Items.{sub_statement};
 ghost use Rattle.swc_ecma_parser_inner.specs.Nests.{Nests};
 ghost use Rattle.swc_ecma_parser_model.specs.Tree.{Tree};
-ghost use Rattle.swc_ecma_parser_reader.specs.Expressions as exprs;
 ghost use Rattle.swc_ecma_parser_reader.specs.Reader as rules;
 ghost use Rattle.swc_ecma_parser_reader.specs.State as reader;
 ghost use Rattle.swc_ecma_parser_reader.specs.State.{GivesAs};
@@ -74,7 +73,7 @@ fn condition<
     N: Fn(&MakerOf<T>, &mut P, usize, Part) -> PResult<T::Pat>,
 >(g: &Grammar<S, E, N>, t: &MakerOf<T>, p: &mut P, word: Span) -> PResult<T::Expr>
     requires { Nests P.seen T.expr_of T.pat_of T.stmt_of g.now.depth (S.pre g.now.stmt) (S.post g.now.stmt) (E.pre g.now.expr) (E.post g.now.expr) (N.pre g.now.pat) (N.post g.now.pat) }
-    ensures { GivesAs T.expr_of (rules.condition (exprs.expr g.now.depth expression) (P.seen p.old)) result (P.seen p.new) }
+    ensures { GivesAs T.expr_of (rules.condition (rules.expr g.now.depth expression) (P.seen p.old)) result (P.seen p.new) }
 {
     p.expect(TokenKind::LParen, "(")?;
     let test = match inside(g, t, p, Class::Expression) {
@@ -95,7 +94,7 @@ fn next_link<
     N: Fn(&MakerOf<T>, &mut P, usize, Part) -> PResult<T::Pat>,
 >(g: &Grammar<S, E, N>, t: &MakerOf<T>, p: &mut P) -> PResult<Link<T::Expr, T::Stmt>>
     requires { Nests P.seen T.expr_of T.pat_of T.stmt_of g.now.depth (S.pre g.now.stmt) (S.post g.now.stmt) (E.pre g.now.expr) (E.post g.now.expr) (N.pre g.now.pat) (N.post g.now.pat) }
-    ensures { GivesAs (link_of T.expr_of T.stmt_of) (rules.link (rules.stmt g.now.depth sub_statement) (exprs.expr g.now.depth expression) (P.seen p.old)) result (P.seen p.new) }
+    ensures { GivesAs (link_of T.expr_of T.stmt_of) (rules.link (rules.stmt g.now.depth sub_statement) (rules.expr g.now.depth expression) (P.seen p.old)) result (P.seen p.new) }
 {
     let start = p.span();
     p.skip()?;
@@ -176,7 +175,7 @@ pub(crate) fn if_stmt<
     N: Fn(&MakerOf<T>, &mut P, usize, Part) -> PResult<T::Pat>,
 >(g: &Grammar<S, E, N>, t: &MakerOf<T>, p: &mut P) -> PResult<T::Stmt>
     requires { Nests P.seen T.expr_of T.pat_of T.stmt_of g.now.depth (S.pre g.now.stmt) (S.post g.now.stmt) (E.pre g.now.expr) (E.post g.now.expr) (N.pre g.now.pat) (N.post g.now.pat) }
-    ensures { GivesAs T.stmt_of (rules.if_stmt (rules.stmt g.now.depth sub_statement) (exprs.expr g.now.depth expression) (P.seen p.old)) result (P.seen p.new) }
+    ensures { GivesAs T.stmt_of (rules.if_stmt (rules.stmt g.now.depth sub_statement) (rules.expr g.now.depth expression) (P.seen p.old)) result (P.seen p.new) }
 {
     let mut links = Vec::new(t.alloc);
     'links: loop {

@@ -3,7 +3,6 @@
 ghost use Rattle.std.specs.Prelude.{◌≡◌};
 ghost use Rattle.swc_ecma_parser_grammar.specs.Reads.{nested_item};
 ghost use Rattle.swc_ecma_parser_inner.specs.Nests.{Nests};
-ghost use Rattle.swc_ecma_parser_reader.specs.Patterns as patterns;
 ghost use Rattle.swc_ecma_parser_reader.specs.Reader as rules;
 ghost use Rattle.swc_ecma_parser_reader.specs.State.{GivesAs};
 ghost use Rattle.swc_ecma_parser_trees.specs.Parts.{part_of};
@@ -30,7 +29,7 @@ fn bound<
     N: Fn(&MakerOf<T>, &mut P, usize, Part) -> PResult<T::Pat>,
 >(g: &Grammar<S, E, N>, t: &MakerOf<T>, p: &mut P) -> PResult<T::Pat>
     requires { Nests P.seen T.expr_of T.pat_of T.stmt_of g.now.depth (S.pre g.now.stmt) (S.post g.now.stmt) (E.pre g.now.expr) (E.post g.now.expr) (N.pre g.now.pat) (N.post g.now.pat) }
-    ensures { GivesAs T.pat_of (rules.bound (patterns.pattern g.now.depth) (P.seen p.old)) result (P.seen p.new) }
+    ensures { GivesAs T.pat_of (rules.bound (rules.pattern g.now.depth) (P.seen p.old)) result (P.seen p.new) }
 {
     p.skip()?;
     let pat = inner_pat(g, t, p, Part::Pattern)?;
@@ -48,7 +47,7 @@ fn parameter<
     N: Fn(&MakerOf<T>, &mut P, usize, Part) -> PResult<T::Pat>,
 >(g: &Grammar<S, E, N>, t: &MakerOf<T>, p: &mut P) -> PResult<Option<T::Pat>>
     requires { Nests P.seen T.expr_of T.pat_of T.stmt_of g.now.depth (S.pre g.now.stmt) (S.post g.now.stmt) (E.pre g.now.expr) (E.post g.now.expr) (N.pre g.now.pat) (N.post g.now.pat) }
-    ensures { GivesAs (part_of T.pat_of) (rules.parameter (patterns.pattern g.now.depth) (P.seen p.old)) result (P.seen p.new) }
+    ensures { GivesAs (part_of T.pat_of) (rules.parameter (rules.pattern g.now.depth) (P.seen p.old)) result (P.seen p.new) }
 {
     if !p.sees(TokenKind::LParen) {
         return Ok(None);
@@ -67,7 +66,7 @@ fn handler<
     N: Fn(&MakerOf<T>, &mut P, usize, Part) -> PResult<T::Pat>,
 >(g: &Grammar<S, E, N>, t: &MakerOf<T>, p: &mut P) -> PResult<Option<T::Catch>>
     requires { Nests P.seen T.expr_of T.pat_of T.stmt_of g.now.depth (S.pre g.now.stmt) (S.post g.now.stmt) (E.pre g.now.expr) (E.post g.now.expr) (N.pre g.now.pat) (N.post g.now.pat) }
-    ensures { GivesAs (part_of T.catch_of) (rules.handler (rules.stmt g.now.depth nested_item) (patterns.pattern g.now.depth) (P.seen p.old)) result (P.seen p.new) }
+    ensures { GivesAs (part_of T.catch_of) (rules.handler (rules.stmt g.now.depth nested_item) (rules.pattern g.now.depth) (P.seen p.old)) result (P.seen p.new) }
 {
     if !p.sees(TokenKind::Catch) {
         return Ok(None);
@@ -133,7 +132,7 @@ pub(crate) fn try_stmt<
     N: Fn(&MakerOf<T>, &mut P, usize, Part) -> PResult<T::Pat>,
 >(g: &Grammar<S, E, N>, t: &MakerOf<T>, p: &mut P) -> PResult<T::Stmt>
     requires { Nests P.seen T.expr_of T.pat_of T.stmt_of g.now.depth (S.pre g.now.stmt) (S.post g.now.stmt) (E.pre g.now.expr) (E.post g.now.expr) (N.pre g.now.pat) (N.post g.now.pat) }
-    ensures { GivesAs T.stmt_of (rules.try_stmt (rules.stmt g.now.depth nested_item) (patterns.pattern g.now.depth) (P.seen p.old)) result (P.seen p.new) }
+    ensures { GivesAs T.stmt_of (rules.try_stmt (rules.stmt g.now.depth nested_item) (rules.pattern g.now.depth) (P.seen p.old)) result (P.seen p.new) }
 {
     let start = p.span();
     p.skip()?;

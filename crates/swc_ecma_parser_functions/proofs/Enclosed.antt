@@ -8,11 +8,10 @@ use Rattle.swc_ecma_parser_grammar.specs.language.Contexts.{in_body}
 use Rattle.swc_ecma_parser_source.specs.Around.{left_body}
 use Rattle.swc_ecma_parser_source.specs.declared.around.Around.{Around}
 use Rattle.swc_ecma_parser_reader.specs.State.{State, and_then, coded, flagged, unlabelled, relabelled, found_as}
-use Rattle.swc_ecma_parser_reader.specs.Patterns.{parameters}
-use Rattle.swc_ecma_parser_reader.specs.Reader.{stmt, braced, function_body}
+use Rattle.swc_ecma_parser_reader.specs.Reader.{stmt, braced, function_body, parameters}
 use Rattle.swc_ecma_parser_reader.proofs.Meets.{Refuses, meant}
-use Rattle.swc_ecma_parser_reader.proofs.Sound.{body_module}
-use Rattle.swc_ecma_parser_reader.proofs.patterns.Sound.{SoundParams, parameters_sound}
+use Rattle.swc_ecma_parser_reader.proofs.Sound.{body_module, parameters_sound}
+use Rattle.swc_ecma_parser_reader.proofs.patterns.Sound.{SoundParams}
 
 -- parameters leave the code as it was
 pub parameters_code : (n : ℕ) (s : State) (ps : List Tree) (t : State) → parameters n s ≡ Ok (ps, t) → t.code ≡ s.code

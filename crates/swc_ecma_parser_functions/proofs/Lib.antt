@@ -1,3 +1,4 @@
 pub mod Items
 pub mod Enclosed
 pub mod Parts
+pub mod OwnNames

@@ -11,7 +11,7 @@ use Rattle.swc_ecma_parser_grammar.specs.Own.{misplaced_directive}
 use Rattle.swc_ecma_parser_grammar.specs.Parameters.{parameters}
 use Rattle.swc_ecma_parser_grammar.specs.Reads.{nested_item}
 use Rattle.swc_ecma_parser_grammar.specs.language.Contexts.{in_parameters}
-use Rattle.swc_ecma_parser_reader.specs.Patterns as patterns
+use Rattle.swc_ecma_parser_reader.specs.Reader as rules
 use Rattle.swc_ecma_parser_reader.specs.State.{State, Outcome, Reader, and_then, ◌>>=◌, ◌>>◌, pure, since, within, GivesAs}
 use Rattle.swc_ecma_parser_reader.specs.Reader.{told, stmt, misdirected, function_body, function_parts}
 use Rattle.swc_ecma_parser_functions.specs.Late.{late}
@@ -27,23 +27,23 @@ told_late P true body directive u h plain other = subst (λ fs. P (told fs u)) (
 told_late P false body directive u h plain other = subst (λ fs. P (told fs u)) (sym h) (other refl)
 
 module _ (n : ℕ) (start : Span) (s t u : State) (ps : List Tree) (body : Tree)
-    (params : within (λ k. in_parameters k false false) (patterns.parameters n) s ≡ Ok (ps, t)) (rest : function_body (stmt n nested_item) (patterns.parameters n) t ≡ Ok (body, u)) where
+    (params : within (λ k. in_parameters k false false) (rules.parameters n) s ≡ Ok (ps, t)) (rest : function_body (stmt n nested_item) (rules.parameters n) t ≡ Ok (body, u)) where
   abbrev pub function_tree : Tree
   function_tree = tree.function (record { lo = start.lo; hi = u.at.last.hi }) (listed []) (parameters ps) body false false
 
   abbrev pub parts_faults : List Fault
   parts_faults = misplaced_directive (has_plain_params (parameters ps)) body
 
-  parts_told : function_parts (stmt n nested_item) (patterns.parameters n) start s ≡ and_then (told parts_faults u) (λ _. pure function_tree)
+  parts_told : function_parts (stmt n nested_item) (rules.parameters n) start s ≡ and_then (told parts_faults u) (λ _. pure function_tree)
   unfolding function_parts misdirected
   parts_told =
       let finish : List Tree → Tree → Reader Tree = λ qs b. since start >>= (λ span. misdirected (parameters qs) b >> pure (tree.function span (listed []) (parameters qs) b false false)) in
-      ap (λ o. and_then o (λ qs. function_body (stmt n nested_item) (patterns.parameters n) >>= finish qs)) params ∙ ap (λ o. and_then o (finish ps)) rest
+      ap (λ o. and_then o (λ qs. function_body (stmt n nested_item) (rules.parameters n) >>= finish qs)) params ∙ ap (λ o. and_then o (finish ps)) rest
 
-  pub parts_err : (e : Fault × State) → told parts_faults u ≡ Err e → function_parts (stmt n nested_item) (patterns.parameters n) start s ≡ Err e
+  pub parts_err : (e : Fault × State) → told parts_faults u ≡ Err e → function_parts (stmt n nested_item) (rules.parameters n) start s ≡ Err e
   parts_err e h = parts_told ∙ ap (λ o. and_then o (λ _. pure function_tree)) h
 
-  pub parts_found : (v : State) → told parts_faults u ≡ Ok (tt, v) → function_parts (stmt n nested_item) (patterns.parameters n) start s ≡ Ok (function_tree, v)
+  pub parts_found : (v : State) → told parts_faults u ≡ Ok (tt, v) → function_parts (stmt n nested_item) (rules.parameters n) start s ≡ Ok (function_tree, v)
   parts_found v h = parts_told ∙ ap (λ o. and_then o (λ _. pure function_tree)) h
 
 -- what is read is what is made of it, where memory is found

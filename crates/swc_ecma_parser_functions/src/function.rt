@@ -1,4 +1,4 @@
-//! Functions that are declared, neither async nor generators: ECMA-262, section 15.2.
+//! Functions, neither async nor generators, that are declared or are expressions: ECMA-262, section 15.2.
 
 ghost use Rattle.std.specs.Prelude.{◌≡◌, true, false, [], map, IfOk, IfErr};
 ghost use Rattle.swc_ecma_parser_error.specs.Kind.{IsOutOfMemory};
@@ -7,12 +7,13 @@ ghost use Rattle.swc_ecma_parser_grammar.specs.Own as own;
 ghost use Rattle.swc_ecma_parser_grammar.specs.Parameters.{parameter};
 ghost use Rattle.swc_ecma_parser_grammar.specs.Reads.{nested_item};
 ghost use Rattle.swc_ecma_parser_grammar.specs.language.Contexts as contexts;
+ghost use Rattle.swc_ecma_parser_inner.specs.Keys.{word_of};
 ghost use Rattle.swc_ecma_parser_inner.specs.Nests.{Nests};
 ghost use Rattle.swc_ecma_parser_model.specs.Forms as forms;
 ghost use Rattle.swc_ecma_parser_model.specs.Tree as tree;
-ghost use Rattle.swc_ecma_parser_reader.specs.Patterns as patterns;
 ghost use Rattle.swc_ecma_parser_reader.specs.Reader as rules;
 ghost use Rattle.swc_ecma_parser_reader.specs.State.{Gives, GivesAs, within};
+ghost use Rattle.swc_ecma_parser_trees.specs.Parts.{part_of};
 
 use crate::body::{Body, body_items, close};
 use swc_ecma_parser_common::Span;
@@ -22,6 +23,7 @@ use swc_ecma_parser_inner::cover::{Cover, Reading};
 use swc_ecma_parser_inner::grammar::{Grammar, Part};
 use swc_ecma_parser_inner::steps::{grown, pushed, since};
 use swc_ecma_parser_input::Context;
+use swc_ecma_parser_model::Ident;
 use swc_ecma_parser_patterns::params::parameters;
 use swc_ecma_parser_source::{Source, Wanted};
 use swc_ecma_parser_token::TokenKind;
@@ -32,6 +34,17 @@ use swc_ecma_parser_trees::{BuildsBlock, BuildsDecl, BuildsFunction, BuildsPatte
 pub(crate) struct FunctionBody<B> {
     block: B,
     strict_directive: Option<Span>,
+}
+
+/// What stands around the name of a function that is an expression.
+fn named_by(flags: Context) -> Context
+    ensures { result ≡ record flags { in_async = false; in_generator = false } }
+{
+    Context {
+        in_async: false,
+        in_generator: false,
+        ..flags
+    }
 }
 
 /// What stands around parameters.
@@ -90,7 +103,7 @@ fn parameters_inside<
     N: Fn(&MakerOf<T>, &mut P, usize, Part) -> PResult<T::Pat>,
 >(g: &Grammar<S, E, N>, t: &MakerOf<T>, p: &mut P) -> PResult<Vec<T::Pat>>
     requires { Nests P.seen T.expr_of T.pat_of T.stmt_of g.now.depth (S.pre g.now.stmt) (S.post g.now.stmt) (E.pre g.now.expr) (E.post g.now.expr) (N.pre g.now.pat) (N.post g.now.pat) }
-    ensures { GivesAs (λ found. map T.pat_of found.items) (within (λ k. contexts.in_parameters k false false) (patterns.parameters g.now.depth) (P.seen p.old)) result (P.seen p.new) }
+    ensures { GivesAs (λ found. map T.pat_of found.items) (within (λ k. contexts.in_parameters k false false) (rules.parameters g.now.depth) (P.seen p.old)) result (P.seen p.new) }
 {
     let outer = p.flags();
     p.set_flags(in_parameters(outer));
@@ -134,7 +147,7 @@ fn function_body<
     N: Fn(&MakerOf<T>, &mut P, usize, Part) -> PResult<T::Pat>,
 >(g: &Grammar<S, E, N>, t: &MakerOf<T>, p: &mut P) -> PResult<FunctionBody<T::Block>>
     requires { Nests P.seen T.expr_of T.pat_of T.stmt_of g.now.depth (S.pre g.now.stmt) (S.post g.now.stmt) (E.pre g.now.expr) (E.post g.now.expr) (N.pre g.now.pat) (N.post g.now.pat) }
-    ensures gives { GivesAs (λ body. T.block_of body.block) (rules.function_body (rules.stmt g.now.depth nested_item) (patterns.parameters g.now.depth) (P.seen p.old)) result (P.seen p.new) }
+    ensures gives { GivesAs (λ body. T.block_of body.block) (rules.function_body (rules.stmt g.now.depth nested_item) (rules.parameters g.now.depth) (P.seen p.old)) result (P.seen p.new) }
     ensures directive { IfOk result (λ body. own.misplaced_directive false (T.block_of body.block) ≡ late body.strict_directive) }
 {
     let outer = p.flags();
@@ -193,7 +206,7 @@ fn function_parts<
     N: Fn(&MakerOf<T>, &mut P, usize, Part) -> PResult<T::Pat>,
 >(g: &Grammar<S, E, N>, t: &MakerOf<T>, p: &mut P, start: Span) -> PResult<T::Function>
     requires { Nests P.seen T.expr_of T.pat_of T.stmt_of g.now.depth (S.pre g.now.stmt) (S.post g.now.stmt) (E.pre g.now.expr) (E.post g.now.expr) (N.pre g.now.pat) (N.post g.now.pat) }
-    ensures { GivesAs T.function_of (rules.function_parts (rules.stmt g.now.depth nested_item) (patterns.parameters g.now.depth) start (P.seen p.old)) result (P.seen p.new) }
+    ensures { GivesAs T.function_of (rules.function_parts (rules.stmt g.now.depth nested_item) (rules.parameters g.now.depth) start (P.seen p.old)) result (P.seen p.new) }
 {
     let pats = parameters_inside(g, t, p)?;
     let FunctionBody {
@@ -225,7 +238,7 @@ fn function_decl<
     N: Fn(&MakerOf<T>, &mut P, usize, Part) -> PResult<T::Pat>,
 >(g: &Grammar<S, E, N>, t: &MakerOf<T>, p: &mut P) -> PResult<T::Stmt>
     requires { Nests P.seen T.expr_of T.pat_of T.stmt_of g.now.depth (S.pre g.now.stmt) (S.post g.now.stmt) (E.pre g.now.expr) (E.post g.now.expr) (N.pre g.now.pat) (N.post g.now.pat) }
-    ensures { GivesAs T.stmt_of (rules.function_decl (rules.stmt g.now.depth nested_item) (patterns.parameters g.now.depth) (P.seen p.old)) result (P.seen p.new) }
+    ensures { GivesAs T.stmt_of (rules.function_decl (rules.stmt g.now.depth nested_item) (rules.parameters g.now.depth) (P.seen p.old)) result (P.seen p.new) }
 {
     let start = p.span();
     p.skip()?;
@@ -245,11 +258,46 @@ pub fn function_stmt<
     N: Fn(&MakerOf<T>, &mut P, usize, Part) -> PResult<T::Pat>,
 >(g: &Grammar<S, E, N>, t: &MakerOf<T>, p: &mut P, at: Position) -> PResult<T::Stmt>
     requires { Nests P.seen T.expr_of T.pat_of T.stmt_of g.now.depth (S.pre g.now.stmt) (S.post g.now.stmt) (E.pre g.now.expr) (E.post g.now.expr) (N.pre g.now.pat) (N.post g.now.pat) }
-    ensures { GivesAs T.stmt_of (rules.function_stmt (rules.stmt g.now.depth nested_item) (patterns.parameters g.now.depth) at (P.seen p.old)) result (P.seen p.new) }
+    ensures { GivesAs T.stmt_of (rules.function_stmt (rules.stmt g.now.depth nested_item) (rules.parameters g.now.depth) at (P.seen p.old)) result (P.seen p.new) }
 {
     if !at.include_decl {
         let word = p.span();
         p.fault(SyntaxError::DeclNotAllowed, word)?;
     }
     function_decl(g, t, p)
+}
+
+/// The name of a function that is an expression, read in the function's own code, if there is one.
+fn own_name<P: Source>(p: &mut P) -> PResult<Option<Ident>>
+    ensures { GivesAs (part_of word_of) (rules.own_name (P.seen p.old)) result (P.seen p.new) }
+{
+    let outer = p.flags();
+    p.set_flags(named_by(outer));
+    if !p.name_at() {
+        p.set_flags(outer);
+        return Ok(None);
+    }
+    let name = p.name(Wanted::Name)?;
+    p.set_flags(outer);
+    Ok(Some(name))
+}
+
+/// A function that is an expression.
+#[tactic(auto, unfolding(swc_ecma_parser_reader::specs::Reader::function_expr))]
+pub fn function_expr<
+    P: Source,
+    T: BuildsFunction + BuildsPattern,
+    S: Fn(&MakerOf<T>, &mut P, usize, Position) -> PResult<T::Stmt>,
+    E: Fn(&MakerOf<T>, &mut P, usize, Reading) -> PResult<Cover<T::Expr>>,
+    N: Fn(&MakerOf<T>, &mut P, usize, Part) -> PResult<T::Pat>,
+>(g: &Grammar<S, E, N>, t: &MakerOf<T>, p: &mut P) -> PResult<T::Expr>
+    requires { Nests P.seen T.expr_of T.pat_of T.stmt_of g.now.depth (S.pre g.now.stmt) (S.post g.now.stmt) (E.pre g.now.expr) (E.post g.now.expr) (N.pre g.now.pat) (N.post g.now.pat) }
+    ensures { GivesAs T.expr_of (rules.function_expr (rules.stmt g.now.depth nested_item) (rules.parameters g.now.depth) (P.seen p.old)) result (P.seen p.new) }
+{
+    let start = p.span();
+    p.skip()?;
+    let name = own_name(p)?;
+    let function = function_parts(g, t, p, start)?;
+    let span = T::function_span(&function);
+    grown(p, T::fn_expr(t.alloc, span, name, function))
 }

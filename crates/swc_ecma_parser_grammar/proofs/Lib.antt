@@ -1,11 +1,13 @@
 pub mod Tests
 pub mod Naming
+pub mod SupportedIn
 pub mod SupportedBegins
 pub mod Marks
 pub mod Widens
 pub mod Unnoted
 pub mod Narrows
 pub mod StatementEntries
+pub mod FunctionExprs
 pub mod FewFlags
 pub mod Tabled
 pub mod language

@@ -23,7 +23,7 @@ use Rattle.swc_ecma_parser_grammar.specs.Reads.{with_in, in_strict, directed, di
 use Rattle.swc_ecma_parser_grammar.specs.Reads.{labeled_rule, head_code, HeadVariables, InitRule, no_init_rule, init_variables_rule, init_expression_rule, LeftRule, declared_rule, left_target_rule, for_in_rule, for_of_rule, PartRule, no_part_rule, part_rule, for_rule}
 use Rattle.swc_ecma_parser_grammar.specs.Entries.{ReadsScript, ReadsShebang, some_shebang, no_shebang, script_code}
 use Rattle.swc_ecma_parser_grammar.specs.Notes.{notes, all_notes, statement_note, with_note}
-use Rattle.swc_ecma_parser_grammar.specs.Supported.{supported, all_supported, has_none}
+use Rattle.swc_ecma_parser_grammar.specs.Supported.{supported, supported_in, all_supported_in, has_none}
 use Rattle.swc_ecma_parser_grammar.specs.ReadsSupported.{ReadsClass, ReadsPat, ReadsTarget, ReadsStmt, ReadsParams}
 use Rattle.swc_ecma_parser_grammar.specs.language.Goals.{assignment, stmt_goal}
 use Rattle.swc_ecma_parser_grammar.specs.language.Contexts.{in_loop, in_breakable, in_with}
@@ -40,6 +40,7 @@ use Rattle.swc_ecma_parser_grammar.specs.language.Reads.{Reads}
 use Rattle.swc_ecma_parser_grammar.specs.language.Programs as programs
 use Rattle.swc_ecma_parser_grammar.specs.language.Programs.{ReadsEntry}
 use Rattle.swc_ecma_parser_grammar.proofs.Tests.{and_yes}
+use Rattle.swc_ecma_parser_grammar.proofs.SupportedIn.{strict_module, head_module}
 use Rattle.swc_ecma_parser_grammar.proofs.SupportedBegins.{refuted, supported_as}
 use Rattle.swc_ecma_parser_grammar.proofs.Unnoted.{Quiet, quiet_first, quiet_last, quiet_as}
 use Rattle.swc_ecma_parser_grammar.proofs.Naming.{name_is_name}
@@ -48,63 +49,64 @@ use Rattle.swc_ecma_parser_grammar.proofs.language.Asked.{or_left, or_right}
 
 -- ---- declarators
 
-declarator_narrows : (n : ℕ) (k : Code) (loop : Bool) (word : VarDeclKind) (x : Tree) (c d : Place) → declarations.DeclaratorRule (Reads n) k loop word x c d → supported x ≡ true
+declarator_narrows : (n : ℕ) (k : Code) (loop : Bool) (word : VarDeclKind) (x : Tree) (c d : Place) → declarations.DeclaratorRule (Reads n) k loop word x c d → supported_in k.flags.module x ≡ true
     → DeclaratorRule (ReadsClass n assignment) (ReadsPat n) k loop word x c d
 declarator_narrows n k loop word x c d (declarations.plain_rule name r a b e) h =
-    let g = and_yes (supported name) _ (supported_as x (tree.declarator (spanned c d) name tree.absent) e h) in plain_rule name (r, g.0) a b e
+    let g = and_yes (supported_in k.flags.module name) _ (supported_as _ x (tree.declarator (spanned c d) name tree.absent) e h) in plain_rule name (r, g.0) a b e
 declarator_narrows n k loop word x c d (declarations.initialized_rule name init m r a s e) h =
-    let g = and_yes (supported name) _ (supported_as x (tree.declarator (spanned c d) name init) e h) in
+    let g = and_yes (supported_in k.flags.module name) _ (supported_as _ x (tree.declarator (spanned c d) name init) e h) in
     initialized_rule name init m (r, g.0) a (s, g.1) e
 
-module _ (Rule Other : Tree → Place → Place → Type 0) (narrow : (x : Tree) (c d : Place) → Rule x c d → supported x ≡ true → Other x c d) where
+module _ (b : Bool) (Rule Other : Tree → Place → Place → Type 0) (narrow : (x : Tree) (c d : Place) → Rule x c d → supported_in b x ≡ true → Other x c d) where
   -- with commas between, each by itself
-  separated_narrow : (xs : List Tree) (c d : Place) → ReadsSeparated Rule xs c d → all_supported (trees xs) ≡ true → ReadsSeparated Other xs c d
+  separated_narrow : (xs : List Tree) (c d : Place) → ReadsSeparated Rule xs c d → all_supported_in b (trees xs) ≡ true → ReadsSeparated Other xs c d
   separated_narrow [] c d r h = r
-  separated_narrow (x ∷ []) c d (r, e) h = (narrow x c d r (and_yes (supported x) _ h).0, e)
-  separated_narrow (x ∷ y ∷ ys) c d (m, r, e, rs) h = let g = and_yes (supported x) _ h in (m, narrow x c m r g.0, e, separated_narrow (y ∷ ys) (after m) d rs g.1)
+  separated_narrow (x ∷ []) c d (r, e) h = (narrow x c d r (and_yes (supported_in b x) _ h).0, e)
+  separated_narrow (x ∷ y ∷ ys) c d (m, r, e, rs) h = let g = and_yes (supported_in b x) _ h in (m, narrow x c m r g.0, e, separated_narrow (y ∷ ys) (after m) d rs g.1)
 
 declarators_narrow : (n : ℕ) (k : Code) (loop : Bool) (word : VarDeclKind) (xs : List Tree) (c d : Place) → ReadsSeparated (declarations.DeclaratorRule (Reads n) k loop word) xs c d
-    → all_supported (trees xs) ≡ true → ReadsSeparated (DeclaratorRule (ReadsClass n assignment) (ReadsPat n) k loop word) xs c d
+    → all_supported_in k.flags.module (trees xs) ≡ true → ReadsSeparated (DeclaratorRule (ReadsClass n assignment) (ReadsPat n) k loop word) xs c d
 declarators_narrow n k loop word =
-    separated_narrow (declarations.DeclaratorRule (Reads n) k loop word) (DeclaratorRule (ReadsClass n assignment) (ReadsPat n) k loop word) (declarator_narrows n k loop word)
+    separated_narrow k.flags.module (declarations.DeclaratorRule (Reads n) k loop word) (DeclaratorRule (ReadsClass n assignment) (ReadsPat n) k loop word) (declarator_narrows n k loop word)
 
 -- ---- statements
 
-target_narrows : {k : Code} {x : Tree} {c d : Place} → statements.TargetRule k x c d → supported x ≡ true → TargetRule k x c d
+target_narrows : {k : Code} {x : Tree} {c d : Place} → statements.TargetRule k x c d → supported_in k.flags.module x ≡ true → TargetRule k x c d
 target_narrows (statements.no_target_rule i g e) h = no_target_rule i g e
 target_narrows {k = k} {x = x} {c = c} {d = d} (statements.target_rule text s i r e) h =
-    target_rule r.word s i r.reads_word (name_is_name k text s c d r (supported_as x (tree.ident s text) e h)) (e ∙ ap (tree.ident s) r.is_text)
+    target_rule r.word s i r.reads_word (name_is_name k text s c d r (supported_as _ x (tree.ident s text) e h)) (e ∙ ap (tree.ident s) r.is_text)
 
-operand_narrows : (n : ℕ) {k : Code} {x : Tree} {c d : Place} → statements.OperandRule (Reads n) k x c d → supported x ≡ true → OperandRule (ReadsClass n) k x c d
+operand_narrows : (n : ℕ) {k : Code} {x : Tree} {c d : Place} → statements.OperandRule (Reads n) k x c d → supported_in k.flags.module x ≡ true → OperandRule (ReadsClass n) k x c d
 operand_narrows n (statements.no_operand_rule i g e) h = no_operand_rule i g e
 operand_narrows n (statements.operand_rule i r) h = operand_rule i (r, h)
 
 -- ---- the head of a `for`
 
-head_variables_narrow : (n : ℕ) {k : Code} {x : Tree} {c d : Place} → heads.HeadVariablesRule (Reads n) k x c d → supported x ≡ true → HeadVariables (ReadsClass n) (ReadsPat n) k x c d
+head_variables_narrow : (n : ℕ) {k : Code} {x : Tree} {c d : Place} → heads.HeadVariablesRule (Reads n) k x c d → supported_in k.flags.module x ≡ true → HeadVariables (ReadsClass n) (ReadsPat n) k x c d
 head_variables_narrow n {k = k} {x = x} {c = c} {d = d} r h = record {
   word = r.word;
   declarators = r.declarators;
   begins = r.reads.0;
-  reads = declarators_narrow n (head_code r.word k) true r.word r.declarators (after c) d r.reads.1 (supported_as x (tree.var (spanned c d) r.word (listed r.declarators)) r.is h);
+  reads = declarators_narrow n (head_code r.word k) true r.word r.declarators (after c) d r.reads.1
+      (subst (λ b. all_supported_in b (trees r.declarators) ≡ true) (sym (head_module r.word k)) (supported_as _ x (tree.var (spanned c d) r.word (listed r.declarators)) r.is h));
   is = r.is;
 }
 
-init_narrows : (n : ℕ) {k : Code} {x : Tree} {c d : Place} → heads.InitRule (Reads n) k x c d → supported x ≡ true → InitRule (ReadsClass n) (ReadsPat n) k x c d
+init_narrows : (n : ℕ) {k : Code} {x : Tree} {c d : Place} → heads.InitRule (Reads n) k x c d → supported_in k.flags.module x ≡ true → InitRule (ReadsClass n) (ReadsPat n) k x c d
 init_narrows n {c = c} (heads.no_init_rule i g e) h = no_init_rule (saw c kind.Semi i) g e
 init_narrows n (heads.init_variables_rule r) h = init_variables_rule (head_variables_narrow n r h)
 init_narrows n (heads.init_expression_rule i r) h = init_expression_rule i (r, h)
 
-left_narrows : (n : ℕ) {k : Code} {x : Tree} {c d : Place} → heads.LeftRule (Reads n) k x c d → supported x ≡ true → LeftRule (ReadsClass n) (ReadsPat n) (ReadsTarget n) k x c d
+left_narrows : (n : ℕ) {k : Code} {x : Tree} {c d : Place} → heads.LeftRule (Reads n) k x c d → supported_in k.flags.module x ≡ true → LeftRule (ReadsClass n) (ReadsPat n) (ReadsTarget n) k x c d
 left_narrows n (heads.declared_rule r) h = declared_rule (head_variables_narrow n r h)
 left_narrows n (heads.target_rule i r) h = left_target_rule i (r, h)
 
--- `using` is not supported before `of`
-of_left_narrows : (n : ℕ) (is_await : Bool) {k : Code} {x : Tree} {c d : Place} → heads.OfLeftRule (Reads n) k is_await x c d → supported x ≡ true
+-- `using` is not supported_in k.flags.module before `of`
+of_left_narrows : (n : ℕ) (is_await : Bool) {k : Code} {x : Tree} {c d : Place} → heads.OfLeftRule (Reads n) k is_await x c d → supported_in k.flags.module x ≡ true
     → LeftRule (ReadsClass n) (ReadsPat n) (ReadsTarget n) k x c d × (is_async_of is_await x d ≡ false)
 of_left_narrows n is_await (heads.of_left_rule r i) h = (left_narrows n r h, i)
-of_left_narrows n is_await {x = x} (heads.of_using_rule i (heads.using_head_rule y r e)) h = refuted x (ap supported e) h
-of_left_narrows n is_await {x = x} (heads.of_using_rule i (heads.await_using_head_rule y a b r e)) h = refuted x (ap supported e) h
+of_left_narrows n is_await {k = k} {x = x} (heads.of_using_rule i (heads.using_head_rule y r e)) h = refuted _ x (ap (supported_in k.flags.module) e) h
+of_left_narrows n is_await {k = k} {x = x} (heads.of_using_rule i (heads.await_using_head_rule y a b r e)) h = refuted _ x (ap (supported_in k.flags.module) e) h
 
 -- nor is `async` alone behind `for await`, so `async of` is none there either
 other_async : (w b n : Bool) → not (w && b) ≡ true → (not w && (b && n)) ≡ false → (not false && (b && n)) ≡ false
@@ -116,14 +118,9 @@ no_async_of : (w : Bool) (x : Tree) (d : Place) → not (w && is_bare_async x) �
 unfolding is_async_of
 no_async_of w x d h g = other_async w (is_bare_async x) _ h g
 
-part_narrows : (n : ℕ) {k : Code} {x : Tree} {c d : Place} → heads.PartRule (Reads n) k x c d → supported x ≡ true → PartRule (ReadsClass n) k x c d
+part_narrows : (n : ℕ) {k : Code} {x : Tree} {c d : Place} → heads.PartRule (Reads n) k x c d → supported_in k.flags.module x ≡ true → PartRule (ReadsClass n) k x c d
 part_narrows n (heads.no_part_rule g e) h = no_part_rule g e
 part_narrows n (heads.part_rule r) h = part_rule (r, h)
-
--- what a directive leaves is as much of a module as before
-pub strict_module : (b : Bool) (k : Code) → (cond b (in_strict k) k).flags.module ≡ k.flags.module
-strict_module true k = refl
-strict_module false k = refl
 
 -- what is not noted in module code is no bare name `interface` there
 unnamed : (m b : Bool) (f : Fault) → (m ≡ true → (if b then f ∷ [] else []) ≡ []) → m && b ≡ false
@@ -133,11 +130,11 @@ unnamed false b f q = refl
 
 -- ---- functions
 
-unasync : {c d : Place} → functions.AsyncWord false c d → d ≡ c
+pub unasync : {c d : Place} → functions.AsyncWord false c d → d ≡ c
 unasync (functions.not_async e h) = h
 unasync (functions.async_word e h g i) = cc
 
-unstarred : {c d : Place} → functions.Star false c d → d ≡ c
+pub unstarred : {c d : Place} → functions.Star false c d → d ≡ c
 unstarred (functions.no_star e h) = h
 unstarred (functions.star e h g) = cc
 
@@ -159,33 +156,34 @@ no_with : (b : Bool) (f : Fault) (fs : List Fault) → (b ≡ true → f ∷ fs 
 no_with true f fs q = let e : f ∷ fs ≡ [] = q refl in cc
 no_with false f fs q = refl
 
-module _ (n : ℕ) (narrow : (k : Code) (at : Position) (x : Tree) (c d : Place) → Quiet k (notes x) → Reads n (stmt_goal k at x c d) → supported x ≡ true → ReadsStmt n k at x c d) where
+module _ (n : ℕ) (narrow : (k : Code) (at : Position) (x : Tree) (c d : Place) → Quiet k (notes x) → Reads n (stmt_goal k at x c d) → supported_in k.flags.module x ≡ true → ReadsStmt n k at x c d) where
   items_narrow : (k : Code) (directives : Bool) (at : Position) (xs : List Tree) (c d : Place) → Quiet k (all_notes (trees xs)) → ItemsRule (Reads n) k directives at xs c d
-      → all_supported (trees xs) ≡ true → ReadsItems (λ j. ReadsStmt n j at) k directives xs c d
+      → all_supported_in k.flags.module (trees xs) ≡ true → ReadsItems (λ j. ReadsStmt n j at) k directives xs c d
   items_narrow k directives at [] c d o r h = r
   items_narrow k directives at (x ∷ xs) c d o (m, r, rs) h =
-      let g = and_yes (supported x) _ h in
+      let g = and_yes (supported_in k.flags.module x) _ h in
       let q = quiet_last k (notes x) _ o in (
         m,
         narrow k at x c m (quiet_first k (notes x) _ o) r g.0,
-        items_narrow (directed k directives x) (directs_on directives x) at xs m d (λ b. q (sym (strict_module (directives && is_use_strict x) k) ∙ b)) rs g.1,
+        items_narrow (directed k directives x) (directs_on directives x) at xs m d (λ b. q (sym (strict_module (directives && is_use_strict x) k) ∙ b)) rs
+            (subst (λ b. all_supported_in b (trees xs) ≡ true) (sym (strict_module (directives && is_use_strict x) k)) g.1),
       )
 
-  head_narrows : {k : Code} {x : Tree} {c d : Place} → statements.HeadRule (Reads n) k x c d → supported x ≡ true → ReadsHead (ReadsClass n) k x c d
+  head_narrows : {k : Code} {x : Tree} {c d : Place} → statements.HeadRule (Reads n) k x c d → supported_in k.flags.module x ≡ true → ReadsHead (ReadsClass n) k x c d
   head_narrows r h = record { close = r.close; opens = r.opens; reads = (r.reads, h); closes = r.closes; next = r.next }
 
-  braced_narrows : (directives : Bool) {k : Code} {x : Tree} {c d : Place} → Quiet k (notes x) → BlockRule (Reads n) k directives x c d → supported x ≡ true → ReadsBraced (ReadsStmt n) directives k x c d
+  pub braced_narrows : (directives : Bool) {k : Code} {x : Tree} {c d : Place} → Quiet k (notes x) → BlockRule (Reads n) k directives x c d → supported_in k.flags.module x ≡ true → ReadsBraced (ReadsStmt n) directives k x c d
   braced_narrows directives {k = k} {x = x} {c = c} {d = d} o r h = record {
     items = r.items;
     close = r.close;
     opens = r.opens;
-    reads_items = items_narrow k directives nested_item r.items (after c) r.close (quiet_as k x (tree.block (spanned c d) (listed r.items)) r.is o) r.reads_items (supported_as x (tree.block (spanned c d) (listed r.items)) r.is h);
+    reads_items = items_narrow k directives nested_item r.items (after c) r.close (quiet_as k x (tree.block (spanned c d) (listed r.items)) r.is o) r.reads_items (supported_as _ x (tree.block (spanned c d) (listed r.items)) r.is h);
     closes = r.closes;
     next = r.next;
     is = r.is;
   }
 
-  block_narrows : {k : Code} {x : Tree} {c d : Place} → Quiet k (notes x) → BlockRule (Reads n) k false x c d → supported x ≡ true → ReadsBlock (ReadsStmt n) k x c d
+  block_narrows : {k : Code} {x : Tree} {c d : Place} → Quiet k (notes x) → BlockRule (Reads n) k false x c d → supported_in k.flags.module x ≡ true → ReadsBlock (ReadsStmt n) k x c d
   block_narrows o r h = braced_narrows false o r h
 
   -- Clauses with a `default` before them or without: where one is, none is behind it.
@@ -208,20 +206,20 @@ module _ (n : ℕ) (narrow : (k : Code) (at : Position) (x : Tree) (c d : Place)
       no_not false e = refl
 
   cases_narrow : (k : Code) (b : Bool) (xs : List Tree) (c d : Place) → Quiet k (all_notes (trees xs)) → ReadsEach (statements.CaseRule (Reads n) k) xs c d → Defaults b xs
-      → all_supported (trees xs) ≡ true → ReadsCases (ReadsStmt n) (ReadsClass n) k b xs c d
+      → all_supported_in k.flags.module (trees xs) ≡ true → ReadsCases (ReadsStmt n) (ReadsClass n) k b xs c d
   unfolding same_kind
   cases_narrow k b [] c d o r h g = r
   cases_narrow k b (x ∷ xs) c d o (m, statements.case_clause_rule test ys i a r j s e, rs) h g =
-      let f = and_yes (supported x) _ g in
-      let l = and_yes (supported test) _ (supported_as x (tree.case (spanned c m) test (listed ys)) e f.0) in
+      let f = and_yes (supported_in k.flags.module x) _ g in
+      let l = and_yes (supported_in k.flags.module test) _ (supported_as _ x (tree.case (spanned c m) test (listed ys)) e f.0) in
       let q = quiet_as k x (tree.case (spanned c m) test (listed ys)) e (quiet_first k (notes x) _ o) in (
         m,
         case_clause_rule test ys i a (r, l.0) j (items_narrow k false nested_item ys (after i) m (quiet_last k (notes test) _ q) s l.1) e,
         cases_narrow k (b || sees kind.Default c) xs m d (quiet_last k (notes x) _ o) rs (behind_case b x xs (sees kind.Default c) (ap is_default e ∙ stands_there n (with_in k) test (after c) i r) (ap (λ j. same_kind j kind.Default) a) h) f.1,
       )
   cases_narrow k b (x ∷ xs) c d o (m, statements.default_clause_rule ys a j s e, rs) h g =
-      let f = and_yes (supported x) _ g in
-      let l = supported_as x (tree.case (spanned c m) tree.absent (listed ys)) e f.0 in
+      let f = and_yes (supported_in k.flags.module x) _ g in
+      let l = supported_as _ x (tree.case (spanned c m) tree.absent (listed ys)) e f.0 in
       let v = behind_default b x xs (sees kind.Default c) (ap is_default e) (ap (λ j. same_kind j kind.Default) a) h in
       let q = quiet_as k x (tree.case (spanned c m) tree.absent (listed ys)) e (quiet_first k (notes x) _ o) in (
         m,
@@ -229,29 +227,29 @@ module _ (n : ℕ) (narrow : (k : Code) (at : Position) (x : Tree) (c d : Place)
         cases_narrow k (b || sees kind.Default c) xs m d (quiet_last k (notes x) _ o) rs v.1 f.1,
       )
 
-  catch_narrows : {k : Code} {x : Tree} {c d : Place} → Quiet k (notes x) → statements.CatchRule (Reads n) k x c d → supported x ≡ true → CatchRule (ReadsStmt n) (ReadsPat n) k x c d
+  catch_narrows : {k : Code} {x : Tree} {c d : Place} → Quiet k (notes x) → statements.CatchRule (Reads n) k x c d → supported_in k.flags.module x ≡ true → CatchRule (ReadsStmt n) (ReadsPat n) k x c d
   catch_narrows o (statements.no_catch_rule i j e) h = no_catch_rule i j e
   catch_narrows {k = k} {x = x} {c = c} {d = d} o (statements.catch_rule body i r e) h =
-      catch_rule body i (block_narrows (quiet_as k x (tree.catch (spanned c d) tree.absent body) e o) r (supported_as x (tree.catch (spanned c d) tree.absent body) e h)) e
+      catch_rule body i (block_narrows (quiet_as k x (tree.catch (spanned c d) tree.absent body) e o) r (supported_as _ x (tree.catch (spanned c d) tree.absent body) e h)) e
   catch_narrows {k = k} {x = x} {c = c} {d = d} o (statements.catch_parameter_rule p body m i j r l s e) h =
-      let g = and_yes (supported p) _ (supported_as x (tree.catch (spanned c d) p body) e h) in
+      let g = and_yes (supported_in k.flags.module p) _ (supported_as _ x (tree.catch (spanned c d) p body) e h) in
       let q = quiet_last k (notes p) (notes body) (quiet_as k x (tree.catch (spanned c d) p body) e o) in
       catch_parameter_rule p body m i j (r, g.0) l (block_narrows q s g.1) e
 
-  finally_narrows : {k : Code} {x : Tree} {c d : Place} → Quiet k (notes x) → statements.FinallyRule (Reads n) k x c d → supported x ≡ true → FinallyRule (ReadsStmt n) k x c d
+  finally_narrows : {k : Code} {x : Tree} {c d : Place} → Quiet k (notes x) → statements.FinallyRule (Reads n) k x c d → supported_in k.flags.module x ≡ true → FinallyRule (ReadsStmt n) k x c d
   finally_narrows o (statements.no_finally_rule i j e) h = no_finally_rule i j e
   finally_narrows o (statements.finally_rule i r) h = finally_rule i (block_narrows o r h)
 
   mutual
-    if_narrows : {k : Code} {x : Tree} {c d : Place} → Quiet k (notes x) → statements.IfRule (Reads n) k x c d → supported x ≡ true → IfRule (ReadsStmt n) (ReadsClass n) k x c d
+    if_narrows : {k : Code} {x : Tree} {c d : Place} → Quiet k (notes x) → statements.IfRule (Reads n) k x c d → supported_in k.flags.module x ≡ true → IfRule (ReadsStmt n) (ReadsClass n) k x c d
     if_narrows {k = k} {x = x} {c = c} {d = d} o (statements.if_rule test cons alt m i j r s t e) h =
-        let g = and_yes (supported test) _ (supported_as x (tree.if_stmt (spanned c d) test cons alt) e h) in
-        let f = and_yes (supported cons) _ g.1 in
+        let g = and_yes (supported_in k.flags.module test) _ (supported_as _ x (tree.if_stmt (spanned c d) test cons alt) e h) in
+        let f = and_yes (supported_in k.flags.module cons) _ g.1 in
         let q = quiet_as k x (tree.if_stmt (spanned c d) test cons alt) e o in
         if_rule test cons alt m i j (head_narrows r g.0) (narrow k sub_statement cons m i (quiet_last k (notes test) (notes cons) (quiet_first k (notes test ++ notes cons) (notes alt) q)) s f.0)
         (else_narrows (quiet_last k (notes test ++ notes cons) (notes alt) q) t f.1) e
 
-    else_narrows : {k : Code} {x : Tree} {c d : Place} → Quiet k (notes x) → statements.ElseRule (Reads n) k x c d → supported x ≡ true → ElseRule (ReadsStmt n) (ReadsClass n) k x c d
+    else_narrows : {k : Code} {x : Tree} {c d : Place} → Quiet k (notes x) → statements.ElseRule (Reads n) k x c d → supported_in k.flags.module x ≡ true → ElseRule (ReadsStmt n) (ReadsClass n) k x c d
     else_narrows o (statements.no_else_rule i j e) h = no_else_rule i j e
     else_narrows {k = k} {x = x} {c = c} {d = d} o (statements.else_rule i j s) h = else_rule i j (narrow k sub_statement x (after c) d o s h)
     else_narrows o (statements.else_if_rule i r) h = else_if_rule i (if_narrows o r h)
@@ -260,7 +258,7 @@ module _ (n : ℕ) (narrow : (k : Code) (at : Position) (x : Tree) (c d : Place)
   plain_function : (k : Code) (at : Position) (x : Tree) (c m d : Place) (w g : Bool) (text : Text) (sp : Span) (ps : List Tree) (body : Tree) (word behind_word behind_name : Place) → m ≡ c
       → functions.AsyncWord w m word → kind_at word ≡ kind.Function → functions.Star g (after word) behind_word → (r : ReadsName k text sp behind_word behind_name)
       → functions.FunctionParts (Reads n) k w g ps body behind_name d → at.include_decl || is_async_function m ≡ true → not (bytes_eq text (codes "await")) ≡ true
-      → not w && (not g && (supported (parameters ps) && supported body)) ≡ true → Quiet k (notes body)
+      → not w && (not g && (supported_in k.flags.module (parameters ps) && supported_in k.flags.module body)) ≡ true → Quiet k (notes body)
       → x ≡ tree.fn_decl (tree.ident sp text) (tree.function (spanned m d) (listed []) (parameters ps) body w g)
       → StmtRule (ReadsStmt n) (ReadsClass n) (ReadsPat n) (ReadsTarget n) (ReadsParams n) k at x c d
   plain_function k at x c m d true g text sp ps body word bw bn o a f s r p i t h q e = cc
@@ -268,7 +266,7 @@ module _ (n : ℕ) (narrow : (k : Code) (at : Position) (x : Tree) (c d : Place)
   plain_function k at x c m d false false text sp ps body word bw bn o a f s r p i t h q e =
       let z : word ≡ c = unasync a ∙ o in
       let v : kind_at c ≡ kind.Function = ap kind_at (sym z) ∙ f in
-      let u = and_yes (supported (parameters ps)) _ h in
+      let u = and_yes (supported_in k.flags.module (parameters ps)) _ h in
       function_rule (declared_here at.include_decl _ i (ap is_async_function o ∙ no_async_function c v)) (record {
         name = r.word;
         name_span = sp;
@@ -279,7 +277,7 @@ module _ (n : ℕ) (narrow : (k : Code) (at : Position) (x : Tree) (c d : Place)
         is_function = v;
         reads_name = subst (λ b. ReadsToken (token.Word r.word) sp b bn) (unstarred s ∙ ap after z) r.reads_word;
         is_named = name_is_name k text sp bw bn r t;
-        reads_parameters = (p.reads_parameters, sym (parameters_same ps) ∙ u.0);
+        reads_parameters = (p.reads_parameters, sym (parameters_same k.flags.module ps) ∙ u.0);
         reads_body = braced_narrows true q p.reads_body u.1;
         is = e ∙ ap (λ b. tree.fn_decl (tree.ident sp text) (tree.function (spanned b d) (listed []) (parameters ps) body false false)) o
             ∙ ap (λ b. tree.fn_decl (tree.ident sp b) (tree.function (spanned c d) (listed []) (parameters ps) body false false)) r.is_text;
@@ -287,87 +285,87 @@ module _ (n : ℕ) (narrow : (k : Code) (at : Position) (x : Tree) (c d : Place)
 
   -- with a name, and behind no decorators
   function_narrows : (k : Code) (at : Position) (a name x y : Tree) (c m d : Place) → Quiet k (notes y) → classes.DecoratorsRule (Reads n) k a c m → at.include_decl || is_async_function m ≡ true
-      → (s : functions.FunctionRule (Reads n) false k a name y m d) → parts.OptionalName k name s.behind_word s.behind_name → is_absent name ≡ false → supported name ≡ true → supported y ≡ true
+      → (s : functions.FunctionRule (Reads n) false k a name y m d) → parts.OptionalName k name s.behind_word s.behind_name → is_absent name ≡ false → supported_in k.flags.module name ≡ true → supported_in k.flags.module y ≡ true
       → x ≡ tree.fn_decl name y → StmtRule (ReadsStmt n) (ReadsClass n) (ReadsPat n) (ReadsTarget n) (ReadsParams n) k at x c d
   function_narrows k at a name x y c m d o (classes.some_decorators z zs v r l) i s u b h t e =
-      let f = supported_as y (tree.function (spanned m d) a (parameters s.patterns) s.body s.is_async s.is_generator) s.is t in
+      let f = supported_as _ y (tree.function (spanned m d) a (parameters s.patterns) s.body s.is_async s.is_generator) s.is t in
       let q = and_yes (not s.is_generator) _ (and_yes (not s.is_async) _ f).1 in
       absurd (true≢false (sym (and_yes (has_none a) _ q.1).0 ∙ ap has_none l))
   function_narrows k at a name x y c m d o (classes.no_decorators g l) i s (parts.no_name j u) b h t e = absurd (true≢false (sym (ap is_absent u) ∙ b))
   function_narrows k at a name x y c m d o (classes.no_decorators g l) i s (parts.a_name text sp r u) b h t e =
       let v : y ≡ tree.function (spanned m d) (listed []) (parameters s.patterns) s.body s.is_async s.is_generator = s.is ∙ ap (λ z. tree.function (spanned m d) z (parameters s.patterns) s.body s.is_async s.is_generator) l in
       plain_function k at x c m d s.is_async s.is_generator text sp s.patterns s.body s.word s.behind_word s.behind_name g s.reads_async s.is_function s.reads_star r s.reads_parts i
-      (supported_as name (tree.ident sp text) u h) (supported_as y (tree.function (spanned m d) (listed []) (parameters s.patterns) s.body s.is_async s.is_generator) v t)
+      (supported_as _ name (tree.ident sp text) u h) (supported_as _ y (tree.function (spanned m d) (listed []) (parameters s.patterns) s.body s.is_async s.is_generator) v t)
       (quiet_last k (notes (parameters s.patterns)) (notes s.body) (quiet_as k y (tree.function (spanned m d) (listed []) (parameters s.patterns) s.body s.is_async s.is_generator) v o))
       (e ∙ ap (λ z. tree.fn_decl z y) u ∙ ap (tree.fn_decl (tree.ident sp text)) v)
 
-  form_narrows : (k : Code) (at : Position) (x : Tree) (c d : Place) → Quiet k (notes x) → statements.FormRule (Reads n) k at x c d → supported x ≡ true
+  form_narrows : (k : Code) (at : Position) (x : Tree) (c d : Place) → Quiet k (notes x) → statements.FormRule (Reads n) k at x c d → supported_in k.flags.module x ≡ true
       → StmtRule (ReadsStmt n) (ReadsClass n) (ReadsPat n) (ReadsTarget n) (ReadsParams n) k at x c d
-  form_narrows k at x c d o (statements.class_rule a name y m i r s b e) h = refuted x (ap supported e) h
+  form_narrows k at x c d o (statements.class_rule a name y m i r s b e) h = refuted _ x (ap (supported_in k.flags.module) e) h
   form_narrows k at x c d o (statements.function_rule a name y m r i s b e) h =
-      let g = and_yes (supported name) _ (supported_as x (tree.fn_decl name y) e h) in
+      let g = and_yes (supported_in k.flags.module name) _ (supported_as _ x (tree.fn_decl name y) e h) in
       let q = quiet_last k (notes name) (notes y) (quiet_as k x (tree.fn_decl name y) e o) in
       function_narrows k at a name x y c m d q r i s s.reads_name b g.0 g.1 e
   form_narrows k at x c d o (statements.variables_rule word xs m i (b, r) g e) h =
-      variables_rule word xs m i b (declarators_narrow n (with_in k) false word xs (after c) m r (supported_as x (tree.var (spanned c d) word (listed xs)) e h)) g e
-  form_narrows k at x c d o (statements.using_rule r) h = refuted x (ap supported r.is) h
+      variables_rule word xs m i b (declarators_narrow n (with_in k) false word xs (after c) m r (supported_as _ x (tree.var (spanned c d) word (listed xs)) e h)) g e
+  form_narrows k at x c d o (statements.using_rule r) h = refuted _ x (ap (supported_in k.flags.module) r.is) h
   form_narrows k at x c d o (statements.block_rule r) h = block_rule (block_narrows o r h)
   form_narrows k at x c d o (statements.empty_rule i n e) h = empty_rule i n e
   form_narrows k at x c d o (statements.debugger_rule i g e) h = debugger_rule i g e
   form_narrows k at x c d o (statements.with_rule y z m i r s e) h =
-      let g = and_yes (supported y) _ (supported_as x (tree.with (spanned c d) y z) e h) in
+      let g = and_yes (supported_in k.flags.module y) _ (supported_as _ x (tree.with (spanned c d) y z) e h) in
       let q = no_with k.flags.module (with_note (spanned c d)) (notes y ++ notes z) (quiet_as k x (tree.with (spanned c d) y z) e o) in
       with_rule y z m i q (head_narrows r g.0) (narrow (in_with k) sub_statement z m d (λ a. absurd (true≢false (sym a ∙ q))) s g.1) e
-  form_narrows k at x c d o (statements.return_rule y m i r g e) h = return_rule y m i (operand_narrows n r (supported_as x (tree.return (spanned c d) y) e h)) g e
+  form_narrows k at x c d o (statements.return_rule y m i r g e) h = return_rule y m i (operand_narrows n r (supported_as _ x (tree.return (spanned c d) y) e h)) g e
   form_narrows k at x c d o (statements.labeled_rule text s y m r i t e) h =
-      let g = and_yes (supported (tree.ident s text)) _ (supported_as x (tree.labeled (spanned c d) (tree.ident s text) y) e h) in
+      let g = and_yes (supported_in k.flags.module (tree.ident s text)) _ (supported_as _ x (tree.labeled (spanned c d) (tree.ident s text) y) e h) in
       labeled_rule r.word s y m r.reads_word (name_is_name k text s c m r g.0) i (narrow (in_breakable k) (labelled_item (after m)) y (after m) d (quiet_as k x (tree.labeled (spanned c d) (tree.ident s text) y) e o) t g.1)
       (e ∙ ap (λ v. tree.labeled (spanned c d) (tree.ident s v) y) r.is_text)
-  form_narrows k at x c d o (statements.break_rule y m i r g e) h = break_rule y m i (target_narrows r (supported_as x (tree.break (spanned c d) y) e h)) g e
-  form_narrows k at x c d o (statements.continue_rule y m i r g e) h = continue_rule y m i (target_narrows r (supported_as x (tree.continue (spanned c d) y) e h)) g e
+  form_narrows k at x c d o (statements.break_rule y m i r g e) h = break_rule y m i (target_narrows r (supported_as _ x (tree.break (spanned c d) y) e h)) g e
+  form_narrows k at x c d o (statements.continue_rule y m i r g e) h = continue_rule y m i (target_narrows r (supported_as _ x (tree.continue (spanned c d) y) e h)) g e
   form_narrows k at x c d o (statements.if_statement_rule r) h = if_statement_rule (if_narrows o r h)
   form_narrows k at x c d o (statements.switch_rule y xs m l i r j s a b t e) h =
-      let g = and_yes (supported y) _ (supported_as x (tree.switch (spanned c d) y (listed xs)) e h) in
+      let g = and_yes (supported_in k.flags.module y) _ (supported_as _ x (tree.switch (spanned c d) y (listed xs)) e h) in
       switch_rule y xs m l i (head_narrows r g.0) j (cases_narrow (in_breakable k) false xs (after m) l (quiet_last k (notes y) _ (quiet_as k x (tree.switch (spanned c d) y (listed xs)) e o)) s a g.1) b t e
-  form_narrows k at x c d o (statements.throw_rule y m i b r g e) h = throw_rule y m i b (r, supported_as x (tree.throw (spanned c d) y) e h) g e
+  form_narrows k at x c d o (statements.throw_rule y m i b r g e) h = throw_rule y m i b (r, supported_as _ x (tree.throw (spanned c d) y) e h) g e
   form_narrows k at x c d o (statements.try_rule y z w m l i r s t a e) h =
-      let g = and_yes (supported y) _ (supported_as x (tree.try (spanned c d) y z w) e h) in
-      let f = and_yes (supported z) _ g.1 in
+      let g = and_yes (supported_in k.flags.module y) _ (supported_as _ x (tree.try (spanned c d) y z w) e h) in
+      let f = and_yes (supported_in k.flags.module z) _ g.1 in
       let q = quiet_as k x (tree.try (spanned c d) y z w) e o in
       let b = quiet_first k (notes y ++ notes z) (notes w) q in
       try_rule y z w m l i (block_narrows (quiet_first k (notes y) (notes z) b) r g.0) (catch_narrows (quiet_last k (notes y) (notes z) b) s f.0)
       (finally_narrows (quiet_last k (notes y ++ notes z) (notes w) q) t f.1) a e
   form_narrows k at x c d o (statements.while_rule y z m i r s e) h =
-      let g = and_yes (supported y) _ (supported_as x (tree.while (spanned c d) y z) e h) in
+      let g = and_yes (supported_in k.flags.module y) _ (supported_as _ x (tree.while (spanned c d) y z) e h) in
       while_rule y z m i (head_narrows r g.0) (narrow (in_loop k) sub_statement z m d (quiet_last k (notes y) (notes z) (quiet_as k x (tree.while (spanned c d) y z) e o)) s g.1) e
   form_narrows k at x c d o (statements.do_while_rule y z m l i s j r t e) h =
-      let g = and_yes (supported y) _ (supported_as x (tree.do_while (spanned c d) y z) e h) in
+      let g = and_yes (supported_in k.flags.module y) _ (supported_as _ x (tree.do_while (spanned c d) y z) e h) in
       do_while_rule y z m l i (narrow (in_loop k) sub_statement z (after c) m (quiet_first k (notes z) (notes y) (quiet_as k x (tree.do_while (spanned c d) y z) e o)) s g.1) j (head_narrows r g.0) t e
   form_narrows k at x c d o (statements.for_rule a b f y l m p i j r q s t u v w e) h =
-      let g = and_yes (supported a) _ (supported_as x (tree.for (spanned c d) a b f y) e h) in
-      let z = and_yes (supported b) _ g.1 in
-      let r' = and_yes (supported f) _ z.1 in
+      let g = and_yes (supported_in k.flags.module a) _ (supported_as _ x (tree.for (spanned c d) a b f y) e h) in
+      let z = and_yes (supported_in k.flags.module b) _ g.1 in
+      let r' = and_yes (supported_in k.flags.module f) _ z.1 in
       let o' = quiet_last k (notes a ++ notes b ++ notes f) (notes y) (quiet_as k x (tree.for (spanned c d) a b f y) e o) in
       for_rule a b f y l m p i j (init_narrows n r g.0) q (part_narrows n s z.0) t (part_narrows n u r'.0) v (narrow (in_loop k) sub_statement y (after p) d o' w r'.1) e
   form_narrows k at x c d o (statements.for_in_rule a b y l m i j r q s t u e) h =
-      let g = and_yes (supported a) _ (supported_as x (tree.for_in (spanned c d) a b y) e h) in
-      let f = and_yes (supported b) _ g.1 in
+      let g = and_yes (supported_in k.flags.module a) _ (supported_as _ x (tree.for_in (spanned c d) a b y) e h) in
+      let f = and_yes (supported_in k.flags.module b) _ g.1 in
       let o' = quiet_last k (notes a ++ notes b) (notes y) (quiet_as k x (tree.for_in (spanned c d) a b y) e o) in
       for_in_rule a b y l m i j (left_narrows n r g.0) q (s, f.0) t (narrow (in_loop k) sub_statement y (after m) d o' u f.1) e
   form_narrows k at x c d o (statements.for_of_rule w a b y l m p i j q r t s u v e) h =
-      let g = and_yes (not (w && is_bare_async a)) _ (supported_as x (tree.for_of (spanned c d) w a b y) e h) in
-      let f = and_yes (supported a) _ g.1 in
-      let f' = and_yes (supported b) _ f.1 in
+      let g = and_yes (not (w && is_bare_async a)) _ (supported_as _ x (tree.for_of (spanned c d) w a b y) e h) in
+      let f = and_yes (supported_in k.flags.module a) _ g.1 in
+      let f' = and_yes (supported_in k.flags.module b) _ f.1 in
       let z = of_left_narrows n w r f.0 in
       for_of_rule w a b y l m p i j q z.0 t (no_async_of w a m g.0 z.1) g.0 (s, f'.0) u
       (narrow (in_loop k) sub_statement y (after p) d (quiet_last k (notes a ++ notes b) (notes y) (quiet_as k x (tree.for_of (spanned c d) w a b y) e o)) v f'.1) e
   form_narrows k at x c d o (statements.expr_rule y m i r l g e) h =
       let q = quiet_last k (notes y) (statement_note y) (quiet_as k x (tree.expr_stmt (spanned c d) y) e o) in
-      expr_rule y m i (r, supported_as x (tree.expr_stmt (spanned c d) y) e h) l (unnamed k.flags.module _ _ q) g e
-  form_narrows k at x c d o (statements.import_expr_rule y m i r g e) h = import_rule y m i (r, supported_as x (tree.expr_stmt (spanned c d) y) e h) g e
+      expr_rule y m i (r, supported_as _ x (tree.expr_stmt (spanned c d) y) e h) l (unnamed k.flags.module _ _ q) g e
+  form_narrows k at x c d o (statements.import_expr_rule y m i r g e) h = import_rule y m i (r, supported_as _ x (tree.expr_stmt (spanned c d) y) e h) g e
 
 -- a statement that has no notes where the code is a module's
-pub stmt_narrows : (n : ℕ) (k : Code) (at : Position) (x : Tree) (c d : Place) → Quiet k (notes x) → Reads n (stmt_goal k at x c d) → supported x ≡ true → ReadsStmt n k at x c d
+pub stmt_narrows : (n : ℕ) (k : Code) (at : Position) (x : Tree) (c d : Place) → Quiet k (notes x) → Reads n (stmt_goal k at x c d) → supported_in k.flags.module x ≡ true → ReadsStmt n k at x c d
 stmt_narrows zero k at x c d o r h = absurd r
 stmt_narrows (suc n) k at x c d o r h = form_narrows n (stmt_narrows n) k at x c d o r.1 h
 
@@ -387,7 +385,7 @@ script_narrows n k x c d (r, notes) h = record {
   first = r.first;
   reads_shebang = shebang_narrows c r.first r.shebang r.reads_shebang;
   items = r.items;
-  reads_items = items_narrow n (stmt_narrows n) (script_code k) true top_item r.items r.first d never_module r.reads_items (supported_as x (tree.script (spanned c d) (listed r.items) r.shebang) r.is h);
+  reads_items = items_narrow n (stmt_narrows n) (script_code k) true top_item r.items r.first d never_module r.reads_items (supported_as _ x (tree.script (spanned c d) (listed r.items) r.shebang) r.is h);
   whole = r.to_the_end;
   is = r.is;
 }

@@ -18,7 +18,7 @@ use Rattle.swc_ecma_parser_grammar.specs.Looks.{sees}
 use Rattle.swc_ecma_parser_grammar.specs.Names.{Code}
 use Rattle.swc_ecma_parser_grammar.specs.Notes.{notes, all_notes, statement_note}
 use Rattle.swc_ecma_parser_grammar.specs.Reads.{with_in, directed, directs_on, nested_item, DeclaratorRule, plain_rule, initialized_rule, ReadsSeparated, ReadsItems, StmtRule, block_rule, empty_rule, debugger_rule, variables_rule, if_statement_rule, TargetRule, no_target_rule, target_rule, OperandRule, no_operand_rule, operand_rule, break_rule, continue_rule, return_rule, labeled_rule, HeadVariables, InitRule, no_init_rule, init_variables_rule, init_expression_rule, LeftRule, declared_rule, left_target_rule, for_in_rule, for_of_rule, head_code, PartRule, no_part_rule, part_rule, for_rule, CaseRule, case_clause_rule, default_clause_rule, ReadsCases, switch_rule, throw_rule, try_rule, with_rule, while_rule, do_while_rule, expr_rule, import_rule, ReadsBlock, CatchRule, no_catch_rule, catch_rule, catch_parameter_rule, FinallyRule, no_finally_rule, finally_rule, ReadsHead, IfRule, if_rule, ElseRule, no_else_rule, else_rule, else_if_rule, ReadsBraced, function_rule}
-use Rattle.swc_ecma_parser_grammar.specs.Supported.{supported, all_supported}
+use Rattle.swc_ecma_parser_grammar.specs.Supported.{supported, supported_in, all_supported_in}
 use Rattle.swc_ecma_parser_grammar.specs.ReadsSupported.{ReadsClass, ReadsPat, ReadsTarget, ReadsStmt, ReadsParams}
 use Rattle.swc_ecma_parser_grammar.specs.language.Goals.{binding, assigning, expression, assignment, stmt_goal}
 use Rattle.swc_ecma_parser_grammar.specs.language.Contexts.{in_module, in_loop, in_breakable}
@@ -27,57 +27,58 @@ use Rattle.swc_ecma_parser_grammar.specs.language.Reads.{Reads}
 use Rattle.swc_ecma_parser_grammar.specs.language.Programs.{is_module_program, is_module_code}
 use Rattle.swc_ecma_parser_grammar.proofs.Unnoted.{joined, expr_unnoted, pattern_unnoted, import_unnoted, parameter_unnoted}
 use Rattle.swc_ecma_parser_grammar.proofs.Widens.{stmt_widens, stmt_supported}
-use Rattle.swc_ecma_parser_grammar.proofs.Narrows.{strict_module, stmt_narrows}
+use Rattle.swc_ecma_parser_grammar.proofs.SupportedIn.{strict_module, head_module, lower, lift_in}
+use Rattle.swc_ecma_parser_grammar.proofs.Narrows.{stmt_narrows}
 
 -- ---- parts
 
-declarator_unnoted : (n : ℕ) (k : Code) (loop : Bool) (word : VarDeclKind) (x : Tree) (c d : Place) → DeclaratorRule (ReadsClass n assignment) (ReadsPat n) k loop word x c d → notes x ≡ []
-declarator_unnoted n k loop word x c d (plain_rule p r h b e) = ap notes e ∙ joined (notes p) [] (pattern_unnoted n binding (with_in k) p c d r.0 r.1) refl
-declarator_unnoted n k loop word x c d (initialized_rule p y m r h s e) =
-    ap notes e ∙ joined (notes p) (notes y) (pattern_unnoted n binding (with_in k) p c m r.0 r.1) (expr_unnoted n assignment k y (after m) d s.0 s.1)
+declarator_unnoted : (n : ℕ) (k : Code) (loop : Bool) (word : VarDeclKind) (x : Tree) (c d : Place) → k.flags.module ≡ true → DeclaratorRule (ReadsClass n assignment) (ReadsPat n) k loop word x c d → notes x ≡ []
+declarator_unnoted n k loop word x c d o (plain_rule p r h b e) = ap notes e ∙ joined (notes p) [] (pattern_unnoted n binding (with_in k) p c d o r.0 r.1) refl
+declarator_unnoted n k loop word x c d o (initialized_rule p y m r h s e) =
+    ap notes e ∙ joined (notes p) (notes y) (pattern_unnoted n binding (with_in k) p c m o r.0 r.1) (expr_unnoted n assignment k y (after m) d o s.0 s.1)
 
 declarators_unnoted : (n : ℕ) (k : Code) (loop : Bool) (word : VarDeclKind) (xs : List Tree) (c d : Place)
-    → ReadsSeparated (DeclaratorRule (ReadsClass n assignment) (ReadsPat n) k loop word) xs c d → all_notes (trees xs) ≡ []
-declarators_unnoted n k loop word [] c d r = refl
-declarators_unnoted n k loop word (x ∷ []) c d (r, e) = joined (notes x) [] (declarator_unnoted n k loop word x c d r) refl
-declarators_unnoted n k loop word (x ∷ y ∷ ys) c d (m, r, e, rs) =
-    joined (notes x) _ (declarator_unnoted n k loop word x c m r) (declarators_unnoted n k loop word (y ∷ ys) (after m) d rs)
+    → k.flags.module ≡ true → ReadsSeparated (DeclaratorRule (ReadsClass n assignment) (ReadsPat n) k loop word) xs c d → all_notes (trees xs) ≡ []
+declarators_unnoted n k loop word [] c d o r = refl
+declarators_unnoted n k loop word (x ∷ []) c d o (r, e) = joined (notes x) [] (declarator_unnoted n k loop word x c d o r) refl
+declarators_unnoted n k loop word (x ∷ y ∷ ys) c d o (m, r, e, rs) =
+    joined (notes x) _ (declarator_unnoted n k loop word x c m o r) (declarators_unnoted n k loop word (y ∷ ys) (after m) d o rs)
 
 target_unnoted : {k : Code} {x : Tree} {c d : Place} → TargetRule k x c d → notes x ≡ []
 target_unnoted (no_target_rule h g e) = ap notes e
 target_unnoted (target_rule w s h r f e) = ap notes e
 
-operand_unnoted : (n : ℕ) {k : Code} {x : Tree} {c d : Place} → OperandRule (ReadsClass n) k x c d → notes x ≡ []
-operand_unnoted n (no_operand_rule h g e) = ap notes e
-operand_unnoted n {k = k} {x = x} {c = c} {d = d} (operand_rule h r) = expr_unnoted n expression (with_in k) x c d r.0 r.1
+operand_unnoted : (n : ℕ) {k : Code} {x : Tree} {c d : Place} → k.flags.module ≡ true → OperandRule (ReadsClass n) k x c d → notes x ≡ []
+operand_unnoted n o (no_operand_rule h g e) = ap notes e
+operand_unnoted n {k = k} {x = x} {c = c} {d = d} o (operand_rule h r) = expr_unnoted n expression (with_in k) x c d o r.0 r.1
 
-head_variables_unnoted : (n : ℕ) {k : Code} {x : Tree} {c d : Place} → HeadVariables (ReadsClass n) (ReadsPat n) k x c d → notes x ≡ []
-head_variables_unnoted n {k = k} {c = c} {d = d} r = ap notes r.is ∙ declarators_unnoted n (head_code r.word k) true r.word r.declarators (after c) d r.reads
+head_variables_unnoted : (n : ℕ) {k : Code} {x : Tree} {c d : Place} → k.flags.module ≡ true → HeadVariables (ReadsClass n) (ReadsPat n) k x c d → notes x ≡ []
+head_variables_unnoted n {k = k} {c = c} {d = d} o r = ap notes r.is ∙ declarators_unnoted n (head_code r.word k) true r.word r.declarators (after c) d (head_module r.word k ∙ o) r.reads
 
-init_unnoted : (n : ℕ) {k : Code} {x : Tree} {c d : Place} → InitRule (ReadsClass n) (ReadsPat n) k x c d → notes x ≡ []
-init_unnoted n (no_init_rule h g e) = ap notes e
-init_unnoted n (init_variables_rule r) = head_variables_unnoted n r
-init_unnoted n {x = x} {c = c} {d = d} (init_expression_rule h r) = expr_unnoted n expression _ x c d r.0 r.1
+init_unnoted : (n : ℕ) {k : Code} {x : Tree} {c d : Place} → k.flags.module ≡ true → InitRule (ReadsClass n) (ReadsPat n) k x c d → notes x ≡ []
+init_unnoted n o (no_init_rule h g e) = ap notes e
+init_unnoted n o (init_variables_rule r) = head_variables_unnoted n o r
+init_unnoted n {x = x} {c = c} {d = d} o (init_expression_rule h r) = expr_unnoted n expression _ x c d o r.0 r.1
 
-left_unnoted : (n : ℕ) {k : Code} {x : Tree} {c d : Place} → LeftRule (ReadsClass n) (ReadsPat n) (ReadsTarget n) k x c d → notes x ≡ []
-left_unnoted n (declared_rule r) = head_variables_unnoted n r
-left_unnoted n {x = x} {c = c} {d = d} (left_target_rule h r) = pattern_unnoted n assigning _ x c d r.0 r.1
+left_unnoted : (n : ℕ) {k : Code} {x : Tree} {c d : Place} → k.flags.module ≡ true → LeftRule (ReadsClass n) (ReadsPat n) (ReadsTarget n) k x c d → notes x ≡ []
+left_unnoted n o (declared_rule r) = head_variables_unnoted n o r
+left_unnoted n {x = x} {c = c} {d = d} o (left_target_rule h r) = pattern_unnoted n assigning _ x c d o r.0 r.1
 
-part_unnoted : (n : ℕ) {k : Code} {x : Tree} {c d : Place} → PartRule (ReadsClass n) k x c d → notes x ≡ []
-part_unnoted n (no_part_rule g e) = ap notes e
-part_unnoted n {k = k} {x = x} {c = c} {d = d} (part_rule r) = expr_unnoted n expression (with_in k) x c d r.0 r.1
+part_unnoted : (n : ℕ) {k : Code} {x : Tree} {c d : Place} → k.flags.module ≡ true → PartRule (ReadsClass n) k x c d → notes x ≡ []
+part_unnoted n o (no_part_rule g e) = ap notes e
+part_unnoted n {k = k} {x = x} {c = c} {d = d} o (part_rule r) = expr_unnoted n expression (with_in k) x c d o r.0 r.1
 
-head_unnoted : (n : ℕ) {k : Code} {x : Tree} {c d : Place} → ReadsHead (ReadsClass n) k x c d → notes x ≡ []
-head_unnoted n {k = k} {x = x} {c = c} r = expr_unnoted n expression (with_in k) x (after c) r.close r.reads.0 r.reads.1
+head_unnoted : (n : ℕ) {k : Code} {x : Tree} {c d : Place} → k.flags.module ≡ true → ReadsHead (ReadsClass n) k x c d → notes x ≡ []
+head_unnoted n {k = k} {x = x} {c = c} o r = expr_unnoted n expression (with_in k) x (after c) r.close o r.reads.0 r.reads.1
 
-patterns_unnoted : (n : ℕ) (k : Code) (ps : List Tree) (c d : Place) → ReadsListed true (PatternItemRule (Reads n) binding k) ps c d → all_supported (trees ps) ≡ true → notes (parameters ps) ≡ []
-patterns_unnoted n k [] c d r h = refl
-patterns_unnoted n k (x ∷ []) c d (m, r, l) h = joined (notes x) [] (parameter_unnoted n k x c m r (and_yes (supported x) _ h).0) refl
-patterns_unnoted n k (x ∷ y ∷ ys) c d (m, r, b, o, rs) h =
-    let g = and_yes (supported x) _ h in joined (notes x) _ (parameter_unnoted n k x c m r g.0) (patterns_unnoted n k (y ∷ ys) (after m) d rs g.1)
+patterns_unnoted : (n : ℕ) (k : Code) (ps : List Tree) (c d : Place) → k.flags.module ≡ true → ReadsListed true (PatternItemRule (Reads n) binding k) ps c d → all_supported_in k.flags.module (trees ps) ≡ true → notes (parameters ps) ≡ []
+patterns_unnoted n k [] c d o r h = refl
+patterns_unnoted n k (x ∷ []) c d o (m, r, l) h = joined (notes x) [] (parameter_unnoted n k x c m o r (and_yes (supported_in k.flags.module x) _ h).0) refl
+patterns_unnoted n k (x ∷ y ∷ ys) c d o (m, r, b, e, rs) h =
+    let g = and_yes (supported_in k.flags.module x) _ h in joined (notes x) _ (parameter_unnoted n k x c m o r g.0) (patterns_unnoted n k (y ∷ ys) (after m) d o rs g.1)
 
-params_unnoted : (n : ℕ) {k : Code} (ps : List Tree) {c d : Place} → ReadsParams n k ps c d → notes (parameters ps) ≡ []
-params_unnoted n {k = k} ps {c = c} r = patterns_unnoted n (with_in k) ps (after c) r.0.close r.0.reads_patterns r.1
+pub params_unnoted : (n : ℕ) {k : Code} (ps : List Tree) {c d : Place} → k.flags.module ≡ true → ReadsParams n k ps c d → notes (parameters ps) ≡ []
+params_unnoted n {k = k} ps {c = c} o r = patterns_unnoted n (with_in k) ps (after c) r.0.close o r.0.reads_patterns r.1
 
 -- ---- statements of module code
 
@@ -94,7 +95,7 @@ module _ (n : ℕ) (small : (k : Code) (at : Position) (x : Tree) (c d : Place) 
   items_unnoted k directives at (x ∷ xs) c d o (m, r, rs) =
       joined (notes x) _ (small k at x c m o r) (items_unnoted (directed k directives x) (directs_on directives x) at xs m d (strict_module (directives && is_use_strict x) k ∙ o) rs)
 
-  braced_unnoted : (directives : Bool) {k : Code} {x : Tree} {c d : Place} → k.flags.module ≡ true → ReadsBraced (ReadsStmt n) directives k x c d → notes x ≡ []
+  pub braced_unnoted : (directives : Bool) {k : Code} {x : Tree} {c d : Place} → k.flags.module ≡ true → ReadsBraced (ReadsStmt n) directives k x c d → notes x ≡ []
   braced_unnoted directives {k = k} {c = c} o r = ap notes r.is ∙ items_unnoted k directives nested_item r.items (after c) r.close o r.reads_items
 
   block_unnoted : {k : Code} {x : Tree} {c d : Place} → k.flags.module ≡ true → ReadsBlock (ReadsStmt n) k x c d → notes x ≡ []
@@ -102,7 +103,7 @@ module _ (n : ℕ) (small : (k : Code) (at : Position) (x : Tree) (c d : Place) 
 
   case_unnoted : {k : Code} {b : Bool} {x : Tree} {c d : Place} → k.flags.module ≡ true → CaseRule (ReadsStmt n) (ReadsClass n) k b x c d → notes x ≡ []
   case_unnoted {k = k} {c = c} {d = d} o (case_clause_rule test xs m h r i s e) =
-      ap notes e ∙ joined (notes test) _ (expr_unnoted n expression (with_in k) test (after c) m r.0 r.1) (items_unnoted k false nested_item xs (after m) d o s)
+      ap notes e ∙ joined (notes test) _ (expr_unnoted n expression (with_in k) test (after c) m o r.0 r.1) (items_unnoted k false nested_item xs (after m) d o s)
   case_unnoted {k = k} {c = c} {d = d} o (default_clause_rule xs l h i s e) = ap notes e ∙ items_unnoted k false nested_item xs (after (after c)) d o s
 
   cases_unnoted : (k : Code) (b : Bool) (xs : List Tree) (c d : Place) → k.flags.module ≡ true → ReadsCases (ReadsStmt n) (ReadsClass n) k b xs c d → all_notes (trees xs) ≡ []
@@ -113,7 +114,7 @@ module _ (n : ℕ) (small : (k : Code) (at : Position) (x : Tree) (c d : Place) 
   catch_unnoted o (no_catch_rule h i e) = ap notes e
   catch_unnoted o (catch_rule body h r e) = ap notes e ∙ block_unnoted o r
   catch_unnoted {c = c} o (catch_parameter_rule p body m h i r j s e) =
-      ap notes e ∙ joined (notes p) (notes body) (pattern_unnoted n binding _ p (after (after c)) m r.0 r.1) (block_unnoted o s)
+      ap notes e ∙ joined (notes p) (notes body) (pattern_unnoted n binding _ p (after (after c)) m o r.0 r.1) (block_unnoted o s)
 
   finally_unnoted : {k : Code} {x : Tree} {c d : Place} → k.flags.module ≡ true → FinallyRule (ReadsStmt n) k x c d → notes x ≡ []
   finally_unnoted o (no_finally_rule h i e) = ap notes e
@@ -122,7 +123,7 @@ module _ (n : ℕ) (small : (k : Code) (at : Position) (x : Tree) (c d : Place) 
   mutual
     if_unnoted : {k : Code} {x : Tree} {c d : Place} → k.flags.module ≡ true → IfRule (ReadsStmt n) (ReadsClass n) k x c d → notes x ≡ []
     if_unnoted {k = k} o (if_rule test cons alt m i h r s t e) =
-        ap notes e ∙ joined (notes test ++ notes cons) (notes alt) (joined (notes test) (notes cons) (head_unnoted n r) (small k sub_statement cons m i o s)) (else_unnoted o t)
+        ap notes e ∙ joined (notes test ++ notes cons) (notes alt) (joined (notes test) (notes cons) (head_unnoted n o r) (small k sub_statement cons m i o s)) (else_unnoted o t)
 
     else_unnoted : {k : Code} {x : Tree} {c d : Place} → k.flags.module ≡ true → ElseRule (ReadsStmt n) (ReadsClass n) k x c d → notes x ≡ []
     else_unnoted o (no_else_rule h i e) = ap notes e
@@ -131,38 +132,38 @@ module _ (n : ℕ) (small : (k : Code) (at : Position) (x : Tree) (c d : Place) 
 
   rule_unnoted : (k : Code) (at : Position) (x : Tree) (c d : Place) → k.flags.module ≡ true → StmtRule (ReadsStmt n) (ReadsClass n) (ReadsPat n) (ReadsTarget n) (ReadsParams n) k at x c d → notes x ≡ []
   rule_unnoted k at x c d o (function_rule a r) =
-      ap notes r.is ∙ joined (notes (parameters r.patterns)) (notes r.body) (params_unnoted n r.patterns r.reads_parameters) (braced_unnoted true o r.reads_body)
+      ap notes r.is ∙ joined (notes (parameters r.patterns)) (notes r.body) (params_unnoted n r.patterns o r.reads_parameters) (braced_unnoted true o r.reads_body)
   rule_unnoted k at x c d o (block_rule r) = block_unnoted o r
   rule_unnoted k at x c d o (empty_rule h g e) = ap notes e
   rule_unnoted k at x c d o (debugger_rule h g e) = ap notes e
-  rule_unnoted k at x c d o (variables_rule word xs m a h r g e) = ap notes e ∙ declarators_unnoted n (with_in k) false word xs (after c) m r
+  rule_unnoted k at x c d o (variables_rule word xs m a h r g e) = ap notes e ∙ declarators_unnoted n (with_in k) false word xs (after c) m o r
   rule_unnoted k at x c d o (if_statement_rule r) = if_unnoted o r
-  rule_unnoted k at x c d o (switch_rule y xs m i h r j s g t e) = ap notes e ∙ joined (notes y) _ (head_unnoted n r) (cases_unnoted (in_breakable k) false xs (after m) i o s)
+  rule_unnoted k at x c d o (switch_rule y xs m i h r j s g t e) = ap notes e ∙ joined (notes y) _ (head_unnoted n o r) (cases_unnoted (in_breakable k) false xs (after m) i o s)
   rule_unnoted k at x c d o (labeled_rule w s y m r f h t e) = ap notes e ∙ small (in_breakable k) (labelled_item (after m)) y (after m) d o t
   rule_unnoted k at x c d o (break_rule y m h r g e) = ap notes e ∙ target_unnoted r
   rule_unnoted k at x c d o (continue_rule y m h r g e) = ap notes e ∙ target_unnoted r
-  rule_unnoted k at x c d o (return_rule y m h r g e) = ap notes e ∙ operand_unnoted n r
+  rule_unnoted k at x c d o (return_rule y m h r g e) = ap notes e ∙ operand_unnoted n o r
   rule_unnoted k at x c d o (for_rule a b f y l m i h g r j s p t q u e) =
       ap notes e ∙ joined (notes a ++ notes b ++ notes f) (notes y)
-      (joined (notes a ++ notes b) (notes f) (joined (notes a) (notes b) (init_unnoted n r) (part_unnoted n s)) (part_unnoted n t)) (small (in_loop k) sub_statement y (after i) d o u)
+      (joined (notes a ++ notes b) (notes f) (joined (notes a) (notes b) (init_unnoted n o r) (part_unnoted n o s)) (part_unnoted n o t)) (small (in_loop k) sub_statement y (after i) d o u)
   rule_unnoted k at x c d o (for_in_rule a b y m i h g r j s p t e) =
-      ap notes e ∙ joined (notes a ++ notes b) (notes y) (joined (notes a) (notes b) (left_unnoted n r) (expr_unnoted n expression (with_in k) b (after m) i s.0 s.1))
+      ap notes e ∙ joined (notes a ++ notes b) (notes y) (joined (notes a) (notes b) (left_unnoted n o r) (expr_unnoted n expression (with_in k) b (after m) i o s.0 s.1))
       (small (in_loop k) sub_statement y (after i) d o t)
   rule_unnoted k at x c d o (for_of_rule w a b y l m i h v g r j z q s p t e) =
-      ap notes e ∙ joined (notes a ++ notes b) (notes y) (joined (notes a) (notes b) (left_unnoted n r) (expr_unnoted n assignment (with_in k) b (after m) i s.0 s.1))
+      ap notes e ∙ joined (notes a ++ notes b) (notes y) (joined (notes a) (notes b) (left_unnoted n o r) (expr_unnoted n assignment (with_in k) b (after m) i o s.0 s.1))
       (small (in_loop k) sub_statement y (after i) d o t)
-  rule_unnoted k at x c d o (throw_rule y m h b r g e) = ap notes e ∙ expr_unnoted n expression (with_in k) y (after c) m r.0 r.1
+  rule_unnoted k at x c d o (throw_rule y m h b r g e) = ap notes e ∙ expr_unnoted n expression (with_in k) y (after c) m o r.0 r.1
   rule_unnoted k at x c d o (try_rule y z w m i h r s t a e) =
       ap notes e ∙ joined (notes y ++ notes z) (notes w) (joined (notes y) (notes z) (block_unnoted o r) (catch_unnoted o s)) (finally_unnoted o t)
   rule_unnoted k at x c d o (with_rule y z m h p r s e) = absurd (true≢false (sym o ∙ p))
-  rule_unnoted k at x c d o (while_rule y z m h r s e) = ap notes e ∙ joined (notes y) (notes z) (head_unnoted n r) (small (in_loop k) sub_statement z m d o s)
-  rule_unnoted k at x c d o (do_while_rule y z m i h s j r g e) = ap notes e ∙ joined (notes z) (notes y) (small (in_loop k) sub_statement z (after c) m o s) (head_unnoted n r)
+  rule_unnoted k at x c d o (while_rule y z m h r s e) = ap notes e ∙ joined (notes y) (notes z) (head_unnoted n o r) (small (in_loop k) sub_statement z m d o s)
+  rule_unnoted k at x c d o (do_while_rule y z m i h s j r g e) = ap notes e ∙ joined (notes z) (notes y) (small (in_loop k) sub_statement z (after c) m o s) (head_unnoted n o r)
   rule_unnoted k at x c d o (expr_rule y m h r a b g e) =
-      ap notes e ∙ joined (notes y) (statement_note y) (expr_unnoted n expression (with_in k) y c m r.0 r.1) (bare_unnoted k.flags.module _ _ b o)
+      ap notes e ∙ joined (notes y) (statement_note y) (expr_unnoted n expression (with_in k) y c m o r.0 r.1) (bare_unnoted k.flags.module _ _ b o)
   rule_unnoted k at x c d o (import_rule y m h r g e) =
-      ap notes e ∙ joined (notes y) (statement_note y) (expr_unnoted n expression (with_in k) y c m r.0 r.1) (import_unnoted n (with_in k) y c m r h)
+      ap notes e ∙ joined (notes y) (statement_note y) (expr_unnoted n expression (with_in k) y c m o r.0 r.1) (import_unnoted n (with_in k) y c m r h)
 
-stmt_unnoted : (n : ℕ) (k : Code) (at : Position) (x : Tree) (c d : Place) → k.flags.module ≡ true → ReadsStmt n k at x c d → notes x ≡ []
+pub stmt_unnoted : (n : ℕ) (k : Code) (at : Position) (x : Tree) (c d : Place) → k.flags.module ≡ true → ReadsStmt n k at x c d → notes x ≡ []
 stmt_unnoted zero k at x c d o r = absurd r
 stmt_unnoted (suc n) k at x c d o r = rule_unnoted n (stmt_unnoted n) k at x c d o r
 
@@ -210,8 +211,8 @@ ReadsStatement n k at x c d = Reads n (stmt_goal k at x c d) × (is_module_code 
 
 pub statement_widens : (n : ℕ) (k : Code) (at : Position) (x : Tree) (c d : Place) → ReadsStmt n k at x c d → ReadsStatement n k at x c d × (supported x ≡ true)
 statement_widens n k at x c d r =
-    let h = stmt_supported n k at x c d r in
+    let h = lower k.flags.module x (stmt_supported n k at x c d r) in
     ((stmt_widens n k at x c d r, λ e. stmt_unnoted n k at x c d (was_module k x h e) r), h)
 
 pub statement_narrows : (n : ℕ) (k : Code) (at : Position) (x : Tree) (c d : Place) → ReadsStatement n k at x c d → supported x ≡ true → ReadsStmt n k at x c d
-statement_narrows n k at x c d r h = stmt_narrows n k at x c d (λ o. r.1 (stays_module k x o)) r.0 h
+statement_narrows n k at x c d r h = let q : k.flags.module ≡ true → notes x ≡ [] = λ o. r.1 (stays_module k x o) in stmt_narrows n k at x c d q r.0 (lift_in k.flags.module x h q)

@@ -1,6 +1,6 @@
 -- With which tokens a supported expression begins: neither with `await`, nor, but for `{` and `import`, with what begins or ends
 -- a statement.
-use Rattle.std.proofs.Common.{◌≡◌, ℕ, zero, suc, Bool, true, false, ◌∷◌, Some, refl, sym, ◌∙◌, ap}
+use Rattle.std.proofs.Common.{◌≡◌, ◌⊎◌, inl, inr, ℕ, zero, suc, Bool, true, false, [], ◌∷◌, Some, refl, sym, ◌∙◌, ap}
 use Rattle.std.specs.Prelude.{not, codes}
 use Rattle.std.specs.Str.{bytes_eq}
 use Rattle.swc_ecma_parser_common.specs.declared.span.Span.{Span}
@@ -24,28 +24,30 @@ use Rattle.swc_ecma_parser_model.specs.Forms.{is_pattern_target}
 use Rattle.swc_ecma_parser_grammar.specs.Looks.{kind_at, sees, spanned, same_kind}
 use Rattle.swc_ecma_parser_grammar.specs.Names.{Code, is_reserved, is_name, is_identifier, is_clean_name}
 use Rattle.swc_ecma_parser_grammar.specs.Reads.{ReadsToken}
-use Rattle.swc_ecma_parser_grammar.specs.Supported.{supported}
+use Rattle.swc_ecma_parser_grammar.specs.Supported.{supported_in}
 use Rattle.swc_ecma_parser_grammar.specs.ReadsSupported.{ReadsClass}
 use Rattle.swc_ecma_parser_grammar.specs.language.Goals.{Goal, expression, assigning}
 use Rattle.swc_ecma_parser_grammar.specs.language.Patterns as patterns
 use Rattle.swc_ecma_parser_grammar.specs.language.Operators.{unary_operator, update_operator}
 use Rattle.swc_ecma_parser_grammar.specs.language.Parts.{ReadsName}
+use Rattle.swc_ecma_parser_grammar.specs.language.Functions as functions
 use Rattle.swc_ecma_parser_grammar.specs.language.LeftSides as sides
 use Rattle.swc_ecma_parser_grammar.specs.language.LeftSides.{LeftSideRule, primary_rule, import_meta_rule, member_rule, super_property_rule, call_rule, super_call_rule, import_call_rule, new_rule, bare_new_rule}
 use Rattle.swc_ecma_parser_grammar.specs.language.Expressions as expressions
 use Rattle.swc_ecma_parser_grammar.specs.language.Expressions.{BinaryRule, single_rule, left_rule, power_rule}
 use Rattle.swc_ecma_parser_grammar.specs.language.Reads.{Reads}
 use Rattle.swc_ecma_parser_grammar.proofs.Tests.{and_yes, and_both}
+use Rattle.swc_ecma_parser_grammar.proofs.StatementBegins.{word_place}
 
 -- ---- trees that are supported
 
 -- no tree is of a form that is not supported and is supported
-pub refuted : {X : Type 0} (x : Tree) → supported x ≡ false → supported x ≡ true → X
-refuted x e h = cc
+pub refuted : {X : Type 0} (m : Bool) (x : Tree) → supported_in m x ≡ false → supported_in m x ≡ true → X
+refuted m x e h = cc
 
 -- the form of a tree that is supported is
-pub supported_as : (x y : Tree) → x ≡ y → supported x ≡ true → supported y ≡ true
-supported_as x y e h = sym (ap supported e) ∙ h
+pub supported_as : (m : Bool) (x y : Tree) → x ≡ y → supported_in m x ≡ true → supported_in m y ≡ true
+supported_as m x y e h = sym (ap (supported_in m) e) ∙ h
 
 -- ---- tokens
 
@@ -62,7 +64,6 @@ opens kind.Case = false
 opens kind.Default = false
 opens kind.Try = false
 opens kind.With = false
-opens kind.Function = false
 opens kind.While = false
 opens kind.Do = false
 opens kind.Break = false
@@ -87,7 +88,6 @@ word_opens f (word.Keyword keyword.Case) h = cc
 word_opens f (word.Keyword keyword.Default) h = cc
 word_opens f (word.Keyword keyword.Try) h = cc
 word_opens f (word.Keyword keyword.With) h = cc
-word_opens f (word.Keyword keyword.Function) h = cc
 word_opens f (word.Keyword keyword.While) h = cc
 word_opens f (word.Keyword keyword.Do) h = cc
 word_opens f (word.Keyword keyword.Break) h = cc
@@ -124,7 +124,6 @@ unary_opens kind.Case op h = cc
 unary_opens kind.Default op h = cc
 unary_opens kind.Try op h = cc
 unary_opens kind.With op h = cc
-unary_opens kind.Function op h = cc
 unary_opens kind.While op h = cc
 unary_opens kind.Do op h = cc
 unary_opens kind.Break op h = cc
@@ -149,7 +148,6 @@ update_opens kind.Case op h = cc
 update_opens kind.Default op h = cc
 update_opens kind.Try op h = cc
 update_opens kind.With op h = cc
-update_opens kind.Function op h = cc
 update_opens kind.While op h = cc
 update_opens kind.Do op h = cc
 update_opens kind.Break op h = cc
@@ -165,8 +163,19 @@ update_opens _ op h = refl
 -- ---- expressions
 
 module _ (In : Goal → Type 0) (k : Code) where
-  primary_opens : (x : Tree) (c d : Place) → sides.PrimaryRule In k x c d → supported x ≡ true → opens (kind_at c) ≡ true
-  primary_opens x c d (sides.name_rule text s r f e) h = name_opens k text s c d r (supported_as x (tree.ident s text) e h)
+  -- a function begins with its word, or with `async`
+  pub function_begins : {name y : Tree} (c : Place) {d : Place} → functions.FunctionRule In true k (listed []) name y c d → (kind_at c ≡ kind.Function) ⊎ (kind_at c ≡ kind.Ident)
+  function_begins c r = by_word r.reads_async
+    where
+      by_word : functions.AsyncWord r.is_async c r.word → (kind_at c ≡ kind.Function) ⊎ (kind_at c ≡ kind.Ident)
+      by_word (functions.not_async e h) = inl (ap kind_at (sym h) ∙ r.is_function)
+      by_word (functions.async_word e h g i) = inr (word_place (codes "async") c h)
+
+  function_opens : {name y : Tree} (c : Place) {d : Place} → functions.FunctionRule In true k (listed []) name y c d → opens (kind_at c) ≡ true
+  function_opens c r = elim (function_begins c r) [ inl e ↦ kind_opens c kind.Function e refl | inr e ↦ kind_opens c kind.Ident e refl ]
+
+  primary_opens : (x : Tree) (c d : Place) → sides.PrimaryRule In k x c d → supported_in k.flags.module x ≡ true → opens (kind_at c) ≡ true
+  primary_opens x c d (sides.name_rule text s r f e) h = name_opens k text s c d r (supported_as _ x (tree.ident s text) e h)
   primary_opens x c d (sides.string_rule value raw s r e) h = token_opens (token.Str value raw) s c d r refl
   primary_opens x c d (sides.true_rule s r e) h = token_opens (token.Word word.True) s c d r refl
   primary_opens x c d (sides.false_rule s r e) h = token_opens (token.Word word.False) s c d r refl
@@ -176,34 +185,34 @@ module _ (In : Goal → Type 0) (k : Code) where
   primary_opens x c d (sides.this_rule i n e) h = kind_opens c kind.This i refl
   primary_opens x c d (sides.array_rule xs m i r j n e) h = kind_opens c kind.LBracket i refl
   primary_opens x c d (sides.object_rule xs m i r j n e) h = kind_opens c kind.LBrace i refl
-  primary_opens x c d (sides.function_rule name y r e) h = refuted x (ap supported e) h
-  primary_opens x c d (sides.class_rule name y r e) h = refuted x (ap supported e) h
+  primary_opens x c d (sides.function_rule name y r e) h = function_opens c r
+  primary_opens x c d (sides.class_rule name y r e) h = refuted _ x (ap (supported_in k.flags.module) e) h
   primary_opens x c d (sides.paren_rule y m i r j n e) h = kind_opens c kind.LParen i refl
 
-  left_side_opens : {x : Tree} {c d : Place} → LeftSideRule In k x c d → supported x ≡ true → opens (kind_at c) ≡ true
+  left_side_opens : {x : Tree} {c d : Place} → LeftSideRule In k x c d → supported_in k.flags.module x ≡ true → opens (kind_at c) ≡ true
   left_side_opens {x = x} {c = c} {d = d} (primary_rule r) h = primary_opens x c d r h
   left_side_opens {c = c} (import_meta_rule i j w n m e) h = kind_opens c kind.Import i refl
   left_side_opens {x = x} {c = c} {d = d} (member_rule y p m r a e) h =
-      left_side_opens r (and_yes (supported y) _ (supported_as x (tree.member (spanned c d) y p) e h)).0
+      left_side_opens r (and_yes (supported_in k.flags.module y) _ (supported_as _ x (tree.member (spanned c d) y p) e h)).0
   left_side_opens {c = c} (super_property_rule p i a j e) h = kind_opens c kind.Super i refl
-  left_side_opens {x = x} {c = c} {d = d} (call_rule y z m r a e) h = left_side_opens r (and_yes (supported y) _ (supported_as x (tree.call (spanned c d) y z) e h)).0
+  left_side_opens {x = x} {c = c} {d = d} (call_rule y z m r a e) h = left_side_opens r (and_yes (supported_in k.flags.module y) _ (supported_as _ x (tree.call (spanned c d) y z) e h)).0
   left_side_opens {c = c} (super_call_rule z i a e) h = kind_opens c kind.Super i refl
   left_side_opens {c = c} (import_call_rule z i a e) h = kind_opens c kind.Import i refl
   left_side_opens {c = c} (new_rule y z m i r a e) h = kind_opens c kind.New i refl
   left_side_opens {c = c} (bare_new_rule y i r e) h = kind_opens c kind.New i refl
 
-  unary_rule_opens : (x : Tree) (c d : Place) → expressions.UnaryRule In k x c d → supported x ≡ true → opens (kind_at c) ≡ true
+  unary_rule_opens : (x : Tree) (c d : Place) → expressions.UnaryRule In k x c d → supported_in k.flags.module x ≡ true → opens (kind_at c) ≡ true
   unary_rule_opens x c d (expressions.operand_rule r) h = left_side_opens r.0 h
   unary_rule_opens x c d (expressions.unary_rule op y i r e) h = unary_opens (kind_at c) op i
   unary_rule_opens x c d (expressions.prefix_rule op y i r t e) h = update_opens (kind_at c) op i
-  unary_rule_opens x c d (expressions.postfix_rule op y m r t b i n e) h = left_side_opens r.0 (supported_as x (tree.update (spanned c d) op false y) e h)
-  unary_rule_opens x c d (expressions.await_rule y a m r e) h = refuted x (ap supported e) h
+  unary_rule_opens x c d (expressions.postfix_rule op y m r t b i n e) h = left_side_opens r.0 (supported_as _ x (tree.update (spanned c d) op false y) e h)
+  unary_rule_opens x c d (expressions.await_rule y a m r e) h = refuted _ x (ap (supported_in k.flags.module) e) h
 
-  binary_opens : {n : ℕ} {x : Tree} {c d : Place} → BinaryRule In k n x c d → supported x ≡ true → opens (kind_at c) ≡ true
+  binary_opens : {n : ℕ} {x : Tree} {c d : Place} → BinaryRule In k n x c d → supported_in k.flags.module x ≡ true → opens (kind_at c) ≡ true
   binary_opens {x = x} {c = c} {d = d} (single_rule r) h = unary_rule_opens x c d r h
-  binary_opens {x = x} {c = c} {d = d} (left_rule op y z m b g i r o s u v e) h = binary_opens r (and_yes (supported y) _ (supported_as x (tree.bin (spanned c d) op y z) e h)).0
+  binary_opens {x = x} {c = c} {d = d} (left_rule op y z m b g i r o s u v e) h = binary_opens r (and_yes (supported_in k.flags.module y) _ (supported_as _ x (tree.bin (spanned c d) op y z) e h)).0
   binary_opens {x = x} {c = c} {d = d} (power_rule y z m b r u i s e) h =
-      unary_rule_opens y c m r (and_yes (supported y) _ (supported_as x (tree.bin (spanned c d) binary.Exp y z) e h)).0
+      unary_rule_opens y c m r (and_yes (supported_in k.flags.module y) _ (supported_as _ x (tree.bin (spanned c d) binary.Exp y z) e h)).0
 
   -- a pattern that is assigned to begins with its bracket or brace
   pattern_opens : (x : Tree) (c d : Place) → patterns.PatternRule In assigning k x c d → is_pattern_target x ≡ true → opens (kind_at c) ≡ true
@@ -213,20 +222,20 @@ module _ (In : Goal → Type 0) (k : Code) where
   pattern_opens x c d (patterns.array_rule xs m i r j n e) h = kind_opens c kind.LBracket i refl
   pattern_opens x c d (patterns.object_rule xs m i r j n e) h = kind_opens c kind.LBrace i refl
 
-  assignment_opens : (x : Tree) (c d : Place) → expressions.AssignmentRule In k x c d → supported x ≡ true → opens (kind_at c) ≡ true
+  assignment_opens : (x : Tree) (c d : Place) → expressions.AssignmentRule In k x c d → supported_in k.flags.module x ≡ true → opens (kind_at c) ≡ true
   assignment_opens x c d (expressions.operators_rule r s) h = binary_opens r h
-  assignment_opens x c d (expressions.conditional_rule t y z i j r q a b s u e) h = binary_opens r (and_yes (supported t) _ (supported_as x (tree.cond (spanned c d) t y z) e h)).0
-  assignment_opens x c d (expressions.assign_rule op y z m r t a b e) h = left_side_opens r.0 (and_yes (supported y) _ (supported_as x (tree.assign (spanned c d) op y z) e h)).0
+  assignment_opens x c d (expressions.conditional_rule t y z i j r q a b s u e) h = binary_opens r (and_yes (supported_in k.flags.module t) _ (supported_as _ x (tree.cond (spanned c d) t y z) e h)).0
+  assignment_opens x c d (expressions.assign_rule op y z m r t a b e) h = left_side_opens r.0 (and_yes (supported_in k.flags.module y) _ (supported_as _ x (tree.assign (spanned c d) op y z) e h)).0
   assignment_opens x c d (expressions.destructuring_rule y z m r t a b e) h = pattern_opens y c m r t
-  assignment_opens x c d (expressions.arrow_rule a ps y i j r s t b u e) h = refuted x (ap supported e) h
-  assignment_opens x c d (expressions.bare_yield_rule g i n s e) h = refuted x (ap supported e) h
-  assignment_opens x c d (expressions.yield_rule y g i b s r e) h = refuted x (ap supported e) h
-  assignment_opens x c d (expressions.delegate_rule y g i b m r e) h = refuted x (ap supported e) h
+  assignment_opens x c d (expressions.arrow_rule a ps y i j r s t b u e) h = refuted _ x (ap (supported_in k.flags.module) e) h
+  assignment_opens x c d (expressions.bare_yield_rule g i n s e) h = refuted _ x (ap (supported_in k.flags.module) e) h
+  assignment_opens x c d (expressions.yield_rule y g i b s r e) h = refuted _ x (ap (supported_in k.flags.module) e) h
+  assignment_opens x c d (expressions.delegate_rule y g i b m r e) h = refuted _ x (ap (supported_in k.flags.module) e) h
 
-  expression_opens : (x : Tree) (c d : Place) → expressions.ExpressionRule In k x c d → supported x ≡ true → opens (kind_at c) ≡ true
+  expression_opens : (x : Tree) (c d : Place) → expressions.ExpressionRule In k x c d → supported_in k.flags.module x ≡ true → opens (kind_at c) ≡ true
   expression_opens x c d (expressions.assignment_rule r comma) h = assignment_opens x c d r h
   expression_opens x c d (expressions.sequence_rule y z zs (m, r, i, rs) e) h =
-      assignment_opens y c m r (and_yes (supported y) _ (supported_as x (tree.seq (spanned c d) (listed (y ∷ z ∷ zs))) e h)).0
+      assignment_opens y c m r (and_yes (supported_in k.flags.module y) _ (supported_as _ x (tree.seq (spanned c d) (listed (y ∷ z ∷ zs))) e h)).0
 
 pub expr_opens : (n : ℕ) (k : Code) (x : Tree) (c d : Place) → ReadsClass n expression k x c d → opens (kind_at c) ≡ true
 expr_opens zero k x c d r = absurd r.0

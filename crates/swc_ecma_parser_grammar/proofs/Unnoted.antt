@@ -1,7 +1,8 @@
 -- Notes are of statements alone: no supported expression and no supported pattern has any, and none that begins with `import` is a
 -- bare name.
-use Rattle.std.proofs.Common.{◌≡◌, ℕ, zero, suc, Bool, true, false, true≢false, List, [], ◌∷◌, ◌++◌, refl, sym, ◌∙◌, ap}
+use Rattle.std.proofs.Common.{◌≡◌, ℕ, zero, suc, Bool, true, false, true≢false, List, [], ◌∷◌, ◌++◌, refl, sym, ◌∙◌, ap, subst}
 use Rattle.std.specs.Prelude.{◌&&◌, None, Some}
+use Rattle.swc_ecma_parser_common.specs.declared.span.Span.{Span}
 use Rattle.swc_ecma_parser_error.specs.Kind.{Fault}
 use Rattle.swc_ecma_parser_token.specs.declared.kind.TokenKind.TheVariants as kind
 use Rattle.swc_ecma_parser_input.specs.Place.{Place, after}
@@ -15,7 +16,7 @@ use Rattle.swc_ecma_parser_grammar.specs.Names.{Code}
 use Rattle.swc_ecma_parser_grammar.specs.Follows.{begins_import_expression}
 use Rattle.swc_ecma_parser_grammar.specs.Notes.{notes, all_notes, statement_note}
 use Rattle.swc_ecma_parser_grammar.specs.Reads.{with_in, ReadsSeparated}
-use Rattle.swc_ecma_parser_grammar.specs.Supported.{supported, all_supported, is_supported_key, is_supported_property}
+use Rattle.swc_ecma_parser_grammar.specs.Supported.{supported_in, all_supported_in, is_supported_key_in, is_supported_property_in, has_no_note, is_rightly_directed, is_clean}
 use Rattle.swc_ecma_parser_grammar.specs.ReadsSupported.{ReadsClass}
 use Rattle.swc_ecma_parser_grammar.specs.language.Goals.{Goal, Class, Purpose, binding, expression, assignment, operator, unary, left_side, callee, expr_goal, callee_goal, pattern_goal, element_goal, stmt_goal, member_goal, decorator_goal, using_goal, attributes_goal, item_goal}
 use Rattle.swc_ecma_parser_grammar.specs.language.Lists.{ReadsListed, Elements, no_elements, hole, last_element, more_elements}
@@ -45,6 +46,11 @@ nil_split : (es fs : List Fault) → es ++ fs ≡ [] → (es ≡ []) × (fs ≡ 
 nil_split [] fs e = (refl, e)
 nil_split (x ∷ es) fs e = (cc, cc)
 
+-- a list that is tested to be empty
+pub clean_is : (es : List Fault) → is_clean es ≡ true → es ≡ []
+clean_is [] h = refl
+clean_is (x ∷ es) h = cc
+
 -- none in module code
 abbrev pub Quiet : Code → List Fault → Type 0
 Quiet k es = k.flags.module ≡ true → es ≡ []
@@ -61,13 +67,13 @@ quiet_as k x y e q m = sym (ap notes e) ∙ q m
 
 -- a tree that has none where it is supported
 abbrev Silent : Tree → Type 0
-Silent x = supported x ≡ true → notes x ≡ []
+Silent x = supported_in true x ≡ true → notes x ≡ []
 
 abbrev AllSilent : List Tree → Type 0
-AllSilent xs = all_supported (trees xs) ≡ true → all_notes (trees xs) ≡ []
+AllSilent xs = all_supported_in true (trees xs) ≡ true → all_notes (trees xs) ≡ []
 
-both_silent : (x y : Tree) → Silent x → Silent y → supported x && supported y ≡ true → notes x ++ notes y ≡ []
-both_silent x y s t h = let g = and_yes (supported x) _ h in joined (notes x) (notes y) (s g.0) (t g.1)
+both_silent : (x y : Tree) → Silent x → Silent y → supported_in true x && supported_in true y ≡ true → notes x ++ notes y ≡ []
+both_silent x y s t h = let g = and_yes (supported_in true x) _ h in joined (notes x) (notes y) (s g.0) (t g.1)
 
 abbrev SilentGoal : Goal → Type 0
 SilentGoal (expr_goal class k x c d) = Silent x
@@ -83,50 +89,50 @@ SilentGoal (item_goal k x c d) = Unit {0}
 
 -- the form that a tree is
 silent_as : (x y : Tree) → x ≡ y → Silent y → Silent x
-silent_as x y e s h = ap notes e ∙ s (supported_as x y e h)
+silent_as x y e s h = ap notes e ∙ s (supported_as _ x y e h)
 
 -- ---- lists
 
 module _ (Rule : Tree → Place → Place → Type 0) (small : (x : Tree) (c d : Place) → Rule x c d → Silent x) where
   listed_silent : (commas : Bool) (xs : List Tree) (c d : Place) → ReadsListed commas Rule xs c d → AllSilent xs
   listed_silent commas [] c d r h = refl
-  listed_silent commas (x ∷ []) c d (m, r, l) h = joined (notes x) [] (small x c m r (and_yes (supported x) _ h).0) refl
+  listed_silent commas (x ∷ []) c d (m, r, l) h = joined (notes x) [] (small x c m r (and_yes (supported_in true x) _ h).0) refl
   listed_silent commas (x ∷ y ∷ ys) c d (m, r, i, e, rs) h =
-      let g = and_yes (supported x) _ h in joined (notes x) _ (small x c m r g.0) (listed_silent commas (y ∷ ys) (after m) d rs g.1)
+      let g = and_yes (supported_in true x) _ h in joined (notes x) _ (small x c m r g.0) (listed_silent commas (y ∷ ys) (after m) d rs g.1)
 
   separated_silent : (xs : List Tree) (c d : Place) → ReadsSeparated Rule xs c d → AllSilent xs
   separated_silent [] c d r h = refl
-  separated_silent (x ∷ []) c d (r, e) h = joined (notes x) [] (small x c d r (and_yes (supported x) _ h).0) refl
+  separated_silent (x ∷ []) c d (r, e) h = joined (notes x) [] (small x c d r (and_yes (supported_in true x) _ h).0) refl
   separated_silent (x ∷ y ∷ ys) c d (m, r, e, rs) h =
-      let g = and_yes (supported x) _ h in joined (notes x) _ (small x c m r g.0) (separated_silent (y ∷ ys) (after m) d rs g.1)
+      let g = and_yes (supported_in true x) _ h in joined (notes x) _ (small x c m r g.0) (separated_silent (y ∷ ys) (after m) d rs g.1)
 
   all_as : (xs ys : List Tree) → xs ≡ ys → AllSilent ys → AllSilent xs
-  all_as xs ys e s h = ap (λ l. all_notes (trees l)) e ∙ s (sym (ap (λ l. all_supported (trees l)) e) ∙ h)
+  all_as xs ys e s h = ap (λ l. all_notes (trees l)) e ∙ s (sym (ap (λ l. all_supported_in true (trees l)) e) ∙ h)
 
   elements_silent : {xs : List Tree} {c d : Place} → Elements Rule xs c d → AllSilent xs
   elements_silent {xs = xs} (no_elements e n) h = all_as xs [] e (λ _. refl) h
   elements_silent {xs = xs} (hole ys i rs e) h = all_as xs (tree.absent ∷ ys) e (elements_silent rs) h
   elements_silent {xs = xs} {c = c} (last_element y m r l e) h =
-      all_as xs (y ∷ []) e (λ g. joined (notes y) [] (small y c m r (and_yes (supported y) _ g).0) refl) h
+      all_as xs (y ∷ []) e (λ g. joined (notes y) [] (small y c m r (and_yes (supported_in true y) _ g).0) refl) h
   elements_silent {xs = xs} {c = c} (more_elements y z zs m r i j rs e) h =
-      all_as xs (y ∷ z ∷ zs) e (λ g. let f = and_yes (supported y) _ g in joined (notes y) _ (small y c m r f.0) (elements_silent rs f.1)) h
+      all_as xs (y ∷ z ∷ zs) e (λ g. let f = and_yes (supported_in true y) _ g in joined (notes y) _ (small y c m r f.0) (elements_silent rs f.1)) h
 
 -- ---- expressions and patterns
 
 module _ (In : Goal → Type 0) (small : (g : Goal) → In g → SilentGoal g) where
-  key_silent : {k : Code} {x : Tree} {c d : Place} → KeyRule In k x c d → is_supported_key x ≡ true → notes x ≡ []
+  key_silent : {k : Code} {x : Tree} {c d : Place} → KeyRule In k x c d → is_supported_key_in true x ≡ true → notes x ≡ []
   key_silent (parts.word_key text s r e) h = ap notes e
   key_silent (parts.string_key value raw s r e) h = ap notes e
   key_silent (parts.number_key raw s r e) h = ap notes e
   key_silent (parts.big_int_key raw s r e) h = ap notes e
   key_silent {k = k} {c = c} (parts.computed_key r) h =
-      ap notes r.is ∙ small (expr_goal assignment (with_in k) r.key (after c) r.close) r.reads_key (sym (ap is_supported_key r.is) ∙ h)
+      ap notes r.is ∙ small (expr_goal assignment (with_in k) r.key (after c) r.close) r.reads_key (sym (ap (is_supported_key_in true) r.is) ∙ h)
 
-  access_silent : {k : Code} {x : Tree} {c d : Place} → AccessRule In k x c d → is_supported_property x ≡ true → notes x ≡ []
+  access_silent : {k : Code} {x : Tree} {c d : Place} → AccessRule In k x c d → is_supported_property_in true x ≡ true → notes x ≡ []
   access_silent (parts.word_access text s i r e) h = ap notes e
   access_silent (parts.private_access i r) h = ap notes r.is
   access_silent {k = k} {c = c} (parts.bracket_access y m i r j n e) h =
-      ap notes e ∙ small (expr_goal expression (with_in k) y (after c) m) r (sym (ap is_supported_property e) ∙ h)
+      ap notes e ∙ small (expr_goal expression (with_in k) y (after c) m) r (sym (ap (is_supported_property_in true) e) ∙ h)
 
   element_silent : (k : Code) (x : Tree) (c d : Place) → ElementRule In k x c d → Silent x
   element_silent k x c d (parts.plain_element y r e) = silent_as x (tree.element None y) e (small (expr_goal assignment (with_in k) y c d) r)
@@ -140,10 +146,22 @@ module _ (In : Goal → Type 0) (small : (g : Goal) → In g → SilentGoal g) w
   property_silent k x c d (objects.spread_rule y i r e) = silent_as x (tree.spread_prop (span_at c) y) e (small (expr_goal assignment (with_in k) y (after c) d) r)
   property_silent k x c d (objects.shorthand_rule text s r e) = λ h. ap notes e
   property_silent k x c d (objects.key_value_rule key value m r i s e) = silent_as x (tree.key_value_prop (spanned c d) key value) e (λ h.
-      let g = and_yes (is_supported_key key) _ h in joined (notes key) (notes value) (key_silent r g.0) (small (expr_goal assignment (with_in k) value (after m) d) s g.1))
-  property_silent k x c d (objects.getter_rule key body r e) = λ h. refuted x (ap supported e) h
-  property_silent k x c d (objects.setter_rule key p body r e) = λ h. refuted x (ap supported e) h
-  property_silent k x c d (objects.method_rule a g key ps body r e) = λ h. refuted x (ap supported e) h
+      let g = and_yes (is_supported_key_in true key) _ h in joined (notes key) (notes value) (key_silent r g.0) (small (expr_goal assignment (with_in k) value (after m) d) s g.1))
+  property_silent k x c d (objects.getter_rule key body r e) = λ h. refuted _ x (ap (supported_in true) e) h
+  property_silent k x c d (objects.setter_rule key p body r e) = λ h. refuted _ x (ap (supported_in true) e) h
+  property_silent k x c d (objects.method_rule a g key ps body r e) = λ h. refuted _ x (ap (supported_in true) e) h
+
+  -- a name has none
+  name_silent : {k : Code} {x : Tree} {c d : Place} → parts.OptionalName k x c d → notes x ≡ []
+  name_silent (parts.no_name n e) = ap notes e
+  name_silent (parts.a_name text s r e) = ap notes e
+
+  -- nor has a function in module code
+  function_silent : {k : Code} {name y x : Tree} {s : Span} {c d : Place} → functions.FunctionRule In true k (listed []) name y c d → x ≡ tree.fn_expr s name y → Silent x
+  function_silent {name = name} {y = y} {x = x} {s = s} r e h =
+      let g = and_yes (supported_in true name) _ (supported_as _ x (tree.fn_expr s name y) e h) in
+      let i = (and_yes (is_rightly_directed y) _ (and_yes (supported_in true y) _ g.1).1).1 in
+      ap notes e ∙ joined (notes name) (notes y) (name_silent r.reads_name) (clean_is (notes y) i)
 
   primary_silent : (k : Code) (x : Tree) (c d : Place) → PrimaryRule In k x c d → Silent x
   primary_silent k x c d (sides.name_rule text s r i e) h = ap notes e
@@ -157,15 +175,15 @@ module _ (In : Goal → Type 0) (small : (g : Goal) → In g → SilentGoal g) w
   primary_silent k x c d (sides.array_rule xs m i r j n e) h = silent_as x (tree.array (spanned c d) (listed xs)) e (elements_silent (ElementRule In k) (element_silent k) r) h
   primary_silent k x c d (sides.object_rule xs m i r j n e) h =
       silent_as x (tree.object (spanned c d) (listed xs)) e (listed_silent (PropertyRule In k) (property_silent k) true xs (after c) m r) h
-  primary_silent k x c d (sides.function_rule name y r e) h = refuted x (ap supported e) h
-  primary_silent k x c d (sides.class_rule name y r e) h = refuted x (ap supported e) h
+  primary_silent k x c d (sides.function_rule name y r e) h = function_silent r e h
+  primary_silent k x c d (sides.class_rule name y r e) h = refuted _ x (ap (supported_in true) e) h
   primary_silent k x c d (sides.paren_rule y m i r j n e) h = silent_as x (tree.paren (spanned c d) y) e (small (expr_goal expression (with_in k) y (after c) m) r) h
 
   left_silent : {k : Code} {x : Tree} {c d : Place} → LeftSideRule In k x c d → Silent x
   left_silent {k = k} {x = x} {c = c} {d = d} (sides.primary_rule r) = primary_silent k x c d r
   left_silent (sides.import_meta_rule i j w n m e) = λ h. ap notes e
   left_silent {x = x} {c = c} {d = d} (sides.member_rule y p m r a e) = silent_as x (tree.member (spanned c d) y p) e (λ h.
-      let g = and_yes (supported y) _ h in joined (notes y) (notes p) (left_silent r g.0) (access_silent a g.1))
+      let g = and_yes (supported_in true y) _ h in joined (notes y) (notes p) (left_silent r g.0) (access_silent a g.1))
   left_silent {x = x} {c = c} {d = d} (sides.super_property_rule p i a j e) = silent_as x (tree.super_prop (spanned c d) (span_at c) p) e (access_silent a)
   left_silent {x = x} {c = c} {d = d} (sides.call_rule y z m r a e) = silent_as x (tree.call (spanned c d) y z) e (both_silent y z (left_silent r) (arguments_silent a))
   left_silent {x = x} {c = c} {d = d} (sides.super_call_rule z i a e) = silent_as x (tree.call (spanned c d) (tree.super_callee (span_at c)) z) e (arguments_silent a)
@@ -181,10 +199,10 @@ module _ (In : Goal → Type 0) (small : (g : Goal) → In g → SilentGoal g) w
 
   pattern_property_silent : (p : Purpose) (k : Code) (x : Tree) (c d : Place) → PatternPropertyRule In p k x c d → Silent x
   pattern_property_silent p k x c d (patterns.key_value_rule key value m r i s e) = silent_as x (tree.key_value_pat_prop (spanned c d) key value) e (λ h.
-      let g = and_yes (is_supported_key key) _ h in joined (notes key) (notes value) (key_silent r g.0) (small (element_goal p (with_in k) value (after m) d) s g.1))
+      let g = and_yes (is_supported_key_in true key) _ h in joined (notes key) (notes value) (key_silent r g.0) (small (element_goal p (with_in k) value (after m) d) s g.1))
   pattern_property_silent p k x c d (patterns.shorthand_rule text s r i e) = λ h. ap notes e
   pattern_property_silent p k x c d (patterns.default_rule text s value m r i v e) = silent_as x (tree.assign_pat_prop (spanned c d) (tree.ident_pat s text) value) e (λ h.
-      small (expr_goal assignment (with_in k) value (after m) d) v (and_yes (supported (tree.ident_pat s text)) _ h).1)
+      small (expr_goal assignment (with_in k) value (after m) d) v (and_yes (supported_in true (tree.ident_pat s text)) _ h).1)
   pattern_property_silent p k x c d (patterns.rest_rule y i r j e) = silent_as x (tree.rest_pat (spanned c d) y) e (small (pattern_goal p k y (after c) d) r)
 
   pattern_silent : {p : Purpose} {k : Code} {x : Tree} {c d : Place} → PatternRule In p k x c d → Silent x
@@ -206,7 +224,7 @@ module _ (In : Goal → Type 0) (small : (g : Goal) → In g → SilentGoal g) w
   unary_silent k x c d (expressions.unary_rule op y i r e) = silent_as x (tree.unary (spanned c d) op y) e (small (expr_goal unary k y (after c) d) r)
   unary_silent k x c d (expressions.prefix_rule op y i r t e) = silent_as x (tree.update (spanned c d) op true y) e (small (expr_goal unary k y (after c) d) r)
   unary_silent k x c d (expressions.postfix_rule op y m r t b i n e) = silent_as x (tree.update (spanned c d) op false y) e (left_silent r.0)
-  unary_silent k x c d (expressions.await_rule y a m r e) = λ h. refuted x (ap supported e) h
+  unary_silent k x c d (expressions.await_rule y a m r e) = λ h. refuted _ x (ap (supported_in true) e) h
 
   binary_silent : {k : Code} {n : ℕ} {x : Tree} {c d : Place} → BinaryRule In k n x c d → Silent x
   binary_silent {k = k} {x = x} {c = c} {d = d} (expressions.single_rule r) = unary_silent k x c d r
@@ -218,18 +236,18 @@ module _ (In : Goal → Type 0) (small : (g : Goal) → In g → SilentGoal g) w
   assignment_silent : (k : Code) (x : Tree) (c d : Place) → AssignmentRule In k x c d → Silent x
   assignment_silent k x c d (expressions.operators_rule r s) = binary_silent r
   assignment_silent k x c d (expressions.conditional_rule t y z i j r q a b s u e) = silent_as x (tree.cond (spanned c d) t y z) e (λ h.
-      let g = and_yes (supported t) _ h in
-      let f = and_yes (supported y) _ g.1 in
+      let g = and_yes (supported_in true t) _ h in
+      let f = and_yes (supported_in true y) _ g.1 in
       joined (notes t ++ notes y) (notes z) (joined (notes t) (notes y) (binary_silent r g.0) (small (expr_goal assignment (with_in k) y (after i) j) a f.0))
       (small (expr_goal assignment k z (after j) d) s f.1))
   assignment_silent k x c d (expressions.assign_rule op y z m r t a s e) =
       silent_as x (tree.assign (spanned c d) op y z) e (both_silent y z (left_silent r.0) (small (expr_goal assignment k z (after m) d) s))
   assignment_silent k x c d (expressions.destructuring_rule y z m r t a s e) =
       silent_as x (tree.assign (spanned c d) assign.Assign y z) e (both_silent y z (pattern_silent r) (small (expr_goal assignment k z (after m) d) s))
-  assignment_silent k x c d (expressions.arrow_rule a ps y i j r s t b u e) = λ h. refuted x (ap supported e) h
-  assignment_silent k x c d (expressions.bare_yield_rule g i n s e) = λ h. refuted x (ap supported e) h
-  assignment_silent k x c d (expressions.yield_rule y g i b s r e) = λ h. refuted x (ap supported e) h
-  assignment_silent k x c d (expressions.delegate_rule y g i b m r e) = λ h. refuted x (ap supported e) h
+  assignment_silent k x c d (expressions.arrow_rule a ps y i j r s t b u e) = λ h. refuted _ x (ap (supported_in true) e) h
+  assignment_silent k x c d (expressions.bare_yield_rule g i n s e) = λ h. refuted _ x (ap (supported_in true) e) h
+  assignment_silent k x c d (expressions.yield_rule y g i b s r e) = λ h. refuted _ x (ap (supported_in true) e) h
+  assignment_silent k x c d (expressions.delegate_rule y g i b m r e) = λ h. refuted _ x (ap (supported_in true) e) h
 
   expression_silent : (k : Code) (x : Tree) (c d : Place) → ExpressionRule In k x c d → Silent x
   expression_silent k x c d (expressions.assignment_rule r comma) = assignment_silent k x c d r
@@ -257,22 +275,25 @@ silent (suc n) (using_goal k x c d) r = tt
 silent (suc n) (attributes_goal k x c d) r = tt
 silent (suc n) (item_goal k x c d) r = tt
 
-pub expr_unnoted : (n : ℕ) (class : Class) (k : Code) (x : Tree) (c d : Place) → Reads n (expr_goal class k x c d) → supported x ≡ true → notes x ≡ []
-expr_unnoted n class k x c d r = silent n (expr_goal class k x c d) r
+in_module : {m : Bool} (x : Tree) → m ≡ true → supported_in m x ≡ true → supported_in true x ≡ true
+in_module x o h = subst (λ b. supported_in b x ≡ true) o h
 
-pub pattern_unnoted : (n : ℕ) (p : Purpose) (k : Code) (x : Tree) (c d : Place) → Reads n (pattern_goal p k x c d) → supported x ≡ true → notes x ≡ []
-pattern_unnoted n p k x c d r = silent n (pattern_goal p k x c d) r
+pub expr_unnoted : (n : ℕ) (class : Class) (k : Code) (x : Tree) (c d : Place) → k.flags.module ≡ true → Reads n (expr_goal class k x c d) → supported_in k.flags.module x ≡ true → notes x ≡ []
+expr_unnoted n class k x c d o r h = silent n (expr_goal class k x c d) r (in_module x o h)
 
-pub parameter_unnoted : (n : ℕ) (k : Code) (x : Tree) (c d : Place) → PatternItemRule (Reads n) binding k x c d → supported x ≡ true → notes x ≡ []
-parameter_unnoted n k x c d (functions.element_rule r) h = silent n (element_goal binding k x c d) r h
-parameter_unnoted n k x c d (functions.rest_rule y o r e) h = ap notes e ∙ silent n (pattern_goal binding k y (after c) d) r (supported_as x (tree.rest_pat (spanned c d) y) e h)
+pub pattern_unnoted : (n : ℕ) (p : Purpose) (k : Code) (x : Tree) (c d : Place) → k.flags.module ≡ true → Reads n (pattern_goal p k x c d) → supported_in k.flags.module x ≡ true → notes x ≡ []
+pattern_unnoted n p k x c d o r h = silent n (pattern_goal p k x c d) r (in_module x o h)
+
+pub parameter_unnoted : (n : ℕ) (k : Code) (x : Tree) (c d : Place) → k.flags.module ≡ true → PatternItemRule (Reads n) binding k x c d → supported_in k.flags.module x ≡ true → notes x ≡ []
+parameter_unnoted n k x c d o (functions.element_rule r) h = silent n (element_goal binding k x c d) r (in_module x o h)
+parameter_unnoted n k x c d o (functions.rest_rule y i r e) h = ap notes e ∙ silent n (pattern_goal binding k y (after c) d) r (supported_as _ x (tree.rest_pat (spanned c d) y) e (in_module x o h))
 
 -- ---- an expression that begins with `import`
 
 module _ (In : Goal → Type 0) where
-  left_unnamed : {k : Code} {x : Tree} {c d : Place} → LeftSideRule In k x c d → supported x ≡ true → sees kind.Import c ≡ true → is_ident x ≡ false
+  left_unnamed : {k : Code} {x : Tree} {c d : Place} → LeftSideRule In k x c d → supported_in k.flags.module x ≡ true → sees kind.Import c ≡ true → is_ident x ≡ false
   left_unnamed {k = k} {x = x} {c = c} {d = d} (sides.primary_rule (sides.name_rule text s r j e)) h i =
-      absurd (true≢false (sym i ∙ (name_begins k.flags r.word s c d r.reads_word (name_is_name k text s c d r (supported_as x (tree.ident s text) e h))).1))
+      absurd (true≢false (sym i ∙ (name_begins k.flags r.word s c d r.reads_word (name_is_name k text s c d r (supported_as _ x (tree.ident s text) e h))).1))
   left_unnamed (sides.primary_rule (sides.string_rule value raw s r e)) h i = ap is_ident e
   left_unnamed (sides.primary_rule (sides.true_rule s r e)) h i = ap is_ident e
   left_unnamed (sides.primary_rule (sides.false_rule s r e)) h i = ap is_ident e
@@ -294,19 +315,19 @@ module _ (In : Goal → Type 0) where
   left_unnamed (sides.new_rule y z m a r b e) h i = ap is_ident e
   left_unnamed (sides.bare_new_rule y a r e) h i = ap is_ident e
 
-  unary_unnamed : {k : Code} {x : Tree} {c d : Place} → UnaryRule In k x c d → supported x ≡ true → sees kind.Import c ≡ true → is_ident x ≡ false
+  unary_unnamed : {k : Code} {x : Tree} {c d : Place} → UnaryRule In k x c d → supported_in k.flags.module x ≡ true → sees kind.Import c ≡ true → is_ident x ≡ false
   unary_unnamed (expressions.operand_rule r) h i = left_unnamed r.0 h i
   unary_unnamed (expressions.unary_rule op y a r e) h i = ap is_ident e
   unary_unnamed (expressions.prefix_rule op y a r t e) h i = ap is_ident e
   unary_unnamed (expressions.postfix_rule op y m r t b a n e) h i = ap is_ident e
   unary_unnamed (expressions.await_rule y a m r e) h i = ap is_ident e
 
-  binary_unnamed : {k : Code} {n : ℕ} {x : Tree} {c d : Place} → BinaryRule In k n x c d → supported x ≡ true → sees kind.Import c ≡ true → is_ident x ≡ false
+  binary_unnamed : {k : Code} {n : ℕ} {x : Tree} {c d : Place} → BinaryRule In k n x c d → supported_in k.flags.module x ≡ true → sees kind.Import c ≡ true → is_ident x ≡ false
   binary_unnamed (expressions.single_rule r) h i = unary_unnamed r h i
   binary_unnamed (expressions.left_rule op y z m b g a r o s u v e) h i = ap is_ident e
   binary_unnamed (expressions.power_rule y z m b r u a s e) h i = ap is_ident e
 
-  assignment_unnamed : {k : Code} {x : Tree} {c d : Place} → AssignmentRule In k x c d → supported x ≡ true → sees kind.Import c ≡ true → is_ident x ≡ false
+  assignment_unnamed : {k : Code} {x : Tree} {c d : Place} → AssignmentRule In k x c d → supported_in k.flags.module x ≡ true → sees kind.Import c ≡ true → is_ident x ≡ false
   assignment_unnamed (expressions.operators_rule r s) h i = binary_unnamed r h i
   assignment_unnamed (expressions.conditional_rule t y z a j r q o b s u e) h i = ap is_ident e
   assignment_unnamed (expressions.assign_rule op y z m r t a b e) h i = ap is_ident e
@@ -316,7 +337,7 @@ module _ (In : Goal → Type 0) where
   assignment_unnamed (expressions.yield_rule y g a b s r e) h i = ap is_ident e
   assignment_unnamed (expressions.delegate_rule y g a b m r e) h i = ap is_ident e
 
-  expression_unnamed : {k : Code} {x : Tree} {c d : Place} → ExpressionRule In k x c d → supported x ≡ true → sees kind.Import c ≡ true → is_ident x ≡ false
+  expression_unnamed : {k : Code} {x : Tree} {c d : Place} → ExpressionRule In k x c d → supported_in k.flags.module x ≡ true → sees kind.Import c ≡ true → is_ident x ≡ false
   expression_unnamed (expressions.assignment_rule r e) h i = assignment_unnamed r h i
   expression_unnamed (expressions.sequence_rule y z zs r e) h i = ap is_ident e
 

@@ -12,6 +12,7 @@ use Rattle.swc_ecma_parser_model.specs.declared.leaves.VarDeclKind.{VarDeclKind}
 use Rattle.swc_ecma_parser_model.specs.declared.leaves.VarDeclKind.TheVariants as decl
 use Rattle.swc_ecma_parser_model.specs.Tree.{Tree, Text, trees, listed}
 use Rattle.swc_ecma_parser_model.specs.Forms.{is_absent}
+use Rattle.swc_ecma_parser_model.specs.Directive.{is_use_strict}
 use Rattle.swc_ecma_parser_grammar.specs.declared.position.Position.{Position}
 use Rattle.swc_ecma_parser_grammar.specs.Looks.{kind_at, sees, same_kind}
 use Rattle.swc_ecma_parser_grammar.specs.Names.{Code}
@@ -19,7 +20,7 @@ use Rattle.swc_ecma_parser_grammar.specs.Follows.{is_let_declaration, no_await, 
 use Rattle.swc_ecma_parser_grammar.specs.Variables.{begins_variables}
 use Rattle.swc_ecma_parser_grammar.specs.Reads.{with_in, directed, directs_on, nested_item, top_item, DeclaratorRule, plain_rule, initialized_rule, ReadsSeparated, ReadsItems, StmtRule, block_rule, empty_rule, debugger_rule, variables_rule, if_statement_rule, TargetRule, no_target_rule, target_rule, OperandRule, no_operand_rule, operand_rule, break_rule, continue_rule, return_rule, labeled_rule, HeadVariables, InitRule, no_init_rule, init_variables_rule, init_expression_rule, LeftRule, declared_rule, left_target_rule, for_in_rule, for_of_rule, head_code, PartRule, no_part_rule, part_rule, for_rule, CaseRule, case_clause_rule, default_clause_rule, ReadsCases, switch_rule, throw_rule, try_rule, with_rule, while_rule, do_while_rule, expr_rule, import_rule, ReadsBlock, CatchRule, no_catch_rule, catch_rule, catch_parameter_rule, FinallyRule, no_finally_rule, finally_rule, ReadsHead, IfRule, if_rule, ElseRule, no_else_rule, else_rule, else_if_rule, ReadsBraced, function_rule}
 use Rattle.swc_ecma_parser_grammar.specs.Entries.{ReadsScript, ReadsShebang, some_shebang, no_shebang, script_code}
-use Rattle.swc_ecma_parser_grammar.specs.Supported.{supported, all_supported}
+use Rattle.swc_ecma_parser_grammar.specs.Supported.{supported, supported_in, all_supported_in}
 use Rattle.swc_ecma_parser_grammar.specs.ReadsSupported.{ReadsClass, ReadsPat, ReadsTarget, ReadsStmt, ReadsParams}
 use Rattle.swc_ecma_parser_grammar.specs.language.Goals.{expression, assignment, expr_goal, stmt_goal}
 use Rattle.swc_ecma_parser_grammar.specs.language.Contexts.{in_loop, in_breakable, in_with}
@@ -38,14 +39,15 @@ use Rattle.swc_ecma_parser_grammar.specs.language.Programs.{ReadsEntry}
 use Rattle.swc_ecma_parser_token.specs.Text.{word_text}
 use Rattle.swc_ecma_parser_grammar.proofs.Tests.{and_both, and_yes}
 use Rattle.swc_ecma_parser_grammar.proofs.Naming.{name_is_clean, name_is_supported}
+use Rattle.swc_ecma_parser_grammar.proofs.SupportedIn.{strict_module, head_module}
 use Rattle.swc_ecma_parser_grammar.proofs.SupportedBegins.{expr_begins, name_begins}
 use Rattle.swc_ecma_parser_grammar.proofs.language.Shapes.{expr_stands}
 
 -- ---- declarators
 
-declarator_supported : (n : ℕ) (k : Code) (loop : Bool) (word : VarDeclKind) (x : Tree) (c d : Place) → DeclaratorRule (ReadsClass n assignment) (ReadsPat n) k loop word x c d → supported x ≡ true
-declarator_supported n k loop word x c d (plain_rule p r h b e) = ap supported e ∙ and_both _ _ r.1 refl
-declarator_supported n k loop word x c d (initialized_rule p y m r h s e) = ap supported e ∙ and_both _ _ r.1 s.1
+declarator_supported : (n : ℕ) (k : Code) (loop : Bool) (word : VarDeclKind) (x : Tree) (c d : Place) → DeclaratorRule (ReadsClass n assignment) (ReadsPat n) k loop word x c d → supported_in k.flags.module x ≡ true
+declarator_supported n k loop word x c d (plain_rule p r h b e) = ap (supported_in k.flags.module) e ∙ and_both _ _ r.1 refl
+declarator_supported n k loop word x c d (initialized_rule p y m r h s e) = ap (supported_in k.flags.module) e ∙ and_both _ _ r.1 s.1
 
 declarator_widens : (n : ℕ) (k : Code) (loop : Bool) (word : VarDeclKind) (x : Tree) (c d : Place) → DeclaratorRule (ReadsClass n assignment) (ReadsPat n) k loop word x c d
     → declarations.DeclaratorRule (Reads n) k loop word x c d
@@ -59,11 +61,11 @@ module _ (Rule Other : Tree → Place → Place → Type 0) (widen : (x : Tree) 
   separated_widen (x ∷ []) c d (r, e) = (widen x c d r, e)
   separated_widen (x ∷ y ∷ ys) c d (m, r, e, rs) = (m, widen x c m r, e, separated_widen (y ∷ ys) (after m) d rs)
 
-module _ (Rule : Tree → Place → Place → Type 0) (small : (x : Tree) (c d : Place) → Rule x c d → supported x ≡ true) where
-  separated_supported : (xs : List Tree) (c d : Place) → ReadsSeparated Rule xs c d → all_supported (trees xs) ≡ true
+module _ (m : Bool) (Rule : Tree → Place → Place → Type 0) (small : (x : Tree) (c d : Place) → Rule x c d → supported_in m x ≡ true) where
+  separated_supported : (xs : List Tree) (c d : Place) → ReadsSeparated Rule xs c d → all_supported_in m (trees xs) ≡ true
   separated_supported [] c d h = absurd h
   separated_supported (x ∷ []) c d (r, e) = and_both _ _ (small x c d r) refl
-  separated_supported (x ∷ y ∷ ys) c d (m, r, e, rs) = and_both _ _ (small x c m r) (separated_supported (y ∷ ys) (after m) d rs)
+  separated_supported (x ∷ y ∷ ys) c d (i, r, e, rs) = and_both _ _ (small x c i r) (separated_supported (y ∷ ys) (after i) d rs)
 
 -- ---- statements
 
@@ -80,12 +82,12 @@ pub saw : (c : Place) (j : TokenKind) → sees j c ≡ true → kind_at c ≡ j
 unfolding same_kind
 saw c j e = same_true the_type (search rules) (kind_at c) j e
 
-target_supported : {k : Code} {x : Tree} {c d : Place} → TargetRule k x c d → supported x ≡ true
-target_supported (no_target_rule h g e) = ap supported e
-target_supported {k = k} (target_rule w s h r f e) = ap supported e ∙ name_is_supported k.flags (word_text w) f
+target_supported : {k : Code} {x : Tree} {c d : Place} → TargetRule k x c d → supported_in k.flags.module x ≡ true
+target_supported {k = k} (no_target_rule h g e) = ap (supported_in k.flags.module) e
+target_supported {k = k} (target_rule w s h r f e) = ap (supported_in k.flags.module) e ∙ name_is_supported k.flags (word_text w) f
 
-operand_supported : (n : ℕ) {k : Code} {x : Tree} {c d : Place} → OperandRule (ReadsClass n) k x c d → supported x ≡ true
-operand_supported n (no_operand_rule h g e) = ap supported e
+operand_supported : (n : ℕ) {k : Code} {x : Tree} {c d : Place} → OperandRule (ReadsClass n) k x c d → supported_in k.flags.module x ≡ true
+operand_supported n {k = k} (no_operand_rule h g e) = ap (supported_in k.flags.module) e
 operand_supported n (operand_rule h r) = r.1
 
 target_widens : {k : Code} {x : Tree} {c d : Place} → TargetRule k x c d → statements.TargetRule k x c d
@@ -98,8 +100,8 @@ operand_widens n (no_operand_rule h g e) = statements.no_operand_rule h g e
 operand_widens n (operand_rule h r) = statements.operand_rule h r.0
 
 declarators_supported : (n : ℕ) (k : Code) (loop : Bool) (word : VarDeclKind) (xs : List Tree) (c d : Place)
-    → ReadsSeparated (DeclaratorRule (ReadsClass n assignment) (ReadsPat n) k loop word) xs c d → all_supported (trees xs) ≡ true
-declarators_supported n k loop word = separated_supported (DeclaratorRule (ReadsClass n assignment) (ReadsPat n) k loop word) (declarator_supported n k loop word)
+    → ReadsSeparated (DeclaratorRule (ReadsClass n assignment) (ReadsPat n) k loop word) xs c d → all_supported_in k.flags.module (trees xs) ≡ true
+declarators_supported n k loop word = separated_supported k.flags.module (DeclaratorRule (ReadsClass n assignment) (ReadsPat n) k loop word) (declarator_supported n k loop word)
 
 declarators_widen : (n : ℕ) (k : Code) (loop : Bool) (word : VarDeclKind) (xs : List Tree) (c d : Place)
     → ReadsSeparated (DeclaratorRule (ReadsClass n assignment) (ReadsPat n) k loop word) xs c d → ReadsSeparated (declarations.DeclaratorRule (Reads n) k loop word) xs c d
@@ -108,8 +110,9 @@ declarators_widen n k loop word =
 
 -- ---- heads
 
-head_variables_supported : (n : ℕ) {k : Code} {x : Tree} {c d : Place} → HeadVariables (ReadsClass n) (ReadsPat n) k x c d → supported x ≡ true
-head_variables_supported n {k = k} {c = c} {d = d} r = ap supported r.is ∙ declarators_supported n (head_code r.word k) true r.word r.declarators (after c) d r.reads
+head_variables_supported : (n : ℕ) {k : Code} {x : Tree} {c d : Place} → HeadVariables (ReadsClass n) (ReadsPat n) k x c d → supported_in k.flags.module x ≡ true
+head_variables_supported n {k = k} {c = c} {d = d} r = ap (supported_in k.flags.module) r.is
+    ∙ subst (λ m. all_supported_in m (trees r.declarators) ≡ true) (head_module r.word k) (declarators_supported n (head_code r.word k) true r.word r.declarators (after c) d r.reads)
 
 head_variables_widen : (n : ℕ) {k : Code} {x : Tree} {c d : Place} → HeadVariables (ReadsClass n) (ReadsPat n) k x c d → heads.HeadVariablesRule (Reads n) k x c d
 head_variables_widen n {k = k} {c = c} {d = d} r = record {
@@ -119,17 +122,17 @@ head_variables_widen n {k = k} {c = c} {d = d} r = record {
   is = r.is;
 }
 
-init_supported : (n : ℕ) {k : Code} {x : Tree} {c d : Place} → InitRule (ReadsClass n) (ReadsPat n) k x c d → supported x ≡ true
-init_supported n (no_init_rule h g e) = ap supported e
+init_supported : (n : ℕ) {k : Code} {x : Tree} {c d : Place} → InitRule (ReadsClass n) (ReadsPat n) k x c d → supported_in k.flags.module x ≡ true
+init_supported n {k = k} (no_init_rule h g e) = ap (supported_in k.flags.module) e
 init_supported n (init_variables_rule r) = head_variables_supported n r
 init_supported n (init_expression_rule h r) = r.1
 
-left_supported : (n : ℕ) {k : Code} {x : Tree} {c d : Place} → LeftRule (ReadsClass n) (ReadsPat n) (ReadsTarget n) k x c d → supported x ≡ true
+left_supported : (n : ℕ) {k : Code} {x : Tree} {c d : Place} → LeftRule (ReadsClass n) (ReadsPat n) (ReadsTarget n) k x c d → supported_in k.flags.module x ≡ true
 left_supported n (declared_rule r) = head_variables_supported n r
 left_supported n (left_target_rule h r) = r.1
 
-part_supported : (n : ℕ) {k : Code} {x : Tree} {c d : Place} → PartRule (ReadsClass n) k x c d → supported x ≡ true
-part_supported n (no_part_rule g e) = ap supported e
+part_supported : (n : ℕ) {k : Code} {x : Tree} {c d : Place} → PartRule (ReadsClass n) k x c d → supported_in k.flags.module x ≡ true
+part_supported n {k = k} (no_part_rule g e) = ap (supported_in k.flags.module) e
 part_supported n (part_rule r) = r.1
 
 init_widens : (n : ℕ) {k : Code} {x : Tree} {c d : Place} → InitRule (ReadsClass n) (ReadsPat n) k x c d → heads.InitRule (Reads n) k x c d
@@ -146,78 +149,79 @@ part_widens n (no_part_rule g e) = heads.no_part_rule g e
 part_widens n (part_rule r) = heads.part_rule r.0
 
 -- parameters are as their patterns are
-pub parameters_same : (ps : List Tree) → supported (parameters ps) ≡ all_supported (trees ps)
-parameters_same [] = refl
-parameters_same (p ∷ ps) = ap (λ b. supported p && b) (parameters_same ps)
+pub parameters_same : (m : Bool) (ps : List Tree) → supported_in m (parameters ps) ≡ all_supported_in m (trees ps)
+parameters_same m [] = refl
+parameters_same m (p ∷ ps) = ap (λ b. supported_in m p && b) (parameters_same m ps)
 
-module _ (n : ℕ) (small : (k : Code) (at : Position) (x : Tree) (c d : Place) → ReadsStmt n k at x c d → supported x ≡ true) where
-  items_supported : (k : Code) (directives : Bool) (at : Position) (xs : List Tree) (c d : Place) → ReadsItems (λ j. ReadsStmt n j at) k directives xs c d → all_supported (trees xs) ≡ true
+module _ (n : ℕ) (small : (k : Code) (at : Position) (x : Tree) (c d : Place) → ReadsStmt n k at x c d → supported_in k.flags.module x ≡ true) where
+  items_supported : (k : Code) (directives : Bool) (at : Position) (xs : List Tree) (c d : Place) → ReadsItems (λ j. ReadsStmt n j at) k directives xs c d → all_supported_in k.flags.module (trees xs) ≡ true
   items_supported k directives at [] c d h = refl
-  items_supported k directives at (x ∷ xs) c d (m, r, rs) = and_both _ _ (small k at x c m r) (items_supported (directed k directives x) (directs_on directives x) at xs m d rs)
+  items_supported k directives at (x ∷ xs) c d (m, r, rs) = and_both _ _ (small k at x c m r)
+      (subst (λ b. all_supported_in b (trees xs) ≡ true) (strict_module (directives && is_use_strict x) k) (items_supported (directed k directives x) (directs_on directives x) at xs m d rs))
 
-  braced_supported : (directives : Bool) {k : Code} {x : Tree} {c d : Place} → ReadsBraced (ReadsStmt n) directives k x c d → supported x ≡ true
-  braced_supported directives {k = k} {c = c} r = ap supported r.is ∙ items_supported k directives nested_item r.items (after c) r.close r.reads_items
+  pub braced_supported : (directives : Bool) {k : Code} {x : Tree} {c d : Place} → ReadsBraced (ReadsStmt n) directives k x c d → supported_in k.flags.module x ≡ true
+  braced_supported directives {k = k} {c = c} r = ap (supported_in k.flags.module) r.is ∙ items_supported k directives nested_item r.items (after c) r.close r.reads_items
 
-  block_supported : {k : Code} {x : Tree} {c d : Place} → ReadsBlock (ReadsStmt n) k x c d → supported x ≡ true
+  block_supported : {k : Code} {x : Tree} {c d : Place} → ReadsBlock (ReadsStmt n) k x c d → supported_in k.flags.module x ≡ true
   block_supported r = braced_supported false r
 
-  case_supported : {k : Code} {b : Bool} {x : Tree} {c d : Place} → CaseRule (ReadsStmt n) (ReadsClass n) k b x c d → supported x ≡ true
-  case_supported {k = k} {d = d} (case_clause_rule test xs m h r i s e) = ap supported e ∙ and_both (supported test) _ r.1 (items_supported k false nested_item xs (after m) d s)
-  case_supported {k = k} {c = c} {d = d} (default_clause_rule xs o h i s e) = ap supported e ∙ items_supported k false nested_item xs (after (after c)) d s
+  case_supported : {k : Code} {b : Bool} {x : Tree} {c d : Place} → CaseRule (ReadsStmt n) (ReadsClass n) k b x c d → supported_in k.flags.module x ≡ true
+  case_supported {k = k} {d = d} (case_clause_rule test xs m h r i s e) = ap (supported_in k.flags.module) e ∙ and_both (supported_in k.flags.module test) _ r.1 (items_supported k false nested_item xs (after m) d s)
+  case_supported {k = k} {c = c} {d = d} (default_clause_rule xs o h i s e) = ap (supported_in k.flags.module) e ∙ items_supported k false nested_item xs (after (after c)) d s
 
-  cases_supported : (k : Code) (b : Bool) (xs : List Tree) (c d : Place) → ReadsCases (ReadsStmt n) (ReadsClass n) k b xs c d → all_supported (trees xs) ≡ true
+  cases_supported : (k : Code) (b : Bool) (xs : List Tree) (c d : Place) → ReadsCases (ReadsStmt n) (ReadsClass n) k b xs c d → all_supported_in k.flags.module (trees xs) ≡ true
   cases_supported k b [] c d h = refl
-  cases_supported k b (x ∷ xs) c d (m, r, rs) = and_both (supported x) _ (case_supported r) (cases_supported k (b || sees kind.Default c) xs m d rs)
+  cases_supported k b (x ∷ xs) c d (m, r, rs) = and_both (supported_in k.flags.module x) _ (case_supported r) (cases_supported k (b || sees kind.Default c) xs m d rs)
 
-  catch_supported : {k : Code} {x : Tree} {c d : Place} → CatchRule (ReadsStmt n) (ReadsPat n) k x c d → supported x ≡ true
-  catch_supported (no_catch_rule h i e) = ap supported e
-  catch_supported (catch_rule body h r e) = ap supported e ∙ block_supported r
-  catch_supported (catch_parameter_rule p body m h i r j s e) = ap supported e ∙ and_both (supported p) _ r.1 (block_supported s)
+  catch_supported : {k : Code} {x : Tree} {c d : Place} → CatchRule (ReadsStmt n) (ReadsPat n) k x c d → supported_in k.flags.module x ≡ true
+  catch_supported {k = k} (no_catch_rule h i e) = ap (supported_in k.flags.module) e
+  catch_supported {k = k} (catch_rule body h r e) = ap (supported_in k.flags.module) e ∙ block_supported r
+  catch_supported {k = k} (catch_parameter_rule p body m h i r j s e) = ap (supported_in k.flags.module) e ∙ and_both (supported_in k.flags.module p) _ r.1 (block_supported s)
 
-  finally_supported : {k : Code} {x : Tree} {c d : Place} → FinallyRule (ReadsStmt n) k x c d → supported x ≡ true
-  finally_supported (no_finally_rule h i e) = ap supported e
+  finally_supported : {k : Code} {x : Tree} {c d : Place} → FinallyRule (ReadsStmt n) k x c d → supported_in k.flags.module x ≡ true
+  finally_supported {k = k} (no_finally_rule h i e) = ap (supported_in k.flags.module) e
   finally_supported (finally_rule h r) = block_supported r
 
   mutual
-    if_supported : {k : Code} {x : Tree} {c d : Place} → IfRule (ReadsStmt n) (ReadsClass n) k x c d → supported x ≡ true
-    if_supported {k = k} (if_rule test cons alt m i h r s o e) = ap supported e ∙ and_both (supported test) _ r.reads.1 (and_both (supported cons) _ (small k sub_statement cons m i s) (else_supported o))
+    if_supported : {k : Code} {x : Tree} {c d : Place} → IfRule (ReadsStmt n) (ReadsClass n) k x c d → supported_in k.flags.module x ≡ true
+    if_supported {k = k} (if_rule test cons alt m i h r s o e) = ap (supported_in k.flags.module) e ∙ and_both (supported_in k.flags.module test) _ r.reads.1 (and_both (supported_in k.flags.module cons) _ (small k sub_statement cons m i s) (else_supported o))
 
-    else_supported : {k : Code} {x : Tree} {c d : Place} → ElseRule (ReadsStmt n) (ReadsClass n) k x c d → supported x ≡ true
-    else_supported (no_else_rule h i e) = ap supported e
+    else_supported : {k : Code} {x : Tree} {c d : Place} → ElseRule (ReadsStmt n) (ReadsClass n) k x c d → supported_in k.flags.module x ≡ true
+    else_supported {k = k} (no_else_rule h i e) = ap (supported_in k.flags.module) e
     else_supported {k = k} {x = x} {c = c} {d = d} (else_rule h i s) = small k sub_statement x (after c) d s
     else_supported (else_if_rule h r) = if_supported r
 
-  rule_supported : (k : Code) (at : Position) (x : Tree) (c d : Place) → StmtRule (ReadsStmt n) (ReadsClass n) (ReadsPat n) (ReadsTarget n) (ReadsParams n) k at x c d → supported x ≡ true
+  rule_supported : (k : Code) (at : Position) (x : Tree) (c d : Place) → StmtRule (ReadsStmt n) (ReadsClass n) (ReadsPat n) (ReadsTarget n) (ReadsParams n) k at x c d → supported_in k.flags.module x ≡ true
   rule_supported k at x c d (function_rule a r) =
-      ap supported r.is ∙ and_both _ _ (name_is_supported k.flags (word_text r.name) r.is_named)
-      (and_both (supported (parameters r.patterns)) _ (parameters_same r.patterns ∙ r.reads_parameters.1) (braced_supported true r.reads_body))
+      ap (supported_in k.flags.module) r.is ∙ and_both _ _ (name_is_supported k.flags (word_text r.name) r.is_named)
+      (and_both (supported_in k.flags.module (parameters r.patterns)) _ (parameters_same k.flags.module r.patterns ∙ r.reads_parameters.1) (braced_supported true r.reads_body))
   rule_supported k at x c d (block_rule r) = block_supported r
-  rule_supported k at x c d (empty_rule h g e) = ap supported e
-  rule_supported k at x c d (debugger_rule h g e) = ap supported e
-  rule_supported k at x c d (variables_rule word xs m a h r g e) = ap supported e ∙ declarators_supported n (with_in k) false word xs (after c) m r
+  rule_supported k at x c d (empty_rule h g e) = ap (supported_in k.flags.module) e
+  rule_supported k at x c d (debugger_rule h g e) = ap (supported_in k.flags.module) e
+  rule_supported k at x c d (variables_rule word xs m a h r g e) = ap (supported_in k.flags.module) e ∙ declarators_supported n (with_in k) false word xs (after c) m r
   rule_supported k at x c d (if_statement_rule r) = if_supported r
-  rule_supported k at x c d (switch_rule y xs m i h r j s g t e) = ap supported e ∙ and_both (supported y) _ r.reads.1 (cases_supported (in_breakable k) false xs (after m) i s)
+  rule_supported k at x c d (switch_rule y xs m i h r j s g t e) = ap (supported_in k.flags.module) e ∙ and_both (supported_in k.flags.module y) _ r.reads.1 (cases_supported (in_breakable k) false xs (after m) i s)
   rule_supported k at x c d (labeled_rule w s y m r f h t e) =
-      ap supported e ∙ and_both _ _ (name_is_supported k.flags (word_text w) f) (small (in_breakable k) (labelled_item (after m)) y (after m) d t)
-  rule_supported k at x c d (break_rule y m h r g e) = ap supported e ∙ target_supported r
-  rule_supported k at x c d (continue_rule y m h r g e) = ap supported e ∙ target_supported r
-  rule_supported k at x c d (return_rule y m h r g e) = ap supported e ∙ operand_supported n r
+      ap (supported_in k.flags.module) e ∙ and_both _ _ (name_is_supported k.flags (word_text w) f) (small (in_breakable k) (labelled_item (after m)) y (after m) d t)
+  rule_supported k at x c d (break_rule y m h r g e) = ap (supported_in k.flags.module) e ∙ target_supported r
+  rule_supported k at x c d (continue_rule y m h r g e) = ap (supported_in k.flags.module) e ∙ target_supported r
+  rule_supported k at x c d (return_rule y m h r g e) = ap (supported_in k.flags.module) e ∙ operand_supported n r
   rule_supported k at x c d (for_rule a b f y l m i h g r j s o t p u e) =
-      ap supported e ∙ and_both (supported a) _ (init_supported n r) (and_both (supported b) _ (part_supported n s) (and_both (supported f) _ (part_supported n t) (small (in_loop k) sub_statement y (after i) d u)))
+      ap (supported_in k.flags.module) e ∙ and_both (supported_in k.flags.module a) _ (init_supported n r) (and_both (supported_in k.flags.module b) _ (part_supported n s) (and_both (supported_in k.flags.module f) _ (part_supported n t) (small (in_loop k) sub_statement y (after i) d u)))
   rule_supported k at x c d (for_in_rule a b y m i h g r j s o t e) =
-      ap supported e ∙ and_both (supported a) _ (left_supported n r) (and_both (supported b) _ s.1 (small (in_loop k) sub_statement y (after i) d t))
+      ap (supported_in k.flags.module) e ∙ and_both (supported_in k.flags.module a) _ (left_supported n r) (and_both (supported_in k.flags.module b) _ s.1 (small (in_loop k) sub_statement y (after i) d t))
   rule_supported k at x c d (for_of_rule w a b y l m i h v g r j z q s o t e) =
-      ap supported e
-      ∙ and_both (not (w && is_bare_async a)) _ q (and_both (supported a) _ (left_supported n r) (and_both (supported b) _ s.1 (small (in_loop k) sub_statement y (after i) d t)))
-  rule_supported k at x c d (throw_rule y m h b r g e) = ap supported e ∙ r.1
-  rule_supported k at x c d (try_rule y z w m i h r s t a e) = ap supported e ∙ and_both (supported y) _ (block_supported r) (and_both (supported z) _ (catch_supported s) (finally_supported t))
-  rule_supported k at x c d (with_rule y z m h o r s e) = ap supported e ∙ and_both (supported y) _ r.reads.1 (small (in_with k) sub_statement z m d s)
-  rule_supported k at x c d (while_rule y z m h r s e) = ap supported e ∙ and_both (supported y) _ r.reads.1 (small (in_loop k) sub_statement z m d s)
-  rule_supported k at x c d (do_while_rule y z m i h s j r g e) = ap supported e ∙ and_both (supported y) _ r.reads.1 (small (in_loop k) sub_statement z (after c) m s)
-  rule_supported k at x c d (expr_rule y m h r a b g e) = ap supported e ∙ r.1
-  rule_supported k at x c d (import_rule y m h r g e) = ap supported e ∙ r.1
+      ap (supported_in k.flags.module) e
+      ∙ and_both (not (w && is_bare_async a)) _ q (and_both (supported_in k.flags.module a) _ (left_supported n r) (and_both (supported_in k.flags.module b) _ s.1 (small (in_loop k) sub_statement y (after i) d t)))
+  rule_supported k at x c d (throw_rule y m h b r g e) = ap (supported_in k.flags.module) e ∙ r.1
+  rule_supported k at x c d (try_rule y z w m i h r s t a e) = ap (supported_in k.flags.module) e ∙ and_both (supported_in k.flags.module y) _ (block_supported r) (and_both (supported_in k.flags.module z) _ (catch_supported s) (finally_supported t))
+  rule_supported k at x c d (with_rule y z m h o r s e) = ap (supported_in k.flags.module) e ∙ and_both (supported_in k.flags.module y) _ r.reads.1 (small (in_with k) sub_statement z m d s)
+  rule_supported k at x c d (while_rule y z m h r s e) = ap (supported_in k.flags.module) e ∙ and_both (supported_in k.flags.module y) _ r.reads.1 (small (in_loop k) sub_statement z m d s)
+  rule_supported k at x c d (do_while_rule y z m i h s j r g e) = ap (supported_in k.flags.module) e ∙ and_both (supported_in k.flags.module y) _ r.reads.1 (small (in_loop k) sub_statement z (after c) m s)
+  rule_supported k at x c d (expr_rule y m h r a b g e) = ap (supported_in k.flags.module) e ∙ r.1
+  rule_supported k at x c d (import_rule y m h r g e) = ap (supported_in k.flags.module) e ∙ r.1
 
-pub stmt_supported : (n : ℕ) (k : Code) (at : Position) (x : Tree) (c d : Place) → ReadsStmt n k at x c d → supported x ≡ true
+pub stmt_supported : (n : ℕ) (k : Code) (at : Position) (x : Tree) (c d : Place) → ReadsStmt n k at x c d → supported_in k.flags.module x ≡ true
 stmt_supported zero k at x c d h = absurd h
 stmt_supported (suc n) k at x c d h = rule_supported n (stmt_supported n) k at x c d h
 
@@ -244,7 +248,7 @@ module _ (n : ℕ) (widen : (k : Code) (at : Position) (x : Tree) (c d : Place) 
   head_widens : {k : Code} {x : Tree} {c d : Place} → ReadsHead (ReadsClass n) k x c d → statements.HeadRule (Reads n) k x c d
   head_widens r = record { close = r.close; opens = r.opens; reads = r.reads.0; closes = r.closes; next = r.next }
 
-  braced_widens : (directives : Bool) {k : Code} {x : Tree} {c d : Place} → ReadsBraced (ReadsStmt n) directives k x c d → BlockRule (Reads n) k directives x c d
+  pub braced_widens : (directives : Bool) {k : Code} {x : Tree} {c d : Place} → ReadsBraced (ReadsStmt n) directives k x c d → BlockRule (Reads n) k directives x c d
   braced_widens directives {k = k} {c = c} r = record {
     items = r.items;
     close = r.close;

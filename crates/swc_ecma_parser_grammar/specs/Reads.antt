@@ -12,7 +12,7 @@ use Rattle.swc_ecma_parser_model.specs.declared.leaves.VarDeclKind.{VarDeclKind}
 use Rattle.swc_ecma_parser_model.specs.Tree as tree
 use Rattle.swc_ecma_parser_model.specs.Tree.{Tree, Text, listed}
 use Rattle.swc_ecma_parser_model.specs.Directive.{is_use_strict}
-use Rattle.swc_ecma_parser_model.specs.Forms.{is_absent, is_ident, is_ident_named}
+use Rattle.swc_ecma_parser_model.specs.Forms.{is_absent, is_ident, is_ident_named, has_plain_params}
 use Rattle.swc_ecma_parser_grammar.specs.declared.position.Position.{Position}
 use Rattle.swc_ecma_parser_grammar.specs.Looks.{kind_at, breaks_at, sees, spanned}
 use Rattle.swc_ecma_parser_grammar.specs.Names.{Code, is_name}
@@ -20,7 +20,8 @@ use Rattle.swc_ecma_parser_grammar.specs.Ends.{Ends, OptionalEnds, ends_at}
 use Rattle.swc_ecma_parser_grammar.specs.Follows.{word_at, may_begin_expression_statement, begins_import_expression, may_begin_head, is_bare_async, is_async_of, AwaitWord}
 use Rattle.swc_ecma_parser_grammar.specs.Variables.{begins_variables, is_var, needs_no_initializer}
 use Rattle.swc_ecma_parser_grammar.specs.language.Goals.{Class, expression, assignment}
-use Rattle.swc_ecma_parser_grammar.specs.language.Contexts.{in_parameters, in_body, in_loop, in_breakable, in_with, without_in}
+use Rattle.swc_ecma_parser_grammar.specs.language.Contexts.{named_by, in_parameters, in_body, in_loop, in_breakable, in_with, without_in}
+use Rattle.swc_ecma_parser_grammar.specs.Own.{misplaced_directive}
 use Rattle.swc_ecma_parser_grammar.specs.Parameters.{parameters}
 use Rattle.swc_ecma_parser_grammar.specs.language.Items.{sub_statement, labelled_item}
 
@@ -107,6 +108,27 @@ pub record ReadsFunction (Stmt : Code → Position → Tree → Place → Place 
   pub reads_parameters : Params (in_parameters k false false) patterns behind_name middle
   pub reads_body : ReadsBraced Stmt true (in_body k false false) body middle d
   pub is : x ≡ tree.fn_decl (tree.ident name_span (word_text name)) (tree.function (spanned c d) (listed []) (parameters patterns) body false false)
+
+-- the name of a function that is an expression, which is read in the function's own code, or none
+pub data OwnNameRule (k : Code) (x : Tree) (c d : Place) : Type 0 where
+  no_own_name_rule : kind_at c ≡ kind.LParen → d ≡ c → x ≡ tree.absent → OwnNameRule k x c d
+  own_name_rule : (w : Word) (s : Span) → ReadsToken (token.Word w) s c d → is_name (named_by k false false).flags (word_text w) ≡ true → x ≡ tree.ident s (word_text w)
+      → OwnNameRule k x c d
+
+-- a function that is neither async nor a generator, as an expression: section 15.2
+pub record ReadsFunctionExpr (Stmt : Code → Position → Tree → Place → Place → Type 0) (Params : Code → List Tree → Place → Place → Type 0) (k : Code) (x : Tree) (c d : Place) : Type 0 where
+  pub name : Tree
+  pub patterns : List Tree
+  pub body : Tree
+  pub behind_name : Place
+  pub middle : Place
+  pub is_function : kind_at c ≡ kind.Function
+  pub reads_name : OwnNameRule k name (after c) behind_name
+  pub reads_parameters : Params (in_parameters k false false) patterns behind_name middle
+  pub reads_body : ReadsBraced Stmt true (in_body k false false) body middle d
+  -- no directive of the body makes parameters strict that are not all plain names
+  pub directs : misplaced_directive (has_plain_params (parameters patterns)) body ≡ []
+  pub is : x ≡ tree.fn_expr (spanned c d) name (tree.function (spanned c d) (listed []) (parameters patterns) body false false)
 
 -- `( Expression )` behind the word of a statement
 pub record ReadsHead (Expr : Class → Code → Tree → Place → Place → Type 0) (k : Code) (e : Tree) (c d : Place) : Type 0 where

@@ -7,30 +7,30 @@ use Rattle.swc_ecma_parser_grammar.specs.declared.position.Position.{Position}
 use Rattle.swc_ecma_parser_grammar.specs.Looks.{sees}
 use Rattle.swc_ecma_parser_grammar.specs.Names.{Code}
 use Rattle.swc_ecma_parser_grammar.specs.Reads.{StmtRule}
-use Rattle.swc_ecma_parser_grammar.specs.Supported.{supported, all_supported}
+use Rattle.swc_ecma_parser_grammar.specs.Supported.{supported_in, all_supported_in}
 use Rattle.swc_ecma_parser_grammar.specs.language.Goals.{Class, callee, binding, assigning, expr_goal, callee_goal, pattern_goal, element_goal}
 use Rattle.swc_ecma_parser_grammar.specs.language.Functions.{ParametersRule}
 use Rattle.swc_ecma_parser_grammar.specs.language.Reads.{Reads}
 
 -- An expression of a class within so many levels. Behind what `new` calls its arguments may stand.
 abbrev pub ReadsClass : ℕ → Class → Code → Tree → Place → Place → Type 0
-ReadsClass n callee k x c d = Reads n (callee_goal k x c d) × (sees kind.Dot d || sees kind.LBracket d ≡ false) × (supported x ≡ true)
-ReadsClass n class k x c d = Reads n (expr_goal class k x c d) × (supported x ≡ true)
+ReadsClass n callee k x c d = Reads n (callee_goal k x c d) × (sees kind.Dot d || sees kind.LBracket d ≡ false) × (supported_in k.flags.module x ≡ true)
+ReadsClass n class k x c d = Reads n (expr_goal class k x c d) × (supported_in k.flags.module x ≡ true)
 
 -- a binding pattern within so many levels, and one with its default, if it has one
 abbrev pub ReadsPat : ℕ → Code → Tree → Place → Place → Type 0
-ReadsPat n k x c d = Reads n (pattern_goal binding k x c d) × (supported x ≡ true)
+ReadsPat n k x c d = Reads n (pattern_goal binding k x c d) × (supported_in k.flags.module x ≡ true)
 
 abbrev pub ReadsElement : ℕ → Code → Tree → Place → Place → Type 0
-ReadsElement n k x c d = Reads n (element_goal binding k x c d) × (supported x ≡ true)
+ReadsElement n k x c d = Reads n (element_goal binding k x c d) × (supported_in k.flags.module x ≡ true)
 
 -- what is assigned to: a name, a member, or a pattern
 abbrev pub ReadsTarget : ℕ → Code → Tree → Place → Place → Type 0
-ReadsTarget n k x c d = Reads n (pattern_goal assigning k x c d) × (supported x ≡ true)
+ReadsTarget n k x c d = Reads n (pattern_goal assigning k x c d) × (supported_in k.flags.module x ≡ true)
 
 -- the parameters of a function
 abbrev pub ReadsParams : ℕ → Code → List Tree → Place → Place → Type 0
-ReadsParams n k ps c d = ParametersRule (Reads n) k ps c d × (all_supported (trees ps) ≡ true)
+ReadsParams n k ps c d = ParametersRule (Reads n) k ps c d × (all_supported_in k.flags.module (trees ps) ≡ true)
 
 -- a statement within so many levels
 abbrev pub ReadsStmt : ℕ → Code → Position → Tree → Place → Place → Type 0

@@ -1,112 +1,139 @@
 -- The part of the language that the parser reads so far.
-use Rattle.std.specs.Prelude.{Bool, true, false, not, ◌&&◌, codes}
+use Rattle.std.specs.Prelude.{Bool, true, false, not, ◌&&◌, ◌||◌, List, [], ◌∷◌, codes}
 use Rattle.std.specs.Str.{bytes_eq}
+use Rattle.swc_ecma_parser_error.specs.Kind.{Fault}
 use Rattle.swc_ecma_parser_model.specs.Tree as tree
 use Rattle.swc_ecma_parser_model.specs.Tree.{Tree, Trees, none, also}
+use Rattle.swc_ecma_parser_model.specs.Forms.{has_plain_params}
 use Rattle.swc_ecma_parser_grammar.specs.Follows.{is_bare_async}
+use Rattle.swc_ecma_parser_grammar.specs.Notes.{notes}
+use Rattle.swc_ecma_parser_grammar.specs.Own.{misplaced_directive}
 
 -- no decorator
 abbrev pub has_none : Tree → Bool
 has_none (tree.list none) = true
 has_none _ = false
 
--- whether a tree is made of these forms alone
+abbrev pub is_clean : List Fault → Bool
+is_clean [] = true
+is_clean (f ∷ fs) = false
+
+-- no fault of module code alone is in it
+abbrev pub has_no_note : Tree → Bool
+has_no_note x = is_clean (notes x)
+
+-- whether a directive of its body turns the code strict only where the parameters of a function are all plain names
+abbrev pub is_rightly_directed : Tree → Bool
+is_rightly_directed (tree.function s decorators params body is_async is_generator) = is_clean (misplaced_directive (has_plain_params params) body)
+is_rightly_directed _ = true
+
+-- whether a tree is made of these forms alone, in module code or elsewhere
 abbrev mutual
-  pub supported : Tree → Bool
-  supported (tree.list ts) = all_supported ts
+  pub supported_in : (in_module : Bool) → Tree → Bool
+  supported_in m (tree.list ts) = all_supported_in m ts
   -- names but `await`, literals, arrays, objects without methods and parentheses: ECMA-262, section 13.2
-  supported (tree.ident s text) = not (bytes_eq text (codes "await"))
-  supported (tree.str s value raw) = true
-  supported (tree.bool s b) = true
-  supported (tree.null s) = true
-  supported (tree.num s raw) = true
-  supported (tree.big_int s raw) = true
-  supported (tree.array s elems) = supported elems
-  supported (tree.object s props) = supported props
-  supported (tree.spread_prop dots e) = supported e
-  supported (tree.shorthand_prop s text) = not (bytes_eq text (codes "await"))
-  supported (tree.key_value_prop s key value) = is_supported_key key && supported value
-  supported (tree.paren s e) = supported e
-  supported (tree.this s) = true
+  supported_in m (tree.ident s text) = not (bytes_eq text (codes "await"))
+  supported_in m (tree.str s value raw) = true
+  supported_in m (tree.bool s b) = true
+  supported_in m (tree.null s) = true
+  supported_in m (tree.num s raw) = true
+  supported_in m (tree.big_int s raw) = true
+  supported_in m (tree.array s elems) = supported_in m elems
+  supported_in m (tree.object s props) = supported_in m props
+  supported_in m (tree.spread_prop dots e) = supported_in m e
+  supported_in m (tree.shorthand_prop s text) = not (bytes_eq text (codes "await"))
+  supported_in m (tree.key_value_prop s key value) = is_supported_key_in m key && supported_in m value
+  supported_in m (tree.paren s e) = supported_in m e
+  supported_in m (tree.this s) = true
   -- accesses, calls, `import(..)`, `import.meta` and `new`: section 13.3
-  supported (tree.meta_prop s kind) = true
-  supported (tree.member s obj prop) = supported obj && is_supported_property prop
-  supported (tree.super_prop s word prop) = is_supported_property prop
-  supported (tree.call s f args) = supported f && supported args
-  supported (tree.super_callee s) = true
-  supported (tree.import_callee s) = true
-  supported (tree.new s f args) = supported f && supported args
-  supported (tree.element spread e) = supported e
-  supported tree.absent = true
+  supported_in m (tree.meta_prop s kind) = true
+  supported_in m (tree.member s obj prop) = supported_in m obj && is_supported_property_in m prop
+  supported_in m (tree.super_prop s word prop) = is_supported_property_in m prop
+  supported_in m (tree.call s f args) = supported_in m f && supported_in m args
+  supported_in m (tree.super_callee s) = true
+  supported_in m (tree.import_callee s) = true
+  supported_in m (tree.new s f args) = supported_in m f && supported_in m args
+  supported_in m (tree.element spread e) = supported_in m e
+  supported_in m tree.absent = true
   -- operators, conditionals, assignments and sequences: sections 13.4 to 13.16
-  supported (tree.unary s op arg) = supported arg
-  supported (tree.update s op prefix arg) = supported arg
-  supported (tree.bin s op left right) = supported left && supported right
-  supported (tree.assign s op left right) = supported left && supported right
-  supported (tree.cond s test cons alt) = supported test && (supported cons && supported alt)
-  supported (tree.seq s exprs) = supported exprs
+  supported_in m (tree.unary s op arg) = supported_in m arg
+  supported_in m (tree.update s op prefix arg) = supported_in m arg
+  supported_in m (tree.bin s op left right) = supported_in m left && supported_in m right
+  supported_in m (tree.assign s op left right) = supported_in m left && supported_in m right
+  supported_in m (tree.cond s test cons alt) = supported_in m test && (supported_in m cons && supported_in m alt)
+  supported_in m (tree.seq s exprs) = supported_in m exprs
   -- what `=` assigns to, and what `var` binds: sections 13.15.5 and 14.3.3
-  supported (tree.ident_pat s text) = not (bytes_eq text (codes "await"))
-  supported (tree.array_pat s elems) = supported elems
-  supported (tree.object_pat s props) = supported props
-  supported (tree.rest_pat s arg) = supported arg
-  supported (tree.key_value_pat_prop s key value) = is_supported_key key && supported value
-  supported (tree.assign_pat_prop s key value) = supported key && supported value
-  supported (tree.assign_pat s left right) = supported left && supported right
-  supported (tree.expr_pat e) = supported e
+  supported_in m (tree.ident_pat s text) = not (bytes_eq text (codes "await"))
+  supported_in m (tree.array_pat s elems) = supported_in m elems
+  supported_in m (tree.object_pat s props) = supported_in m props
+  supported_in m (tree.rest_pat s arg) = supported_in m arg
+  supported_in m (tree.key_value_pat_prop s key value) = is_supported_key_in m key && supported_in m value
+  supported_in m (tree.assign_pat_prop s key value) = supported_in m key && supported_in m value
+  supported_in m (tree.assign_pat s left right) = supported_in m left && supported_in m right
+  supported_in m (tree.expr_pat e) = supported_in m e
   -- `var`, `let` and `const`, with initializers or without: sections 14.3.2 and 14.3.1
-  supported (tree.var s word ds) = supported ds
-  supported (tree.declarator s name init) = supported name && supported init
+  supported_in m (tree.var s word ds) = supported_in m ds
+  supported_in m (tree.declarator s name init) = supported_in m name && supported_in m init
   -- blocks, empty statements, `debugger` and expression statements: sections 14.2, 14.4, 14.16 and 14.5
-  supported (tree.block s stmts) = supported stmts
-  supported (tree.empty s) = true
-  supported (tree.debugger s) = true
-  supported (tree.expr_stmt s e) = supported e
+  supported_in m (tree.block s stmts) = supported_in m stmts
+  supported_in m (tree.empty s) = true
+  supported_in m (tree.debugger s) = true
+  supported_in m (tree.expr_stmt s e) = supported_in m e
   -- `for` of three parts, with `in` and with `of`, but for `async` alone behind `for await`: sections 14.7.4 and 14.7.5
-  supported (tree.for s init test next body) = supported init && (supported test && (supported next && supported body))
-  supported (tree.for_in s left right body) = supported left && (supported right && supported body)
-  supported (tree.for_of s is_await left right body) = not (is_await && is_bare_async left) && (supported left && (supported right && supported body))
+  supported_in m (tree.for s init test next body) = supported_in m init && (supported_in m test && (supported_in m next && supported_in m body))
+  supported_in m (tree.for_in s left right body) = supported_in m left && (supported_in m right && supported_in m body)
+  supported_in m (tree.for_of s is_await left right body) = not (is_await && is_bare_async left) && (supported_in m left && (supported_in m right && supported_in m body))
   -- `if`, `switch`, `throw`, `try`, `while` and `do`: sections 14.6, 14.12, 14.14, 14.15, 14.7.3 and 14.7.2
-  supported (tree.if_stmt s test cons alt) = supported test && (supported cons && supported alt)
-  supported (tree.switch s discriminant cases) = supported discriminant && supported cases
-  supported (tree.case s test cons) = supported test && supported cons
-  supported (tree.throw s arg) = supported arg
-  supported (tree.try s body handler finalizer) = supported body && (supported handler && supported finalizer)
-  supported (tree.catch s p body) = supported p && supported body
-  supported (tree.while s test body) = supported test && supported body
-  supported (tree.do_while s test body) = supported test && supported body
+  supported_in m (tree.if_stmt s test cons alt) = supported_in m test && (supported_in m cons && supported_in m alt)
+  supported_in m (tree.switch s discriminant cases) = supported_in m discriminant && supported_in m cases
+  supported_in m (tree.case s test cons) = supported_in m test && supported_in m cons
+  supported_in m (tree.throw s arg) = supported_in m arg
+  supported_in m (tree.try s body handler finalizer) = supported_in m body && (supported_in m handler && supported_in m finalizer)
+  supported_in m (tree.catch s p body) = supported_in m p && supported_in m body
+  supported_in m (tree.while s test body) = supported_in m test && supported_in m body
+  supported_in m (tree.do_while s test body) = supported_in m test && supported_in m body
   -- `with`: section 14.11
-  supported (tree.with s obj body) = supported obj && supported body
+  supported_in m (tree.with s obj body) = supported_in m obj && supported_in m body
   -- labels, and what they stand at: section 14.13
-  supported (tree.labeled s label body) = supported label && supported body
+  supported_in m (tree.labeled s label body) = supported_in m label && supported_in m body
   -- `break`, `continue` and `return`: sections 14.9, 14.8 and 14.10
-  supported (tree.break s label) = supported label
-  supported (tree.continue s label) = supported label
-  supported (tree.return s arg) = supported arg
+  supported_in m (tree.break s label) = supported_in m label
+  supported_in m (tree.continue s label) = supported_in m label
+  supported_in m (tree.return s arg) = supported_in m arg
   -- functions that are declared, neither async nor generators: section 15.2
-  supported (tree.fn_decl name fn) = supported name && supported fn
-  supported (tree.function s decorators params body is_async is_generator) = not is_async && (not is_generator && (has_none decorators && (supported params && supported body)))
-  supported (tree.param s decorators p) = has_none decorators && supported p
+  supported_in m (tree.fn_decl name fn) = supported_in m name && supported_in m fn
+  supported_in m (tree.function s decorators params body is_async is_generator) = not is_async && (not is_generator && (has_none decorators && (supported_in m params && supported_in m body)))
+  supported_in m (tree.param s decorators p) = has_none decorators && supported_in m p
+  -- Such functions as expressions, whose body does not turn parameters strict that are not all plain names. In module code nothing
+  -- in them is a fault of it: section 15.2
+  supported_in m (tree.fn_expr s name fn) = supported_in m name && (supported_in m fn && (is_rightly_directed fn && (not m || has_no_note fn)))
   -- section 16.1
-  supported (tree.script s body shebang) = supported body
-  supported _ = false
+  supported_in m (tree.script s body shebang) = supported_in m body
+  supported_in m _ = false
 
   -- any word, a private name, or an expression in brackets
-  pub is_supported_property : Tree → Bool
-  is_supported_property (tree.ident s text) = true
-  is_supported_property (tree.private_name s word text) = true
-  is_supported_property (tree.computed s e) = supported e
-  is_supported_property _ = false
+  pub is_supported_property_in : (in_module : Bool) → Tree → Bool
+  is_supported_property_in m (tree.ident s text) = true
+  is_supported_property_in m (tree.private_name s word text) = true
+  is_supported_property_in m (tree.computed s e) = supported_in m e
+  is_supported_property_in m _ = false
 
   -- any word, a string, a number, or an expression in brackets
-  pub is_supported_key : Tree → Bool
-  is_supported_key (tree.ident s text) = true
-  is_supported_key (tree.str s value raw) = true
-  is_supported_key (tree.num s raw) = true
-  is_supported_key (tree.big_int s raw) = true
-  is_supported_key (tree.computed s e) = supported e
-  is_supported_key _ = false
+  pub is_supported_key_in : (in_module : Bool) → Tree → Bool
+  is_supported_key_in m (tree.ident s text) = true
+  is_supported_key_in m (tree.str s value raw) = true
+  is_supported_key_in m (tree.num s raw) = true
+  is_supported_key_in m (tree.big_int s raw) = true
+  is_supported_key_in m (tree.computed s e) = supported_in m e
+  is_supported_key_in m _ = false
 
-  pub all_supported : Trees → Bool
-  all_supported none = true
-  all_supported (also t ts) = supported t && all_supported ts
+  pub all_supported_in : (in_module : Bool) → Trees → Bool
+  all_supported_in m none = true
+  all_supported_in m (also t ts) = supported_in m t && all_supported_in m ts
+
+-- elsewhere than in module code
+abbrev pub supported : Tree → Bool
+supported x = supported_in false x
+
+abbrev pub all_supported : Trees → Bool
+all_supported xs = all_supported_in false xs

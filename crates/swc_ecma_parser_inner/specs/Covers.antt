@@ -4,7 +4,7 @@ use Rattle.swc_ecma_parser_model.specs.Tree.{Tree}
 use Rattle.swc_ecma_parser_reader.specs.Classes.{class_of}
 use Rattle.swc_ecma_parser_reader.specs.State.{Reader, ◌>>=◌, pure}
 use Rattle.swc_ecma_parser_reader.specs.Expressions as exprs
-use Rattle.swc_ecma_parser_reader.specs.Heads.{head_cover}
+use Rattle.swc_ecma_parser_reader.specs.Reader as rules
 use Rattle.swc_ecma_parser_inner.specs.declared.cover.Cover.{Cover}
 use Rattle.swc_ecma_parser_inner.specs.declared.cover.Covers.{Covers}
 use Rattle.swc_ecma_parser_inner.specs.declared.cover.Reading.{Reading}
@@ -18,9 +18,9 @@ covers_of view v = record { xs = map view v.parts.items; mark = v.mark; comma = 
 
 -- what is read in so many levels
 abbrev pub read : ℕ → Reading → Reader exprs.Cover
-read n (reading.Expr class) = exprs.expr n (class_of class) >>= λ x. pure (exprs.done x)
-read n reading.Cover = exprs.cover n
-read n reading.Head = head_cover n
+read n (reading.Expr class) = rules.expr n (class_of class) >>= λ x. pure (exprs.done x)
+read n reading.Cover = rules.cover n
+read n reading.Head = rules.head_cover n
 
 -- a key by itself, whatever reads what stands further in
 abbrev pub bare : Tree → Reader exprs.Cover

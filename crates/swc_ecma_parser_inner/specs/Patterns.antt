@@ -1,8 +1,8 @@
 -- Patterns without and with a default, as they are asked for.
 use Rattle.std.specs.Prelude.{ℕ}
 use Rattle.swc_ecma_parser_model.specs.Tree.{Tree}
+use Rattle.swc_ecma_parser_reader.specs.Reader.{pattern, element}
 use Rattle.swc_ecma_parser_reader.specs.State.{Reader}
-use Rattle.swc_ecma_parser_reader.specs.Patterns.{pattern, element}
 use Rattle.swc_ecma_parser_inner.specs.declared.grammar.Part.{Part}
 use Rattle.swc_ecma_parser_inner.specs.declared.grammar.Part.TheVariants as part
 

@@ -6,6 +6,7 @@ ghost use Rattle.swc_ecma_parser_inner.specs.Nests.{Nests};
 ghost use Rattle.swc_ecma_parser_left.specs.Accesses.{property_of};
 ghost use Rattle.swc_ecma_parser_model.specs.Tree as tree;
 ghost use Rattle.swc_ecma_parser_reader.specs.Expressions as exprs;
+ghost use Rattle.swc_ecma_parser_reader.specs.Reader as rules;
 ghost use Rattle.swc_ecma_parser_reader.specs.State.{Gives, GivesAs};
 ghost use Rattle.swc_ecma_parser_source.specs.Literals.{literal_tree};
 ghost use Rattle.swc_ecma_parser_token.specs.declared.kind.TokenKind.TheVariants as kind;
@@ -16,6 +17,7 @@ use crate::object::object;
 use std::alloc::{AllocError, Global};
 use swc_ecma_parser_common::Span;
 use swc_ecma_parser_error::{PResult, SyntaxError};
+use swc_ecma_parser_functions::function::function_expr;
 use swc_ecma_parser_grammar::{Class, Position};
 use swc_ecma_parser_inner::cover::{Cover, Reading, close, inside, nested};
 use swc_ecma_parser_inner::grammar::{Grammar, Part};
@@ -24,7 +26,9 @@ use swc_ecma_parser_inner::steps::{grown, since};
 use swc_ecma_parser_model::MetaPropKind;
 use swc_ecma_parser_source::{Literal, Source, Wanted};
 use swc_ecma_parser_token::TokenKind;
-use swc_ecma_parser_trees::{BuildsCall, BuildsExpr, BuildsObject, BuildsOperator, MakerOf};
+use swc_ecma_parser_trees::{
+    BuildsCall, BuildsExpr, BuildsFunction, BuildsObject, BuildsOperator, BuildsPattern, MakerOf,
+};
 
 /// A name; `async function` on one line is none.
 #[tactic(auto, unfolding(swc_ecma_parser_reader::specs::Expressions::ident_expr))]
@@ -112,7 +116,7 @@ fn paren<
     N: Fn(&MakerOf<T>, &mut P, usize, Part) -> PResult<T::Pat>,
 >(g: &Grammar<S, E, N>, t: &MakerOf<T>, p: &mut P) -> PResult<T::Expr>
     requires { Nests P.seen T.expr_of T.pat_of T.stmt_of g.now.depth (S.pre g.now.stmt) (S.post g.now.stmt) (E.pre g.now.expr) (E.post g.now.expr) (N.pre g.now.pat) (N.post g.now.pat) }
-    ensures { GivesAs (T.expr_of) (exprs.paren (exprs.expr g.now.depth) (exprs.cover g.now.depth) (P.seen p.old)) result (P.seen p.new) }
+    ensures { GivesAs (T.expr_of) (exprs.paren (rules.expr g.now.depth) (rules.cover g.now.depth) (P.seen p.old)) result (P.seen p.new) }
 {
     let start = p.span();
     p.skip()?;
@@ -122,17 +126,17 @@ fn paren<
     grown(p, T::paren(t.alloc, span, expr))
 }
 
-/// Parentheses, an array, an object, or `this`.
+/// Parentheses, an array, an object, `this`, or a function.
 #[tactic(auto, unfolding(swc_ecma_parser_reader::specs::Expressions::marked_primary))]
 fn marked_primary<
     P: Source,
-    T: BuildsExpr + BuildsCall + BuildsObject + BuildsOperator,
+    T: BuildsExpr + BuildsCall + BuildsObject + BuildsOperator + BuildsPattern + BuildsFunction,
     S: Fn(&MakerOf<T>, &mut P, usize, Position) -> PResult<T::Stmt>,
     E: Fn(&MakerOf<T>, &mut P, usize, Reading) -> PResult<Cover<T::Expr>>,
     N: Fn(&MakerOf<T>, &mut P, usize, Part) -> PResult<T::Pat>,
 >(g: &Grammar<S, E, N>, t: &MakerOf<T>, p: &mut P) -> PResult<T::Expr>
     requires { Nests P.seen T.expr_of T.pat_of T.stmt_of g.now.depth (S.pre g.now.stmt) (S.post g.now.stmt) (E.pre g.now.expr) (E.post g.now.expr) (N.pre g.now.pat) (N.post g.now.pat) }
-    ensures { GivesAs (T.expr_of) (exprs.marked_primary (exprs.expr g.now.depth) (exprs.cover g.now.depth) (P.seen p.old)) result (P.seen p.new) }
+    ensures { GivesAs (T.expr_of) (exprs.marked_primary (rules.expr g.now.depth) (rules.cover g.now.depth) (rules.function g.now.depth) (P.seen p.old)) result (P.seen p.new) }
 {
     if p.sees(TokenKind::LParen) {
         return paren(g, t, p);
@@ -148,6 +152,9 @@ fn marked_primary<
     if p.sees(TokenKind::This) {
         return this::<P, T>(t.alloc, p);
     }
+    if p.sees(TokenKind::Function) {
+        return function_expr(g, t, p);
+    }
     Err(p.wanted(Wanted::Expression))
 }
 
@@ -155,13 +162,13 @@ fn marked_primary<
 #[tactic(auto, unfolding(swc_ecma_parser_reader::specs::Expressions::primary))]
 fn primary<
     P: Source,
-    T: BuildsExpr + BuildsCall + BuildsObject + BuildsOperator,
+    T: BuildsExpr + BuildsCall + BuildsObject + BuildsOperator + BuildsPattern + BuildsFunction,
     S: Fn(&MakerOf<T>, &mut P, usize, Position) -> PResult<T::Stmt>,
     E: Fn(&MakerOf<T>, &mut P, usize, Reading) -> PResult<Cover<T::Expr>>,
     N: Fn(&MakerOf<T>, &mut P, usize, Part) -> PResult<T::Pat>,
 >(g: &Grammar<S, E, N>, t: &MakerOf<T>, p: &mut P) -> PResult<T::Expr>
     requires { Nests P.seen T.expr_of T.pat_of T.stmt_of g.now.depth (S.pre g.now.stmt) (S.post g.now.stmt) (E.pre g.now.expr) (E.post g.now.expr) (N.pre g.now.pat) (N.post g.now.pat) }
-    ensures { GivesAs (T.expr_of) (exprs.primary (exprs.expr g.now.depth) (exprs.cover g.now.depth) (P.seen p.old)) result (P.seen p.new) }
+    ensures { GivesAs (T.expr_of) (exprs.primary (rules.expr g.now.depth) (rules.cover g.now.depth) (rules.function g.now.depth) (P.seen p.old)) result (P.seen p.new) }
 {
     if p.name_at() {
         return ident_expr::<P, T>(t.alloc, p);
@@ -182,7 +189,7 @@ fn accessed<
     N: Fn(&MakerOf<T>, &mut P, usize, Part) -> PResult<T::Pat>,
 >(g: &Grammar<S, E, N>, t: &MakerOf<T>, p: &mut P, start: Span, x: T::Expr) -> PResult<T::Expr>
     requires { Nests P.seen T.expr_of T.pat_of T.stmt_of g.now.depth (S.pre g.now.stmt) (S.post g.now.stmt) (E.pre g.now.expr) (E.post g.now.expr) (N.pre g.now.pat) (N.post g.now.pat) }
-    ensures { GivesAs (T.expr_of) (exprs.accessed (exprs.expr g.now.depth) (exprs.cover g.now.depth) start (T.expr_of x) (P.seen p.old)) result (P.seen p.new) }
+    ensures { GivesAs (T.expr_of) (exprs.accessed (rules.expr g.now.depth) (rules.cover g.now.depth) start (T.expr_of x) (P.seen p.old)) result (P.seen p.new) }
 {
     let property = access(g, t, p)?;
     let span = since(p, start);
@@ -199,7 +206,7 @@ fn called<
     N: Fn(&MakerOf<T>, &mut P, usize, Part) -> PResult<T::Pat>,
 >(g: &Grammar<S, E, N>, t: &MakerOf<T>, p: &mut P, start: Span, x: T::Expr) -> PResult<T::Expr>
     requires { Nests P.seen T.expr_of T.pat_of T.stmt_of g.now.depth (S.pre g.now.stmt) (S.post g.now.stmt) (E.pre g.now.expr) (E.post g.now.expr) (N.pre g.now.pat) (N.post g.now.pat) }
-    ensures { GivesAs (T.expr_of) (exprs.called (exprs.expr g.now.depth) (exprs.cover g.now.depth) start (T.expr_of x) (P.seen p.old)) result (P.seen p.new) }
+    ensures { GivesAs (T.expr_of) (exprs.called (rules.expr g.now.depth) (rules.cover g.now.depth) start (T.expr_of x) (P.seen p.old)) result (P.seen p.new) }
 {
     let arguments = arguments(g, t, p, true)?;
     let span = since(p, start);
@@ -230,7 +237,7 @@ pub fn left_from<
     x: T::Expr,
 ) -> PResult<T::Expr>
     requires { Nests P.seen T.expr_of T.pat_of T.stmt_of g.now.depth (S.pre g.now.stmt) (S.post g.now.stmt) (E.pre g.now.expr) (E.post g.now.expr) (N.pre g.now.pat) (N.post g.now.pat) }
-    ensures { GivesAs (T.expr_of) (exprs.left_from (exprs.expr g.now.depth) (exprs.cover g.now.depth) calls start (T.expr_of x) (P.seen p.old)) result (P.seen p.new) }
+    ensures { GivesAs (T.expr_of) (exprs.left_from (rules.expr g.now.depth) (rules.cover g.now.depth) calls start (T.expr_of x) (P.seen p.old)) result (P.seen p.new) }
 {
     let mut x = x;
     'left: loop {
@@ -254,7 +261,7 @@ fn super_call<
     N: Fn(&MakerOf<T>, &mut P, usize, Part) -> PResult<T::Pat>,
 >(g: &Grammar<S, E, N>, t: &MakerOf<T>, p: &mut P, start: Span) -> PResult<T::Expr>
     requires { Nests P.seen T.expr_of T.pat_of T.stmt_of g.now.depth (S.pre g.now.stmt) (S.post g.now.stmt) (E.pre g.now.expr) (E.post g.now.expr) (N.pre g.now.pat) (N.post g.now.pat) }
-    ensures { GivesAs (T.expr_of) (exprs.super_call (exprs.expr g.now.depth) (exprs.cover g.now.depth) start (P.seen p.old)) result (P.seen p.new) }
+    ensures { GivesAs (T.expr_of) (exprs.super_call (rules.expr g.now.depth) (rules.cover g.now.depth) start (P.seen p.old)) result (P.seen p.new) }
 {
     let arguments = arguments(g, t, p, true)?;
     let span = since(p, start);
@@ -271,7 +278,7 @@ fn super_access<
     N: Fn(&MakerOf<T>, &mut P, usize, Part) -> PResult<T::Pat>,
 >(g: &Grammar<S, E, N>, t: &MakerOf<T>, p: &mut P, start: Span) -> PResult<T::Expr>
     requires { Nests P.seen T.expr_of T.pat_of T.stmt_of g.now.depth (S.pre g.now.stmt) (S.post g.now.stmt) (E.pre g.now.expr) (E.post g.now.expr) (N.pre g.now.pat) (N.post g.now.pat) }
-    ensures { GivesAs (T.expr_of) (exprs.super_access (exprs.expr g.now.depth) (exprs.cover g.now.depth) start (P.seen p.old)) result (P.seen p.new) }
+    ensures { GivesAs (T.expr_of) (exprs.super_access (rules.expr g.now.depth) (rules.cover g.now.depth) start (P.seen p.old)) result (P.seen p.new) }
 {
     if p.sees(TokenKind::Dot) {
         p.skip()?;
@@ -294,7 +301,7 @@ fn behind_super<
     N: Fn(&MakerOf<T>, &mut P, usize, Part) -> PResult<T::Pat>,
 >(g: &Grammar<S, E, N>, t: &MakerOf<T>, p: &mut P, calls: bool, start: Span) -> PResult<T::Expr>
     requires { Nests P.seen T.expr_of T.pat_of T.stmt_of g.now.depth (S.pre g.now.stmt) (S.post g.now.stmt) (E.pre g.now.expr) (E.post g.now.expr) (N.pre g.now.pat) (N.post g.now.pat) }
-    ensures { GivesAs (T.expr_of) (exprs.behind_super (exprs.expr g.now.depth) (exprs.cover g.now.depth) calls start (P.seen p.old)) result (P.seen p.new) }
+    ensures { GivesAs (T.expr_of) (exprs.behind_super (rules.expr g.now.depth) (rules.cover g.now.depth) calls start (P.seen p.old)) result (P.seen p.new) }
 {
     if begins_call(p, calls) {
         return super_call(g, t, p, start);
@@ -315,7 +322,7 @@ fn super_head<
     N: Fn(&MakerOf<T>, &mut P, usize, Part) -> PResult<T::Pat>,
 >(g: &Grammar<S, E, N>, t: &MakerOf<T>, p: &mut P, calls: bool) -> PResult<T::Expr>
     requires { Nests P.seen T.expr_of T.pat_of T.stmt_of g.now.depth (S.pre g.now.stmt) (S.post g.now.stmt) (E.pre g.now.expr) (E.post g.now.expr) (N.pre g.now.pat) (N.post g.now.pat) }
-    ensures { GivesAs (T.expr_of) (exprs.super_head (exprs.expr g.now.depth) (exprs.cover g.now.depth) calls (P.seen p.old)) result (P.seen p.new) }
+    ensures { GivesAs (T.expr_of) (exprs.super_head (rules.expr g.now.depth) (rules.cover g.now.depth) calls (P.seen p.old)) result (P.seen p.new) }
 {
     let start = p.span();
     p.skip()?;
@@ -332,7 +339,7 @@ fn constructed<
     N: Fn(&MakerOf<T>, &mut P, usize, Part) -> PResult<T::Pat>,
 >(g: &Grammar<S, E, N>, t: &MakerOf<T>, p: &mut P, start: Span, x: T::Expr) -> PResult<T::Expr>
     requires { Nests P.seen T.expr_of T.pat_of T.stmt_of g.now.depth (S.pre g.now.stmt) (S.post g.now.stmt) (E.pre g.now.expr) (E.post g.now.expr) (N.pre g.now.pat) (N.post g.now.pat) }
-    ensures { GivesAs (T.expr_of) (exprs.constructed (exprs.expr g.now.depth) (exprs.cover g.now.depth) start (T.expr_of x) (P.seen p.old)) result (P.seen p.new) }
+    ensures { GivesAs (T.expr_of) (exprs.constructed (rules.expr g.now.depth) (rules.cover g.now.depth) start (T.expr_of x) (P.seen p.old)) result (P.seen p.new) }
 {
     let arguments = arguments(g, t, p, true)?;
     let span = since(p, start);
@@ -363,7 +370,7 @@ fn new_head<
     N: Fn(&MakerOf<T>, &mut P, usize, Part) -> PResult<T::Pat>,
 >(g: &Grammar<S, E, N>, t: &MakerOf<T>, p: &mut P) -> PResult<T::Expr>
     requires { Nests P.seen T.expr_of T.pat_of T.stmt_of g.now.depth (S.pre g.now.stmt) (S.post g.now.stmt) (E.pre g.now.expr) (E.post g.now.expr) (N.pre g.now.pat) (N.post g.now.pat) }
-    ensures { GivesAs (T.expr_of) (exprs.new_head (exprs.expr g.now.depth) (exprs.cover g.now.depth) (P.seen p.old)) result (P.seen p.new) }
+    ensures { GivesAs (T.expr_of) (exprs.new_head (rules.expr g.now.depth) (rules.cover g.now.depth) (P.seen p.old)) result (P.seen p.new) }
 {
     let start = p.span();
     p.skip()?;
@@ -384,7 +391,7 @@ fn import_call<
     N: Fn(&MakerOf<T>, &mut P, usize, Part) -> PResult<T::Pat>,
 >(g: &Grammar<S, E, N>, t: &MakerOf<T>, p: &mut P, start: Span) -> PResult<T::Expr>
     requires { Nests P.seen T.expr_of T.pat_of T.stmt_of g.now.depth (S.pre g.now.stmt) (S.post g.now.stmt) (E.pre g.now.expr) (E.post g.now.expr) (N.pre g.now.pat) (N.post g.now.pat) }
-    ensures { GivesAs (T.expr_of) (exprs.import_call (exprs.expr g.now.depth) (exprs.cover g.now.depth) start (P.seen p.old)) result (P.seen p.new) }
+    ensures { GivesAs (T.expr_of) (exprs.import_call (rules.expr g.now.depth) (rules.cover g.now.depth) start (P.seen p.old)) result (P.seen p.new) }
 {
     let commas = p.import_attributes();
     let arguments = arguments(g, t, p, commas)?;
@@ -402,7 +409,7 @@ fn import_head<
     N: Fn(&MakerOf<T>, &mut P, usize, Part) -> PResult<T::Pat>,
 >(g: &Grammar<S, E, N>, t: &MakerOf<T>, p: &mut P) -> PResult<T::Expr>
     requires { Nests P.seen T.expr_of T.pat_of T.stmt_of g.now.depth (S.pre g.now.stmt) (S.post g.now.stmt) (E.pre g.now.expr) (E.post g.now.expr) (N.pre g.now.pat) (N.post g.now.pat) }
-    ensures { GivesAs (T.expr_of) (exprs.import_head (exprs.expr g.now.depth) (exprs.cover g.now.depth) (P.seen p.old)) result (P.seen p.new) }
+    ensures { GivesAs (T.expr_of) (exprs.import_head (rules.expr g.now.depth) (rules.cover g.now.depth) (P.seen p.old)) result (P.seen p.new) }
 {
     let start = p.span();
     p.skip()?;
@@ -427,13 +434,13 @@ fn begins_import<P: Source>(p: &P, calls: bool) -> bool
 #[tactic(auto, unfolding(swc_ecma_parser_reader::specs::Expressions::left_head))]
 fn left_head<
     P: Source,
-    T: BuildsExpr + BuildsCall + BuildsObject + BuildsOperator,
+    T: BuildsExpr + BuildsCall + BuildsObject + BuildsOperator + BuildsPattern + BuildsFunction,
     S: Fn(&MakerOf<T>, &mut P, usize, Position) -> PResult<T::Stmt>,
     E: Fn(&MakerOf<T>, &mut P, usize, Reading) -> PResult<Cover<T::Expr>>,
     N: Fn(&MakerOf<T>, &mut P, usize, Part) -> PResult<T::Pat>,
 >(g: &Grammar<S, E, N>, t: &MakerOf<T>, p: &mut P, calls: bool) -> PResult<T::Expr>
     requires { Nests P.seen T.expr_of T.pat_of T.stmt_of g.now.depth (S.pre g.now.stmt) (S.post g.now.stmt) (E.pre g.now.expr) (E.post g.now.expr) (N.pre g.now.pat) (N.post g.now.pat) }
-    ensures { GivesAs (T.expr_of) (exprs.left_head (exprs.expr g.now.depth) (exprs.cover g.now.depth) calls (P.seen p.old)) result (P.seen p.new) }
+    ensures { GivesAs (T.expr_of) (exprs.left_head (rules.expr g.now.depth) (rules.cover g.now.depth) (rules.function g.now.depth) calls (P.seen p.old)) result (P.seen p.new) }
 {
     if p.sees(TokenKind::Super) {
         return super_head(g, t, p, calls);
@@ -451,13 +458,13 @@ fn left_head<
 #[tactic(auto, unfolding(swc_ecma_parser_reader::specs::Expressions::left))]
 pub fn left<
     P: Source,
-    T: BuildsExpr + BuildsCall + BuildsObject + BuildsOperator,
+    T: BuildsExpr + BuildsCall + BuildsObject + BuildsOperator + BuildsPattern + BuildsFunction,
     S: Fn(&MakerOf<T>, &mut P, usize, Position) -> PResult<T::Stmt>,
     E: Fn(&MakerOf<T>, &mut P, usize, Reading) -> PResult<Cover<T::Expr>>,
     N: Fn(&MakerOf<T>, &mut P, usize, Part) -> PResult<T::Pat>,
 >(g: &Grammar<S, E, N>, t: &MakerOf<T>, p: &mut P, calls: bool) -> PResult<T::Expr>
     requires { Nests P.seen T.expr_of T.pat_of T.stmt_of g.now.depth (S.pre g.now.stmt) (S.post g.now.stmt) (E.pre g.now.expr) (E.post g.now.expr) (N.pre g.now.pat) (N.post g.now.pat) }
-    ensures { GivesAs (T.expr_of) (exprs.left (exprs.expr g.now.depth) (exprs.cover g.now.depth) calls (P.seen p.old)) result (P.seen p.new) }
+    ensures { GivesAs (T.expr_of) (exprs.left (rules.expr g.now.depth) (rules.cover g.now.depth) (rules.function g.now.depth) calls (P.seen p.old)) result (P.seen p.new) }
 {
     let start = p.span();
     let x = left_head(g, t, p, calls)?;
@@ -468,13 +475,13 @@ pub fn left<
 #[tactic(auto, unfolding(swc_ecma_parser_reader::specs::Expressions::left_expr, swc_ecma_parser_reader::specs::Expressions::closed_left))]
 pub fn left_expr<
     P: Source,
-    T: BuildsExpr + BuildsCall + BuildsObject + BuildsOperator,
+    T: BuildsExpr + BuildsCall + BuildsObject + BuildsOperator + BuildsPattern + BuildsFunction,
     S: Fn(&MakerOf<T>, &mut P, usize, Position) -> PResult<T::Stmt>,
     E: Fn(&MakerOf<T>, &mut P, usize, Reading) -> PResult<Cover<T::Expr>>,
     N: Fn(&MakerOf<T>, &mut P, usize, Part) -> PResult<T::Pat>,
 >(g: &Grammar<S, E, N>, t: &MakerOf<T>, p: &mut P) -> PResult<T::Expr>
     requires { Nests P.seen T.expr_of T.pat_of T.stmt_of g.now.depth (S.pre g.now.stmt) (S.post g.now.stmt) (E.pre g.now.expr) (E.post g.now.expr) (N.pre g.now.pat) (N.post g.now.pat) }
-    ensures { GivesAs (T.expr_of) (exprs.left_expr (exprs.expr g.now.depth) (exprs.cover g.now.depth) (P.seen p.old)) result (P.seen p.new) }
+    ensures { GivesAs (T.expr_of) (exprs.left_expr (rules.expr g.now.depth) (rules.cover g.now.depth) (rules.function g.now.depth) (P.seen p.old)) result (P.seen p.new) }
 {
     let x = left(g, t, p, true)?;
     if p.continues_left_side() {

@@ -6,6 +6,7 @@ ghost use Rattle.swc_ecma_parser_inner.specs.Keys.{key_of, word_of};
 ghost use Rattle.swc_ecma_parser_inner.specs.Nests.{Nests};
 ghost use Rattle.swc_ecma_parser_reader.specs.Expressions as exprs;
 ghost use Rattle.swc_ecma_parser_reader.specs.Expressions.{is_literal};
+ghost use Rattle.swc_ecma_parser_reader.specs.Reader as rules;
 ghost use Rattle.swc_ecma_parser_reader.specs.State.{GivesAs};
 
 use std::alloc::Global;
@@ -54,7 +55,7 @@ fn key_value<
     key: Key<T::Expr>,
 ) -> PResult<Cover<T::Prop>>
     requires { Nests P.seen T.expr_of T.pat_of T.stmt_of g.now.depth (S.pre g.now.stmt) (S.post g.now.stmt) (E.pre g.now.expr) (E.post g.now.expr) (N.pre g.now.pat) (N.post g.now.pat) }
-    ensures { GivesAs (cover_of T.prop_of) (exprs.key_value (exprs.expr g.now.depth) (exprs.cover g.now.depth) start (key_of T.expr_of key) (P.seen p.old)) result (P.seen p.new) }
+    ensures { GivesAs (cover_of T.prop_of) (exprs.key_value (rules.expr g.now.depth) (rules.cover g.now.depth) start (key_of T.expr_of key) (P.seen p.old)) result (P.seen p.new) }
 {
     p.skip()?;
     let Cover { tree, mark, comma } = covered(g, t, p)?;
@@ -80,7 +81,7 @@ fn initialized<
     name: Ident,
 ) -> PResult<Cover<T::Prop>>
     requires { Nests P.seen T.expr_of T.pat_of T.stmt_of g.now.depth (S.pre g.now.stmt) (S.post g.now.stmt) (E.pre g.now.expr) (E.post g.now.expr) (N.pre g.now.pat) (N.post g.now.pat) }
-    ensures { GivesAs (cover_of T.prop_of) (exprs.initialized (exprs.expr g.now.depth) (exprs.cover g.now.depth) start (word_of name) (P.seen p.old)) result (P.seen p.new) }
+    ensures { GivesAs (cover_of T.prop_of) (exprs.initialized (rules.expr g.now.depth) (rules.cover g.now.depth) start (word_of name) (P.seen p.old)) result (P.seen p.new) }
 {
     p.skip()?;
     let value = inside(g, t, p, Class::Assignment)?;
@@ -109,7 +110,7 @@ fn initialized_name<
     name: Ident,
 ) -> PResult<Cover<T::Prop>>
     requires { Nests P.seen T.expr_of T.pat_of T.stmt_of g.now.depth (S.pre g.now.stmt) (S.post g.now.stmt) (E.pre g.now.expr) (E.post g.now.expr) (N.pre g.now.pat) (N.post g.now.pat) }
-    ensures { GivesAs (cover_of T.prop_of) (exprs.initialized_name (exprs.expr g.now.depth) (exprs.cover g.now.depth) start name.span name.sym (P.seen p.old)) result (P.seen p.new) }
+    ensures { GivesAs (cover_of T.prop_of) (exprs.initialized_name (rules.expr g.now.depth) (rules.cover g.now.depth) start name.span name.sym (P.seen p.old)) result (P.seen p.new) }
 {
     if !is_name(p.flags(), name.sym.as_str()) {
         return Err(p.reject(SyntaxError::ExpectedIdent, name.span));
@@ -147,7 +148,7 @@ fn initialized_key<
     key: Key<T::Expr>,
 ) -> PResult<Cover<T::Prop>>
     requires { Nests P.seen T.expr_of T.pat_of T.stmt_of g.now.depth (S.pre g.now.stmt) (S.post g.now.stmt) (E.pre g.now.expr) (E.post g.now.expr) (N.pre g.now.pat) (N.post g.now.pat) }
-    ensures { GivesAs (cover_of T.prop_of) (exprs.initialized_key (exprs.expr g.now.depth) (exprs.cover g.now.depth) start (key_of T.expr_of key) (P.seen p.old)) result (P.seen p.new) }
+    ensures { GivesAs (cover_of T.prop_of) (exprs.initialized_key (rules.expr g.now.depth) (rules.cover g.now.depth) start (key_of T.expr_of key) (P.seen p.old)) result (P.seen p.new) }
 {
     match key {
         Key::Word(name) => initialized_name(g, t, p, start, name),
@@ -171,7 +172,7 @@ fn behind_key<
     key: Key<T::Expr>,
 ) -> PResult<Cover<T::Prop>>
     requires { Nests P.seen T.expr_of T.pat_of T.stmt_of g.now.depth (S.pre g.now.stmt) (S.post g.now.stmt) (E.pre g.now.expr) (E.post g.now.expr) (N.pre g.now.pat) (N.post g.now.pat) }
-    ensures { GivesAs (cover_of T.prop_of) (exprs.behind_key (exprs.expr g.now.depth) (exprs.cover g.now.depth) start (key_of T.expr_of key) (P.seen p.old)) result (P.seen p.new) }
+    ensures { GivesAs (cover_of T.prop_of) (exprs.behind_key (rules.expr g.now.depth) (rules.cover g.now.depth) start (key_of T.expr_of key) (P.seen p.old)) result (P.seen p.new) }
 {
     if p.sees(TokenKind::Colon) {
         return key_value(g, t, p, start, key);
@@ -192,7 +193,7 @@ fn keyed_property<
     N: Fn(&MakerOf<T>, &mut P, usize, Part) -> PResult<T::Pat>,
 >(g: &Grammar<S, E, N>, t: &MakerOf<T>, p: &mut P) -> PResult<Cover<T::Prop>>
     requires { Nests P.seen T.expr_of T.pat_of T.stmt_of g.now.depth (S.pre g.now.stmt) (S.post g.now.stmt) (E.pre g.now.expr) (E.post g.now.expr) (N.pre g.now.pat) (N.post g.now.pat) }
-    ensures { GivesAs (cover_of T.prop_of) (exprs.keyed_property (exprs.expr g.now.depth) (exprs.cover g.now.depth) (P.seen p.old)) result (P.seen p.new) }
+    ensures { GivesAs (cover_of T.prop_of) (exprs.keyed_property (rules.expr g.now.depth) (rules.cover g.now.depth) (P.seen p.old)) result (P.seen p.new) }
 {
     let start = p.span();
     let key = property_key(g, t, p)?;
@@ -209,7 +210,7 @@ fn spread_property<
     N: Fn(&MakerOf<T>, &mut P, usize, Part) -> PResult<T::Pat>,
 >(g: &Grammar<S, E, N>, t: &MakerOf<T>, p: &mut P) -> PResult<Cover<T::Prop>>
     requires { Nests P.seen T.expr_of T.pat_of T.stmt_of g.now.depth (S.pre g.now.stmt) (S.post g.now.stmt) (E.pre g.now.expr) (E.post g.now.expr) (N.pre g.now.pat) (N.post g.now.pat) }
-    ensures { GivesAs (cover_of T.prop_of) (exprs.spread_property (exprs.expr g.now.depth) (exprs.cover g.now.depth) (P.seen p.old)) result (P.seen p.new) }
+    ensures { GivesAs (cover_of T.prop_of) (exprs.spread_property (rules.expr g.now.depth) (rules.cover g.now.depth) (P.seen p.old)) result (P.seen p.new) }
 {
     let dots = p.span();
     p.skip()?;
@@ -228,7 +229,7 @@ fn property<
     N: Fn(&MakerOf<T>, &mut P, usize, Part) -> PResult<T::Pat>,
 >(g: &Grammar<S, E, N>, t: &MakerOf<T>, p: &mut P) -> PResult<Cover<T::Prop>>
     requires { Nests P.seen T.expr_of T.pat_of T.stmt_of g.now.depth (S.pre g.now.stmt) (S.post g.now.stmt) (E.pre g.now.expr) (E.post g.now.expr) (N.pre g.now.pat) (N.post g.now.pat) }
-    ensures { GivesAs (cover_of T.prop_of) (exprs.property (exprs.expr g.now.depth) (exprs.cover g.now.depth) (P.seen p.old)) result (P.seen p.new) }
+    ensures { GivesAs (cover_of T.prop_of) (exprs.property (rules.expr g.now.depth) (rules.cover g.now.depth) (P.seen p.old)) result (P.seen p.new) }
 {
     if p.sees(TokenKind::DotDotDot) {
         return spread_property(g, t, p);
@@ -246,7 +247,7 @@ fn properties<
     N: Fn(&MakerOf<T>, &mut P, usize, Part) -> PResult<T::Pat>,
 >(g: &Grammar<S, E, N>, t: &MakerOf<T>, p: &mut P) -> PResult<Covers<T::Prop>>
     requires { Nests P.seen T.expr_of T.pat_of T.stmt_of g.now.depth (S.pre g.now.stmt) (S.post g.now.stmt) (E.pre g.now.expr) (E.post g.now.expr) (N.pre g.now.pat) (N.post g.now.pat) }
-    ensures { GivesAs (covers_of T.prop_of) (exprs.properties (exprs.expr g.now.depth) (exprs.cover g.now.depth) (P.seen p.old)) result (P.seen p.new) }
+    ensures { GivesAs (covers_of T.prop_of) (exprs.properties (rules.expr g.now.depth) (rules.cover g.now.depth) (P.seen p.old)) result (P.seen p.new) }
 {
     p.skip()?;
     let mut found = Covers {
@@ -279,7 +280,7 @@ pub fn object<
     N: Fn(&MakerOf<T>, &mut P, usize, Part) -> PResult<T::Pat>,
 >(g: &Grammar<S, E, N>, t: &MakerOf<T>, p: &mut P) -> PResult<Cover<T::Expr>>
     requires { Nests P.seen T.expr_of T.pat_of T.stmt_of g.now.depth (S.pre g.now.stmt) (S.post g.now.stmt) (E.pre g.now.expr) (E.post g.now.expr) (N.pre g.now.pat) (N.post g.now.pat) }
-    ensures gives { GivesAs (cover_of T.expr_of) (exprs.object (exprs.expr g.now.depth) (exprs.cover g.now.depth) (P.seen p.old)) result (P.seen p.new) }
+    ensures gives { GivesAs (cover_of T.expr_of) (exprs.object (rules.expr g.now.depth) (rules.cover g.now.depth) (P.seen p.old)) result (P.seen p.new) }
     ensures literal { IfOk result (λ v. is_literal (T.expr_of v.tree) ≡ true) }
 {
     let start = p.span();

@@ -5,9 +5,6 @@ ghost use Rattle.swc_ecma_parser_grammar.specs.language.Goals.{expression};
 ghost use Rattle.swc_ecma_parser_grammar.specs.language.Items.{sub_statement};
 ghost use Rattle.swc_ecma_parser_inner.specs.Nests.{Nests};
 ghost use Rattle.swc_ecma_parser_loops.specs.Openings.{opening_of};
-ghost use Rattle.swc_ecma_parser_reader.specs.Expressions as exprs;
-ghost use Rattle.swc_ecma_parser_reader.specs.Heads as heads;
-ghost use Rattle.swc_ecma_parser_reader.specs.Patterns as patterns;
 ghost use Rattle.swc_ecma_parser_reader.specs.Reader as rules;
 ghost use Rattle.swc_ecma_parser_reader.specs.State.{Gives, GivesAs, pure};
 ghost use Rattle.swc_ecma_parser_trees.specs.Parts.{part_of};
@@ -34,7 +31,7 @@ fn head_part<
     N: Fn(&MakerOf<T>, &mut P, usize, Part) -> PResult<T::Pat>,
 >(g: &Grammar<S, E, N>, t: &MakerOf<T>, p: &mut P, behind: TokenKind) -> PResult<Option<T::Expr>>
     requires { Nests P.seen T.expr_of T.pat_of T.stmt_of g.now.depth (S.pre g.now.stmt) (S.post g.now.stmt) (E.pre g.now.expr) (E.post g.now.expr) (N.pre g.now.pat) (N.post g.now.pat) }
-    ensures { GivesAs (part_of T.expr_of) (rules.head_part behind (exprs.expr g.now.depth expression) (P.seen p.old)) result (P.seen p.new) }
+    ensures { GivesAs (part_of T.expr_of) (rules.head_part behind (rules.expr g.now.depth expression) (P.seen p.old)) result (P.seen p.new) }
 {
     if p.sees(behind) {
         return Ok(None);
@@ -59,7 +56,7 @@ fn for_parts<
     first: Opening<T::Declarator, T::Expr>,
 ) -> PResult<T::Stmt>
     requires { Nests P.seen T.expr_of T.pat_of T.stmt_of g.now.depth (S.pre g.now.stmt) (S.post g.now.stmt) (E.pre g.now.expr) (E.post g.now.expr) (N.pre g.now.pat) (N.post g.now.pat) }
-    ensures { GivesAs T.stmt_of (rules.for_parts (rules.stmt g.now.depth sub_statement) (exprs.expr g.now.depth) start (opening_of T.declarator_of T.expr_of first) (P.seen p.old)) result (P.seen p.new) }
+    ensures { GivesAs T.stmt_of (rules.for_parts (rules.stmt g.now.depth sub_statement) (rules.expr g.now.depth) start (opening_of T.declarator_of T.expr_of first) (P.seen p.old)) result (P.seen p.new) }
 {
     let init = as_init(t, p, first)?;
     p.expect(TokenKind::Semi, ";")?;
@@ -88,7 +85,7 @@ fn for_in<
     first: Opening<T::Declarator, T::Expr>,
 ) -> PResult<T::Stmt>
     requires { Nests P.seen T.expr_of T.pat_of T.stmt_of g.now.depth (S.pre g.now.stmt) (S.post g.now.stmt) (E.pre g.now.expr) (E.post g.now.expr) (N.pre g.now.pat) (N.post g.now.pat) }
-    ensures { GivesAs T.stmt_of (rules.for_in (rules.stmt g.now.depth sub_statement) (exprs.expr g.now.depth) start (opening_of T.declarator_of T.expr_of first) (P.seen p.old)) result (P.seen p.new) }
+    ensures { GivesAs T.stmt_of (rules.for_in (rules.stmt g.now.depth sub_statement) (rules.expr g.now.depth) start (opening_of T.declarator_of T.expr_of first) (P.seen p.old)) result (P.seen p.new) }
 {
     let left = as_left(t, p, false, first)?;
     let refused = p.flags().strict;
@@ -119,7 +116,7 @@ fn for_of<
     first: Opening<T::Declarator, T::Expr>,
 ) -> PResult<T::Stmt>
     requires { Nests P.seen T.expr_of T.pat_of T.stmt_of g.now.depth (S.pre g.now.stmt) (S.post g.now.stmt) (E.pre g.now.expr) (E.post g.now.expr) (N.pre g.now.pat) (N.post g.now.pat) }
-    ensures { GivesAs T.stmt_of (rules.for_of (rules.stmt g.now.depth sub_statement) (exprs.expr g.now.depth) is_await start (opening_of T.declarator_of T.expr_of first) (P.seen p.old)) result (P.seen p.new) }
+    ensures { GivesAs T.stmt_of (rules.for_of (rules.stmt g.now.depth sub_statement) (rules.expr g.now.depth) is_await start (opening_of T.declarator_of T.expr_of first) (P.seen p.old)) result (P.seen p.new) }
 {
     let left = as_left(t, p, is_await, first)?;
     misdeclared::<P, T>(p, true, &left)?;
@@ -176,7 +173,7 @@ fn for_behind<
     first: Opening<T::Declarator, T::Expr>,
 ) -> PResult<T::Stmt>
     requires { Nests P.seen T.expr_of T.pat_of T.stmt_of g.now.depth (S.pre g.now.stmt) (S.post g.now.stmt) (E.pre g.now.expr) (E.post g.now.expr) (N.pre g.now.pat) (N.post g.now.pat) }
-    ensures { GivesAs T.stmt_of (rules.for_behind (rules.stmt g.now.depth sub_statement) (exprs.expr g.now.depth) start word (opening_of T.declarator_of T.expr_of first) (P.seen p.old)) result (P.seen p.new) }
+    ensures { GivesAs T.stmt_of (rules.for_behind (rules.stmt g.now.depth sub_statement) (rules.expr g.now.depth) start word (opening_of T.declarator_of T.expr_of first) (P.seen p.old)) result (P.seen p.new) }
 {
     if p.sees(TokenKind::In) {
         let stmt = for_in(g, t, p, start, first)?;
@@ -199,7 +196,7 @@ pub fn for_stmt<
     N: Fn(&MakerOf<T>, &mut P, usize, Part) -> PResult<T::Pat>,
 >(g: &Grammar<S, E, N>, t: &MakerOf<T>, p: &mut P) -> PResult<T::Stmt>
     requires { Nests P.seen T.expr_of T.pat_of T.stmt_of g.now.depth (S.pre g.now.stmt) (S.post g.now.stmt) (E.pre g.now.expr) (E.post g.now.expr) (N.pre g.now.pat) (N.post g.now.pat) }
-    ensures { GivesAs T.stmt_of (rules.for_stmt (rules.stmt g.now.depth sub_statement) (exprs.expr g.now.depth) (patterns.pattern g.now.depth) (heads.head_cover g.now.depth) (P.seen p.old)) result (P.seen p.new) }
+    ensures { GivesAs T.stmt_of (rules.for_stmt (rules.stmt g.now.depth sub_statement) (rules.expr g.now.depth) (rules.pattern g.now.depth) (rules.head_cover g.now.depth) (P.seen p.old)) result (P.seen p.new) }
 {
     let start = p.span();
     p.skip()?;

@@ -10,9 +10,6 @@ ghost use Rattle.swc_ecma_parser_loops.specs.Openings.{declared_of, opening_of, 
 ghost use Rattle.swc_ecma_parser_model.specs.Forms as forms;
 ghost use Rattle.swc_ecma_parser_model.specs.Tree.{trees};
 ghost use Rattle.swc_ecma_parser_model.specs.Within as within;
-ghost use Rattle.swc_ecma_parser_reader.specs.Expressions as exprs;
-ghost use Rattle.swc_ecma_parser_reader.specs.Heads as heads;
-ghost use Rattle.swc_ecma_parser_reader.specs.Patterns as patterns;
 ghost use Rattle.swc_ecma_parser_reader.specs.Reader as rules;
 ghost use Rattle.swc_ecma_parser_reader.specs.State.{Gives, GivesAs};
 ghost use Rattle.swc_ecma_parser_trees.specs.Parts.{part_of};
@@ -90,7 +87,7 @@ fn head_variables<
     word: VarDeclKind,
 ) -> PResult<Opening<T::Declarator, T::Expr>>
     requires { Nests P.seen T.expr_of T.pat_of T.stmt_of g.now.depth (S.pre g.now.stmt) (S.post g.now.stmt) (E.pre g.now.expr) (E.post g.now.expr) (N.pre g.now.pat) (N.post g.now.pat) }
-    ensures { GivesAs (opening_of T.declarator_of T.expr_of) (rules.head_variables (exprs.expr g.now.depth) (patterns.pattern g.now.depth) word (P.seen p.old)) result (P.seen p.new) }
+    ensures { GivesAs (opening_of T.declarator_of T.expr_of) (rules.head_variables (rules.expr g.now.depth) (rules.pattern g.now.depth) word (P.seen p.old)) result (P.seen p.new) }
 {
     let start = p.span();
     p.skip()?;
@@ -112,7 +109,7 @@ fn head_expression<
     N: Fn(&MakerOf<T>, &mut P, usize, Part) -> PResult<T::Pat>,
 >(g: &Grammar<S, E, N>, t: &MakerOf<T>, p: &mut P) -> PResult<Opening<T::Declarator, T::Expr>>
     requires { Nests P.seen T.expr_of T.pat_of T.stmt_of g.now.depth (S.pre g.now.stmt) (S.post g.now.stmt) (E.pre g.now.expr) (E.post g.now.expr) (N.pre g.now.pat) (N.post g.now.pat) }
-    ensures { GivesAs (opening_of T.declarator_of T.expr_of) (rules.head_expression (exprs.expr g.now.depth) (patterns.pattern g.now.depth) (heads.head_cover g.now.depth) (P.seen p.old)) result (P.seen p.new) }
+    ensures { GivesAs (opening_of T.declarator_of T.expr_of) (rules.head_expression (rules.expr g.now.depth) (rules.pattern g.now.depth) (rules.head_cover g.now.depth) (P.seen p.old)) result (P.seen p.new) }
 {
     let outer = p.flags();
     p.set_flags(without_in(outer));
@@ -131,7 +128,7 @@ pub(crate) fn head_opening<
     N: Fn(&MakerOf<T>, &mut P, usize, Part) -> PResult<T::Pat>,
 >(g: &Grammar<S, E, N>, t: &MakerOf<T>, p: &mut P) -> PResult<Opening<T::Declarator, T::Expr>>
     requires { Nests P.seen T.expr_of T.pat_of T.stmt_of g.now.depth (S.pre g.now.stmt) (S.post g.now.stmt) (E.pre g.now.expr) (E.post g.now.expr) (N.pre g.now.pat) (N.post g.now.pat) }
-    ensures { GivesAs (opening_of T.declarator_of T.expr_of) (rules.opening (exprs.expr g.now.depth) (patterns.pattern g.now.depth) (heads.head_cover g.now.depth) (P.seen p.old)) result (P.seen p.new) }
+    ensures { GivesAs (opening_of T.declarator_of T.expr_of) (rules.opening (rules.expr g.now.depth) (rules.pattern g.now.depth) (rules.head_cover g.now.depth) (P.seen p.old)) result (P.seen p.new) }
 {
     if p.sees(TokenKind::Semi) {
         return Ok(Opening::Nothing);

@@ -6,6 +6,7 @@ ghost use Rattle.swc_ecma_parser_inner.specs.Nests.{Nests};
 ghost use Rattle.swc_ecma_parser_reader.specs.Expressions as exprs;
 ghost use Rattle.swc_ecma_parser_reader.specs.Expressions.{is_literal};
 ghost use Rattle.swc_ecma_parser_reader.specs.Heads as heads;
+ghost use Rattle.swc_ecma_parser_reader.specs.Reader as rules;
 ghost use Rattle.swc_ecma_parser_reader.specs.State.{GivesAs};
 
 use crate::operator::{
@@ -25,7 +26,7 @@ use swc_ecma_parser_model::AssignOp;
 use swc_ecma_parser_source::Source;
 use swc_ecma_parser_token::TokenKind;
 use swc_ecma_parser_trees::{
-    BuildsCall, BuildsExpr, BuildsObject, BuildsOperator, BuildsPattern, MakerOf,
+    BuildsCall, BuildsExpr, BuildsFunction, BuildsObject, BuildsOperator, BuildsPattern, MakerOf,
 };
 
 /// Whether anything but `=` goes on with an array or object here.
@@ -49,7 +50,7 @@ fn continued<
     N: Fn(&MakerOf<T>, &mut P, usize, Part) -> PResult<T::Pat>,
 >(g: &Grammar<S, E, N>, t: &MakerOf<T>, p: &mut P, start: Span, x: T::Expr) -> PResult<T::Expr>
     requires { Nests P.seen T.expr_of T.pat_of T.stmt_of g.now.depth (S.pre g.now.stmt) (S.post g.now.stmt) (E.pre g.now.expr) (E.post g.now.expr) (N.pre g.now.pat) (N.post g.now.pat) }
-    ensures { GivesAs (T.expr_of) (exprs.continued (exprs.expr g.now.depth) (exprs.cover g.now.depth) start (T.expr_of x) (P.seen p.old)) result (P.seen p.new) }
+    ensures { GivesAs (T.expr_of) (exprs.continued (rules.expr g.now.depth) (rules.cover g.now.depth) start (T.expr_of x) (P.seen p.old)) result (P.seen p.new) }
 {
     let x = left_from(g, t, p, true, start, x)?;
     let x = postfixed::<P, T>(t.alloc, p, start, x)?;
@@ -73,7 +74,7 @@ fn closed<
     v: Cover<T::Expr>,
 ) -> PResult<Cover<T::Expr>>
     requires { Nests P.seen T.expr_of T.pat_of T.stmt_of g.now.depth (S.pre g.now.stmt) (S.post g.now.stmt) (E.pre g.now.expr) (E.post g.now.expr) (N.pre g.now.pat) (N.post g.now.pat) }
-    ensures { GivesAs (cover_of T.expr_of) (exprs.closed (exprs.expr g.now.depth) (exprs.cover g.now.depth) start (cover_of T.expr_of v) (P.seen p.old)) result (P.seen p.new) }
+    ensures { GivesAs (cover_of T.expr_of) (exprs.closed (rules.expr g.now.depth) (rules.cover g.now.depth) start (cover_of T.expr_of v) (P.seen p.old)) result (P.seen p.new) }
 {
     let x = close::<P, T>(p, v)?;
     Ok(done(continued(g, t, p, start, x)?))
@@ -96,7 +97,7 @@ fn assigned_pattern<
 ) -> PResult<Cover<T::Expr>>
     requires readers { Nests P.seen T.expr_of T.pat_of T.stmt_of g.now.depth (S.pre g.now.stmt) (S.post g.now.stmt) (E.pre g.now.expr) (E.post g.now.expr) (N.pre g.now.pat) (N.post g.now.pat) }
     requires literal { is_literal (T.expr_of v.tree) ≡ true }
-    ensures { GivesAs (cover_of T.expr_of) (exprs.assigned_pattern (exprs.expr g.now.depth) (exprs.cover g.now.depth) start (cover_of T.expr_of v) (P.seen p.old)) result (P.seen p.new) }
+    ensures { GivesAs (cover_of T.expr_of) (exprs.assigned_pattern (rules.expr g.now.depth) (rules.cover g.now.depth) start (cover_of T.expr_of v) (P.seen p.old)) result (P.seen p.new) }
 {
     let left = target::<P, T>(t, p, v)?;
     p.skip()?;
@@ -126,7 +127,7 @@ fn behind_literal<
 ) -> PResult<Cover<T::Expr>>
     requires readers { Nests P.seen T.expr_of T.pat_of T.stmt_of g.now.depth (S.pre g.now.stmt) (S.post g.now.stmt) (E.pre g.now.expr) (E.post g.now.expr) (N.pre g.now.pat) (N.post g.now.pat) }
     requires literal { is_literal (T.expr_of v.tree) ≡ true }
-    ensures { GivesAs (cover_of T.expr_of) (exprs.behind_literal (exprs.expr g.now.depth) (exprs.cover g.now.depth) start (cover_of T.expr_of v) (P.seen p.old)) result (P.seen p.new) }
+    ensures { GivesAs (cover_of T.expr_of) (exprs.behind_literal (rules.expr g.now.depth) (rules.cover g.now.depth) start (cover_of T.expr_of v) (P.seen p.old)) result (P.seen p.new) }
 {
     if p.sees(TokenKind::Assign) {
         return assigned_pattern(g, t, p, start, v);
@@ -147,7 +148,7 @@ fn open_literal<
     N: Fn(&MakerOf<T>, &mut P, usize, Part) -> PResult<T::Pat>,
 >(g: &Grammar<S, E, N>, t: &MakerOf<T>, p: &mut P) -> PResult<Cover<T::Expr>>
     requires { Nests P.seen T.expr_of T.pat_of T.stmt_of g.now.depth (S.pre g.now.stmt) (S.post g.now.stmt) (E.pre g.now.expr) (E.post g.now.expr) (N.pre g.now.pat) (N.post g.now.pat) }
-    ensures { GivesAs (cover_of T.expr_of) (exprs.open_literal (exprs.expr g.now.depth) (exprs.cover g.now.depth) (P.seen p.old)) result (P.seen p.new) }
+    ensures { GivesAs (cover_of T.expr_of) (exprs.open_literal (rules.expr g.now.depth) (rules.cover g.now.depth) (P.seen p.old)) result (P.seen p.new) }
 {
     let start = p.span();
     if p.sees(TokenKind::LBracket) {
@@ -162,13 +163,13 @@ fn open_literal<
 #[tactic(auto, unfolding(swc_ecma_parser_reader::specs::Expressions::cover_expr, swc_ecma_parser_reader::specs::Expressions::done_expr))]
 pub fn cover_expr<
     P: Source,
-    T: BuildsExpr + BuildsCall + BuildsObject + BuildsOperator + BuildsPattern,
+    T: BuildsExpr + BuildsCall + BuildsObject + BuildsOperator + BuildsPattern + BuildsFunction,
     S: Fn(&MakerOf<T>, &mut P, usize, Position) -> PResult<T::Stmt>,
     E: Fn(&MakerOf<T>, &mut P, usize, Reading) -> PResult<Cover<T::Expr>>,
     N: Fn(&MakerOf<T>, &mut P, usize, Part) -> PResult<T::Pat>,
 >(g: &Grammar<S, E, N>, t: &MakerOf<T>, p: &mut P) -> PResult<Cover<T::Expr>>
     requires { Nests P.seen T.expr_of T.pat_of T.stmt_of g.now.depth (S.pre g.now.stmt) (S.post g.now.stmt) (E.pre g.now.expr) (E.post g.now.expr) (N.pre g.now.pat) (N.post g.now.pat) }
-    ensures { GivesAs (cover_of T.expr_of) (exprs.cover_expr (exprs.expr g.now.depth) (exprs.cover g.now.depth) (P.seen p.old)) result (P.seen p.new) }
+    ensures { GivesAs (cover_of T.expr_of) (exprs.cover_expr (rules.expr g.now.depth) (rules.cover g.now.depth) (rules.function g.now.depth) (P.seen p.old)) result (P.seen p.new) }
 {
     if p.sees(TokenKind::LBracket) || p.sees(TokenKind::LBrace) {
         return open_literal(g, t, p);
@@ -180,13 +181,13 @@ pub fn cover_expr<
 #[tactic(auto, unfolding(swc_ecma_parser_reader::specs::Expressions::assignment_expr))]
 pub(crate) fn assignment_expr<
     P: Source,
-    T: BuildsExpr + BuildsCall + BuildsObject + BuildsOperator + BuildsPattern,
+    T: BuildsExpr + BuildsCall + BuildsObject + BuildsOperator + BuildsPattern + BuildsFunction,
     S: Fn(&MakerOf<T>, &mut P, usize, Position) -> PResult<T::Stmt>,
     E: Fn(&MakerOf<T>, &mut P, usize, Reading) -> PResult<Cover<T::Expr>>,
     N: Fn(&MakerOf<T>, &mut P, usize, Part) -> PResult<T::Pat>,
 >(g: &Grammar<S, E, N>, t: &MakerOf<T>, p: &mut P) -> PResult<T::Expr>
     requires { Nests P.seen T.expr_of T.pat_of T.stmt_of g.now.depth (S.pre g.now.stmt) (S.post g.now.stmt) (E.pre g.now.expr) (E.post g.now.expr) (N.pre g.now.pat) (N.post g.now.pat) }
-    ensures { GivesAs (T.expr_of) (exprs.assignment_expr (exprs.expr g.now.depth) (exprs.cover g.now.depth) (P.seen p.old)) result (P.seen p.new) }
+    ensures { GivesAs (T.expr_of) (exprs.assignment_expr (rules.expr g.now.depth) (rules.cover g.now.depth) (rules.function g.now.depth) (P.seen p.old)) result (P.seen p.new) }
 {
     let v = cover_expr(g, t, p)?;
     close::<P, T>(p, v)
@@ -196,13 +197,13 @@ pub(crate) fn assignment_expr<
 #[tactic(auto, unfolding(swc_ecma_parser_reader::specs::Heads::head_expr, swc_ecma_parser_reader::specs::Heads::sequenced))]
 pub fn head_expr<
     P: Source,
-    T: BuildsExpr + BuildsCall + BuildsObject + BuildsOperator + BuildsPattern,
+    T: BuildsExpr + BuildsCall + BuildsObject + BuildsOperator + BuildsPattern + BuildsFunction,
     S: Fn(&MakerOf<T>, &mut P, usize, Position) -> PResult<T::Stmt>,
     E: Fn(&MakerOf<T>, &mut P, usize, Reading) -> PResult<Cover<T::Expr>>,
     N: Fn(&MakerOf<T>, &mut P, usize, Part) -> PResult<T::Pat>,
 >(g: &Grammar<S, E, N>, t: &MakerOf<T>, p: &mut P) -> PResult<Cover<T::Expr>>
     requires { Nests P.seen T.expr_of T.pat_of T.stmt_of g.now.depth (S.pre g.now.stmt) (S.post g.now.stmt) (E.pre g.now.expr) (E.post g.now.expr) (N.pre g.now.pat) (N.post g.now.pat) }
-    ensures { GivesAs (cover_of T.expr_of) (heads.head_expr (exprs.expr g.now.depth) (exprs.cover g.now.depth) (P.seen p.old)) result (P.seen p.new) }
+    ensures { GivesAs (cover_of T.expr_of) (heads.head_expr (rules.expr g.now.depth) (rules.cover g.now.depth) (rules.function g.now.depth) (P.seen p.old)) result (P.seen p.new) }
 {
     let start = p.span();
     let v = cover_expr(g, t, p)?;

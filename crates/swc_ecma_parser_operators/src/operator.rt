@@ -7,6 +7,7 @@ ghost use Rattle.swc_ecma_parser_grammar.specs.language.Operators as operators;
 ghost use Rattle.swc_ecma_parser_inner.specs.Nests.{Nests};
 ghost use Rattle.swc_ecma_parser_reader.specs.Classes.{class_of};
 ghost use Rattle.swc_ecma_parser_reader.specs.Expressions as exprs;
+ghost use Rattle.swc_ecma_parser_reader.specs.Reader as rules;
 ghost use Rattle.swc_ecma_parser_reader.specs.State.{Gives, GivesAs};
 
 use crate::assignment::assignment_expr;
@@ -25,7 +26,7 @@ use swc_ecma_parser_source::{
 };
 use swc_ecma_parser_token::TokenKind;
 use swc_ecma_parser_trees::{
-    BuildsCall, BuildsExpr, BuildsObject, BuildsOperator, BuildsPattern, MakerOf,
+    BuildsCall, BuildsExpr, BuildsFunction, BuildsObject, BuildsOperator, BuildsPattern, MakerOf,
 };
 
 /// An operator before its operand.
@@ -38,7 +39,7 @@ fn prefixed<
     N: Fn(&MakerOf<T>, &mut P, usize, Part) -> PResult<T::Pat>,
 >(g: &Grammar<S, E, N>, t: &MakerOf<T>, p: &mut P, op: UnaryOp) -> PResult<T::Expr>
     requires { Nests P.seen T.expr_of T.pat_of T.stmt_of g.now.depth (S.pre g.now.stmt) (S.post g.now.stmt) (E.pre g.now.expr) (E.post g.now.expr) (N.pre g.now.pat) (N.post g.now.pat) }
-    ensures { GivesAs (T.expr_of) (exprs.prefixed (exprs.expr g.now.depth) (exprs.cover g.now.depth) op (P.seen p.old)) result (P.seen p.new) }
+    ensures { GivesAs (T.expr_of) (exprs.prefixed (rules.expr g.now.depth) (rules.cover g.now.depth) op (P.seen p.old)) result (P.seen p.new) }
 {
     let start = p.span();
     p.skip()?;
@@ -68,7 +69,7 @@ fn update_before<
     N: Fn(&MakerOf<T>, &mut P, usize, Part) -> PResult<T::Pat>,
 >(g: &Grammar<S, E, N>, t: &MakerOf<T>, p: &mut P, op: UpdateOp) -> PResult<T::Expr>
     requires { Nests P.seen T.expr_of T.pat_of T.stmt_of g.now.depth (S.pre g.now.stmt) (S.post g.now.stmt) (E.pre g.now.expr) (E.post g.now.expr) (N.pre g.now.pat) (N.post g.now.pat) }
-    ensures { GivesAs (T.expr_of) (exprs.update_before (exprs.expr g.now.depth) (exprs.cover g.now.depth) op (P.seen p.old)) result (P.seen p.new) }
+    ensures { GivesAs (T.expr_of) (exprs.update_before (rules.expr g.now.depth) (rules.cover g.now.depth) op (P.seen p.old)) result (P.seen p.new) }
 {
     let start = p.span();
     p.skip()?;
@@ -125,13 +126,13 @@ pub(crate) fn postfixed<P: Source, T: BuildsOperator>(
 #[tactic(auto, unfolding(swc_ecma_parser_reader::specs::Expressions::postfix))]
 fn postfix<
     P: Source,
-    T: BuildsExpr + BuildsCall + BuildsObject + BuildsOperator,
+    T: BuildsExpr + BuildsCall + BuildsObject + BuildsOperator + BuildsPattern + BuildsFunction,
     S: Fn(&MakerOf<T>, &mut P, usize, Position) -> PResult<T::Stmt>,
     E: Fn(&MakerOf<T>, &mut P, usize, Reading) -> PResult<Cover<T::Expr>>,
     N: Fn(&MakerOf<T>, &mut P, usize, Part) -> PResult<T::Pat>,
 >(g: &Grammar<S, E, N>, t: &MakerOf<T>, p: &mut P) -> PResult<T::Expr>
     requires { Nests P.seen T.expr_of T.pat_of T.stmt_of g.now.depth (S.pre g.now.stmt) (S.post g.now.stmt) (E.pre g.now.expr) (E.post g.now.expr) (N.pre g.now.pat) (N.post g.now.pat) }
-    ensures { GivesAs (T.expr_of) (exprs.postfix (exprs.expr g.now.depth) (exprs.cover g.now.depth) (P.seen p.old)) result (P.seen p.new) }
+    ensures { GivesAs (T.expr_of) (exprs.postfix (rules.expr g.now.depth) (rules.cover g.now.depth) (rules.function g.now.depth) (P.seen p.old)) result (P.seen p.new) }
 {
     let start = p.span();
     let operand = left(g, t, p, true)?;
@@ -142,13 +143,13 @@ fn postfix<
 #[tactic(auto, unfolding(swc_ecma_parser_reader::specs::Expressions::unary_expr))]
 fn unary_expr<
     P: Source,
-    T: BuildsExpr + BuildsCall + BuildsObject + BuildsOperator,
+    T: BuildsExpr + BuildsCall + BuildsObject + BuildsOperator + BuildsPattern + BuildsFunction,
     S: Fn(&MakerOf<T>, &mut P, usize, Position) -> PResult<T::Stmt>,
     E: Fn(&MakerOf<T>, &mut P, usize, Reading) -> PResult<Cover<T::Expr>>,
     N: Fn(&MakerOf<T>, &mut P, usize, Part) -> PResult<T::Pat>,
 >(g: &Grammar<S, E, N>, t: &MakerOf<T>, p: &mut P) -> PResult<T::Expr>
     requires { Nests P.seen T.expr_of T.pat_of T.stmt_of g.now.depth (S.pre g.now.stmt) (S.post g.now.stmt) (E.pre g.now.expr) (E.post g.now.expr) (N.pre g.now.pat) (N.post g.now.pat) }
-    ensures { GivesAs (T.expr_of) (exprs.unary_expr (exprs.expr g.now.depth) (exprs.cover g.now.depth) (P.seen p.old)) result (P.seen p.new) }
+    ensures { GivesAs (T.expr_of) (exprs.unary_expr (rules.expr g.now.depth) (rules.cover g.now.depth) (rules.function g.now.depth) (P.seen p.old)) result (P.seen p.new) }
 {
     if let Some(op) = unary_operator(p.kind()) {
         return prefixed(g, t, p, op);
@@ -228,7 +229,7 @@ fn operated<
     op: BinaryOp,
 ) -> PResult<T::Expr>
     requires { Nests P.seen T.expr_of T.pat_of T.stmt_of g.now.depth (S.pre g.now.stmt) (S.post g.now.stmt) (E.pre g.now.expr) (E.post g.now.expr) (N.pre g.now.pat) (N.post g.now.pat) }
-    ensures { GivesAs (T.expr_of) (exprs.operated (exprs.expr g.now.depth) (exprs.cover g.now.depth) start (T.expr_of x) op (P.seen p.old)) result (P.seen p.new) }
+    ensures { GivesAs (T.expr_of) (exprs.operated (rules.expr g.now.depth) (rules.cover g.now.depth) start (T.expr_of x) op (P.seen p.old)) result (P.seen p.new) }
 {
     left_operand::<P, T>(p, op, &x)?;
     p.skip()?;
@@ -265,7 +266,7 @@ pub(crate) fn binary_from<
     x: T::Expr,
 ) -> PResult<T::Expr>
     requires { Nests P.seen T.expr_of T.pat_of T.stmt_of g.now.depth (S.pre g.now.stmt) (S.post g.now.stmt) (E.pre g.now.expr) (E.post g.now.expr) (N.pre g.now.pat) (N.post g.now.pat) }
-    ensures { GivesAs (T.expr_of) (exprs.binary_from (exprs.expr g.now.depth) (exprs.cover g.now.depth) n start (T.expr_of x) (P.seen p.old)) result (P.seen p.new) }
+    ensures { GivesAs (T.expr_of) (exprs.binary_from (rules.expr g.now.depth) (rules.cover g.now.depth) n start (T.expr_of x) (P.seen p.old)) result (P.seen p.new) }
 {
     let mut x = x;
     'operators: loop {
@@ -280,13 +281,13 @@ pub(crate) fn binary_from<
 #[tactic(auto, unfolding(swc_ecma_parser_reader::specs::Expressions::binary_expr))]
 fn binary_expr<
     P: Source,
-    T: BuildsExpr + BuildsCall + BuildsObject + BuildsOperator,
+    T: BuildsExpr + BuildsCall + BuildsObject + BuildsOperator + BuildsPattern + BuildsFunction,
     S: Fn(&MakerOf<T>, &mut P, usize, Position) -> PResult<T::Stmt>,
     E: Fn(&MakerOf<T>, &mut P, usize, Reading) -> PResult<Cover<T::Expr>>,
     N: Fn(&MakerOf<T>, &mut P, usize, Part) -> PResult<T::Pat>,
 >(g: &Grammar<S, E, N>, t: &MakerOf<T>, p: &mut P, n: usize) -> PResult<T::Expr>
     requires { Nests P.seen T.expr_of T.pat_of T.stmt_of g.now.depth (S.pre g.now.stmt) (S.post g.now.stmt) (E.pre g.now.expr) (E.post g.now.expr) (N.pre g.now.pat) (N.post g.now.pat) }
-    ensures { GivesAs (T.expr_of) (exprs.binary_expr (exprs.expr g.now.depth) (exprs.cover g.now.depth) n (P.seen p.old)) result (P.seen p.new) }
+    ensures { GivesAs (T.expr_of) (exprs.binary_expr (rules.expr g.now.depth) (rules.cover g.now.depth) (rules.function g.now.depth) n (P.seen p.old)) result (P.seen p.new) }
 {
     let start = p.span();
     let x = unary_expr(g, t, p)?;
@@ -311,7 +312,7 @@ fn conditional<
     N: Fn(&MakerOf<T>, &mut P, usize, Part) -> PResult<T::Pat>,
 >(g: &Grammar<S, E, N>, t: &MakerOf<T>, p: &mut P, start: Span, test: T::Expr) -> PResult<T::Expr>
     requires { Nests P.seen T.expr_of T.pat_of T.stmt_of g.now.depth (S.pre g.now.stmt) (S.post g.now.stmt) (E.pre g.now.expr) (E.post g.now.expr) (N.pre g.now.pat) (N.post g.now.pat) }
-    ensures { GivesAs (T.expr_of) (exprs.conditional (exprs.expr g.now.depth) (exprs.cover g.now.depth) start (T.expr_of test) (P.seen p.old)) result (P.seen p.new) }
+    ensures { GivesAs (T.expr_of) (exprs.conditional (rules.expr g.now.depth) (rules.cover g.now.depth) start (T.expr_of test) (P.seen p.old)) result (P.seen p.new) }
 {
     p.skip()?;
     let yes_case = inside(g, t, p, Class::Assignment)?;
@@ -351,7 +352,7 @@ fn assigned<
     op: AssignOp,
 ) -> PResult<T::Expr>
     requires { Nests P.seen T.expr_of T.pat_of T.stmt_of g.now.depth (S.pre g.now.stmt) (S.post g.now.stmt) (E.pre g.now.expr) (E.post g.now.expr) (N.pre g.now.pat) (N.post g.now.pat) }
-    ensures { GivesAs (T.expr_of) (exprs.assigned (exprs.expr g.now.depth) (exprs.cover g.now.depth) start (T.expr_of x) op (P.seen p.old)) result (P.seen p.new) }
+    ensures { GivesAs (T.expr_of) (exprs.assigned (rules.expr g.now.depth) (rules.cover g.now.depth) start (T.expr_of x) op (P.seen p.old)) result (P.seen p.new) }
 {
     if !T::is_simple_target(&x) {
         return Err(p.reject(unassignable(op), T::expr_span(&x)));
@@ -390,7 +391,7 @@ pub(crate) fn behind_operators<
     x: T::Expr,
 ) -> PResult<T::Expr>
     requires { Nests P.seen T.expr_of T.pat_of T.stmt_of g.now.depth (S.pre g.now.stmt) (S.post g.now.stmt) (E.pre g.now.expr) (E.post g.now.expr) (N.pre g.now.pat) (N.post g.now.pat) }
-    ensures { GivesAs (T.expr_of) (exprs.behind_operators (exprs.expr g.now.depth) (exprs.cover g.now.depth) is_async start (T.expr_of x) (P.seen p.old)) result (P.seen p.new) }
+    ensures { GivesAs (T.expr_of) (exprs.behind_operators (rules.expr g.now.depth) (rules.cover g.now.depth) is_async start (T.expr_of x) (P.seen p.old)) result (P.seen p.new) }
 {
     if p.sees(TokenKind::QuestionMark) {
         return conditional(g, t, p, start, x);
@@ -408,13 +409,13 @@ pub(crate) fn behind_operators<
 #[tactic(auto, unfolding(swc_ecma_parser_reader::specs::Expressions::operators_expr))]
 pub(crate) fn operators_expr<
     P: Source,
-    T: BuildsExpr + BuildsCall + BuildsObject + BuildsOperator,
+    T: BuildsExpr + BuildsCall + BuildsObject + BuildsOperator + BuildsPattern + BuildsFunction,
     S: Fn(&MakerOf<T>, &mut P, usize, Position) -> PResult<T::Stmt>,
     E: Fn(&MakerOf<T>, &mut P, usize, Reading) -> PResult<Cover<T::Expr>>,
     N: Fn(&MakerOf<T>, &mut P, usize, Part) -> PResult<T::Pat>,
 >(g: &Grammar<S, E, N>, t: &MakerOf<T>, p: &mut P) -> PResult<T::Expr>
     requires { Nests P.seen T.expr_of T.pat_of T.stmt_of g.now.depth (S.pre g.now.stmt) (S.post g.now.stmt) (E.pre g.now.expr) (E.post g.now.expr) (N.pre g.now.pat) (N.post g.now.pat) }
-    ensures { GivesAs (T.expr_of) (exprs.operators_expr (exprs.expr g.now.depth) (exprs.cover g.now.depth) (P.seen p.old)) result (P.seen p.new) }
+    ensures { GivesAs (T.expr_of) (exprs.operators_expr (rules.expr g.now.depth) (rules.cover g.now.depth) (rules.function g.now.depth) (P.seen p.old)) result (P.seen p.new) }
 {
     let is_async = p.begins_async_call();
     let start = p.span();
@@ -426,13 +427,13 @@ pub(crate) fn operators_expr<
 #[tactic(auto, unfolding(swc_ecma_parser_reader::specs::Expressions::sequence_from), using(swc_ecma_parser_reader::proofs::expressions::Loops::sequence_done, swc_ecma_parser_reader::proofs::expressions::Loops::sequence_more, swc_ecma_parser_reader::proofs::expressions::Loops::sequence_err, swc_ecma_parser_reader::proofs::expressions::Loops::assignment_shorter, swc_ecma_parser_reader::proofs::expressions::Loops::sequence_shorter, std::proofs::lemmas::List::map_push))]
 pub(crate) fn sequence_from<
     P: Source,
-    T: BuildsExpr + BuildsCall + BuildsObject + BuildsOperator + BuildsPattern,
+    T: BuildsExpr + BuildsCall + BuildsObject + BuildsOperator + BuildsPattern + BuildsFunction,
     S: Fn(&MakerOf<T>, &mut P, usize, Position) -> PResult<T::Stmt>,
     E: Fn(&MakerOf<T>, &mut P, usize, Reading) -> PResult<Cover<T::Expr>>,
     N: Fn(&MakerOf<T>, &mut P, usize, Part) -> PResult<T::Pat>,
 >(g: &Grammar<S, E, N>, t: &MakerOf<T>, p: &mut P, start: Span, x: T::Expr) -> PResult<T::Expr>
     requires { Nests P.seen T.expr_of T.pat_of T.stmt_of g.now.depth (S.pre g.now.stmt) (S.post g.now.stmt) (E.pre g.now.expr) (E.post g.now.expr) (N.pre g.now.pat) (N.post g.now.pat) }
-    ensures { GivesAs (T.expr_of) (exprs.sequence_from (exprs.expr g.now.depth) (exprs.cover g.now.depth) start (T.expr_of x) (P.seen p.old)) result (P.seen p.new) }
+    ensures { GivesAs (T.expr_of) (exprs.sequence_from (rules.expr g.now.depth) (rules.cover g.now.depth) (rules.function g.now.depth) start (T.expr_of x) (P.seen p.old)) result (P.seen p.new) }
 {
     let mut found = Vec::new(t.alloc);
     pushed(p, &mut found, x)?;
@@ -452,13 +453,13 @@ pub(crate) fn sequence_from<
 #[tactic(auto, unfolding(swc_ecma_parser_reader::specs::Expressions::expression_expr))]
 fn expression_expr<
     P: Source,
-    T: BuildsExpr + BuildsCall + BuildsObject + BuildsOperator + BuildsPattern,
+    T: BuildsExpr + BuildsCall + BuildsObject + BuildsOperator + BuildsPattern + BuildsFunction,
     S: Fn(&MakerOf<T>, &mut P, usize, Position) -> PResult<T::Stmt>,
     E: Fn(&MakerOf<T>, &mut P, usize, Reading) -> PResult<Cover<T::Expr>>,
     N: Fn(&MakerOf<T>, &mut P, usize, Part) -> PResult<T::Pat>,
 >(g: &Grammar<S, E, N>, t: &MakerOf<T>, p: &mut P) -> PResult<T::Expr>
     requires { Nests P.seen T.expr_of T.pat_of T.stmt_of g.now.depth (S.pre g.now.stmt) (S.post g.now.stmt) (E.pre g.now.expr) (E.post g.now.expr) (N.pre g.now.pat) (N.post g.now.pat) }
-    ensures { GivesAs (T.expr_of) (exprs.expression_expr (exprs.expr g.now.depth) (exprs.cover g.now.depth) (P.seen p.old)) result (P.seen p.new) }
+    ensures { GivesAs (T.expr_of) (exprs.expression_expr (rules.expr g.now.depth) (rules.cover g.now.depth) (rules.function g.now.depth) (P.seen p.old)) result (P.seen p.new) }
 {
     let start = p.span();
     let x = assignment_expr(g, t, p)?;
@@ -472,13 +473,13 @@ fn expression_expr<
 #[tactic(auto, unfolding(swc_ecma_parser_reader::specs::Expressions::expr_level))]
 pub fn expr_level<
     P: Source,
-    T: BuildsExpr + BuildsCall + BuildsObject + BuildsOperator + BuildsPattern,
+    T: BuildsExpr + BuildsCall + BuildsObject + BuildsOperator + BuildsPattern + BuildsFunction,
     S: Fn(&MakerOf<T>, &mut P, usize, Position) -> PResult<T::Stmt>,
     E: Fn(&MakerOf<T>, &mut P, usize, Reading) -> PResult<Cover<T::Expr>>,
     N: Fn(&MakerOf<T>, &mut P, usize, Part) -> PResult<T::Pat>,
 >(g: &Grammar<S, E, N>, t: &MakerOf<T>, p: &mut P, class: Class) -> PResult<T::Expr>
     requires { Nests P.seen T.expr_of T.pat_of T.stmt_of g.now.depth (S.pre g.now.stmt) (S.post g.now.stmt) (E.pre g.now.expr) (E.post g.now.expr) (N.pre g.now.pat) (N.post g.now.pat) }
-    ensures { GivesAs (T.expr_of) (exprs.expr_level (exprs.expr g.now.depth) (exprs.cover g.now.depth) (class_of class) (P.seen p.old)) result (P.seen p.new) }
+    ensures { GivesAs (T.expr_of) (exprs.expr_level (rules.expr g.now.depth) (rules.cover g.now.depth) (rules.function g.now.depth) (class_of class) (P.seen p.old)) result (P.seen p.new) }
 {
     match class {
         Class::Expression => expression_expr(g, t, p),

@@ -3,8 +3,8 @@
 ghost use Rattle.std.specs.Prelude.{map};
 ghost use Rattle.swc_ecma_parser_inner.specs.Keys.{key_of};
 ghost use Rattle.swc_ecma_parser_inner.specs.Nests.{Nests};
-ghost use Rattle.swc_ecma_parser_reader.specs.Expressions as exprs;
 ghost use Rattle.swc_ecma_parser_reader.specs.Patterns as patterns;
+ghost use Rattle.swc_ecma_parser_reader.specs.Reader as rules;
 ghost use Rattle.swc_ecma_parser_reader.specs.State.{GivesAs};
 
 use crate::pat::inner_pat;
@@ -30,7 +30,7 @@ fn rest_name<
     N: Fn(&MakerOf<T>, &mut P, usize, Part) -> PResult<T::Pat>,
 >(g: &Grammar<S, E, N>, t: &MakerOf<T>, p: &mut P) -> PResult<T::Pat>
     requires { Nests P.seen T.expr_of T.pat_of T.stmt_of g.now.depth (S.pre g.now.stmt) (S.post g.now.stmt) (E.pre g.now.expr) (E.post g.now.expr) (N.pre g.now.pat) (N.post g.now.pat) }
-    ensures { GivesAs T.pat_of (patterns.rest_name (exprs.expr g.now.depth) (exprs.cover g.now.depth) (patterns.pattern g.now.depth) (patterns.element g.now.depth) (P.seen p.old)) result (P.seen p.new) }
+    ensures { GivesAs T.pat_of (patterns.rest_name (rules.expr g.now.depth) (rules.cover g.now.depth) (rules.pattern g.now.depth) (rules.element g.now.depth) (P.seen p.old)) result (P.seen p.new) }
 {
     if p.sees(TokenKind::LBracket) || p.sees(TokenKind::LBrace) {
         return Err(p.wanted(Wanted::Name));
@@ -48,7 +48,7 @@ fn rest_property<
     N: Fn(&MakerOf<T>, &mut P, usize, Part) -> PResult<T::Pat>,
 >(g: &Grammar<S, E, N>, t: &MakerOf<T>, p: &mut P) -> PResult<T::PatProp>
     requires { Nests P.seen T.expr_of T.pat_of T.stmt_of g.now.depth (S.pre g.now.stmt) (S.post g.now.stmt) (E.pre g.now.expr) (E.post g.now.expr) (N.pre g.now.pat) (N.post g.now.pat) }
-    ensures { GivesAs T.pat_prop_of (patterns.rest_property (exprs.expr g.now.depth) (exprs.cover g.now.depth) (patterns.pattern g.now.depth) (patterns.element g.now.depth) (P.seen p.old)) result (P.seen p.new) }
+    ensures { GivesAs T.pat_prop_of (patterns.rest_property (rules.expr g.now.depth) (rules.cover g.now.depth) (rules.pattern g.now.depth) (rules.element g.now.depth) (P.seen p.old)) result (P.seen p.new) }
 {
     let start = p.span();
     p.skip()?;
@@ -73,7 +73,7 @@ fn key_value<
     key: Key<T::Expr>,
 ) -> PResult<T::PatProp>
     requires { Nests P.seen T.expr_of T.pat_of T.stmt_of g.now.depth (S.pre g.now.stmt) (S.post g.now.stmt) (E.pre g.now.expr) (E.post g.now.expr) (N.pre g.now.pat) (N.post g.now.pat) }
-    ensures { GivesAs T.pat_prop_of (patterns.key_value (exprs.expr g.now.depth) (exprs.cover g.now.depth) (patterns.pattern g.now.depth) (patterns.element g.now.depth) start (key_of T.expr_of key) (P.seen p.old)) result (P.seen p.new) }
+    ensures { GivesAs T.pat_prop_of (patterns.key_value (rules.expr g.now.depth) (rules.cover g.now.depth) (rules.pattern g.now.depth) (rules.element g.now.depth) start (key_of T.expr_of key) (P.seen p.old)) result (P.seen p.new) }
 {
     p.skip()?;
     let value = inner_pat(g, t, p, Part::Element)?;
@@ -92,7 +92,7 @@ fn initialized_name<
     N: Fn(&MakerOf<T>, &mut P, usize, Part) -> PResult<T::Pat>,
 >(g: &Grammar<S, E, N>, t: &MakerOf<T>, p: &mut P, start: Span, name: Ident) -> PResult<T::PatProp>
     requires { Nests P.seen T.expr_of T.pat_of T.stmt_of g.now.depth (S.pre g.now.stmt) (S.post g.now.stmt) (E.pre g.now.expr) (E.post g.now.expr) (N.pre g.now.pat) (N.post g.now.pat) }
-    ensures { GivesAs T.pat_prop_of (patterns.initialized_name (exprs.expr g.now.depth) (exprs.cover g.now.depth) (patterns.pattern g.now.depth) (patterns.element g.now.depth) start name.span name.sym (P.seen p.old)) result (P.seen p.new) }
+    ensures { GivesAs T.pat_prop_of (patterns.initialized_name (rules.expr g.now.depth) (rules.cover g.now.depth) (rules.pattern g.now.depth) (rules.element g.now.depth) start name.span name.sym (P.seen p.old)) result (P.seen p.new) }
 {
     p.skip()?;
     let value = inside(g, t, p, Class::Assignment)?;
@@ -110,7 +110,7 @@ fn named<
     N: Fn(&MakerOf<T>, &mut P, usize, Part) -> PResult<T::Pat>,
 >(g: &Grammar<S, E, N>, t: &MakerOf<T>, p: &mut P, start: Span, name: Ident) -> PResult<T::PatProp>
     requires { Nests P.seen T.expr_of T.pat_of T.stmt_of g.now.depth (S.pre g.now.stmt) (S.post g.now.stmt) (E.pre g.now.expr) (E.post g.now.expr) (N.pre g.now.pat) (N.post g.now.pat) }
-    ensures { GivesAs T.pat_prop_of (patterns.named (exprs.expr g.now.depth) (exprs.cover g.now.depth) (patterns.pattern g.now.depth) (patterns.element g.now.depth) start name.span name.sym (P.seen p.old)) result (P.seen p.new) }
+    ensures { GivesAs T.pat_prop_of (patterns.named (rules.expr g.now.depth) (rules.cover g.now.depth) (rules.pattern g.now.depth) (rules.element g.now.depth) start name.span name.sym (P.seen p.old)) result (P.seen p.new) }
 {
     if !is_name(p.flags(), name.sym.as_str()) {
         return Err(p.reject(SyntaxError::ExpectedIdent, name.span));
@@ -137,7 +137,7 @@ fn bare_key<
     key: Key<T::Expr>,
 ) -> PResult<T::PatProp>
     requires { Nests P.seen T.expr_of T.pat_of T.stmt_of g.now.depth (S.pre g.now.stmt) (S.post g.now.stmt) (E.pre g.now.expr) (E.post g.now.expr) (N.pre g.now.pat) (N.post g.now.pat) }
-    ensures { GivesAs T.pat_prop_of (patterns.bare_key (exprs.expr g.now.depth) (exprs.cover g.now.depth) (patterns.pattern g.now.depth) (patterns.element g.now.depth) start (key_of T.expr_of key) (P.seen p.old)) result (P.seen p.new) }
+    ensures { GivesAs T.pat_prop_of (patterns.bare_key (rules.expr g.now.depth) (rules.cover g.now.depth) (rules.pattern g.now.depth) (rules.element g.now.depth) start (key_of T.expr_of key) (P.seen p.old)) result (P.seen p.new) }
 {
     match key {
         Key::Word(name) => named(g, t, p, start, name),
@@ -161,7 +161,7 @@ fn behind_key<
     key: Key<T::Expr>,
 ) -> PResult<T::PatProp>
     requires { Nests P.seen T.expr_of T.pat_of T.stmt_of g.now.depth (S.pre g.now.stmt) (S.post g.now.stmt) (E.pre g.now.expr) (E.post g.now.expr) (N.pre g.now.pat) (N.post g.now.pat) }
-    ensures { GivesAs T.pat_prop_of (patterns.behind_key (exprs.expr g.now.depth) (exprs.cover g.now.depth) (patterns.pattern g.now.depth) (patterns.element g.now.depth) start (key_of T.expr_of key) (P.seen p.old)) result (P.seen p.new) }
+    ensures { GivesAs T.pat_prop_of (patterns.behind_key (rules.expr g.now.depth) (rules.cover g.now.depth) (rules.pattern g.now.depth) (rules.element g.now.depth) start (key_of T.expr_of key) (P.seen p.old)) result (P.seen p.new) }
 {
     if p.sees(TokenKind::Colon) {
         return key_value(g, t, p, start, key);
@@ -179,7 +179,7 @@ fn property<
     N: Fn(&MakerOf<T>, &mut P, usize, Part) -> PResult<T::Pat>,
 >(g: &Grammar<S, E, N>, t: &MakerOf<T>, p: &mut P) -> PResult<T::PatProp>
     requires { Nests P.seen T.expr_of T.pat_of T.stmt_of g.now.depth (S.pre g.now.stmt) (S.post g.now.stmt) (E.pre g.now.expr) (E.post g.now.expr) (N.pre g.now.pat) (N.post g.now.pat) }
-    ensures { GivesAs T.pat_prop_of (patterns.property (exprs.expr g.now.depth) (exprs.cover g.now.depth) (patterns.pattern g.now.depth) (patterns.element g.now.depth) (P.seen p.old)) result (P.seen p.new) }
+    ensures { GivesAs T.pat_prop_of (patterns.property (rules.expr g.now.depth) (rules.cover g.now.depth) (rules.pattern g.now.depth) (rules.element g.now.depth) (P.seen p.old)) result (P.seen p.new) }
 {
     let start = p.span();
     let key = property_key(g, t, p)?;
@@ -196,7 +196,7 @@ fn properties<
     N: Fn(&MakerOf<T>, &mut P, usize, Part) -> PResult<T::Pat>,
 >(g: &Grammar<S, E, N>, t: &MakerOf<T>, p: &mut P) -> PResult<Vec<T::PatProp>>
     requires { Nests P.seen T.expr_of T.pat_of T.stmt_of g.now.depth (S.pre g.now.stmt) (S.post g.now.stmt) (E.pre g.now.expr) (E.post g.now.expr) (N.pre g.now.pat) (N.post g.now.pat) }
-    ensures { GivesAs (λ found. map T.pat_prop_of found.items) (patterns.properties (exprs.expr g.now.depth) (exprs.cover g.now.depth) (patterns.pattern g.now.depth) (patterns.element g.now.depth) (P.seen p.old)) result (P.seen p.new) }
+    ensures { GivesAs (λ found. map T.pat_prop_of found.items) (patterns.properties (rules.expr g.now.depth) (rules.cover g.now.depth) (rules.pattern g.now.depth) (rules.element g.now.depth) (P.seen p.old)) result (P.seen p.new) }
 {
     p.skip()?;
     let mut found = Vec::new(t.alloc);
@@ -229,7 +229,7 @@ pub(crate) fn object_pat<
     N: Fn(&MakerOf<T>, &mut P, usize, Part) -> PResult<T::Pat>,
 >(g: &Grammar<S, E, N>, t: &MakerOf<T>, p: &mut P) -> PResult<T::Pat>
     requires { Nests P.seen T.expr_of T.pat_of T.stmt_of g.now.depth (S.pre g.now.stmt) (S.post g.now.stmt) (E.pre g.now.expr) (E.post g.now.expr) (N.pre g.now.pat) (N.post g.now.pat) }
-    ensures { GivesAs T.pat_of (patterns.object (exprs.expr g.now.depth) (exprs.cover g.now.depth) (patterns.pattern g.now.depth) (patterns.element g.now.depth) (P.seen p.old)) result (P.seen p.new) }
+    ensures { GivesAs T.pat_of (patterns.object (rules.expr g.now.depth) (rules.cover g.now.depth) (rules.pattern g.now.depth) (rules.element g.now.depth) (P.seen p.old)) result (P.seen p.new) }
 {
     let start = p.span();
     let found = properties(g, t, p)?;

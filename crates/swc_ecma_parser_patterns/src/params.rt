@@ -2,7 +2,7 @@
 
 ghost use Rattle.std.specs.Prelude.{map};
 ghost use Rattle.swc_ecma_parser_inner.specs.Nests.{Nests};
-ghost use Rattle.swc_ecma_parser_reader.specs.Patterns as patterns;
+ghost use Rattle.swc_ecma_parser_reader.specs.Reader as rules;
 ghost use Rattle.swc_ecma_parser_reader.specs.State.{GivesAs};
 
 use crate::pat::{inner_pat, rest};
@@ -16,7 +16,7 @@ use swc_ecma_parser_token::TokenKind;
 use swc_ecma_parser_trees::{BuildsPattern, MakerOf};
 
 /// The patterns of parameters, from `(` to `)`. Nothing stands behind the rest.
-#[tactic(auto, unfolding(swc_ecma_parser_reader::specs::Patterns::parameters, swc_ecma_parser_reader::specs::Patterns::parameter_list), using(swc_ecma_parser_reader::proofs::patterns::Loops::parameters_done, swc_ecma_parser_reader::proofs::patterns::Loops::parameters_last, swc_ecma_parser_reader::proofs::patterns::Loops::parameters_more, std::proofs::lemmas::List::map_push))]
+#[tactic(auto, unfolding(swc_ecma_parser_reader::specs::Patterns::parameter_list), using(swc_ecma_parser_reader::proofs::patterns::Loops::parameters_done, swc_ecma_parser_reader::proofs::patterns::Loops::parameters_last, swc_ecma_parser_reader::proofs::patterns::Loops::parameters_more, std::proofs::lemmas::List::map_push))]
 pub fn parameters<
     P: Source,
     T: BuildsPattern,
@@ -25,7 +25,7 @@ pub fn parameters<
     N: Fn(&MakerOf<T>, &mut P, usize, Part) -> PResult<T::Pat>,
 >(g: &Grammar<S, E, N>, t: &MakerOf<T>, p: &mut P) -> PResult<Vec<T::Pat>>
     requires { Nests P.seen T.expr_of T.pat_of T.stmt_of g.now.depth (S.pre g.now.stmt) (S.post g.now.stmt) (E.pre g.now.expr) (E.post g.now.expr) (N.pre g.now.pat) (N.post g.now.pat) }
-    ensures { GivesAs (λ found. map T.pat_of found.items) (patterns.parameters g.now.depth (P.seen p.old)) result (P.seen p.new) }
+    ensures { GivesAs (λ found. map T.pat_of found.items) (rules.parameters g.now.depth (P.seen p.old)) result (P.seen p.new) }
 {
     p.expect(TokenKind::LParen, "(")?;
     let mut found = Vec::new(t.alloc);

@@ -4,8 +4,8 @@ ghost use Rattle.std.specs.Prelude.{map};
 ghost use Rattle.swc_ecma_parser_grammar.specs.Reads as language;
 ghost use Rattle.swc_ecma_parser_inner.specs.Nests.{Nests};
 ghost use Rattle.swc_ecma_parser_inner.specs.Patterns.{read_pat};
-ghost use Rattle.swc_ecma_parser_reader.specs.Expressions as exprs;
 ghost use Rattle.swc_ecma_parser_reader.specs.Patterns as patterns;
+ghost use Rattle.swc_ecma_parser_reader.specs.Reader as rules;
 ghost use Rattle.swc_ecma_parser_reader.specs.State as reader;
 ghost use Rattle.swc_ecma_parser_reader.specs.State.{GivesAs};
 ghost use Rattle.swc_ecma_parser_trees.specs.Parts.{part_of};
@@ -59,7 +59,7 @@ pub(crate) fn rest<
     N: Fn(&MakerOf<T>, &mut P, usize, Part) -> PResult<T::Pat>,
 >(g: &Grammar<S, E, N>, t: &MakerOf<T>, p: &mut P) -> PResult<T::Pat>
     requires { Nests P.seen T.expr_of T.pat_of T.stmt_of g.now.depth (S.pre g.now.stmt) (S.post g.now.stmt) (E.pre g.now.expr) (E.post g.now.expr) (N.pre g.now.pat) (N.post g.now.pat) }
-    ensures { GivesAs T.pat_of (patterns.rest (exprs.expr g.now.depth) (exprs.cover g.now.depth) (patterns.pattern g.now.depth) (patterns.element g.now.depth) (P.seen p.old)) result (P.seen p.new) }
+    ensures { GivesAs T.pat_of (patterns.rest (rules.expr g.now.depth) (rules.cover g.now.depth) (rules.pattern g.now.depth) (rules.element g.now.depth) (P.seen p.old)) result (P.seen p.new) }
 {
     let start = p.span();
     p.skip()?;
@@ -78,7 +78,7 @@ fn elements<
     N: Fn(&MakerOf<T>, &mut P, usize, Part) -> PResult<T::Pat>,
 >(g: &Grammar<S, E, N>, t: &MakerOf<T>, p: &mut P) -> PResult<Vec<Option<T::Pat>>>
     requires { Nests P.seen T.expr_of T.pat_of T.stmt_of g.now.depth (S.pre g.now.stmt) (S.post g.now.stmt) (E.pre g.now.expr) (E.post g.now.expr) (N.pre g.now.pat) (N.post g.now.pat) }
-    ensures { GivesAs (λ found. map (part_of T.pat_of) found.items) (patterns.elements (exprs.expr g.now.depth) (exprs.cover g.now.depth) (patterns.pattern g.now.depth) (patterns.element g.now.depth) (P.seen p.old)) result (P.seen p.new) }
+    ensures { GivesAs (λ found. map (part_of T.pat_of) found.items) (patterns.elements (rules.expr g.now.depth) (rules.cover g.now.depth) (rules.pattern g.now.depth) (rules.element g.now.depth) (P.seen p.old)) result (P.seen p.new) }
 {
     p.skip()?;
     let mut found = Vec::new(t.alloc);
@@ -117,7 +117,7 @@ fn array_pat<
     N: Fn(&MakerOf<T>, &mut P, usize, Part) -> PResult<T::Pat>,
 >(g: &Grammar<S, E, N>, t: &MakerOf<T>, p: &mut P) -> PResult<T::Pat>
     requires { Nests P.seen T.expr_of T.pat_of T.stmt_of g.now.depth (S.pre g.now.stmt) (S.post g.now.stmt) (E.pre g.now.expr) (E.post g.now.expr) (N.pre g.now.pat) (N.post g.now.pat) }
-    ensures { GivesAs T.pat_of (patterns.array (exprs.expr g.now.depth) (exprs.cover g.now.depth) (patterns.pattern g.now.depth) (patterns.element g.now.depth) (P.seen p.old)) result (P.seen p.new) }
+    ensures { GivesAs T.pat_of (patterns.array (rules.expr g.now.depth) (rules.cover g.now.depth) (rules.pattern g.now.depth) (rules.element g.now.depth) (P.seen p.old)) result (P.seen p.new) }
 {
     let start = p.span();
     let found = elements(g, t, p)?;
@@ -135,7 +135,7 @@ pub fn pattern_level<
     N: Fn(&MakerOf<T>, &mut P, usize, Part) -> PResult<T::Pat>,
 >(g: &Grammar<S, E, N>, t: &MakerOf<T>, p: &mut P) -> PResult<T::Pat>
     requires { Nests P.seen T.expr_of T.pat_of T.stmt_of g.now.depth (S.pre g.now.stmt) (S.post g.now.stmt) (E.pre g.now.expr) (E.post g.now.expr) (N.pre g.now.pat) (N.post g.now.pat) }
-    ensures { GivesAs T.pat_of (patterns.pattern_level (exprs.expr g.now.depth) (exprs.cover g.now.depth) (patterns.pattern g.now.depth) (patterns.element g.now.depth) (P.seen p.old)) result (P.seen p.new) }
+    ensures { GivesAs T.pat_of (patterns.pattern_level (rules.expr g.now.depth) (rules.cover g.now.depth) (rules.pattern g.now.depth) (rules.element g.now.depth) (P.seen p.old)) result (P.seen p.new) }
 {
     if p.sees(TokenKind::LBracket) {
         return array_pat(g, t, p);
@@ -156,7 +156,7 @@ fn initialized<
     N: Fn(&MakerOf<T>, &mut P, usize, Part) -> PResult<T::Pat>,
 >(g: &Grammar<S, E, N>, t: &MakerOf<T>, p: &mut P, start: Span, left: T::Pat) -> PResult<T::Pat>
     requires { Nests P.seen T.expr_of T.pat_of T.stmt_of g.now.depth (S.pre g.now.stmt) (S.post g.now.stmt) (E.pre g.now.expr) (E.post g.now.expr) (N.pre g.now.pat) (N.post g.now.pat) }
-    ensures { GivesAs T.pat_of (patterns.initialized (exprs.expr g.now.depth) (exprs.cover g.now.depth) (patterns.pattern g.now.depth) (patterns.element g.now.depth) start (T.pat_of left) (P.seen p.old)) result (P.seen p.new) }
+    ensures { GivesAs T.pat_of (patterns.initialized (rules.expr g.now.depth) (rules.cover g.now.depth) (rules.pattern g.now.depth) (rules.element g.now.depth) start (T.pat_of left) (P.seen p.old)) result (P.seen p.new) }
 {
     p.skip()?;
     let value = inside(g, t, p, Class::Assignment)?;
@@ -174,7 +174,7 @@ pub fn element_level<
     N: Fn(&MakerOf<T>, &mut P, usize, Part) -> PResult<T::Pat>,
 >(g: &Grammar<S, E, N>, t: &MakerOf<T>, p: &mut P) -> PResult<T::Pat>
     requires { Nests P.seen T.expr_of T.pat_of T.stmt_of g.now.depth (S.pre g.now.stmt) (S.post g.now.stmt) (E.pre g.now.expr) (E.post g.now.expr) (N.pre g.now.pat) (N.post g.now.pat) }
-    ensures { GivesAs T.pat_of (patterns.element_level (exprs.expr g.now.depth) (exprs.cover g.now.depth) (patterns.pattern g.now.depth) (patterns.element g.now.depth) (P.seen p.old)) result (P.seen p.new) }
+    ensures { GivesAs T.pat_of (patterns.element_level (rules.expr g.now.depth) (rules.cover g.now.depth) (rules.pattern g.now.depth) (rules.element g.now.depth) (P.seen p.old)) result (P.seen p.new) }
 {
     let start = p.span();
     let pat = pattern_level(g, t, p)?;

@@ -8,13 +8,11 @@ use Rattle.swc_ecma_parser_grammar.specs.Looks.{kind_at}
 use Rattle.swc_ecma_parser_grammar.specs.language.Goals.{expression}
 use Rattle.swc_ecma_parser_grammar.specs.language.Items.{sub_statement}
 use Rattle.swc_ecma_parser_reader.specs.State.{State, Outcome, Reader, and_then, moved}
-use Rattle.swc_ecma_parser_reader.specs.Expressions.{expr}
-use Rattle.swc_ecma_parser_reader.specs.Reader.{Link, goes_on, closed_link, alternative, link, behind_link, links, if_stmt, stmt}
+use Rattle.swc_ecma_parser_reader.specs.Reader.{Link, goes_on, closed_link, alternative, link, behind_link, links, if_stmt, stmt, expr}
 use Rattle.swc_ecma_parser_reader.proofs.Steps.{same_if}
 use Rattle.swc_ecma_parser_reader.proofs.Takes.{Falls, takes}
-use Rattle.swc_ecma_parser_reader.proofs.Falls.{link_falls, stmt_falls}
+use Rattle.swc_ecma_parser_reader.proofs.Falls.{link_falls, stmt_falls, expr_falls}
 use Rattle.swc_ecma_parser_reader.proofs.Opens.{chain_goes}
-use Rattle.swc_ecma_parser_reader.proofs.expressions.Falls.{expr_falls}
 
 -- what follows a step may be whatever agrees with it where the step went well
 then_same : {A B : Type 0} (o : Outcome A) (f g : A → Reader B) → ((a : A) (t : State) → o ≡ Ok (a, t) → f a t ≡ g a t) → and_then o f ≡ and_then o g

@@ -7,7 +7,7 @@ use Rattle.swc_ecma_parser_token.specs.declared.token.Word.{Word}
 use Rattle.swc_ecma_parser_grammar.proofs.Tests.{and_both, and_no}
 use Rattle.swc_ecma_parser_grammar.proofs.SupportedBegins.{word_begins, name_begins}
 use Rattle.swc_ecma_parser_grammar.specs.Own.{labelled_function, duplicates, misplaced_directive}
-use Rattle.swc_ecma_parser_grammar.specs.Reads.{labeled_rule, with_rule, function_rule, ReadsFunction, ReadsBraced}
+use Rattle.swc_ecma_parser_grammar.specs.Reads.{labeled_rule, with_rule, function_rule, ReadsFunction, ReadsFunctionExpr, OwnNameRule, no_own_name_rule, own_name_rule, ReadsBraced}
 use Rattle.swc_ecma_parser_grammar.specs.Names.{is_name, name_at, first_is_name}
 use Rattle.swc_ecma_parser_grammar.specs.language.Items.{labelled_item}
 use Rattle.swc_ecma_parser_reader.specs.Reader.{begins_label, relabels, labelled_body, labeled_stmt, other_stmt, with_stmt, await_here, misdirected, function_body, function_parts, function_decl, function_stmt}
@@ -38,37 +38,42 @@ use Rattle.swc_ecma_parser_grammar.specs.Names.{Code}
 use Rattle.swc_ecma_parser_grammar.specs.Ends.{OptionalEnds}
 use Rattle.swc_ecma_parser_grammar.specs.Reads.{with_in, nested_item, top_item, ReadsToken, ReadsItems, break_rule, continue_rule, return_rule, StmtRule, block_rule, empty_rule, debugger_rule, variables_rule, if_statement_rule, CaseRule, case_clause_rule, default_clause_rule, ReadsCases, switch_rule, throw_rule, try_rule, while_rule, do_while_rule, expr_rule, import_rule, ReadsBlock, CatchRule, no_catch_rule, catch_rule, catch_parameter_rule, FinallyRule, no_finally_rule, finally_rule, ReadsHead, IfRule, if_rule, no_else_rule, else_rule, else_if_rule}
 use Rattle.swc_ecma_parser_grammar.specs.ReadsSupported.{ReadsClass, ReadsPat, ReadsTarget, ReadsStmt, ReadsParams}
-use Rattle.swc_ecma_parser_grammar.specs.language.Contexts.{in_loop, in_breakable, in_with, in_parameters, in_body}
+use Rattle.swc_ecma_parser_grammar.specs.language.Contexts.{in_loop, in_breakable, in_with, named_by, in_parameters, in_body}
 use Rattle.swc_ecma_parser_grammar.specs.language.Goals.{expression, assignment}
 use Rattle.swc_ecma_parser_grammar.specs.language.Items.{sub_statement}
 use Rattle.swc_ecma_parser_grammar.specs.Entries.{script_code, ReadsScript}
 use Rattle.swc_ecma_parser_grammar.specs.Notes.{notes, with_note}
 use Rattle.swc_ecma_parser_grammar.specs.language.Noted.{has_meta}
-use Rattle.swc_ecma_parser_grammar.specs.Walk.{env_of, walk, walks}
+use Rattle.swc_ecma_parser_grammar.specs.Walk.{Env, env_of, walk, walks}
 use Rattle.swc_ecma_parser_reader.specs.Notes.{Notes, ◌⊕◌, notes_of, all_notes_of, held}
 use Rattle.swc_ecma_parser_reader.specs.State.{Scope, State, Outcome, and_then, loop}
-use Rattle.swc_ecma_parser_reader.specs.Expressions.{expr}
-use Rattle.swc_ecma_parser_reader.specs.Heads.{head_cover}
-use Rattle.swc_ecma_parser_reader.specs.Patterns.{pattern, parameters}
+use Rattle.swc_ecma_parser_reader.specs.Reader.{named, own_name, function_expr, expr, cover, head_cover, pattern, element, parameters, function}
 use Rattle.swc_ecma_parser_reader.specs.Reader.{closes, at_end, block_from, block, braced, expr_stmt_at, import_stmt_at, while_stmt, do_while, goes_on, closed_link, alternative, link_from, link, if_stmt, begins_clause, closes_clause, clause_from, default_clause, case_clause, clause, clauses_turn, clauses, switch_stmt, is_handled, handled, bound, parameter, finalizer, caught, handler, try_stmt, stmt_level, stmt, script_body, script}
 use Rattle.swc_ecma_parser_reader.specs.Entry.{script_left}
 use Rattle.swc_ecma_parser_reader.proofs.Notes.{or_nil, or_assoc}
-use Rattle.swc_ecma_parser_reader.proofs.Answered.{st, Reads, Calm, ReadsCalm}
+use Rattle.swc_ecma_parser_reader.proofs.Answered.{st, Reads, Calm, ReadsCalm, ReadsAs}
 use Rattle.swc_ecma_parser_reader.proofs.Errors.{is_error}
 use Rattle.swc_ecma_parser_reader.proofs.Meets.{saw}
 use Rattle.swc_ecma_parser_reader.proofs.expressions.CompleteParts.{name_reads}
 use Rattle.swc_ecma_parser_reader.proofs.expressions.CompleteKinds.{seen, expr_no_const, name_no_const}
-use Rattle.swc_ecma_parser_reader.proofs.expressions.Complete.{expr_reads}
-use Rattle.swc_ecma_parser_reader.proofs.patterns.Complete.{pattern_reads, parameters_reads}
+use Rattle.swc_ecma_parser_reader.proofs.expressions.CompleteKinds as kinds
+use Rattle.swc_ecma_parser_reader.proofs.expressions.CompleteParts.{AsExpr, IsFunctionRead}
+use Rattle.swc_ecma_parser_reader.proofs.expressions.Complete.{read_above, read_nowhere}
+use Rattle.swc_ecma_parser_reader.proofs.expressions.CompleteHeads.{Heads, AsLeft, head_expr_reads, head_target_reads}
+use Rattle.swc_ecma_parser_reader.proofs.patterns.Complete.{pattern_above, pattern_nowhere}
+use Rattle.swc_ecma_parser_reader.proofs.Below.{Below, expr_reads, pattern_reads, parameters_reads}
+use Rattle.swc_ecma_parser_reader.proofs.Falls.{expr_falls, cover_falls, pattern_falls, element_falls, functions_fall}
+use Rattle.swc_ecma_parser_grammar.proofs.FunctionExprs.{function_narrows}
+use Rattle.swc_ecma_parser_grammar.specs.language.Reads as language
 use Rattle.swc_ecma_parser_reader.proofs.Loops.{stmt_shorter, clauses_done, clauses_more}
 use Rattle.swc_ecma_parser_grammar.proofs.SupportedBegins.{expr_opens}
 use Rattle.swc_ecma_parser_reader.proofs.Opens.{opened, no_block_or_import, import_stands, stmt_goes}
 use Rattle.swc_ecma_parser_reader.proofs.Chains.{if_last, if_more}
-use Rattle.swc_ecma_parser_reader.proofs.CompleteParts.{at_end_at, behind_setting, break_reads, calm_first, calm_last, clause_ends, close_reads, closes_at, code_stays, condition_reads, continue_reads, debugger_reads, empty_reads, expect_reads, expr_stmt_reads, head_reads, import_stmt_reads, items_read, no_brace, no_label_here, opening_reads_init, opening_reads_left, optional_end_reads, return_reads, shebang_reads, throw_reads, told_reads, variables_reads, note_with_reads, code_behind}
+use Rattle.swc_ecma_parser_reader.proofs.CompleteParts.{at_end_at, behind_setting, break_reads, calm_first, calm_last, clause_ends, close_reads, closes_at, code_stays, condition_reads, continue_reads, debugger_reads, empty_reads, expect_reads, expr_stmt_reads, head_reads, import_stmt_reads, items_read, name_no_function, no_brace, no_label_here, opening_reads_init, opening_reads_left, optional_end_reads, return_reads, shebang_reads, throw_reads, told_reads, variables_reads, note_with_reads, code_behind}
 
 -- ---- all levels
 
-module _ (n : ℕ) (reads : (at : Position) (k : Code) (x : Tree) (c d : Place) → ReadsStmt n k at x c d → ReadsCalm (stmt n at) k x c d) where
+module _ (n : ℕ) (below : Below n) (reads : (at : Position) (k : Code) (x : Tree) (c d : Place) → ReadsStmt n k at x c d → ReadsCalm (stmt n at) k x c d) where
   block_from_reads : (directives : Bool) (k : Code) (x : Tree) (c d : Place) (w : Scope) (f : List Fault) (h : Notes) (r : ReadsBraced (ReadsStmt n) directives k x c d)
       → block_from (stmt n nested_item) directives c (st (after c) k w f h) ≡ Ok (x, st d (code_behind k directives r.items) w (f ++ walks (env_of k w.labels) directives (trees r.items)) (h ⊕ notes_of x))
   unfolding block_from
@@ -112,7 +117,7 @@ module _ (n : ℕ) (reads : (at : Position) (k : Code) (x : Tree) (c d : Place) 
       let l = misplaced_directive (has_plain_params (parameter_trees r.patterns)) r.body in
       rw (
         name_reads faults.ExpectedIdent r.name r.name_span (after c) r.behind_name k w f h r.reads_name r.is_named,
-        parameters_reads n (in_parameters k false false) r.patterns r.behind_name r.middle r.reads_parameters w f h,
+        parameters_reads n below (in_parameters k false false) r.patterns r.behind_name r.middle r.reads_parameters w f h,
         function_body_reads k r.body r.middle d w (f ++ a) (h ⊕ all_notes_of (trees r.patterns)) r.reads_body,
         told_reads l d k w (f ++ a ++ b) _ (calm_last d (a ++ b) l (walk env x) (ap (walk env) r.is ∙ ap (λ z. z ++ b ++ l) (parameters_walk (in_params env) r.patterns)) q),
         r.is,
@@ -120,6 +125,38 @@ module _ (n : ℕ) (reads : (at : Position) (k : Code) (x : Tree) (c d : Place) 
         ap (λ z. z.held_back) (parameters_notes r.patterns),
         ap (λ z. z.found_module_item) (parameters_notes r.patterns),
       ) (simp (append_assoc) refl)
+
+  -- the name of one that is an expression
+  own_name_reads : (i : Tree) (k : Code) (c d : Place) (w : Scope) (f : List Fault) (h : Notes) → OwnNameRule k i c d → own_name (st c k w f h) ≡ Ok (i, st d k w f h)
+  unfolding own_name named
+  own_name_reads i k c d w f h (no_own_name_rule l e g) = rw ((kinds.paren_here (named_by k false false).flags c l).0, e, g) refl
+  own_name_reads i k c d w f h (own_name_rule v sp r o g) =
+      rw (kinds.named (token.Word v) sp c d (named_by k false false) true r o, name_reads faults.ExpectedIdent v sp c d (named_by k false false) w f h r o, g) refl
+
+  own_name_quiet : {k : Code} {i : Tree} {c d : Place} (env : Env) → OwnNameRule k i c d → (walk env i ≡ []) × (notes i ≡ []) × (has_meta i ≡ false)
+  own_name_quiet env (no_own_name_rule l e g) = (ap (walk env) g, ap notes g, ap has_meta g)
+  own_name_quiet env (own_name_rule v sp r o g) = (ap (walk env) g, ap notes g, ap has_meta g)
+
+  -- no fault is told behind it, so an error token may stand there
+  function_expr_reads : (k : Code) (x : Tree) (c d : Place) → ReadsFunctionExpr (ReadsStmt n) (ReadsParams n) k x c d → Reads (function n) k x c d
+  unfolding function_expr function_parts misdirected spanned
+  function_expr_reads k x c d r w f h =
+      let env = env_of k w.labels in
+      let a = walks (in_params env) false (trees r.patterns) in
+      let quiet = own_name_quiet env r.reads_name in
+      rw (
+        own_name_reads r.name k (after c) r.behind_name w f h r.reads_name,
+        parameters_reads n below (in_parameters k false false) r.patterns r.behind_name r.middle r.reads_parameters w f h,
+        function_body_reads k r.body r.middle d w (f ++ a) (h ⊕ all_notes_of (trees r.patterns)) r.reads_body,
+        r.is,
+        r.directs,
+        quiet.0,
+        quiet.1,
+        quiet.2,
+        parameters_walk (in_params env) r.patterns,
+        ap (λ z. z.held_back) (parameters_notes r.patterns),
+        ap (λ z. z.found_module_item) (parameters_notes r.patterns),
+      ) (simp (append_assoc, append-nil) refl)
 
   -- ---- `switch`
 
@@ -141,7 +178,7 @@ module _ (n : ℕ) (reads : (at : Position) (k : Code) (x : Tree) (c d : Place) 
   clause_reads k b x c d w f h (case_clause_rule test xs m a r i s e) z =
       rw (
         seen c kind.Case a,
-        expr_reads n expression (with_in k) test (after c) m r w f h,
+        expr_reads n below expression (with_in k) test (after c) m r w f h,
         clause_from_reads (span_at c) test xs k m d w (f ++ walk (env_of k w.labels) test) (h ⊕ notes_of test) i s z,
         e,
         append_assoc f (walk (env_of k w.labels) test) (walks (env_of k w.labels) false (trees xs)),
@@ -182,7 +219,7 @@ module _ (n : ℕ) (reads : (at : Position) (k : Code) (x : Tree) (c d : Place) 
   switch_reads y xs m i k x c d r a s b g e w f h =
       let p = f ++ walk (env_of k w.labels) y in
       rw (
-        head_reads n k y (after c) m r w f h,
+        head_reads n below k y (after c) m r w f h,
         expect_reads kind.LBrace m k w p (h ⊕ notes_of y) a,
         many_cases xs [] false (in_breakable k) (after m) i w p (h ⊕ notes_of y) s (brace_closes i b).0 (brace_closes i b).1,
         expect_reads kind.RBrace i k w (p ++ walks (env_of (in_breakable k) w.labels) false (trees xs)) ((h ⊕ notes_of y) ⊕ all_notes_of (trees xs)) b,
@@ -206,7 +243,7 @@ module _ (n : ℕ) (reads : (at : Position) (k : Code) (x : Tree) (c d : Place) 
       rw (
         seen c kind.Catch a,
         seen (after c) kind.LParen b,
-        pattern_reads n (with_in k) p (after (after c)) m r w f h,
+        pattern_reads n below (with_in k) p (after (after c)) m r w f h,
         expect_reads kind.RParen m k w (f ++ walk (env_of k w.labels) p) (h ⊕ notes_of p) i,
         braced_reads k body (after m) d s w (f ++ walk (env_of k w.labels) p) (h ⊕ notes_of p),
         e,
@@ -276,7 +313,7 @@ module _ (n : ℕ) (reads : (at : Position) (k : Code) (x : Tree) (c d : Place) 
   part_reads : (j : TokenKind) → opens j ≡ false → (k : Code) (x : Tree) (c d : Place) → PartRule (ReadsClass n) k x c d → kind_at d ≡ j → Reads (head_part j (expr n expression)) k x c d
   unfolding head_part
   part_reads j o k x c d (no_part_rule b e) z w f h = rw (seen c j (ap kind_at (sym b) ∙ z), e, b, append-nil f, append-nil h.held_back, or_nil h.found_module_item) refl
-  part_reads j o k x c d (part_rule r) z w f h = rw (unopened c j (expr_opens n (with_in k) x c d r) o, expr_reads n expression (with_in k) x c d r w f h) refl
+  part_reads j o k x c d (part_rule r) z w f h = rw (unopened c j (expr_opens n (with_in k) x c d r) o, expr_reads n below expression (with_in k) x c d r w f h) refl
 
   -- `;` is neither `in` nor `of`, and `of` is a name
   no_head_word : (c : Place) → kind_at c ≡ kind.Semi → (sees kind.In c ≡ false) × (word_at (codes "of") c ≡ false)
@@ -311,7 +348,7 @@ module _ (n : ℕ) (reads : (at : Position) (k : Code) (x : Tree) (c d : Place) 
       let h1 = h ⊕ notes_of a in
       let h2 = h1 ⊕ notes_of b in
       let h3 = h2 ⊕ notes_of g in
-      let first = opening_reads_init n k a (after (after c)) l r w f h in
+      let first = opening_reads_init n below k a (after (after c)) l r w f h in
       rw (
         no_await_here (after c) o,
         expect_reads kind.LParen (after c) k w f h o,
@@ -343,7 +380,7 @@ module _ (n : ℕ) (reads : (at : Position) (k : Code) (x : Tree) (c d : Place) 
       let f3 = f2 ++ walk env b in
       let h1 = h ⊕ notes_of a in
       let h2 = h1 ⊕ notes_of b in
-      let first = opening_reads_left n false k a (after (after c)) m r (inl (s, refl)) refl w f h in
+      let first = opening_reads_left n below false k a (after (after c)) m r (inl (s, refl)) refl w f h in
       rw (
         no_await_here (after c) o,
         expect_reads kind.LParen (after c) k w f h o,
@@ -351,7 +388,7 @@ module _ (n : ℕ) (reads : (at : Position) (k : Code) (x : Tree) (c d : Place) 
         seen m kind.In s,
         first.holds (st m k w f1 h1),
         told_reads l m k w f1 h1 (inr (ap is_error s)),
-        expr_reads n expression (with_in k) b (after m) i t w f2 h1,
+        expr_reads n below expression (with_in k) b (after m) i t w f2 h1,
         expect_reads kind.RParen i k w f3 h2 z,
         reads sub_statement (in_loop k) y (after i) d j w f3 h2
             (calm_last d (walk env a ++ l ++ walk env b) (walk (env_of (in_loop k) w.labels) y) (walk env x) (ap (walk env) e) q),
@@ -371,7 +408,7 @@ module _ (n : ℕ) (reads : (at : Position) (k : Code) (x : Tree) (c d : Place) 
       let f3 = f2 ++ walk env b in
       let h1 = h ⊕ notes_of a in
       let h2 = h1 ⊕ notes_of b in
-      let first = opening_reads_left n v k a (after p) m r (inr (s, u)) n' w f h in
+      let first = opening_reads_left n below v k a (after p) m r (inr (s, u)) n' w f h in
       let begun = await_reads v k (after c) p w f h g o in
       rw (
         begun.1,
@@ -382,7 +419,7 @@ module _ (n : ℕ) (reads : (at : Position) (k : Code) (x : Tree) (c d : Place) 
         s,
         first.holds (st m k w f1 h1),
         told_reads l m k w f1 h1 (inr (of_stands m s).1),
-        expr_reads n assignment (with_in k) b (after m) i t w f2 h1,
+        expr_reads n below assignment (with_in k) b (after m) i t w f2 h1,
         expect_reads kind.RParen i k w f3 h2 z,
         reads sub_statement (in_loop k) y (after i) d j w f3 h2
             (calm_last d (walk env a ++ l ++ walk env b) (walk (env_of (in_loop k) w.labels) y) (walk env x) (ap (walk env) e) q),
@@ -394,7 +431,7 @@ module _ (n : ℕ) (reads : (at : Position) (k : Code) (x : Tree) (c d : Place) 
   unfolding while_stmt
   while_reads y z m k x c d r s e w f h q =
       rw (
-        head_reads n k y (after c) m r w f h,
+        head_reads n below k y (after c) m r w f h,
         reads sub_statement (in_loop k) z m d s w (f ++ walk (env_of k w.labels) y) (h ⊕ notes_of y)
             (calm_last d (walk (env_of k w.labels) y) (walk (env_of (in_loop k) w.labels) z) (walk (env_of k w.labels) x) (ap (walk (env_of k w.labels)) e) q),
         e,
@@ -410,7 +447,7 @@ module _ (n : ℕ) (reads : (at : Position) (k : Code) (x : Tree) (c d : Place) 
       let g : Notes = h ⊕ held (with_note (span_at c) ∷ []) in
       rw (
         note_with_reads (span_at c) (after c) k w f h o,
-        head_reads n k y (after c) m r w f g,
+        head_reads n below k y (after c) m r w f g,
         reads sub_statement (in_with k) z m d s w (f ++ walk (env_of k w.labels) y) (g ⊕ notes_of y)
             (calm_last d (walk (env_of k w.labels) y) (walk (env_of (in_with k) w.labels) z) (walk (env_of k w.labels) x) (ap (walk (env_of k w.labels)) e) q),
         e,
@@ -426,7 +463,7 @@ module _ (n : ℕ) (reads : (at : Position) (k : Code) (x : Tree) (c d : Place) 
       rw (
         reads sub_statement (in_loop k) z (after c) m s w f h (inr (ap is_error j)),
         expect_reads kind.While m k w (f ++ a) (h ⊕ notes_of z) j,
-        head_reads n k y (after m) i r w (f ++ a) (h ⊕ notes_of z),
+        head_reads n below k y (after m) i r w (f ++ a) (h ⊕ notes_of z),
         optional_end_reads i d k w ((f ++ a) ++ b) ((h ⊕ notes_of z) ⊕ notes_of y) g,
         e,
         append_assoc f a b,
@@ -444,7 +481,7 @@ module _ (n : ℕ) (reads : (at : Position) (k : Code) (x : Tree) (c d : Place) 
       → Calm k w.labels y d → link (stmt n sub_statement) (expr n expression) (st c k w f h) ≡ Ok (record { start = span_at c; test = t; cons = y }, linked k w f h t y d)
   unfolding link link_from
   link_reads t y m k c d w f h r s q =
-      rw (condition_reads n k t (after c) m r w f h, reads sub_statement k y m d s w (f ++ walk (env_of k w.labels) t) (h ⊕ notes_of t) q) refl
+      rw (condition_reads n below k t (after c) m r w f h, reads sub_statement k y m d s w (f ++ walk (env_of k w.labels) t) (h ⊕ notes_of t) q) refl
 
   -- an `if` with what stands behind its `else`
   closed_reads : (t y z x : Tree) (k : Code) (c d : Place) (w : Scope) (f : List Fault) (h : Notes) (o : Outcome Tree) → x ≡ tree.if_stmt (spanned c d) t y z
@@ -495,37 +532,76 @@ module _ (n : ℕ) (reads : (at : Position) (k : Code) (x : Tree) (c d : Place) 
   by_rules at k x c d (block_rule r) w f h q = rw r.opens (block_reads k x c d r w f h)
   by_rules at k x c d (empty_rule e g i) w f h q = rw e (empty_reads k x c d g i w f h)
   by_rules at k x c d (debugger_rule e g i) w f h q = rw e (debugger_reads k x c d g i w f h)
-  by_rules at k x c d (variables_rule decl.Var xs m a e r g i) w f h q = rw (saw c kind.Var e) (variables_reads n decl.Var xs m k x c d r g i w f h)
-  by_rules at k x c d (variables_rule decl.Const xs m a e r g i) w f h q = rw (saw c kind.Const e, declares at a) (variables_reads n decl.Const xs m k x c d r g i w f h)
-  by_rules at k x c d (variables_rule decl.Let xs m a e r g i) w f h q = rw (let_stands c e, declares at a, e) (variables_reads n decl.Let xs m k x c d r g i w f h)
+  by_rules at k x c d (variables_rule decl.Var xs m a e r g i) w f h q = rw (saw c kind.Var e) (variables_reads n below decl.Var xs m k x c d r g i w f h)
+  by_rules at k x c d (variables_rule decl.Const xs m a e r g i) w f h q = rw (saw c kind.Const e, declares at a) (variables_reads n below decl.Const xs m k x c d r g i w f h)
+  by_rules at k x c d (variables_rule decl.Let xs m a e r g i) w f h q = rw (let_stands c e, declares at a, e) (variables_reads n below decl.Let xs m k x c d r g i w f h)
   by_rules at k x c d (if_statement_rule r) w f h q = rw (if_begins r) (if_reads r w f h q)
   by_rules at k x c d (switch_rule y xs m i e r a s b g j) w f h q = rw e (switch_reads y xs m i k x c d r a s b g j w f h)
   by_rules at k x c d (break_rule y m e r g i) w f h q = rw e (break_reads y m k x c d r g i w f h q)
   by_rules at k x c d (continue_rule y m e r g i) w f h q = rw e (continue_reads y m k x c d r g i w f h q)
-  by_rules at k x c d (return_rule y m e r g i) w f h q = rw e (return_reads n y m k x c d r g i w f h q)
+  by_rules at k x c d (return_rule y m e r g i) w f h q = rw e (return_reads n below y m k x c d r g i w f h q)
   by_rules at k x c d (for_rule a b g y l m i e o r s t u v z j p) w f h q = rw e (for_reads a b g y l m i k x c d o r s t u v z j p w f h q)
   by_rules at k x c d (for_in_rule a b y m i e o r s t z j p) w f h q = rw e (for_in_reads a b y m i k x c d o r s t z j p w f h q)
   by_rules at k x c d (for_of_rule b a g y l m i e v o r s u n' t z j p) w f h q = rw e (for_of_reads b a g y l m i k x c d v o r s u n' t z j p w f h q)
   by_rules at k x c d (labeled_rule v s y m r o i t e) w f h q =
       let b = name_begins k.flags v s c m r o in
       opened (stmt n) (expr n) (pattern n) (head_cover n) (parameters n) at (st c k w f h) (kind_at c) (word_begins k.flags v s c m r o) (no_brace v s c m r) b.1 (name_no_const k.flags v s c m r o)
-      (and_no at.include_decl _ (let_before_colon c (seen (after c) kind.Colon (ap kind_at (sym r.next) ∙ i))))
+      (and_no at.include_decl _ (let_before_colon c (seen (after c) kind.Colon (ap kind_at (sym r.next) ∙ i)))) (name_no_function k.flags v s c m r o)
       ∙ rw (label_begins k v s c m r o i) (labeled_reads v s y m k x c d r o i t e w f h q)
-  by_rules at k x c d (throw_rule y m e b r g i) w f h q = rw e (throw_reads n y m k x c d b r g i w f h)
+  by_rules at k x c d (throw_rule y m e b r g i) w f h q = rw e (throw_reads n below y m k x c d b r g i w f h)
   by_rules at k x c d (try_rule y z v m i e r s t b g) w f h q = rw e (try_reads y z v m i k x c d r s t b g w f h)
   by_rules at k x c d (with_rule y z m e o r s i) w f h q = rw e (with_reads y z m k x c d o r s i w f h q)
   by_rules at k x c d (while_rule y z m e r s i) w f h q = rw e (while_reads y z m k x c d r s i w f h q)
   by_rules at k x c d (do_while_rule y z m i e s j r g o) w f h q = rw e (do_while_reads y z m i k x c d s j r g o w f h)
   by_rules at k x c d (expr_rule e m b r l i g j) w f h q =
       let o = no_block_or_import at c b in
-      opened (stmt n) (expr n) (pattern n) (head_cover n) (parameters n) at (st c k w f h) (kind_at c) (expr_opens n (with_in k) e c m r) o.0 o.1 (expr_no_const n (with_in k) e c m r) o.2
-      ∙ rw (no_label_here n k e c m r l, b) (expr_stmt_reads n e m k x c d r l i g j w f h)
-  by_rules at k x c d (import_rule e m b r g j) w f h q = rw (import_stands c b, b) (import_stmt_reads n e m k x c d b r g j w f h)
+      opened (stmt n) (expr n) (pattern n) (head_cover n) (parameters n) at (st c k w f h) (kind_at c) (expr_opens n (with_in k) e c m r) o.0 o.1 (expr_no_const n (with_in k) e c m r) o.2 o.3
+      ∙ rw (no_label_here n below k e c m r l, b) (expr_stmt_reads n below e m k x c d r l i g j w f h)
+  by_rules at k x c d (import_rule e m b r g j) w f h q = rw (import_stands c b, b) (import_stmt_reads n below e m k x c d b r g j w f h)
+
+record Whole (n : ℕ) : Type 0 where
+  parts : Below n
+  stmts : (at : Position) (k : Code) (x : Tree) (c d : Place) → ReadsStmt n k at x c d → ReadsCalm (stmt n at) k x c d
+
+module _ (n : ℕ) (b : Whole n) where
+  -- a function of the whole language that is supported is read
+  functions : IsFunctionRead (language.Reads n) (function n)
+  functions = record {
+    reads = λ k x c d name y r e s w f h. function_expr_reads n b.parts b.stmts k x c d (function_narrows n k x c d name y r e s) w f h;
+    falls = functions_fall n;
+  }
+
+  heads_above : (k : Code) (x : Tree) (c d : Place) → ReadsClass (suc n) expression k x c d → ReadsAs (AsExpr x) (head_cover (suc n)) k x c d
+  unfolding head_cover
+  heads_above k x c d r w f h = head_expr_reads n (expr n) (cover n) b.parts.exprs (function n) functions k x c d r.0 r.1 w f h
+
+  targets_above : (k : Code) (p : Tree) (c d : Place) → ReadsTarget (suc n) k p c d → Heads k p d → ReadsAs (AsLeft p) (head_cover (suc n)) k p c d
+  unfolding head_cover
+  targets_above k p c d r e w f h = head_target_reads n (expr n) (cover n) b.parts.exprs (function n) functions k p c d r.0 r.1 e w f h
+
+whole : (n : ℕ) → Whole n
+unfolding expr cover pattern element stmt
+whole zero = record {
+  parts = record {
+    exprs = read_nowhere (expr zero) (cover zero) (expr_falls zero) (cover_falls zero);
+    patterns = pattern_nowhere (pattern zero) (element zero) (pattern_falls zero) (element_falls zero);
+    heads = λ k x c d r w f h. absurd r.0;
+    targets = λ k p c d r e w f h. absurd r.0;
+  };
+  stmts = λ at k x c d r w f h q. absurd r;
+}
+whole (suc n) = let b = whole n in record {
+  parts = record {
+    exprs = read_above n (expr n) (cover n) b.parts.exprs (function n) (functions n b);
+    patterns = pattern_above n (expr n) (cover n) b.parts.exprs (pattern n) (element n) b.parts.patterns;
+    heads = heads_above n b;
+    targets = targets_above n b;
+  };
+  stmts = λ at k x c d r w f h q. by_rules n b.parts b.stmts at k x c d r w f h q;
+}
 
 pub stmt_reads : (n : ℕ) (at : Position) (k : Code) (x : Tree) (c d : Place) → ReadsStmt n k at x c d → ReadsCalm (stmt n at) k x c d
-unfolding stmt
-stmt_reads zero at k x c d r w f h q = absurd r
-stmt_reads (suc n) at k x c d r w f h q = by_rules n (stmt_reads n) at k x c d r w f h q
+stmt_reads n = (whole n).stmts
 
 pub script_reads : (n : ℕ) (s : State) (x : Tree) (d : Place) → ReadsScript n s.code x s.at d → script n s ≡ Ok (x, script_left s x d)
 unfolding script script_body

@@ -48,9 +48,8 @@ use Rattle.swc_ecma_parser_grammar.specs.Walk as walks_of
 use Rattle.swc_ecma_parser_grammar.specs.Walk.{Env, env_of, walk, walks}
 use Rattle.swc_ecma_parser_reader.specs.Notes.{Notes, held, ◌⊕◌, notes_of, all_notes_of}
 use Rattle.swc_ecma_parser_reader.specs.State.{Scope, State, Outcome, Reader, noted, holding_back, recorded_at, recorded_in, fault, labelled, expect, end, fault_at, loop}
-use Rattle.swc_ecma_parser_reader.specs.Expressions.{Cover, expr}
-use Rattle.swc_ecma_parser_reader.specs.Heads.{head_cover}
-use Rattle.swc_ecma_parser_reader.specs.Patterns.{pattern}
+use Rattle.swc_ecma_parser_reader.specs.Expressions.{Cover}
+use Rattle.swc_ecma_parser_reader.specs.Reader.{expr, head_cover, pattern}
 use Rattle.swc_ecma_parser_reader.specs.Reader.{told, target, unbroken, break_stmt, uncontinued, continue_stmt, misplaced, operand, returned, return_stmt, empty, debugger, initialized, declarator, declarators_turn, declarators, variables, Opening, Nothing, Variables, Expression, as_init, as_left, head_variables, head_expression, opening, closes, at_end, close, directs, items_turn, items, note_statement, no_label, expr_stmt, optional_end, import_stmt, thrown, throw, head, condition, begins_clause, closes_clause, shebang_of, shebang_in, shebang}
 use Rattle.swc_ecma_parser_reader.proofs.Notes.{or_nil, or_assoc}
 use Rattle.swc_ecma_parser_reader.proofs.Answered.{st, Reads, ReadsCalm, ReadsAs}
@@ -59,10 +58,9 @@ use Rattle.swc_ecma_parser_reader.proofs.Between.{nil-split}
 use Rattle.swc_ecma_parser_reader.proofs.expressions.CompleteParts.{name_reads}
 use Rattle.swc_ecma_parser_grammar.specs.Own.{break_faults, continue_faults, return_faults}
 use Rattle.swc_ecma_parser_reader.proofs.expressions.CompleteKinds.{seen}
-use Rattle.swc_ecma_parser_reader.proofs.expressions.Complete.{expr_reads}
+use Rattle.swc_ecma_parser_reader.proofs.Below.{Below, expr_reads, pattern_reads}
 use Rattle.swc_ecma_parser_reader.proofs.expressions.Covers as covers
-use Rattle.swc_ecma_parser_reader.proofs.expressions.Heads as heads
-use Rattle.swc_ecma_parser_reader.proofs.patterns.Complete.{pattern_reads}
+use Rattle.swc_ecma_parser_reader.proofs.expressions.CompleteHeads as heads
 use Rattle.swc_ecma_parser_reader.proofs.Loops.{items_stop, items_more, declarators_done, declarators_more}
 use Rattle.swc_ecma_parser_grammar.proofs.SupportedBegins.{expr_opens}
 use Rattle.swc_ecma_parser_reader.proofs.Opens.{import_unnoted, goes_open, head_begins, let_stands}
@@ -150,19 +148,19 @@ continue_reads y m k x c d r g e w f h q =
       or_nil h.found_module_item,
     ) refl
 
-pub operand_reads : (n : ℕ) (k : Code) (x : Tree) (c d : Place) → OperandRule (ReadsClass n) k x c d → Reads (operand (expr n expression)) k x c d
+pub operand_reads : (n : ℕ) (below : Below n) (k : Code) (x : Tree) (c d : Place) → OperandRule (ReadsClass n) k x c d → Reads (operand (expr n expression)) k x c d
 unfolding operand
-operand_reads n k x c d (no_operand_rule e g i) w f h = rw (e, i, g, append-nil f, append-nil h.held_back, or_nil h.found_module_item) refl
-operand_reads n k x c d (operand_rule e r) w f h = rw (e, expr_reads n expression (with_in k) x c d r w f h) refl
+operand_reads n below k x c d (no_operand_rule e g i) w f h = rw (e, i, g, append-nil f, append-nil h.held_back, or_nil h.found_module_item) refl
+operand_reads n below k x c d (operand_rule e r) w f h = rw (e, expr_reads n below expression (with_in k) x c d r w f h) refl
 
-pub return_reads : (n : ℕ) (y : Tree) (m : Place) (k : Code) (x : Tree) (c d : Place) → OperandRule (ReadsClass n) k y (after c) m → Ends m d → x ≡ tree.return (spanned c d) y
+pub return_reads : (n : ℕ) (below : Below n) (y : Tree) (m : Place) (k : Code) (x : Tree) (c d : Place) → OperandRule (ReadsClass n) k y (after c) m → Ends m d → x ≡ tree.return (spanned c d) y
     → ReadsCalm (return_stmt (expr n expression)) k x c d
 unfolding return_stmt returned misplaced spanned
-return_reads n y m k x c d r g e w f h q =
+return_reads n below y m k x c d r g e w f h q =
     let l = return_faults (k.flags.in_function || k.setting.allow_return_outside_function) (spanned c d) in
     let a = walk (env_of k w.labels) y in
     rw (
-      operand_reads n k y (after c) m r w f h,
+      operand_reads n below k y (after c) m r w f h,
       ends_read faults.Expected m d k w (f ++ a) (h ⊕ notes_of y) g,
       told_reads l d k w (f ++ a) (h ⊕ notes_of y) (calm_last d a l (walk (env_of k w.labels) x) (ap (walk (env_of k w.labels)) e) q),
       e,
@@ -181,16 +179,16 @@ debugger_reads k x c d e g w f h = rw (ends_read faults.Expected (after c) d k w
 
 -- ---- declarators
 
-module _ (n : ℕ) (in_head : Bool) (word : VarDeclKind) where
+module _ (n : ℕ) (below : Below n) (in_head : Bool) (word : VarDeclKind) where
   pub declarator_reads : (k : Code) (x : Tree) (c d : Place) → DeclaratorRule (ReadsClass n assignment) (ReadsPat n) k in_head word x c d
       → Reads (declarator (expr n) (pattern n) in_head word) k x c d
   unfolding declarator initialized spanned
-  declarator_reads k x c d (plain_rule p r e b g) w f h = rw (pattern_reads n (with_in k) p c d r w f h, e, b, g, append-nil (walk (env_of k w.labels) p), append-nil (notes p), or_nil (has_meta p)) refl
+  declarator_reads k x c d (plain_rule p r e b g) w f h = rw (pattern_reads n below (with_in k) p c d r w f h, e, b, g, append-nil (walk (env_of k w.labels) p), append-nil (notes p), or_nil (has_meta p)) refl
   declarator_reads k x c d (initialized_rule p y m r e s g) w f h =
       rw (
-        pattern_reads n (with_in k) p c m r w f h,
+        pattern_reads n below (with_in k) p c m r w f h,
         seen m kind.Assign e,
-        expr_reads n assignment k y (after m) d s w (f ++ walk (env_of k w.labels) p) (h ⊕ notes_of p),
+        expr_reads n below assignment k y (after m) d s w (f ++ walk (env_of k w.labels) p) (h ⊕ notes_of p),
         g,
         append_assoc f (walk (env_of k w.labels) p) (walk (env_of k w.labels) y),
         append_assoc h.held_back (notes p) (notes y),
@@ -209,13 +207,13 @@ module _ (n : ℕ) (in_head : Bool) (word : VarDeclKind) where
       declarators_more n in_head word found (st c k w f h) x (st m k w (f ++ walk (env_of k w.labels) x) (h ⊕ notes_of x)) (declarator_reads k x c m r w f h) (seen m kind.Comma e)
       ∙ many_declarators (y ∷ ys) (found ++ x ∷ []) k (after m) d w (f ++ walk (env_of k w.labels) x) (h ⊕ notes_of x) more ∙ simp (append_assoc, or_assoc) refl
 
-pub variables_reads : (n : ℕ) (word : VarDeclKind) (xs : List Tree) (m : Place) (k : Code) (x : Tree) (c d : Place)
+pub variables_reads : (n : ℕ) (below : Below n) (word : VarDeclKind) (xs : List Tree) (m : Place) (k : Code) (x : Tree) (c d : Place)
     → ReadsSeparated (DeclaratorRule (ReadsClass n assignment) (ReadsPat n) (with_in k) false word) xs (after c) m → Ends m d
     → x ≡ tree.var (spanned c d) word (listed xs) → Reads (variables (expr n) (pattern n) word) k x c d
 unfolding variables declarators
-variables_reads n word xs m k x c d r e g w f h =
+variables_reads n below word xs m k x c d r e g w f h =
     rw (
-      many_declarators n false word xs [] (with_in k) (after c) m w f h r,
+      many_declarators n below false word xs [] (with_in k) (after c) m w f h r,
       ends_read faults.Unexpected m d k w (f ++ walks (env_of k w.labels) false (trees xs)) (h ⊕ all_notes_of (trees xs)) e,
       g,
     ) refl
@@ -247,14 +245,14 @@ module _ (inner_expr : Class → Reader Tree) (inner_pat : Reader Tree) (inner_c
   unfolding opening
   opening_starts s e = let b = head_begins s.at e in rw (b.0, b.1, b.2, b.3) refl
 
-module _ (n : ℕ) where
+module _ (n : ℕ) (below : Below n) where
   declared_reads : (word : VarDeclKind) (xs : List Tree) (k : Code) (x : Tree) (c d : Place) (w : Scope) (f : List Fault) (h : Notes)
       → ReadsSeparated (DeclaratorRule (ReadsClass n assignment) (ReadsPat n) (head_code word k) true word) xs (after c) d → x ≡ tree.var (spanned c d) word (listed xs)
       → head_variables (expr n) (pattern n) word (st c k w f h) ≡ Ok (Variables x, st d k w (f ++ walk (env_of k w.labels) x) (h ⊕ notes_of x))
   unfolding head_variables declarators spanned
-  declared_reads decl.Var xs k x c d w f h r e = rw (many_declarators n true decl.Var xs [] (without_in k) (after c) d w f h r, e) refl
-  declared_reads decl.Const xs k x c d w f h r e = rw (many_declarators n true decl.Const xs [] (with_in k) (after c) d w f h r, e) refl
-  declared_reads decl.Let xs k x c d w f h r e = rw (many_declarators n true decl.Let xs [] (with_in k) (after c) d w f h r, e) refl
+  declared_reads decl.Var xs k x c d w f h r e = rw (many_declarators n below true decl.Var xs [] (without_in k) (after c) d w f h r, e) refl
+  declared_reads decl.Const xs k x c d w f h r e = rw (many_declarators n below true decl.Const xs [] (with_in k) (after c) d w f h r, e) refl
+  declared_reads decl.Let xs k x c d w f h r e = rw (many_declarators n below true decl.Let xs [] (with_in k) (after c) d w f h r, e) refl
 
   head_variables_read : (k : Code) (x : Tree) (c d : Place) (w : Scope) (f : List Fault) (h : Notes) → HeadVariables (ReadsClass n) (ReadsPat n) k x c d
       → opening (expr n) (pattern n) (head_cover n) (st c k w f h) ≡ Ok (Variables x, st d k w (f ++ walk (env_of k w.labels) x) (h ⊕ notes_of x))
@@ -267,7 +265,7 @@ module _ (n : ℕ) where
       record { value = Nothing; holds = λ s. rw e refl; is = rw (seen c kind.Semi a, e, b, append-nil f, append-nil h.held_back, or_nil h.found_module_item) refl }
   opening_reads_init k x c d (init_variables_rule r) w f h = record { value = Variables x; holds = λ s. refl; is = head_variables_read k x c d w f h r }
   opening_reads_init k x c d (init_expression_rule a r) w f h =
-      let g = heads.head_reads n (without_in k) x c d r w f h in
+      let g = below.heads (without_in k) x c d r w f h in
       record {
         value = Expression g.value;
         holds = λ s. covers.close_reads g.value s g.holds.1 ∙ rw g.holds.0 refl;
@@ -280,7 +278,7 @@ module _ (n : ℕ) where
   unfolding head_expression
   opening_reads_left b k x c d (declared_rule r) e o w f h = record { value = Variables x; holds = λ s. refl; is = head_variables_read k x c d w f h r }
   opening_reads_left b k x c d (left_target_rule a r) e o w f h =
-      let g = heads.head_reads_target n (without_in k) x c d r e w f h in
+      let g = below.targets (without_in k) x c d r e w f h in
       record {
         value = Expression g.value;
         holds = λ s. rw (unnamed_async b _ _ (target_async g.value.x x g.holds.0) o) (covers.target_reads g.value s x g.holds.1 g.holds.0);
@@ -385,12 +383,12 @@ pub note_with_reads : (span : Span) (m : Place) (k : Code) (w : Scope) (f : List
 unfolding note_with
 note_with_reads span m k w f h o = rw (o, or_nil h.found_module_item) refl
 
-pub expr_stmt_reads : (n : ℕ) (e : Tree) (m : Place) (k : Code) (x : Tree) (c d : Place) → ReadsClass n expression (with_in k) e c m → is_ident e && sees kind.Colon m ≡ false
+pub expr_stmt_reads : (n : ℕ) (below : Below n) (e : Tree) (m : Place) (k : Code) (x : Tree) (c d : Place) → ReadsClass n expression (with_in k) e c m → is_ident e && sees kind.Colon m ≡ false
     → k.flags.module && is_ident_named (codes "interface") e ≡ false → Ends m d → x ≡ tree.expr_stmt (spanned c d) e → Reads (expr_stmt (expr n expression)) k x c d
 unfolding expr_stmt no_label
-expr_stmt_reads n e m k x c d r l i g j w f h =
+expr_stmt_reads n below e m k x c d r l i g j w f h =
     rw (
-      expr_reads n expression (with_in k) e c m r w f h,
+      expr_reads n below expression (with_in k) e c m r w f h,
       l,
       note_reads e m k w (f ++ walk (env_of k w.labels) e) (h ⊕ notes_of e) i,
       ends_read faults.ExpectedSemiForExprStmt m d k w (f ++ walk (env_of k w.labels) e) ((h ⊕ notes_of e) ⊕ held (statement_note e)) g,
@@ -400,12 +398,12 @@ expr_stmt_reads n e m k x c d r l i g j w f h =
       or_nil (has_meta e),
     ) refl
 
-pub import_stmt_reads : (n : ℕ) (e : Tree) (m : Place) (k : Code) (x : Tree) (c d : Place) → begins_import_expression c ≡ true → ReadsClass n expression (with_in k) e c m → OptionalEnds m d
+pub import_stmt_reads : (n : ℕ) (below : Below n) (e : Tree) (m : Place) (k : Code) (x : Tree) (c d : Place) → begins_import_expression c ≡ true → ReadsClass n expression (with_in k) e c m → OptionalEnds m d
     → x ≡ tree.expr_stmt (spanned c d) e → Reads (import_stmt (expr n expression)) k x c d
 unfolding import_stmt
-import_stmt_reads n e m k x c d b r g j w f h =
+import_stmt_reads n below e m k x c d b r g j w f h =
     rw (
-      expr_reads n expression (with_in k) e c m r w f h,
+      expr_reads n below expression (with_in k) e c m r w f h,
       optional_end_reads m d k w (f ++ walk (env_of k w.labels) e) (h ⊕ notes_of e) g,
       j,
       import_unnoted n (with_in k) e c m r b,
@@ -419,34 +417,34 @@ pub expect_reads : (j : TokenKind) (c : Place) (k : Code) (w : Scope) (f : List 
 unfolding expect
 expect_reads j c k w f h e = rw (seen c j e) refl
 
-pub throw_reads : (n : ℕ) (y : Tree) (m : Place) (k : Code) (x : Tree) (c d : Place) → breaks_at (after c) ≡ false → ReadsClass n expression (with_in k) y (after c) m → Ends m d
+pub throw_reads : (n : ℕ) (below : Below n) (y : Tree) (m : Place) (k : Code) (x : Tree) (c d : Place) → breaks_at (after c) ≡ false → ReadsClass n expression (with_in k) y (after c) m → Ends m d
     → x ≡ tree.throw (spanned c d) y → Reads (throw (expr n expression)) k x c d
 unfolding throw thrown
-throw_reads n y m k x c d b r g e w f h =
+throw_reads n below y m k x c d b r g e w f h =
     rw (
       b,
       (goes_open (kind_at (after c)) (expr_opens n (with_in k) y (after c) m r)).1,
-      expr_reads n expression (with_in k) y (after c) m r w f h,
+      expr_reads n below expression (with_in k) y (after c) m r w f h,
       ends_read faults.Expected m d k w (f ++ walk (env_of k w.labels) y) (h ⊕ notes_of y) g,
       e,
     ) refl
 
-pub head_reads : (n : ℕ) (k : Code) (x : Tree) (c d : Place) → ReadsHead (ReadsClass n) k x c d → Reads (head (expr n expression)) k x c d
+pub head_reads : (n : ℕ) (below : Below n) (k : Code) (x : Tree) (c d : Place) → ReadsHead (ReadsClass n) k x c d → Reads (head (expr n expression)) k x c d
 unfolding head
-head_reads n k x c d r w f h =
+head_reads n below k x c d r w f h =
     rw (
       expect_reads kind.LParen c k w f h r.opens,
-      expr_reads n expression (with_in k) x (after c) r.close r.reads w f h,
+      expr_reads n below expression (with_in k) x (after c) r.close r.reads w f h,
       expect_reads kind.RParen r.close k w (f ++ walk (env_of k w.labels) x) (h ⊕ notes_of x) r.closes,
       r.next,
     ) refl
 
-pub condition_reads : (n : ℕ) (k : Code) (x : Tree) (c d : Place) → ReadsHead (ReadsClass n) k x c d → Reads (condition (expr n expression)) k x c d
+pub condition_reads : (n : ℕ) (below : Below n) (k : Code) (x : Tree) (c d : Place) → ReadsHead (ReadsClass n) k x c d → Reads (condition (expr n expression)) k x c d
 unfolding condition labelled
-condition_reads n k x c d r w f h =
+condition_reads n below k x c d r w f h =
     rw (
       expect_reads kind.LParen c k w f h r.opens,
-      expr_reads n expression (with_in k) x (after c) r.close r.reads w f h,
+      expr_reads n below expression (with_in k) x (after c) r.close r.reads w f h,
       expect_reads kind.RParen r.close k w (f ++ walk (env_of k w.labels) x) (h ⊕ notes_of x) r.closes,
       r.next,
     ) refl
@@ -497,10 +495,10 @@ place_of c (Ok p) = p.1.at
 place_of c (Err e) = c
 
 -- what an expression statement begins with is no label: the name would be all of its expression
-pub no_label_here : (n : ℕ) (k : Code) (e : Tree) (c m : Place) → ReadsClass n expression (with_in k) e c m → is_ident e && sees kind.Colon m ≡ false → begins_label k c ≡ false
+pub no_label_here : (n : ℕ) (below : Below n) (k : Code) (e : Tree) (c m : Place) → ReadsClass n expression (with_in k) e c m → is_ident e && sees kind.Colon m ≡ false → begins_label k c ≡ false
 unfolding begins_label is_name is_reserved tree_of place_of
-no_label_here zero k e c m r l = absurd r.0
-no_label_here (suc n) k e c m r l = by_test (name_at k.flags c && sees kind.Colon (after c)) refl
+no_label_here zero below k e c m r l = absurd r.0
+no_label_here (suc n) below k e c m r l = by_test (name_at k.flags c && sees kind.Colon (after c)) refl
   where
     by_test : (b : Bool) → (name_at k.flags c && sees kind.Colon (after c)) ≡ b → b ≡ false
     by_test false h = refl
@@ -508,8 +506,8 @@ no_label_here (suc n) k e c m r l = by_test (name_at k.flags c && sees kind.Colo
         let g = and_yes (name_at k.flags c) (sees kind.Colon (after c)) h in
         let (v, s, i, f) = named_here k.flags c g.0 in
         let w : Scope = record { labels = []; mark = None } in
-        let o = sym (expr_reads (suc n) expression (with_in k) e c m r w [] no_notes)
-        ∙ expr_reads (suc n) expression (with_in k) (tree.ident s (word_text v)) c (after c) (name_before_colon n (with_in k) v s c (after c) i f (saw (after c) kind.Colon g.1)) w [] no_notes in
+        let o = sym (expr_reads (suc n) below expression (with_in k) e c m r w [] no_notes)
+        ∙ expr_reads (suc n) below expression (with_in k) (tree.ident s (word_text v)) c (after c) (name_before_colon n (with_in k) v s c (after c) i f (saw (after c) kind.Colon g.1)) w [] no_notes in
         absurd (true≢false (sym (ap (λ z. is_ident z && sees kind.Colon m) (ap tree_of o) ∙ ap (sees kind.Colon) (ap (place_of c) o) ∙ g.1) ∙ l))
 
 -- a word is no brace
@@ -525,3 +523,18 @@ word_no_brace _ = refl
 pub no_brace : (v : Word) (s : Span) (c d : Place) → ReadsToken (token.Word v) s c d → sees kind.LBrace c ≡ false
 unfolding kind_at
 no_brace v s c d r = rw r.is (word_no_brace v)
+
+-- nor is a name the word of a function
+keyword_no_function : (f : Context) (v : Keyword) → is_name f (word_text (word.Keyword v)) ≡ true → same_kind (keyword_kind v) kind.Function ≡ false
+unfolding is_name is_reserved same_kind
+keyword_no_function f keyword.Function e = cc
+keyword_no_function f _ e = refl
+
+word_no_function : (f : Context) (v : Word) → is_name f (word_text v) ≡ true → same_kind (word_kind v) kind.Function ≡ false
+unfolding same_kind
+word_no_function f (word.Keyword v) e = keyword_no_function f v e
+word_no_function f _ e = refl
+
+pub name_no_function : (f : Context) (v : Word) (s : Span) (c d : Place) → ReadsToken (token.Word v) s c d → is_name f (word_text v) ≡ true → sees kind.Function c ≡ false
+unfolding kind_at
+name_no_function f v s c d r e = rw r.is (word_no_function f v e)

@@ -1,12 +1,12 @@
 -- A statement takes a token at least.
 use Rattle.swc_ecma_parser_grammar.specs.Parameters.{parameters}
 use Rattle.swc_ecma_parser_reader.proofs.Errors.{is_error, fault_here}
-use Rattle.swc_ecma_parser_reader.specs.Patterns as patterns
+use Rattle.swc_ecma_parser_reader.proofs.patterns.Falls as patterns
 use Rattle.swc_ecma_parser_reader.specs.State.{Scope, and_then, below, relabelled, below_label, enclosed, unlabelled, fault_at, noted}
 use Rattle.swc_ecma_parser_grammar.specs.language.Items.{labelled_item}
 use Rattle.swc_ecma_parser_reader.specs.Reader.{begins_label, relabels, labelled_body, labeled_stmt, other_stmt, note_with, with_stmt, await_here, unless_awaited, function_body, function_decl, function_parts, function_stmt, misdirected}
 use Rattle.swc_ecma_parser_reader.specs.Reader.{missing_initializer, Opening, Nothing, Variables, Expression, as_init, as_left, head_variables, head_expression, opening, head_part, misdeclared, for_parts, for_in, for_of, for_behind, for_stmt, const_stmt, let_stmt}
-use Rattle.swc_ecma_parser_grammar.specs.language.Contexts.{without_in, in_body, in_parameters}
+use Rattle.swc_ecma_parser_grammar.specs.language.Contexts.{without_in, named_by, in_body, in_parameters}
 use Rattle.swc_ecma_parser_grammar.specs.Variables.{is_const, needs_no_initializer}
 use Rattle.swc_ecma_parser_model.specs.declared.leaves.VarDeclKind.{VarDeclKind}
 use Rattle.swc_ecma_parser_model.specs.declared.leaves.VarDeclKind.TheVariants as decl
@@ -31,15 +31,14 @@ use Rattle.swc_ecma_parser_grammar.specs.language.Contexts.{in_loop, in_breakabl
 use Rattle.swc_ecma_parser_grammar.specs.language.Goals.{Class, expression, assignment}
 use Rattle.swc_ecma_parser_grammar.specs.language.Items.{sub_statement}
 use Rattle.swc_ecma_parser_reader.specs.State.{State, Outcome, Reader, moved, coded, within, fault, labelled, labelled_as, name, expect, end}
-use Rattle.swc_ecma_parser_reader.specs.Expressions.{Cover, expr}
-use Rattle.swc_ecma_parser_reader.specs.Heads.{head_cover}
-use Rattle.swc_ecma_parser_reader.specs.Patterns.{pattern}
+use Rattle.swc_ecma_parser_reader.specs.Expressions.{Cover}
+use Rattle.swc_ecma_parser_reader.specs.Reader as reader
+use Rattle.swc_ecma_parser_reader.specs.Reader.{named, own_name, function_expr, expr, cover, head_cover, pattern, element, function}
+use Rattle.swc_ecma_parser_grammar.specs.Names.{name_at}
 use Rattle.swc_ecma_parser_reader.specs.Reader.{empty, debugger, uninitialized, initialized, declarator, declarators_turn, declarators, variables, closes, at_end, close, items_turn, items, block_from, block, braced, note_statement, no_label, expr_stmt, expr_stmt_at, told, target, unbroken, break_stmt, uncontinued, continue_stmt, misplaced, after_return, operand, returned, return_stmt, optional_end, import_stmt, import_stmt_at, thrown, throw, head, while_stmt, do_while, Link, goes_on, condition, alternative, link_from, link, behind_link, links, if_stmt, begins_clause, closes_clause, Clauses, clause_from, default_clause, case_clause, clause, clauses_turn, clauses, switch_stmt, is_handled, handled, bound, parameter, finalizer, caught, handler, try_stmt, stmt_by, stmt_level, stmt, shebang_in, shebang_taken, shebang, script_body, script}
 use Rattle.swc_ecma_parser_reader.proofs.Takes.{Falls, falls_then, falls_last, falls_coded, falls_if, less, falls_next, moves, takes, falls_past, falls_moved, wanted_falls, too_deep_falls, refuse_falls, refused_falls, fewer, name_falls, fault_falls, end_falls, close_falls, expect_falls, loop_falls}
 use Rattle.swc_ecma_parser_reader.proofs.expressions.Falls as exprs
-use Rattle.swc_ecma_parser_reader.proofs.expressions.Falls.{reject_falls, expr_falls}
-use Rattle.swc_ecma_parser_reader.proofs.expressions.Heads as heads
-use Rattle.swc_ecma_parser_reader.proofs.patterns.Falls.{pattern_falls, parameters_fall}
+use Rattle.swc_ecma_parser_reader.proofs.expressions.Falls.{reject_falls}
 
 -- a choice whose test is known
 falls_where : {A : Type 0} (k n : ℕ) (b : Bool) (x y : Outcome A) → (b ≡ true → Falls k n x) → Falls k n y → Falls k n (cond b x y)
@@ -525,6 +524,21 @@ module _ (inner : Reader Tree) (h : (s : State) → Falls 1 (length s.at.left) (
       (less (length (after s.at).left) (name faults.ExpectedIdent (moved s)) (name_falls faults.ExpectedIdent (moved s))) (λ i t.
       falls_last 0 (length t.at.left) (function_parts inner params (span_at s.at) t) _ (function_parts_falls (span_at s.at) t)))
 
+  -- a name may stand there or not
+  named_own_falls : (s : State) → Falls 0 (length s.at.left) (named s)
+  unfolding named
+  named_own_falls s = falls_last 0 (length s.at.left) (name faults.ExpectedIdent s) _ (less (length s.at.left) (name faults.ExpectedIdent s) (name_falls faults.ExpectedIdent s))
+
+  own_name_falls : (s : State) → Falls 0 (length s.at.left) (own_name s)
+  unfolding own_name
+  own_name_falls s = let t = coded (named_by s.code false false) s in
+      falls_if 0 (length s.at.left) (name_at (named_by s.code false false).flags s.at) _ _ (falls_coded 0 (length s.at.left) (named t) _ _ (named_own_falls t)) (omega arith)
+
+  function_expr_falls : (s : State) → kind_at s.at ≢ kind.End → Falls 1 (length s.at.left) (function_expr inner params s)
+  unfolding function_expr
+  function_expr_falls s e = falls_past s _ e (falls_then 0 0 (length (after s.at).left) (own_name (moved s)) _ (own_name_falls (moved s)) (λ i t.
+      falls_last 0 (length t.at.left) (function_parts inner params (span_at s.at) t) _ (function_parts_falls (span_at s.at) t)))
+
   -- no error token stands where the word does
   function_stmt_falls : (at : Position) (s : State) → kind_at s.at ≡ kind.Function → Falls 1 (length s.at.left) (function_stmt inner params at s)
   unfolding function_stmt
@@ -582,10 +596,70 @@ shebang_falls s = shebang_taken_falls s (shebang_in s.at.left)
 
 -- ---- all levels
 
+-- in so many levels
+record Taken (n : ℕ) : Type 0 where
+  exprs : (class : Class) (s : State) → Falls 1 (length s.at.left) (expr n class s)
+  covers : (s : State) → Falls 1 (length s.at.left) (cover n s)
+  heads : (s : State) → Falls 1 (length s.at.left) (head_cover n s)
+  patterns : (s : State) → Falls 1 (length s.at.left) (pattern n s)
+  elements : (s : State) → Falls 1 (length s.at.left) (element n s)
+  stmts : (at : Position) (s : State) → Falls 1 (length s.at.left) (stmt n at s)
+
+module _ (n : ℕ) (b : Taken n) where
+  parameters_taken : (s : State) → Falls 0 (length s.at.left) (reader.parameters n s)
+  parameters_taken s = less (length s.at.left) (reader.parameters n s)
+      (patterns.parameter_list_falls (expr n) b.exprs (cover n) b.covers (pattern n) b.patterns (element n) b.elements s)
+
+  function_taken : (s : State) → kind_at s.at ≢ kind.End → Falls 1 (length s.at.left) (function n s)
+  function_taken s = function_expr_falls (stmt n nested_item) (b.stmts nested_item) (reader.parameters n) parameters_taken s
+
+all_taken : (n : ℕ) → Taken n
+unfolding expr cover head_cover pattern element stmt
+all_taken zero = record {
+  exprs = λ class s. too_deep_falls Tree 1 (length s.at.left) s;
+  covers = λ s. too_deep_falls Cover 1 (length s.at.left) s;
+  heads = λ s. too_deep_falls Cover 1 (length s.at.left) s;
+  patterns = λ s. too_deep_falls Tree 1 (length s.at.left) s;
+  elements = λ s. too_deep_falls Tree 1 (length s.at.left) s;
+  stmts = λ at s. too_deep_falls Tree 1 (length s.at.left) s;
+}
+all_taken (suc n) = let b = all_taken n in record {
+  exprs = exprs.level_falls (expr n) (cover n) b.exprs b.covers (function n) (function_taken n b);
+  covers = exprs.cover_expr_falls (expr n) (cover n) b.exprs b.covers (function n) (function_taken n b);
+  heads = exprs.head_expr_falls (expr n) (cover n) b.exprs b.covers (function n) (function_taken n b);
+  patterns = patterns.pattern_level_falls (expr n) b.exprs (cover n) b.covers (pattern n) b.patterns (element n) b.elements;
+  elements = patterns.element_level_falls (expr n) b.exprs (cover n) b.covers (pattern n) b.patterns (element n) b.elements;
+  stmts = stmt_level_falls (stmt n) b.stmts (expr n) b.exprs (pattern n) b.patterns (head_cover n) b.heads (reader.parameters n) (parameters_taken n b);
+}
+
+-- an expression of any class takes a token, and so does what may still become a pattern
+pub expr_falls : (n : ℕ) (class : Class) (s : State) → Falls 1 (length s.at.left) (expr n class s)
+expr_falls n = (all_taken n).exprs
+
+pub cover_falls : (n : ℕ) (s : State) → Falls 1 (length s.at.left) (cover n s)
+cover_falls n = (all_taken n).covers
+
+-- what the head of a loop begins with
+pub head_cover_falls : (n : ℕ) (s : State) → Falls 1 (length s.at.left) (head_cover n s)
+head_cover_falls n = (all_taken n).heads
+
+-- a pattern, without its default and with it
+pub pattern_falls : (n : ℕ) (s : State) → Falls 1 (length s.at.left) (pattern n s)
+pattern_falls n = (all_taken n).patterns
+
+pub element_falls : (n : ℕ) (s : State) → Falls 1 (length s.at.left) (element n s)
+element_falls n = (all_taken n).elements
+
+-- the parameters of a function, and one that is an expression
+pub parameters_fall : (n : ℕ) (s : State) → Falls 0 (length s.at.left) (reader.parameters n s)
+parameters_fall n = parameters_taken n (all_taken n)
+
+pub functions_fall : (n : ℕ) (s : State) → kind_at s.at ≢ kind.End → Falls 1 (length s.at.left) (function n s)
+functions_fall n = function_taken n (all_taken n)
+
+-- a statement
 pub stmt_falls : (n : ℕ) (at : Position) (s : State) → Falls 1 (length s.at.left) (stmt n at s)
-unfolding stmt
-stmt_falls zero at s = too_deep_falls Tree 1 (length s.at.left) s
-stmt_falls (suc n) at s = stmt_level_falls (stmt n) (stmt_falls n) (expr n) (expr_falls n) (pattern n) (pattern_falls n) (head_cover n) (heads.head_falls n) (patterns.parameters n) (parameters_fall n) at s
+stmt_falls n = (all_taken n).stmts
 
 script_body_falls : (n : ℕ) (s : State) → Falls 0 (length s.at.left) (script_body n s)
 unfolding script_body

@@ -1,7 +1,11 @@
 -- Whatever a statement or a script is read as, or refused, the tokens that are left are the last of those that were, and no recorded
 -- fault is lost.
 use Rattle.swc_ecma_parser_grammar.specs.Parameters.{parameters}
-use Rattle.swc_ecma_parser_reader.specs.Patterns as patterns
+use Rattle.swc_ecma_parser_reader.proofs.patterns.Keeps as patterns
+use Rattle.swc_ecma_parser_reader.proofs.expressions.Keeps as expressions
+use Rattle.swc_ecma_parser_reader.specs.Reader as reader
+use Rattle.swc_ecma_parser_reader.specs.Reader.{named, own_name, function_expr, expr, cover, head_cover, pattern, element, function}
+use Rattle.swc_ecma_parser_grammar.specs.Names.{name_at}
 use Rattle.swc_ecma_parser_error.specs.declared.error.Error.{Error}
 use Rattle.swc_ecma_parser_grammar.specs.language.Programs.{at_top}
 use Rattle.swc_ecma_parser_model.specs.Tree.{Text}
@@ -15,7 +19,7 @@ use Rattle.swc_ecma_parser_model.specs.declared.leaves.VarDeclKind.TheVariants a
 use Rattle.swc_ecma_parser_model.specs.Targets.{as_target}
 use Rattle.swc_ecma_parser_grammar.specs.Variables.{is_const, needs_no_initializer}
 use Rattle.swc_ecma_parser_grammar.specs.Own.{head_faults}
-use Rattle.swc_ecma_parser_grammar.specs.language.Contexts.{without_in, in_parameters, in_body}
+use Rattle.swc_ecma_parser_grammar.specs.language.Contexts.{without_in, named_by, in_parameters, in_body}
 use Rattle.swc_ecma_parser_grammar.specs.Follows.{word_at, is_let_declaration}
 use Rattle.std.proofs.Common.{◌≡◌, ℕ, zero, suc, ◌+◌, Bool, true, false, cond, List, [], ◌∷◌, ◌++◌, length, Option, Some, None, Ok, Err, refl, Result, sym, ◌∙◌, ap, append_assoc}
 use Rattle.std.specs.Prelude.{◌&&◌, ◌||◌, is_some, codes}
@@ -38,16 +42,12 @@ use Rattle.swc_ecma_parser_grammar.specs.language.Contexts.{in_loop, in_breakabl
 use Rattle.swc_ecma_parser_grammar.specs.language.Goals.{Class, expression, assignment}
 use Rattle.swc_ecma_parser_grammar.specs.language.Items.{sub_statement}
 use Rattle.swc_ecma_parser_reader.specs.State.{State, Outcome, Reader, moved, coded, within, noted, holding_back, module_fault, fault, fault_at, wanted, refused, labelled, labelled_as, name, expect, end}
-use Rattle.swc_ecma_parser_reader.specs.Expressions.{Cover, expr, cover}
-use Rattle.swc_ecma_parser_reader.specs.Heads.{head_cover}
-use Rattle.swc_ecma_parser_reader.specs.Patterns.{pattern}
+use Rattle.swc_ecma_parser_reader.specs.Expressions.{Cover}
 use Rattle.swc_ecma_parser_reader.specs.Reader.{empty, debugger, initialized, declarator, declarators_turn, declarators, closes, at_end, close, items_turn, items, block_from, block, braced, note_statement, no_label, expr_stmt, expr_stmt_at, optional_end, import_stmt, import_stmt_at, told, target, unbroken, break_stmt, uncontinued, continue_stmt, misplaced, after_return, operand, returned, return_stmt, thrown, throw, head, while_stmt, do_while, goes_on, condition, alternative, link_from, link, links, if_stmt, begins_clause, closes_clause, clause_from, default_clause, case_clause, clause, clauses_turn, clauses, switch_stmt, begins_at, is_handled, handled, bound, parameter, finalizer, caught, handler, try_stmt, stmt_by, stmt_level, stmt, shebang, script_body, script}
 use Rattle.swc_ecma_parser_reader.proofs.Meets.{Answers, answers_then, answers_if, meant}
 use Rattle.swc_ecma_parser_reader.proofs.Behind.{Kept, Lost, Passes, behind_self, behind_after, behind_noted, refused_keeps, too_deep_keeps, fault_keeps, wanted_keeps, refuse_keeps, reject_keeps, end_keeps, expect_keeps, close_keeps, shebang_keeps, name_keeps, loop_keeps}
 use Rattle.swc_ecma_parser_reader.specs.Entry.{unmarked, IsBehind, IsSetBack, AnswersScript, AnswersStatement, Stays}
 use Rattle.swc_ecma_parser_reader.proofs.Opens.{chain_goes}
-use Rattle.swc_ecma_parser_reader.proofs.expressions.Keeps.{expr_keeps, cover_keeps, head_expr_keeps}
-use Rattle.swc_ecma_parser_reader.proofs.patterns.Keeps.{pattern_keeps, parameters_keep}
 
 -- ---- statements
 
@@ -181,13 +181,45 @@ module _ (inner : Position → Reader Tree) (inner_expr : Class → Reader Tree)
       (links_keeps l b (moved t) (chain_goes t.at o).1 (behind_after b t j)) (λ y u z. z))
       (λ _. answers_then (Kept b) _ (alternative (inner sub_statement) t) _ (alternative_keeps b t j) (λ y u z. z)))
 
+-- ---- what stands in braces, and functions
+
+module _ (inner : Reader Tree) (below : Passes inner) where
+  braces_from_keep : (directives : Bool) (start : Place) → Passes (block_from inner directives start)
+  unfolding block_from
+  braces_from_keep directives start b t g = answers_then _ _ (items inner closes directives t) _ (items_keeps inner below closes directives b t g) (λ x u k.
+      answers_then _ _ (close u) _ (close_keeps b u k) (λ _ v j. j))
+
+  braces_keep : (directives : Bool) → Passes (braced inner directives)
+  unfolding braced
+  braces_keep directives b t g = answers_then _ _ (expect kind.LBrace t) _ (expect_keeps b t g kind.LBrace) (λ _ u k. braces_from_keep directives t.at b u k)
+
+  module _ (params : Reader (List Tree)) (below_params : Passes params) where
+    -- from behind the name
+    function_parts_keep : (start : Span) → Passes (function_parts inner params start)
+    unfolding function_parts function_body misdirected
+    function_parts_keep start b u k =
+        answers_then (Kept b) _ (within (λ k. in_parameters k false false) params u) _
+        (answers_then (Kept b) _ (params (coded (in_parameters u.code false false) u)) _ (below_params b (coded (in_parameters u.code false false) u) k) (λ ps v j. j)) (λ ps v j.
+        answers_then (Kept b) _ (function_body inner params v) _
+        (answers_then (Kept b) _ (enclosed (braced inner true) (coded (in_body v.code false false) v)) _
+        (answers_then (Kept b) _ (braced inner true (unlabelled (coded (in_body v.code false false) v))) _ (braces_keep true b (unlabelled (coded (in_body v.code false false) v)) j) (λ x w z. z))
+        (λ x w z. z)) (λ x w z. answers_then (Kept b) _ (misdirected (parameters ps) x w) _ (told_keeps b _ w z) (λ _ a c. c)))
+
+    own_name_keeps : Passes own_name
+    unfolding own_name named
+    own_name_keeps b t g = let u = coded (named_by t.code false false) t in answers_if _ _ (name_at (named_by t.code false false).flags t.at) _ _
+        (λ _. answers_then (Kept b) _ (named u) _ (answers_then (Kept b) _ (name faults.ExpectedIdent u) _ (name_keeps b u g faults.ExpectedIdent) (λ i v k. k)) (λ x v k. k)) (λ _. g)
+
+    function_expr_keeps : Passes (function_expr inner params)
+    unfolding function_expr
+    function_expr_keeps b t g = answers_then (Kept b) _ (own_name (moved t)) _ (own_name_keeps b (moved t) (behind_after b t g)) (λ i u k.
+        answers_then (Kept b) _ (function_parts inner params (span_at t.at) u) _ (function_parts_keep (span_at t.at) b u k) (λ x v j. j))
+
 module _ (inner : Position → Reader Tree) (inner_expr : Class → Reader Tree) (inner_pat : Reader Tree) (inner_head : Reader Cover) (inner_params : Reader (List Tree))
     (below_stmt : (at : Position) → Passes (inner at)) (below_expr : (class : Class) → Passes (inner_expr class)) (below_pat : Passes inner_pat) (below_head : Passes inner_head)
     (below_params : Passes inner_params) (at : Position) (b : State) (s : State) (f : IsBehind b s) where
   block_from_keeps : (directives : Bool) (start : Place) (t : State) → IsBehind b t → Answers (Kept b) (Lost b) (block_from (inner nested_item) directives start t)
-  unfolding block_from
-  block_from_keeps directives start t g = answers_then _ _ (items (inner nested_item) closes directives t) _ (items_keeps (inner nested_item) (below_stmt nested_item) closes directives b t g) (λ x u k.
-      answers_then _ _ (close u) _ (close_keeps b u k) (λ _ v j. j))
+  block_from_keeps directives start t g = braces_from_keep (inner nested_item) (below_stmt nested_item) directives start b t g
 
   -- a block
   block_keeps : kind_at s.at ≡ kind.LBrace → Answers (Kept b) (Lost b) (block (inner nested_item) s)
@@ -197,8 +229,7 @@ module _ (inner : Position → Reader Tree) (inner_expr : Class → Reader Tree)
       block_from_keeps false s.at (moved s) g
 
   braced_keeps : (directives : Bool) (t : State) → IsBehind b t → Answers (Kept b) (Lost b) (braced (inner nested_item) directives t)
-  unfolding braced
-  braced_keeps directives t g = answers_then _ _ (expect kind.LBrace t) _ (expect_keeps b t g kind.LBrace) (λ _ u k. block_from_keeps directives t.at u k)
+  braced_keeps directives t g = braces_keep (inner nested_item) (below_stmt nested_item) directives b t g
 
   debugger_keeps : Answers (Kept b) (Lost b) (debugger s)
   unfolding debugger
@@ -463,15 +494,10 @@ module _ (inner : Position → Reader Tree) (inner_expr : Class → Reader Tree)
       answers_then _ _ (handled t.at v) _ (handled_keeps b t.at v l) (λ _ b a. a))))
 
   function_keeps : (t : State) → IsBehind b t → Answers (Kept b) (Lost b) (function_decl (inner nested_item) inner_params t)
-  unfolding function_decl function_parts function_body misdirected
+  unfolding function_decl
   function_keeps t g = answers_then (Kept b) _ (name faults.ExpectedIdent (moved t)) _ (name_keeps b (moved t) (behind_after b t g) faults.ExpectedIdent) (λ i u k.
       answers_then (Kept b) _ (function_parts (inner nested_item) inner_params (span_at t.at) u) _
-      (answers_then (Kept b) _ (within (λ k. in_parameters k false false) inner_params u) _
-      (answers_then (Kept b) _ (inner_params (coded (in_parameters u.code false false) u)) _ (below_params b (coded (in_parameters u.code false false) u) k) (λ ps v j. j)) (λ ps v j.
-      answers_then (Kept b) _ (function_body (inner nested_item) inner_params v) _
-      (answers_then (Kept b) _ (enclosed (braced (inner nested_item) true) (coded (in_body v.code false false) v)) _
-      (answers_then (Kept b) _ (braced (inner nested_item) true (unlabelled (coded (in_body v.code false false) v))) _ (braced_keeps true (unlabelled (coded (in_body v.code false false) v)) j) (λ x w z. z))
-      (λ x w z. z)) (λ x w z. answers_then (Kept b) _ (misdirected (parameters ps) x w) _ (told_keeps b _ w z) (λ _ a c. c)))) (λ x v j. j))
+      (function_parts_keep (inner nested_item) (below_stmt nested_item) inner_params below_params (span_at t.at) b u k) (λ x v j. j))
 
   function_stmt_keeps : Answers (Kept b) (Lost b) (function_stmt (inner nested_item) inner_params at s)
   unfolding function_stmt
@@ -507,16 +533,43 @@ module _ (inner : Position → Reader Tree) (inner_expr : Class → Reader Tree)
 
 -- ---- all levels
 
-heads_keep : (n : ℕ) → Passes (head_cover n)
-unfolding head_cover
-heads_keep zero b s f = too_deep_keeps _ b s f
-heads_keep (suc n) b s f = head_expr_keeps (expr n) (cover n) (expr_keeps n) (cover_keeps n) b s f
+record Passing (n : ℕ) : Type 0 where
+  exprs : (class : Class) → Passes (expr n class)
+  covers : Passes (cover n)
+  heads : Passes (head_cover n)
+  patterns : Passes (pattern n)
+  elements : Passes (element n)
+  stmts : (at : Position) → Passes (stmt n at)
+
+module _ (n : ℕ) (b : Passing n) where
+  parameters_passing : Passes (reader.parameters n)
+  parameters_passing = patterns.parameter_list_keeps (expr n) (cover n) (pattern n) (element n) b.exprs b.covers b.patterns b.elements
+
+  function_passing : Passes (function n)
+  function_passing = function_expr_keeps (stmt n nested_item) (b.stmts nested_item) (reader.parameters n) parameters_passing
+
+all_passing : (n : ℕ) → Passing n
+unfolding expr cover head_cover pattern element stmt
+all_passing zero = record {
+  exprs = λ class b s f. too_deep_keeps _ b s f;
+  covers = λ b s f. too_deep_keeps _ b s f;
+  heads = λ b s f. too_deep_keeps _ b s f;
+  patterns = λ b s f. too_deep_keeps _ b s f;
+  elements = λ b s f. too_deep_keeps _ b s f;
+  stmts = λ at b s f. too_deep_keeps _ b s f;
+}
+all_passing (suc n) = let a = all_passing n in record {
+  exprs = λ class b s f. expressions.level_keeps (expr n) (cover n) a.exprs a.covers b (function n) (function_passing n a) class s f;
+  covers = λ b s f. expressions.cover_expr_keeps (expr n) (cover n) a.exprs a.covers b (function n) (function_passing n a) s f;
+  heads = λ b s f. expressions.head_expr_keeps (expr n) (cover n) a.exprs a.covers b (function n) (function_passing n a) s f;
+  patterns = λ b s f. patterns.pattern_level_keeps (expr n) (cover n) (pattern n) (element n) a.exprs a.covers a.patterns a.elements b s f;
+  elements = λ b s f. patterns.element_level_keeps (expr n) (cover n) (pattern n) (element n) a.exprs a.covers a.patterns a.elements b s f;
+  stmts = λ at b s f. level_keeps (stmt n) (expr n) (pattern n) (head_cover n) (reader.parameters n) a.stmts a.exprs a.patterns a.heads (parameters_passing n a) at b s f;
+}
 
 -- a statement
 pub stmt_keeps : (n : ℕ) (at : Position) → Passes (stmt n at)
-unfolding stmt
-stmt_keeps zero at b s f = too_deep_keeps _ b s f
-stmt_keeps (suc n) at b s f = level_keeps (stmt n) (expr n) (pattern n) (head_cover n) (patterns.parameters n) (stmt_keeps n) (expr_keeps n) (pattern_keeps n) (heads_keep n) (parameters_keep n) at b s f
+stmt_keeps n = (all_passing n).stmts
 
 -- a script
 pub script_keeps : (n : ℕ) → Passes (script n)

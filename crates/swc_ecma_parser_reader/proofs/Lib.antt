@@ -17,6 +17,7 @@ pub mod Plain
 pub mod Opens
 pub mod Chains
 pub mod Answered
+pub mod Below
 pub mod CompleteParts
 pub mod Complete
 pub mod Unique

@@ -2,7 +2,11 @@
 -- expression below need a token, and the two can share their first.
 use Rattle.swc_ecma_parser_grammar.specs.Parameters.{parameters}
 use Rattle.swc_ecma_parser_reader.proofs.Errors.{is_error, fault_here}
-use Rattle.swc_ecma_parser_reader.specs.Patterns as patterns
+use Rattle.swc_ecma_parser_reader.proofs.patterns.Limits as patterns
+use Rattle.swc_ecma_parser_reader.proofs.expressions.Limits as expressions
+use Rattle.swc_ecma_parser_reader.specs.Reader as reader
+use Rattle.swc_ecma_parser_reader.specs.Reader.{named, own_name, function_expr, expr, cover, head_cover, pattern, element, function}
+use Rattle.swc_ecma_parser_grammar.specs.Names.{name_at}
 use Rattle.swc_ecma_parser_reader.proofs.Meets.{saw}
 use Rattle.swc_ecma_parser_model.specs.Tree.{Text}
 use Rattle.swc_ecma_parser_reader.specs.State.{below, below_label, enclosed, unlabelled}
@@ -10,13 +14,12 @@ use Rattle.swc_ecma_parser_grammar.specs.language.Items.{labelled_item}
 use Rattle.swc_ecma_parser_reader.specs.Reader.{begins_label, relabels, labelled_body, labeled_stmt, other_stmt, note_with, with_stmt, await_here, unless_awaited, function_decl, function_stmt, function_parts, function_body, misdirected}
 use Rattle.swc_ecma_parser_reader.specs.Reader.{missing_initializer, variables, Opening, Nothing, Variables, Expression, as_init, as_left, head_variables, head_expression, opening, head_part, misdeclared, for_parts, for_in, for_of, for_behind, for_stmt, const_stmt, let_stmt}
 use Rattle.swc_ecma_parser_reader.specs.Expressions as exprs
-use Rattle.swc_ecma_parser_reader.proofs.expressions.Heads as heads
 use Rattle.swc_ecma_parser_model.specs.declared.leaves.VarDeclKind.{VarDeclKind}
 use Rattle.swc_ecma_parser_model.specs.declared.leaves.VarDeclKind.TheVariants as decl
 use Rattle.swc_ecma_parser_model.specs.Targets.{as_target}
 use Rattle.swc_ecma_parser_grammar.specs.Variables.{is_const, needs_no_initializer}
 use Rattle.swc_ecma_parser_grammar.specs.Own.{head_faults}
-use Rattle.swc_ecma_parser_grammar.specs.language.Contexts.{without_in, in_parameters, in_body}
+use Rattle.swc_ecma_parser_grammar.specs.language.Contexts.{without_in, named_by, in_parameters, in_body}
 use Rattle.swc_ecma_parser_grammar.specs.Follows.{word_at, is_let_declaration}
 use Rattle.std.proofs.Common.{◌≡◌, ◌≢◌, ℕ, zero, suc, ◌+◌, ◌*◌, ◌≤◌, Bool, true, false, cond, List, [], ◌∷◌, ◌++◌, length, Option, Some, None, Ok, Err, refl, arith, ap}
 use Rattle.std.specs.Prelude.{◌&&◌, ◌||◌, is_some, codes}
@@ -45,16 +48,13 @@ use Rattle.swc_ecma_parser_grammar.specs.language.Contexts.{in_loop, in_breakabl
 use Rattle.swc_ecma_parser_grammar.specs.language.Goals.{Class, expression, assignment}
 use Rattle.swc_ecma_parser_grammar.specs.language.Items.{sub_statement}
 use Rattle.swc_ecma_parser_reader.specs.State.{State, Outcome, Reader, moved, coded, within, noted, holding_back, module_fault, recorded_at, recorded_in, fault, fault_at, wanted, refused, labelled, labelled_as, name, expect, end}
-use Rattle.swc_ecma_parser_reader.specs.Expressions.{Cover, expr}
-use Rattle.swc_ecma_parser_reader.specs.Heads.{head_cover}
-use Rattle.swc_ecma_parser_reader.specs.Patterns.{pattern}
+use Rattle.swc_ecma_parser_reader.specs.Expressions.{Cover}
 use Rattle.swc_ecma_parser_reader.specs.Reader.{empty, debugger, initialized, declarator, declarators_turn, declarators, closes, at_end, close, items_turn, items, block_from, block, braced, note_statement, no_label, expr_stmt, expr_stmt_at, optional_end, import_stmt, import_stmt_at, told, target, unbroken, break_stmt, uncontinued, continue_stmt, misplaced, after_return, operand, returned, return_stmt, thrown, throw, head, while_stmt, do_while, goes_on, condition, alternative, link_from, link, links, if_stmt, begins_clause, closes_clause, clause_from, default_clause, case_clause, clause, clauses_turn, clauses, switch_stmt, begins_at, is_handled, handled, bound, parameter, finalizer, caught, handler, try_stmt, stmt_by, stmt_level, stmt, shebang, script_body, script}
 use Rattle.swc_ecma_parser_reader.specs.Limits.{has_too_deep_token}
 use Rattle.swc_ecma_parser_reader.proofs.Meets.{Answers, answers_then, answers_if, loop_answers, meant}
-use Rattle.swc_ecma_parser_reader.proofs.Shallow.{Fine, fine_more, fine_after, fine_taken, Shallow, Kept, name_shallow, fault_shallow, wanted_shallow, refuse_shallow, end_shallow, expect_shallow, close_shallow, shebang_shallow, Levels}
+use Rattle.swc_ecma_parser_reader.proofs.Shallow.{Fine, fine_more, fine_after, fine_taken, Shallow, Kept, too_deep_shallow, name_shallow, fault_shallow, wanted_shallow, refuse_shallow, end_shallow, expect_shallow, close_shallow, shebang_shallow, Levels}
 use Rattle.swc_ecma_parser_reader.proofs.Opens.{chain_goes}
-use Rattle.swc_ecma_parser_reader.proofs.expressions.Limits.{reject_shallow, expr_shallow}
-use Rattle.swc_ecma_parser_reader.proofs.patterns.Limits.{pattern_shallow, parameters_shallow}
+use Rattle.swc_ecma_parser_reader.proofs.expressions.Limits.{reject_shallow}
 
 -- ---- statements: one level more, for an expression that begins with the same token
 
@@ -222,13 +222,49 @@ module _ (inner : Position → Reader Tree) (inner_expr : Class → Reader Tree)
       (links_shallow l i (omega arith) (moved t) (chain_goes t.at b).1 (fine_after i t.at j)) (λ y u z. fine_more i m u.at.left (omega arith) z))
       (λ _. answers_then (Kept m) _ (alternative (inner sub_statement) t) _ (alternative_shallow i (omega arith) t j) (λ y u z. fine_more i m u.at.left (omega arith) z)))
 
+-- ---- what stands in braces, and functions
+
+module _ (inner : Reader Tree) (n : ℕ) (below : StmtLevels n inner) where
+  braces_from_shallow : (directives : Bool) (start : Place) → StmtLevels n (block_from inner directives start)
+  unfolding block_from
+  braces_from_shallow directives start i t h g = answers_then _ _ (items inner closes directives t) _ (items_shallow inner n below closes directives i h t g) (λ x u k.
+      answers_then _ _ (close u) _ (close_shallow i u k) (λ _ v j. j))
+
+  braces_shallow : (directives : Bool) → StmtLevels n (braced inner directives)
+  unfolding braced
+  braces_shallow directives i t h g = answers_then _ _ (expect kind.LBrace t) _ (expect_shallow i t g kind.LBrace) (λ _ u k. braces_from_shallow directives t.at i u h k)
+
+  module _ (params : Reader (List Tree)) (below_params : Levels n params) where
+    -- from behind the name
+    function_parts_shallow : (start : Span) → StmtLevels n (function_parts inner params start)
+    unfolding function_parts function_body misdirected
+    function_parts_shallow start i u h k =
+        answers_then (Kept i) _ (within (λ k. in_parameters k false false) params u) _
+        (answers_then (Kept i) _ (params (coded (in_parameters u.code false false) u)) _ (below_params i (coded (in_parameters u.code false false) u) (omega arith) k) (λ ps v j. j)) (λ ps v j.
+        answers_then (Kept i) _ (function_body inner params v) _
+        (answers_then (Kept i) _ (enclosed (braced inner true) (coded (in_body v.code false false) v)) _
+        (answers_then (Kept i) _ (braced inner true (unlabelled (coded (in_body v.code false false) v))) _
+        (braces_shallow true i (unlabelled (coded (in_body v.code false false) v)) h j) (λ x w z. z))
+        (λ x w z. z)) (λ x w z. answers_then (Kept i) _ (misdirected (parameters ps) x w) _ (told_shallow i _ w z) (λ _ a c. c)))
+
+    own_name_shallow : (i : ℕ) (t : State) → Fine i t.at.left → Answers (Kept i) Shallow (own_name t)
+    unfolding own_name named
+    own_name_shallow i t g = let u = coded (named_by t.code false false) t in answers_if _ _ (name_at (named_by t.code false false).flags t.at) _ _
+        (λ _. answers_then (Kept i) _ (named u) _ (answers_then (Kept i) _ (name faults.ExpectedIdent u) _ (name_shallow i u g faults.ExpectedIdent (λ z. cc)) (λ x v k. k)) (λ x v k. k)) (λ _. g)
+
+    -- its word is a token before the level below
+    function_expr_shallow : (m : ℕ) (t : State) → 2 * m ≤ suc n → kind_at t.at ≡ kind.Function → Fine m t.at.left → Answers (Kept m) Shallow (function_expr inner params t)
+    unfolding function_expr
+    function_expr_shallow m t enough e f =
+        let (i, h, g) = fine_taken m t.at kind.Function e (λ z. cc) f in
+        answers_then (Kept m) _ (own_name (moved t)) _ (own_name_shallow i (moved t) g) (λ x u k.
+        answers_then (Kept m) _ (function_parts inner params (span_at t.at) u) _ (function_parts_shallow (span_at t.at) i u (omega arith) k) (λ y v j. fine_more i m v.at.left (omega arith) j))
+
 module _ (inner : Position → Reader Tree) (inner_expr : Class → Reader Tree) (inner_pat : Reader Tree) (inner_head : Reader Cover) (inner_params : Reader (List Tree)) (n : ℕ)
     (below_stmt : (at : Position) → StmtLevels n (inner at)) (below_expr : (class : Class) → Levels n (inner_expr class)) (below_pat : Levels n inner_pat) (below_head : Levels n inner_head)
     (below_params : Levels n inner_params) (at : Position) (m : ℕ) (enough : 2 * m + 1 ≤ suc n) (s : State) (f : Fine m s.at.left) where
   block_from_shallow : (i : ℕ) → 2 * i + 1 ≤ n → (directives : Bool) (start : Place) (t : State) → Fine i t.at.left → Answers (Kept i) Shallow (block_from (inner nested_item) directives start t)
-  unfolding block_from
-  block_from_shallow i h directives start t g = answers_then _ _ (items (inner nested_item) closes directives t) _ (items_shallow (inner nested_item) n (below_stmt nested_item) closes directives i h t g) (λ x u k.
-      answers_then _ _ (close u) _ (close_shallow i u k) (λ _ v j. j))
+  block_from_shallow i h directives start t g = braces_from_shallow (inner nested_item) n (below_stmt nested_item) directives start i t h g
 
   -- a block takes a token before the level below
   block_shallow : kind_at s.at ≡ kind.LBrace → Answers (Kept m) Shallow (block (inner nested_item) s)
@@ -238,8 +274,7 @@ module _ (inner : Position → Reader Tree) (inner_expr : Class → Reader Tree)
       kept_more i m (omega arith) (block_from (inner nested_item) false s.at (moved s)) (block_from_shallow i (omega arith) false s.at (moved s) g)
 
   braced_shallow : (i : ℕ) → 2 * i + 1 ≤ n → (directives : Bool) (t : State) → Fine i t.at.left → Answers (Kept i) Shallow (braced (inner nested_item) directives t)
-  unfolding braced
-  braced_shallow i h directives t g = answers_then _ _ (expect kind.LBrace t) _ (expect_shallow i t g kind.LBrace) (λ _ u k. block_from_shallow i h directives t.at u k)
+  braced_shallow i h directives t g = braces_shallow (inner nested_item) n (below_stmt nested_item) directives i t h g
 
   debugger_shallow : Answers (Kept m) Shallow (debugger s)
   unfolding debugger
@@ -510,18 +545,12 @@ module _ (inner : Position → Reader Tree) (inner_expr : Class → Reader Tree)
       answers_then _ _ (handled t.at v) _ (handled_shallow i t.at v l) (λ _ b a. fine_more i m b.at.left (omega arith) a))))
 
   function_shallow : (t : State) → kind_at t.at ≡ kind.Function → Fine m t.at.left → Answers (Kept m) Shallow (function_decl (inner nested_item) inner_params t)
-  unfolding function_decl function_parts function_body misdirected
+  unfolding function_decl
   function_shallow t e f =
       let (i, h, g) = fine_taken m t.at kind.Function e (λ z. cc) f in
       answers_then (Kept m) _ (name faults.ExpectedIdent (moved t)) _ (name_shallow i (moved t) g faults.ExpectedIdent (λ z. cc)) (λ x u k.
       answers_then (Kept m) _ (function_parts (inner nested_item) inner_params (span_at t.at) u) _
-      (answers_then (Kept i) _ (within (λ k. in_parameters k false false) inner_params u) _
-      (answers_then (Kept i) _ (inner_params (coded (in_parameters u.code false false) u)) _ (below_params i (coded (in_parameters u.code false false) u) (omega arith) k) (λ ps v j. j)) (λ ps v j.
-      answers_then (Kept i) _ (function_body (inner nested_item) inner_params v) _
-      (answers_then (Kept i) _ (enclosed (braced (inner nested_item) true) (coded (in_body v.code false false) v)) _
-      (answers_then (Kept i) _ (braced (inner nested_item) true (unlabelled (coded (in_body v.code false false) v))) _
-      (braced_shallow i (omega arith) true (unlabelled (coded (in_body v.code false false) v)) j) (λ x w z. z))
-      (λ x w z. z)) (λ x w z. answers_then (Kept i) _ (misdirected (parameters ps) x w) _ (told_shallow i _ w z) (λ _ a c. c)))) (λ y v j. fine_more i m v.at.left (omega arith) j))
+      (function_parts_shallow (inner nested_item) n (below_stmt nested_item) inner_params below_params (span_at t.at) i u (omega arith) k) (λ y v j. fine_more i m v.at.left (omega arith) j))
 
   -- no error token stands where the word does
   function_stmt_shallow : kind_at s.at ≡ kind.Function → Answers (Kept m) Shallow (function_stmt (inner nested_item) inner_params at s)
@@ -558,11 +587,44 @@ module _ (inner : Position → Reader Tree) (inner_expr : Class → Reader Tree)
 
 -- ---- all levels
 
--- a statement needs two levels for each token, and one more
+-- Expressions and patterns need two levels for each token, parameters a level less, for the token that opens them, and a statement
+-- needs one more.
+record Enough (n : ℕ) : Type 0 where
+  exprs : (class : Class) → Levels n (expr n class)
+  covers : Levels n (cover n)
+  heads : Levels n (head_cover n)
+  patterns : Levels n (pattern n)
+  elements : Levels n (element n)
+  stmts : (at : Position) → StmtLevels n (stmt n at)
+
+module _ (n : ℕ) (b : Enough n) where
+  parameters_enough : Levels n (reader.parameters n)
+  parameters_enough m s h f = patterns.parameter_list_shallow (expr n) (cover n) (pattern n) (element n) n b.exprs b.covers b.patterns b.elements m (omega arith) s f
+
+  function_enough : (m : ℕ) (s : State) → 2 * m ≤ suc n → kind_at s.at ≡ kind.Function → Fine m s.at.left → Answers (Kept m) Shallow (function n s)
+  function_enough = function_expr_shallow (stmt n nested_item) n (b.stmts nested_item) (reader.parameters n) parameters_enough
+
+all_enough : (n : ℕ) → Enough n
+unfolding expr cover head_cover pattern element stmt
+all_enough zero = record {
+  exprs = λ class m s h f. too_deep_shallow _ s (omega arith);
+  covers = λ m s h f. too_deep_shallow _ s (omega arith);
+  heads = λ m s h f. too_deep_shallow _ s (omega arith);
+  patterns = λ m s h f. too_deep_shallow _ s (omega arith);
+  elements = λ m s h f. too_deep_shallow _ s (omega arith);
+  stmts = λ at m s h f. absurd (omega arith);
+}
+all_enough (suc n) = let b = all_enough n in record {
+  exprs = λ class m s h f. expressions.level_shallow (expr n) (cover n) n b.exprs b.covers m h (function n) (function_enough n b) class s f;
+  covers = λ m s h f. expressions.cover_expr_shallow (expr n) (cover n) n b.exprs b.covers m h (function n) (function_enough n b) s f;
+  heads = λ m s h f. expressions.head_expr_shallow (expr n) (cover n) n b.exprs b.covers m h (function n) (function_enough n b) s f;
+  patterns = λ m s h f. patterns.pattern_level_shallow (expr n) (cover n) (pattern n) (element n) n b.exprs b.covers b.patterns b.elements m h s f;
+  elements = λ m s h f. patterns.element_level_shallow (expr n) (cover n) (pattern n) (element n) n b.exprs b.covers b.patterns b.elements m h s f;
+  stmts = λ at m s h f. level_shallow (stmt n) (expr n) (pattern n) (head_cover n) (reader.parameters n) n b.stmts b.exprs b.patterns b.heads (parameters_enough n b) at m h s f;
+}
+
 stmt_shallow : (n : ℕ) (at : Position) → StmtLevels n (stmt n at)
-unfolding stmt
-stmt_shallow zero at m s h f = absurd (omega arith)
-stmt_shallow (suc n) at m s h f = level_shallow (stmt n) (expr n) (pattern n) (head_cover n) (patterns.parameters n) n (stmt_shallow n) (expr_shallow n) (pattern_shallow n) (heads.head_shallow n) (λ m s h f. parameters_shallow n m s (omega arith) f) at m h s f
+stmt_shallow n = (all_enough n).stmts
 
 -- a script needs no more
 script_shallow : (n m : ℕ) (s : State) → 2 * m + 2 ≤ n → Fine m s.at.left → Answers (Kept m) Shallow (script n s)

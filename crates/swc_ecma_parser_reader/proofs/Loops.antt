@@ -5,22 +5,20 @@ use Rattle.swc_ecma_parser_error.specs.Kind.{Fault}
 use Rattle.swc_ecma_parser_token.specs.declared.kind.TokenKind.TheVariants as kind
 use Rattle.swc_ecma_parser_input.specs.Place.{Place, after}
 use Rattle.swc_ecma_parser_model.specs.declared.leaves.VarDeclKind.{VarDeclKind}
+use Rattle.swc_ecma_parser_model.specs.Tree as tree
 use Rattle.swc_ecma_parser_model.specs.Tree.{Tree}
 use Rattle.swc_ecma_parser_grammar.specs.declared.position.Position.{Position}
 use Rattle.swc_ecma_parser_grammar.specs.Looks.{sees}
+use Rattle.swc_ecma_parser_grammar.specs.Names.{name_at}
 use Rattle.swc_ecma_parser_grammar.specs.Reads.{directed, nested_item}
+use Rattle.swc_ecma_parser_grammar.specs.language.Contexts.{named_by}
 use Rattle.swc_ecma_parser_grammar.specs.language.Goals.{expression}
-use Rattle.swc_ecma_parser_reader.specs.State.{State, Reader, coded, moved, too_deep, loop}
-use Rattle.swc_ecma_parser_reader.specs.Expressions.{expr}
-use Rattle.swc_ecma_parser_reader.specs.Heads.{head_cover}
-use Rattle.swc_ecma_parser_reader.specs.Patterns.{pattern, parameters}
-use Rattle.swc_ecma_parser_reader.specs.Reader.{declarator, declarators_turn, directs, items_turn, begins_clause, Clauses, clause, clauses_turn, stmt_level, stmt}
+use Rattle.swc_ecma_parser_reader.specs.State.{State, Reader, coded, moved, within, too_deep, loop}
+use Rattle.swc_ecma_parser_reader.specs.Reader.{declarator, declarators_turn, directs, items_turn, begins_clause, Clauses, clause, clauses_turn, named, own_name, stmt_level, stmt, expr, head_cover, pattern, parameters}
 use Rattle.swc_ecma_parser_reader.proofs.Steps.{loop_more, loop_done, loop_err}
 use Rattle.swc_ecma_parser_reader.proofs.Takes.{moves}
-use Rattle.swc_ecma_parser_reader.proofs.Falls.{stmt_falls, declarator_falls, clause_falls}
-use Rattle.swc_ecma_parser_reader.proofs.expressions.Falls.{expr_falls}
+use Rattle.swc_ecma_parser_reader.proofs.Falls.{stmt_falls, declarator_falls, clause_falls, expr_falls, pattern_falls}
 use Rattle.swc_ecma_parser_reader.proofs.expressions.Loops.{shorter_by, deeper}
-use Rattle.swc_ecma_parser_reader.proofs.patterns.Falls.{pattern_falls}
 
 -- ---- what takes a token leaves fewer
 
@@ -98,3 +96,13 @@ stmt_lowest n at s e = rw e refl
 pub stmt_above : (n : ℕ) (at : Position) (s : State) → 0 < n → stmt n at s ≡ stmt_level (stmt (n - 1)) (expr (n - 1)) (pattern (n - 1)) (head_cover (n - 1)) (parameters (n - 1)) at s
 unfolding stmt
 stmt_above n at s h = deeper (λ k. stmt k at s) n h
+
+-- ---- the name of a function that is an expression
+
+pub named_own : (s : State) → name_at (named_by s.code false false).flags s.at ≡ true → own_name s ≡ within (λ k. named_by k false false) named s
+unfolding own_name
+named_own s e = rw e refl
+
+pub no_own_name : (s : State) → name_at (named_by s.code false false).flags s.at ≡ false → own_name s ≡ Ok (tree.absent, s)
+unfolding own_name
+no_own_name s e = rw e refl

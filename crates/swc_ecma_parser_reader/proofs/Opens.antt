@@ -38,43 +38,43 @@ use Rattle.swc_ecma_parser_reader.proofs.expressions.CompleteKinds.{import_unnam
 -- ---- an expression statement is read by its first token
 
 pub opened : (stmt : Position → Reader Tree) (expr : Class → Reader Tree) (pat : Reader Tree) (cover : Reader Cover) (params : Reader (List Tree)) (at : Position) (s : State) (k : TokenKind) → opens k ≡ true
-    → same_kind k kind.LBrace ≡ false → same_kind k kind.Import ≡ false → same_kind k kind.Const ≡ false → at.include_decl && is_let_declaration s.at ≡ false
+    → same_kind k kind.LBrace ≡ false → same_kind k kind.Import ≡ false → same_kind k kind.Const ≡ false → at.include_decl && is_let_declaration s.at ≡ false → same_kind k kind.Function ≡ false
     → stmt_by stmt expr pat cover params at k s ≡ other_stmt stmt (expr expression) at s
 unfolding same_kind let_stmt
-opened stmt expr pat cover params at s kind.LBrace e h g i l = cc
-opened stmt expr pat cover params at s kind.Semi e h g i l = cc
-opened stmt expr pat cover params at s kind.Debugger e h g i l = cc
-opened stmt expr pat cover params at s kind.Var e h g i l = cc
-opened stmt expr pat cover params at s kind.Const e h g i l = cc
-opened stmt expr pat cover params at s kind.If e h g i l = cc
-opened stmt expr pat cover params at s kind.Break e h g i l = cc
-opened stmt expr pat cover params at s kind.Continue e h g i l = cc
-opened stmt expr pat cover params at s kind.Return e h g i l = cc
-opened stmt expr pat cover params at s kind.For e h g i l = cc
-opened stmt expr pat cover params at s kind.Throw e h g i l = cc
-opened stmt expr pat cover params at s kind.Switch e h g i l = cc
-opened stmt expr pat cover params at s kind.Try e h g i l = cc
-opened stmt expr pat cover params at s kind.With e h g i l = cc
-opened stmt expr pat cover params at s kind.While e h g i l = cc
-opened stmt expr pat cover params at s kind.Do e h g i l = cc
-opened stmt expr pat cover params at s kind.Function e h g i l = cc
-opened stmt expr pat cover params at s kind.Import e h g i l = cc
-opened stmt expr pat cover params at s kind.Let e h g i l = rw l refl
-opened stmt expr pat cover params at s _ e h g i l = refl
+opened stmt expr pat cover params at s kind.LBrace e h g i l j = cc
+opened stmt expr pat cover params at s kind.Semi e h g i l j = cc
+opened stmt expr pat cover params at s kind.Debugger e h g i l j = cc
+opened stmt expr pat cover params at s kind.Var e h g i l j = cc
+opened stmt expr pat cover params at s kind.Const e h g i l j = cc
+opened stmt expr pat cover params at s kind.If e h g i l j = cc
+opened stmt expr pat cover params at s kind.Break e h g i l j = cc
+opened stmt expr pat cover params at s kind.Continue e h g i l j = cc
+opened stmt expr pat cover params at s kind.Return e h g i l j = cc
+opened stmt expr pat cover params at s kind.For e h g i l j = cc
+opened stmt expr pat cover params at s kind.Throw e h g i l j = cc
+opened stmt expr pat cover params at s kind.Switch e h g i l j = cc
+opened stmt expr pat cover params at s kind.Try e h g i l j = cc
+opened stmt expr pat cover params at s kind.With e h g i l j = cc
+opened stmt expr pat cover params at s kind.While e h g i l j = cc
+opened stmt expr pat cover params at s kind.Do e h g i l j = cc
+opened stmt expr pat cover params at s kind.Function e h g i l j = cc
+opened stmt expr pat cover params at s kind.Import e h g i l j = cc
+opened stmt expr pat cover params at s kind.Let e h g i l j = rw l refl
+opened stmt expr pat cover params at s _ e h g i l j = refl
 
--- where one may begin neither a block does nor `import` nor a declaration
+-- where one may begin neither a block does nor `import`, nor a function or another declaration
 neither_by : (block function class import async declares : Bool) → not (block || (function || (class || (import || (async || declares))))) ≡ true
-    → (block ≡ false) × (import ≡ false) × (declares ≡ false)
+    → (block ≡ false) × (import ≡ false) × (declares ≡ false) × (function ≡ false)
 neither_by true function class import async declares h = cc
 neither_by false true class import async declares h = cc
 neither_by false false true import async declares h = cc
 neither_by false false false true async declares h = cc
 neither_by false false false false true declares h = cc
 neither_by false false false false false true h = cc
-neither_by false false false false false false h = (refl, refl, refl)
+neither_by false false false false false false h = (refl, refl, refl, refl)
 
 pub no_block_or_import : (at : Position) (c : Place) → may_begin_expression_statement at c ≡ true
-    → (sees kind.LBrace c ≡ false) × (sees kind.Import c ≡ false) × (at.include_decl && is_let_declaration c ≡ false)
+    → (sees kind.LBrace c ≡ false) × (sees kind.Import c ≡ false) × (at.include_decl && is_let_declaration c ≡ false) × (sees kind.Function c ≡ false)
 unfolding may_begin_expression_statement
 no_block_or_import at c h =
     neither_by (sees kind.LBrace c) (sees kind.Function c) (sees kind.Class c) (sees kind.Import c) (is_async_function c) (at.include_decl && is_let_declaration c) h

@@ -5,7 +5,7 @@ use Rattle.swc_ecma_parser_token.specs.declared.token.Token.{Token}
 use Rattle.swc_ecma_parser_token.specs.declared.token.Token.TheVariants as token
 use Rattle.swc_ecma_parser_token.specs.declared.token.TokenAndSpan.{TokenAndSpan}
 use Rattle.swc_ecma_parser_model.specs.Forms.{span_of}
-use Rattle.swc_ecma_parser_reader.specs.Patterns as patterns
+use Rattle.swc_ecma_parser_reader.specs.Reader as reader
 use Rattle.swc_ecma_parser_model.specs.declared.leaves.Ident.{Ident}
 use Rattle.swc_ecma_parser_grammar.specs.Parameters.{parameters}
 use Rattle.swc_ecma_parser_reader.proofs.expressions.SoundSteps.{reject_meets, meets_as}
@@ -15,7 +15,7 @@ use Rattle.swc_ecma_parser_error.specs.Kind.{Fault}
 use Rattle.swc_ecma_parser_grammar.specs.Own.{only, duplicates}
 use Rattle.swc_ecma_parser_grammar.specs.language.Items.{labelled_item}
 use Rattle.swc_ecma_parser_reader.specs.State.{coded, below, below_label, fault, fault_at, recorded_at, recorded_in}
-use Rattle.swc_ecma_parser_reader.specs.Reader.{told, with_stmt, note_with, await_here, unless_awaited, misdirected, function_body, function_parts, function_decl, function_stmt}
+use Rattle.swc_ecma_parser_reader.specs.Reader.{told, with_stmt, note_with, await_here, unless_awaited, misdirected, function_body, function_parts, function_decl, function_stmt, expr, head_cover, pattern}
 use Rattle.swc_ecma_parser_reader.proofs.Meets.{meets_then}
 use Rattle.std.specs.Prelude.{◌&&◌, ◌||◌, codes}
 use Rattle.std.proofs.lemmas.List.Recursion.{is_count_by}
@@ -37,9 +37,7 @@ use Rattle.swc_ecma_parser_grammar.specs.language.Contexts.{in_loop, in_breakabl
 use Rattle.swc_ecma_parser_grammar.specs.language.Goals.{Class, expression, assignment}
 use Rattle.swc_ecma_parser_grammar.specs.language.Items.{sub_statement}
 use Rattle.swc_ecma_parser_reader.specs.State.{State, Outcome, Reader, and_then, moved, within, wanted, name, expect, end}
-use Rattle.swc_ecma_parser_reader.specs.Expressions.{Cover, expr, taken}
-use Rattle.swc_ecma_parser_reader.specs.Heads.{head_cover}
-use Rattle.swc_ecma_parser_reader.specs.Patterns.{pattern}
+use Rattle.swc_ecma_parser_reader.specs.Expressions.{Cover, taken}
 use Rattle.swc_ecma_parser_reader.specs.Reader.{items, closes, close, declarators, link, alternative, head, clauses, target, unbroken, uncontinued, operand, braced, handler, finalizer, handled, optional_end, Opening, as_init, as_left, opening, head_part, misdeclared, labelled_body, relabels, no_label, note_statement, empty, debugger, variables, block, block_from, expr_stmt, expr_stmt_at, import_stmt, import_stmt_at, thrown, throw, while_stmt, do_while, for_parts, for_in, for_of, for_behind, for_stmt, goes_on, links, if_stmt, break_stmt, continue_stmt, returned, return_stmt, misplaced, begins_label, labeled_stmt, other_stmt, switch_stmt, try_stmt, const_stmt, let_stmt, stmt_by, stmt_level, stmt}
 use Rattle.swc_ecma_parser_reader.proofs.Meets.{Meets, Refuses, meets_if, wanted_meets, too_deep_meets, refuse_meets, meant}
 use Rattle.swc_ecma_parser_reader.proofs.SoundParts.{after_return_meets}
@@ -233,7 +231,7 @@ module _ (inner : Position → Reader Tree) (inner_expr : Class → Reader Tree)
 stmt_meets_told : (n : ℕ) (at : Position) (s : State) → Meets (Told (kind_at s.at)) (stmt n at s)
 unfolding stmt stmt_level
 stmt_meets_told zero at s = too_deep_meets (Told (kind_at s.at)) s
-stmt_meets_told (suc n) at s = by_told (stmt n) (expr n) (pattern n) (head_cover n) (patterns.parameters n) at (kind_at s.at) s
+stmt_meets_told (suc n) at s = by_told (stmt n) (expr n) (pattern n) (head_cover n) (reader.parameters n) at (kind_at s.at) s
 
 -- ---- the faults of a label
 

@@ -1,5 +1,5 @@
 -- An error token in first place is answered.
-use Rattle.swc_ecma_parser_reader.specs.Reader.{other_stmt, begins_label}
+use Rattle.swc_ecma_parser_reader.specs.Reader.{other_stmt, begins_label, expr}
 use Rattle.std.proofs.Common.{◌≡◌, ℕ, zero, suc, List, ◌∷◌, Err, refl, sym, subst}
 use Rattle.swc_ecma_parser_error.specs.declared.error.Error.{Error}
 use Rattle.swc_ecma_parser_error.specs.Kind.{fault_of}
@@ -10,7 +10,7 @@ use Rattle.swc_ecma_parser_grammar.specs.Looks.{kind_at, same_kind}
 use Rattle.swc_ecma_parser_grammar.specs.Names.{name_at}
 use Rattle.swc_ecma_parser_grammar.specs.Follows.{may_begin_expression_statement, is_async_function, is_let_declaration, word_at}
 use Rattle.swc_ecma_parser_reader.specs.State.{State, wanted, too_deep, loop}
-use Rattle.swc_ecma_parser_reader.specs.Expressions.{literal, marked_primary, primary, left_head, left, postfix, unary_expr, binary_expr, operators_expr, done_expr, cover_expr, assignment_expr, expression_expr, expr_level, expr}
+use Rattle.swc_ecma_parser_reader.specs.Expressions.{literal, marked_primary, primary, left_head, left, postfix, unary_expr, binary_expr, operators_expr, done_expr, cover_expr, assignment_expr, expression_expr, expr_level}
 use Rattle.swc_ecma_parser_reader.specs.Reader.{at_end, items_turn, items, expr_stmt, expr_stmt_at, stmt_level, stmt, shebang, script_body, script}
 
 -- a state with this token in first place

@@ -1,6 +1,10 @@
 -- What is read is in the grammar where nothing was recorded, and the faults of the table are the walk's.
-use Rattle.swc_ecma_parser_reader.proofs.SoundFunctions.{SoundBraces, InBraces, body_from_sound, braces_sound, in_braces, function_stmt_sound}
-use Rattle.swc_ecma_parser_reader.specs.Patterns as patterns
+use Rattle.swc_ecma_parser_reader.proofs.SoundFunctions.{SoundBraces, InBraces, body_from_sound, braces_sound, in_braces, function_expr_sound, function_stmt_sound}
+use Rattle.swc_ecma_parser_reader.specs.Reader as reader
+use Rattle.swc_ecma_parser_reader.proofs.patterns.Sound as patterns
+use Rattle.swc_ecma_parser_reader.proofs.patterns.Sound.{SoundParams}
+use Rattle.swc_ecma_parser_reader.proofs.expressions.Sound as expressions
+use Rattle.swc_ecma_parser_reader.proofs.expressions.SoundLefts.{FunctionRead}
 use Rattle.std.proofs.Common.{append_assoc}
 use Rattle.swc_ecma_parser_reader.specs.Notes.{no_notes}
 use Rattle.swc_ecma_parser_reader.proofs.Between.{sound_below, sound_coded}
@@ -16,8 +20,7 @@ use Rattle.swc_ecma_parser_model.specs.declared.leaves.VarDeclKind.TheVariants a
 use Rattle.swc_ecma_parser_grammar.specs.Variables.{begins_variables, is_var}
 use Rattle.swc_ecma_parser_reader.specs.Reader.{variables, const_stmt, let_stmt}
 use Rattle.swc_ecma_parser_reader.proofs.expressions.CompleteKinds.{seen}
-use Rattle.swc_ecma_parser_reader.proofs.expressions.Heads as heads
-use Rattle.swc_ecma_parser_reader.proofs.expressions.Heads.{SoundHead}
+use Rattle.swc_ecma_parser_reader.proofs.expressions.Heads.{SoundHead, head_expr_sound}
 use Rattle.swc_ecma_parser_reader.proofs.SoundFor.{SoundAs, looped_sound, for_sound}
 use Rattle.std.proofs.Common.{◌≡◌, ℕ, zero, suc, Bool, true, false, cond, List, [], ◌∷◌, ◌++◌, Option, length, Ok, Err, refl, sym, ◌∙◌, ap, subst, append-nil}
 use Rattle.std.specs.Prelude.{◌&&◌, ◌||◌, is_some}
@@ -58,18 +61,17 @@ use Rattle.swc_ecma_parser_grammar.specs.Notes.{notes, statement_note}
 use Rattle.swc_ecma_parser_grammar.specs.language.Noted.{has_meta}
 use Rattle.swc_ecma_parser_grammar.proofs.Tests.{or_no, and_yes}
 use Rattle.swc_ecma_parser_grammar.proofs.Widens.{script_widens, script_supported}
+use Rattle.swc_ecma_parser_grammar.proofs.FunctionExprs.{function_widens, function_supported}
+use Rattle.swc_ecma_parser_grammar.specs.language.LeftSides.{is_callee}
 use Rattle.swc_ecma_parser_reader.specs.Notes.{◌⊕◌, notes_of, all_notes_of}
 use Rattle.swc_ecma_parser_reader.specs.State.{State, Reader, moved, coded, flagged, within, fault_at, Outcome, wanted, labelled, labelled_as, expect, end}
-use Rattle.swc_ecma_parser_reader.specs.Expressions.{Cover, expr, cover}
-use Rattle.swc_ecma_parser_reader.specs.Heads.{head_cover}
-use Rattle.swc_ecma_parser_reader.specs.Patterns.{pattern, element}
+use Rattle.swc_ecma_parser_reader.specs.Expressions.{Cover}
+use Rattle.swc_ecma_parser_reader.specs.Reader.{expr, cover, head_cover, pattern, element, function}
 use Rattle.swc_ecma_parser_reader.specs.Reader.{target, unbroken, break_stmt, uncontinued, continue_stmt, misplaced, operand, returned, return_stmt, empty, debugger, declarators, closes, at_end, close, items, block_from, block, braced, note_statement, no_label, expr_stmt, expr_stmt_at, optional_end, import_stmt, import_stmt_at, thrown, throw, head, while_stmt, do_while, Link, goes_on, condition, alternative, link_from, link, links, if_stmt, begins_clause, closes_clause, Clauses, clause_from, default_clause, case_clause, clause, clauses_turn, clauses, switch_stmt, begins_at, is_handled, handled, bound, parameter, finalizer, caught, handler, try_stmt, stmt_by, stmt_level, stmt, shebang_of, shebang_in, shebang_taken, shebang, script_body, script}
 use Rattle.swc_ecma_parser_reader.specs.Entry.{SoundScript, error_tokens}
 use Rattle.swc_ecma_parser_reader.specs.Limits.{has_out_of_memory_token}
 use Rattle.swc_ecma_parser_reader.proofs.expressions.SoundCovers.{SoundCover}
-use Rattle.swc_ecma_parser_reader.proofs.expressions.Sound.{expr_sound, cover_sound}
 use Rattle.swc_ecma_parser_reader.proofs.expressions.SoundSteps.{meets_as, FreeWord, name_sound, Takes, expect_sound, fault_sound, walks_push, notes_push}
-use Rattle.swc_ecma_parser_reader.proofs.patterns.Sound.{pattern_sound, element_sound, parameters_sound}
 use Rattle.swc_ecma_parser_reader.proofs.Notes.{or_nil, or_true, notes_nil}
 use Rattle.swc_ecma_parser_reader.proofs.Meets.{Meets, Refuses, meets_then, meets_if, wanted_meets, too_deep_meets, refuse_meets, Turned, loop_answers, saw, meant}
 use Rattle.swc_ecma_parser_reader.proofs.Errors.{kind_here, none_counted, nothing_at_end}
@@ -619,15 +621,78 @@ script_is n s x t ((f, keeps, p), e) =
 
 -- ---- all levels
 
--- what the head of a loop begins with, as an expression and as a target
+record Sounds (n : ℕ) : Type 0 where
+  exprs : (class : Class) (s : State) → Meets (λ x t. SoundTree (ReadsClass n class) s x t) (expr n class s)
+  covers : (s : State) → Meets (λ v t. SoundCover n s v t) (cover n s)
+  heads : (s : State) → Meets (λ v t. SoundHead n s v t) (head_cover n s)
+  patterns : (s : State) → Meets (λ x t. SoundTree (ReadsPat n) s x t) (pattern n s)
+  elements : (s : State) → Meets (λ x t. SoundTree (ReadsElement n) s x t) (element n s)
+  stmts : (at : Position) (s : State) → Meets (λ x t. SoundTree (λ k. ReadsStmt n k at) s x t) (stmt n at s)
+
+module _ (n : ℕ) (b : Sounds n) where
+  -- what the head of a loop begins with, as an expression and as a target
+  openings : (s : State) → Meets (λ v t. SoundAs (ReadsClass n) (ReadsTarget n) s v t) (head_cover n s)
+  openings s = meets_as (head_cover n s) (b.heads s) (λ v t p. sound_as s t refl refl refl (λ r. record { plain = r.plain; target = r.target }) p)
+
+  params : (s : State) → Meets (λ ps t. SoundParams n s ps t) (reader.parameters n s)
+  params = patterns.parameter_list_sound n (expr n) (cover n) (pattern n) (element n) b.exprs b.covers b.patterns b.elements
+
+  -- a function that is an expression is one of the whole language
+  functions : (s : State) → kind_at s.at ≡ kind.Function → Meets (λ x t. SoundTree (FunctionRead n) s x t) (function n s)
+  functions s e = meets_as (function n s) (function_expr_sound (ReadsStmt n) (ReadsParams n) (stmt n nested_item) (b.stmts nested_item) (reader.parameters n) params (λ k ps c d r. r.0.opens) s e)
+      (λ x t p. sound_as s t refl refl refl (λ r. (function_widens n s.code x s.at t.at r, function_supported n s.code x s.at t.at r, ap is_callee r.is)) p)
+
+all_sound : (n : ℕ) → Sounds n
+unfolding expr cover head_cover pattern element stmt
+all_sound zero = record {
+  exprs = λ class s. too_deep_meets _ s;
+  covers = λ s. too_deep_meets _ s;
+  heads = λ s. too_deep_meets _ s;
+  patterns = λ s. too_deep_meets _ s;
+  elements = λ s. too_deep_meets _ s;
+  stmts = λ at s. too_deep_meets _ s;
+}
+all_sound (suc n) = let b = all_sound n in record {
+  exprs = expressions.level_sound n (expr n) (cover n) b.exprs b.covers (function n) (functions n b);
+  covers = expressions.cover_expr_sound n (expr n) (cover n) b.exprs b.covers (function n) (functions n b);
+  heads = head_expr_sound n (expr n) (cover n) b.exprs b.covers (function n) (functions n b);
+  patterns = patterns.pattern_level_sound n (expr n) (cover n) (pattern n) (element n) b.exprs b.covers b.patterns b.elements;
+  elements = patterns.element_level_sound n (expr n) (cover n) (pattern n) (element n) b.exprs b.covers b.patterns b.elements;
+  stmts = level_sound (ReadsStmt n) (ReadsClass n) (ReadsPat n) (ReadsTarget n) (ReadsParams n) (stmt n) (expr n) (pattern n) (head_cover n) (reader.parameters n) b.stmts b.exprs b.patterns (openings n b) (params n b)
+      (λ k x c d h r. import_unnoted n k x c d r h);
+}
+
+-- an expression of a class is in the relation of the whole language within as many levels
+pub expr_sound : (n : ℕ) (class : Class) (s : State) → Meets (λ x t. SoundTree (ReadsClass n class) s x t) (expr n class s)
+expr_sound n = (all_sound n).exprs
+
+-- what may still become a pattern is an expression or a pattern within as many, and what a head begins with an expression or a target
+pub cover_sound : (n : ℕ) (s : State) → Meets (λ v t. SoundCover n s v t) (cover n s)
+cover_sound n = (all_sound n).covers
+
+pub head_cover_sound : (n : ℕ) (s : State) → Meets (λ v t. SoundHead n s v t) (head_cover n s)
+head_cover_sound n = (all_sound n).heads
+
 opens_sound : (n : ℕ) (s : State) → Meets (λ v t. SoundAs (ReadsClass n) (ReadsTarget n) s v t) (head_cover n s)
-opens_sound n s = meets_as (head_cover n s) (heads.head_sound n s) (λ v t p. sound_as s t refl refl refl (λ r. record { plain = r.plain; target = r.target }) p)
+opens_sound n = openings n (all_sound n)
+
+-- so is a binding pattern, and one with its default, if one stands there
+pub pattern_sound : (n : ℕ) (s : State) → Meets (λ x t. SoundTree (ReadsPat n) s x t) (pattern n s)
+pattern_sound n = (all_sound n).patterns
+
+pub element_sound : (n : ℕ) (s : State) → Meets (λ x t. SoundTree (ReadsElement n) s x t) (element n s)
+element_sound n = (all_sound n).elements
+
+-- and so are the parameters of a function, and a function that is an expression
+pub parameters_sound : (n : ℕ) (s : State) → Meets (λ ps t. SoundParams n s ps t) (reader.parameters n s)
+parameters_sound n = params n (all_sound n)
+
+pub function_sound : (n : ℕ) (s : State) → kind_at s.at ≡ kind.Function → Meets (λ x t. SoundTree (FunctionRead n) s x t) (function n s)
+function_sound n = functions n (all_sound n)
 
 -- a statement is in the grammar within as many levels
 pub stmt_sound : (n : ℕ) (at : Position) (s : State) → Meets (λ x t. SoundTree (λ k. ReadsStmt n k at) s x t) (stmt n at s)
-unfolding stmt
-stmt_sound zero at s = too_deep_meets _ s
-stmt_sound (suc n) at s = level_sound (ReadsStmt n) (ReadsClass n) (ReadsPat n) (ReadsTarget n) (ReadsParams n) (stmt n) (expr n) (pattern n) (head_cover n) (patterns.parameters n) (stmt_sound n) (expr_sound n) (pattern_sound n) (opens_sound n) (parameters_sound n) (λ k x c d h r. import_unnoted n k x c d r h) at s
+stmt_sound n = (all_sound n).stmts
 
 -- a first line and statements up to the end
 body_sound : (n : ℕ) (s : State) → Meets (SoundBody n s) (script_body n s)
@@ -680,13 +745,16 @@ pub cover_code : (n : ℕ) (s : State) (v : Cover) (t : State) → cover n s ≡
 cover_code n s v t e = let p : SoundCover n s v t = meant (λ y u. SoundCover n s y u) Refuses (cover n s) (Ok (v, t)) e (cover_sound n s) in p.code
 
 pub head_code_stays : (n : ℕ) (s : State) (v : Cover) (t : State) → head_cover n s ≡ Ok (v, t) → t.code ≡ s.code
-head_code_stays n s v t e = let p : SoundHead n s v t = meant (λ y u. SoundHead n s y u) Refuses (head_cover n s) (Ok (v, t)) e (heads.head_sound n s) in p.code
+head_code_stays n s v t e = let p : SoundHead n s v t = meant (λ y u. SoundHead n s y u) Refuses (head_cover n s) (Ok (v, t)) e (head_cover_sound n s) in p.code
 
 pub pattern_code : (n : ℕ) (s : State) (x : Tree) (t : State) → pattern n s ≡ Ok (x, t) → t.code ≡ s.code
 pattern_code n s x t e = let p : SoundTree (ReadsPat n) s x t = meant (λ y u. SoundTree (ReadsPat n) s y u) Refuses (pattern n s) (Ok (x, t)) e (pattern_sound n s) in p.code
 
 pub element_code : (n : ℕ) (s : State) (x : Tree) (t : State) → element n s ≡ Ok (x, t) → t.code ≡ s.code
 element_code n s x t e = let p : SoundTree (ReadsElement n) s x t = meant (λ y u. SoundTree (ReadsElement n) s y u) Refuses (element n s) (Ok (x, t)) e (element_sound n s) in p.code
+
+pub function_code : (n : ℕ) (s : State) (x : Tree) (t : State) → kind_at s.at ≡ kind.Function → function n s ≡ Ok (x, t) → t.code ≡ s.code
+function_code n s x t k e = let p : SoundTree (FunctionRead n) s x t = meant (λ y u. SoundTree (FunctionRead n) s y u) Refuses (function n s) (Ok (x, t)) e (function_sound n s k) in p.code
 
 -- a body leaves what is a module's as it was, and the labels and the mark
 module _ (n : ℕ) (s : State) (x : Tree) (t : State) (e : braced (stmt n nested_item) true s ≡ Ok (x, t)) where
@@ -705,9 +773,9 @@ module _ (n : ℕ) (s : State) (x : Tree) (t : State) (e : braced (stmt n nested
 pub clauses_code : (n : ℕ) (s : State) (xs : List Tree) (t : State) → clauses (stmt n nested_item) (expr n expression) s ≡ Ok (xs, t) → t.code ≡ s.code
 clauses_code n s xs t e =
     let noted : (k : Code) (x : Tree) (c d : Place) → begins_import_expression c ≡ true → ReadsClass n expression k x c d → statement_note x ≡ [] = λ k x c d h r. import_unnoted n k x c d r h in
-    let P : List Tree → State → Type 0 = SoundCases (ReadsStmt n) (ReadsClass n) (ReadsPat n) (ReadsTarget n) (ReadsParams n) (stmt n) (expr n) (pattern n) (head_cover n) (patterns.parameters n) (stmt_sound n) (expr_sound n) (pattern_sound n) (opens_sound n) (parameters_sound n) noted nested_item s in
+    let P : List Tree → State → Type 0 = SoundCases (ReadsStmt n) (ReadsClass n) (ReadsPat n) (ReadsTarget n) (ReadsParams n) (stmt n) (expr n) (pattern n) (head_cover n) (reader.parameters n) (stmt_sound n) (expr_sound n) (pattern_sound n) (opens_sound n) (parameters_sound n) noted nested_item s in
     let p : P xs t = meant P Refuses (clauses (stmt n nested_item) (expr n expression) s) (Ok (xs, t)) e
-    (clauses_sound (ReadsStmt n) (ReadsClass n) (ReadsPat n) (ReadsTarget n) (ReadsParams n) (stmt n) (expr n) (pattern n) (head_cover n) (patterns.parameters n) (stmt_sound n) (expr_sound n) (pattern_sound n) (opens_sound n) (parameters_sound n) noted nested_item s) in p.code
+    (clauses_sound (ReadsStmt n) (ReadsClass n) (ReadsPat n) (ReadsTarget n) (ReadsParams n) (stmt n) (expr n) (pattern n) (head_cover n) (reader.parameters n) (stmt_sound n) (expr_sound n) (pattern_sound n) (opens_sound n) (parameters_sound n) noted nested_item s) in p.code
 
 pub declarators_code : (n : ℕ) (in_head : Bool) (word : VarDeclKind) (s : State) (xs : List Tree) (t : State) → declarators (expr n) (pattern n) in_head word s ≡ Ok (xs, t) → t.code ≡ s.code
 declarators_code n in_head word s xs t e =

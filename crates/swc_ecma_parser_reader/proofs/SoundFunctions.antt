@@ -4,27 +4,29 @@ use Rattle.std.specs.Prelude.{◌||◌}
 use Rattle.swc_ecma_parser_common.specs.declared.span.Span.{Span}
 use Rattle.swc_ecma_parser_error.specs.Kind as faults
 use Rattle.swc_ecma_parser_token.specs.declared.kind.TokenKind.TheVariants as kind
+use Rattle.swc_ecma_parser_token.specs.declared.token.Token.TheVariants as token
+use Rattle.swc_ecma_parser_token.specs.declared.token.Word.{Word}
 use Rattle.swc_ecma_parser_token.specs.Text.{word_text}
 use Rattle.swc_ecma_parser_input.specs.Place.{Place, after}
 use Rattle.swc_ecma_parser_model.specs.Tree as tree
 use Rattle.swc_ecma_parser_model.specs.Tree.{Tree, Text, listed, trees}
-use Rattle.swc_ecma_parser_model.specs.Forms.{has_plain_params}
+use Rattle.swc_ecma_parser_model.specs.Forms.{has_plain_params, span_of}
 use Rattle.swc_ecma_parser_grammar.specs.declared.position.Position.{Position}
 use Rattle.swc_ecma_parser_grammar.specs.Looks.{kind_at, span_at, spanned}
-use Rattle.swc_ecma_parser_grammar.specs.Names.{Code}
+use Rattle.swc_ecma_parser_grammar.specs.Names.{Code, is_name, name_at}
 use Rattle.swc_ecma_parser_grammar.specs.Own.{misplaced_directive, first_use_strict}
 use Rattle.swc_ecma_parser_grammar.specs.Parameters.{parameter, parameters}
-use Rattle.swc_ecma_parser_grammar.specs.Reads.{nested_item, ReadsItems, ReadsBraced, ReadsFunction}
-use Rattle.swc_ecma_parser_grammar.specs.language.Contexts.{in_parameters, in_body}
+use Rattle.swc_ecma_parser_grammar.specs.Reads.{nested_item, ReadsToken, ReadsItems, ReadsBraced, ReadsFunction, ReadsFunctionExpr, OwnNameRule, no_own_name_rule, own_name_rule}
+use Rattle.swc_ecma_parser_grammar.specs.language.Contexts.{named_by, in_parameters, in_body}
 use Rattle.swc_ecma_parser_grammar.specs.Walk as walks
 use Rattle.swc_ecma_parser_grammar.specs.Walk.{Env, walk, env_of}
 use Rattle.swc_ecma_parser_reader.specs.Notes.{Notes, ◌⊕◌, notes_of, all_notes_of}
 use Rattle.swc_ecma_parser_reader.specs.State.{State, Reader, moved, coded, unlabelled, relabelled, found_as, enclosed, within, expect, name, noted, fault_at}
-use Rattle.swc_ecma_parser_reader.specs.Reader.{closes, close, items, block_from, braced, misdirected, function_body, function_parts, function_decl, function_stmt}
+use Rattle.swc_ecma_parser_reader.specs.Reader.{closes, close, items, block_from, braced, misdirected, function_body, function_parts, function_decl, function_stmt, named, own_name, function_expr}
 use Rattle.swc_ecma_parser_reader.proofs.Notes.{or_nil, notes_nil}
 use Rattle.swc_ecma_parser_reader.proofs.Meets.{Meets, meets_then, meets_if}
 use Rattle.swc_ecma_parser_reader.proofs.Errors.{is_error, fault_here}
-use Rattle.swc_ecma_parser_reader.proofs.Between.{Sound, SoundTree, same, sound_then, sound_more, sound_as, sound_after, sound_under, sound_enclosed, sound_noted, within_sound}
+use Rattle.swc_ecma_parser_reader.proofs.Between.{Sound, SoundTree, same, nil-split, sound_then, sound_more, sound_here, sound_as, sound_after, sound_clean, sound_under, sound_enclosed, sound_noted, within_sound}
 use Rattle.swc_ecma_parser_reader.proofs.expressions.SoundSteps.{meets_as, name_sound, Takes, expect_sound, FreeWord}
 use Rattle.swc_ecma_parser_reader.proofs.SoundParts.{code_after, code_setting, items_sound, close_sound, SoundOwn, misdirected_sound}
 
@@ -154,6 +156,52 @@ module _ (Stmt : Code → Position → Tree → Place → Place → Type 0) (Par
         reads_body = b;
         is = ap (λ v. tree.fn_decl (tree.ident i.span v) x) w.text ∙ ap (tree.fn_decl (tree.ident i.span (word_text w.word))) z;
       }) (sound_then p q)))
+
+  -- the name of a function that is an expression
+  Named : Code → Tree → Place → Place → Type 0
+  Named k x c d = (w : Word) × (sp : Span) × ReadsToken (token.Word w) sp c d × (is_name k.flags (word_text w) ≡ true) × (x ≡ tree.ident sp (word_text w))
+
+  named_sound : (s : State) → Meets (λ x t. SoundTree Named s x t) (named s)
+  unfolding named Named
+  named_sound s = meets_then _ (name faults.ExpectedIdent s) _ (name_sound faults.ExpectedIdent s) (λ i t p.
+      sound_as s t refl refl refl (λ w. (w.word, i.span, w.token, w.free, ap (tree.ident i.span) w.text)) p)
+
+  -- it is one before parameters
+  OwnName : Code → Tree → Place → Place → Type 0
+  OwnName k x c d = kind_at d ≡ kind.LParen → OwnNameRule k x c d
+
+  own_name_sound : (s : State) → Meets (λ x t. SoundTree OwnName s x t) (own_name s)
+  unfolding own_name Named OwnName
+  own_name_sound s = meets_if _ (name_at (named_by s.code false false).flags s.at) _ _
+      (λ _. meets_as (within (λ k. named_by k false false) named s)
+      (within_sound (λ x k l. walk (env_of k l) x) notes_of (λ x k. Named k x) (λ k. named_by k false false) (λ k. refl) named s (named_sound (coded (named_by s.code false false) s)))
+      (λ x t p. sound_as s t refl refl refl (λ (w, sp, r, i, e) _. own_name_rule w sp r i e) p))
+      (λ _. sound_here s (λ l. no_own_name_rule l refl refl))
+
+  module _ (opens : (k : Code) (ps : List Tree) (c d : Place) → Params k ps c d → kind_at c ≡ kind.LParen) where
+    -- what its walk tells of a directive that comes too late
+    untold : (env : Env) (s : Span) (i x : Tree) (ps : List Tree) (body : Tree) → x ≡ tree.function s (listed []) (parameters ps) body false false → walk env i ++ walk env x ≡ []
+        → misplaced_directive (has_plain_params (parameters ps)) body ≡ []
+    untold env s i x ps body e h = (nil-split (walk (walks.in_params env) (parameters ps) ++ walks.walk_body (walks.in_body env) body) (misplaced_directive (has_plain_params (parameters ps)) body)
+        (sym (ap (walk env) e) ∙ (nil-split (walk env i) (walk env x) h).1)).1
+
+    pub function_expr_sound : (s : State) → kind_at s.at ≡ kind.Function → Meets (λ x t. SoundTree (λ k. ReadsFunctionExpr Stmt Params k) s x t) (function_expr inner params s)
+    unfolding function_expr spanned Parts OwnName
+    function_expr_sound s e = meets_then _ (own_name (moved s)) _ (own_name_sound (moved s)) (λ i m p.
+        meets_then _ (function_parts inner params (span_at s.at) m) _ (function_parts_sound (span_at s.at) m) (λ x t q.
+        sound_after s t e refl refl refl (λ ((j, w, (ps, body, n, a, b, z)), (l, h)). record {
+          name = i;
+          patterns = ps;
+          body = body;
+          behind_name = j;
+          middle = n;
+          is_function = e;
+          reads_name = w (opens (in_parameters s.code false false) ps j n a);
+          reads_parameters = a;
+          reads_body = b;
+          directs = untold (env_of s.code l) _ i x ps body z h;
+          is = ap (λ v. tree.fn_expr (span_of v) i v) z;
+        }) (sound_clean (moved s) t (sound_then p q))))
 
   -- where no declaration is read the fault of its word is no fault of the table
   pub function_stmt_sound : (at : Position) (s : State) → kind_at s.at ≡ kind.Function

@@ -19,8 +19,8 @@ use Rattle.swc_ecma_parser_grammar.specs.Walk.{walk, env_of}
 use Rattle.swc_ecma_parser_grammar.specs.language.Programs.{at_top, entry_code, ReadsEntry}
 use Rattle.swc_ecma_parser_grammar.proofs.StatementEntries.{ReadsStatement, statement_widens, statement_narrows}
 use Rattle.swc_ecma_parser_reader.specs.State.{State, Outcome, wanted, too_deep}
-use Rattle.swc_ecma_parser_reader.specs.Expressions.{literal, marked_primary, primary, left_head, left, postfix, unary_expr, binary_expr, operators_expr, done_expr, cover_expr, assignment_expr, expression_expr, expr_level, expr}
-use Rattle.swc_ecma_parser_reader.specs.Reader.{expr_stmt, expr_stmt_at, begins_label, other_stmt, stmt_level, stmt}
+use Rattle.swc_ecma_parser_reader.specs.Expressions.{literal, marked_primary, primary, left_head, left, postfix, unary_expr, binary_expr, operators_expr, done_expr, cover_expr, assignment_expr, expression_expr, expr_level}
+use Rattle.swc_ecma_parser_reader.specs.Reader.{expr_stmt, expr_stmt_at, begins_label, other_stmt, stmt_level, stmt, expr}
 use Rattle.swc_ecma_parser_reader.specs.Entry.{statement_entry, statement_walk, statement_left, SoundStatement, ReadsSupportedStatement, CompleteStatement, AnswersStatement}
 use Rattle.swc_ecma_parser_reader.specs.Limits.{has_too_deep_token, has_out_of_memory_token}
 use Rattle.swc_ecma_parser_reader.proofs.Meets.{Refuses, meant}

@@ -19,3 +19,4 @@ pub mod SoundTargets
 pub mod Stays
 pub mod Sound
 pub mod Heads
+pub mod CompleteHeads

@@ -1,6 +1,6 @@
 -- The reader of expressions, rule by rule: ECMA-262, section 13. What is read one level further in is read by a reader for each
 -- class of expressions.
-use Rattle.std.specs.Prelude.{ℕ, zero, suc, Bool, true, false, not, ◌&&◌, ◌||◌, if◌then◌else◌, nat_le, nat_eq, is_some, List, [], ◌∷◌, ◌++◌, codes, Option, Some, None, Ok}
+use Rattle.std.specs.Prelude.{ℕ, suc, Bool, true, false, not, ◌&&◌, ◌||◌, if◌then◌else◌, nat_le, nat_eq, is_some, List, [], ◌∷◌, ◌++◌, codes, Option, Some, None, Ok}
 use Rattle.swc_ecma_parser_common.specs.declared.span.Span.{Span}
 use Rattle.swc_ecma_parser_error.specs.Kind as faults
 use Rattle.swc_ecma_parser_error.specs.Kind.{Kind}
@@ -29,7 +29,7 @@ use Rattle.swc_ecma_parser_grammar.specs.Reads.{with_in}
 use Rattle.swc_ecma_parser_grammar.specs.language.Goals.{Class, expression, assignment, operator, unary, left_side, callee}
 use Rattle.swc_ecma_parser_grammar.specs.language.Operators.{unary_operator, update_operator, binary_operator, assign_operator, precedence, groups_left, is_operator, mixes, is_unary}
 use Rattle.swc_ecma_parser_grammar.specs.language.Continues.{continues_conditional}
-use Rattle.swc_ecma_parser_reader.specs.State.{State, Outcome, Reader, ◌>>=◌, ◌>>◌, pure, span_here, since, skip, moved, note_module_item, within, fault, fault_at, wanted, too_deep, reject, expect, name, Step, More, Done, loop}
+use Rattle.swc_ecma_parser_reader.specs.State.{State, Outcome, Reader, ◌>>=◌, ◌>>◌, pure, span_here, since, skip, moved, note_module_item, within, fault, fault_at, wanted, reject, expect, name, Step, More, Done, loop}
 
 -- ---- literals
 
@@ -498,21 +498,6 @@ module _ (inner : Class → Reader Tree) (cover : Reader Cover) where
     span ← since start
     pure (tree.paren span e)
 
-  unfoldable pub marked_primary : Reader Tree
-  marked_primary = λ s.
-      if sees kind.LParen s.at then paren s
-      else if sees kind.LBracket s.at then (array >>= close) s
-      else if sees kind.LBrace s.at then (object >>= close) s
-      else if sees kind.This s.at then this s
-      else wanted faults.Unexpected s
-
-  abbrev pub literal_or : Option Tree → Reader Tree
-  literal_or (Some x) = pure x
-  literal_or None = marked_primary
-
-  unfoldable pub primary : Reader Tree
-  primary = λ s. if name_at s.code.flags s.at then ident_expr s else (literal >>= literal_or) s
-
   -- ---- left-hand-side expressions: section 13.3
 
   unfoldable pub accessed : Span → Tree → Reader Tree
@@ -596,24 +581,6 @@ module _ (inner : Class → Reader Tree) (cover : Reader Cover) where
         else if sees kind.Dot s.at then (skip >> import_meta start) s
         else wanted faults.Unexpected s
 
-  -- `new` does not call what `import` calls
-  unfoldable pub left_head : Bool → Reader Tree
-  left_head calls = λ s.
-      if sees kind.Super s.at then super_head calls s
-      else if sees kind.New s.at then new_head s
-      else if calls && sees kind.Import s.at then import_head s
-      else primary s
-
-  -- with calls, or as what `new` calls
-  unfoldable pub left : Bool → Reader Tree
-  left calls = do
-    start ← span_here
-    x ← left_head calls
-    left_from calls start x
-
-  unfoldable pub left_expr : Reader Tree
-  left_expr = left true >>= closed_left
-
   -- ---- unary operators: sections 13.4 and 13.5
 
   unfoldable pub prefixed : UnaryOp → Reader Tree
@@ -632,23 +599,6 @@ module _ (inner : Class → Reader Tree) (cover : Reader Cover) where
     simple e
     span ← since start
     pure (tree.update span op true e)
-
-  unfoldable pub postfix : Reader Tree
-  postfix = do
-    start ← span_here
-    e ← left true
-    λ s. behind_operand start e (postfix_at s.at) s
-
-  abbrev pub updated : Option UpdateOp → Reader Tree
-  updated (Some op) = update_before op
-  updated None = postfix
-
-  abbrev pub unary_by : Option UnaryOp → Reader Tree
-  unary_by (Some op) = prefixed op
-  unary_by None = λ s. updated (update_operator (kind_at s.at)) s
-
-  unfoldable pub unary_expr : Reader Tree
-  unary_expr = λ s. unary_by (unary_operator (kind_at s.at)) s
 
   -- ---- binary operators: sections 13.6 to 13.13
 
@@ -669,12 +619,6 @@ module _ (inner : Class → Reader Tree) (cover : Reader Cover) where
   -- the operators that bind at least so tightly, behind an operand that was read from a place on
   unfoldable pub binary_from : ℕ → Span → Tree → Reader Tree
   binary_from n start x = loop (binary_turn n start) x
-
-  unfoldable pub binary_expr : ℕ → Reader Tree
-  binary_expr n = do
-    start ← span_here
-    x ← unary_expr
-    binary_from n start x
 
   -- ---- AssignmentExpression: sections 13.14 and 13.15
 
@@ -703,12 +647,6 @@ module _ (inner : Class → Reader Tree) (cover : Reader Cover) where
 
   unfoldable pub behind_operators : Bool → Span → Tree → Reader Tree
   behind_operators is_async start x = λ s. if sees kind.QuestionMark s.at then conditional start x s else assigned_or is_async start x (assign_operator (kind_at s.at)) s
-
-  -- operands and operators, and what stands behind them
-  unfoldable pub operators_expr : Reader Tree
-  operators_expr = λ s. (do
-    x ← binary_expr 1
-    behind_operators (begins_async_call s.at) (span_at s.at) x) s
 
   -- what goes on with an array or object that was read from a place on
   unfoldable pub postfixed : Span → Tree → Reader Tree
@@ -746,54 +684,109 @@ module _ (inner : Class → Reader Tree) (cover : Reader Cover) where
     v ← (λ s. if sees kind.LBracket s.at then array s else object s)
     behind_literal start v
 
-  unfoldable pub done_expr : Reader Cover
-  done_expr = do
-    x ← operators_expr
-    pure (done x)
+  -- ---- what may begin with a function, which a reader of its own reads
 
-  unfoldable pub cover_expr : Reader Cover
-  cover_expr = λ s. if sees kind.LBracket s.at || sees kind.LBrace s.at then open_literal s else done_expr s
+  module _ (function : Reader Tree) where
+    unfoldable pub marked_primary : Reader Tree
+    marked_primary = λ s.
+        if sees kind.LParen s.at then paren s
+        else if sees kind.LBracket s.at then (array >>= close) s
+        else if sees kind.LBrace s.at then (object >>= close) s
+        else if sees kind.This s.at then this s
+        else if sees kind.Function s.at then function s
+        else wanted faults.Unexpected s
 
-  unfoldable pub assignment_expr : Reader Tree
-  assignment_expr = cover_expr >>= close
+    abbrev pub literal_or : Option Tree → Reader Tree
+    literal_or (Some x) = pure x
+    literal_or None = marked_primary
 
-  -- ---- Expression: section 13.16
+    unfoldable pub primary : Reader Tree
+    primary = λ s. if name_at s.code.flags s.at then ident_expr s else (literal >>= literal_or) s
 
-  unfoldable pub sequence_turn : List Tree → Reader (Step (List Tree) (List Tree))
-  sequence_turn found = do
-    skip
-    x ← assignment_expr
-    λ s. if sees kind.Comma s.at then Ok (More (found ++ x ∷ []), s) else Ok (Done (found ++ x ∷ []), s)
+    -- `new` does not call what `import` calls
+    unfoldable pub left_head : Bool → Reader Tree
+    left_head calls = λ s.
+        if sees kind.Super s.at then super_head calls s
+        else if sees kind.New s.at then new_head s
+        else if calls && sees kind.Import s.at then import_head s
+        else primary s
 
-  unfoldable pub sequence_from : Span → Tree → Reader Tree
-  sequence_from start x = do
-    xs ← loop sequence_turn (x ∷ [])
-    span ← since start
-    pure (tree.seq span (listed xs))
+    -- with calls, or as what `new` calls
+    unfoldable pub left : Bool → Reader Tree
+    left calls = do
+      start ← span_here
+      x ← left_head calls
+      left_from calls start x
 
-  unfoldable pub expression_expr : Reader Tree
-  expression_expr = do
-    start ← span_here
-    x ← assignment_expr
-    λ s. if sees kind.Comma s.at then sequence_from start x s else Ok (x, s)
+    unfoldable pub left_expr : Reader Tree
+    left_expr = left true >>= closed_left
 
-  -- ---- an expression of a class
+    unfoldable pub postfix : Reader Tree
+    postfix = do
+      start ← span_here
+      e ← left true
+      λ s. behind_operand start e (postfix_at s.at) s
 
-  unfoldable pub expr_level : Class → Reader Tree
-  expr_level expression = expression_expr
-  expr_level assignment = assignment_expr
-  expr_level (operator n) = binary_expr n
-  expr_level unary = unary_expr
-  expr_level left_side = left_expr
-  expr_level callee = left false
+    abbrev pub updated : Option UpdateOp → Reader Tree
+    updated (Some op) = update_before op
+    updated None = postfix
 
-unfoldable mutual
-  -- an expression of a class in so many levels
-  pub expr : ℕ → Class → Reader Tree
-  expr zero class = too_deep
-  expr (suc n) class = expr_level (expr n) (cover n) class
+    abbrev pub unary_by : Option UnaryOp → Reader Tree
+    unary_by (Some op) = prefixed op
+    unary_by None = λ s. updated (update_operator (kind_at s.at)) s
 
-  -- an assignment expression that may still become a pattern
-  pub cover : ℕ → Reader Cover
-  cover zero = too_deep
-  cover (suc n) = cover_expr (expr n) (cover n)
+    unfoldable pub unary_expr : Reader Tree
+    unary_expr = λ s. unary_by (unary_operator (kind_at s.at)) s
+
+    unfoldable pub binary_expr : ℕ → Reader Tree
+    binary_expr n = do
+      start ← span_here
+      x ← unary_expr
+      binary_from n start x
+
+    -- operands and operators, and what stands behind them
+    unfoldable pub operators_expr : Reader Tree
+    operators_expr = λ s. (do
+      x ← binary_expr 1
+      behind_operators (begins_async_call s.at) (span_at s.at) x) s
+
+    unfoldable pub done_expr : Reader Cover
+    done_expr = do
+      x ← operators_expr
+      pure (done x)
+
+    unfoldable pub cover_expr : Reader Cover
+    cover_expr = λ s. if sees kind.LBracket s.at || sees kind.LBrace s.at then open_literal s else done_expr s
+
+    unfoldable pub assignment_expr : Reader Tree
+    assignment_expr = cover_expr >>= close
+
+    -- ---- Expression: section 13.16
+
+    unfoldable pub sequence_turn : List Tree → Reader (Step (List Tree) (List Tree))
+    sequence_turn found = do
+      skip
+      x ← assignment_expr
+      λ s. if sees kind.Comma s.at then Ok (More (found ++ x ∷ []), s) else Ok (Done (found ++ x ∷ []), s)
+
+    unfoldable pub sequence_from : Span → Tree → Reader Tree
+    sequence_from start x = do
+      xs ← loop sequence_turn (x ∷ [])
+      span ← since start
+      pure (tree.seq span (listed xs))
+
+    unfoldable pub expression_expr : Reader Tree
+    expression_expr = do
+      start ← span_here
+      x ← assignment_expr
+      λ s. if sees kind.Comma s.at then sequence_from start x s else Ok (x, s)
+
+    -- ---- an expression of a class
+
+    unfoldable pub expr_level : Class → Reader Tree
+    expr_level expression = expression_expr
+    expr_level assignment = assignment_expr
+    expr_level (operator n) = binary_expr n
+    expr_level unary = unary_expr
+    expr_level left_side = left_expr
+    expr_level callee = left false

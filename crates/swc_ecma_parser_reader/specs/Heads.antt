@@ -1,28 +1,23 @@
 -- The reader of what the head of a loop begins with: an expression that may still become a target, ECMA-262, section 14.7.5.
-use Rattle.std.specs.Prelude.{ℕ, zero, suc, if◌then◌else◌, Ok}
+use Rattle.std.specs.Prelude.{if◌then◌else◌, Ok}
 use Rattle.swc_ecma_parser_common.specs.declared.span.Span.{Span}
 use Rattle.swc_ecma_parser_token.specs.declared.kind.TokenKind.TheVariants as kind
 use Rattle.swc_ecma_parser_model.specs.Tree.{Tree}
 use Rattle.swc_ecma_parser_grammar.specs.Looks.{sees}
 use Rattle.swc_ecma_parser_grammar.specs.language.Goals.{Class}
-use Rattle.swc_ecma_parser_reader.specs.State.{Reader, ◌>>=◌, pure, span_here, too_deep}
-use Rattle.swc_ecma_parser_reader.specs.Expressions.{Cover, done, close, cover_expr, sequence_from, expr, cover}
+use Rattle.swc_ecma_parser_reader.specs.State.{Reader, ◌>>=◌, pure, span_here}
+use Rattle.swc_ecma_parser_reader.specs.Expressions.{Cover, done, close, cover_expr, sequence_from}
 
-module _ (inner : Class → Reader Tree) (covers : Reader Cover) where
+module _ (inner : Class → Reader Tree) (covers : Reader Cover) (function : Reader Tree) where
   -- a sequence, behind its first part
   unfoldable pub sequenced : Span → Cover → Reader Cover
   sequenced start v = do
     x ← close v
-    y ← sequence_from inner covers start x
+    y ← sequence_from inner covers function start x
     pure (done y)
 
   unfoldable pub head_expr : Reader Cover
   head_expr = do
     start ← span_here
-    v ← cover_expr inner covers
+    v ← cover_expr inner covers function
     λ s. if sees kind.Comma s.at then sequenced start v s else Ok (v, s)
-
--- in so many levels
-unfoldable pub head_cover : ℕ → Reader Cover
-head_cover zero = too_deep
-head_cover (suc n) = head_expr (expr n) (cover n)

@@ -1,6 +1,6 @@
 -- The reader of binding patterns, rule by rule: ECMA-262, section 14.3.3. They are read from the tokens, with a default where one
 -- stands. What is read one level further in is read by readers of expressions, of patterns and of patterns with their defaults.
-use Rattle.std.specs.Prelude.{ℕ, zero, suc, ◌||◌, if◌then◌else◌, List, [], ◌∷◌, ◌++◌, Ok}
+use Rattle.std.specs.Prelude.{◌||◌, if◌then◌else◌, List, [], ◌∷◌, ◌++◌, Ok}
 use Rattle.swc_ecma_parser_common.specs.declared.span.Span.{Span}
 use Rattle.swc_ecma_parser_error.specs.Kind as faults
 use Rattle.swc_ecma_parser_token.specs.declared.kind.TokenKind.TheVariants as kind
@@ -10,8 +10,8 @@ use Rattle.swc_ecma_parser_grammar.specs.Looks.{sees}
 use Rattle.swc_ecma_parser_grammar.specs.Names.{is_name}
 use Rattle.swc_ecma_parser_grammar.specs.Reads.{with_in}
 use Rattle.swc_ecma_parser_grammar.specs.language.Goals.{Class, assignment}
-use Rattle.swc_ecma_parser_reader.specs.State.{Reader, ◌>>=◌, ◌>>◌, pure, span_here, since, skip, moved, within, fault_at, wanted, too_deep, reject, expect, name, Step, More, Done, loop}
-use Rattle.swc_ecma_parser_reader.specs.Expressions.{Cover, inside, key, expr, cover}
+use Rattle.swc_ecma_parser_reader.specs.State.{Reader, ◌>>=◌, ◌>>◌, pure, span_here, since, skip, moved, within, fault_at, wanted, reject, expect, name, Step, More, Done, loop}
+use Rattle.swc_ecma_parser_reader.specs.Expressions.{Cover, inside, key}
 
 -- a name
 unfoldable pub binding : Reader Tree
@@ -201,18 +201,3 @@ module _ (inner : Class → Reader Tree) (cover : Reader Cover) (pattern element
     start ← span_here
     p ← pattern_level
     λ s. if sees kind.Assign s.at then initialized start p s else Ok (p, s)
-
-unfoldable mutual
-  -- a pattern without default in so many levels
-  pub pattern : ℕ → Reader Tree
-  pattern zero = too_deep
-  pattern (suc n) = pattern_level (expr n) (cover n) (pattern n) (element n)
-
-  -- a pattern with its default, if one stands there
-  pub element : ℕ → Reader Tree
-  element zero = too_deep
-  element (suc n) = element_level (expr n) (cover n) (pattern n) (element n)
-
--- the parameters of a function, each with its default, if one stands there, in so many levels
-unfoldable pub parameters : ℕ → Reader (List Tree)
-parameters n = parameter_list (expr n) (cover n) (pattern n) (element n)

@@ -19,19 +19,18 @@ use Rattle.swc_ecma_parser_grammar.specs.Looks.{kind_at, breaks_at, sees, span_a
 use Rattle.swc_ecma_parser_grammar.specs.Names.{Code, name_at}
 use Rattle.swc_ecma_parser_grammar.specs.Follows.{word_at, may_begin_expression_statement, begins_import_expression, is_let_declaration}
 use Rattle.swc_ecma_parser_grammar.specs.Variables.{is_const, needs_no_initializer}
-use Rattle.swc_ecma_parser_grammar.specs.Parameters.{parameters}
+use Rattle.swc_ecma_parser_grammar.specs.Parameters as formal
 use Rattle.swc_ecma_parser_grammar.specs.Reads.{with_in, head_code, directed, nested_item, top_item}
 use Rattle.swc_ecma_parser_grammar.specs.Ends.{ends_at}
 use Rattle.swc_ecma_parser_grammar.specs.Own.{break_faults, continue_faults, return_faults, labelled_function, duplicates, misplaced_directive, head_faults}
 use Rattle.swc_ecma_parser_grammar.specs.Entries.{script_code}
-use Rattle.swc_ecma_parser_grammar.specs.language.Contexts.{in_parameters, in_body, in_loop, in_breakable, in_with, without_in}
+use Rattle.swc_ecma_parser_grammar.specs.language.Contexts.{named_by, in_parameters, in_body, in_loop, in_breakable, in_with, without_in}
 use Rattle.swc_ecma_parser_grammar.specs.language.Goals.{Class, expression, assignment}
 use Rattle.swc_ecma_parser_grammar.specs.language.Items.{sub_statement, labelled_item}
 use Rattle.swc_ecma_parser_reader.specs.Expressions as exprs
-use Rattle.swc_ecma_parser_reader.specs.Expressions.{Cover, expr}
-use Rattle.swc_ecma_parser_reader.specs.Heads.{head_cover}
-use Rattle.swc_ecma_parser_reader.specs.Patterns as patterns
-use Rattle.swc_ecma_parser_reader.specs.Patterns.{pattern}
+use Rattle.swc_ecma_parser_reader.specs.Expressions.{Cover}
+use Rattle.swc_ecma_parser_reader.specs.Heads.{head_expr}
+use Rattle.swc_ecma_parser_reader.specs.Patterns.{pattern_level, element_level, parameter_list}
 use Rattle.swc_ecma_parser_reader.specs.State.{Outcome, Reader, ◌>>=◌, ◌>>◌, pure, here, span_here, since, skip, moved, spanned_from, coded, flagged, within, below_label, enclosed, fault, fault_at, end_of, module_fault, wanted, too_deep, refuse, reject, refused, labelled, name, expect, end, stuck, Step, More, Done, loop}
 
 -- ---- what is told
@@ -636,6 +635,15 @@ module _ (stmt : Reader Tree) where
 unfoldable pub misdirected : (params body : Tree) → Reader (Unit {0})
 misdirected params body = told (misplaced_directive (has_plain_params params) body)
 
+unfoldable pub named : Reader Tree
+named = do
+  i ← name faults.ExpectedIdent
+  pure (tree.ident i.span i.sym)
+
+-- the name of a function that is an expression, which is read in the function's own code, or none
+unfoldable pub own_name : Reader Tree
+own_name = λ s. if name_at (named_by s.code false false).flags s.at then within (λ k. named_by k false false) named s else Ok (tree.absent, s)
+
 module _ (stmt : Reader Tree) (params : Reader (List Tree)) where
   -- a body, which has labels and an entry of its own
   unfoldable pub function_body : Reader Tree
@@ -647,8 +655,8 @@ module _ (stmt : Reader Tree) (params : Reader (List Tree)) where
     ps ← within (λ k. in_parameters k false false) params
     body ← function_body
     span ← since start
-    misdirected (parameters ps) body
-    pure (tree.function span (listed []) (parameters ps) body false false)
+    misdirected (formal.parameters ps) body
+    pure (tree.function span (listed []) (formal.parameters ps) body false false)
 
   unfoldable pub function_decl : Reader Tree
   function_decl = do
@@ -657,6 +665,15 @@ module _ (stmt : Reader Tree) (params : Reader (List Tree)) where
     i ← name faults.ExpectedIdent
     fn ← function_parts start
     pure (tree.fn_decl (tree.ident i.span i.sym) fn)
+
+  -- a function that is an expression, with a name or without one
+  unfoldable pub function_expr : Reader Tree
+  function_expr = do
+    start ← span_here
+    skip
+    i ← own_name
+    fn ← function_parts start
+    pure (tree.fn_expr (span_of fn) i fn)
 
   -- where no declaration is read, its word is a fault
   unfoldable pub function_stmt : Position → Reader Tree
@@ -698,10 +715,46 @@ module _ (stmt : Position → Reader Tree) (expr : Class → Reader Tree) (pat :
   unfoldable pub stmt_level : Position → Reader Tree
   stmt_level at = λ s. stmt_by at (kind_at s.at) s
 
--- a statement in so many levels
-unfoldable pub stmt : ℕ → Position → Reader Tree
-stmt zero at = too_deep
-stmt (suc n) at = stmt_level (stmt n) (expr n) (pattern n) (head_cover n) (patterns.parameters n) at
+-- ---- in so many levels: the body of a function that is an expression stands at the level of the expressions in what it is part of
+
+unfoldable mutual
+  -- an expression of a class
+  pub expr : ℕ → Class → Reader Tree
+  expr zero class = too_deep
+  expr (suc n) class = exprs.expr_level (expr n) (cover n) (function_expr (stmt n nested_item) (parameter_list (expr n) (cover n) (pattern n) (element n))) class
+
+  -- an assignment expression that may still become a pattern
+  pub cover : ℕ → Reader Cover
+  cover zero = too_deep
+  cover (suc n) = exprs.cover_expr (expr n) (cover n) (function_expr (stmt n nested_item) (parameter_list (expr n) (cover n) (pattern n) (element n)))
+
+  -- what the head of a loop begins with
+  pub head_cover : ℕ → Reader Cover
+  head_cover zero = too_deep
+  head_cover (suc n) = head_expr (expr n) (cover n) (function_expr (stmt n nested_item) (parameter_list (expr n) (cover n) (pattern n) (element n)))
+
+  -- a pattern without default
+  pub pattern : ℕ → Reader Tree
+  pattern zero = too_deep
+  pattern (suc n) = pattern_level (expr n) (cover n) (pattern n) (element n)
+
+  -- a pattern with its default, if one stands there
+  pub element : ℕ → Reader Tree
+  element zero = too_deep
+  element (suc n) = element_level (expr n) (cover n) (pattern n) (element n)
+
+  -- a statement
+  pub stmt : ℕ → Position → Reader Tree
+  stmt zero at = too_deep
+  stmt (suc n) at = stmt_level (stmt n) (expr n) (pattern n) (head_cover n) (parameter_list (expr n) (cover n) (pattern n) (element n)) at
+
+-- the parameters of a function, each with its default, if one stands there
+abbrev pub parameters : ℕ → Reader (List Tree)
+parameters n = parameter_list (expr n) (cover n) (pattern n) (element n)
+
+-- a function that is an expression
+abbrev pub function : ℕ → Reader Tree
+function n = function_expr (stmt n nested_item) (parameters n)
 
 -- ---- a script
 

@@ -5,7 +5,6 @@ ghost use Rattle.swc_ecma_parser_error.specs.Kind as kinds;
 ghost use Rattle.swc_ecma_parser_error.specs.Kind.{fault_of, kind_of};
 ghost use Rattle.swc_ecma_parser_grammar.specs.language.Goals.{expression};
 ghost use Rattle.swc_ecma_parser_inner.specs.Nests.{Nests};
-ghost use Rattle.swc_ecma_parser_reader.specs.Expressions as exprs;
 ghost use Rattle.swc_ecma_parser_reader.specs.Reader as rules;
 ghost use Rattle.swc_ecma_parser_reader.specs.State.{Gives, GivesAs};
 ghost use Rattle.swc_ecma_parser_trees.specs.Parts.{part_of};
@@ -58,7 +57,7 @@ fn operand<
     N: Fn(&MakerOf<T>, &mut P, usize, Part) -> PResult<T::Pat>,
 >(g: &Grammar<S, E, N>, t: &MakerOf<T>, p: &mut P) -> PResult<Option<T::Expr>>
     requires { Nests P.seen T.expr_of T.pat_of T.stmt_of g.now.depth (S.pre g.now.stmt) (S.post g.now.stmt) (E.pre g.now.expr) (E.post g.now.expr) (N.pre g.now.pat) (N.post g.now.pat) }
-    ensures { GivesAs (part_of T.expr_of) (rules.operand (exprs.expr g.now.depth expression) (P.seen p.old)) result (P.seen p.new) }
+    ensures { GivesAs (part_of T.expr_of) (rules.operand (rules.expr g.now.depth expression) (P.seen p.old)) result (P.seen p.new) }
 {
     if ends_at(p) {
         return Ok(None);
@@ -77,7 +76,7 @@ fn returned<
     N: Fn(&MakerOf<T>, &mut P, usize, Part) -> PResult<T::Pat>,
 >(g: &Grammar<S, E, N>, t: &MakerOf<T>, p: &mut P, start: Span) -> PResult<T::Stmt>
     requires { Nests P.seen T.expr_of T.pat_of T.stmt_of g.now.depth (S.pre g.now.stmt) (S.post g.now.stmt) (E.pre g.now.expr) (E.post g.now.expr) (N.pre g.now.pat) (N.post g.now.pat) }
-    ensures { GivesAs T.stmt_of (rules.returned (exprs.expr g.now.depth expression) start (P.seen p.old)) result (P.seen p.new) }
+    ensures { GivesAs T.stmt_of (rules.returned (rules.expr g.now.depth expression) start (P.seen p.old)) result (P.seen p.new) }
 {
     let arg = operand(g, t, p)?;
     p.end(Wanted::Token(";"))?;
@@ -95,7 +94,7 @@ pub fn return_stmt<
     N: Fn(&MakerOf<T>, &mut P, usize, Part) -> PResult<T::Pat>,
 >(g: &Grammar<S, E, N>, t: &MakerOf<T>, p: &mut P) -> PResult<T::Stmt>
     requires { Nests P.seen T.expr_of T.pat_of T.stmt_of g.now.depth (S.pre g.now.stmt) (S.post g.now.stmt) (E.pre g.now.expr) (E.post g.now.expr) (N.pre g.now.pat) (N.post g.now.pat) }
-    ensures { GivesAs T.stmt_of (rules.return_stmt (exprs.expr g.now.depth expression) (P.seen p.old)) result (P.seen p.new) }
+    ensures { GivesAs T.stmt_of (rules.return_stmt (rules.expr g.now.depth expression) (P.seen p.old)) result (P.seen p.new) }
 {
     let start = p.span();
     p.skip()?;
@@ -118,7 +117,7 @@ pub fn throw<
     N: Fn(&MakerOf<T>, &mut P, usize, Part) -> PResult<T::Pat>,
 >(g: &Grammar<S, E, N>, t: &MakerOf<T>, p: &mut P) -> PResult<T::Stmt>
     requires { Nests P.seen T.expr_of T.pat_of T.stmt_of g.now.depth (S.pre g.now.stmt) (S.post g.now.stmt) (E.pre g.now.expr) (E.post g.now.expr) (N.pre g.now.pat) (N.post g.now.pat) }
-    ensures { GivesAs T.stmt_of (rules.throw (exprs.expr g.now.depth expression) (P.seen p.old)) result (P.seen p.new) }
+    ensures { GivesAs T.stmt_of (rules.throw (rules.expr g.now.depth expression) (P.seen p.old)) result (P.seen p.new) }
 {
     let start = p.span();
     p.skip()?;

@@ -3,9 +3,6 @@
 ghost use Rattle.std.specs.Prelude.{◌≡◌, ◌&&◌, map};
 ghost use Rattle.swc_ecma_parser_grammar.specs.Variables as variables;
 ghost use Rattle.swc_ecma_parser_inner.specs.Nests.{Nests};
-ghost use Rattle.swc_ecma_parser_reader.specs.Expressions as exprs;
-ghost use Rattle.swc_ecma_parser_reader.specs.Heads as heads;
-ghost use Rattle.swc_ecma_parser_reader.specs.Patterns as patterns;
 ghost use Rattle.swc_ecma_parser_reader.specs.Reader as rules;
 ghost use Rattle.swc_ecma_parser_reader.specs.State.{GivesAs};
 
@@ -56,7 +53,7 @@ fn declarator<
     word: VarDeclKind,
 ) -> PResult<T::Declarator>
     requires { Nests P.seen T.expr_of T.pat_of T.stmt_of g.now.depth (S.pre g.now.stmt) (S.post g.now.stmt) (E.pre g.now.expr) (E.post g.now.expr) (N.pre g.now.pat) (N.post g.now.pat) }
-    ensures { GivesAs T.declarator_of (rules.declarator (exprs.expr g.now.depth) (patterns.pattern g.now.depth) in_head word (P.seen p.old)) result (P.seen p.new) }
+    ensures { GivesAs T.declarator_of (rules.declarator (rules.expr g.now.depth) (rules.pattern g.now.depth) in_head word (P.seen p.old)) result (P.seen p.new) }
 {
     let start = p.span();
     let name = inner_pat(g, t, p, Part::Pattern)?;
@@ -92,7 +89,7 @@ pub fn declarators<
     word: VarDeclKind,
 ) -> PResult<Vec<T::Declarator>>
     requires { Nests P.seen T.expr_of T.pat_of T.stmt_of g.now.depth (S.pre g.now.stmt) (S.post g.now.stmt) (E.pre g.now.expr) (E.post g.now.expr) (N.pre g.now.pat) (N.post g.now.pat) }
-    ensures { GivesAs (λ found. map T.declarator_of found.items) (rules.declarators (exprs.expr g.now.depth) (patterns.pattern g.now.depth) in_head word (P.seen p.old)) result (P.seen p.new) }
+    ensures { GivesAs (λ found. map T.declarator_of found.items) (rules.declarators (rules.expr g.now.depth) (rules.pattern g.now.depth) in_head word (P.seen p.old)) result (P.seen p.new) }
 {
     let mut found = Vec::new(t.alloc);
     'declarators: loop {
@@ -115,7 +112,7 @@ pub fn variables<
     N: Fn(&MakerOf<T>, &mut P, usize, Part) -> PResult<T::Pat>,
 >(g: &Grammar<S, E, N>, t: &MakerOf<T>, p: &mut P, word: VarDeclKind) -> PResult<T::Stmt>
     requires { Nests P.seen T.expr_of T.pat_of T.stmt_of g.now.depth (S.pre g.now.stmt) (S.post g.now.stmt) (E.pre g.now.expr) (E.post g.now.expr) (N.pre g.now.pat) (N.post g.now.pat) }
-    ensures { GivesAs T.stmt_of (rules.variables (exprs.expr g.now.depth) (patterns.pattern g.now.depth) word (P.seen p.old)) result (P.seen p.new) }
+    ensures { GivesAs T.stmt_of (rules.variables (rules.expr g.now.depth) (rules.pattern g.now.depth) word (P.seen p.old)) result (P.seen p.new) }
 {
     let start = p.span();
     p.skip()?;
@@ -138,7 +135,7 @@ pub fn const_stmt<
     N: Fn(&MakerOf<T>, &mut P, usize, Part) -> PResult<T::Pat>,
 >(g: &Grammar<S, E, N>, t: &MakerOf<T>, p: &mut P, at: Position) -> PResult<T::Stmt>
     requires { Nests P.seen T.expr_of T.pat_of T.stmt_of g.now.depth (S.pre g.now.stmt) (S.post g.now.stmt) (E.pre g.now.expr) (E.post g.now.expr) (N.pre g.now.pat) (N.post g.now.pat) }
-    ensures { GivesAs T.stmt_of (rules.const_stmt (rules.stmt g.now.depth) (exprs.expr g.now.depth) (patterns.pattern g.now.depth) (heads.head_cover g.now.depth) (patterns.parameters g.now.depth) at (P.seen p.old)) result (P.seen p.new) }
+    ensures { GivesAs T.stmt_of (rules.const_stmt (rules.stmt g.now.depth) (rules.expr g.now.depth) (rules.pattern g.now.depth) (rules.head_cover g.now.depth) (rules.parameters g.now.depth) at (P.seen p.old)) result (P.seen p.new) }
 {
     if !at.include_decl {
         return Err(p.wanted(Wanted::Expression));

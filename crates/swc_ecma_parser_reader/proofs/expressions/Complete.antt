@@ -24,7 +24,7 @@ use Rattle.swc_ecma_parser_grammar.specs.Reads.{with_in, ReadsSeparated}
 use Rattle.swc_ecma_parser_grammar.specs.Notes.{notes}
 use Rattle.swc_ecma_parser_grammar.specs.language.Noted.{has_meta}
 use Rattle.swc_ecma_parser_grammar.specs.Walk.{env_of, walk, walks}
-use Rattle.swc_ecma_parser_grammar.specs.Supported.{supported, all_supported}
+use Rattle.swc_ecma_parser_grammar.specs.Supported.{supported_in, all_supported_in}
 use Rattle.swc_ecma_parser_grammar.specs.ReadsSupported.{ReadsClass}
 use Rattle.swc_ecma_parser_grammar.specs.language.Goals.{Goal, Class, expression, assignment, operator, unary, left_side, callee, assigning, expr_goal, callee_goal, element_goal, pattern_goal}
 use Rattle.swc_ecma_parser_grammar.specs.language.Operators.{unary_operator, update_operator, binary_operator, assign_operator, precedence, groups_left, is_operator, mixes, is_unary}
@@ -40,18 +40,19 @@ use Rattle.swc_ecma_parser_grammar.proofs.Tests.{or_no, or_none, and_yes}
 use Rattle.swc_ecma_parser_grammar.proofs.language.spans.Expressions.{left_side_rule}
 use Rattle.swc_ecma_parser_reader.specs.Notes.{Notes, ◌⊕◌, notes_of, all_notes_of}
 use Rattle.swc_ecma_parser_reader.specs.State.{Scope, State, Outcome, Reader, loop}
-use Rattle.swc_ecma_parser_reader.specs.Expressions.{Cover, done, goes_on, begins_async_call, is_head, heads_arrow, closed_left, simple, update_behind, read_operator, operator_at, left_operand, unmixed, unassigned, unheaded, left, left_expr, prefixed, update_before, postfix, unary_expr, operated, binary_turn, binary_from, binary_expr, conditional, assigned_to, assigned, behind_operators, operators_expr, cover_expr, assignment_expr, sequence_turn, sequence_from, expression_expr, expr_level, expr, cover, is_literal}
+use Rattle.swc_ecma_parser_reader.specs.Expressions.{Cover, done, goes_on, begins_async_call, is_head, heads_arrow, closed_left, simple, update_behind, read_operator, operator_at, left_operand, unmixed, unassigned, unheaded, left, left_expr, prefixed, update_before, postfix, unary_expr, operated, binary_turn, binary_from, binary_expr, conditional, assigned_to, assigned, behind_operators, operators_expr, cover_expr, assignment_expr, sequence_turn, sequence_from, expression_expr, expr_level, is_literal}
 use Rattle.swc_ecma_parser_reader.proofs.Notes.{or_nil, or_assoc}
 use Rattle.swc_ecma_parser_reader.proofs.Answered.{st, Reads, Gets, gets_also, ReadsAs}
 use Rattle.swc_ecma_parser_reader.proofs.Takes.{moves}
 use Rattle.swc_ecma_parser_reader.proofs.Steps.{loop_more, loop_done}
-use Rattle.swc_ecma_parser_reader.proofs.expressions.Falls.{operated_falls, assignment_falls, expr_falls, cover_falls}
+use Rattle.swc_ecma_parser_reader.proofs.expressions.Falls.{operated_falls, assignment_falls, cover_expr_falls, level_falls}
+use Rattle.swc_ecma_parser_reader.proofs.Takes.{Falls}
 use Rattle.swc_ecma_parser_reader.proofs.expressions.Targets.{leaf_supported, left_target, left_leaf, pattern_alike}
 use Rattle.swc_ecma_parser_reader.proofs.expressions.Covers as covers
 use Rattle.swc_ecma_parser_reader.proofs.expressions.Covers.{met, begins_literal, opened, opened_literal, Assigns, Becomes, cover_is, open_cover, assigns_cover, operators_cover}
 use Rattle.swc_ecma_parser_reader.proofs.expressions.CompleteKinds.{refuted, supported_as, seen, begins, element_begins, ends_part, ended_at, ended_stops, ended_continues, no_async_function, left_first, operand_plain, operand_update, update_plain, operator_stops, assign_stops, question_stops, stops_unary, unary_stops, stopped, update_seen, postfix_seen, assign_seen, unassigned_at}
 use Rattle.swc_ecma_parser_reader.proofs.expressions.Loops.{shorter_by}
-use Rattle.swc_ecma_parser_reader.proofs.expressions.CompleteParts.{expect_reads, AsExpr, AsElement, AsTarget, IsRead, inside_reads}
+use Rattle.swc_ecma_parser_reader.proofs.expressions.CompleteParts.{expect_reads, AsExpr, AsElement, AsTarget, IsRead, IsFunctionRead, inside_reads}
 use Rattle.swc_ecma_parser_reader.proofs.expressions.CompleteCovers.{AsLiteral, array_pattern, object_pattern}
 use Rattle.swc_ecma_parser_reader.proofs.expressions.CompleteLefts.{left_reads}
 
@@ -142,8 +143,8 @@ leaf_member : (e : Tree) → is_ident e ≡ false → leaf e ≡ tree.expr_pat e
 leaf_member (tree.ident s text) h = cc
 leaf_member _ h = refl
 
-leaf_is_supported : (e p : Tree) → p ≡ leaf e → supported p ≡ true → supported e ≡ true
-leaf_is_supported e p i s = sym (leaf_supported e) ∙ ap supported (sym i) ∙ s
+leaf_is_supported : (m : Bool) (e p : Tree) → p ≡ leaf e → supported_in m p ≡ true → supported_in m e ≡ true
+leaf_is_supported m e p i s = sym (leaf_supported m e) ∙ ap (supported_in m) (sym i) ∙ s
 
 leaf_target : (e : Tree) → is_simple_target e ≡ true → as_target e ≡ Some (leaf e)
 leaf_target (tree.ident s text) h = refl
@@ -194,57 +195,57 @@ part_closes k p c d t = record {
   literal_ends = λ w f h. nothing_goes_on (st d k w f h) t;
 }
 
-module _ (In : Goal → Type 0) (inner : Class → Reader Tree) (cover : Reader Cover) (given : IsRead In inner cover) where
+module _ (In : Goal → Type 0) (inner : Class → Reader Tree) (cover : Reader Cover) (given : IsRead In inner cover) (function : Reader Tree) (functions : IsFunctionRead In function) where
   -- ---- operands
 
   -- a left side, and no token that goes on with it
-  side_reads : (k : Code) (x : Tree) (c d : Place) → LeftSideRule In k x c d → supported x ≡ true → sees kind.Dot d ≡ false → sees kind.LBracket d ≡ false → sees kind.LParen d ≡ false
-      → Reads (left inner cover true) k x c d
-  side_reads k x c d r s dot bracket paren w f h = left_reads In inner cover given true k x c d r s refl (or_none _ _ dot bracket) paren w f h
+  side_reads : (k : Code) (x : Tree) (c d : Place) → LeftSideRule In k x c d → supported_in k.flags.module x ≡ true → sees kind.Dot d ≡ false → sees kind.LBracket d ≡ false → sees kind.LParen d ≡ false
+      → Reads (left inner cover function true) k x c d
+  side_reads k x c d r s dot bracket paren w f h = left_reads In inner cover given function functions true k x c d r s refl (or_none _ _ dot bracket) paren w f h
 
-  operand_reads : (k : Code) (x : Tree) (c d : Place) → LeftSideRule In k x c d → supported x ≡ true → continues_left_side d ≡ false → Reads (unary_expr inner cover) k x c d
+  operand_reads : (k : Code) (x : Tree) (c d : Place) → LeftSideRule In k x c d → supported_in k.flags.module x ≡ true → continues_left_side d ≡ false → Reads (unary_expr inner cover function) k x c d
   unfolding unary_expr postfix
   operand_reads k x c d r s e w f h =
       let first = left_first In k x c d r s in
       let t = stopped d e in
       rw (operand_plain (kind_at c) first, operand_update (kind_at c) first, side_reads k x c d r s t.dot t.bracket t.paren w f h, t.postfix) refl
 
-  prefixed_reads : (op : UnaryOp) (e : Tree) (k : Code) (x : Tree) (c d : Place) → unary_operator (kind_at c) ≡ Some op → In (expr_goal unary k e (after c) d) → supported e ≡ true
-      → x ≡ tree.unary (spanned c d) op e → Reads (unary_expr inner cover) k x c d
+  prefixed_reads : (op : UnaryOp) (e : Tree) (k : Code) (x : Tree) (c d : Place) → unary_operator (kind_at c) ≡ Some op → In (expr_goal unary k e (after c) d) → supported_in k.flags.module e ≡ true
+      → x ≡ tree.unary (spanned c d) op e → Reads (unary_expr inner cover function) k x c d
   unfolding unary_expr prefixed spanned
   prefixed_reads op e k x c d o r s j w f h = rw (o, given.reads unary k e (after c) d r s w f h, j) refl
 
-  update_before_reads : (op : UpdateOp) (e : Tree) (k : Code) (x : Tree) (c d : Place) → update_operator (kind_at c) ≡ Some op → In (expr_goal unary k e (after c) d) → supported e ≡ true
-      → is_simple_target e ≡ true → x ≡ tree.update (spanned c d) op true e → Reads (unary_expr inner cover) k x c d
+  update_before_reads : (op : UpdateOp) (e : Tree) (k : Code) (x : Tree) (c d : Place) → update_operator (kind_at c) ≡ Some op → In (expr_goal unary k e (after c) d) → supported_in k.flags.module e ≡ true
+      → is_simple_target e ≡ true → x ≡ tree.update (spanned c d) op true e → Reads (unary_expr inner cover function) k x c d
   unfolding unary_expr update_before simple spanned
   update_before_reads op e k x c d o r s t j w f h = rw (update_plain (kind_at c) op o, o, given.reads unary k e (after c) d r s w f h, t, j) refl
 
-  update_behind_reads : (op : UpdateOp) (e : Tree) (m : Place) (k : Code) (x : Tree) (c d : Place) → LeftSideRule In k e c m → supported e ≡ true → is_simple_target e ≡ true
-      → breaks_at m ≡ false → update_operator (kind_at m) ≡ Some op → d ≡ after m → x ≡ tree.update (spanned c d) op false e → Reads (unary_expr inner cover) k x c d
+  update_behind_reads : (op : UpdateOp) (e : Tree) (m : Place) (k : Code) (x : Tree) (c d : Place) → LeftSideRule In k e c m → supported_in k.flags.module e ≡ true → is_simple_target e ≡ true
+      → breaks_at m ≡ false → update_operator (kind_at m) ≡ Some op → d ≡ after m → x ≡ tree.update (spanned c d) op false e → Reads (unary_expr inner cover function) k x c d
   unfolding unary_expr postfix update_behind simple spanned
   update_behind_reads op e m k x c d r s t b o i j w f h =
       let first = left_first In k e c m r s in
       let apart = update_seen m op o in
       rw (operand_plain (kind_at c) first, operand_update (kind_at c) first, side_reads k e c m r s apart.0 apart.1 apart.2 w f h, postfix_seen m op b o, t, j, i) refl
 
-  unary_reads : (k : Code) (x : Tree) (c d : Place) → UnaryRule In k x c d → supported x ≡ true → continues_unary x d ≡ false → Reads (unary_expr inner cover) k x c d
+  unary_reads : (k : Code) (x : Tree) (c d : Place) → UnaryRule In k x c d → supported_in k.flags.module x ≡ true → continues_unary x d ≡ false → Reads (unary_expr inner cover function) k x c d
   unary_reads k x c d (rules.operand_rule r) s e w f h = operand_reads k x c d r.0 s (unary_stops x d (left_simple In k x c d r.0) e) w f h
-  unary_reads k x c d (rules.unary_rule op y i r j) s e w f h = prefixed_reads op y k x c d i r (supported_as x (tree.unary (spanned c d) op y) j s) j w f h
-  unary_reads k x c d (rules.prefix_rule op y i r t j) s e w f h = update_before_reads op y k x c d i r (supported_as x (tree.update (spanned c d) op true y) j s) t j w f h
+  unary_reads k x c d (rules.unary_rule op y i r j) s e w f h = prefixed_reads op y k x c d i r (supported_as _ x (tree.unary (spanned c d) op y) j s) j w f h
+  unary_reads k x c d (rules.prefix_rule op y i r t j) s e w f h = update_before_reads op y k x c d i r (supported_as _ x (tree.update (spanned c d) op true y) j s) t j w f h
   unary_reads k x c d (rules.postfix_rule op y m r t b o i j) s e w f h =
-      update_behind_reads op y m k x c d r.0 (supported_as x (tree.update (spanned c d) op false y) j s) t b o i j w f h
-  unary_reads k x c d (rules.await_rule y a m r j) s e w f h = refuted x (ap supported j) s
+      update_behind_reads op y m k x c d r.0 (supported_as _ x (tree.update (spanned c d) op false y) j s) t b o i j w f h
+  unary_reads k x c d (rules.await_rule y a m r j) s e w f h = refuted _ x (ap (supported_in k.flags.module) j) s
 
   -- ---- binary operators
 
   -- an operator and its right operand
   left_grouped : (start : Span) (op : BinaryOp) (x y : Tree) (k : Code) (m d : Place) → groups_left op ≡ true → In (expr_goal (operator (suc (precedence op))) k y (after m) d)
-      → supported y ≡ true → mixes op x ≡ false → mixes op y ≡ false → (w : Scope) (f : List Fault) (h : Notes)
+      → supported_in k.flags.module y ≡ true → mixes op x ≡ false → mixes op y ≡ false → (w : Scope) (f : List Fault) (h : Notes)
       → operated inner cover start x op (st m k w f h) ≡ Ok (tree.bin (record { lo = start.lo; hi = d.last.hi }) op x y, st d k w (f ++ walk (env_of k w.labels) y) (h ⊕ notes_of y))
   unfolding operated left_operand unmixed
   left_grouped start op x y k m d g r s a b w f h = rw (g, given.reads (operator (suc (precedence op))) k y (after m) d r s w f h, a, b) refl
 
-  power_grouped : (start : Span) (x y : Tree) (k : Code) (m d : Place) → is_unary x ≡ false → In (expr_goal (operator (precedence binary.Exp)) k y (after m) d) → supported y ≡ true
+  power_grouped : (start : Span) (x y : Tree) (k : Code) (m d : Place) → is_unary x ≡ false → In (expr_goal (operator (precedence binary.Exp)) k y (after m) d) → supported_in k.flags.module y ≡ true
       → (w : Scope) (f : List Fault) (h : Notes)
       → operated inner cover start x binary.Exp (st m k w f h) ≡ Ok (tree.bin (record { lo = start.lo; hi = d.last.hi }) binary.Exp x y, st d k w (f ++ walk (env_of k w.labels) y) (h ⊕ notes_of y))
   unfolding operated left_operand unmixed
@@ -262,12 +263,12 @@ module _ (In : Goal → Type 0) (inner : Class → Reader Tree) (cover : Reader 
   operators_stop l start x s e = loop_done (binary_turn inner cover l start) x x s s (rw e refl)
 
   -- What was read so far is reached by the loop of any operators that bind no more tightly.
-  binary_reached : (l : ℕ) (k : Code) (n : ℕ) (x : Tree) (c d : Place) → l ≤ n → BinaryRule In k n x c d → supported x ≡ true → continues_unary x d ≡ false → (w : Scope) (f : List Fault) (h : Notes)
-      → binary_expr inner cover l (st c k w f h) ≡ binary_from inner cover l (span_at c) x (st d k w (f ++ walk (env_of k w.labels) x) (h ⊕ notes_of x))
+  binary_reached : (l : ℕ) (k : Code) (n : ℕ) (x : Tree) (c d : Place) → l ≤ n → BinaryRule In k n x c d → supported_in k.flags.module x ≡ true → continues_unary x d ≡ false → (w : Scope) (f : List Fault) (h : Notes)
+      → binary_expr inner cover function l (st c k w f h) ≡ binary_from inner cover l (span_at c) x (st d k w (f ++ walk (env_of k w.labels) x) (h ⊕ notes_of x))
   unfolding binary_expr spanned
   binary_reached l k n x c d b (rules.single_rule r) s e w f h = rw (unary_reads k x c d r s e w f h) refl
   binary_reached l k n x c d b (rules.left_rule op y z m p g o r i q u v j) s e w f h =
-      let t = and_yes (supported y) _ (supported_as x (tree.bin (spanned c d) op y z) j s) in
+      let t = and_yes (supported_in k.flags.module y) _ (supported_as _ x (tree.bin (spanned c d) op y z) j s) in
       let below : l ≤ precedence op = omega arith in
       let f' = f ++ walk (env_of k w.labels) y in
       let h' = h ⊕ notes_of y in
@@ -276,7 +277,7 @@ module _ (In : Goal → Type 0) (inner : Class → Reader Tree) (cover : Reader 
       (bound l op m k w f' h' i o below) (left_grouped (span_at c) op y z k m d g q t.1 u v w f' h')
       ∙ rw (j, append_assoc f _ _, append_assoc h.held_back _ _, or_assoc h.found_module_item _ _) refl
   binary_reached l k n x c d b (rules.power_rule y z m p r a i q j) s e w f h =
-      let t = and_yes (supported y) _ (supported_as x (tree.bin (spanned c d) binary.Exp y z) j s) in
+      let t = and_yes (supported_in k.flags.module y) _ (supported_as _ x (tree.bin (spanned c d) binary.Exp y z) j s) in
       let below : l ≤ precedence binary.Exp = omega arith in
       let o : binary_operator (kind_at m) ≡ Some binary.Exp = rw i refl in
       let f' = f ++ walk (env_of k w.labels) y in
@@ -286,8 +287,8 @@ module _ (In : Goal → Type 0) (inner : Class → Reader Tree) (cover : Reader 
       (bound l binary.Exp m k w f' h' o refl below) (power_grouped (span_at c) y z k m d a q t.1 w f' h')
       ∙ rw (j, append_assoc f _ _, append_assoc h.held_back _ _, or_assoc h.found_module_item _ _) refl)
 
-  binary_reads : (l : ℕ) (k : Code) (x : Tree) (c d : Place) → BinaryRule In k l x c d → supported x ≡ true → continues_unary x d ≡ false → binds k l (binary_operator (kind_at d)) ≡ false
-      → Reads (binary_expr inner cover l) k x c d
+  binary_reads : (l : ℕ) (k : Code) (x : Tree) (c d : Place) → BinaryRule In k l x c d → supported_in k.flags.module x ≡ true → continues_unary x d ≡ false → binds k l (binary_operator (kind_at d)) ≡ false
+      → Reads (binary_expr inner cover function l) k x c d
   binary_reads l k x c d r s e b w f h =
       let f' = f ++ walk (env_of k w.labels) x in
       let h' = h ⊕ notes_of x in
@@ -295,7 +296,7 @@ module _ (In : Goal → Type 0) (inner : Class → Reader Tree) (cover : Reader 
 
   -- ---- AssignmentExpression
 
-  operators_read : (k : Code) (x : Tree) (c d : Place) → BinaryRule In k 1 x c d → supported x ≡ true → continues_assignment k x c d ≡ false → Reads (operators_expr inner cover) k x c d
+  operators_read : (k : Code) (x : Tree) (c d : Place) → BinaryRule In k 1 x c d → supported_in k.flags.module x ≡ true → continues_assignment k x c d ≡ false → Reads (operators_expr inner cover function) k x c d
   unfolding operators_expr behind_operators unheaded continues_assignment continues_operand continues_conditional
   operators_read k x c d r s e w f h =
       let (operand, more) = or_no _ _ e in
@@ -311,7 +312,7 @@ module _ (In : Goal → Type 0) (inner : Class → Reader Tree) (cover : Reader 
 
   conditional_reads : (test yes_case no_case : Tree) (i j : Place) (k : Code) (x : Tree) (c d : Place) → BinaryRule In k 1 test c i → kind_at i ≡ kind.QuestionMark
       → In (expr_goal assignment (with_in k) yes_case (after i) j) → kind_at j ≡ kind.Colon → In (expr_goal assignment k no_case (after j) d) → continues_conditional d ≡ false
-      → supported test ≡ true → supported yes_case ≡ true → supported no_case ≡ true → x ≡ tree.cond (spanned c d) test yes_case no_case → Reads (operators_expr inner cover) k x c d
+      → supported_in k.flags.module test ≡ true → supported_in k.flags.module yes_case ≡ true → supported_in k.flags.module no_case ≡ true → x ≡ tree.cond (spanned c d) test yes_case no_case → Reads (operators_expr inner cover function) k x c d
   unfolding operators_expr behind_operators conditional unassigned spanned
   conditional_reads test yes_case no_case i j k x c d r q a b o u s t v e w f h =
       let env = env_of k w.labels in
@@ -326,7 +327,7 @@ module _ (In : Goal → Type 0) (inner : Class → Reader Tree) (cover : Reader 
       ) (simp (append_assoc, or_assoc) refl)
 
   assigned_reads : (op : AssignOp) (x y : Tree) (m : Place) (k : Code) (z : Tree) (c d : Place) → OperandRule In k x c m → is_simple_target x ≡ true → assign_operator (kind_at m) ≡ Some op
-      → In (expr_goal assignment k y (after m) d) → supported x ≡ true → supported y ≡ true → z ≡ tree.assign (spanned c d) op x y → Reads (operators_expr inner cover) k z c d
+      → In (expr_goal assignment k y (after m) d) → supported_in k.flags.module x ≡ true → supported_in k.flags.module y ≡ true → z ≡ tree.assign (spanned c d) op x y → Reads (operators_expr inner cover function) k z c d
   unfolding operators_expr behind_operators assigned assigned_to spanned
   assigned_reads op x y m k z c d r g o q s t e w f h =
       let apart = assign_seen m op o in
@@ -342,35 +343,35 @@ module _ (In : Goal → Type 0) (inner : Class → Reader Tree) (cover : Reader 
   -- ---- what may still become a pattern
 
   -- what is no array or object has no comma behind a spread
-  commaless : (s : State) (v : Cover) (t : State) → is_literal v.x ≡ false → Becomes inner cover s v t → v.comma ≡ false
+  commaless : (s : State) (v : Cover) (t : State) → is_literal v.x ≡ false → Becomes inner cover function s v t → v.comma ≡ false
   commaless s v t g (inl o) = absurd (let h : is_literal v.x ≡ true = met (λ (u : Cover) (n : State). is_literal u.x ≡ true) (opened inner cover s) v t (opened_literal inner cover s) o.read in cc)
   commaless s v t g (inr (inl o)) = ap (λ (u : Cover). u.comma) o.is
   commaless s v t g (inr (inr o)) = ap (λ (u : Cover). u.comma) o.is
 
   -- what is read with operands and operators is read as what may still become a pattern
-  kept : (k : Code) (x : Tree) (c d : Place) → Reads (operators_expr inner cover) k x c d → ReadsAs (AsWhole x) (cover_expr inner cover) k x c d
+  kept : (k : Code) (x : Tree) (c d : Place) → Reads (operators_expr inner cover function) k x c d → ReadsAs (AsWhole x) (cover_expr inner cover function) k x c d
   kept k x c d r w f h =
       let s = st c k w f h in
       let t = st d k w (f ++ walk (env_of k w.labels) x) (h ⊕ notes_of x) in
-      let o = operators_cover inner cover s x t (r w f h) in
-      record { value = o.v; holds = (o.is, o.unmarked, λ g. commaless s o.v t (ap is_literal o.is ∙ g) (cover_is inner cover s o.v t o.reads)); is = o.reads }
+      let o = operators_cover inner cover function s x t (r w f h) in
+      record { value = o.v; holds = (o.is, o.unmarked, λ g. commaless s o.v t (ap is_literal o.is ∙ g) (cover_is inner cover function s o.v t o.reads)); is = o.reads }
 
   -- an array or object that is a pattern
-  literal_reads : (k : Code) (p : Tree) (c d : Place) → PatternRule In assigning k p c d → is_pattern_target p ≡ true → supported p ≡ true
+  literal_reads : (k : Code) (p : Tree) (c d : Place) → PatternRule In assigning k p c d → is_pattern_target p ≡ true → supported_in k.flags.module p ≡ true
       → (begins_literal c ≡ true) × ReadsAs (AsLiteral p c d) (opened inner cover) k p c d
   unfolding same_kind
   literal_reads k p c d (patterns.binding_name_rule text sp b r e) g s = cc
   literal_reads k p c d (patterns.target_name_rule text sp b a r e) g s = absurd (let i : is_pattern_target p ≡ false = ap is_pattern_target e in cc)
   literal_reads k p c d (patterns.target_rule y b r t i e) g s = absurd (let i : is_pattern_target p ≡ false = ap is_pattern_target e in cc)
   literal_reads k p c d (patterns.array_rule ps m i r j n e) g s =
-      (rw i refl, λ w f h. rw i (array_pattern In inner cover given ps m k p c d r (supported_as p (tree.array_pat (spanned c d) (listed ps)) e s) j n e w f h))
+      (rw i refl, λ w f h. rw i (array_pattern In inner cover given ps m k p c d r (supported_as _ p (tree.array_pat (spanned c d) (listed ps)) e s) j n e w f h))
   literal_reads k p c d (patterns.object_rule ps m i r j n e) g s =
-      (rw i refl, λ w f h. rw i (object_pattern In inner cover given ps m k p c d r (supported_as p (tree.object_pat (spanned c d) (listed ps)) e s) j n e w f h))
+      (rw i refl, λ w f h. rw i (object_pattern In inner cover given ps m k p c d r (supported_as _ p (tree.object_pat (spanned c d) (listed ps)) e s) j n e w f h))
 
   -- one that is assigned to
   destructured : (p y : Tree) (m : Place) (k : Code) (c d : Place) → PatternRule In assigning k p c m → is_pattern_target p ≡ true → kind_at m ≡ kind.Assign
-      → In (expr_goal assignment k y (after m) d) → supported p ≡ true → supported y ≡ true
-      → ReadsAs (AsWhole (tree.assign (spanned c d) assign.Assign p y)) (cover_expr inner cover) k (tree.assign (spanned c d) assign.Assign p y) c d
+      → In (expr_goal assignment k y (after m) d) → supported_in k.flags.module p ≡ true → supported_in k.flags.module y ≡ true
+      → ReadsAs (AsWhole (tree.assign (spanned c d) assign.Assign p y)) (cover_expr inner cover function) k (tree.assign (spanned c d) assign.Assign p y) c d
   unfolding assigned_to spanned
   destructured p y m k c d r g e q s t w f h =
       let (first, reads) = literal_reads k p c m r g s in
@@ -394,31 +395,31 @@ module _ (In : Goal → Type 0) (inner : Class → Reader Tree) (cover : Reader 
       record {
         value = done x;
         holds = (refl, refl, λ _. refl);
-        is = assigns_cover inner cover (st c k w f h) (done x) (st d k w (f' ++ walk (env_of k w.labels) y) (h' ⊕ notes_of y)) u ∙ rw (append_assoc f _ _, append_assoc h.held_back _ _, or_assoc h.found_module_item _ _) refl;
+        is = assigns_cover inner cover function (st c k w f h) (done x) (st d k w (f' ++ walk (env_of k w.labels) y) (h' ⊕ notes_of y)) u ∙ rw (append_assoc f _ _, append_assoc h.held_back _ _, or_assoc h.found_module_item _ _) refl;
       }
 
-  pub whole_reads : (k : Code) (x : Tree) (c d : Place) → AssignmentRule In k x c d → supported x ≡ true → ReadsAs (AsWhole x) (cover_expr inner cover) k x c d
+  pub whole_reads : (k : Code) (x : Tree) (c d : Place) → AssignmentRule In k x c d → supported_in k.flags.module x ≡ true → ReadsAs (AsWhole x) (cover_expr inner cover function) k x c d
   whole_reads k x c d (rules.operators_rule r e) s w f h = kept k x c d (operators_read k x c d r s e) w f h
   whole_reads k x c d (rules.conditional_rule t y z i j r q a b o u e) s w f h =
-      let p = and_yes (supported t) _ (supported_as x (tree.cond (spanned c d) t y z) e s) in
-      let p' = and_yes (supported y) _ p.1 in
+      let p = and_yes (supported_in k.flags.module t) _ (supported_as _ x (tree.cond (spanned c d) t y z) e s) in
+      let p' = and_yes (supported_in k.flags.module y) _ p.1 in
       kept k x c d (conditional_reads t y z i j k x c d r q a b o u p.0 p'.0 p'.1 e) w f h
   whole_reads k x c d (rules.assign_rule op y z m r t o q e) s w f h =
-      let p = and_yes (supported y) _ (supported_as x (tree.assign (spanned c d) op y z) e s) in
+      let p = and_yes (supported_in k.flags.module y) _ (supported_as _ x (tree.assign (spanned c d) op y z) e s) in
       kept k x c d (assigned_reads op y z m k x c d r t o q p.0 p.1 e) w f h
   whole_reads k x c d (rules.destructuring_rule y z m r t a b e) s w f h =
-      let p = and_yes (supported y) _ (supported_as x (tree.assign (spanned c d) assign.Assign y z) e s) in
+      let p = and_yes (supported_in k.flags.module y) _ (supported_as _ x (tree.assign (spanned c d) assign.Assign y z) e s) in
       rw e (destructured y z m k c d r t a b p.0 p.1 w f h)
-  whole_reads k x c d (rules.arrow_rule a ps y i j r q t b u e) s w f h = refuted x (ap supported e) s
-  whole_reads k x c d (rules.bare_yield_rule g i n t e) s w f h = refuted x (ap supported e) s
-  whole_reads k x c d (rules.yield_rule y g i b t r e) s w f h = refuted x (ap supported e) s
-  whole_reads k x c d (rules.delegate_rule y g i b m r e) s w f h = refuted x (ap supported e) s
+  whole_reads k x c d (rules.arrow_rule a ps y i j r q t b u e) s w f h = refuted _ x (ap (supported_in k.flags.module) e) s
+  whole_reads k x c d (rules.bare_yield_rule g i n t e) s w f h = refuted _ x (ap (supported_in k.flags.module) e) s
+  whole_reads k x c d (rules.yield_rule y g i b t r e) s w f h = refuted _ x (ap (supported_in k.flags.module) e) s
+  whole_reads k x c d (rules.delegate_rule y g i b m r e) s w f h = refuted _ x (ap (supported_in k.flags.module) e) s
 
-  assignment_reads : (k : Code) (x : Tree) (c d : Place) → AssignmentRule In k x c d → supported x ≡ true → Reads (assignment_expr inner cover) k x c d
+  assignment_reads : (k : Code) (x : Tree) (c d : Place) → AssignmentRule In k x c d → supported_in k.flags.module x ≡ true → Reads (assignment_expr inner cover function) k x c d
   assignment_reads k x c d r s w f h =
       let v = whole_reads k x c d r s w f h in
       let t = st d k w (f ++ walk (env_of k w.labels) x) (h ⊕ notes_of x) in
-      covers.assignment_reads inner cover (st c k w f h) v.value t v.is v.holds.1 ∙ ap (λ z. Ok (z, t)) v.holds.0
+      covers.assignment_reads inner cover function (st c k w f h) v.value t v.is v.holds.1 ∙ ap (λ z. Ok (z, t)) v.holds.0
 
   -- ---- patterns without a default
 
@@ -435,12 +436,12 @@ module _ (In : Goal → Type 0) (inner : Class → Reader Tree) (cover : Reader 
   leaf_of k p c d (patterns.array_rule ps m i r j n e) g q = absurd (let b : is_pattern_target p ≡ true = ap is_pattern_target e in cc)
   leaf_of k p c d (patterns.object_rule ps m i r j n e) g q = absurd (let b : is_pattern_target p ≡ true = ap is_pattern_target e in cc)
 
-  bare_leaf : (k : Code) (p : Tree) (c d : Place) → LeafOf In k p c d → supported p ≡ true → Closes k p c d → ReadsAs (AsBare p d) (cover_expr inner cover) k p c d
+  bare_leaf : (k : Code) (p : Tree) (c d : Place) → LeafOf In k p c d → supported_in k.flags.module p ≡ true → Closes k p c d → ReadsAs (AsBare p d) (cover_expr inner cover function) k p c d
   unfolding spanned
   bare_leaf k p c d l s t w f h =
-      let r = operators_read k l.e c d (rules.single_rule (rules.operand_rule l.reads_leaf)) (leaf_is_supported l.e p l.is s) (t.leaf_ends l.e l.is) in
+      let r = operators_read k l.e c d (rules.single_rule (rules.operand_rule l.reads_leaf)) (leaf_is_supported k.flags.module l.e p l.is s) (t.leaf_ends l.e l.is) in
       let e = leaf_element l.e l.simple ∙ ap Some (sym l.is) in
-      pattern_end (AsBare p d) (cover_expr inner cover (st c k w f h)) l.e p k d w f h e
+      pattern_end (AsBare p d) (cover_expr inner cover function (st c k w f h)) l.e p k d w f h e
       (gets_also (AsWhole l.e) (AsBare p d) _ _ (kept k l.e c d r w f h) (λ v q. (
         ap as_target q.0 ∙ leaf_target l.e l.simple ∙ ap Some (sym l.is),
         ap as_element q.0 ∙ e,
@@ -448,8 +449,8 @@ module _ (In : Goal → Type 0) (inner : Class → Reader Tree) (cover : Reader 
         ap (λ z. (span_of z).hi) q.0 ∙ ap (λ (z : Span). z.hi) (left_side_rule In l.reads_leaf.0),
       )))
 
-  bare_literal : (k : Code) (p : Tree) (c d : Place) → PatternRule In assigning k p c d → is_pattern_target p ≡ true → supported p ≡ true → Closes k p c d
-      → ReadsAs (AsBare p d) (cover_expr inner cover) k p c d
+  bare_literal : (k : Code) (p : Tree) (c d : Place) → PatternRule In assigning k p c d → is_pattern_target p ≡ true → supported_in k.flags.module p ≡ true → Closes k p c d
+      → ReadsAs (AsBare p d) (cover_expr inner cover function) k p c d
   unfolding spanned
   bare_literal k p c d r g s t w f h =
       let (first, reads) = literal_reads k p c d r g s in
@@ -458,71 +459,71 @@ module _ (In : Goal → Type 0) (inner : Class → Reader Tree) (cover : Reader 
       record {
         value = v.value;
         holds = (v.holds.0, v.holds.1, v.holds.2, ap (λ (z : Span). z.hi) v.holds.3);
-        is = open_cover inner cover (st c k w f h) v.value behind (record { first = first; read = v.is; unassigned = t.assign; ended = t.literal_ends w (f ++ walk (env_of k w.labels) p) (h ⊕ notes_of p) });
+        is = open_cover inner cover function (st c k w f h) v.value behind (record { first = first; read = v.is; unassigned = t.assign; ended = t.literal_ends w (f ++ walk (env_of k w.labels) p) (h ⊕ notes_of p) });
       }
 
-  bare_by : (b : Bool) (k : Code) (p : Tree) (c d : Place) → is_pattern_target p ≡ b → PatternRule In assigning k p c d → supported p ≡ true → Closes k p c d
-      → ReadsAs (AsBare p d) (cover_expr inner cover) k p c d
+  bare_by : (b : Bool) (k : Code) (p : Tree) (c d : Place) → is_pattern_target p ≡ b → PatternRule In assigning k p c d → supported_in k.flags.module p ≡ true → Closes k p c d
+      → ReadsAs (AsBare p d) (cover_expr inner cover function) k p c d
   bare_by true k p c d g r s t w f h = bare_literal k p c d r g s t w f h
   bare_by false k p c d g r s t w f h = bare_leaf k p c d (leaf_of k p c d r g t.function) s t w f h
 
-  pub bare_reads : (k : Code) (p : Tree) (c d : Place) → PatternRule In assigning k p c d → supported p ≡ true → Closes k p c d → ReadsAs (AsBare p d) (cover_expr inner cover) k p c d
+  pub bare_reads : (k : Code) (p : Tree) (c d : Place) → PatternRule In assigning k p c d → supported_in k.flags.module p ≡ true → Closes k p c d → ReadsAs (AsBare p d) (cover_expr inner cover function) k p c d
   bare_reads k p c d r s t w f h = bare_by (is_pattern_target p) k p c d refl r s t w f h
 
   -- ---- patterns with a default
 
   default_by : (b : Bool) (p y : Tree) (m : Place) (k : Code) (c d : Place) → is_pattern_target p ≡ b → PatternRule In assigning k p c m → kind_at m ≡ kind.Assign
-      → In (expr_goal assignment k y (after m) d) → supported p ≡ true → supported y ≡ true
-      → ReadsAs (AsElement (tree.assign_pat (spanned c d) p y)) (cover_expr inner cover) k (tree.assign_pat (spanned c d) p y) c d
+      → In (expr_goal assignment k y (after m) d) → supported_in k.flags.module p ≡ true → supported_in k.flags.module y ≡ true
+      → ReadsAs (AsElement (tree.assign_pat (spanned c d) p y)) (cover_expr inner cover function) k (tree.assign_pat (spanned c d) p y) c d
   unfolding same_kind
   default_by true p y m k c d g r e q s t w f h =
-      as_whole (cover_expr inner cover) (tree.assign (spanned c d) assign.Assign p y) (tree.assign_pat (spanned c d) p y) k c d
+      as_whole (cover_expr inner cover function) (tree.assign (spanned c d) assign.Assign p y) (tree.assign_pat (spanned c d) p y) k c d
       (ap (λ z. Some (tree.assign_pat (spanned c d) z y)) (left_target p g)) refl (destructured p y m k c d r g e q s t) w f h
   default_by false p y m k c d g r e q s t w f h =
       let l = leaf_of k p c m r g (rw e refl) in
       let x = tree.assign (spanned c d) assign.Assign l.e y in
-      as_whole (cover_expr inner cover) x (tree.assign_pat (spanned c d) p y) k c d
+      as_whole (cover_expr inner cover function) x (tree.assign_pat (spanned c d) p y) k c d
       (ap (λ z. Some (tree.assign_pat (spanned c d) z y)) (left_leaf l.e l.simple ∙ sym l.is)) refl
-      (kept k x c d (assigned_reads assign.Assign l.e y m k x c d l.reads_leaf l.simple (rw e refl) q (leaf_is_supported l.e p l.is s) t refl)) w f h
+      (kept k x c d (assigned_reads assign.Assign l.e y m k x c d l.reads_leaf l.simple (rw e refl) q (leaf_is_supported k.flags.module l.e p l.is s) t refl)) w f h
 
   -- an element of a pattern, where `in` is an operator
-  element_reads : (k : Code) (p : Tree) (c d : Place) → PatternElementRule In assigning (with_in k) p c d → supported p ≡ true → ends_part (kind_at d) ≡ true
-      → ReadsAs (AsElement p) (cover_expr inner cover) (with_in k) p c d
+  element_reads : (k : Code) (p : Tree) (c d : Place) → PatternElementRule In assigning (with_in k) p c d → supported_in k.flags.module p ≡ true → ends_part (kind_at d) ≡ true
+      → ReadsAs (AsElement p) (cover_expr inner cover function) (with_in k) p c d
   element_reads k p c d (patterns.bare_rule r e) s t w f h =
       gets_also (AsBare p d) (AsElement p) _ _ (bare_reads (with_in k) p c d r s (part_closes (with_in k) p c d t) w f h) (λ v a. (a.1, a.2))
   element_reads k p c d (patterns.initialized_rule q y m r i v e) s t w f h =
-      let g = and_yes (supported q) _ (supported_as p (tree.assign_pat (spanned c d) q y) e s) in
+      let g = and_yes (supported_in k.flags.module q) _ (supported_as _ p (tree.assign_pat (spanned c d) q y) e s) in
       rw e (default_by (is_pattern_target q) q y m (with_in k) c d refl r i v g.0 g.1 w f h)
 
-  target_reads : (k : Code) (p : Tree) (c d : Place) → PatternRule In assigning k p c d → supported p ≡ true → ends_part (kind_at d) ≡ true
-      → ReadsAs (AsTarget p d) (cover_expr inner cover) k p c d
+  target_reads : (k : Code) (p : Tree) (c d : Place) → PatternRule In assigning k p c d → supported_in k.flags.module p ≡ true → ends_part (kind_at d) ≡ true
+      → ReadsAs (AsTarget p d) (cover_expr inner cover function) k p c d
   target_reads k p c d r s t w f h = gets_also (AsBare p d) (AsTarget p d) _ _ (bare_reads k p c d r s (part_closes k p c d t) w f h) (λ v a. (a.0, a.2, a.3))
 
   -- ---- Expression
 
   -- the parts of a sequence, from a comma on
-  pub many_parts : (xs found : List Tree) (k : Code) (c d : Place) (w : Scope) (f : List Fault) (h : Notes) → ReadsSeparated (AssignmentRule In k) xs (after c) d → all_supported (trees xs) ≡ true
-      → loop (sequence_turn inner cover) found (st c k w f h) ≡ Ok (found ++ xs, st d k w (f ++ walks (env_of k w.labels) false (trees xs)) (h ⊕ all_notes_of (trees xs)))
+  pub many_parts : (xs found : List Tree) (k : Code) (c d : Place) (w : Scope) (f : List Fault) (h : Notes) → ReadsSeparated (AssignmentRule In k) xs (after c) d → all_supported_in k.flags.module (trees xs) ≡ true
+      → loop (sequence_turn inner cover function) found (st c k w f h) ≡ Ok (found ++ xs, st d k w (f ++ walks (env_of k w.labels) false (trees xs)) (h ⊕ all_notes_of (trees xs)))
   unfolding sequence_turn
   many_parts [] found k c d w f h r s = absurd r
   many_parts (x ∷ []) found k c d w f h (r, e) s =
-      let t = (and_yes (supported x) _ s).0 in
+      let t = (and_yes (supported_in k.flags.module x) _ s).0 in
       rw (append-nil (walk (env_of k w.labels) x), append-nil (notes x), or_nil (has_meta x))
-      (loop_done (sequence_turn inner cover) found (found ++ x ∷ []) (st c k w f h) (st d k w (f ++ walk (env_of k w.labels) x) (h ⊕ notes_of x))
+      (loop_done (sequence_turn inner cover function) found (found ++ x ∷ []) (st c k w f h) (st d k w (f ++ walk (env_of k w.labels) x) (h ⊕ notes_of x))
       (rw (assignment_reads k x (after c) d r t w f h, e) refl))
   many_parts (x ∷ y ∷ ys) found k c d w f h (m, r, e, more) s =
-      let t = and_yes (supported x) _ s in
+      let t = and_yes (supported_in k.flags.module x) _ s in
       let f' = f ++ walk (env_of k w.labels) x in
       let h' = h ⊕ notes_of x in
       let one = assignment_reads k x (after c) m r t.0 w f h in
-      let falls = assignment_falls inner cover given.falls given.cover_falls (st (after c) k w f h) in
-      let fewer = shorter_by (length (after c).left) (assignment_expr inner cover (st (after c) k w f h)) x (st m k w f' h') one falls in
-      loop_more (sequence_turn inner cover) found (found ++ x ∷ []) (st c k w f h) (st m k w f' h') (rw (one, seen m kind.Comma e) refl) (let b = moves c in omega arith)
+      let falls = assignment_falls inner cover given.falls given.cover_falls function functions.falls (st (after c) k w f h) in
+      let fewer = shorter_by (length (after c).left) (assignment_expr inner cover function (st (after c) k w f h)) x (st m k w f' h') one falls in
+      loop_more (sequence_turn inner cover function) found (found ++ x ∷ []) (st c k w f h) (st m k w f' h') (rw (one, seen m kind.Comma e) refl) (let b = moves c in omega arith)
       ∙ many_parts (y ∷ ys) (found ++ x ∷ []) k m d w f' h' more t.1 ∙ simp (append_assoc, or_assoc) refl
 
   sequence_reads : (e : Tree) (es : List Tree) (m : Place) (k : Code) (x : Tree) (c d : Place) → AssignmentRule In k e c m → kind_at m ≡ kind.Comma
-      → ReadsSeparated (AssignmentRule In k) es (after m) d → supported e ≡ true → all_supported (trees es) ≡ true → x ≡ tree.seq (spanned c d) (listed (e ∷ es))
-      → Reads (expression_expr inner cover) k x c d
+      → ReadsSeparated (AssignmentRule In k) es (after m) d → supported_in k.flags.module e ≡ true → all_supported_in k.flags.module (trees es) ≡ true → x ≡ tree.seq (spanned c d) (listed (e ∷ es))
+      → Reads (expression_expr inner cover function) k x c d
   unfolding expression_expr sequence_from spanned
   sequence_reads e es m k x c d r g more s t j w f h =
       rw (
@@ -532,29 +533,29 @@ module _ (In : Goal → Type 0) (inner : Class → Reader Tree) (cover : Reader 
         j,
       ) (simp (append_assoc, or_assoc) refl)
 
-  single_reads : (k : Code) (x : Tree) (c d : Place) → AssignmentRule In k x c d → supported x ≡ true → sees kind.Comma d ≡ false → Reads (expression_expr inner cover) k x c d
+  single_reads : (k : Code) (x : Tree) (c d : Place) → AssignmentRule In k x c d → supported_in k.flags.module x ≡ true → sees kind.Comma d ≡ false → Reads (expression_expr inner cover function) k x c d
   unfolding expression_expr
   single_reads k x c d r s e w f h = rw (assignment_reads k x c d r s w f h, e) refl
 
-  expression_reads : (k : Code) (x : Tree) (c d : Place) → ExpressionRule In k x c d → supported x ≡ true → Reads (expression_expr inner cover) k x c d
+  expression_reads : (k : Code) (x : Tree) (c d : Place) → ExpressionRule In k x c d → supported_in k.flags.module x ≡ true → Reads (expression_expr inner cover function) k x c d
   expression_reads k x c d (rules.assignment_rule r e) s w f h = single_reads k x c d r s e w f h
   expression_reads k x c d (rules.sequence_rule y z zs (m, r, g, more) e) s w f h =
-      let p = and_yes (supported y) _ (supported_as x (tree.seq (spanned c d) (listed (y ∷ z ∷ zs))) e s) in
+      let p = and_yes (supported_in k.flags.module y) _ (supported_as _ x (tree.seq (spanned c d) (listed (y ∷ z ∷ zs))) e s) in
       sequence_reads y (z ∷ zs) m k x c d r g more p.0 p.1 e w f h
 
   -- ---- an expression of a class
 
-  left_expr_reads : (k : Code) (x : Tree) (c d : Place) → LeftSideRule In k x c d → supported x ≡ true → continues_left_side d ≡ false → Reads (left_expr inner cover) k x c d
+  left_expr_reads : (k : Code) (x : Tree) (c d : Place) → LeftSideRule In k x c d → supported_in k.flags.module x ≡ true → continues_left_side d ≡ false → Reads (left_expr inner cover function) k x c d
   unfolding left_expr closed_left
   left_expr_reads k x c d r s e w f h = let t = stopped d e in rw (side_reads k x c d r s t.dot t.bracket t.paren w f h, e) refl
 
-  operator_reads : (n : ℕ) (k : Code) (x : Tree) (c d : Place) → BinaryRule In k n x c d → supported x ≡ true → continues_operand k n x d ≡ false → Reads (binary_expr inner cover n) k x c d
+  operator_reads : (n : ℕ) (k : Code) (x : Tree) (c d : Place) → BinaryRule In k n x c d → supported_in k.flags.module x ≡ true → continues_operand k n x d ≡ false → Reads (binary_expr inner cover function n) k x c d
   unfolding continues_operand
   operator_reads n k x c d r s e w f h = let (unary_ends, operators) = or_no (continues_unary x d) _ e in binary_reads n k x c d r s unary_ends operators w f h
 
-  callee_reads : (k : Code) (x : Tree) (c d : Place) → sides.CalleeRule In k x c d → (sees kind.Dot d || sees kind.LBracket d) ≡ false → supported x ≡ true
-      → Reads (left inner cover false) k x c d
-  callee_reads k x c d r e s w f h = left_reads In inner cover given false k x c d r.0 s r.1 e refl w f h
+  callee_reads : (k : Code) (x : Tree) (c d : Place) → sides.CalleeRule In k x c d → (sees kind.Dot d || sees kind.LBracket d) ≡ false → supported_in k.flags.module x ≡ true
+      → Reads (left inner cover function false) k x c d
+  callee_reads k x c d r e s w f h = left_reads In inner cover given function functions false k x c d r.0 s r.1 e refl w f h
 
 -- ---- within so many levels
 
@@ -571,80 +572,62 @@ bare_calls : (n : ℕ) (k : Code) (x : Tree) (c d : Place) → language.Reads n 
 bare_calls zero k x c d r = absurd r
 bare_calls (suc n) k x c d r = r.0
 
--- no expression is read within no levels
-none_read : {X : Type 0} (class : Class) (k : Code) (x : Tree) (c d : Place) → ReadsClass zero class k x c d → X
-none_read callee k x c d r = absurd r.0
-none_read _ k x c d r = absurd r.0
+module _ (n : ℕ) (inner : Class → Reader Tree) (cover : Reader Cover) (given : IsRead (language.Reads n) inner cover) (function : Reader Tree) (functions : IsFunctionRead (language.Reads n) function) where
+  class_reads : (class : Class) (k : Code) (x : Tree) (c d : Place) → language.Reads (suc n) (expr_goal class k x c d) → supported_in k.flags.module x ≡ true
+      → Reads (expr_level inner cover function class) k x c d
+  unfolding expr_level
+  class_reads expression k x c d r s w f h = expression_reads (language.Reads n) inner cover given function functions k x c d r s w f h
+  class_reads assignment k x c d r s w f h = assignment_reads (language.Reads n) inner cover given function functions k x c d r s w f h
+  class_reads (operator m) k x c d r s w f h = operator_reads (language.Reads n) inner cover given function functions m k x c d r.0 s r.1 w f h
+  class_reads unary k x c d r s w f h = unary_reads (language.Reads n) inner cover given function functions k x c d r.0 s r.1 w f h
+  class_reads left_side k x c d r s w f h = left_expr_reads (language.Reads n) inner cover given function functions k x c d r.0 s r.1 w f h
+  class_reads callee k x c d r s w f h =
+      callee_reads (language.Reads n) inner cover given function functions k x c d (bare_calls (suc n) k x c d r) (bare_ends (suc n) k x c d r).0 s w f h
 
-module _ (n : ℕ) (given : IsRead (language.Reads n) (expr n) (cover n)) where
-  level_reads : (class : Class) (k : Code) (x : Tree) (c d : Place) → ReadsClass (suc n) class k x c d → Reads (expr (suc n) class) k x c d
-  unfolding expr expr_level
-  level_reads expression k x c d r w f h = expression_reads (language.Reads n) (expr n) (cover n) given k x c d r.0 r.1 w f h
-  level_reads assignment k x c d r w f h = assignment_reads (language.Reads n) (expr n) (cover n) given k x c d r.0 r.1 w f h
-  level_reads (operator m) k x c d r w f h = operator_reads (language.Reads n) (expr n) (cover n) given m k x c d r.0.0 r.1 r.0.1 w f h
-  level_reads unary k x c d r w f h = unary_reads (language.Reads n) (expr n) (cover n) given k x c d r.0.0 r.1 r.0.1 w f h
-  level_reads left_side k x c d r w f h = left_expr_reads (language.Reads n) (expr n) (cover n) given k x c d r.0.0 r.1 r.0.1 w f h
-  level_reads callee k x c d r w f h = callee_reads (language.Reads n) (expr n) (cover n) given k x c d r.0 r.1 r.2 w f h
+  level_calls : (k : Code) (x : Tree) (c d : Place) → language.Reads (suc n) (callee_goal k x c d) → (sees kind.Dot d || sees kind.LBracket d) ≡ false → supported_in k.flags.module x ≡ true
+      → Reads (expr_level inner cover function callee) k x c d
+  unfolding expr_level
+  level_calls k x c d r e s w f h = callee_reads (language.Reads n) inner cover given function functions k x c d r e s w f h
 
-  class_reads : (class : Class) (k : Code) (x : Tree) (c d : Place) → language.Reads (suc n) (expr_goal class k x c d) → supported x ≡ true → Reads (expr (suc n) class) k x c d
-  class_reads expression k x c d r s = level_reads expression k x c d (r, s)
-  class_reads assignment k x c d r s = level_reads assignment k x c d (r, s)
-  class_reads (operator m) k x c d r s = level_reads (operator m) k x c d (r, s)
-  class_reads unary k x c d r s = level_reads unary k x c d (r, s)
-  class_reads left_side k x c d r s = level_reads left_side k x c d (r, s)
-  class_reads callee k x c d r s = level_reads callee k x c d (bare_calls (suc n) k x c d r, (bare_ends (suc n) k x c d r).0, s)
+  level_exprs : (k : Code) (x : Tree) (c d : Place) → language.Reads (suc n) (expr_goal assignment k x c d) → supported_in k.flags.module x ≡ true → ReadsAs (AsExpr x) (cover_expr inner cover function) k x c d
+  level_exprs k x c d r s w f h = gets_also (AsWhole x) (AsExpr x) _ _ (whole_reads (language.Reads n) inner cover given function functions k x c d r s w f h) (λ v a. (a.0, a.1))
 
-  level_exprs : (k : Code) (x : Tree) (c d : Place) → language.Reads (suc n) (expr_goal assignment k x c d) → supported x ≡ true → ReadsAs (AsExpr x) (cover (suc n)) k x c d
-  unfolding cover
-  level_exprs k x c d r s w f h = gets_also (AsWhole x) (AsExpr x) _ _ (whole_reads (language.Reads n) (expr n) (cover n) given k x c d r s w f h) (λ v a. (a.0, a.1))
+  -- what is read in one level more
+  pub read_above : IsRead (language.Reads (suc n)) (expr_level inner cover function) (cover_expr inner cover function)
+  read_above = record {
+    reads = class_reads;
+    calls = level_calls;
+    bare = λ k x c d r. (bare_ends (suc n) k x c d r).1;
+    begins = begins (suc n);
+    falls = level_falls inner cover given.falls given.cover_falls function functions.falls;
+    exprs = level_exprs;
+    elements = λ k p c d r s t w f h. element_reads (language.Reads n) inner cover given function functions k p c d r s t w f h;
+    targets = λ k p c d r s t w f h. target_reads (language.Reads n) inner cover given function functions (with_in k) p c d r s t w f h;
+    begins_element = element_begins assigning (suc n);
+    cover_falls = cover_expr_falls inner cover given.falls given.cover_falls function functions.falls;
+  }
 
-  level_elements : (k : Code) (p : Tree) (c d : Place) → language.Reads (suc n) (element_goal assigning (with_in k) p c d) → supported p ≡ true → ends_part (kind_at d) ≡ true
-      → ReadsAs (AsElement p) (cover (suc n)) (with_in k) p c d
-  unfolding cover
-  level_elements k p c d r s t w f h = element_reads (language.Reads n) (expr n) (cover n) given k p c d r s t w f h
-
-  level_targets : (k : Code) (p : Tree) (c d : Place) → language.Reads (suc n) (pattern_goal assigning (with_in k) p c d) → supported p ≡ true → ends_part (kind_at d) ≡ true
-      → ReadsAs (AsTarget p d) (cover (suc n)) (with_in k) p c d
-  unfolding cover
-  level_targets k p c d r s t w f h = target_reads (language.Reads n) (expr n) (cover n) given (with_in k) p c d r s t w f h
-
--- what is read within so many levels
-pub is_read : (n : ℕ) → IsRead (language.Reads n) (expr n) (cover n)
-is_read zero = record {
+-- within no level nothing is
+pub read_nowhere : (inner : Class → Reader Tree) (cover : Reader Cover) → ((class : Class) (s : State) → Falls 1 (length s.at.left) (inner class s)) → ((s : State) → Falls 1 (length s.at.left) (cover s))
+    → IsRead (language.Reads zero) inner cover
+read_nowhere inner cover falls cover_falls = record {
   reads = λ class k x c d r s. absurd r;
   calls = λ k x c d r e s. absurd r;
   bare = λ k x c d r. absurd r;
   begins = λ k x c d r s. absurd r;
-  falls = expr_falls zero;
+  falls = falls;
   exprs = λ k x c d r s. absurd r;
   elements = λ k p c d r s t. absurd r;
   targets = λ k p c d r s t. absurd r;
   begins_element = λ k p c d r s. absurd r;
-  cover_falls = cover_falls zero;
-}
-is_read (suc n) = let given = is_read n in record {
-  reads = class_reads n given;
-  calls = λ k x c d r e s. level_reads n given callee k x c d (r, e, s);
-  bare = λ k x c d r. (bare_ends (suc n) k x c d r).1;
-  begins = begins (suc n);
-  falls = expr_falls (suc n);
-  exprs = level_exprs n given;
-  elements = level_elements n given;
-  targets = level_targets n given;
-  begins_element = element_begins assigning (suc n);
-  cover_falls = cover_falls (suc n);
+  cover_falls = cover_falls;
 }
 
--- an expression of any class
-pub expr_reads : (n : ℕ) (class : Class) (k : Code) (x : Tree) (c d : Place) → ReadsClass n class k x c d → Reads (expr n class) k x c d
-expr_reads zero class k x c d r = none_read class k x c d r
-expr_reads (suc n) class k x c d r = level_reads n (is_read n) class k x c d r
-
--- an assignment expression, as it may still become a pattern
-pub cover_reads : (n : ℕ) (k : Code) (x : Tree) (c d : Place) → ReadsClass n assignment k x c d → ReadsAs (AsExpr x) (cover n) k x c d
-cover_reads n k x c d r = (is_read n).exprs k x c d r.0 r.1
-
--- an element of a pattern of an assignment
-pub cover_reads_pattern : (n : ℕ) (k : Code) (p : Tree) (c d : Place) → language.Reads n (element_goal assigning (with_in k) p c d) → supported p ≡ true → ends_part (kind_at d) ≡ true
-    → ReadsAs (AsElement p) (cover n) (with_in k) p c d
-cover_reads_pattern n k p c d r s t = (is_read n).elements k p c d r s t
+-- an expression of a class is
+pub class_is_read : (n : ℕ) (inner : Class → Reader Tree) (cover : Reader Cover) → IsRead (language.Reads n) inner cover → (class : Class) (k : Code) (x : Tree) (c d : Place) → ReadsClass n class k x c d → Reads (inner class) k x c d
+class_is_read n inner cover given callee k x c d r = given.calls k x c d r.0 r.1 r.2
+class_is_read n inner cover given expression k x c d r = given.reads expression k x c d r.0 r.1
+class_is_read n inner cover given assignment k x c d r = given.reads assignment k x c d r.0 r.1
+class_is_read n inner cover given (operator m) k x c d r = given.reads (operator m) k x c d r.0 r.1
+class_is_read n inner cover given unary k x c d r = given.reads unary k x c d r.0 r.1
+class_is_read n inner cover given left_side k x c d r = given.reads left_side k x c d r.0 r.1

@@ -17,7 +17,7 @@ use Rattle.swc_ecma_parser_grammar.specs.Reads.{with_in}
 use Rattle.swc_ecma_parser_grammar.specs.Notes.{notes}
 use Rattle.swc_ecma_parser_grammar.specs.language.Noted.{has_meta}
 use Rattle.swc_ecma_parser_grammar.specs.Walk.{env_of, walk, walks}
-use Rattle.swc_ecma_parser_grammar.specs.Supported.{supported, is_supported_key, all_supported}
+use Rattle.swc_ecma_parser_grammar.specs.Supported.{supported_in, is_supported_key_in, all_supported_in}
 use Rattle.swc_ecma_parser_grammar.specs.language.Goals.{Goal, Class, assignment, Purpose, assigning, expr_goal, element_goal, pattern_goal}
 use Rattle.swc_ecma_parser_grammar.specs.language.Lists.{ReadsListed, LastComma, no_comma, last_comma, Elements, no_elements, hole, last_element, more_elements}
 use Rattle.swc_ecma_parser_grammar.specs.language.Parts as parts
@@ -143,7 +143,7 @@ module _ (In : Goal → Type 0) (inner : Class → Reader Tree) (cover : Reader 
 
   -- ---- elements of an array
 
-  plain_reads : (e : Tree) (k : Code) (c d : Place) → In (expr_goal assignment (with_in k) e c d) → supported e ≡ true
+  plain_reads : (e : Tree) (k : Code) (c d : Place) → In (expr_goal assignment (with_in k) e c d) → supported_in k.flags.module e ≡ true
       → ReadsAs (AsExpr (tree.element None e)) (item inner cover) k (tree.element None e) c d
   unfolding item plain_item
   plain_reads e k c d r s w f h =
@@ -154,7 +154,7 @@ module _ (In : Goal → Type 0) (inner : Class → Reader Tree) (cover : Reader 
         is = rw ((begin_seen c (given.begins (with_in k) e c d r s)).0, v.is) refl;
       }
 
-  spread_reads : (e : Tree) (k : Code) (c d : Place) → kind_at c ≡ kind.DotDotDot → In (expr_goal assignment (with_in k) e (after c) d) → supported e ≡ true
+  spread_reads : (e : Tree) (k : Code) (c d : Place) → kind_at c ≡ kind.DotDotDot → In (expr_goal assignment (with_in k) e (after c) d) → supported_in k.flags.module e ≡ true
       → ReadsAs (AsExpr (tree.element (Some (span_at c)) e)) (item inner cover) k (tree.element (Some (span_at c)) e) c d
   unfolding item spread_item
   spread_reads e k c d o r s w f h =
@@ -165,12 +165,12 @@ module _ (In : Goal → Type 0) (inner : Class → Reader Tree) (cover : Reader 
         is = rw (seen c kind.DotDotDot o, v.is) refl;
       }
 
-  element_item : (k : Code) (x : Tree) (c d : Place) → ElementRule In k x c d → supported x ≡ true → ReadsAs (AsExpr x) (item inner cover) k x c d
-  element_item k x c d (parts.plain_element e r g) s w f h = rw g (plain_reads e k c d r (supported_as x (tree.element None e) g s) w f h)
-  element_item k x c d (parts.spread_element e o r g) s w f h = rw g (spread_reads e k c d o r (supported_as x (tree.element (Some (span_at c)) e) g s) w f h)
+  element_item : (k : Code) (x : Tree) (c d : Place) → ElementRule In k x c d → supported_in k.flags.module x ≡ true → ReadsAs (AsExpr x) (item inner cover) k x c d
+  element_item k x c d (parts.plain_element e r g) s w f h = rw g (plain_reads e k c d r (supported_as _ x (tree.element None e) g s) w f h)
+  element_item k x c d (parts.spread_element e o r g) s w f h = rw g (spread_reads e k c d o r (supported_as _ x (tree.element (Some (span_at c)) e) g s) w f h)
 
   -- the same as parts of a pattern
-  part_item : (k : Code) (p : Tree) (c d : Place) → In (element_goal assigning (with_in k) p c d) → supported p ≡ true → ends_part (kind_at d) ≡ true
+  part_item : (k : Code) (p : Tree) (c d : Place) → In (element_goal assigning (with_in k) p c d) → supported_in k.flags.module p ≡ true → ends_part (kind_at d) ≡ true
       → ReadsAs (AsPart as_elements p) (item inner cover) k p c d
   unfolding item plain_item
   part_item k p c d r s t w f h =
@@ -181,7 +181,7 @@ module _ (In : Goal → Type 0) (inner : Class → Reader Tree) (cover : Reader 
         is = rw ((begin_seen c (given.begins_element (with_in k) p c d r s)).0, v.is) refl;
       }
 
-  rest_item : (y : Tree) (k : Code) (c d : Place) → kind_at c ≡ kind.DotDotDot → In (pattern_goal assigning (with_in k) y (after c) d) → supported y ≡ true → ends_part (kind_at d) ≡ true
+  rest_item : (y : Tree) (k : Code) (c d : Place) → kind_at c ≡ kind.DotDotDot → In (pattern_goal assigning (with_in k) y (after c) d) → supported_in k.flags.module y ≡ true → ends_part (kind_at d) ≡ true
       → ReadsAs (AsLast as_elements (tree.rest_pat (spanned c d) y)) (item inner cover) k (tree.rest_pat (spanned c d) y) c d
   unfolding item spread_item spanned
   rest_item y k c d o r s t w f h =
@@ -218,7 +218,7 @@ module _ (In : Goal → Type 0) (inner : Class → Reader Tree) (cover : Reader 
   unfolding array_turn
   elements_end found k c w f h e = loop_done (array_turn inner cover) found found (st c k w f h) (st (after c) k w f h) (rw (seen c kind.RBracket e) refl)
 
-  one_element : (k : Code) (x : Tree) (found : Covers) (c m d : Place) (w : Scope) (f : List Fault) (h : Notes) → ElementRule In k x c m → Behind kind.RBracket m d → supported x ≡ true
+  one_element : (k : Code) (x : Tree) (found : Covers) (c m d : Place) (w : Scope) (f : List Fault) (h : Notes) → ElementRule In k x c m → Behind kind.RBracket m d → supported_in k.flags.module x ≡ true
       → kind_at d ≡ kind.RBracket → found.mark ≡ None
       → Gets (AsExprs (x ∷ []) found) (loop (array_turn inner cover) found (st c k w f h))
       (st (after d) k w (f ++ walks (env_of k w.labels) false (trees (x ∷ []))) (h ⊕ all_notes_of (trees (x ∷ []))))
@@ -234,21 +234,21 @@ module _ (In : Goal → Type 0) (inner : Class → Reader Tree) (cover : Reader 
         is = rw (append-nil (walk (env_of k w.labels) x), append-nil (notes x), or_nil (has_meta x)) (item_more found v.value k c m d w f h f' h' v.is first.1 first.2 b ∙ elements_end more k d w f' h' e);
       }
 
-  many_elements : (k : Code) (xs : List Tree) (found : Covers) (c d : Place) (w : Scope) (f : List Fault) (h : Notes) → Elements (ElementRule In k) xs c d → all_supported (trees xs) ≡ true
+  many_elements : (k : Code) (xs : List Tree) (found : Covers) (c d : Place) (w : Scope) (f : List Fault) (h : Notes) → Elements (ElementRule In k) xs c d → all_supported_in k.flags.module (trees xs) ≡ true
       → kind_at d ≡ kind.RBracket → found.mark ≡ None
       → Gets (AsExprs xs found) (loop (array_turn inner cover) found (st c k w f h)) (st (after d) k w (f ++ walks (env_of k w.labels) false (trees xs)) (h ⊕ all_notes_of (trees xs)))
   many_elements k xs found c d w f h (no_elements j i) s e n =
       rw j (record { value = found; holds = (sym (append-nil found.xs), n); is = rw (append-nil f, append-nil h.held_back, or_nil h.found_module_item, i) (elements_end found k c w f h (ap kind_at (sym i) ∙ e)) })
   many_elements k xs found c d w f h (hole ys i more j) s e n =
-      let t : all_supported (trees ys) ≡ true = sym (ap (λ z. all_supported (trees z)) j) ∙ s in
+      let t : all_supported_in k.flags.module (trees ys) ≡ true = sym (ap (λ z. all_supported_in k.flags.module (trees z)) j) ∙ s in
       let o = many_elements k ys (with_cover found (done tree.absent)) (after c) d w f h more t e (no_mark _ _ n refl) in
       rw j (record { value = o.value; holds = (o.holds.0 ∙ append_assoc found.xs (tree.absent ∷ []) ys, o.holds.1); is = hole_more found k c w f h i ∙ o.is })
   many_elements k xs found c d w f h (last_element x m r l j) s e n =
-      let t : all_supported (trees (x ∷ [])) ≡ true = sym (ap (λ z. all_supported (trees z)) j) ∙ s in
-      rw j (one_element k x found c m d w f h r (behind_last kind.RBracket x m d l e) (and_yes (supported x) _ t).0 e n)
+      let t : all_supported_in k.flags.module (trees (x ∷ [])) ≡ true = sym (ap (λ z. all_supported_in k.flags.module (trees z)) j) ∙ s in
+      rw j (one_element k x found c m d w f h r (behind_last kind.RBracket x m d l e) (and_yes (supported_in k.flags.module x) _ t).0 e n)
   many_elements k xs found c d w f h (more_elements x y ys m r a i more j) s e n =
-      let q : all_supported (trees (x ∷ y ∷ ys)) ≡ true = sym (ap (λ z. all_supported (trees z)) j) ∙ s in
-      let t = and_yes (supported x) _ q in
+      let q : all_supported_in k.flags.module (trees (x ∷ y ∷ ys)) ≡ true = sym (ap (λ z. all_supported_in k.flags.module (trees z)) j) ∙ s in
+      let t = and_yes (supported_in k.flags.module x) _ q in
       let v = element_item k x c m r t.0 w f h in
       let first = element_begins In inner cover given k x c m r t.0 in
       let next = with_comma (sees kind.DotDotDot c) (with_cover found v.value) in
@@ -261,7 +261,7 @@ module _ (In : Goal → Type 0) (inner : Class → Reader Tree) (cover : Reader 
         is = item_more found v.value k c m (after m) w f h f' h' v.is first.1 first.2 (inr (i, refl)) ∙ o.is ∙ simp (append_assoc, or_assoc) refl;
       })
 
-  pub array_reads : (xs : List Tree) (m : Place) (k : Code) (x : Tree) (c d : Place) → Elements (ElementRule In k) xs (after c) m → all_supported (trees xs) ≡ true → kind_at m ≡ kind.RBracket
+  pub array_reads : (xs : List Tree) (m : Place) (k : Code) (x : Tree) (c d : Place) → Elements (ElementRule In k) xs (after c) m → all_supported_in k.flags.module (trees xs) ≡ true → kind_at m ≡ kind.RBracket
       → d ≡ after m → x ≡ tree.array (spanned c d) (listed xs) → ReadsAs (AsExpr x) (array inner cover) k x c d
   unfolding array elements spanned
   array_reads xs m k x c d r s g i j w f h =
@@ -285,7 +285,7 @@ module _ (In : Goal → Type 0) (inner : Class → Reader Tree) (cover : Reader 
   rest_or k p c d (functions.element_rule r) = inl r
   rest_or k p c d (functions.rest_rule y o r e) = inr (record { y = y; dots = o; reads_rest = r; is = e })
 
-  one_part : (k : Code) (p : Tree) (found : Covers) (c m d : Place) (w : Scope) (f : List Fault) (h : Notes) → In (element_goal assigning (with_in k) p c m) → Behind kind.RBracket m d → supported p ≡ true
+  one_part : (k : Code) (p : Tree) (found : Covers) (c m d : Place) (w : Scope) (f : List Fault) (h : Notes) → In (element_goal assigning (with_in k) p c m) → Behind kind.RBracket m d → supported_in k.flags.module p ≡ true
       → kind_at d ≡ kind.RBracket → found.comma ≡ false
       → Gets (AsParts as_elements (p ∷ []) found) (loop (array_turn inner cover) found (st c k w f h))
       (st (after d) k w (f ++ walks (env_of k w.labels) false (trees (p ∷ []))) (h ⊕ all_notes_of (trees (p ∷ []))))
@@ -301,14 +301,14 @@ module _ (In : Goal → Type 0) (inner : Class → Reader Tree) (cover : Reader 
         is = rw (append-nil (walk (env_of k w.labels) p), append-nil (notes p), or_nil (has_meta p)) (item_more found v.value k c m d w f h f' h' v.is first.2 first.3 b ∙ elements_end more k d w f' h' e);
       }
 
-  one_rest : (k : Code) (p : Tree) (found : Covers) (c m : Place) (w : Scope) (f : List Fault) (h : Notes) → RestItem (with_in k) p c m → supported p ≡ true
+  one_rest : (k : Code) (p : Tree) (found : Covers) (c m : Place) (w : Scope) (f : List Fault) (h : Notes) → RestItem (with_in k) p c m → supported_in k.flags.module p ≡ true
       → kind_at m ≡ kind.RBracket → found.comma ≡ false
       → Gets (AsParts as_elements (p ∷ []) found) (loop (array_turn inner cover) found (st c k w f h))
       (st (after m) k w (f ++ walks (env_of k w.labels) false (trees (p ∷ []))) (h ⊕ all_notes_of (trees (p ∷ []))))
   unfolding same_kind
   one_rest k p found c m w f h r s e n =
       let q = tree.rest_pat (spanned c m) r.y in
-      let v = rest_item r.y k c m r.dots r.reads_rest (supported_as p q r.is s) (rw e refl) w f h in
+      let v = rest_item r.y k c m r.dots r.reads_rest (supported_as _ p q r.is s) (rw e refl) w f h in
       let more = with_cover found v.value in
       let f' = f ++ walk (env_of k w.labels) q in
       let h' = h ⊕ notes_of q in
@@ -320,7 +320,7 @@ module _ (In : Goal → Type 0) (inner : Class → Reader Tree) (cover : Reader 
       })
 
   last_part : (k : Code) (p : Tree) (found : Covers) (c m d : Place) (w : Scope) (f : List Fault) (h : Notes) → In (element_goal assigning (with_in k) p c m) ⊎ RestItem (with_in k) p c m
-      → LastComma true p m d → supported p ≡ true → kind_at d ≡ kind.RBracket → found.comma ≡ false
+      → LastComma true p m d → supported_in k.flags.module p ≡ true → kind_at d ≡ kind.RBracket → found.comma ≡ false
       → Gets (AsParts as_elements (p ∷ []) found) (loop (array_turn inner cover) found (st c k w f h))
       (st (after d) k w (f ++ walks (env_of k w.labels) false (trees (p ∷ []))) (h ⊕ all_notes_of (trees (p ∷ []))))
   last_part k p found c m d w f h (inl r) l s e n = one_part k p found c m d w f h r (behind_last kind.RBracket p m d l e) s e n
@@ -333,7 +333,7 @@ module _ (In : Goal → Type 0) (inner : Class → Reader Tree) (cover : Reader 
   no_rest k p c d (inr r) e = absurd (let h : is_rest p ≡ true = ap is_rest r.is in cc)
 
   many_parts : (k : Code) (ps : List Tree) (found : Covers) (c d : Place) (w : Scope) (f : List Fault) (h : Notes) → Elements (PatternItemRule In assigning (with_in k)) ps c d
-      → all_supported (trees ps) ≡ true → kind_at d ≡ kind.RBracket → found.comma ≡ false
+      → all_supported_in k.flags.module (trees ps) ≡ true → kind_at d ≡ kind.RBracket → found.comma ≡ false
       → Gets (AsParts as_elements ps found) (loop (array_turn inner cover) found (st c k w f h)) (st (after d) k w (f ++ walks (env_of k w.labels) false (trees ps)) (h ⊕ all_notes_of (trees ps)))
   many_parts k ps found c d w f h (no_elements j i) s e n =
       rw j (record {
@@ -342,7 +342,7 @@ module _ (In : Goal → Type 0) (inner : Class → Reader Tree) (cover : Reader 
         is = rw (append-nil f, append-nil h.held_back, or_nil h.found_module_item, i) (elements_end found k c w f h (ap kind_at (sym i) ∙ e));
       })
   many_parts k ps found c d w f h (hole qs i more j) s e n =
-      let t : all_supported (trees qs) ≡ true = sym (ap (λ z. all_supported (trees z)) j) ∙ s in
+      let t : all_supported_in k.flags.module (trees qs) ≡ true = sym (ap (λ z. all_supported_in k.flags.module (trees z)) j) ∙ s in
       let next = with_cover found (done tree.absent) in
       let o = many_parts k qs next (after c) d w f h more t e (or_none _ _ n refl) in
       rw j (record {
@@ -351,11 +351,11 @@ module _ (In : Goal → Type 0) (inner : Class → Reader Tree) (cover : Reader 
         is = hole_more found k c w f h i ∙ o.is;
       })
   many_parts k ps found c d w f h (last_element p m r l j) s e n =
-      let t : all_supported (trees (p ∷ [])) ≡ true = sym (ap (λ z. all_supported (trees z)) j) ∙ s in
-      rw j (last_part k p found c m d w f h (rest_or (with_in k) p c m r) l (and_yes (supported p) _ t).0 e n)
+      let t : all_supported_in k.flags.module (trees (p ∷ [])) ≡ true = sym (ap (λ z. all_supported_in k.flags.module (trees z)) j) ∙ s in
+      rw j (last_part k p found c m d w f h (rest_or (with_in k) p c m r) l (and_yes (supported_in k.flags.module p) _ t).0 e n)
   many_parts k ps found c d w f h (more_elements p q qs m r a i more j) s e n =
-      let g : all_supported (trees (p ∷ q ∷ qs)) ≡ true = sym (ap (λ z. all_supported (trees z)) j) ∙ s in
-      let t = and_yes (supported p) _ g in
+      let g : all_supported_in k.flags.module (trees (p ∷ q ∷ qs)) ≡ true = sym (ap (λ z. all_supported_in k.flags.module (trees z)) j) ∙ s in
+      let t = and_yes (supported_in k.flags.module p) _ g in
       let r' = no_rest (with_in k) p c m (rest_or (with_in k) p c m r) a in
       let v = part_item k p c m r' t.0 (rw i refl) w f h in
       let first = begin_seen c (given.begins_element (with_in k) p c m r' t.0) in
@@ -369,7 +369,7 @@ module _ (In : Goal → Type 0) (inner : Class → Reader Tree) (cover : Reader 
         is = item_more found v.value k c m (after m) w f h f' h' v.is first.2 first.3 (inr (i, refl)) ∙ o.is ∙ simp (append_assoc, or_assoc) refl;
       })
 
-  pub array_pattern : (ps : List Tree) (m : Place) (k : Code) (p : Tree) (c d : Place) → Elements (PatternItemRule In assigning (with_in k)) ps (after c) m → all_supported (trees ps) ≡ true
+  pub array_pattern : (ps : List Tree) (m : Place) (k : Code) (p : Tree) (c d : Place) → Elements (PatternItemRule In assigning (with_in k)) ps (after c) m → all_supported_in k.flags.module (trees ps) ≡ true
       → kind_at m ≡ kind.RBracket → d ≡ after m → p ≡ tree.array_pat (spanned c d) (listed ps) → ReadsAs (AsLiteral p c d) (array inner cover) k p c d
   unfolding array elements spanned
   array_pattern ps m k p c d r s g i j w f h =
@@ -385,7 +385,7 @@ module _ (In : Goal → Type 0) (inner : Class → Reader Tree) (cover : Reader 
   -- ---- the parts of an object
 
   -- a key and a value
-  valued : (y z : Tree) (v : Cover) (m : Place) (k : Code) (c d : Place) (w : Scope) (f : List Fault) (h : Notes) → KeyRule In k y c m → is_supported_key y ≡ true → kind_at m ≡ kind.Colon
+  valued : (y z : Tree) (v : Cover) (m : Place) (k : Code) (c d : Place) (w : Scope) (f : List Fault) (h : Notes) → KeyRule In k y c m → is_supported_key_in k.flags.module y ≡ true → kind_at m ≡ kind.Colon
       → covered inner cover (st (after m) k w (f ++ walk (env_of k w.labels) y) (h ⊕ notes_of y))
       ≡ Ok (v, st d k w ((f ++ walk (env_of k w.labels) y) ++ walk (env_of k w.labels) z) ((h ⊕ notes_of y) ⊕ notes_of z))
       → property inner cover (st c k w f h)
@@ -402,8 +402,8 @@ module _ (In : Goal → Type 0) (inner : Class → Reader Tree) (cover : Reader 
         or_assoc h.found_module_item (has_meta y) (has_meta z),
       ) refl
 
-  valued_property : (y z : Tree) (m : Place) (k : Code) (c d : Place) → KeyRule In k y c m → is_supported_key y ≡ true → kind_at m ≡ kind.Colon
-      → In (expr_goal assignment (with_in k) z (after m) d) → supported z ≡ true
+  valued_property : (y z : Tree) (m : Place) (k : Code) (c d : Place) → KeyRule In k y c m → is_supported_key_in k.flags.module y ≡ true → kind_at m ≡ kind.Colon
+      → In (expr_goal assignment (with_in k) z (after m) d) → supported_in k.flags.module z ≡ true
       → ReadsAs (AsExpr (tree.key_value_prop (spanned c d) y z)) (property inner cover) k (tree.key_value_prop (spanned c d) y z) c d
   valued_property y z m k c d r s i g t w f h =
       let v = covered_reads (AsExpr z) k z (after m) d (given.exprs (with_in k) z (after m) d g t) w (f ++ walk (env_of k w.labels) y) (h ⊕ notes_of y) in
@@ -430,7 +430,7 @@ module _ (In : Goal → Type 0) (inner : Class → Reader Tree) (cover : Reader 
         shorthand_reads text sp (tree.shorthand_prop sp text) d k w f h n refl,
       ) refl
 
-  spread_property_reads : (e : Tree) (k : Code) (c d : Place) → kind_at c ≡ kind.DotDotDot → In (expr_goal assignment (with_in k) e (after c) d) → supported e ≡ true
+  spread_property_reads : (e : Tree) (k : Code) (c d : Place) → kind_at c ≡ kind.DotDotDot → In (expr_goal assignment (with_in k) e (after c) d) → supported_in k.flags.module e ≡ true
       → ReadsAs (AsExpr (tree.spread_prop (span_at c) e)) (property inner cover) k (tree.spread_prop (span_at c) e) c d
   unfolding property spread_property
   spread_property_reads e k c d o r s w f h =
@@ -444,30 +444,30 @@ module _ (In : Goal → Type 0) (inner : Class → Reader Tree) (cover : Reader 
   pub word_of : (k : Code) (text : Text) (sp : Span) (c d : Place) → ReadsName k text sp c d → ReadsWord text sp c d
   word_of k text sp c d r = record { word = r.word; reads_word = r.reads_word; is_text = r.is_text }
 
-  property_reads : (k : Code) (x : Tree) (c d : Place) → PropertyRule In k x c d → supported x ≡ true → ends_part (kind_at d) ≡ true → ReadsAs (AsExpr x) (property inner cover) k x c d
-  property_reads k x c d (objects.spread_rule e o r g) s q w f h = rw g (spread_property_reads e k c d o r (supported_as x (tree.spread_prop (span_at c) e) g s) w f h)
+  property_reads : (k : Code) (x : Tree) (c d : Place) → PropertyRule In k x c d → supported_in k.flags.module x ≡ true → ends_part (kind_at d) ≡ true → ReadsAs (AsExpr x) (property inner cover) k x c d
+  property_reads k x c d (objects.spread_rule e o r g) s q w f h = rw g (spread_property_reads e k c d o r (supported_as _ x (tree.spread_prop (span_at c) e) g s) w f h)
   property_reads k x c d (objects.shorthand_rule text sp r g) s q w f h =
-      let n : is_name k.flags text ≡ true = ap (is_name k.flags) r.is_text ∙ name_is_name k text sp c d r (supported_as x (tree.shorthand_prop sp text) g s) in
+      let n : is_name k.flags text ≡ true = ap (is_name k.flags) r.is_text ∙ name_is_name k text sp c d r (supported_as _ x (tree.shorthand_prop sp text) g s) in
       rw g (record {
         value = done (tree.shorthand_prop sp text);
         holds = (refl, refl);
         is = rw (append-nil f, append-nil h.held_back, or_nil h.found_module_item) (shorthand_reads_as text sp k c d w f h (word_of k text sp c d r) n q);
       })
   property_reads k x c d (objects.key_value_rule y z m r i v g) s q w f h =
-      let t = and_yes (is_supported_key y) _ (supported_as x (tree.key_value_prop (spanned c d) y z) g s) in
+      let t = and_yes (is_supported_key_in k.flags.module y) _ (supported_as _ x (tree.key_value_prop (spanned c d) y z) g s) in
       rw g (valued_property y z m k c d r t.0 i v t.1 w f h)
-  property_reads k x c d (objects.getter_rule y b r g) s q w f h = refuted x (ap supported g) s
-  property_reads k x c d (objects.setter_rule y p b r g) s q w f h = refuted x (ap supported g) s
-  property_reads k x c d (objects.method_rule i j y ps b r g) s q w f h = refuted x (ap supported g) s
+  property_reads k x c d (objects.getter_rule y b r g) s q w f h = refuted _ x (ap (supported_in k.flags.module) g) s
+  property_reads k x c d (objects.setter_rule y p b r g) s q w f h = refuted _ x (ap (supported_in k.flags.module) g) s
+  property_reads k x c d (objects.method_rule i j y ps b r g) s q w f h = refuted _ x (ap (supported_in k.flags.module) g) s
 
-  property_begins : (k : Code) (x : Tree) (c d : Place) → PropertyRule In k x c d → supported x ≡ true → sees kind.RBrace c ≡ false
+  property_begins : (k : Code) (x : Tree) (c d : Place) → PropertyRule In k x c d → supported_in k.flags.module x ≡ true → sees kind.RBrace c ≡ false
   unfolding same_kind
   property_begins k x c d (objects.spread_rule e o r g) s = rw o refl
   property_begins k x c d (objects.shorthand_rule text sp r g) s = (key_begins In k (tree.ident sp text) c d (parts.word_key text sp (word_of k text sp c d r) refl)).0
   property_begins k x c d (objects.key_value_rule y z m r i v g) s = (key_begins In k y c m r).0
-  property_begins k x c d (objects.getter_rule y b r g) s = refuted x (ap supported g) s
-  property_begins k x c d (objects.setter_rule y p b r g) s = refuted x (ap supported g) s
-  property_begins k x c d (objects.method_rule i j y ps b r g) s = refuted x (ap supported g) s
+  property_begins k x c d (objects.getter_rule y b r g) s = refuted _ x (ap (supported_in k.flags.module) g) s
+  property_begins k x c d (objects.setter_rule y p b r g) s = refuted _ x (ap (supported_in k.flags.module) g) s
+  property_begins k x c d (objects.method_rule i j y ps b r g) s = refuted _ x (ap (supported_in k.flags.module) g) s
 
   -- a property, and what stands behind it
   property_more : (found : Covers) (v : Cover) (k : Code) (c m d : Place) (w : Scope) (f : List Fault) (h : Notes) (i : List Fault) (j : Notes) → property inner cover (st c k w f h) ≡ Ok (v, st m k w i j)
@@ -487,13 +487,13 @@ module _ (In : Goal → Type 0) (inner : Class → Reader Tree) (cover : Reader 
   unfolding object_turn
   properties_end found k c w f h e = loop_done (object_turn inner cover) found found (st c k w f h) (st (after c) k w f h) (rw (seen c kind.RBrace e) refl)
 
-  many_properties : (xs : List Tree) (found : Covers) (k : Code) (c d : Place) (w : Scope) (f : List Fault) (h : Notes) → ReadsListed true (PropertyRule In k) xs c d → all_supported (trees xs) ≡ true
+  many_properties : (xs : List Tree) (found : Covers) (k : Code) (c d : Place) (w : Scope) (f : List Fault) (h : Notes) → ReadsListed true (PropertyRule In k) xs c d → all_supported_in k.flags.module (trees xs) ≡ true
       → kind_at d ≡ kind.RBrace → found.mark ≡ None
       → Gets (AsExprs xs found) (loop (object_turn inner cover) found (st c k w f h)) (st (after d) k w (f ++ walks (env_of k w.labels) false (trees xs)) (h ⊕ all_notes_of (trees xs)))
   many_properties [] found k c d w f h r s e n =
       record { value = found; holds = (sym (append-nil found.xs), n); is = rw (append-nil f, append-nil h.held_back, or_nil h.found_module_item, r) (properties_end found k c w f h (ap kind_at (sym r) ∙ e)) }
   many_properties (x ∷ []) found k c d w f h (m, r, l) s e n =
-      let t = (and_yes (supported x) _ s).0 in
+      let t = (and_yes (supported_in k.flags.module x) _ s).0 in
       let b = behind_last kind.RBrace x m d l e in
       let v = property_reads k x c m r t (behind_ends kind.RBrace m d refl b) w f h in
       let more = commaed b (sees kind.DotDotDot c) (with_cover found v.value) in
@@ -506,7 +506,7 @@ module _ (In : Goal → Type 0) (inner : Class → Reader Tree) (cover : Reader 
             (property_more found v.value k c m d w f h f' h' v.is (property_begins k x c m r t) b ∙ properties_end more k d w f' h' e);
       }
   many_properties (x ∷ y ∷ ys) found k c d w f h (m, r, a, i, more) s e n =
-      let t = and_yes (supported x) _ s in
+      let t = and_yes (supported_in k.flags.module x) _ s in
       let v = property_reads k x c m r t.0 (rw i refl) w f h in
       let next = with_comma (sees kind.DotDotDot c) (with_cover found v.value) in
       let f' = f ++ walk (env_of k w.labels) x in
@@ -518,7 +518,7 @@ module _ (In : Goal → Type 0) (inner : Class → Reader Tree) (cover : Reader 
         is = property_more found v.value k c m (after m) w f h f' h' v.is (property_begins k x c m r t.0) (inr (i, refl)) ∙ o.is ∙ simp (append_assoc, or_assoc) refl;
       }
 
-  pub object_reads : (xs : List Tree) (m : Place) (k : Code) (x : Tree) (c d : Place) → ReadsListed true (PropertyRule In k) xs (after c) m → all_supported (trees xs) ≡ true
+  pub object_reads : (xs : List Tree) (m : Place) (k : Code) (x : Tree) (c d : Place) → ReadsListed true (PropertyRule In k) xs (after c) m → all_supported_in k.flags.module (trees xs) ≡ true
       → kind_at m ≡ kind.RBrace → d ≡ after m → x ≡ tree.object (spanned c d) (listed xs) → ReadsAs (AsExpr x) (object inner cover) k x c d
   unfolding object properties spanned
   object_reads xs m k x c d r s g i j w f h =
@@ -536,7 +536,7 @@ module _ (In : Goal → Type 0) (inner : Class → Reader Tree) (cover : Reader 
     plain : is_pattern_target y ≡ false
     is : p ≡ tree.rest_pat (spanned c d) y
 
-  rest_property : (y : Tree) (k : Code) (c d : Place) → kind_at c ≡ kind.DotDotDot → In (pattern_goal assigning (with_in k) y (after c) d) → is_pattern_target y ≡ false → supported y ≡ true
+  rest_property : (y : Tree) (k : Code) (c d : Place) → kind_at c ≡ kind.DotDotDot → In (pattern_goal assigning (with_in k) y (after c) d) → is_pattern_target y ≡ false → supported_in k.flags.module y ≡ true
       → ends_part (kind_at d) ≡ true → ReadsAs (AsLast as_properties (tree.rest_pat (spanned c d) y)) (property inner cover) k (tree.rest_pat (spanned c d) y) c d
   unfolding property spread_property spanned
   rest_property y k c d o r n s t w f h =
@@ -547,8 +547,8 @@ module _ (In : Goal → Type 0) (inner : Class → Reader Tree) (cover : Reader 
         is = rw (seen c kind.DotDotDot o, v.is) refl;
       }
 
-  valued_part : (y z : Tree) (m : Place) (k : Code) (c d : Place) → KeyRule In k y c m → is_supported_key y ≡ true → kind_at m ≡ kind.Colon
-      → In (element_goal assigning (with_in k) z (after m) d) → supported z ≡ true → ends_part (kind_at d) ≡ true
+  valued_part : (y z : Tree) (m : Place) (k : Code) (c d : Place) → KeyRule In k y c m → is_supported_key_in k.flags.module y ≡ true → kind_at m ≡ kind.Colon
+      → In (element_goal assigning (with_in k) z (after m) d) → supported_in k.flags.module z ≡ true → ends_part (kind_at d) ≡ true
       → ReadsAs (AsPart as_properties (tree.key_value_pat_prop (spanned c d) y z)) (property inner cover) k (tree.key_value_pat_prop (spanned c d) y z) c d
   valued_part y z m k c d r s i g t q w f h =
       let v = covered_reads (AsElement z) k z (after m) d (given.elements k z (after m) d g t q) w (f ++ walk (env_of k w.labels) y) (h ⊕ notes_of y) in
@@ -560,7 +560,7 @@ module _ (In : Goal → Type 0) (inner : Class → Reader Tree) (cover : Reader 
 
   -- a name, `=` and a value
   initialized_part : (text : Text) (sp : Span) (z : Tree) (m : Place) (k : Code) (c d : Place) → ReadsWord text sp c m → is_name k.flags text ≡ true → kind_at m ≡ kind.Assign
-      → In (expr_goal assignment (with_in k) z (after m) d) → supported z ≡ true
+      → In (expr_goal assignment (with_in k) z (after m) d) → supported_in k.flags.module z ≡ true
       → ReadsAs (AsPart as_properties (tree.assign_pat_prop (spanned c d) (tree.ident_pat sp text) z)) (property inner cover) k (tree.assign_pat_prop (spanned c d) (tree.ident_pat sp text) z) c d
   unfolding property keyed_property behind_key initialized_name initialized spanned same_kind
   initialized_part text sp z m k c d r n i g t w f h = record {
@@ -594,16 +594,16 @@ module _ (In : Goal → Type 0) (inner : Class → Reader Tree) (cover : Reader 
       parts.computed_key (record { key = r.key; close = r.close; opens = r.opens; reads_key = r.reads_key; closes = r.closes; next = r.next; is = r.is })
 
   -- a name that stands there
-  pub name_there : (k : Code) (text : Text) (sp : Span) (c d : Place) → ReadsName (with_in k) text sp c d → supported (tree.ident sp text) ≡ true → is_name k.flags text ≡ true
+  pub name_there : (k : Code) (text : Text) (sp : Span) (c d : Place) → ReadsName (with_in k) text sp c d → supported_in k.flags.module (tree.ident sp text) ≡ true → is_name k.flags text ≡ true
   name_there k text sp c d r s = sym (name_inside k text) ∙ ap (is_name (with_in k).flags) r.is_text ∙ name_is_name (with_in k) text sp c d r s
 
-  part_property : (k : Code) (p : Tree) (c d : Place) → PatternPropertyRule In assigning (with_in k) p c d → is_rest p ≡ false → supported p ≡ true → ends_part (kind_at d) ≡ true
+  part_property : (k : Code) (p : Tree) (c d : Place) → PatternPropertyRule In assigning (with_in k) p c d → is_rest p ≡ false → supported_in k.flags.module p ≡ true → ends_part (kind_at d) ≡ true
       → ReadsAs (AsPart as_properties p) (property inner cover) k p c d
   part_property k p c d (patterns.key_value_rule y z m r i v g) a s q w f h =
-      let t = and_yes (is_supported_key y) _ (supported_as p (tree.key_value_pat_prop (spanned c d) y z) g s) in
+      let t = and_yes (is_supported_key_in k.flags.module y) _ (supported_as _ p (tree.key_value_pat_prop (spanned c d) y z) g s) in
       rw g (valued_part y z m k c d (key_outside k y c m r) t.0 i v t.1 q w f h)
   part_property k p c d (patterns.shorthand_rule text sp r n g) a s q w f h =
-      let t = and_yes (supported (tree.ident_pat sp text)) _ (supported_as p (tree.assign_pat_prop (spanned c d) (tree.ident_pat sp text) tree.absent) g s) in
+      let t = and_yes (supported_in k.flags.module (tree.ident_pat sp text)) _ (supported_as _ p (tree.assign_pat_prop (spanned c d) (tree.ident_pat sp text) tree.absent) g s) in
       let e : p ≡ tree.assign_pat_prop sp (tree.ident_pat sp text) tree.absent = g ∙ ap (λ z. tree.assign_pat_prop z (tree.ident_pat sp text) tree.absent) (sym (name_span r)) in
       rw e (record {
         value = done (tree.shorthand_prop sp text);
@@ -611,7 +611,7 @@ module _ (In : Goal → Type 0) (inner : Class → Reader Tree) (cover : Reader 
         is = rw (append-nil f, append-nil h.held_back, or_nil h.found_module_item) (shorthand_reads_as text sp k c d w f h (word_of (with_in k) text sp c d r) (name_there k text sp c d r t.0) q);
       })
   part_property k p c d (patterns.default_rule text sp z m r i v g) a s q w f h =
-      let t = and_yes (supported (tree.ident_pat sp text)) _ (supported_as p (tree.assign_pat_prop (spanned c d) (tree.ident_pat sp text) z) g s) in
+      let t = and_yes (supported_in k.flags.module (tree.ident_pat sp text)) _ (supported_as _ p (tree.assign_pat_prop (spanned c d) (tree.ident_pat sp text) z) g s) in
       rw g (initialized_part text sp z m k c d (word_of (with_in k) text sp c m r) (name_there k text sp c m r t.0) i v t.1 w f h)
   part_property k p c d (patterns.rest_rule y o r n e) a s q w f h = absurd (let b : is_rest p ≡ true = ap is_rest e in cc)
 
@@ -623,7 +623,7 @@ module _ (In : Goal → Type 0) (inner : Class → Reader Tree) (cover : Reader 
   part_begins k p c d (patterns.rest_rule y o r n e) a = absurd (let b : is_rest p ≡ true = ap is_rest e in cc)
 
   one_property : (k : Code) (p : Tree) (found : Covers) (c m d : Place) (w : Scope) (f : List Fault) (h : Notes) → PatternPropertyRule In assigning (with_in k) p c m → is_rest p ≡ false
-      → Behind kind.RBrace m d → supported p ≡ true → kind_at d ≡ kind.RBrace → found.comma ≡ false
+      → Behind kind.RBrace m d → supported_in k.flags.module p ≡ true → kind_at d ≡ kind.RBrace → found.comma ≡ false
       → Gets (AsParts as_properties (p ∷ []) found) (loop (object_turn inner cover) found (st c k w f h))
       (st (after d) k w (f ++ walks (env_of k w.labels) false (trees (p ∷ []))) (h ⊕ all_notes_of (trees (p ∷ []))))
   one_property k p found c m d w f h r a b s e n =
@@ -638,14 +638,14 @@ module _ (In : Goal → Type 0) (inner : Class → Reader Tree) (cover : Reader 
         is = rw (append-nil (walk (env_of k w.labels) p), append-nil (notes p), or_nil (has_meta p)) (property_more found v.value k c m d w f h f' h' v.is first.0 b ∙ properties_end more k d w f' h' e);
       }
 
-  one_rest_property : (k : Code) (p : Tree) (found : Covers) (c m : Place) (w : Scope) (f : List Fault) (h : Notes) → RestProperty (with_in k) p c m → supported p ≡ true
+  one_rest_property : (k : Code) (p : Tree) (found : Covers) (c m : Place) (w : Scope) (f : List Fault) (h : Notes) → RestProperty (with_in k) p c m → supported_in k.flags.module p ≡ true
       → kind_at m ≡ kind.RBrace → found.comma ≡ false
       → Gets (AsParts as_properties (p ∷ []) found) (loop (object_turn inner cover) found (st c k w f h))
       (st (after m) k w (f ++ walks (env_of k w.labels) false (trees (p ∷ []))) (h ⊕ all_notes_of (trees (p ∷ []))))
   unfolding same_kind
   one_rest_property k p found c m w f h r s e n =
       let q = tree.rest_pat (spanned c m) r.y in
-      let v = rest_property r.y k c m r.dots r.reads_rest r.plain (supported_as p q r.is s) (rw e refl) w f h in
+      let v = rest_property r.y k c m r.dots r.reads_rest r.plain (supported_as _ p q r.is s) (rw e refl) w f h in
       let more = with_cover found v.value in
       let f' = f ++ walk (env_of k w.labels) q in
       let h' = h ⊕ notes_of q in
@@ -657,7 +657,7 @@ module _ (In : Goal → Type 0) (inner : Class → Reader Tree) (cover : Reader 
       })
 
   last_property : (k : Code) (p : Tree) (found : Covers) (c m d : Place) (w : Scope) (f : List Fault) (h : Notes) → PatternPropertyRule In assigning (with_in k) p c m
-      → (is_rest p ≡ false) ⊎ RestProperty (with_in k) p c m → LastComma true p m d → supported p ≡ true → kind_at d ≡ kind.RBrace → found.comma ≡ false
+      → (is_rest p ≡ false) ⊎ RestProperty (with_in k) p c m → LastComma true p m d → supported_in k.flags.module p ≡ true → kind_at d ≡ kind.RBrace → found.comma ≡ false
       → Gets (AsParts as_properties (p ∷ []) found) (loop (object_turn inner cover) found (st c k w f h))
       (st (after d) k w (f ++ walks (env_of k w.labels) false (trees (p ∷ []))) (h ⊕ all_notes_of (trees (p ∷ []))))
   last_property k p found c m d w f h r (inl a) l s e n = one_property k p found c m d w f h r a (behind_last kind.RBrace p m d l e) s e n
@@ -666,7 +666,7 @@ module _ (In : Goal → Type 0) (inner : Class → Reader Tree) (cover : Reader 
       rw g (one_rest_property k p found c m w f h a s (ap kind_at (sym g) ∙ e) n)
 
   many_part_properties : (ps : List Tree) (found : Covers) (k : Code) (c d : Place) (w : Scope) (f : List Fault) (h : Notes) → ReadsListed true (PatternPropertyRule In assigning (with_in k)) ps c d
-      → all_supported (trees ps) ≡ true → kind_at d ≡ kind.RBrace → found.comma ≡ false
+      → all_supported_in k.flags.module (trees ps) ≡ true → kind_at d ≡ kind.RBrace → found.comma ≡ false
       → Gets (AsParts as_properties ps found) (loop (object_turn inner cover) found (st c k w f h)) (st (after d) k w (f ++ walks (env_of k w.labels) false (trees ps)) (h ⊕ all_notes_of (trees ps)))
   many_part_properties [] found k c d w f h r s e n = record {
     value = found;
@@ -674,9 +674,9 @@ module _ (In : Goal → Type 0) (inner : Class → Reader Tree) (cover : Reader 
     is = rw (append-nil f, append-nil h.held_back, or_nil h.found_module_item, r) (properties_end found k c w f h (ap kind_at (sym r) ∙ e));
   }
   many_part_properties (p ∷ []) found k c d w f h (m, r, l) s e n =
-      last_property k p found c m d w f h r (rest_property_or (with_in k) p c m r) l (and_yes (supported p) _ s).0 e n
+      last_property k p found c m d w f h r (rest_property_or (with_in k) p c m r) l (and_yes (supported_in k.flags.module p) _ s).0 e n
   many_part_properties (p ∷ q ∷ qs) found k c d w f h (m, r, a, i, more) s e n =
-      let t = and_yes (supported p) _ s in
+      let t = and_yes (supported_in k.flags.module p) _ s in
       let v = part_property k p c m r a t.0 (rw i refl) w f h in
       let first = part_begins (with_in k) p c m r a in
       let next = with_comma (sees kind.DotDotDot c) (with_cover found v.value) in
@@ -690,7 +690,7 @@ module _ (In : Goal → Type 0) (inner : Class → Reader Tree) (cover : Reader 
       }
 
   pub object_pattern : (ps : List Tree) (m : Place) (k : Code) (p : Tree) (c d : Place) → ReadsListed true (PatternPropertyRule In assigning (with_in k)) ps (after c) m
-      → all_supported (trees ps) ≡ true → kind_at m ≡ kind.RBrace → d ≡ after m → p ≡ tree.object_pat (spanned c d) (listed ps) → ReadsAs (AsLiteral p c d) (object inner cover) k p c d
+      → all_supported_in k.flags.module (trees ps) ≡ true → kind_at m ≡ kind.RBrace → d ≡ after m → p ≡ tree.object_pat (spanned c d) (listed ps) → ReadsAs (AsLiteral p c d) (object inner cover) k p c d
   unfolding object properties spanned
   object_pattern ps m k p c d r s g i j w f h =
       let o = many_part_properties ps no_covers k (after c) m w f h r s g refl in

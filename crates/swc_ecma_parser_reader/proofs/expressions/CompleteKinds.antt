@@ -1,5 +1,5 @@
 -- With which token an expression of the language begins, and which stands behind it, as far as the reader asks.
-use Rattle.std.proofs.Common.{◌≡◌, ℕ, zero, suc, Bool, true, false, cond, List, [], ◌∷◌, Option, Some, None, refl, sym, ◌∙◌, ap}
+use Rattle.std.proofs.Common.{◌≡◌, inl, inr, ℕ, zero, suc, Bool, true, false, cond, List, [], ◌∷◌, Option, Some, None, refl, sym, ◌∙◌, ap}
 use Rattle.std.specs.Prelude.{nat_eq, not, ◌&&◌, ◌||◌, is_some, codes}
 use Rattle.std.proofs.lemmas.Bool.{eq-eqb}
 use denote.Enum.Bare.{true_same}
@@ -29,14 +29,16 @@ use Rattle.swc_ecma_parser_grammar.specs.Looks.{kind_at, first_kind, breaks_at, 
 use Rattle.swc_ecma_parser_grammar.specs.Names.{Code, is_reserved, is_name, token_is_name, first_is_name, name_at, token_is_identifier, first_is_identifier, identifier_at}
 use Rattle.swc_ecma_parser_grammar.specs.Follows.{continues_left_side, word_at, is_async_function}
 use Rattle.swc_ecma_parser_grammar.specs.Reads.{ReadsToken}
-use Rattle.swc_ecma_parser_grammar.specs.Supported.{supported}
+use Rattle.swc_ecma_parser_grammar.specs.Supported.{supported_in}
 use Rattle.swc_ecma_parser_grammar.specs.ReadsSupported.{ReadsClass}
 use Rattle.swc_ecma_parser_grammar.specs.language.Goals.{Goal, Purpose, expr_goal, element_goal, expression, assignment}
 use Rattle.swc_ecma_parser_grammar.specs.language.Operators.{unary_operator, update_operator, binary_operator, assign_operator}
 use Rattle.swc_ecma_parser_grammar.specs.language.Continues.{continues_unary, is_operation, continues_operand, continues_head, continues_conditional, continues_assignment}
 use Rattle.swc_ecma_parser_grammar.specs.language.Parts as parts
 use Rattle.swc_ecma_parser_grammar.specs.language.Parts.{ReadsName, ReadsWord, KeyRule}
+use Rattle.swc_ecma_parser_grammar.specs.language.Functions as functions
 use Rattle.swc_ecma_parser_grammar.specs.language.LeftSides as sides
+use Rattle.swc_ecma_parser_grammar.proofs.SupportedBegins.{function_begins}
 use Rattle.swc_ecma_parser_grammar.specs.language.LeftSides.{PrimaryRule, LeftSideRule}
 use Rattle.swc_ecma_parser_grammar.specs.language.Patterns as patterns
 use Rattle.swc_ecma_parser_grammar.specs.language.Patterns.{PatternRule, PatternElementRule}
@@ -51,12 +53,12 @@ use Rattle.swc_ecma_parser_reader.specs.Expressions.{literal_of, literal_in, tok
 -- ---- supported forms
 
 -- no tree is of a form that is not supported and is supported
-pub refuted : {X : Type 0} (x : Tree) → supported x ≡ false → supported x ≡ true → X
-refuted x e h = cc
+pub refuted : {X : Type 0} (m : Bool) (x : Tree) → supported_in m x ≡ false → supported_in m x ≡ true → X
+refuted m x e h = cc
 
 -- the form of a tree that is supported is
-pub supported_as : (x y : Tree) → x ≡ y → supported x ≡ true → supported y ≡ true
-supported_as x y e h = sym (ap supported e) ∙ h
+pub supported_as : (m : Bool) (x y : Tree) → x ≡ y → supported_in m x ≡ true → supported_in m y ≡ true
+supported_as m x y e h = sym (ap (supported_in m) e) ∙ h
 
 -- ---- one token
 
@@ -119,17 +121,19 @@ pub false_unnamed : (f : Context) → token_is_name f (token.Word word.False) �
 unfolding is_name is_reserved
 false_unnamed f = refl
 
--- `(`, `[`, `{` and `this` are no name and no literal
+-- `(`, `[`, `{`, `this` and `function` are no name and no literal
 abbrev is_marked : TokenKind → Bool
 is_marked kind.LParen = true
 is_marked kind.LBracket = true
 is_marked kind.LBrace = true
 is_marked kind.This = true
+is_marked kind.Function = true
 is_marked _ = false
 
 marked_keyword : (f : Context) (k : Keyword) → is_marked (keyword_kind k) ≡ true → is_name f (word_text (word.Keyword k)) ≡ false
 unfolding is_name is_reserved
 marked_keyword f keyword.This e = refl
+marked_keyword f keyword.Function e = refl
 marked_keyword f _ e = cc
 
 marked_word : (f : Context) (w : Word) (s : Span) → is_marked (word_kind w) ≡ true → (token_is_name f (token.Word w) ≡ false) × (literal_of s (token.Word w) ≡ None)
@@ -165,6 +169,9 @@ object_here f c e = marked_here f c (rw e refl)
 
 pub this_here : (f : Context) (c : Place) → kind_at c ≡ kind.This → (name_at f c ≡ false) × (literal_in c.left ≡ None)
 this_here f c e = marked_here f c (rw e refl)
+
+pub function_here : (f : Context) (c : Place) → kind_at c ≡ kind.Function → (name_at f c ≡ false) × (literal_in c.left ≡ None)
+function_here f c e = marked_here f c (rw e refl)
 
 -- ---- keys
 
@@ -354,9 +361,13 @@ token_primary : (t : Token) (s : Span) (c d : Place) → ReadsToken t s c d → 
 token_primary t s c d r e = ap primary_kind (token_first t s c d r) ∙ e
 
 module _ (In : Goal → Type 0) where
-  pub primary_first : (k : Code) (x : Tree) (c d : Place) → PrimaryRule In k x c d → supported x ≡ true → primary_kind (kind_at c) ≡ true
+  -- a function begins with its word, or with `async`
+  function_first : {k : Code} {name y : Tree} (c : Place) {d : Place} → functions.FunctionRule In true k (listed []) name y c d → primary_kind (kind_at c) ≡ true
+  function_first {k = k} c r = elim (function_begins In k c r) [ inl e ↦ ap primary_kind e | inr e ↦ ap primary_kind e ]
+
+  pub primary_first : (k : Code) (x : Tree) (c d : Place) → PrimaryRule In k x c d → supported_in k.flags.module x ≡ true → primary_kind (kind_at c) ≡ true
   primary_first k x c d (sides.name_rule text s r f e) h =
-      token_primary (token.Word r.word) s c d r.reads_word (word_primary k.flags r.word (name_is_name k text s c d r (supported_as x (tree.ident s text) e h)))
+      token_primary (token.Word r.word) s c d r.reads_word (word_primary k.flags r.word (name_is_name k text s c d r (supported_as _ x (tree.ident s text) e h)))
   primary_first k x c d (sides.string_rule value raw s r e) h = token_primary (token.Str value raw) s c d r refl
   primary_first k x c d (sides.true_rule s r e) h = token_primary (token.Word word.True) s c d r refl
   primary_first k x c d (sides.false_rule s r e) h = token_primary (token.Word word.False) s c d r refl
@@ -366,72 +377,72 @@ module _ (In : Goal → Type 0) where
   primary_first k x c d (sides.this_rule i n e) h = rw i refl
   primary_first k x c d (sides.array_rule xs m i r j n e) h = rw i refl
   primary_first k x c d (sides.object_rule xs m i r j n e) h = rw i refl
-  primary_first k x c d (sides.function_rule name y r e) h = refuted x (ap supported e) h
-  primary_first k x c d (sides.class_rule name y r e) h = refuted x (ap supported e) h
+  primary_first k x c d (sides.function_rule name y r e) h = function_first c r
+  primary_first k x c d (sides.class_rule name y r e) h = refuted _ x (ap (supported_in k.flags.module) e) h
   primary_first k x c d (sides.paren_rule y m i r j n e) h = rw i refl
 
-  pub left_first : (k : Code) (x : Tree) (c d : Place) → LeftSideRule In k x c d → supported x ≡ true → operand_kind (kind_at c) ≡ true
+  pub left_first : (k : Code) (x : Tree) (c d : Place) → LeftSideRule In k x c d → supported_in k.flags.module x ≡ true → operand_kind (kind_at c) ≡ true
   left_first k x c d (sides.primary_rule r) h = primary_operand (kind_at c) (primary_first k x c d r h)
   left_first k x c d (sides.import_meta_rule i j w n m e) h = rw i refl
-  left_first k x c d (sides.member_rule y p m r a e) h = left_first k y c m r (and_yes (supported y) _ (supported_as x (tree.member (spanned c d) y p) e h)).0
+  left_first k x c d (sides.member_rule y p m r a e) h = left_first k y c m r (and_yes (supported_in k.flags.module y) _ (supported_as _ x (tree.member (spanned c d) y p) e h)).0
   left_first k x c d (sides.super_property_rule p i a j e) h = rw i refl
-  left_first k x c d (sides.call_rule y z m r a e) h = left_first k y c m r (and_yes (supported y) _ (supported_as x (tree.call (spanned c d) y z) e h)).0
+  left_first k x c d (sides.call_rule y z m r a e) h = left_first k y c m r (and_yes (supported_in k.flags.module y) _ (supported_as _ x (tree.call (spanned c d) y z) e h)).0
   left_first k x c d (sides.super_call_rule z i a e) h = rw i refl
   left_first k x c d (sides.import_call_rule z i a e) h = rw i refl
   left_first k x c d (sides.new_rule y z m i r a e) h = rw i refl
   left_first k x c d (sides.bare_new_rule y i r e) h = rw i refl
 
-  unary_first : (k : Code) (x : Tree) (c d : Place) → UnaryRule In k x c d → supported x ≡ true → begin_kind (kind_at c) ≡ true
+  unary_first : (k : Code) (x : Tree) (c d : Place) → UnaryRule In k x c d → supported_in k.flags.module x ≡ true → begin_kind (kind_at c) ≡ true
   unary_first k x c d (rules.operand_rule r) h = operand_begins (kind_at c) (left_first k x c d r.0 h)
   unary_first k x c d (rules.unary_rule op y i r e) h = unary_begins (kind_at c) op i
   unary_first k x c d (rules.prefix_rule op y i r t e) h = update_begins (kind_at c) op i
-  unary_first k x c d (rules.postfix_rule op y m r t b i n e) h = operand_begins (kind_at c) (left_first k y c m r.0 (supported_as x (tree.update (spanned c d) op false y) e h))
-  unary_first k x c d (rules.await_rule y a m r e) h = refuted x (ap supported e) h
+  unary_first k x c d (rules.postfix_rule op y m r t b i n e) h = operand_begins (kind_at c) (left_first k y c m r.0 (supported_as _ x (tree.update (spanned c d) op false y) e h))
+  unary_first k x c d (rules.await_rule y a m r e) h = refuted _ x (ap (supported_in k.flags.module) e) h
 
-  binary_first : (k : Code) (n : ℕ) (x : Tree) (c d : Place) → BinaryRule In k n x c d → supported x ≡ true → begin_kind (kind_at c) ≡ true
+  binary_first : (k : Code) (n : ℕ) (x : Tree) (c d : Place) → BinaryRule In k n x c d → supported_in k.flags.module x ≡ true → begin_kind (kind_at c) ≡ true
   binary_first k n x c d (rules.single_rule r) h = unary_first k x c d r h
-  binary_first k n x c d (rules.left_rule op y z m b g i r o s u v e) h = binary_first k _ y c m r (and_yes (supported y) _ (supported_as x (tree.bin (spanned c d) op y z) e h)).0
-  binary_first k n x c d (rules.power_rule y z m b r u i s e) h = unary_first k y c m r (and_yes (supported y) _ (supported_as x (tree.bin (spanned c d) _ y z) e h)).0
+  binary_first k n x c d (rules.left_rule op y z m b g i r o s u v e) h = binary_first k _ y c m r (and_yes (supported_in k.flags.module y) _ (supported_as _ x (tree.bin (spanned c d) op y z) e h)).0
+  binary_first k n x c d (rules.power_rule y z m b r u i s e) h = unary_first k y c m r (and_yes (supported_in k.flags.module y) _ (supported_as _ x (tree.bin (spanned c d) _ y z) e h)).0
 
   -- a name that is bound or assigned to begins as an operand does
-  name_first : (k : Code) (x : Tree) (text : Text) (s : Span) (c d : Place) → ReadsName k text s c d → x ≡ tree.ident_pat s text → supported x ≡ true → begin_kind (kind_at c) ≡ true
+  name_first : (k : Code) (x : Tree) (text : Text) (s : Span) (c d : Place) → ReadsName k text s c d → x ≡ tree.ident_pat s text → supported_in k.flags.module x ≡ true → begin_kind (kind_at c) ≡ true
   name_first k x text s c d r e h =
-      let n = name_is_name k text s c d r (supported_as x (tree.ident_pat s text) e h) in
+      let n = name_is_name k text s c d r (supported_as _ x (tree.ident_pat s text) e h) in
       operand_begins (kind_at c) (primary_operand (kind_at c) (token_primary (token.Word r.word) s c d r.reads_word (word_primary k.flags r.word n)))
 
   -- a pattern begins as an operand does, or with its bracket or brace
-  pattern_first : {purpose : Purpose} (k : Code) (x : Tree) (c d : Place) → PatternRule In purpose k x c d → supported x ≡ true → begin_kind (kind_at c) ≡ true
+  pattern_first : {purpose : Purpose} (k : Code) (x : Tree) (c d : Place) → PatternRule In purpose k x c d → supported_in k.flags.module x ≡ true → begin_kind (kind_at c) ≡ true
   pattern_first k x c d (patterns.binding_name_rule text s p r e) h = name_first k x text s c d r e h
   pattern_first k x c d (patterns.target_name_rule text s p a r e) h = name_first k x text s c d r e h
-  pattern_first k x c d (patterns.target_rule y p r t i e) h = operand_begins (kind_at c) (left_first k y c d r.0 (supported_as x (tree.expr_pat y) e h))
+  pattern_first k x c d (patterns.target_rule y p r t i e) h = operand_begins (kind_at c) (left_first k y c d r.0 (supported_as _ x (tree.expr_pat y) e h))
   pattern_first k x c d (patterns.array_rule xs m i r j n e) h = rw i refl
   pattern_first k x c d (patterns.object_rule xs m i r j n e) h = rw i refl
 
-  element_first : {purpose : Purpose} (k : Code) (x : Tree) (c d : Place) → PatternElementRule In purpose k x c d → supported x ≡ true → begin_kind (kind_at c) ≡ true
+  element_first : {purpose : Purpose} (k : Code) (x : Tree) (c d : Place) → PatternElementRule In purpose k x c d → supported_in k.flags.module x ≡ true → begin_kind (kind_at c) ≡ true
   element_first k x c d (patterns.bare_rule r e) h = pattern_first k x c d r h
-  element_first k x c d (patterns.initialized_rule y z m r i v e) h = pattern_first k y c m r (and_yes (supported y) _ (supported_as x (tree.assign_pat (spanned c d) y z) e h)).0
+  element_first k x c d (patterns.initialized_rule y z m r i v e) h = pattern_first k y c m r (and_yes (supported_in k.flags.module y) _ (supported_as _ x (tree.assign_pat (spanned c d) y z) e h)).0
 
-  assignment_first : (k : Code) (x : Tree) (c d : Place) → AssignmentRule In k x c d → supported x ≡ true → begin_kind (kind_at c) ≡ true
+  assignment_first : (k : Code) (x : Tree) (c d : Place) → AssignmentRule In k x c d → supported_in k.flags.module x ≡ true → begin_kind (kind_at c) ≡ true
   assignment_first k x c d (rules.operators_rule r s) h = binary_first k 1 x c d r h
-  assignment_first k x c d (rules.conditional_rule t y z i j r q a b s u e) h = binary_first k 1 t c i r (and_yes (supported t) _ (supported_as x (tree.cond (spanned c d) t y z) e h)).0
+  assignment_first k x c d (rules.conditional_rule t y z i j r q a b s u e) h = binary_first k 1 t c i r (and_yes (supported_in k.flags.module t) _ (supported_as _ x (tree.cond (spanned c d) t y z) e h)).0
   assignment_first k x c d (rules.assign_rule op y z m r t a b e) h =
-      operand_begins (kind_at c) (left_first k y c m r.0 (and_yes (supported y) _ (supported_as x (tree.assign (spanned c d) op y z) e h)).0)
-  assignment_first k x c d (rules.destructuring_rule y z m r t a b e) h = pattern_first k y c m r (and_yes (supported y) _ (supported_as x (tree.assign (spanned c d) _ y z) e h)).0
-  assignment_first k x c d (rules.arrow_rule a ps y i j r s t b u e) h = refuted x (ap supported e) h
-  assignment_first k x c d (rules.bare_yield_rule g i n s e) h = refuted x (ap supported e) h
-  assignment_first k x c d (rules.yield_rule y g i b s r e) h = refuted x (ap supported e) h
-  assignment_first k x c d (rules.delegate_rule y g i b m r e) h = refuted x (ap supported e) h
+      operand_begins (kind_at c) (left_first k y c m r.0 (and_yes (supported_in k.flags.module y) _ (supported_as _ x (tree.assign (spanned c d) op y z) e h)).0)
+  assignment_first k x c d (rules.destructuring_rule y z m r t a b e) h = pattern_first k y c m r (and_yes (supported_in k.flags.module y) _ (supported_as _ x (tree.assign (spanned c d) _ y z) e h)).0
+  assignment_first k x c d (rules.arrow_rule a ps y i j r s t b u e) h = refuted _ x (ap (supported_in k.flags.module) e) h
+  assignment_first k x c d (rules.bare_yield_rule g i n s e) h = refuted _ x (ap (supported_in k.flags.module) e) h
+  assignment_first k x c d (rules.yield_rule y g i b s r e) h = refuted _ x (ap (supported_in k.flags.module) e) h
+  assignment_first k x c d (rules.delegate_rule y g i b m r e) h = refuted _ x (ap (supported_in k.flags.module) e) h
 
-  expression_first : (k : Code) (x : Tree) (c d : Place) → ExpressionRule In k x c d → supported x ≡ true → begin_kind (kind_at c) ≡ true
+  expression_first : (k : Code) (x : Tree) (c d : Place) → ExpressionRule In k x c d → supported_in k.flags.module x ≡ true → begin_kind (kind_at c) ≡ true
   expression_first k x c d (rules.assignment_rule r e) h = assignment_first k x c d r h
-  expression_first k x c d (rules.sequence_rule y z zs (m, r, i, more) e) h = assignment_first k y c m r (and_yes (supported y) _ (supported_as x (tree.seq (spanned c d) (listed (y ∷ z ∷ zs))) e h)).0
+  expression_first k x c d (rules.sequence_rule y z zs (m, r, i, more) e) h = assignment_first k y c m r (and_yes (supported_in k.flags.module y) _ (supported_as _ x (tree.seq (spanned c d) (listed (y ∷ z ∷ zs))) e h)).0
 
 -- an argument or an element begins neither as a spread nor as the end of either, nor as a hole
-pub begins : (n : ℕ) (k : Code) (x : Tree) (c d : Place) → language.Reads n (expr_goal assignment k x c d) → supported x ≡ true → begin_kind (kind_at c) ≡ true
+pub begins : (n : ℕ) (k : Code) (x : Tree) (c d : Place) → language.Reads n (expr_goal assignment k x c d) → supported_in k.flags.module x ≡ true → begin_kind (kind_at c) ≡ true
 begins zero k x c d r h = absurd r
 begins (suc n) k x c d r h = assignment_first (language.Reads n) k x c d r h
 
-pub element_begins : (purpose : Purpose) (n : ℕ) (k : Code) (x : Tree) (c d : Place) → language.Reads n (element_goal purpose k x c d) → supported x ≡ true → begin_kind (kind_at c) ≡ true
+pub element_begins : (purpose : Purpose) (n : ℕ) (k : Code) (x : Tree) (c d : Place) → language.Reads n (element_goal purpose k x c d) → supported_in k.flags.module x ≡ true → begin_kind (kind_at c) ≡ true
 element_begins purpose zero k x c d r h = absurd r
 element_begins purpose (suc n) k x c d r h = element_first (language.Reads n) k x c d r h
 

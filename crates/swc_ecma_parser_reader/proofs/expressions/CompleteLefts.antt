@@ -1,7 +1,7 @@
 -- Primary and left-hand-side expressions of the language are read, with the faults of the walk and the notes held back, and no
 -- others.
 use Rattle.std.proofs.Common.{◌≡◌, Bool, true, false, List, [], ◌++◌, length, Some, Ok, refl, sym, ◌∙◌, ap, append_assoc, append-nil}
-use Rattle.std.specs.Prelude.{◌&&◌, ◌||◌, codes}
+use Rattle.std.specs.Prelude.{not, ◌&&◌, ◌||◌, codes}
 use Rattle.swc_ecma_parser_common.specs.declared.span.Span.{Span}
 use Rattle.swc_ecma_parser_error.specs.Kind as faults
 use Rattle.swc_ecma_parser_error.specs.Kind.{Fault}
@@ -21,9 +21,11 @@ use Rattle.swc_ecma_parser_grammar.specs.Reads.{with_in, ReadsToken}
 use Rattle.swc_ecma_parser_grammar.specs.Notes.{notes}
 use Rattle.swc_ecma_parser_grammar.specs.language.Noted.{has_meta}
 use Rattle.swc_ecma_parser_grammar.specs.Walk.{Env, env_of, walk}
-use Rattle.swc_ecma_parser_grammar.specs.Supported.{supported, is_supported_property}
+use Rattle.swc_ecma_parser_grammar.specs.Supported.{supported_in, is_supported_property_in}
 use Rattle.swc_ecma_parser_grammar.specs.language.Goals.{Goal, Class, expression, callee, expr_goal, callee_goal}
 use Rattle.swc_ecma_parser_grammar.specs.language.Parts.{ReadsName, AccessRule, is_private, ArgumentsRule}
+use Rattle.swc_ecma_parser_grammar.specs.Parameters.{parameters}
+use Rattle.swc_ecma_parser_grammar.specs.language.Functions.{FunctionRule, AsyncWord, not_async, async_word}
 use Rattle.swc_ecma_parser_grammar.specs.language.LeftSides as sides
 use Rattle.swc_ecma_parser_grammar.specs.language.LeftSides.{PrimaryRule, LeftSideRule, is_callee}
 use Rattle.swc_ecma_parser_grammar.proofs.Tests.{and_yes, and_no}
@@ -35,22 +37,22 @@ use Rattle.swc_ecma_parser_reader.proofs.Answered.{st, Reads, ReadsAs}
 use Rattle.swc_ecma_parser_reader.proofs.Steps.{loop_more, loop_done}
 use Rattle.swc_ecma_parser_reader.proofs.expressions.Falls.{access_falls, arguments_fall}
 use Rattle.swc_ecma_parser_reader.proofs.expressions.Loops.{shorter_by}
-use Rattle.swc_ecma_parser_reader.proofs.expressions.CompleteParts.{expect_reads, name_reads, literal_reads, AsExpr, IsRead, inside_reads, access_reads, access_seen, super_property_reads, arguments_read}
+use Rattle.swc_ecma_parser_reader.proofs.expressions.CompleteParts.{expect_reads, name_reads, literal_reads, AsExpr, IsRead, IsFunctionRead, inside_reads, access_reads, access_seen, super_property_reads, arguments_read}
 use Rattle.swc_ecma_parser_reader.proofs.expressions.CompleteCovers.{array_reads, object_reads}
-use Rattle.swc_ecma_parser_reader.proofs.expressions.CompleteKinds.{refuted, supported_as, seen, named, null_unnamed, true_unnamed, false_unnamed, paren_here, array_here, object_here, this_here, primary_first, primary_seen}
+use Rattle.swc_ecma_parser_reader.proofs.expressions.CompleteKinds.{refuted, supported_as, seen, named, null_unnamed, true_unnamed, false_unnamed, paren_here, array_here, object_here, this_here, function_here, primary_first, primary_seen}
 use Rattle.swc_ecma_parser_grammar.proofs.Naming.{name_is_name}
 
-module _ (In : Goal → Type 0) (inner : Class → Reader Tree) (cover : Reader Cover) (given : IsRead In inner cover) where
+module _ (In : Goal → Type 0) (inner : Class → Reader Tree) (cover : Reader Cover) (given : IsRead In inner cover) (function : Reader Tree) (functions : IsFunctionRead In function) where
   -- ---- primary expressions
 
   -- a literal as an expression
   literal_primary : (u : Token) (sp : Span) (x y : Tree) (c d : Place) (k : Code) → ReadsToken u sp c d → token_is_name k.flags u ≡ false
-      → literal_of sp u ≡ Some y → x ≡ y → ((env : Env) → walk env y ≡ []) → notes y ≡ [] → has_meta y ≡ false → Reads (primary inner cover) k x c d
+      → literal_of sp u ≡ Some y → x ≡ y → ((env : Env) → walk env y ≡ []) → notes y ≡ [] → has_meta y ≡ false → Reads (primary inner cover function) k x c d
   unfolding primary
   literal_primary u sp x y c d k r n e g z o m w f h =
       rw (named u sp c d k false r n, literal_reads u sp x y c d k w f h r e g, g, z (env_of k w.labels), o, m, append-nil f, append-nil h.held_back, or_nil h.found_module_item) refl
 
-  this_reads : (k : Code) (x : Tree) (c d : Place) → kind_at c ≡ kind.This → d ≡ after c → x ≡ tree.this (spanned c d) → Reads (primary inner cover) k x c d
+  this_reads : (k : Code) (x : Tree) (c d : Place) → kind_at c ≡ kind.This → d ≡ after c → x ≡ tree.this (spanned c d) → Reads (primary inner cover function) k x c d
   unfolding primary literal marked_primary this spanned same_kind
   this_reads k x c d e i j w f h = rw ((this_here k.flags c e).0, (this_here k.flags c e).1, e, j, i, append-nil f, append-nil h.held_back, or_nil h.found_module_item) refl
 
@@ -60,28 +62,46 @@ module _ (In : Goal → Type 0) (inner : Class → Reader Tree) (cover : Reader 
   closed_reads reader k x c d reads w f h = let v = reads w f h in ap (λ o. and_then o close) v.is ∙ rw (v.holds.1, v.holds.0) refl
 
   -- `[` leads to an array
-  first_array : (k : Code) (x : Tree) (c d : Place) → kind_at c ≡ kind.LBracket → ReadsAs (AsExpr x) (array inner cover) k x c d → Reads (primary inner cover) k x c d
+  first_array : (k : Code) (x : Tree) (c d : Place) → kind_at c ≡ kind.LBracket → ReadsAs (AsExpr x) (array inner cover) k x c d → Reads (primary inner cover function) k x c d
   unfolding primary literal marked_primary same_kind
   first_array k x c d e reads w f h = rw ((array_here k.flags c e).0, (array_here k.flags c e).1, e) (closed_reads (array inner cover) k x c d reads w f h)
 
   -- `{` leads to an object
-  first_object : (k : Code) (x : Tree) (c d : Place) → kind_at c ≡ kind.LBrace → ReadsAs (AsExpr x) (object inner cover) k x c d → Reads (primary inner cover) k x c d
+  first_object : (k : Code) (x : Tree) (c d : Place) → kind_at c ≡ kind.LBrace → ReadsAs (AsExpr x) (object inner cover) k x c d → Reads (primary inner cover function) k x c d
   unfolding primary literal marked_primary same_kind
   first_object k x c d e reads w f h = rw ((object_here k.flags c e).0, (object_here k.flags c e).1, e) (closed_reads (object inner cover) k x c d reads w f h)
 
   -- `(` leads to what stands in parentheses
-  first_paren : (k : Code) (x : Tree) (c d : Place) → kind_at c ≡ kind.LParen → Reads (paren inner cover) k x c d → Reads (primary inner cover) k x c d
+  first_paren : (k : Code) (x : Tree) (c d : Place) → kind_at c ≡ kind.LParen → Reads (paren inner cover) k x c d → Reads (primary inner cover function) k x c d
   unfolding primary literal marked_primary
   first_paren k x c d e reads w f h = rw ((paren_here k.flags c e).0, (paren_here k.flags c e).1, seen c kind.LParen e) (reads w f h)
 
-  paren_reads : (e : Tree) (m : Place) (k : Code) (x : Tree) (c d : Place) → In (expr_goal expression (with_in k) e (after c) m) → supported e ≡ true → kind_at m ≡ kind.RParen → d ≡ after m
+  -- its word leads to a function, where it is not async
+  first_function : (k : Code) (x : Tree) (c d : Place) → kind_at c ≡ kind.Function → Reads function k x c d → Reads (primary inner cover function) k x c d
+  unfolding primary literal marked_primary same_kind
+  first_function k x c d e reads w f h = rw ((function_here k.flags c e).0, (function_here k.flags c e).1, e) (reads w f h)
+
+  plain_word : (k : Code) (x : Tree) (c d : Place) (name y : Tree) → FunctionRule In true k (listed []) name y c d → x ≡ tree.fn_expr (spanned c d) name y → supported_in k.flags.module x ≡ true
+      → kind_at c ≡ kind.Function
+  plain_word k x c d name y r e s =
+      let g = and_yes (supported_in k.flags.module name) _ (supported_as _ x (tree.fn_expr (spanned c d) name y) e s) in
+      let f = and_yes (supported_in k.flags.module y) _ g.1 in
+      let z = supported_as _ y (tree.function (spanned c d) (listed []) (parameters r.patterns) r.body r.is_async r.is_generator) r.is f.0 in
+      ap kind_at (sym (by_word r.is_async (and_yes (not r.is_async) _ z).0 r.reads_async)) ∙ r.is_function
+    where
+      by_word : (b : Bool) → not b ≡ true → AsyncWord b c r.word → r.word ≡ c
+      by_word true u a = cc
+      by_word false u (not_async i j) = j
+      by_word false u (async_word i j l m) = cc
+
+  paren_reads : (e : Tree) (m : Place) (k : Code) (x : Tree) (c d : Place) → In (expr_goal expression (with_in k) e (after c) m) → supported_in k.flags.module e ≡ true → kind_at m ≡ kind.RParen → d ≡ after m
       → x ≡ tree.paren (spanned c d) e → Reads (paren inner cover) k x c d
   unfolding paren spanned
   paren_reads e m k x c d r s g i j w f h =
       rw (inside_reads In inner cover given expression k e (after c) m r s w f h, expect_reads kind.RParen m k w (f ++ walk (env_of k w.labels) e) (h ⊕ notes_of e) g, j, i) refl
 
   name_primary : (text : Text) (sp : Span) (k : Code) (x : Tree) (c d : Place) (r : ReadsName k text sp c d) → is_name k.flags (word_text r.word) ≡ true → is_async_function c ≡ false
-      → x ≡ tree.ident sp text → Reads (primary inner cover) k x c d
+      → x ≡ tree.ident sp text → Reads (primary inner cover function) k x c d
   unfolding primary ident_expr
   name_primary text sp k x c d r n a g w f h =
       rw (
@@ -95,8 +115,8 @@ module _ (In : Goal → Type 0) (inner : Class → Reader Tree) (cover : Reader 
         or_nil h.found_module_item,
       ) refl
 
-  primary_reads : (k : Code) (x : Tree) (c d : Place) → PrimaryRule In k x c d → supported x ≡ true → Reads (primary inner cover) k x c d
-  primary_reads k x c d (sides.name_rule text sp r a g) s w f h = name_primary text sp k x c d r (name_is_name k text sp c d r (supported_as x (tree.ident sp text) g s)) a g w f h
+  primary_reads : (k : Code) (x : Tree) (c d : Place) → PrimaryRule In k x c d → supported_in k.flags.module x ≡ true → Reads (primary inner cover function) k x c d
+  primary_reads k x c d (sides.name_rule text sp r a g) s w f h = name_primary text sp k x c d r (name_is_name k text sp c d r (supported_as _ x (tree.ident sp text) g s)) a g w f h
   primary_reads k x c d (sides.string_rule value raw sp r g) s w f h = literal_primary (token.Str value raw) sp x (tree.str sp value raw) c d k r refl refl g (λ env. refl) refl refl w f h
   primary_reads k x c d (sides.true_rule sp r g) s w f h =
       literal_primary (token.Word word.True) sp x (tree.bool sp true) c d k r (true_unnamed k.flags) refl g (λ env. refl) refl refl w f h
@@ -107,18 +127,18 @@ module _ (In : Goal → Type 0) (inner : Class → Reader Tree) (cover : Reader 
   primary_reads k x c d (sides.big_int_rule raw sp r g) s w f h = literal_primary (token.BigInt raw) sp x (tree.big_int sp raw) c d k r refl refl g (λ env. refl) refl refl w f h
   primary_reads k x c d (sides.this_rule e i g) s w f h = this_reads k x c d e i g w f h
   primary_reads k x c d (sides.array_rule xs m i r j n e) s w f h =
-      first_array k x c d i (array_reads In inner cover given xs m k x c d r (supported_as x (tree.array (spanned c d) (listed xs)) e s) j n e) w f h
+      first_array k x c d i (array_reads In inner cover given xs m k x c d r (supported_as _ x (tree.array (spanned c d) (listed xs)) e s) j n e) w f h
   primary_reads k x c d (sides.object_rule xs m i r j n e) s w f h =
-      first_object k x c d i (object_reads In inner cover given xs m k x c d r (supported_as x (tree.object (spanned c d) (listed xs)) e s) j n e) w f h
-  primary_reads k x c d (sides.function_rule name y r e) s w f h = refuted x (ap supported e) s
-  primary_reads k x c d (sides.class_rule name y r e) s w f h = refuted x (ap supported e) s
+      first_object k x c d i (object_reads In inner cover given xs m k x c d r (supported_as _ x (tree.object (spanned c d) (listed xs)) e s) j n e) w f h
+  primary_reads k x c d (sides.function_rule name y r e) s w f h = first_function k x c d (plain_word k x c d name y r e s) (functions.reads k x c d name y r e s) w f h
+  primary_reads k x c d (sides.class_rule name y r e) s w f h = refuted _ x (ap (supported_in k.flags.module) e) s
   primary_reads k x c d (sides.paren_rule e m o r g i j) s w f h =
-      first_paren k x c d o (paren_reads e m k x c d r (supported_as x (tree.paren (spanned c d) e) j s) g i j) w f h
+      first_paren k x c d o (paren_reads e m k x c d r (supported_as _ x (tree.paren (spanned c d) e) j s) g i j) w f h
 
   -- ---- what a left side begins with
 
   super_access_reads : (calls : Bool) (property : Tree) (k : Code) (x : Tree) (c d : Place) → kind_at c ≡ kind.Super → AccessRule In k property (after c) d → is_private property ≡ false
-      → is_supported_property property ≡ true → x ≡ tree.super_prop (spanned c d) (span_at c) property → Reads (left_head inner cover calls) k x c d
+      → is_supported_property_in k.flags.module property ≡ true → x ≡ tree.super_prop (spanned c d) (span_at c) property → Reads (left_head inner cover function calls) k x c d
   unfolding left_head super_head behind_super super_access spanned
   super_access_reads calls property k x c d g r p s e w f h =
       rw (
@@ -129,14 +149,14 @@ module _ (In : Goal → Type 0) (inner : Class → Reader Tree) (cover : Reader 
         e,
       ) refl
 
-  super_call_reads : (args : Tree) (k : Code) (x : Tree) (c d : Place) → kind_at c ≡ kind.Super → (r : ArgumentsRule In k true args (after c) d) → supported args ≡ true
-      → x ≡ tree.call (spanned c d) (tree.super_callee (span_at c)) args → Reads (left_head inner cover true) k x c d
+  super_call_reads : (args : Tree) (k : Code) (x : Tree) (c d : Place) → kind_at c ≡ kind.Super → (r : ArgumentsRule In k true args (after c) d) → supported_in k.flags.module args ≡ true
+      → x ≡ tree.call (spanned c d) (tree.super_callee (span_at c)) args → Reads (left_head inner cover function true) k x c d
   unfolding left_head super_head behind_super super_call spanned
   super_call_reads args k x c d g r s e w f h =
       rw (seen c kind.Super g, seen (after c) kind.LParen r.opens, arguments_read In inner cover given true k args (after c) d w f h r s, e, ← r.is) refl
 
-  new_reads : (calls : Bool) (what args : Tree) (m : Place) (k : Code) (x : Tree) (c d : Place) → kind_at c ≡ kind.New → In (callee_goal k what (after c) m) → supported what ≡ true
-      → (r : ArgumentsRule In k true args m d) → supported args ≡ true → x ≡ tree.new (spanned c d) what args → Reads (left_head inner cover calls) k x c d
+  new_reads : (calls : Bool) (what args : Tree) (m : Place) (k : Code) (x : Tree) (c d : Place) → kind_at c ≡ kind.New → In (callee_goal k what (after c) m) → supported_in k.flags.module what ≡ true
+      → (r : ArgumentsRule In k true args m d) → supported_in k.flags.module args ≡ true → x ≡ tree.new (spanned c d) what args → Reads (left_head inner cover function calls) k x c d
   unfolding left_head new_head constructed spanned same_kind
   new_reads calls what args m k x c d g q t r s e w f h =
       rw (
@@ -148,8 +168,8 @@ module _ (In : Goal → Type 0) (inner : Class → Reader Tree) (cover : Reader 
         ← r.is,
       ) (simp (append_assoc, or_assoc) refl)
 
-  bare_new_reads : (calls : Bool) (what : Tree) (k : Code) (x : Tree) (c d : Place) → kind_at c ≡ kind.New → In (expr_goal callee k what (after c) d) → supported what ≡ true
-      → x ≡ tree.new (spanned c d) what tree.absent → Reads (left_head inner cover calls) k x c d
+  bare_new_reads : (calls : Bool) (what : Tree) (k : Code) (x : Tree) (c d : Place) → kind_at c ≡ kind.New → In (expr_goal callee k what (after c) d) → supported_in k.flags.module what ≡ true
+      → x ≡ tree.new (spanned c d) what tree.absent → Reads (left_head inner cover function calls) k x c d
   unfolding left_head new_head bare_new spanned same_kind
   bare_new_reads calls what k x c d g q t e w f h =
       rw (
@@ -163,17 +183,17 @@ module _ (In : Goal → Type 0) (inner : Class → Reader Tree) (cover : Reader 
       ) refl
 
   import_call_reads : (args : Tree) (k : Code) (x : Tree) (c d : Place) → kind_at c ≡ kind.Import → (r : ArgumentsRule In k k.setting.import_attributes args (after c) d)
-      → supported args ≡ true → x ≡ tree.call (spanned c d) (tree.import_callee (span_at c)) args → Reads (left_head inner cover true) k x c d
+      → supported_in k.flags.module args ≡ true → x ≡ tree.call (spanned c d) (tree.import_callee (span_at c)) args → Reads (left_head inner cover function true) k x c d
   unfolding left_head import_head import_call spanned same_kind
   import_call_reads args k x c d g r s e w f h =
       rw (g, seen (after c) kind.LParen r.opens, arguments_read In inner cover given k.setting.import_attributes k args (after c) d w f h r s, e, ← r.is) refl
 
   import_meta_reads : (k : Code) (x : Tree) (c d : Place) → kind_at c ≡ kind.Import → kind_at (after c) ≡ kind.Dot → word_at (codes "meta") (after (after c)) ≡ true
-      → d ≡ after (after (after c)) → k.flags.can_be_module ≡ true → x ≡ tree.meta_prop (spanned c d) meta.ImportMeta → Reads (left_head inner cover true) k x c d
+      → d ≡ after (after (after c)) → k.flags.can_be_module ≡ true → x ≡ tree.meta_prop (spanned c d) meta.ImportMeta → Reads (left_head inner cover function true) k x c d
   unfolding left_head import_head import_meta meta_fault spanned same_kind
   import_meta_reads k x c d i j v n m e w f h = rw (i, j, v, m, e, n, append-nil f, append-nil h.held_back, or_true h.found_module_item) refl
 
-  primary_head : (calls : Bool) (k : Code) (x : Tree) (c d : Place) → PrimaryRule In k x c d → supported x ≡ true → Reads (left_head inner cover calls) k x c d
+  primary_head : (calls : Bool) (k : Code) (x : Tree) (c d : Place) → PrimaryRule In k x c d → supported_in k.flags.module x ≡ true → Reads (left_head inner cover function calls) k x c d
   unfolding left_head
   primary_head calls k x c d r s w f h =
       let q = primary_seen c (primary_first In k x c d r s) in
@@ -181,7 +201,7 @@ module _ (In : Goal → Type 0) (inner : Class → Reader Tree) (cover : Reader 
 
   -- ---- what goes on with it
 
-  access_more : (calls : Bool) (start : Span) (base property : Tree) (k : Code) (m d : Place) → AccessRule In k property m d → is_supported_property property ≡ true
+  access_more : (calls : Bool) (start : Span) (base property : Tree) (k : Code) (m d : Place) → AccessRule In k property m d → is_supported_property_in k.flags.module property ≡ true
       → (w : Scope) (f : List Fault) (h : Notes) → left_from inner cover calls start base (st m k w f h)
       ≡ left_from inner cover calls start (tree.member (record { lo = start.lo; hi = d.last.hi }) base property) (st d k w (f ++ walk (env_of k w.labels) property) (h ⊕ notes_of property))
   unfolding left_from left_turn accessed
@@ -191,7 +211,7 @@ module _ (In : Goal → Type 0) (inner : Class → Reader Tree) (cover : Reader 
       (st d k w (f ++ walk (env_of k w.labels) property) (h ⊕ notes_of property)) (rw ((access_seen In inner cover given k property m d r).0, e) refl)
       (shorter_by (length m.left) (access inner cover (st m k w f h)) property _ e (access_falls inner cover given.falls given.cover_falls (st m k w f h)))
 
-  call_more : (start : Span) (what args : Tree) (k : Code) (m d : Place) (r : ArgumentsRule In k true args m d) → supported args ≡ true → (w : Scope) (f : List Fault) (h : Notes)
+  call_more : (start : Span) (what args : Tree) (k : Code) (m d : Place) (r : ArgumentsRule In k true args m d) → supported_in k.flags.module args ≡ true → (w : Scope) (f : List Fault) (h : Notes)
       → left_from inner cover true start what (st m k w f h)
       ≡ left_from inner cover true start (tree.call (record { lo = start.lo; hi = d.last.hi }) what args) (st d k w (f ++ walk (env_of k w.labels) args) (h ⊕ notes_of args))
   unfolding left_from left_turn called same_kind
@@ -208,36 +228,36 @@ module _ (In : Goal → Type 0) (inner : Class → Reader Tree) (cover : Reader 
   calls_read false x y e g h = sym (ap is_callee e ∙ g) ∙ h
 
   -- What was read so far is reached by the loop.
-  left_reached : (k : Code) (calls : Bool) (x : Tree) (c d : Place) → LeftSideRule In k x c d → supported x ≡ true → (calls || is_callee x) ≡ true → (w : Scope) (f : List Fault) (h : Notes)
-      → left inner cover calls (st c k w f h) ≡ left_from inner cover calls (span_at c) x (st d k w (f ++ walk (env_of k w.labels) x) (h ⊕ notes_of x))
+  left_reached : (k : Code) (calls : Bool) (x : Tree) (c d : Place) → LeftSideRule In k x c d → supported_in k.flags.module x ≡ true → (calls || is_callee x) ≡ true → (w : Scope) (f : List Fault) (h : Notes)
+      → left inner cover function calls (st c k w f h) ≡ left_from inner cover calls (span_at c) x (st d k w (f ++ walk (env_of k w.labels) x) (h ⊕ notes_of x))
   unfolding left spanned
   left_reached k calls x c d (sides.primary_rule r) s g w f h = rw (primary_head calls k x c d r s w f h) refl
   left_reached k calls x c d (sides.import_meta_rule i j v n m e) s g w f h =
       let b : calls ≡ true = calls_read calls x (tree.meta_prop (spanned c d) meta.ImportMeta) e refl g in
       rw (b, import_meta_reads k x c d i j v n m e w f h) refl
   left_reached k calls x c d (sides.member_rule y p m r a e) s g w f h =
-      let t = and_yes (supported y) _ (supported_as x (tree.member (spanned c d) y p) e s) in
+      let t = and_yes (supported_in k.flags.module y) _ (supported_as _ x (tree.member (spanned c d) y p) e s) in
       left_reached k calls y c m r t.0 (sym (ap (λ z. calls || is_callee z) e) ∙ g) w f h
       ∙ access_more calls (span_at c) y p k m d a t.1 w (f ++ walk (env_of k w.labels) y) (h ⊕ notes_of y) ∙ rw (e, append_assoc f _ _, append_assoc h.held_back _ _, or_assoc h.found_module_item _ _) refl
   left_reached k calls x c d (sides.super_property_rule p i a j e) s g w f h =
-      rw (super_access_reads calls p k x c d i a j (supported_as x (tree.super_prop (spanned c d) (span_at c) p) e s) e w f h) refl
+      rw (super_access_reads calls p k x c d i a j (supported_as _ x (tree.super_prop (spanned c d) (span_at c) p) e s) e w f h) refl
   left_reached k calls x c d (sides.call_rule y z m r a e) s g w f h =
-      let t = and_yes (supported y) _ (supported_as x (tree.call (spanned c d) y z) e s) in
+      let t = and_yes (supported_in k.flags.module y) _ (supported_as _ x (tree.call (spanned c d) y z) e s) in
       let b : calls ≡ true = calls_read calls x (tree.call (spanned c d) y z) e refl g in
       rw b
       (left_reached k true y c m r t.0 refl w f h
       ∙ call_more (span_at c) y z k m d a t.1 w (f ++ walk (env_of k w.labels) y) (h ⊕ notes_of y) ∙ rw (e, append_assoc f _ _, append_assoc h.held_back _ _, or_assoc h.found_module_item _ _) refl)
   left_reached k calls x c d (sides.super_call_rule z i a e) s g w f h =
       let b : calls ≡ true = calls_read calls x (tree.call (spanned c d) (tree.super_callee (span_at c)) z) e refl g in
-      rw (b, super_call_reads z k x c d i a (supported_as x (tree.call (spanned c d) (tree.super_callee (span_at c)) z) e s) e w f h) refl
+      rw (b, super_call_reads z k x c d i a (supported_as _ x (tree.call (spanned c d) (tree.super_callee (span_at c)) z) e s) e w f h) refl
   left_reached k calls x c d (sides.import_call_rule z i a e) s g w f h =
       let b : calls ≡ true = calls_read calls x (tree.call (spanned c d) (tree.import_callee (span_at c)) z) e refl g in
-      rw (b, import_call_reads z k x c d i a (supported_as x (tree.call (spanned c d) (tree.import_callee (span_at c)) z) e s) e w f h) refl
+      rw (b, import_call_reads z k x c d i a (supported_as _ x (tree.call (spanned c d) (tree.import_callee (span_at c)) z) e s) e w f h) refl
   left_reached k calls x c d (sides.new_rule y z m i r a e) s g w f h =
-      let t = and_yes (supported y) _ (supported_as x (tree.new (spanned c d) y z) e s) in
+      let t = and_yes (supported_in k.flags.module y) _ (supported_as _ x (tree.new (spanned c d) y z) e s) in
       rw (new_reads calls y z m k x c d i r t.0 a t.1 e w f h) refl
   left_reached k calls x c d (sides.bare_new_rule y i r e) s g w f h =
-      let t = and_yes (supported y) _ (supported_as x (tree.new (spanned c d) y tree.absent) e s) in
+      let t = and_yes (supported_in k.flags.module y) _ (supported_as _ x (tree.new (spanned c d) y tree.absent) e s) in
       rw (bare_new_reads calls y k x c d i r t.0 e w f h) refl
 
   -- the loop ends where neither an access nor arguments that are read stand
@@ -246,7 +266,7 @@ module _ (In : Goal → Type 0) (inner : Class → Reader Tree) (cover : Reader 
   unfolding left_from left_turn
   left_stops calls start x s e g = loop_done (left_turn inner cover calls start) x x s s (rw (e, g) refl)
 
-  pub left_reads : (calls : Bool) (k : Code) (x : Tree) (c d : Place) → LeftSideRule In k x c d → supported x ≡ true → (calls || is_callee x) ≡ true
-      → (sees kind.Dot d || sees kind.LBracket d) ≡ false → (calls && sees kind.LParen d) ≡ false → Reads (left inner cover calls) k x c d
+  pub left_reads : (calls : Bool) (k : Code) (x : Tree) (c d : Place) → LeftSideRule In k x c d → supported_in k.flags.module x ≡ true → (calls || is_callee x) ≡ true
+      → (sees kind.Dot d || sees kind.LBracket d) ≡ false → (calls && sees kind.LParen d) ≡ false → Reads (left inner cover function calls) k x c d
   left_reads calls k x c d r s g e i w f h =
       left_reached k calls x c d r s g w f h ∙ left_stops calls (span_at c) x (st d k w (f ++ walk (env_of k w.labels) x) (h ⊕ notes_of x)) e i

@@ -1,6 +1,6 @@
 -- The parts of the language that expressions share are read, with the faults of the walk and the notes held back, and no others:
 -- tokens, accesses, arguments and keys.
-use Rattle.std.proofs.Common.{◌≡◌, ◌<◌, ◌⊎◌, inl, inr, Bool, true, false, List, [], ◌∷◌, ◌++◌, length, Some, None, Ok, refl, sym, ◌∙◌, ap, subst, arith, append_assoc, append-nil}
+use Rattle.std.proofs.Common.{◌≡◌, ◌≢◌, ◌<◌, ◌⊎◌, inl, inr, Bool, true, false, List, [], ◌∷◌, ◌++◌, length, Some, None, Ok, refl, sym, ◌∙◌, ap, subst, arith, append_assoc, append-nil}
 use Rattle.std.specs.Prelude.{not, ◌&&◌, ◌||◌}
 use Rattle.swc_ecma_parser_common.specs.declared.span.Span.{Span}
 use Rattle.swc_ecma_parser_error.specs.Kind.{Kind, Fault}
@@ -22,7 +22,8 @@ use Rattle.swc_ecma_parser_grammar.specs.Reads.{with_in, ReadsToken}
 use Rattle.swc_ecma_parser_grammar.specs.Notes.{notes}
 use Rattle.swc_ecma_parser_grammar.specs.language.Noted.{has_meta}
 use Rattle.swc_ecma_parser_grammar.specs.Walk.{Env, env_of, walk, walks}
-use Rattle.swc_ecma_parser_grammar.specs.Supported.{supported, is_supported_property, is_supported_key, all_supported}
+use Rattle.swc_ecma_parser_grammar.specs.Supported.{supported_in, is_supported_property_in, is_supported_key_in, all_supported_in}
+use Rattle.swc_ecma_parser_grammar.specs.language.Functions.{FunctionRule}
 use Rattle.swc_ecma_parser_grammar.specs.language.Goals.{Goal, Class, expression, assignment, callee, assigning, expr_goal, callee_goal, element_goal, pattern_goal}
 use Rattle.swc_ecma_parser_grammar.specs.language.Lists.{ReadsListed, LastComma, no_comma, last_comma}
 use Rattle.swc_ecma_parser_grammar.specs.language.Parts as parts
@@ -108,21 +109,27 @@ AsTarget p d v = (as_target v.x ≡ Some p) × (v.comma ≡ false) × ((span_of 
 
 -- what these goals ask for is read, and takes a token
 pub record IsRead (In : Goal → Type 0) (inner : Class → Reader Tree) (cover : Reader Cover) : Type 0 where
-  pub reads : (class : Class) (k : Code) (x : Tree) (c d : Place) → In (expr_goal class k x c d) → supported x ≡ true → Reads (inner class) k x c d
-  pub calls : (k : Code) (x : Tree) (c d : Place) → In (callee_goal k x c d) → (sees kind.Dot d || sees kind.LBracket d) ≡ false → supported x ≡ true → Reads (inner callee) k x c d
+  pub reads : (class : Class) (k : Code) (x : Tree) (c d : Place) → In (expr_goal class k x c d) → supported_in k.flags.module x ≡ true → Reads (inner class) k x c d
+  pub calls : (k : Code) (x : Tree) (c d : Place) → In (callee_goal k x c d) → (sees kind.Dot d || sees kind.LBracket d) ≡ false → supported_in k.flags.module x ≡ true → Reads (inner callee) k x c d
   -- behind what `new` calls without arguments none stand
   pub bare : (k : Code) (x : Tree) (c d : Place) → In (expr_goal callee k x c d) → sees kind.LParen d ≡ false
-  pub begins : (k : Code) (x : Tree) (c d : Place) → In (expr_goal assignment k x c d) → supported x ≡ true → begin_kind (kind_at c) ≡ true
+  pub begins : (k : Code) (x : Tree) (c d : Place) → In (expr_goal assignment k x c d) → supported_in k.flags.module x ≡ true → begin_kind (kind_at c) ≡ true
   pub falls : (class : Class) (s : State) → Falls 1 (length s.at.left) (inner class s)
   -- an expression is read as what may still become a pattern too
-  pub exprs : (k : Code) (x : Tree) (c d : Place) → In (expr_goal assignment k x c d) → supported x ≡ true → ReadsAs (AsExpr x) cover k x c d
+  pub exprs : (k : Code) (x : Tree) (c d : Place) → In (expr_goal assignment k x c d) → supported_in k.flags.module x ≡ true → ReadsAs (AsExpr x) cover k x c d
   -- and so is an element of a pattern, and what stands without a default behind dots
-  pub elements : (k : Code) (p : Tree) (c d : Place) → In (element_goal assigning (with_in k) p c d) → supported p ≡ true → ends_part (kind_at d) ≡ true
+  pub elements : (k : Code) (p : Tree) (c d : Place) → In (element_goal assigning (with_in k) p c d) → supported_in k.flags.module p ≡ true → ends_part (kind_at d) ≡ true
       → ReadsAs (AsElement p) cover (with_in k) p c d
-  pub targets : (k : Code) (p : Tree) (c d : Place) → In (pattern_goal assigning (with_in k) p c d) → supported p ≡ true → ends_part (kind_at d) ≡ true
+  pub targets : (k : Code) (p : Tree) (c d : Place) → In (pattern_goal assigning (with_in k) p c d) → supported_in k.flags.module p ≡ true → ends_part (kind_at d) ≡ true
       → ReadsAs (AsTarget p d) cover (with_in k) p c d
-  pub begins_element : (k : Code) (p : Tree) (c d : Place) → In (element_goal assigning k p c d) → supported p ≡ true → begin_kind (kind_at c) ≡ true
+  pub begins_element : (k : Code) (p : Tree) (c d : Place) → In (element_goal assigning k p c d) → supported_in k.flags.module p ≡ true → begin_kind (kind_at c) ≡ true
   pub cover_falls : (s : State) → Falls 1 (length s.at.left) (cover s)
+
+-- a function that is an expression is read, and takes a token
+pub record IsFunctionRead (In : Goal → Type 0) (function : Reader Tree) : Type 0 where
+  pub reads : (k : Code) (x : Tree) (c d : Place) (name y : Tree) → FunctionRule In true k (listed []) name y c d → x ≡ tree.fn_expr (spanned c d) name y → supported_in k.flags.module x ≡ true
+      → Reads function k x c d
+  pub falls : (s : State) → kind_at s.at ≢ kind.End → Falls 1 (length s.at.left) (function s)
 
 -- behind an argument or an element the list ends, or a comma stands
 abbrev pub Behind : TokenKind → Place → Place → Type 0
@@ -141,25 +148,25 @@ argument_last commas x m d (no_comma e) h = inl (ap kind_at (sym e) ∙ h, e)
 argument_last commas x m d (last_comma a e i) h = inr (e, i, rw (and_yes commas _ a).0 refl)
 
 module _ (In : Goal → Type 0) (inner : Class → Reader Tree) (cover : Reader Cover) (given : IsRead In inner cover) where
-  pub inside_reads : (class : Class) (k : Code) (x : Tree) (c d : Place) → In (expr_goal class (with_in k) x c d) → supported x ≡ true → Reads (inside inner cover class) k x c d
+  pub inside_reads : (class : Class) (k : Code) (x : Tree) (c d : Place) → In (expr_goal class (with_in k) x c d) → supported_in k.flags.module x ≡ true → Reads (inside inner cover class) k x c d
   unfolding inside
   inside_reads class k x c d r s w f h = rw (given.reads class (with_in k) x c d r s w f h) refl
 
   -- ---- accesses
 
-  brackets_read : (e : Tree) (m : Place) (k : Code) (x : Tree) (c d : Place) → In (expr_goal expression (with_in k) e (after c) m) → supported e ≡ true → kind_at m ≡ kind.RBracket
+  brackets_read : (e : Tree) (m : Place) (k : Code) (x : Tree) (c d : Place) → In (expr_goal expression (with_in k) e (after c) m) → supported_in k.flags.module e ≡ true → kind_at m ≡ kind.RBracket
       → d ≡ after m → x ≡ tree.computed (spanned c d) e → Reads (brackets inner cover) k x c d
   unfolding brackets spanned
   brackets_read e m k x c d r s g i j w f h =
       rw (inside_reads expression k e (after c) m r s w f h, expect_reads kind.RBracket m k w (f ++ walk (env_of k w.labels) e) (h ⊕ notes_of e) g, j, i) refl
 
-  pub access_reads : (k : Code) (x : Tree) (c d : Place) → AccessRule In k x c d → is_supported_property x ≡ true → Reads (access inner cover) k x c d
+  pub access_reads : (k : Code) (x : Tree) (c d : Place) → AccessRule In k x c d → is_supported_property_in k.flags.module x ≡ true → Reads (access inner cover) k x c d
   unfolding access dotted word_property same_kind
   access_reads k x c d (parts.word_access text sp g r e) s w f h =
       rw (g, no_hash text sp (after c) d r, any_word_reads text sp (after c) d k w f h r, e, append-nil f, append-nil h.held_back, or_nil h.found_module_item) refl
   access_reads k x c d (parts.private_access g r) s w f h = rw (g, seen (after c) kind.Hash r.hash) (private_reads k x (after c) d r w f h)
   access_reads k x c d (parts.bracket_access e m g r i n j) s w f h =
-      rw g (brackets_read e m k x c d r (sym (ap is_supported_property j) ∙ s) i n j w f h)
+      rw g (brackets_read e m k x c d r (sym (ap (is_supported_property_in k.flags.module) j) ∙ s) i n j w f h)
 
   -- an access is one of two tokens
   pub access_seen : (k : Code) (x : Tree) (c d : Place) → AccessRule In k x c d → ((sees kind.Dot c || sees kind.LBracket c) ≡ true) × (sees kind.LParen c ≡ false)
@@ -169,38 +176,38 @@ module _ (In : Goal → Type 0) (inner : Class → Reader Tree) (cover : Reader 
   access_seen k x c d (parts.bracket_access e m g r i n j) = rw g (refl, refl)
 
   -- what stands behind `super` is no private name
-  pub super_property_reads : (k : Code) (x : Tree) (c d : Place) → AccessRule In k x c d → is_private x ≡ false → is_supported_property x ≡ true → Reads (super_property inner cover) k x c d
+  pub super_property_reads : (k : Code) (x : Tree) (c d : Place) → AccessRule In k x c d → is_private x ≡ false → is_supported_property_in k.flags.module x ≡ true → Reads (super_property inner cover) k x c d
   unfolding super_property word_property same_kind
   super_property_reads k x c d (parts.word_access text sp g r e) p s w f h =
       rw (g, any_word_reads text sp (after c) d k w f h r, e, append-nil f, append-nil h.held_back, or_nil h.found_module_item) refl
   super_property_reads k x c d (parts.private_access g r) p s w f h = absurd (let e : is_private x ≡ true = ap is_private r.is in cc)
   super_property_reads k x c d (parts.bracket_access e m g r i n j) p s w f h =
-      rw g (brackets_read e m k x c d r (sym (ap is_supported_property j) ∙ s) i n j w f h)
+      rw g (brackets_read e m k x c d r (sym (ap (is_supported_property_in k.flags.module) j) ∙ s) i n j w f h)
 
   -- ---- arguments
 
-  element_reads : (k : Code) (x : Tree) (c d : Place) → ElementRule In k x c d → supported x ≡ true → Reads (element inner cover) k x c d
+  element_reads : (k : Code) (x : Tree) (c d : Place) → ElementRule In k x c d → supported_in k.flags.module x ≡ true → Reads (element inner cover) k x c d
   unfolding element spread_element plain_element
   element_reads k x c d (parts.plain_element e r g) s w f h =
-      let t : supported e ≡ true = supported_as x (tree.element None e) g s in
+      let t : supported_in k.flags.module e ≡ true = supported_as _ x (tree.element None e) g s in
       rw ((begin_seen c (given.begins (with_in k) e c d r t)).0, inside_reads assignment k e c d r t w f h, g) refl
   element_reads k x c d (parts.spread_element e o r g) s w f h =
-      rw (seen c kind.DotDotDot o, inside_reads assignment k e (after c) d r (supported_as x (tree.element (Some (span_at c)) e) g s) w f h, g) refl
+      rw (seen c kind.DotDotDot o, inside_reads assignment k e (after c) d r (supported_as _ x (tree.element (Some (span_at c)) e) g s) w f h, g) refl
 
-  pub element_begins : (k : Code) (x : Tree) (c d : Place) → ElementRule In k x c d → supported x ≡ true
+  pub element_begins : (k : Code) (x : Tree) (c d : Place) → ElementRule In k x c d → supported_in k.flags.module x ≡ true
       → (sees kind.RParen c ≡ false) × (sees kind.RBracket c ≡ false) × (sees kind.Comma c ≡ false)
   unfolding same_kind
   element_begins k x c d (parts.plain_element e r g) s =
-      let b = begin_seen c (given.begins (with_in k) e c d r (supported_as x (tree.element None e) g s)) in
+      let b = begin_seen c (given.begins (with_in k) e c d r (supported_as _ x (tree.element None e) g s)) in
       (b.1, b.2, b.3)
   element_begins k x c d (parts.spread_element e o r g) s = rw o (refl, refl, refl)
 
-  element_shorter : (k : Code) (x : Tree) (c d : Place) → ElementRule In k x c d → supported x ≡ true → (w : Scope) → length d.left < length c.left
+  element_shorter : (k : Code) (x : Tree) (c d : Place) → ElementRule In k x c d → supported_in k.flags.module x ≡ true → (w : Scope) → length d.left < length c.left
   element_shorter k x c d r s w =
       shorter_by (length c.left) (element inner cover (st c k w [] no_notes)) x _ (element_reads k x c d r s w [] no_notes) (element_falls inner cover given.falls given.cover_falls (st c k w [] no_notes))
 
   -- an argument, and what stands behind it
-  argument_more : (commas : Bool) (found : List Tree) (k : Code) (x : Tree) (c m d : Place) → ElementRule In k x c m → supported x ≡ true → BehindArgument commas m d
+  argument_more : (commas : Bool) (found : List Tree) (k : Code) (x : Tree) (c m d : Place) → ElementRule In k x c m → supported_in k.flags.module x ≡ true → BehindArgument commas m d
       → (w : Scope) (f : List Fault) (h : Notes)
       → loop (arguments_turn inner cover commas) found (st c k w f h)
       ≡ loop (arguments_turn inner cover commas) (found ++ x ∷ []) (st d k w (f ++ walk (env_of k w.labels) x) (h ⊕ notes_of x))
@@ -214,7 +221,7 @@ module _ (In : Goal → Type 0) (inner : Class → Reader Tree) (cover : Reader 
       (rw i (let a = element_shorter k x c m r s w in let b = moves m in omega arith))
 
   -- no list of arguments that has one begins with its end
-  argument_begins : (commas : Bool) (x : Tree) (xs : List Tree) (k : Code) (c d : Place) → ReadsListed commas (ElementRule In k) (x ∷ xs) c d → supported x ≡ true → sees kind.RParen c ≡ false
+  argument_begins : (commas : Bool) (x : Tree) (xs : List Tree) (k : Code) (c d : Place) → ReadsListed commas (ElementRule In k) (x ∷ xs) c d → supported_in k.flags.module x ≡ true → sees kind.RParen c ≡ false
   argument_begins commas x [] k c d (m, r, l) s = (element_begins k x c m r s).0
   argument_begins commas x (y ∷ ys) k c d (m, r, a, i, more) s = (element_begins k x c m r s).0
 
@@ -224,30 +231,30 @@ module _ (In : Goal → Type 0) (inner : Class → Reader Tree) (cover : Reader 
   arguments_end commas found k c w f h e = loop_done (arguments_turn inner cover commas) found found (st c k w f h) (st (after c) k w f h) (rw (seen c kind.RParen e) refl)
 
   many_arguments : (commas : Bool) (xs found : List Tree) (k : Code) (c d : Place) (w : Scope) (f : List Fault) (h : Notes) → ReadsListed commas (ElementRule In k) xs c d
-      → all_supported (trees xs) ≡ true → kind_at d ≡ kind.RParen
+      → all_supported_in k.flags.module (trees xs) ≡ true → kind_at d ≡ kind.RParen
       → loop (arguments_turn inner cover commas) found (st c k w f h) ≡ Ok (found ++ xs, st (after d) k w (f ++ walks (env_of k w.labels) false (trees xs)) (h ⊕ all_notes_of (trees xs)))
   many_arguments commas [] found k c d w f h r s e = rw (append-nil found, append-nil f, append-nil h.held_back, or_nil h.found_module_item, r) (arguments_end commas found k c w f h (ap kind_at (sym r) ∙ e))
   many_arguments commas (x ∷ []) found k c d w f h (m, r, l) s e =
-      argument_more commas found k x c m d r (and_yes (supported x) _ s).0 (argument_last commas x m d l e) w f h
+      argument_more commas found k x c m d r (and_yes (supported_in k.flags.module x) _ s).0 (argument_last commas x m d l e) w f h
       ∙ rw (append-nil (walk (env_of k w.labels) x), append-nil (notes x), or_nil (has_meta x)) (arguments_end commas (found ++ x ∷ []) k d w (f ++ walk (env_of k w.labels) x) (h ⊕ notes_of x) e)
   many_arguments commas (x ∷ y ∷ ys) found k c d w f h (m, r, a, i, more) s e =
-      let t = and_yes (supported x) _ s in
-      let g = and_no (not commas) (sees kind.RParen (after m)) (argument_begins commas y ys k (after m) d more (and_yes (supported y) (all_supported (trees ys)) t.1).0) in
+      let t = and_yes (supported_in k.flags.module x) _ s in
+      let g = and_no (not commas) (sees kind.RParen (after m)) (argument_begins commas y ys k (after m) d more (and_yes (supported_in k.flags.module y) (all_supported_in k.flags.module (trees ys)) t.1).0) in
       argument_more commas found k x c m (after m) r t.0 (inr (i, refl, g)) w f h
       ∙ many_arguments commas (y ∷ ys) (found ++ x ∷ []) k (after m) d w (f ++ walk (env_of k w.labels) x) (h ⊕ notes_of x) more t.1 e ∙ simp (append_assoc, or_assoc) refl
 
-  pub arguments_read : (commas : Bool) (k : Code) (args : Tree) (c d : Place) (w : Scope) (f : List Fault) (h : Notes) (r : ArgumentsRule In k commas args c d) → supported args ≡ true
+  pub arguments_read : (commas : Bool) (k : Code) (args : Tree) (c d : Place) (w : Scope) (f : List Fault) (h : Notes) (r : ArgumentsRule In k commas args c d) → supported_in k.flags.module args ≡ true
       → arguments inner cover commas (st c k w f h) ≡ Ok (r.elements, st d k w (f ++ walk (env_of k w.labels) args) (h ⊕ notes_of args))
   unfolding arguments
   arguments_read commas k args c d w f h r s =
-      many_arguments commas r.elements [] k (after c) r.close w f h r.reads_elements (supported_as args (listed r.elements) r.is s) r.closes ∙ rw (r.next, r.is) refl
+      many_arguments commas r.elements [] k (after c) r.close w f h r.reads_elements (supported_as _ args (listed r.elements) r.is s) r.closes ∙ rw (r.next, r.is) refl
 
   -- ---- keys
 
-  computed_key_reads : (k : Code) (x : Tree) (c d : Place) → ComputedRule In k x c d → is_supported_key x ≡ true → Reads (computed_key inner cover) k x c d
+  computed_key_reads : (k : Code) (x : Tree) (c d : Place) → ComputedRule In k x c d → is_supported_key_in k.flags.module x ≡ true → Reads (computed_key inner cover) k x c d
   unfolding computed_key spanned
   computed_key_reads k x c d r s w f h =
-      let t : supported r.key ≡ true = sym (ap is_supported_key r.is) ∙ s in
+      let t : supported_in k.flags.module r.key ≡ true = sym (ap (is_supported_key_in k.flags.module) r.is) ∙ s in
       rw (
         inside_reads assignment k r.key (after c) r.close r.reads_key t w f h,
         expect_reads kind.RBracket r.close k w (f ++ walk (env_of k w.labels) r.key) (h ⊕ notes_of r.key) r.closes,
@@ -262,7 +269,7 @@ module _ (In : Goal → Type 0) (inner : Class → Reader Tree) (cover : Reader 
   token_key_reads u sp x y c d k r i j e g b z o m w f h =
       rw (worded u sp c d false r i, token_first u sp c d r, j) (literal_key_reads u sp x y c d k r e g b z o m w f h)
 
-  pub key_reads : (k : Code) (x : Tree) (c d : Place) → KeyRule In k x c d → is_supported_key x ≡ true → Reads (key inner cover) k x c d
+  pub key_reads : (k : Code) (x : Tree) (c d : Place) → KeyRule In k x c d → is_supported_key_in k.flags.module x ≡ true → Reads (key inner cover) k x c d
   unfolding key same_kind
   key_reads k x c d (parts.word_key text sp r e) s w f h = rw (worded (token.Word r.word) sp c d true r.reads_word refl) (word_reads text sp k x c d r e w f h)
   key_reads k x c d (parts.string_key value raw sp r e) s w f h =

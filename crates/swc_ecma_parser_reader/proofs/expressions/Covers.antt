@@ -157,35 +157,6 @@ module _ (inner : Class → Reader Tree) (cover : Reader Cover) where
       (λ _. meets_then {P = λ _ _. Unit {0}} _ (elements inner cover s) _ (meets_each _ (elements inner cover s) (λ _ _ _. tt)) (λ _ _ _. refl))
       (λ _. meets_then {P = λ _ _. Unit {0}} _ (properties inner cover s) _ (meets_each _ (properties inner cover s) (λ _ _ _. tt)) (λ _ _ _. refl))
 
-  -- ---- as an expression it is closed, and what goes on with it is read
-
-  primary_literal : (s : State) → begins_literal s.at ≡ true → primary inner cover s ≡ and_then (opened s) close
-  unfolding primary literal marked_primary same_kind
-  primary_literal s h = elim (literal_kind s.at h) [
-    | inl e ↦ rw ((array_here s.code.flags s.at e).0, (array_here s.code.flags s.at e).1, e) refl
-    | inr e ↦ rw ((object_here s.code.flags s.at e).0, (object_here s.code.flags s.at e).1, e) refl
-  ]
-
-  -- with an operand that is read first
-  operators_from : (s : State) (o : Outcome Tree) → unary_operator (kind_at s.at) ≡ None → update_operator (kind_at s.at) ≡ None → sees kind.Super s.at ≡ false → sees kind.New s.at ≡ false
-      → sees kind.Import s.at ≡ false → begins_async_call s.at ≡ false → primary inner cover s ≡ o → operators_expr inner cover s ≡ and_then o (continued inner cover (span_at s.at))
-  unfolding operators_expr binary_expr unary_expr postfix left left_head continued postfixed
-  operators_from s o plain update super new imports call h = rw (plain, update, super, new, imports, call, h)
-      (four_steps o (left_from inner cover true (span_at s.at)) (postfixed inner cover (span_at s.at)) (binary_from inner cover 1 (span_at s.at)) (behind_operators inner cover false (span_at s.at)))
-
-  operators_at : (s : State) (k : TokenKind) → kind_at s.at ≡ k → unary_operator k ≡ None → update_operator k ≡ None → same_kind k kind.Super ≡ false → same_kind k kind.New ≡ false
-      → same_kind k kind.Import ≡ false → opens k ≡ true → begins_literal s.at ≡ true → operators_expr inner cover s ≡ and_then (and_then (opened s) close) (continued inner cover (span_at s.at))
-  operators_at s k e plain update super new imports o h =
-      operators_from s _ (ap unary_operator e ∙ plain) (ap update_operator e ∙ update) (ap (λ j. same_kind j kind.Super) e ∙ super) (ap (λ j. same_kind j kind.New) e ∙ new)
-      (ap (λ j. same_kind j kind.Import) e ∙ imports) (calls_nothing s.at (ap opens e ∙ o)) (primary_literal s h)
-
-  pub operators_literal : (s : State) → begins_literal s.at ≡ true → operators_expr inner cover s ≡ and_then (and_then (opened s) close) (continued inner cover (span_at s.at))
-  unfolding same_kind
-  operators_literal s h = elim (literal_kind s.at h) [
-    | inl e ↦ operators_at s kind.LBracket e refl refl refl refl refl refl h
-    | inr e ↦ operators_at s kind.LBrace e refl refl refl refl refl refl h
-  ]
-
   -- ---- nothing goes on with it
 
   -- no access, no arguments and no operator: each step behind it leaves it as it is
@@ -246,25 +217,9 @@ module _ (inner : Class → Reader Tree) (cover : Reader Cover) where
     pub value : assigned_to inner cover (span_at s.at) p assign.Assign behind ≡ Ok (y, t)
     pub is : v ≡ done y
 
-  -- an expression, which stays one
-  pub record Settled (s : State) (v : Cover) (t : State) : Type 0 where
-    pub x : Tree
-    pub reads : operators_expr inner cover s ≡ Ok (x, t)
-    pub is : v ≡ done x
-
   -- from the same tree and state on
   goes_from : (start : Span) (x y : Tree) (m n : State) (z : Tree) (l t : State) → x ≡ y → m ≡ n → l ≡ t → continued inner cover start y n ≡ Ok (z, l) → continued inner cover start x m ≡ Ok (z, t)
   goes_from start x y m n z l t e g h i = ap (λ q. continued inner cover start q m) e ∙ ap (λ q. continued inner cover start y q) g ∙ i ∙ ap (λ q. Ok (z, q)) h
-
-  -- closed, with what goes on with it
-  closed_reads : (s : State) (u : Cover) (m : State) (y : Tree) (t : State) → begins_literal s.at ≡ true → opened s ≡ Ok (u, m) → u.mark ≡ None
-      → continued inner cover (span_at s.at) u.x m ≡ Ok (y, t) → operators_expr inner cover s ≡ Ok (y, t)
-  closed_reads s u m y t h r o e = operators_literal s h ∙ rw (r, close_reads u m o) e
-
-  -- left open it is an expression too, where it has no part that only a pattern has
-  pub open_reads : (s : State) (v : Cover) (t : State) → LeftOpen s v t → v.mark ≡ None → operators_expr inner cover s ≡ Ok (v.x, t)
-  open_reads s v t o e =
-      closed_reads s v t v.x t o.first o.read e (stays (span_at s.at) v.x t (met (λ v _. is_literal v.x ≡ true) (opened s) v t (opened_literal s) o.read) o.ended)
 
   assigns_is : (s : State) (u : Cover) (m : State) (v : Cover) (t : State) → begins_literal s.at ≡ true → opened s ≡ Ok (u, m) → sees kind.Assign m.at ≡ true
       → assigned_pattern inner cover (span_at s.at) u m ≡ Ok (v, t) → Assigns s v t
@@ -288,99 +243,146 @@ module _ (inner : Class → Reader Tree) (cover : Reader Cover) where
         is = sym j;
       }
 
-  closed_is : (s : State) (u : Cover) (m : State) (v : Cover) (t : State) → begins_literal s.at ≡ true → opened s ≡ Ok (u, m)
-      → closed inner cover (span_at s.at) u m ≡ Ok (v, t) → Settled s v t
-  unfolding closed
-  closed_is s u m v t h r e =
-      let (x, n, g, more) = then_ok (close u m) _ v t e in
-      let (y, l, goes, i) = then_ok (continued inner cover (span_at s.at) x n) _ v t more in
-      let (o, is, same) = close_is u m x n g in
-      let (j, k) = same_answer (done y) v l t i in
-      record { x = y; reads = closed_reads s u m y t h r o (goes_from (span_at s.at) u.x x m n y l t is same k goes); is = sym j }
+  -- what a function may begin
+  module _ (function : Reader Tree) where
+    -- ---- as an expression it is closed, and what goes on with it is read
 
-  -- what a literal that stands first becomes
-  abbrev pub Becomes : State → Cover → State → Type 0
-  Becomes s v t = LeftOpen s v t ⊎ (Assigns s v t ⊎ Settled s v t)
-
-  behind_is : (s : State) (u : Cover) (m : State) (v : Cover) (t : State) → begins_literal s.at ≡ true → opened s ≡ Ok (u, m)
-      → behind_literal inner cover (span_at s.at) u m ≡ Ok (v, t) → Becomes s v t
-  unfolding behind_literal
-  behind_is s u m v t h r e = elim (chosen (sees kind.Assign m.at) _ _ _ e) [
-    | inl w ↦ inr (inl (assigns_is s u m v t h r w.0 w.1))
-    | inr w ↦ elim (chosen (goes_on m) _ _ _ w.1) [
-      | inl z ↦ inr (inr (closed_is s u m v t h r z.1))
-      | inr z ↦ let (j, k) = same_answer u v m t z.1 in
-          inl (record { first = h; read = r ∙ ap (λ q. Ok (q, m)) j ∙ ap (λ q. Ok (v, q)) k; unassigned = ap (λ q. sees kind.Assign q.at) (sym k) ∙ w.0; ended = ap goes_on (sym k) ∙ z.0 })
+    primary_literal : (s : State) → begins_literal s.at ≡ true → primary inner cover function s ≡ and_then (opened s) close
+    unfolding primary literal marked_primary same_kind
+    primary_literal s h = elim (literal_kind s.at h) [
+      | inl e ↦ rw ((array_here s.code.flags s.at e).0, (array_here s.code.flags s.at e).1, e) refl
+      | inr e ↦ rw ((object_here s.code.flags s.at e).0, (object_here s.code.flags s.at e).1, e) refl
     ]
-  ]
 
-  open_is : (s : State) (v : Cover) (t : State) → begins_literal s.at ≡ true → open_literal inner cover s ≡ Ok (v, t) → Becomes s v t
-  unfolding open_literal
-  open_is s v t h e = let (u, m, r, more) = then_ok (opened s) _ v t e in behind_is s u m v t h r more
+    -- with an operand that is read first
+    operators_from : (s : State) (o : Outcome Tree) → unary_operator (kind_at s.at) ≡ None → update_operator (kind_at s.at) ≡ None → sees kind.Super s.at ≡ false → sees kind.New s.at ≡ false
+        → sees kind.Import s.at ≡ false → begins_async_call s.at ≡ false → primary inner cover function s ≡ o → operators_expr inner cover function s ≡ and_then o (continued inner cover (span_at s.at))
+    unfolding operators_expr binary_expr unary_expr postfix left left_head continued postfixed
+    operators_from s o plain update super new imports call h = rw (plain, update, super, new, imports, call, h)
+        (four_steps o (left_from inner cover true (span_at s.at)) (postfixed inner cover (span_at s.at)) (binary_from inner cover 1 (span_at s.at)) (behind_operators inner cover false (span_at s.at)))
 
-  done_is : (s : State) (v : Cover) (t : State) → done_expr inner cover s ≡ Ok (v, t) → Settled s v t
-  unfolding done_expr
-  done_is s v t e =
-      let (x, l, r, i) = then_ok (operators_expr inner cover s) _ v t e in
-      let (j, k) = same_answer (done x) v l t i in
-      record { x = x; reads = r ∙ ap (λ q. Ok (x, q)) k; is = sym j }
+    operators_at : (s : State) (k : TokenKind) → kind_at s.at ≡ k → unary_operator k ≡ None → update_operator k ≡ None → same_kind k kind.Super ≡ false → same_kind k kind.New ≡ false
+        → same_kind k kind.Import ≡ false → opens k ≡ true → begins_literal s.at ≡ true → operators_expr inner cover function s ≡ and_then (and_then (opened s) close) (continued inner cover (span_at s.at))
+    operators_at s k e plain update super new imports o h =
+        operators_from s _ (ap unary_operator e ∙ plain) (ap update_operator e ∙ update) (ap (λ j. same_kind j kind.Super) e ∙ super) (ap (λ j. same_kind j kind.New) e ∙ new)
+        (ap (λ j. same_kind j kind.Import) e ∙ imports) (calls_nothing s.at (ap opens e ∙ o)) (primary_literal s h)
 
-  -- what may still become a pattern is left open, assigned to, or an expression
-  pub cover_is : (s : State) (v : Cover) (t : State) → cover_expr inner cover s ≡ Ok (v, t) → Becomes s v t
-  unfolding cover_expr
-  cover_is s v t e = elim (chosen (begins_literal s.at) _ _ _ e) [ inl w ↦ open_is s v t w.0 w.1 | inr w ↦ inr (inr (done_is s v t w.1)) ]
+    pub operators_literal : (s : State) → begins_literal s.at ≡ true → operators_expr inner cover function s ≡ and_then (and_then (opened s) close) (continued inner cover (span_at s.at))
+    unfolding same_kind
+    operators_literal s h = elim (literal_kind s.at h) [
+      | inl e ↦ operators_at s kind.LBracket e refl refl refl refl refl refl h
+      | inr e ↦ operators_at s kind.LBrace e refl refl refl refl refl refl h
+    ]
 
-  -- ---- the other way round
+    -- an expression, which stays one
+    pub record Settled (s : State) (v : Cover) (t : State) : Type 0 where
+      pub x : Tree
+      pub reads : operators_expr inner cover function s ≡ Ok (x, t)
+      pub is : v ≡ done x
 
-  pub open_cover : (s : State) (v : Cover) (t : State) → LeftOpen s v t → cover_expr inner cover s ≡ Ok (v, t)
-  unfolding cover_expr open_literal behind_literal
-  open_cover s v t o = rw (o.first, o.read, o.unassigned, o.ended) refl
+    -- closed, with what goes on with it
+    closed_reads : (s : State) (u : Cover) (m : State) (y : Tree) (t : State) → begins_literal s.at ≡ true → opened s ≡ Ok (u, m) → u.mark ≡ None
+        → continued inner cover (span_at s.at) u.x m ≡ Ok (y, t) → operators_expr inner cover function s ≡ Ok (y, t)
+    closed_reads s u m y t h r o e = operators_literal s h ∙ rw (r, close_reads u m o) e
 
-  pub assigns_cover : (s : State) (v : Cover) (t : State) → Assigns s v t → cover_expr inner cover s ≡ Ok (v, t)
-  unfolding cover_expr open_literal behind_literal assigned_pattern
-  assigns_cover s v t o = rw (o.first, o.read, o.equals, target_reads o.found o.behind o.p o.no_comma o.is_target, o.value, o.is) refl
+    -- left open it is an expression too, where it has no part that only a pattern has
+    pub open_reads : (s : State) (v : Cover) (t : State) → LeftOpen s v t → v.mark ≡ None → operators_expr inner cover function s ≡ Ok (v.x, t)
+    open_reads s v t o e =
+        closed_reads s v t v.x t o.first o.read e (stays (span_at s.at) v.x t (met (λ v _. is_literal v.x ≡ true) (opened s) v t (opened_literal s) o.read) o.ended)
 
-  -- an expression, as it may still become a pattern
-  pub record Kept (s : State) (x : Tree) (t : State) : Type 0 where
-    pub v : Cover
-    pub reads : cover_expr inner cover s ≡ Ok (v, t)
-    pub is : v.x ≡ x
-    pub unmarked : v.mark ≡ None
+    closed_is : (s : State) (u : Cover) (m : State) (v : Cover) (t : State) → begins_literal s.at ≡ true → opened s ≡ Ok (u, m)
+        → closed inner cover (span_at s.at) u m ≡ Ok (v, t) → Settled s v t
+    unfolding closed
+    closed_is s u m v t h r e =
+        let (x, n, g, more) = then_ok (close u m) _ v t e in
+        let (y, l, goes, i) = then_ok (continued inner cover (span_at s.at) x n) _ v t more in
+        let (o, is, same) = close_is u m x n g in
+        let (j, k) = same_answer (done y) v l t i in
+        record { x = y; reads = closed_reads s u m y t h r o (goes_from (span_at s.at) u.x x m n y l t is same k goes); is = sym j }
 
-  kept_behind : (s : State) (u : Cover) (m : State) (x : Tree) (t : State) → begins_literal s.at ≡ true → opened s ≡ Ok (u, m) → u.mark ≡ None
-      → continued inner cover (span_at s.at) u.x m ≡ Ok (x, t) → (a g : Bool) → sees kind.Assign m.at ≡ a → goes_on m ≡ g → Kept s x t
-  unfolding cover_expr open_literal behind_literal closed
-  kept_behind s u m x t h r o e true g i j = refuses (span_at s.at) u.x m x t (met (λ v _. is_literal v.x ≡ true) (opened s) u m (opened_literal s) r) i e
-  kept_behind s u m x t h r o e false true i j = record { v = done x; reads = rw (h, r, i, j, close_reads u m o, e) refl; is = refl; unmarked = refl }
-  kept_behind s u m x t h r o e false false i j =
-      let (k, l) = same_answer u.x x m t (sym (stays (span_at s.at) u.x m (met (λ v _. is_literal v.x ≡ true) (opened s) u m (opened_literal s) r) j) ∙ e) in
-      record { v = u; reads = rw (h, r, i, j) (ap (λ q. Ok (u, q)) l); is = k; unmarked = o }
+    -- what a literal that stands first becomes
+    abbrev pub Becomes : State → Cover → State → Type 0
+    Becomes s v t = LeftOpen s v t ⊎ (Assigns s v t ⊎ Settled s v t)
 
-  kept_by : (s : State) (x : Tree) (t : State) → operators_expr inner cover s ≡ Ok (x, t) → (b : Bool) → begins_literal s.at ≡ b → Kept s x t
-  unfolding cover_expr done_expr
-  kept_by s x t e true h =
-      let (y, n, r, more) = then_ok (and_then (opened s) close) _ x t (sym (operators_literal s h) ∙ e) in
-      let (u, m, read, g) = then_ok (opened s) _ y n r in
-      let (o, is, same) = close_is u m y n g in
-      kept_behind s u m x t h read o (goes_from (span_at s.at) u.x y m n x t t is same refl more) (sees kind.Assign m.at) (goes_on m) refl refl
-  kept_by s x t e false h = record { v = done x; reads = rw (h, e) refl; is = refl; unmarked = refl }
+    behind_is : (s : State) (u : Cover) (m : State) (v : Cover) (t : State) → begins_literal s.at ≡ true → opened s ≡ Ok (u, m)
+        → behind_literal inner cover (span_at s.at) u m ≡ Ok (v, t) → Becomes s v t
+    unfolding behind_literal
+    behind_is s u m v t h r e = elim (chosen (sees kind.Assign m.at) _ _ _ e) [
+      | inl w ↦ inr (inl (assigns_is s u m v t h r w.0 w.1))
+      | inr w ↦ elim (chosen (goes_on m) _ _ _ w.1) [
+        | inl z ↦ inr (inr (closed_is s u m v t h r z.1))
+        | inr z ↦ let (j, k) = same_answer u v m t z.1 in
+            inl (record { first = h; read = r ∙ ap (λ q. Ok (q, m)) j ∙ ap (λ q. Ok (v, q)) k; unassigned = ap (λ q. sees kind.Assign q.at) (sym k) ∙ w.0; ended = ap goes_on (sym k) ∙ z.0 })
+      ]
+    ]
 
-  -- what is read with operators and operands is read as what may still become a pattern
-  pub operators_cover : (s : State) (x : Tree) (t : State) → operators_expr inner cover s ≡ Ok (x, t) → Kept s x t
-  operators_cover s x t e = kept_by s x t e (begins_literal s.at) refl
+    open_is : (s : State) (v : Cover) (t : State) → begins_literal s.at ≡ true → open_literal inner cover s ≡ Ok (v, t) → Becomes s v t
+    unfolding open_literal
+    open_is s v t h e = let (u, m, r, more) = then_ok (opened s) _ v t e in behind_is s u m v t h r more
 
-  -- ---- closed for good
+    done_is : (s : State) (v : Cover) (t : State) → done_expr inner cover function s ≡ Ok (v, t) → Settled s v t
+    unfolding done_expr
+    done_is s v t e =
+        let (x, l, r, i) = then_ok (operators_expr inner cover function s) _ v t e in
+        let (j, k) = same_answer (done x) v l t i in
+        record { x = x; reads = r ∙ ap (λ q. Ok (x, q)) k; is = sym j }
 
-  pub assignment_reads : (s : State) (v : Cover) (t : State) → cover_expr inner cover s ≡ Ok (v, t) → v.mark ≡ None → assignment_expr inner cover s ≡ Ok (v.x, t)
-  unfolding assignment_expr
-  assignment_reads s v t e o = rw e (close_reads v t o)
+    -- what may still become a pattern is left open, assigned to, or an expression
+    pub cover_is : (s : State) (v : Cover) (t : State) → cover_expr inner cover function s ≡ Ok (v, t) → Becomes s v t
+    unfolding cover_expr
+    cover_is s v t e = elim (chosen (begins_literal s.at) _ _ _ e) [ inl w ↦ open_is s v t w.0 w.1 | inr w ↦ inr (inr (done_is s v t w.1)) ]
 
-  pub assignment_is : (s : State) (x : Tree) (t : State) → assignment_expr inner cover s ≡ Ok (x, t) → Kept s x t
-  unfolding assignment_expr
-  assignment_is s x t e =
-      let (v, m, r, g) = then_ok (cover_expr inner cover s) _ x t e in
-      let (o, is, same) = close_is v m x t g in
-      record { v = v; reads = r ∙ ap (λ q. Ok (v, q)) same; is = is; unmarked = o }
+    -- ---- the other way round
 
-  pub operators_assignment : (s : State) (x : Tree) (t : State) → operators_expr inner cover s ≡ Ok (x, t) → assignment_expr inner cover s ≡ Ok (x, t)
-  operators_assignment s x t e = let k = operators_cover s x t e in assignment_reads s k.v t k.reads k.unmarked ∙ ap (λ q. Ok (q, t)) k.is
+    pub open_cover : (s : State) (v : Cover) (t : State) → LeftOpen s v t → cover_expr inner cover function s ≡ Ok (v, t)
+    unfolding cover_expr open_literal behind_literal
+    open_cover s v t o = rw (o.first, o.read, o.unassigned, o.ended) refl
+
+    pub assigns_cover : (s : State) (v : Cover) (t : State) → Assigns s v t → cover_expr inner cover function s ≡ Ok (v, t)
+    unfolding cover_expr open_literal behind_literal assigned_pattern
+    assigns_cover s v t o = rw (o.first, o.read, o.equals, target_reads o.found o.behind o.p o.no_comma o.is_target, o.value, o.is) refl
+
+    -- an expression, as it may still become a pattern
+    pub record Kept (s : State) (x : Tree) (t : State) : Type 0 where
+      pub v : Cover
+      pub reads : cover_expr inner cover function s ≡ Ok (v, t)
+      pub is : v.x ≡ x
+      pub unmarked : v.mark ≡ None
+
+    kept_behind : (s : State) (u : Cover) (m : State) (x : Tree) (t : State) → begins_literal s.at ≡ true → opened s ≡ Ok (u, m) → u.mark ≡ None
+        → continued inner cover (span_at s.at) u.x m ≡ Ok (x, t) → (a g : Bool) → sees kind.Assign m.at ≡ a → goes_on m ≡ g → Kept s x t
+    unfolding cover_expr open_literal behind_literal closed
+    kept_behind s u m x t h r o e true g i j = refuses (span_at s.at) u.x m x t (met (λ v _. is_literal v.x ≡ true) (opened s) u m (opened_literal s) r) i e
+    kept_behind s u m x t h r o e false true i j = record { v = done x; reads = rw (h, r, i, j, close_reads u m o, e) refl; is = refl; unmarked = refl }
+    kept_behind s u m x t h r o e false false i j =
+        let (k, l) = same_answer u.x x m t (sym (stays (span_at s.at) u.x m (met (λ v _. is_literal v.x ≡ true) (opened s) u m (opened_literal s) r) j) ∙ e) in
+        record { v = u; reads = rw (h, r, i, j) (ap (λ q. Ok (u, q)) l); is = k; unmarked = o }
+
+    kept_by : (s : State) (x : Tree) (t : State) → operators_expr inner cover function s ≡ Ok (x, t) → (b : Bool) → begins_literal s.at ≡ b → Kept s x t
+    unfolding cover_expr done_expr
+    kept_by s x t e true h =
+        let (y, n, r, more) = then_ok (and_then (opened s) close) _ x t (sym (operators_literal s h) ∙ e) in
+        let (u, m, read, g) = then_ok (opened s) _ y n r in
+        let (o, is, same) = close_is u m y n g in
+        kept_behind s u m x t h read o (goes_from (span_at s.at) u.x y m n x t t is same refl more) (sees kind.Assign m.at) (goes_on m) refl refl
+    kept_by s x t e false h = record { v = done x; reads = rw (h, e) refl; is = refl; unmarked = refl }
+
+    -- what is read with operators and operands is read as what may still become a pattern
+    pub operators_cover : (s : State) (x : Tree) (t : State) → operators_expr inner cover function s ≡ Ok (x, t) → Kept s x t
+    operators_cover s x t e = kept_by s x t e (begins_literal s.at) refl
+
+    -- ---- closed for good
+
+    pub assignment_reads : (s : State) (v : Cover) (t : State) → cover_expr inner cover function s ≡ Ok (v, t) → v.mark ≡ None → assignment_expr inner cover function s ≡ Ok (v.x, t)
+    unfolding assignment_expr
+    assignment_reads s v t e o = rw e (close_reads v t o)
+
+    pub assignment_is : (s : State) (x : Tree) (t : State) → assignment_expr inner cover function s ≡ Ok (x, t) → Kept s x t
+    unfolding assignment_expr
+    assignment_is s x t e =
+        let (v, m, r, g) = then_ok (cover_expr inner cover function s) _ x t e in
+        let (o, is, same) = close_is v m x t g in
+        record { v = v; reads = r ∙ ap (λ q. Ok (v, q)) same; is = is; unmarked = o }
+
+    pub operators_assignment : (s : State) (x : Tree) (t : State) → operators_expr inner cover function s ≡ Ok (x, t) → assignment_expr inner cover function s ≡ Ok (x, t)
+    operators_assignment s x t e = let k = operators_cover s x t e in assignment_reads s k.v t k.reads k.unmarked ∙ ap (λ q. Ok (q, t)) k.is

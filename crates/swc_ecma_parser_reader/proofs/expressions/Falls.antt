@@ -30,7 +30,7 @@ use Rattle.swc_ecma_parser_grammar.specs.language.Goals.{Class, expression, assi
 use Rattle.swc_ecma_parser_grammar.specs.language.Operators.{unary_operator, update_operator, assign_operator, groups_left, mixes, is_unary}
 use Rattle.swc_ecma_parser_grammar.specs.language.Continues.{continues_conditional}
 use Rattle.swc_ecma_parser_reader.specs.State.{State, Outcome, Reader, and_then, moved, module_found, coded, reject, reject_in, reject_at, fault, fault_at, expect, name, loop}
-use Rattle.swc_ecma_parser_reader.specs.Expressions.{Cover, Covers, no_covers, with_cover, unmarked, close, target_or, target, goes_on, literal, literal_in, taken, any_word, word_in, word_by, touching_word, private_name, word_property, is_word_at, key_or, literal_key, shorthand_name, shorthand, dotted, ident_expr, this, bare_new, closed_left, simple, update_behind, behind_operand, postfix_at, right_class, operator_at, left_operand, unmixed, unassigned, unheaded, heads_arrow, begins_async_call, inside, brackets, access, spread_element, plain_element, element, behind_comma, behind_argument, arguments_turn, arguments, covered, spread_item, plain_item, item, behind_item, array_turn, elements, array, computed_key, key, key_value, initialized, initialized_name, initialized_key, bare_key, behind_key, keyed_property, spread_property, property, behind_property, object_turn, properties, object, paren, marked_primary, literal_or, primary, accessed, called, left_turn, left_from, super_call, super_property, super_access, behind_super, super_head, constructed, new_head, import_call, meta_fault, import_meta, import_head, left_head, left, left_expr, prefixed, update_before, postfix, updated, unary_by, unary_expr, operated, binary_by, binary_turn, binary_from, binary_expr, conditional, assigned_to, assigned, assigned_or, behind_operators, operators_expr, postfixed, continued, closed, assigned_pattern, behind_literal, open_literal, done_expr, cover_expr, assignment_expr, sequence_turn, sequence_from, expression_expr, expr_level, expr, cover}
+use Rattle.swc_ecma_parser_reader.specs.Expressions.{Cover, Covers, no_covers, with_cover, unmarked, close, target_or, target, goes_on, literal, literal_in, taken, any_word, word_in, word_by, touching_word, private_name, word_property, is_word_at, key_or, literal_key, shorthand_name, shorthand, dotted, ident_expr, this, bare_new, closed_left, simple, update_behind, behind_operand, postfix_at, right_class, operator_at, left_operand, unmixed, unassigned, unheaded, heads_arrow, begins_async_call, inside, brackets, access, spread_element, plain_element, element, behind_comma, behind_argument, arguments_turn, arguments, covered, spread_item, plain_item, item, behind_item, array_turn, elements, array, computed_key, key, key_value, initialized, initialized_name, initialized_key, bare_key, behind_key, keyed_property, spread_property, property, behind_property, object_turn, properties, object, paren, marked_primary, literal_or, primary, accessed, called, left_turn, left_from, super_call, super_property, super_access, behind_super, super_head, constructed, new_head, import_call, meta_fault, import_meta, import_head, left_head, left, left_expr, prefixed, update_before, postfix, updated, unary_by, unary_expr, operated, binary_by, binary_turn, binary_from, binary_expr, conditional, assigned_to, assigned, assigned_or, behind_operators, operators_expr, postfixed, continued, closed, assigned_pattern, behind_literal, open_literal, done_expr, cover_expr, assignment_expr, sequence_turn, sequence_from, expression_expr, expr_level}
 use Rattle.swc_ecma_parser_reader.specs.Heads.{sequenced, head_expr}
 use Rattle.swc_ecma_parser_reader.proofs.Takes.{Falls, falls_then, falls_last, falls_coded, falls_if, less, falls_next, moves, takes, takes_one, falls_past, falls_moved, wanted_falls, too_deep_falls, refused_falls, fault_falls, expect_falls, name_falls, loop_falls}
 use Rattle.swc_ecma_parser_reader.proofs.Meets.{saw}
@@ -297,23 +297,6 @@ module _ (inner : Class → Reader Tree) (cover : Reader Cover) (h : (class : Cl
   paren_falls s = falls_moved 1 s _ (falls_next (length (after s.at).left) (inside inner cover expression (moved s)) _ (inside_falls expression (moved s)) (λ e t.
       falls_last 0 (length t.at.left) (expect kind.RParen t) _ (expect_falls kind.RParen t)))
 
-  marked_falls : (s : State) → Falls 1 (length s.at.left) (marked_primary inner cover s)
-  unfolding marked_primary
-  marked_falls s = falls_if 1 (length s.at.left) (sees kind.LParen s.at) _ _ (paren_falls s)
-      (falls_when 1 (length s.at.left) (sees kind.LBracket s.at) _ _
-      (λ e. falls_next (length s.at.left) (array inner cover s) _ (array_falls s (no_end s kind.LBracket (λ z. cc) e)) close_falls) (λ _.
-      falls_when 1 (length s.at.left) (sees kind.LBrace s.at) _ _
-      (λ e. falls_next (length s.at.left) (object inner cover s) _ (object_falls s (no_end s kind.LBrace (λ z. cc) e)) close_falls) (λ _.
-      falls_when 1 (length s.at.left) (sees kind.This s.at) _ _ (λ e. this_falls s (no_end s kind.This (λ z. cc) e)) (λ _. wanted_falls Tree 1 (length s.at.left) faults.Unexpected s))))
-
-  literal_or_falls : (s : State) (o : Option Tree) → literal_in s.at.left ≡ o → Falls 1 (length s.at.left) (and_then (taken o s) (literal_or inner cover))
-  literal_or_falls s None e = marked_falls s
-  literal_or_falls s (Some x) e = literal_takes s s.at.left x refl e
-
-  pub primary_falls : (s : State) → Falls 1 (length s.at.left) (primary inner cover s)
-  unfolding primary literal
-  primary_falls s = falls_if 1 (length s.at.left) (name_at s.code.flags s.at) _ _ (ident_falls s) (literal_or_falls s (literal_in s.at.left) refl)
-
   pub accessed_falls : (start : Span) (x : Tree) (s : State) → Falls 1 (length s.at.left) (accessed inner cover start x s)
   unfolding accessed
   accessed_falls start x s = falls_last 1 (length s.at.left) (access inner cover s) _ (access_falls s)
@@ -377,22 +360,6 @@ module _ (inner : Class → Reader Tree) (cover : Reader Cover) (h : (class : Cl
       (falls_if 0 (length (after s.at).left) (sees kind.Dot (after s.at)) _ _ (falls_moved 0 (moved s) _ (import_meta_falls (span_at s.at) (moved (moved s))))
       (wanted_falls Tree 0 (length (after s.at).left) faults.Unexpected (moved s))))
 
-  left_head_falls : (calls : Bool) (s : State) → Falls 1 (length s.at.left) (left_head inner cover calls s)
-  unfolding left_head
-  left_head_falls calls s = falls_when 1 (length s.at.left) (sees kind.Super s.at) _ _ (λ e. super_falls calls s (no_end s kind.Super (λ z. cc) e)) (λ _.
-      falls_if 1 (length s.at.left) (sees kind.New s.at) _ _ (new_falls s)
-      (falls_when 1 (length s.at.left) (calls && sees kind.Import s.at) _ _
-      (λ e. import_falls s (no_end s kind.Import (λ z. cc) (and_parts calls (sees kind.Import s.at) e).1)) (λ _. primary_falls s)))
-
-  pub left_falls : (calls : Bool) (s : State) → Falls 1 (length s.at.left) (left inner cover calls s)
-  unfolding left
-  left_falls calls s = falls_next (length s.at.left) (left_head inner cover calls s) _ (left_head_falls calls s) (λ x t. left_from_falls calls (span_at s.at) x t)
-
-  left_expr_falls : (s : State) → Falls 1 (length s.at.left) (left_expr inner cover s)
-  unfolding left_expr closed_left
-  left_expr_falls s = falls_next (length s.at.left) (left inner cover true s) _ (left_falls true s) (λ x t.
-      falls_if 0 (length t.at.left) (continues_left_side t.at) _ _ (wanted_falls Tree 0 (length t.at.left) faults.Unexpected t) (omega arith))
-
   -- ---- operators
 
   prefixed_falls : (op : UnaryOp) (s : State) → Falls 1 (length s.at.left) (prefixed inner cover op s)
@@ -403,22 +370,6 @@ module _ (inner : Class → Reader Tree) (cover : Reader Cover) (h : (class : Cl
   unfolding update_before
   update_before_falls op s = falls_moved 1 s _ (falls_next (length (after s.at).left) (inner unary (moved s)) _ (h unary (moved s)) (λ x t.
       falls_last 0 (length t.at.left) (simple x t) _ (simple_falls x t)))
-
-  postfix_falls : (s : State) → Falls 1 (length s.at.left) (postfix inner cover s)
-  unfolding postfix
-  postfix_falls s = falls_next (length s.at.left) (left inner cover true s) _ (left_falls true s) (λ x t. behind_operand_falls (span_at s.at) x (postfix_at t.at) t)
-
-  updated_falls : (o : Option UpdateOp) (s : State) → Falls 1 (length s.at.left) (updated inner cover o s)
-  updated_falls (Some op) s = update_before_falls op s
-  updated_falls None s = postfix_falls s
-
-  unary_by_falls : (o : Option UnaryOp) (s : State) → Falls 1 (length s.at.left) (unary_by inner cover o s)
-  unary_by_falls (Some op) s = prefixed_falls op s
-  unary_by_falls None s = updated_falls (update_operator (kind_at s.at)) s
-
-  pub unary_falls : (s : State) → Falls 1 (length s.at.left) (unary_expr inner cover s)
-  unfolding unary_expr
-  unary_falls s = unary_by_falls (unary_operator (kind_at s.at)) s
 
   -- an operator and its operand take a token
   pub operated_falls : (start : Span) (x : Tree) (op : BinaryOp) (s : State) → Falls 1 (length s.at.left) (operated inner cover start x op s)
@@ -433,10 +384,6 @@ module _ (inner : Class → Reader Tree) (cover : Reader Cover) (h : (class : Cl
   binary_turn_falls : (n : ℕ) (start : Span) (x : Tree) (s : State) → Falls 0 (length s.at.left) (binary_turn inner cover n start x s)
   unfolding binary_turn
   binary_turn_falls n start x s = binary_by_falls start x (operator_at n s) s
-
-  pub binary_falls : (n : ℕ) (s : State) → Falls 1 (length s.at.left) (binary_expr inner cover n s)
-  unfolding binary_expr binary_from
-  binary_falls n s = falls_next (length s.at.left) (unary_expr inner cover s) _ (unary_falls s) (λ x t. loop_falls (binary_turn inner cover n (span_at s.at)) (binary_turn_falls n (span_at s.at)) x t)
 
   conditional_falls : (start : Span) (x : Tree) (s : State) → Falls 0 (length s.at.left) (conditional inner cover start x s)
   unfolding conditional
@@ -461,10 +408,6 @@ module _ (inner : Class → Reader Tree) (cover : Reader Cover) (h : (class : Cl
   behind_operators_falls : (is_async : Bool) (start : Span) (x : Tree) (s : State) → Falls 0 (length s.at.left) (behind_operators inner cover is_async start x s)
   unfolding behind_operators
   behind_operators_falls is_async start x s = falls_if 0 (length s.at.left) (sees kind.QuestionMark s.at) _ _ (conditional_falls start x s) (assigned_or_falls is_async start x (assign_operator (kind_at s.at)) s)
-
-  pub operators_falls : (s : State) → Falls 1 (length s.at.left) (operators_expr inner cover s)
-  unfolding operators_expr
-  operators_falls s = falls_next (length s.at.left) (binary_expr inner cover 1 s) _ (binary_falls 1 s) (λ x t. behind_operators_falls (begins_async_call s.at) (span_at s.at) x t)
 
   -- ---- what may still become a pattern
 
@@ -496,54 +439,102 @@ module _ (inner : Class → Reader Tree) (cover : Reader Cover) (h : (class : Cl
       (falls_when 1 (length s.at.left) (sees kind.LBracket s.at) _ _ (λ i. array_falls s (no_end s kind.LBracket (λ z. cc) i)) (λ i.
       object_falls s (no_end s kind.LBrace (λ z. cc) (second _ _ e i)))) (λ v t. behind_literal_falls (span_at s.at) v t)
 
-  pub cover_expr_falls : (s : State) → Falls 1 (length s.at.left) (cover_expr inner cover s)
-  unfolding cover_expr done_expr
-  cover_expr_falls s = falls_when 1 (length s.at.left) (sees kind.LBracket s.at || sees kind.LBrace s.at) _ _ (open_literal_falls s) (λ _.
-      falls_last 1 (length s.at.left) (operators_expr inner cover s) _ (operators_falls s))
+  -- what a function may begin
+  module _ (function : Reader Tree) (i : (s : State) → kind_at s.at ≢ kind.End → Falls 1 (length s.at.left) (function s)) where
+    marked_falls : (s : State) → Falls 1 (length s.at.left) (marked_primary inner cover function s)
+    unfolding marked_primary
+    marked_falls s = falls_if 1 (length s.at.left) (sees kind.LParen s.at) _ _ (paren_falls s)
+        (falls_when 1 (length s.at.left) (sees kind.LBracket s.at) _ _
+        (λ e. falls_next (length s.at.left) (array inner cover s) _ (array_falls s (no_end s kind.LBracket (λ z. cc) e)) close_falls) (λ _.
+        falls_when 1 (length s.at.left) (sees kind.LBrace s.at) _ _
+        (λ e. falls_next (length s.at.left) (object inner cover s) _ (object_falls s (no_end s kind.LBrace (λ z. cc) e)) close_falls) (λ _.
+        falls_when 1 (length s.at.left) (sees kind.This s.at) _ _ (λ e. this_falls s (no_end s kind.This (λ z. cc) e)) (λ _.
+        falls_when 1 (length s.at.left) (sees kind.Function s.at) _ _ (λ e. i s (no_end s kind.Function (λ z. cc) e)) (λ _. wanted_falls Tree 1 (length s.at.left) faults.Unexpected s)))))
 
-  pub assignment_falls : (s : State) → Falls 1 (length s.at.left) (assignment_expr inner cover s)
-  unfolding assignment_expr
-  assignment_falls s = falls_next (length s.at.left) (cover_expr inner cover s) _ (cover_expr_falls s) close_falls
+    literal_or_falls : (s : State) (o : Option Tree) → literal_in s.at.left ≡ o → Falls 1 (length s.at.left) (and_then (taken o s) (literal_or inner cover function))
+    literal_or_falls s None e = marked_falls s
+    literal_or_falls s (Some x) e = literal_takes s s.at.left x refl e
 
-  sequence_turn_falls : (found : List Tree) (s : State) → Falls 0 (length s.at.left) (sequence_turn inner cover found s)
-  unfolding sequence_turn
-  sequence_turn_falls found s = falls_moved 0 s _ (falls_then 0 0 (length (after s.at).left) (assignment_expr inner cover (moved s)) _
-      (less (length (after s.at).left) (assignment_expr inner cover (moved s)) (assignment_falls (moved s))) (λ x t.
-      falls_if 0 (length t.at.left) (sees kind.Comma t.at) _ _ (omega arith) (omega arith)))
+    pub primary_falls : (s : State) → Falls 1 (length s.at.left) (primary inner cover function s)
+    unfolding primary literal
+    primary_falls s = falls_if 1 (length s.at.left) (name_at s.code.flags s.at) _ _ (ident_falls s) (literal_or_falls s (literal_in s.at.left) refl)
 
-  sequence_falls : (start : Span) (x : Tree) (s : State) → Falls 0 (length s.at.left) (sequence_from inner cover start x s)
-  unfolding sequence_from
-  sequence_falls start x s = falls_last 0 (length s.at.left) (loop (sequence_turn inner cover) (x ∷ []) s) _ (loop_falls (sequence_turn inner cover) sequence_turn_falls (x ∷ []) s)
+    left_head_falls : (calls : Bool) (s : State) → Falls 1 (length s.at.left) (left_head inner cover function calls s)
+    unfolding left_head
+    left_head_falls calls s = falls_when 1 (length s.at.left) (sees kind.Super s.at) _ _ (λ e. super_falls calls s (no_end s kind.Super (λ z. cc) e)) (λ _.
+        falls_if 1 (length s.at.left) (sees kind.New s.at) _ _ (new_falls s)
+        (falls_when 1 (length s.at.left) (calls && sees kind.Import s.at) _ _
+        (λ e. import_falls s (no_end s kind.Import (λ z. cc) (and_parts calls (sees kind.Import s.at) e).1)) (λ _. primary_falls s)))
 
-  expression_falls : (s : State) → Falls 1 (length s.at.left) (expression_expr inner cover s)
-  unfolding expression_expr
-  expression_falls s = falls_next (length s.at.left) (assignment_expr inner cover s) _ (assignment_falls s) (λ x t.
-      falls_if 0 (length t.at.left) (sees kind.Comma t.at) _ _ (sequence_falls (span_at s.at) x t) (omega arith))
+    pub left_falls : (calls : Bool) (s : State) → Falls 1 (length s.at.left) (left inner cover function calls s)
+    unfolding left
+    left_falls calls s = falls_next (length s.at.left) (left_head inner cover function calls s) _ (left_head_falls calls s) (λ x t. left_from_falls calls (span_at s.at) x t)
 
-  pub head_expr_falls : (s : State) → Falls 1 (length s.at.left) (head_expr inner cover s)
-  unfolding head_expr sequenced
-  head_expr_falls s = falls_next (length s.at.left) (cover_expr inner cover s) _ (cover_expr_falls s) (λ v t. falls_if 0 (length t.at.left) (sees kind.Comma t.at) _ _
-      (falls_then 0 0 (length t.at.left) (close v t) _ (close_falls v t) (λ x u.
-      falls_last 0 (length u.at.left) (sequence_from inner cover (span_at s.at) x u) _ (sequence_falls (span_at s.at) x u))) (omega arith))
+    left_expr_falls : (s : State) → Falls 1 (length s.at.left) (left_expr inner cover function s)
+    unfolding left_expr closed_left
+    left_expr_falls s = falls_next (length s.at.left) (left inner cover function true s) _ (left_falls true s) (λ x t.
+        falls_if 0 (length t.at.left) (continues_left_side t.at) _ _ (wanted_falls Tree 0 (length t.at.left) faults.Unexpected t) (omega arith))
 
-  level_falls : (class : Class) (s : State) → Falls 1 (length s.at.left) (expr_level inner cover class s)
-  unfolding expr_level
-  level_falls expression s = expression_falls s
-  level_falls assignment s = assignment_falls s
-  level_falls (operator n) s = binary_falls n s
-  level_falls unary s = unary_falls s
-  level_falls left_side s = left_expr_falls s
-  level_falls callee s = left_falls false s
+    postfix_falls : (s : State) → Falls 1 (length s.at.left) (postfix inner cover function s)
+    unfolding postfix
+    postfix_falls s = falls_next (length s.at.left) (left inner cover function true s) _ (left_falls true s) (λ x t. behind_operand_falls (span_at s.at) x (postfix_at t.at) t)
 
-mutual
-  unfolding expr cover
+    updated_falls : (o : Option UpdateOp) (s : State) → Falls 1 (length s.at.left) (updated inner cover function o s)
+    updated_falls (Some op) s = update_before_falls op s
+    updated_falls None s = postfix_falls s
 
-  -- an expression of any class takes a token
-  pub expr_falls : (n : ℕ) (class : Class) (s : State) → Falls 1 (length s.at.left) (expr n class s)
-  expr_falls zero class s = too_deep_falls Tree 1 (length s.at.left) s
-  expr_falls (suc n) class s = level_falls (expr n) (cover n) (expr_falls n) (cover_falls n) class s
+    unary_by_falls : (o : Option UnaryOp) (s : State) → Falls 1 (length s.at.left) (unary_by inner cover function o s)
+    unary_by_falls (Some op) s = prefixed_falls op s
+    unary_by_falls None s = updated_falls (update_operator (kind_at s.at)) s
 
-  -- so does what may still become a pattern
-  pub cover_falls : (n : ℕ) (s : State) → Falls 1 (length s.at.left) (cover n s)
-  cover_falls zero s = too_deep_falls Cover 1 (length s.at.left) s
-  cover_falls (suc n) s = cover_expr_falls (expr n) (cover n) (expr_falls n) (cover_falls n) s
+    pub unary_falls : (s : State) → Falls 1 (length s.at.left) (unary_expr inner cover function s)
+    unfolding unary_expr
+    unary_falls s = unary_by_falls (unary_operator (kind_at s.at)) s
+
+    pub binary_falls : (n : ℕ) (s : State) → Falls 1 (length s.at.left) (binary_expr inner cover function n s)
+    unfolding binary_expr binary_from
+    binary_falls n s = falls_next (length s.at.left) (unary_expr inner cover function s) _ (unary_falls s) (λ x t. loop_falls (binary_turn inner cover n (span_at s.at)) (binary_turn_falls n (span_at s.at)) x t)
+
+    pub operators_falls : (s : State) → Falls 1 (length s.at.left) (operators_expr inner cover function s)
+    unfolding operators_expr
+    operators_falls s = falls_next (length s.at.left) (binary_expr inner cover function 1 s) _ (binary_falls 1 s) (λ x t. behind_operators_falls (begins_async_call s.at) (span_at s.at) x t)
+
+    pub cover_expr_falls : (s : State) → Falls 1 (length s.at.left) (cover_expr inner cover function s)
+    unfolding cover_expr done_expr
+    cover_expr_falls s = falls_when 1 (length s.at.left) (sees kind.LBracket s.at || sees kind.LBrace s.at) _ _ (open_literal_falls s) (λ _.
+        falls_last 1 (length s.at.left) (operators_expr inner cover function s) _ (operators_falls s))
+
+    pub assignment_falls : (s : State) → Falls 1 (length s.at.left) (assignment_expr inner cover function s)
+    unfolding assignment_expr
+    assignment_falls s = falls_next (length s.at.left) (cover_expr inner cover function s) _ (cover_expr_falls s) close_falls
+
+    sequence_turn_falls : (found : List Tree) (s : State) → Falls 0 (length s.at.left) (sequence_turn inner cover function found s)
+    unfolding sequence_turn
+    sequence_turn_falls found s = falls_moved 0 s _ (falls_then 0 0 (length (after s.at).left) (assignment_expr inner cover function (moved s)) _
+        (less (length (after s.at).left) (assignment_expr inner cover function (moved s)) (assignment_falls (moved s))) (λ x t.
+        falls_if 0 (length t.at.left) (sees kind.Comma t.at) _ _ (omega arith) (omega arith)))
+
+    sequence_falls : (start : Span) (x : Tree) (s : State) → Falls 0 (length s.at.left) (sequence_from inner cover function start x s)
+    unfolding sequence_from
+    sequence_falls start x s = falls_last 0 (length s.at.left) (loop (sequence_turn inner cover function) (x ∷ []) s) _ (loop_falls (sequence_turn inner cover function) sequence_turn_falls (x ∷ []) s)
+
+    expression_falls : (s : State) → Falls 1 (length s.at.left) (expression_expr inner cover function s)
+    unfolding expression_expr
+    expression_falls s = falls_next (length s.at.left) (assignment_expr inner cover function s) _ (assignment_falls s) (λ x t.
+        falls_if 0 (length t.at.left) (sees kind.Comma t.at) _ _ (sequence_falls (span_at s.at) x t) (omega arith))
+
+    pub head_expr_falls : (s : State) → Falls 1 (length s.at.left) (head_expr inner cover function s)
+    unfolding head_expr sequenced
+    head_expr_falls s = falls_next (length s.at.left) (cover_expr inner cover function s) _ (cover_expr_falls s) (λ v t. falls_if 0 (length t.at.left) (sees kind.Comma t.at) _ _
+        (falls_then 0 0 (length t.at.left) (close v t) _ (close_falls v t) (λ x u.
+        falls_last 0 (length u.at.left) (sequence_from inner cover function (span_at s.at) x u) _ (sequence_falls (span_at s.at) x u))) (omega arith))
+
+    -- an expression of any class takes a token
+    pub level_falls : (class : Class) (s : State) → Falls 1 (length s.at.left) (expr_level inner cover function class s)
+    unfolding expr_level
+    level_falls expression s = expression_falls s
+    level_falls assignment s = assignment_falls s
+    level_falls (operator n) s = binary_falls n s
+    level_falls unary s = unary_falls s
+    level_falls left_side s = left_expr_falls s
+    level_falls callee s = left_falls false s

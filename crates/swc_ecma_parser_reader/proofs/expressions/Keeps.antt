@@ -27,7 +27,7 @@ use Rattle.swc_ecma_parser_grammar.specs.language.Goals.{Class, expression, assi
 use Rattle.swc_ecma_parser_grammar.specs.language.Operators.{unary_operator, update_operator, binary_operator, assign_operator, groups_left, mixes, is_unary}
 use Rattle.swc_ecma_parser_grammar.specs.language.Continues.{continues_conditional}
 use Rattle.swc_ecma_parser_reader.specs.State.{State, Reader, ◌>>=◌, moved, module_found, coded, wanted, fault_at, fault, expect, name, loop}
-use Rattle.swc_ecma_parser_reader.specs.Expressions.{Cover, no_covers, unmarked, close, target_or, target, goes_on, literal, literal_in, taken, any_word, word_in, word_by, touching_word, private_name, word_property, is_word_at, key_or, literal_key, shorthand_name, shorthand, dotted, ident_expr, this, bare_new, closed_left, simple, update_behind, behind_operand, postfix_at, right_class, read_operator, operator_at, left_operand, unmixed, unassigned, unassignable, unheaded, heads_arrow, begins_async_call, inside, brackets, access, spread_element, plain_element, element, arguments_turn, arguments, covered, spread_item, plain_item, item, array_turn, elements, array, computed_key, key, key_value, initialized, initialized_name, initialized_key, bare_key, behind_key, keyed_property, spread_property, property, object_turn, properties, object, paren, marked_primary, literal_or, primary, accessed, called, left_turn, left_from, super_call, super_property, super_access, behind_super, super_head, constructed, new_head, import_call, meta_fault, import_meta, import_head, left_head, left, left_expr, prefixed, update_before, postfix, updated, unary_by, unary_expr, operated, binary_by, binary_turn, binary_from, binary_expr, conditional, assigned_to, assigned, assigned_or, behind_operators, operators_expr, postfixed, continued, closed, assigned_pattern, behind_literal, open_literal, done_expr, cover_expr, assignment_expr, sequence_turn, sequence_from, expression_expr, expr_level, expr, cover}
+use Rattle.swc_ecma_parser_reader.specs.Expressions.{Cover, no_covers, unmarked, close, target_or, target, goes_on, literal, literal_in, taken, any_word, word_in, word_by, touching_word, private_name, word_property, is_word_at, key_or, literal_key, shorthand_name, shorthand, dotted, ident_expr, this, bare_new, closed_left, simple, update_behind, behind_operand, postfix_at, right_class, read_operator, operator_at, left_operand, unmixed, unassigned, unassignable, unheaded, heads_arrow, begins_async_call, inside, brackets, access, spread_element, plain_element, element, arguments_turn, arguments, covered, spread_item, plain_item, item, array_turn, elements, array, computed_key, key, key_value, initialized, initialized_name, initialized_key, bare_key, behind_key, keyed_property, spread_property, property, object_turn, properties, object, paren, marked_primary, literal_or, primary, accessed, called, left_turn, left_from, super_call, super_property, super_access, behind_super, super_head, constructed, new_head, import_call, meta_fault, import_meta, import_head, left_head, left, left_expr, prefixed, update_before, postfix, updated, unary_by, unary_expr, operated, binary_by, binary_turn, binary_from, binary_expr, conditional, assigned_to, assigned, assigned_or, behind_operators, operators_expr, postfixed, continued, closed, assigned_pattern, behind_literal, open_literal, done_expr, cover_expr, assignment_expr, sequence_turn, sequence_from, expression_expr, expr_level}
 use Rattle.swc_ecma_parser_reader.specs.Heads.{sequenced, head_expr}
 use Rattle.swc_ecma_parser_reader.proofs.Meets.{Answers, answers_then, answers_if, saw}
 use Rattle.swc_ecma_parser_reader.proofs.Behind.{Kept, Lost, Passes, behind_after, too_deep_keeps, fault_keeps, wanted_keeps, reject_keeps, expect_keeps, name_keeps, loop_keeps}
@@ -297,21 +297,6 @@ module _ (inner : Class → Reader Tree) (cover : Reader Cover) (below : (class 
         answers_then _ _ (inside inner cover expression (moved s)) _ (inside_keeps expression b (moved s) g) (λ x t k.
         answers_then _ _ (expect kind.RParen t) _ (expect_keeps b t k kind.RParen) (λ _ u j. j))
 
-    marked_keeps : (s : State) → IsBehind b s → Answers (Kept b) (Lost b) (marked_primary inner cover s)
-    unfolding marked_primary
-    marked_keeps s f = answers_if _ _ (sees kind.LParen s.at) _ _ (λ e. paren_keeps s (saw s.at kind.LParen e) f)
-        (λ _. answers_if _ _ (sees kind.LBracket s.at) _ _ (λ e. answers_then _ _ (array inner cover s) _ (array_keeps s (saw s.at kind.LBracket e) f) (λ v t g. close_keeps b t g v))
-        (λ _. answers_if _ _ (sees kind.LBrace s.at) _ _ (λ e. answers_then _ _ (object inner cover s) _ (object_keeps s (saw s.at kind.LBrace e) f) (λ v t g. close_keeps b t g v))
-        (λ _. answers_if _ _ (sees kind.This s.at) _ _ (λ _. this_keeps b s f) (λ _. unexpected_keeps b s f _))))
-
-    literal_or_keeps : (o : Option Tree) (s : State) → IsBehind b s → Answers (Kept b) (Lost b) (literal_or inner cover o s)
-    literal_or_keeps (Some x) s f = f
-    literal_or_keeps None s f = marked_keeps s f
-
-    primary_keeps : (s : State) → IsBehind b s → Answers (Kept b) (Lost b) (primary inner cover s)
-    unfolding primary
-    primary_keeps s f = answers_if _ _ (name_at s.code.flags s.at) _ _ (λ _. ident_keeps b s f) (λ _. answers_then _ _ (literal s) _ (literal_keeps b s f) literal_or_keeps)
-
     -- ---- left-hand sides
 
     accessed_keeps : (start : Span) (x : Tree) (s : State) → (sees kind.Dot s.at || sees kind.LBracket s.at) ≡ true → IsBehind b s → Answers (Kept b) (Lost b) (accessed inner cover start x s)
@@ -375,20 +360,6 @@ module _ (inner : Class → Reader Tree) (cover : Reader Cover) (below : (class 
         (λ _. answers_if _ _ (sees kind.Dot (after s.at)) _ _ (λ _. import_meta_keeps (span_at s.at) (moved (moved s)) (behind_after b (moved s) g))
         (λ _. unexpected_keeps b (moved s) g _))
 
-    left_head_keeps : (calls : Bool) (s : State) → IsBehind b s → Answers (Kept b) (Lost b) (left_head inner cover calls s)
-    unfolding left_head
-    left_head_keeps calls s f = answers_if _ _ (sees kind.Super s.at) _ _ (λ _. super_keeps calls s f)
-        (λ _. answers_if _ _ (sees kind.New s.at) _ _ (λ e. new_keeps s (saw s.at kind.New e) f)
-        (λ _. answers_if _ _ (calls && sees kind.Import s.at) _ _ (λ _. import_keeps s f) (λ _. primary_keeps s f)))
-
-    left_keeps : (calls : Bool) (s : State) → IsBehind b s → Answers (Kept b) (Lost b) (left inner cover calls s)
-    unfolding left
-    left_keeps calls s f = answers_then _ _ (left_head inner cover calls s) _ (left_head_keeps calls s f) (λ x t g. left_from_keeps calls (span_at s.at) x t g)
-
-    left_expr_keeps : (s : State) → IsBehind b s → Answers (Kept b) (Lost b) (left_expr inner cover s)
-    unfolding left_expr
-    left_expr_keeps s f = answers_then _ _ (left inner cover true s) _ (left_keeps true s f) (λ x t g. closed_keeps b t g x)
-
     -- ---- operators before and behind an operand
 
     prefixed_keeps : (op : UnaryOp) (s : State) → kind_at s.at ≢ kind.End → IsBehind b s → Answers (Kept b) (Lost b) (prefixed inner cover op s)
@@ -403,22 +374,6 @@ module _ (inner : Class → Reader Tree) (cover : Reader Cover) (below : (class 
         let g = behind_after b s f in
         answers_then _ _ (inner unary (moved s)) _ (below unary b (moved s) g) (λ x t k.
         answers_then _ _ (simple x t) _ (simple_keeps b t k x) (λ _ u j. j))
-
-    postfix_keeps : (s : State) → IsBehind b s → Answers (Kept b) (Lost b) (postfix inner cover s)
-    unfolding postfix
-    postfix_keeps s f = answers_then _ _ (left inner cover true s) _ (left_keeps true s f) (λ x t g. behind_operand_keeps b (span_at s.at) x (postfix_at t.at) t g)
-
-    updated_keeps : (o : Option UpdateOp) (s : State) → update_operator (kind_at s.at) ≡ o → IsBehind b s → Answers (Kept b) (Lost b) (updated inner cover o s)
-    updated_keeps (Some op) s e f = update_before_keeps op s (no_end_by update_operator (kind_at s.at) op refl e) f
-    updated_keeps None s e f = postfix_keeps s f
-
-    unary_by_keeps : (o : Option UnaryOp) (s : State) → unary_operator (kind_at s.at) ≡ o → IsBehind b s → Answers (Kept b) (Lost b) (unary_by inner cover o s)
-    unary_by_keeps (Some op) s e f = prefixed_keeps op s (no_end_by unary_operator (kind_at s.at) op refl e) f
-    unary_by_keeps None s e f = updated_keeps (update_operator (kind_at s.at)) s refl f
-
-    unary_keeps : (s : State) → IsBehind b s → Answers (Kept b) (Lost b) (unary_expr inner cover s)
-    unfolding unary_expr
-    unary_keeps s f = unary_by_keeps (unary_operator (kind_at s.at)) s refl f
 
     -- ---- operators between two operands
 
@@ -445,10 +400,6 @@ module _ (inner : Class → Reader Tree) (cover : Reader Cover) (below : (class 
     unfolding binary_from binary_turn
     binary_from_keeps least start x s f = loop_keeps (binary_turn inner cover least start) b
         (λ y u k. binary_by_keeps least start y (operator_at least u) u refl k) x s f
-
-    binary_keeps : (least : ℕ) (s : State) → IsBehind b s → Answers (Kept b) (Lost b) (binary_expr inner cover least s)
-    unfolding binary_expr
-    binary_keeps least s f = answers_then _ _ (unary_expr inner cover s) _ (unary_keeps s f) (λ x t g. binary_from_keeps least (span_at s.at) x t g)
 
     -- ---- conditionals, assignments and sequences
 
@@ -481,10 +432,6 @@ module _ (inner : Class → Reader Tree) (cover : Reader Cover) (below : (class 
     behind_operators_keeps is_async start x s f = answers_if _ _ (sees kind.QuestionMark s.at) _ _ (λ e. conditional_keeps start x s (saw s.at kind.QuestionMark e) f)
         (λ _. assigned_or_keeps is_async start x (assign_operator (kind_at s.at)) s refl f)
 
-    operators_keeps : (s : State) → IsBehind b s → Answers (Kept b) (Lost b) (operators_expr inner cover s)
-    unfolding operators_expr
-    operators_keeps s f = answers_then _ _ (binary_expr inner cover 1 s) _ (binary_keeps 1 s f) (λ x t g. behind_operators_keeps (begins_async_call s.at) (span_at s.at) x t g)
-
     -- ---- what may still become a pattern
 
     continued_keeps : (start : Span) (x : Tree) (s : State) → IsBehind b s → Answers (Kept b) (Lost b) (continued inner cover start x s)
@@ -516,51 +463,94 @@ module _ (inner : Class → Reader Tree) (cover : Reader Cover) (below : (class 
         (λ e. object_keeps s (saw s.at kind.LBrace (other_test (sees kind.LBracket s.at) (sees kind.LBrace s.at) h e)) f))
         (λ v t g. behind_literal_keeps (span_at s.at) v t g)
 
-    cover_expr_keeps : (s : State) → IsBehind b s → Answers (Kept b) (Lost b) (cover_expr inner cover s)
-    unfolding cover_expr done_expr
-    cover_expr_keeps s f = answers_if _ _ (sees kind.LBracket s.at || sees kind.LBrace s.at) _ _ (λ h. open_literal_keeps s h f)
-        (λ _. answers_then _ _ (operators_expr inner cover s) _ (operators_keeps s f) (λ x t g. g))
+    -- what a function may begin
+    module _ (function : Reader Tree) (below_function : Passes function) where
+      marked_keeps : (s : State) → IsBehind b s → Answers (Kept b) (Lost b) (marked_primary inner cover function s)
+      unfolding marked_primary
+      marked_keeps s f = answers_if _ _ (sees kind.LParen s.at) _ _ (λ e. paren_keeps s (saw s.at kind.LParen e) f)
+          (λ _. answers_if _ _ (sees kind.LBracket s.at) _ _ (λ e. answers_then _ _ (array inner cover s) _ (array_keeps s (saw s.at kind.LBracket e) f) (λ v t g. close_keeps b t g v))
+          (λ _. answers_if _ _ (sees kind.LBrace s.at) _ _ (λ e. answers_then _ _ (object inner cover s) _ (object_keeps s (saw s.at kind.LBrace e) f) (λ v t g. close_keeps b t g v))
+          (λ _. answers_if _ _ (sees kind.This s.at) _ _ (λ _. this_keeps b s f)
+          (λ _. answers_if _ _ (sees kind.Function s.at) _ _ (λ _. below_function b s f) (λ _. unexpected_keeps b s f _)))))
 
-    assignment_keeps : (s : State) → IsBehind b s → Answers (Kept b) (Lost b) (assignment_expr inner cover s)
-    unfolding assignment_expr
-    assignment_keeps s f = answers_then _ _ (cover_expr inner cover s) _ (cover_expr_keeps s f) (λ v t g. close_keeps b t g v)
+      literal_or_keeps : (o : Option Tree) (s : State) → IsBehind b s → Answers (Kept b) (Lost b) (literal_or inner cover function o s)
+      literal_or_keeps (Some x) s f = f
+      literal_or_keeps None s f = marked_keeps s f
 
-    -- the parts of a sequence
-    sequence_keeps : (start : Span) (x : Tree) (s : State) → IsBehind b s → Answers (Kept b) (Lost b) (sequence_from inner cover start x s)
-    unfolding sequence_from sequence_turn
-    sequence_keeps start x s f = answers_then _ _ (loop (sequence_turn inner cover) (x ∷ []) s) _ (loop_keeps (sequence_turn inner cover) b
-        (λ xs t g. answers_then _ _ (assignment_expr inner cover (moved t)) _ (assignment_keeps (moved t) (behind_after b t g)) (λ y u k.
-        answers_if _ _ (sees kind.Comma u.at) _ _ (λ _. k) (λ _. k))) (x ∷ []) s f) (λ xs t g. g)
+      primary_keeps : (s : State) → IsBehind b s → Answers (Kept b) (Lost b) (primary inner cover function s)
+      unfolding primary
+      primary_keeps s f = answers_if _ _ (name_at s.code.flags s.at) _ _ (λ _. ident_keeps b s f) (λ _. answers_then _ _ (literal s) _ (literal_keeps b s f) literal_or_keeps)
 
-    expression_keeps : (s : State) → IsBehind b s → Answers (Kept b) (Lost b) (expression_expr inner cover s)
-    unfolding expression_expr
-    expression_keeps s f = answers_then _ _ (assignment_expr inner cover s) _ (assignment_keeps s f) (λ x t g.
-        answers_if _ _ (sees kind.Comma t.at) _ _ (λ _. sequence_keeps (span_at s.at) x t g) (λ _. g))
+      left_head_keeps : (calls : Bool) (s : State) → IsBehind b s → Answers (Kept b) (Lost b) (left_head inner cover function calls s)
+      unfolding left_head
+      left_head_keeps calls s f = answers_if _ _ (sees kind.Super s.at) _ _ (λ _. super_keeps calls s f)
+          (λ _. answers_if _ _ (sees kind.New s.at) _ _ (λ e. new_keeps s (saw s.at kind.New e) f)
+          (λ _. answers_if _ _ (calls && sees kind.Import s.at) _ _ (λ _. import_keeps s f) (λ _. primary_keeps s f)))
 
-    pub head_expr_keeps : (s : State) → IsBehind b s → Answers (Kept b) (Lost b) (head_expr inner cover s)
-    unfolding head_expr sequenced
-    head_expr_keeps s f = answers_then _ _ (cover_expr inner cover s) _ (cover_expr_keeps s f) (λ v t g. answers_if _ _ (sees kind.Comma t.at) _ _
-        (λ _. answers_then _ _ (close v t) _ (close_keeps b t g v) (λ x u k. answers_then _ _ (sequence_from inner cover (span_at s.at) x u) _ (sequence_keeps (span_at s.at) x u k) (λ y w j. j)))
-        (λ _. g))
+      left_keeps : (calls : Bool) (s : State) → IsBehind b s → Answers (Kept b) (Lost b) (left inner cover function calls s)
+      unfolding left
+      left_keeps calls s f = answers_then _ _ (left_head inner cover function calls s) _ (left_head_keeps calls s f) (λ x t g. left_from_keeps calls (span_at s.at) x t g)
 
-    level_keeps : (class : Class) (s : State) → IsBehind b s → Answers (Kept b) (Lost b) (expr_level inner cover class s)
-    unfolding expr_level
-    level_keeps expression s f = expression_keeps s f
-    level_keeps assignment s f = assignment_keeps s f
-    level_keeps (operator least) s f = binary_keeps least s f
-    level_keeps unary s f = unary_keeps s f
-    level_keeps left_side s f = left_expr_keeps s f
-    level_keeps callee s f = left_keeps false s f
+      left_expr_keeps : (s : State) → IsBehind b s → Answers (Kept b) (Lost b) (left_expr inner cover function s)
+      unfolding left_expr
+      left_expr_keeps s f = answers_then _ _ (left inner cover function true s) _ (left_keeps true s f) (λ x t g. closed_keeps b t g x)
 
-mutual
-  unfolding expr cover
+      postfix_keeps : (s : State) → IsBehind b s → Answers (Kept b) (Lost b) (postfix inner cover function s)
+      unfolding postfix
+      postfix_keeps s f = answers_then _ _ (left inner cover function true s) _ (left_keeps true s f) (λ x t g. behind_operand_keeps b (span_at s.at) x (postfix_at t.at) t g)
 
-  -- an expression of any class
-  pub expr_keeps : (n : ℕ) (class : Class) → Passes (expr n class)
-  expr_keeps zero class b s f = too_deep_keeps _ b s f
-  expr_keeps (suc n) class b s f = level_keeps (expr n) (cover n) (expr_keeps n) (cover_keeps n) b class s f
+      updated_keeps : (o : Option UpdateOp) (s : State) → update_operator (kind_at s.at) ≡ o → IsBehind b s → Answers (Kept b) (Lost b) (updated inner cover function o s)
+      updated_keeps (Some op) s e f = update_before_keeps op s (no_end_by update_operator (kind_at s.at) op refl e) f
+      updated_keeps None s e f = postfix_keeps s f
 
-  -- so does what may still become a pattern
-  pub cover_keeps : (n : ℕ) → Passes (cover n)
-  cover_keeps zero b s f = too_deep_keeps _ b s f
-  cover_keeps (suc n) b s f = cover_expr_keeps (expr n) (cover n) (expr_keeps n) (cover_keeps n) b s f
+      unary_by_keeps : (o : Option UnaryOp) (s : State) → unary_operator (kind_at s.at) ≡ o → IsBehind b s → Answers (Kept b) (Lost b) (unary_by inner cover function o s)
+      unary_by_keeps (Some op) s e f = prefixed_keeps op s (no_end_by unary_operator (kind_at s.at) op refl e) f
+      unary_by_keeps None s e f = updated_keeps (update_operator (kind_at s.at)) s refl f
+
+      unary_keeps : (s : State) → IsBehind b s → Answers (Kept b) (Lost b) (unary_expr inner cover function s)
+      unfolding unary_expr
+      unary_keeps s f = unary_by_keeps (unary_operator (kind_at s.at)) s refl f
+
+      binary_keeps : (least : ℕ) (s : State) → IsBehind b s → Answers (Kept b) (Lost b) (binary_expr inner cover function least s)
+      unfolding binary_expr
+      binary_keeps least s f = answers_then _ _ (unary_expr inner cover function s) _ (unary_keeps s f) (λ x t g. binary_from_keeps least (span_at s.at) x t g)
+
+      operators_keeps : (s : State) → IsBehind b s → Answers (Kept b) (Lost b) (operators_expr inner cover function s)
+      unfolding operators_expr
+      operators_keeps s f = answers_then _ _ (binary_expr inner cover function 1 s) _ (binary_keeps 1 s f) (λ x t g. behind_operators_keeps (begins_async_call s.at) (span_at s.at) x t g)
+
+      pub cover_expr_keeps : (s : State) → IsBehind b s → Answers (Kept b) (Lost b) (cover_expr inner cover function s)
+      unfolding cover_expr done_expr
+      cover_expr_keeps s f = answers_if _ _ (sees kind.LBracket s.at || sees kind.LBrace s.at) _ _ (λ h. open_literal_keeps s h f)
+          (λ _. answers_then _ _ (operators_expr inner cover function s) _ (operators_keeps s f) (λ x t g. g))
+
+      assignment_keeps : (s : State) → IsBehind b s → Answers (Kept b) (Lost b) (assignment_expr inner cover function s)
+      unfolding assignment_expr
+      assignment_keeps s f = answers_then _ _ (cover_expr inner cover function s) _ (cover_expr_keeps s f) (λ v t g. close_keeps b t g v)
+
+      -- the parts of a sequence
+      sequence_keeps : (start : Span) (x : Tree) (s : State) → IsBehind b s → Answers (Kept b) (Lost b) (sequence_from inner cover function start x s)
+      unfolding sequence_from sequence_turn
+      sequence_keeps start x s f = answers_then _ _ (loop (sequence_turn inner cover function) (x ∷ []) s) _ (loop_keeps (sequence_turn inner cover function) b
+          (λ xs t g. answers_then _ _ (assignment_expr inner cover function (moved t)) _ (assignment_keeps (moved t) (behind_after b t g)) (λ y u k.
+          answers_if _ _ (sees kind.Comma u.at) _ _ (λ _. k) (λ _. k))) (x ∷ []) s f) (λ xs t g. g)
+
+      expression_keeps : (s : State) → IsBehind b s → Answers (Kept b) (Lost b) (expression_expr inner cover function s)
+      unfolding expression_expr
+      expression_keeps s f = answers_then _ _ (assignment_expr inner cover function s) _ (assignment_keeps s f) (λ x t g.
+          answers_if _ _ (sees kind.Comma t.at) _ _ (λ _. sequence_keeps (span_at s.at) x t g) (λ _. g))
+
+      pub head_expr_keeps : (s : State) → IsBehind b s → Answers (Kept b) (Lost b) (head_expr inner cover function s)
+      unfolding head_expr sequenced
+      head_expr_keeps s f = answers_then _ _ (cover_expr inner cover function s) _ (cover_expr_keeps s f) (λ v t g. answers_if _ _ (sees kind.Comma t.at) _ _
+          (λ _. answers_then _ _ (close v t) _ (close_keeps b t g v) (λ x u k. answers_then _ _ (sequence_from inner cover function (span_at s.at) x u) _ (sequence_keeps (span_at s.at) x u k) (λ y w j. j)))
+          (λ _. g))
+
+      pub level_keeps : (class : Class) (s : State) → IsBehind b s → Answers (Kept b) (Lost b) (expr_level inner cover function class s)
+      unfolding expr_level
+      level_keeps expression s f = expression_keeps s f
+      level_keeps assignment s f = assignment_keeps s f
+      level_keeps (operator least) s f = binary_keeps least s f
+      level_keeps unary s f = unary_keeps s f
+      level_keeps left_side s f = left_expr_keeps s f
+      level_keeps callee s f = left_keeps false s f

@@ -29,7 +29,7 @@ use Rattle.swc_ecma_parser_grammar.specs.language.Goals.{Class, expression, assi
 use Rattle.swc_ecma_parser_grammar.specs.language.Operators.{unary_operator, update_operator, binary_operator, assign_operator, groups_left, mixes, is_unary}
 use Rattle.swc_ecma_parser_grammar.specs.language.Continues.{continues_conditional}
 use Rattle.swc_ecma_parser_reader.specs.State.{State, Outcome, Reader, ◌>>=◌, moved, module_found, coded, wanted, reject, reject_in, reject_at, fault_at, fault, expect, name, loop}
-use Rattle.swc_ecma_parser_reader.specs.Expressions.{Cover, no_covers, unmarked, close, target_or, target, goes_on, literal, literal_in, taken, any_word, word_in, word_by, touching_word, private_name, word_property, is_word_at, key_or, literal_key, shorthand_name, shorthand, dotted, ident_expr, this, bare_new, closed_left, simple, update_behind, behind_operand, postfix_at, right_class, read_operator, operator_at, left_operand, unmixed, unassigned, unassignable, unheaded, heads_arrow, begins_async_call, inside, brackets, access, spread_element, plain_element, element, arguments_turn, arguments, covered, spread_item, plain_item, item, array_turn, elements, array, computed_key, key, key_value, initialized, initialized_name, initialized_key, bare_key, behind_key, keyed_property, spread_property, property, object_turn, properties, object, paren, marked_primary, literal_or, primary, accessed, called, left_turn, left_from, super_call, super_property, super_access, behind_super, super_head, constructed, new_head, import_call, meta_fault, import_meta, import_head, left_head, left, left_expr, prefixed, update_before, postfix, updated, unary_by, unary_expr, operated, binary_by, binary_turn, binary_from, binary_expr, conditional, assigned_to, assigned, assigned_or, behind_operators, operators_expr, postfixed, continued, closed, assigned_pattern, behind_literal, open_literal, done_expr, cover_expr, assignment_expr, sequence_turn, sequence_from, expression_expr, expr_level, expr, cover}
+use Rattle.swc_ecma_parser_reader.specs.Expressions.{Cover, no_covers, unmarked, close, target_or, target, goes_on, literal, literal_in, taken, any_word, word_in, word_by, touching_word, private_name, word_property, is_word_at, key_or, literal_key, shorthand_name, shorthand, dotted, ident_expr, this, bare_new, closed_left, simple, update_behind, behind_operand, postfix_at, right_class, read_operator, operator_at, left_operand, unmixed, unassigned, unassignable, unheaded, heads_arrow, begins_async_call, inside, brackets, access, spread_element, plain_element, element, arguments_turn, arguments, covered, spread_item, plain_item, item, array_turn, elements, array, computed_key, key, key_value, initialized, initialized_name, initialized_key, bare_key, behind_key, keyed_property, spread_property, property, object_turn, properties, object, paren, marked_primary, literal_or, primary, accessed, called, left_turn, left_from, super_call, super_property, super_access, behind_super, super_head, constructed, new_head, import_call, meta_fault, import_meta, import_head, left_head, left, left_expr, prefixed, update_before, postfix, updated, unary_by, unary_expr, operated, binary_by, binary_turn, binary_from, binary_expr, conditional, assigned_to, assigned, assigned_or, behind_operators, operators_expr, postfixed, continued, closed, assigned_pattern, behind_literal, open_literal, done_expr, cover_expr, assignment_expr, sequence_turn, sequence_from, expression_expr, expr_level}
 use Rattle.swc_ecma_parser_reader.specs.Heads.{sequenced, head_expr}
 use Rattle.swc_ecma_parser_reader.proofs.Meets.{Answers, answers_then, answers_if, Turned, loop_answers, saw}
 use Rattle.swc_ecma_parser_reader.proofs.Shallow.{Fine, fine_more, fine_after, fine_taken, Shallow, Kept, error_shallow, too_deep_shallow, fault_shallow, refused_shallow, wanted_shallow, expect_shallow, name_shallow, Levels}
@@ -327,21 +327,6 @@ module _ (inner : Class → Reader Tree) (cover : Reader Cover) (n : ℕ) (below
         answers_then _ _ (inside inner cover expression (moved s)) _ (inside_shallow expression i (moved s) (omega arith) g) (λ x t k.
         answers_then _ _ (expect kind.RParen t) _ (expect_shallow i t k kind.RParen) (λ _ u j. fine_more i m u.at.left (omega arith) j))
 
-    marked_shallow : (s : State) → Fine m s.at.left → Answers (Kept m) Shallow (marked_primary inner cover s)
-    unfolding marked_primary
-    marked_shallow s f = answers_if _ _ (sees kind.LParen s.at) _ _ (λ e. paren_shallow s (saw s.at kind.LParen e) f)
-        (λ _. answers_if _ _ (sees kind.LBracket s.at) _ _ (λ e. answers_then _ _ (array inner cover s) _ (array_shallow s (saw s.at kind.LBracket e) f) (λ v t g. close_shallow m t g v))
-        (λ _. answers_if _ _ (sees kind.LBrace s.at) _ _ (λ e. answers_then _ _ (object inner cover s) _ (object_shallow s (saw s.at kind.LBrace e) f) (λ v t g. close_shallow m t g v))
-        (λ _. answers_if _ _ (sees kind.This s.at) _ _ (λ _. this_shallow m s f) (λ _. unexpected_shallow m s f _))))
-
-    literal_or_shallow : (o : Option Tree) (s : State) → Fine m s.at.left → Answers (Kept m) Shallow (literal_or inner cover o s)
-    literal_or_shallow (Some x) s f = f
-    literal_or_shallow None s f = marked_shallow s f
-
-    primary_shallow : (s : State) → Fine m s.at.left → Answers (Kept m) Shallow (primary inner cover s)
-    unfolding primary
-    primary_shallow s f = answers_if _ _ (name_at s.code.flags s.at) _ _ (λ _. ident_shallow m s f) (λ _. answers_then _ _ (literal s) _ (literal_shallow m s f) literal_or_shallow)
-
     -- ---- left-hand sides
 
     accessed_shallow : (start : Span) (x : Tree) (s : State) → (sees kind.Dot s.at || sees kind.LBracket s.at) ≡ true → Fine m s.at.left → Answers (Kept m) Shallow (accessed inner cover start x s)
@@ -406,20 +391,6 @@ module _ (inner : Class → Reader Tree) (cover : Reader Cover) (n : ℕ) (below
         (λ _. answers_if _ _ (sees kind.Dot (after s.at)) _ _ (λ _. import_meta_shallow (span_at s.at) (moved (moved s)) (fine_after m (after s.at) g))
         (λ _. unexpected_shallow m (moved s) g _))
 
-    left_head_shallow : (calls : Bool) (s : State) → Fine m s.at.left → Answers (Kept m) Shallow (left_head inner cover calls s)
-    unfolding left_head
-    left_head_shallow calls s f = answers_if _ _ (sees kind.Super s.at) _ _ (λ _. super_shallow calls s f)
-        (λ _. answers_if _ _ (sees kind.New s.at) _ _ (λ e. new_shallow s (saw s.at kind.New e) f)
-        (λ _. answers_if _ _ (calls && sees kind.Import s.at) _ _ (λ _. import_shallow s f) (λ _. primary_shallow s f)))
-
-    left_shallow : (calls : Bool) (s : State) → Fine m s.at.left → Answers (Kept m) Shallow (left inner cover calls s)
-    unfolding left
-    left_shallow calls s f = answers_then _ _ (left_head inner cover calls s) _ (left_head_shallow calls s f) (λ x t g. left_from_shallow calls (span_at s.at) x t g)
-
-    left_expr_shallow : (s : State) → Fine m s.at.left → Answers (Kept m) Shallow (left_expr inner cover s)
-    unfolding left_expr
-    left_expr_shallow s f = answers_then _ _ (left inner cover true s) _ (left_shallow true s f) (λ x t g. closed_shallow m t g x)
-
     -- ---- operators before and behind an operand
 
     prefixed_shallow : (op : UnaryOp) (s : State) → kind_at s.at ≢ kind.End → Fine m s.at.left → Answers (Kept m) Shallow (prefixed inner cover op s)
@@ -434,22 +405,6 @@ module _ (inner : Class → Reader Tree) (cover : Reader Cover) (n : ℕ) (below
         let (i, h, g) = fine_taken m s.at (kind_at s.at) refl e f in
         answers_then _ _ (inner unary (moved s)) _ (below unary i (moved s) (omega arith) g) (λ x t k.
         answers_then _ _ (simple x t) _ (simple_shallow i t k x) (λ _ u j. fine_more i m u.at.left (omega arith) j))
-
-    postfix_shallow : (s : State) → Fine m s.at.left → Answers (Kept m) Shallow (postfix inner cover s)
-    unfolding postfix
-    postfix_shallow s f = answers_then _ _ (left inner cover true s) _ (left_shallow true s f) (λ x t g. behind_operand_shallow m (span_at s.at) x (postfix_at t.at) t g)
-
-    updated_shallow : (o : Option UpdateOp) (s : State) → update_operator (kind_at s.at) ≡ o → Fine m s.at.left → Answers (Kept m) Shallow (updated inner cover o s)
-    updated_shallow (Some op) s e f = update_before_shallow op s (no_end_by update_operator (kind_at s.at) op refl e) f
-    updated_shallow None s e f = postfix_shallow s f
-
-    unary_by_shallow : (o : Option UnaryOp) (s : State) → unary_operator (kind_at s.at) ≡ o → Fine m s.at.left → Answers (Kept m) Shallow (unary_by inner cover o s)
-    unary_by_shallow (Some op) s e f = prefixed_shallow op s (no_end_by unary_operator (kind_at s.at) op refl e) f
-    unary_by_shallow None s e f = updated_shallow (update_operator (kind_at s.at)) s refl f
-
-    unary_shallow : (s : State) → Fine m s.at.left → Answers (Kept m) Shallow (unary_expr inner cover s)
-    unfolding unary_expr
-    unary_shallow s f = unary_by_shallow (unary_operator (kind_at s.at)) s refl f
 
     -- ---- operators between two operands
 
@@ -476,10 +431,6 @@ module _ (inner : Class → Reader Tree) (cover : Reader Cover) (n : ℕ) (below
     unfolding binary_from binary_turn
     binary_from_shallow least start x s f = loop_answers (binary_turn inner cover least start) (Kept m) (Kept m) Shallow
         (λ y u k. binary_by_shallow least start y (operator_at least u) u refl k) (λ u e. cc) x s f
-
-    binary_shallow : (least : ℕ) (s : State) → Fine m s.at.left → Answers (Kept m) Shallow (binary_expr inner cover least s)
-    unfolding binary_expr
-    binary_shallow least s f = answers_then _ _ (unary_expr inner cover s) _ (unary_shallow s f) (λ x t g. binary_from_shallow least (span_at s.at) x t g)
 
     -- ---- conditionals, assignments and sequences
 
@@ -512,10 +463,6 @@ module _ (inner : Class → Reader Tree) (cover : Reader Cover) (n : ℕ) (below
     behind_operators_shallow is_async start x s f = answers_if _ _ (sees kind.QuestionMark s.at) _ _ (λ e. conditional_shallow start x s (saw s.at kind.QuestionMark e) f)
         (λ _. assigned_or_shallow is_async start x (assign_operator (kind_at s.at)) s refl f)
 
-    operators_shallow : (s : State) → Fine m s.at.left → Answers (Kept m) Shallow (operators_expr inner cover s)
-    unfolding operators_expr
-    operators_shallow s f = answers_then _ _ (binary_expr inner cover 1 s) _ (binary_shallow 1 s f) (λ x t g. behind_operators_shallow (begins_async_call s.at) (span_at s.at) x t g)
-
     -- ---- what may still become a pattern
 
     continued_shallow : (start : Span) (x : Tree) (s : State) → Fine m s.at.left → Answers (Kept m) Shallow (continued inner cover start x s)
@@ -547,51 +494,94 @@ module _ (inner : Class → Reader Tree) (cover : Reader Cover) (n : ℕ) (below
         (λ e. object_shallow s (saw s.at kind.LBrace (other_test (sees kind.LBracket s.at) (sees kind.LBrace s.at) h e)) f))
         (λ v t g. behind_literal_shallow (span_at s.at) v t g)
 
-    cover_expr_shallow : (s : State) → Fine m s.at.left → Answers (Kept m) Shallow (cover_expr inner cover s)
-    unfolding cover_expr done_expr
-    cover_expr_shallow s f = answers_if _ _ (sees kind.LBracket s.at || sees kind.LBrace s.at) _ _ (λ h. open_literal_shallow s h f)
-        (λ _. answers_then _ _ (operators_expr inner cover s) _ (operators_shallow s f) (λ x t g. g))
+    -- what a function may begin
+    module _ (function : Reader Tree) (below_function : (m : ℕ) (s : State) → 2 * m ≤ suc n → kind_at s.at ≡ kind.Function → Fine m s.at.left → Answers (Kept m) Shallow (function s)) where
+      marked_shallow : (s : State) → Fine m s.at.left → Answers (Kept m) Shallow (marked_primary inner cover function s)
+      unfolding marked_primary
+      marked_shallow s f = answers_if _ _ (sees kind.LParen s.at) _ _ (λ e. paren_shallow s (saw s.at kind.LParen e) f)
+          (λ _. answers_if _ _ (sees kind.LBracket s.at) _ _ (λ e. answers_then _ _ (array inner cover s) _ (array_shallow s (saw s.at kind.LBracket e) f) (λ v t g. close_shallow m t g v))
+          (λ _. answers_if _ _ (sees kind.LBrace s.at) _ _ (λ e. answers_then _ _ (object inner cover s) _ (object_shallow s (saw s.at kind.LBrace e) f) (λ v t g. close_shallow m t g v))
+          (λ _. answers_if _ _ (sees kind.This s.at) _ _ (λ _. this_shallow m s f)
+          (λ _. answers_if _ _ (sees kind.Function s.at) _ _ (λ e. below_function m s enough (saw s.at kind.Function e) f) (λ _. unexpected_shallow m s f _)))))
 
-    assignment_shallow : (s : State) → Fine m s.at.left → Answers (Kept m) Shallow (assignment_expr inner cover s)
-    unfolding assignment_expr
-    assignment_shallow s f = answers_then _ _ (cover_expr inner cover s) _ (cover_expr_shallow s f) (λ v t g. close_shallow m t g v)
+      literal_or_shallow : (o : Option Tree) (s : State) → Fine m s.at.left → Answers (Kept m) Shallow (literal_or inner cover function o s)
+      literal_or_shallow (Some x) s f = f
+      literal_or_shallow None s f = marked_shallow s f
 
-    -- the parts of a sequence are no level of their own
-    sequence_shallow : (start : Span) (x : Tree) (s : State) → Fine m s.at.left → Answers (Kept m) Shallow (sequence_from inner cover start x s)
-    unfolding sequence_from sequence_turn
-    sequence_shallow start x s f = answers_then _ _ (loop (sequence_turn inner cover) (x ∷ []) s) _ (loop_answers (sequence_turn inner cover) (Kept m) (Kept m) Shallow
-        (λ xs t g. answers_then _ _ (assignment_expr inner cover (moved t)) _ (assignment_shallow (moved t) (fine_after m t.at g)) (λ y u k.
-        answers_if _ _ (sees kind.Comma u.at) _ _ (λ _. k) (λ _. k))) (λ t e. cc) (x ∷ []) s f) (λ xs t g. g)
+      primary_shallow : (s : State) → Fine m s.at.left → Answers (Kept m) Shallow (primary inner cover function s)
+      unfolding primary
+      primary_shallow s f = answers_if _ _ (name_at s.code.flags s.at) _ _ (λ _. ident_shallow m s f) (λ _. answers_then _ _ (literal s) _ (literal_shallow m s f) literal_or_shallow)
 
-    expression_shallow : (s : State) → Fine m s.at.left → Answers (Kept m) Shallow (expression_expr inner cover s)
-    unfolding expression_expr
-    expression_shallow s f = answers_then _ _ (assignment_expr inner cover s) _ (assignment_shallow s f) (λ x t g.
-        answers_if _ _ (sees kind.Comma t.at) _ _ (λ _. sequence_shallow (span_at s.at) x t g) (λ _. g))
+      left_head_shallow : (calls : Bool) (s : State) → Fine m s.at.left → Answers (Kept m) Shallow (left_head inner cover function calls s)
+      unfolding left_head
+      left_head_shallow calls s f = answers_if _ _ (sees kind.Super s.at) _ _ (λ _. super_shallow calls s f)
+          (λ _. answers_if _ _ (sees kind.New s.at) _ _ (λ e. new_shallow s (saw s.at kind.New e) f)
+          (λ _. answers_if _ _ (calls && sees kind.Import s.at) _ _ (λ _. import_shallow s f) (λ _. primary_shallow s f)))
 
-    pub head_expr_shallow : (s : State) → Fine m s.at.left → Answers (Kept m) Shallow (head_expr inner cover s)
-    unfolding head_expr sequenced
-    head_expr_shallow s f = answers_then _ _ (cover_expr inner cover s) _ (cover_expr_shallow s f) (λ v t g. answers_if _ _ (sees kind.Comma t.at) _ _
-        (λ _. answers_then _ _ (close v t) _ (close_shallow m t g v) (λ x u k. answers_then _ _ (sequence_from inner cover (span_at s.at) x u) _ (sequence_shallow (span_at s.at) x u k) (λ y w j. j)))
-        (λ _. g))
+      left_shallow : (calls : Bool) (s : State) → Fine m s.at.left → Answers (Kept m) Shallow (left inner cover function calls s)
+      unfolding left
+      left_shallow calls s f = answers_then _ _ (left_head inner cover function calls s) _ (left_head_shallow calls s f) (λ x t g. left_from_shallow calls (span_at s.at) x t g)
 
-    level_shallow : (class : Class) (s : State) → Fine m s.at.left → Answers (Kept m) Shallow (expr_level inner cover class s)
-    unfolding expr_level
-    level_shallow expression s f = expression_shallow s f
-    level_shallow assignment s f = assignment_shallow s f
-    level_shallow (operator least) s f = binary_shallow least s f
-    level_shallow unary s f = unary_shallow s f
-    level_shallow left_side s f = left_expr_shallow s f
-    level_shallow callee s f = left_shallow false s f
+      left_expr_shallow : (s : State) → Fine m s.at.left → Answers (Kept m) Shallow (left_expr inner cover function s)
+      unfolding left_expr
+      left_expr_shallow s f = answers_then _ _ (left inner cover function true s) _ (left_shallow true s f) (λ x t g. closed_shallow m t g x)
 
-mutual
-  unfolding expr cover
+      postfix_shallow : (s : State) → Fine m s.at.left → Answers (Kept m) Shallow (postfix inner cover function s)
+      unfolding postfix
+      postfix_shallow s f = answers_then _ _ (left inner cover function true s) _ (left_shallow true s f) (λ x t g. behind_operand_shallow m (span_at s.at) x (postfix_at t.at) t g)
 
-  -- an expression of any class needs two levels for each token
-  pub expr_shallow : (n : ℕ) (class : Class) → Levels n (expr n class)
-  expr_shallow zero class m s h f = too_deep_shallow _ s (omega arith)
-  expr_shallow (suc n) class m s h f = level_shallow (expr n) (cover n) n (expr_shallow n) (cover_shallow n) m h class s f
+      updated_shallow : (o : Option UpdateOp) (s : State) → update_operator (kind_at s.at) ≡ o → Fine m s.at.left → Answers (Kept m) Shallow (updated inner cover function o s)
+      updated_shallow (Some op) s e f = update_before_shallow op s (no_end_by update_operator (kind_at s.at) op refl e) f
+      updated_shallow None s e f = postfix_shallow s f
 
-  -- so does what may still become a pattern
-  pub cover_shallow : (n : ℕ) → Levels n (cover n)
-  cover_shallow zero m s h f = too_deep_shallow _ s (omega arith)
-  cover_shallow (suc n) m s h f = cover_expr_shallow (expr n) (cover n) n (expr_shallow n) (cover_shallow n) m h s f
+      unary_by_shallow : (o : Option UnaryOp) (s : State) → unary_operator (kind_at s.at) ≡ o → Fine m s.at.left → Answers (Kept m) Shallow (unary_by inner cover function o s)
+      unary_by_shallow (Some op) s e f = prefixed_shallow op s (no_end_by unary_operator (kind_at s.at) op refl e) f
+      unary_by_shallow None s e f = updated_shallow (update_operator (kind_at s.at)) s refl f
+
+      unary_shallow : (s : State) → Fine m s.at.left → Answers (Kept m) Shallow (unary_expr inner cover function s)
+      unfolding unary_expr
+      unary_shallow s f = unary_by_shallow (unary_operator (kind_at s.at)) s refl f
+
+      binary_shallow : (least : ℕ) (s : State) → Fine m s.at.left → Answers (Kept m) Shallow (binary_expr inner cover function least s)
+      unfolding binary_expr
+      binary_shallow least s f = answers_then _ _ (unary_expr inner cover function s) _ (unary_shallow s f) (λ x t g. binary_from_shallow least (span_at s.at) x t g)
+
+      operators_shallow : (s : State) → Fine m s.at.left → Answers (Kept m) Shallow (operators_expr inner cover function s)
+      unfolding operators_expr
+      operators_shallow s f = answers_then _ _ (binary_expr inner cover function 1 s) _ (binary_shallow 1 s f) (λ x t g. behind_operators_shallow (begins_async_call s.at) (span_at s.at) x t g)
+
+      pub cover_expr_shallow : (s : State) → Fine m s.at.left → Answers (Kept m) Shallow (cover_expr inner cover function s)
+      unfolding cover_expr done_expr
+      cover_expr_shallow s f = answers_if _ _ (sees kind.LBracket s.at || sees kind.LBrace s.at) _ _ (λ h. open_literal_shallow s h f)
+          (λ _. answers_then _ _ (operators_expr inner cover function s) _ (operators_shallow s f) (λ x t g. g))
+
+      assignment_shallow : (s : State) → Fine m s.at.left → Answers (Kept m) Shallow (assignment_expr inner cover function s)
+      unfolding assignment_expr
+      assignment_shallow s f = answers_then _ _ (cover_expr inner cover function s) _ (cover_expr_shallow s f) (λ v t g. close_shallow m t g v)
+
+      -- the parts of a sequence are no level of their own
+      sequence_shallow : (start : Span) (x : Tree) (s : State) → Fine m s.at.left → Answers (Kept m) Shallow (sequence_from inner cover function start x s)
+      unfolding sequence_from sequence_turn
+      sequence_shallow start x s f = answers_then _ _ (loop (sequence_turn inner cover function) (x ∷ []) s) _ (loop_answers (sequence_turn inner cover function) (Kept m) (Kept m) Shallow
+          (λ xs t g. answers_then _ _ (assignment_expr inner cover function (moved t)) _ (assignment_shallow (moved t) (fine_after m t.at g)) (λ y u k.
+          answers_if _ _ (sees kind.Comma u.at) _ _ (λ _. k) (λ _. k))) (λ t e. cc) (x ∷ []) s f) (λ xs t g. g)
+
+      expression_shallow : (s : State) → Fine m s.at.left → Answers (Kept m) Shallow (expression_expr inner cover function s)
+      unfolding expression_expr
+      expression_shallow s f = answers_then _ _ (assignment_expr inner cover function s) _ (assignment_shallow s f) (λ x t g.
+          answers_if _ _ (sees kind.Comma t.at) _ _ (λ _. sequence_shallow (span_at s.at) x t g) (λ _. g))
+
+      pub head_expr_shallow : (s : State) → Fine m s.at.left → Answers (Kept m) Shallow (head_expr inner cover function s)
+      unfolding head_expr sequenced
+      head_expr_shallow s f = answers_then _ _ (cover_expr inner cover function s) _ (cover_expr_shallow s f) (λ v t g. answers_if _ _ (sees kind.Comma t.at) _ _
+          (λ _. answers_then _ _ (close v t) _ (close_shallow m t g v) (λ x u k. answers_then _ _ (sequence_from inner cover function (span_at s.at) x u) _ (sequence_shallow (span_at s.at) x u k) (λ y w j. j)))
+          (λ _. g))
+
+      pub level_shallow : (class : Class) (s : State) → Fine m s.at.left → Answers (Kept m) Shallow (expr_level inner cover function class s)
+      unfolding expr_level
+      level_shallow expression s f = expression_shallow s f
+      level_shallow assignment s f = assignment_shallow s f
+      level_shallow (operator least) s f = binary_shallow least s f
+      level_shallow unary s f = unary_shallow s f
+      level_shallow left_side s f = left_expr_shallow s f
+      level_shallow callee s f = left_shallow false s f

@@ -12,11 +12,14 @@ use Rattle.swc_ecma_parser_model.specs.Tree as tree
 use Rattle.swc_ecma_parser_model.specs.Tree.{Tree}
 use Rattle.swc_ecma_parser_grammar.specs.Looks.{sees}
 use Rattle.swc_ecma_parser_grammar.specs.language.Goals.{Class}
+use Rattle.swc_ecma_parser_reader.proofs.Falls.{expr_falls, cover_falls, functions_fall}
+use Rattle.swc_ecma_parser_reader.specs.Reader.{expr, cover, head_cover, function}
+use Rattle.swc_ecma_parser_reader.specs.Heads.{head_expr}
 use Rattle.swc_ecma_parser_reader.specs.State.{State, Outcome, moved, too_deep, fault, fault_at, expect, loop}
-use Rattle.swc_ecma_parser_reader.specs.Expressions.{Cover, Covers, with_cover, with_comma, done, element, behind_comma, arguments_turn, item, array_turn, property, object_turn, accessed, called, left_turn, operator_at, operated, binary_turn, cover_expr, assignment_expr, sequence_turn, expr_level, expr, cover}
+use Rattle.swc_ecma_parser_reader.specs.Expressions.{Cover, Covers, with_cover, with_comma, done, element, behind_comma, arguments_turn, item, array_turn, property, object_turn, accessed, called, left_turn, operator_at, operated, binary_turn, cover_expr, assignment_expr, sequence_turn, expr_level}
 use Rattle.swc_ecma_parser_reader.proofs.Steps.{loop_more, loop_done, loop_err}
 use Rattle.swc_ecma_parser_reader.proofs.Takes.{Falls, moves, takes, fault_falls, expect_falls}
-use Rattle.swc_ecma_parser_reader.proofs.expressions.Falls.{element_falls, item_falls, property_falls, accessed_falls, called_falls, operated_falls, assignment_falls, expr_falls, cover_falls}
+use Rattle.swc_ecma_parser_reader.proofs.expressions.Falls.{element_falls, item_falls, property_falls, accessed_falls, called_falls, operated_falls, assignment_falls}
 use Rattle.swc_ecma_parser_reader.proofs.Meets.{saw}
 
 -- ---- what takes a token leaves fewer
@@ -224,25 +227,25 @@ module _ (n least : ℕ) (start : Span) (x : Tree) (s : State) where
 
 -- ---- sequences: a turn begins with the comma
 
-pub assignment_shorter : (n : ℕ) (s : State) (x : Tree) (t : State) → assignment_expr (expr n) (cover n) s ≡ Ok (x, t) → length t.at.left < length s.at.left
-assignment_shorter n s x t e = shorter_by (length s.at.left) (assignment_expr (expr n) (cover n) s) x t e (assignment_falls (expr n) (cover n) (expr_falls n) (cover_falls n) s)
+pub assignment_shorter : (n : ℕ) (s : State) (x : Tree) (t : State) → assignment_expr (expr n) (cover n) (function n) s ≡ Ok (x, t) → length t.at.left < length s.at.left
+assignment_shorter n s x t e = shorter_by (length s.at.left) (assignment_expr (expr n) (cover n) (function n) s) x t e (assignment_falls (expr n) (cover n) (expr_falls n) (cover_falls n) (function n) (functions_fall n) s)
 
-pub sequence_shorter : (n : ℕ) (s : State) (x : Tree) (t : State) → assignment_expr (expr n) (cover n) (moved s) ≡ Ok (x, t) → length t.at.left < length s.at.left
+pub sequence_shorter : (n : ℕ) (s : State) (x : Tree) (t : State) → assignment_expr (expr n) (cover n) (function n) (moved s) ≡ Ok (x, t) → length t.at.left < length s.at.left
 sequence_shorter n s x t e = let a : length t.at.left < length (after s.at).left = assignment_shorter n (moved s) x t e in let b = moves s.at in omega arith
 
 module _ (n : ℕ) (found : List Tree) (s : State) where
-  pub sequence_err : (e : Fault × State) → assignment_expr (expr n) (cover n) (moved s) ≡ Err e → loop (sequence_turn (expr n) (cover n)) found s ≡ Err e
+  pub sequence_err : (e : Fault × State) → assignment_expr (expr n) (cover n) (function n) (moved s) ≡ Err e → loop (sequence_turn (expr n) (cover n) (function n)) found s ≡ Err e
   unfolding sequence_turn
-  sequence_err e h = loop_err (sequence_turn (expr n) (cover n)) found s e (rw h refl)
+  sequence_err e h = loop_err (sequence_turn (expr n) (cover n) (function n)) found s e (rw h refl)
 
-  pub sequence_done : (x : Tree) (t : State) → assignment_expr (expr n) (cover n) (moved s) ≡ Ok (x, t) → sees kind.Comma t.at ≡ false → loop (sequence_turn (expr n) (cover n)) found s ≡ Ok (found ++ x ∷ [], t)
+  pub sequence_done : (x : Tree) (t : State) → assignment_expr (expr n) (cover n) (function n) (moved s) ≡ Ok (x, t) → sees kind.Comma t.at ≡ false → loop (sequence_turn (expr n) (cover n) (function n)) found s ≡ Ok (found ++ x ∷ [], t)
   unfolding sequence_turn
-  sequence_done x t h e = loop_done (sequence_turn (expr n) (cover n)) found (found ++ x ∷ []) s t (rw (h, e) refl)
+  sequence_done x t h e = loop_done (sequence_turn (expr n) (cover n) (function n)) found (found ++ x ∷ []) s t (rw (h, e) refl)
 
-  pub sequence_more : (x : Tree) (t : State) → assignment_expr (expr n) (cover n) (moved s) ≡ Ok (x, t) → sees kind.Comma t.at ≡ true
-      → loop (sequence_turn (expr n) (cover n)) found s ≡ loop (sequence_turn (expr n) (cover n)) (found ++ x ∷ []) t
+  pub sequence_more : (x : Tree) (t : State) → assignment_expr (expr n) (cover n) (function n) (moved s) ≡ Ok (x, t) → sees kind.Comma t.at ≡ true
+      → loop (sequence_turn (expr n) (cover n) (function n)) found s ≡ loop (sequence_turn (expr n) (cover n) (function n)) (found ++ x ∷ []) t
   unfolding sequence_turn
-  sequence_more x t h e = loop_more (sequence_turn (expr n) (cover n)) found (found ++ x ∷ []) s t (rw (h, e) refl) (sequence_shorter n s x t h)
+  sequence_more x t h e = loop_more (sequence_turn (expr n) (cover n) (function n)) found (found ++ x ∷ []) s t (rw (h, e) refl) (sequence_shorter n s x t h)
 
 -- ---- levels, where a number is 0 or not
 
@@ -253,7 +256,7 @@ pub expr_lowest : (n : ℕ) (class : Class) (s : State) → n ≡ 0 → expr n c
 unfolding expr
 expr_lowest n class s e = rw e refl
 
-pub expr_above : (n : ℕ) (class : Class) (s : State) → 0 < n → expr n class s ≡ expr_level (expr (n - 1)) (cover (n - 1)) class s
+pub expr_above : (n : ℕ) (class : Class) (s : State) → 0 < n → expr n class s ≡ expr_level (expr (n - 1)) (cover (n - 1)) (function (n - 1)) class s
 unfolding expr
 expr_above n class s h = deeper (λ k. expr k class s) n h
 
@@ -261,6 +264,14 @@ pub cover_lowest : (n : ℕ) (s : State) → n ≡ 0 → cover n s ≡ too_deep 
 unfolding cover
 cover_lowest n s e = rw e refl
 
-pub cover_above : (n : ℕ) (s : State) → 0 < n → cover n s ≡ cover_expr (expr (n - 1)) (cover (n - 1)) s
+pub cover_above : (n : ℕ) (s : State) → 0 < n → cover n s ≡ cover_expr (expr (n - 1)) (cover (n - 1)) (function (n - 1)) s
 unfolding cover
 cover_above n s h = deeper (λ k. cover k s) n h
+
+pub head_lowest : (n : ℕ) (s : State) → n ≡ 0 → head_cover n s ≡ too_deep s
+unfolding head_cover
+head_lowest n s e = rw e refl
+
+pub head_above : (n : ℕ) (s : State) → 0 < n → head_cover n s ≡ head_expr (expr (n - 1)) (cover (n - 1)) (function (n - 1)) s
+unfolding head_cover
+head_above n s h = deeper (λ k. head_cover k s) n h

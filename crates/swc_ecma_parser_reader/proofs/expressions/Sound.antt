@@ -17,7 +17,7 @@ use Rattle.swc_ecma_parser_grammar.specs.Looks.{kind_at, breaks_at, sees, same_k
 use Rattle.swc_ecma_parser_grammar.specs.Names.{Code, identifier_at}
 use Rattle.swc_ecma_parser_grammar.specs.Follows.{word_at}
 use Rattle.swc_ecma_parser_grammar.specs.Reads.{ReadsSeparated}
-use Rattle.swc_ecma_parser_grammar.specs.Supported.{supported, all_supported}
+use Rattle.swc_ecma_parser_grammar.specs.Supported.{supported_in, all_supported_in}
 use Rattle.swc_ecma_parser_grammar.specs.ReadsSupported.{ReadsClass}
 use Rattle.swc_ecma_parser_grammar.specs.language.Goals.{Goal, Class, expression, assignment, operator, unary, left_side, callee, expr_goal}
 use Rattle.swc_ecma_parser_grammar.specs.language.Operators.{binary_operator, assign_operator}
@@ -29,7 +29,7 @@ use Rattle.swc_ecma_parser_grammar.specs.Walk.{walk, env_of}
 use Rattle.swc_ecma_parser_grammar.proofs.Tests.{or_none, and_both}
 use Rattle.swc_ecma_parser_reader.specs.Notes.{◌⊕◌, notes_of, all_notes_of}
 use Rattle.swc_ecma_parser_reader.specs.State.{State, Reader, and_then, moved, expect, loop}
-use Rattle.swc_ecma_parser_reader.specs.Expressions.{Cover, done, unmarked, close, target, goes_on, begins_async_call, is_head, heads_arrow, unassigned, unheaded, inside, binary_expr, conditional, assigned_to, assigned, assigned_or, behind_operators, operators_expr, continued, closed, assigned_pattern, behind_literal, open_literal, done_expr, cover_expr, assignment_expr, sequence_turn, sequence_from, expression_expr, expr_level, expr, cover, is_literal}
+use Rattle.swc_ecma_parser_reader.specs.Expressions.{Cover, done, unmarked, close, target, goes_on, begins_async_call, is_head, heads_arrow, unassigned, unheaded, inside, binary_expr, conditional, assigned_to, assigned, assigned_or, behind_operators, operators_expr, continued, closed, assigned_pattern, behind_literal, open_literal, done_expr, cover_expr, assignment_expr, sequence_turn, sequence_from, expression_expr, expr_level, is_literal}
 use Rattle.swc_ecma_parser_reader.proofs.Notes.{notes_nil}
 use Rattle.swc_ecma_parser_reader.proofs.Meets.{Meets, Refuses, meets_then, meets_if, wanted_meets, too_deep_meets, Turned, loop_answers, saw}
 use Rattle.swc_ecma_parser_reader.proofs.Errors.{is_error}
@@ -39,7 +39,7 @@ use Rattle.swc_ecma_parser_reader.proofs.expressions.Targets.{pattern_alike, lit
 use Rattle.swc_ecma_parser_reader.proofs.expressions.Covers.{meets_each, met, begins_literal, literal_kind, close_is, close_reads, target_is, opened, opened_literal, operators_literal}
 use Rattle.swc_ecma_parser_reader.proofs.expressions.Stays.{Stays, continued_stays}
 use Rattle.swc_ecma_parser_reader.proofs.expressions.SoundCovers.{SoundCover, SoundLiteral, inside_sound, array_sound, object_sound}
-use Rattle.swc_ecma_parser_reader.proofs.expressions.SoundLefts.{callee_sound, left_side_sound}
+use Rattle.swc_ecma_parser_reader.proofs.expressions.SoundLefts.{FunctionRead, callee_sound, left_side_sound}
 use Rattle.swc_ecma_parser_reader.proofs.expressions.SoundOperators.{Binary, simple_binary, binary_sound, unary_sound, operator_sound}
 use Rattle.swc_ecma_parser_reader.proofs.expressions.SoundTargets.{assignment_first, literal_stays, literal_stops, settled_read, open_read}
 
@@ -116,11 +116,12 @@ parts_rule In k x (y ∷ []) c d h e = absurd h
 parts_rule In k x (y ∷ z ∷ zs) c d h e = sequence_rule y z zs h e
 
 module _ (n : ℕ) (inner : Class → Reader Tree) (cover : Reader Cover) (sound : (class : Class) (s : State) → Meets (λ x t. SoundTree (ReadsClass n class) s x t) (inner class s))
-    (covers : (s : State) → Meets (λ v t. SoundCover n s v t) (cover s)) where
+    (covers : (s : State) → Meets (λ v t. SoundCover n s v t) (cover s))
+    (function : Reader Tree) (functions : (s : State) → kind_at s.at ≡ kind.Function → Meets (λ x t. SoundTree (FunctionRead n) s x t) (function s)) where
   -- ---- AssignmentExpression
 
   abbrev Assignment : Code → Tree → Place → Place → Type 0
-  Assignment k x c d = AssignmentRule (Reads n) k x c d × (supported x ≡ true)
+  Assignment k x c d = AssignmentRule (Reads n) k x c d × (supported_in k.flags.module x ≡ true)
 
   module _ (s : State) where
     abbrev SoundAssignment : Tree → State → Type 0
@@ -137,7 +138,7 @@ module _ (n : ℕ) (inner : Class → Reader Tree) (cover : Reader Cover) (sound
         meets_if _ (is_some (assign_operator (kind_at v.at))) _ _ (λ _. wanted_meets _ faults.Unexpected v)
         (λ h. sound_as s v refl refl refl (λ ((a, (b, g)), f). (
           conditional_rule x y z t.at m.at a.0.rule e b.0 g.0 (subst (λ w. Reads n (expr_goal assignment s.code z w v.at)) g.1 f.0) h refl,
-          and_both (supported x) _ a.0.supports (and_both (supported y) _ b.1 f.1),
+          and_both _ _ a.0.supports (and_both _ _ b.1 f.1),
         )) (paired (paired p (stepped (moved_back e refl q) o)) r)))))
 
     assigned_sound : (x : Tree) (t : State) (op : AssignOp) → SoundOperands x t → assign_operator (kind_at t.at) ≡ Some op → Meets SoundAssignment (assigned inner cover (span_at s.at) x op t)
@@ -145,7 +146,7 @@ module _ (n : ℕ) (inner : Class → Reader Tree) (cover : Reader Cover) (sound
     assigned_sound x t op p e = meets_if _ (is_simple_target x) _ _
         (λ h. meets_then _ (inner assignment (moved t)) _ (sound assignment (moved t)) (λ y u q. sound_as s u refl refl refl (λ (a, b). (
           assign_rule op x y t.at (simple_binary 1 x s.at t.at h a.0.rule) h e b.0 refl,
-          and_both (supported x) (supported y) a.0.supports b.1,
+          and_both _ _ a.0.supports b.1,
         )) (paired p (moved_back refl (assign_is_none (kind_at t.at) op e) q))))
         (λ _. reject_meets _ _ t)
 
@@ -168,9 +169,9 @@ module _ (n : ℕ) (inner : Class → Reader Tree) (cover : Reader Cover) (sound
     behind_operators_sound x t p = meets_if _ (sees kind.QuestionMark t.at) _ _ (λ e. conditional_sound x t p (saw t.at kind.QuestionMark e))
         (λ h. assigned_or_sound x t (assign_operator (kind_at t.at)) p h refl)
 
-    operators_sound : Meets SoundAssignment (operators_expr inner cover s)
+    operators_sound : Meets SoundAssignment (operators_expr inner cover function s)
     unfolding operators_expr
-    operators_sound = meets_then _ (binary_expr inner cover 1 s) _ (binary_sound n inner cover sound covers 1 s) (λ x t p. behind_operators_sound x t p)
+    operators_sound = meets_then _ (binary_expr inner cover function 1 s) _ (binary_sound n inner cover sound covers function functions 1 s) (λ x t p. behind_operators_sound x t p)
 
     -- ---- what may still become a pattern
 
@@ -193,7 +194,7 @@ module _ (n : ℕ) (inner : Class → Reader Tree) (cover : Reader Cover) (sound
         sound_as s u refl (ap (λ z. z ++ walk (env_of s.code s.scope.labels) y) (sym (same.walked (env_of s.code s.scope.labels)))) (ap (λ z. z ⊕ notes_of y) (sym same.noted))
         (λ (a, b). let w = a.pattern c p i in settled_read n s.code _ s.at u.at refl (
           destructuring_rule p y t.at w.0 (literal_target v.x p l i) e b.0 refl,
-          and_both (supported p) (supported y) w.1 b.1,
+          and_both _ _ w.1 b.1,
         )) (paired q (moved_back e refl r)))
 
     pattern_sound : (v : Cover) (t : State) → SoundLiteral n s v t → kind_at t.at ≡ kind.Assign → is_literal v.x ≡ true → Meets SoundNext (assigned_pattern inner cover (span_at s.at) v t)
@@ -212,7 +213,7 @@ module _ (n : ℕ) (inner : Class → Reader Tree) (cover : Reader Cover) (sound
     continued_sound : (v : Cover) (t : State) → begins_literal s.at ≡ true → opened inner cover s ≡ Ok (v, t) → v.mark ≡ None → goes_on t ≡ true
         → Meets SoundNext (and_then (continued inner cover (span_at s.at) v.x t) (λ y u. Ok (done y, u)))
     continued_sound v t h r o g = meets_then _ (continued inner cover (span_at s.at) v.x t) _ (meets_each (λ y u. SoundNext (done y) u) (continued inner cover (span_at s.at) v.x t) (λ y u e.
-        let p : SoundAssignment y u = met SoundAssignment (operators_expr inner cover s) y u operators_sound (operators_literal inner cover s h ∙ rw (r, close_reads v t o) e) in
+        let p : SoundAssignment y u = met SoundAssignment (operators_expr inner cover function s) y u operators_sound (operators_literal inner cover function s h ∙ rw (r, close_reads v t o) e) in
         let stays : is_literal y ≡ true → u ≡ t = met (Stays inner cover t) (continued inner cover (span_at s.at) v.x t) y u (continued_stays inner cover t (span_at s.at) v.x) e in
         sound_as s u refl refl refl (λ a. settled_read n s.code y s.at u.at (moved_literal y u t p stays g a (is_literal y) refl) a) p)) (λ y u p. p)
 
@@ -238,19 +239,19 @@ module _ (n : ℕ) (inner : Class → Reader Tree) (cover : Reader Cover) (sound
     unopened x t h r true e = clash (begins_literal s.at) (assignment_first r.0 e) h
     unopened x t h r false e = refl
 
-    pub cover_expr_sound : Meets SoundNext (cover_expr inner cover s)
+    pub cover_expr_sound : Meets SoundNext (cover_expr inner cover function s)
     unfolding cover_expr done_expr
     cover_expr_sound = meets_if _ (begins_literal s.at) _ _ open_sound
-        (λ h. meets_then _ (operators_expr inner cover s) _ operators_sound (λ x t p.
+        (λ h. meets_then _ (operators_expr inner cover function s) _ operators_sound (λ x t p.
         sound_as s t refl refl refl (λ r. settled_read n s.code x s.at t.at (unopened x t h r (is_literal x) refl) r) p))
 
     closed_by : (v : Cover) (t : State) (o : Option Span) → v.mark ≡ o → SoundNext v t → Meets SoundAssignment (unmarked v.x o t)
     closed_by v t None e p = sound_as s t refl refl refl (λ r. r.plain e) p
     closed_by v t (Some m) e p = reject_meets _ _ t
 
-    assignment_sound : Meets SoundAssignment (assignment_expr inner cover s)
+    assignment_sound : Meets SoundAssignment (assignment_expr inner cover function s)
     unfolding assignment_expr close
-    assignment_sound = meets_then _ (cover_expr inner cover s) _ cover_expr_sound (λ v t p. closed_by v t v.mark refl p)
+    assignment_sound = meets_then _ (cover_expr inner cover function s) _ cover_expr_sound (λ v t p. closed_by v t v.mark refl p)
 
   -- ---- Expression
 
@@ -258,60 +259,44 @@ module _ (n : ℕ) (inner : Class → Reader Tree) (cover : Reader Cover) (sound
     -- the parts so far, before a comma, and all
     abbrev PartsSoFar : List Tree → State → Type 0
     PartsSoFar xs t = (kind_at t.at ≡ kind.Comma) × Sound same (λ k l. walks.walks (env_of k l) false (trees xs)) (all_notes_of (trees xs))
-        (λ k c d. Before (AssignmentRule (Reads n) k) xs c d × (all_supported (trees xs) ≡ true)) s t
+        (λ k c d. Before (AssignmentRule (Reads n) k) xs c d × (all_supported_in k.flags.module (trees xs) ≡ true)) s t
 
     abbrev AllParts : List Tree → State → Type 0
     AllParts xs t = Sound same (λ k l. walks.walks (env_of k l) false (trees xs)) (all_notes_of (trees xs))
-        (λ k c d. Parts (AssignmentRule (Reads n) k) xs c d × (all_supported (trees xs) ≡ true)) s t
+        (λ k c d. Parts (AssignmentRule (Reads n) k) xs c d × (all_supported_in k.flags.module (trees xs) ≡ true)) s t
 
-    sequence_turn_sound : (xs : List Tree) (t : State) → PartsSoFar xs t → Meets (Turned (sequence_turn inner cover) PartsSoFar AllParts Refuses) (sequence_turn inner cover xs t)
+    sequence_turn_sound : (xs : List Tree) (t : State) → PartsSoFar xs t → Meets (Turned (sequence_turn inner cover function) PartsSoFar AllParts Refuses) (sequence_turn inner cover function xs t)
     unfolding sequence_turn
-    sequence_turn_sound xs t (c, p) = meets_then _ (assignment_expr inner cover (moved t)) _ (assignment_sound (moved t)) (λ x u q. meets_if _ (sees kind.Comma u.at) _ _
+    sequence_turn_sound xs t (c, p) = meets_then _ (assignment_expr inner cover function (moved t)) _ (assignment_sound (moved t)) (λ x u q. meets_if _ (sees kind.Comma u.at) _ _
         (λ e. (
           saw u.at kind.Comma e,
           sound_as s u refl (walks_push (env_of s.code s.scope.labels) xs x) (notes_push xs x)
-              (λ (a, b). (before_push (AssignmentRule (Reads n) s.code) x t.at u.at s.at xs a.0 b.0 (saw u.at kind.Comma e), supported_push xs x a.1 b.1)) (paired p (moved_back c refl q)),
+              (λ (a, b). (before_push (AssignmentRule (Reads n) s.code) x t.at u.at s.at xs a.0 b.0 (saw u.at kind.Comma e), supported_push s.code.flags.module xs x a.1 b.1)) (paired p (moved_back c refl q)),
         ))
         (λ e. sound_as s u refl (walks_push (env_of s.code s.scope.labels) xs x) (notes_push xs x)
-        (λ (a, b). (parts_last (AssignmentRule (Reads n) s.code) x t.at u.at s.at xs a.0 b.0 e, supported_push xs x a.1 b.1)) (paired p (moved_back c refl q))))
+        (λ (a, b). (parts_last (AssignmentRule (Reads n) s.code) x t.at u.at s.at xs a.0 b.0 e, supported_push s.code.flags.module xs x a.1 b.1)) (paired p (moved_back c refl q))))
 
     pub sequence_sound : (x : Tree) (t : State) → SoundTree Assignment s x t → kind_at t.at ≡ kind.Comma
-        → Meets (λ y u. SoundTree (ReadsClass (suc n) expression) s y u) (sequence_from inner cover (span_at s.at) x t)
+        → Meets (λ y u. SoundTree (ReadsClass (suc n) expression) s y u) (sequence_from inner cover function (span_at s.at) x t)
     unfolding sequence_from spanned
-    sequence_sound x t p e = meets_then _ (loop (sequence_turn inner cover) (x ∷ []) t) _
-        (loop_answers (sequence_turn inner cover) PartsSoFar AllParts Refuses sequence_turn_sound (λ _. tt) (x ∷ []) t
-        (e, sound_as s t refl (sym (append-nil (walk (env_of s.code s.scope.labels) x))) (sym (notes_nil (notes_of x))) (λ r. ((r.0, e), and_both (supported x) true r.1 refl)) p))
+    sequence_sound x t p e = meets_then _ (loop (sequence_turn inner cover function) (x ∷ []) t) _
+        (loop_answers (sequence_turn inner cover function) PartsSoFar AllParts Refuses sequence_turn_sound (λ _. tt) (x ∷ []) t
+        (e, sound_as s t refl (sym (append-nil (walk (env_of s.code s.scope.labels) x))) (sym (notes_nil (notes_of x))) (λ r. ((r.0, e), and_both _ true r.1 refl)) p))
         (λ xs u q. sound_as s u refl refl refl (λ r. (parts_rule (Reads n) s.code _ xs s.at u.at r.0 refl, r.1)) q)
 
-    expression_sound : Meets (λ x t. SoundTree (ReadsClass (suc n) expression) s x t) (expression_expr inner cover s)
+    expression_sound : Meets (λ x t. SoundTree (ReadsClass (suc n) expression) s x t) (expression_expr inner cover function s)
     unfolding expression_expr
-    expression_sound = meets_then _ (assignment_expr inner cover s) _ (assignment_sound s) (λ x t p. meets_if _ (sees kind.Comma t.at) _ _
+    expression_sound = meets_then _ (assignment_expr inner cover function s) _ (assignment_sound s) (λ x t p. meets_if _ (sees kind.Comma t.at) _ _
         (λ e. sequence_sound x t p (saw t.at kind.Comma e)) (λ e. sound_as s t refl refl refl (λ r. (assignment_rule r.0 e, r.1)) p))
 
   -- ---- an expression of a class
 
-  level_sound : (class : Class) (s : State) → Meets (λ x t. SoundTree (ReadsClass (suc n) class) s x t) (expr_level inner cover class s)
+  -- an expression of a class is in the relation of the whole language within as many levels
+  pub level_sound : (class : Class) (s : State) → Meets (λ x t. SoundTree (ReadsClass (suc n) class) s x t) (expr_level inner cover function class s)
   unfolding expr_level
   level_sound expression s = expression_sound s
   level_sound assignment s = assignment_sound s
-  level_sound (operator m) s = operator_sound n inner cover sound covers m s
-  level_sound unary s = unary_sound n inner cover sound covers s
-  level_sound left_side s = left_side_sound n inner cover sound covers s
-  level_sound callee s = callee_sound n inner cover sound covers s
-
--- by recursion on the level: expressions, and what may still become a pattern
-both_sound : (n : ℕ) → ((class : Class) (s : State) → Meets (λ x t. SoundTree (ReadsClass n class) s x t) (expr n class s)) × ((s : State) → Meets (λ v t. SoundCover n s v t) (cover n s))
-unfolding expr cover
-both_sound zero = (λ class s. too_deep_meets _ s, λ s. too_deep_meets _ s)
-both_sound (suc n) = (
-  λ class s. level_sound n (expr n) (cover n) (both_sound n).0 (both_sound n).1 class s,
-  λ s. cover_expr_sound n (expr n) (cover n) (both_sound n).0 (both_sound n).1 s,
-)
-
--- an expression of a class is in the relation of the whole language within as many levels
-pub expr_sound : (n : ℕ) (class : Class) (s : State) → Meets (λ x t. SoundTree (ReadsClass n class) s x t) (expr n class s)
-expr_sound n class s = (both_sound n).0 class s
-
--- what may still become a pattern is an expression or a pattern within as many
-pub cover_sound : (n : ℕ) (s : State) → Meets (λ v t. SoundCover n s v t) (cover n s)
-cover_sound n s = (both_sound n).1 s
+  level_sound (operator m) s = operator_sound n inner cover sound covers function functions m s
+  level_sound unary s = unary_sound n inner cover sound covers function functions s
+  level_sound left_side s = left_side_sound n inner cover sound covers function functions s
+  level_sound callee s = callee_sound n inner cover sound covers function functions s

@@ -16,7 +16,7 @@ use Rattle.swc_ecma_parser_model.specs.Targets.{rest_span, simple_target, as_pat
 use Rattle.swc_ecma_parser_grammar.specs.Looks.{kind_at, sees, span_at, spanned}
 use Rattle.swc_ecma_parser_grammar.specs.Names.{Code, is_name, is_reserved, is_identifier, is_clean_name}
 use Rattle.swc_ecma_parser_grammar.specs.Reads.{with_in}
-use Rattle.swc_ecma_parser_grammar.specs.Supported.{supported, is_supported_key, all_supported}
+use Rattle.swc_ecma_parser_grammar.specs.Supported.{supported_in, is_supported_key_in, all_supported_in}
 use Rattle.swc_ecma_parser_grammar.specs.ReadsSupported.{ReadsClass}
 use Rattle.swc_ecma_parser_grammar.specs.language.Goals.{Goal, Class, assignment, assigning, pattern_goal, element_goal}
 use Rattle.swc_ecma_parser_grammar.specs.language.Lists.{ReadsListed, Elements, hole}
@@ -49,17 +49,17 @@ pub record CoverRead (n : ℕ) (v : Cover) (k : Code) (c d : Place) : Type 0 whe
   pub plain : v.mark ≡ None → ReadsClass n assignment k v.x c d
   -- no other form has such a part
   pub unmarked : is_literal v.x ≡ false → v.mark ≡ None
-  pub pattern : v.comma ≡ false → (p : Tree) → as_pattern false v.x ≡ Some p → Reads n (pattern_goal assigning k p c d) × (supported p ≡ true) × ((span_of v.x).hi ≡ d.last.hi)
+  pub pattern : v.comma ≡ false → (p : Tree) → as_pattern false v.x ≡ Some p → Reads n (pattern_goal assigning k p c d) × (supported_in k.flags.module p ≡ true) × ((span_of v.x).hi ≡ d.last.hi)
   -- with a default or without one
-  pub element : v.comma ≡ false → with_in k ≡ k → (p : Tree) → as_pattern true v.x ≡ Some p → Reads n (element_goal assigning k p c d) × (supported p ≡ true)
+  pub element : v.comma ≡ false → with_in k ≡ k → (p : Tree) → as_pattern true v.x ≡ Some p → Reads n (element_goal assigning k p c d) × (supported_in k.flags.module p ≡ true)
 
 abbrev pub SoundCover : ℕ → State → Cover → State → Type 0
 SoundCover n s v t = Sound same (λ k l. walk (env_of k l) v.x) (notes_of v.x) (CoverRead n v) s t
 
 -- an array or object by itself
 pub record LiteralRead (n : ℕ) (v : Cover) (k : Code) (c d : Place) : Type 0 where
-  pub plain : v.mark ≡ None → PrimaryRule (Reads n) k v.x c d × (supported v.x ≡ true)
-  pub pattern : v.comma ≡ false → (p : Tree) → as_pattern false v.x ≡ Some p → PatternRule (Reads n) assigning k p c d × (supported p ≡ true)
+  pub plain : v.mark ≡ None → PrimaryRule (Reads n) k v.x c d × (supported_in k.flags.module v.x ≡ true)
+  pub pattern : v.comma ≡ false → (p : Tree) → as_pattern false v.x ≡ Some p → PatternRule (Reads n) assigning k p c d × (supported_in k.flags.module p ≡ true)
   pub no_default : as_pattern true v.x ≡ as_pattern false v.x
   pub literal : is_literal v.x ≡ true
   pub called : is_callee v.x ≡ true
@@ -117,24 +117,24 @@ no_properties_left : (qs : Trees) → as_properties none ≡ Some qs → qs ≡ 
 no_properties_left qs h = cc
 
 -- a part that others may follow
-abbrev Follows : (Trees → Option Trees) → (Tree → Place → Place → Type 0) → Tree → Place → Place → Type 0
-Follows change Rule x c d = (ys qs : Trees) → change (also x ys) ≡ Some qs → (q : Tree) × (rs : Trees) × (change ys ≡ Some rs) × (qs ≡ also q rs) × Target Rule q c d × (is_rest q ≡ false)
+abbrev Follows : Bool → (Trees → Option Trees) → (Tree → Place → Place → Type 0) → Tree → Place → Place → Type 0
+Follows in_module change Rule x c d = (ys qs : Trees) → change (also x ys) ≡ Some qs → (q : Tree) × (rs : Trees) × (change ys ≡ Some rs) × (qs ≡ also q rs) × Target in_module Rule q c d × (is_rest q ≡ false)
 
-any_part : (change : Trees → Option Trees) (empty : (qs : Trees) → change none ≡ Some qs → qs ≡ none) (Rule : Tree → Place → Place → Type 0) (is_spread : Bool) (x : Tree) (c d : Place)
-    → Follows change Rule x c d → Part change Rule is_spread x c d
-any_part change empty Rule is_spread x c d f = record {
+any_part : (in_module : Bool) (change : Trees → Option Trees) (empty : (qs : Trees) → change none ≡ Some qs → qs ≡ none) (Rule : Tree → Place → Place → Type 0) (is_spread : Bool) (x : Tree) (c d : Place)
+    → Follows in_module change Rule x c d → Part in_module change Rule is_spread x c d
+any_part in_module change empty Rule is_spread x c d f = record {
   before_others = λ _. f;
   alone = λ qs h. let (q, rs, a, b, t, i) = f none qs h in (q, b ∙ ap (also q) (empty rs a), t);
 }
 
 -- a rest is the last
-rest_part : (change : Trees → Option Trees) (Rule : Tree → Place → Place → Type 0) (is_spread : Bool) (x : Tree) (c d : Place) → is_spread ≡ true
-    → ((qs : Trees) → change (also x none) ≡ Some qs → (q : Tree) × (qs ≡ also q none) × Target Rule q c d) → Part change Rule is_spread x c d
-rest_part change Rule is_spread x c d e f = record { before_others = λ h. clash is_spread e h; alone = f }
+rest_part : (in_module : Bool) (change : Trees → Option Trees) (Rule : Tree → Place → Place → Type 0) (is_spread : Bool) (x : Tree) (c d : Place) → is_spread ≡ true
+    → ((qs : Trees) → change (also x none) ≡ Some qs → (q : Tree) × (qs ≡ also q none) × Target in_module Rule q c d) → Part in_module change Rule is_spread x c d
+rest_part in_module change Rule is_spread x c d e f = record { before_others = λ h. clash is_spread e h; alone = f }
 
 -- a target of a rule, said otherwise
-target_as : (Rule : Tree → Place → Place → Type 0) (p q : Tree) (c d : Place) → q ≡ p → Rule q c d → supported p ≡ true → Target Rule q c d
-target_as Rule p q c d e r s = record { rule = r; supports = ap supported e ∙ s }
+target_as : (in_module : Bool) (Rule : Tree → Place → Place → Type 0) (p q : Tree) (c d : Place) → q ≡ p → Rule q c d → supported_in in_module p ≡ true → Target in_module Rule q c d
+target_as in_module Rule p q c d e r s = record { rule = r; supports = ap (supported_in in_module) e ∙ s }
 
 module _ (n : ℕ) (k : Code) (v : Cover) where
   abbrev ItemRule : Tree → Place → Place → Type 0
@@ -144,40 +144,40 @@ module _ (n : ℕ) (k : Code) (v : Cover) where
   PartRule = PatternPropertyRule (Reads n) assigning (with_in k)
 
   -- elements
-  item_follows : (c d : Place) → CoverRead n v (with_in k) c d → v.comma ≡ false → Follows as_elements ItemRule (tree.element None v.x) c d
+  item_follows : (c d : Place) → CoverRead n v (with_in k) c d → v.comma ≡ false → Follows k.flags.module as_elements ItemRule (tree.element None v.x) c d
   item_follows c d r h ys qs e = let (q, rs, a, b, u) = some_before (as_pattern true v.x) (as_elements ys) qs e in let w = r.element h refl q a in
       (q, rs, b, u, record { rule = element_rule w.0; supports = w.1 }, pattern_no_rest true v.x q a)
 
   item_rest : (c d : Place) → kind_at c ≡ kind.DotDotDot → CoverRead n v (with_in k) (after c) d → v.comma ≡ false → (qs : Trees) → as_elements (also (tree.element (Some (span_at c)) v.x) none) ≡ Some qs
-      → (q : Tree) × (qs ≡ also q none) × Target ItemRule q c d
+      → (q : Tree) × (qs ≡ also q none) × Target k.flags.module ItemRule q c d
   item_rest c d e r h qs g =
       let (q, a, b) = some_alone _ qs g in
       let (p, i, u) = some_rest (span_at c) v.x (as_pattern false v.x) q a in
       let w = r.pattern h p i in
-      (q, b, target_as ItemRule _ q c d u (rest_rule p e w.0 (u ∙ rest_spanned c d v.x p w.2)) w.1)
+      (q, b, target_as k.flags.module ItemRule _ q c d u (rest_rule p e w.0 (u ∙ rest_spanned c d v.x p w.2)) w.1)
 
   -- properties
-  value_follows : (x : Tree) (c m d : Place) → KeyRule (Reads n) k x c m → is_supported_key x ≡ true → kind_at m ≡ kind.Colon → CoverRead n v (with_in k) (after m) d → v.comma ≡ false
-      → Follows as_properties PartRule (tree.key_value_prop (spanned c d) x v.x) c d
+  value_follows : (x : Tree) (c m d : Place) → KeyRule (Reads n) k x c m → is_supported_key_in k.flags.module x ≡ true → kind_at m ≡ kind.Colon → CoverRead n v (with_in k) (after m) d → v.comma ≡ false
+      → Follows k.flags.module as_properties PartRule (tree.key_value_prop (spanned c d) x v.x) c d
   value_follows x c m d key s e r h ys qs g =
       let (q, rs, a, b, u) = some_before _ (as_properties ys) qs g in
       let (p, i, j) = some_key_value (spanned c d) x (as_pattern true v.x) q a in
       let w = r.element h refl p i in
-      (q, rs, b, u, target_as PartRule _ q c d j (patterns.key_value_rule x p m (key_inside (Reads n) k x c m key) e w.0 j) (and_both (is_supported_key x) (supported p) s w.1), ap is_rest j)
+      (q, rs, b, u, target_as k.flags.module PartRule _ q c d j (patterns.key_value_rule x p m (key_inside (Reads n) k x c m key) e w.0 j) (and_both _ _ s w.1), ap is_rest j)
 
   property_rest : (c d : Place) → kind_at c ≡ kind.DotDotDot → CoverRead n v (with_in k) (after c) d → v.comma ≡ false → (qs : Trees) → as_properties (also (tree.spread_prop (span_at c) v.x) none) ≡ Some qs
-      → (q : Tree) × (qs ≡ also q none) × Target PartRule q c d
+      → (q : Tree) × (qs ≡ also q none) × Target k.flags.module PartRule q c d
   property_rest c d e r h qs g =
       let (q, a, b) = some_alone _ qs g in
       let (p, i, u) = some_rest (span_at c) v.x (simple_target v.x) q a in
       let w = r.pattern h p (simple_as v.x p i) in
-      (q, b, target_as PartRule _ q c d u (patterns.rest_rule p e w.0 (ap is_pattern_target (simple_is v.x p i).1 ∙ leaf_no_pattern v.x) (u ∙ rest_spanned c d v.x p w.2)) w.1)
+      (q, b, target_as k.flags.module PartRule _ q c d u (patterns.rest_rule p e w.0 (ap is_pattern_target (simple_is v.x p i).1 ∙ leaf_no_pattern v.x) (u ∙ rest_spanned c d v.x p w.2)) w.1)
 
 module _ (n : ℕ) (k : Code) (text : Text) (span : Span) where
   abbrev NamedRule : Tree → Place → Place → Type 0
   NamedRule = PatternPropertyRule (Reads n) assigning (with_in k)
 
-  name_follows : (c d : Place) → ReadsWord text span c d → is_name k.flags text ≡ true → sees kind.Assign d ≡ false → Follows as_properties NamedRule (tree.shorthand_prop span text) c d
+  name_follows : (c d : Place) → ReadsWord text span c d → is_name k.flags text ≡ true → sees kind.Assign d ≡ false → Follows k.flags.module as_properties NamedRule (tree.shorthand_prop span text) c d
   name_follows c d r e h ys qs g =
       let (q, rs, a, b, u) = some_before (Some (tree.assign_pat_prop span (tree.ident_pat span text) tree.absent)) (as_properties ys) qs g in
       let i : q ≡ tree.assign_pat_prop span (tree.ident_pat span text) tree.absent = cc in (
@@ -185,13 +185,13 @@ module _ (n : ℕ) (k : Code) (text : Text) (span : Span) where
         rs,
         b,
         u,
-        target_as NamedRule _ q c d i (patterns.shorthand_rule text span (name_inside k text span c d (free_name k text span c d r e)) h
+        target_as k.flags.module NamedRule _ q c d i (patterns.shorthand_rule text span (name_inside k text span c d (free_name k text span c d r e)) h
             (i ∙ ap (λ z. tree.assign_pat_prop z (tree.ident_pat span text) tree.absent) (word_spanned text span c d r))) (and_both _ true (name_is_supported k.flags text e) refl),
         ap is_rest i,
       )
 
   default_follows : (value : Tree) (c m d : Place) → ReadsWord text span c m → is_name k.flags text ≡ true → kind_at m ≡ kind.Assign → ReadsClass n assignment (with_in k) value (after m) d
-      → Follows as_properties NamedRule (tree.assign_prop (spanned c d) (tree.ident span text) value) c d
+      → Follows k.flags.module as_properties NamedRule (tree.assign_prop (spanned c d) (tree.ident span text) value) c d
   default_follows value c m d r e h w ys qs g =
       let (q, rs, a, b, u) = some_before (Some (tree.assign_pat_prop (spanned c d) (tree.ident_pat span text) value)) (as_properties ys) qs g in
       let i : q ≡ tree.assign_pat_prop (spanned c d) (tree.ident_pat span text) value = cc in (
@@ -199,8 +199,8 @@ module _ (n : ℕ) (k : Code) (text : Text) (span : Span) where
         rs,
         b,
         u,
-        target_as NamedRule _ q c d i (patterns.default_rule text span value m (name_inside k text span c m (free_name k text span c m r e)) h w.0 i)
-            (and_both _ (supported value) (name_is_supported k.flags text e) w.1),
+        target_as k.flags.module NamedRule _ q c d i (patterns.default_rule text span value m (name_inside k text span c m (free_name k text span c m r e)) h w.0 i)
+            (and_both _ _ (name_is_supported k.flags text e) w.1),
         ap is_rest i,
       )
 
@@ -219,7 +219,7 @@ module _ (n : ℕ) (inner : Class → Reader Tree) (cover : Reader Cover) (sound
   -- ---- elements
 
   abbrev ItemRead : Bool → Cover → Code → Place → Place → Type 0
-  ItemRead is_spread v k = PartRead (ElementRule (Reads n) k) as_elements (ItemRule n k v) is_spread v
+  ItemRead is_spread v k = PartRead k.flags.module (ElementRule (Reads n) k) as_elements (ItemRule n k v) is_spread v
 
   abbrev SoundItem : State → Cover → State → Type 0
   SoundItem s v t = Sound same (λ k l. walk (env_of k l) v.x) (notes_of v.x) (ItemRead (sees kind.DotDotDot s.at) v) s t
@@ -230,12 +230,12 @@ module _ (n : ℕ) (inner : Class → Reader Tree) (cover : Reader Cover) (sound
       (λ e. meets_then _ (covered inner cover (moved s)) _ (covered_sound (moved s)) (λ v t p.
       sound_after s t (saw s.at kind.DotDotDot e) refl refl refl (λ r. record {
         plain = λ h. let w = r.plain h in (record { rule = parts.spread_element v.x (saw s.at kind.DotDotDot e) w.0 refl; supports = w.1 }, refl);
-        pattern = λ h. rest_part as_elements (ItemRule n s.code v) (sees kind.DotDotDot s.at) _ s.at t.at e (item_rest n s.code v s.at t.at (saw s.at kind.DotDotDot e) r h);
+        pattern = λ h. rest_part s.code.flags.module as_elements (ItemRule n s.code v) (sees kind.DotDotDot s.at) _ s.at t.at e (item_rest n s.code v s.at t.at (saw s.at kind.DotDotDot e) r h);
       }) p))
       (λ _. meets_then _ (covered inner cover s) _ (covered_sound s) (λ v t p.
       sound_as s t refl refl refl (λ r. record {
         plain = λ h. let w = r.plain h in (record { rule = parts.plain_element v.x w.0 refl; supports = w.1 }, refl);
-        pattern = λ h. any_part as_elements no_elements_left (ItemRule n s.code v) (sees kind.DotDotDot s.at) _ s.at t.at (item_follows n s.code v s.at t.at r h);
+        pattern = λ h. any_part s.code.flags.module as_elements no_elements_left (ItemRule n s.code v) (sees kind.DotDotDot s.at) _ s.at t.at (item_follows n s.code v s.at t.at r h);
       }) p))
 
   abbrev pub Elems : Code → List Tree → Place → Place → Type 0
@@ -247,28 +247,28 @@ module _ (n : ℕ) (inner : Class → Reader Tree) (cover : Reader Cover) (sound
   -- the elements so far, and all
   abbrev ElementsSoFar : State → Covers → State → Type 0
   ElementsSoFar s found t = Sound same (λ k l. walks.walks (env_of k l) false (trees found.xs)) (all_notes_of (trees found.xs))
-      (λ k. SoFar (Elems k) as_elements (Items k) kind.RBracket found) s t
+      (λ k. SoFar k.flags.module (Elems k) as_elements (Items k) kind.RBracket found) s t
 
   abbrev ClosedElements : Covers → Code → Place → Place → Type 0
-  ClosedElements found k c d = (m : Place) × AllRead (Elems k) as_elements (Items k) found c m × (kind_at m ≡ kind.RBracket) × (d ≡ after m)
+  ClosedElements found k c d = (m : Place) × AllRead k.flags.module (Elems k) as_elements (Items k) found c m × (kind_at m ≡ kind.RBracket) × (d ≡ after m)
 
   abbrev SoundElements : State → Covers → State → Type 0
   SoundElements s found t = Sound same (λ k l. walks.walks (env_of k l) false (trees found.xs)) (all_notes_of (trees found.xs)) (ClosedElements found) s t
 
   -- the comma behind a hole
-  hole_next : (k : Code) (c m : Place) (found : Covers) → SoFar (Elems k) as_elements (Items k) kind.RBracket found c m → sees kind.RBracket m ≡ false → kind_at m ≡ kind.Comma
-      → SoFar (Elems k) as_elements (Items k) kind.RBracket (with_cover found (done tree.absent)) c (after m)
+  hole_next : (k : Code) (c m : Place) (found : Covers) → SoFar k.flags.module (Elems k) as_elements (Items k) kind.RBracket found c m → sees kind.RBracket m ≡ false → kind_at m ≡ kind.Comma
+      → SoFar k.flags.module (Elems k) as_elements (Items k) kind.RBracket (with_cover found (done tree.absent)) c (after m)
   hole_next k c m found r h g = record {
-    plain = λ e. begun_next (Plain (Elems k)) kind.RBracket c m (after m) found.xs tree.absent (r.plain (no_marks found.mark None e).0) h (λ ys d (l, s). (hole ys g l refl, s));
-    pattern = λ e. begun_next (Pattern as_elements (Items k)) kind.RBracket c m (after m) found.xs tree.absent (r.pattern (or_no found.comma false e).0) h (λ ys d l qs u. behind ys d l qs u);
+    plain = λ e. begun_next (Plain k.flags.module (Elems k)) kind.RBracket c m (after m) found.xs tree.absent (r.plain (no_marks found.mark None e).0) h (λ ys d (l, s). (hole ys g l refl, s));
+    pattern = λ e. begun_next (Pattern k.flags.module as_elements (Items k)) kind.RBracket c m (after m) found.xs tree.absent (r.pattern (or_no found.comma false e).0) h (λ ys d l qs u. behind ys d l qs u);
   }
     where
-      behind : (ys : List Tree) (d : Place) → Pattern as_elements (Items k) ys (after m) d → Pattern as_elements (Items k) (tree.absent ∷ ys) m d
+      behind : (ys : List Tree) (d : Place) → Pattern k.flags.module as_elements (Items k) ys (after m) d → Pattern k.flags.module as_elements (Items k) (tree.absent ∷ ys) m d
       behind ys d l qs u = let (q, rs, a, b, i) = some_before (Some tree.absent) (as_elements (trees ys)) qs u in let w = l rs b in let j : qs ≡ also tree.absent rs = cc in record {
         patterns = tree.absent ∷ w.patterns;
         are = j ∙ ap (also tree.absent) w.are;
         reads = hole w.patterns g w.reads refl;
-        supports = ap all_supported j ∙ w.supports;
+        supports = ap (all_supported_in k.flags.module) j ∙ w.supports;
       }
 
   array_turn_sound : (s : State) (found : Covers) (t : State) → ElementsSoFar s found t
@@ -277,7 +277,7 @@ module _ (n : ℕ) (inner : Class → Reader Tree) (cover : Reader Cover) (sound
   array_turn_sound s found t p = meets_if _ (sees kind.RBracket t.at) _ _
       (λ e. sound_as s (moved t) refl refl refl (λ (a, b). (
         t.at,
-        all_read (ElementRule (Reads n) s.code) (PatternItemRule (Reads n) assigning (with_in s.code)) as_elements no_elements_left
+        all_read s.code.flags.module (ElementRule (Reads n) s.code) (PatternItemRule (Reads n) assigning (with_in s.code)) as_elements no_elements_left
             (Elems s.code) (Items s.code) kind.RBracket (elements_list _) (elements_list _) s.at t.at found a,
         b.0,
         b.1,
@@ -293,17 +293,17 @@ module _ (n : ℕ) (inner : Class → Reader Tree) (cover : Reader Cover) (sound
           → Meets (Turned (array_turn inner cover) (ElementsSoFar s) (SoundElements s) Refuses) (behind_item inner cover (sees kind.DotDotDot t.at) (with_cover found v) m)
       next e v m q = meets_if _ (sees kind.RBracket m.at) _ _
           (λ h. sound_as s m refl (walks_push (env_of s.code s.scope.labels) found.xs v.x) (notes_push found.xs v.x)
-          (λ (a, b). push_last (ElementRule (Reads n) s.code) (PatternItemRule (Reads n) assigning (with_in s.code)) as_elements no_elements_left (Elems s.code) (Items s.code) kind.RBracket
+          (λ (a, b). push_last s.code.flags.module (ElementRule (Reads n) s.code) (PatternItemRule (Reads n) assigning (with_in s.code)) as_elements no_elements_left (Elems s.code) (Items s.code) kind.RBracket
           (elements_list _) (elements_list _) s.at t.at m.at found v (sees kind.DotDotDot t.at) a e b (saw m.at kind.RBracket h)) (paired p q))
           (λ _. meets_then _ (expect kind.Comma m) _ (expect_sound kind.Comma m refl) (λ _ u r.
           sound_as s u refl (walks_push (env_of s.code s.scope.labels) found.xs v.x) (notes_push found.xs v.x)
-          (λ ((a, b), o). subst (SoFar (Elems s.code) as_elements (Items s.code) kind.RBracket (with_comma (sees kind.DotDotDot t.at) (with_cover found v)) s.at) (sym o.1)
-          (push_next (ElementRule (Reads n) s.code) (PatternItemRule (Reads n) assigning (with_in s.code)) as_elements no_elements_left (Elems s.code) (Items s.code) kind.RBracket
+          (λ ((a, b), o). subst (SoFar s.code.flags.module (Elems s.code) as_elements (Items s.code) kind.RBracket (with_comma (sees kind.DotDotDot t.at) (with_cover found v)) s.at) (sym o.1)
+          (push_next s.code.flags.module (ElementRule (Reads n) s.code) (PatternItemRule (Reads n) assigning (with_in s.code)) as_elements no_elements_left (Elems s.code) (Items s.code) kind.RBracket
           (elements_list _) (elements_list _) s.at t.at m.at found v (sees kind.DotDotDot t.at) a e b o.0)) (stepped (paired p q) r)))
 
   -- none so far
-  nothing_yet : (L K : List Tree → Place → Place → Type 0) (change : Trees → Option Trees) (j : TokenKind) (c : Place) → SoFar L change K j no_covers c c
-  nothing_yet L K change j c = record { plain = λ _. at_more (λ ys d r. r); pattern = λ _. at_more (λ ys d r. r) }
+  nothing_yet : (in_module : Bool) (L K : List Tree → Place → Place → Type 0) (change : Trees → Option Trees) (j : TokenKind) (c : Place) → SoFar in_module L change K j no_covers c c
+  nothing_yet in_module L K change j c = record { plain = λ _. at_more (λ ys d r. r); pattern = λ _. at_more (λ ys d r. r) }
 
   -- all of them, from `[` on
   elements_sound : (s : State) → kind_at s.at ≡ kind.LBracket
@@ -311,7 +311,7 @@ module _ (n : ℕ) (inner : Class → Reader Tree) (cover : Reader Cover) (sound
   unfolding elements
   elements_sound s e = meets_as (loop (array_turn inner cover) no_covers (moved s))
       (loop_answers (array_turn inner cover) (ElementsSoFar (moved s)) (SoundElements (moved s)) Refuses (array_turn_sound (moved s)) (λ t. tt) no_covers (moved s)
-      (sound_here (moved s) (nothing_yet _ _ as_elements kind.RBracket (after s.at))))
+      (sound_here (moved s) (nothing_yet _ _ _ as_elements kind.RBracket (after s.at))))
       (λ found t p. sound_after s t e refl refl refl (λ r. r) p)
 
   pub array_sound : (s : State) → kind_at s.at ≡ kind.LBracket → Meets (SoundLiteral n s) (array inner cover s)
@@ -319,7 +319,7 @@ module _ (n : ℕ) (inner : Class → Reader Tree) (cover : Reader Cover) (sound
   array_sound s e = meets_then _ (elements inner cover s) _ (elements_sound s e) (λ found t p. sound_as s t refl refl refl (λ (m, r, h, g). record {
     plain = λ i. let w = r.plain i in (array_rule found.xs m e w.0 h g refl, w.1);
     pattern = λ i q j. let (ps, a, b) = some_array (spanned s.at t.at) (as_elements (trees found.xs)) q j in let w = r.pattern i ps a in
-        (patterns.array_rule w.patterns m e w.reads h g (b ∙ ap (λ z. tree.array_pat (spanned s.at t.at) (tree.list z)) w.are), ap supported b ∙ w.supports);
+        (patterns.array_rule w.patterns m e w.reads h g (b ∙ ap (λ z. tree.array_pat (spanned s.at t.at) (tree.list z)) w.are), ap (supported_in s.code.flags.module) b ∙ w.supports);
     no_default = refl;
     literal = refl;
     called = refl;
@@ -329,7 +329,7 @@ module _ (n : ℕ) (inner : Class → Reader Tree) (cover : Reader Cover) (sound
   -- ---- properties
 
   abbrev pub Key : Code → Tree → Place → Place → Type 0
-  Key k x c d = KeyRule (Reads n) k x c d × (is_supported_key x ≡ true)
+  Key k x c d = KeyRule (Reads n) k x c d × (is_supported_key_in k.flags.module x ≡ true)
 
   abbrev pub SoundKey : State → Tree → State → Type 0
   SoundKey s x t = SoundTree Key s x t
@@ -378,7 +378,7 @@ module _ (n : ℕ) (inner : Class → Reader Tree) (cover : Reader Cover) (sound
       (λ g. meets_if _ (sees kind.LBracket s.at) _ _ (λ e. computed_key_sound s (saw s.at kind.LBracket e)) (λ _. literal_key_sound s g))
 
   abbrev PropertyRead : Bool → Cover → Code → Place → Place → Type 0
-  PropertyRead is_spread v k = PartRead (PropertyRule (Reads n) k) as_properties (PatternPropertyRule (Reads n) assigning (with_in k)) is_spread v
+  PropertyRead is_spread v k = PartRead k.flags.module (PropertyRule (Reads n) k) as_properties (PatternPropertyRule (Reads n) assigning (with_in k)) is_spread v
 
   abbrev SoundProperty : State → Cover → State → Type 0
   SoundProperty s v t = Sound same (λ k l. walk (env_of k l) v.x) (notes_of v.x) (PropertyRead (sees kind.DotDotDot s.at) v) s t
@@ -391,8 +391,8 @@ module _ (n : ℕ) (inner : Class → Reader Tree) (cover : Reader Cover) (sound
     unfolding key_value spanned
     key_value_sound x m p e = meets_then _ (covered inner cover (moved m)) _ (covered_sound (moved m)) (λ v t q.
         sound_as s t refl refl refl (λ (a, b). record {
-          plain = λ h. let w = b.plain h in (record { rule = key_value_rule x v.x m.at a.0 e w.0 refl; supports = and_both (is_supported_key x) (supported v.x) a.1 w.1 }, refl);
-          pattern = λ h. any_part as_properties no_properties_left (PartRule n s.code v) is_spread _ s.at t.at (value_follows n s.code v x s.at m.at t.at a.0 a.1 e b h);
+          plain = λ h. let w = b.plain h in (record { rule = key_value_rule x v.x m.at a.0 e w.0 refl; supports = and_both _ _ a.1 w.1 }, refl);
+          pattern = λ h. any_part s.code.flags.module as_properties no_properties_left (PartRule n s.code v) is_spread _ s.at t.at (value_follows n s.code v x s.at m.at t.at a.0 a.1 e b h);
         }) (paired p (moved_back e refl q)))
 
     shorthand_name_sound : (span : Span) (text : Text) (t : State) → SoundKey s (tree.ident span text) t → sees kind.Assign t.at ≡ false
@@ -402,7 +402,7 @@ module _ (n : ℕ) (inner : Class → Reader Tree) (cover : Reader Cover) (sound
         (λ e. let free : is_name s.code.flags text ≡ true = sym (ap (λ z. is_name z.flags text) p.code) ∙ e in
         sound_as s t refl refl refl (λ (a, _). let r = ident_key (Reads n) s.code span text s.at t.at a in record {
           plain = λ _. (record { rule = shorthand_rule text span (free_name s.code text span s.at t.at r free) refl; supports = name_is_supported s.code.flags text free }, refl);
-          pattern = λ _. any_part as_properties no_properties_left (NamedRule n s.code text span) is_spread _ s.at t.at (name_follows n s.code text span s.at t.at r free h);
+          pattern = λ _. any_part s.code.flags.module as_properties no_properties_left (NamedRule n s.code text span) is_spread _ s.at t.at (name_follows n s.code text span s.at t.at r free h);
         }) p)
         (λ _. reject_meets _ _ t)
 
@@ -422,7 +422,7 @@ module _ (n : ℕ) (inner : Class → Reader Tree) (cover : Reader Cover) (sound
         meets_then _ (inside inner cover assignment (moved m)) _ (inside_sound assignment (moved m)) (λ y t q.
         sound_as s t refl refl refl (λ (a, b). record {
           plain = λ i. cc;
-          pattern = λ _. any_part as_properties no_properties_left (NamedRule n s.code text span) is_spread _ s.at t.at
+          pattern = λ _. any_part s.code.flags.module as_properties no_properties_left (NamedRule n s.code text span) is_spread _ s.at t.at
               (default_follows n s.code text span y s.at m.at t.at (ident_key (Reads n) s.code span text s.at m.at a.0) free h b);
         }) (paired p (moved_back h refl q))))
         (λ _. reject_meets _ _ m)
@@ -442,7 +442,7 @@ module _ (n : ℕ) (inner : Class → Reader Tree) (cover : Reader Cover) (sound
       (λ e. meets_then _ (covered inner cover (moved s)) _ (covered_sound (moved s)) (λ v t p.
       sound_after s t (saw s.at kind.DotDotDot e) refl refl refl (λ r. record {
         plain = λ h. let w = r.plain h in (record { rule = spread_rule v.x (saw s.at kind.DotDotDot e) w.0 refl; supports = w.1 }, refl);
-        pattern = λ h. rest_part as_properties (PartRule n s.code v) (sees kind.DotDotDot s.at) _ s.at t.at e (property_rest n s.code v s.at t.at (saw s.at kind.DotDotDot e) r h);
+        pattern = λ h. rest_part s.code.flags.module as_properties (PartRule n s.code v) (sees kind.DotDotDot s.at) _ s.at t.at e (property_rest n s.code v s.at t.at (saw s.at kind.DotDotDot e) r h);
       }) p))
       (λ _. meets_then _ (key inner cover s) _ (key_sound s) (λ x m p. behind_key_sound s x m p))
 
@@ -455,10 +455,10 @@ module _ (n : ℕ) (inner : Class → Reader Tree) (cover : Reader Cover) (sound
   -- the properties so far, and all
   abbrev PropertiesSoFar : State → Covers → State → Type 0
   PropertiesSoFar s found t = Sound same (λ k l. walks.walks (env_of k l) false (trees found.xs)) (all_notes_of (trees found.xs))
-      (λ k. SoFar (Props k) as_properties (Targets k) kind.RBrace found) s t
+      (λ k. SoFar k.flags.module (Props k) as_properties (Targets k) kind.RBrace found) s t
 
   abbrev ClosedProperties : Covers → Code → Place → Place → Type 0
-  ClosedProperties found k c d = (m : Place) × AllRead (Props k) as_properties (Targets k) found c m × (kind_at m ≡ kind.RBrace) × (d ≡ after m)
+  ClosedProperties found k c d = (m : Place) × AllRead k.flags.module (Props k) as_properties (Targets k) found c m × (kind_at m ≡ kind.RBrace) × (d ≡ after m)
 
   abbrev SoundProperties : State → Covers → State → Type 0
   SoundProperties s found t = Sound same (λ k l. walks.walks (env_of k l) false (trees found.xs)) (all_notes_of (trees found.xs)) (ClosedProperties found) s t
@@ -469,7 +469,7 @@ module _ (n : ℕ) (inner : Class → Reader Tree) (cover : Reader Cover) (sound
   object_turn_sound s found t p = meets_if _ (sees kind.RBrace t.at) _ _
       (λ e. sound_as s (moved t) refl refl refl (λ (a, b). (
         t.at,
-        all_read (PropertyRule (Reads n) s.code) (PatternPropertyRule (Reads n) assigning (with_in s.code)) as_properties no_properties_left
+        all_read s.code.flags.module (PropertyRule (Reads n) s.code) (PatternPropertyRule (Reads n) assigning (with_in s.code)) as_properties no_properties_left
             (Props s.code) (Targets s.code) kind.RBrace (properties_list _) (properties_list _) s.at t.at found a,
         b.0,
         b.1,
@@ -481,12 +481,12 @@ module _ (n : ℕ) (inner : Class → Reader Tree) (cover : Reader Cover) (sound
           → Meets (Turned (object_turn inner cover) (PropertiesSoFar s) (SoundProperties s) Refuses) (behind_property inner cover (sees kind.DotDotDot t.at) (with_cover found v) m)
       next e v m q = meets_if _ (sees kind.RBrace m.at) _ _
           (λ h. sound_as s m refl (walks_push (env_of s.code s.scope.labels) found.xs v.x) (notes_push found.xs v.x)
-          (λ (a, b). push_last (PropertyRule (Reads n) s.code) (PatternPropertyRule (Reads n) assigning (with_in s.code)) as_properties no_properties_left (Props s.code) (Targets s.code) kind.RBrace
+          (λ (a, b). push_last s.code.flags.module (PropertyRule (Reads n) s.code) (PatternPropertyRule (Reads n) assigning (with_in s.code)) as_properties no_properties_left (Props s.code) (Targets s.code) kind.RBrace
           (properties_list _) (properties_list _) s.at t.at m.at found v (sees kind.DotDotDot t.at) a e b (saw m.at kind.RBrace h)) (paired p q))
           (λ _. meets_then _ (expect kind.Comma m) _ (expect_sound kind.Comma m refl) (λ _ u r.
           sound_as s u refl (walks_push (env_of s.code s.scope.labels) found.xs v.x) (notes_push found.xs v.x)
-          (λ ((a, b), o). subst (SoFar (Props s.code) as_properties (Targets s.code) kind.RBrace (with_comma (sees kind.DotDotDot t.at) (with_cover found v)) s.at) (sym o.1)
-          (push_next (PropertyRule (Reads n) s.code) (PatternPropertyRule (Reads n) assigning (with_in s.code)) as_properties no_properties_left (Props s.code) (Targets s.code) kind.RBrace
+          (λ ((a, b), o). subst (SoFar s.code.flags.module (Props s.code) as_properties (Targets s.code) kind.RBrace (with_comma (sees kind.DotDotDot t.at) (with_cover found v)) s.at) (sym o.1)
+          (push_next s.code.flags.module (PropertyRule (Reads n) s.code) (PatternPropertyRule (Reads n) assigning (with_in s.code)) as_properties no_properties_left (Props s.code) (Targets s.code) kind.RBrace
           (properties_list _) (properties_list _) s.at t.at m.at found v (sees kind.DotDotDot t.at) a e b o.0)) (stepped (paired p q) r)))
 
   -- all of them, from `{` on
@@ -495,7 +495,7 @@ module _ (n : ℕ) (inner : Class → Reader Tree) (cover : Reader Cover) (sound
   unfolding properties
   properties_sound s e = meets_as (loop (object_turn inner cover) no_covers (moved s))
       (loop_answers (object_turn inner cover) (PropertiesSoFar (moved s)) (SoundProperties (moved s)) Refuses (object_turn_sound (moved s)) (λ t. tt) no_covers (moved s)
-      (sound_here (moved s) (nothing_yet _ _ as_properties kind.RBrace (after s.at))))
+      (sound_here (moved s) (nothing_yet _ _ _ as_properties kind.RBrace (after s.at))))
       (λ found t p. sound_after s t e refl refl refl (λ r. r) p)
 
   pub object_sound : (s : State) → kind_at s.at ≡ kind.LBrace → Meets (SoundLiteral n s) (object inner cover s)
@@ -503,7 +503,7 @@ module _ (n : ℕ) (inner : Class → Reader Tree) (cover : Reader Cover) (sound
   object_sound s e = meets_then _ (properties inner cover s) _ (properties_sound s e) (λ found t p. sound_as s t refl refl refl (λ (m, r, h, g). record {
     plain = λ i. let w = r.plain i in (object_rule found.xs m e w.0 h g refl, w.1);
     pattern = λ i q j. let (ps, a, b) = some_object (spanned s.at t.at) (as_properties (trees found.xs)) q j in let w = r.pattern i ps a in
-        (patterns.object_rule w.patterns m e w.reads h g (b ∙ ap (λ z. tree.object_pat (spanned s.at t.at) (tree.list z)) w.are), ap supported b ∙ w.supports);
+        (patterns.object_rule w.patterns m e w.reads h g (b ∙ ap (λ z. tree.object_pat (spanned s.at t.at) (tree.list z)) w.are), ap (supported_in s.code.flags.module) b ∙ w.supports);
     no_default = refl;
     literal = refl;
     called = refl;

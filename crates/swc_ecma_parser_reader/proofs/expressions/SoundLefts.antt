@@ -21,7 +21,7 @@ use Rattle.swc_ecma_parser_grammar.specs.Looks.{first_kind, kind_at, sees, same_
 use Rattle.swc_ecma_parser_grammar.specs.Names.{Code, is_name, name_at}
 use Rattle.swc_ecma_parser_grammar.specs.Follows.{token_is, first_is, word_at, is_async_function, continues_left_side}
 use Rattle.swc_ecma_parser_grammar.specs.Reads.{ReadsToken}
-use Rattle.swc_ecma_parser_grammar.specs.Supported.{supported, is_supported_property, all_supported}
+use Rattle.swc_ecma_parser_grammar.specs.Supported.{supported_in, is_supported_property_in, all_supported_in}
 use Rattle.swc_ecma_parser_grammar.specs.ReadsSupported.{ReadsClass}
 use Rattle.swc_ecma_parser_grammar.specs.language.Goals.{Goal, Class, expression, assignment, left_side, callee, expr_goal, callee_goal}
 use Rattle.swc_ecma_parser_grammar.specs.language.Lists.{ReadsListed, LastComma, no_comma, last_comma}
@@ -103,9 +103,13 @@ module _ (commas : Bool) (Reads : Tree → Place → Place → Type 0) where
 -- a left-hand-side expression, with calls or as what `new` calls
 pub record Left (In : Goal → Type 0) (calls : Bool) (k : Code) (x : Tree) (c d : Place) : Type 0 where
   pub rule : LeftSideRule In k x c d
-  pub supports : supported x ≡ true
+  pub supports : supported_in k.flags.module x ≡ true
   pub no_await : sees kind.Await c ≡ false
   pub is_called : calls ≡ false → is_callee x ≡ true
+
+-- a function, from its word on
+abbrev pub FunctionRead : ℕ → Code → Tree → Place → Place → Type 0
+FunctionRead n k x c d = PrimaryRule (Reads n) k x c d × (supported_in k.flags.module x ≡ true) × (is_callee x ≡ true)
 
 -- nothing is taken, in code that can be a module's
 abbrev AsModule : Code → Place → Place → Type 0
@@ -113,11 +117,11 @@ AsModule k c d = (k.flags.can_be_module ≡ true) × (d ≡ c)
 
 -- an access with a property that is supported
 abbrev Access : (Goal → Type 0) → Code → Tree → Place → Place → Type 0
-Access In k x c d = AccessRule In k x c d × (is_supported_property x ≡ true)
+Access In k x c d = AccessRule In k x c d × (is_supported_property_in k.flags.module x ≡ true)
 
 dotted_access : (In : Goal → Type 0) (k : Code) (x : Tree) (c d : Place) → kind_at c ≡ kind.Dot → Dotted x (after c) d → Access In k x c d
-dotted_access In k x c d e (word_dotted text span r g) = (word_access text span e r g, ap is_supported_property g)
-dotted_access In k x c d e (private_dotted r) = (private_access e r, ap is_supported_property r.is)
+dotted_access In k x c d e (word_dotted text span r g) = (word_access text span e r g, ap (is_supported_property_in k.flags.module) g)
+dotted_access In k x c d e (private_dotted r) = (private_access e r, ap (is_supported_property_in k.flags.module) r.is)
 
 -- no private name stands in brackets
 not_private : (In : Goal → Type 0) (k : Code) (x : Tree) (c d : Place) → sees kind.Dot c ≡ false → AccessRule In k x c d → is_private x ≡ false
@@ -144,7 +148,8 @@ free_left In calls i k c d e r = let free : is_name k.flags i.sym ≡ true = ap 
 }
 
 module _ (n : ℕ) (inner : Class → Reader Tree) (cover : Reader Cover) (sound : (class : Class) (s : State) → Meets (λ x t. SoundTree (ReadsClass n class) s x t) (inner class s))
-    (covers : (s : State) → Meets (λ v t. SoundCover n s v t) (cover s)) where
+    (covers : (s : State) → Meets (λ v t. SoundCover n s v t) (cover s))
+    (function : Reader Tree) (functions : (s : State) → kind_at s.at ≡ kind.Function → Meets (λ x t. SoundTree (FunctionRead n) s x t) (function s)) where
   -- ---- accesses
 
   abbrev SoundAccess : State → Tree → State → Type 0
@@ -177,7 +182,7 @@ module _ (n : ℕ) (inner : Class → Reader Tree) (cover : Reader Cover) (sound
   -- ---- arguments
 
   abbrev Element : Code → Tree → Place → Place → Type 0
-  Element k x c d = ElementRule (Reads n) k x c d × (supported x ≡ true) × (is_rest x ≡ false)
+  Element k x c d = ElementRule (Reads n) k x c d × (supported_in k.flags.module x ≡ true) × (is_rest x ≡ false)
 
   element_sound : (s : State) → Meets (λ x t. SoundTree Element s x t) (element inner cover s)
   unfolding element spread_element plain_element
@@ -191,10 +196,10 @@ module _ (n : ℕ) (inner : Class → Reader Tree) (cover : Reader Cover) (sound
     -- the arguments so far, and all
     abbrev ArgumentsSoFar : State → List Tree → State → Type 0
     ArgumentsSoFar s xs t = Sound same (λ k l. walks.walks (env_of k l) false (trees xs)) (all_notes_of (trees xs))
-        (λ k c d. Front commas (ElementRule (Reads n) k) kind.RParen xs c d × (all_supported (trees xs) ≡ true)) s t
+        (λ k c d. Front commas (ElementRule (Reads n) k) kind.RParen xs c d × (all_supported_in k.flags.module (trees xs) ≡ true)) s t
 
     abbrev Closed : List Tree → Code → Place → Place → Type 0
-    Closed xs k c d = (m : Place) × ReadsListed commas (ElementRule (Reads n) k) xs c m × (kind_at m ≡ kind.RParen) × (d ≡ after m) × (all_supported (trees xs) ≡ true)
+    Closed xs k c d = (m : Place) × ReadsListed commas (ElementRule (Reads n) k) xs c m × (kind_at m ≡ kind.RParen) × (d ≡ after m) × (all_supported_in k.flags.module (trees xs) ≡ true)
 
     abbrev SoundClosed : State → List Tree → State → Type 0
     SoundClosed s xs t = Sound same (λ k l. walks.walks (env_of k l) false (trees xs)) (all_notes_of (trees xs)) (Closed xs) s t
@@ -224,11 +229,11 @@ module _ (n : ℕ) (inner : Class → Reader Tree) (cover : Reader Cover) (sound
           where
             pushed : (u : State) → SoundStep (λ k. Behind commas kind.RParen) m u → ArgumentsSoFar s (xs ++ x ∷ []) u
             pushed u r = sound_as s u refl (walks_push (env_of s.code s.scope.labels) xs x) (notes_push xs x)
-                (λ (((f, a), (b, g, h)), o). (front_push commas (ElementRule (Reads n) s.code) kind.RParen x m.at u.at s.at t.at xs f e b h o, supported_push xs x a g)) (stepped (paired p q) r)
+                (λ (((f, a), (b, g, h)), o). (front_push commas (ElementRule (Reads n) s.code) kind.RParen x m.at u.at s.at t.at xs f e b h o, supported_push s.code.flags.module xs x a g)) (stepped (paired p q) r)
 
     -- all of them, from `(` on
     abbrev Arguments : List Tree → Code → Place → Place → Type 0
-    Arguments xs k c d = ArgumentsRule (Reads n) k commas (listed xs) c d × (all_supported (trees xs) ≡ true)
+    Arguments xs k c d = ArgumentsRule (Reads n) k commas (listed xs) c d × (all_supported_in k.flags.module (trees xs) ≡ true)
 
     arguments_sound : (s : State) → kind_at s.at ≡ kind.LParen
         → Meets (λ xs t. Sound same (λ k l. walk (env_of k l) (listed xs)) (notes_of (listed xs)) (Arguments xs) s t) (arguments inner cover commas s)
@@ -256,7 +261,7 @@ module _ (n : ℕ) (inner : Class → Reader Tree) (cover : Reader Cover) (sound
 
   module _ (calls : Bool) (s : State) where
     -- a token by itself
-    one_token : (v : Token) (span : Span) (x : Tree) → ReadsToken v span s.at (after s.at) → PrimaryRule (Reads n) s.code x s.at (after s.at) → supported x ≡ true → is_callee x ≡ true
+    one_token : (v : Token) (span : Span) (x : Tree) → ReadsToken v span s.at (after s.at) → PrimaryRule (Reads n) s.code x s.at (after s.at) → supported_in s.code.flags.module x ≡ true → is_callee x ≡ true
         → same_kind (token_kind v) kind.Await ≡ false → Left (Reads n) calls s.code x s.at (after s.at)
     one_token v span x r p a b e = record { rule = primary_rule p; supports = a; no_await = token_first v kind.Await span s.at (after s.at) r e; is_called = λ _. b }
 
@@ -322,18 +327,28 @@ module _ (n : ℕ) (inner : Class → Reader Tree) (cover : Reader Cover) (sound
           is_called = λ _. refl;
         }) (stepped (moved_back e refl p) q)))
 
-    marked_sound : Meets (SoundLeft calls s) (marked_primary inner cover s)
+    function_left : kind_at s.at ≡ kind.Function → Meets (SoundLeft calls s) (function s)
+    unfolding same_kind
+    function_left e = meets_as (function s) (functions s e) (λ x t p. sound_as s t refl refl refl (λ r. record {
+      rule = primary_rule r.0;
+      supports = r.1;
+      no_await = elsewhere s.at kind.Function kind.Await e refl;
+      is_called = λ _. r.2;
+    }) p)
+
+    marked_sound : Meets (SoundLeft calls s) (marked_primary inner cover function s)
     unfolding marked_primary
     marked_sound = meets_if _ (sees kind.LParen s.at) _ _ (λ e. paren_sound (saw s.at kind.LParen e))
         (λ _. meets_if _ (sees kind.LBracket s.at) _ _ (λ e. array_left (saw s.at kind.LBracket e))
         (λ _. meets_if _ (sees kind.LBrace s.at) _ _ (λ e. object_left (saw s.at kind.LBrace e))
-        (λ _. meets_if _ (sees kind.This s.at) _ _ (λ e. this_sound (saw s.at kind.This e)) (λ _. wanted_meets _ faults.Unexpected s))))
+        (λ _. meets_if _ (sees kind.This s.at) _ _ (λ e. this_sound (saw s.at kind.This e))
+        (λ _. meets_if _ (sees kind.Function s.at) _ _ (λ e. function_left (saw s.at kind.Function e)) (λ _. wanted_meets _ faults.Unexpected s)))))
 
-    literal_or_sound : (o : Option Tree) (t : State) → Literal calls s o t → Meets (SoundLeft calls s) (literal_or inner cover o t)
+    literal_or_sound : (o : Option Tree) (t : State) → Literal calls s o t → Meets (SoundLeft calls s) (literal_or inner cover function o t)
     literal_or_sound (Some x) t p = p
-    literal_or_sound None t e = subst (λ z. Meets (SoundLeft calls s) (marked_primary inner cover z)) (sym e) marked_sound
+    literal_or_sound None t e = subst (λ z. Meets (SoundLeft calls s) (marked_primary inner cover function z)) (sym e) marked_sound
 
-    primary_sound : Meets (SoundLeft calls s) (primary inner cover s)
+    primary_sound : Meets (SoundLeft calls s) (primary inner cover function s)
     unfolding primary
     primary_sound = meets_if _ (name_at s.code.flags s.at) _ _ (λ _. ident_sound calls s)
         (λ _. meets_then _ (literal s) _ literal_sound (λ o t p. literal_or_sound o t p))
@@ -345,7 +360,7 @@ module _ (n : ℕ) (inner : Class → Reader Tree) (cover : Reader Cover) (sound
     unfolding accessed spanned
     accessed_sound x t p e = meets_then _ (access inner cover t) _ (access_sound t e) (λ y u q. sound_as s u refl refl refl (λ (a, b). record {
       rule = member_rule x y t.at a.rule b.0 refl;
-      supports = and_both (supported x) (is_supported_property y) a.supports b.1;
+      supports = and_both _ _ a.supports b.1;
       no_await = a.no_await;
       is_called = a.is_called;
     }) (paired p q))
@@ -355,7 +370,7 @@ module _ (n : ℕ) (inner : Class → Reader Tree) (cover : Reader Cover) (sound
     called_sound x t p e = let h = and_yes calls (sees kind.LParen t.at) e in
         meets_then _ (arguments inner cover true t) _ (arguments_sound true t (saw t.at kind.LParen h.1)) (λ xs u q. sound_as s u refl refl refl (λ (a, b). record {
           rule = call_rule x (listed xs) t.at a.rule b.0 refl;
-          supports = and_both (supported x) (all_supported (trees xs)) a.supports b.1;
+          supports = and_both _ _ a.supports b.1;
           no_await = a.no_await;
           is_called = λ g. clash calls h.0 g;
         }) (paired p q))
@@ -406,13 +421,13 @@ module _ (n : ℕ) (inner : Class → Reader Tree) (cover : Reader Cover) (sound
         meets_then _ (inner callee (moved s)) _ (sound callee (moved s)) (λ x m p. meets_if _ (sees kind.LParen m.at) _ _
         (λ h. meets_then _ (arguments inner cover true m) _ (arguments_sound true m (saw m.at kind.LParen h)) (λ xs t q. sound_as s t refl refl refl (λ (a, b). record {
           rule = new_rule x (listed xs) m.at e a.0 b.0 refl;
-          supports = and_both (supported x) (all_supported (trees xs)) a.2 b.1;
+          supports = and_both _ _ a.2 b.1;
           no_await = w;
           is_called = λ _. refl;
         }) (paired (moved_back e refl p) q)))
         (λ h. sound_after s m e refl (sym (append-nil (walk (env_of s.code s.scope.labels) x))) (sym (notes_nil (notes_of x))) (λ r. record {
           rule = bare_new_rule x e (bare_called n s.code x (after s.at) m.at r.0 (no_access m.at r.1 h)) refl;
-          supports = and_both (supported x) true r.2 refl;
+          supports = and_both _ true r.2 refl;
           no_await = w;
           is_called = λ _. refl;
         }) p))
@@ -483,23 +498,23 @@ module _ (n : ℕ) (inner : Class → Reader Tree) (cover : Reader Cover) (sound
         }) p))
         (λ _. meets_if _ (sees kind.Dot (after s.at)) _ _ (λ h. import_meta_sound g e (saw (after s.at) kind.Dot h)) (λ _. wanted_meets _ faults.Unexpected (moved s)))
 
-    left_head_sound : Meets (SoundLeft calls s) (left_head inner cover calls s)
+    left_head_sound : Meets (SoundLeft calls s) (left_head inner cover function calls s)
     unfolding left_head
     left_head_sound = meets_if _ (sees kind.Super s.at) _ _ (λ e. super_sound (saw s.at kind.Super e))
         (λ _. meets_if _ (sees kind.New s.at) _ _ (λ e. new_sound (saw s.at kind.New e))
         (λ _. meets_if _ (calls && sees kind.Import s.at) _ _ (λ e. let g = and_yes calls (sees kind.Import s.at) e in import_sound g.0 (saw s.at kind.Import g.1)) (λ _. primary_sound calls s)))
 
     -- a left-hand-side expression that nothing goes on with
-    pub left_sound : Meets (λ x t. SoundTree Ended s x t) (left inner cover calls s)
+    pub left_sound : Meets (λ x t. SoundTree Ended s x t) (left inner cover function calls s)
     unfolding left
-    left_sound = meets_then _ (left_head inner cover calls s) _ left_head_sound (λ x t p. left_from_sound x t p)
+    left_sound = meets_then _ (left_head inner cover function calls s) _ left_head_sound (λ x t p. left_from_sound x t p)
 
   -- ---- of the class
 
-  pub callee_sound : (s : State) → Meets (λ x t. SoundTree (ReadsClass (suc n) callee) s x t) (left inner cover false s)
-  callee_sound s = meets_as (left inner cover false s) (left_sound false s) (λ x t p. sound_as s t refl refl refl (λ r. ((r.0.rule, r.0.is_called refl), r.1, r.0.supports)) p)
+  pub callee_sound : (s : State) → Meets (λ x t. SoundTree (ReadsClass (suc n) callee) s x t) (left inner cover function false s)
+  callee_sound s = meets_as (left inner cover function false s) (left_sound false s) (λ x t p. sound_as s t refl refl refl (λ r. ((r.0.rule, r.0.is_called refl), r.1, r.0.supports)) p)
 
-  pub left_side_sound : (s : State) → Meets (λ x t. SoundTree (ReadsClass (suc n) left_side) s x t) (left_expr inner cover s)
+  pub left_side_sound : (s : State) → Meets (λ x t. SoundTree (ReadsClass (suc n) left_side) s x t) (left_expr inner cover function s)
   unfolding left_expr closed_left
-  left_side_sound s = meets_then _ (left inner cover true s) _ (left_sound true s) (λ x t p. meets_if _ (continues_left_side t.at) _ _ (λ _. wanted_meets _ faults.Unexpected t)
+  left_side_sound s = meets_then _ (left inner cover function true s) _ (left_sound true s) (λ x t p. meets_if _ (continues_left_side t.at) _ _ (λ _. wanted_meets _ faults.Unexpected t)
       (λ e. sound_as s t refl refl refl (λ r. ((r.0.rule, e), r.0.supports)) p))

@@ -14,7 +14,7 @@ use Rattle.swc_ecma_parser_model.specs.Forms.{is_simple_target}
 use Rattle.swc_ecma_parser_grammar.specs.Looks.{kind_at, breaks_at, sees, same_kind, span_at, spanned}
 use Rattle.swc_ecma_parser_grammar.specs.Names.{Code}
 use Rattle.swc_ecma_parser_grammar.specs.Follows.{continues_left_side}
-use Rattle.swc_ecma_parser_grammar.specs.Supported.{supported}
+use Rattle.swc_ecma_parser_grammar.specs.Supported.{supported_in}
 use Rattle.swc_ecma_parser_grammar.specs.ReadsSupported.{ReadsClass}
 use Rattle.swc_ecma_parser_grammar.specs.language.Goals.{Goal, Class, operator, unary, expr_goal}
 use Rattle.swc_ecma_parser_grammar.specs.language.Begins.{awaits}
@@ -31,13 +31,13 @@ use Rattle.swc_ecma_parser_reader.proofs.Errors.{is_error}
 use Rattle.swc_ecma_parser_reader.proofs.Between.{SoundTree, sound_moved, sound_as, sound_after}
 use Rattle.swc_ecma_parser_reader.proofs.expressions.SoundSteps.{paired, stepped, moved_back, meets_as, reject_meets, when_true, when_false, clash}
 use Rattle.swc_ecma_parser_reader.proofs.expressions.SoundCovers.{SoundCover}
-use Rattle.swc_ecma_parser_reader.proofs.expressions.SoundLefts.{Left, left_sound}
+use Rattle.swc_ecma_parser_reader.proofs.expressions.SoundLefts.{FunctionRead, Left, left_sound}
 
 -- ---- what is read
 
 pub record Unary (In : Goal → Type 0) (k : Code) (x : Tree) (c d : Place) : Type 0 where
   pub rule : UnaryRule In k x c d
-  pub supports : supported x ≡ true
+  pub supports : supported_in k.flags.module x ≡ true
   pub ends : continues_unary x d ≡ false
 
 -- what an operator that stands behind it takes as its left operand
@@ -46,7 +46,7 @@ Operand In k op x c d = (groups_left op ≡ true → BinaryRule In k (precedence
 
 pub record Binary (In : Goal → Type 0) (n : ℕ) (k : Code) (x : Tree) (c d : Place) : Type 0 where
   pub rule : BinaryRule In k n x c d
-  pub supports : supported x ≡ true
+  pub supports : supported_in k.flags.module x ≡ true
   pub ends : continues_unary x d ≡ false
   pub ready : (op : BinaryOp) → binary_operator (kind_at d) ≡ Some op → is_operator k op ≡ true → Operand In k op x c d
 
@@ -184,17 +184,18 @@ module _ (n : ℕ) (k : Code) (op : BinaryOp) (x y : Tree) (c i d : Place) (h : 
       by_side true z = z
       by_side false z = absurd (let u : precedence op ≡ 11 = ap precedence (right_is op a) in let v : precedence o ≡ 11 = ap precedence (right_is o z) in omega arith)
 
-  operation : (m : ℕ) → nat_le m (precedence op) ≡ true → supported x ≡ true → ReadsClass n (right_class op) k y (after i) d → Binary (Reads n) m k (tree.bin (spanned c d) op x y) c d
+  operation : (m : ℕ) → nat_le m (precedence op) ≡ true → supported_in k.flags.module x ≡ true → ReadsClass n (right_class op) k y (after i) d → Binary (Reads n) m k (tree.bin (spanned c d) op x y) c d
   operation m l s r = record {
     rule = made m (groups_left op) refl (leb-true m (precedence op) l) r.0;
-    supports = and_both (supported x) (supported y) s r.1;
+    supports = and_both _ _ s r.1;
     ends = operation_ends (tree.bin (spanned c d) op x y) d refl;
     ready = λ o u v. let (a, b) = below (groups_left op) refl o (looser _ k _ o (operand_stops n _ k y (after i) d r) u v) in
         (λ _. made (precedence o) (groups_left op) refl a r.0, λ z. clash (groups_left o) b z);
   }
 
 module _ (n : ℕ) (inner : Class → Reader Tree) (cover : Reader Cover) (sound : (class : Class) (s : State) → Meets (λ x t. SoundTree (ReadsClass n class) s x t) (inner class s))
-    (covers : (s : State) → Meets (λ v t. SoundCover n s v t) (cover s)) where
+    (covers : (s : State) → Meets (λ v t. SoundCover n s v t) (cover s))
+    (function : Reader Tree) (functions : (s : State) → kind_at s.at ≡ kind.Function → Meets (λ x t. SoundTree (FunctionRead n) s x t) (function s)) where
   -- ---- unary and update operators
 
   abbrev pub SoundUnary : State → Tree → State → Type 0
@@ -238,19 +239,19 @@ module _ (n : ℕ) (inner : Class → Reader Tree) (cover : Reader Cover) (sound
         ends = operation_ends _ (after t.at) refl;
       }) (stepped p (sound_moved {P = λ k c d. Unit {0}} t refl (update_is_none (kind_at t.at) op f) tt)))
 
-  postfix_sound : (s : State) → Meets (SoundUnary s) (postfix inner cover s)
+  postfix_sound : (s : State) → Meets (SoundUnary s) (postfix inner cover function s)
   unfolding postfix
-  postfix_sound s = meets_then _ (left inner cover true s) _ (left_sound n inner cover sound covers true s) (λ x t p. behind_operand_sound s x t (postfix_at t.at) refl p)
+  postfix_sound s = meets_then _ (left inner cover function true s) _ (left_sound n inner cover sound covers function functions true s) (λ x t p. behind_operand_sound s x t (postfix_at t.at) refl p)
 
-  updated_sound : (s : State) (o : Option UpdateOp) → update_operator (kind_at s.at) ≡ o → Meets (SoundUnary s) (updated inner cover o s)
+  updated_sound : (s : State) (o : Option UpdateOp) → update_operator (kind_at s.at) ≡ o → Meets (SoundUnary s) (updated inner cover function o s)
   updated_sound s (Some op) e = update_before_sound op s e
   updated_sound s None e = postfix_sound s
 
-  unary_by_sound : (s : State) (o : Option UnaryOp) → unary_operator (kind_at s.at) ≡ o → Meets (SoundUnary s) (unary_by inner cover o s)
+  unary_by_sound : (s : State) (o : Option UnaryOp) → unary_operator (kind_at s.at) ≡ o → Meets (SoundUnary s) (unary_by inner cover function o s)
   unary_by_sound s (Some op) e = prefixed_sound op s e
   unary_by_sound s None e = updated_sound s (update_operator (kind_at s.at)) refl
 
-  unary_expr_sound : (s : State) → Meets (SoundUnary s) (unary_expr inner cover s)
+  unary_expr_sound : (s : State) → Meets (SoundUnary s) (unary_expr inner cover function s)
   unfolding unary_expr
   unary_expr_sound s = unary_by_sound s (unary_operator (kind_at s.at)) refl
 
@@ -291,18 +292,18 @@ module _ (n : ℕ) (inner : Class → Reader Tree) (cover : Reader Cover) (sound
     binary_turn_sound x t p = binary_by_sound x t (operator_at m t) p refl
 
     -- operands with the operators between that bind so tightly
-    pub binary_sound : Meets (λ x t. SoundTree BinaryEnd s x t) (binary_expr inner cover m s)
+    pub binary_sound : Meets (λ x t. SoundTree BinaryEnd s x t) (binary_expr inner cover function m s)
     unfolding binary_expr binary_from
-    binary_sound = meets_then _ (unary_expr inner cover s) _ (unary_expr_sound s) (λ x t p.
+    binary_sound = meets_then _ (unary_expr inner cover function s) _ (unary_expr_sound s) (λ x t p.
         loop_answers (binary_turn inner cover m (span_at s.at)) SoundBinary (λ y u. SoundTree BinaryEnd s y u) Refuses binary_turn_sound (λ _. tt) x t
         (sound_as s t refl refl refl (λ r. fresh r) p))
 
   -- ---- of the class
 
-  pub unary_sound : (s : State) → Meets (λ x t. SoundTree (ReadsClass (suc n) unary) s x t) (unary_expr inner cover s)
-  unary_sound s = meets_as (unary_expr inner cover s) (unary_expr_sound s) (λ x t p. sound_as s t refl refl refl (λ r. ((r.rule, r.ends), r.supports)) p)
+  pub unary_sound : (s : State) → Meets (λ x t. SoundTree (ReadsClass (suc n) unary) s x t) (unary_expr inner cover function s)
+  unary_sound s = meets_as (unary_expr inner cover function s) (unary_expr_sound s) (λ x t p. sound_as s t refl refl refl (λ r. ((r.rule, r.ends), r.supports)) p)
 
-  pub operator_sound : (m : ℕ) (s : State) → Meets (λ x t. SoundTree (ReadsClass (suc n) (operator m)) s x t) (binary_expr inner cover m s)
+  pub operator_sound : (m : ℕ) (s : State) → Meets (λ x t. SoundTree (ReadsClass (suc n) (operator m)) s x t) (binary_expr inner cover function m s)
   unfolding continues_operand
-  operator_sound m s = meets_as (binary_expr inner cover m s) (binary_sound m s) (λ x t p. sound_as s t refl refl refl (λ r.
+  operator_sound m s = meets_as (binary_expr inner cover function m s) (binary_sound m s) (λ x t p. sound_as s t refl refl refl (λ r.
       ((r.0.rule, or_none (continues_unary x t.at) _ r.0.ends r.1), r.0.supports)) p)

@@ -23,7 +23,7 @@ use Rattle.swc_ecma_parser_model.specs.Tree.{Tree, Text, trees}
 use Rattle.swc_ecma_parser_grammar.specs.Looks.{kind_at, sees, same_kind, span_at, first_span, spanned}
 use Rattle.swc_ecma_parser_grammar.specs.Names.{Code, is_name}
 use Rattle.swc_ecma_parser_grammar.specs.Reads.{ReadsToken}
-use Rattle.swc_ecma_parser_grammar.specs.Supported.{supported, all_supported}
+use Rattle.swc_ecma_parser_grammar.specs.Supported.{supported_in, all_supported_in}
 use Rattle.swc_ecma_parser_grammar.specs.language.Parts.{ReadsWord, PrivateRule}
 use Rattle.swc_ecma_parser_grammar.specs.Walk as walks
 use Rattle.swc_ecma_parser_grammar.specs.Walk.{walk, tabled}
@@ -300,6 +300,6 @@ pub notes_push : (xs : List Tree) (x : Tree) → all_notes_of (trees xs) ⊕ not
 notes_push [] x = sym (notes_nil (notes_of x))
 notes_push (y ∷ ys) x = notes_assoc (notes_of y) (all_notes_of (trees ys)) (notes_of x) ∙ ap (λ z. notes_of y ⊕ z) (notes_push ys x)
 
-pub supported_push : (xs : List Tree) (x : Tree) → all_supported (trees xs) ≡ true → supported x ≡ true → all_supported (trees (xs ++ x ∷ [])) ≡ true
-supported_push [] x a h = and_both (supported x) true h refl
-supported_push (y ∷ ys) x a h = let b = and_yes (supported y) (all_supported (trees ys)) a in and_both (supported y) _ b.0 (supported_push ys x b.1 h)
+pub supported_push : (m : Bool) (xs : List Tree) (x : Tree) → all_supported_in m (trees xs) ≡ true → supported_in m x ≡ true → all_supported_in m (trees (xs ++ x ∷ [])) ≡ true
+supported_push m [] x a h = and_both (supported_in m x) true h refl
+supported_push m (y ∷ ys) x a h = let b = and_yes (supported_in m y) (all_supported_in m (trees ys)) a in and_both (supported_in m y) _ b.0 (supported_push m ys x b.1 h)

@@ -16,7 +16,7 @@ use Rattle.swc_ecma_parser_grammar.specs.Looks.{kind_at, sees, same_kind, spanne
 use Rattle.swc_ecma_parser_grammar.specs.Names.{Code}
 use Rattle.swc_ecma_parser_grammar.specs.Follows.{continues_left_side}
 use Rattle.swc_ecma_parser_grammar.specs.Reads.{with_in}
-use Rattle.swc_ecma_parser_grammar.specs.Supported.{supported}
+use Rattle.swc_ecma_parser_grammar.specs.Supported.{supported_in}
 use Rattle.swc_ecma_parser_grammar.specs.language.Goals.{Goal, assignment, assigning, expr_goal}
 use Rattle.swc_ecma_parser_grammar.specs.language.Begins.{awaits}
 use Rattle.swc_ecma_parser_grammar.specs.language.Operators.{binary_operator, assign_operator, precedence, is_operator}
@@ -289,23 +289,23 @@ module _ {In : Goal → Type 0} {k : Code} where
   default_reads s left right x c d h w (expressions.delegate_rule y g i b f r e) = let l = sym h ∙ e in cc
 
   -- without a default
-  bare_reads : (x p : Tree) (c d : Place) → simple_target x ≡ Some p → AssignmentRule In k x c d → supported x ≡ true
-      → PatternRule In assigning k p c d × (supported p ≡ true) × ((span_of x).hi ≡ d.last.hi) × (sees kind.Assign d ≡ false)
+  bare_reads : (x p : Tree) (c d : Place) → simple_target x ≡ Some p → AssignmentRule In k x c d → supported_in k.flags.module x ≡ true
+      → PatternRule In assigning k p c d × (supported_in k.flags.module p ≡ true) × ((span_of x).hi ≡ d.last.hi) × (sees kind.Assign d ≡ false)
   bare_reads x p c d e r s = let (h, i) = simple_is x p e in let (o, a) = simple_reads x c d h r in
-      (subst (λ z. PatternRule In assigning k z c d) (sym i) (leaf_reads x c d o h), ap supported i ∙ leaf_supported x ∙ s, left_end x c d h o.0, a)
+      (subst (λ z. PatternRule In assigning k z c d) (sym i) (leaf_reads x c d o h), ap (supported_in k.flags.module) i ∙ leaf_supported k.flags.module x ∙ s, left_end x c d h o.0, a)
 
-  element_reads : (x p : Tree) (c d : Place) → is_literal x ≡ false → with_in k ≡ k → as_pattern true x ≡ Some p → AssignmentRule In k x c d → supported x ≡ true
-      → PatternElementRule In assigning k p c d × (supported p ≡ true)
+  element_reads : (x p : Tree) (c d : Place) → is_literal x ≡ false → with_in k ≡ k → as_pattern true x ≡ Some p → AssignmentRule In k x c d → supported_in k.flags.module x ≡ true
+      → PatternElementRule In assigning k p c d × (supported_in k.flags.module p ≡ true)
   element_reads (tree.assign s assign.Assign left right) p c d l w e r h = let i : p ≡ tree.assign_pat s (left_pattern left) right = cc in (
     subst (λ z. PatternElementRule In assigning k z c d) (sym i) (default_reads s left right (tree.assign s assign.Assign left right) c d refl w r),
-    ap supported i ∙ ap (λ z. z && supported right) (left_supported left) ∙ h,
+    ap (supported_in k.flags.module) i ∙ ap (λ z. z && supported_in k.flags.module right) (left_supported k.flags.module left) ∙ h,
   )
   element_reads (tree.array s xs) p c d l w e r h = cc
   element_reads (tree.object s xs) p c d l w e r h = cc
   element_reads x p c d l w e r h = let (a, b, _, g) = bare_reads x p c d e r h in (bare_rule a g, b)
 
-  target_reads : (x p : Tree) (c d : Place) → is_literal x ≡ false → as_pattern false x ≡ Some p → AssignmentRule In k x c d → supported x ≡ true
-      → PatternRule In assigning k p c d × (supported p ≡ true) × ((span_of x).hi ≡ d.last.hi)
+  target_reads : (x p : Tree) (c d : Place) → is_literal x ≡ false → as_pattern false x ≡ Some p → AssignmentRule In k x c d → supported_in k.flags.module x ≡ true
+      → PatternRule In assigning k p c d × (supported_in k.flags.module p ≡ true) × ((span_of x).hi ≡ d.last.hi)
   target_reads (tree.array s xs) p c d l e r h = cc
   target_reads (tree.object s xs) p c d l e r h = cc
   target_reads x p c d l e r h = let (a, b, i, _) = bare_reads x p c d e r h in (a, b, i)
@@ -313,7 +313,7 @@ module _ {In : Goal → Type 0} {k : Code} where
 -- ---- what may still become a pattern
 
 -- an expression that is no array or object
-pub settled_read : (n : ℕ) (k : Code) (x : Tree) (c d : Place) → is_literal x ≡ false → AssignmentRule (Reads n) k x c d × (supported x ≡ true) → CoverRead (suc n) (done x) k c d
+pub settled_read : (n : ℕ) (k : Code) (x : Tree) (c d : Place) → is_literal x ≡ false → AssignmentRule (Reads n) k x c d × (supported_in k.flags.module x ≡ true) → CoverRead (suc n) (done x) k c d
 settled_read n k x c d l r = record {
   plain = λ _. r;
   unmarked = λ _. refl;

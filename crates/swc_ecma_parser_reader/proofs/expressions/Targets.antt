@@ -8,7 +8,7 @@ use Rattle.swc_ecma_parser_model.specs.Tree.{Tree, Trees, none, also}
 use Rattle.swc_ecma_parser_model.specs.Forms.{is_simple_target, is_pattern_target, is_rest, is_ident_named}
 use Rattle.swc_ecma_parser_model.specs.Targets.{leaf, left_pattern, simple_target, rest_span, rest_of, array_of, object_of, key_value_of, before, alone, as_pattern, as_elements, as_item, as_properties, as_property}
 use Rattle.swc_ecma_parser_grammar.specs.Follows.{is_bare_async}
-use Rattle.swc_ecma_parser_grammar.specs.Supported.{supported}
+use Rattle.swc_ecma_parser_grammar.specs.Supported.{supported_in}
 use Rattle.swc_ecma_parser_grammar.specs.Walk as walks
 use Rattle.swc_ecma_parser_grammar.specs.Walk.{Env, walk}
 use Rattle.swc_ecma_parser_reader.specs.Notes.{◌⊕◌, notes_of, all_notes_of}
@@ -28,9 +28,9 @@ leaf_no_rest : (x : Tree) → is_rest (leaf x) ≡ false
 leaf_no_rest (tree.ident s text) = refl
 leaf_no_rest _ = refl
 
-pub leaf_supported : (x : Tree) → supported (leaf x) ≡ supported x
-leaf_supported (tree.ident s text) = refl
-leaf_supported _ = refl
+pub leaf_supported : (m : Bool) (x : Tree) → supported_in m (leaf x) ≡ supported_in m x
+leaf_supported m (tree.ident s text) = refl
+leaf_supported m _ = refl
 
 pub leaf_no_pattern : (x : Tree) → is_pattern_target (leaf x) ≡ false
 leaf_no_pattern (tree.ident s text) = refl
@@ -48,11 +48,11 @@ left_notes (tree.object_pat s props) = refl
 left_notes (tree.ident s text) = refl
 left_notes _ = refl
 
-pub left_supported : (x : Tree) → supported (left_pattern x) ≡ supported x
-left_supported (tree.array_pat s elems) = refl
-left_supported (tree.object_pat s props) = refl
-left_supported (tree.ident s text) = refl
-left_supported _ = refl
+pub left_supported : (m : Bool) (x : Tree) → supported_in m (left_pattern x) ≡ supported_in m x
+left_supported m (tree.array_pat s elems) = refl
+left_supported m (tree.object_pat s props) = refl
+left_supported m (tree.ident s text) = refl
+left_supported m _ = refl
 
 -- a pattern stays one, and a name or a member is a leaf
 pub left_target : (x : Tree) → is_pattern_target x ≡ true → left_pattern x ≡ x

@@ -16,7 +16,7 @@ use Rattle.swc_ecma_parser_grammar.specs.Reads.{with_in}
 use Rattle.swc_ecma_parser_grammar.specs.Notes.{notes}
 use Rattle.swc_ecma_parser_grammar.specs.language.Noted.{has_meta}
 use Rattle.swc_ecma_parser_grammar.specs.Walk.{env_of, walk, walks}
-use Rattle.swc_ecma_parser_grammar.specs.Supported.{supported, is_supported_key, all_supported}
+use Rattle.swc_ecma_parser_grammar.specs.Supported.{supported_in, is_supported_key_in, all_supported_in}
 use Rattle.swc_ecma_parser_grammar.specs.ReadsSupported.{ReadsPat, ReadsElement, ReadsParams}
 use Rattle.swc_ecma_parser_grammar.specs.language.Goals.{Goal, Class, assignment, binding, expr_goal, pattern_goal, element_goal}
 use Rattle.swc_ecma_parser_grammar.specs.language.Lists.{ReadsListed, LastComma, Elements, no_elements, hole, last_element, more_elements}
@@ -30,9 +30,9 @@ use Rattle.swc_ecma_parser_grammar.specs.language.Reads as language
 use Rattle.swc_ecma_parser_grammar.proofs.Tests.{or_no, and_yes}
 use Rattle.swc_ecma_parser_reader.specs.Notes.{Notes, no_notes, ◌⊕◌, notes_of, all_notes_of}
 use Rattle.swc_ecma_parser_reader.specs.State.{Scope, State, Reader, loop}
-use Rattle.swc_ecma_parser_reader.specs.Expressions.{Cover, expr, cover}
+use Rattle.swc_ecma_parser_reader.specs.Expressions.{Cover}
 use Rattle.swc_ecma_parser_reader.specs.Patterns as reader
-use Rattle.swc_ecma_parser_reader.specs.Patterns.{rest, array_turn, elements, parameters_turn, parameter_list, array, rest_name, rest_property, key_value, initialized_name, bare_name, named, behind_key, property, object_turn, properties, object, pattern_level, initialized, element_level, pattern, element, parameters}
+use Rattle.swc_ecma_parser_reader.specs.Patterns.{rest, array_turn, elements, parameters_turn, parameter_list, array, rest_name, rest_property, key_value, initialized_name, bare_name, named, behind_key, property, object_turn, properties, object, pattern_level, initialized, element_level}
 use Rattle.swc_ecma_parser_reader.proofs.Notes.{or_nil, or_assoc}
 use Rattle.swc_ecma_parser_reader.proofs.Answered.{st, Reads}
 use Rattle.swc_ecma_parser_reader.proofs.Takes.{Falls, moves, takes}
@@ -44,8 +44,7 @@ use Rattle.swc_ecma_parser_grammar.proofs.Naming.{name_is_name}
 use Rattle.swc_ecma_parser_reader.proofs.expressions.Loops.{shorter_by}
 use Rattle.swc_ecma_parser_reader.proofs.expressions.CompleteParts.{expect_reads, name_reads, IsRead, Behind, behind_last, inside_reads, key_reads}
 use Rattle.swc_ecma_parser_reader.proofs.expressions.CompleteCovers.{rest_ends, part_begins, word_of, key_outside, name_there}
-use Rattle.swc_ecma_parser_reader.proofs.expressions.Complete.{is_read}
-use Rattle.swc_ecma_parser_reader.proofs.patterns.Falls.{property_falls, pattern_falls, element_falls}
+use Rattle.swc_ecma_parser_reader.proofs.patterns.Falls.{property_falls, pattern_level_falls, element_level_falls}
 
 -- ---- lists
 
@@ -61,13 +60,13 @@ unopened_by : (f : Context) (c : Place) (b : Bool) → begins_literal c ≡ b �
 unopened_by f c true e h = absurd (elim (literal_kind c e) [ inl i ↦ (let n = (array_here f c i).0 in cc) | inr i ↦ (let n = (object_here f c i).0 in cc) ])
 unopened_by f c false e h = refl
 
-unopened : (k : Code) (text : Text) (s : Span) (c d : Place) → ReadsName k text s c d → supported (tree.ident_pat s text) ≡ true → begins_literal c ≡ false
+unopened : (k : Code) (text : Text) (s : Span) (c d : Place) → ReadsName k text s c d → supported_in k.flags.module (tree.ident_pat s text) ≡ true → begins_literal c ≡ false
 unopened k text s c d r h =
     unopened_by k.flags c (begins_literal c) refl (kinds.named (token.Word r.word) s c d k true r.reads_word (name_is_name k text s c d r h))
 
 -- what is no pattern in brackets or braces is a name
-plain_first : (In : Goal → Type 0) (k : Code) (x : Tree) (c d : Place) → PatternRule In binding k x c d → is_pattern_target x ≡ false → supported x ≡ true → begins_literal c ≡ false
-plain_first In k x c d (patterns.binding_name_rule text s p r e) n h = unopened k text s c d r (supported_as x (tree.ident_pat s text) e h)
+plain_first : (In : Goal → Type 0) (k : Code) (x : Tree) (c d : Place) → PatternRule In binding k x c d → is_pattern_target x ≡ false → supported_in k.flags.module x ≡ true → begins_literal c ≡ false
+plain_first In k x c d (patterns.binding_name_rule text s p r e) n h = unopened k text s c d r (supported_as _ x (tree.ident_pat s text) e h)
 plain_first In k x c d (patterns.target_name_rule text s p a r e) n h = cc
 plain_first In k x c d (patterns.target_rule y p r t i e) n h = cc
 plain_first In k x c d (patterns.array_rule xs m i r j q e) n h = absurd (let b : is_pattern_target x ≡ true = ap is_pattern_target e in cc)
@@ -76,30 +75,30 @@ plain_first In k x c d (patterns.object_rule xs m i r j q e) n h = absurd (let b
 -- ---- what is read one level further in
 
 -- what these goals ask for is read, and takes a token
-record IsPatternRead (In : Goal → Type 0) (pattern element : Reader Tree) : Type 0 where
-  reads_pattern : (k : Code) (x : Tree) (c d : Place) → In (pattern_goal binding k x c d) → supported x ≡ true → Reads pattern k x c d
-  reads_element : (k : Code) (x : Tree) (c d : Place) → In (element_goal binding k x c d) → supported x ≡ true → Reads element k x c d
-  plain : (k : Code) (x : Tree) (c d : Place) → In (pattern_goal binding k x c d) → is_pattern_target x ≡ false → supported x ≡ true → begins_literal c ≡ false
-  begins : (k : Code) (x : Tree) (c d : Place) → In (element_goal binding k x c d) → supported x ≡ true → begin_kind (kind_at c) ≡ true
-  pattern_falls : (s : State) → Falls 1 (length s.at.left) (pattern s)
-  element_falls : (s : State) → Falls 1 (length s.at.left) (element s)
+pub record IsPatternRead (In : Goal → Type 0) (pattern element : Reader Tree) : Type 0 where
+  pub reads_pattern : (k : Code) (x : Tree) (c d : Place) → In (pattern_goal binding k x c d) → supported_in k.flags.module x ≡ true → Reads pattern k x c d
+  pub reads_element : (k : Code) (x : Tree) (c d : Place) → In (element_goal binding k x c d) → supported_in k.flags.module x ≡ true → Reads element k x c d
+  pub plain : (k : Code) (x : Tree) (c d : Place) → In (pattern_goal binding k x c d) → is_pattern_target x ≡ false → supported_in k.flags.module x ≡ true → begins_literal c ≡ false
+  pub begins : (k : Code) (x : Tree) (c d : Place) → In (element_goal binding k x c d) → supported_in k.flags.module x ≡ true → begin_kind (kind_at c) ≡ true
+  pub pattern_falls : (s : State) → Falls 1 (length s.at.left) (pattern s)
+  pub element_falls : (s : State) → Falls 1 (length s.at.left) (element s)
 
 module _ (In : Goal → Type 0) (inner : Class → Reader Tree) (cover : Reader Cover) (given : IsRead In inner cover) (pattern element : Reader Tree)
     (within : IsPatternRead In pattern element) where
   -- ---- the elements of an array
 
-  rest_reads : (y : Tree) (k : Code) (x : Tree) (c d : Place) → In (pattern_goal binding (with_in k) y (after c) d) → supported y ≡ true → x ≡ tree.rest_pat (spanned c d) y
+  rest_reads : (y : Tree) (k : Code) (x : Tree) (c d : Place) → In (pattern_goal binding (with_in k) y (after c) d) → supported_in k.flags.module y ≡ true → x ≡ tree.rest_pat (spanned c d) y
       → Reads (rest inner cover pattern element) k x c d
   unfolding rest spanned
   rest_reads y k x c d r s e w f h = rw (within.reads_pattern (with_in k) y (after c) d r s w f h, e) refl
 
-  element_shorter : (k : Code) (x : Tree) (c d : Place) (w : Scope) → In (element_goal binding (with_in k) x c d) → supported x ≡ true → length d.left < length c.left
+  element_shorter : (k : Code) (x : Tree) (c d : Place) (w : Scope) → In (element_goal binding (with_in k) x c d) → supported_in k.flags.module x ≡ true → length d.left < length c.left
   element_shorter k x c d w r s =
       let t = st d (with_in k) w (walk (env_of k w.labels) x) (notes_of x) in
       shorter_by (length c.left) (element (st c (with_in k) w [] no_notes)) x t (within.reads_element (with_in k) x c d r s w [] no_notes) (within.element_falls (st c (with_in k) w [] no_notes))
 
   -- an element, and what stands behind it
-  element_more : (found : List Tree) (k : Code) (x : Tree) (c m d : Place) (w : Scope) (f : List Fault) (h : Notes) → In (element_goal binding (with_in k) x c m) → supported x ≡ true
+  element_more : (found : List Tree) (k : Code) (x : Tree) (c m d : Place) (w : Scope) (f : List Fault) (h : Notes) → In (element_goal binding (with_in k) x c m) → supported_in k.flags.module x ≡ true
       → Behind kind.RBracket m d
       → loop (array_turn inner cover pattern element) found (st c k w f h)
       ≡ loop (array_turn inner cover pattern element) (found ++ x ∷ []) (st d k w (f ++ walk (env_of k w.labels) x) (h ⊕ notes_of x))
@@ -137,7 +136,7 @@ module _ (In : Goal → Type 0) (inner : Class → Reader Tree) (cover : Reader 
 
   -- a rest, behind which the array ends
   rest_last : (found : List Tree) (y : Tree) (k : Code) (x : Tree) (c m : Place) (w : Scope) (f : List Fault) (h : Notes) → kind_at c ≡ kind.DotDotDot
-      → In (pattern_goal binding (with_in k) y (after c) m) → supported y ≡ true → x ≡ tree.rest_pat (spanned c m) y → kind_at m ≡ kind.RBracket
+      → In (pattern_goal binding (with_in k) y (after c) m) → supported_in k.flags.module y ≡ true → x ≡ tree.rest_pat (spanned c m) y → kind_at m ≡ kind.RBracket
       → loop (array_turn inner cover pattern element) found (st c k w f h) ≡ Ok (found ++ x ∷ [], st (after m) k w (f ++ walk (env_of k w.labels) x) (h ⊕ notes_of x))
   unfolding array_turn same_kind
   rest_last found y k x c m w f h o r s e i =
@@ -145,14 +144,14 @@ module _ (In : Goal → Type 0) (inner : Class → Reader Tree) (cover : Reader 
       (rw (o, rest_reads y k x c m r s e w f h, expect_reads kind.RBracket m k w (f ++ walk (env_of k w.labels) x) (h ⊕ notes_of x) i) refl)
 
   last_item : (found : List Tree) (k : Code) (x : Tree) (c m d : Place) (w : Scope) (f : List Fault) (h : Notes) → PatternItemRule In binding (with_in k) x c m → LastComma true x m d
-      → supported x ≡ true → kind_at d ≡ kind.RBracket
+      → supported_in k.flags.module x ≡ true → kind_at d ≡ kind.RBracket
       → loop (array_turn inner cover pattern element) found (st c k w f h) ≡ Ok (found ++ x ∷ [], st (after d) k w (f ++ walk (env_of k w.labels) x) (h ⊕ notes_of x))
   last_item found k x c m d w f h (functions.element_rule r) l s e =
       element_more found k x c m d w f h r s (behind_last kind.RBracket x m d l e)
       ∙ elements_end (found ++ x ∷ []) k d w (f ++ walk (env_of k w.labels) x) (h ⊕ notes_of x) e
   last_item found k x c m d w f h (functions.rest_rule y o r i) l s e =
       let g = rest_ends x m d (ap is_rest i) l in
-      rw g (rest_last found y k x c m w f h o r (supported_as x (tree.rest_pat (spanned c m) y) i s) i (ap kind_at (sym g) ∙ e))
+      rw g (rest_last found y k x c m w f h o r (supported_as _ x (tree.rest_pat (spanned c m) y) i s) i (ap kind_at (sym g) ∙ e))
 
   -- the rest is the last
   no_rest : (k : Code) (x : Tree) (c d : Place) → PatternItemRule In binding k x c d → is_rest x ≡ false → In (element_goal binding k x c d)
@@ -160,25 +159,25 @@ module _ (In : Goal → Type 0) (inner : Class → Reader Tree) (cover : Reader 
   no_rest k x c d (functions.rest_rule y o r i) n = absurd (let h : is_rest x ≡ true = ap is_rest i in cc)
 
   many_elements : (k : Code) (xs found : List Tree) (c d : Place) (w : Scope) (f : List Fault) (h : Notes) → Elements (PatternItemRule In binding (with_in k)) xs c d
-      → all_supported (trees xs) ≡ true → kind_at d ≡ kind.RBracket
+      → all_supported_in k.flags.module (trees xs) ≡ true → kind_at d ≡ kind.RBracket
       → loop (array_turn inner cover pattern element) found (st c k w f h)
       ≡ Ok (found ++ xs, st (after d) k w (f ++ walks (env_of k w.labels) false (trees xs)) (h ⊕ all_notes_of (trees xs)))
   many_elements k xs found c d w f h (no_elements j i) s e = rw (j, append-nil found, append-nil f, append-nil h.held_back, or_nil h.found_module_item, i) (elements_end found k c w f h (ap kind_at (sym i) ∙ e))
   many_elements k xs found c d w f h (hole ys i more j) s e =
-      let t : all_supported (trees ys) ≡ true = sym (ap (λ z. all_supported (trees z)) j) ∙ s in
+      let t : all_supported_in k.flags.module (trees ys) ≡ true = sym (ap (λ z. all_supported_in k.flags.module (trees z)) j) ∙ s in
       rw j (hole_more found k c w f h i ∙ many_elements k ys (found ++ tree.absent ∷ []) (after c) d w f h more t e ∙ simp (append_assoc, or_assoc) refl)
   many_elements k xs found c d w f h (last_element x m r l j) s e =
-      let t : all_supported (trees (x ∷ [])) ≡ true = sym (ap (λ z. all_supported (trees z)) j) ∙ s in
-      rw (j, append-nil (walk (env_of k w.labels) x), append-nil (notes x), or_nil (has_meta x)) (last_item found k x c m d w f h r l (and_yes (supported x) _ t).0 e)
+      let t : all_supported_in k.flags.module (trees (x ∷ [])) ≡ true = sym (ap (λ z. all_supported_in k.flags.module (trees z)) j) ∙ s in
+      rw (j, append-nil (walk (env_of k w.labels) x), append-nil (notes x), or_nil (has_meta x)) (last_item found k x c m d w f h r l (and_yes (supported_in k.flags.module x) _ t).0 e)
   many_elements k xs found c d w f h (more_elements x y ys m r a i more j) s e =
-      let q : all_supported (trees (x ∷ y ∷ ys)) ≡ true = sym (ap (λ z. all_supported (trees z)) j) ∙ s in
-      let t = and_yes (supported x) _ q in
+      let q : all_supported_in k.flags.module (trees (x ∷ y ∷ ys)) ≡ true = sym (ap (λ z. all_supported_in k.flags.module (trees z)) j) ∙ s in
+      let t = and_yes (supported_in k.flags.module x) _ q in
       rw j (
       element_more found k x c m (after m) w f h (no_rest (with_in k) x c m r a) t.0 (inr (i, refl))
       ∙ many_elements k (y ∷ ys) (found ++ x ∷ []) (after m) d w (f ++ walk (env_of k w.labels) x) (h ⊕ notes_of x) more t.1 e ∙ simp (append_assoc, or_assoc) refl
       )
 
-  array_reads : (xs : List Tree) (m : Place) (k : Code) (x : Tree) (c d : Place) → Elements (PatternItemRule In binding (with_in k)) xs (after c) m → all_supported (trees xs) ≡ true
+  array_reads : (xs : List Tree) (m : Place) (k : Code) (x : Tree) (c d : Place) → Elements (PatternItemRule In binding (with_in k)) xs (after c) m → all_supported_in k.flags.module (trees xs) ≡ true
       → kind_at m ≡ kind.RBracket → d ≡ after m → x ≡ tree.array_pat (spanned c d) (listed xs) → Reads (array inner cover pattern element) k x c d
   unfolding array elements spanned
   array_reads xs m k x c d r s g i j w f h = rw (many_elements k xs [] (after c) m w f h r s g, j, i) refl
@@ -186,7 +185,7 @@ module _ (In : Goal → Type 0) (inner : Class → Reader Tree) (cover : Reader 
   -- ---- the parameters of a function
 
   -- a parameter, and what stands behind it
-  parameter_more : (found : List Tree) (k : Code) (x : Tree) (c m d : Place) (w : Scope) (f : List Fault) (h : Notes) → In (element_goal binding (with_in k) x c m) → supported x ≡ true
+  parameter_more : (found : List Tree) (k : Code) (x : Tree) (c m d : Place) (w : Scope) (f : List Fault) (h : Notes) → In (element_goal binding (with_in k) x c m) → supported_in k.flags.module x ≡ true
       → Behind kind.RParen m d
       → loop (parameters_turn inner cover pattern element) found (st c k w f h)
       ≡ loop (parameters_turn inner cover pattern element) (found ++ x ∷ []) (st d k w (f ++ walk (env_of k w.labels) x) (h ⊕ notes_of x))
@@ -215,7 +214,7 @@ module _ (In : Goal → Type 0) (inner : Class → Reader Tree) (cover : Reader 
 
   -- a rest, behind which the list ends
   rest_parameter_last : (found : List Tree) (y : Tree) (k : Code) (x : Tree) (c m : Place) (w : Scope) (f : List Fault) (h : Notes) → kind_at c ≡ kind.DotDotDot
-      → In (pattern_goal binding (with_in k) y (after c) m) → supported y ≡ true → x ≡ tree.rest_pat (spanned c m) y → kind_at m ≡ kind.RParen
+      → In (pattern_goal binding (with_in k) y (after c) m) → supported_in k.flags.module y ≡ true → x ≡ tree.rest_pat (spanned c m) y → kind_at m ≡ kind.RParen
       → loop (parameters_turn inner cover pattern element) found (st c k w f h) ≡ Ok (found ++ x ∷ [], st (after m) k w (f ++ walk (env_of k w.labels) x) (h ⊕ notes_of x))
   unfolding parameters_turn same_kind
   rest_parameter_last found y k x c m w f h o r s e i =
@@ -223,37 +222,37 @@ module _ (In : Goal → Type 0) (inner : Class → Reader Tree) (cover : Reader 
       (rw (o, rest_reads y k x c m r s e w f h, expect_reads kind.RParen m k w (f ++ walk (env_of k w.labels) x) (h ⊕ notes_of x) i) refl)
 
   last_parameter : (found : List Tree) (k : Code) (x : Tree) (c m d : Place) (w : Scope) (f : List Fault) (h : Notes) → PatternItemRule In binding (with_in k) x c m → LastComma true x m d
-      → supported x ≡ true → kind_at d ≡ kind.RParen
+      → supported_in k.flags.module x ≡ true → kind_at d ≡ kind.RParen
       → loop (parameters_turn inner cover pattern element) found (st c k w f h) ≡ Ok (found ++ x ∷ [], st (after d) k w (f ++ walk (env_of k w.labels) x) (h ⊕ notes_of x))
   last_parameter found k x c m d w f h (functions.element_rule r) l s e =
       parameter_more found k x c m d w f h r s (behind_last kind.RParen x m d l e)
       ∙ parameters_end (found ++ x ∷ []) k d w (f ++ walk (env_of k w.labels) x) (h ⊕ notes_of x) e
   last_parameter found k x c m d w f h (functions.rest_rule y o r i) l s e =
       let g = rest_ends x m d (ap is_rest i) l in
-      rw g (rest_parameter_last found y k x c m w f h o r (supported_as x (tree.rest_pat (spanned c m) y) i s) i (ap kind_at (sym g) ∙ e))
+      rw g (rest_parameter_last found y k x c m w f h o r (supported_as _ x (tree.rest_pat (spanned c m) y) i s) i (ap kind_at (sym g) ∙ e))
 
   many_parameters : (xs found : List Tree) (k : Code) (c d : Place) (w : Scope) (f : List Fault) (h : Notes) → ReadsListed true (PatternItemRule In binding (with_in k)) xs c d
-      → all_supported (trees xs) ≡ true → kind_at d ≡ kind.RParen
+      → all_supported_in k.flags.module (trees xs) ≡ true → kind_at d ≡ kind.RParen
       → loop (parameters_turn inner cover pattern element) found (st c k w f h)
       ≡ Ok (found ++ xs, st (after d) k w (f ++ walks (env_of k w.labels) false (trees xs)) (h ⊕ all_notes_of (trees xs)))
   many_parameters [] found k c d w f h r s e = rw (append-nil found, append-nil f, append-nil h.held_back, or_nil h.found_module_item, r) (parameters_end found k c w f h (ap kind_at (sym r) ∙ e))
   many_parameters (x ∷ []) found k c d w f h (m, r, l) s e =
-      rw (append-nil (walk (env_of k w.labels) x), append-nil (notes x), or_nil (has_meta x)) (last_parameter found k x c m d w f h r l (and_yes (supported x) _ s).0 e)
+      rw (append-nil (walk (env_of k w.labels) x), append-nil (notes x), or_nil (has_meta x)) (last_parameter found k x c m d w f h r l (and_yes (supported_in k.flags.module x) _ s).0 e)
   many_parameters (x ∷ y ∷ ys) found k c d w f h (m, r, a, i, more) s e =
-      let t = and_yes (supported x) _ s in
+      let t = and_yes (supported_in k.flags.module x) _ s in
       parameter_more found k x c m (after m) w f h (no_rest (with_in k) x c m r a) t.0 (inr (i, refl))
       ∙ many_parameters (y ∷ ys) (found ++ x ∷ []) k (after m) d w (f ++ walk (env_of k w.labels) x) (h ⊕ notes_of x) more t.1 e ∙ simp (append_assoc, or_assoc) refl
 
   -- from `(` to `)`
-  parameter_list_reads : (k : Code) (ps : List Tree) (c d : Place) → ParametersRule In k ps c d → all_supported (trees ps) ≡ true → ReadsList (parameter_list inner cover pattern element) k ps c d
+  pub parameter_list_reads : (k : Code) (ps : List Tree) (c d : Place) → ParametersRule In k ps c d → all_supported_in k.flags.module (trees ps) ≡ true → ReadsList (parameter_list inner cover pattern element) k ps c d
   unfolding parameter_list
   parameter_list_reads k ps c d r s w f h = rw (expect_reads kind.LParen c k w f h r.opens, many_parameters ps [] k (after c) r.close w f h r.reads_patterns s r.closes, r.next) refl
 
   -- ---- the properties of an object
 
   -- a key and its pattern
-  valued_reads : (y z : Tree) (m : Place) (k : Code) (x : Tree) (c d : Place) → KeyRule In (with_in k) y c m → is_supported_key y ≡ true → kind_at m ≡ kind.Colon
-      → In (element_goal binding (with_in k) z (after m) d) → supported z ≡ true → x ≡ tree.key_value_pat_prop (spanned c d) y z → Reads (property inner cover pattern element) k x c d
+  valued_reads : (y z : Tree) (m : Place) (k : Code) (x : Tree) (c d : Place) → KeyRule In (with_in k) y c m → is_supported_key_in k.flags.module y ≡ true → kind_at m ≡ kind.Colon
+      → In (element_goal binding (with_in k) z (after m) d) → supported_in k.flags.module z ≡ true → x ≡ tree.key_value_pat_prop (spanned c d) y z → Reads (property inner cover pattern element) k x c d
   unfolding property behind_key key_value spanned
   valued_reads y z m k x c d r s i g t e w f h =
       rw (
@@ -267,7 +266,7 @@ module _ (In : Goal → Type 0) (inner : Class → Reader Tree) (cover : Reader 
       ) refl
 
   -- a name that is its own key, and one with a default
-  shorthand_reads : (text : Text) (sp : Span) (k : Code) (x : Tree) (c d : Place) → ReadsName (with_in k) text sp c d → supported (tree.ident_pat sp text) ≡ true
+  shorthand_reads : (text : Text) (sp : Span) (k : Code) (x : Tree) (c d : Place) → ReadsName (with_in k) text sp c d → supported_in k.flags.module (tree.ident_pat sp text) ≡ true
       → ends_part (kind_at d) ≡ true → x ≡ tree.assign_pat_prop (spanned c d) (tree.ident_pat sp text) tree.absent → Reads (property inner cover pattern element) k x c d
   unfolding property behind_key named bare_name spanned
   shorthand_reads text sp k x c d r s g e w f h =
@@ -283,8 +282,8 @@ module _ (In : Goal → Type 0) (inner : Class → Reader Tree) (cover : Reader 
         or_nil h.found_module_item,
       ) refl
 
-  initialized_reads : (text : Text) (sp : Span) (z : Tree) (m : Place) (k : Code) (x : Tree) (c d : Place) → ReadsName (with_in k) text sp c m → supported (tree.ident_pat sp text) ≡ true
-      → kind_at m ≡ kind.Assign → In (expr_goal assignment (with_in k) z (after m) d) → supported z ≡ true → x ≡ tree.assign_pat_prop (spanned c d) (tree.ident_pat sp text) z
+  initialized_reads : (text : Text) (sp : Span) (z : Tree) (m : Place) (k : Code) (x : Tree) (c d : Place) → ReadsName (with_in k) text sp c m → supported_in k.flags.module (tree.ident_pat sp text) ≡ true
+      → kind_at m ≡ kind.Assign → In (expr_goal assignment (with_in k) z (after m) d) → supported_in k.flags.module z ≡ true → x ≡ tree.assign_pat_prop (spanned c d) (tree.ident_pat sp text) z
       → Reads (property inner cover pattern element) k x c d
   unfolding property behind_key named initialized_name spanned same_kind
   initialized_reads text sp z m k x c d r s i g t e w f h =
@@ -299,16 +298,16 @@ module _ (In : Goal → Type 0) (inner : Class → Reader Tree) (cover : Reader 
         e,
       ) refl
 
-  property_reads : (k : Code) (x : Tree) (c d : Place) → PatternPropertyRule In binding (with_in k) x c d → is_rest x ≡ false → supported x ≡ true → ends_part (kind_at d) ≡ true
+  property_reads : (k : Code) (x : Tree) (c d : Place) → PatternPropertyRule In binding (with_in k) x c d → is_rest x ≡ false → supported_in k.flags.module x ≡ true → ends_part (kind_at d) ≡ true
       → Reads (property inner cover pattern element) k x c d
   property_reads k x c d (patterns.key_value_rule y z m r i v g) a s q w f h =
-      let t = and_yes (is_supported_key y) _ (supported_as x (tree.key_value_pat_prop (spanned c d) y z) g s) in
+      let t = and_yes (is_supported_key_in k.flags.module y) _ (supported_as _ x (tree.key_value_pat_prop (spanned c d) y z) g s) in
       valued_reads y z m k x c d r t.0 i v t.1 g w f h
   property_reads k x c d (patterns.shorthand_rule text sp r n g) a s q w f h =
-      let t = and_yes (supported (tree.ident_pat sp text)) _ (supported_as x (tree.assign_pat_prop (spanned c d) (tree.ident_pat sp text) tree.absent) g s) in
+      let t = and_yes (supported_in k.flags.module (tree.ident_pat sp text)) _ (supported_as _ x (tree.assign_pat_prop (spanned c d) (tree.ident_pat sp text) tree.absent) g s) in
       shorthand_reads text sp k x c d r t.0 q g w f h
   property_reads k x c d (patterns.default_rule text sp z m r i v g) a s q w f h =
-      let t = and_yes (supported (tree.ident_pat sp text)) _ (supported_as x (tree.assign_pat_prop (spanned c d) (tree.ident_pat sp text) z) g s) in
+      let t = and_yes (supported_in k.flags.module (tree.ident_pat sp text)) _ (supported_as _ x (tree.assign_pat_prop (spanned c d) (tree.ident_pat sp text) z) g s) in
       initialized_reads text sp z m k x c d r t.0 i v t.1 g w f h
   property_reads k x c d (patterns.rest_rule y o r n e) a s q w f h = absurd (let b : is_rest x ≡ true = ap is_rest e in cc)
 
@@ -320,7 +319,7 @@ module _ (In : Goal → Type 0) (inner : Class → Reader Tree) (cover : Reader 
       (property_falls inner given.falls cover given.cover_falls pattern within.pattern_falls element within.element_falls (st c k w [] no_notes))
 
   property_more : (found : List Tree) (k : Code) (x : Tree) (c m d : Place) (w : Scope) (f : List Fault) (h : Notes) → PatternPropertyRule In binding (with_in k) x c m → is_rest x ≡ false
-      → supported x ≡ true → Behind kind.RBrace m d
+      → supported_in k.flags.module x ≡ true → Behind kind.RBrace m d
       → loop (object_turn inner cover pattern element) found (st c k w f h)
       ≡ loop (object_turn inner cover pattern element) (found ++ x ∷ []) (st d k w (f ++ walk (env_of k w.labels) x) (h ⊕ notes_of x))
   unfolding object_turn same_kind
@@ -342,14 +341,14 @@ module _ (In : Goal → Type 0) (inner : Class → Reader Tree) (cover : Reader 
   properties_end found k c w f h e = loop_done (object_turn inner cover pattern element) found found (st c k w f h) (st (after c) k w f h) (rw (seen c kind.RBrace e) refl)
 
   -- a rest, which is a name, and behind which the object ends
-  rest_property_reads : (y : Tree) (k : Code) (x : Tree) (c d : Place) → In (pattern_goal binding (with_in k) y (after c) d) → is_pattern_target y ≡ false → supported y ≡ true
+  rest_property_reads : (y : Tree) (k : Code) (x : Tree) (c d : Place) → In (pattern_goal binding (with_in k) y (after c) d) → is_pattern_target y ≡ false → supported_in k.flags.module y ≡ true
       → x ≡ tree.rest_pat (spanned c d) y → Reads (rest_property inner cover pattern element) k x c d
   unfolding rest_property rest_name spanned
   rest_property_reads y k x c d r n s e w f h =
       rw (within.plain (with_in k) y (after c) d r n s, within.reads_pattern (with_in k) y (after c) d r s w f h, e) refl
 
   rest_property_last : (found : List Tree) (y : Tree) (k : Code) (x : Tree) (c m : Place) (w : Scope) (f : List Fault) (h : Notes) → kind_at c ≡ kind.DotDotDot
-      → In (pattern_goal binding (with_in k) y (after c) m) → is_pattern_target y ≡ false → supported y ≡ true → x ≡ tree.rest_pat (spanned c m) y → kind_at m ≡ kind.RBrace
+      → In (pattern_goal binding (with_in k) y (after c) m) → is_pattern_target y ≡ false → supported_in k.flags.module y ≡ true → x ≡ tree.rest_pat (spanned c m) y → kind_at m ≡ kind.RBrace
       → loop (object_turn inner cover pattern element) found (st c k w f h) ≡ Ok (found ++ x ∷ [], st (after m) k w (f ++ walk (env_of k w.labels) x) (h ⊕ notes_of x))
   unfolding object_turn same_kind
   rest_property_last found y k x c m w f h o r n s e i =
@@ -357,18 +356,18 @@ module _ (In : Goal → Type 0) (inner : Class → Reader Tree) (cover : Reader 
       (rw (o, rest_property_reads y k x c m r n s e w f h, expect_reads kind.RBrace m k w (f ++ walk (env_of k w.labels) x) (h ⊕ notes_of x) i) refl)
 
   plain_last : (found : List Tree) (k : Code) (x : Tree) (c m d : Place) (w : Scope) (f : List Fault) (h : Notes) → PatternPropertyRule In binding (with_in k) x c m → is_rest x ≡ false
-      → LastComma true x m d → supported x ≡ true → kind_at d ≡ kind.RBrace
+      → LastComma true x m d → supported_in k.flags.module x ≡ true → kind_at d ≡ kind.RBrace
       → loop (object_turn inner cover pattern element) found (st c k w f h) ≡ Ok (found ++ x ∷ [], st (after d) k w (f ++ walk (env_of k w.labels) x) (h ⊕ notes_of x))
   plain_last found k x c m d w f h r a l s e =
       property_more found k x c m d w f h r a s (behind_last kind.RBrace x m d l e)
       ∙ properties_end (found ++ x ∷ []) k d w (f ++ walk (env_of k w.labels) x) (h ⊕ notes_of x) e
 
   last_property : (found : List Tree) (k : Code) (x : Tree) (c m d : Place) (w : Scope) (f : List Fault) (h : Notes) → PatternPropertyRule In binding (with_in k) x c m → LastComma true x m d
-      → supported x ≡ true → kind_at d ≡ kind.RBrace
+      → supported_in k.flags.module x ≡ true → kind_at d ≡ kind.RBrace
       → loop (object_turn inner cover pattern element) found (st c k w f h) ≡ Ok (found ++ x ∷ [], st (after d) k w (f ++ walk (env_of k w.labels) x) (h ⊕ notes_of x))
   last_property found k x c m d w f h (patterns.rest_rule y o r n i) l s e =
       let g = rest_ends x m d (ap is_rest i) l in
-      rw g (rest_property_last found y k x c m w f h o r n (supported_as x (tree.rest_pat (spanned c m) y) i s) i (ap kind_at (sym g) ∙ e))
+      rw g (rest_property_last found y k x c m w f h o r n (supported_as _ x (tree.rest_pat (spanned c m) y) i s) i (ap kind_at (sym g) ∙ e))
   last_property found k x c m d w f h (patterns.key_value_rule y z a r i v g) l s e =
       plain_last found k x c m d w f h (patterns.key_value_rule y z a r i v g) (ap is_rest g) l s e
   last_property found k x c m d w f h (patterns.shorthand_rule text sp r n g) l s e =
@@ -377,25 +376,25 @@ module _ (In : Goal → Type 0) (inner : Class → Reader Tree) (cover : Reader 
       plain_last found k x c m d w f h (patterns.default_rule text sp z a r i v g) (ap is_rest g) l s e
 
   many_properties : (xs found : List Tree) (k : Code) (c d : Place) (w : Scope) (f : List Fault) (h : Notes) → ReadsListed true (PatternPropertyRule In binding (with_in k)) xs c d
-      → all_supported (trees xs) ≡ true → kind_at d ≡ kind.RBrace
+      → all_supported_in k.flags.module (trees xs) ≡ true → kind_at d ≡ kind.RBrace
       → loop (object_turn inner cover pattern element) found (st c k w f h)
       ≡ Ok (found ++ xs, st (after d) k w (f ++ walks (env_of k w.labels) false (trees xs)) (h ⊕ all_notes_of (trees xs)))
   many_properties [] found k c d w f h r s e = rw (append-nil found, append-nil f, append-nil h.held_back, or_nil h.found_module_item, r) (properties_end found k c w f h (ap kind_at (sym r) ∙ e))
   many_properties (x ∷ []) found k c d w f h (m, r, l) s e =
-      rw (append-nil (walk (env_of k w.labels) x), append-nil (notes x), or_nil (has_meta x)) (last_property found k x c m d w f h r l (and_yes (supported x) _ s).0 e)
+      rw (append-nil (walk (env_of k w.labels) x), append-nil (notes x), or_nil (has_meta x)) (last_property found k x c m d w f h r l (and_yes (supported_in k.flags.module x) _ s).0 e)
   many_properties (x ∷ y ∷ ys) found k c d w f h (m, r, a, i, more) s e =
-      let t = and_yes (supported x) _ s in
+      let t = and_yes (supported_in k.flags.module x) _ s in
       property_more found k x c m (after m) w f h r a t.0 (inr (i, refl))
       ∙ many_properties (y ∷ ys) (found ++ x ∷ []) k (after m) d w (f ++ walk (env_of k w.labels) x) (h ⊕ notes_of x) more t.1 e ∙ simp (append_assoc, or_assoc) refl
 
   object_reads : (xs : List Tree) (m : Place) (k : Code) (x : Tree) (c d : Place) → ReadsListed true (PatternPropertyRule In binding (with_in k)) xs (after c) m
-      → all_supported (trees xs) ≡ true → kind_at m ≡ kind.RBrace → d ≡ after m → x ≡ tree.object_pat (spanned c d) (listed xs) → Reads (object inner cover pattern element) k x c d
+      → all_supported_in k.flags.module (trees xs) ≡ true → kind_at m ≡ kind.RBrace → d ≡ after m → x ≡ tree.object_pat (spanned c d) (listed xs) → Reads (object inner cover pattern element) k x c d
   unfolding object properties spanned
   object_reads xs m k x c d r s g i j w f h = rw (many_properties xs [] k (after c) m w f h r s g, j, i) refl
 
   -- ---- patterns without and with a default
 
-  bound_reads : (text : Text) (sp : Span) (k : Code) (x : Tree) (c d : Place) → ReadsName k text sp c d → supported (tree.ident_pat sp text) ≡ true → x ≡ tree.ident_pat sp text
+  bound_reads : (text : Text) (sp : Span) (k : Code) (x : Tree) (c d : Place) → ReadsName k text sp c d → supported_in k.flags.module (tree.ident_pat sp text) ≡ true → x ≡ tree.ident_pat sp text
       → Reads (pattern_level inner cover pattern element) k x c d
   unfolding pattern_level reader.binding
   bound_reads text sp k x c d r s e w f h =
@@ -410,21 +409,21 @@ module _ (In : Goal → Type 0) (inner : Class → Reader Tree) (cover : Reader 
         or_nil h.found_module_item,
       ) refl
 
-  pattern_reads_by : (k : Code) (x : Tree) (c d : Place) → PatternRule In binding k x c d → supported x ≡ true → Reads (pattern_level inner cover pattern element) k x c d
+  pattern_reads_by : (k : Code) (x : Tree) (c d : Place) → PatternRule In binding k x c d → supported_in k.flags.module x ≡ true → Reads (pattern_level inner cover pattern element) k x c d
   unfolding pattern_level same_kind
-  pattern_reads_by k x c d (patterns.binding_name_rule text sp p r e) s w f h = bound_reads text sp k x c d r (supported_as x (tree.ident_pat sp text) e s) e w f h
+  pattern_reads_by k x c d (patterns.binding_name_rule text sp p r e) s w f h = bound_reads text sp k x c d r (supported_as _ x (tree.ident_pat sp text) e s) e w f h
   pattern_reads_by k x c d (patterns.target_name_rule text sp p a r e) s w f h = cc
   pattern_reads_by k x c d (patterns.target_rule y p r t i e) s w f h = cc
   pattern_reads_by k x c d (patterns.array_rule xs m i r j n e) s w f h =
-      rw i (array_reads xs m k x c d r (supported_as x (tree.array_pat (spanned c d) (listed xs)) e s) j n e w f h)
+      rw i (array_reads xs m k x c d r (supported_as _ x (tree.array_pat (spanned c d) (listed xs)) e s) j n e w f h)
   pattern_reads_by k x c d (patterns.object_rule xs m i r j n e) s w f h =
-      rw i (object_reads xs m k x c d r (supported_as x (tree.object_pat (spanned c d) (listed xs)) e s) j n e w f h)
+      rw i (object_reads xs m k x c d r (supported_as _ x (tree.object_pat (spanned c d) (listed xs)) e s) j n e w f h)
 
-  element_reads_by : (k : Code) (x : Tree) (c d : Place) → PatternElementRule In binding k x c d → supported x ≡ true → Reads (element_level inner cover pattern element) k x c d
+  element_reads_by : (k : Code) (x : Tree) (c d : Place) → PatternElementRule In binding k x c d → supported_in k.flags.module x ≡ true → Reads (element_level inner cover pattern element) k x c d
   unfolding element_level initialized spanned same_kind
   element_reads_by k x c d (patterns.bare_rule r e) s w f h = rw (pattern_reads_by k x c d r s w f h, e) refl
   element_reads_by k x c d (patterns.initialized_rule y z m r i v e) s w f h =
-      let t = and_yes (supported y) _ (supported_as x (tree.assign_pat (spanned c d) y z) e s) in
+      let t = and_yes (supported_in k.flags.module y) _ (supported_as _ x (tree.assign_pat (spanned c d) y z) e s) in
       rw (
         pattern_reads_by k y c m r t.0 w f h,
         i,
@@ -437,46 +436,31 @@ module _ (In : Goal → Type 0) (inner : Class → Reader Tree) (cover : Reader 
 
 -- ---- within so many levels
 
-level_plain : (n : ℕ) (k : Code) (x : Tree) (c d : Place) → language.Reads n (pattern_goal binding k x c d) → is_pattern_target x ≡ false → supported x ≡ true → begins_literal c ≡ false
+level_plain : (n : ℕ) (k : Code) (x : Tree) (c d : Place) → language.Reads n (pattern_goal binding k x c d) → is_pattern_target x ≡ false → supported_in k.flags.module x ≡ true → begins_literal c ≡ false
 level_plain zero k x c d r n s = absurd r
 level_plain (suc n) k x c d r a s = plain_first (language.Reads n) k x c d r a s
 
-module _ (n : ℕ) (within : IsPatternRead (language.Reads n) (pattern n) (element n)) where
-  level_pattern : (k : Code) (x : Tree) (c d : Place) → language.Reads (suc n) (pattern_goal binding k x c d) → supported x ≡ true → Reads (pattern (suc n)) k x c d
-  unfolding pattern
-  level_pattern k x c d r s w f h = pattern_reads_by (language.Reads n) (expr n) (cover n) (is_read n) (pattern n) (element n) within k x c d r s w f h
+module _ (n : ℕ) (inner : Class → Reader Tree) (cover : Reader Cover) (given : IsRead (language.Reads n) inner cover) (pattern element : Reader Tree)
+    (within : IsPatternRead (language.Reads n) pattern element) where
+  -- what is read in one level more
+  pub pattern_above : IsPatternRead (language.Reads (suc n)) (pattern_level inner cover pattern element) (element_level inner cover pattern element)
+  pattern_above = record {
+    reads_pattern = λ k x c d r s w f h. pattern_reads_by (language.Reads n) inner cover given pattern element within k x c d r s w f h;
+    reads_element = λ k x c d r s w f h. element_reads_by (language.Reads n) inner cover given pattern element within k x c d r s w f h;
+    plain = level_plain (suc n);
+    begins = element_begins binding (suc n);
+    pattern_falls = pattern_level_falls inner given.falls cover given.cover_falls pattern within.pattern_falls element within.element_falls;
+    element_falls = element_level_falls inner given.falls cover given.cover_falls pattern within.pattern_falls element within.element_falls;
+  }
 
-  level_element : (k : Code) (x : Tree) (c d : Place) → language.Reads (suc n) (element_goal binding k x c d) → supported x ≡ true → Reads (element (suc n)) k x c d
-  unfolding element
-  level_element k x c d r s w f h = element_reads_by (language.Reads n) (expr n) (cover n) (is_read n) (pattern n) (element n) within k x c d r s w f h
-
--- what is read within so many levels
-is_pattern_read : (n : ℕ) → IsPatternRead (language.Reads n) (pattern n) (element n)
-is_pattern_read zero = record {
+-- within no level nothing is
+pub pattern_nowhere : (pattern element : Reader Tree) → ((s : State) → Falls 1 (length s.at.left) (pattern s)) → ((s : State) → Falls 1 (length s.at.left) (element s))
+    → IsPatternRead (language.Reads zero) pattern element
+pattern_nowhere pattern element falls element_falls = record {
   reads_pattern = λ k x c d r s. absurd r;
   reads_element = λ k x c d r s. absurd r;
   plain = level_plain zero;
   begins = element_begins binding zero;
-  pattern_falls = pattern_falls zero;
-  element_falls = element_falls zero;
+  pattern_falls = falls;
+  element_falls = element_falls;
 }
-is_pattern_read (suc n) = record {
-  reads_pattern = level_pattern n (is_pattern_read n);
-  reads_element = level_element n (is_pattern_read n);
-  plain = level_plain (suc n);
-  begins = element_begins binding (suc n);
-  pattern_falls = pattern_falls (suc n);
-  element_falls = element_falls (suc n);
-}
-
--- a pattern without a default, and one with its default, if it has one
-pub pattern_reads : (n : ℕ) (k : Code) (x : Tree) (c d : Place) → ReadsPat n k x c d → Reads (pattern n) k x c d
-pattern_reads n k x c d r = (is_pattern_read n).reads_pattern k x c d r.0 r.1
-
-pub element_reads : (n : ℕ) (k : Code) (x : Tree) (c d : Place) → ReadsElement n k x c d → Reads (element n) k x c d
-element_reads n k x c d r = (is_pattern_read n).reads_element k x c d r.0 r.1
-
--- the parameters of a function
-pub parameters_reads : (n : ℕ) (k : Code) (ps : List Tree) (c d : Place) → ReadsParams n k ps c d → ReadsList (parameters n) k ps c d
-unfolding parameters
-parameters_reads n k ps c d r = parameter_list_reads (language.Reads n) (expr n) (cover n) (is_read n) (pattern n) (element n) (is_pattern_read n) k ps c d r.0 r.1

@@ -12,10 +12,10 @@ use Rattle.swc_ecma_parser_grammar.specs.Names.{is_name}
 use Rattle.swc_ecma_parser_grammar.specs.Reads.{with_in}
 use Rattle.swc_ecma_parser_grammar.specs.language.Goals.{Class, assignment}
 use Rattle.swc_ecma_parser_reader.specs.State.{State, Reader, moved, coded, within, expect, name}
-use Rattle.swc_ecma_parser_reader.specs.Expressions.{Cover, inside, key, expr, cover}
-use Rattle.swc_ecma_parser_reader.specs.Patterns.{binding, rest, behind_element, behind_rest, array_turn, elements, behind_parameter, behind_rest_parameter, parameters_turn, parameter_list, array, rest_name, rest_property, key_value, initialized_name, bare_name, named, bare_key, behind_key, property, behind_property, behind_rest_property, object_turn, properties, object, pattern_level, initialized, element_level, pattern, element, parameters}
+use Rattle.swc_ecma_parser_reader.specs.Expressions.{Cover, inside, key}
+use Rattle.swc_ecma_parser_reader.specs.Patterns.{binding, rest, behind_element, behind_rest, array_turn, elements, behind_parameter, behind_rest_parameter, parameters_turn, parameter_list, array, rest_name, rest_property, key_value, initialized_name, bare_name, named, bare_key, behind_key, property, behind_property, behind_rest_property, object_turn, properties, object, pattern_level, initialized, element_level}
 use Rattle.swc_ecma_parser_reader.proofs.Takes.{Falls, falls_then, falls_last, falls_coded, falls_if, less, falls_next, moves, takes, falls_past, falls_moved, wanted_falls, too_deep_falls, refuse_falls, expect_falls, name_falls, loop_falls}
-use Rattle.swc_ecma_parser_reader.proofs.expressions.Falls.{reject_falls, no_end, falls_when, inside_falls, key_falls, expr_falls, cover_falls}
+use Rattle.swc_ecma_parser_reader.proofs.expressions.Falls.{reject_falls, no_end, falls_when, inside_falls, key_falls}
 
 binding_falls : (s : State) → Falls 1 (length s.at.left) (binding s)
 unfolding binding
@@ -167,22 +167,3 @@ module _ (inner : Class → Reader Tree) (falls : (class : Class) (s : State) �
   unfolding element_level
   element_level_falls s = falls_next (length s.at.left) (pattern_level inner cover pattern element s) _ (pattern_level_falls s) (λ p t.
       falls_if 0 (length t.at.left) (sees kind.Assign t.at) _ _ (initialized_falls (span_at s.at) p t) (omega arith))
-
-mutual
-  unfolding pattern element
-
-  -- a pattern takes a token
-  pub pattern_falls : (n : ℕ) (s : State) → Falls 1 (length s.at.left) (pattern n s)
-  pattern_falls zero s = too_deep_falls Tree 1 (length s.at.left) s
-  pattern_falls (suc n) s = pattern_level_falls (expr n) (expr_falls n) (cover n) (cover_falls n) (pattern n) (pattern_falls n) (element n) (element_falls n) s
-
-  -- and so does one with its default
-  pub element_falls : (n : ℕ) (s : State) → Falls 1 (length s.at.left) (element n s)
-  element_falls zero s = too_deep_falls Tree 1 (length s.at.left) s
-  element_falls (suc n) s = element_level_falls (expr n) (expr_falls n) (cover n) (cover_falls n) (pattern n) (pattern_falls n) (element n) (element_falls n) s
-
--- the parameters of a function
-pub parameters_fall : (n : ℕ) (s : State) → Falls 0 (length s.at.left) (parameters n s)
-unfolding parameters
-parameters_fall n s = less (length s.at.left) (parameters n s)
-    (parameter_list_falls (expr n) (expr_falls n) (cover n) (cover_falls n) (pattern n) (pattern_falls n) (element n) (element_falls n) s)

@@ -11,12 +11,12 @@ use Rattle.swc_ecma_parser_grammar.specs.Names.{is_name}
 use Rattle.swc_ecma_parser_grammar.specs.Reads.{with_in}
 use Rattle.swc_ecma_parser_grammar.specs.language.Goals.{Class, assignment}
 use Rattle.swc_ecma_parser_reader.specs.State.{State, Reader, moved, coded, within, expect, name, loop}
-use Rattle.swc_ecma_parser_reader.specs.Expressions.{Cover, inside, key, expr, cover}
-use Rattle.swc_ecma_parser_reader.specs.Patterns.{binding, rest, array_turn, elements, parameters_turn, parameter_list, array, rest_name, rest_property, key_value, initialized_name, bare_name, named, bare_key, behind_key, property, object_turn, properties, object, pattern_level, initialized, element_level, pattern, element, parameters}
+use Rattle.swc_ecma_parser_reader.specs.Expressions.{Cover, inside, key}
+use Rattle.swc_ecma_parser_reader.specs.Patterns.{binding, rest, array_turn, elements, parameters_turn, parameter_list, array, rest_name, rest_property, key_value, initialized_name, bare_name, named, bare_key, behind_key, property, object_turn, properties, object, pattern_level, initialized, element_level}
 use Rattle.swc_ecma_parser_reader.proofs.Meets.{Answers, answers_then, answers_if, saw}
 use Rattle.swc_ecma_parser_reader.proofs.Behind.{Kept, Lost, Passes, behind_after, too_deep_keeps, wanted_keeps, reject_keeps, expect_keeps, name_keeps, loop_keeps}
 use Rattle.swc_ecma_parser_reader.specs.Entry.{IsBehind}
-use Rattle.swc_ecma_parser_reader.proofs.expressions.Keeps.{unexpected_keeps, inside_keeps, key_keeps, expr_keeps, cover_keeps}
+use Rattle.swc_ecma_parser_reader.proofs.expressions.Keeps.{unexpected_keeps, inside_keeps, key_keeps}
 
 binding_keeps : (b : State) (s : State) → IsBehind b s → Answers (Kept b) (Lost b) (binding s)
 unfolding binding
@@ -115,7 +115,7 @@ module _ (inner : Class → Reader Tree) (cover : Reader Cover) (pattern element
     unfolding array
     array_keeps s e f = answers_then _ _ (elements inner cover pattern element s) _ (elements_keeps s e f) (λ xs t g. g)
 
-    parameter_list_keeps : (s : State) → IsBehind b s → Answers (Kept b) (Lost b) (parameter_list inner cover pattern element s)
+    pub parameter_list_keeps : (s : State) → IsBehind b s → Answers (Kept b) (Lost b) (parameter_list inner cover pattern element s)
     unfolding parameter_list
     parameter_list_keeps s f = answers_then _ _ (expect kind.LParen s) _ (expect_keeps b s f kind.LParen) (λ _ t g. many_parameters_keeps b t g)
 
@@ -129,7 +129,7 @@ module _ (inner : Class → Reader Tree) (cover : Reader Cover) (pattern element
     unfolding object
     object_keeps s e f = answers_then _ _ (properties inner cover pattern element s) _ (properties_keeps s e f) (λ xs t g. g)
 
-    pattern_level_keeps : (s : State) → IsBehind b s → Answers (Kept b) (Lost b) (pattern_level inner cover pattern element s)
+    pub pattern_level_keeps : (s : State) → IsBehind b s → Answers (Kept b) (Lost b) (pattern_level inner cover pattern element s)
     unfolding pattern_level
     pattern_level_keeps s f = answers_if _ _ (sees kind.LBracket s.at) _ _ (λ e. array_keeps s (saw s.at kind.LBracket e) f) (λ _.
         answers_if _ _ (sees kind.LBrace s.at) _ _ (λ e. object_keeps s (saw s.at kind.LBrace e) f) (λ _. binding_keeps b s f))
@@ -141,27 +141,7 @@ module _ (inner : Class → Reader Tree) (cover : Reader Cover) (pattern element
         let g = behind_after b s f in
         answers_then _ _ (inside inner cover assignment (moved s)) _ (value_keeps b (moved s) g) (λ x t k. k)
 
-    element_level_keeps : (s : State) → IsBehind b s → Answers (Kept b) (Lost b) (element_level inner cover pattern element s)
+    pub element_level_keeps : (s : State) → IsBehind b s → Answers (Kept b) (Lost b) (element_level inner cover pattern element s)
     unfolding element_level
     element_level_keeps s f = answers_then _ _ (pattern_level inner cover pattern element s) _ (pattern_level_keeps s f) (λ p t g.
         answers_if _ _ (sees kind.Assign t.at) _ _ (λ e. initialized_keeps (span_at s.at) p t (saw t.at kind.Assign e) g) (λ _. g))
-
-mutual
-  unfolding pattern element
-
-  -- a pattern
-  pub pattern_keeps : (n : ℕ) → Passes (pattern n)
-  pattern_keeps zero b s f = too_deep_keeps _ b s f
-  pattern_keeps (suc n) b s f =
-      pattern_level_keeps (expr n) (cover n) (pattern n) (element n) (expr_keeps n) (cover_keeps n) (pattern_keeps n) (element_keeps n) b s f
-
-  -- and so does one with its default
-  pub element_keeps : (n : ℕ) → Passes (element n)
-  element_keeps zero b s f = too_deep_keeps _ b s f
-  element_keeps (suc n) b s f =
-      element_level_keeps (expr n) (cover n) (pattern n) (element n) (expr_keeps n) (cover_keeps n) (pattern_keeps n) (element_keeps n) b s f
-
--- the parameters of a function
-pub parameters_keep : (n : ℕ) → Passes (parameters n)
-unfolding parameters
-parameters_keep n b s f = parameter_list_keeps (expr n) (cover n) (pattern n) (element n) (expr_keeps n) (cover_keeps n) (pattern_keeps n) (element_keeps n) b s f

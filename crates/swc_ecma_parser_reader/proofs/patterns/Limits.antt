@@ -11,11 +11,11 @@ use Rattle.swc_ecma_parser_grammar.specs.Names.{is_name}
 use Rattle.swc_ecma_parser_grammar.specs.Reads.{with_in}
 use Rattle.swc_ecma_parser_grammar.specs.language.Goals.{Class, assignment}
 use Rattle.swc_ecma_parser_reader.specs.State.{State, Reader, moved, coded, within, expect, name, loop}
-use Rattle.swc_ecma_parser_reader.specs.Expressions.{Cover, inside, key, expr, cover}
-use Rattle.swc_ecma_parser_reader.specs.Patterns.{binding, rest, array_turn, elements, parameters_turn, parameter_list, array, rest_name, rest_property, key_value, initialized_name, bare_name, named, bare_key, behind_key, property, object_turn, properties, object, pattern_level, initialized, element_level, pattern, element, parameters}
+use Rattle.swc_ecma_parser_reader.specs.Expressions.{Cover, inside, key}
+use Rattle.swc_ecma_parser_reader.specs.Patterns.{binding, rest, array_turn, elements, parameters_turn, parameter_list, array, rest_name, rest_property, key_value, initialized_name, bare_name, named, bare_key, behind_key, property, object_turn, properties, object, pattern_level, initialized, element_level}
 use Rattle.swc_ecma_parser_reader.proofs.Meets.{Answers, answers_then, answers_if, loop_answers, saw}
 use Rattle.swc_ecma_parser_reader.proofs.Shallow.{Fine, fine_more, fine_after, fine_taken, Shallow, Kept, too_deep_shallow, wanted_shallow, refuse_shallow, expect_shallow, name_shallow, Levels}
-use Rattle.swc_ecma_parser_reader.proofs.expressions.Limits.{kept_more, reject_shallow, unexpected_shallow, inside_shallow, key_shallow, expr_shallow, cover_shallow}
+use Rattle.swc_ecma_parser_reader.proofs.expressions.Limits.{kept_more, reject_shallow, unexpected_shallow, inside_shallow, key_shallow}
 
 binding_shallow : (m : ℕ) (s : State) → Fine m s.at.left → Answers (Kept m) Shallow (binding s)
 unfolding binding
@@ -127,7 +127,7 @@ module _ (inner : Class → Reader Tree) (cover : Reader Cover) (pattern element
     array_shallow s e f = answers_then _ _ (elements inner cover pattern element s) _ (elements_shallow s e f) (λ xs t g. g)
 
     -- `(` stands before the parameters, or the list is refused
-    parameter_list_shallow : (s : State) → Fine m s.at.left → Answers (Kept m) Shallow (parameter_list inner cover pattern element s)
+    pub parameter_list_shallow : (s : State) → Fine m s.at.left → Answers (Kept m) Shallow (parameter_list inner cover pattern element s)
     unfolding parameter_list
     parameter_list_shallow s f = answers_then _ _ (expect kind.LParen s) _ (opened_shallow m s f) (λ _ t (i, h, g).
         kept_more i m (loop (parameters_turn inner cover pattern element) [] t) (omega arith) (many_parameters_shallow i (omega arith) t g))
@@ -142,7 +142,7 @@ module _ (inner : Class → Reader Tree) (cover : Reader Cover) (pattern element
     unfolding object
     object_shallow s e f = answers_then _ _ (properties inner cover pattern element s) _ (properties_shallow s e f) (λ xs t g. g)
 
-    pattern_level_shallow : (s : State) → Fine m s.at.left → Answers (Kept m) Shallow (pattern_level inner cover pattern element s)
+    pub pattern_level_shallow : (s : State) → Fine m s.at.left → Answers (Kept m) Shallow (pattern_level inner cover pattern element s)
     unfolding pattern_level
     pattern_level_shallow s f = answers_if _ _ (sees kind.LBracket s.at) _ _ (λ e. array_shallow s (saw s.at kind.LBracket e) f) (λ _.
         answers_if _ _ (sees kind.LBrace s.at) _ _ (λ e. object_shallow s (saw s.at kind.LBrace e) f) (λ _. binding_shallow m s f))
@@ -154,28 +154,7 @@ module _ (inner : Class → Reader Tree) (cover : Reader Cover) (pattern element
         let (i, h, g) = fine_taken m s.at kind.Assign e (λ z. cc) f in
         answers_then _ _ (inside inner cover assignment (moved s)) _ (value_shallow i (omega arith) (moved s) g) (λ x t k. fine_more i m t.at.left (omega arith) k)
 
-    element_level_shallow : (s : State) → Fine m s.at.left → Answers (Kept m) Shallow (element_level inner cover pattern element s)
+    pub element_level_shallow : (s : State) → Fine m s.at.left → Answers (Kept m) Shallow (element_level inner cover pattern element s)
     unfolding element_level
     element_level_shallow s f = answers_then _ _ (pattern_level inner cover pattern element s) _ (pattern_level_shallow s f) (λ p t g.
         answers_if _ _ (sees kind.Assign t.at) _ _ (λ e. initialized_shallow (span_at s.at) p t (saw t.at kind.Assign e) g) (λ _. g))
-
-mutual
-  unfolding pattern element
-
-  -- a pattern needs two levels for each token
-  pub pattern_shallow : (n : ℕ) → Levels n (pattern n)
-  pattern_shallow zero m s h f = too_deep_shallow _ s (omega arith)
-  pattern_shallow (suc n) m s h f =
-      pattern_level_shallow (expr n) (cover n) (pattern n) (element n) n (expr_shallow n) (cover_shallow n) (pattern_shallow n) (element_shallow n) m h s f
-
-  -- and so does one with its default
-  pub element_shallow : (n : ℕ) → Levels n (element n)
-  element_shallow zero m s h f = too_deep_shallow _ s (omega arith)
-  element_shallow (suc n) m s h f =
-      element_level_shallow (expr n) (cover n) (pattern n) (element n) n (expr_shallow n) (cover_shallow n) (pattern_shallow n) (element_shallow n) m h s f
-
--- the parameters of a function need a level less, for the token that opens them
-pub parameters_shallow : (n : ℕ) → Levels (suc n) (parameters n)
-unfolding parameters
-parameters_shallow n m s h f =
-    parameter_list_shallow (expr n) (cover n) (pattern n) (element n) n (expr_shallow n) (cover_shallow n) (pattern_shallow n) (element_shallow n) m h s f

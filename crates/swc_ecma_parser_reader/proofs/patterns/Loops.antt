@@ -6,14 +6,14 @@ use Rattle.swc_ecma_parser_model.specs.Tree as tree
 use Rattle.swc_ecma_parser_model.specs.Tree.{Tree}
 use Rattle.swc_ecma_parser_grammar.specs.Looks.{sees}
 use Rattle.swc_ecma_parser_grammar.specs.Reads.{with_in}
+use Rattle.swc_ecma_parser_reader.proofs.Falls.{expr_falls, cover_falls, pattern_falls, element_falls}
+use Rattle.swc_ecma_parser_reader.specs.Reader.{expr, cover, pattern, element}
 use Rattle.swc_ecma_parser_reader.specs.State.{State, Reader, coded, moved, within, too_deep, expect, Step, loop}
-use Rattle.swc_ecma_parser_reader.specs.Expressions.{expr, cover}
-use Rattle.swc_ecma_parser_reader.specs.Patterns.{rest, array_turn, parameters_turn, rest_property, property, object_turn, pattern_level, element_level, pattern, element}
+use Rattle.swc_ecma_parser_reader.specs.Patterns.{rest, array_turn, parameters_turn, rest_property, property, object_turn, pattern_level, element_level}
 use Rattle.swc_ecma_parser_reader.proofs.Steps.{loop_more, loop_done, loop_err}
 use Rattle.swc_ecma_parser_reader.proofs.Takes.{falls_coded, expect_falls}
-use Rattle.swc_ecma_parser_reader.proofs.expressions.Falls.{expr_falls, cover_falls}
 use Rattle.swc_ecma_parser_reader.proofs.expressions.Loops.{shorter_by, kept_by, hole_shorter, deeper}
-use Rattle.swc_ecma_parser_reader.proofs.patterns.Falls.{property_falls, pattern_falls, element_falls}
+use Rattle.swc_ecma_parser_reader.proofs.patterns.Falls.{property_falls}
 
 -- ---- elements: `]` ends them, a comma with nothing before it stands behind a hole, and `]` stands behind the rest; behind each other it
 -- stands, or a comma

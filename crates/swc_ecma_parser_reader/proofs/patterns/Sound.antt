@@ -14,7 +14,7 @@ use Rattle.swc_ecma_parser_model.specs.Forms.{is_rest, is_pattern_target}
 use Rattle.swc_ecma_parser_grammar.specs.Looks.{kind_at, sees, same_kind, span_at, spanned}
 use Rattle.swc_ecma_parser_grammar.specs.Names.{Code, is_name}
 use Rattle.swc_ecma_parser_grammar.specs.Reads.{with_in}
-use Rattle.swc_ecma_parser_grammar.specs.Supported.{supported, is_supported_key}
+use Rattle.swc_ecma_parser_grammar.specs.Supported.{supported_in, is_supported_key_in}
 use Rattle.swc_ecma_parser_grammar.specs.ReadsSupported.{ReadsClass, ReadsPat, ReadsElement, ReadsParams}
 use Rattle.swc_ecma_parser_grammar.specs.language.Goals.{Goal, Class, Purpose, assignment, binding}
 use Rattle.swc_ecma_parser_grammar.specs.language.Lists.{ReadsListed, Elements, hole}
@@ -29,9 +29,9 @@ use Rattle.swc_ecma_parser_grammar.proofs.Tests.{or_no, and_both}
 use Rattle.swc_ecma_parser_reader.specs.State as state
 use Rattle.swc_ecma_parser_reader.specs.Notes.{notes_of, all_notes_of}
 use Rattle.swc_ecma_parser_reader.specs.State.{State, Reader, and_then, moved, coded, within, expect, name, Step, More, loop}
-use Rattle.swc_ecma_parser_reader.specs.Expressions.{Cover, inside, key, expr, cover}
+use Rattle.swc_ecma_parser_reader.specs.Expressions.{Cover, inside, key}
 use Rattle.swc_ecma_parser_reader.specs.Patterns as reader
-use Rattle.swc_ecma_parser_reader.specs.Patterns.{rest, array_turn, elements, parameters_turn, parameter_list, array, rest_name, rest_property, key_value, initialized_name, bare_name, named, bare_key, behind_key, property, object_turn, properties, object, pattern_level, initialized, element_level, pattern, element, parameters}
+use Rattle.swc_ecma_parser_reader.specs.Patterns.{rest, array_turn, elements, parameters_turn, parameter_list, array, rest_name, rest_property, key_value, initialized_name, bare_name, named, bare_key, behind_key, property, object_turn, properties, object, pattern_level, initialized, element_level}
 use Rattle.swc_ecma_parser_reader.proofs.Meets.{Meets, Refuses, meets_then, meets_if, wanted_meets, too_deep_meets, Turned, loop_answers, saw}
 use Rattle.swc_ecma_parser_reader.proofs.Errors.{is_error}
 use Rattle.swc_ecma_parser_reader.proofs.Between.{SoundTree, Sound, same, sound_moved, sound_here, sound_as, sound_after, within_sound}
@@ -39,7 +39,6 @@ use Rattle.swc_ecma_parser_reader.proofs.expressions.SoundSteps.{paired, stepped
 use Rattle.swc_ecma_parser_grammar.proofs.Naming.{name_is_clean, name_is_supported}
 use Rattle.swc_ecma_parser_reader.proofs.expressions.SoundLists.{Lists, elements_list, properties_list, Begun, at_more, begun_all, begun_next, begun_last, Plain, Target, nothing_plain, plain_next, plain_last}
 use Rattle.swc_ecma_parser_reader.proofs.expressions.SoundCovers.{SoundCover, SoundKey, key_sound, inside_sound, ident_key, key_inside, free_name, name_inside}
-use Rattle.swc_ecma_parser_reader.proofs.expressions.Sound.{expr_sound, cover_sound}
 
 -- ---- what a pattern is not
 
@@ -78,35 +77,35 @@ pattern_is_leaf (suc n) k x c d r h = let (a, b) = or_no (sees kind.LBracket c) 
 module _ (Rule : Code → Tree → Place → Place → Type 0) where
   -- a part, and one that others may follow
   abbrev SoundPart : State → Tree → State → Type 0
-  SoundPart = SoundTree (λ k. Target (Rule k))
+  SoundPart = SoundTree (λ k. Target k.flags.module (Rule k))
 
   abbrev SoundInner : State → Tree → State → Type 0
-  SoundInner = SoundTree (λ k x c d. Target (Rule k) x c d × (is_rest x ≡ false))
+  SoundInner = SoundTree (λ k x c d. Target k.flags.module (Rule k) x c d × (is_rest x ≡ false))
 
 module _ (Rule : Code → Tree → Place → Place → Type 0) (L : Code → List Tree → Place → Place → Type 0) (lists : (k : Code) → Lists (Rule k) (L k))
     (j : TokenKind) (no_error : is_error j ≡ false) where
   -- the parts so far, and all
   abbrev ListSoFar : State → List Tree → State → Type 0
-  ListSoFar s xs t = Sound same (λ k l. walks.walks (env_of k l) false (trees xs)) (all_notes_of (trees xs)) (λ k. Begun (Plain (L k)) j xs) s t
+  ListSoFar s xs t = Sound same (λ k l. walks.walks (env_of k l) false (trees xs)) (all_notes_of (trees xs)) (λ k. Begun (Plain k.flags.module (L k)) j xs) s t
 
   abbrev Closed : List Tree → Code → Place → Place → Type 0
-  Closed xs k c d = (m : Place) × Plain (L k) xs c m × (kind_at m ≡ j) × (d ≡ after m)
+  Closed xs k c d = (m : Place) × Plain k.flags.module (L k) xs c m × (kind_at m ≡ j) × (d ≡ after m)
 
   abbrev SoundList : State → List Tree → State → Type 0
   SoundList s xs t = Sound same (λ k l. walks.walks (env_of k l) false (trees xs)) (all_notes_of (trees xs)) (Closed xs) s t
 
   module _ (body : List Tree → Reader (Step (List Tree) (List Tree))) where
     module _ (s : State) (xs : List Tree) (t : State) (p : ListSoFar s xs t) where
-      all_parts : (k : Code) → Begun (Plain (L k)) j xs s.at t.at → Plain (L k) xs s.at t.at
-      all_parts k r = begun_all (Plain (L k)) j s.at t.at xs (nothing_plain (Rule k) (L k) (lists k) t.at) r
+      all_parts : (k : Code) → Begun (Plain k.flags.module (L k)) j xs s.at t.at → Plain k.flags.module (L k) xs s.at t.at
+      all_parts k r = begun_all (Plain k.flags.module (L k)) j s.at t.at xs (nothing_plain k.flags.module (Rule k) (L k) (lists k) t.at) r
 
       -- the end stands here
       end_sound : kind_at t.at ≡ j → SoundList s xs (moved t)
       end_sound e = sound_as s (moved t) refl refl refl (λ (a, b). (t.at, all_parts s.code a, b.0, b.1)) (stepped p (sound_moved {P = λ k. Takes j} t e no_error (e, refl)))
 
       module _ (more : sees j t.at ≡ false) (x : Tree) (m : State) where
-        last_part : (k : Code) → Begun (Plain (L k)) j xs s.at t.at → Target (Rule k) x t.at m.at → kind_at m.at ≡ j → Begun (Plain (L k)) j (xs ++ x ∷ []) s.at m.at
-        last_part k a b e = begun_last (Plain (L k)) j s.at t.at m.at xs x a more (plain_last (Rule k) (L k) (lists k) x t.at m.at b) e
+        last_part : (k : Code) → Begun (Plain k.flags.module (L k)) j xs s.at t.at → Target k.flags.module (Rule k) x t.at m.at → kind_at m.at ≡ j → Begun (Plain k.flags.module (L k)) j (xs ++ x ∷ []) s.at m.at
+        last_part k a b e = begun_last (Plain k.flags.module (L k)) j s.at t.at m.at xs x a more (plain_last k.flags.module (Rule k) (L k) (lists k) x t.at m.at b) e
 
         -- behind a part a comma stands, or the end
         behind_sound : SoundInner Rule t x m
@@ -115,14 +114,14 @@ module _ (Rule : Code → Tree → Place → Place → Type 0) (L : Code → Lis
             (λ h. sound_as s m refl (walks_push (env_of s.code s.scope.labels) xs x) (notes_push xs x) (λ (a, b). last_part s.code a b.0 (saw m.at j h)) (paired p q))
             (λ _. meets_then _ (expect kind.Comma m) _ (expect_sound kind.Comma m refl) (λ _ u r.
             sound_as s u refl (walks_push (env_of s.code s.scope.labels) xs x) (notes_push xs x)
-            (λ ((a, b), o). subst (Begun (Plain (L s.code)) j (xs ++ x ∷ []) s.at) (sym o.1) (begun_next (Plain (L s.code)) j s.at t.at (after m.at) xs x a more
-            (plain_next (Rule s.code) (L s.code) (lists s.code) x t.at m.at b.0 b.1 o.0))) (stepped (paired p q) r)))
+            (λ ((a, b), o). subst (Begun (Plain s.code.flags.module (L s.code)) j (xs ++ x ∷ []) s.at) (sym o.1) (begun_next (Plain s.code.flags.module (L s.code)) j s.at t.at (after m.at) xs x a more
+            (plain_next s.code.flags.module (Rule s.code) (L s.code) (lists s.code) x t.at m.at b.0 b.1 o.0))) (stepped (paired p q) r)))
 
         -- behind the last the end
         last_sound : SoundPart Rule t x m → Meets (Turned body (ListSoFar s) (SoundList s) Refuses) (and_then (expect j m) (λ _ u. Ok (state.Done (xs ++ x ∷ []), u)))
         last_sound q = meets_then _ (expect j m) _ (expect_sound j m no_error) (λ _ u r.
             sound_as s u refl (walks_push (env_of s.code s.scope.labels) xs x) (notes_push xs x)
-            (λ ((a, b), o). (m.at, begun_all (Plain (L s.code)) j s.at m.at (xs ++ x ∷ []) (nothing_plain (Rule s.code) (L s.code) (lists s.code) m.at) (last_part s.code a b o.0), o.0, o.1))
+            (λ ((a, b), o). (m.at, begun_all (Plain s.code.flags.module (L s.code)) j s.at m.at (xs ++ x ∷ []) (nothing_plain s.code.flags.module (Rule s.code) (L s.code) (lists s.code) m.at) (last_part s.code a b o.0), o.0, o.1))
             (stepped (paired p q) r))
 
     -- all of them, from where the first stands
@@ -200,7 +199,7 @@ module _ (n : ℕ) (inner : Class → Reader Tree) (cover : Reader Cover) (patte
       (λ e. end_sound Item Items items_list kind.RBracket refl (array_turn inner cover pattern element) s xs t p (saw t.at kind.RBracket e))
       (λ e. meets_if _ (sees kind.Comma t.at) _ _
       (λ h. sound_as s (moved t) refl (walks_push (env_of s.code s.scope.labels) xs tree.absent) (notes_push xs tree.absent)
-      (λ (a, b). begun_next (Plain (Items s.code)) kind.RBracket s.at t.at (after t.at) xs tree.absent a e (λ ys d (l, z). (hole ys (saw t.at kind.Comma h) l refl, z)))
+      (λ (a, b). begun_next (Plain s.code.flags.module (Items s.code)) kind.RBracket s.at t.at (after t.at) xs tree.absent a e (λ ys d (l, z). (hole ys (saw t.at kind.Comma h) l refl, z)))
       (paired p (sound_moved {P = λ k. Takes kind.Comma} t (saw t.at kind.Comma h) refl (saw t.at kind.Comma h, refl))))
       (λ _. meets_if _ (sees kind.DotDotDot t.at) _ _
       (λ h. meets_then _ (rest inner cover pattern element t) _ (rest_sound t (saw t.at kind.DotDotDot h)) (λ x m q.
@@ -241,7 +240,7 @@ module _ (n : ℕ) (inner : Class → Reader Tree) (cover : Reader Cover) (patte
       behind_sound Item Parameters all_parameters kind.RParen refl (parameters_turn inner cover pattern element) s xs t p e x m q)))
 
   -- from `(` to `)`
-  parameter_list_sound : (s : State) → Meets (SoundParams n s) (parameter_list inner cover pattern element s)
+  pub parameter_list_sound : (s : State) → Meets (SoundParams n s) (parameter_list inner cover pattern element s)
   unfolding parameter_list
   parameter_list_sound s = meets_then _ (expect kind.LParen s) _ (expect_sound kind.LParen s refl) (λ _ m p.
       meets_as (loop (parameters_turn inner cover pattern element) [] m)
@@ -292,7 +291,7 @@ module _ (n : ℕ) (inner : Class → Reader Tree) (cover : Reader Cover) (patte
         sound_as s t refl refl refl (λ (a, b). (
           record {
             rule = patterns.key_value_rule x y m.at (key_inside (Reads n) s.code x s.at m.at a.0) e b.0 refl;
-            supports = and_both (is_supported_key x) (supported y) a.1 b.1;
+            supports = and_both _ _ a.1 b.1;
           },
           refl,
         )) (paired p (moved_back e refl q)))
@@ -309,7 +308,7 @@ module _ (n : ℕ) (inner : Class → Reader Tree) (cover : Reader Cover) (patte
             sound_as s t refl refl refl (λ (a, b). (
               record {
                 rule = patterns.default_rule text span y m.at a e b.0 refl;
-                supports = and_both _ (supported y) (name_is_supported s.code.flags text free) b.1;
+                supports = and_both _ _ (name_is_supported s.code.flags text free) b.1;
               },
               refl,
             )) (paired (name_read free) (moved_back e refl q)))
@@ -369,7 +368,7 @@ module _ (n : ℕ) (inner : Class → Reader Tree) (cover : Reader Cover) (patte
 
   -- ---- patterns without and with a default
 
-  pattern_level_sound : (s : State) → Meets (λ x t. SoundTree (ReadsPat (suc n)) s x t) (pattern_level inner cover pattern element s)
+  pub pattern_level_sound : (s : State) → Meets (λ x t. SoundTree (ReadsPat (suc n)) s x t) (pattern_level inner cover pattern element s)
   unfolding pattern_level
   pattern_level_sound s = meets_if _ (sees kind.LBracket s.at) _ _ (λ e. array_sound s (saw s.at kind.LBracket e))
       (λ _. meets_if _ (sees kind.LBrace s.at) _ _ (λ e. object_sound s (saw s.at kind.LBrace e)) (λ _. binding_sound n s))
@@ -378,32 +377,9 @@ module _ (n : ℕ) (inner : Class → Reader Tree) (cover : Reader Cover) (patte
       → Meets (λ x t. SoundTree (ReadsElement (suc n)) s x t) (initialized inner cover pattern element (span_at s.at) p m)
   unfolding initialized spanned
   initialized_sound s p m q e = meets_then _ (inside inner cover assignment (moved m)) _ (value_inside (moved m)) (λ y t r.
-      sound_as s t refl refl refl (λ (a, b). (patterns.initialized_rule p y m.at a.0 e b.0 refl, and_both (supported p) (supported y) a.1 b.1)) (paired q (moved_back e refl r)))
+      sound_as s t refl refl refl (λ (a, b). (patterns.initialized_rule p y m.at a.0 e b.0 refl, and_both _ _ a.1 b.1)) (paired q (moved_back e refl r)))
 
-  element_level_sound : (s : State) → Meets (λ x t. SoundTree (ReadsElement (suc n)) s x t) (element_level inner cover pattern element s)
+  pub element_level_sound : (s : State) → Meets (λ x t. SoundTree (ReadsElement (suc n)) s x t) (element_level inner cover pattern element s)
   unfolding element_level
   element_level_sound s = meets_then _ (pattern_level inner cover pattern element s) _ (pattern_level_sound s) (λ p t q. meets_if _ (sees kind.Assign t.at) _ _
       (λ e. initialized_sound s p t q (saw t.at kind.Assign e)) (λ e. sound_as s t refl refl refl (λ r. (patterns.bare_rule r.0 e, r.1)) q))
-
--- by recursion on the level: patterns without and with a default
-both_sound : (n : ℕ)
-    → ((s : State) → Meets (λ x t. SoundTree (ReadsPat n) s x t) (pattern n s)) × ((s : State) → Meets (λ x t. SoundTree (ReadsElement n) s x t) (element n s))
-unfolding pattern element
-both_sound zero = (λ s. too_deep_meets _ s, λ s. too_deep_meets _ s)
-both_sound (suc n) = (
-  λ s. pattern_level_sound n (expr n) (cover n) (pattern n) (element n) (expr_sound n) (cover_sound n) (both_sound n).0 (both_sound n).1 s,
-  λ s. element_level_sound n (expr n) (cover n) (pattern n) (element n) (expr_sound n) (cover_sound n) (both_sound n).0 (both_sound n).1 s,
-)
-
--- a binding pattern is in the relation of the whole language within as many levels
-pub pattern_sound : (n : ℕ) (s : State) → Meets (λ x t. SoundTree (ReadsPat n) s x t) (pattern n s)
-pattern_sound n s = (both_sound n).0 s
-
--- and one with its default, if one stands there
-pub element_sound : (n : ℕ) (s : State) → Meets (λ x t. SoundTree (ReadsElement n) s x t) (element n s)
-element_sound n s = (both_sound n).1 s
-
--- and so are the parameters of a function
-pub parameters_sound : (n : ℕ) (s : State) → Meets (λ ps t. SoundParams n s ps t) (parameters n s)
-unfolding parameters
-parameters_sound n s = parameter_list_sound n (expr n) (cover n) (pattern n) (element n) (expr_sound n) (cover_sound n) (pattern_sound n) (element_sound n) s

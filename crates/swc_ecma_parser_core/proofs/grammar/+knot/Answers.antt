@@ -2,8 +2,7 @@ use Rattle.std.proofs.Common.{Ok, Err, arith, sym, ap, subst, ◌∙◌}
 use Rattle.std.proofs.lemmas.Result.{err_from_is_err_and}
 use Rattle.swc_ecma_parser_error.specs.Kind.{Fault, fault_of}
 use Rattle.swc_ecma_parser_reader.specs.State.{State, GivesAs}
-use Rattle.swc_ecma_parser_reader.proofs.expressions.Loops.{cover_above}
-use Rattle.swc_ecma_parser_reader.proofs.expressions.Heads.{head_above}
+use Rattle.swc_ecma_parser_reader.proofs.expressions.Loops.{cover_above, head_above}
 use Rattle.swc_ecma_parser_reader.proofs.patterns.Loops.{pattern_above, element_above}
 use Rattle.swc_ecma_parser_inner.specs.Covers.{cover_of, read}
 use Rattle.swc_ecma_parser_core.proofs.Covers.{read_lowest, read_expr, read_expr_err, at_asked, refused_as}

@@ -9,8 +9,8 @@ use Rattle.swc_ecma_parser_model.specs.Forms.{are_plain_params}
 use Rattle.swc_ecma_parser_grammar.specs.Parameters.{parameter, parameters}
 use Rattle.swc_ecma_parser_grammar.specs.Own.{misplaced_directive}
 use Rattle.swc_ecma_parser_grammar.specs.Reads.{nested_item}
+use Rattle.swc_ecma_parser_reader.specs.Reader as rules
 use Rattle.swc_ecma_parser_reader.specs.State.{State}
-use Rattle.swc_ecma_parser_reader.specs.Patterns as patterns
 use Rattle.swc_ecma_parser_reader.specs.Reader.{told, stmt, function_parts}
 use Rattle.swc_ecma_parser_functions.proofs.Parts.{told_late, parts_err, parts_found, made_gives}
 use Rattle.swc_ecma_parser_functions.proofs.function.function_parts.Goals as goal
@@ -53,7 +53,7 @@ returns g c =
     ap (λ span. made span ds qs body) c.since-span.ensures
     ∙ ap (λ xs. made whole (listed (map g.T.BuildsFunction.decorator_of xs)) qs body) c.new.ensures.items
     ∙ ap (λ xs. made whole (listed []) (listed xs) body) c.in_ok-params.ensures.made in
-    made_gives g.T.BuildsFunction.function_of (function_parts (stmt c.args.g.now.depth nested_item) (patterns.parameters c.args.g.now.depth) c.args.start s) z v (g.P.Source.seen c.grown.new.p) c.grown.result
+    made_gives g.T.BuildsFunction.function_of (function_parts (stmt c.args.g.now.depth nested_item) (rules.parameters c.args.g.now.depth) c.args.start s) z v (g.P.Source.seen c.grown.new.p) c.grown.result
     c.function-function.result (parts_found c.args.g.now.depth c.args.start s t u ps body c.in_ok-pats.ensures c.in_ok-block.ensures.gives v told_so)
     (subst (λ q. IfOk c.function-function.result (λ y. g.T.BuildsFunction.function_of y ≡ q)) same c.function-function.ensures)
     c.grown.ensures.made c.grown.ensures.state c.grown.ensures.err

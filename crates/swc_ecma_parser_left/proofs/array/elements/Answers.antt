@@ -5,7 +5,8 @@ use Rattle.swc_ecma_parser_token.specs.declared.kind.TokenKind.TheVariants as ki
 use Rattle.swc_ecma_parser_trees.specs.Parts.{part_of}
 use Rattle.swc_ecma_parser_grammar.specs.Looks.{sees}
 use Rattle.swc_ecma_parser_reader.specs.State.{State, expect}
-use Rattle.swc_ecma_parser_reader.specs.Expressions.{expr, cover, array_turn}
+use Rattle.swc_ecma_parser_reader.specs.Expressions.{array_turn}
+use Rattle.swc_ecma_parser_reader.specs.Reader.{expr, cover}
 use Rattle.swc_ecma_parser_reader.proofs.expressions.Loops.{elements_err, elements_last, elements_more, elements_comma_err, item_shorter, items_shorter}
 use Rattle.swc_ecma_parser_inner.specs.Covers.{cover_of, covers_of}
 use Rattle.swc_ecma_parser_left.proofs.Covers.{same_loop, commaed}

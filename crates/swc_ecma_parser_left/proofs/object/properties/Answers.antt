@@ -4,7 +4,8 @@ use Rattle.swc_ecma_parser_error.specs.Kind.{Fault, fault_of}
 use Rattle.swc_ecma_parser_token.specs.declared.kind.TokenKind.TheVariants as kind
 use Rattle.swc_ecma_parser_grammar.specs.Looks.{sees}
 use Rattle.swc_ecma_parser_reader.specs.State.{State, expect}
-use Rattle.swc_ecma_parser_reader.specs.Expressions.{expr, cover, object_turn}
+use Rattle.swc_ecma_parser_reader.specs.Expressions.{object_turn}
+use Rattle.swc_ecma_parser_reader.specs.Reader.{expr, cover}
 use Rattle.swc_ecma_parser_reader.proofs.expressions.Loops.{properties_err, properties_last, properties_more, properties_comma_err, property_shorter, properties_shorter}
 use Rattle.swc_ecma_parser_inner.specs.Covers.{cover_of, covers_of}
 use Rattle.swc_ecma_parser_left.proofs.Covers.{same_loop, commaed}

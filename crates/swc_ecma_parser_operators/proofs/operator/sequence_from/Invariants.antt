@@ -1,14 +1,16 @@
 use Rattle.std.proofs.Common.{◌≡◌, ◌∷◌, [], length, map}
 use Rattle.swc_ecma_parser_reader.specs.State.{loop}
 use Rattle.swc_ecma_parser_reader.specs.Expressions as exprs
+use Rattle.swc_ecma_parser_reader.specs.Reader as rules
 use Rattle.swc_ecma_parser_operators.proofs.operator.sequence_from.Given as goal
 
 -- what the whole loop gives is what the rest of it gives
 abbrev pub invariant-sequence : goal.invariant-sequence
 invariant-sequence g l =
-    let expr = exprs.expr l.g.depth in
-    let cover = exprs.cover l.g.depth in
-    loop (exprs.sequence_turn expr cover) (g.T.Trees.expr_of l.fn.x ∷ []) (g.P.Source.seen l.fn.p) ≡ loop (exprs.sequence_turn expr cover) (map g.T.Trees.expr_of l.found.items) (g.P.Source.seen l.p)
+    let expr = rules.expr l.g.depth in
+    let cover = rules.cover l.g.depth in
+    let function = rules.function l.g.depth in
+    loop (exprs.sequence_turn expr cover function) (g.T.Trees.expr_of l.fn.x ∷ []) (g.P.Source.seen l.fn.p) ≡ loop (exprs.sequence_turn expr cover function) (map g.T.Trees.expr_of l.found.items) (g.P.Source.seen l.p)
 
 abbrev pub decreases-sequence : goal.decreases-sequence
 decreases-sequence g l = length (g.P.Source.seen l.p).at.left

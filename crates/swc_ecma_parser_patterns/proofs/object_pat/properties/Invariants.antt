@@ -1,16 +1,16 @@
 use Rattle.std.proofs.Common.{◌≡◌, length, map}
 use Rattle.swc_ecma_parser_reader.specs.State.{loop}
-use Rattle.swc_ecma_parser_reader.specs.Expressions as exprs
 use Rattle.swc_ecma_parser_reader.specs.Patterns as patterns
+use Rattle.swc_ecma_parser_reader.specs.Reader as rules
 use Rattle.swc_ecma_parser_patterns.proofs.object_pat.properties.Given as goal
 
 -- what the whole loop gives is what the rest of it gives
 abbrev pub invariant-properties : goal.invariant-properties
 invariant-properties g l =
-    let expr = exprs.expr l.g.depth in
-    let cover = exprs.cover l.g.depth in
-    let pattern = patterns.pattern l.g.depth in
-    let element = patterns.element l.g.depth in
+    let expr = rules.expr l.g.depth in
+    let cover = rules.cover l.g.depth in
+    let pattern = rules.pattern l.g.depth in
+    let element = rules.element l.g.depth in
     patterns.properties expr cover pattern element (g.P.Source.seen l.fn.p)
     ≡ loop (patterns.object_turn expr cover pattern element) (map g.T.BuildsObjectPat.pat_prop_of l.found.items) (g.P.Source.seen l.p)
 

@@ -1,17 +1,17 @@
 use Rattle.std.proofs.Common.{◌≡◌, length, map}
 use Rattle.swc_ecma_parser_reader.specs.State.{loop}
-use Rattle.swc_ecma_parser_reader.specs.Expressions as exprs
 use Rattle.swc_ecma_parser_reader.specs.Patterns as patterns
+use Rattle.swc_ecma_parser_reader.specs.Reader as rules
 use Rattle.swc_ecma_parser_patterns.proofs.params.parameters.Given as goal
 
 -- what the whole loop gives is what the rest of it gives
 abbrev pub invariant-parameters : goal.invariant-parameters
 invariant-parameters g l =
-    let expr = exprs.expr l.g.depth in
-    let cover = exprs.cover l.g.depth in
-    let pattern = patterns.pattern l.g.depth in
-    let element = patterns.element l.g.depth in
-    patterns.parameters l.g.depth (g.P.Source.seen l.fn.p)
+    let expr = rules.expr l.g.depth in
+    let cover = rules.cover l.g.depth in
+    let pattern = rules.pattern l.g.depth in
+    let element = rules.element l.g.depth in
+    rules.parameters l.g.depth (g.P.Source.seen l.fn.p)
     ≡ loop (patterns.parameters_turn expr cover pattern element) (map g.T.Trees.pat_of l.found.items) (g.P.Source.seen l.p)
 
 abbrev pub decreases-parameters : goal.decreases-parameters

@@ -1,17 +1,17 @@
 use Rattle.std.proofs.Common.{◌≡◌, length, map}
 use Rattle.swc_ecma_parser_reader.specs.State.{loop}
-use Rattle.swc_ecma_parser_reader.specs.Expressions as exprs
 use Rattle.swc_ecma_parser_reader.specs.Patterns as patterns
+use Rattle.swc_ecma_parser_reader.specs.Reader as rules
 use Rattle.swc_ecma_parser_trees.specs.Parts.{part_of}
 use Rattle.swc_ecma_parser_patterns.proofs.pat.elements.Given as goal
 
 -- what the whole loop gives is what the rest of it gives
 abbrev pub invariant-elements : goal.invariant-elements
 invariant-elements g l =
-    let expr = exprs.expr l.g.depth in
-    let cover = exprs.cover l.g.depth in
-    let pattern = patterns.pattern l.g.depth in
-    let element = patterns.element l.g.depth in
+    let expr = rules.expr l.g.depth in
+    let cover = rules.cover l.g.depth in
+    let pattern = rules.pattern l.g.depth in
+    let element = rules.element l.g.depth in
     patterns.elements expr cover pattern element (g.P.Source.seen l.fn.p)
     ≡ loop (patterns.array_turn expr cover pattern element) (map (part_of g.T.Trees.pat_of) l.found.items) (g.P.Source.seen l.p)
 

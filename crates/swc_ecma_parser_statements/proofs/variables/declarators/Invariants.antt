@@ -1,15 +1,13 @@
 use Rattle.std.proofs.Common.{◌≡◌, length, map}
 use Rattle.swc_ecma_parser_reader.specs.State.{loop}
-use Rattle.swc_ecma_parser_reader.specs.Expressions as exprs
-use Rattle.swc_ecma_parser_reader.specs.Patterns as patterns
 use Rattle.swc_ecma_parser_reader.specs.Reader as rules
 use Rattle.swc_ecma_parser_statements.proofs.variables.declarators.Given as goal
 
 -- what the whole loop gives is what the rest of it gives
 abbrev pub invariant-declarators : goal.invariant-declarators
 invariant-declarators g l =
-    let expr = exprs.expr l.g.depth in
-    let pat = patterns.pattern l.g.depth in
+    let expr = rules.expr l.g.depth in
+    let pat = rules.pattern l.g.depth in
     rules.declarators expr pat l.in_head l.word (g.P.Source.seen l.fn.p)
     ≡ loop (rules.declarators_turn expr pat l.in_head l.word) (map g.T.BuildsVariables.declarator_of l.found.items) (g.P.Source.seen l.p)
 
