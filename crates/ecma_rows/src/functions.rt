@@ -1,4 +1,5 @@
-//! Rows of functions, declared and as expressions, by hand, from the rules of ECMA-262, section 15.2.
+//! Rows of functions and generators, async or not, declared and as expressions, by hand, from the rules of ECMA-262, sections 15.2,
+//! 15.5, 15.6 and 15.8.
 
 use crate::report::report;
 use std::test::Fail;
@@ -29,9 +30,7 @@ function f() { 'use strict'; var public; } → refused 33..39 ExpectedIdent
 'use strict'; function public() {} → refused 23..29 ExpectedIdent
 function → refused 8..8 Eof
 function () {} → refused 9..10 ExpectedIdent
-function f {} → refused 11..12 Expected
-function* f() {} → refused 8..9 ExpectedIdent
-async function f() {} → refused 0..5 Unexpected";
+function f {} → refused 11..12 Expected";
 
 const EXPRESSIONS: &str =
     "(function () {}) → Script 0..16, Expr 0..16 → ParenExpr 0..16, FnExpr 1..15, Function 1..15, BlockStmt 13..15
@@ -58,17 +57,71 @@ a: while (b) (function () { break a }) → Script 0..38, Labeled 0..38, fault 28
 (function () { → fault 13..14 Expected, refused 13..14 Expected
 (function → refused 1..9 Expected
 (function a b) → refused 12..13 Expected
-'use strict'; (function public() {}) → refused 24..30 Expected
-(function* () {}) → refused 9..10 Expected
-(async function () {}) → refused 7..15 Unexpected";
+'use strict'; (function public() {}) → refused 24..30 Expected";
+
+const GENERATORS: &str =
+    "function* g() { yield¶a } → Script 0..25, Fn 0..25 → ExprStmt 16..21, YieldExpr 16..21, ExprStmt 22..23
+function* g() { yield a, yield* b } → Script 0..35, Fn 0..35 → SeqExpr 16..33, YieldExpr 16..23, YieldExpr 25..33
+function* g() { a = yield } → Script 0..27, Fn 0..27 → AssignExpr 16..25, YieldExpr 20..25
+function* g() { yield *¶a } → Script 0..27, Fn 0..27 → YieldExpr 16..25
+function* g() { (yield) ? yield : yield } → Script 0..41, Fn 0..41 → CondExpr 16..39, YieldExpr 17..22, YieldExpr 26..31, YieldExpr 34..39
+function* g() { yield {a} = b } → Script 0..31, Fn 0..31 → YieldExpr 16..29, AssignExpr 22..29, ObjectPat 22..25
+function* g() { for (yield; ;) ; } → Script 0..34, Fn 0..34 → ForStmt 16..32, YieldExpr 21..26
+function* g(a = yield) {} → Script 0..25, Fn 0..25 → Param 12..21, AssignPat 12..21, YieldExpr 16..21
+function* yield() {} → Script 0..20, Fn 0..20 → Ident 10..15 yield
+'use strict'; function* g() { yield } → Script 0..37, Expr 0..13, Fn 14..37 → YieldExpr 30..35
+(function* () { yield yield a }) → Script 0..32, Expr 0..32 → FnExpr 1..31, Function 1..31, YieldExpr 16..29, YieldExpr 22..29
+(function* g() {}) → Script 0..18, Expr 0..18 → FnExpr 1..17, Ident 11..12 g
+function* g() { function f() { var yield } } → Script 0..44, Fn 0..44 → VarDecl 31..40
+var yield = 1; yield * 2 → Script 0..24, Var 0..14, Expr 15..24 → BinExpr 15..24";
+
+const GENERATOR_FAULTS: &str =
+    "a: function* g() {} → Script 0..19, Labeled 0..19, fault 3..19 LabelledGeneratorOrAsync
+'use strict'; a: function* g() {} → Script 0..33, Expr 0..13, Labeled 14..33, fault 17..33 LabelledFunctionInStrict, fault 17..33 LabelledGeneratorOrAsync
+if (a) function* g() {} → Script 0..23, If 0..23, fault 7..15 DeclNotAllowed
+function* g() { yield → Script 0..21, Fn 0..21, fault 16..21 Expected
+function* g() { var yield } → refused 20..25 ExpectedIdent
+function* g() { function yield() {} } → refused 25..30 ExpectedIdent
+(function* yield() {}) → refused 11..16 Expected
+function* () {} → refused 10..11 ExpectedIdent
+function* g() { yield * } → refused 24..25 Unexpected
+function* g() { yield¶* a } → refused 22..23 Unexpected
+function* g() { yield ? a : b } → refused 22..23 ExpectedSemiForExprStmt
+function* g() { void yield } → refused 21..26 Unexpected
+function * * g() {} → refused 11..12 ExpectedIdent";
+
+const ASYNC: &str = "async function f() {} → Script 0..21, Fn 0..21 → Function 0..21, Ident 15..16 f
+async function async() {} → Script 0..25, Fn 0..25 → Ident 15..20 async
+async function* g() { yield a } → Script 0..31, Fn 0..31 → Function 0..31, YieldExpr 22..29
+async function f() { yield } → Script 0..28, Fn 0..28 → Ident 21..26 yield
+(async function () {}) → Script 0..22, Expr 0..22 → ParenExpr 0..22, FnExpr 1..21, Function 1..21
+a = async function b() { return 1 } → Script 0..35, Expr 0..35 → FnExpr 4..35, Ident 19..20 b, ReturnStmt 25..33
+function* g() { (async function () { var yield }) } → Script 0..51, Fn 0..51 → FnExpr 17..48, VarDecl 37..46
+if (a) async function f() {} → Script 0..28, If 0..28 → Function 7..28
+a: async function f() {} → Script 0..24, Labeled 0..24 → Function 3..24
+'use strict'; a: async function f() {} → Script 0..38, Expr 0..13, Labeled 14..38 → Function 17..38
+async: function f() {} → Script 0..22, Labeled 0..22 → Function 7..22
+async() → Script 0..7, Expr 0..7 → CallExpr 0..7, Ident 0..5 async";
+
+const ASYNC_FAULTS: &str =
+    "for (;;) { async function f() { break } } → Script 0..41, For 0..41, fault 32..37 TS1105
+while (a) async function f() { continue } → Script 0..41, While 0..41, fault 31..39 TS1115
+(async function (a = 1) { 'use strict' }) → Script 0..41, Expr 0..41, fault 26..38 IllegalLanguageModeDirective
+async function () {} → refused 15..16 ExpectedIdent
+async function f → refused 15..16 Expected
+async function f() { await a } → refused 21..26 Unexpected";
 
 #[test]
 fn tables(rt: HostRuntime) -> Result<(), Fail> {
     for (rows, wanted) in [
         (FUNCTIONS, "12 rows"),
-        (FAULTS, "14 rows"),
+        (FAULTS, "12 rows"),
         (EXPRESSIONS, "14 rows"),
-        (EXPRESSION_FAULTS, "11 rows"),
+        (EXPRESSION_FAULTS, "9 rows"),
+        (GENERATORS, "14 rows"),
+        (GENERATOR_FAULTS, "13 rows"),
+        (ASYNC, "12 rows"),
+        (ASYNC_FAULTS, "6 rows"),
     ] {
         assert_eq!(rt; report(rt.alloc(), rows, 1000)?.as_str(), wanted);
     }
@@ -88,6 +141,14 @@ fn limits(rt: HostRuntime) -> Result<(), Fail> {
         ("(function () {}) → Script 0..16, Expr 0..16", 3),
         ("(function (a) {}) → refused 11..12 TooDeep", 3),
         ("(function () { ; }) → Script 0..19, Expr 0..19", 4),
+        ("async function f() {} → refused 0..5 TooDeep", 0),
+        ("async function f() {} → Script 0..21, Fn 0..21", 1),
+        ("(async function () {}) → refused 1..6 TooDeep", 2),
+        ("(async function () {}) → Script 0..22, Expr 0..22", 3),
+        ("function* g() { yield } → refused 16..21 TooDeep", 2),
+        ("function* g() { yield } → Script 0..23, Fn 0..23", 3),
+        ("function* g() { yield a } → refused 22..23 TooDeep", 3),
+        ("function* g() { yield a } → Script 0..25, Fn 0..25", 4),
     ] {
         assert_eq!(rt; report(rt.alloc(), rows, limit)?.as_str(), "1 rows");
     }

@@ -9,7 +9,7 @@ use Rattle.swc_ecma_parser_model.specs.Tree as tree
 use Rattle.swc_ecma_parser_model.specs.Tree.{Tree, Text}
 use Rattle.swc_ecma_parser_model.specs.declared.leaves.Ident.{Ident}
 use Rattle.swc_ecma_parser_model.specs.Forms.{span_of}
-use Rattle.swc_ecma_parser_input.specs.Place.{Place}
+use Rattle.swc_ecma_parser_input.specs.Place.{Place, after}
 use Rattle.swc_ecma_parser_grammar.specs.Looks.{sees, span_at}
 use Rattle.swc_ecma_parser_grammar.specs.Own.{duplicates, only}
 use Rattle.swc_ecma_parser_grammar.specs.declared.position.Position.{Position}
@@ -46,16 +46,19 @@ module _ (n : ℕ) (text : Text) (s t v : State) (at : Position) (x : Tree) (e :
   pub labelled_module : s.code.flags.«module» ≡ v.code.flags.«module»
   labelled_module = sym (ap (λ u. u.code.flags.«module») left_label ∙ ap (λ k. k.flags.«module») (stmt_code n at (below text (coded (in_breakable s.code) s)) x t h))
 
--- a function of strict code behind a label, of a statement that begins at a place
+-- a function of strict code behind a label and a generator there, of a statement that begins at a place
 abbrev pub function_faults : Place → Bool → Tree → List Fault
-function_faults c strict x = cond (sees kind.Function c) (only strict faults.LabelledFunctionInStrict (span_of x)) []
+function_faults c strict x = cond (sees kind.Function c) (only strict faults.LabelledFunctionInStrict (span_of x) ++ only (sees kind.Mul (after c)) faults.LabelledGeneratorOrAsync (span_of x)) []
 
 -- what holds of what is told of a function, as it is told
-pub told_of_function : (P : Outcome (Unit {0}) → Type 0) (is_function : Bool) (c : Place) (v : State) (x : Tree) (span : Span) → is_function ≡ sees kind.Function c → span ≡ span_of x
-    → P (told (cond is_function (only v.code.flags.strict faults.LabelledFunctionInStrict span) []) v) → P (told (function_faults c v.code.flags.strict x) v)
-told_of_function P is_function c v x span b e h =
-    subst (λ z. P (told (cond z (only v.code.flags.strict faults.LabelledFunctionInStrict (span_of x)) []) v)) b
-    (subst (λ z. P (told (cond is_function (only v.code.flags.strict faults.LabelledFunctionInStrict z) []) v)) e h)
+pub told_of_function : (P : Outcome (Unit {0}) → Type 0) (is_function is_starred : Bool) (c : Place) (v : State) (x : Tree) (span : Span) → is_function ≡ sees kind.Function c
+    → is_starred ≡ sees kind.Mul (after c) → span ≡ span_of x
+    → P (told (cond is_function (only v.code.flags.strict faults.LabelledFunctionInStrict span ++ only is_starred faults.LabelledGeneratorOrAsync span) []) v) → P (told (function_faults c v.code.flags.strict x) v)
+told_of_function P is_function is_starred c v x span b s e h =
+    let fs : Bool → Span → List Fault = λ w z. only v.code.flags.strict faults.LabelledFunctionInStrict z ++ only w faults.LabelledGeneratorOrAsync z in
+    subst (λ z. P (told (cond z (fs (sees kind.Mul (after c)) (span_of x)) []) v)) b
+    (subst (λ w. P (told (cond is_function (fs w (span_of x)) []) v)) s
+    (subst (λ z. P (told (cond is_function (fs is_starred z) []) v)) e h))
 
 -- a label and its statement, and what is told of the label
 module _ (n : ℕ) (s t u v : State) (i : Ident) (text : Text) (x : Tree) (named : name faults.ExpectedIdent s ≡ Ok (i, t)) (colon : expect kind.Colon t ≡ Ok (tt, u))

@@ -1,6 +1,6 @@
 //! Labels: ECMA-262, section 14.13.
 
-ghost use Rattle.std.specs.Prelude.{◌≡◌, if◌then◌else◌, true, [], replicate};
+ghost use Rattle.std.specs.Prelude.{◌≡◌, if◌then◌else◌, true, [], ◌++◌, replicate};
 ghost use Rattle.swc_ecma_parser_error.specs.Kind as kinds;
 ghost use Rattle.swc_ecma_parser_grammar.specs.Own as own;
 ghost use Rattle.swc_ecma_parser_grammar.specs.language.Goals.{expression};
@@ -57,12 +57,20 @@ fn duplicates<P: Source>(p: &mut P, label: &Ident) -> PResult<()>
     duplicate(p, label, times)
 }
 
-/// Records a function of strict code behind a label.
-fn labelled_function<P: Source>(p: &mut P, is_function: bool, span: Span) -> PResult<()>
-    ensures { Gives (rules.told (if is_function then own.only (P.seen p.old).code.flags.strict kinds.LabelledFunctionInStrict span else []) (P.seen p.old)) result (P.seen p.new) }
+/// Records a function behind a label: that of strict code, and a generator.
+fn labelled_function<P: Source>(
+    p: &mut P,
+    is_function: bool,
+    is_starred: bool,
+    span: Span,
+) -> PResult<()>
+    ensures { Gives (rules.told (if is_function then own.only (P.seen p.old).code.flags.strict kinds.LabelledFunctionInStrict span ++ own.only is_starred kinds.LabelledGeneratorOrAsync span else []) (P.seen p.old)) result (P.seen p.new) }
 {
     if is_function && p.flags().strict {
-        return p.fault(SyntaxError::LabelledFunctionInStrict, span);
+        p.fault(SyntaxError::LabelledFunctionInStrict, span)?;
+    }
+    if is_function && is_starred {
+        p.fault(SyntaxError::LabelledGeneratorOrAsync, span)?;
     }
     Ok(())
 }
@@ -109,9 +117,10 @@ fn labeled_stmt<
     p.expect(TokenKind::Colon, ":")?;
     let text = grown(p, label.sym.try_clone())?;
     let is_function = p.sees(TokenKind::Function);
+    let is_starred = p.next_sees(TokenKind::Mul);
     let body = labelled_body(g, t, p, text)?;
     let span = since(p, start);
-    labelled_function(p, is_function, T::stmt_span(&body))?;
+    labelled_function(p, is_function, is_starred, T::stmt_span(&body))?;
     duplicates(p, &label)?;
     grown(p, T::labeled(t.alloc, span, label, body))
 }

@@ -12,7 +12,7 @@ use crate::switch::switch_stmt;
 use crate::with_statement::with_stmt;
 use swc_ecma_parser_error::PResult;
 use swc_ecma_parser_functions::body::block;
-use swc_ecma_parser_functions::function::function_stmt;
+use swc_ecma_parser_functions::function::{function_decl, function_stmt};
 use swc_ecma_parser_grammar::Position;
 use swc_ecma_parser_inner::cover::{Cover, Reading};
 use swc_ecma_parser_inner::grammar::{Grammar, Part};
@@ -29,6 +29,24 @@ use swc_ecma_parser_trees::{
     BuildsControl, BuildsDecl, BuildsFor, BuildsLoop, BuildsPattern, BuildsStmt, BuildsSwitch,
     BuildsTry, MakerOf,
 };
+
+/// A statement that begins with a name: an async function, which may stand in the place of any statement, or another.
+#[tactic(auto, unfolding(swc_ecma_parser_reader::specs::Reader::async_or_other))]
+fn async_or_other<
+    P: Source,
+    T: BuildsPattern + BuildsStmt + BuildsControl + BuildsDecl,
+    S: Fn(&MakerOf<T>, &mut P, usize, Position) -> PResult<T::Stmt>,
+    E: Fn(&MakerOf<T>, &mut P, usize, Reading) -> PResult<Cover<T::Expr>>,
+    N: Fn(&MakerOf<T>, &mut P, usize, Part) -> PResult<T::Pat>,
+>(g: &Grammar<S, E, N>, t: &MakerOf<T>, p: &mut P, at: Position) -> PResult<T::Stmt>
+    requires { Nests P.seen T.expr_of T.pat_of T.stmt_of g.now.depth (S.pre g.now.stmt) (S.post g.now.stmt) (E.pre g.now.expr) (E.post g.now.expr) (N.pre g.now.pat) (N.post g.now.pat) }
+    ensures { GivesAs T.stmt_of (rules.async_or_other (rules.stmt g.now.depth) (rules.expr g.now.depth) (rules.pattern g.now.depth) (rules.head_cover g.now.depth) (rules.parameters g.now.depth) at (P.seen p.old)) result (P.seen p.new) }
+{
+    if p.is_async_function() {
+        return function_decl(g, t, p);
+    }
+    other_stmt(g, t, p, at)
+}
 
 /// A statement, by its first token.
 #[tactic(auto, unfolding(swc_ecma_parser_reader::specs::Reader::stmt_level))]
@@ -69,6 +87,7 @@ pub(crate) fn level<
         TokenKind::Do => do_while(g, t, p),
         TokenKind::For => for_stmt(g, t, p),
         TokenKind::Import => import_stmt_at(g, t, p),
+        TokenKind::Ident => async_or_other(g, t, p, at),
         _ => other_stmt(g, t, p, at),
     }
 }

@@ -26,24 +26,24 @@ pub told_late : (P : Outcome (Unit {0}) → Type 0) (plain : Bool) (body : Tree)
 told_late P true body directive u h plain other = subst (λ fs. P (told fs u)) (sym (none_misplaced body)) (plain refl)
 told_late P false body directive u h plain other = subst (λ fs. P (told fs u)) (sym h) (other refl)
 
-module _ (n : ℕ) (start : Span) (s t u : State) (ps : List Tree) (body : Tree)
-    (params : within (λ k. in_parameters k false false) (rules.parameters n) s ≡ Ok (ps, t)) (rest : function_body (stmt n nested_item) (rules.parameters n) t ≡ Ok (body, u)) where
+module _ (a g : Bool) (n : ℕ) (start : Span) (s t u : State) (ps : List Tree) (body : Tree)
+    (params : within (λ k. in_parameters k a g) (rules.parameters n) s ≡ Ok (ps, t)) (rest : function_body (stmt n nested_item) (rules.parameters n) a g t ≡ Ok (body, u)) where
   abbrev pub function_tree : Tree
-  function_tree = tree.function (record { lo = start.lo; hi = u.at.last.hi }) (listed []) (parameters ps) body false false
+  function_tree = tree.function (record { lo = start.lo; hi = u.at.last.hi }) (listed []) (parameters ps) body a g
 
   abbrev pub parts_faults : List Fault
   parts_faults = misplaced_directive (has_plain_params (parameters ps)) body
 
-  parts_told : function_parts (stmt n nested_item) (rules.parameters n) start s ≡ and_then (told parts_faults u) (λ _. pure function_tree)
+  parts_told : function_parts (stmt n nested_item) (rules.parameters n) a g start s ≡ and_then (told parts_faults u) (λ _. pure function_tree)
   unfolding function_parts misdirected
   parts_told =
-      let finish : List Tree → Tree → Reader Tree = λ qs b. since start >>= (λ span. misdirected (parameters qs) b >> pure (tree.function span (listed []) (parameters qs) b false false)) in
-      ap (λ o. and_then o (λ qs. function_body (stmt n nested_item) (rules.parameters n) >>= finish qs)) params ∙ ap (λ o. and_then o (finish ps)) rest
+      let finish : List Tree → Tree → Reader Tree = λ qs b. since start >>= (λ span. misdirected (parameters qs) b >> pure (tree.function span (listed []) (parameters qs) b a g)) in
+      ap (λ o. and_then o (λ qs. function_body (stmt n nested_item) (rules.parameters n) a g >>= finish qs)) params ∙ ap (λ o. and_then o (finish ps)) rest
 
-  pub parts_err : (e : Fault × State) → told parts_faults u ≡ Err e → function_parts (stmt n nested_item) (rules.parameters n) start s ≡ Err e
+  pub parts_err : (e : Fault × State) → told parts_faults u ≡ Err e → function_parts (stmt n nested_item) (rules.parameters n) a g start s ≡ Err e
   parts_err e h = parts_told ∙ ap (λ o. and_then o (λ _. pure function_tree)) h
 
-  pub parts_found : (v : State) → told parts_faults u ≡ Ok (tt, v) → function_parts (stmt n nested_item) (rules.parameters n) start s ≡ Ok (function_tree, v)
+  pub parts_found : (v : State) → told parts_faults u ≡ Ok (tt, v) → function_parts (stmt n nested_item) (rules.parameters n) a g start s ≡ Ok (function_tree, v)
   parts_found v h = parts_told ∙ ap (λ o. and_then o (λ _. pure function_tree)) h
 
 -- what is read is what is made of it, where memory is found

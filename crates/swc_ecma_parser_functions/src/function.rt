@@ -1,4 +1,4 @@
-//! Functions, neither async nor generators, that are declared or are expressions: ECMA-262, section 15.2.
+//! Functions, async or not, and generators, declared or as expressions: ECMA-262, sections 15.2, 15.5, 15.6 and 15.8.
 
 ghost use Rattle.std.specs.Prelude.{◌≡◌, true, false, [], map, IfOk, IfErr};
 ghost use Rattle.swc_ecma_parser_error.specs.Kind.{IsOutOfMemory};
@@ -36,42 +36,49 @@ pub(crate) struct FunctionBody<B> {
     strict_directive: Option<Span>,
 }
 
+/// Whether a function is async, and whether it is a generator.
+#[derive(Clone, Copy)]
+pub(crate) struct Manner {
+    is_async: bool,
+    is_generator: bool,
+}
+
 /// What stands around the name of a function that is an expression.
-fn named_by(flags: Context) -> Context
-    ensures { result ≡ record flags { in_async = false; in_generator = false } }
+fn named_by(flags: Context, manner: Manner) -> Context
+    ensures { result ≡ record flags { in_async = manner.is_async; in_generator = manner.is_generator } }
 {
     Context {
-        in_async: false,
-        in_generator: false,
+        in_async: manner.is_async,
+        in_generator: manner.is_generator,
         ..flags
     }
 }
 
 /// What stands around parameters.
-fn in_parameters(flags: Context) -> Context
-    ensures { result ≡ record flags { in_parameters = true; in_function = false; in_async = false; in_generator = false; include_in_expr = true } }
+fn in_parameters(flags: Context, manner: Manner) -> Context
+    ensures { result ≡ record flags { in_parameters = true; in_function = false; in_async = manner.is_async; in_generator = manner.is_generator; include_in_expr = true } }
 {
     Context {
         in_parameters: true,
         in_function: false,
-        in_async: false,
-        in_generator: false,
+        in_async: manner.is_async,
+        in_generator: manner.is_generator,
         include_in_expr: true,
         ..flags
     }
 }
 
 /// What stands around the statements of a body.
-fn in_body(flags: Context) -> Context
-    ensures { result ≡ record flags { in_function = true; in_static_block = false; is_break_allowed = false; is_continue_allowed = false; in_async = false; in_generator = false; include_in_expr = true } }
+fn in_body(flags: Context, manner: Manner) -> Context
+    ensures { result ≡ record flags { in_function = true; in_static_block = false; is_break_allowed = false; is_continue_allowed = false; in_async = manner.is_async; in_generator = manner.is_generator; include_in_expr = true } }
 {
     Context {
         in_function: true,
         in_static_block: false,
         is_break_allowed: false,
         is_continue_allowed: false,
-        in_async: false,
-        in_generator: false,
+        in_async: manner.is_async,
+        in_generator: manner.is_generator,
         include_in_expr: true,
         ..flags
     }
@@ -101,12 +108,12 @@ fn parameters_inside<
     S: Fn(&MakerOf<T>, &mut P, usize, Position) -> PResult<T::Stmt>,
     E: Fn(&MakerOf<T>, &mut P, usize, Reading) -> PResult<Cover<T::Expr>>,
     N: Fn(&MakerOf<T>, &mut P, usize, Part) -> PResult<T::Pat>,
->(g: &Grammar<S, E, N>, t: &MakerOf<T>, p: &mut P) -> PResult<Vec<T::Pat>>
+>(g: &Grammar<S, E, N>, t: &MakerOf<T>, p: &mut P, manner: Manner) -> PResult<Vec<T::Pat>>
     requires { Nests P.seen T.expr_of T.pat_of T.stmt_of g.now.depth (S.pre g.now.stmt) (S.post g.now.stmt) (E.pre g.now.expr) (E.post g.now.expr) (N.pre g.now.pat) (N.post g.now.pat) }
-    ensures { GivesAs (λ found. map T.pat_of found.items) (within (λ k. contexts.in_parameters k false false) (rules.parameters g.now.depth) (P.seen p.old)) result (P.seen p.new) }
+    ensures { GivesAs (λ found. map T.pat_of found.items) (within (λ k. contexts.in_parameters k manner.is_async manner.is_generator) (rules.parameters g.now.depth) (P.seen p.old)) result (P.seen p.new) }
 {
     let outer = p.flags();
-    p.set_flags(in_parameters(outer));
+    p.set_flags(in_parameters(outer, manner));
     let found = parameters(g, t, p)?;
     p.set_flags(outer);
     Ok(found)
@@ -145,13 +152,18 @@ fn function_body<
     S: Fn(&MakerOf<T>, &mut P, usize, Position) -> PResult<T::Stmt>,
     E: Fn(&MakerOf<T>, &mut P, usize, Reading) -> PResult<Cover<T::Expr>>,
     N: Fn(&MakerOf<T>, &mut P, usize, Part) -> PResult<T::Pat>,
->(g: &Grammar<S, E, N>, t: &MakerOf<T>, p: &mut P) -> PResult<FunctionBody<T::Block>>
+>(
+    g: &Grammar<S, E, N>,
+    t: &MakerOf<T>,
+    p: &mut P,
+    manner: Manner,
+) -> PResult<FunctionBody<T::Block>>
     requires { Nests P.seen T.expr_of T.pat_of T.stmt_of g.now.depth (S.pre g.now.stmt) (S.post g.now.stmt) (E.pre g.now.expr) (E.post g.now.expr) (N.pre g.now.pat) (N.post g.now.pat) }
-    ensures gives { GivesAs (λ body. T.block_of body.block) (rules.function_body (rules.stmt g.now.depth nested_item) (rules.parameters g.now.depth) (P.seen p.old)) result (P.seen p.new) }
+    ensures gives { GivesAs (λ body. T.block_of body.block) (rules.function_body (rules.stmt g.now.depth nested_item) (rules.parameters g.now.depth) manner.is_async manner.is_generator (P.seen p.old)) result (P.seen p.new) }
     ensures directive { IfOk result (λ body. own.misplaced_directive false (T.block_of body.block) ≡ late body.strict_directive) }
 {
     let outer = p.flags();
-    p.set_flags(in_body(outer));
+    p.set_flags(in_body(outer, manner));
     let around = p.enter_body(t.alloc);
     let body = block(g, t, p)?;
     p.leave_body(around);
@@ -196,6 +208,31 @@ fn misdirected<P: Source>(p: &mut P, is_plain: bool, directive: Option<Span>) ->
     }
 }
 
+/// The words that begin a function, and whether `async` is one of them.
+#[tactic(auto, unfolding(swc_ecma_parser_reader::specs::Reader::function_word))]
+fn function_word<P: Source>(p: &mut P) -> PResult<bool>
+    ensures { Gives (rules.function_word (P.seen p.old)) result (P.seen p.new) }
+{
+    let is_async = p.is_async_function();
+    if is_async {
+        p.skip()?;
+    }
+    p.skip()?;
+    Ok(is_async)
+}
+
+/// The `*` of a generator, if one stands here.
+#[tactic(auto, unfolding(swc_ecma_parser_reader::specs::Reader::star))]
+fn star<P: Source>(p: &mut P) -> PResult<bool>
+    ensures { Gives (rules.star (P.seen p.old)) result (P.seen p.new) }
+{
+    if !p.sees(TokenKind::Mul) {
+        return Ok(false);
+    }
+    p.skip()?;
+    Ok(true)
+}
+
 /// A function, from behind its name.
 #[tactic(auto, unfolding(swc_ecma_parser_reader::specs::Reader::function_parts, swc_ecma_parser_reader::specs::Reader::misdirected))]
 fn function_parts<
@@ -204,15 +241,21 @@ fn function_parts<
     S: Fn(&MakerOf<T>, &mut P, usize, Position) -> PResult<T::Stmt>,
     E: Fn(&MakerOf<T>, &mut P, usize, Reading) -> PResult<Cover<T::Expr>>,
     N: Fn(&MakerOf<T>, &mut P, usize, Part) -> PResult<T::Pat>,
->(g: &Grammar<S, E, N>, t: &MakerOf<T>, p: &mut P, start: Span) -> PResult<T::Function>
+>(
+    g: &Grammar<S, E, N>,
+    t: &MakerOf<T>,
+    p: &mut P,
+    manner: Manner,
+    start: Span,
+) -> PResult<T::Function>
     requires { Nests P.seen T.expr_of T.pat_of T.stmt_of g.now.depth (S.pre g.now.stmt) (S.post g.now.stmt) (E.pre g.now.expr) (E.post g.now.expr) (N.pre g.now.pat) (N.post g.now.pat) }
-    ensures { GivesAs T.function_of (rules.function_parts (rules.stmt g.now.depth nested_item) (rules.parameters g.now.depth) start (P.seen p.old)) result (P.seen p.new) }
+    ensures { GivesAs T.function_of (rules.function_parts (rules.stmt g.now.depth nested_item) (rules.parameters g.now.depth) manner.is_async manner.is_generator start (P.seen p.old)) result (P.seen p.new) }
 {
-    let pats = parameters_inside(g, t, p)?;
+    let pats = parameters_inside(g, t, p, manner)?;
     let FunctionBody {
         block,
         strict_directive,
-    } = function_body(g, t, p)?;
+    } = function_body(g, t, p, manner)?;
     let span = since(p, start);
     let params = as_params::<P, T>(t, p, pats)?;
     misdirected(p, are_plain::<T>(&params), strict_directive)?;
@@ -222,15 +265,15 @@ fn function_parts<
         Vec::new(t.alloc),
         params,
         block,
-        false,
-        false,
+        manner.is_async,
+        manner.is_generator,
     );
     grown(p, function)
 }
 
 /// A function that is declared.
 #[tactic(auto, unfolding(swc_ecma_parser_reader::specs::Reader::function_decl))]
-fn function_decl<
+pub fn function_decl<
     P: Source,
     T: BuildsDecl + BuildsPattern,
     S: Fn(&MakerOf<T>, &mut P, usize, Position) -> PResult<T::Stmt>,
@@ -241,9 +284,14 @@ fn function_decl<
     ensures { GivesAs T.stmt_of (rules.function_decl (rules.stmt g.now.depth nested_item) (rules.parameters g.now.depth) (P.seen p.old)) result (P.seen p.new) }
 {
     let start = p.span();
-    p.skip()?;
+    let is_async = function_word(p)?;
+    let is_generator = star(p)?;
+    let manner = Manner {
+        is_async,
+        is_generator,
+    };
     let name = p.name(Wanted::Name)?;
-    let function = function_parts(g, t, p, start)?;
+    let function = function_parts(g, t, p, manner, start)?;
     let decl = grown(p, T::fn_decl(t.alloc, name, function))?;
     grown(p, T::decl_stmt(t.alloc, decl))
 }
@@ -268,11 +316,11 @@ pub fn function_stmt<
 }
 
 /// The name of a function that is an expression, read in the function's own code, if there is one.
-fn own_name<P: Source>(p: &mut P) -> PResult<Option<Ident>>
-    ensures { GivesAs (part_of word_of) (rules.own_name (P.seen p.old)) result (P.seen p.new) }
+fn own_name<P: Source>(p: &mut P, manner: Manner) -> PResult<Option<Ident>>
+    ensures { GivesAs (part_of word_of) (rules.own_name manner.is_async manner.is_generator (P.seen p.old)) result (P.seen p.new) }
 {
     let outer = p.flags();
-    p.set_flags(named_by(outer));
+    p.set_flags(named_by(outer, manner));
     if !p.name_at() {
         p.set_flags(outer);
         return Ok(None);
@@ -295,9 +343,14 @@ pub fn function_expr<
     ensures { GivesAs T.expr_of (rules.function_expr (rules.stmt g.now.depth nested_item) (rules.parameters g.now.depth) (P.seen p.old)) result (P.seen p.new) }
 {
     let start = p.span();
-    p.skip()?;
-    let name = own_name(p)?;
-    let function = function_parts(g, t, p, start)?;
+    let is_async = function_word(p)?;
+    let is_generator = star(p)?;
+    let manner = Manner {
+        is_async,
+        is_generator,
+    };
+    let name = own_name(p, manner)?;
+    let function = function_parts(g, t, p, manner, start)?;
     let span = T::function_span(&function);
     grown(p, T::fn_expr(t.alloc, span, name, function))
 }

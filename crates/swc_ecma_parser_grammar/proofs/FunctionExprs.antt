@@ -9,6 +9,7 @@ use Rattle.swc_ecma_parser_input.specs.Place.{Place, after}
 use Rattle.swc_ecma_parser_model.specs.Tree as tree
 use Rattle.swc_ecma_parser_model.specs.Tree.{Tree, listed, trees}
 use Rattle.swc_ecma_parser_model.specs.Forms.{has_plain_params}
+use Rattle.swc_ecma_parser_grammar.specs.Follows.{Star, AsyncWord}
 use Rattle.swc_ecma_parser_grammar.specs.Looks.{kind_at, spanned}
 use Rattle.swc_ecma_parser_grammar.specs.Names.{Code}
 use Rattle.swc_ecma_parser_grammar.specs.Notes.{notes}
@@ -27,7 +28,7 @@ use Rattle.swc_ecma_parser_grammar.proofs.Naming.{name_is_clean, name_is_support
 use Rattle.swc_ecma_parser_grammar.proofs.SupportedBegins.{supported_as}
 use Rattle.swc_ecma_parser_grammar.proofs.Unnoted.{joined, clean_is}
 use Rattle.swc_ecma_parser_grammar.proofs.Widens.{stmt_supported, stmt_widens, braced_supported, braced_widens, parameters_same}
-use Rattle.swc_ecma_parser_grammar.proofs.Narrows.{stmt_narrows, braced_narrows, unasync, unstarred}
+use Rattle.swc_ecma_parser_grammar.proofs.Narrows.{stmt_narrows, braced_narrows}
 use Rattle.swc_ecma_parser_grammar.proofs.StatementEntries.{stmt_unnoted, braced_unnoted, params_unnoted}
 
 is_cleaned : {es : List Fault} → es ≡ [] → is_clean es ≡ true
@@ -35,35 +36,35 @@ is_cleaned e = ap is_clean e
 
 -- ---- its name
 
-own_name_widens : {k : Code} {x : Tree} {c d : Place} → OwnNameRule k x c d → parts.OptionalName (named_by k false false) x c d
+own_name_widens : {k : Code} {w g : Bool} {x : Tree} {c d : Place} → OwnNameRule k w g x c d → parts.OptionalName (named_by k w g) x c d
 own_name_widens (no_own_name_rule p n e) = parts.no_name n e
-own_name_widens {k = k} (own_name_rule w s r i e) =
-    parts.a_name (word_text w) s (record { word = w; reads_word = r; is_text = refl; is_name = name_is_clean (named_by k false false).flags (word_text w) i }) e
+own_name_widens {k = k} {w = a} {g = g} (own_name_rule w s r i e) =
+    parts.a_name (word_text w) s (record { word = w; reads_word = r; is_text = refl; is_name = name_is_clean (named_by k a g).flags (word_text w) i }) e
 
-own_name_supported : {k : Code} {x : Tree} {c d : Place} (m : Bool) → OwnNameRule k x c d → supported_in m x ≡ true
+own_name_supported : {k : Code} {w g : Bool} {x : Tree} {c d : Place} (m : Bool) → OwnNameRule k w g x c d → supported_in m x ≡ true
 own_name_supported m (no_own_name_rule p n e) = ap (supported_in m) e
-own_name_supported {k = k} m (own_name_rule w s r i e) = ap (supported_in m) e ∙ name_is_supported (named_by k false false).flags (word_text w) i
+own_name_supported {k = k} {w = a} {g = g} m (own_name_rule w s r i e) = ap (supported_in m) e ∙ name_is_supported (named_by k a g).flags (word_text w) i
 
 -- where none stands the parameters begin
-own_name_narrows : {k : Code} {x : Tree} {c d : Place} (m : Bool) → kind_at d ≡ kind.LParen → parts.OptionalName (named_by k false false) x c d → supported_in m x ≡ true → OwnNameRule k x c d
+own_name_narrows : {k : Code} {w g : Bool} {x : Tree} {c d : Place} (m : Bool) → kind_at d ≡ kind.LParen → parts.OptionalName (named_by k w g) x c d → supported_in m x ≡ true → OwnNameRule k w g x c d
 own_name_narrows m p (parts.no_name n e) h = no_own_name_rule (ap kind_at (sym n) ∙ p) n e
-own_name_narrows {k = k} {x = x} {c = c} {d = d} m p (parts.a_name text s r e) h =
-    own_name_rule r.word s r.reads_word (name_is_name (named_by k false false) text s c d r (supported_as _ x (tree.ident s text) e h)) (e ∙ ap (tree.ident s) r.is_text)
+own_name_narrows {k = k} {w = a} {g = g} {x = x} {c = c} {d = d} m p (parts.a_name text s r e) h =
+    own_name_rule r.word s r.reads_word (name_is_name (named_by k a g) text s c d r (supported_as _ x (tree.ident s text) e h)) (e ∙ ap (tree.ident s) r.is_text)
 
 -- ---- the whole
 
 pub function_widens : (n : ℕ) (k : Code) (x : Tree) (c d : Place) → ReadsFunctionExpr (ReadsStmt n) (ReadsParams n) k x c d → sides.PrimaryRule (Reads n) k x c d
-function_widens n k x c d r = sides.function_rule r.name (tree.function (spanned c d) (listed []) (parameters r.patterns) r.body false false) (record {
-  is_async = false;
-  is_generator = false;
+function_widens n k x c d r = sides.function_rule r.name (tree.function (spanned c d) (listed []) (parameters r.patterns) r.body r.is_async r.is_generator) (record {
+  is_async = r.is_async;
+  is_generator = r.is_generator;
   patterns = r.patterns;
   body = r.body;
-  word = c;
-  behind_word = after c;
+  word = r.word;
+  behind_word = r.behind_word;
   behind_name = r.behind_name;
-  reads_async = functions.not_async refl refl;
+  reads_async = r.reads_async;
   is_function = r.is_function;
-  reads_star = functions.no_star refl refl;
+  reads_star = r.reads_star;
   reads_name = own_name_widens r.reads_name;
   reads_parts = record { middle = r.middle; reads_parameters = r.reads_parameters.0; reads_body = braced_widens n (stmt_widens n) true r.reads_body };
   is = refl;
@@ -71,7 +72,7 @@ function_widens n k x c d r = sides.function_rule r.name (tree.function (spanned
 
 -- in module code nothing in it is a fault of it
 unnoted : (n : ℕ) (m : Bool) (k : Code) (x : Tree) (c d : Place) → k.flags.module ≡ m → (r : ReadsFunctionExpr (ReadsStmt n) (ReadsParams n) k x c d)
-    → (not m || has_no_note (tree.function (spanned c d) (listed []) (parameters r.patterns) r.body false false)) ≡ true
+    → (not m || has_no_note (tree.function (spanned c d) (listed []) (parameters r.patterns) r.body r.is_async r.is_generator)) ≡ true
 unnoted n false k x c d o r = refl
 unnoted n true k x c d o r = is_cleaned (joined (notes (parameters r.patterns)) (notes r.body) (params_unnoted n r.patterns o r.reads_parameters) (braced_unnoted n (stmt_unnoted n) true o r.reads_body))
 
@@ -82,7 +83,7 @@ function_supported n k x c d r =
     ∙ and_both (supported_in m r.name) _ (own_name_supported m r.reads_name)
     (and_both (supported_in m (parameters r.patterns) && supported_in m r.body) _
     (and_both (supported_in m (parameters r.patterns)) (supported_in m r.body) (parameters_same m r.patterns ∙ r.reads_parameters.1) (braced_supported n (stmt_supported n) true r.reads_body))
-    (and_both (is_rightly_directed (tree.function (spanned c d) (listed []) (parameters r.patterns) r.body false false)) _ (is_cleaned r.directs) (unnoted n m k x c d refl r)))
+    (and_both (is_rightly_directed (tree.function (spanned c d) (listed []) (parameters r.patterns) r.body r.is_async r.is_generator)) _ (is_cleaned r.directs) (unnoted n m k x c d refl r)))
 
 -- what is tested of notes in module code
 tested : (m : Bool) (es : List Fault) → (not m || is_clean es) ≡ true → m ≡ true → es ≡ []
@@ -91,23 +92,26 @@ tested false es h o = cc
 
 -- what it is made of, with its word first
 module _ (n : ℕ) (k : Code) (x : Tree) (c d : Place) where
-  plain_narrows : (w g : Bool) (name : Tree) (ps : List Tree) (body : Tree) (word behind_word behind_name : Place) → functions.AsyncWord w c word → kind_at word ≡ kind.Function
-      → functions.Star g (after word) behind_word → parts.OptionalName (named_by k w g) name behind_word behind_name → functions.FunctionParts (Reads n) k w g ps body behind_name d
-      → supported_in k.flags.module name ≡ true → not w && (not g && (supported_in k.flags.module (parameters ps) && supported_in k.flags.module body)) ≡ true
+  plain_narrows : (w g : Bool) (name : Tree) (ps : List Tree) (body : Tree) (word behind_word behind_name : Place) → AsyncWord w c word → kind_at word ≡ kind.Function
+      → Star g (after word) behind_word → parts.OptionalName (named_by k w g) name behind_word behind_name → functions.FunctionParts (Reads n) k w g ps body behind_name d
+      → supported_in k.flags.module name ≡ true → supported_in k.flags.module (parameters ps) && supported_in k.flags.module body ≡ true
       → is_clean (misplaced_directive (has_plain_params (parameters ps)) body) ≡ true → (k.flags.module ≡ true → notes body ≡ [])
       → x ≡ tree.fn_expr (spanned c d) name (tree.function (spanned c d) (listed []) (parameters ps) body w g) → ReadsFunctionExpr (ReadsStmt n) (ReadsParams n) k x c d
-  plain_narrows true g name ps body word bw bn a f s i p h t z q e = cc
-  plain_narrows false true name ps body word bw bn a f s i p h t z q e = cc
-  plain_narrows false false name ps body word bw bn a f s i p h t z q e =
-      let o : word ≡ c = unasync a in
+  plain_narrows w g name ps body word bw bn a f s i p h t z q e =
       let u = and_yes (supported_in k.flags.module (parameters ps)) _ t in record {
+        is_async = w;
+        is_generator = g;
         name = name;
         patterns = ps;
         body = body;
+        word = word;
+        behind_word = bw;
         behind_name = bn;
         middle = p.middle;
-        is_function = ap kind_at (sym o) ∙ f;
-        reads_name = subst (λ b. OwnNameRule k name b bn) (unstarred s ∙ ap after o) (own_name_narrows k.flags.module p.reads_parameters.opens i h);
+        reads_async = a;
+        is_function = f;
+        reads_star = s;
+        reads_name = own_name_narrows k.flags.module p.reads_parameters.opens i h;
         reads_parameters = (p.reads_parameters, sym (parameters_same k.flags.module ps) ∙ u.0);
         reads_body = braced_narrows n (stmt_narrows n) true q p.reads_body u.1;
         directs = clean_is _ z;

@@ -28,6 +28,6 @@ mod SpelledLoops
 mod SpelledItems
 mod ReadWithFaults
 mod ExpressionBegins
-mod StatementBegins
+pub mod StatementBegins
 mod UnspelledStatements
 mod UnspelledItems

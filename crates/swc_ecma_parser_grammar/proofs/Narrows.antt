@@ -10,7 +10,7 @@ use Rattle.std.specs.Prelude.{not, ◌&&◌, ◌||◌, if◌then◌else◌}
 use Rattle.std.specs.List.{list_any}
 use Rattle.swc_ecma_parser_error.specs.Kind.{Fault}
 use Rattle.swc_ecma_parser_token.specs.declared.kind.TokenKind.TheVariants as kind
-use Rattle.swc_ecma_parser_grammar.specs.Follows.{is_async_of, await_word, no_await, AwaitWord, is_bare_async, is_async_function, word_at}
+use Rattle.swc_ecma_parser_grammar.specs.Follows.{is_async_of, await_word, no_await, AwaitWord, is_bare_async, is_async_function, word_at, Star, AsyncWord}
 use Rattle.swc_ecma_parser_input.specs.Place.{Place, after}
 use Rattle.swc_ecma_parser_model.specs.declared.leaves.VarDeclKind.{VarDeclKind}
 use Rattle.swc_ecma_parser_model.specs.Tree as tree
@@ -130,14 +130,6 @@ unnamed false b f q = refl
 
 -- ---- functions
 
-pub unasync : {c d : Place} → functions.AsyncWord false c d → d ≡ c
-unasync (functions.not_async e h) = h
-unasync (functions.async_word e h g i) = cc
-
-pub unstarred : {c d : Place} → functions.Star false c d → d ≡ c
-unstarred (functions.no_star e h) = h
-unstarred (functions.star e h g) = cc
-
 -- `function` is no `async`
 no_async_function : (c : Place) → kind_at c ≡ kind.Function → is_async_function c ≡ false
 unfolding is_async_function
@@ -254,33 +246,35 @@ module _ (n : ℕ) (narrow : (k : Code) (at : Position) (x : Tree) (c d : Place)
     else_narrows {k = k} {x = x} {c = c} {d = d} o (statements.else_rule i j s) h = else_rule i j (narrow k sub_statement x (after c) d o s h)
     else_narrows o (statements.else_if_rule i r) h = else_if_rule i (if_narrows o r h)
 
-  -- a function that is neither async nor a generator
+  -- a function behind no decorators
   plain_function : (k : Code) (at : Position) (x : Tree) (c m d : Place) (w g : Bool) (text : Text) (sp : Span) (ps : List Tree) (body : Tree) (word behind_word behind_name : Place) → m ≡ c
-      → functions.AsyncWord w m word → kind_at word ≡ kind.Function → functions.Star g (after word) behind_word → (r : ReadsName k text sp behind_word behind_name)
+      → AsyncWord w m word → kind_at word ≡ kind.Function → Star g (after word) behind_word → (r : ReadsName k text sp behind_word behind_name)
       → functions.FunctionParts (Reads n) k w g ps body behind_name d → at.include_decl || is_async_function m ≡ true → not (bytes_eq text (codes "await")) ≡ true
-      → not w && (not g && (supported_in k.flags.module (parameters ps) && supported_in k.flags.module body)) ≡ true → Quiet k (notes body)
+      → supported_in k.flags.module (parameters ps) && supported_in k.flags.module body ≡ true → Quiet k (notes body)
       → x ≡ tree.fn_decl (tree.ident sp text) (tree.function (spanned m d) (listed []) (parameters ps) body w g)
       → StmtRule (ReadsStmt n) (ReadsClass n) (ReadsPat n) (ReadsTarget n) (ReadsParams n) k at x c d
-  plain_function k at x c m d true g text sp ps body word bw bn o a f s r p i t h q e = cc
-  plain_function k at x c m d false true text sp ps body word bw bn o a f s r p i t h q e = cc
-  plain_function k at x c m d false false text sp ps body word bw bn o a f s r p i t h q e =
-      let z : word ≡ c = unasync a ∙ o in
-      let v : kind_at c ≡ kind.Function = ap kind_at (sym z) ∙ f in
+  plain_function k at x c m d w g text sp ps body word bw bn o a f s r p i t h q e =
       let u = and_yes (supported_in k.flags.module (parameters ps)) _ h in
-      function_rule (declared_here at.include_decl _ i (ap is_async_function o ∙ no_async_function c v)) (record {
+      function_rule (subst (λ b. at.include_decl || is_async_function b ≡ true) o i) (record {
+        is_async = w;
+        is_generator = g;
         name = r.word;
         name_span = sp;
         patterns = ps;
         body = body;
+        word = word;
+        behind_word = bw;
         behind_name = bn;
         middle = p.middle;
-        is_function = v;
-        reads_name = subst (λ b. ReadsToken (token.Word r.word) sp b bn) (unstarred s ∙ ap after z) r.reads_word;
+        reads_async = subst (λ b. AsyncWord w b word) o a;
+        is_function = f;
+        reads_star = s;
+        reads_name = r.reads_word;
         is_named = name_is_name k text sp bw bn r t;
         reads_parameters = (p.reads_parameters, sym (parameters_same k.flags.module ps) ∙ u.0);
         reads_body = braced_narrows true q p.reads_body u.1;
-        is = e ∙ ap (λ b. tree.fn_decl (tree.ident sp text) (tree.function (spanned b d) (listed []) (parameters ps) body false false)) o
-            ∙ ap (λ b. tree.fn_decl (tree.ident sp b) (tree.function (spanned c d) (listed []) (parameters ps) body false false)) r.is_text;
+        is = e ∙ ap (λ b. tree.fn_decl (tree.ident sp text) (tree.function (spanned b d) (listed []) (parameters ps) body w g)) o
+            ∙ ap (λ b. tree.fn_decl (tree.ident sp b) (tree.function (spanned c d) (listed []) (parameters ps) body w g)) r.is_text;
       })
 
   -- with a name, and behind no decorators
@@ -289,8 +283,7 @@ module _ (n : ℕ) (narrow : (k : Code) (at : Position) (x : Tree) (c d : Place)
       → x ≡ tree.fn_decl name y → StmtRule (ReadsStmt n) (ReadsClass n) (ReadsPat n) (ReadsTarget n) (ReadsParams n) k at x c d
   function_narrows k at a name x y c m d o (classes.some_decorators z zs v r l) i s u b h t e =
       let f = supported_as _ y (tree.function (spanned m d) a (parameters s.patterns) s.body s.is_async s.is_generator) s.is t in
-      let q = and_yes (not s.is_generator) _ (and_yes (not s.is_async) _ f).1 in
-      absurd (true≢false (sym (and_yes (has_none a) _ q.1).0 ∙ ap has_none l))
+      absurd (true≢false (sym (and_yes (has_none a) _ f).0 ∙ ap has_none l))
   function_narrows k at a name x y c m d o (classes.no_decorators g l) i s (parts.no_name j u) b h t e = absurd (true≢false (sym (ap is_absent u) ∙ b))
   function_narrows k at a name x y c m d o (classes.no_decorators g l) i s (parts.a_name text sp r u) b h t e =
       let v : y ≡ tree.function (spanned m d) (listed []) (parameters s.patterns) s.body s.is_async s.is_generator = s.is ∙ ap (λ z. tree.function (spanned m d) z (parameters s.patterns) s.body s.is_async s.is_generator) l in

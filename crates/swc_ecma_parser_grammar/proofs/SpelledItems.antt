@@ -15,7 +15,7 @@ use Rattle.swc_ecma_parser_grammar.specs.Ends.{by_semicolon, by_insertion, by_a_
 use Rattle.swc_ecma_parser_grammar.specs.language.Lists.{no_comma}
 use Rattle.swc_ecma_parser_grammar.specs.language.Parts.{no_name}
 use Rattle.swc_ecma_parser_grammar.specs.language.Parts.{a_name as given_name}
-use Rattle.swc_ecma_parser_grammar.specs.language.Functions.{not_async, no_star}
+use Rattle.swc_ecma_parser_grammar.specs.Follows.{no_star, not_async}
 use Rattle.swc_ecma_parser_grammar.specs.language.Classes.{decorator_rule, no_decorators, some_decorators, no_heritage}
 use Rattle.swc_ecma_parser_grammar.specs.language.LeftSides.{number_rule, function_rule, primary_rule, import_meta_rule}
 use Rattle.swc_ecma_parser_grammar.specs.language.Patterns.{binding_name_rule}

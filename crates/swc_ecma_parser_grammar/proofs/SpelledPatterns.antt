@@ -1,4 +1,5 @@
 -- Patterns and arrows that lists of tokens spell, each with the tree that is known by hand.
+use Rattle.swc_ecma_parser_grammar.specs.Follows.{not_async, async_word}
 use Rattle.std.proofs.Common.{true, false, List, [], ◌∷◌, None, refl}
 use Rattle.std.specs.Prelude.{codes}
 use Rattle.swc_ecma_parser_token.specs.declared.keyword.Keyword.TheVariants as keywords
@@ -11,7 +12,7 @@ use Rattle.swc_ecma_parser_grammar.specs.Reads.{with_in}
 use Rattle.swc_ecma_parser_grammar.specs.language.Goals.{expr_goal, expression}
 use Rattle.swc_ecma_parser_grammar.specs.language.Lists.{no_comma}
 use Rattle.swc_ecma_parser_grammar.specs.language.Parts.{plain_element, word_access, word_key}
-use Rattle.swc_ecma_parser_grammar.specs.language.Functions.{element_rule, not_async, async_word}
+use Rattle.swc_ecma_parser_grammar.specs.language.Functions.{element_rule}
 use Rattle.swc_ecma_parser_grammar.specs.language.LeftSides as left_side
 use Rattle.swc_ecma_parser_grammar.specs.language.LeftSides.{number_rule, paren_rule, primary_rule, member_rule, call_rule, import_call_rule}
 use Rattle.swc_ecma_parser_grammar.specs.language.Patterns.{key_value_rule, default_rule, array_rule, object_rule, bare_rule, initialized_rule}

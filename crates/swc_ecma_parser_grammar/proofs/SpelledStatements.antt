@@ -9,11 +9,10 @@ use Rattle.swc_ecma_parser_model.specs.Tree as tree
 use Rattle.swc_ecma_parser_model.specs.Tree.{Tree, listed}
 use Rattle.swc_ecma_parser_grammar.specs.Names.{Code}
 use Rattle.swc_ecma_parser_grammar.specs.Ends.{by_semicolon, by_insertion}
-use Rattle.swc_ecma_parser_grammar.specs.Follows.{no_await}
+use Rattle.swc_ecma_parser_grammar.specs.Follows.{no_await, no_star, not_async}
 use Rattle.swc_ecma_parser_grammar.specs.language.Lists.{no_comma}
 use Rattle.swc_ecma_parser_grammar.specs.language.Parts.{plain_element, word_access, no_name}
 use Rattle.swc_ecma_parser_grammar.specs.language.Parts.{a_name as given_name}
-use Rattle.swc_ecma_parser_grammar.specs.language.Functions.{not_async, no_star}
 use Rattle.swc_ecma_parser_grammar.specs.language.Classes.{no_decorators, member_rule, static_block_rule, no_heritage}
 use Rattle.swc_ecma_parser_grammar.specs.language.LeftSides.{string_rule, number_rule, this_rule, class_rule, primary_rule, call_rule}
 use Rattle.swc_ecma_parser_grammar.specs.language.LeftSides.{member_rule as access_rule}

@@ -21,6 +21,7 @@ use Rattle.swc_ecma_parser_model.specs.declared.operators.BinaryOp.TheVariants a
 use Rattle.swc_ecma_parser_model.specs.Tree as tree
 use Rattle.swc_ecma_parser_model.specs.Tree.{Tree, Text, listed}
 use Rattle.swc_ecma_parser_model.specs.Forms.{is_pattern_target}
+use Rattle.swc_ecma_parser_grammar.specs.Follows as follows
 use Rattle.swc_ecma_parser_grammar.specs.Looks.{kind_at, sees, spanned, same_kind}
 use Rattle.swc_ecma_parser_grammar.specs.Names.{Code, is_reserved, is_name, is_identifier, is_clean_name}
 use Rattle.swc_ecma_parser_grammar.specs.Reads.{ReadsToken}
@@ -167,9 +168,9 @@ module _ (In : Goal → Type 0) (k : Code) where
   pub function_begins : {name y : Tree} (c : Place) {d : Place} → functions.FunctionRule In true k (listed []) name y c d → (kind_at c ≡ kind.Function) ⊎ (kind_at c ≡ kind.Ident)
   function_begins c r = by_word r.reads_async
     where
-      by_word : functions.AsyncWord r.is_async c r.word → (kind_at c ≡ kind.Function) ⊎ (kind_at c ≡ kind.Ident)
-      by_word (functions.not_async e h) = inl (ap kind_at (sym h) ∙ r.is_function)
-      by_word (functions.async_word e h g i) = inr (word_place (codes "async") c h)
+      by_word : follows.AsyncWord r.is_async c r.word → (kind_at c ≡ kind.Function) ⊎ (kind_at c ≡ kind.Ident)
+      by_word (follows.not_async e h) = inl (ap kind_at (sym h) ∙ r.is_function)
+      by_word (follows.async_word e h g i) = inr (word_place (codes "async") c h)
 
   function_opens : {name y : Tree} (c : Place) {d : Place} → functions.FunctionRule In true k (listed []) name y c d → opens (kind_at c) ≡ true
   function_opens c r = elim (function_begins c r) [ inl e ↦ kind_opens c kind.Function e refl | inr e ↦ kind_opens c kind.Ident e refl ]
@@ -228,9 +229,9 @@ module _ (In : Goal → Type 0) (k : Code) where
   assignment_opens x c d (expressions.assign_rule op y z m r t a b e) h = left_side_opens r.0 (and_yes (supported_in k.flags.module y) _ (supported_as _ x (tree.assign (spanned c d) op y z) e h)).0
   assignment_opens x c d (expressions.destructuring_rule y z m r t a b e) h = pattern_opens y c m r t
   assignment_opens x c d (expressions.arrow_rule a ps y i j r s t b u e) h = refuted _ x (ap (supported_in k.flags.module) e) h
-  assignment_opens x c d (expressions.bare_yield_rule g i n s e) h = refuted _ x (ap (supported_in k.flags.module) e) h
-  assignment_opens x c d (expressions.yield_rule y g i b s r e) h = refuted _ x (ap (supported_in k.flags.module) e) h
-  assignment_opens x c d (expressions.delegate_rule y g i b m r e) h = refuted _ x (ap (supported_in k.flags.module) e) h
+  assignment_opens x c d (expressions.bare_yield_rule g i n s e) h = kind_opens c kind.Yield i refl
+  assignment_opens x c d (expressions.yield_rule y g i b s r e) h = kind_opens c kind.Yield i refl
+  assignment_opens x c d (expressions.delegate_rule y g i b m r e) h = kind_opens c kind.Yield i refl
 
   expression_opens : (x : Tree) (c d : Place) → expressions.ExpressionRule In k x c d → supported_in k.flags.module x ≡ true → opens (kind_at c) ≡ true
   expression_opens x c d (expressions.assignment_rule r comma) h = assignment_opens x c d r h

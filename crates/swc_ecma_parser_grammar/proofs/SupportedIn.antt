@@ -52,6 +52,7 @@ mutual
   lower m (tree.assign s op left right) h = let g = and_yes (supported_in m left) _ h in and_both _ _ (lower m left g.0) (lower m right g.1)
   lower m (tree.cond s test cons alt) h = let g = and_yes (supported_in m test) _ h in and_both _ _ (lower m test g.0) (let h = and_yes (supported_in m cons) _ g.1 in and_both _ _ (lower m cons h.0) (lower m alt h.1))
   lower m (tree.seq s exprs) h = lower m exprs h
+  lower m (tree.yield s arg delegate) h = lower m arg h
   lower m (tree.ident_pat s text) h = h
   lower m (tree.array_pat s elems) h = lower m elems h
   lower m (tree.object_pat s props) h = lower m props h
@@ -83,7 +84,7 @@ mutual
   lower m (tree.continue s label) h = lower m label h
   lower m (tree.return s arg) h = lower m arg h
   lower m (tree.fn_decl name fn) h = let g = and_yes (supported_in m name) _ h in and_both _ _ (lower m name g.0) (lower m fn g.1)
-  lower m (tree.function s decorators params body is_async is_generator) h = let g = and_yes (not is_async) _ h in and_both _ _ g.0 (let h = and_yes (not is_generator) _ g.1 in and_both _ _ h.0 (let i = and_yes (has_none decorators) _ h.1 in and_both _ _ i.0 (let j = and_yes (supported_in m params) _ i.1 in and_both _ _ (lower m params j.0) (lower m body j.1))))
+  lower m (tree.function s decorators params body is_async is_generator) h = let i = and_yes (has_none decorators) _ h in and_both _ _ i.0 (let j = and_yes (supported_in m params) _ i.1 in and_both _ _ (lower m params j.0) (lower m body j.1))
   lower m (tree.param s decorators p) h = let g = and_yes (has_none decorators) _ h in and_both _ _ g.0 (lower m p g.1)
   lower m (tree.fn_expr s name fn) h = let g = and_yes (supported_in m name) _ h in and_both _ _ (lower m name g.0) (let h = and_yes (supported_in m fn) _ g.1 in and_both _ _ (lower m fn h.0) (let i = and_yes (is_rightly_directed fn) _ h.1 in and_both _ _ i.0 refl))
   lower m (tree.script s body shebang) h = lower m body h
@@ -139,6 +140,7 @@ mutual
   lift (tree.assign s op left right) h o = let g = and_yes (supported_in false left) _ h in and_both _ _ (lift left g.0 ((parted (notes left) (notes right) o).0)) (lift right g.1 ((parted (notes left) (notes right) o).1))
   lift (tree.cond s test cons alt) h o = let g = and_yes (supported_in false test) _ h in and_both _ _ (lift test g.0 ((parted (notes test) (notes cons) (parted (notes test ++ notes cons) (notes alt) o).0).0)) (let h = and_yes (supported_in false cons) _ g.1 in and_both _ _ (lift cons h.0 ((parted (notes test) (notes cons) (parted (notes test ++ notes cons) (notes alt) o).0).1)) (lift alt h.1 ((parted (notes test ++ notes cons) (notes alt) o).1)))
   lift (tree.seq s exprs) h o = lift exprs h o
+  lift (tree.yield s arg delegate) h o = lift arg h o
   lift (tree.ident_pat s text) h o = h
   lift (tree.array_pat s elems) h o = lift elems h o
   lift (tree.object_pat s props) h o = lift props h o
@@ -170,7 +172,7 @@ mutual
   lift (tree.continue s label) h o = lift label h o
   lift (tree.return s arg) h o = lift arg h o
   lift (tree.fn_decl name fn) h o = let g = and_yes (supported_in false name) _ h in and_both _ _ (lift name g.0 ((parted (notes name) (notes fn) o).0)) (lift fn g.1 ((parted (notes name) (notes fn) o).1))
-  lift (tree.function s decorators params body is_async is_generator) h o = let g = and_yes (not is_async) _ h in and_both _ _ g.0 (let h = and_yes (not is_generator) _ g.1 in and_both _ _ h.0 (let i = and_yes (has_none decorators) _ h.1 in and_both _ _ i.0 (let j = and_yes (supported_in false params) _ i.1 in and_both _ _ (lift params j.0 ((parted (notes decorators) (notes params) (parted (notes decorators ++ notes params) (notes body) o).0).1)) (lift body j.1 ((parted (notes decorators ++ notes params) (notes body) o).1)))))
+  lift (tree.function s decorators params body is_async is_generator) h o = let i = and_yes (has_none decorators) _ h in and_both _ _ i.0 (let j = and_yes (supported_in false params) _ i.1 in and_both _ _ (lift params j.0 ((parted (notes decorators) (notes params) (parted (notes decorators ++ notes params) (notes body) o).0).1)) (lift body j.1 ((parted (notes decorators ++ notes params) (notes body) o).1)))
   lift (tree.param s decorators p) h o = let g = and_yes (has_none decorators) _ h in and_both _ _ g.0 (lift p g.1 ((parted (notes decorators) (notes p) o).1))
   lift (tree.fn_expr s name fn) h o = let g = and_yes (supported_in false name) _ h in and_both _ _ (lift name g.0 ((parted (notes name) (notes fn) o).0)) (let h = and_yes (supported_in false fn) _ g.1 in and_both _ _ (lift fn h.0 ((parted (notes name) (notes fn) o).1)) (let i = and_yes (is_rightly_directed fn) _ h.1 in and_both _ _ i.0 (ap is_clean ((parted (notes name) (notes fn) o).1))))
   lift (tree.script s body shebang) h o = lift body h o

@@ -245,9 +245,9 @@ module _ (In : Goal → Type 0) (small : (g : Goal) → In g → SilentGoal g) w
   assignment_silent k x c d (expressions.destructuring_rule y z m r t a s e) =
       silent_as x (tree.assign (spanned c d) assign.Assign y z) e (both_silent y z (pattern_silent r) (small (expr_goal assignment k z (after m) d) s))
   assignment_silent k x c d (expressions.arrow_rule a ps y i j r s t b u e) = λ h. refuted _ x (ap (supported_in true) e) h
-  assignment_silent k x c d (expressions.bare_yield_rule g i n s e) = λ h. refuted _ x (ap (supported_in true) e) h
-  assignment_silent k x c d (expressions.yield_rule y g i b s r e) = λ h. refuted _ x (ap (supported_in true) e) h
-  assignment_silent k x c d (expressions.delegate_rule y g i b m r e) = λ h. refuted _ x (ap (supported_in true) e) h
+  assignment_silent k x c d (expressions.bare_yield_rule g i n s e) = λ h. ap notes e
+  assignment_silent k x c d (expressions.yield_rule y g i b s r e) = silent_as x (tree.yield (spanned c d) y false) e (small (expr_goal assignment k y (after c) d) r)
+  assignment_silent k x c d (expressions.delegate_rule y g i b m r e) = silent_as x (tree.yield (spanned c d) y true) e (small (expr_goal assignment k y (after (after c)) d) r)
 
   expression_silent : (k : Code) (x : Tree) (c d : Place) → ExpressionRule In k x c d → Silent x
   expression_silent k x c d (expressions.assignment_rule r comma) = assignment_silent k x c d r

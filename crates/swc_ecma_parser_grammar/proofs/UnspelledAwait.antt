@@ -1,4 +1,5 @@
 -- `[await [0]] = x` is spelled by no expression: `await` is an operator there, and no target.
+use Rattle.swc_ecma_parser_grammar.specs.Follows.{AsyncWord, not_async, async_word}
 use Rattle.std.proofs.Common.{◌≡◌, ℕ, zero, suc, Bool, true, false, List, [], ◌∷◌, ◌⊎◌, inl, inr, refl}
 use Rattle.std.specs.Prelude.{codes}
 use Rattle.swc_ecma_parser_common.specs.declared.span.Span.{Span}
@@ -16,7 +17,7 @@ use Rattle.swc_ecma_parser_grammar.specs.language.Goals.{binding, assigning, exp
 use Rattle.swc_ecma_parser_grammar.specs.language.Continues.{continues_assignment}
 use Rattle.swc_ecma_parser_grammar.specs.language.Lists.{Elements, no_elements, hole, last_element, more_elements}
 use Rattle.swc_ecma_parser_grammar.specs.language.Parts.{ElementRule, plain_element, spread_element}
-use Rattle.swc_ecma_parser_grammar.specs.language.Functions.{PatternItemRule, element_rule, rest_rule, AsyncWord, not_async, async_word}
+use Rattle.swc_ecma_parser_grammar.specs.language.Functions.{PatternItemRule, element_rule, rest_rule}
 use Rattle.swc_ecma_parser_grammar.specs.language.LeftSides.{PrimaryRule}
 use Rattle.swc_ecma_parser_grammar.specs.language.Patterns.{OperandRule, PatternRule, binding_name_rule, target_name_rule, target_rule, array_rule, object_rule, PatternElementRule, bare_rule, initialized_rule}
 use Rattle.swc_ecma_parser_grammar.specs.language.Expressions.{UnaryRule, operand_rule, unary_rule, prefix_rule, postfix_rule, await_rule, BinaryRule, ArrowHeadRule, name_head, parameters_head, AssignmentRule}

@@ -1,4 +1,5 @@
 -- Lists of tokens with brackets that no expression spells, whatever its tree and wherever it ends.
+use Rattle.swc_ecma_parser_grammar.specs.Follows.{AsyncWord, not_async, async_word}
 use Rattle.std.proofs.Common.{◌≡◌, ℕ, zero, suc, Bool, true, false, List, [], ◌∷◌, ◌⊎◌, inl, inr, refl, ap}
 use Rattle.std.specs.Prelude.{codes}
 use Rattle.swc_ecma_parser_token.specs.declared.kind.TokenKind.TheVariants as kind
@@ -12,7 +13,7 @@ use Rattle.swc_ecma_parser_grammar.specs.Names.{Code}
 use Rattle.swc_ecma_parser_grammar.specs.Reads.{with_in}
 use Rattle.swc_ecma_parser_grammar.specs.language.Goals.{Goal, Purpose, binding, assigning, expr_goal, expression, assignment}
 use Rattle.swc_ecma_parser_grammar.specs.language.Parts.{KeyRule, word_key, string_key, number_key, big_int_key, computed_key}
-use Rattle.swc_ecma_parser_grammar.specs.language.Functions.{PatternItemRule, element_rule, rest_rule, ParametersRule, AsyncWord, not_async, async_word, MethodRule}
+use Rattle.swc_ecma_parser_grammar.specs.language.Functions.{PatternItemRule, element_rule, rest_rule, ParametersRule, MethodRule}
 use Rattle.swc_ecma_parser_grammar.specs.language.Objects as property
 use Rattle.swc_ecma_parser_grammar.specs.language.Objects.{PropertyRule}
 use Rattle.swc_ecma_parser_grammar.specs.language.Patterns as pattern

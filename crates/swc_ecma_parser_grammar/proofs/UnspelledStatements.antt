@@ -15,14 +15,13 @@ use Rattle.swc_ecma_parser_grammar.specs.declared.position.Position.{Position}
 use Rattle.swc_ecma_parser_grammar.specs.Names.{Code}
 use Rattle.swc_ecma_parser_grammar.specs.Looks.{kind_at, sees, same_kind}
 use Rattle.swc_ecma_parser_grammar.specs.Ends.{Ends, by_semicolon, by_insertion}
-use Rattle.swc_ecma_parser_grammar.specs.Follows.{AwaitWord, no_await, await_word}
+use Rattle.swc_ecma_parser_grammar.specs.Follows.{AwaitWord, no_await, await_word, AsyncWord, not_async, async_word}
 use Rattle.swc_ecma_parser_grammar.specs.Reads.{with_in}
 use Rattle.swc_ecma_parser_grammar.specs.language.Goals.{expr_goal, expression, stmt_goal, pattern_goal, binding}
 use Rattle.swc_ecma_parser_grammar.specs.language.Operators.{binary_operator, assign_operator}
 use Rattle.swc_ecma_parser_grammar.specs.language.Contexts.{in_breakable}
 use Rattle.swc_ecma_parser_grammar.specs.language.Lists.{ReadsEach}
 use Rattle.swc_ecma_parser_grammar.specs.language.Items.{nested_item, sub_statement, ItemsRule, BlockRule}
-use Rattle.swc_ecma_parser_grammar.specs.language.Functions.{AsyncWord, not_async, async_word}
 use Rattle.swc_ecma_parser_grammar.specs.language.Classes.{decorator_rule, no_decorators, some_decorators}
 use Rattle.swc_ecma_parser_grammar.specs.language.Patterns.{binding_name_rule, target_name_rule, target_rule, array_rule, object_rule}
 use Rattle.swc_ecma_parser_grammar.specs.language.Expressions.{AssignmentRule, assignment_rule, sequence_rule}

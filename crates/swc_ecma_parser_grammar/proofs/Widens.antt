@@ -1,8 +1,10 @@
 -- What the rules of the first forms read, the whole language reads, and it is supported.
+use Rattle.swc_ecma_parser_grammar.proofs.StatementBegins.{word_place}
+use Rattle.swc_ecma_parser_grammar.specs.Follows as follows
 use Rattle.swc_ecma_parser_grammar.specs.Parameters.{parameters}
-use Rattle.std.proofs.Common.{◌≡◌, ℕ, zero, suc, Bool, true, false, rules, List, [], ◌∷◌, Option, refl, ◌∙◌, ap, subst}
+use Rattle.std.proofs.Common.{◌≡◌, ℕ, zero, suc, Bool, true, false, rules, List, [], ◌∷◌, Option, refl, ◌∙◌, ap, subst, sym}
 use Rattle.std.specs.List.{list_any}
-use Rattle.std.specs.Prelude.{not, ◌&&◌, ◌||◌}
+use Rattle.std.specs.Prelude.{not, ◌&&◌, ◌||◌, codes}
 use denote.Enum.Bare.{true_same, same_true}
 use Rattle.swc_ecma_parser_token.specs.contracts.kind.TokenKind.{the_type}
 use Rattle.swc_ecma_parser_token.specs.declared.kind.TokenKind.{TokenKind}
@@ -303,17 +305,17 @@ module _ (n : ℕ) (widen : (k : Code) (at : Position) (x : Tree) (c d : Place) 
     else_widens (else_if_rule h r) = statements.else_if_rule h (if_widens r)
 
   form_widens : (k : Code) (at : Position) (x : Tree) (c d : Place) → StmtRule (ReadsStmt n) (ReadsClass n) (ReadsPat n) (ReadsTarget n) (ReadsParams n) k at x c d → statements.FormRule (Reads n) k at x c d
-  form_widens k at x c d (function_rule a r) = statements.function_rule (listed []) _ _ c (classes.no_decorators refl refl) (rw a refl) (record {
-    is_async = false;
-    is_generator = false;
+  form_widens k at x c d (function_rule a r) = statements.function_rule (listed []) _ _ c (classes.no_decorators refl refl) a (record {
+    is_async = r.is_async;
+    is_generator = r.is_generator;
     patterns = r.patterns;
     body = r.body;
-    word = c;
-    behind_word = after c;
+    word = r.word;
+    behind_word = r.behind_word;
     behind_name = r.behind_name;
-    reads_async = functions.not_async refl refl;
+    reads_async = r.reads_async;
     is_function = r.is_function;
-    reads_star = functions.no_star refl refl;
+    reads_star = r.reads_star;
     reads_name = parts.a_name (word_text r.name) r.name_span (record { word = r.name; reads_word = r.reads_name; is_text = refl; is_name = name_is_clean k.flags (word_text r.name) r.is_named }) refl;
     reads_parts = record { middle = r.middle; reads_parameters = r.reads_parameters.0; reads_body = braced_widens true r.reads_body };
     is = refl;
@@ -352,9 +354,14 @@ variables_begin decl.Var c h = rw (saw c kind.Var h) refl
 variables_begin decl.Const c h = rw (saw c kind.Const h) refl
 variables_begin decl.Let c h = rw (saw c kind.Let (and_yes (sees kind.Let c) _ h).0) refl
 
+function_no_await : {w : Bool} (c m : Place) → follows.AsyncWord w c m → kind_at m ≡ kind.Function → sees kind.Await c ≡ false
+unfolding same_kind
+function_no_await c m (follows.not_async e h) f = rw (ap kind_at (sym h) ∙ f) refl
+function_no_await c m (follows.async_word e h g i) f = rw (word_place (codes "async") c h) refl
+
 rule_begins : (n : ℕ) (k : Code) (at : Position) (x : Tree) (c d : Place) → StmtRule (ReadsStmt n) (ReadsClass n) (ReadsPat n) (ReadsTarget n) (ReadsParams n) k at x c d → sees kind.Await c ≡ false
 unfolding same_kind
-rule_begins n k at x c d (function_rule a r) = rw r.is_function refl
+rule_begins n k at x c d (function_rule a r) = function_no_await c r.word r.reads_async r.is_function
 rule_begins n k at x c d (block_rule r) = rw r.opens refl
 rule_begins n k at x c d (empty_rule h g e) = rw h refl
 rule_begins n k at x c d (debugger_rule h g e) = rw h refl

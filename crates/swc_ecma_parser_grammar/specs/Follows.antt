@@ -123,6 +123,16 @@ pub data AwaitWord (is_await : Bool) (c d : Place) : Type 0 where
   no_await : is_await ≡ false → d ≡ c → AwaitWord is_await c d
   await_word : is_await ≡ true → kind_at c ≡ kind.Await → d ≡ after c → AwaitWord is_await c d
 
+-- `async` on the line of what follows it, or nothing
+pub data AsyncWord (is_async : Bool) (c d : Place) : Type 0 where
+  not_async : is_async ≡ false → d ≡ c → AsyncWord is_async c d
+  async_word : is_async ≡ true → word_at (codes "async") c ≡ true → d ≡ after c → breaks_at d ≡ false → AsyncWord is_async c d
+
+-- the `*` of a generator, or nothing
+pub data Star (is_generator : Bool) (c d : Place) : Type 0 where
+  no_star : is_generator ≡ false → d ≡ c → Star is_generator c d
+  star : is_generator ≡ true → kind_at c ≡ kind.Mul → d ≡ after c → Star is_generator c d
+
 -- what the head of a `for` begins with where it declares nothing: ECMA-262, section 14.7.4
 unfoldable pub may_begin_head : Place → Bool
 may_begin_head c = not (sees kind.Var c || (sees kind.Const c || (sees kind.Semi c || is_let_declaration c)))

@@ -17,7 +17,7 @@ use Rattle.swc_ecma_parser_grammar.specs.declared.position.Position.{Position}
 use Rattle.swc_ecma_parser_grammar.specs.Looks.{kind_at, breaks_at, sees, spanned}
 use Rattle.swc_ecma_parser_grammar.specs.Names.{Code, is_name}
 use Rattle.swc_ecma_parser_grammar.specs.Ends.{Ends, OptionalEnds, ends_at}
-use Rattle.swc_ecma_parser_grammar.specs.Follows.{word_at, may_begin_expression_statement, begins_import_expression, may_begin_head, is_bare_async, is_async_of, AwaitWord}
+use Rattle.swc_ecma_parser_grammar.specs.Follows.{word_at, may_begin_expression_statement, begins_import_expression, may_begin_head, is_bare_async, is_async_of, AwaitWord, AsyncWord, Star, is_async_function}
 use Rattle.swc_ecma_parser_grammar.specs.Variables.{begins_variables, is_var, needs_no_initializer}
 use Rattle.swc_ecma_parser_grammar.specs.language.Goals.{Class, expression, assignment}
 use Rattle.swc_ecma_parser_grammar.specs.language.Contexts.{named_by, in_parameters, in_body, in_loop, in_breakable, in_with, without_in}
@@ -94,41 +94,53 @@ pub record ReadsBraced (Stmt : Code → Position → Tree → Place → Place �
 abbrev pub ReadsBlock : (Code → Position → Tree → Place → Place → Type 0) → Code → Tree → Place → Place → Type 0
 ReadsBlock Stmt k x c d = ReadsBraced Stmt false k x c d
 
--- a function that is neither async nor a generator, as a declaration: section 15.2
+-- a function as a declaration, whose name is read in the code around: sections 15.2, 15.5, 15.6 and 15.8
 pub record ReadsFunction (Stmt : Code → Position → Tree → Place → Place → Type 0) (Params : Code → List Tree → Place → Place → Type 0) (k : Code) (x : Tree) (c d : Place) : Type 0 where
+  pub is_async : Bool
+  pub is_generator : Bool
   pub name : Word
   pub name_span : Span
   pub patterns : List Tree
   pub body : Tree
+  pub word : Place
+  pub behind_word : Place
   pub behind_name : Place
   pub middle : Place
-  pub is_function : kind_at c ≡ kind.Function
-  pub reads_name : ReadsToken (token.Word name) name_span (after c) behind_name
+  pub reads_async : AsyncWord is_async c word
+  pub is_function : kind_at word ≡ kind.Function
+  pub reads_star : Star is_generator (after word) behind_word
+  pub reads_name : ReadsToken (token.Word name) name_span behind_word behind_name
   pub is_named : is_name k.flags (word_text name) ≡ true
-  pub reads_parameters : Params (in_parameters k false false) patterns behind_name middle
-  pub reads_body : ReadsBraced Stmt true (in_body k false false) body middle d
-  pub is : x ≡ tree.fn_decl (tree.ident name_span (word_text name)) (tree.function (spanned c d) (listed []) (parameters patterns) body false false)
+  pub reads_parameters : Params (in_parameters k is_async is_generator) patterns behind_name middle
+  pub reads_body : ReadsBraced Stmt true (in_body k is_async is_generator) body middle d
+  pub is : x ≡ tree.fn_decl (tree.ident name_span (word_text name)) (tree.function (spanned c d) (listed []) (parameters patterns) body is_async is_generator)
 
 -- the name of a function that is an expression, which is read in the function's own code, or none
-pub data OwnNameRule (k : Code) (x : Tree) (c d : Place) : Type 0 where
-  no_own_name_rule : kind_at c ≡ kind.LParen → d ≡ c → x ≡ tree.absent → OwnNameRule k x c d
-  own_name_rule : (w : Word) (s : Span) → ReadsToken (token.Word w) s c d → is_name (named_by k false false).flags (word_text w) ≡ true → x ≡ tree.ident s (word_text w)
-      → OwnNameRule k x c d
+pub data OwnNameRule (k : Code) (is_async is_generator : Bool) (x : Tree) (c d : Place) : Type 0 where
+  no_own_name_rule : kind_at c ≡ kind.LParen → d ≡ c → x ≡ tree.absent → OwnNameRule k is_async is_generator x c d
+  own_name_rule : (w : Word) (s : Span) → ReadsToken (token.Word w) s c d → is_name (named_by k is_async is_generator).flags (word_text w) ≡ true → x ≡ tree.ident s (word_text w)
+      → OwnNameRule k is_async is_generator x c d
 
--- a function that is neither async nor a generator, as an expression: section 15.2
+-- a function as an expression: sections 15.2, 15.5, 15.6 and 15.8
 pub record ReadsFunctionExpr (Stmt : Code → Position → Tree → Place → Place → Type 0) (Params : Code → List Tree → Place → Place → Type 0) (k : Code) (x : Tree) (c d : Place) : Type 0 where
+  pub is_async : Bool
+  pub is_generator : Bool
   pub name : Tree
   pub patterns : List Tree
   pub body : Tree
+  pub word : Place
+  pub behind_word : Place
   pub behind_name : Place
   pub middle : Place
-  pub is_function : kind_at c ≡ kind.Function
-  pub reads_name : OwnNameRule k name (after c) behind_name
-  pub reads_parameters : Params (in_parameters k false false) patterns behind_name middle
-  pub reads_body : ReadsBraced Stmt true (in_body k false false) body middle d
+  pub reads_async : AsyncWord is_async c word
+  pub is_function : kind_at word ≡ kind.Function
+  pub reads_star : Star is_generator (after word) behind_word
+  pub reads_name : OwnNameRule k is_async is_generator name behind_word behind_name
+  pub reads_parameters : Params (in_parameters k is_async is_generator) patterns behind_name middle
+  pub reads_body : ReadsBraced Stmt true (in_body k is_async is_generator) body middle d
   -- no directive of the body makes parameters strict that are not all plain names
   pub directs : misplaced_directive (has_plain_params (parameters patterns)) body ≡ []
-  pub is : x ≡ tree.fn_expr (spanned c d) name (tree.function (spanned c d) (listed []) (parameters patterns) body false false)
+  pub is : x ≡ tree.fn_expr (spanned c d) name (tree.function (spanned c d) (listed []) (parameters patterns) body is_async is_generator)
 
 -- `( Expression )` behind the word of a statement
 pub record ReadsHead (Expr : Class → Code → Tree → Place → Place → Type 0) (k : Code) (e : Tree) (c d : Place) : Type 0 where
@@ -210,8 +222,8 @@ pub data FinallyRule (Stmt : Code → Position → Tree → Place → Place → 
 
 pub data StmtRule (Stmt : Code → Position → Tree → Place → Place → Type 0) (Expr : Class → Code → Tree → Place → Place → Type 0) (Pat Target : Code → Tree → Place → Place → Type 0)
     (Params : Code → List Tree → Place → Place → Type 0) (k : Code) (at : Position) (x : Tree) (c d : Place) : Type 0 where
-  -- section 15.2, where declarations are read
-  function_rule : at.include_decl ≡ true → ReadsFunction Stmt Params k x c d → StmtRule Stmt Expr Pat Target Params k at x c d
+  -- section 15.2, where declarations are read; as in the crate, an async one may stand in the place of any statement
+  function_rule : at.include_decl || is_async_function c ≡ true → ReadsFunction Stmt Params k x c d → StmtRule Stmt Expr Pat Target Params k at x c d
   -- section 14.2
   block_rule : ReadsBlock Stmt k x c d → StmtRule Stmt Expr Pat Target Params k at x c d
   -- section 14.4

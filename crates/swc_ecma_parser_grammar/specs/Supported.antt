@@ -62,6 +62,8 @@ abbrev mutual
   supported_in m (tree.assign s op left right) = supported_in m left && supported_in m right
   supported_in m (tree.cond s test cons alt) = supported_in m test && (supported_in m cons && supported_in m alt)
   supported_in m (tree.seq s exprs) = supported_in m exprs
+  -- `yield`: section 15.5
+  supported_in m (tree.yield s arg delegate) = supported_in m arg
   -- what `=` assigns to, and what `var` binds: sections 13.15.5 and 14.3.3
   supported_in m (tree.ident_pat s text) = not (bytes_eq text (codes "await"))
   supported_in m (tree.array_pat s elems) = supported_in m elems
@@ -100,9 +102,9 @@ abbrev mutual
   supported_in m (tree.break s label) = supported_in m label
   supported_in m (tree.continue s label) = supported_in m label
   supported_in m (tree.return s arg) = supported_in m arg
-  -- functions that are declared, neither async nor generators: section 15.2
+  -- functions that are declared: sections 15.2, 15.5, 15.6 and 15.8
   supported_in m (tree.fn_decl name fn) = supported_in m name && supported_in m fn
-  supported_in m (tree.function s decorators params body is_async is_generator) = not is_async && (not is_generator && (has_none decorators && (supported_in m params && supported_in m body)))
+  supported_in m (tree.function s decorators params body is_async is_generator) = has_none decorators && (supported_in m params && supported_in m body)
   supported_in m (tree.param s decorators p) = has_none decorators && supported_in m p
   -- Such functions as expressions, whose body does not turn parameters strict that are not all plain names. In module code nothing
   -- in them is a fault of it: section 15.2

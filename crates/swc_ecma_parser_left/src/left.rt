@@ -30,16 +30,12 @@ use swc_ecma_parser_trees::{
     BuildsCall, BuildsExpr, BuildsFunction, BuildsObject, BuildsOperator, BuildsPattern, MakerOf,
 };
 
-/// A name; `async function` on one line is none.
+/// A name.
 #[tactic(auto, unfolding(swc_ecma_parser_reader::specs::Expressions::ident_expr))]
 fn ident_expr<P: Source, T: BuildsExpr>(alloc: Global, p: &mut P) -> PResult<T::Expr>
     ensures { GivesAs T.expr_of (exprs.ident_expr (P.seen p.old)) result (P.seen p.new) }
 {
-    let is_function = p.is_async_function();
     let name = p.name(Wanted::Expression)?;
-    if is_function {
-        return Err(p.wanted(Wanted::Expression));
-    }
     grown(p, T::ident(alloc, name))
 }
 
@@ -159,7 +155,7 @@ fn marked_primary<
 }
 
 /// A primary expression: section 13.2.
-#[tactic(auto, unfolding(swc_ecma_parser_reader::specs::Expressions::primary))]
+#[tactic(auto, unfolding(swc_ecma_parser_reader::specs::Expressions::primary, swc_ecma_parser_reader::specs::Expressions::named_expr))]
 fn primary<
     P: Source,
     T: BuildsExpr + BuildsCall + BuildsObject + BuildsOperator + BuildsPattern + BuildsFunction,
@@ -171,6 +167,9 @@ fn primary<
     ensures { GivesAs (T.expr_of) (exprs.primary (rules.expr g.now.depth) (rules.cover g.now.depth) (rules.function g.now.depth) (P.seen p.old)) result (P.seen p.new) }
 {
     if p.name_at() {
+        if p.is_async_function() {
+            return function_expr(g, t, p);
+        }
         return ident_expr::<P, T>(t.alloc, p);
     }
     if let Some(literal) = p.literal()? {

@@ -10,7 +10,7 @@ ghost use Rattle.swc_ecma_parser_reader.specs.Reader as rules;
 ghost use Rattle.swc_ecma_parser_reader.specs.State.{GivesAs};
 
 use crate::operator::{
-    assigns_here, behind_operators, binary_from, operator_here, operators_expr, postfixed,
+    assigns_here, behind_operators, binary_from, operator_here, plain_expr, postfixed,
     sequence_from,
 };
 use swc_ecma_parser_common::Span;
@@ -174,7 +174,7 @@ pub fn cover_expr<
     if p.sees(TokenKind::LBracket) || p.sees(TokenKind::LBrace) {
         return open_literal(g, t, p);
     }
-    Ok(done(operators_expr(g, t, p)?))
+    Ok(done(plain_expr(g, t, p)?))
 }
 
 /// An assignment expression: section 13.15.

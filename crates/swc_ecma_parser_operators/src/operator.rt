@@ -14,6 +14,7 @@ use crate::assignment::assignment_expr;
 use std::alloc::Global;
 use swc_ecma_parser_common::Span;
 use swc_ecma_parser_error::{PResult, SyntaxError};
+use swc_ecma_parser_functions::yields::{begins_yield, yield_expr};
 use swc_ecma_parser_grammar::{Class, Position};
 use swc_ecma_parser_inner::cover::{Cover, Reading, inside, nested};
 use swc_ecma_parser_inner::grammar::{Grammar, Part};
@@ -407,7 +408,7 @@ pub(crate) fn behind_operators<
 
 /// Operands and operators, and what stands behind them.
 #[tactic(auto, unfolding(swc_ecma_parser_reader::specs::Expressions::operators_expr))]
-pub(crate) fn operators_expr<
+fn operators_expr<
     P: Source,
     T: BuildsExpr + BuildsCall + BuildsObject + BuildsOperator + BuildsPattern + BuildsFunction,
     S: Fn(&MakerOf<T>, &mut P, usize, Position) -> PResult<T::Stmt>,
@@ -421,6 +422,24 @@ pub(crate) fn operators_expr<
     let start = p.span();
     let x = binary_expr(g, t, p, 1)?;
     behind_operators(g, t, p, is_async, start, x)
+}
+
+/// `yield`, which is no operand, or operands and operators.
+#[tactic(auto, unfolding(swc_ecma_parser_reader::specs::Expressions::plain_expr))]
+pub(crate) fn plain_expr<
+    P: Source,
+    T: BuildsExpr + BuildsCall + BuildsObject + BuildsOperator + BuildsPattern + BuildsFunction,
+    S: Fn(&MakerOf<T>, &mut P, usize, Position) -> PResult<T::Stmt>,
+    E: Fn(&MakerOf<T>, &mut P, usize, Reading) -> PResult<Cover<T::Expr>>,
+    N: Fn(&MakerOf<T>, &mut P, usize, Part) -> PResult<T::Pat>,
+>(g: &Grammar<S, E, N>, t: &MakerOf<T>, p: &mut P) -> PResult<T::Expr>
+    requires { Nests P.seen T.expr_of T.pat_of T.stmt_of g.now.depth (S.pre g.now.stmt) (S.post g.now.stmt) (E.pre g.now.expr) (E.post g.now.expr) (N.pre g.now.pat) (N.post g.now.pat) }
+    ensures { GivesAs (T.expr_of) (exprs.plain_expr (rules.expr g.now.depth) (rules.cover g.now.depth) (rules.function g.now.depth) (P.seen p.old)) result (P.seen p.new) }
+{
+    if begins_yield(p) {
+        return yield_expr(g, t, p);
+    }
+    operators_expr(g, t, p)
 }
 
 /// The rest of a sequence, behind what was read from a place on: section 13.16.

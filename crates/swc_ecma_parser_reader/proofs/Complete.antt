@@ -1,4 +1,5 @@
 -- What the grammar allows is read, with the faults of the walk and the notes held back, and no others.
+use Rattle.swc_ecma_parser_reader.proofs.Words.{plain_function, async_stands, async_kind, or_earlier}
 use Rattle.swc_ecma_parser_reader.proofs.SoundFunctions.{parameters_walk, parameters_notes}
 use Rattle.swc_ecma_parser_grammar.specs.Parameters.{parameters as parameter_trees}
 use Rattle.swc_ecma_parser_grammar.specs.Walk.{in_body as walks_in_body, in_params, walk_body}
@@ -10,13 +11,13 @@ use Rattle.swc_ecma_parser_grammar.specs.Own.{labelled_function, duplicates, mis
 use Rattle.swc_ecma_parser_grammar.specs.Reads.{labeled_rule, with_rule, function_rule, ReadsFunction, ReadsFunctionExpr, OwnNameRule, no_own_name_rule, own_name_rule, ReadsBraced}
 use Rattle.swc_ecma_parser_grammar.specs.Names.{is_name, name_at, first_is_name}
 use Rattle.swc_ecma_parser_grammar.specs.language.Items.{labelled_item}
-use Rattle.swc_ecma_parser_reader.specs.Reader.{begins_label, relabels, labelled_body, labeled_stmt, other_stmt, with_stmt, await_here, misdirected, function_body, function_parts, function_decl, function_stmt}
+use Rattle.swc_ecma_parser_reader.specs.Reader.{begins_label, relabels, labelled_body, labeled_stmt, other_stmt, with_stmt, await_here, misdirected, function_body, function_parts, function_decl, function_stmt, function_word, async_or_other}
 use Rattle.swc_ecma_parser_grammar.proofs.SupportedBegins.{opens}
 use Rattle.swc_ecma_parser_grammar.proofs.Marks.{no_word}
 use Rattle.swc_ecma_parser_reader.proofs.Opens.{unopened, let_stands, let_before_colon}
 use Rattle.swc_ecma_parser_reader.proofs.expressions.SoundLefts.{word_stands}
 use Rattle.swc_ecma_parser_reader.specs.Reader.{head_part, misdeclared, for_parts, for_in, for_of, for_behind, for_stmt, const_stmt, let_stmt}
-use Rattle.swc_ecma_parser_grammar.specs.Follows.{word_at, is_async_of, AwaitWord, is_bare_async, no_await, await_word}
+use Rattle.swc_ecma_parser_grammar.specs.Follows.{word_at, is_async_of, AwaitWord, is_bare_async, no_await, await_word, Star, no_star, star as starred, AsyncWord, not_async, async_word, is_async_function}
 use Rattle.swc_ecma_parser_grammar.specs.Own.{head_faults}
 use Rattle.swc_ecma_parser_grammar.specs.Reads.{InitRule, LeftRule, PartRule, no_part_rule, part_rule, for_rule, for_in_rule, for_of_rule}
 use Rattle.swc_ecma_parser_model.specs.declared.leaves.VarDeclKind.TheVariants as decl
@@ -47,7 +48,7 @@ use Rattle.swc_ecma_parser_grammar.specs.language.Noted.{has_meta}
 use Rattle.swc_ecma_parser_grammar.specs.Walk.{Env, env_of, walk, walks}
 use Rattle.swc_ecma_parser_reader.specs.Notes.{Notes, ◌⊕◌, notes_of, all_notes_of, held}
 use Rattle.swc_ecma_parser_reader.specs.State.{Scope, State, Outcome, and_then, loop}
-use Rattle.swc_ecma_parser_reader.specs.Reader.{named, own_name, function_expr, expr, cover, head_cover, pattern, element, parameters, function}
+use Rattle.swc_ecma_parser_reader.specs.Reader.{star, named, own_name, function_expr, expr, cover, head_cover, pattern, element, parameters, function}
 use Rattle.swc_ecma_parser_reader.specs.Reader.{closes, at_end, block_from, block, braced, expr_stmt_at, import_stmt_at, while_stmt, do_while, goes_on, closed_link, alternative, link_from, link, if_stmt, begins_clause, closes_clause, clause_from, default_clause, case_clause, clause, clauses_turn, clauses, switch_stmt, is_handled, handled, bound, parameter, finalizer, caught, handler, try_stmt, stmt_level, stmt, script_body, script}
 use Rattle.swc_ecma_parser_reader.specs.Entry.{script_left}
 use Rattle.swc_ecma_parser_reader.proofs.Notes.{or_nil, or_assoc}
@@ -101,12 +102,22 @@ module _ (n : ℕ) (below : Below n) (reads : (at : Position) (k : Code) (x : Tr
   -- ---- functions
 
   -- a body has labels of its own, and what is found in it is not told
-  function_body_reads : (k : Code) (x : Tree) (c d : Place) (w : Scope) (f : List Fault) (h : Notes) → ReadsBraced (ReadsStmt n) true (in_body k false false) x c d
-      → function_body (stmt n nested_item) (parameters n) (st c k w f h)
+  function_body_reads : (a g : Bool) (k : Code) (x : Tree) (c d : Place) (w : Scope) (f : List Fault) (h : Notes) → ReadsBraced (ReadsStmt n) true (in_body k a g) x c d
+      → function_body (stmt n nested_item) (parameters n) a g (st c k w f h)
       ≡ Ok (x, st d k w (f ++ walk_body (walks_in_body (env_of k w.labels)) x) (record { held_back = h.held_back ++ notes x; found_module_item = h.found_module_item }))
   unfolding function_body
-  function_body_reads k x c d w f h r =
-      rw (body_reads true (in_body k false false) x c d (record w { labels = [] }) f h r, behind_setting (in_body k false false) true r.items, r.is) refl
+  function_body_reads a g k x c d w f h r =
+      rw (body_reads true (in_body k a g) x c d (record w { labels = [] }) f h r, behind_setting (in_body k a g) true r.items, r.is) refl
+
+  word_reads : {b : Bool} (k : Code) (c m : Place) (w : Scope) (f : List Fault) (h : Notes) → AsyncWord b c m → kind_at m ≡ kind.Function → function_word (st c k w f h) ≡ Ok (b, st (after m) k w f h)
+  unfolding function_word
+  word_reads k c m w f h (not_async i j) e = rw (plain_function c (ap kind_at (sym j) ∙ e), i, j) refl
+  word_reads k c m w f h (async_word i j l o) e = rw (async_stands c m j l o e, i, l) refl
+
+  star_reads : (g : Bool) (k : Code) (c d : Place) (w : Scope) (f : List Fault) (h : Notes) → Star g c d → sees kind.Mul d ≡ false → star (st c k w f h) ≡ Ok (g, st d k w f h)
+  unfolding star
+  star_reads g k c d w f h (no_star i n) m = rw (i, n, ap (sees kind.Mul) (sym n) ∙ m) refl
+  star_reads g k c d w f h (starred i o n) m = rw (i, n, seen c kind.Mul o) refl
 
   function_reads : (k : Code) (x : Tree) (c d : Place) → ReadsFunction (ReadsStmt n) (ReadsParams n) k x c d → ReadsCalm (function_decl (stmt n nested_item) (parameters n)) k x c d
   unfolding function_decl function_parts misdirected spanned
@@ -116,9 +127,11 @@ module _ (n : ℕ) (below : Below n) (reads : (at : Position) (k : Code) (x : Tr
       let b = walk_body (walks_in_body env) r.body in
       let l = misplaced_directive (has_plain_params (parameter_trees r.patterns)) r.body in
       rw (
-        name_reads faults.ExpectedIdent r.name r.name_span (after c) r.behind_name k w f h r.reads_name r.is_named,
-        parameters_reads n below (in_parameters k false false) r.patterns r.behind_name r.middle r.reads_parameters w f h,
-        function_body_reads k r.body r.middle d w (f ++ a) (h ⊕ all_notes_of (trees r.patterns)) r.reads_body,
+        word_reads k c r.word w f h r.reads_async r.is_function,
+        star_reads r.is_generator k (after r.word) r.behind_word w f h r.reads_star (kinds.no_star r.name r.name_span r.behind_word r.behind_name r.reads_name),
+        name_reads faults.ExpectedIdent r.name r.name_span r.behind_word r.behind_name k w f h r.reads_name r.is_named,
+        parameters_reads n below (in_parameters k r.is_async r.is_generator) r.patterns r.behind_name r.middle r.reads_parameters w f h,
+        function_body_reads r.is_async r.is_generator k r.body r.middle d w (f ++ a) (h ⊕ all_notes_of (trees r.patterns)) r.reads_body,
         told_reads l d k w (f ++ a ++ b) _ (calm_last d (a ++ b) l (walk env x) (ap (walk env) r.is ∙ ap (λ z. z ++ b ++ l) (parameters_walk (in_params env) r.patterns)) q),
         r.is,
         parameters_walk (in_params env) r.patterns,
@@ -127,15 +140,21 @@ module _ (n : ℕ) (below : Below n) (reads : (at : Position) (k : Code) (x : Tr
       ) (simp (append_assoc) refl)
 
   -- the name of one that is an expression
-  own_name_reads : (i : Tree) (k : Code) (c d : Place) (w : Scope) (f : List Fault) (h : Notes) → OwnNameRule k i c d → own_name (st c k w f h) ≡ Ok (i, st d k w f h)
+  own_name_reads : (a v : Bool) (i : Tree) (k : Code) (c d : Place) (w : Scope) (f : List Fault) (h : Notes) → OwnNameRule k a v i c d → own_name a v (st c k w f h) ≡ Ok (i, st d k w f h)
   unfolding own_name named
-  own_name_reads i k c d w f h (no_own_name_rule l e g) = rw ((kinds.paren_here (named_by k false false).flags c l).0, e, g) refl
-  own_name_reads i k c d w f h (own_name_rule v sp r o g) =
-      rw (kinds.named (token.Word v) sp c d (named_by k false false) true r o, name_reads faults.ExpectedIdent v sp c d (named_by k false false) w f h r o, g) refl
+  own_name_reads a v i k c d w f h (no_own_name_rule l e g) = rw ((kinds.paren_here (named_by k a v).flags c l).0, e, g) refl
+  own_name_reads a v i k c d w f h (own_name_rule u sp r o g) =
+      rw (kinds.named (token.Word u) sp c d (named_by k a v) true r o, name_reads faults.ExpectedIdent u sp c d (named_by k a v) w f h r o, g) refl
 
-  own_name_quiet : {k : Code} {i : Tree} {c d : Place} (env : Env) → OwnNameRule k i c d → (walk env i ≡ []) × (notes i ≡ []) × (has_meta i ≡ false)
+  -- no `*` stands where it or the parameters begin
+  own_name_no_star : {k : Code} {a v : Bool} {i : Tree} {c d : Place} → OwnNameRule k a v i c d → sees kind.Mul c ≡ false
+  unfolding same_kind
+  own_name_no_star (no_own_name_rule l e g) = rw l refl
+  own_name_no_star {c = c} {d = d} (own_name_rule u sp r o g) = kinds.no_star u sp c d r
+
+  own_name_quiet : {k : Code} {a v : Bool} {i : Tree} {c d : Place} (env : Env) → OwnNameRule k a v i c d → (walk env i ≡ []) × (notes i ≡ []) × (has_meta i ≡ false)
   own_name_quiet env (no_own_name_rule l e g) = (ap (walk env) g, ap notes g, ap has_meta g)
-  own_name_quiet env (own_name_rule v sp r o g) = (ap (walk env) g, ap notes g, ap has_meta g)
+  own_name_quiet env (own_name_rule u sp r o g) = (ap (walk env) g, ap notes g, ap has_meta g)
 
   -- no fault is told behind it, so an error token may stand there
   function_expr_reads : (k : Code) (x : Tree) (c d : Place) → ReadsFunctionExpr (ReadsStmt n) (ReadsParams n) k x c d → Reads (function n) k x c d
@@ -145,9 +164,11 @@ module _ (n : ℕ) (below : Below n) (reads : (at : Position) (k : Code) (x : Tr
       let a = walks (in_params env) false (trees r.patterns) in
       let quiet = own_name_quiet env r.reads_name in
       rw (
-        own_name_reads r.name k (after c) r.behind_name w f h r.reads_name,
-        parameters_reads n below (in_parameters k false false) r.patterns r.behind_name r.middle r.reads_parameters w f h,
-        function_body_reads k r.body r.middle d w (f ++ a) (h ⊕ all_notes_of (trees r.patterns)) r.reads_body,
+        word_reads k c r.word w f h r.reads_async r.is_function,
+        star_reads r.is_generator k (after r.word) r.behind_word w f h r.reads_star (own_name_no_star r.reads_name),
+        own_name_reads r.is_async r.is_generator r.name k r.behind_word r.behind_name w f h r.reads_name,
+        parameters_reads n below (in_parameters k r.is_async r.is_generator) r.patterns r.behind_name r.middle r.reads_parameters w f h,
+        function_body_reads r.is_async r.is_generator k r.body r.middle d w (f ++ a) (h ⊕ all_notes_of (trees r.patterns)) r.reads_body,
         r.is,
         r.directs,
         quiet.0,
@@ -525,10 +546,22 @@ module _ (n : ℕ) (below : Below n) (reads : (at : Position) (k : Code) (x : Tr
       by_test true g = refl
       by_test false g = cc
 
+  colon_no_function : (m : Place) → kind_at m ≡ kind.Colon → sees kind.Function m ≡ false
+  unfolding same_kind
+  colon_no_function m e = rw e refl
+
+  -- a function where declarations are read, or an async one
+  function_statement : {b : Bool} (at : Position) (k : Code) (x : Tree) (c d m : Place) → at.include_decl || is_async_function c ≡ true → AsyncWord b c m → kind_at m ≡ kind.Function
+      → ReadsCalm (function_decl (stmt n nested_item) (parameters n)) k x c d → ReadsCalm (stmt_level (stmt n) (expr n) (pattern n) (head_cover n) (parameters n) at) k x c d
+  unfolding stmt_level function_stmt async_or_other
+  function_statement at k x c d m a (not_async i j) e reads w f h q =
+      let v = ap kind_at (sym j) ∙ e in rw (v, or_earlier at.include_decl (is_async_function c) a (plain_function c v)) (reads w f h q)
+  function_statement at k x c d m a (async_word i j l o) e reads w f h q = let v = async_stands c m j l o e in rw (async_kind c v, v) (reads w f h q)
+
   by_rules : (at : Position) (k : Code) (x : Tree) (c d : Place) → StmtRule (ReadsStmt n) (ReadsClass n) (ReadsPat n) (ReadsTarget n) (ReadsParams n) k at x c d
       → ReadsCalm (stmt_level (stmt n) (expr n) (pattern n) (head_cover n) (parameters n) at) k x c d
   unfolding stmt_level other_stmt const_stmt let_stmt expr_stmt_at import_stmt_at function_stmt
-  by_rules at k x c d (function_rule a r) w f h q = rw (r.is_function, a) (function_reads k x c d r w f h q)
+  by_rules at k x c d (function_rule a r) w f h q = function_statement at k x c d r.word a r.reads_async r.is_function (function_reads k x c d r) w f h q
   by_rules at k x c d (block_rule r) w f h q = rw r.opens (block_reads k x c d r w f h)
   by_rules at k x c d (empty_rule e g i) w f h q = rw e (empty_reads k x c d g i w f h)
   by_rules at k x c d (debugger_rule e g i) w f h q = rw e (debugger_reads k x c d g i w f h)
@@ -546,7 +579,7 @@ module _ (n : ℕ) (below : Below n) (reads : (at : Position) (k : Code) (x : Tr
   by_rules at k x c d (labeled_rule v s y m r o i t e) w f h q =
       let b = name_begins k.flags v s c m r o in
       opened (stmt n) (expr n) (pattern n) (head_cover n) (parameters n) at (st c k w f h) (kind_at c) (word_begins k.flags v s c m r o) (no_brace v s c m r) b.1 (name_no_const k.flags v s c m r o)
-      (and_no at.include_decl _ (let_before_colon c (seen (after c) kind.Colon (ap kind_at (sym r.next) ∙ i)))) (name_no_function k.flags v s c m r o)
+      (and_no at.include_decl _ (let_before_colon c (seen (after c) kind.Colon (ap kind_at (sym r.next) ∙ i)))) (name_no_function k.flags v s c m r o) (kinds.no_async_function c m r.next (colon_no_function m i))
       ∙ rw (label_begins k v s c m r o i) (labeled_reads v s y m k x c d r o i t e w f h q)
   by_rules at k x c d (throw_rule y m e b r g i) w f h q = rw e (throw_reads n below y m k x c d b r g i w f h)
   by_rules at k x c d (try_rule y z v m i e r s t b g) w f h q = rw e (try_reads y z v m i k x c d r s t b g w f h)
@@ -555,7 +588,7 @@ module _ (n : ℕ) (below : Below n) (reads : (at : Position) (k : Code) (x : Tr
   by_rules at k x c d (do_while_rule y z m i e s j r g o) w f h q = rw e (do_while_reads y z m i k x c d s j r g o w f h)
   by_rules at k x c d (expr_rule e m b r l i g j) w f h q =
       let o = no_block_or_import at c b in
-      opened (stmt n) (expr n) (pattern n) (head_cover n) (parameters n) at (st c k w f h) (kind_at c) (expr_opens n (with_in k) e c m r) o.0 o.1 (expr_no_const n (with_in k) e c m r) o.2 o.3
+      opened (stmt n) (expr n) (pattern n) (head_cover n) (parameters n) at (st c k w f h) (kind_at c) (expr_opens n (with_in k) e c m r) o.0 o.1 (expr_no_const n (with_in k) e c m r) o.2 o.3 o.4
       ∙ rw (no_label_here n below k e c m r l, b) (expr_stmt_reads n below e m k x c d r l i g j w f h)
   by_rules at k x c d (import_rule e m b r g j) w f h q = rw (import_stands c b, b) (import_stmt_reads n below e m k x c d b r g j w f h)
 

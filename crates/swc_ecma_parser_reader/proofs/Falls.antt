@@ -1,10 +1,11 @@
 -- A statement takes a token at least.
+use Rattle.swc_ecma_parser_reader.proofs.Words.{async_kind, async_begins, function_begins, function_kind, begins_function}
 use Rattle.swc_ecma_parser_grammar.specs.Parameters.{parameters}
 use Rattle.swc_ecma_parser_reader.proofs.Errors.{is_error, fault_here}
 use Rattle.swc_ecma_parser_reader.proofs.patterns.Falls as patterns
 use Rattle.swc_ecma_parser_reader.specs.State.{Scope, and_then, below, relabelled, below_label, enclosed, unlabelled, fault_at, noted}
 use Rattle.swc_ecma_parser_grammar.specs.language.Items.{labelled_item}
-use Rattle.swc_ecma_parser_reader.specs.Reader.{begins_label, relabels, labelled_body, labeled_stmt, other_stmt, note_with, with_stmt, await_here, unless_awaited, function_body, function_decl, function_parts, function_stmt, misdirected}
+use Rattle.swc_ecma_parser_reader.specs.Reader.{begins_label, relabels, labelled_body, labeled_stmt, other_stmt, note_with, with_stmt, await_here, unless_awaited, function_body, function_decl, function_parts, function_stmt, misdirected, function_word, async_or_other}
 use Rattle.swc_ecma_parser_reader.specs.Reader.{missing_initializer, Opening, Nothing, Variables, Expression, as_init, as_left, head_variables, head_expression, opening, head_part, misdeclared, for_parts, for_in, for_of, for_behind, for_stmt, const_stmt, let_stmt}
 use Rattle.swc_ecma_parser_grammar.specs.language.Contexts.{without_in, named_by, in_body, in_parameters}
 use Rattle.swc_ecma_parser_grammar.specs.Variables.{is_const, needs_no_initializer}
@@ -23,7 +24,7 @@ use Rattle.swc_ecma_parser_model.specs.Tree.{Tree, Text}
 use Rattle.swc_ecma_parser_model.specs.Forms.{is_ident, is_ident_named}
 use Rattle.swc_ecma_parser_grammar.specs.declared.position.Position.{Position}
 use Rattle.swc_ecma_parser_grammar.specs.Looks.{kind_at, breaks_at, sees, same_kind, span_at}
-use Rattle.swc_ecma_parser_grammar.specs.Follows.{word_at, may_begin_expression_statement, begins_import_expression, is_let_declaration}
+use Rattle.swc_ecma_parser_grammar.specs.Follows.{word_at, may_begin_expression_statement, begins_import_expression, is_let_declaration, is_async_function}
 use Rattle.swc_ecma_parser_grammar.specs.Reads.{with_in, head_code, nested_item, top_item}
 use Rattle.swc_ecma_parser_grammar.specs.Ends.{ends_at}
 use Rattle.swc_ecma_parser_grammar.specs.Entries.{script_code}
@@ -33,12 +34,12 @@ use Rattle.swc_ecma_parser_grammar.specs.language.Items.{sub_statement}
 use Rattle.swc_ecma_parser_reader.specs.State.{State, Outcome, Reader, moved, coded, within, fault, labelled, labelled_as, name, expect, end}
 use Rattle.swc_ecma_parser_reader.specs.Expressions.{Cover}
 use Rattle.swc_ecma_parser_reader.specs.Reader as reader
-use Rattle.swc_ecma_parser_reader.specs.Reader.{named, own_name, function_expr, expr, cover, head_cover, pattern, element, function}
+use Rattle.swc_ecma_parser_reader.specs.Reader.{star, named, own_name, function_expr, expr, cover, head_cover, pattern, element, function}
 use Rattle.swc_ecma_parser_grammar.specs.Names.{name_at}
 use Rattle.swc_ecma_parser_reader.specs.Reader.{empty, debugger, uninitialized, initialized, declarator, declarators_turn, declarators, variables, closes, at_end, close, items_turn, items, block_from, block, braced, note_statement, no_label, expr_stmt, expr_stmt_at, told, target, unbroken, break_stmt, uncontinued, continue_stmt, misplaced, after_return, operand, returned, return_stmt, optional_end, import_stmt, import_stmt_at, thrown, throw, head, while_stmt, do_while, Link, goes_on, condition, alternative, link_from, link, behind_link, links, if_stmt, begins_clause, closes_clause, Clauses, clause_from, default_clause, case_clause, clause, clauses_turn, clauses, switch_stmt, is_handled, handled, bound, parameter, finalizer, caught, handler, try_stmt, stmt_by, stmt_level, stmt, shebang_in, shebang_taken, shebang, script_body, script}
 use Rattle.swc_ecma_parser_reader.proofs.Takes.{Falls, falls_then, falls_last, falls_coded, falls_if, less, falls_next, moves, takes, falls_past, falls_moved, wanted_falls, too_deep_falls, refuse_falls, refused_falls, fewer, name_falls, fault_falls, end_falls, close_falls, expect_falls, loop_falls}
 use Rattle.swc_ecma_parser_reader.proofs.expressions.Falls as exprs
-use Rattle.swc_ecma_parser_reader.proofs.expressions.Falls.{reject_falls}
+use Rattle.swc_ecma_parser_reader.proofs.expressions.Falls.{reject_falls, falls_when}
 
 -- a choice whose test is known
 falls_where : {A : Type 0} (k n : ℕ) (b : Bool) (x y : Outcome A) → (b ≡ true → Falls k n x) → Falls k n y → Falls k n (cond b x y)
@@ -504,46 +505,62 @@ found_falls : {A B : Type 0} (n : ℕ) (o : Outcome A) (f : A → State → Stat
 found_falls n (Ok p) f g e h = subst (λ c. length c.left + 0 ≤ n) (sym (e p.0 p.1)) h
 found_falls n (Err e) f g k h = tt
 
+-- what a function begins with is taken
+function_word_falls : (s : State) → begins_function s.at ≡ true → Falls 1 (length s.at.left) (function_word s)
+unfolding function_word
+function_word_falls s e = falls_when 1 (length s.at.left) (is_async_function s.at) _ _
+    (λ h. let b = moves (after s.at) in let c = takes s.at (λ g. let k = sym g ∙ async_kind s.at h in cc) in omega arith)
+    (λ h. takes s.at (λ g. let k = sym g ∙ function_kind s.at e h in cc))
+
+star_falls : (s : State) → Falls 0 (length s.at.left) (star s)
+unfolding star
+star_falls s = falls_if 0 (length s.at.left) (sees kind.Mul s.at) _ _ (let b = moves s.at in omega arith) (omega arith)
+
 module _ (inner : Reader Tree) (h : (s : State) → Falls 1 (length s.at.left) (inner s)) (params : Reader (List Tree)) (g : (s : State) → Falls 0 (length s.at.left) (params s)) where
-  function_body_falls : (s : State) → Falls 0 (length s.at.left) (function_body inner params s)
+  function_body_falls : (w g : Bool) (s : State) → Falls 0 (length s.at.left) (function_body inner params w g s)
   unfolding function_body
-  function_body_falls s = let t = coded (in_body s.code false false) s in
+  function_body_falls w g s = let t = coded (in_body s.code w g) s in
       falls_coded 0 (length s.at.left) (enclosed (braced inner true) t) _ _
       (found_falls (length s.at.left) (braced inner true (unlabelled t)) _ _ (λ _ u. refl) (braced_falls inner h true (unlabelled t)))
 
-  function_parts_falls : (start : Span) (s : State) → Falls 0 (length s.at.left) (function_parts inner params start s)
+  function_parts_falls : (w v : Bool) (start : Span) (s : State) → Falls 0 (length s.at.left) (function_parts inner params w v start s)
   unfolding function_parts misdirected
-  function_parts_falls start s = falls_then 0 0 (length s.at.left) (within (λ k. in_parameters k false false) params s) _
-      (falls_coded 0 (length s.at.left) (params (coded (in_parameters s.code false false) s)) _ _ (g (coded (in_parameters s.code false false) s))) (λ ps t.
-      falls_then 0 0 (length t.at.left) (function_body inner params t) _ (function_body_falls t) (λ x u.
+  function_parts_falls w v start s = falls_then 0 0 (length s.at.left) (within (λ k. in_parameters k w v) params s) _
+      (falls_coded 0 (length s.at.left) (params (coded (in_parameters s.code w v) s)) _ _ (g (coded (in_parameters s.code w v) s))) (λ ps t.
+      falls_then 0 0 (length t.at.left) (function_body inner params w v t) _ (function_body_falls w v t) (λ x u.
       falls_last 0 (length u.at.left) (misdirected (parameters ps) x u) _ (told_falls _ u)))
 
-  function_falls : (s : State) → kind_at s.at ≢ kind.End → Falls 1 (length s.at.left) (function_decl inner params s)
+  function_falls : (s : State) → begins_function s.at ≡ true → Falls 1 (length s.at.left) (function_decl inner params s)
   unfolding function_decl
-  function_falls s e = falls_past s _ e (falls_then 0 0 (length (after s.at).left) (name faults.ExpectedIdent (moved s)) _
-      (less (length (after s.at).left) (name faults.ExpectedIdent (moved s)) (name_falls faults.ExpectedIdent (moved s))) (λ i t.
-      falls_last 0 (length t.at.left) (function_parts inner params (span_at s.at) t) _ (function_parts_falls (span_at s.at) t)))
+  function_falls s e = falls_next (length s.at.left) (function_word s) _ (function_word_falls s e) (λ w r.
+      falls_then 0 0 (length r.at.left) (star r) _ (star_falls r) (λ v u.
+      falls_then 0 0 (length u.at.left) (name faults.ExpectedIdent u) _
+      (less (length u.at.left) (name faults.ExpectedIdent u) (name_falls faults.ExpectedIdent u)) (λ i t.
+      falls_last 0 (length t.at.left) (function_parts inner params w v (span_at s.at) t) _ (function_parts_falls w v (span_at s.at) t))))
 
   -- a name may stand there or not
   named_own_falls : (s : State) → Falls 0 (length s.at.left) (named s)
   unfolding named
   named_own_falls s = falls_last 0 (length s.at.left) (name faults.ExpectedIdent s) _ (less (length s.at.left) (name faults.ExpectedIdent s) (name_falls faults.ExpectedIdent s))
 
-  own_name_falls : (s : State) → Falls 0 (length s.at.left) (own_name s)
+  own_name_falls : (w v : Bool) (s : State) → Falls 0 (length s.at.left) (own_name w v s)
   unfolding own_name
-  own_name_falls s = let t = coded (named_by s.code false false) s in
-      falls_if 0 (length s.at.left) (name_at (named_by s.code false false).flags s.at) _ _ (falls_coded 0 (length s.at.left) (named t) _ _ (named_own_falls t)) (omega arith)
+  own_name_falls w v s = let t = coded (named_by s.code w v) s in
+      falls_if 0 (length s.at.left) (name_at (named_by s.code w v).flags s.at) _ _ (falls_coded 0 (length s.at.left) (named t) _ _ (named_own_falls t)) (omega arith)
 
-  function_expr_falls : (s : State) → kind_at s.at ≢ kind.End → Falls 1 (length s.at.left) (function_expr inner params s)
+  function_expr_falls : (s : State) → begins_function s.at ≡ true → Falls 1 (length s.at.left) (function_expr inner params s)
   unfolding function_expr
-  function_expr_falls s e = falls_past s _ e (falls_then 0 0 (length (after s.at).left) (own_name (moved s)) _ (own_name_falls (moved s)) (λ i t.
-      falls_last 0 (length t.at.left) (function_parts inner params (span_at s.at) t) _ (function_parts_falls (span_at s.at) t)))
+  function_expr_falls s e = falls_next (length s.at.left) (function_word s) _ (function_word_falls s e) (λ w r.
+      falls_then 0 0 (length r.at.left) (star r) _ (star_falls r) (λ v u.
+      falls_then 0 0 (length u.at.left) (own_name w v u) _ (own_name_falls w v u) (λ i t.
+      falls_last 0 (length t.at.left) (function_parts inner params w v (span_at s.at) t) _ (function_parts_falls w v (span_at s.at) t))))
 
   -- no error token stands where the word does
   function_stmt_falls : (at : Position) (s : State) → kind_at s.at ≡ kind.Function → Falls 1 (length s.at.left) (function_stmt inner params at s)
   unfolding function_stmt
-  function_stmt_falls at s e = falls_if 1 (length s.at.left) at.include_decl _ _ (function_falls s (λ h. cc)) (rw (fault_here s (fault_at (span_at s.at) faults.DeclNotAllowed) (ap is_error e))
-      (function_falls (noted (fault_at (span_at s.at) faults.DeclNotAllowed) s) (λ h. cc)))
+  function_stmt_falls at s e = let b = function_begins s.at e in
+      falls_if 1 (length s.at.left) at.include_decl _ _ (function_falls s b) (rw (fault_here s (fault_at (span_at s.at) faults.DeclNotAllowed) (ap is_error e))
+      (function_falls (noted (fault_at (span_at s.at) faults.DeclNotAllowed) s) b))
 
 module _ (inner : Position → Reader Tree) (h : (at : Position) (s : State) → Falls 1 (length s.at.left) (inner at s))
     (inner_expr : Class → Reader Tree) (g : (class : Class) (s : State) → Falls 1 (length s.at.left) (inner_expr class s))
@@ -557,6 +574,11 @@ module _ (inner : Position → Reader Tree) (h : (at : Position) (s : State) →
   unfolding let_stmt
   let_falls at s e = falls_if 1 (length s.at.left) (at.include_decl && is_let_declaration s.at) _ _ (variables_falls inner_expr g inner_pat i decl.Let s e)
       (other_falls inner h (inner_expr expression) (g expression) at s)
+
+  async_or_other_falls : (at : Position) (s : State) → Falls 1 (length s.at.left) (async_or_other inner inner_expr inner_pat inner_cover inner_params at s)
+  unfolding async_or_other
+  async_or_other_falls at s = falls_when 1 (length s.at.left) (is_async_function s.at) _ _ (λ e. function_falls (inner nested_item) (h nested_item) inner_params l s (async_begins s.at e))
+      (λ _. other_falls inner h (inner_expr expression) (g expression) at s)
 
   stmt_by_falls : (at : Position) (k : TokenKind) (s : State) → kind_at s.at ≡ k → Falls 1 (length s.at.left) (stmt_by inner inner_expr inner_pat inner_cover inner_params at k s)
   stmt_by_falls at kind.LBrace s e = block_falls (inner nested_item) (h nested_item) s (λ h. cc)
@@ -577,6 +599,7 @@ module _ (inner : Position → Reader Tree) (h : (at : Position) (s : State) →
   stmt_by_falls at kind.Do s e = do_while_falls (inner sub_statement) (h sub_statement) (inner_expr expression) (g expression) s (λ h. cc)
   stmt_by_falls at kind.For s e = for_falls (inner sub_statement) (h sub_statement) inner_expr g inner_pat i inner_cover j s (λ h. cc)
   stmt_by_falls at kind.Function s e = function_stmt_falls (inner nested_item) (h nested_item) inner_params l at s e
+  stmt_by_falls at kind.Ident s e = async_or_other_falls at s
   stmt_by_falls at kind.Import s e = import_stmt_at_falls (inner_expr expression) (g expression) s
   stmt_by_falls at _ s e = other_falls inner h (inner_expr expression) (g expression) at s
 
@@ -610,7 +633,7 @@ module _ (n : ℕ) (b : Taken n) where
   parameters_taken s = less (length s.at.left) (reader.parameters n s)
       (patterns.parameter_list_falls (expr n) b.exprs (cover n) b.covers (pattern n) b.patterns (element n) b.elements s)
 
-  function_taken : (s : State) → kind_at s.at ≢ kind.End → Falls 1 (length s.at.left) (function n s)
+  function_taken : (s : State) → begins_function s.at ≡ true → Falls 1 (length s.at.left) (function n s)
   function_taken s = function_expr_falls (stmt n nested_item) (b.stmts nested_item) (reader.parameters n) parameters_taken s
 
 all_taken : (n : ℕ) → Taken n
@@ -654,7 +677,7 @@ element_falls n = (all_taken n).elements
 pub parameters_fall : (n : ℕ) (s : State) → Falls 0 (length s.at.left) (reader.parameters n s)
 parameters_fall n = parameters_taken n (all_taken n)
 
-pub functions_fall : (n : ℕ) (s : State) → kind_at s.at ≢ kind.End → Falls 1 (length s.at.left) (function n s)
+pub functions_fall : (n : ℕ) (s : State) → begins_function s.at ≡ true → Falls 1 (length s.at.left) (function n s)
 functions_fall n = function_taken n (all_taken n)
 
 -- a statement

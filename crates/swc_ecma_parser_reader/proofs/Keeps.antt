@@ -4,7 +4,7 @@ use Rattle.swc_ecma_parser_grammar.specs.Parameters.{parameters}
 use Rattle.swc_ecma_parser_reader.proofs.patterns.Keeps as patterns
 use Rattle.swc_ecma_parser_reader.proofs.expressions.Keeps as expressions
 use Rattle.swc_ecma_parser_reader.specs.Reader as reader
-use Rattle.swc_ecma_parser_reader.specs.Reader.{named, own_name, function_expr, expr, cover, head_cover, pattern, element, function}
+use Rattle.swc_ecma_parser_reader.specs.Reader.{star, named, own_name, function_expr, expr, cover, head_cover, pattern, element, function, function_word, async_or_other}
 use Rattle.swc_ecma_parser_grammar.specs.Names.{name_at}
 use Rattle.swc_ecma_parser_error.specs.declared.error.Error.{Error}
 use Rattle.swc_ecma_parser_grammar.specs.language.Programs.{at_top}
@@ -20,7 +20,7 @@ use Rattle.swc_ecma_parser_model.specs.Targets.{as_target}
 use Rattle.swc_ecma_parser_grammar.specs.Variables.{is_const, needs_no_initializer}
 use Rattle.swc_ecma_parser_grammar.specs.Own.{head_faults}
 use Rattle.swc_ecma_parser_grammar.specs.language.Contexts.{without_in, named_by, in_parameters, in_body}
-use Rattle.swc_ecma_parser_grammar.specs.Follows.{word_at, is_let_declaration}
+use Rattle.swc_ecma_parser_grammar.specs.Follows.{word_at, is_let_declaration, is_async_function}
 use Rattle.std.proofs.Common.{◌≡◌, ℕ, zero, suc, ◌+◌, Bool, true, false, cond, List, [], ◌∷◌, ◌++◌, length, Option, Some, None, Ok, Err, refl, Result, sym, ◌∙◌, ap, append_assoc}
 use Rattle.std.specs.Prelude.{◌&&◌, ◌||◌, is_some, codes}
 use Rattle.swc_ecma_parser_common.specs.declared.span.Span.{Span}
@@ -183,6 +183,16 @@ module _ (inner : Position → Reader Tree) (inner_expr : Class → Reader Tree)
 
 -- ---- what stands in braces, and functions
 
+-- the words that begin a function
+function_word_keeps : Passes function_word
+unfolding function_word
+function_word_keeps b t g = let k = behind_after b t g in answers_if _ _ (is_async_function t.at) _ _ (λ _. behind_after b (moved t) k) (λ _. k)
+
+-- the `*` of a generator
+star_keeps : Passes star
+unfolding star
+star_keeps b t g = answers_if _ _ (sees kind.Mul t.at) _ _ (λ _. behind_after b t g) (λ _. g)
+
 module _ (inner : Reader Tree) (below : Passes inner) where
   braces_from_keep : (directives : Bool) (start : Place) → Passes (block_from inner directives start)
   unfolding block_from
@@ -195,25 +205,27 @@ module _ (inner : Reader Tree) (below : Passes inner) where
 
   module _ (params : Reader (List Tree)) (below_params : Passes params) where
     -- from behind the name
-    function_parts_keep : (start : Span) → Passes (function_parts inner params start)
+    function_parts_keep : (r g : Bool) (start : Span) → Passes (function_parts inner params r g start)
     unfolding function_parts function_body misdirected
-    function_parts_keep start b u k =
-        answers_then (Kept b) _ (within (λ k. in_parameters k false false) params u) _
-        (answers_then (Kept b) _ (params (coded (in_parameters u.code false false) u)) _ (below_params b (coded (in_parameters u.code false false) u) k) (λ ps v j. j)) (λ ps v j.
-        answers_then (Kept b) _ (function_body inner params v) _
-        (answers_then (Kept b) _ (enclosed (braced inner true) (coded (in_body v.code false false) v)) _
-        (answers_then (Kept b) _ (braced inner true (unlabelled (coded (in_body v.code false false) v))) _ (braces_keep true b (unlabelled (coded (in_body v.code false false) v)) j) (λ x w z. z))
+    function_parts_keep r g start b u k =
+        answers_then (Kept b) _ (within (λ k. in_parameters k r g) params u) _
+        (answers_then (Kept b) _ (params (coded (in_parameters u.code r g) u)) _ (below_params b (coded (in_parameters u.code r g) u) k) (λ ps v j. j)) (λ ps v j.
+        answers_then (Kept b) _ (function_body inner params r g v) _
+        (answers_then (Kept b) _ (enclosed (braced inner true) (coded (in_body v.code r g) v)) _
+        (answers_then (Kept b) _ (braced inner true (unlabelled (coded (in_body v.code r g) v))) _ (braces_keep true b (unlabelled (coded (in_body v.code r g) v)) j) (λ x w z. z))
         (λ x w z. z)) (λ x w z. answers_then (Kept b) _ (misdirected (parameters ps) x w) _ (told_keeps b _ w z) (λ _ a c. c)))
 
-    own_name_keeps : Passes own_name
+    own_name_keeps : (w v : Bool) → Passes (own_name w v)
     unfolding own_name named
-    own_name_keeps b t g = let u = coded (named_by t.code false false) t in answers_if _ _ (name_at (named_by t.code false false).flags t.at) _ _
+    own_name_keeps w v b t g = let u = coded (named_by t.code w v) t in answers_if _ _ (name_at (named_by t.code w v).flags t.at) _ _
         (λ _. answers_then (Kept b) _ (named u) _ (answers_then (Kept b) _ (name faults.ExpectedIdent u) _ (name_keeps b u g faults.ExpectedIdent) (λ i v k. k)) (λ x v k. k)) (λ _. g)
 
     function_expr_keeps : Passes (function_expr inner params)
     unfolding function_expr
-    function_expr_keeps b t g = answers_then (Kept b) _ (own_name (moved t)) _ (own_name_keeps b (moved t) (behind_after b t g)) (λ i u k.
-        answers_then (Kept b) _ (function_parts inner params (span_at t.at) u) _ (function_parts_keep (span_at t.at) b u k) (λ x v j. j))
+    function_expr_keeps b t g = answers_then (Kept b) _ (function_word t) _ (function_word_keeps b t g) (λ w o m.
+        answers_then (Kept b) _ (star o) _ (star_keeps b o m) (λ v r l.
+        answers_then (Kept b) _ (own_name w v r) _ (own_name_keeps w v b r l) (λ i u k.
+        answers_then (Kept b) _ (function_parts inner params w v (span_at t.at) u) _ (function_parts_keep w v (span_at t.at) b u k) (λ x z j. j))))
 
 module _ (inner : Position → Reader Tree) (inner_expr : Class → Reader Tree) (inner_pat : Reader Tree) (inner_head : Reader Cover) (inner_params : Reader (List Tree))
     (below_stmt : (at : Position) → Passes (inner at)) (below_expr : (class : Class) → Passes (inner_expr class)) (below_pat : Passes inner_pat) (below_head : Passes inner_head)
@@ -495,14 +507,20 @@ module _ (inner : Position → Reader Tree) (inner_expr : Class → Reader Tree)
 
   function_keeps : (t : State) → IsBehind b t → Answers (Kept b) (Lost b) (function_decl (inner nested_item) inner_params t)
   unfolding function_decl
-  function_keeps t g = answers_then (Kept b) _ (name faults.ExpectedIdent (moved t)) _ (name_keeps b (moved t) (behind_after b t g) faults.ExpectedIdent) (λ i u k.
-      answers_then (Kept b) _ (function_parts (inner nested_item) inner_params (span_at t.at) u) _
-      (function_parts_keep (inner nested_item) (below_stmt nested_item) inner_params below_params (span_at t.at) b u k) (λ x v j. j))
+  function_keeps t g = answers_then (Kept b) _ (function_word t) _ (function_word_keeps b t g) (λ w o m.
+      answers_then (Kept b) _ (star o) _ (star_keeps b o m) (λ v r l.
+      answers_then (Kept b) _ (name faults.ExpectedIdent r) _ (name_keeps b r l faults.ExpectedIdent) (λ i u k.
+      answers_then (Kept b) _ (function_parts (inner nested_item) inner_params w v (span_at t.at) u) _
+      (function_parts_keep (inner nested_item) (below_stmt nested_item) inner_params below_params w v (span_at t.at) b u k) (λ x z j. j))))
 
   function_stmt_keeps : Answers (Kept b) (Lost b) (function_stmt (inner nested_item) inner_params at s)
   unfolding function_stmt
   function_stmt_keeps = answers_if _ _ at.include_decl _ _ (λ _. function_keeps s f) (λ _. answers_then (Kept b) _ (fault (fault_at (span_at s.at) faults.DeclNotAllowed) s) _
       (fault_keeps b s f (fault_at (span_at s.at) faults.DeclNotAllowed)) (λ _ t g. function_keeps t g))
+
+  async_or_other_keeps : Answers (Kept b) (Lost b) (async_or_other inner inner_expr inner_pat inner_head inner_params at s)
+  unfolding async_or_other
+  async_or_other_keeps = answers_if _ _ (is_async_function s.at) _ _ (λ _. function_keeps s f) (λ _. other_keeps)
 
   by_keeps : (k : TokenKind) → kind_at s.at ≡ k → Answers (Kept b) (Lost b) (stmt_by inner inner_expr inner_pat inner_head inner_params at k s)
   unfolding empty if_stmt
@@ -524,6 +542,7 @@ module _ (inner : Position → Reader Tree) (inner_expr : Class → Reader Tree)
   by_keeps kind.Do e = do_while_keeps e
   by_keeps kind.For e = for_keeps e
   by_keeps kind.Function e = function_stmt_keeps
+  by_keeps kind.Ident e = async_or_other_keeps
   by_keeps kind.Import e = import_stmt_at_keeps
   by_keeps _ e = other_keeps
 

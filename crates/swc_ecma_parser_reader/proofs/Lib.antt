@@ -1,6 +1,7 @@
 pub mod Notes
 pub mod Steps
 pub mod Takes
+pub mod Words
 pub mod Falls
 pub mod expressions
 pub mod patterns

@@ -1,11 +1,12 @@
 -- With twice as many levels as tokens, and two more, nothing is too deep but what an error token says: a statement and an
 -- expression below need a token, and the two can share their first.
+use Rattle.swc_ecma_parser_reader.proofs.Words.{async_kind, async_begins, function_begins, function_kind, begins_function}
 use Rattle.swc_ecma_parser_grammar.specs.Parameters.{parameters}
 use Rattle.swc_ecma_parser_reader.proofs.Errors.{is_error, fault_here}
 use Rattle.swc_ecma_parser_reader.proofs.patterns.Limits as patterns
 use Rattle.swc_ecma_parser_reader.proofs.expressions.Limits as expressions
 use Rattle.swc_ecma_parser_reader.specs.Reader as reader
-use Rattle.swc_ecma_parser_reader.specs.Reader.{named, own_name, function_expr, expr, cover, head_cover, pattern, element, function}
+use Rattle.swc_ecma_parser_reader.specs.Reader.{star, named, own_name, function_expr, expr, cover, head_cover, pattern, element, function, function_word, async_or_other}
 use Rattle.swc_ecma_parser_grammar.specs.Names.{name_at}
 use Rattle.swc_ecma_parser_reader.proofs.Meets.{saw}
 use Rattle.swc_ecma_parser_model.specs.Tree.{Text}
@@ -20,7 +21,7 @@ use Rattle.swc_ecma_parser_model.specs.Targets.{as_target}
 use Rattle.swc_ecma_parser_grammar.specs.Variables.{is_const, needs_no_initializer}
 use Rattle.swc_ecma_parser_grammar.specs.Own.{head_faults}
 use Rattle.swc_ecma_parser_grammar.specs.language.Contexts.{without_in, named_by, in_parameters, in_body}
-use Rattle.swc_ecma_parser_grammar.specs.Follows.{word_at, is_let_declaration}
+use Rattle.swc_ecma_parser_grammar.specs.Follows.{word_at, is_let_declaration, is_async_function}
 use Rattle.std.proofs.Common.{◌≡◌, ◌≢◌, ℕ, zero, suc, ◌+◌, ◌*◌, ◌≤◌, Bool, true, false, cond, List, [], ◌∷◌, ◌++◌, length, Option, Some, None, Ok, Err, refl, arith, ap}
 use Rattle.std.specs.Prelude.{◌&&◌, ◌||◌, is_some, codes}
 use Rattle.swc_ecma_parser_common.specs.declared.span.Span.{Span}
@@ -224,6 +225,20 @@ module _ (inner : Position → Reader Tree) (inner_expr : Class → Reader Tree)
 
 -- ---- what stands in braces, and functions
 
+-- the words that begin a function are tokens before the level below
+function_taken : (m : ℕ) (t : State) → begins_function t.at ≡ true → Fine m t.at.left → (i : ℕ) × (m ≡ suc i) × Answers (Kept i) Shallow (function_word t)
+unfolding function_word
+function_taken m t e f = by_word (is_async_function t.at) refl
+  where
+    by_word : (b : Bool) → is_async_function t.at ≡ b → (i : ℕ) × (m ≡ suc i) × Answers (Kept i) Shallow (cond (is_async_function t.at) (Ok (true, moved (moved t))) (Ok (false, moved t)))
+    by_word true h = let (i, l, g) = fine_taken m t.at kind.Ident (async_kind t.at h) (λ z. cc) f in (i, l, rw h (fine_after i (after t.at) g))
+    by_word false h = let (i, l, g) = fine_taken m t.at kind.Function (function_kind t.at e h) (λ z. cc) f in (i, l, rw h g)
+
+-- the `*` of a generator
+star_shallow : (i : ℕ) (t : State) → Fine i t.at.left → Answers (Kept i) Shallow (star t)
+unfolding star
+star_shallow i t g = answers_if _ _ (sees kind.Mul t.at) _ _ (λ _. fine_after i t.at g) (λ _. g)
+
 module _ (inner : Reader Tree) (n : ℕ) (below : StmtLevels n inner) where
   braces_from_shallow : (directives : Bool) (start : Place) → StmtLevels n (block_from inner directives start)
   unfolding block_from
@@ -236,29 +251,31 @@ module _ (inner : Reader Tree) (n : ℕ) (below : StmtLevels n inner) where
 
   module _ (params : Reader (List Tree)) (below_params : Levels n params) where
     -- from behind the name
-    function_parts_shallow : (start : Span) → StmtLevels n (function_parts inner params start)
+    function_parts_shallow : (r g : Bool) (start : Span) → StmtLevels n (function_parts inner params r g start)
     unfolding function_parts function_body misdirected
-    function_parts_shallow start i u h k =
-        answers_then (Kept i) _ (within (λ k. in_parameters k false false) params u) _
-        (answers_then (Kept i) _ (params (coded (in_parameters u.code false false) u)) _ (below_params i (coded (in_parameters u.code false false) u) (omega arith) k) (λ ps v j. j)) (λ ps v j.
-        answers_then (Kept i) _ (function_body inner params v) _
-        (answers_then (Kept i) _ (enclosed (braced inner true) (coded (in_body v.code false false) v)) _
-        (answers_then (Kept i) _ (braced inner true (unlabelled (coded (in_body v.code false false) v))) _
-        (braces_shallow true i (unlabelled (coded (in_body v.code false false) v)) h j) (λ x w z. z))
+    function_parts_shallow r g start i u h k =
+        answers_then (Kept i) _ (within (λ k. in_parameters k r g) params u) _
+        (answers_then (Kept i) _ (params (coded (in_parameters u.code r g) u)) _ (below_params i (coded (in_parameters u.code r g) u) (omega arith) k) (λ ps v j. j)) (λ ps v j.
+        answers_then (Kept i) _ (function_body inner params r g v) _
+        (answers_then (Kept i) _ (enclosed (braced inner true) (coded (in_body v.code r g) v)) _
+        (answers_then (Kept i) _ (braced inner true (unlabelled (coded (in_body v.code r g) v))) _
+        (braces_shallow true i (unlabelled (coded (in_body v.code r g) v)) h j) (λ x w z. z))
         (λ x w z. z)) (λ x w z. answers_then (Kept i) _ (misdirected (parameters ps) x w) _ (told_shallow i _ w z) (λ _ a c. c)))
 
-    own_name_shallow : (i : ℕ) (t : State) → Fine i t.at.left → Answers (Kept i) Shallow (own_name t)
+    own_name_shallow : (w v : Bool) (i : ℕ) (t : State) → Fine i t.at.left → Answers (Kept i) Shallow (own_name w v t)
     unfolding own_name named
-    own_name_shallow i t g = let u = coded (named_by t.code false false) t in answers_if _ _ (name_at (named_by t.code false false).flags t.at) _ _
+    own_name_shallow w v i t g = let u = coded (named_by t.code w v) t in answers_if _ _ (name_at (named_by t.code w v).flags t.at) _ _
         (λ _. answers_then (Kept i) _ (named u) _ (answers_then (Kept i) _ (name faults.ExpectedIdent u) _ (name_shallow i u g faults.ExpectedIdent (λ z. cc)) (λ x v k. k)) (λ x v k. k)) (λ _. g)
 
     -- its word is a token before the level below
-    function_expr_shallow : (m : ℕ) (t : State) → 2 * m ≤ suc n → kind_at t.at ≡ kind.Function → Fine m t.at.left → Answers (Kept m) Shallow (function_expr inner params t)
+    function_expr_shallow : (m : ℕ) (t : State) → 2 * m ≤ suc n → begins_function t.at ≡ true → Fine m t.at.left → Answers (Kept m) Shallow (function_expr inner params t)
     unfolding function_expr
     function_expr_shallow m t enough e f =
-        let (i, h, g) = fine_taken m t.at kind.Function e (λ z. cc) f in
-        answers_then (Kept m) _ (own_name (moved t)) _ (own_name_shallow i (moved t) g) (λ x u k.
-        answers_then (Kept m) _ (function_parts inner params (span_at t.at) u) _ (function_parts_shallow (span_at t.at) i u (omega arith) k) (λ y v j. fine_more i m v.at.left (omega arith) j))
+        let (i, h, g) = function_taken m t e f in
+        answers_then (Kept m) _ (function_word t) _ g (λ w o b.
+        answers_then (Kept m) _ (star o) _ (star_shallow i o b) (λ v r l.
+        answers_then (Kept m) _ (own_name w v r) _ (own_name_shallow w v i r l) (λ x u k.
+        answers_then (Kept m) _ (function_parts inner params w v (span_at t.at) u) _ (function_parts_shallow w v (span_at t.at) i u (omega arith) k) (λ y z j. fine_more i m z.at.left (omega arith) j))))
 
 module _ (inner : Position → Reader Tree) (inner_expr : Class → Reader Tree) (inner_pat : Reader Tree) (inner_head : Reader Cover) (inner_params : Reader (List Tree)) (n : ℕ)
     (below_stmt : (at : Position) → StmtLevels n (inner at)) (below_expr : (class : Class) → Levels n (inner_expr class)) (below_pat : Levels n inner_pat) (below_head : Levels n inner_head)
@@ -544,19 +561,25 @@ module _ (inner : Position → Reader Tree) (inner_expr : Class → Reader Tree)
       answers_then _ _ (finalizer (inner nested_item) u) _ (finalizer_shallow i (omega arith) u j) (λ z v l.
       answers_then _ _ (handled t.at v) _ (handled_shallow i t.at v l) (λ _ b a. fine_more i m b.at.left (omega arith) a))))
 
-  function_shallow : (t : State) → kind_at t.at ≡ kind.Function → Fine m t.at.left → Answers (Kept m) Shallow (function_decl (inner nested_item) inner_params t)
+  function_shallow : (t : State) → begins_function t.at ≡ true → Fine m t.at.left → Answers (Kept m) Shallow (function_decl (inner nested_item) inner_params t)
   unfolding function_decl
   function_shallow t e f =
-      let (i, h, g) = fine_taken m t.at kind.Function e (λ z. cc) f in
-      answers_then (Kept m) _ (name faults.ExpectedIdent (moved t)) _ (name_shallow i (moved t) g faults.ExpectedIdent (λ z. cc)) (λ x u k.
-      answers_then (Kept m) _ (function_parts (inner nested_item) inner_params (span_at t.at) u) _
-      (function_parts_shallow (inner nested_item) n (below_stmt nested_item) inner_params below_params (span_at t.at) i u (omega arith) k) (λ y v j. fine_more i m v.at.left (omega arith) j))
+      let (i, h, g) = function_taken m t e f in
+      answers_then (Kept m) _ (function_word t) _ g (λ w o b.
+      answers_then (Kept m) _ (star o) _ (star_shallow i o b) (λ v r l.
+      answers_then (Kept m) _ (name faults.ExpectedIdent r) _ (name_shallow i r l faults.ExpectedIdent (λ z. cc)) (λ x u k.
+      answers_then (Kept m) _ (function_parts (inner nested_item) inner_params w v (span_at t.at) u) _
+      (function_parts_shallow (inner nested_item) n (below_stmt nested_item) inner_params below_params w v (span_at t.at) i u (omega arith) k) (λ y z j. fine_more i m z.at.left (omega arith) j))))
 
   -- no error token stands where the word does
   function_stmt_shallow : kind_at s.at ≡ kind.Function → Answers (Kept m) Shallow (function_stmt (inner nested_item) inner_params at s)
   unfolding function_stmt
-  function_stmt_shallow e = answers_if _ _ at.include_decl _ _ (λ _. function_shallow s e f) (λ _. rw (fault_here s (fault_at (span_at s.at) faults.DeclNotAllowed) (ap is_error e))
-      (function_shallow (noted (fault_at (span_at s.at) faults.DeclNotAllowed) s) e f))
+  function_stmt_shallow e = answers_if _ _ at.include_decl _ _ (λ _. function_shallow s (function_begins s.at e) f) (λ _. rw (fault_here s (fault_at (span_at s.at) faults.DeclNotAllowed) (ap is_error e))
+      (function_shallow (noted (fault_at (span_at s.at) faults.DeclNotAllowed) s) (function_begins s.at e) f))
+
+  async_or_other_shallow : Answers (Kept m) Shallow (async_or_other inner inner_expr inner_pat inner_head inner_params at s)
+  unfolding async_or_other
+  async_or_other_shallow = answers_if _ _ (is_async_function s.at) _ _ (λ e. function_shallow s (async_begins s.at e) f) (λ _. other_shallow)
 
   by_shallow : (k : TokenKind) → kind_at s.at ≡ k → Answers (Kept m) Shallow (stmt_by inner inner_expr inner_pat inner_head inner_params at k s)
   unfolding empty if_stmt
@@ -578,6 +601,7 @@ module _ (inner : Position → Reader Tree) (inner_expr : Class → Reader Tree)
   by_shallow kind.Do e = do_while_shallow e
   by_shallow kind.For e = for_shallow e
   by_shallow kind.Function e = function_stmt_shallow e
+  by_shallow kind.Ident e = async_or_other_shallow
   by_shallow kind.Import e = import_stmt_at_shallow
   by_shallow _ e = other_shallow
 
@@ -601,7 +625,7 @@ module _ (n : ℕ) (b : Enough n) where
   parameters_enough : Levels n (reader.parameters n)
   parameters_enough m s h f = patterns.parameter_list_shallow (expr n) (cover n) (pattern n) (element n) n b.exprs b.covers b.patterns b.elements m (omega arith) s f
 
-  function_enough : (m : ℕ) (s : State) → 2 * m ≤ suc n → kind_at s.at ≡ kind.Function → Fine m s.at.left → Answers (Kept m) Shallow (function n s)
+  function_enough : (m : ℕ) (s : State) → 2 * m ≤ suc n → begins_function s.at ≡ true → Fine m s.at.left → Answers (Kept m) Shallow (function n s)
   function_enough = function_expr_shallow (stmt n nested_item) n (b.stmts nested_item) (reader.parameters n) parameters_enough
 
 all_enough : (n : ℕ) → Enough n

@@ -99,10 +99,10 @@ stmt_above n at s h = deeper (λ k. stmt k at s) n h
 
 -- ---- the name of a function that is an expression
 
-pub named_own : (s : State) → name_at (named_by s.code false false).flags s.at ≡ true → own_name s ≡ within (λ k. named_by k false false) named s
+pub named_own : (w g : Bool) (s : State) → name_at (named_by s.code w g).flags s.at ≡ true → own_name w g s ≡ within (λ k. named_by k w g) named s
 unfolding own_name
-named_own s e = rw e refl
+named_own w g s e = rw e refl
 
-pub no_own_name : (s : State) → name_at (named_by s.code false false).flags s.at ≡ false → own_name s ≡ Ok (tree.absent, s)
+pub no_own_name : (w g : Bool) (s : State) → name_at (named_by s.code w g).flags s.at ≡ false → own_name w g s ≡ Ok (tree.absent, s)
 unfolding own_name
-no_own_name s e = rw e refl
+no_own_name w g s e = rw e refl

@@ -1,5 +1,6 @@
 -- What the first token decides: an expression statement, one that begins with `import`, and that a body does not end there.
-use Rattle.std.proofs.Common.{◌≡◌, ℕ, zero, suc, Bool, true, false, List, [], ◌∷◌, refl, true≢false, sym, ◌∙◌, ap}
+use Rattle.swc_ecma_parser_grammar.proofs.StatementBegins.{word_place}
+use Rattle.std.proofs.Common.{◌≡◌, ℕ, zero, suc, Bool, true, false, List, [], ◌∷◌, refl, true≢false, sym, ◌∙◌, ap, codes}
 use Rattle.std.specs.Prelude.{not, ◌&&◌, ◌||◌}
 use Rattle.swc_ecma_parser_token.specs.declared.keyword.Keyword.{Keyword}
 use Rattle.swc_ecma_parser_token.specs.declared.keyword.Keyword.TheVariants as keyword
@@ -20,7 +21,7 @@ use Rattle.swc_ecma_parser_model.specs.Forms.{is_ident}
 use Rattle.swc_ecma_parser_grammar.specs.declared.position.Position.{Position}
 use Rattle.swc_ecma_parser_grammar.specs.Looks.{kind_at, sees, same_kind, first_kind}
 use Rattle.swc_ecma_parser_grammar.specs.Names.{Code}
-use Rattle.swc_ecma_parser_grammar.specs.Follows.{may_begin_expression_statement, begins_import_expression, may_begin_head, token_follows_let, first_follows_let, is_let_declaration, is_async_function}
+use Rattle.swc_ecma_parser_grammar.specs.Follows.{may_begin_expression_statement, begins_import_expression, may_begin_head, token_follows_let, first_follows_let, is_let_declaration, is_async_function, AsyncWord, not_async, async_word}
 use Rattle.swc_ecma_parser_grammar.specs.Variables.{begins_variables}
 use Rattle.swc_ecma_parser_grammar.specs.Reads.{with_in, StmtRule, block_rule, empty_rule, debugger_rule, variables_rule, if_statement_rule, switch_rule, labeled_rule, break_rule, continue_rule, return_rule, throw_rule, try_rule, while_rule, do_while_rule, for_rule, for_in_rule, for_of_rule, expr_rule, import_rule, if_rule, with_rule, function_rule}
 use Rattle.swc_ecma_parser_grammar.specs.Notes.{statement_note}
@@ -30,7 +31,7 @@ use Rattle.swc_ecma_parser_grammar.proofs.Tests.{and_yes, and_no}
 use Rattle.swc_ecma_parser_grammar.proofs.SupportedBegins.{opens, expr_opens, word_begins}
 use Rattle.swc_ecma_parser_reader.specs.State.{State, Reader}
 use Rattle.swc_ecma_parser_reader.specs.Expressions.{Cover}
-use Rattle.swc_ecma_parser_reader.specs.Reader.{closes, at_end, begins_clause, closes_clause, goes_on, other_stmt, let_stmt, stmt_by}
+use Rattle.swc_ecma_parser_reader.specs.Reader.{closes, at_end, begins_clause, closes_clause, goes_on, other_stmt, let_stmt, stmt_by, async_or_other}
 use Rattle.swc_ecma_parser_reader.proofs.Meets.{saw}
 use Rattle.swc_ecma_parser_reader.proofs.Errors.{is_error}
 use Rattle.swc_ecma_parser_reader.proofs.expressions.CompleteKinds.{import_unnamed}
@@ -38,43 +39,45 @@ use Rattle.swc_ecma_parser_reader.proofs.expressions.CompleteKinds.{import_unnam
 -- ---- an expression statement is read by its first token
 
 pub opened : (stmt : Position → Reader Tree) (expr : Class → Reader Tree) (pat : Reader Tree) (cover : Reader Cover) (params : Reader (List Tree)) (at : Position) (s : State) (k : TokenKind) → opens k ≡ true
-    → same_kind k kind.LBrace ≡ false → same_kind k kind.Import ≡ false → same_kind k kind.Const ≡ false → at.include_decl && is_let_declaration s.at ≡ false → same_kind k kind.Function ≡ false
+    → same_kind k kind.LBrace ≡ false → same_kind k kind.Import ≡ false → same_kind k kind.Const ≡ false → at.include_decl && is_let_declaration s.at ≡ false → same_kind k kind.Function ≡ false → is_async_function s.at ≡ false
     → stmt_by stmt expr pat cover params at k s ≡ other_stmt stmt (expr expression) at s
-unfolding same_kind let_stmt
-opened stmt expr pat cover params at s kind.LBrace e h g i l j = cc
-opened stmt expr pat cover params at s kind.Semi e h g i l j = cc
-opened stmt expr pat cover params at s kind.Debugger e h g i l j = cc
-opened stmt expr pat cover params at s kind.Var e h g i l j = cc
-opened stmt expr pat cover params at s kind.Const e h g i l j = cc
-opened stmt expr pat cover params at s kind.If e h g i l j = cc
-opened stmt expr pat cover params at s kind.Break e h g i l j = cc
-opened stmt expr pat cover params at s kind.Continue e h g i l j = cc
-opened stmt expr pat cover params at s kind.Return e h g i l j = cc
-opened stmt expr pat cover params at s kind.For e h g i l j = cc
-opened stmt expr pat cover params at s kind.Throw e h g i l j = cc
-opened stmt expr pat cover params at s kind.Switch e h g i l j = cc
-opened stmt expr pat cover params at s kind.Try e h g i l j = cc
-opened stmt expr pat cover params at s kind.With e h g i l j = cc
-opened stmt expr pat cover params at s kind.While e h g i l j = cc
-opened stmt expr pat cover params at s kind.Do e h g i l j = cc
-opened stmt expr pat cover params at s kind.Function e h g i l j = cc
-opened stmt expr pat cover params at s kind.Import e h g i l j = cc
-opened stmt expr pat cover params at s kind.Let e h g i l j = rw l refl
-opened stmt expr pat cover params at s _ e h g i l j = refl
+unfolding same_kind let_stmt async_or_other
+opened stmt expr pat cover params at s kind.LBrace e h g i l j a = cc
+opened stmt expr pat cover params at s kind.Semi e h g i l j a = cc
+opened stmt expr pat cover params at s kind.Debugger e h g i l j a = cc
+opened stmt expr pat cover params at s kind.Var e h g i l j a = cc
+opened stmt expr pat cover params at s kind.Const e h g i l j a = cc
+opened stmt expr pat cover params at s kind.If e h g i l j a = cc
+opened stmt expr pat cover params at s kind.Break e h g i l j a = cc
+opened stmt expr pat cover params at s kind.Continue e h g i l j a = cc
+opened stmt expr pat cover params at s kind.Return e h g i l j a = cc
+opened stmt expr pat cover params at s kind.For e h g i l j a = cc
+opened stmt expr pat cover params at s kind.Throw e h g i l j a = cc
+opened stmt expr pat cover params at s kind.Switch e h g i l j a = cc
+opened stmt expr pat cover params at s kind.Try e h g i l j a = cc
+opened stmt expr pat cover params at s kind.With e h g i l j a = cc
+opened stmt expr pat cover params at s kind.While e h g i l j a = cc
+opened stmt expr pat cover params at s kind.Do e h g i l j a = cc
+opened stmt expr pat cover params at s kind.Function e h g i l j a = cc
+opened stmt expr pat cover params at s kind.Import e h g i l j a = cc
+opened stmt expr pat cover params at s kind.Let e h g i l j a = rw l refl
+opened stmt expr pat cover params at s kind.Ident e h g i l j a = rw a refl
+opened stmt expr pat cover params at s _ e h g i l j a = refl
 
 -- where one may begin neither a block does nor `import`, nor a function or another declaration
 neither_by : (block function class import async declares : Bool) → not (block || (function || (class || (import || (async || declares))))) ≡ true
-    → (block ≡ false) × (import ≡ false) × (declares ≡ false) × (function ≡ false)
+    → (block ≡ false) × (import ≡ false) × (declares ≡ false) × (function ≡ false) × (async ≡ false)
 neither_by true function class import async declares h = cc
 neither_by false true class import async declares h = cc
 neither_by false false true import async declares h = cc
 neither_by false false false true async declares h = cc
 neither_by false false false false true declares h = cc
 neither_by false false false false false true h = cc
-neither_by false false false false false false h = (refl, refl, refl, refl)
+neither_by false false false false false false h = (refl, refl, refl, refl, refl)
 
 pub no_block_or_import : (at : Position) (c : Place) → may_begin_expression_statement at c ≡ true
     → (sees kind.LBrace c ≡ false) × (sees kind.Import c ≡ false) × (at.include_decl && is_let_declaration c ≡ false) × (sees kind.Function c ≡ false)
+    × (is_async_function c ≡ false)
 unfolding may_begin_expression_statement
 no_block_or_import at c h =
     neither_by (sees kind.LBrace c) (sees kind.Function c) (sees kind.Class c) (sees kind.Import c) (is_async_function c) (at.include_decl && is_let_declaration c) h
@@ -190,11 +193,16 @@ variables_go decl.Var c h = goes_by c kind.Var (saw c kind.Var h) (refl, refl, r
 variables_go decl.Const c h = goes_by c kind.Const (saw c kind.Const h) (refl, refl, refl, refl, refl)
 variables_go decl.Let c h = goes_by c kind.Let (let_stands c h) (refl, refl, refl, refl, refl)
 
+function_goes : {b : Bool} (c m : Place) → AsyncWord b c m → kind_at m ≡ kind.Function → Goes c
+unfolding same_kind
+function_goes c m (not_async i j) e = goes_by c kind.Function (ap kind_at (sym j) ∙ e) (refl, refl, refl, refl, refl)
+function_goes c m (async_word i j l n) e = goes_by c kind.Ident (word_place (codes "async") c j) (refl, refl, refl, refl, refl)
+
 rule_goes : (Stmt : Code → Position → Tree → Place → Place → Type 0) (Expr : Class → Code → Tree → Place → Place → Type 0) (Pat Target : Code → Tree → Place → Place → Type 0)
     (Params : Code → List Tree → Place → Place → Type 0) → ((k : Code) (x : Tree) (c d : Place) → Expr expression k x c d → opens (kind_at c) ≡ true)
     → (k : Code) (at : Position) (x : Tree) (c d : Place) → StmtRule Stmt Expr Pat Target Params k at x c d → Goes c
 unfolding same_kind
-rule_goes Stmt Expr Pat Target Params h k at x c d (function_rule a r) = goes_by c kind.Function r.is_function (refl, refl, refl, refl, refl)
+rule_goes Stmt Expr Pat Target Params h k at x c d (function_rule a r) = function_goes c r.word r.reads_async r.is_function
 rule_goes Stmt Expr Pat Target Params h k at x c d (block_rule r) = goes_by c kind.LBrace r.opens (refl, refl, refl, refl, refl)
 rule_goes Stmt Expr Pat Target Params h k at x c d (empty_rule e g i) = goes_by c kind.Semi e (refl, refl, refl, refl, refl)
 rule_goes Stmt Expr Pat Target Params h k at x c d (debugger_rule e g i) = goes_by c kind.Debugger e (refl, refl, refl, refl, refl)

@@ -1,5 +1,7 @@
--- No statement that is read is a function, so what a label stands at has no fault of its own; and a label is told once for each
--- equal one around.
+-- A statement that is read is a function exactly where its word stands first, and a generator where `*` stands behind it, so what
+-- a label stands at has a fault of its own there alone; and a label is told once for each equal one around.
+use Rattle.swc_ecma_parser_reader.proofs.Words.{plain_function}
+use Rattle.swc_ecma_parser_reader.proofs.Errors.{is_error, fault_here}
 use Rattle.swc_ecma_parser_input.specs.TokenSource.{means_out_of_memory}
 use Rattle.swc_ecma_parser_token.specs.declared.token.Token.{Token}
 use Rattle.swc_ecma_parser_token.specs.declared.token.Token.TheVariants as token
@@ -9,13 +11,13 @@ use Rattle.swc_ecma_parser_reader.specs.Reader as reader
 use Rattle.swc_ecma_parser_model.specs.declared.leaves.Ident.{Ident}
 use Rattle.swc_ecma_parser_grammar.specs.Parameters.{parameters}
 use Rattle.swc_ecma_parser_reader.proofs.expressions.SoundSteps.{reject_meets, meets_as}
-use Rattle.std.proofs.Common.{◌≡◌, ℕ, zero, suc, ◌+◌, ◌-◌, ◌<◌, Bool, true, false, cond, List, [], ◌∷◌, ◌++◌, length, replicate, count_by, Ok, Err, refl, ap, ◌∙◌, arith, Option, is_some, Some, None, append-nil}
+use Rattle.std.proofs.Common.{◌≡◌, ℕ, zero, suc, ◌+◌, ◌-◌, ◌<◌, Bool, true, false, cond, List, [], ◌∷◌, ◌++◌, length, replicate, count_by, Ok, Err, refl, ap, ◌∙◌, arith, Option, is_some, Some, None, append-nil, sym}
 use Rattle.std.specs.Str.{bytes_eq}
 use Rattle.swc_ecma_parser_error.specs.Kind.{Fault}
 use Rattle.swc_ecma_parser_grammar.specs.Own.{only, duplicates}
 use Rattle.swc_ecma_parser_grammar.specs.language.Items.{labelled_item}
-use Rattle.swc_ecma_parser_reader.specs.State.{coded, below, below_label, fault, fault_at, recorded_at, recorded_in}
-use Rattle.swc_ecma_parser_reader.specs.Reader.{told, with_stmt, note_with, await_here, unless_awaited, misdirected, function_body, function_parts, function_decl, function_stmt, expr, head_cover, pattern}
+use Rattle.swc_ecma_parser_reader.specs.State.{coded, below, below_label, fault, fault_at, recorded_at, recorded_in, noted}
+use Rattle.swc_ecma_parser_reader.specs.Reader.{star, told, with_stmt, note_with, await_here, unless_awaited, misdirected, function_body, function_parts, function_decl, function_stmt, expr, head_cover, pattern, function_word, async_or_other}
 use Rattle.swc_ecma_parser_reader.proofs.Meets.{meets_then}
 use Rattle.std.specs.Prelude.{◌&&◌, ◌||◌, codes}
 use Rattle.std.proofs.lemmas.List.Recursion.{is_count_by}
@@ -30,7 +32,7 @@ use Rattle.swc_ecma_parser_model.specs.Tree as tree
 use Rattle.swc_ecma_parser_model.specs.Tree.{Tree, Text}
 use Rattle.swc_ecma_parser_grammar.specs.declared.position.Position.{Position}
 use Rattle.swc_ecma_parser_grammar.specs.Looks.{kind_at, breaks_at, sees, span_at, same_kind}
-use Rattle.swc_ecma_parser_grammar.specs.Follows.{word_at, may_begin_expression_statement, begins_import_expression, is_let_declaration}
+use Rattle.swc_ecma_parser_grammar.specs.Follows.{word_at, may_begin_expression_statement, begins_import_expression, is_let_declaration, is_async_function}
 use Rattle.swc_ecma_parser_grammar.specs.Own.{labelled_function}
 use Rattle.swc_ecma_parser_grammar.specs.Reads.{nested_item, with_in}
 use Rattle.swc_ecma_parser_grammar.specs.language.Contexts.{in_loop, in_breakable, in_with, in_parameters}
@@ -52,12 +54,21 @@ abbrev Plain : Tree → State → Type 0
 Plain x t = (strict : Bool) → labelled_function strict x ≡ []
 
 -- a function's node, behind a name
-abbrev IsFunction : Tree → State → Type 0
-IsFunction x t = (i : Ident) (strict : Bool) → labelled_function strict (tree.fn_decl (tree.ident i.span i.sym) x) ≡ only strict faults.LabelledFunctionInStrict (span_of x)
+abbrev IsFunction : (is_async is_generator : Bool) → Tree → State → Type 0
+IsFunction is_async is_generator x t = (i : Ident) (strict : Bool) → is_async ≡ false → labelled_function strict (tree.fn_decl (tree.ident i.span i.sym) x)
+    ≡ only strict faults.LabelledFunctionInStrict (span_of x) ++ only is_generator faults.LabelledGeneratorOrAsync (span_of x)
 
--- what a label tells of what it stands at: a function that strict code has there
-abbrev Told : TokenKind → Tree → State → Type 0
-Told j x t = (strict : Bool) → labelled_function strict x ≡ cond (same_kind j kind.Function) (only strict faults.LabelledFunctionInStrict (span_of x)) []
+abbrev IsAsync : Bool → Tree → State → Type 0
+IsAsync is_async x t = (i : Ident) (strict : Bool) → is_async ≡ true → labelled_function strict (tree.fn_decl (tree.ident i.span i.sym) x) ≡ []
+
+-- what a label tells of what it stands at: a function that strict code has there, and a generator
+abbrev Told : TokenKind → Bool → Tree → State → Type 0
+Told j is_starred x t = (strict : Bool) → labelled_function strict x
+    ≡ cond (same_kind j kind.Function) (only strict faults.LabelledFunctionInStrict (span_of x) ++ only is_starred faults.LabelledGeneratorOrAsync (span_of x)) []
+
+-- whether a `*` stands behind the first word
+abbrev pub is_starred : State → Bool
+is_starred s = sees kind.Mul (after s.at)
 
 module _ (inner : Position → Reader Tree) (inner_expr : Class → Reader Tree) (inner_pat : Reader Tree) (inner_head : Reader Cover) (inner_params : Reader (List Tree)) where
   block_plain : (s : State) → Meets Plain (block (inner nested_item) s)
@@ -193,63 +204,93 @@ module _ (inner : Position → Reader Tree) (inner_expr : Class → Reader Tree)
   unfolding let_stmt
   let_plain at s = meets_if Plain (at.include_decl && is_let_declaration s.at) _ _ (λ _. variables_plain decl.Let s) (λ _. other_plain at s)
 
-  function_told : (s : State) → Meets (Told kind.Function) (function_decl (inner nested_item) inner_params s)
+  plain_word_told : (s : State) → is_async_function s.at ≡ false → Meets (λ w t. (w ≡ false) × (t.at ≡ after s.at)) (function_word s)
+  unfolding function_word
+  plain_word_told s e = rw e (refl, refl)
+
+  async_word_told : (s : State) → is_async_function s.at ≡ true → Meets (λ w t. w ≡ true) (function_word s)
+  unfolding function_word
+  async_word_told s e = rw e refl
+
+  star_told : (s : State) → Meets (λ g t. g ≡ sees kind.Mul s.at) (star s)
+  unfolding star
+  star_told s = meets_if (λ g t. g ≡ sees kind.Mul s.at) (sees kind.Mul s.at) _ _ sym sym
+
+  function_told : (s : State) → is_async_function s.at ≡ false → Meets (Told kind.Function (is_starred s)) (function_decl (inner nested_item) inner_params s)
   unfolding function_decl function_parts same_kind
-  function_told s = always (Told kind.Function) (name faults.ExpectedIdent (moved s)) _ (λ i t.
-      meets_then {P = IsFunction} (Told kind.Function) (function_parts (inner nested_item) inner_params (span_at s.at) t) _
-      (always IsFunction (within (λ k. in_parameters k false false) inner_params t) _ (λ ps u. always IsFunction (function_body (inner nested_item) inner_params u) _ (λ x v.
-      always IsFunction (misdirected (parameters ps) x v) _ (λ _ w i strict. append-nil (only strict faults.LabelledFunctionInStrict (record { lo = (span_at s.at).lo; hi = v.at.last.hi })))))) (λ x u h. h i))
+  function_told s plain = meets_then (Told kind.Function (is_starred s)) (function_word s) _ (plain_word_told s plain) (λ a o (v, l).
+      meets_then (Told kind.Function (is_starred s)) (star o) _ (star_told o) (λ g r e.
+      always (Told kind.Function (is_starred s)) (name faults.ExpectedIdent r) _ (λ i t.
+      meets_then {P = IsFunction a g} (Told kind.Function (is_starred s)) (function_parts (inner nested_item) inner_params a g (span_at s.at) t) _
+      (always (IsFunction a g) (within (λ k. in_parameters k a g) inner_params t) _ (λ ps u. always (IsFunction a g) (function_body (inner nested_item) inner_params a g u) _ (λ x w.
+      always (IsFunction a g) (misdirected (parameters ps) x w) _ (λ _ z i strict b. rw b refl))))
+      (λ x u h strict. h i strict v ∙ ap (λ b. only strict faults.LabelledFunctionInStrict (span_of x) ++ only b faults.LabelledGeneratorOrAsync (span_of x)) (e ∙ ap (sees kind.Mul) l)))))
 
-  function_stmt_told : (at : Position) (s : State) → Meets (Told kind.Function) (function_stmt (inner nested_item) inner_params at s)
+  -- nor is an async one told of
+  async_plain : (s : State) → is_async_function s.at ≡ true → Meets Plain (function_decl (inner nested_item) inner_params s)
+  unfolding function_decl function_parts
+  async_plain s async = meets_then Plain (function_word s) _ (async_word_told s async) (λ a o v.
+      always Plain (star o) _ (λ g r. always Plain (name faults.ExpectedIdent r) _ (λ i t.
+      meets_then {P = IsAsync a} Plain (function_parts (inner nested_item) inner_params a g (span_at s.at) t) _
+      (always (IsAsync a) (within (λ k. in_parameters k a g) inner_params t) _ (λ ps u. always (IsAsync a) (function_body (inner nested_item) inner_params a g u) _ (λ x w.
+      always (IsAsync a) (misdirected (parameters ps) x w) _ (λ _ z i strict b. rw b refl))))
+      (λ x u h strict. h i strict v))))
+
+  function_stmt_told : (at : Position) (s : State) → kind_at s.at ≡ kind.Function → Meets (Told kind.Function (is_starred s)) (function_stmt (inner nested_item) inner_params at s)
   unfolding function_stmt
-  function_stmt_told at s = meets_if (Told kind.Function) at.include_decl _ _ (λ _. function_told s)
-      (λ _. always (Told kind.Function) (fault (fault_at (span_at s.at) faults.DeclNotAllowed) s) _ (λ _ t. function_told t))
+  function_stmt_told at s e = meets_if (Told kind.Function (is_starred s)) at.include_decl _ _ (λ _. function_told s (plain_function s.at e))
+      (λ _. rw (fault_here s (fault_at (span_at s.at) faults.DeclNotAllowed) (ap is_error e)) (function_told (noted (fault_at (span_at s.at) faults.DeclNotAllowed) s) (plain_function s.at e)))
 
-  by_told : (at : Position) (j : TokenKind) (s : State) → Meets (Told j) (stmt_by inner inner_expr inner_pat inner_head inner_params at j s)
+  async_or_other_plain : (at : Position) (s : State) → Meets Plain (async_or_other inner inner_expr inner_pat inner_head inner_params at s)
+  unfolding async_or_other
+  async_or_other_plain at s = meets_if Plain (is_async_function s.at) _ _ (λ e. async_plain s e) (λ _. other_plain at s)
+
+  by_told : (at : Position) (j : TokenKind) (s : State) → kind_at s.at ≡ j → Meets (Told j (is_starred s)) (stmt_by inner inner_expr inner_pat inner_head inner_params at j s)
   unfolding empty if_stmt same_kind
-  by_told at kind.LBrace s = block_plain s
-  by_told at kind.Semi s = λ b. refl
-  by_told at kind.Debugger s = debugger_plain s
-  by_told at kind.Var s = variables_plain decl.Var s
-  by_told at kind.Const s = const_plain at s
-  by_told at kind.Let s = let_plain at s
-  by_told at kind.If s = links_plain (suc (length s.at.left)) s
-  by_told at kind.Switch s = switch_plain s
-  by_told at kind.Break s = break_plain s
-  by_told at kind.Continue s = continue_plain s
-  by_told at kind.Return s = return_plain s
-  by_told at kind.Throw s = throw_plain s
-  by_told at kind.Try s = try_plain s
-  by_told at kind.With s = with_plain s
-  by_told at kind.While s = while_plain s
-  by_told at kind.Do s = do_while_plain s
-  by_told at kind.For s = for_plain s
-  by_told at kind.Function s = function_stmt_told at s
-  by_told at kind.Import s = import_plain s
-  by_told at _ s = other_plain at s
+  by_told at kind.LBrace s e = block_plain s
+  by_told at kind.Semi s e = λ b. refl
+  by_told at kind.Debugger s e = debugger_plain s
+  by_told at kind.Var s e = variables_plain decl.Var s
+  by_told at kind.Const s e = const_plain at s
+  by_told at kind.Let s e = let_plain at s
+  by_told at kind.If s e = links_plain (suc (length s.at.left)) s
+  by_told at kind.Switch s e = switch_plain s
+  by_told at kind.Break s e = break_plain s
+  by_told at kind.Continue s e = continue_plain s
+  by_told at kind.Return s e = return_plain s
+  by_told at kind.Throw s e = throw_plain s
+  by_told at kind.Try s e = try_plain s
+  by_told at kind.With s e = with_plain s
+  by_told at kind.While s e = while_plain s
+  by_told at kind.Do s e = do_while_plain s
+  by_told at kind.For s e = for_plain s
+  by_told at kind.Function s e = function_stmt_told at s e
+  by_told at kind.Ident s e = async_or_other_plain at s
+  by_told at kind.Import s e = import_plain s
+  by_told at _ s e = other_plain at s
 
-stmt_meets_told : (n : ℕ) (at : Position) (s : State) → Meets (Told (kind_at s.at)) (stmt n at s)
+stmt_meets_told : (n : ℕ) (at : Position) (s : State) → Meets (Told (kind_at s.at) (is_starred s)) (stmt n at s)
 unfolding stmt stmt_level
-stmt_meets_told zero at s = too_deep_meets (Told (kind_at s.at)) s
-stmt_meets_told (suc n) at s = by_told (stmt n) (expr n) (pattern n) (head_cover n) (reader.parameters n) at (kind_at s.at) s
+stmt_meets_told zero at s = too_deep_meets (Told (kind_at s.at) (is_starred s)) s
+stmt_meets_told (suc n) at s = by_told (stmt n) (expr n) (pattern n) (head_cover n) (reader.parameters n) at (kind_at s.at) s refl
 
 -- ---- the faults of a label
 
-labelled_meets_told : (n : ℕ) (text : Text) (s : State) → Meets (Told (kind_at s.at)) (labelled_body (stmt n) text s)
+labelled_meets_told : (n : ℕ) (text : Text) (s : State) → Meets (Told (kind_at s.at) (is_starred s)) (labelled_body (stmt n) text s)
 unfolding labelled_body
 labelled_meets_told n text s =
-    let P = Told (kind_at s.at) in
+    let P = Told (kind_at s.at) (is_starred s) in
     meets_then {P = P} P (below_label text (stmt n (labelled_item s.at)) (coded (in_breakable s.code) s)) _
     (meets_then {P = P} P (stmt n (labelled_item s.at) (below text (coded (in_breakable s.code) s))) _ (stmt_meets_told n (labelled_item s.at) (below text (coded (in_breakable s.code) s))) (λ x t h. h))
     (λ x t h. h)
 
--- behind what it stands at they are that of a function in strict code, and those of equal labels around
+-- behind what it stands at they are those of a function in strict code and of a generator, and those of equal labels around
 pub relabels_told : (n : ℕ) (text : Text) (s : State) (x : Tree) (t : State) → labelled_body (stmt n) text s ≡ Ok (x, t) → (label : Tree) (u : State)
     → relabels label x u
-    ≡ told (cond (sees kind.Function s.at) (only u.code.flags.strict faults.LabelledFunctionInStrict (span_of x)) [] ++ duplicates u.scope.labels label) u
+    ≡ told (cond (sees kind.Function s.at) (only u.code.flags.strict faults.LabelledFunctionInStrict (span_of x) ++ only (is_starred s) faults.LabelledGeneratorOrAsync (span_of x)) [] ++ duplicates u.scope.labels label) u
 unfolding relabels
 relabels_told n text s x t e label u =
-    ap (λ fs. told (fs ++ duplicates u.scope.labels label) u) (meant (Told (kind_at s.at)) Refuses (labelled_body (stmt n) text s) (Ok (x, t)) e (labelled_meets_told n text s) u.code.flags.strict)
+    ap (λ fs. told (fs ++ duplicates u.scope.labels label) u) (meant (Told (kind_at s.at) (is_starred s)) Refuses (labelled_body (stmt n) text s) (Ok (x, t)) e (labelled_meets_told n text s) u.code.flags.strict)
 
 abbrev pub duplicate : Span → Fault
 duplicate span = fault_at span faults.DuplicateLabel

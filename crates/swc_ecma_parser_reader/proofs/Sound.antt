@@ -1,5 +1,6 @@
 -- What is read is in the grammar where nothing was recorded, and the faults of the table are the walk's.
-use Rattle.swc_ecma_parser_reader.proofs.SoundFunctions.{SoundBraces, InBraces, body_from_sound, braces_sound, in_braces, function_expr_sound, function_stmt_sound}
+use Rattle.swc_ecma_parser_reader.proofs.Words.{async_begins, or_later, begins_function}
+use Rattle.swc_ecma_parser_reader.proofs.SoundFunctions.{SoundBraces, InBraces, body_from_sound, braces_sound, in_braces, function_expr_sound, function_stmt_sound, function_decl_sound}
 use Rattle.swc_ecma_parser_reader.specs.Reader as reader
 use Rattle.swc_ecma_parser_reader.proofs.patterns.Sound as patterns
 use Rattle.swc_ecma_parser_reader.proofs.patterns.Sound.{SoundParams}
@@ -14,7 +15,7 @@ use Rattle.swc_ecma_parser_grammar.specs.Own.{labelled_function, duplicates}
 use Rattle.swc_ecma_parser_reader.proofs.SoundParts.{relabels_sound, SoundWith, note_with_sound}
 use Rattle.swc_ecma_parser_reader.specs.State.{below, below_label}
 use Rattle.swc_ecma_parser_grammar.specs.language.Items.{labelled_item}
-use Rattle.swc_ecma_parser_reader.specs.Reader.{begins_label, relabels, labelled_body, labeled_stmt, other_stmt, with_stmt, note_with, function_stmt}
+use Rattle.swc_ecma_parser_reader.specs.Reader.{begins_label, relabels, labelled_body, labeled_stmt, other_stmt, with_stmt, note_with, function_stmt, async_or_other, function_decl}
 use Rattle.swc_ecma_parser_model.specs.declared.leaves.VarDeclKind.{VarDeclKind}
 use Rattle.swc_ecma_parser_model.specs.declared.leaves.VarDeclKind.TheVariants as decl
 use Rattle.swc_ecma_parser_grammar.specs.Variables.{begins_variables, is_var}
@@ -48,7 +49,7 @@ use Rattle.swc_ecma_parser_grammar.specs.declared.position.Position.{Position}
 use Rattle.swc_ecma_parser_grammar.specs.Looks.{kind_at, breaks_at, sees, same_kind, span_at, spanned}
 use Rattle.swc_ecma_parser_grammar.specs.Names.{Code}
 use Rattle.swc_ecma_parser_grammar.specs.Ends.{Ends, ends_at}
-use Rattle.swc_ecma_parser_grammar.specs.Follows.{may_begin_expression_statement, begins_import_expression, is_let_declaration}
+use Rattle.swc_ecma_parser_grammar.specs.Follows.{may_begin_expression_statement, begins_import_expression, is_let_declaration, is_async_function}
 use Rattle.swc_ecma_parser_grammar.specs.language.Contexts.{in_loop, in_breakable, in_with}
 use Rattle.swc_ecma_parser_grammar.specs.language.Goals.{Class, expression}
 use Rattle.swc_ecma_parser_grammar.specs.language.Items.{sub_statement}
@@ -507,6 +508,14 @@ module _ (Stmt : Code → Position → Tree → Place → Place → Type 0) (Exp
       (λ h. let b = and_yes at.include_decl (is_let_declaration s.at) h in declared_sound decl.Let s (allowed decl.Let b.0) b.1) (λ _. other_sound s)
 
   -- each kind of token begins its statement
+  -- an async function may stand in the place of any statement
+  async_or_other_sound : (s : State) → Meets (SoundStmt s) (async_or_other inner inner_expr inner_pat inner_head inner_params at s)
+  unfolding async_or_other
+  async_or_other_sound s = meets_if _ (is_async_function s.at) _ _
+      (λ h. meets_as (function_decl (inner nested_item) inner_params s) (function_decl_sound Stmt Params (inner nested_item) (sound nested_item) inner_params sound_params s (async_begins s.at h))
+      (λ x t p. sound_as s t refl refl refl (λ r. function_rule (or_later at.include_decl _ h) r) p))
+      (λ _. other_sound s)
+
   by_sound : (j : TokenKind) (s : State) → kind_at s.at ≡ j → Meets (SoundStmt s) (stmt_by inner inner_expr inner_pat inner_head inner_params at j s)
   by_sound kind.LBrace s e = block_sound s e
   by_sound kind.Semi s e = empty_sound s e
@@ -526,7 +535,8 @@ module _ (Stmt : Code → Position → Tree → Place → Place → Type 0) (Exp
   by_sound kind.Do s e = do_while_sound s e
   by_sound kind.For s e = for_sound Stmt Expr Pat Target inner inner_expr inner_pat inner_head sound sound_expr sound_pat sound_head Params at s e
   by_sound kind.Function s e = meets_as (function_stmt (inner nested_item) inner_params at s)
-      (function_stmt_sound Stmt Params (inner nested_item) (sound nested_item) inner_params sound_params at s e) (λ x t p. sound_as s t refl refl refl (λ (h, r). function_rule h r) p)
+      (function_stmt_sound Stmt Params (inner nested_item) (sound nested_item) inner_params sound_params at s e) (λ x t p. sound_as s t refl refl refl (λ (h, r). function_rule (rw h refl) r) p)
+  by_sound kind.Ident s e = async_or_other_sound s
   by_sound kind.Import s e = import_stmt_at_sound s
   by_sound _ s e = other_sound s
 
@@ -638,7 +648,7 @@ module _ (n : ℕ) (b : Sounds n) where
   params = patterns.parameter_list_sound n (expr n) (cover n) (pattern n) (element n) b.exprs b.covers b.patterns b.elements
 
   -- a function that is an expression is one of the whole language
-  functions : (s : State) → kind_at s.at ≡ kind.Function → Meets (λ x t. SoundTree (FunctionRead n) s x t) (function n s)
+  functions : (s : State) → begins_function s.at ≡ true → Meets (λ x t. SoundTree (FunctionRead n) s x t) (function n s)
   functions s e = meets_as (function n s) (function_expr_sound (ReadsStmt n) (ReadsParams n) (stmt n nested_item) (b.stmts nested_item) (reader.parameters n) params (λ k ps c d r. r.0.opens) s e)
       (λ x t p. sound_as s t refl refl refl (λ r. (function_widens n s.code x s.at t.at r, function_supported n s.code x s.at t.at r, ap is_callee r.is)) p)
 
@@ -687,7 +697,7 @@ element_sound n = (all_sound n).elements
 pub parameters_sound : (n : ℕ) (s : State) → Meets (λ ps t. SoundParams n s ps t) (reader.parameters n s)
 parameters_sound n = params n (all_sound n)
 
-pub function_sound : (n : ℕ) (s : State) → kind_at s.at ≡ kind.Function → Meets (λ x t. SoundTree (FunctionRead n) s x t) (function n s)
+pub function_sound : (n : ℕ) (s : State) → begins_function s.at ≡ true → Meets (λ x t. SoundTree (FunctionRead n) s x t) (function n s)
 function_sound n = functions n (all_sound n)
 
 -- a statement is in the grammar within as many levels
@@ -753,7 +763,7 @@ pattern_code n s x t e = let p : SoundTree (ReadsPat n) s x t = meant (λ y u. S
 pub element_code : (n : ℕ) (s : State) (x : Tree) (t : State) → element n s ≡ Ok (x, t) → t.code ≡ s.code
 element_code n s x t e = let p : SoundTree (ReadsElement n) s x t = meant (λ y u. SoundTree (ReadsElement n) s y u) Refuses (element n s) (Ok (x, t)) e (element_sound n s) in p.code
 
-pub function_code : (n : ℕ) (s : State) (x : Tree) (t : State) → kind_at s.at ≡ kind.Function → function n s ≡ Ok (x, t) → t.code ≡ s.code
+pub function_code : (n : ℕ) (s : State) (x : Tree) (t : State) → begins_function s.at ≡ true → function n s ≡ Ok (x, t) → t.code ≡ s.code
 function_code n s x t k e = let p : SoundTree (FunctionRead n) s x t = meant (λ y u. SoundTree (FunctionRead n) s y u) Refuses (function n s) (Ok (x, t)) e (function_sound n s k) in p.code
 
 -- a body leaves what is a module's as it was, and the labels and the mark

@@ -3,6 +3,7 @@ pub mod Loops
 pub mod Limits
 pub mod Keeps
 pub mod CompleteKinds
+pub mod Yields
 pub mod Covers
 pub mod Targets
 pub mod CompleteParts

@@ -29,6 +29,7 @@ use Rattle.swc_ecma_parser_grammar.specs.Reads.{with_in}
 use Rattle.swc_ecma_parser_grammar.specs.language.Goals.{Class, expression, assignment, operator, unary, left_side, callee}
 use Rattle.swc_ecma_parser_grammar.specs.language.Operators.{unary_operator, update_operator, binary_operator, assign_operator, precedence, groups_left, is_operator, mixes, is_unary}
 use Rattle.swc_ecma_parser_grammar.specs.language.Continues.{continues_conditional}
+use Rattle.swc_ecma_parser_reader.specs.Yields.{begins_yield, yield_expr}
 use Rattle.swc_ecma_parser_reader.specs.State.{State, Outcome, Reader, ◌>>=◌, ◌>>◌, pure, span_here, since, skip, moved, note_module_item, within, fault, fault_at, wanted, reject, expect, name, Step, More, Done, loop}
 
 -- ---- literals
@@ -138,14 +139,10 @@ shorthand _ = wanted faults.Unexpected
 unfoldable pub dotted : Reader Tree
 dotted = λ s. if sees kind.Hash s.at then private_name s else word_property s
 
--- `async function` on one line is no name
-abbrev pub no_function : Bool → Tree → Reader Tree
-no_function begins x = λ s. if begins then wanted faults.Unexpected s else Ok (x, s)
-
 unfoldable pub ident_expr : Reader Tree
-ident_expr = λ s. (do
+ident_expr = do
   i ← name faults.Unexpected
-  no_function (is_async_function s.at) (tree.ident i.span i.sym)) s
+  pure (tree.ident i.span i.sym)
 
 unfoldable pub this : Reader Tree
 this = do
@@ -700,8 +697,12 @@ module _ (inner : Class → Reader Tree) (cover : Reader Cover) where
     literal_or (Some x) = pure x
     literal_or None = marked_primary
 
+    -- `async function` on one line is no name
+    unfoldable pub named_expr : Reader Tree
+    named_expr = λ s. if is_async_function s.at then function s else ident_expr s
+
     unfoldable pub primary : Reader Tree
-    primary = λ s. if name_at s.code.flags s.at then ident_expr s else (literal >>= literal_or) s
+    primary = λ s. if name_at s.code.flags s.at then named_expr s else (literal >>= literal_or) s
 
     -- `new` does not call what `import` calls
     unfoldable pub left_head : Bool → Reader Tree
@@ -750,9 +751,13 @@ module _ (inner : Class → Reader Tree) (cover : Reader Cover) where
       x ← binary_expr 1
       behind_operators (begins_async_call s.at) (span_at s.at) x) s
 
+    -- or `yield`, which is no operand
+    unfoldable pub plain_expr : Reader Tree
+    plain_expr = λ s. if begins_yield s.code.flags s.at then yield_expr inner s else operators_expr s
+
     unfoldable pub done_expr : Reader Cover
     done_expr = do
-      x ← operators_expr
+      x ← plain_expr
       pure (done x)
 
     unfoldable pub cover_expr : Reader Cover

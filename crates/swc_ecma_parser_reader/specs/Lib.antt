@@ -1,6 +1,7 @@
 pub mod Notes
 pub mod State
 pub mod Classes
+pub mod Yields
 pub mod Expressions
 pub mod Heads
 pub mod Patterns

@@ -17,7 +17,7 @@ use Rattle.swc_ecma_parser_model.specs.Forms.{is_ident, is_ident_named, span_of,
 use Rattle.swc_ecma_parser_grammar.specs.declared.position.Position.{Position}
 use Rattle.swc_ecma_parser_grammar.specs.Looks.{kind_at, breaks_at, sees, span_at}
 use Rattle.swc_ecma_parser_grammar.specs.Names.{Code, name_at}
-use Rattle.swc_ecma_parser_grammar.specs.Follows.{word_at, may_begin_expression_statement, begins_import_expression, is_let_declaration}
+use Rattle.swc_ecma_parser_grammar.specs.Follows.{word_at, may_begin_expression_statement, begins_import_expression, is_let_declaration, is_async_function}
 use Rattle.swc_ecma_parser_grammar.specs.Variables.{is_const, needs_no_initializer}
 use Rattle.swc_ecma_parser_grammar.specs.Parameters as formal
 use Rattle.swc_ecma_parser_grammar.specs.Reads.{with_in, head_code, directed, nested_item, top_item}
@@ -640,46 +640,54 @@ named = do
   i ← name faults.ExpectedIdent
   pure (tree.ident i.span i.sym)
 
+-- the words that begin a function, and whether `async` is one of them
+unfoldable pub function_word : Reader Bool
+function_word = λ s. if is_async_function s.at then Ok (true, moved (moved s)) else Ok (false, moved s)
+
+-- the `*` of a generator, if one stands here
+unfoldable pub star : Reader Bool
+star = λ s. if sees kind.Mul s.at then Ok (true, moved s) else Ok (false, s)
+
 -- the name of a function that is an expression, which is read in the function's own code, or none
-unfoldable pub own_name : Reader Tree
-own_name = λ s. if name_at (named_by s.code false false).flags s.at then within (λ k. named_by k false false) named s else Ok (tree.absent, s)
+unfoldable pub own_name : (is_async is_generator : Bool) → Reader Tree
+own_name is_async is_generator = λ s. if name_at (named_by s.code is_async is_generator).flags s.at then within (λ k. named_by k is_async is_generator) named s else Ok (tree.absent, s)
 
 module _ (stmt : Reader Tree) (params : Reader (List Tree)) where
   -- a body, which has labels and an entry of its own
-  unfoldable pub function_body : Reader Tree
-  function_body = within (λ k. in_body k false false) (enclosed (braced stmt true))
+  unfoldable pub function_body : (is_async is_generator : Bool) → Reader Tree
+  function_body is_async is_generator = within (λ k. in_body k is_async is_generator) (enclosed (braced stmt true))
 
   -- from behind the name
-  unfoldable pub function_parts : Span → Reader Tree
-  function_parts start = do
-    ps ← within (λ k. in_parameters k false false) params
-    body ← function_body
+  unfoldable pub function_parts : (is_async is_generator : Bool) → Span → Reader Tree
+  function_parts is_async is_generator start = do
+    ps ← within (λ k. in_parameters k is_async is_generator) params
+    body ← function_body is_async is_generator
     span ← since start
     misdirected (formal.parameters ps) body
-    pure (tree.function span (listed []) (formal.parameters ps) body false false)
+    pure (tree.function span (listed []) (formal.parameters ps) body is_async is_generator)
 
   unfoldable pub function_decl : Reader Tree
   function_decl = do
     start ← span_here
-    skip
+    is_async ← function_word
+    is_generator ← star
     i ← name faults.ExpectedIdent
-    fn ← function_parts start
+    fn ← function_parts is_async is_generator start
     pure (tree.fn_decl (tree.ident i.span i.sym) fn)
 
   -- a function that is an expression, with a name or without one
   unfoldable pub function_expr : Reader Tree
   function_expr = do
     start ← span_here
-    skip
-    i ← own_name
-    fn ← function_parts start
+    is_async ← function_word
+    is_generator ← star
+    i ← own_name is_async is_generator
+    fn ← function_parts is_async is_generator start
     pure (tree.fn_expr (span_of fn) i fn)
 
   -- where no declaration is read, its word is a fault
   unfoldable pub function_stmt : Position → Reader Tree
-  function_stmt at = λ s. if at.include_decl then function_decl s else (do
-    fault (fault_at (span_at s.at) faults.DeclNotAllowed)
-    function_decl) s
+  function_stmt at = λ s. if at.include_decl then function_decl s else (fault (fault_at (span_at s.at) faults.DeclNotAllowed) >> function_decl) s
 
 module _ (stmt : Position → Reader Tree) (expr : Class → Reader Tree) (pat : Reader Tree) (head_cover : Reader Cover) (params : Reader (List Tree)) where
   -- `const`, where declarations are read
@@ -689,6 +697,10 @@ module _ (stmt : Position → Reader Tree) (expr : Class → Reader Tree) (pat :
   -- `let` begins a declaration before what can be declared, where declarations are read; else it is a name
   unfoldable pub let_stmt : Position → Reader Tree
   let_stmt at = λ s. if at.include_decl && is_let_declaration s.at then variables expr pat decl.Let s else other_stmt stmt (expr expression) at s
+
+  -- an async function may stand in the place of any statement
+  unfoldable pub async_or_other : Position → Reader Tree
+  async_or_other at = λ s. if is_async_function s.at then function_decl (stmt nested_item) params s else other_stmt stmt (expr expression) at s
 
   abbrev pub stmt_by : Position → TokenKind → Reader Tree
   stmt_by at kind.LBrace = block (stmt nested_item)
@@ -709,6 +721,7 @@ module _ (stmt : Position → Reader Tree) (expr : Class → Reader Tree) (pat :
   stmt_by at kind.Do = do_while (stmt sub_statement) (expr expression)
   stmt_by at kind.For = for_stmt (stmt sub_statement) expr pat head_cover
   stmt_by at kind.Function = function_stmt (stmt nested_item) params at
+  stmt_by at kind.Ident = async_or_other at
   stmt_by at kind.Import = import_stmt_at (expr expression)
   stmt_by at _ = other_stmt stmt (expr expression) at
 

@@ -12,8 +12,8 @@ pub use around::Around;
 pub use literal::Literal;
 pub use names::{count_labels, is_identifier, is_label, is_name, is_reserved_word};
 pub use operators::{
-    assign_operator, binary_operator, groups_left, mixes, precedence, unary_operator,
-    update_operator,
+    assign_operator, begins_operand, binary_operator, groups_left, mixes, precedence,
+    unary_operator, update_operator,
 };
 pub use source::Source;
 pub use wanted::{Wanted, missing};

@@ -1,6 +1,7 @@
 //! The operators: which token writes which, and how tightly those between two operands bind.
 
 ghost use Rattle.std.specs.Prelude.{◌≡◌, ◌&&◌, ◌||◌};
+ghost use Rattle.swc_ecma_parser_grammar.specs.language.Begins as begins;
 ghost use Rattle.swc_ecma_parser_grammar.specs.language.Operators as operators;
 
 use swc_ecma_parser_model::{AssignOp, BinaryOp, UnaryOp, UpdateOp};
@@ -20,6 +21,39 @@ pub fn unary_operator(kind: TokenKind) -> Option<UnaryOp>
         TokenKind::Bang => Some(UnaryOp::Bang),
         _ => None,
     }
+}
+
+/// Whether a unary expression can begin with this token, where it is no name: section 13.5.
+pub fn begins_operand(kind: TokenKind) -> bool
+    ensures { result ≡ begins.begins_operand kind }
+{
+    matches!(
+        kind,
+        TokenKind::Str
+            | TokenKind::Num
+            | TokenKind::BigInt
+            | TokenKind::Null
+            | TokenKind::True
+            | TokenKind::False
+            | TokenKind::LParen
+            | TokenKind::LBracket
+            | TokenKind::LBrace
+            | TokenKind::Function
+            | TokenKind::Class
+            | TokenKind::New
+            | TokenKind::This
+            | TokenKind::Super
+            | TokenKind::Import
+            | TokenKind::TypeOf
+            | TokenKind::Void
+            | TokenKind::Delete
+            | TokenKind::Add
+            | TokenKind::Sub
+            | TokenKind::Bang
+            | TokenKind::Tilde
+            | TokenKind::PlusPlus
+            | TokenKind::MinusMinus
+    )
 }
 
 /// The operator that counts up or down: section 13.4.

@@ -9,7 +9,7 @@ use Rattle.swc_ecma_parser_model.specs.Tree.{Tree, Text, listed}
 use Rattle.swc_ecma_parser_model.specs.Forms.{span_of, is_rest}
 use Rattle.swc_ecma_parser_grammar.specs.Looks.{kind_at, breaks_at, spanned}
 use Rattle.swc_ecma_parser_grammar.specs.Names.{Code}
-use Rattle.swc_ecma_parser_grammar.specs.Follows.{word_at}
+use Rattle.swc_ecma_parser_grammar.specs.Follows.{word_at, AsyncWord, Star}
 use Rattle.swc_ecma_parser_grammar.specs.Parameters.{parameters}
 use Rattle.swc_ecma_parser_grammar.specs.Reads.{with_in}
 use Rattle.swc_ecma_parser_grammar.specs.language.Goals.{Goal, Purpose, binding, pattern_goal, element_goal}
@@ -41,15 +41,6 @@ pub record FunctionParts (In : Goal → Type 0) (k : Code) (is_async is_generato
   pub reads_body : BlockRule In (in_body k is_async is_generator) true body middle d
 
 -- ---- functions: sections 15.2, 15.5, 15.6 and 15.8
-
--- `async` on the line of what follows it
-pub data AsyncWord (is_async : Bool) (c d : Place) : Type 0 where
-  not_async : is_async ≡ false → d ≡ c → AsyncWord is_async c d
-  async_word : is_async ≡ true → word_at (codes "async") c ≡ true → d ≡ after c → breaks_at d ≡ false → AsyncWord is_async c d
-
-pub data Star (is_generator : Bool) (c d : Place) : Type 0 where
-  no_star : is_generator ≡ false → d ≡ c → Star is_generator c d
-  star : is_generator ≡ true → kind_at c ≡ kind.Mul → d ≡ after c → Star is_generator c d
 
 -- An expression's name is read in the function's own code, a declaration's in the code around.
 abbrev pub name_code : (is_expression : Bool) → Code → (is_async is_generator : Bool) → Code

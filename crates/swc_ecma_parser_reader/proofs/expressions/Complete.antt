@@ -1,7 +1,9 @@
 -- What the language allows of the forms that are read is read, with the faults of the walk and the notes held back, and no others:
 -- expressions from operators on, what may still become a pattern, and an expression of any class.
-use Rattle.std.proofs.Common.{◌≡◌, ℕ, zero, suc, ◌≤◌, Bool, true, false, List, [], ◌∷◌, ◌++◌, length, inl, inr, Option, Some, None, Ok, refl, sym, ◌∙◌, ap, arith, append_assoc, append-nil}
-use Rattle.std.specs.Prelude.{◌&&◌, ◌||◌, is_some, codes}
+use Rattle.swc_ecma_parser_reader.proofs.expressions.Yields.{never_yields, begun_no_star}
+use Rattle.swc_ecma_parser_grammar.specs.language.Begins.{begins_expression}
+use Rattle.std.proofs.Common.{◌≡◌, ℕ, zero, suc, ◌≤◌, Bool, true, false, List, [], ◌∷◌, ◌++◌, length, inl, inr, Option, Some, None, Ok, refl, sym, ◌∙◌, ap, arith, append_assoc, append-nil, subst}
+use Rattle.std.specs.Prelude.{◌&&◌, ◌||◌, is_some, codes, not}
 use Rattle.std.proofs.lemmas.Bool.{le-leb}
 use Rattle.swc_ecma_parser_common.specs.declared.span.Span.{Span}
 use Rattle.swc_ecma_parser_error.specs.Kind.{Fault}
@@ -28,7 +30,7 @@ use Rattle.swc_ecma_parser_grammar.specs.Supported.{supported_in, all_supported_
 use Rattle.swc_ecma_parser_grammar.specs.ReadsSupported.{ReadsClass}
 use Rattle.swc_ecma_parser_grammar.specs.language.Goals.{Goal, Class, expression, assignment, operator, unary, left_side, callee, assigning, expr_goal, callee_goal, element_goal, pattern_goal}
 use Rattle.swc_ecma_parser_grammar.specs.language.Operators.{unary_operator, update_operator, binary_operator, assign_operator, precedence, groups_left, is_operator, mixes, is_unary}
-use Rattle.swc_ecma_parser_grammar.specs.language.Continues.{is_operation, is_arrow_head, binds, continues_callee, continues_unary, continues_operand, continues_head, continues_conditional, continues_assignment}
+use Rattle.swc_ecma_parser_grammar.specs.language.Continues.{is_operation, is_arrow_head, binds, continues_callee, continues_unary, continues_operand, continues_head, continues_conditional, continues_assignment, continues_yield}
 use Rattle.swc_ecma_parser_grammar.specs.language.LeftSides as sides
 use Rattle.swc_ecma_parser_grammar.specs.language.LeftSides.{PrimaryRule, LeftSideRule}
 use Rattle.swc_ecma_parser_grammar.specs.language.Patterns as patterns
@@ -36,11 +38,12 @@ use Rattle.swc_ecma_parser_grammar.specs.language.Patterns.{OperandRule, Pattern
 use Rattle.swc_ecma_parser_grammar.specs.language.Expressions as rules
 use Rattle.swc_ecma_parser_grammar.specs.language.Expressions.{UnaryRule, BinaryRule, AssignmentRule, ExpressionRule}
 use Rattle.swc_ecma_parser_grammar.specs.language.Reads as language
-use Rattle.swc_ecma_parser_grammar.proofs.Tests.{or_no, or_none, and_yes}
+use Rattle.swc_ecma_parser_grammar.proofs.Tests.{or_no, or_none, and_yes, and_both}
 use Rattle.swc_ecma_parser_grammar.proofs.language.spans.Expressions.{left_side_rule}
 use Rattle.swc_ecma_parser_reader.specs.Notes.{Notes, ◌⊕◌, notes_of, all_notes_of}
 use Rattle.swc_ecma_parser_reader.specs.State.{Scope, State, Outcome, Reader, loop}
-use Rattle.swc_ecma_parser_reader.specs.Expressions.{Cover, done, goes_on, begins_async_call, is_head, heads_arrow, closed_left, simple, update_behind, read_operator, operator_at, left_operand, unmixed, unassigned, unheaded, left, left_expr, prefixed, update_before, postfix, unary_expr, operated, binary_turn, binary_from, binary_expr, conditional, assigned_to, assigned, behind_operators, operators_expr, cover_expr, assignment_expr, sequence_turn, sequence_from, expression_expr, expr_level, is_literal}
+use Rattle.swc_ecma_parser_reader.specs.Expressions.{Cover, done, goes_on, begins_async_call, is_head, heads_arrow, closed_left, simple, update_behind, read_operator, operator_at, left_operand, unmixed, unassigned, unheaded, left, left_expr, prefixed, update_before, postfix, unary_expr, operated, binary_turn, binary_from, binary_expr, conditional, assigned_to, assigned, behind_operators, operators_expr, cover_expr, assignment_expr, sequence_turn, sequence_from, expression_expr, expr_level, is_literal, plain_expr}
+use Rattle.swc_ecma_parser_reader.specs.Yields.{begins_yield, bare_yield, yielded, behind_yield, yield_expr}
 use Rattle.swc_ecma_parser_reader.proofs.Notes.{or_nil, or_assoc}
 use Rattle.swc_ecma_parser_reader.proofs.Answered.{st, Reads, Gets, gets_also, ReadsAs}
 use Rattle.swc_ecma_parser_reader.proofs.Takes.{moves}
@@ -49,7 +52,7 @@ use Rattle.swc_ecma_parser_reader.proofs.expressions.Falls.{operated_falls, assi
 use Rattle.swc_ecma_parser_reader.proofs.Takes.{Falls}
 use Rattle.swc_ecma_parser_reader.proofs.expressions.Targets.{leaf_supported, left_target, left_leaf, pattern_alike}
 use Rattle.swc_ecma_parser_reader.proofs.expressions.Covers as covers
-use Rattle.swc_ecma_parser_reader.proofs.expressions.Covers.{met, begins_literal, opened, opened_literal, Assigns, Becomes, cover_is, open_cover, assigns_cover, operators_cover}
+use Rattle.swc_ecma_parser_reader.proofs.expressions.Covers.{met, begins_literal, opened, opened_literal, Assigns, Becomes, cover_is, open_cover, assigns_cover, plain_cover}
 use Rattle.swc_ecma_parser_reader.proofs.expressions.CompleteKinds.{refuted, supported_as, seen, begins, element_begins, ends_part, ended_at, ended_stops, ended_continues, no_async_function, left_first, operand_plain, operand_update, update_plain, operator_stops, assign_stops, question_stops, stops_unary, unary_stops, stopped, update_seen, postfix_seen, assign_seen, unassigned_at}
 use Rattle.swc_ecma_parser_reader.proofs.expressions.Loops.{shorter_by}
 use Rattle.swc_ecma_parser_reader.proofs.expressions.CompleteParts.{expect_reads, AsExpr, AsElement, AsTarget, IsRead, IsFunctionRead, inside_reads}
@@ -340,6 +343,49 @@ module _ (In : Goal → Type 0) (inner : Class → Reader Tree) (cover : Reader 
         e,
       ) (simp (append_assoc, or_assoc) refl)
 
+  -- ---- `yield`
+
+  yields_here : (k : Code) (c : Place) → k.flags.in_generator ≡ true → kind_at c ≡ kind.Yield → begins_yield k.flags c ≡ true
+  unfolding begins_yield
+  yields_here k c g i = and_both (sees kind.Yield c) _ (seen c kind.Yield i) g
+
+  -- where operands are read it is no word of its own
+  plain_reads : (k : Code) (x : Tree) (c d : Place) → Reads (operators_expr inner cover function) k x c d → Reads (plain_expr inner cover function) k x c d
+  unfolding plain_expr
+  plain_reads k x c d r w f h = rw (never_yields inner cover function (st c k w f h) x (st d k w (f ++ walk (env_of k w.labels) x) (h ⊕ notes_of x)) (r w f h)) (r w f h)
+
+  bare_yield_reads : (k : Code) (x : Tree) (c d : Place) → k.flags.in_generator ≡ true → kind_at c ≡ kind.Yield → d ≡ after c → continues_yield k d ≡ false → x ≡ tree.yield (spanned c d) tree.absent false
+      → Reads (plain_expr inner cover function) k x c d
+  unfolding plain_expr yield_expr behind_yield bare_yield continues_yield spanned
+  bare_yield_reads k x c d g i n t e w f h = rw (yields_here k c g i, e, n, append-nil f, append-nil h.held_back, or_nil h.found_module_item) (by_line (breaks_at (after c)) refl)
+    where
+      by_line : (b : Bool) → breaks_at (after c) ≡ b → behind_yield inner (span_at c) (st (after c) k w f h) ≡ Ok (tree.yield (spanned c (after c)) tree.absent false, st (after c) k w f h)
+      by_line true b = rw b refl
+      by_line false b = let (star, more) = or_no (sees kind.Mul (after c)) _ (subst (λ z. (not z && (sees kind.Mul (after c) || begins_expression k.flags (after c))) ≡ false) b (subst (λ z. continues_yield k z ≡ false) n t)) in rw (b, star, more) refl
+
+  yield_reads : (y : Tree) (k : Code) (x : Tree) (c d : Place) → k.flags.in_generator ≡ true → kind_at c ≡ kind.Yield → breaks_at (after c) ≡ false → begins_expression k.flags (after c) ≡ true
+      → In (expr_goal assignment k y (after c) d) → supported_in k.flags.module y ≡ true → x ≡ tree.yield (spanned c d) y false → Reads (plain_expr inner cover function) k x c d
+  unfolding plain_expr yield_expr behind_yield yielded spanned
+  yield_reads y k x c d g i b t r s e w f h = rw (
+    yields_here k c g i,
+    b,
+    begun_no_star k.flags (after c) t,
+    t,
+    given.reads assignment k y (after c) d r s w f h,
+    e,
+  ) refl
+
+  delegate_reads : (y : Tree) (k : Code) (x : Tree) (c d : Place) → k.flags.in_generator ≡ true → kind_at c ≡ kind.Yield → breaks_at (after c) ≡ false → kind_at (after c) ≡ kind.Mul
+      → In (expr_goal assignment k y (after (after c)) d) → supported_in k.flags.module y ≡ true → x ≡ tree.yield (spanned c d) y true → Reads (plain_expr inner cover function) k x c d
+  unfolding plain_expr yield_expr behind_yield yielded spanned
+  delegate_reads y k x c d g i b m r s e w f h = rw (
+    yields_here k c g i,
+    b,
+    seen (after c) kind.Mul m,
+    given.reads assignment k y (after (after c)) d r s w f h,
+    e,
+  ) refl
+
   -- ---- what may still become a pattern
 
   -- what is no array or object has no comma behind a spread
@@ -348,12 +394,12 @@ module _ (In : Goal → Type 0) (inner : Class → Reader Tree) (cover : Reader 
   commaless s v t g (inr (inl o)) = ap (λ (u : Cover). u.comma) o.is
   commaless s v t g (inr (inr o)) = ap (λ (u : Cover). u.comma) o.is
 
-  -- what is read with operands and operators is read as what may still become a pattern
-  kept : (k : Code) (x : Tree) (c d : Place) → Reads (operators_expr inner cover function) k x c d → ReadsAs (AsWhole x) (cover_expr inner cover function) k x c d
+  -- what is read as an expression is read as what may still become a pattern
+  kept : (k : Code) (x : Tree) (c d : Place) → Reads (plain_expr inner cover function) k x c d → ReadsAs (AsWhole x) (cover_expr inner cover function) k x c d
   kept k x c d r w f h =
       let s = st c k w f h in
       let t = st d k w (f ++ walk (env_of k w.labels) x) (h ⊕ notes_of x) in
-      let o = operators_cover inner cover function s x t (r w f h) in
+      let o = plain_cover inner cover function s x t (r w f h) in
       record { value = o.v; holds = (o.is, o.unmarked, λ g. commaless s o.v t (ap is_literal o.is ∙ g) (cover_is inner cover function s o.v t o.reads)); is = o.reads }
 
   -- an array or object that is a pattern
@@ -399,21 +445,23 @@ module _ (In : Goal → Type 0) (inner : Class → Reader Tree) (cover : Reader 
       }
 
   pub whole_reads : (k : Code) (x : Tree) (c d : Place) → AssignmentRule In k x c d → supported_in k.flags.module x ≡ true → ReadsAs (AsWhole x) (cover_expr inner cover function) k x c d
-  whole_reads k x c d (rules.operators_rule r e) s w f h = kept k x c d (operators_read k x c d r s e) w f h
+  whole_reads k x c d (rules.operators_rule r e) s w f h = kept k x c d (plain_reads k x c d (operators_read k x c d r s e)) w f h
   whole_reads k x c d (rules.conditional_rule t y z i j r q a b o u e) s w f h =
       let p = and_yes (supported_in k.flags.module t) _ (supported_as _ x (tree.cond (spanned c d) t y z) e s) in
       let p' = and_yes (supported_in k.flags.module y) _ p.1 in
-      kept k x c d (conditional_reads t y z i j k x c d r q a b o u p.0 p'.0 p'.1 e) w f h
+      kept k x c d (plain_reads k x c d (conditional_reads t y z i j k x c d r q a b o u p.0 p'.0 p'.1 e)) w f h
   whole_reads k x c d (rules.assign_rule op y z m r t o q e) s w f h =
       let p = and_yes (supported_in k.flags.module y) _ (supported_as _ x (tree.assign (spanned c d) op y z) e s) in
-      kept k x c d (assigned_reads op y z m k x c d r t o q p.0 p.1 e) w f h
+      kept k x c d (plain_reads k x c d (assigned_reads op y z m k x c d r t o q p.0 p.1 e)) w f h
   whole_reads k x c d (rules.destructuring_rule y z m r t a b e) s w f h =
       let p = and_yes (supported_in k.flags.module y) _ (supported_as _ x (tree.assign (spanned c d) assign.Assign y z) e s) in
       rw e (destructured y z m k c d r t a b p.0 p.1 w f h)
   whole_reads k x c d (rules.arrow_rule a ps y i j r q t b u e) s w f h = refuted _ x (ap (supported_in k.flags.module) e) s
-  whole_reads k x c d (rules.bare_yield_rule g i n t e) s w f h = refuted _ x (ap (supported_in k.flags.module) e) s
-  whole_reads k x c d (rules.yield_rule y g i b t r e) s w f h = refuted _ x (ap (supported_in k.flags.module) e) s
-  whole_reads k x c d (rules.delegate_rule y g i b m r e) s w f h = refuted _ x (ap (supported_in k.flags.module) e) s
+  whole_reads k x c d (rules.bare_yield_rule g i n t e) s w f h = kept k x c d (bare_yield_reads k x c d g i n t e) w f h
+  whole_reads k x c d (rules.yield_rule y g i b t r e) s w f h =
+      kept k x c d (yield_reads y k x c d g i b t r (supported_as _ x (tree.yield (spanned c d) y false) e s) e) w f h
+  whole_reads k x c d (rules.delegate_rule y g i b m r e) s w f h =
+      kept k x c d (delegate_reads y k x c d g i b m r (supported_as _ x (tree.yield (spanned c d) y true) e s) e) w f h
 
   assignment_reads : (k : Code) (x : Tree) (c d : Place) → AssignmentRule In k x c d → supported_in k.flags.module x ≡ true → Reads (assignment_expr inner cover function) k x c d
   assignment_reads k x c d r s w f h =
@@ -442,7 +490,7 @@ module _ (In : Goal → Type 0) (inner : Class → Reader Tree) (cover : Reader 
       let r = operators_read k l.e c d (rules.single_rule (rules.operand_rule l.reads_leaf)) (leaf_is_supported k.flags.module l.e p l.is s) (t.leaf_ends l.e l.is) in
       let e = leaf_element l.e l.simple ∙ ap Some (sym l.is) in
       pattern_end (AsBare p d) (cover_expr inner cover function (st c k w f h)) l.e p k d w f h e
-      (gets_also (AsWhole l.e) (AsBare p d) _ _ (kept k l.e c d r w f h) (λ v q. (
+      (gets_also (AsWhole l.e) (AsBare p d) _ _ (kept k l.e c d (plain_reads k l.e c d r) w f h) (λ v q. (
         ap as_target q.0 ∙ leaf_target l.e l.simple ∙ ap Some (sym l.is),
         ap as_element q.0 ∙ e,
         q.2 (leaf_no_literal l.e l.simple),
@@ -484,7 +532,7 @@ module _ (In : Goal → Type 0) (inner : Class → Reader Tree) (cover : Reader 
       let x = tree.assign (spanned c d) assign.Assign l.e y in
       as_whole (cover_expr inner cover function) x (tree.assign_pat (spanned c d) p y) k c d
       (ap (λ z. Some (tree.assign_pat (spanned c d) z y)) (left_leaf l.e l.simple ∙ sym l.is)) refl
-      (kept k x c d (assigned_reads assign.Assign l.e y m k x c d l.reads_leaf l.simple (rw e refl) q (leaf_is_supported k.flags.module l.e p l.is s) t refl)) w f h
+      (kept k x c d (plain_reads k x c d (assigned_reads assign.Assign l.e y m k x c d l.reads_leaf l.simple (rw e refl) q (leaf_is_supported k.flags.module l.e p l.is s) t refl))) w f h
 
   -- an element of a pattern, where `in` is an operator
   element_reads : (k : Code) (p : Tree) (c d : Place) → PatternElementRule In assigning (with_in k) p c d → supported_in k.flags.module p ≡ true → ends_part (kind_at d) ≡ true

@@ -99,6 +99,20 @@ unfolding same_kind
 word_no_hash (word.Keyword k) = keyword_no_hash k
 word_no_hash _ = refl
 
+-- nor is one `*`
+keyword_no_star : (k : Keyword) → same_kind (keyword_kind k) kind.Mul ≡ false
+unfolding same_kind
+keyword_no_star keyword.Await = refl
+keyword_no_star _ = refl
+
+pub word_no_star : (w : Word) → same_kind (word_kind w) kind.Mul ≡ false
+unfolding same_kind
+word_no_star (word.Keyword k) = keyword_no_star k
+word_no_star _ = refl
+
+pub no_star : (w : Word) (s : Span) (c d : Place) → ReadsToken (token.Word w) s c d → sees kind.Mul c ≡ false
+no_star w s c d r = rw (token_first (token.Word w) s c d r) (word_no_star w)
+
 pub no_hash : (text : Text) (s : Span) (c d : Place) → ReadsWord text s c d → sees kind.Hash c ≡ false
 no_hash text s c d r = rw (token_first (token.Word r.word) s c d r.reads_word) (word_no_hash r.word)
 
@@ -429,9 +443,9 @@ module _ (In : Goal → Type 0) where
       operand_begins (kind_at c) (left_first k y c m r.0 (and_yes (supported_in k.flags.module y) _ (supported_as _ x (tree.assign (spanned c d) op y z) e h)).0)
   assignment_first k x c d (rules.destructuring_rule y z m r t a b e) h = pattern_first k y c m r (and_yes (supported_in k.flags.module y) _ (supported_as _ x (tree.assign (spanned c d) _ y z) e h)).0
   assignment_first k x c d (rules.arrow_rule a ps y i j r s t b u e) h = refuted _ x (ap (supported_in k.flags.module) e) h
-  assignment_first k x c d (rules.bare_yield_rule g i n s e) h = refuted _ x (ap (supported_in k.flags.module) e) h
-  assignment_first k x c d (rules.yield_rule y g i b s r e) h = refuted _ x (ap (supported_in k.flags.module) e) h
-  assignment_first k x c d (rules.delegate_rule y g i b m r e) h = refuted _ x (ap (supported_in k.flags.module) e) h
+  assignment_first k x c d (rules.bare_yield_rule g i n s e) h = rw i refl
+  assignment_first k x c d (rules.yield_rule y g i b s r e) h = rw i refl
+  assignment_first k x c d (rules.delegate_rule y g i b m r e) h = rw i refl
 
   expression_first : (k : Code) (x : Tree) (c d : Place) → ExpressionRule In k x c d → supported_in k.flags.module x ≡ true → begin_kind (kind_at c) ≡ true
   expression_first k x c d (rules.assignment_rule r e) h = assignment_first k x c d r h

@@ -1,5 +1,6 @@
 -- Primary and left-hand-side expressions of the language are read, with the faults of the walk and the notes held back, and no
 -- others.
+use Rattle.swc_ecma_parser_reader.proofs.Words.{async_named, async_stands}
 use Rattle.std.proofs.Common.{◌≡◌, Bool, true, false, List, [], ◌++◌, length, Some, Ok, refl, sym, ◌∙◌, ap, append_assoc, append-nil}
 use Rattle.std.specs.Prelude.{not, ◌&&◌, ◌||◌, codes}
 use Rattle.swc_ecma_parser_common.specs.declared.span.Span.{Span}
@@ -16,7 +17,7 @@ use Rattle.swc_ecma_parser_model.specs.Tree as tree
 use Rattle.swc_ecma_parser_model.specs.Tree.{Tree, Text, listed}
 use Rattle.swc_ecma_parser_grammar.specs.Looks.{kind_at, sees, same_kind, span_at, spanned}
 use Rattle.swc_ecma_parser_grammar.specs.Names.{Code, is_name, token_is_name}
-use Rattle.swc_ecma_parser_grammar.specs.Follows.{word_at, is_async_function}
+use Rattle.swc_ecma_parser_grammar.specs.Follows.{word_at, is_async_function, AsyncWord, not_async, async_word}
 use Rattle.swc_ecma_parser_grammar.specs.Reads.{with_in, ReadsToken}
 use Rattle.swc_ecma_parser_grammar.specs.Notes.{notes}
 use Rattle.swc_ecma_parser_grammar.specs.language.Noted.{has_meta}
@@ -25,13 +26,13 @@ use Rattle.swc_ecma_parser_grammar.specs.Supported.{supported_in, is_supported_p
 use Rattle.swc_ecma_parser_grammar.specs.language.Goals.{Goal, Class, expression, callee, expr_goal, callee_goal}
 use Rattle.swc_ecma_parser_grammar.specs.language.Parts.{ReadsName, AccessRule, is_private, ArgumentsRule}
 use Rattle.swc_ecma_parser_grammar.specs.Parameters.{parameters}
-use Rattle.swc_ecma_parser_grammar.specs.language.Functions.{FunctionRule, AsyncWord, not_async, async_word}
+use Rattle.swc_ecma_parser_grammar.specs.language.Functions.{FunctionRule}
 use Rattle.swc_ecma_parser_grammar.specs.language.LeftSides as sides
 use Rattle.swc_ecma_parser_grammar.specs.language.LeftSides.{PrimaryRule, LeftSideRule, is_callee}
 use Rattle.swc_ecma_parser_grammar.proofs.Tests.{and_yes, and_no}
 use Rattle.swc_ecma_parser_reader.specs.Notes.{Notes, ◌⊕◌, notes_of}
 use Rattle.swc_ecma_parser_reader.specs.State.{and_then, ◌>>=◌, Scope, State, Reader, name}
-use Rattle.swc_ecma_parser_reader.specs.Expressions.{Cover, close, literal_of, literal, ident_expr, this, bare_new, access, arguments, array, property, object, paren, marked_primary, primary, accessed, called, left_turn, left_from, super_call, super_access, behind_super, super_head, constructed, new_head, import_call, meta_fault, import_meta, import_head, left_head, left}
+use Rattle.swc_ecma_parser_reader.specs.Expressions.{Cover, close, literal_of, literal, ident_expr, this, bare_new, access, arguments, array, property, object, paren, marked_primary, primary, accessed, called, left_turn, left_from, super_call, super_access, behind_super, super_head, constructed, new_head, import_call, meta_fault, import_meta, import_head, left_head, left, named_expr}
 use Rattle.swc_ecma_parser_reader.proofs.Notes.{or_nil, or_true, or_assoc}
 use Rattle.swc_ecma_parser_reader.proofs.Answered.{st, Reads, ReadsAs}
 use Rattle.swc_ecma_parser_reader.proofs.Steps.{loop_more, loop_done}
@@ -76,23 +77,18 @@ module _ (In : Goal → Type 0) (inner : Class → Reader Tree) (cover : Reader 
   unfolding primary literal marked_primary
   first_paren k x c d e reads w f h = rw ((paren_here k.flags c e).0, (paren_here k.flags c e).1, seen c kind.LParen e) (reads w f h)
 
-  -- its word leads to a function, where it is not async
-  first_function : (k : Code) (x : Tree) (c d : Place) → kind_at c ≡ kind.Function → Reads function k x c d → Reads (primary inner cover function) k x c d
+  -- its word leads to a function, and so does `async` before it
+  plain_function : (k : Code) (x : Tree) (c d : Place) → kind_at c ≡ kind.Function → Reads function k x c d → Reads (primary inner cover function) k x c d
   unfolding primary literal marked_primary same_kind
-  first_function k x c d e reads w f h = rw ((function_here k.flags c e).0, (function_here k.flags c e).1, e) (reads w f h)
+  plain_function k x c d e reads w f h = rw ((function_here k.flags c e).0, (function_here k.flags c e).1, e) (reads w f h)
 
-  plain_word : (k : Code) (x : Tree) (c d : Place) (name y : Tree) → FunctionRule In true k (listed []) name y c d → x ≡ tree.fn_expr (spanned c d) name y → supported_in k.flags.module x ≡ true
-      → kind_at c ≡ kind.Function
-  plain_word k x c d name y r e s =
-      let g = and_yes (supported_in k.flags.module name) _ (supported_as _ x (tree.fn_expr (spanned c d) name y) e s) in
-      let f = and_yes (supported_in k.flags.module y) _ g.1 in
-      let z = supported_as _ y (tree.function (spanned c d) (listed []) (parameters r.patterns) r.body r.is_async r.is_generator) r.is f.0 in
-      ap kind_at (sym (by_word r.is_async (and_yes (not r.is_async) _ z).0 r.reads_async)) ∙ r.is_function
-    where
-      by_word : (b : Bool) → not b ≡ true → AsyncWord b c r.word → r.word ≡ c
-      by_word true u a = cc
-      by_word false u (not_async i j) = j
-      by_word false u (async_word i j l m) = cc
+  async_function : (k : Code) (x : Tree) (c d : Place) → is_async_function c ≡ true → Reads function k x c d → Reads (primary inner cover function) k x c d
+  unfolding primary named_expr
+  async_function k x c d e reads w f h = rw (async_named k.flags c e, e) (reads w f h)
+
+  first_function : {b : Bool} (k : Code) (x : Tree) (c d m : Place) → AsyncWord b c m → kind_at m ≡ kind.Function → Reads function k x c d → Reads (primary inner cover function) k x c d
+  first_function k x c d m (not_async i j) e reads = plain_function k x c d (ap kind_at (sym j) ∙ e) reads
+  first_function k x c d m (async_word i j l n) e reads = async_function k x c d (async_stands c m j l n e) reads
 
   paren_reads : (e : Tree) (m : Place) (k : Code) (x : Tree) (c d : Place) → In (expr_goal expression (with_in k) e (after c) m) → supported_in k.flags.module e ≡ true → kind_at m ≡ kind.RParen → d ≡ after m
       → x ≡ tree.paren (spanned c d) e → Reads (paren inner cover) k x c d
@@ -102,7 +98,7 @@ module _ (In : Goal → Type 0) (inner : Class → Reader Tree) (cover : Reader 
 
   name_primary : (text : Text) (sp : Span) (k : Code) (x : Tree) (c d : Place) (r : ReadsName k text sp c d) → is_name k.flags (word_text r.word) ≡ true → is_async_function c ≡ false
       → x ≡ tree.ident sp text → Reads (primary inner cover function) k x c d
-  unfolding primary ident_expr
+  unfolding primary named_expr ident_expr
   name_primary text sp k x c d r n a g w f h =
       rw (
         named (token.Word r.word) sp c d k true r.reads_word n,
@@ -130,7 +126,7 @@ module _ (In : Goal → Type 0) (inner : Class → Reader Tree) (cover : Reader 
       first_array k x c d i (array_reads In inner cover given xs m k x c d r (supported_as _ x (tree.array (spanned c d) (listed xs)) e s) j n e) w f h
   primary_reads k x c d (sides.object_rule xs m i r j n e) s w f h =
       first_object k x c d i (object_reads In inner cover given xs m k x c d r (supported_as _ x (tree.object (spanned c d) (listed xs)) e s) j n e) w f h
-  primary_reads k x c d (sides.function_rule name y r e) s w f h = first_function k x c d (plain_word k x c d name y r e s) (functions.reads k x c d name y r e s) w f h
+  primary_reads k x c d (sides.function_rule name y r e) s w f h = first_function k x c d r.word r.reads_async r.is_function (functions.reads k x c d name y r e s) w f h
   primary_reads k x c d (sides.class_rule name y r e) s w f h = refuted _ x (ap (supported_in k.flags.module) e) s
   primary_reads k x c d (sides.paren_rule e m o r g i j) s w f h =
       first_paren k x c d o (paren_reads e m k x c d r (supported_as _ x (tree.paren (spanned c d) e) j s) g i j) w f h

@@ -1,5 +1,6 @@
 -- The parts of the language that expressions share are read, with the faults of the walk and the notes held back, and no others:
 -- tokens, accesses, arguments and keys.
+use Rattle.swc_ecma_parser_reader.proofs.Words.{begins_function}
 use Rattle.std.proofs.Common.{◌≡◌, ◌≢◌, ◌<◌, ◌⊎◌, inl, inr, Bool, true, false, List, [], ◌∷◌, ◌++◌, length, Some, None, Ok, refl, sym, ◌∙◌, ap, subst, arith, append_assoc, append-nil}
 use Rattle.std.specs.Prelude.{not, ◌&&◌, ◌||◌}
 use Rattle.swc_ecma_parser_common.specs.declared.span.Span.{Span}
@@ -129,7 +130,7 @@ pub record IsRead (In : Goal → Type 0) (inner : Class → Reader Tree) (cover 
 pub record IsFunctionRead (In : Goal → Type 0) (function : Reader Tree) : Type 0 where
   pub reads : (k : Code) (x : Tree) (c d : Place) (name y : Tree) → FunctionRule In true k (listed []) name y c d → x ≡ tree.fn_expr (spanned c d) name y → supported_in k.flags.module x ≡ true
       → Reads function k x c d
-  pub falls : (s : State) → kind_at s.at ≢ kind.End → Falls 1 (length s.at.left) (function s)
+  pub falls : (s : State) → begins_function s.at ≡ true → Falls 1 (length s.at.left) (function s)
 
 -- behind an argument or an element the list ends, or a comma stands
 abbrev pub Behind : TokenKind → Place → Place → Type 0

@@ -22,7 +22,8 @@ use Rattle.swc_ecma_parser_grammar.specs.language.Operators.{unary_operator, upd
 use Rattle.swc_ecma_parser_grammar.specs.language.Continues.{continues_conditional}
 use Rattle.swc_ecma_parser_grammar.proofs.Tests.{or_no}
 use Rattle.swc_ecma_parser_reader.specs.State.{State, Outcome, Reader, and_then, ◌>>=◌}
-use Rattle.swc_ecma_parser_reader.specs.Expressions.{Cover, done, literal, begins_async_call, heads_arrow, operator_at, unheaded, close, unmarked, target, target_or, goes_on, elements, array, properties, object, marked_primary, primary, left_turn, left_from, left_head, left, postfix, unary_expr, binary_turn, binary_from, binary_expr, assigned_to, assigned, behind_operators, operators_expr, postfixed, continued, closed, assigned_pattern, behind_literal, open_literal, done_expr, cover_expr, assignment_expr, is_literal}
+use Rattle.swc_ecma_parser_reader.specs.Expressions.{Cover, done, literal, begins_async_call, heads_arrow, operator_at, unheaded, close, unmarked, target, target_or, goes_on, elements, array, properties, object, marked_primary, primary, left_turn, left_from, left_head, left, postfix, unary_expr, binary_turn, binary_from, binary_expr, assigned_to, assigned, behind_operators, operators_expr, postfixed, continued, closed, assigned_pattern, behind_literal, open_literal, done_expr, cover_expr, assignment_expr, is_literal, plain_expr}
+use Rattle.swc_ecma_parser_reader.specs.Yields.{begins_yield}
 use Rattle.swc_ecma_parser_reader.proofs.Steps.{then_ok, chosen, loop_done}
 use Rattle.swc_ecma_parser_reader.proofs.Meets.{Meets, meets_then, meets_if, saw}
 use Rattle.swc_ecma_parser_reader.proofs.expressions.CompleteKinds.{array_here, object_here, stopped, assign_stops, assign_seen, unassigned_at}
@@ -274,19 +275,28 @@ module _ (inner : Class → Reader Tree) (cover : Reader Cover) where
       | inr e ↦ operators_at s kind.LBrace e refl refl refl refl refl refl h
     ]
 
+    -- `yield` begins none
+    unyielded : (s : State) → begins_literal s.at ≡ true → begins_yield s.code.flags s.at ≡ false
+    unfolding begins_yield same_kind
+    unyielded s h = elim (literal_kind s.at h) [ inl e ↦ rw e refl | inr e ↦ rw e refl ]
+
+    plain_literal : (s : State) → begins_literal s.at ≡ true → plain_expr inner cover function s ≡ and_then (and_then (opened s) close) (continued inner cover (span_at s.at))
+    unfolding plain_expr
+    plain_literal s h = rw (unyielded s h) (operators_literal s h)
+
     -- an expression, which stays one
     pub record Settled (s : State) (v : Cover) (t : State) : Type 0 where
       pub x : Tree
-      pub reads : operators_expr inner cover function s ≡ Ok (x, t)
+      pub reads : plain_expr inner cover function s ≡ Ok (x, t)
       pub is : v ≡ done x
 
     -- closed, with what goes on with it
     closed_reads : (s : State) (u : Cover) (m : State) (y : Tree) (t : State) → begins_literal s.at ≡ true → opened s ≡ Ok (u, m) → u.mark ≡ None
-        → continued inner cover (span_at s.at) u.x m ≡ Ok (y, t) → operators_expr inner cover function s ≡ Ok (y, t)
-    closed_reads s u m y t h r o e = operators_literal s h ∙ rw (r, close_reads u m o) e
+        → continued inner cover (span_at s.at) u.x m ≡ Ok (y, t) → plain_expr inner cover function s ≡ Ok (y, t)
+    closed_reads s u m y t h r o e = plain_literal s h ∙ rw (r, close_reads u m o) e
 
     -- left open it is an expression too, where it has no part that only a pattern has
-    pub open_reads : (s : State) (v : Cover) (t : State) → LeftOpen s v t → v.mark ≡ None → operators_expr inner cover function s ≡ Ok (v.x, t)
+    pub open_reads : (s : State) (v : Cover) (t : State) → LeftOpen s v t → v.mark ≡ None → plain_expr inner cover function s ≡ Ok (v.x, t)
     open_reads s v t o e =
         closed_reads s v t v.x t o.first o.read e (stays (span_at s.at) v.x t (met (λ v _. is_literal v.x ≡ true) (opened s) v t (opened_literal s) o.read) o.ended)
 
@@ -323,7 +333,7 @@ module _ (inner : Class → Reader Tree) (cover : Reader Cover) where
     done_is : (s : State) (v : Cover) (t : State) → done_expr inner cover function s ≡ Ok (v, t) → Settled s v t
     unfolding done_expr
     done_is s v t e =
-        let (x, l, r, i) = then_ok (operators_expr inner cover function s) _ v t e in
+        let (x, l, r, i) = then_ok (plain_expr inner cover function s) _ v t e in
         let (j, k) = same_answer (done x) v l t i in
         record { x = x; reads = r ∙ ap (λ q. Ok (x, q)) k; is = sym j }
 
@@ -358,18 +368,18 @@ module _ (inner : Class → Reader Tree) (cover : Reader Cover) where
         let (k, l) = same_answer u.x x m t (sym (stays (span_at s.at) u.x m (met (λ v _. is_literal v.x ≡ true) (opened s) u m (opened_literal s) r) j) ∙ e) in
         record { v = u; reads = rw (h, r, i, j) (ap (λ q. Ok (u, q)) l); is = k; unmarked = o }
 
-    kept_by : (s : State) (x : Tree) (t : State) → operators_expr inner cover function s ≡ Ok (x, t) → (b : Bool) → begins_literal s.at ≡ b → Kept s x t
+    kept_by : (s : State) (x : Tree) (t : State) → plain_expr inner cover function s ≡ Ok (x, t) → (b : Bool) → begins_literal s.at ≡ b → Kept s x t
     unfolding cover_expr done_expr
     kept_by s x t e true h =
-        let (y, n, r, more) = then_ok (and_then (opened s) close) _ x t (sym (operators_literal s h) ∙ e) in
+        let (y, n, r, more) = then_ok (and_then (opened s) close) _ x t (sym (plain_literal s h) ∙ e) in
         let (u, m, read, g) = then_ok (opened s) _ y n r in
         let (o, is, same) = close_is u m y n g in
         kept_behind s u m x t h read o (goes_from (span_at s.at) u.x y m n x t t is same refl more) (sees kind.Assign m.at) (goes_on m) refl refl
     kept_by s x t e false h = record { v = done x; reads = rw (h, e) refl; is = refl; unmarked = refl }
 
-    -- what is read with operators and operands is read as what may still become a pattern
-    pub operators_cover : (s : State) (x : Tree) (t : State) → operators_expr inner cover function s ≡ Ok (x, t) → Kept s x t
-    operators_cover s x t e = kept_by s x t e (begins_literal s.at) refl
+    -- what is read as an expression is read as what may still become a pattern
+    pub plain_cover : (s : State) (x : Tree) (t : State) → plain_expr inner cover function s ≡ Ok (x, t) → Kept s x t
+    plain_cover s x t e = kept_by s x t e (begins_literal s.at) refl
 
     -- ---- closed for good
 
@@ -384,5 +394,5 @@ module _ (inner : Class → Reader Tree) (cover : Reader Cover) where
         let (o, is, same) = close_is v m x t g in
         record { v = v; reads = r ∙ ap (λ q. Ok (v, q)) same; is = is; unmarked = o }
 
-    pub operators_assignment : (s : State) (x : Tree) (t : State) → operators_expr inner cover function s ≡ Ok (x, t) → assignment_expr inner cover function s ≡ Ok (x, t)
-    operators_assignment s x t e = let k = operators_cover s x t e in assignment_reads s k.v t k.reads k.unmarked ∙ ap (λ q. Ok (q, t)) k.is
+    pub plain_assignment : (s : State) (x : Tree) (t : State) → plain_expr inner cover function s ≡ Ok (x, t) → assignment_expr inner cover function s ≡ Ok (x, t)
+    plain_assignment s x t e = let k = plain_cover s x t e in assignment_reads s k.v t k.reads k.unmarked ∙ ap (λ q. Ok (q, t)) k.is

@@ -1,4 +1,6 @@
 -- An expression takes a token at least, and no reader of one puts tokens back.
+use Rattle.swc_ecma_parser_reader.proofs.Words.{async_begins, function_begins, begins_function}
+use Rattle.swc_ecma_parser_grammar.specs.language.Begins.{begins_expression}
 use Rattle.std.proofs.Common.{◌≡◌, ◌≢◌, ℕ, zero, suc, ◌+◌, ◌≤◌, Bool, true, false, cond, List, [], ◌∷◌, ◌++◌, length, Option, Some, None, refl, sym, ◌∙◌, arith}
 use Rattle.std.specs.Prelude.{not, ◌&&◌, ◌||◌, codes}
 use Rattle.std.proofs.lemmas.Bool.{and_parts}
@@ -22,7 +24,7 @@ use Rattle.swc_ecma_parser_model.specs.Tree as tree
 use Rattle.swc_ecma_parser_model.specs.Tree.{Tree, Text}
 use Rattle.swc_ecma_parser_model.specs.Forms.{is_simple_target}
 use Rattle.swc_ecma_parser_model.specs.Targets.{as_target}
-use Rattle.swc_ecma_parser_grammar.specs.Looks.{kind_at, sees, span_at}
+use Rattle.swc_ecma_parser_grammar.specs.Looks.{kind_at, sees, span_at, breaks_at}
 use Rattle.swc_ecma_parser_grammar.specs.Names.{is_name, name_at}
 use Rattle.swc_ecma_parser_grammar.specs.Follows.{word_at, is_async_function, continues_left_side}
 use Rattle.swc_ecma_parser_grammar.specs.Reads.{with_in}
@@ -30,7 +32,8 @@ use Rattle.swc_ecma_parser_grammar.specs.language.Goals.{Class, expression, assi
 use Rattle.swc_ecma_parser_grammar.specs.language.Operators.{unary_operator, update_operator, assign_operator, groups_left, mixes, is_unary}
 use Rattle.swc_ecma_parser_grammar.specs.language.Continues.{continues_conditional}
 use Rattle.swc_ecma_parser_reader.specs.State.{State, Outcome, Reader, and_then, moved, module_found, coded, reject, reject_in, reject_at, fault, fault_at, expect, name, loop}
-use Rattle.swc_ecma_parser_reader.specs.Expressions.{Cover, Covers, no_covers, with_cover, unmarked, close, target_or, target, goes_on, literal, literal_in, taken, any_word, word_in, word_by, touching_word, private_name, word_property, is_word_at, key_or, literal_key, shorthand_name, shorthand, dotted, ident_expr, this, bare_new, closed_left, simple, update_behind, behind_operand, postfix_at, right_class, operator_at, left_operand, unmixed, unassigned, unheaded, heads_arrow, begins_async_call, inside, brackets, access, spread_element, plain_element, element, behind_comma, behind_argument, arguments_turn, arguments, covered, spread_item, plain_item, item, behind_item, array_turn, elements, array, computed_key, key, key_value, initialized, initialized_name, initialized_key, bare_key, behind_key, keyed_property, spread_property, property, behind_property, object_turn, properties, object, paren, marked_primary, literal_or, primary, accessed, called, left_turn, left_from, super_call, super_property, super_access, behind_super, super_head, constructed, new_head, import_call, meta_fault, import_meta, import_head, left_head, left, left_expr, prefixed, update_before, postfix, updated, unary_by, unary_expr, operated, binary_by, binary_turn, binary_from, binary_expr, conditional, assigned_to, assigned, assigned_or, behind_operators, operators_expr, postfixed, continued, closed, assigned_pattern, behind_literal, open_literal, done_expr, cover_expr, assignment_expr, sequence_turn, sequence_from, expression_expr, expr_level}
+use Rattle.swc_ecma_parser_reader.specs.Expressions.{Cover, Covers, no_covers, with_cover, unmarked, close, target_or, target, goes_on, literal, literal_in, taken, any_word, word_in, word_by, touching_word, private_name, word_property, is_word_at, key_or, literal_key, shorthand_name, shorthand, dotted, ident_expr, this, bare_new, closed_left, simple, update_behind, behind_operand, postfix_at, right_class, operator_at, left_operand, unmixed, unassigned, unheaded, heads_arrow, begins_async_call, inside, brackets, access, spread_element, plain_element, element, behind_comma, behind_argument, arguments_turn, arguments, covered, spread_item, plain_item, item, behind_item, array_turn, elements, array, computed_key, key, key_value, initialized, initialized_name, initialized_key, bare_key, behind_key, keyed_property, spread_property, property, behind_property, object_turn, properties, object, paren, marked_primary, literal_or, primary, accessed, called, left_turn, left_from, super_call, super_property, super_access, behind_super, super_head, constructed, new_head, import_call, meta_fault, import_meta, import_head, left_head, left, left_expr, prefixed, update_before, postfix, updated, unary_by, unary_expr, operated, binary_by, binary_turn, binary_from, binary_expr, conditional, assigned_to, assigned, assigned_or, behind_operators, operators_expr, plain_expr, postfixed, continued, closed, assigned_pattern, behind_literal, open_literal, done_expr, cover_expr, assignment_expr, sequence_turn, sequence_from, expression_expr, expr_level, named_expr}
+use Rattle.swc_ecma_parser_reader.specs.Yields.{begins_yield, bare_yield, yielded, behind_yield, yield_expr}
 use Rattle.swc_ecma_parser_reader.specs.Heads.{sequenced, head_expr}
 use Rattle.swc_ecma_parser_reader.proofs.Takes.{Falls, falls_then, falls_last, falls_coded, falls_if, less, falls_next, moves, takes, takes_one, falls_past, falls_moved, wanted_falls, too_deep_falls, refused_falls, fault_falls, expect_falls, name_falls, loop_falls}
 use Rattle.swc_ecma_parser_reader.proofs.Meets.{saw}
@@ -84,8 +87,7 @@ dotted_falls s = falls_if 1 (length s.at.left) (sees kind.Hash s.at) _ _ (privat
 
 pub ident_falls : (s : State) → Falls 1 (length s.at.left) (ident_expr s)
 unfolding ident_expr
-ident_falls s = falls_next (length s.at.left) (name faults.Unexpected s) _ (name_falls faults.Unexpected s) (λ i t.
-    falls_if 0 (length t.at.left) (is_async_function s.at) _ _ (wanted_falls Tree 0 (length t.at.left) faults.Unexpected t) (omega arith))
+ident_falls s = falls_last 1 (length s.at.left) (name faults.Unexpected s) _ (name_falls faults.Unexpected s)
 
 this_falls : (s : State) → kind_at s.at ≢ kind.End → Falls 1 (length s.at.left) (this s)
 unfolding this
@@ -433,6 +435,20 @@ module _ (inner : Class → Reader Tree) (cover : Reader Cover) (h : (class : Cl
   behind_literal_falls start v s = falls_if 0 (length s.at.left) (sees kind.Assign s.at) _ _ (assigned_pattern_falls start v s)
       (falls_if 0 (length s.at.left) (goes_on s) _ _ (closed_falls start v s) (omega arith))
 
+  yielded_falls : (delegate : Bool) (start : Span) (s : State) → Falls 0 (length s.at.left) (yielded inner delegate start s)
+  unfolding yielded
+  yielded_falls delegate start s = falls_last 0 (length s.at.left) (inner assignment s) _ (less (length s.at.left) (inner assignment s) (h assignment s))
+
+  behind_yield_falls : (start : Span) (s : State) → Falls 0 (length s.at.left) (behind_yield inner start s)
+  unfolding behind_yield bare_yield
+  behind_yield_falls start s = falls_if 0 (length s.at.left) (breaks_at s.at) _ _ (omega arith)
+      (falls_if 0 (length s.at.left) (sees kind.Mul s.at) _ _ (falls_moved 0 s _ (yielded_falls true start (moved s)))
+      (falls_if 0 (length s.at.left) (begins_expression s.code.flags s.at) _ _ (yielded_falls false start s) (omega arith)))
+
+  yield_falls : (s : State) → begins_yield s.code.flags s.at ≡ true → Falls 1 (length s.at.left) (yield_expr inner s)
+  unfolding yield_expr begins_yield
+  yield_falls s e = falls_past s _ (no_end s kind.Yield (λ z. cc) (and_parts (sees kind.Yield s.at) s.code.flags.in_generator e).0) (behind_yield_falls (span_at s.at) (moved s))
+
   open_literal_falls : (s : State) → (sees kind.LBracket s.at || sees kind.LBrace s.at) ≡ true → Falls 1 (length s.at.left) (open_literal inner cover s)
   unfolding open_literal
   open_literal_falls s e = falls_next (length s.at.left) _ _
@@ -440,7 +456,7 @@ module _ (inner : Class → Reader Tree) (cover : Reader Cover) (h : (class : Cl
       object_falls s (no_end s kind.LBrace (λ z. cc) (second _ _ e i)))) (λ v t. behind_literal_falls (span_at s.at) v t)
 
   -- what a function may begin
-  module _ (function : Reader Tree) (i : (s : State) → kind_at s.at ≢ kind.End → Falls 1 (length s.at.left) (function s)) where
+  module _ (function : Reader Tree) (i : (s : State) → begins_function s.at ≡ true → Falls 1 (length s.at.left) (function s)) where
     marked_falls : (s : State) → Falls 1 (length s.at.left) (marked_primary inner cover function s)
     unfolding marked_primary
     marked_falls s = falls_if 1 (length s.at.left) (sees kind.LParen s.at) _ _ (paren_falls s)
@@ -449,15 +465,19 @@ module _ (inner : Class → Reader Tree) (cover : Reader Cover) (h : (class : Cl
         falls_when 1 (length s.at.left) (sees kind.LBrace s.at) _ _
         (λ e. falls_next (length s.at.left) (object inner cover s) _ (object_falls s (no_end s kind.LBrace (λ z. cc) e)) close_falls) (λ _.
         falls_when 1 (length s.at.left) (sees kind.This s.at) _ _ (λ e. this_falls s (no_end s kind.This (λ z. cc) e)) (λ _.
-        falls_when 1 (length s.at.left) (sees kind.Function s.at) _ _ (λ e. i s (no_end s kind.Function (λ z. cc) e)) (λ _. wanted_falls Tree 1 (length s.at.left) faults.Unexpected s)))))
+        falls_when 1 (length s.at.left) (sees kind.Function s.at) _ _ (λ e. i s (function_begins s.at (saw s.at kind.Function e))) (λ _. wanted_falls Tree 1 (length s.at.left) faults.Unexpected s)))))
 
     literal_or_falls : (s : State) (o : Option Tree) → literal_in s.at.left ≡ o → Falls 1 (length s.at.left) (and_then (taken o s) (literal_or inner cover function))
     literal_or_falls s None e = marked_falls s
     literal_or_falls s (Some x) e = literal_takes s s.at.left x refl e
 
+    named_falls : (s : State) → Falls 1 (length s.at.left) (named_expr inner cover function s)
+    unfolding named_expr
+    named_falls s = falls_when 1 (length s.at.left) (is_async_function s.at) _ _ (λ e. i s (async_begins s.at e)) (λ _. ident_falls s)
+
     pub primary_falls : (s : State) → Falls 1 (length s.at.left) (primary inner cover function s)
     unfolding primary literal
-    primary_falls s = falls_if 1 (length s.at.left) (name_at s.code.flags s.at) _ _ (ident_falls s) (literal_or_falls s (literal_in s.at.left) refl)
+    primary_falls s = falls_if 1 (length s.at.left) (name_at s.code.flags s.at) _ _ (named_falls s) (literal_or_falls s (literal_in s.at.left) refl)
 
     left_head_falls : (calls : Bool) (s : State) → Falls 1 (length s.at.left) (left_head inner cover function calls s)
     unfolding left_head
@@ -499,10 +519,14 @@ module _ (inner : Class → Reader Tree) (cover : Reader Cover) (h : (class : Cl
     unfolding operators_expr
     operators_falls s = falls_next (length s.at.left) (binary_expr inner cover function 1 s) _ (binary_falls 1 s) (λ x t. behind_operators_falls (begins_async_call s.at) (span_at s.at) x t)
 
+    pub plain_falls : (s : State) → Falls 1 (length s.at.left) (plain_expr inner cover function s)
+    unfolding plain_expr
+    plain_falls s = falls_when 1 (length s.at.left) (begins_yield s.code.flags s.at) _ _ (yield_falls s) (λ _. operators_falls s)
+
     pub cover_expr_falls : (s : State) → Falls 1 (length s.at.left) (cover_expr inner cover function s)
     unfolding cover_expr done_expr
     cover_expr_falls s = falls_when 1 (length s.at.left) (sees kind.LBracket s.at || sees kind.LBrace s.at) _ _ (open_literal_falls s) (λ _.
-        falls_last 1 (length s.at.left) (operators_expr inner cover function s) _ (operators_falls s))
+        falls_last 1 (length s.at.left) (plain_expr inner cover function s) _ (plain_falls s))
 
     pub assignment_falls : (s : State) → Falls 1 (length s.at.left) (assignment_expr inner cover function s)
     unfolding assignment_expr

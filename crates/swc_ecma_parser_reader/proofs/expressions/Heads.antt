@@ -1,4 +1,5 @@
 -- What the head of a loop begins with: an expression, which may still become what takes each value.
+use Rattle.swc_ecma_parser_reader.proofs.Words.{begins_function}
 use Rattle.std.proofs.Common.{◌≡◌, ◌⊎◌, inl, inr, ℕ, zero, suc, ◌-◌, ◌<◌, Bool, true, false, List, [], ◌∷◌, ◌++◌, Option, Some, None, Ok, length, refl, sym, ◌∙◌, ap, arith, append_assoc}
 use Rattle.std.specs.Prelude.{not, ◌&&◌, codes}
 use Rattle.std.specs.Str.{bytes_eq}
@@ -87,7 +88,7 @@ SoundHead n s v t = Sound same (λ k l. walk (env_of k l) v.x) (notes_of v.x) (H
 
 module _ (n : ℕ) (inner : Class → Reader Tree) (cover : Reader Cover) (sound : (class : Class) (s : State) → Meets (λ x t. SoundTree (ReadsClass n class) s x t) (inner class s))
     (covers : (s : State) → Meets (λ v t. SoundCover n s v t) (cover s))
-    (function : Reader Tree) (functions : (s : State) → kind_at s.at ≡ kind.Function → Meets (λ x t. SoundTree (FunctionRead n) s x t) (function s)) (s : State) where
+    (function : Reader Tree) (functions : (s : State) → begins_function s.at ≡ true → Meets (λ x t. SoundTree (FunctionRead n) s x t) (function s)) (s : State) where
   abbrev SoundNext : Cover → State → Type 0
   SoundNext v t = SoundHead (suc n) s v t
 

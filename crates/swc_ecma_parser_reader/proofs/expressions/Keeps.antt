@@ -1,4 +1,5 @@
 -- Whatever an expression is read as, or refused, the tokens that are left are the last of those that were, and no recorded fault is lost.
+use Rattle.swc_ecma_parser_grammar.specs.language.Begins.{begins_expression}
 use Rattle.std.proofs.Common.{◌≡◌, ◌≢◌, ℕ, zero, suc, Bool, true, false, cond, List, [], ◌∷◌, Option, Some, None, refl, sym, ◌∙◌, ap}
 use Rattle.std.specs.Prelude.{nat_eq, not, ◌&&◌, ◌||◌, codes}
 use Rattle.std.proofs.lemmas.Bool.{and_parts}
@@ -19,7 +20,7 @@ use Rattle.swc_ecma_parser_model.specs.Tree as tree
 use Rattle.swc_ecma_parser_model.specs.Tree.{Tree, Text}
 use Rattle.swc_ecma_parser_model.specs.Forms.{is_simple_target, span_of}
 use Rattle.swc_ecma_parser_model.specs.Targets.{as_target}
-use Rattle.swc_ecma_parser_grammar.specs.Looks.{kind_at, sees, span_at}
+use Rattle.swc_ecma_parser_grammar.specs.Looks.{kind_at, sees, span_at, breaks_at}
 use Rattle.swc_ecma_parser_grammar.specs.Names.{is_name, name_at}
 use Rattle.swc_ecma_parser_grammar.specs.Follows.{word_at, is_async_function, continues_left_side}
 use Rattle.swc_ecma_parser_grammar.specs.Reads.{with_in}
@@ -27,7 +28,8 @@ use Rattle.swc_ecma_parser_grammar.specs.language.Goals.{Class, expression, assi
 use Rattle.swc_ecma_parser_grammar.specs.language.Operators.{unary_operator, update_operator, binary_operator, assign_operator, groups_left, mixes, is_unary}
 use Rattle.swc_ecma_parser_grammar.specs.language.Continues.{continues_conditional}
 use Rattle.swc_ecma_parser_reader.specs.State.{State, Reader, ◌>>=◌, moved, module_found, coded, wanted, fault_at, fault, expect, name, loop}
-use Rattle.swc_ecma_parser_reader.specs.Expressions.{Cover, no_covers, unmarked, close, target_or, target, goes_on, literal, literal_in, taken, any_word, word_in, word_by, touching_word, private_name, word_property, is_word_at, key_or, literal_key, shorthand_name, shorthand, dotted, ident_expr, this, bare_new, closed_left, simple, update_behind, behind_operand, postfix_at, right_class, read_operator, operator_at, left_operand, unmixed, unassigned, unassignable, unheaded, heads_arrow, begins_async_call, inside, brackets, access, spread_element, plain_element, element, arguments_turn, arguments, covered, spread_item, plain_item, item, array_turn, elements, array, computed_key, key, key_value, initialized, initialized_name, initialized_key, bare_key, behind_key, keyed_property, spread_property, property, object_turn, properties, object, paren, marked_primary, literal_or, primary, accessed, called, left_turn, left_from, super_call, super_property, super_access, behind_super, super_head, constructed, new_head, import_call, meta_fault, import_meta, import_head, left_head, left, left_expr, prefixed, update_before, postfix, updated, unary_by, unary_expr, operated, binary_by, binary_turn, binary_from, binary_expr, conditional, assigned_to, assigned, assigned_or, behind_operators, operators_expr, postfixed, continued, closed, assigned_pattern, behind_literal, open_literal, done_expr, cover_expr, assignment_expr, sequence_turn, sequence_from, expression_expr, expr_level}
+use Rattle.swc_ecma_parser_reader.specs.Expressions.{Cover, no_covers, unmarked, close, target_or, target, goes_on, literal, literal_in, taken, any_word, word_in, word_by, touching_word, private_name, word_property, is_word_at, key_or, literal_key, shorthand_name, shorthand, dotted, ident_expr, this, bare_new, closed_left, simple, update_behind, behind_operand, postfix_at, right_class, read_operator, operator_at, left_operand, unmixed, unassigned, unassignable, unheaded, heads_arrow, begins_async_call, inside, brackets, access, spread_element, plain_element, element, arguments_turn, arguments, covered, spread_item, plain_item, item, array_turn, elements, array, computed_key, key, key_value, initialized, initialized_name, initialized_key, bare_key, behind_key, keyed_property, spread_property, property, object_turn, properties, object, paren, marked_primary, literal_or, primary, accessed, called, left_turn, left_from, super_call, super_property, super_access, behind_super, super_head, constructed, new_head, import_call, meta_fault, import_meta, import_head, left_head, left, left_expr, prefixed, update_before, postfix, updated, unary_by, unary_expr, operated, binary_by, binary_turn, binary_from, binary_expr, conditional, assigned_to, assigned, assigned_or, behind_operators, operators_expr, plain_expr, postfixed, continued, closed, assigned_pattern, behind_literal, open_literal, done_expr, cover_expr, assignment_expr, sequence_turn, sequence_from, expression_expr, expr_level, named_expr}
+use Rattle.swc_ecma_parser_reader.specs.Yields.{begins_yield, bare_yield, yielded, behind_yield, yield_expr}
 use Rattle.swc_ecma_parser_reader.specs.Heads.{sequenced, head_expr}
 use Rattle.swc_ecma_parser_reader.proofs.Meets.{Answers, answers_then, answers_if, saw}
 use Rattle.swc_ecma_parser_reader.proofs.Behind.{Kept, Lost, Passes, behind_after, too_deep_keeps, fault_keeps, wanted_keeps, reject_keeps, expect_keeps, name_keeps, loop_keeps}
@@ -76,8 +78,7 @@ module _ (b : State) (s : State) (f : IsBehind b s) where
 
   ident_keeps : Answers (Kept b) (Lost b) (ident_expr s)
   unfolding ident_expr
-  ident_keeps = answers_then _ _ (name faults.Unexpected s) _ (name_keeps b s f faults.Unexpected) (λ i t g.
-      answers_if _ _ (is_async_function s.at) _ _ (λ _. wanted_keeps _ faults.Unexpected b t g) (λ _. g))
+  ident_keeps = answers_then _ _ (name faults.Unexpected s) _ (name_keeps b s f faults.Unexpected) (λ i t g. g)
 
   this_keeps : Answers (Kept b) (Lost b) (this s)
   unfolding this
@@ -456,6 +457,18 @@ module _ (inner : Class → Reader Tree) (cover : Reader Cover) (below : (class 
         (λ e. assigned_pattern_keeps start v s (λ z. let k = sym z ∙ saw s.at kind.Assign e in cc) f)
         (λ _. answers_if _ _ (goes_on s) _ _ (λ _. closed_literal_keeps start v s f) (λ _. f))
 
+    yielded_keeps : (delegate : Bool) (start : Span) (s : State) → IsBehind b s → Answers (Kept b) (Lost b) (yielded inner delegate start s)
+    unfolding yielded
+    yielded_keeps delegate start s f = answers_then _ _ (inner assignment s) _ (below assignment b s f) (λ x t g. g)
+
+    yield_keeps : (s : State) → IsBehind b s → Answers (Kept b) (Lost b) (yield_expr inner s)
+    unfolding yield_expr behind_yield bare_yield
+    yield_keeps s f =
+        let g = behind_after b s f in
+        answers_if _ _ (breaks_at (after s.at)) _ _ (λ _. g)
+        (λ _. answers_if _ _ (sees kind.Mul (after s.at)) _ _ (λ _. yielded_keeps true (span_at s.at) (moved (moved s)) (behind_after b (moved s) g))
+        (λ _. answers_if _ _ (begins_expression s.code.flags (after s.at)) _ _ (λ _. yielded_keeps false (span_at s.at) (moved s) g) (λ _. g)))
+
     open_literal_keeps : (s : State) → (sees kind.LBracket s.at || sees kind.LBrace s.at) ≡ true → IsBehind b s → Answers (Kept b) (Lost b) (open_literal inner cover s)
     unfolding open_literal
     open_literal_keeps s h f = answers_then _ _ (cond (sees kind.LBracket s.at) (array inner cover s) (object inner cover s)) _
@@ -477,9 +490,13 @@ module _ (inner : Class → Reader Tree) (cover : Reader Cover) (below : (class 
       literal_or_keeps (Some x) s f = f
       literal_or_keeps None s f = marked_keeps s f
 
+      named_keeps : (s : State) → IsBehind b s → Answers (Kept b) (Lost b) (named_expr inner cover function s)
+      unfolding named_expr
+      named_keeps s f = answers_if _ _ (is_async_function s.at) _ _ (λ _. below_function b s f) (λ _. ident_keeps b s f)
+
       primary_keeps : (s : State) → IsBehind b s → Answers (Kept b) (Lost b) (primary inner cover function s)
       unfolding primary
-      primary_keeps s f = answers_if _ _ (name_at s.code.flags s.at) _ _ (λ _. ident_keeps b s f) (λ _. answers_then _ _ (literal s) _ (literal_keeps b s f) literal_or_keeps)
+      primary_keeps s f = answers_if _ _ (name_at s.code.flags s.at) _ _ (λ _. named_keeps s f) (λ _. answers_then _ _ (literal s) _ (literal_keeps b s f) literal_or_keeps)
 
       left_head_keeps : (calls : Bool) (s : State) → IsBehind b s → Answers (Kept b) (Lost b) (left_head inner cover function calls s)
       unfolding left_head
@@ -519,10 +536,14 @@ module _ (inner : Class → Reader Tree) (cover : Reader Cover) (below : (class 
       unfolding operators_expr
       operators_keeps s f = answers_then _ _ (binary_expr inner cover function 1 s) _ (binary_keeps 1 s f) (λ x t g. behind_operators_keeps (begins_async_call s.at) (span_at s.at) x t g)
 
+      plain_keeps : (s : State) → IsBehind b s → Answers (Kept b) (Lost b) (plain_expr inner cover function s)
+      unfolding plain_expr
+      plain_keeps s f = answers_if _ _ (begins_yield s.code.flags s.at) _ _ (λ _. yield_keeps s f) (λ _. operators_keeps s f)
+
       pub cover_expr_keeps : (s : State) → IsBehind b s → Answers (Kept b) (Lost b) (cover_expr inner cover function s)
       unfolding cover_expr done_expr
       cover_expr_keeps s f = answers_if _ _ (sees kind.LBracket s.at || sees kind.LBrace s.at) _ _ (λ h. open_literal_keeps s h f)
-          (λ _. answers_then _ _ (operators_expr inner cover function s) _ (operators_keeps s f) (λ x t g. g))
+          (λ _. answers_then _ _ (plain_expr inner cover function s) _ (plain_keeps s f) (λ x t g. g))
 
       assignment_keeps : (s : State) → IsBehind b s → Answers (Kept b) (Lost b) (assignment_expr inner cover function s)
       unfolding assignment_expr

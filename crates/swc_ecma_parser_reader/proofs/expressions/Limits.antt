@@ -1,4 +1,6 @@
 -- With twice as many levels as tokens no expression is too deep, but for what an error token says: each level below needs a token.
+use Rattle.swc_ecma_parser_reader.proofs.Words.{async_begins, function_begins, begins_function}
+use Rattle.swc_ecma_parser_grammar.specs.language.Begins.{begins_expression}
 use Rattle.std.proofs.Common.{◌≡◌, ◌≢◌, ℕ, zero, suc, ◌*◌, ◌≤◌, Bool, true, false, cond, List, [], ◌∷◌, Option, Some, None, Ok, Err, refl, sym, ◌∙◌, ap, arith}
 use Rattle.std.specs.Prelude.{nat_eq, not, ◌&&◌, ◌||◌, codes}
 use Rattle.std.proofs.lemmas.Bool.{and_parts}
@@ -21,7 +23,7 @@ use Rattle.swc_ecma_parser_model.specs.Tree as tree
 use Rattle.swc_ecma_parser_model.specs.Tree.{Tree, Text}
 use Rattle.swc_ecma_parser_model.specs.Forms.{is_simple_target, span_of}
 use Rattle.swc_ecma_parser_model.specs.Targets.{as_target}
-use Rattle.swc_ecma_parser_grammar.specs.Looks.{kind_at, sees, span_at}
+use Rattle.swc_ecma_parser_grammar.specs.Looks.{kind_at, sees, span_at, breaks_at}
 use Rattle.swc_ecma_parser_grammar.specs.Names.{is_name, name_at}
 use Rattle.swc_ecma_parser_grammar.specs.Follows.{word_at, is_async_function, continues_left_side}
 use Rattle.swc_ecma_parser_grammar.specs.Reads.{with_in}
@@ -29,7 +31,8 @@ use Rattle.swc_ecma_parser_grammar.specs.language.Goals.{Class, expression, assi
 use Rattle.swc_ecma_parser_grammar.specs.language.Operators.{unary_operator, update_operator, binary_operator, assign_operator, groups_left, mixes, is_unary}
 use Rattle.swc_ecma_parser_grammar.specs.language.Continues.{continues_conditional}
 use Rattle.swc_ecma_parser_reader.specs.State.{State, Outcome, Reader, ◌>>=◌, moved, module_found, coded, wanted, reject, reject_in, reject_at, fault_at, fault, expect, name, loop}
-use Rattle.swc_ecma_parser_reader.specs.Expressions.{Cover, no_covers, unmarked, close, target_or, target, goes_on, literal, literal_in, taken, any_word, word_in, word_by, touching_word, private_name, word_property, is_word_at, key_or, literal_key, shorthand_name, shorthand, dotted, ident_expr, this, bare_new, closed_left, simple, update_behind, behind_operand, postfix_at, right_class, read_operator, operator_at, left_operand, unmixed, unassigned, unassignable, unheaded, heads_arrow, begins_async_call, inside, brackets, access, spread_element, plain_element, element, arguments_turn, arguments, covered, spread_item, plain_item, item, array_turn, elements, array, computed_key, key, key_value, initialized, initialized_name, initialized_key, bare_key, behind_key, keyed_property, spread_property, property, object_turn, properties, object, paren, marked_primary, literal_or, primary, accessed, called, left_turn, left_from, super_call, super_property, super_access, behind_super, super_head, constructed, new_head, import_call, meta_fault, import_meta, import_head, left_head, left, left_expr, prefixed, update_before, postfix, updated, unary_by, unary_expr, operated, binary_by, binary_turn, binary_from, binary_expr, conditional, assigned_to, assigned, assigned_or, behind_operators, operators_expr, postfixed, continued, closed, assigned_pattern, behind_literal, open_literal, done_expr, cover_expr, assignment_expr, sequence_turn, sequence_from, expression_expr, expr_level}
+use Rattle.swc_ecma_parser_reader.specs.Expressions.{Cover, no_covers, unmarked, close, target_or, target, goes_on, literal, literal_in, taken, any_word, word_in, word_by, touching_word, private_name, word_property, is_word_at, key_or, literal_key, shorthand_name, shorthand, dotted, ident_expr, this, bare_new, closed_left, simple, update_behind, behind_operand, postfix_at, right_class, read_operator, operator_at, left_operand, unmixed, unassigned, unassignable, unheaded, heads_arrow, begins_async_call, inside, brackets, access, spread_element, plain_element, element, arguments_turn, arguments, covered, spread_item, plain_item, item, array_turn, elements, array, computed_key, key, key_value, initialized, initialized_name, initialized_key, bare_key, behind_key, keyed_property, spread_property, property, object_turn, properties, object, paren, marked_primary, literal_or, primary, accessed, called, left_turn, left_from, super_call, super_property, super_access, behind_super, super_head, constructed, new_head, import_call, meta_fault, import_meta, import_head, left_head, left, left_expr, prefixed, update_before, postfix, updated, unary_by, unary_expr, operated, binary_by, binary_turn, binary_from, binary_expr, conditional, assigned_to, assigned, assigned_or, behind_operators, operators_expr, plain_expr, postfixed, continued, closed, assigned_pattern, behind_literal, open_literal, done_expr, cover_expr, assignment_expr, sequence_turn, sequence_from, expression_expr, expr_level, named_expr}
+use Rattle.swc_ecma_parser_reader.specs.Yields.{begins_yield, bare_yield, yielded, behind_yield, yield_expr}
 use Rattle.swc_ecma_parser_reader.specs.Heads.{sequenced, head_expr}
 use Rattle.swc_ecma_parser_reader.proofs.Meets.{Answers, answers_then, answers_if, Turned, loop_answers, saw}
 use Rattle.swc_ecma_parser_reader.proofs.Shallow.{Fine, fine_more, fine_after, fine_taken, Shallow, Kept, error_shallow, too_deep_shallow, fault_shallow, refused_shallow, wanted_shallow, expect_shallow, name_shallow, Levels}
@@ -103,8 +106,7 @@ module _ (m : ℕ) (s : State) (f : Fine m s.at.left) where
 
   ident_shallow : Answers (Kept m) Shallow (ident_expr s)
   unfolding ident_expr
-  ident_shallow = answers_then _ _ (name faults.Unexpected s) _ (name_shallow m s f faults.Unexpected (λ e. cc)) (λ i t g.
-      answers_if _ _ (is_async_function s.at) _ _ (λ _. wanted_shallow _ faults.Unexpected (λ e. cc) m t g) (λ _. g))
+  ident_shallow = answers_then _ _ (name faults.Unexpected s) _ (name_shallow m s f faults.Unexpected (λ e. cc)) (λ i t g. g)
 
   this_shallow : Answers (Kept m) Shallow (this s)
   unfolding this
@@ -487,6 +489,22 @@ module _ (inner : Class → Reader Tree) (cover : Reader Cover) (n : ℕ) (below
         (λ e. assigned_pattern_shallow start v s (λ z. let k = sym z ∙ saw s.at kind.Assign e in cc) f)
         (λ _. answers_if _ _ (goes_on s) _ _ (λ _. closed_literal_shallow start v s f) (λ _. f))
 
+    yielded_shallow : (i : ℕ) → 2 * i ≤ n → (delegate : Bool) (start : Span) (s : State) → Fine i s.at.left → Answers (Kept i) Shallow (yielded inner delegate start s)
+    unfolding yielded
+    yielded_shallow i h delegate start s f = answers_then _ _ (inner assignment s) _ (below assignment i s h f) (λ x t g. g)
+
+    -- its word is a token before the level below
+    yield_shallow : (s : State) → begins_yield s.code.flags s.at ≡ true → Fine m s.at.left → Answers (Kept m) Shallow (yield_expr inner s)
+    unfolding yield_expr behind_yield bare_yield begins_yield
+    yield_shallow s e f =
+        let (i, h, g) = fine_taken m s.at kind.Yield (saw s.at kind.Yield (and_parts (sees kind.Yield s.at) s.code.flags.in_generator e).0) (λ z. cc) f in
+        let k = fine_more i m (after s.at).left (omega arith) g in
+        answers_if _ _ (breaks_at (after s.at)) _ _ (λ _. k)
+        (λ _. answers_if _ _ (sees kind.Mul (after s.at)) _ _
+        (λ _. kept_more i m (yielded inner true (span_at s.at) (moved (moved s))) (omega arith) (yielded_shallow i (omega arith) true (span_at s.at) (moved (moved s)) (fine_after i (after s.at) g)))
+        (λ _. answers_if _ _ (begins_expression s.code.flags (after s.at)) _ _
+        (λ _. kept_more i m (yielded inner false (span_at s.at) (moved s)) (omega arith) (yielded_shallow i (omega arith) false (span_at s.at) (moved s) g)) (λ _. k)))
+
     open_literal_shallow : (s : State) → (sees kind.LBracket s.at || sees kind.LBrace s.at) ≡ true → Fine m s.at.left → Answers (Kept m) Shallow (open_literal inner cover s)
     unfolding open_literal
     open_literal_shallow s h f = answers_then _ _ (cond (sees kind.LBracket s.at) (array inner cover s) (object inner cover s)) _
@@ -495,22 +513,26 @@ module _ (inner : Class → Reader Tree) (cover : Reader Cover) (n : ℕ) (below
         (λ v t g. behind_literal_shallow (span_at s.at) v t g)
 
     -- what a function may begin
-    module _ (function : Reader Tree) (below_function : (m : ℕ) (s : State) → 2 * m ≤ suc n → kind_at s.at ≡ kind.Function → Fine m s.at.left → Answers (Kept m) Shallow (function s)) where
+    module _ (function : Reader Tree) (below_function : (m : ℕ) (s : State) → 2 * m ≤ suc n → begins_function s.at ≡ true → Fine m s.at.left → Answers (Kept m) Shallow (function s)) where
       marked_shallow : (s : State) → Fine m s.at.left → Answers (Kept m) Shallow (marked_primary inner cover function s)
       unfolding marked_primary
       marked_shallow s f = answers_if _ _ (sees kind.LParen s.at) _ _ (λ e. paren_shallow s (saw s.at kind.LParen e) f)
           (λ _. answers_if _ _ (sees kind.LBracket s.at) _ _ (λ e. answers_then _ _ (array inner cover s) _ (array_shallow s (saw s.at kind.LBracket e) f) (λ v t g. close_shallow m t g v))
           (λ _. answers_if _ _ (sees kind.LBrace s.at) _ _ (λ e. answers_then _ _ (object inner cover s) _ (object_shallow s (saw s.at kind.LBrace e) f) (λ v t g. close_shallow m t g v))
           (λ _. answers_if _ _ (sees kind.This s.at) _ _ (λ _. this_shallow m s f)
-          (λ _. answers_if _ _ (sees kind.Function s.at) _ _ (λ e. below_function m s enough (saw s.at kind.Function e) f) (λ _. unexpected_shallow m s f _)))))
+          (λ _. answers_if _ _ (sees kind.Function s.at) _ _ (λ e. below_function m s enough (function_begins s.at (saw s.at kind.Function e)) f) (λ _. unexpected_shallow m s f _)))))
 
       literal_or_shallow : (o : Option Tree) (s : State) → Fine m s.at.left → Answers (Kept m) Shallow (literal_or inner cover function o s)
       literal_or_shallow (Some x) s f = f
       literal_or_shallow None s f = marked_shallow s f
 
+      named_shallow : (s : State) → Fine m s.at.left → Answers (Kept m) Shallow (named_expr inner cover function s)
+      unfolding named_expr
+      named_shallow s f = answers_if _ _ (is_async_function s.at) _ _ (λ e. below_function m s enough (async_begins s.at e) f) (λ _. ident_shallow m s f)
+
       primary_shallow : (s : State) → Fine m s.at.left → Answers (Kept m) Shallow (primary inner cover function s)
       unfolding primary
-      primary_shallow s f = answers_if _ _ (name_at s.code.flags s.at) _ _ (λ _. ident_shallow m s f) (λ _. answers_then _ _ (literal s) _ (literal_shallow m s f) literal_or_shallow)
+      primary_shallow s f = answers_if _ _ (name_at s.code.flags s.at) _ _ (λ _. named_shallow s f) (λ _. answers_then _ _ (literal s) _ (literal_shallow m s f) literal_or_shallow)
 
       left_head_shallow : (calls : Bool) (s : State) → Fine m s.at.left → Answers (Kept m) Shallow (left_head inner cover function calls s)
       unfolding left_head
@@ -550,10 +572,14 @@ module _ (inner : Class → Reader Tree) (cover : Reader Cover) (n : ℕ) (below
       unfolding operators_expr
       operators_shallow s f = answers_then _ _ (binary_expr inner cover function 1 s) _ (binary_shallow 1 s f) (λ x t g. behind_operators_shallow (begins_async_call s.at) (span_at s.at) x t g)
 
+      plain_shallow : (s : State) → Fine m s.at.left → Answers (Kept m) Shallow (plain_expr inner cover function s)
+      unfolding plain_expr
+      plain_shallow s f = answers_if _ _ (begins_yield s.code.flags s.at) _ _ (λ h. yield_shallow s h f) (λ _. operators_shallow s f)
+
       pub cover_expr_shallow : (s : State) → Fine m s.at.left → Answers (Kept m) Shallow (cover_expr inner cover function s)
       unfolding cover_expr done_expr
       cover_expr_shallow s f = answers_if _ _ (sees kind.LBracket s.at || sees kind.LBrace s.at) _ _ (λ h. open_literal_shallow s h f)
-          (λ _. answers_then _ _ (operators_expr inner cover function s) _ (operators_shallow s f) (λ x t g. g))
+          (λ _. answers_then _ _ (plain_expr inner cover function s) _ (plain_shallow s f) (λ x t g. g))
 
       assignment_shallow : (s : State) → Fine m s.at.left → Answers (Kept m) Shallow (assignment_expr inner cover function s)
       unfolding assignment_expr

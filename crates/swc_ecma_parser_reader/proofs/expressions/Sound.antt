@@ -1,5 +1,7 @@
 -- The reader of expressions is sound: what it reads is in the relation of the whole language, and supported, where nothing was
 -- recorded, and its faults of the table are the walk's.
+use Rattle.swc_ecma_parser_reader.proofs.Words.{begins_function}
+use Rattle.swc_ecma_parser_grammar.specs.language.Begins.{begins_expression}
 use Rattle.std.proofs.Common.{◌≡◌, ℕ, zero, suc, inl, inr, Bool, true, false, List, [], ◌∷◌, ◌++◌, Option, Some, None, Ok, refl, sym, ◌∙◌, ap, subst, append-nil}
 use Rattle.std.specs.Prelude.{not, ◌&&◌, ◌||◌, is_some, codes}
 use Rattle.swc_ecma_parser_common.specs.declared.span.Span.{Span}
@@ -21,19 +23,20 @@ use Rattle.swc_ecma_parser_grammar.specs.Supported.{supported_in, all_supported_
 use Rattle.swc_ecma_parser_grammar.specs.ReadsSupported.{ReadsClass}
 use Rattle.swc_ecma_parser_grammar.specs.language.Goals.{Goal, Class, expression, assignment, operator, unary, left_side, callee, expr_goal}
 use Rattle.swc_ecma_parser_grammar.specs.language.Operators.{binary_operator, assign_operator}
-use Rattle.swc_ecma_parser_grammar.specs.language.Continues.{binds, continues_operand, continues_conditional, continues_assignment, continues_head, is_arrow_head}
-use Rattle.swc_ecma_parser_grammar.specs.language.Expressions.{AssignmentRule, operators_rule, conditional_rule, assign_rule, destructuring_rule, ExpressionRule, assignment_rule, sequence_rule}
+use Rattle.swc_ecma_parser_grammar.specs.language.Continues.{binds, continues_operand, continues_conditional, continues_assignment, continues_head, is_arrow_head, continues_yield}
+use Rattle.swc_ecma_parser_grammar.specs.language.Expressions.{AssignmentRule, operators_rule, conditional_rule, assign_rule, destructuring_rule, ExpressionRule, assignment_rule, sequence_rule, yield_rule, delegate_rule, bare_yield_rule}
 use Rattle.swc_ecma_parser_grammar.specs.language.Reads.{Reads}
 use Rattle.swc_ecma_parser_grammar.specs.Walk as walks
 use Rattle.swc_ecma_parser_grammar.specs.Walk.{walk, env_of}
-use Rattle.swc_ecma_parser_grammar.proofs.Tests.{or_none, and_both}
+use Rattle.swc_ecma_parser_grammar.proofs.Tests.{or_none, and_both, and_yes}
 use Rattle.swc_ecma_parser_reader.specs.Notes.{◌⊕◌, notes_of, all_notes_of}
 use Rattle.swc_ecma_parser_reader.specs.State.{State, Reader, and_then, moved, expect, loop}
-use Rattle.swc_ecma_parser_reader.specs.Expressions.{Cover, done, unmarked, close, target, goes_on, begins_async_call, is_head, heads_arrow, unassigned, unheaded, inside, binary_expr, conditional, assigned_to, assigned, assigned_or, behind_operators, operators_expr, continued, closed, assigned_pattern, behind_literal, open_literal, done_expr, cover_expr, assignment_expr, sequence_turn, sequence_from, expression_expr, expr_level, is_literal}
+use Rattle.swc_ecma_parser_reader.specs.Expressions.{Cover, done, unmarked, close, target, goes_on, begins_async_call, is_head, heads_arrow, unassigned, unheaded, inside, binary_expr, conditional, assigned_to, assigned, assigned_or, behind_operators, operators_expr, continued, closed, assigned_pattern, behind_literal, open_literal, done_expr, cover_expr, assignment_expr, sequence_turn, sequence_from, expression_expr, expr_level, is_literal, plain_expr}
+use Rattle.swc_ecma_parser_reader.specs.Yields.{begins_yield, bare_yield, yielded, behind_yield, yield_expr}
 use Rattle.swc_ecma_parser_reader.proofs.Notes.{notes_nil}
 use Rattle.swc_ecma_parser_reader.proofs.Meets.{Meets, Refuses, meets_then, meets_if, wanted_meets, too_deep_meets, Turned, loop_answers, saw}
 use Rattle.swc_ecma_parser_reader.proofs.Errors.{is_error}
-use Rattle.swc_ecma_parser_reader.proofs.Between.{SoundTree, Sound, same, sound_as}
+use Rattle.swc_ecma_parser_reader.proofs.Between.{SoundTree, Sound, same, sound_as, sound_after, sound_moved}
 use Rattle.swc_ecma_parser_reader.proofs.expressions.SoundSteps.{paired, stepped, moved_back, reject_meets, other, clash, elsewhere, expect_sound, walks_push, notes_push, supported_push}
 use Rattle.swc_ecma_parser_reader.proofs.expressions.Targets.{pattern_alike, literal_target}
 use Rattle.swc_ecma_parser_reader.proofs.expressions.Covers.{meets_each, met, begins_literal, literal_kind, close_is, close_reads, target_is, opened, opened_literal, operators_literal}
@@ -117,7 +120,7 @@ parts_rule In k x (y ∷ z ∷ zs) c d h e = sequence_rule y z zs h e
 
 module _ (n : ℕ) (inner : Class → Reader Tree) (cover : Reader Cover) (sound : (class : Class) (s : State) → Meets (λ x t. SoundTree (ReadsClass n class) s x t) (inner class s))
     (covers : (s : State) → Meets (λ v t. SoundCover n s v t) (cover s))
-    (function : Reader Tree) (functions : (s : State) → kind_at s.at ≡ kind.Function → Meets (λ x t. SoundTree (FunctionRead n) s x t) (function s)) where
+    (function : Reader Tree) (functions : (s : State) → begins_function s.at ≡ true → Meets (λ x t. SoundTree (FunctionRead n) s x t) (function s)) where
   -- ---- AssignmentExpression
 
   abbrev Assignment : Code → Tree → Place → Place → Type 0
@@ -172,6 +175,39 @@ module _ (n : ℕ) (inner : Class → Reader Tree) (cover : Reader Cover) (sound
     operators_sound : Meets SoundAssignment (operators_expr inner cover function s)
     unfolding operators_expr
     operators_sound = meets_then _ (binary_expr inner cover function 1 s) _ (binary_sound n inner cover sound covers function functions 1 s) (λ x t p. behind_operators_sound x t p)
+
+    -- ---- `yield`
+
+    yielded_sound : (e : kind_at s.at ≡ kind.Yield) → s.code.flags.in_generator ≡ true → breaks_at (after s.at) ≡ false → begins_expression s.code.flags (after s.at) ≡ true
+        → Meets SoundAssignment (yielded inner false (span_at s.at) (moved s))
+    unfolding yielded spanned
+    yielded_sound e g b h = meets_then _ (inner assignment (moved s)) _ (sound assignment (moved s)) (λ x t p.
+        sound_after s t e refl refl refl (λ r. (yield_rule x g e b h r.0 refl, r.1)) p)
+
+    delegated_sound : (e : kind_at s.at ≡ kind.Yield) → s.code.flags.in_generator ≡ true → breaks_at (after s.at) ≡ false → kind_at (after s.at) ≡ kind.Mul
+        → Meets SoundAssignment (yielded inner true (span_at s.at) (moved (moved s)))
+    unfolding yielded spanned
+    delegated_sound e g b h = meets_then _ (inner assignment (moved (moved s))) _ (sound assignment (moved (moved s))) (λ x t p.
+        let q : Sound same (λ k l. walk (env_of k l) x) (notes_of x) (λ k c d. ReadsClass n assignment k x (after c) d) (moved s) t = sound_after (moved s) t h refl refl refl (λ r. r) p in
+        sound_after s t e refl refl refl (λ r. (delegate_rule x g e b h r.0 refl, r.1)) q)
+
+    bare_yield_sound : (e : kind_at s.at ≡ kind.Yield) → s.code.flags.in_generator ≡ true → continues_yield s.code (after s.at) ≡ false
+        → Meets SoundAssignment (bare_yield (span_at s.at) (moved s))
+    unfolding bare_yield spanned
+    bare_yield_sound e g h = sound_moved s e refl (bare_yield_rule g e refl h refl, refl)
+
+    yield_sound : begins_yield s.code.flags s.at ≡ true → Meets SoundAssignment (yield_expr inner s)
+    unfolding yield_expr behind_yield begins_yield continues_yield
+    yield_sound y =
+        let (w, g) = and_yes (sees kind.Yield s.at) s.code.flags.in_generator y in
+        let e = saw s.at kind.Yield w in
+        meets_if _ (breaks_at (after s.at)) _ _ (λ b. bare_yield_sound e g (rw b refl))
+        (λ b. meets_if _ (sees kind.Mul (after s.at)) _ _ (λ h. delegated_sound e g b (saw (after s.at) kind.Mul h))
+        (λ h. meets_if _ (begins_expression s.code.flags (after s.at)) _ _ (λ i. yielded_sound e g b i) (λ i. bare_yield_sound e g (rw (b, h, i) refl))))
+
+    plain_sound : Meets SoundAssignment (plain_expr inner cover function s)
+    unfolding plain_expr
+    plain_sound = meets_if _ (begins_yield s.code.flags s.at) _ _ yield_sound (λ _. operators_sound)
 
     -- ---- what may still become a pattern
 
@@ -242,7 +278,7 @@ module _ (n : ℕ) (inner : Class → Reader Tree) (cover : Reader Cover) (sound
     pub cover_expr_sound : Meets SoundNext (cover_expr inner cover function s)
     unfolding cover_expr done_expr
     cover_expr_sound = meets_if _ (begins_literal s.at) _ _ open_sound
-        (λ h. meets_then _ (operators_expr inner cover function s) _ operators_sound (λ x t p.
+        (λ h. meets_then _ (plain_expr inner cover function s) _ plain_sound (λ x t p.
         sound_as s t refl refl refl (λ r. settled_read n s.code x s.at t.at (unopened x t h r (is_literal x) refl) r) p))
 
     closed_by : (v : Cover) (t : State) (o : Option Span) → v.mark ≡ o → SoundNext v t → Meets SoundAssignment (unmarked v.x o t)

@@ -1,4 +1,5 @@
 -- The reader of left-hand-side expressions is sound: accesses, arguments, primary expressions, calls, `new` and `super`.
+use Rattle.swc_ecma_parser_reader.proofs.Words.{async_begins, function_begins, function_no_await, begins_function}
 use Rattle.std.proofs.Common.{◌≡◌, ℕ, zero, suc, Bool, true, false, List, [], ◌∷◌, ◌++◌, Option, Some, None, refl, sym, ◌∙◌, ap, subst, append-nil}
 use Rattle.std.specs.Prelude.{not, ◌&&◌, ◌||◌, codes}
 use Rattle.swc_ecma_parser_common.specs.declared.span.Span.{Span}
@@ -35,7 +36,7 @@ use Rattle.swc_ecma_parser_grammar.specs.Walk.{walk, env_of}
 use Rattle.swc_ecma_parser_grammar.proofs.Tests.{or_no, or_none, and_yes, and_both}
 use Rattle.swc_ecma_parser_reader.specs.Notes.{notes_of, all_notes_of}
 use Rattle.swc_ecma_parser_reader.specs.State.{State, Outcome, Reader, and_then, moved, module_found, fault, fault_at, expect, name, loop}
-use Rattle.swc_ecma_parser_reader.specs.Expressions.{Cover, literal_of, literal_in, taken, literal, ident_expr, this, super_property, bare_new, closed_left, unmarked, close, dotted, inside, brackets, access, spread_element, plain_element, element, behind_argument, arguments_turn, arguments, array, object, paren, marked_primary, literal_or, primary, accessed, called, left_turn, left_from, super_call, super_access, behind_super, super_head, constructed, new_head, import_call, meta_fault, import_meta, import_head, left_head, left, left_expr, any_word, word_property}
+use Rattle.swc_ecma_parser_reader.specs.Expressions.{Cover, literal_of, literal_in, taken, literal, ident_expr, this, super_property, bare_new, closed_left, unmarked, close, dotted, inside, brackets, access, spread_element, plain_element, element, behind_argument, arguments_turn, arguments, array, object, paren, marked_primary, literal_or, primary, accessed, called, left_turn, left_from, super_call, super_access, behind_super, super_head, constructed, new_head, import_call, meta_fault, import_meta, import_head, left_head, left, left_expr, any_word, word_property, named_expr}
 use Rattle.swc_ecma_parser_reader.proofs.Notes.{or_true, notes_nil}
 use Rattle.swc_ecma_parser_reader.proofs.Meets.{Meets, Refuses, meets_then, meets_if, wanted_meets, Turned, loop_answers, saw}
 use Rattle.swc_ecma_parser_reader.specs.Entry.{error_tokens}
@@ -149,7 +150,7 @@ free_left In calls i k c d e r = let free : is_name k.flags i.sym ≡ true = ap 
 
 module _ (n : ℕ) (inner : Class → Reader Tree) (cover : Reader Cover) (sound : (class : Class) (s : State) → Meets (λ x t. SoundTree (ReadsClass n class) s x t) (inner class s))
     (covers : (s : State) → Meets (λ v t. SoundCover n s v t) (cover s))
-    (function : Reader Tree) (functions : (s : State) → kind_at s.at ≡ kind.Function → Meets (λ x t. SoundTree (FunctionRead n) s x t) (function s)) where
+    (function : Reader Tree) (functions : (s : State) → begins_function s.at ≡ true → Meets (λ x t. SoundTree (FunctionRead n) s x t) (function s)) where
   -- ---- accesses
 
   abbrev SoundAccess : State → Tree → State → Type 0
@@ -248,11 +249,10 @@ module _ (n : ℕ) (inner : Class → Reader Tree) (cover : Reader Cover) (sound
   abbrev pub SoundLeft : Bool → State → Tree → State → Type 0
   SoundLeft calls s x t = SoundTree (Left (Reads n) calls) s x t
 
-  ident_sound : (calls : Bool) (s : State) → Meets (SoundLeft calls s) (ident_expr s)
+  ident_sound : (calls : Bool) (s : State) → is_async_function s.at ≡ false → Meets (SoundLeft calls s) (ident_expr s)
   unfolding ident_expr
-  ident_sound calls s = meets_then _ (name faults.Unexpected s) _ (name_sound faults.Unexpected s) (λ i t p.
-      meets_if _ (is_async_function s.at) _ _ (λ _. wanted_meets _ faults.Unexpected t)
-      (λ e. sound_as s t refl refl refl (λ r. free_left (Reads n) calls i s.code s.at t.at e r) p))
+  ident_sound calls s e = meets_then _ (name faults.Unexpected s) _ (name_sound faults.Unexpected s) (λ i t p.
+      sound_as s t refl refl refl (λ r. free_left (Reads n) calls i s.code s.at t.at e r) p)
 
   -- a literal was read, or nothing
   abbrev Literal : Bool → State → Option Tree → State → Type 0
@@ -327,12 +327,11 @@ module _ (n : ℕ) (inner : Class → Reader Tree) (cover : Reader Cover) (sound
           is_called = λ _. refl;
         }) (stepped (moved_back e refl p) q)))
 
-    function_left : kind_at s.at ≡ kind.Function → Meets (SoundLeft calls s) (function s)
-    unfolding same_kind
+    function_left : (e : begins_function s.at ≡ true) → Meets (SoundLeft calls s) (function s)
     function_left e = meets_as (function s) (functions s e) (λ x t p. sound_as s t refl refl refl (λ r. record {
       rule = primary_rule r.0;
       supports = r.1;
-      no_await = elsewhere s.at kind.Function kind.Await e refl;
+      no_await = function_no_await s.at e;
       is_called = λ _. r.2;
     }) p)
 
@@ -342,15 +341,19 @@ module _ (n : ℕ) (inner : Class → Reader Tree) (cover : Reader Cover) (sound
         (λ _. meets_if _ (sees kind.LBracket s.at) _ _ (λ e. array_left (saw s.at kind.LBracket e))
         (λ _. meets_if _ (sees kind.LBrace s.at) _ _ (λ e. object_left (saw s.at kind.LBrace e))
         (λ _. meets_if _ (sees kind.This s.at) _ _ (λ e. this_sound (saw s.at kind.This e))
-        (λ _. meets_if _ (sees kind.Function s.at) _ _ (λ e. function_left (saw s.at kind.Function e)) (λ _. wanted_meets _ faults.Unexpected s)))))
+        (λ _. meets_if _ (sees kind.Function s.at) _ _ (λ e. function_left (function_begins s.at (saw s.at kind.Function e))) (λ _. wanted_meets _ faults.Unexpected s)))))
 
     literal_or_sound : (o : Option Tree) (t : State) → Literal calls s o t → Meets (SoundLeft calls s) (literal_or inner cover function o t)
     literal_or_sound (Some x) t p = p
     literal_or_sound None t e = subst (λ z. Meets (SoundLeft calls s) (marked_primary inner cover function z)) (sym e) marked_sound
 
+    named_sound : Meets (SoundLeft calls s) (named_expr inner cover function s)
+    unfolding named_expr
+    named_sound = meets_if _ (is_async_function s.at) _ _ (λ e. function_left (async_begins s.at e)) (λ e. ident_sound calls s e)
+
     primary_sound : Meets (SoundLeft calls s) (primary inner cover function s)
     unfolding primary
-    primary_sound = meets_if _ (name_at s.code.flags s.at) _ _ (λ _. ident_sound calls s)
+    primary_sound = meets_if _ (name_at s.code.flags s.at) _ _ (λ _. named_sound)
         (λ _. meets_then _ (literal s) _ literal_sound (λ o t p. literal_or_sound o t p))
 
   -- ---- accesses and calls one behind another

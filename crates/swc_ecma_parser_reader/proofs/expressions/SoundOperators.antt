@@ -1,4 +1,5 @@
 -- The reader of unary, update and binary operators is sound.
+use Rattle.swc_ecma_parser_reader.proofs.Words.{begins_function}
 use Rattle.std.proofs.Common.{◌≡◌, ℕ, zero, suc, ◌<◌, ◌≤◌, Bool, true, false, cond, Option, Some, None, refl, sym, ◌∙◌, ap, subst, leb-true, leb-false, arith}
 use Rattle.std.specs.Prelude.{nat_le, not, ◌&&◌, ◌||◌}
 use Rattle.swc_ecma_parser_token.specs.declared.kind.TokenKind.{TokenKind}
@@ -195,7 +196,7 @@ module _ (n : ℕ) (k : Code) (op : BinaryOp) (x y : Tree) (c i d : Place) (h : 
 
 module _ (n : ℕ) (inner : Class → Reader Tree) (cover : Reader Cover) (sound : (class : Class) (s : State) → Meets (λ x t. SoundTree (ReadsClass n class) s x t) (inner class s))
     (covers : (s : State) → Meets (λ v t. SoundCover n s v t) (cover s))
-    (function : Reader Tree) (functions : (s : State) → kind_at s.at ≡ kind.Function → Meets (λ x t. SoundTree (FunctionRead n) s x t) (function s)) where
+    (function : Reader Tree) (functions : (s : State) → begins_function s.at ≡ true → Meets (λ x t. SoundTree (FunctionRead n) s x t) (function s)) where
   -- ---- unary and update operators
 
   abbrev pub SoundUnary : State → Tree → State → Type 0

@@ -13,8 +13,10 @@ use Rattle.swc_ecma_parser_grammar.specs.language.Lists.{ReadsEach, LastComma, R
 use Rattle.swc_ecma_parser_grammar.specs.language.Parts as parts
 use Rattle.swc_ecma_parser_grammar.specs.language.Parts.{ReadsName, ReadsWord, OptionalName, PrivateRule, ComputedRule, KeyRule, AccessRule, ElementRule, ArgumentsRule}
 use Rattle.swc_ecma_parser_grammar.specs.language.Items.{nested_item, directed, directs_on, ItemsRule, BlockRule}
+use Rattle.swc_ecma_parser_grammar.specs.Follows as follows
+use Rattle.swc_ecma_parser_grammar.specs.Follows.{Star, AsyncWord}
 use Rattle.swc_ecma_parser_grammar.specs.language.Functions as functions
-use Rattle.swc_ecma_parser_grammar.specs.language.Functions.{PatternItemRule, ParametersRule, FunctionParts, AsyncWord, Star, FunctionRule, MethodHead, MethodRule}
+use Rattle.swc_ecma_parser_grammar.specs.language.Functions.{PatternItemRule, ParametersRule, FunctionParts, FunctionRule, MethodHead, MethodRule}
 use Rattle.swc_ecma_parser_grammar.specs.language.Classes as classes
 use Rattle.swc_ecma_parser_grammar.specs.language.Classes.{DecoratorRule, DecoratorsRule, behind_modifier, MemberKeyRule, FieldValueRule, CoreRule, behind_static, behind_accessor, has_accessor, is_static_word, MemberRule, HeritageRule, ClassRule}
 use Rattle.swc_ecma_parser_grammar.specs.language.Objects as objects
@@ -73,12 +75,12 @@ pub private_name : {x : Tree} {c d : Place} → PrivateRule x c d → Advances c
 private_name r = token r.hash refl ▸▸ word r.reads_word
 
 pub async_word : {is_async : Bool} {c d : Place} → AsyncWord is_async c d → Onward c d
-async_word (functions.not_async a e) = stays e
-async_word (functions.async_word a b e h) = any_token_to e
+async_word (follows.not_async a e) = stays e
+async_word (follows.async_word a b e h) = any_token_to e
 
 pub star : {is_generator : Bool} {c d : Place} → Star is_generator c d → Onward c d
-star (functions.no_star a e) = stays e
-star (functions.star a h e) = any_token_to e
+star (follows.no_star a e) = stays e
+star (follows.star a h e) = any_token_to e
 
 pub method_head : {form : _} {is_async is_generator : Bool} {c d : Place} → MethodHead form is_async is_generator c d → Onward c d
 method_head (functions.method_head m a r q) = async_word r ▹▹ star q

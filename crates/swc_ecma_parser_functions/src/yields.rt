@@ -1,0 +1,80 @@
+//! `yield` in generators: ECMA-262, section 15.5.
+
+ghost use Rattle.std.specs.Prelude.{◌≡◌};
+ghost use Rattle.swc_ecma_parser_grammar.specs.language.Begins as begins;
+ghost use Rattle.swc_ecma_parser_inner.specs.Nests.{Nests};
+ghost use Rattle.swc_ecma_parser_reader.specs.Reader as rules;
+ghost use Rattle.swc_ecma_parser_reader.specs.State.{GivesAs};
+ghost use Rattle.swc_ecma_parser_reader.specs.Yields as yields;
+
+use swc_ecma_parser_common::Span;
+use swc_ecma_parser_error::PResult;
+use swc_ecma_parser_grammar::{Class, Position};
+use swc_ecma_parser_inner::cover::{Cover, Reading, nested};
+use swc_ecma_parser_inner::grammar::{Grammar, Part};
+use swc_ecma_parser_inner::steps::{grown, since};
+use swc_ecma_parser_source::{Source, begins_operand};
+use swc_ecma_parser_token::TokenKind;
+use swc_ecma_parser_trees::{BuildsOperator, MakerOf};
+
+/// Whether `yield` stands here and is no name.
+#[tactic(auto, unfolding(swc_ecma_parser_reader::specs::Yields::begins_yield))]
+pub fn begins_yield<P: Source>(p: &P) -> bool
+    ensures { result ≡ yields.begins_yield (P.seen p.now).code.flags (P.seen p.now).at }
+{
+    p.sees(TokenKind::Yield) && p.flags().in_generator
+}
+
+/// Whether an expression can begin here.
+#[tactic(auto, unfolding(swc_ecma_parser_grammar::specs::language::Begins::begins_expression, swc_ecma_parser_grammar::specs::language::Begins::begins_unary))]
+fn begins_expression<P: Source>(p: &P) -> bool
+    ensures { result ≡ begins.begins_expression (P.seen p.now).code.flags (P.seen p.now).at }
+{
+    begins_operand(p.kind())
+        || p.identifier_at()
+        || p.flags().in_generator && p.sees(TokenKind::Yield)
+}
+
+/// What is yielded, from behind the word or its `*`.
+#[tactic(auto, unfolding(swc_ecma_parser_reader::specs::Yields::yielded))]
+fn yielded<
+    P: Source,
+    T: BuildsOperator,
+    S: Fn(&MakerOf<T>, &mut P, usize, Position) -> PResult<T::Stmt>,
+    E: Fn(&MakerOf<T>, &mut P, usize, Reading) -> PResult<Cover<T::Expr>>,
+    N: Fn(&MakerOf<T>, &mut P, usize, Part) -> PResult<T::Pat>,
+>(g: &Grammar<S, E, N>, t: &MakerOf<T>, p: &mut P, delegate: bool, start: Span) -> PResult<T::Expr>
+    requires { Nests P.seen T.expr_of T.pat_of T.stmt_of g.now.depth (S.pre g.now.stmt) (S.post g.now.stmt) (E.pre g.now.expr) (E.post g.now.expr) (N.pre g.now.pat) (N.post g.now.pat) }
+    ensures { GivesAs (T.expr_of) (yields.yielded (rules.expr g.now.depth) delegate start (P.seen p.old)) result (P.seen p.new) }
+{
+    let arg = nested(g, t, p, Class::Assignment)?;
+    let span = since(p, start);
+    grown(p, T::yield_expr(t.alloc, span, Some(arg), delegate))
+}
+
+/// `yield`, with what it yields, where that or a `*` stands on its line.
+#[tactic(auto, unfolding(swc_ecma_parser_reader::specs::Yields::yield_expr, swc_ecma_parser_reader::specs::Yields::behind_yield, swc_ecma_parser_reader::specs::Yields::bare_yield))]
+pub fn yield_expr<
+    P: Source,
+    T: BuildsOperator,
+    S: Fn(&MakerOf<T>, &mut P, usize, Position) -> PResult<T::Stmt>,
+    E: Fn(&MakerOf<T>, &mut P, usize, Reading) -> PResult<Cover<T::Expr>>,
+    N: Fn(&MakerOf<T>, &mut P, usize, Part) -> PResult<T::Pat>,
+>(g: &Grammar<S, E, N>, t: &MakerOf<T>, p: &mut P) -> PResult<T::Expr>
+    requires { Nests P.seen T.expr_of T.pat_of T.stmt_of g.now.depth (S.pre g.now.stmt) (S.post g.now.stmt) (E.pre g.now.expr) (E.post g.now.expr) (N.pre g.now.pat) (N.post g.now.pat) }
+    ensures { GivesAs (T.expr_of) (yields.yield_expr (rules.expr g.now.depth) (P.seen p.old)) result (P.seen p.new) }
+{
+    let start = p.span();
+    p.skip()?;
+    if !p.had_line_break() {
+        if p.sees(TokenKind::Mul) {
+            p.skip()?;
+            return yielded(g, t, p, true, start);
+        }
+        if begins_expression(p) {
+            return yielded(g, t, p, false, start);
+        }
+    }
+    let span = since(p, start);
+    grown(p, T::yield_expr(t.alloc, span, None, false))
+}
