@@ -2,6 +2,7 @@ pub mod Notes
 pub mod State
 pub mod Classes
 pub mod Yields
+pub mod Methods
 pub mod Expressions
 pub mod Heads
 pub mod Patterns
