@@ -14,8 +14,6 @@ mod heads;
 #[cfg(test)]
 mod items;
 #[cfg(test)]
-mod methods;
-#[cfg(test)]
 mod nodes;
 #[cfg(test)]
 mod parsers;

@@ -11,8 +11,6 @@ ghost use Rattle.swc_ecma_parser_inner.specs.Keys.{word_of};
 ghost use Rattle.swc_ecma_parser_inner.specs.Nests.{Nests};
 ghost use Rattle.swc_ecma_parser_model.specs.Forms as forms;
 ghost use Rattle.swc_ecma_parser_model.specs.Tree as tree;
-ghost use Rattle.swc_ecma_parser_reader.specs.Methods as methods;
-ghost use Rattle.swc_ecma_parser_reader.specs.Methods.{expression_form};
 ghost use Rattle.swc_ecma_parser_reader.specs.Reader as rules;
 ghost use Rattle.swc_ecma_parser_reader.specs.State.{Gives, GivesAs, within};
 ghost use Rattle.swc_ecma_parser_trees.specs.Parts.{part_of};
@@ -34,15 +32,15 @@ use swc_ecma_parser_trees::{BuildsBlock, BuildsDecl, BuildsFunction, BuildsPatte
 /// A body, with the first directive that says it is strict.
 #[derive(Drop)]
 pub(crate) struct FunctionBody<B> {
-    pub(crate) block: B,
-    pub(crate) strict_directive: Option<Span>,
+    block: B,
+    strict_directive: Option<Span>,
 }
 
 /// Whether a function is async, and whether it is a generator.
 #[derive(Clone, Copy)]
-pub struct Manner {
-    pub is_async: bool,
-    pub is_generator: bool,
+pub(crate) struct Manner {
+    is_async: bool,
+    is_generator: bool,
 }
 
 /// What stands around the name of a function that is an expression.
@@ -104,7 +102,7 @@ fn first_use_strict<T: BuildsBlock>(stmts: &[T::Stmt]) -> Option<Span>
 }
 
 /// Parameters, in what stands around them.
-pub(crate) fn parameters_inside<
+fn parameters_inside<
     P: Source,
     T: BuildsPattern,
     S: Fn(&MakerOf<T>, &mut P, usize, Position) -> PResult<T::Stmt>,
@@ -148,7 +146,7 @@ fn block<
 }
 
 /// A body, in what stands around its statements.
-pub(crate) fn function_body<
+fn function_body<
     P: Source,
     T: BuildsBlock,
     S: Fn(&MakerOf<T>, &mut P, usize, Position) -> PResult<T::Stmt>,
@@ -200,11 +198,7 @@ fn are_plain<T: BuildsFunction>(params: &[T::Param]) -> bool
 }
 
 /// Records a directive that says a body is strict, where a parameter is no plain name.
-pub(crate) fn misdirected<P: Source>(
-    p: &mut P,
-    is_plain: bool,
-    directive: Option<Span>,
-) -> PResult<()>
+fn misdirected<P: Source>(p: &mut P, is_plain: bool, directive: Option<Span>) -> PResult<()>
     ensures plain { is_plain ≡ true → Gives (rules.told [] (P.seen p.old)) result (P.seen p.new) }
     ensures late { is_plain ≡ false → Gives (rules.told (late directive) (P.seen p.old)) result (P.seen p.new) }
 {
@@ -228,9 +222,9 @@ fn function_word<P: Source>(p: &mut P) -> PResult<bool>
 }
 
 /// The `*` of a generator, if one stands here.
-#[tactic(auto, unfolding(swc_ecma_parser_reader::specs::Methods::star))]
-pub(crate) fn star<P: Source>(p: &mut P) -> PResult<bool>
-    ensures { Gives (methods.star (P.seen p.old)) result (P.seen p.new) }
+#[tactic(auto, unfolding(swc_ecma_parser_reader::specs::Reader::star))]
+fn star<P: Source>(p: &mut P) -> PResult<bool>
+    ensures { Gives (rules.star (P.seen p.old)) result (P.seen p.new) }
 {
     if !p.sees(TokenKind::Mul) {
         return Ok(false);
@@ -241,7 +235,7 @@ pub(crate) fn star<P: Source>(p: &mut P) -> PResult<bool>
 
 /// A function, from behind its name.
 #[tactic(auto, unfolding(swc_ecma_parser_reader::specs::Reader::function_parts, swc_ecma_parser_reader::specs::Reader::misdirected))]
-pub(crate) fn function_parts<
+fn function_parts<
     P: Source,
     T: BuildsFunction + BuildsPattern,
     S: Fn(&MakerOf<T>, &mut P, usize, Position) -> PResult<T::Stmt>,

@@ -8,7 +8,6 @@ pub mod Unnoted
 pub mod Narrows
 pub mod StatementEntries
 pub mod FunctionExprs
-pub mod MethodParts
 pub mod FewFlags
 pub mod Tabled
 pub mod language

@@ -2,4 +2,6 @@
 #![tactic(auto)]
 
 pub mod access;
+pub mod array;
 pub mod left;
+pub mod object;

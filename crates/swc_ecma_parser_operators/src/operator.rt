@@ -27,7 +27,7 @@ use swc_ecma_parser_source::{
 };
 use swc_ecma_parser_token::TokenKind;
 use swc_ecma_parser_trees::{
-    BuildsCall, BuildsExpr, BuildsMethod, BuildsOperator, BuildsPattern, MakerOf,
+    BuildsCall, BuildsExpr, BuildsFunction, BuildsObject, BuildsOperator, BuildsPattern, MakerOf,
 };
 
 /// An operator before its operand.
@@ -127,7 +127,7 @@ pub(crate) fn postfixed<P: Source, T: BuildsOperator>(
 #[tactic(auto, unfolding(swc_ecma_parser_reader::specs::Expressions::postfix))]
 fn postfix<
     P: Source,
-    T: BuildsExpr + BuildsCall + BuildsMethod + BuildsOperator + BuildsPattern,
+    T: BuildsExpr + BuildsCall + BuildsObject + BuildsOperator + BuildsPattern + BuildsFunction,
     S: Fn(&MakerOf<T>, &mut P, usize, Position) -> PResult<T::Stmt>,
     E: Fn(&MakerOf<T>, &mut P, usize, Reading) -> PResult<Cover<T::Expr>>,
     N: Fn(&MakerOf<T>, &mut P, usize, Part) -> PResult<T::Pat>,
@@ -144,7 +144,7 @@ fn postfix<
 #[tactic(auto, unfolding(swc_ecma_parser_reader::specs::Expressions::unary_expr))]
 fn unary_expr<
     P: Source,
-    T: BuildsExpr + BuildsCall + BuildsMethod + BuildsOperator + BuildsPattern,
+    T: BuildsExpr + BuildsCall + BuildsObject + BuildsOperator + BuildsPattern + BuildsFunction,
     S: Fn(&MakerOf<T>, &mut P, usize, Position) -> PResult<T::Stmt>,
     E: Fn(&MakerOf<T>, &mut P, usize, Reading) -> PResult<Cover<T::Expr>>,
     N: Fn(&MakerOf<T>, &mut P, usize, Part) -> PResult<T::Pat>,
@@ -282,7 +282,7 @@ pub(crate) fn binary_from<
 #[tactic(auto, unfolding(swc_ecma_parser_reader::specs::Expressions::binary_expr))]
 fn binary_expr<
     P: Source,
-    T: BuildsExpr + BuildsCall + BuildsMethod + BuildsOperator + BuildsPattern,
+    T: BuildsExpr + BuildsCall + BuildsObject + BuildsOperator + BuildsPattern + BuildsFunction,
     S: Fn(&MakerOf<T>, &mut P, usize, Position) -> PResult<T::Stmt>,
     E: Fn(&MakerOf<T>, &mut P, usize, Reading) -> PResult<Cover<T::Expr>>,
     N: Fn(&MakerOf<T>, &mut P, usize, Part) -> PResult<T::Pat>,
@@ -410,7 +410,7 @@ pub(crate) fn behind_operators<
 #[tactic(auto, unfolding(swc_ecma_parser_reader::specs::Expressions::operators_expr))]
 fn operators_expr<
     P: Source,
-    T: BuildsExpr + BuildsCall + BuildsMethod + BuildsOperator + BuildsPattern,
+    T: BuildsExpr + BuildsCall + BuildsObject + BuildsOperator + BuildsPattern + BuildsFunction,
     S: Fn(&MakerOf<T>, &mut P, usize, Position) -> PResult<T::Stmt>,
     E: Fn(&MakerOf<T>, &mut P, usize, Reading) -> PResult<Cover<T::Expr>>,
     N: Fn(&MakerOf<T>, &mut P, usize, Part) -> PResult<T::Pat>,
@@ -428,7 +428,7 @@ fn operators_expr<
 #[tactic(auto, unfolding(swc_ecma_parser_reader::specs::Expressions::plain_expr))]
 pub(crate) fn plain_expr<
     P: Source,
-    T: BuildsExpr + BuildsCall + BuildsMethod + BuildsOperator + BuildsPattern,
+    T: BuildsExpr + BuildsCall + BuildsObject + BuildsOperator + BuildsPattern + BuildsFunction,
     S: Fn(&MakerOf<T>, &mut P, usize, Position) -> PResult<T::Stmt>,
     E: Fn(&MakerOf<T>, &mut P, usize, Reading) -> PResult<Cover<T::Expr>>,
     N: Fn(&MakerOf<T>, &mut P, usize, Part) -> PResult<T::Pat>,
@@ -446,7 +446,7 @@ pub(crate) fn plain_expr<
 #[tactic(auto, unfolding(swc_ecma_parser_reader::specs::Expressions::sequence_from), using(swc_ecma_parser_reader::proofs::expressions::Loops::sequence_done, swc_ecma_parser_reader::proofs::expressions::Loops::sequence_more, swc_ecma_parser_reader::proofs::expressions::Loops::sequence_err, swc_ecma_parser_reader::proofs::expressions::Loops::assignment_shorter, swc_ecma_parser_reader::proofs::expressions::Loops::sequence_shorter, std::proofs::lemmas::List::map_push))]
 pub(crate) fn sequence_from<
     P: Source,
-    T: BuildsExpr + BuildsCall + BuildsMethod + BuildsOperator + BuildsPattern,
+    T: BuildsExpr + BuildsCall + BuildsObject + BuildsOperator + BuildsPattern + BuildsFunction,
     S: Fn(&MakerOf<T>, &mut P, usize, Position) -> PResult<T::Stmt>,
     E: Fn(&MakerOf<T>, &mut P, usize, Reading) -> PResult<Cover<T::Expr>>,
     N: Fn(&MakerOf<T>, &mut P, usize, Part) -> PResult<T::Pat>,
@@ -472,7 +472,7 @@ pub(crate) fn sequence_from<
 #[tactic(auto, unfolding(swc_ecma_parser_reader::specs::Expressions::expression_expr))]
 fn expression_expr<
     P: Source,
-    T: BuildsExpr + BuildsCall + BuildsMethod + BuildsOperator + BuildsPattern,
+    T: BuildsExpr + BuildsCall + BuildsObject + BuildsOperator + BuildsPattern + BuildsFunction,
     S: Fn(&MakerOf<T>, &mut P, usize, Position) -> PResult<T::Stmt>,
     E: Fn(&MakerOf<T>, &mut P, usize, Reading) -> PResult<Cover<T::Expr>>,
     N: Fn(&MakerOf<T>, &mut P, usize, Part) -> PResult<T::Pat>,
@@ -492,7 +492,7 @@ fn expression_expr<
 #[tactic(auto, unfolding(swc_ecma_parser_reader::specs::Expressions::expr_level))]
 pub fn expr_level<
     P: Source,
-    T: BuildsExpr + BuildsCall + BuildsMethod + BuildsOperator + BuildsPattern,
+    T: BuildsExpr + BuildsCall + BuildsObject + BuildsOperator + BuildsPattern + BuildsFunction,
     S: Fn(&MakerOf<T>, &mut P, usize, Position) -> PResult<T::Stmt>,
     E: Fn(&MakerOf<T>, &mut P, usize, Reading) -> PResult<Cover<T::Expr>>,
     N: Fn(&MakerOf<T>, &mut P, usize, Part) -> PResult<T::Pat>,

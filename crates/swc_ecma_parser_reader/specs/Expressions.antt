@@ -30,7 +30,6 @@ use Rattle.swc_ecma_parser_grammar.specs.language.Goals.{Class, expression, assi
 use Rattle.swc_ecma_parser_grammar.specs.language.Operators.{unary_operator, update_operator, binary_operator, assign_operator, precedence, groups_left, is_operator, mixes, is_unary}
 use Rattle.swc_ecma_parser_grammar.specs.language.Continues.{continues_conditional}
 use Rattle.swc_ecma_parser_reader.specs.Yields.{begins_yield, yield_expr}
-use Rattle.swc_ecma_parser_reader.specs.Methods.{MethodForm, FunctionForm, expression_form, property_form, method_words, is_bare}
 use Rattle.swc_ecma_parser_reader.specs.State.{State, Outcome, Reader, ◌>>=◌, ◌>>◌, pure, span_here, since, skip, moved, note_module_item, within, fault, fault_at, wanted, reject, expect, name, Step, More, Done, loop}
 
 -- ---- literals
@@ -450,11 +449,20 @@ module _ (inner : Class → Reader Tree) (cover : Reader Cover) where
       else if sees kind.Assign s.at then initialized_key start x s
       else bare_key x s
 
+  unfoldable pub keyed_property : Reader Cover
+  keyed_property = do
+    start ← span_here
+    x ← key
+    behind_key start x
+
   unfoldable pub spread_property : Reader Cover
   spread_property = λ s. (do
     skip
     v ← covered
     pure (part_as (tree.spread_prop (span_at s.at)) v)) s
+
+  unfoldable pub property : Reader Cover
+  property = λ s. if sees kind.DotDotDot s.at then spread_property s else keyed_property s
 
   -- behind a property a comma stands, or the end
   abbrev pub behind_property : Bool → Covers → Reader (Step Covers Covers)
@@ -462,43 +470,21 @@ module _ (inner : Class → Reader Tree) (cover : Reader Cover) where
     expect kind.Comma
     pure (More (with_comma is_spread found))) s
 
-  -- what may be a method, which the reader of functions reads
-  module _ (function : FunctionForm → Reader Tree) where
-    -- a method is no part of a pattern
-    unfoldable pub method : MethodForm → Span → Tree → Reader Cover
-    method form start x = do
-      y ← function (property_form form start x)
-      pure (done y)
+  unfoldable pub object_turn : Covers → Reader (Step Covers Covers)
+  object_turn found = λ s. if sees kind.RBrace s.at then Ok (Done found, moved s) else (do
+    v ← property
+    behind_property (sees kind.DotDotDot s.at) (with_cover found v)) s
 
-    -- a plain method has nothing before its key
-    unfoldable pub behind_words : MethodForm → Span → Tree → Reader Cover
-    behind_words form start x = λ s. if is_bare form && not (sees kind.LParen s.at) then behind_key start x s else method form start x s
+  -- from `{` on
+  unfoldable pub properties : Reader Covers
+  properties = skip >> loop object_turn no_covers
 
-    unfoldable pub keyed_property : Reader Cover
-    keyed_property = do
-      start ← span_here
-      form ← method_words
-      x ← key
-      behind_words form start x
-
-    unfoldable pub property : Reader Cover
-    property = λ s. if sees kind.DotDotDot s.at then spread_property s else keyed_property s
-
-    unfoldable pub object_turn : Covers → Reader (Step Covers Covers)
-    object_turn found = λ s. if sees kind.RBrace s.at then Ok (Done found, moved s) else (do
-      v ← property
-      behind_property (sees kind.DotDotDot s.at) (with_cover found v)) s
-
-    -- from `{` on
-    unfoldable pub properties : Reader Covers
-    properties = skip >> loop object_turn no_covers
-
-    unfoldable pub object : Reader Cover
-    object = do
-      start ← span_here
-      found ← properties
-      span ← since start
-      pure (whole_of (tree.object span) found)
+  unfoldable pub object : Reader Cover
+  object = do
+    start ← span_here
+    found ← properties
+    span ← since start
+    pure (whole_of (tree.object span) found)
 
   unfoldable pub paren : Reader Tree
   paren = do
@@ -689,22 +675,22 @@ module _ (inner : Class → Reader Tree) (cover : Reader Cover) where
       else if goes_on s then closed start v s
       else Ok (v, s)
 
-  -- ---- what may begin with a function, or hold one that is no expression, which a reader of its own reads
+  unfoldable pub open_literal : Reader Cover
+  open_literal = do
+    start ← span_here
+    v ← (λ s. if sees kind.LBracket s.at then array s else object s)
+    behind_literal start v
 
-  module _ (function : FunctionForm → Reader Tree) where
-    unfoldable pub open_literal : Reader Cover
-    open_literal = do
-      start ← span_here
-      v ← (λ s. if sees kind.LBracket s.at then array s else object function s)
-      behind_literal start v
+  -- ---- what may begin with a function, which a reader of its own reads
 
+  module _ (function : Reader Tree) where
     unfoldable pub marked_primary : Reader Tree
     marked_primary = λ s.
         if sees kind.LParen s.at then paren s
         else if sees kind.LBracket s.at then (array >>= close) s
-        else if sees kind.LBrace s.at then (object function >>= close) s
+        else if sees kind.LBrace s.at then (object >>= close) s
         else if sees kind.This s.at then this s
-        else if sees kind.Function s.at then function expression_form s
+        else if sees kind.Function s.at then function s
         else wanted faults.Unexpected s
 
     abbrev pub literal_or : Option Tree → Reader Tree
@@ -713,7 +699,7 @@ module _ (inner : Class → Reader Tree) (cover : Reader Cover) where
 
     -- `async function` on one line is no name
     unfoldable pub named_expr : Reader Tree
-    named_expr = λ s. if is_async_function s.at then function expression_form s else ident_expr s
+    named_expr = λ s. if is_async_function s.at then function s else ident_expr s
 
     unfoldable pub primary : Reader Tree
     primary = λ s. if name_at s.code.flags s.at then named_expr s else (literal >>= literal_or) s

@@ -2,7 +2,6 @@ pub mod Notes
 pub mod State
 pub mod Classes
 pub mod Yields
-pub mod Methods
 pub mod Expressions
 pub mod Heads
 pub mod Patterns

@@ -13,7 +13,7 @@ use Rattle.swc_ecma_parser_model.specs.declared.leaves.VarDeclKind.{VarDeclKind}
 use Rattle.swc_ecma_parser_model.specs.declared.leaves.VarDeclKind.TheVariants as decl
 use Rattle.swc_ecma_parser_model.specs.Tree as tree
 use Rattle.swc_ecma_parser_model.specs.Tree.{Tree, Text, listed}
-use Rattle.swc_ecma_parser_model.specs.Forms.{is_ident, is_ident_named, is_binding_name, is_rest, span_of, has_plain_params}
+use Rattle.swc_ecma_parser_model.specs.Forms.{is_ident, is_ident_named, span_of, has_plain_params}
 use Rattle.swc_ecma_parser_grammar.specs.declared.position.Position.{Position}
 use Rattle.swc_ecma_parser_grammar.specs.Looks.{kind_at, breaks_at, sees, span_at}
 use Rattle.swc_ecma_parser_grammar.specs.Names.{Code, name_at}
@@ -30,7 +30,6 @@ use Rattle.swc_ecma_parser_grammar.specs.language.Items.{sub_statement, labelled
 use Rattle.swc_ecma_parser_reader.specs.Expressions as exprs
 use Rattle.swc_ecma_parser_reader.specs.Expressions.{Cover}
 use Rattle.swc_ecma_parser_reader.specs.Heads.{head_expr}
-use Rattle.swc_ecma_parser_reader.specs.Methods.{FunctionForm, expression_form, property_form, getter_form, setter_form, method_form, star}
 use Rattle.swc_ecma_parser_reader.specs.Patterns.{pattern_level, element_level, parameter_list}
 use Rattle.swc_ecma_parser_reader.specs.State.{Outcome, Reader, ◌>>=◌, ◌>>◌, pure, here, span_here, since, skip, moved, spanned_from, coded, flagged, within, below_label, enclosed, fault, fault_at, end_of, module_fault, wanted, too_deep, refuse, reject, refused, labelled, name, expect, end, stuck, Step, More, Done, loop}
 
@@ -645,18 +644,13 @@ named = do
 unfoldable pub function_word : Reader Bool
 function_word = λ s. if is_async_function s.at then Ok (true, moved (moved s)) else Ok (false, moved s)
 
+-- the `*` of a generator, if one stands here
+unfoldable pub star : Reader Bool
+star = λ s. if sees kind.Mul s.at then Ok (true, moved s) else Ok (false, s)
+
 -- the name of a function that is an expression, which is read in the function's own code, or none
 unfoldable pub own_name : (is_async is_generator : Bool) → Reader Tree
 own_name is_async is_generator = λ s. if name_at (named_by s.code is_async is_generator).flags s.at then within (λ k. named_by k is_async is_generator) named s else Ok (tree.absent, s)
-
--- A getter has no parameter, a setter one, which is no rest; else the word that it begins with is refused.
-abbrev pub no_parameter : Span → List Tree → Reader (Unit {0})
-no_parameter word [] = pure tt
-no_parameter word (p ∷ ps) = reject (fault_at word faults.GetterParam)
-
-abbrev pub one_parameter : Span → List Tree → Reader Tree
-one_parameter word (p ∷ []) = λ s. if is_rest p then reject (fault_at word faults.RestPatInSetter) s else Ok (p, s)
-one_parameter word _ = reject (fault_at word faults.SetterParam)
 
 module _ (stmt : Reader Tree) (params : Reader (List Tree)) where
   -- a body, which has labels and an entry of its own
@@ -690,37 +684,6 @@ module _ (stmt : Reader Tree) (params : Reader (List Tree)) where
     i ← own_name is_async is_generator
     fn ← function_parts is_async is_generator start
     pure (tree.fn_expr (span_of fn) i fn)
-
-  -- ---- methods, from behind their key: section 15.4
-
-  unfoldable pub getter : Span → Tree → Reader Tree
-  getter start key = do
-    ps ← within (λ k. in_parameters k false false) params
-    no_parameter start ps
-    body ← function_body false false
-    span ← since start
-    pure (tree.getter_prop span key body)
-
-  unfoldable pub setter : Span → Tree → Reader Tree
-  setter start key = do
-    ps ← within (λ k. in_parameters k false false) params
-    p ← one_parameter start ps
-    body ← function_body false false
-    span ← since start
-    told (misplaced_directive (is_binding_name p) body)
-    pure (tree.setter_prop span key p body)
-
-  unfoldable pub plain_method : (is_async is_generator : Bool) → Span → Tree → Reader Tree
-  plain_method is_async is_generator start key = do
-    fn ← function_parts is_async is_generator start
-    pure (tree.method_prop (span_of fn) key fn)
-
-  -- a function as a part of an expression
-  abbrev pub function_by : FunctionForm → Reader Tree
-  function_by expression_form = function_expr
-  function_by (property_form getter_form start key) = getter start key
-  function_by (property_form setter_form start key) = setter start key
-  function_by (property_form (method_form is_async is_generator) start key) = plain_method is_async is_generator start key
 
   -- where no declaration is read, its word is a fault
   unfoldable pub function_stmt : Position → Reader Tree
@@ -771,17 +734,17 @@ unfoldable mutual
   -- an expression of a class
   pub expr : ℕ → Class → Reader Tree
   expr zero class = too_deep
-  expr (suc n) class = exprs.expr_level (expr n) (cover n) (function_by (stmt n nested_item) (parameter_list (expr n) (cover n) (pattern n) (element n))) class
+  expr (suc n) class = exprs.expr_level (expr n) (cover n) (function_expr (stmt n nested_item) (parameter_list (expr n) (cover n) (pattern n) (element n))) class
 
   -- an assignment expression that may still become a pattern
   pub cover : ℕ → Reader Cover
   cover zero = too_deep
-  cover (suc n) = exprs.cover_expr (expr n) (cover n) (function_by (stmt n nested_item) (parameter_list (expr n) (cover n) (pattern n) (element n)))
+  cover (suc n) = exprs.cover_expr (expr n) (cover n) (function_expr (stmt n nested_item) (parameter_list (expr n) (cover n) (pattern n) (element n)))
 
   -- what the head of a loop begins with
   pub head_cover : ℕ → Reader Cover
   head_cover zero = too_deep
-  head_cover (suc n) = head_expr (expr n) (cover n) (function_by (stmt n nested_item) (parameter_list (expr n) (cover n) (pattern n) (element n)))
+  head_cover (suc n) = head_expr (expr n) (cover n) (function_expr (stmt n nested_item) (parameter_list (expr n) (cover n) (pattern n) (element n)))
 
   -- a pattern without default
   pub pattern : ℕ → Reader Tree
@@ -802,9 +765,9 @@ unfoldable mutual
 abbrev pub parameters : ℕ → Reader (List Tree)
 parameters n = parameter_list (expr n) (cover n) (pattern n) (element n)
 
--- a function as a part of an expression
-abbrev pub function : ℕ → FunctionForm → Reader Tree
-function n = function_by (stmt n nested_item) (parameters n)
+-- a function that is an expression
+abbrev pub function : ℕ → Reader Tree
+function n = function_expr (stmt n nested_item) (parameters n)
 
 -- ---- a script
 

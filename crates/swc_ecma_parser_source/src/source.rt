@@ -11,7 +11,6 @@ ghost use Rattle.swc_ecma_parser_model.specs.Tree.{Tree};
 ghost use Rattle.swc_ecma_parser_model.specs.declared.leaves.Ident.{Ident};
 ghost use Rattle.swc_ecma_parser_input.specs.Place as place;
 ghost use Rattle.swc_ecma_parser_reader.specs.Expressions as exprs;
-ghost use Rattle.swc_ecma_parser_reader.specs.Methods as methods;
 ghost use Rattle.swc_ecma_parser_reader.specs.Reader as rules;
 ghost use Rattle.swc_ecma_parser_reader.specs.State as reader;
 ghost use Rattle.swc_ecma_parser_reader.specs.State.{Gives, GivesAs};
@@ -129,14 +128,6 @@ pub trait Source {
     /// Whether `async function` stands here on one line.
     fn is_async_function(&self) -> bool
         ensures { result ≡ follows.is_async_function (seen self.now).at };
-
-    /// Whether this word stands here and is no key, but what a method begins with.
-    fn modifies(&self, text: &'static str) -> bool
-        ensures { result ≡ methods.modifies text.now (seen self.now).at };
-
-    /// Whether `async` stands here, and on its line what it makes async.
-    fn begins_async_method(&self) -> bool
-        ensures { result ≡ methods.begins_async_method (seen self.now).at };
 
     /// Whether `async` and its arguments stand here on one line.
     fn begins_async_call(&self) -> bool

@@ -7,12 +7,11 @@ ghost use Rattle.swc_ecma_parser_grammar.specs.Looks as looks;
 ghost use Rattle.swc_ecma_parser_grammar.specs.Names as names;
 ghost use Rattle.swc_ecma_parser_input.specs.Place as place;
 ghost use Rattle.swc_ecma_parser_reader.specs.Expressions as exprs;
-ghost use Rattle.swc_ecma_parser_reader.specs.Methods as methods;
 
 use crate::state::State;
 use swc_ecma_parser_grammar::Position;
 use swc_ecma_parser_input::Tokens;
-use swc_ecma_parser_source::{ends_key, is_identifier, is_reserved_word};
+use swc_ecma_parser_source::{is_identifier, is_reserved_word};
 use swc_ecma_parser_token::{Token, TokenAndSpan, TokenKind, Word};
 
 /// Whether it is an operator between two operands that is no word.
@@ -165,22 +164,6 @@ impl<I: Tokens> State<I> {
         ensures { result ≡ follows.is_async_function self.now.at }
     {
         self.word_at("async") && self.next_sees(TokenKind::Function) && !self.next_had_line_break()
-    }
-
-    /// Whether this word stands here and is no key, but what a method begins with.
-    #[tactic(auto, unfolding(swc_ecma_parser_reader::specs::Methods::modifies))]
-    pub fn modifies(&self, text: &str) -> bool
-        ensures { result ≡ methods.modifies text.now self.now.at }
-    {
-        self.word_at(text) && !ends_key(self.next_kind())
-    }
-
-    /// Whether `async` stands here, and on its line what it makes async.
-    #[tactic(auto, unfolding(swc_ecma_parser_reader::specs::Methods::begins_async_method))]
-    pub fn begins_async_method(&self) -> bool
-        ensures { result ≡ methods.begins_async_method self.now.at }
-    {
-        self.modifies("async") && !self.next_had_line_break()
     }
 
     /// Whether `async` and its arguments stand here on one line.

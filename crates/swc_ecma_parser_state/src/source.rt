@@ -101,14 +101,6 @@ impl<I: Tokens> Source for State<I> {
         State::is_async_function(self)
     }
 
-    fn modifies(&self, text: &'static str) -> bool {
-        State::modifies(self, text)
-    }
-
-    fn begins_async_method(&self) -> bool {
-        State::begins_async_method(self)
-    }
-
     fn begins_async_call(&self) -> bool {
         State::begins_async_call(self)
     }

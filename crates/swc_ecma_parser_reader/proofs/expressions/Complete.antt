@@ -42,7 +42,6 @@ use Rattle.swc_ecma_parser_grammar.proofs.Tests.{or_no, or_none, and_yes, and_bo
 use Rattle.swc_ecma_parser_grammar.proofs.language.spans.Expressions.{left_side_rule}
 use Rattle.swc_ecma_parser_reader.specs.Notes.{Notes, ◌⊕◌, notes_of, all_notes_of}
 use Rattle.swc_ecma_parser_reader.specs.State.{Scope, State, Outcome, Reader, loop}
-use Rattle.swc_ecma_parser_reader.specs.Methods.{FunctionForm}
 use Rattle.swc_ecma_parser_reader.specs.Expressions.{Cover, done, goes_on, begins_async_call, is_head, heads_arrow, closed_left, simple, update_behind, read_operator, operator_at, left_operand, unmixed, unassigned, unheaded, left, left_expr, prefixed, update_before, postfix, unary_expr, operated, binary_turn, binary_from, binary_expr, conditional, assigned_to, assigned, behind_operators, operators_expr, cover_expr, assignment_expr, sequence_turn, sequence_from, expression_expr, expr_level, is_literal, plain_expr}
 use Rattle.swc_ecma_parser_reader.specs.Yields.{begins_yield, bare_yield, yielded, behind_yield, yield_expr}
 use Rattle.swc_ecma_parser_reader.proofs.Notes.{or_nil, or_assoc}
@@ -199,7 +198,7 @@ part_closes k p c d t = record {
   literal_ends = λ w f h. nothing_goes_on (st d k w f h) t;
 }
 
-module _ (In : Goal → Type 0) (inner : Class → Reader Tree) (cover : Reader Cover) (given : IsRead In inner cover) (function : FunctionForm → Reader Tree) (functions : IsFunctionRead In function) where
+module _ (In : Goal → Type 0) (inner : Class → Reader Tree) (cover : Reader Cover) (given : IsRead In inner cover) (function : Reader Tree) (functions : IsFunctionRead In function) where
   -- ---- operands
 
   -- a left side, and no token that goes on with it
@@ -391,7 +390,7 @@ module _ (In : Goal → Type 0) (inner : Class → Reader Tree) (cover : Reader 
 
   -- what is no array or object has no comma behind a spread
   commaless : (s : State) (v : Cover) (t : State) → is_literal v.x ≡ false → Becomes inner cover function s v t → v.comma ≡ false
-  commaless s v t g (inl o) = absurd (let h : is_literal v.x ≡ true = met (λ (u : Cover) (n : State). is_literal u.x ≡ true) (opened inner cover function s) v t (opened_literal inner cover function s) o.read in cc)
+  commaless s v t g (inl o) = absurd (let h : is_literal v.x ≡ true = met (λ (u : Cover) (n : State). is_literal u.x ≡ true) (opened inner cover s) v t (opened_literal inner cover s) o.read in cc)
   commaless s v t g (inr (inl o)) = ap (λ (u : Cover). u.comma) o.is
   commaless s v t g (inr (inr o)) = ap (λ (u : Cover). u.comma) o.is
 
@@ -405,7 +404,7 @@ module _ (In : Goal → Type 0) (inner : Class → Reader Tree) (cover : Reader 
 
   -- an array or object that is a pattern
   literal_reads : (k : Code) (p : Tree) (c d : Place) → PatternRule In assigning k p c d → is_pattern_target p ≡ true → supported_in k.flags.module p ≡ true
-      → (begins_literal c ≡ true) × ReadsAs (AsLiteral p c d) (opened inner cover function) k p c d
+      → (begins_literal c ≡ true) × ReadsAs (AsLiteral p c d) (opened inner cover) k p c d
   unfolding same_kind
   literal_reads k p c d (patterns.binding_name_rule text sp b r e) g s = cc
   literal_reads k p c d (patterns.target_name_rule text sp b a r e) g s = absurd (let i : is_pattern_target p ≡ false = ap is_pattern_target e in cc)
@@ -413,7 +412,7 @@ module _ (In : Goal → Type 0) (inner : Class → Reader Tree) (cover : Reader 
   literal_reads k p c d (patterns.array_rule ps m i r j n e) g s =
       (rw i refl, λ w f h. rw i (array_pattern In inner cover given ps m k p c d r (supported_as _ p (tree.array_pat (spanned c d) (listed ps)) e s) j n e w f h))
   literal_reads k p c d (patterns.object_rule ps m i r j n e) g s =
-      (rw i refl, λ w f h. rw i (object_pattern In inner cover given function functions ps m k p c d r (supported_as _ p (tree.object_pat (spanned c d) (listed ps)) e s) j n e w f h))
+      (rw i refl, λ w f h. rw i (object_pattern In inner cover given ps m k p c d r (supported_as _ p (tree.object_pat (spanned c d) (listed ps)) e s) j n e w f h))
 
   -- one that is assigned to
   destructured : (p y : Tree) (m : Place) (k : Code) (c d : Place) → PatternRule In assigning k p c m → is_pattern_target p ≡ true → kind_at m ≡ kind.Assign
@@ -426,7 +425,7 @@ module _ (In : Goal → Type 0) (inner : Class → Reader Tree) (cover : Reader 
       let f' = f ++ walk (env_of k w.labels) p in
       let h' = h ⊕ notes_of p in
       let x = tree.assign (spanned c d) assign.Assign p y in
-      let u : Assigns inner cover function (st c k w f h) (done x) (st d k w (f' ++ walk (env_of k w.labels) y) (h' ⊕ notes_of y)) = record {
+      let u : Assigns inner cover (st c k w f h) (done x) (st d k w (f' ++ walk (env_of k w.labels) y) (h' ⊕ notes_of y)) = record {
         found = v.value;
         behind = st m k w f' h';
         p = p;
@@ -621,7 +620,7 @@ bare_calls : (n : ℕ) (k : Code) (x : Tree) (c d : Place) → language.Reads n 
 bare_calls zero k x c d r = absurd r
 bare_calls (suc n) k x c d r = r.0
 
-module _ (n : ℕ) (inner : Class → Reader Tree) (cover : Reader Cover) (given : IsRead (language.Reads n) inner cover) (function : FunctionForm → Reader Tree) (functions : IsFunctionRead (language.Reads n) function) where
+module _ (n : ℕ) (inner : Class → Reader Tree) (cover : Reader Cover) (given : IsRead (language.Reads n) inner cover) (function : Reader Tree) (functions : IsFunctionRead (language.Reads n) function) where
   class_reads : (class : Class) (k : Code) (x : Tree) (c d : Place) → language.Reads (suc n) (expr_goal class k x c d) → supported_in k.flags.module x ≡ true
       → Reads (expr_level inner cover function class) k x c d
   unfolding expr_level

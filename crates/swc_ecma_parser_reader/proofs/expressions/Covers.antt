@@ -22,7 +22,6 @@ use Rattle.swc_ecma_parser_grammar.specs.language.Operators.{unary_operator, upd
 use Rattle.swc_ecma_parser_grammar.specs.language.Continues.{continues_conditional}
 use Rattle.swc_ecma_parser_grammar.proofs.Tests.{or_no}
 use Rattle.swc_ecma_parser_reader.specs.State.{State, Outcome, Reader, and_then, ◌>>=◌}
-use Rattle.swc_ecma_parser_reader.specs.Methods.{FunctionForm}
 use Rattle.swc_ecma_parser_reader.specs.Expressions.{Cover, done, literal, begins_async_call, heads_arrow, operator_at, unheaded, close, unmarked, target, target_or, goes_on, elements, array, properties, object, marked_primary, primary, left_turn, left_from, left_head, left, postfix, unary_expr, binary_turn, binary_from, binary_expr, assigned_to, assigned, behind_operators, operators_expr, postfixed, continued, closed, assigned_pattern, behind_literal, open_literal, done_expr, cover_expr, assignment_expr, is_literal, plain_expr}
 use Rattle.swc_ecma_parser_reader.specs.Yields.{begins_yield}
 use Rattle.swc_ecma_parser_reader.proofs.Steps.{then_ok, chosen, loop_done}
@@ -149,6 +148,16 @@ none_of None e = refl
 none_of (Some a) e = cc
 
 module _ (inner : Class → Reader Tree) (cover : Reader Cover) where
+  -- an array, or an object where none begins
+  abbrev pub opened : Reader Cover
+  opened = λ s. if sees kind.LBracket s.at then array inner cover s else object inner cover s
+
+  pub opened_literal : (s : State) → Meets (λ v t. is_literal v.x ≡ true) (opened s)
+  unfolding array object
+  opened_literal s = meets_if _ (sees kind.LBracket s.at) _ _
+      (λ _. meets_then {P = λ _ _. Unit {0}} _ (elements inner cover s) _ (meets_each _ (elements inner cover s) (λ _ _ _. tt)) (λ _ _ _. refl))
+      (λ _. meets_then {P = λ _ _. Unit {0}} _ (properties inner cover s) _ (meets_each _ (properties inner cover s) (λ _ _ _. tt)) (λ _ _ _. refl))
+
   -- ---- nothing goes on with it
 
   -- no access, no arguments and no operator: each step behind it leaves it as it is
@@ -186,67 +195,57 @@ module _ (inner : Class → Reader Tree) (cover : Reader Cover) where
       absurd (met (λ _ _. ⊥) (behind_operators inner cover false start x s) y t
       (rw (apart.1, k, no_target x h) (reject_meets (λ _ _. ⊥) _ s)) (sym r ∙ e))
 
-  -- what may hold a method, or begin with a function
-  module _ (function : FunctionForm → Reader Tree) where
-    -- an array, or an object where none begins
-    abbrev pub opened : Reader Cover
-    opened = λ s. if sees kind.LBracket s.at then array inner cover s else object inner cover function s
+  -- ---- what becomes of it
 
-    pub opened_literal : (s : State) → Meets (λ v t. is_literal v.x ≡ true) (opened s)
-    unfolding array object
-    opened_literal s = meets_if _ (sees kind.LBracket s.at) _ _
-        (λ _. meets_then {P = λ _ _. Unit {0}} _ (elements inner cover s) _ (meets_each _ (elements inner cover s) (λ _ _ _. tt)) (λ _ _ _. refl))
-        (λ _. meets_then {P = λ _ _. Unit {0}} _ (properties inner cover function s) _ (meets_each _ (properties inner cover function s) (λ _ _ _. tt)) (λ _ _ _. refl))
+  -- it is left open: nothing goes on with it
+  pub record LeftOpen (s : State) (v : Cover) (t : State) : Type 0 where
+    pub first : begins_literal s.at ≡ true
+    pub read : opened s ≡ Ok (v, t)
+    pub unassigned : sees kind.Assign t.at ≡ false
+    pub ended : goes_on t ≡ false
 
-    -- ---- what becomes of it
+  -- it became a pattern, and is assigned to
+  pub record Assigns (s : State) (v : Cover) (t : State) : Type 0 where
+    pub found : Cover
+    pub behind : State
+    pub p : Tree
+    pub y : Tree
+    pub first : begins_literal s.at ≡ true
+    pub read : opened s ≡ Ok (found, behind)
+    pub equals : sees kind.Assign behind.at ≡ true
+    pub no_comma : found.comma ≡ false
+    pub is_target : as_target found.x ≡ Some p
+    pub value : assigned_to inner cover (span_at s.at) p assign.Assign behind ≡ Ok (y, t)
+    pub is : v ≡ done y
 
-    -- it is left open: nothing goes on with it
-    pub record LeftOpen (s : State) (v : Cover) (t : State) : Type 0 where
-      pub first : begins_literal s.at ≡ true
-      pub read : opened s ≡ Ok (v, t)
-      pub unassigned : sees kind.Assign t.at ≡ false
-      pub ended : goes_on t ≡ false
+  -- from the same tree and state on
+  goes_from : (start : Span) (x y : Tree) (m n : State) (z : Tree) (l t : State) → x ≡ y → m ≡ n → l ≡ t → continued inner cover start y n ≡ Ok (z, l) → continued inner cover start x m ≡ Ok (z, t)
+  goes_from start x y m n z l t e g h i = ap (λ q. continued inner cover start q m) e ∙ ap (λ q. continued inner cover start y q) g ∙ i ∙ ap (λ q. Ok (z, q)) h
 
-    -- it became a pattern, and is assigned to
-    pub record Assigns (s : State) (v : Cover) (t : State) : Type 0 where
-      pub found : Cover
-      pub behind : State
-      pub p : Tree
-      pub y : Tree
-      pub first : begins_literal s.at ≡ true
-      pub read : opened s ≡ Ok (found, behind)
-      pub equals : sees kind.Assign behind.at ≡ true
-      pub no_comma : found.comma ≡ false
-      pub is_target : as_target found.x ≡ Some p
-      pub value : assigned_to inner cover (span_at s.at) p assign.Assign behind ≡ Ok (y, t)
-      pub is : v ≡ done y
+  assigns_is : (s : State) (u : Cover) (m : State) (v : Cover) (t : State) → begins_literal s.at ≡ true → opened s ≡ Ok (u, m) → sees kind.Assign m.at ≡ true
+      → assigned_pattern inner cover (span_at s.at) u m ≡ Ok (v, t) → Assigns s v t
+  unfolding assigned_pattern
+  assigns_is s u m v t h r a e =
+      let (p, n, g, more) = then_ok (target u m) _ v t e in
+      let (y, l, value, i) = then_ok (assigned_to inner cover (span_at s.at) p assign.Assign n) _ v t more in
+      let (c, is, same) = target_is u m p n g in
+      let (j, k) = same_answer (done y) v l t i in
+      record {
+        found = u;
+        behind = m;
+        p = p;
+        y = y;
+        first = h;
+        read = r;
+        equals = a;
+        no_comma = c;
+        is_target = is;
+        value = ap (λ q. assigned_to inner cover (span_at s.at) p assign.Assign q) same ∙ value ∙ ap (λ q. Ok (y, q)) k;
+        is = sym j;
+      }
 
-    -- from the same tree and state on
-    goes_from : (start : Span) (x y : Tree) (m n : State) (z : Tree) (l t : State) → x ≡ y → m ≡ n → l ≡ t → continued inner cover start y n ≡ Ok (z, l) → continued inner cover start x m ≡ Ok (z, t)
-    goes_from start x y m n z l t e g h i = ap (λ q. continued inner cover start q m) e ∙ ap (λ q. continued inner cover start y q) g ∙ i ∙ ap (λ q. Ok (z, q)) h
-
-    assigns_is : (s : State) (u : Cover) (m : State) (v : Cover) (t : State) → begins_literal s.at ≡ true → opened s ≡ Ok (u, m) → sees kind.Assign m.at ≡ true
-        → assigned_pattern inner cover (span_at s.at) u m ≡ Ok (v, t) → Assigns s v t
-    unfolding assigned_pattern
-    assigns_is s u m v t h r a e =
-        let (p, n, g, more) = then_ok (target u m) _ v t e in
-        let (y, l, value, i) = then_ok (assigned_to inner cover (span_at s.at) p assign.Assign n) _ v t more in
-        let (c, is, same) = target_is u m p n g in
-        let (j, k) = same_answer (done y) v l t i in
-        record {
-          found = u;
-          behind = m;
-          p = p;
-          y = y;
-          first = h;
-          read = r;
-          equals = a;
-          no_comma = c;
-          is_target = is;
-          value = ap (λ q. assigned_to inner cover (span_at s.at) p assign.Assign q) same ∙ value ∙ ap (λ q. Ok (y, q)) k;
-          is = sym j;
-        }
-
+  -- what a function may begin
+  module _ (function : Reader Tree) where
     -- ---- as an expression it is closed, and what goes on with it is read
 
     primary_literal : (s : State) → begins_literal s.at ≡ true → primary inner cover function s ≡ and_then (opened s) close
@@ -327,7 +326,7 @@ module _ (inner : Class → Reader Tree) (cover : Reader Cover) where
       ]
     ]
 
-    open_is : (s : State) (v : Cover) (t : State) → begins_literal s.at ≡ true → open_literal inner cover function s ≡ Ok (v, t) → Becomes s v t
+    open_is : (s : State) (v : Cover) (t : State) → begins_literal s.at ≡ true → open_literal inner cover s ≡ Ok (v, t) → Becomes s v t
     unfolding open_literal
     open_is s v t h e = let (u, m, r, more) = then_ok (opened s) _ v t e in behind_is s u m v t h r more
 

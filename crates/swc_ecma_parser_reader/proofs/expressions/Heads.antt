@@ -1,4 +1,5 @@
 -- What the head of a loop begins with: an expression, which may still become what takes each value.
+use Rattle.swc_ecma_parser_reader.proofs.Words.{begins_function}
 use Rattle.std.proofs.Common.{◌≡◌, ◌⊎◌, inl, inr, ℕ, zero, suc, ◌-◌, ◌<◌, Bool, true, false, List, [], ◌∷◌, ◌++◌, Option, Some, None, Ok, length, refl, sym, ◌∙◌, ap, arith, append_assoc}
 use Rattle.std.specs.Prelude.{not, ◌&&◌, codes}
 use Rattle.std.specs.Str.{bytes_eq}
@@ -24,7 +25,6 @@ use Rattle.swc_ecma_parser_grammar.specs.language.Reads.{Reads}
 use Rattle.swc_ecma_parser_grammar.proofs.Tests.{or_no, and_yes, and_no, no_and}
 use Rattle.swc_ecma_parser_reader.specs.Notes.{notes_of}
 use Rattle.swc_ecma_parser_reader.specs.State.{State, Reader, and_then, loop}
-use Rattle.swc_ecma_parser_reader.specs.Methods.{FunctionForm}
 use Rattle.swc_ecma_parser_reader.specs.Expressions.{Cover, done, unmarked, close, is_literal, cover_expr, sequence_turn, sequence_from}
 use Rattle.swc_ecma_parser_reader.specs.Heads.{sequenced, head_expr}
 use Rattle.swc_ecma_parser_reader.proofs.Meets.{Meets, meets_then, meets_if, too_deep_meets, saw}
@@ -33,7 +33,7 @@ use Rattle.swc_ecma_parser_reader.proofs.expressions.SoundSteps.{reject_meets}
 use Rattle.swc_ecma_parser_reader.proofs.expressions.Targets.{leaf_async, target_async}
 use Rattle.swc_ecma_parser_reader.proofs.expressions.Covers.{meets_each, met}
 use Rattle.swc_ecma_parser_reader.proofs.expressions.SoundCovers.{CoverRead, SoundCover}
-use Rattle.swc_ecma_parser_reader.proofs.expressions.SoundLefts.{FunctionsSound}
+use Rattle.swc_ecma_parser_reader.proofs.expressions.SoundLefts.{FunctionRead}
 use Rattle.swc_ecma_parser_reader.proofs.expressions.SoundTargets.{name_stays}
 use Rattle.swc_ecma_parser_reader.proofs.expressions.Sound.{cover_expr_sound, sequence_sound}
 use Rattle.swc_ecma_parser_reader.proofs.expressions.HeadEnds.{of_named, in_unnamed, Passed, passed_in, passed_of, passed_continues, passed_goes_on}
@@ -51,7 +51,7 @@ unturned (Some q) p e h = cc
 sequence_read : (n : ℕ) (k : Code) (y : Tree) (c d : Place) → as_target y ≡ None → ReadsClass n expression k y c d → HeadRead n (done y) k c d
 sequence_read n k y c d e r = record { plain = λ _. r; target = λ _ p h. unturned (as_target y) p e h }
 
-sequence_unturned : (inner : Class → Reader Tree) (cover : Reader Cover) (function : FunctionForm → Reader Tree) (start : Span) (x : Tree) (s : State) → Meets (λ y t. as_target y ≡ None) (sequence_from inner cover function start x s)
+sequence_unturned : (inner : Class → Reader Tree) (cover : Reader Cover) (function : Reader Tree) (start : Span) (x : Tree) (s : State) → Meets (λ y t. as_target y ≡ None) (sequence_from inner cover function start x s)
 unfolding sequence_from
 sequence_unturned inner cover function start x s = meets_then {P = λ _ _. Unit {0}} _ (loop (sequence_turn inner cover function) (x ∷ []) s) _
     (meets_each _ (loop (sequence_turn inner cover function) (x ∷ []) s) (λ _ _ _. tt)) (λ _ _ _. refl)
@@ -88,7 +88,7 @@ SoundHead n s v t = Sound same (λ k l. walk (env_of k l) v.x) (notes_of v.x) (H
 
 module _ (n : ℕ) (inner : Class → Reader Tree) (cover : Reader Cover) (sound : (class : Class) (s : State) → Meets (λ x t. SoundTree (ReadsClass n class) s x t) (inner class s))
     (covers : (s : State) → Meets (λ v t. SoundCover n s v t) (cover s))
-    (function : FunctionForm → Reader Tree) (functions : FunctionsSound n function) (s : State) where
+    (function : Reader Tree) (functions : (s : State) → begins_function s.at ≡ true → Meets (λ x t. SoundTree (FunctionRead n) s x t) (function s)) (s : State) where
   abbrev SoundNext : Cover → State → Type 0
   SoundNext v t = SoundHead (suc n) s v t
 

@@ -1,4 +1,5 @@
 -- The reader of unary, update and binary operators is sound.
+use Rattle.swc_ecma_parser_reader.proofs.Words.{begins_function}
 use Rattle.std.proofs.Common.{◌≡◌, ℕ, zero, suc, ◌<◌, ◌≤◌, Bool, true, false, cond, Option, Some, None, refl, sym, ◌∙◌, ap, subst, leb-true, leb-false, arith}
 use Rattle.std.specs.Prelude.{nat_le, not, ◌&&◌, ◌||◌}
 use Rattle.swc_ecma_parser_token.specs.declared.kind.TokenKind.{TokenKind}
@@ -25,14 +26,13 @@ use Rattle.swc_ecma_parser_grammar.specs.language.Expressions.{UnaryRule, operan
 use Rattle.swc_ecma_parser_grammar.specs.language.Reads.{Reads}
 use Rattle.swc_ecma_parser_grammar.proofs.Tests.{or_no, or_none, and_yes, and_both, and_no, no_and}
 use Rattle.swc_ecma_parser_reader.specs.State.{State, Reader, moved}
-use Rattle.swc_ecma_parser_reader.specs.Methods.{FunctionForm}
 use Rattle.swc_ecma_parser_reader.specs.Expressions.{Cover, simple, update_behind, behind_operand, postfix_at, right_class, read_operator, operator_at, left_operand, unmixed, left, prefixed, update_before, postfix, updated, unary_by, unary_expr, operated, binary_by, binary_turn, binary_from, binary_expr}
 use Rattle.swc_ecma_parser_reader.proofs.Meets.{Meets, Refuses, meets_then, meets_if, Turned, loop_answers}
 use Rattle.swc_ecma_parser_reader.proofs.Errors.{is_error}
 use Rattle.swc_ecma_parser_reader.proofs.Between.{SoundTree, sound_moved, sound_as, sound_after}
 use Rattle.swc_ecma_parser_reader.proofs.expressions.SoundSteps.{paired, stepped, moved_back, meets_as, reject_meets, when_true, when_false, clash}
 use Rattle.swc_ecma_parser_reader.proofs.expressions.SoundCovers.{SoundCover}
-use Rattle.swc_ecma_parser_reader.proofs.expressions.SoundLefts.{FunctionsSound, Left, left_sound}
+use Rattle.swc_ecma_parser_reader.proofs.expressions.SoundLefts.{FunctionRead, Left, left_sound}
 
 -- ---- what is read
 
@@ -196,7 +196,7 @@ module _ (n : ℕ) (k : Code) (op : BinaryOp) (x y : Tree) (c i d : Place) (h : 
 
 module _ (n : ℕ) (inner : Class → Reader Tree) (cover : Reader Cover) (sound : (class : Class) (s : State) → Meets (λ x t. SoundTree (ReadsClass n class) s x t) (inner class s))
     (covers : (s : State) → Meets (λ v t. SoundCover n s v t) (cover s))
-    (function : FunctionForm → Reader Tree) (functions : FunctionsSound n function) where
+    (function : Reader Tree) (functions : (s : State) → begins_function s.at ≡ true → Meets (λ x t. SoundTree (FunctionRead n) s x t) (function s)) where
   -- ---- unary and update operators
 
   abbrev pub SoundUnary : State → Tree → State → Type 0

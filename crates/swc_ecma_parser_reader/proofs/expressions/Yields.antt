@@ -22,7 +22,6 @@ use Rattle.swc_ecma_parser_grammar.specs.language.Begins.{begins_operand, begins
 use Rattle.swc_ecma_parser_grammar.specs.language.Goals.{Class}
 use Rattle.swc_ecma_parser_grammar.proofs.Tests.{and_yes, and_both, and_no, or_none}
 use Rattle.swc_ecma_parser_reader.specs.State.{State, Reader}
-use Rattle.swc_ecma_parser_reader.specs.Methods.{FunctionForm}
 use Rattle.swc_ecma_parser_reader.specs.Expressions.{Cover, literal, literal_of, literal_in, marked_primary, primary, left_head, left, postfix, unary_expr, binary_expr, operators_expr}
 use Rattle.swc_ecma_parser_reader.specs.Yields.{begins_yield}
 use Rattle.swc_ecma_parser_reader.proofs.Meets.{Meets, meets_then, wanted_meets, saw}
@@ -71,7 +70,7 @@ yield_here f c g e = yield_first f c.left g e
 abbrev Nothing : Tree → State → Type 0
 Nothing x t = ⊥
 
-module _ (inner : Class → Reader Tree) (cover : Reader Cover) (function : FunctionForm → Reader Tree) where
+module _ (inner : Class → Reader Tree) (cover : Reader Cover) (function : Reader Tree) where
   module _ (s : State) (e : kind_at s.at ≡ kind.Yield) (g : s.code.flags.in_generator ≡ true) where
     primary_none : Meets Nothing (primary inner cover function s)
     unfolding primary literal marked_primary same_kind

@@ -11,8 +11,8 @@ use Rattle.swc_ecma_parser_reader.specs.Reader as rules
 use Rattle.swc_ecma_parser_inner.specs.Keys.{key_of}
 use Rattle.swc_ecma_parser_inner.specs.declared.keys.Key.{Key}
 use Rattle.swc_ecma_parser_inner.specs.declared.keys.Key.TheVariants as key
-use Rattle.swc_ecma_parser_literals.proofs.Refusals.{wanted_as}
-use Rattle.swc_ecma_parser_literals.proofs.object.initialized_key.Goals as goal
+use Rattle.swc_ecma_parser_left.proofs.Refusals.{wanted_as}
+use Rattle.swc_ecma_parser_left.proofs.object.initialized_key.Goals as goal
 
 -- what is no name has no default
 other_key : {X : Type 0} (view : X → Tree) (inner : Class → Reader Tree) (cover : Reader exprs.Cover) (start : Span) (s : State) (e : Fault × State) (k : Key X)

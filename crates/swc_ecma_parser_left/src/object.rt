@@ -1,7 +1,6 @@
-//! Objects: ECMA-262, section 13.2.5.
+//! Objects without methods: ECMA-262, section 13.2.5.
 
 ghost use Rattle.std.specs.Prelude.{◌≡◌, true, IfOk};
-ghost use Rattle.swc_ecma_parser_functions.specs.Methods.{form_of};
 ghost use Rattle.swc_ecma_parser_inner.specs.Covers.{bare, cover_of, covers_of};
 ghost use Rattle.swc_ecma_parser_inner.specs.Keys.{key_of, word_of};
 ghost use Rattle.swc_ecma_parser_inner.specs.Nests.{Nests};
@@ -13,7 +12,6 @@ ghost use Rattle.swc_ecma_parser_reader.specs.State.{GivesAs};
 use std::alloc::Global;
 use swc_ecma_parser_common::Span;
 use swc_ecma_parser_error::{PResult, SyntaxError};
-use swc_ecma_parser_functions::methods::{MethodForm, method, method_words};
 use swc_ecma_parser_grammar::{Class, Position};
 use swc_ecma_parser_inner::cover::{
     Cover, Covers, Reading, behind_comma, covered, done, inside, joined,
@@ -24,7 +22,7 @@ use swc_ecma_parser_inner::steps::{grown, since};
 use swc_ecma_parser_model::Ident;
 use swc_ecma_parser_source::{Source, Wanted, is_name};
 use swc_ecma_parser_token::TokenKind;
-use swc_ecma_parser_trees::{BuildsMethod, BuildsObject, BuildsPattern, MakerOf};
+use swc_ecma_parser_trees::{BuildsObject, MakerOf};
 
 /// A key with nothing behind it: a name.
 #[tactic(auto, unfolding(swc_ecma_parser_reader::specs::Expressions::shorthand_name))]
@@ -185,47 +183,21 @@ fn behind_key<
     bare_key::<P, T>(t.alloc, p, key)
 }
 
-/// What stands behind a key, where words of a method stand before it or not.
-#[tactic(auto, unfolding(swc_ecma_parser_reader::specs::Expressions::behind_words, swc_ecma_parser_reader::specs::Expressions::method))]
-fn behind_words<
-    P: Source,
-    T: BuildsMethod + BuildsPattern,
-    S: Fn(&MakerOf<T>, &mut P, usize, Position) -> PResult<T::Stmt>,
-    E: Fn(&MakerOf<T>, &mut P, usize, Reading) -> PResult<Cover<T::Expr>>,
-    N: Fn(&MakerOf<T>, &mut P, usize, Part) -> PResult<T::Pat>,
->(
-    g: &Grammar<S, E, N>,
-    t: &MakerOf<T>,
-    p: &mut P,
-    form: MethodForm,
-    start: Span,
-    key: Key<T::Expr>,
-) -> PResult<Cover<T::Prop>>
-    requires { Nests P.seen T.expr_of T.pat_of T.stmt_of g.now.depth (S.pre g.now.stmt) (S.post g.now.stmt) (E.pre g.now.expr) (E.post g.now.expr) (N.pre g.now.pat) (N.post g.now.pat) }
-    ensures { GivesAs (cover_of T.prop_of) (exprs.behind_words (rules.expr g.now.depth) (rules.cover g.now.depth) (rules.function g.now.depth) (form_of form) start (key_of T.expr_of key) (P.seen p.old)) result (P.seen p.new) }
-{
-    if form.is_bare() && !p.sees(TokenKind::LParen) {
-        return behind_key(g, t, p, start, key);
-    }
-    Ok(done(method(g, t, p, form, start, key)?))
-}
-
-/// A property that begins with a key, or with the words of a method before it.
+/// A property that begins with a key.
 #[tactic(auto, unfolding(swc_ecma_parser_reader::specs::Expressions::keyed_property))]
 fn keyed_property<
     P: Source,
-    T: BuildsMethod + BuildsPattern,
+    T: BuildsObject,
     S: Fn(&MakerOf<T>, &mut P, usize, Position) -> PResult<T::Stmt>,
     E: Fn(&MakerOf<T>, &mut P, usize, Reading) -> PResult<Cover<T::Expr>>,
     N: Fn(&MakerOf<T>, &mut P, usize, Part) -> PResult<T::Pat>,
 >(g: &Grammar<S, E, N>, t: &MakerOf<T>, p: &mut P) -> PResult<Cover<T::Prop>>
     requires { Nests P.seen T.expr_of T.pat_of T.stmt_of g.now.depth (S.pre g.now.stmt) (S.post g.now.stmt) (E.pre g.now.expr) (E.post g.now.expr) (N.pre g.now.pat) (N.post g.now.pat) }
-    ensures { GivesAs (cover_of T.prop_of) (exprs.keyed_property (rules.expr g.now.depth) (rules.cover g.now.depth) (rules.function g.now.depth) (P.seen p.old)) result (P.seen p.new) }
+    ensures { GivesAs (cover_of T.prop_of) (exprs.keyed_property (rules.expr g.now.depth) (rules.cover g.now.depth) (P.seen p.old)) result (P.seen p.new) }
 {
     let start = p.span();
-    let form = method_words(p)?;
     let key = property_key(g, t, p)?;
-    behind_words(g, t, p, form, start, key)
+    behind_key(g, t, p, start, key)
 }
 
 /// A spread property, with the place of its dots.
@@ -251,13 +223,13 @@ fn spread_property<
 #[tactic(auto, unfolding(swc_ecma_parser_reader::specs::Expressions::property))]
 fn property<
     P: Source,
-    T: BuildsMethod + BuildsPattern,
+    T: BuildsObject,
     S: Fn(&MakerOf<T>, &mut P, usize, Position) -> PResult<T::Stmt>,
     E: Fn(&MakerOf<T>, &mut P, usize, Reading) -> PResult<Cover<T::Expr>>,
     N: Fn(&MakerOf<T>, &mut P, usize, Part) -> PResult<T::Pat>,
 >(g: &Grammar<S, E, N>, t: &MakerOf<T>, p: &mut P) -> PResult<Cover<T::Prop>>
     requires { Nests P.seen T.expr_of T.pat_of T.stmt_of g.now.depth (S.pre g.now.stmt) (S.post g.now.stmt) (E.pre g.now.expr) (E.post g.now.expr) (N.pre g.now.pat) (N.post g.now.pat) }
-    ensures { GivesAs (cover_of T.prop_of) (exprs.property (rules.expr g.now.depth) (rules.cover g.now.depth) (rules.function g.now.depth) (P.seen p.old)) result (P.seen p.new) }
+    ensures { GivesAs (cover_of T.prop_of) (exprs.property (rules.expr g.now.depth) (rules.cover g.now.depth) (P.seen p.old)) result (P.seen p.new) }
 {
     if p.sees(TokenKind::DotDotDot) {
         return spread_property(g, t, p);
@@ -269,13 +241,13 @@ fn property<
 #[tactic(auto, unfolding(swc_ecma_parser_reader::specs::Expressions::properties), using(swc_ecma_parser_reader::proofs::expressions::Loops::properties_done, swc_ecma_parser_reader::proofs::expressions::Loops::properties_err, swc_ecma_parser_reader::proofs::expressions::Loops::properties_last, swc_ecma_parser_reader::proofs::expressions::Loops::properties_more, swc_ecma_parser_reader::proofs::expressions::Loops::properties_comma_err, swc_ecma_parser_reader::proofs::expressions::Loops::property_shorter, swc_ecma_parser_reader::proofs::expressions::Loops::properties_shorter))]
 fn properties<
     P: Source,
-    T: BuildsMethod + BuildsPattern,
+    T: BuildsObject,
     S: Fn(&MakerOf<T>, &mut P, usize, Position) -> PResult<T::Stmt>,
     E: Fn(&MakerOf<T>, &mut P, usize, Reading) -> PResult<Cover<T::Expr>>,
     N: Fn(&MakerOf<T>, &mut P, usize, Part) -> PResult<T::Pat>,
 >(g: &Grammar<S, E, N>, t: &MakerOf<T>, p: &mut P) -> PResult<Covers<T::Prop>>
     requires { Nests P.seen T.expr_of T.pat_of T.stmt_of g.now.depth (S.pre g.now.stmt) (S.post g.now.stmt) (E.pre g.now.expr) (E.post g.now.expr) (N.pre g.now.pat) (N.post g.now.pat) }
-    ensures { GivesAs (covers_of T.prop_of) (exprs.properties (rules.expr g.now.depth) (rules.cover g.now.depth) (rules.function g.now.depth) (P.seen p.old)) result (P.seen p.new) }
+    ensures { GivesAs (covers_of T.prop_of) (exprs.properties (rules.expr g.now.depth) (rules.cover g.now.depth) (P.seen p.old)) result (P.seen p.new) }
 {
     p.skip()?;
     let mut found = Covers {
@@ -302,13 +274,13 @@ fn properties<
 #[tactic(auto, unfolding(swc_ecma_parser_reader::specs::Expressions::object))]
 pub fn object<
     P: Source,
-    T: BuildsMethod + BuildsPattern,
+    T: BuildsObject,
     S: Fn(&MakerOf<T>, &mut P, usize, Position) -> PResult<T::Stmt>,
     E: Fn(&MakerOf<T>, &mut P, usize, Reading) -> PResult<Cover<T::Expr>>,
     N: Fn(&MakerOf<T>, &mut P, usize, Part) -> PResult<T::Pat>,
 >(g: &Grammar<S, E, N>, t: &MakerOf<T>, p: &mut P) -> PResult<Cover<T::Expr>>
     requires { Nests P.seen T.expr_of T.pat_of T.stmt_of g.now.depth (S.pre g.now.stmt) (S.post g.now.stmt) (E.pre g.now.expr) (E.post g.now.expr) (N.pre g.now.pat) (N.post g.now.pat) }
-    ensures gives { GivesAs (cover_of T.expr_of) (exprs.object (rules.expr g.now.depth) (rules.cover g.now.depth) (rules.function g.now.depth) (P.seen p.old)) result (P.seen p.new) }
+    ensures gives { GivesAs (cover_of T.expr_of) (exprs.object (rules.expr g.now.depth) (rules.cover g.now.depth) (P.seen p.old)) result (P.seen p.new) }
     ensures literal { IfOk result (λ v. is_literal (T.expr_of v.tree) ≡ true) }
 {
     let start = p.span();

@@ -4,7 +4,7 @@ use Rattle.swc_ecma_parser_reader.specs.Expressions as exprs
 use Rattle.swc_ecma_parser_reader.specs.Reader as rules
 use Rattle.swc_ecma_parser_trees.specs.Parts.{part_of}
 use Rattle.swc_ecma_parser_inner.specs.Covers.{covers_of}
-use Rattle.swc_ecma_parser_literals.proofs.array.elements.Given as goal
+use Rattle.swc_ecma_parser_left.proofs.array.elements.Given as goal
 
 -- what the whole loop gives is what the rest of it gives
 abbrev pub invariant-elements : goal.invariant-elements

@@ -9,8 +9,8 @@ use Rattle.swc_ecma_parser_reader.specs.Expressions.{array_turn}
 use Rattle.swc_ecma_parser_reader.specs.Reader.{expr, cover}
 use Rattle.swc_ecma_parser_reader.proofs.expressions.Loops.{elements_err, elements_last, elements_more, elements_comma_err, item_shorter, items_shorter}
 use Rattle.swc_ecma_parser_inner.specs.Covers.{cover_of, covers_of}
-use Rattle.swc_ecma_parser_literals.proofs.Covers.{same_loop, commaed}
-use Rattle.swc_ecma_parser_literals.proofs.array.elements.Goals as goal
+use Rattle.swc_ecma_parser_left.proofs.Covers.{same_loop, commaed}
+use Rattle.swc_ecma_parser_left.proofs.array.elements.Goals as goal
 
 pub returns-in_err-part : goal.returns-in_err-part
 returns-in_err-part g c =
