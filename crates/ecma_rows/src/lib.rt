@@ -2,6 +2,8 @@
 #![tactic(auto)]
 
 #[cfg(test)]
+mod awaits;
+#[cfg(test)]
 mod declarations;
 #[cfg(test)]
 mod deep;
@@ -14,6 +16,8 @@ mod heads;
 #[cfg(test)]
 mod items;
 #[cfg(test)]
+mod methods;
+#[cfg(test)]
 mod nodes;
 #[cfg(test)]
 mod parsers;
@@ -21,6 +25,8 @@ mod parsers;
 mod report;
 #[cfg(test)]
 mod rows;
+#[cfg(test)]
+mod single_expressions;
 #[cfg(test)]
 mod statements;
 #[cfg(test)]

@@ -265,11 +265,16 @@ fn undecided(alloc: Global, input: StringInput<'_>) -> Result<Shown, AllocError>
 }
 
 #[test]
-fn import_meta_is_no_fault_where_code_can_be_a_modules(rt: HostRuntime) -> Result<(), Fail> {
+fn what_makes_a_module_is_no_fault_where_code_can_be_one(rt: HostRuntime) -> Result<(), Fail> {
     let alloc = rt.alloc();
     let found = undecided(alloc, input("const_foo = import.meta.url;")?)?;
     assert_eq!(rt; found.lines.as_str(), "Script 0..28\n  Expr 0..28\n");
     let found = undecided(alloc, input("new import.meta")?)?;
     assert_eq!(rt; found.lines.as_str(), "refused 4..10 Unexpected\n");
+    let found = undecided(alloc, input("await a; b")?)?;
+    assert_eq!(rt;
+        found.lines.as_str(),
+        "Script 0..10\n  Expr 0..8\n  Expr 9..10\n"
+    );
     Ok(())
 }

@@ -26,13 +26,12 @@ false; → Script 0..6, Expr 0..6 → Bool 0..5, value: false";
 const FAULTS: &str = "{ var a → Script 0..7, Block 0..7, fault 6..7 Expected → Var 2..7
 'use strict'; var public; → refused 18..24 ExpectedIdent
 var a b → refused 6..7 Unexpected
-await → refused 0..5 Unexpected
 a b → refused 2..3 ExpectedSemiForExprStmt
 a \\ → fault 2..3 UnexpectedChar, refused 2..3 ExpectedSemiForExprStmt";
 
 #[test]
 fn tables(rt: HostRuntime) -> Result<(), Fail> {
-    for (rows, wanted) in [(TREES, "19 rows"), (FAULTS, "6 rows")] {
+    for (rows, wanted) in [(TREES, "19 rows"), (FAULTS, "5 rows")] {
         assert_eq!(rt; report(rt.alloc(), rows, 1000)?.as_str(), wanted);
     }
     Ok(())

@@ -5,8 +5,7 @@ ghost use Rattle.swc_ecma_parser_error.specs.Kind.{IsOutOfMemory};
 ghost use Rattle.swc_ecma_parser_reader.specs.Entry.{unmarked, AnswersScript, AnswersStatement, IsRestored};
 
 use std::alloc::Global;
-use swc_ecma_parser_core::grammar::stmt;
-use swc_ecma_parser_core::script::script_body;
+use swc_ecma_parser_core::script::{script_body, whole_stmt};
 use swc_ecma_parser_error::PResult;
 use swc_ecma_parser_grammar::Position;
 use swc_ecma_parser_input::Tokens;
@@ -58,7 +57,7 @@ pub fn statement<I: Tokens, T: BuildsStatements>(
     let found_module_item = state.found_module_item();
     state.begin();
     let maker: MakerOf<T> = Maker::new(alloc);
-    let read = stmt::<State<I>, T>(&maker, state, limit, at);
+    let read = whole_stmt::<State<I>, T>(&maker, state, limit, at);
     maker.finish();
     match read {
         Ok(statement) => Ok(statement),

@@ -3,8 +3,6 @@
 #![tactic(auto)]
 
 mod entry;
-#[cfg(test)]
-mod expressions;
 mod lexing;
 mod parser;
 

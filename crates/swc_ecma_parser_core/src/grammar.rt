@@ -5,7 +5,7 @@ ghost use Rattle.swc_ecma_parser_inner.specs.Patterns.{read_pat};
 ghost use Rattle.swc_ecma_parser_reader.specs.Reader as rules;
 ghost use Rattle.swc_ecma_parser_reader.specs.State.{GivesAs};
 
-use crate::stmt::level;
+use swc_ecma_parser_control::stmt::level;
 use swc_ecma_parser_error::PResult;
 use swc_ecma_parser_grammar::Position;
 use swc_ecma_parser_inner::cover::{Cover, Reading, done};

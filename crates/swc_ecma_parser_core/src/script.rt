@@ -4,10 +4,10 @@ ghost use Rattle.std.specs.Prelude.{◌≡◌, true, [], map, IsOk};
 ghost use Rattle.swc_ecma_parser_grammar.specs.Reads.{directed, top_item};
 ghost use Rattle.swc_ecma_parser_reader.specs.Reader as rules;
 ghost use Rattle.swc_ecma_parser_reader.specs.State as reader;
-ghost use Rattle.swc_ecma_parser_reader.specs.State.{GivesAs};
+ghost use Rattle.swc_ecma_parser_reader.specs.State.{Gives, GivesAs};
 
 use crate::grammar::stmt;
-use swc_ecma_parser_error::PResult;
+use swc_ecma_parser_error::{PResult, SyntaxError};
 use swc_ecma_parser_functions::body::direct;
 use swc_ecma_parser_grammar::Position;
 use swc_ecma_parser_inner::steps::{pushed, since};
@@ -30,19 +30,49 @@ fn at_end<P: Source>(p: &P) -> bool
     p.sees(TokenKind::End)
 }
 
+/// What a statement of the top level begins with: `await` makes a program a module, and is a fault in code that cannot be one's.
+#[tactic(auto, unfolding(swc_ecma_parser_reader::specs::Reader::top_await, swc_ecma_parser_reader::specs::Reader::top_await_fault))]
+fn top_await<P: Source>(p: &mut P, at: Position) -> PResult<()>
+    ensures { Gives (rules.top_await at (P.seen p.old)) result (P.seen p.new) }
+{
+    if !at.top_level || !p.sees(TokenKind::Await) {
+        return Ok(());
+    }
+    p.note_module_item();
+    if p.flags().can_be_module {
+        return Ok(());
+    }
+    let word = p.span();
+    p.fault(SyntaxError::TopLevelAwaitInScript, word)
+}
+
+/// A statement that stands in no other, which may nest so many levels deep.
+#[tactic(auto, unfolding(swc_ecma_parser_reader::specs::Reader::whole_stmt))]
+pub fn whole_stmt<P: Source, T: BuildsStatements>(
+    t: &MakerOf<T>,
+    p: &mut P,
+    limit: usize,
+    at: Position,
+) -> PResult<T::Stmt>
+    ensures { GivesAs T.stmt_of (rules.whole_stmt limit at (P.seen p.old)) result (P.seen p.new) }
+{
+    top_await(p, at)?;
+    stmt::<P, T>(t, p, limit, at)
+}
+
 /// The statements of a script, the first of which can be a directive.
-#[tactic(auto, unfolding(swc_ecma_parser_reader::specs::Reader::items), using(swc_ecma_parser_reader::proofs::Loops::items_stop, swc_ecma_parser_reader::proofs::Loops::items_err, crate::proofs::Items::script_more, swc_ecma_parser_reader::proofs::Loops::stmt_shorter, std::proofs::lemmas::List::map_push))]
+#[tactic(auto, unfolding(swc_ecma_parser_reader::specs::Reader::items), using(swc_ecma_parser_reader::proofs::Loops::items_stop, swc_ecma_parser_reader::proofs::Loops::items_err, crate::proofs::Items::script_more, swc_ecma_parser_reader::proofs::Loops::whole_shorter, std::proofs::lemmas::List::map_push))]
 fn items<P: Source, T: BuildsStatements>(
     t: &MakerOf<T>,
     p: &mut P,
     limit: usize,
 ) -> PResult<Vec<T::Stmt>>
-    ensures gives { GivesAs (λ found. map T.stmt_of found.items) (rules.items (rules.stmt limit top_item) rules.at_end true (P.seen p.old)) result (P.seen p.new) }
+    ensures gives { GivesAs (λ found. map T.stmt_of found.items) (rules.items (rules.whole_stmt limit top_item) rules.at_end true (P.seen p.old)) result (P.seen p.new) }
     ensures outright { (P.seen p.old).at.left ≡ [] → IsOk result }
 {
     let mut found = Vec::new(t.alloc);
     'items: while !at_end(p) {
-        let stmt = stmt::<P, T>(t, p, limit, TOP_ITEM)?;
+        let stmt = whole_stmt::<P, T>(t, p, limit, TOP_ITEM)?;
         direct::<P, T>(p, found.is_empty(), &stmt);
         pushed(p, &mut found, stmt)?;
     }

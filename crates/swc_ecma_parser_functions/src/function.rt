@@ -11,6 +11,8 @@ ghost use Rattle.swc_ecma_parser_inner.specs.Keys.{word_of};
 ghost use Rattle.swc_ecma_parser_inner.specs.Nests.{Nests};
 ghost use Rattle.swc_ecma_parser_model.specs.Forms as forms;
 ghost use Rattle.swc_ecma_parser_model.specs.Tree as tree;
+ghost use Rattle.swc_ecma_parser_reader.specs.Methods as methods;
+ghost use Rattle.swc_ecma_parser_reader.specs.Methods.{expression_form};
 ghost use Rattle.swc_ecma_parser_reader.specs.Reader as rules;
 ghost use Rattle.swc_ecma_parser_reader.specs.State.{Gives, GivesAs, within};
 ghost use Rattle.swc_ecma_parser_trees.specs.Parts.{part_of};
@@ -32,15 +34,15 @@ use swc_ecma_parser_trees::{BuildsBlock, BuildsDecl, BuildsFunction, BuildsPatte
 /// A body, with the first directive that says it is strict.
 #[derive(Drop)]
 pub(crate) struct FunctionBody<B> {
-    block: B,
-    strict_directive: Option<Span>,
+    pub(crate) block: B,
+    pub(crate) strict_directive: Option<Span>,
 }
 
 /// Whether a function is async, and whether it is a generator.
 #[derive(Clone, Copy)]
-pub(crate) struct Manner {
-    is_async: bool,
-    is_generator: bool,
+pub struct Manner {
+    pub is_async: bool,
+    pub is_generator: bool,
 }
 
 /// What stands around the name of a function that is an expression.
@@ -102,7 +104,7 @@ fn first_use_strict<T: BuildsBlock>(stmts: &[T::Stmt]) -> Option<Span>
 }
 
 /// Parameters, in what stands around them.
-fn parameters_inside<
+pub(crate) fn parameters_inside<
     P: Source,
     T: BuildsPattern,
     S: Fn(&MakerOf<T>, &mut P, usize, Position) -> PResult<T::Stmt>,
@@ -146,7 +148,7 @@ fn block<
 }
 
 /// A body, in what stands around its statements.
-fn function_body<
+pub(crate) fn function_body<
     P: Source,
     T: BuildsBlock,
     S: Fn(&MakerOf<T>, &mut P, usize, Position) -> PResult<T::Stmt>,
@@ -198,7 +200,11 @@ fn are_plain<T: BuildsFunction>(params: &[T::Param]) -> bool
 }
 
 /// Records a directive that says a body is strict, where a parameter is no plain name.
-fn misdirected<P: Source>(p: &mut P, is_plain: bool, directive: Option<Span>) -> PResult<()>
+pub(crate) fn misdirected<P: Source>(
+    p: &mut P,
+    is_plain: bool,
+    directive: Option<Span>,
+) -> PResult<()>
     ensures plain { is_plain ≡ true → Gives (rules.told [] (P.seen p.old)) result (P.seen p.new) }
     ensures late { is_plain ≡ false → Gives (rules.told (late directive) (P.seen p.old)) result (P.seen p.new) }
 {
@@ -222,9 +228,9 @@ fn function_word<P: Source>(p: &mut P) -> PResult<bool>
 }
 
 /// The `*` of a generator, if one stands here.
-#[tactic(auto, unfolding(swc_ecma_parser_reader::specs::Reader::star))]
-fn star<P: Source>(p: &mut P) -> PResult<bool>
-    ensures { Gives (rules.star (P.seen p.old)) result (P.seen p.new) }
+#[tactic(auto, unfolding(swc_ecma_parser_reader::specs::Methods::star))]
+pub(crate) fn star<P: Source>(p: &mut P) -> PResult<bool>
+    ensures { Gives (methods.star (P.seen p.old)) result (P.seen p.new) }
 {
     if !p.sees(TokenKind::Mul) {
         return Ok(false);
@@ -235,7 +241,7 @@ fn star<P: Source>(p: &mut P) -> PResult<bool>
 
 /// A function, from behind its name.
 #[tactic(auto, unfolding(swc_ecma_parser_reader::specs::Reader::function_parts, swc_ecma_parser_reader::specs::Reader::misdirected))]
-fn function_parts<
+pub(crate) fn function_parts<
     P: Source,
     T: BuildsFunction + BuildsPattern,
     S: Fn(&MakerOf<T>, &mut P, usize, Position) -> PResult<T::Stmt>,
@@ -331,7 +337,7 @@ fn own_name<P: Source>(p: &mut P, manner: Manner) -> PResult<Option<Ident>>
 }
 
 /// A function that is an expression.
-#[tactic(auto, unfolding(swc_ecma_parser_reader::specs::Reader::function_expr))]
+#[tactic(auto, unfolding(swc_ecma_parser_reader::specs::Reader::function, swc_ecma_parser_reader::specs::Reader::function_by, swc_ecma_parser_reader::specs::Reader::function_expr))]
 pub fn function_expr<
     P: Source,
     T: BuildsFunction + BuildsPattern,
@@ -340,7 +346,7 @@ pub fn function_expr<
     N: Fn(&MakerOf<T>, &mut P, usize, Part) -> PResult<T::Pat>,
 >(g: &Grammar<S, E, N>, t: &MakerOf<T>, p: &mut P) -> PResult<T::Expr>
     requires { Nests P.seen T.expr_of T.pat_of T.stmt_of g.now.depth (S.pre g.now.stmt) (S.post g.now.stmt) (E.pre g.now.expr) (E.post g.now.expr) (N.pre g.now.pat) (N.post g.now.pat) }
-    ensures { GivesAs T.expr_of (rules.function_expr (rules.stmt g.now.depth nested_item) (rules.parameters g.now.depth) (P.seen p.old)) result (P.seen p.new) }
+    ensures { GivesAs T.expr_of (rules.function g.now.depth expression_form (P.seen p.old)) result (P.seen p.new) }
 {
     let start = p.span();
     let is_async = function_word(p)?;

@@ -133,7 +133,7 @@ yield_begins f c g h = or_second (begins_unary f c) _ (and_both _ _ g (rw h refl
 
 -- ---- operators
 
-await_stands : (f : Context) (c : Place) → awaits f c ≡ true → kind_at c ≡ kind.Await
+pub await_stands : (f : Context) (c : Place) → awaits f c ≡ true → kind_at c ≡ kind.Await
 unfolding awaits
 await_stands f c h = kind_seen kind.Await c (and_first _ _ h)
 

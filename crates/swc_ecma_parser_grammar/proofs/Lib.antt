@@ -8,6 +8,7 @@ pub mod Unnoted
 pub mod Narrows
 pub mod StatementEntries
 pub mod FunctionExprs
+pub mod MethodParts
 pub mod FewFlags
 pub mod Tabled
 pub mod language
@@ -27,7 +28,7 @@ mod SpelledStatements
 mod SpelledLoops
 mod SpelledItems
 mod ReadWithFaults
-mod ExpressionBegins
+pub mod ExpressionBegins
 pub mod StatementBegins
 mod UnspelledStatements
 mod UnspelledItems

@@ -94,7 +94,7 @@ function_apart : (c d : Place) → d ≡ after c → kind_at d ≡ kind.Colon �
 unfolding is_async_function same_kind
 function_apart c d e h = rw (← e, h) (and_no (word_at (codes "async") c))
 
-awaits_apart : (f : Context) (c : Place) → sees kind.Await c ≡ false → awaits f c ≡ false
+pub awaits_apart : (f : Context) (c : Place) → sees kind.Await c ≡ false → awaits f c ≡ false
 unfolding awaits
 awaits_apart f c h = rw h refl
 

@@ -21,10 +21,10 @@ use Rattle.swc_ecma_parser_grammar.specs.Looks.{kind_at, sees, same_kind, spanne
 use Rattle.swc_ecma_parser_grammar.specs.Names.{Code}
 use Rattle.swc_ecma_parser_grammar.specs.Reads.{with_in, in_strict, directed, directs_on, nested_item, top_item, DeclaratorRule, plain_rule, initialized_rule, ReadsSeparated, ReadsItems, StmtRule, block_rule, empty_rule, debugger_rule, variables_rule, if_statement_rule, TargetRule, no_target_rule, target_rule, OperandRule, no_operand_rule, operand_rule, break_rule, continue_rule, return_rule, case_clause_rule, default_clause_rule, ReadsCases, switch_rule, throw_rule, try_rule, with_rule, while_rule, do_while_rule, expr_rule, import_rule, ReadsBlock, CatchRule, no_catch_rule, catch_rule, catch_parameter_rule, FinallyRule, no_finally_rule, finally_rule, ReadsHead, IfRule, if_rule, ElseRule, no_else_rule, else_rule, else_if_rule, ReadsBraced, function_rule, ReadsToken}
 use Rattle.swc_ecma_parser_grammar.specs.Reads.{labeled_rule, head_code, HeadVariables, InitRule, no_init_rule, init_variables_rule, init_expression_rule, LeftRule, declared_rule, left_target_rule, for_in_rule, for_of_rule, PartRule, no_part_rule, part_rule, for_rule}
-use Rattle.swc_ecma_parser_grammar.specs.Entries.{ReadsScript, ReadsShebang, some_shebang, no_shebang, script_code}
+use Rattle.swc_ecma_parser_grammar.specs.Entries.{ReadsScript, ReadsShebang, some_shebang, no_shebang, script_code, items_await, script_awaits}
 use Rattle.swc_ecma_parser_grammar.specs.Notes.{notes, all_notes, statement_note, with_note}
 use Rattle.swc_ecma_parser_grammar.specs.Supported.{supported, supported_in, all_supported_in, has_none}
-use Rattle.swc_ecma_parser_grammar.specs.ReadsSupported.{ReadsClass, ReadsPat, ReadsTarget, ReadsStmt, ReadsParams}
+use Rattle.swc_ecma_parser_grammar.specs.ReadsSupported.{ReadsClass, ReadsPat, ReadsTarget, ReadsStmt, ReadsTop, ReadsParams}
 use Rattle.swc_ecma_parser_grammar.specs.language.Goals.{assignment, stmt_goal}
 use Rattle.swc_ecma_parser_grammar.specs.language.Contexts.{in_loop, in_breakable, in_with}
 use Rattle.swc_ecma_parser_grammar.specs.language.ForHeads as heads
@@ -148,18 +148,31 @@ no_with : (b : Bool) (f : Fault) (fs : List Fault) → (b ≡ true → f ∷ fs 
 no_with true f fs q = let e : f ∷ fs ≡ [] = q refl in cc
 no_with false f fs q = refl
 
-module _ (n : ℕ) (narrow : (k : Code) (at : Position) (x : Tree) (c d : Place) → Quiet k (notes x) → Reads n (stmt_goal k at x c d) → supported_in k.flags.module x ≡ true → ReadsStmt n k at x c d) where
-  items_narrow : (k : Code) (directives : Bool) (at : Position) (xs : List Tree) (c d : Place) → Quiet k (all_notes (trees xs)) → ItemsRule (Reads n) k directives at xs c d
-      → all_supported_in k.flags.module (trees xs) ≡ true → ReadsItems (λ j. ReadsStmt n j at) k directives xs c d
-  items_narrow k directives at [] c d o r h = r
-  items_narrow k directives at (x ∷ xs) c d o (m, r, rs) h =
+module _ (n : ℕ) (at : Position) (Item : Code → Tree → Place → Place → Type 0)
+    (narrow : (k : Code) (x : Tree) (c d : Place) → Quiet k (notes x) → Reads n (stmt_goal k at x c d) → supported_in k.flags.module x ≡ true → Item k x c d) where
+  items_narrow : (k : Code) (directives : Bool) (xs : List Tree) (c d : Place) → Quiet k (all_notes (trees xs)) → ItemsRule (Reads n) k directives at xs c d
+      → all_supported_in k.flags.module (trees xs) ≡ true → ReadsItems Item k directives xs c d
+  items_narrow k directives [] c d o r h = r
+  items_narrow k directives (x ∷ xs) c d o (m, r, rs) h =
       let g = and_yes (supported_in k.flags.module x) _ h in
       let q = quiet_last k (notes x) _ o in (
         m,
-        narrow k at x c m (quiet_first k (notes x) _ o) r g.0,
-        items_narrow (directed k directives x) (directs_on directives x) at xs m d (λ b. q (sym (strict_module (directives && is_use_strict x) k) ∙ b)) rs
+        narrow k x c m (quiet_first k (notes x) _ o) r g.0,
+        items_narrow (directed k directives x) (directs_on directives x) xs m d (λ b. q (sym (strict_module (directives && is_use_strict x) k) ∙ b)) rs
             (subst (λ b. all_supported_in b (trees xs) ≡ true) (sym (strict_module (directives && is_use_strict x) k)) g.1),
       )
+
+  -- and where one of them begins with `await` is as it was
+  items_await_as : (k : Code) (directives : Bool) (xs : List Tree) (c d : Place) (o : Quiet k (all_notes (trees xs))) (r : ItemsRule (Reads n) k directives at xs c d)
+      (h : all_supported_in k.flags.module (trees xs) ≡ true) → items_await Item k directives xs c d (items_narrow k directives xs c d o r h) ≡ programs.items_await (Reads n) k directives at xs c d r
+  unfolding items_narrow
+  items_await_as k directives [] c d o r h = refl
+  items_await_as k directives (x ∷ xs) c d o (m, r, rs) h = ap (λ b. sees kind.Await c || b) (items_await_as (directed k directives x) (directs_on directives x) xs m d _ rs _)
+
+module _ (n : ℕ) (narrow : (k : Code) (at : Position) (x : Tree) (c d : Place) → Quiet k (notes x) → Reads n (stmt_goal k at x c d) → supported_in k.flags.module x ≡ true → ReadsStmt n k at x c d) where
+  nested_narrow : (k : Code) (directives : Bool) (xs : List Tree) (c d : Place) → Quiet k (all_notes (trees xs)) → ItemsRule (Reads n) k directives nested_item xs c d
+      → all_supported_in k.flags.module (trees xs) ≡ true → ReadsItems (λ j. ReadsStmt n j nested_item) k directives xs c d
+  nested_narrow = items_narrow n nested_item (λ j. ReadsStmt n j nested_item) (λ k x c d q r h. narrow k nested_item x c d q r h)
 
   head_narrows : {k : Code} {x : Tree} {c d : Place} → statements.HeadRule (Reads n) k x c d → supported_in k.flags.module x ≡ true → ReadsHead (ReadsClass n) k x c d
   head_narrows r h = record { close = r.close; opens = r.opens; reads = (r.reads, h); closes = r.closes; next = r.next }
@@ -169,7 +182,7 @@ module _ (n : ℕ) (narrow : (k : Code) (at : Position) (x : Tree) (c d : Place)
     items = r.items;
     close = r.close;
     opens = r.opens;
-    reads_items = items_narrow k directives nested_item r.items (after c) r.close (quiet_as k x (tree.block (spanned c d) (listed r.items)) r.is o) r.reads_items (supported_as _ x (tree.block (spanned c d) (listed r.items)) r.is h);
+    reads_items = nested_narrow k directives r.items (after c) r.close (quiet_as k x (tree.block (spanned c d) (listed r.items)) r.is o) r.reads_items (supported_as _ x (tree.block (spanned c d) (listed r.items)) r.is h);
     closes = r.closes;
     next = r.next;
     is = r.is;
@@ -206,7 +219,7 @@ module _ (n : ℕ) (narrow : (k : Code) (at : Position) (x : Tree) (c d : Place)
       let l = and_yes (supported_in k.flags.module test) _ (supported_as _ x (tree.case (spanned c m) test (listed ys)) e f.0) in
       let q = quiet_as k x (tree.case (spanned c m) test (listed ys)) e (quiet_first k (notes x) _ o) in (
         m,
-        case_clause_rule test ys i a (r, l.0) j (items_narrow k false nested_item ys (after i) m (quiet_last k (notes test) _ q) s l.1) e,
+        case_clause_rule test ys i a (r, l.0) j (nested_narrow k false ys (after i) m (quiet_last k (notes test) _ q) s l.1) e,
         cases_narrow k (b || sees kind.Default c) xs m d (quiet_last k (notes x) _ o) rs (behind_case b x xs (sees kind.Default c) (ap is_default e ∙ stands_there n (with_in k) test (after c) i r) (ap (λ j. same_kind j kind.Default) a) h) f.1,
       )
   cases_narrow k b (x ∷ xs) c d o (m, statements.default_clause_rule ys a j s e, rs) h g =
@@ -215,7 +228,7 @@ module _ (n : ℕ) (narrow : (k : Code) (at : Position) (x : Tree) (c d : Place)
       let v = behind_default b x xs (sees kind.Default c) (ap is_default e) (ap (λ j. same_kind j kind.Default) a) h in
       let q = quiet_as k x (tree.case (spanned c m) tree.absent (listed ys)) e (quiet_first k (notes x) _ o) in (
         m,
-        default_clause_rule ys v.0 a j (items_narrow k false nested_item ys (after (after c)) m q s l) e,
+        default_clause_rule ys v.0 a j (nested_narrow k false ys (after (after c)) m q s l) e,
         cases_narrow k (b || sees kind.Default c) xs m d (quiet_last k (notes x) _ o) rs v.1 f.1,
       )
 
@@ -362,6 +375,11 @@ pub stmt_narrows : (n : ℕ) (k : Code) (at : Position) (x : Tree) (c d : Place)
 stmt_narrows zero k at x c d o r h = absurd r
 stmt_narrows (suc n) k at x c d o r h = form_narrows n (stmt_narrows n) k at x c d o r.1 h
 
+-- one that stands in no other
+pub top_narrows : (n : ℕ) (k : Code) (at : Position) (x : Tree) (c d : Place) → Quiet k (notes x) → Reads n (stmt_goal k at x c d) → supported_in k.flags.module x ≡ true → ReadsTop n k at x c d
+top_narrows zero k at x c d o r h = absurd r
+top_narrows (suc n) k at x c d o r h = (stmt_narrows (suc n) k at x c d o r h, r.0)
+
 -- ---- scripts
 
 shebang_narrows : (c d : Place) (o : Option Text) → programs.ShebangRule c d o → ReadsShebang c d o
@@ -378,7 +396,15 @@ script_narrows n k x c d (r, notes) h = record {
   first = r.first;
   reads_shebang = shebang_narrows c r.first r.shebang r.reads_shebang;
   items = r.items;
-  reads_items = items_narrow n (stmt_narrows n) (script_code k) true top_item r.items r.first d never_module r.reads_items (supported_as _ x (tree.script (spanned c d) (listed r.items) r.shebang) r.is h);
+  reads_items = items_narrow n top_item (λ j. ReadsTop n j top_item) (λ j y a b q s g. top_narrows n j top_item y a b q s g) (script_code k) true r.items r.first d never_module r.reads_items
+      (supported_as _ x (tree.script (spanned c d) (listed r.items) r.shebang) r.is h);
   whole = r.to_the_end;
   is = r.is;
 }
+
+-- it makes a module of itself where the whole language says so
+pub script_awaits_as : (n : ℕ) (k : Code) (x : Tree) (c d : Place) (r : ReadsEntry n programs.script k x c d) (h : supported x ≡ true)
+    → script_awaits n k x c d (script_narrows n k x c d r h) ≡ programs.script_awaits n k x c d r
+unfolding script_narrows
+script_awaits_as n k x c d (r, notes) h = items_await_as n top_item (λ j. ReadsTop n j top_item) (λ j y a b q s g. top_narrows n j top_item y a b q s g) (script_code k) true r.items r.first d
+    never_module r.reads_items (supported_as _ x (tree.script (spanned c d) (listed r.items) r.shebang) r.is h)

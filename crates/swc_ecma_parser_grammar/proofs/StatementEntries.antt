@@ -19,16 +19,16 @@ use Rattle.swc_ecma_parser_grammar.specs.Names.{Code}
 use Rattle.swc_ecma_parser_grammar.specs.Notes.{notes, all_notes, statement_note}
 use Rattle.swc_ecma_parser_grammar.specs.Reads.{with_in, directed, directs_on, nested_item, DeclaratorRule, plain_rule, initialized_rule, ReadsSeparated, ReadsItems, StmtRule, block_rule, empty_rule, debugger_rule, variables_rule, if_statement_rule, TargetRule, no_target_rule, target_rule, OperandRule, no_operand_rule, operand_rule, break_rule, continue_rule, return_rule, labeled_rule, HeadVariables, InitRule, no_init_rule, init_variables_rule, init_expression_rule, LeftRule, declared_rule, left_target_rule, for_in_rule, for_of_rule, head_code, PartRule, no_part_rule, part_rule, for_rule, CaseRule, case_clause_rule, default_clause_rule, ReadsCases, switch_rule, throw_rule, try_rule, with_rule, while_rule, do_while_rule, expr_rule, import_rule, ReadsBlock, CatchRule, no_catch_rule, catch_rule, catch_parameter_rule, FinallyRule, no_finally_rule, finally_rule, ReadsHead, IfRule, if_rule, ElseRule, no_else_rule, else_rule, else_if_rule, ReadsBraced, function_rule}
 use Rattle.swc_ecma_parser_grammar.specs.Supported.{supported, supported_in, all_supported_in}
-use Rattle.swc_ecma_parser_grammar.specs.ReadsSupported.{ReadsClass, ReadsPat, ReadsTarget, ReadsStmt, ReadsParams}
+use Rattle.swc_ecma_parser_grammar.specs.ReadsSupported.{ReadsClass, ReadsPat, ReadsTarget, ReadsStmt, ReadsTop, ReadsParams}
 use Rattle.swc_ecma_parser_grammar.specs.language.Goals.{binding, assigning, expression, assignment, stmt_goal}
 use Rattle.swc_ecma_parser_grammar.specs.language.Contexts.{in_module, in_loop, in_breakable}
 use Rattle.swc_ecma_parser_grammar.specs.language.Items.{sub_statement, labelled_item}
 use Rattle.swc_ecma_parser_grammar.specs.language.Reads.{Reads}
 use Rattle.swc_ecma_parser_grammar.specs.language.Programs.{is_module_program, is_module_code}
 use Rattle.swc_ecma_parser_grammar.proofs.Unnoted.{joined, expr_unnoted, pattern_unnoted, import_unnoted, parameter_unnoted}
-use Rattle.swc_ecma_parser_grammar.proofs.Widens.{stmt_widens, stmt_supported}
+use Rattle.swc_ecma_parser_grammar.proofs.Widens.{top_widens, stmt_supported}
 use Rattle.swc_ecma_parser_grammar.proofs.SupportedIn.{strict_module, head_module, lower, lift_in}
-use Rattle.swc_ecma_parser_grammar.proofs.Narrows.{stmt_narrows}
+use Rattle.swc_ecma_parser_grammar.proofs.Narrows.{top_narrows}
 
 -- ---- parts
 
@@ -209,10 +209,10 @@ was_module k x h e = by_form (is_module_decl x) (is_module_program x) (no_module
 abbrev pub ReadsStatement : ℕ → Code → Position → Tree → Place → Place → Type 0
 ReadsStatement n k at x c d = Reads n (stmt_goal k at x c d) × (is_module_code k x ≡ true → notes x ≡ [])
 
-pub statement_widens : (n : ℕ) (k : Code) (at : Position) (x : Tree) (c d : Place) → ReadsStmt n k at x c d → ReadsStatement n k at x c d × (supported x ≡ true)
+pub statement_widens : (n : ℕ) (k : Code) (at : Position) (x : Tree) (c d : Place) → ReadsTop n k at x c d → ReadsStatement n k at x c d × (supported x ≡ true)
 statement_widens n k at x c d r =
-    let h = lower k.flags.module x (stmt_supported n k at x c d r) in
-    ((stmt_widens n k at x c d r, λ e. stmt_unnoted n k at x c d (was_module k x h e) r), h)
+    let h = lower k.flags.module x (stmt_supported n k at x c d r.0) in
+    ((top_widens n k at x c d r, λ e. stmt_unnoted n k at x c d (was_module k x h e) r.0), h)
 
-pub statement_narrows : (n : ℕ) (k : Code) (at : Position) (x : Tree) (c d : Place) → ReadsStatement n k at x c d → supported x ≡ true → ReadsStmt n k at x c d
-statement_narrows n k at x c d r h = let q : k.flags.module ≡ true → notes x ≡ [] = λ o. r.1 (stays_module k x o) in stmt_narrows n k at x c d q r.0 (lift_in k.flags.module x h q)
+pub statement_narrows : (n : ℕ) (k : Code) (at : Position) (x : Tree) (c d : Place) → ReadsStatement n k at x c d → supported x ≡ true → ReadsTop n k at x c d
+statement_narrows n k at x c d r h = let q : k.flags.module ≡ true → notes x ≡ [] = λ o. r.1 (stays_module k x o) in top_narrows n k at x c d q r.0 (lift_in k.flags.module x h q)

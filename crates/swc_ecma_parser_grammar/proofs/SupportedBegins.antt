@@ -1,5 +1,5 @@
--- With which tokens a supported expression begins: neither with `await`, nor, but for `{` and `import`, with what begins or ends
--- a statement.
+-- With which tokens a supported expression begins: but for `{` and `import` with none that begins or ends a statement. A name is
+-- no `await`.
 use Rattle.std.proofs.Common.{◌≡◌, ◌⊎◌, inl, inr, ℕ, zero, suc, Bool, true, false, [], ◌∷◌, Some, refl, sym, ◌∙◌, ap}
 use Rattle.std.specs.Prelude.{not, codes}
 use Rattle.std.specs.Str.{bytes_eq}
@@ -38,6 +38,7 @@ use Rattle.swc_ecma_parser_grammar.specs.language.Expressions as expressions
 use Rattle.swc_ecma_parser_grammar.specs.language.Expressions.{BinaryRule, single_rule, left_rule, power_rule}
 use Rattle.swc_ecma_parser_grammar.specs.language.Reads.{Reads}
 use Rattle.swc_ecma_parser_grammar.proofs.Tests.{and_yes, and_both}
+use Rattle.swc_ecma_parser_grammar.proofs.ExpressionBegins.{await_stands}
 use Rattle.swc_ecma_parser_grammar.proofs.StatementBegins.{word_place}
 
 -- ---- trees that are supported
@@ -54,7 +55,6 @@ supported_as m x y e h = sym (ap (supported_in m) e) ∙ h
 
 -- the first token decides for an expression, as far as it decides
 abbrev pub opens : TokenKind → Bool
-opens kind.Await = false
 opens kind.Semi = false
 opens kind.Debugger = false
 opens kind.Var = false
@@ -79,7 +79,6 @@ opens _ = true
 
 word_opens : (f : Context) (w : Word) → is_name f (word_text w) ≡ true → opens (word_kind w) ≡ true
 unfolding is_name is_reserved
-word_opens f (word.Keyword keyword.Await) h = let g = (and_yes (not (is_reserved f (codes "await"))) _ h).1 in cc
 word_opens f (word.Keyword keyword.Debugger) h = cc
 word_opens f (word.Keyword keyword.Var) h = cc
 word_opens f (word.Keyword keyword.If) h = cc
@@ -114,7 +113,6 @@ pub word_begins : (f : Context) (w : Word) (s : Span) (c d : Place) → ReadsTok
 word_begins f w s c d r h = token_opens (token.Word w) s c d r (word_opens f w h)
 
 unary_opens : (j : TokenKind) (op : UnaryOp) → unary_operator j ≡ Some op → opens j ≡ true
-unary_opens kind.Await op h = cc
 unary_opens kind.Semi op h = cc
 unary_opens kind.Debugger op h = cc
 unary_opens kind.Var op h = cc
@@ -138,7 +136,6 @@ unary_opens kind.End op h = cc
 unary_opens _ op h = refl
 
 update_opens : (j : TokenKind) (op : UpdateOp) → update_operator j ≡ Some op → opens j ≡ true
-update_opens kind.Await op h = cc
 update_opens kind.Semi op h = cc
 update_opens kind.Debugger op h = cc
 update_opens kind.Var op h = cc
@@ -207,7 +204,7 @@ module _ (In : Goal → Type 0) (k : Code) where
   unary_rule_opens x c d (expressions.unary_rule op y i r e) h = unary_opens (kind_at c) op i
   unary_rule_opens x c d (expressions.prefix_rule op y i r t e) h = update_opens (kind_at c) op i
   unary_rule_opens x c d (expressions.postfix_rule op y m r t b i n e) h = left_side_opens r.0 (supported_as _ x (tree.update (spanned c d) op false y) e h)
-  unary_rule_opens x c d (expressions.await_rule y a m r e) h = refuted _ x (ap (supported_in k.flags.module) e) h
+  unary_rule_opens x c d (expressions.await_rule y a m r e) h = kind_opens c kind.Await (await_stands k.flags c a) refl
 
   binary_opens : {n : ℕ} {x : Tree} {c d : Place} → BinaryRule In k n x c d → supported_in k.flags.module x ≡ true → opens (kind_at c) ≡ true
   binary_opens {x = x} {c = c} {d = d} (single_rule r) h = unary_rule_opens x c d r h
@@ -242,28 +239,24 @@ pub expr_opens : (n : ℕ) (k : Code) (x : Tree) (c d : Place) → ReadsClass n 
 expr_opens zero k x c d r = absurd r.0
 expr_opens (suc n) k x c d r = expression_opens (Reads n) k x c d r.0 r.1
 
--- so not with `await`
-opens_no_await : (j : TokenKind) → opens j ≡ true → same_kind j kind.Await ≡ false
-unfolding same_kind
-opens_no_await kind.Await h = cc
-opens_no_await _ h = refl
+-- a name is neither `await` nor `import`
+word_no_await : (f : Context) (w : Word) → is_name f (word_text w) ≡ true → same_kind (word_kind w) kind.Await ≡ false
+unfolding is_name is_reserved same_kind
+word_no_await f (word.Keyword keyword.Await) h = let g = (and_yes (not (is_reserved f (codes "await"))) _ h).1 in cc
+word_no_await f _ h = refl
 
-pub expr_begins : (n : ℕ) (k : Code) (x : Tree) (c d : Place) → ReadsClass n expression k x c d → sees kind.Await c ≡ false
-expr_begins n k x c d r = opens_no_await (kind_at c) (expr_opens n k x c d r)
-
--- nor does a name, which is no `import` either
 word_no_import : (f : Context) (w : Word) → is_name f (word_text w) ≡ true → same_kind (word_kind w) kind.Import ≡ false
 unfolding is_name is_reserved same_kind
 word_no_import f (word.Keyword keyword.Import) h = cc
 word_no_import f _ h = refl
 
-token_no_import : (t : Token) (s : Span) (c d : Place) → ReadsToken t s c d → same_kind (token_kind t) kind.Import ≡ false → sees kind.Import c ≡ false
+token_is_none : (t : Token) (s : Span) (c d : Place) (j : TokenKind) → ReadsToken t s c d → same_kind (token_kind t) j ≡ false → sees j c ≡ false
 unfolding kind_at
-token_no_import t s c d r e = rw r.is e
+token_is_none t s c d j r e = rw r.is e
 
 pub name_begins : (f : Context) (w : Word) (s : Span) (c d : Place) → ReadsToken (token.Word w) s c d → is_name f (word_text w) ≡ true
     → (sees kind.Await c ≡ false) × (sees kind.Import c ≡ false)
 name_begins f w s c d r h = (
-  opens_no_await (kind_at c) (token_opens (token.Word w) s c d r (word_opens f w h)),
-  token_no_import (token.Word w) s c d r (word_no_import f w h),
+  token_is_none (token.Word w) s c d kind.Await r (word_no_await f w h),
+  token_is_none (token.Word w) s c d kind.Import r (word_no_import f w h),
 )

@@ -12,7 +12,7 @@ use Rattle.swc_ecma_parser_grammar.specs.Notes.{notes, all_notes, statement_note
 use Rattle.swc_ecma_parser_grammar.specs.Reads.{in_strict, with_in, head_code}
 use Rattle.swc_ecma_parser_grammar.specs.Variables.{is_var}
 use Rattle.swc_ecma_parser_grammar.specs.language.Contexts.{without_in}
-use Rattle.swc_ecma_parser_grammar.specs.Supported.{supported, supported_in, all_supported, all_supported_in, is_supported_key_in, is_supported_property_in, has_none, is_clean, is_rightly_directed}
+use Rattle.swc_ecma_parser_grammar.specs.Supported.{supported, supported_in, all_supported, all_supported_in, is_supported_key_in, is_supported_property_in, has_none, is_clean, is_rightly_directed, is_rightly_set}
 use Rattle.swc_ecma_parser_grammar.proofs.Tests.{and_yes, and_both}
 
 -- two lists are empty where they are together
@@ -35,6 +35,9 @@ mutual
   lower m (tree.spread_prop dots e) h = lower m e h
   lower m (tree.shorthand_prop s text) h = h
   lower m (tree.key_value_prop s key value) h = let g = and_yes (is_supported_key_in m key) _ h in and_both _ _ (lower_key m key g.0) (lower m value g.1)
+  lower m (tree.getter_prop s key body) h = let g = and_yes (is_supported_key_in m key) _ h in and_both _ _ (lower_key m key g.0) (let i = and_yes (supported_in m body) _ g.1 in and_both _ _ (lower m body i.0) refl)
+  lower m (tree.setter_prop s key p body) h = let g = and_yes (is_supported_key_in m key) _ h in and_both _ _ (lower_key m key g.0) (let i = and_yes (supported_in m p && supported_in m body) _ g.1 in let j = and_yes (supported_in m p) _ i.0 in and_both _ _ (and_both _ _ (lower m p j.0) (lower m body j.1)) (let l = and_yes (is_rightly_set p body) _ i.1 in and_both _ _ l.0 refl))
+  lower m (tree.method_prop s key fn) h = let g = and_yes (is_supported_key_in m key) _ h in and_both _ _ (lower_key m key g.0) (let i = and_yes (supported_in m fn) _ g.1 in and_both _ _ (lower m fn i.0) (let j = and_yes (is_rightly_directed fn) _ i.1 in and_both _ _ j.0 refl))
   lower m (tree.paren s e) h = lower m e h
   lower m (tree.this s) h = refl
   lower m (tree.meta_prop s kind) h = refl
@@ -53,6 +56,7 @@ mutual
   lower m (tree.cond s test cons alt) h = let g = and_yes (supported_in m test) _ h in and_both _ _ (lower m test g.0) (let h = and_yes (supported_in m cons) _ g.1 in and_both _ _ (lower m cons h.0) (lower m alt h.1))
   lower m (tree.seq s exprs) h = lower m exprs h
   lower m (tree.yield s arg delegate) h = lower m arg h
+  lower m (tree.await s arg) h = lower m arg h
   lower m (tree.ident_pat s text) h = h
   lower m (tree.array_pat s elems) h = lower m elems h
   lower m (tree.object_pat s props) h = lower m props h
@@ -123,6 +127,9 @@ mutual
   lift (tree.spread_prop dots e) h o = lift e h o
   lift (tree.shorthand_prop s text) h o = h
   lift (tree.key_value_prop s key value) h o = let g = and_yes (is_supported_key_in false key) _ h in and_both _ _ (lift_key key g.0 ((parted (notes key) (notes value) o).0)) (lift value g.1 ((parted (notes key) (notes value) o).1))
+  lift (tree.getter_prop s key body) h o = let g = and_yes (is_supported_key_in false key) _ h in let n = parted (notes key) (notes body) o in and_both _ _ (lift_key key g.0 n.0) (let i = and_yes (supported_in false body) _ g.1 in and_both _ _ (lift body i.0 n.1) (ap is_clean n.1))
+  lift (tree.setter_prop s key p body) h o = let g = and_yes (is_supported_key_in false key) _ h in let n = parted (notes key ++ notes p) (notes body) o in let l = parted (notes key) (notes p) n.0 in and_both _ _ (lift_key key g.0 l.0) (let i = and_yes (supported_in false p && supported_in false body) _ g.1 in let j = and_yes (supported_in false p) _ i.0 in and_both _ _ (and_both _ _ (lift p j.0 l.1) (lift body j.1 n.1)) (let q = and_yes (is_rightly_set p body) _ i.1 in and_both _ _ q.0 (and_both _ _ (ap is_clean l.1) (ap is_clean n.1))))
+  lift (tree.method_prop s key fn) h o = let g = and_yes (is_supported_key_in false key) _ h in let n = parted (notes key) (notes fn) o in and_both _ _ (lift_key key g.0 n.0) (let i = and_yes (supported_in false fn) _ g.1 in and_both _ _ (lift fn i.0 n.1) (let j = and_yes (is_rightly_directed fn) _ i.1 in and_both _ _ j.0 (ap is_clean n.1)))
   lift (tree.paren s e) h o = lift e h o
   lift (tree.this s) h o = refl
   lift (tree.meta_prop s kind) h o = refl
@@ -141,6 +148,7 @@ mutual
   lift (tree.cond s test cons alt) h o = let g = and_yes (supported_in false test) _ h in and_both _ _ (lift test g.0 ((parted (notes test) (notes cons) (parted (notes test ++ notes cons) (notes alt) o).0).0)) (let h = and_yes (supported_in false cons) _ g.1 in and_both _ _ (lift cons h.0 ((parted (notes test) (notes cons) (parted (notes test ++ notes cons) (notes alt) o).0).1)) (lift alt h.1 ((parted (notes test ++ notes cons) (notes alt) o).1)))
   lift (tree.seq s exprs) h o = lift exprs h o
   lift (tree.yield s arg delegate) h o = lift arg h o
+  lift (tree.await s arg) h o = lift arg h o
   lift (tree.ident_pat s text) h o = h
   lift (tree.array_pat s elems) h o = lift elems h o
   lift (tree.object_pat s props) h o = lift props h o

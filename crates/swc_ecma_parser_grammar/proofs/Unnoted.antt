@@ -13,10 +13,11 @@ use Rattle.swc_ecma_parser_model.specs.Tree.{Tree, trees, listed}
 use Rattle.swc_ecma_parser_model.specs.Forms.{is_ident}
 use Rattle.swc_ecma_parser_grammar.specs.Looks.{sees, span_at, spanned}
 use Rattle.swc_ecma_parser_grammar.specs.Names.{Code}
+use Rattle.swc_ecma_parser_grammar.specs.Parameters.{parameters}
 use Rattle.swc_ecma_parser_grammar.specs.Follows.{begins_import_expression}
 use Rattle.swc_ecma_parser_grammar.specs.Notes.{notes, all_notes, statement_note}
 use Rattle.swc_ecma_parser_grammar.specs.Reads.{with_in, ReadsSeparated}
-use Rattle.swc_ecma_parser_grammar.specs.Supported.{supported_in, all_supported_in, is_supported_key_in, is_supported_property_in, has_no_note, is_rightly_directed, is_clean}
+use Rattle.swc_ecma_parser_grammar.specs.Supported.{supported_in, all_supported_in, is_supported_key_in, is_supported_property_in, has_no_note, is_rightly_directed, is_rightly_set, is_clean}
 use Rattle.swc_ecma_parser_grammar.specs.ReadsSupported.{ReadsClass}
 use Rattle.swc_ecma_parser_grammar.specs.language.Goals.{Goal, Class, Purpose, binding, expression, assignment, operator, unary, left_side, callee, expr_goal, callee_goal, pattern_goal, element_goal, stmt_goal, member_goal, decorator_goal, using_goal, attributes_goal, item_goal}
 use Rattle.swc_ecma_parser_grammar.specs.language.Lists.{ReadsListed, Elements, no_elements, hole, last_element, more_elements}
@@ -147,9 +148,19 @@ module _ (In : Goal → Type 0) (small : (g : Goal) → In g → SilentGoal g) w
   property_silent k x c d (objects.shorthand_rule text s r e) = λ h. ap notes e
   property_silent k x c d (objects.key_value_rule key value m r i s e) = silent_as x (tree.key_value_prop (spanned c d) key value) e (λ h.
       let g = and_yes (is_supported_key_in true key) _ h in joined (notes key) (notes value) (key_silent r g.0) (small (expr_goal assignment (with_in k) value (after m) d) s g.1))
-  property_silent k x c d (objects.getter_rule key body r e) = λ h. refuted _ x (ap (supported_in true) e) h
-  property_silent k x c d (objects.setter_rule key p body r e) = λ h. refuted _ x (ap (supported_in true) e) h
-  property_silent k x c d (objects.method_rule a g key ps body r e) = λ h. refuted _ x (ap (supported_in true) e) h
+  property_silent k x c d (objects.getter_rule key body r e) = λ h.
+      let g = and_yes (is_supported_key_in true key) _ (supported_as _ x (tree.getter_prop (spanned c d) key body) e h) in
+      ap notes e ∙ joined (notes key) (notes body) (key_silent r.reads_key g.0) (clean_is (notes body) (and_yes (supported_in true body) _ g.1).1)
+  property_silent k x c d (objects.setter_rule key p body r e) = λ h.
+      let g = and_yes (is_supported_key_in true key) _ (supported_as _ x (tree.setter_prop (spanned c d) key p body) e h) in
+      let i = (and_yes (is_rightly_set p body) _ (and_yes (supported_in true p && supported_in true body) _ g.1).1).1 in
+      let j = and_yes (has_no_note p) (has_no_note body) i in
+      ap notes e ∙ joined (notes key ++ notes p) (notes body) (joined (notes key) (notes p) (key_silent r.reads_key g.0) (clean_is (notes p) j.0)) (clean_is (notes body) j.1)
+  property_silent k x c d (objects.method_rule a g key ps body r e) = λ h.
+      let fn = tree.function (spanned c d) (listed []) (parameters ps) body a g in
+      let i = and_yes (is_supported_key_in true key) _ (supported_as _ x (tree.method_prop (spanned c d) key fn) e h) in
+      let j = (and_yes (is_rightly_directed fn) _ (and_yes (supported_in true fn) _ i.1).1).1 in
+      ap notes e ∙ joined (notes key) (notes fn) (key_silent r.reads_key i.0) (clean_is (notes fn) j)
 
   -- a name has none
   name_silent : {k : Code} {x : Tree} {c d : Place} → parts.OptionalName k x c d → notes x ≡ []
@@ -224,7 +235,7 @@ module _ (In : Goal → Type 0) (small : (g : Goal) → In g → SilentGoal g) w
   unary_silent k x c d (expressions.unary_rule op y i r e) = silent_as x (tree.unary (spanned c d) op y) e (small (expr_goal unary k y (after c) d) r)
   unary_silent k x c d (expressions.prefix_rule op y i r t e) = silent_as x (tree.update (spanned c d) op true y) e (small (expr_goal unary k y (after c) d) r)
   unary_silent k x c d (expressions.postfix_rule op y m r t b i n e) = silent_as x (tree.update (spanned c d) op false y) e (left_silent r.0)
-  unary_silent k x c d (expressions.await_rule y a m r e) = λ h. refuted _ x (ap (supported_in true) e) h
+  unary_silent k x c d (expressions.await_rule y a m r e) = silent_as x (tree.await (spanned c d) y) e (small (expr_goal unary k y (after c) d) r)
 
   binary_silent : {k : Code} {n : ℕ} {x : Tree} {c d : Place} → BinaryRule In k n x c d → Silent x
   binary_silent {k = k} {x = x} {c = c} {d = d} (expressions.single_rule r) = unary_silent k x c d r

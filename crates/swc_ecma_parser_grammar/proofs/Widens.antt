@@ -1,29 +1,25 @@
 -- What the rules of the first forms read, the whole language reads, and it is supported.
-use Rattle.swc_ecma_parser_grammar.proofs.StatementBegins.{word_place}
-use Rattle.swc_ecma_parser_grammar.specs.Follows as follows
 use Rattle.swc_ecma_parser_grammar.specs.Parameters.{parameters}
-use Rattle.std.proofs.Common.{◌≡◌, ℕ, zero, suc, Bool, true, false, rules, List, [], ◌∷◌, Option, refl, ◌∙◌, ap, subst, sym}
+use Rattle.std.proofs.Common.{◌≡◌, ℕ, zero, suc, Bool, true, false, rules, List, [], ◌∷◌, Option, refl, ◌∙◌, ap, subst}
 use Rattle.std.specs.List.{list_any}
-use Rattle.std.specs.Prelude.{not, ◌&&◌, ◌||◌, codes}
+use Rattle.std.specs.Prelude.{not, ◌&&◌, ◌||◌}
 use denote.Enum.Bare.{true_same, same_true}
 use Rattle.swc_ecma_parser_token.specs.contracts.kind.TokenKind.{the_type}
 use Rattle.swc_ecma_parser_token.specs.declared.kind.TokenKind.{TokenKind}
 use Rattle.swc_ecma_parser_token.specs.declared.kind.TokenKind.TheVariants as kind
 use Rattle.swc_ecma_parser_input.specs.Place.{Place, after}
 use Rattle.swc_ecma_parser_model.specs.declared.leaves.VarDeclKind.{VarDeclKind}
-use Rattle.swc_ecma_parser_model.specs.declared.leaves.VarDeclKind.TheVariants as decl
 use Rattle.swc_ecma_parser_model.specs.Tree.{Tree, Text, trees, listed}
 use Rattle.swc_ecma_parser_model.specs.Forms.{is_absent}
 use Rattle.swc_ecma_parser_model.specs.Directive.{is_use_strict}
 use Rattle.swc_ecma_parser_grammar.specs.declared.position.Position.{Position}
 use Rattle.swc_ecma_parser_grammar.specs.Looks.{kind_at, sees, same_kind}
 use Rattle.swc_ecma_parser_grammar.specs.Names.{Code}
-use Rattle.swc_ecma_parser_grammar.specs.Follows.{is_let_declaration, no_await, is_async_of, is_bare_async}
-use Rattle.swc_ecma_parser_grammar.specs.Variables.{begins_variables}
+use Rattle.swc_ecma_parser_grammar.specs.Follows.{is_async_of, is_bare_async}
 use Rattle.swc_ecma_parser_grammar.specs.Reads.{with_in, directed, directs_on, nested_item, top_item, DeclaratorRule, plain_rule, initialized_rule, ReadsSeparated, ReadsItems, StmtRule, block_rule, empty_rule, debugger_rule, variables_rule, if_statement_rule, TargetRule, no_target_rule, target_rule, OperandRule, no_operand_rule, operand_rule, break_rule, continue_rule, return_rule, labeled_rule, HeadVariables, InitRule, no_init_rule, init_variables_rule, init_expression_rule, LeftRule, declared_rule, left_target_rule, for_in_rule, for_of_rule, head_code, PartRule, no_part_rule, part_rule, for_rule, CaseRule, case_clause_rule, default_clause_rule, ReadsCases, switch_rule, throw_rule, try_rule, with_rule, while_rule, do_while_rule, expr_rule, import_rule, ReadsBlock, CatchRule, no_catch_rule, catch_rule, catch_parameter_rule, FinallyRule, no_finally_rule, finally_rule, ReadsHead, IfRule, if_rule, ElseRule, no_else_rule, else_rule, else_if_rule, ReadsBraced, function_rule}
-use Rattle.swc_ecma_parser_grammar.specs.Entries.{ReadsScript, ReadsShebang, some_shebang, no_shebang, script_code}
+use Rattle.swc_ecma_parser_grammar.specs.Entries.{ReadsScript, ReadsShebang, some_shebang, no_shebang, script_code, items_await, script_awaits}
 use Rattle.swc_ecma_parser_grammar.specs.Supported.{supported, supported_in, all_supported_in}
-use Rattle.swc_ecma_parser_grammar.specs.ReadsSupported.{ReadsClass, ReadsPat, ReadsTarget, ReadsStmt, ReadsParams}
+use Rattle.swc_ecma_parser_grammar.specs.ReadsSupported.{ReadsClass, ReadsPat, ReadsTarget, ReadsStmt, ReadsTop, ReadsParams}
 use Rattle.swc_ecma_parser_grammar.specs.language.Goals.{expression, assignment, expr_goal, stmt_goal}
 use Rattle.swc_ecma_parser_grammar.specs.language.Contexts.{in_loop, in_breakable, in_with}
 use Rattle.swc_ecma_parser_grammar.specs.language.ForHeads as heads
@@ -39,10 +35,9 @@ use Rattle.swc_ecma_parser_grammar.specs.language.Reads.{Reads}
 use Rattle.swc_ecma_parser_grammar.specs.language.Programs as programs
 use Rattle.swc_ecma_parser_grammar.specs.language.Programs.{ReadsEntry}
 use Rattle.swc_ecma_parser_token.specs.Text.{word_text}
-use Rattle.swc_ecma_parser_grammar.proofs.Tests.{and_both, and_yes}
+use Rattle.swc_ecma_parser_grammar.proofs.Tests.{and_both}
 use Rattle.swc_ecma_parser_grammar.proofs.Naming.{name_is_clean, name_is_supported}
 use Rattle.swc_ecma_parser_grammar.proofs.SupportedIn.{strict_module, head_module}
-use Rattle.swc_ecma_parser_grammar.proofs.SupportedBegins.{expr_begins, name_begins}
 use Rattle.swc_ecma_parser_grammar.proofs.language.Shapes.{expr_stands}
 
 -- ---- declarators
@@ -71,10 +66,10 @@ module _ (m : Bool) (Rule : Tree → Place → Place → Type 0) (small : (x : T
 
 -- ---- statements
 
-may_begin : (t a m : Bool) → a ≡ false → (not (t && a) || m) ≡ true
-may_begin true true m h = cc
-may_begin true false m h = refl
-may_begin false a m h = refl
+-- what stands in another statement begins with any word
+nested : (k : Code) (at : Position) (c : Place) → at.top_level ≡ false → may_begin_at_top k at c ≡ true
+unfolding may_begin_at_top
+nested k at c h = rw h refl
 
 seen : (c : Place) (j : TokenKind) → kind_at c ≡ j → sees j c ≡ true
 unfolding same_kind
@@ -155,21 +150,25 @@ pub parameters_same : (m : Bool) (ps : List Tree) → supported_in m (parameters
 parameters_same m [] = refl
 parameters_same m (p ∷ ps) = ap (λ b. supported_in m p && b) (parameters_same m ps)
 
+module _ (Item : Code → Tree → Place → Place → Type 0) (small : (k : Code) (x : Tree) (c d : Place) → Item k x c d → supported_in k.flags.module x ≡ true) where
+  items_supported : (k : Code) (directives : Bool) (xs : List Tree) (c d : Place) → ReadsItems Item k directives xs c d → all_supported_in k.flags.module (trees xs) ≡ true
+  items_supported k directives [] c d h = refl
+  items_supported k directives (x ∷ xs) c d (m, r, rs) = and_both _ _ (small k x c m r)
+      (subst (λ b. all_supported_in b (trees xs) ≡ true) (strict_module (directives && is_use_strict x) k) (items_supported (directed k directives x) (directs_on directives x) xs m d rs))
+
 module _ (n : ℕ) (small : (k : Code) (at : Position) (x : Tree) (c d : Place) → ReadsStmt n k at x c d → supported_in k.flags.module x ≡ true) where
-  items_supported : (k : Code) (directives : Bool) (at : Position) (xs : List Tree) (c d : Place) → ReadsItems (λ j. ReadsStmt n j at) k directives xs c d → all_supported_in k.flags.module (trees xs) ≡ true
-  items_supported k directives at [] c d h = refl
-  items_supported k directives at (x ∷ xs) c d (m, r, rs) = and_both _ _ (small k at x c m r)
-      (subst (λ b. all_supported_in b (trees xs) ≡ true) (strict_module (directives && is_use_strict x) k) (items_supported (directed k directives x) (directs_on directives x) at xs m d rs))
+  nested_supported : (k : Code) (directives : Bool) (xs : List Tree) (c d : Place) → ReadsItems (λ j. ReadsStmt n j nested_item) k directives xs c d → all_supported_in k.flags.module (trees xs) ≡ true
+  nested_supported = items_supported (λ j. ReadsStmt n j nested_item) (λ k x c d r. small k nested_item x c d r)
 
   pub braced_supported : (directives : Bool) {k : Code} {x : Tree} {c d : Place} → ReadsBraced (ReadsStmt n) directives k x c d → supported_in k.flags.module x ≡ true
-  braced_supported directives {k = k} {c = c} r = ap (supported_in k.flags.module) r.is ∙ items_supported k directives nested_item r.items (after c) r.close r.reads_items
+  braced_supported directives {k = k} {c = c} r = ap (supported_in k.flags.module) r.is ∙ nested_supported k directives r.items (after c) r.close r.reads_items
 
   block_supported : {k : Code} {x : Tree} {c d : Place} → ReadsBlock (ReadsStmt n) k x c d → supported_in k.flags.module x ≡ true
   block_supported r = braced_supported false r
 
   case_supported : {k : Code} {b : Bool} {x : Tree} {c d : Place} → CaseRule (ReadsStmt n) (ReadsClass n) k b x c d → supported_in k.flags.module x ≡ true
-  case_supported {k = k} {d = d} (case_clause_rule test xs m h r i s e) = ap (supported_in k.flags.module) e ∙ and_both (supported_in k.flags.module test) _ r.1 (items_supported k false nested_item xs (after m) d s)
-  case_supported {k = k} {c = c} {d = d} (default_clause_rule xs o h i s e) = ap (supported_in k.flags.module) e ∙ items_supported k false nested_item xs (after (after c)) d s
+  case_supported {k = k} {d = d} (case_clause_rule test xs m h r i s e) = ap (supported_in k.flags.module) e ∙ and_both (supported_in k.flags.module test) _ r.1 (nested_supported k false xs (after m) d s)
+  case_supported {k = k} {c = c} {d = d} (default_clause_rule xs o h i s e) = ap (supported_in k.flags.module) e ∙ nested_supported k false xs (after (after c)) d s
 
   cases_supported : (k : Code) (b : Bool) (xs : List Tree) (c d : Place) → ReadsCases (ReadsStmt n) (ReadsClass n) k b xs c d → all_supported_in k.flags.module (trees xs) ≡ true
   cases_supported k b [] c d h = refl
@@ -242,10 +241,25 @@ unfolding is_async_of
 of_async true x d h = refl
 of_async false x d h = h
 
-module _ (n : ℕ) (widen : (k : Code) (at : Position) (x : Tree) (c d : Place) → ReadsStmt n k at x c d → Reads n (stmt_goal k at x c d)) where
-  items_widen : (k : Code) (directives : Bool) (at : Position) (xs : List Tree) (c d : Place) → ReadsItems (λ j. ReadsStmt n j at) k directives xs c d → ItemsRule (Reads n) k directives at xs c d
-  items_widen k directives at [] c d h = h
-  items_widen k directives at (x ∷ xs) c d (m, r, rs) = (m, widen k at x c m r, items_widen (directed k directives x) (directs_on directives x) at xs m d rs)
+module _ (n : ℕ) (at : Position) (Item : Code → Tree → Place → Place → Type 0) (widen : (k : Code) (x : Tree) (c d : Place) → Item k x c d → Reads n (stmt_goal k at x c d)) where
+  items_widen : (k : Code) (directives : Bool) (xs : List Tree) (c d : Place) → ReadsItems Item k directives xs c d → ItemsRule (Reads n) k directives at xs c d
+  items_widen k directives [] c d h = h
+  items_widen k directives (x ∷ xs) c d (m, r, rs) = (m, widen k x c m r, items_widen (directed k directives x) (directs_on directives x) xs m d rs)
+
+  -- and where one of them begins with `await` is as it was
+  items_await_as : (k : Code) (directives : Bool) (xs : List Tree) (c d : Place) (r : ReadsItems Item k directives xs c d)
+      → programs.items_await (Reads n) k directives at xs c d (items_widen k directives xs c d r) ≡ items_await Item k directives xs c d r
+  unfolding items_widen
+  items_await_as k directives [] c d r = refl
+  items_await_as k directives (x ∷ xs) c d (m, r, rs) = ap (λ b. sees kind.Await c || b) (items_await_as (directed k directives x) (directs_on directives x) xs m d rs)
+
+module _ (n : ℕ) (widen : (k : Code) (at : Position) (x : Tree) (c d : Place) → may_begin_at_top k at c ≡ true → ReadsStmt n k at x c d → Reads n (stmt_goal k at x c d)) where
+  -- what stands in another
+  inner : (k : Code) (at : Position) (x : Tree) (c d : Place) → at.top_level ≡ false → ReadsStmt n k at x c d → Reads n (stmt_goal k at x c d)
+  inner k at x c d h r = widen k at x c d (nested k at c h) r
+
+  nested_widen : (k : Code) (directives : Bool) (xs : List Tree) (c d : Place) → ReadsItems (λ j. ReadsStmt n j nested_item) k directives xs c d → ItemsRule (Reads n) k directives nested_item xs c d
+  nested_widen = items_widen n nested_item (λ j. ReadsStmt n j nested_item) (λ k x c d r. inner k nested_item x c d refl r)
 
   head_widens : {k : Code} {x : Tree} {c d : Place} → ReadsHead (ReadsClass n) k x c d → statements.HeadRule (Reads n) k x c d
   head_widens r = record { close = r.close; opens = r.opens; reads = r.reads.0; closes = r.closes; next = r.next }
@@ -255,7 +269,7 @@ module _ (n : ℕ) (widen : (k : Code) (at : Position) (x : Tree) (c d : Place) 
     items = r.items;
     close = r.close;
     opens = r.opens;
-    reads_items = items_widen k directives nested_item r.items (after c) r.close r.reads_items;
+    reads_items = nested_widen k directives r.items (after c) r.close r.reads_items;
     closes = r.closes;
     next = r.next;
     is = r.is;
@@ -265,8 +279,8 @@ module _ (n : ℕ) (widen : (k : Code) (at : Position) (x : Tree) (c d : Place) 
   block_widens r = braced_widens false r
 
   case_widens : {k : Code} {b : Bool} {x : Tree} {c d : Place} → CaseRule (ReadsStmt n) (ReadsClass n) k b x c d → statements.CaseRule (Reads n) k x c d
-  case_widens {k = k} {d = d} (case_clause_rule test xs m h r i s e) = statements.case_clause_rule test xs m h r.0 i (items_widen k false nested_item xs (after m) d s) e
-  case_widens {k = k} {c = c} {d = d} (default_clause_rule xs o h i s e) = statements.default_clause_rule xs h i (items_widen k false nested_item xs (after (after c)) d s) e
+  case_widens {k = k} {d = d} (case_clause_rule test xs m h r i s e) = statements.case_clause_rule test xs m h r.0 i (nested_widen k false xs (after m) d s) e
+  case_widens {k = k} {c = c} {d = d} (default_clause_rule xs o h i s e) = statements.default_clause_rule xs h i (nested_widen k false xs (after (after c)) d s) e
 
   cases_widen : (k : Code) (b : Bool) (xs : List Tree) (c d : Place) → ReadsCases (ReadsStmt n) (ReadsClass n) k b xs c d → ReadsEach (statements.CaseRule (Reads n) k) xs c d
   cases_widen k b [] c d h = h
@@ -297,11 +311,11 @@ module _ (n : ℕ) (widen : (k : Code) (at : Position) (x : Tree) (c d : Place) 
 
   mutual
     if_widens : {k : Code} {x : Tree} {c d : Place} → IfRule (ReadsStmt n) (ReadsClass n) k x c d → statements.IfRule (Reads n) k x c d
-    if_widens {k = k} (if_rule test cons alt m i h r s o e) = statements.if_rule test cons alt m i h (head_widens r) (widen k sub_statement cons m i s) (else_widens o) e
+    if_widens {k = k} (if_rule test cons alt m i h r s o e) = statements.if_rule test cons alt m i h (head_widens r) (inner k sub_statement cons m i refl s) (else_widens o) e
 
     else_widens : {k : Code} {x : Tree} {c d : Place} → ElseRule (ReadsStmt n) (ReadsClass n) k x c d → statements.ElseRule (Reads n) k x c d
     else_widens (no_else_rule h i e) = statements.no_else_rule h i e
-    else_widens {k = k} {x = x} {c = c} {d = d} (else_rule h i s) = statements.else_rule h i (widen k sub_statement x (after c) d s)
+    else_widens {k = k} {x = x} {c = c} {d = d} (else_rule h i s) = statements.else_rule h i (inner k sub_statement x (after c) d refl s)
     else_widens (else_if_rule h r) = statements.else_if_rule h (if_widens r)
 
   form_widens : (k : Code) (at : Position) (x : Tree) (c d : Place) → StmtRule (ReadsStmt n) (ReadsClass n) (ReadsPat n) (ReadsTarget n) (ReadsParams n) k at x c d → statements.FormRule (Reads n) k at x c d
@@ -329,64 +343,31 @@ module _ (n : ℕ) (widen : (k : Code) (at : Position) (x : Tree) (c d : Place) 
       statements.switch_rule y xs m i h (head_widens r) j (cases_widen (in_breakable k) false xs (after m) i s) (one_at_most (in_breakable k) xs (after m) i s) g t e
   form_widens k at x c d (labeled_rule w s y m r f h t e) =
       statements.labeled_rule (word_text w) s y m (record { word = w; reads_word = r; is_text = refl; is_name = name_is_clean k.flags (word_text w) f }) h
-      (widen (in_breakable k) (labelled_item (after m)) y (after m) d t) e
+      (inner (in_breakable k) (labelled_item (after m)) y (after m) d refl t) e
   form_widens k at x c d (break_rule y m h r g e) = statements.break_rule y m h (target_widens r) g e
   form_widens k at x c d (continue_rule y m h r g e) = statements.continue_rule y m h (target_widens r) g e
   form_widens k at x c d (return_rule y m h r g e) = statements.return_rule y m h (operand_widens n r) g e
   form_widens k at x c d (for_rule a b f y l m i h g r j s o t p u e) =
-      statements.for_rule a b f y l m i h g (init_widens n r) j (part_widens n s) o (part_widens n t) p (widen (in_loop k) sub_statement y (after i) d u) e
+      statements.for_rule a b f y l m i h g (init_widens n r) j (part_widens n s) o (part_widens n t) p (inner (in_loop k) sub_statement y (after i) d refl u) e
   form_widens k at x c d (for_in_rule a b y m i h g r j s o t e) =
-      statements.for_in_rule a b y m i h g (left_widens n r) j s.0 o (widen (in_loop k) sub_statement y (after i) d t) e
+      statements.for_in_rule a b y m i h g (left_widens n r) j s.0 o (inner (in_loop k) sub_statement y (after i) d refl t) e
   form_widens k at x c d (for_of_rule w a b y l m i h v g r j z q s o t e) =
-      statements.for_of_rule w a b y l m i h v g (heads.of_left_rule (left_widens n r) (of_async w a m z)) j s.0 o (widen (in_loop k) sub_statement y (after i) d t) e
+      statements.for_of_rule w a b y l m i h v g (heads.of_left_rule (left_widens n r) (of_async w a m z)) j s.0 o (inner (in_loop k) sub_statement y (after i) d refl t) e
   form_widens k at x c d (throw_rule y m h b r g e) = statements.throw_rule y m h b r.0 g e
   form_widens k at x c d (try_rule y z w m i h r s t a e) = statements.try_rule y z w m i h (block_widens r) (catch_widens s) (finally_widens t) a e
-  form_widens k at x c d (with_rule y z m h o r s e) = statements.with_rule y z m h (head_widens r) (widen (in_with k) sub_statement z m d s) e
-  form_widens k at x c d (while_rule y z m h r s e) = statements.while_rule y z m h (head_widens r) (widen (in_loop k) sub_statement z m d s) e
-  form_widens k at x c d (do_while_rule y z m i h s j r g e) = statements.do_while_rule y z m i h (widen (in_loop k) sub_statement z (after c) m s) j (head_widens r) g e
+  form_widens k at x c d (with_rule y z m h o r s e) = statements.with_rule y z m h (head_widens r) (inner (in_with k) sub_statement z m d refl s) e
+  form_widens k at x c d (while_rule y z m h r s e) = statements.while_rule y z m h (head_widens r) (inner (in_loop k) sub_statement z m d refl s) e
+  form_widens k at x c d (do_while_rule y z m i h s j r g e) = statements.do_while_rule y z m i h (inner (in_loop k) sub_statement z (after c) m refl s) j (head_widens r) g e
   form_widens k at x c d (expr_rule y m h r a b g e) = statements.expr_rule y m h r.0 a g e
   form_widens k at x c d (import_rule y m h r g e) = statements.import_expr_rule y m h r.0 g e
 
--- the words of declarations are none of those that make a module
-variables_begin : (word : VarDeclKind) (c : Place) → begins_variables word c ≡ true → sees kind.Await c ≡ false
-unfolding same_kind is_let_declaration
-variables_begin decl.Var c h = rw (saw c kind.Var h) refl
-variables_begin decl.Const c h = rw (saw c kind.Const h) refl
-variables_begin decl.Let c h = rw (saw c kind.Let (and_yes (sees kind.Let c) _ h).0) refl
+pub stmt_widens : (n : ℕ) (k : Code) (at : Position) (x : Tree) (c d : Place) → may_begin_at_top k at c ≡ true → ReadsStmt n k at x c d → Reads n (stmt_goal k at x c d)
+stmt_widens zero k at x c d b h = absurd h
+stmt_widens (suc n) k at x c d b h = (b, form_widens n (stmt_widens n) k at x c d h)
 
-function_no_await : {w : Bool} (c m : Place) → follows.AsyncWord w c m → kind_at m ≡ kind.Function → sees kind.Await c ≡ false
-unfolding same_kind
-function_no_await c m (follows.not_async e h) f = rw (ap kind_at (sym h) ∙ f) refl
-function_no_await c m (follows.async_word e h g i) f = rw (word_place (codes "async") c h) refl
-
-rule_begins : (n : ℕ) (k : Code) (at : Position) (x : Tree) (c d : Place) → StmtRule (ReadsStmt n) (ReadsClass n) (ReadsPat n) (ReadsTarget n) (ReadsParams n) k at x c d → sees kind.Await c ≡ false
-unfolding same_kind
-rule_begins n k at x c d (function_rule a r) = function_no_await c r.word r.reads_async r.is_function
-rule_begins n k at x c d (block_rule r) = rw r.opens refl
-rule_begins n k at x c d (empty_rule h g e) = rw h refl
-rule_begins n k at x c d (debugger_rule h g e) = rw h refl
-rule_begins n k at x c d (variables_rule word xs m a h r g e) = variables_begin word c h
-rule_begins n k at x c d (if_statement_rule (if_rule test cons alt m i h r s o e)) = rw h refl
-rule_begins n k at x c d (switch_rule y xs m i h r j s g t e) = rw h refl
-rule_begins n k at x c d (labeled_rule w s y m r f h t e) = (name_begins k.flags w s c m r f).0
-rule_begins n k at x c d (break_rule y m h r g e) = rw h refl
-rule_begins n k at x c d (continue_rule y m h r g e) = rw h refl
-rule_begins n k at x c d (return_rule y m h r g e) = rw h refl
-rule_begins n k at x c d (for_rule a b f y l m i h g r j s o t p u e) = rw h refl
-rule_begins n k at x c d (for_in_rule a b y m i h g r j s o t e) = rw h refl
-rule_begins n k at x c d (for_of_rule w a b y l m i h v g r j z q s o t e) = rw h refl
-rule_begins n k at x c d (throw_rule y m h b r g e) = rw h refl
-rule_begins n k at x c d (try_rule y z w m i h r s t a e) = rw h refl
-rule_begins n k at x c d (with_rule y z m h o r s e) = rw h refl
-rule_begins n k at x c d (while_rule y z m h r s e) = rw h refl
-rule_begins n k at x c d (do_while_rule y z m i h s j r g e) = rw h refl
-rule_begins n k at x c d (expr_rule y m h r a b g e) = expr_begins n (with_in k) y c m r
-rule_begins n k at x c d (import_rule y m h r g e) = expr_begins n (with_in k) y c m r
-
-pub stmt_widens : (n : ℕ) (k : Code) (at : Position) (x : Tree) (c d : Place) → ReadsStmt n k at x c d → Reads n (stmt_goal k at x c d)
-unfolding may_begin_at_top
-stmt_widens zero k at x c d h = absurd h
-stmt_widens (suc n) k at x c d h = (may_begin at.top_level _ k.flags.can_be_module (rule_begins n k at x c d h), form_widens n (stmt_widens n) k at x c d h)
+-- one that stands in no other
+pub top_widens : (n : ℕ) (k : Code) (at : Position) (x : Tree) (c d : Place) → ReadsTop n k at x c d → Reads n (stmt_goal k at x c d)
+top_widens n k at x c d r = stmt_widens n k at x c d r.1 r.0
 
 -- ---- scripts
 
@@ -408,12 +389,18 @@ script_widens n k x c d r = (
     first = r.first;
     items = r.items;
     reads_shebang = shebang_widens c r.first r.shebang r.reads_shebang;
-    reads_items = items_widen n (stmt_widens n) (script_code k) true top_item r.items r.first d r.reads_items;
+    reads_items = items_widen n top_item (λ j. ReadsTop n j top_item) (λ j y a b q. top_widens n j top_item y a b q) (script_code k) true r.items r.first d r.reads_items;
     to_the_end = r.whole;
     is = r.is;
   },
   λ m. never (programs.is_module_code (script_code k) x) (no_module n k x c d r) m,
 )
 
+-- it makes no module of itself that was none
+pub script_awaits_as : (n : ℕ) (k : Code) (x : Tree) (c d : Place) (r : ReadsScript n k x c d) → programs.script_awaits n k x c d (script_widens n k x c d r) ≡ script_awaits n k x c d r
+unfolding script_widens
+script_awaits_as n k x c d r = items_await_as n top_item (λ j. ReadsTop n j top_item) (λ j y a b q. top_widens n j top_item y a b q) (script_code k) true r.items r.first d r.reads_items
+
 pub script_supported : (n : ℕ) (k : Code) (x : Tree) (c d : Place) → ReadsScript n k x c d → supported x ≡ true
-script_supported n k x c d r = ap supported r.is ∙ items_supported n (stmt_supported n) (script_code k) true top_item r.items r.first d r.reads_items
+script_supported n k x c d r =
+    ap supported r.is ∙ items_supported (λ j. ReadsTop n j top_item) (λ j y a b q. stmt_supported n j top_item y a b q.0) (script_code k) true r.items r.first d r.reads_items

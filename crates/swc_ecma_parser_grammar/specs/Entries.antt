@@ -10,8 +10,8 @@ use Rattle.swc_ecma_parser_model.specs.Tree as tree
 use Rattle.swc_ecma_parser_model.specs.Tree.{Tree, Text, listed}
 use Rattle.swc_ecma_parser_grammar.specs.Looks.{kind_at, sees, same_kind, spanned}
 use Rattle.swc_ecma_parser_grammar.specs.Names.{Code}
-use Rattle.swc_ecma_parser_grammar.specs.Reads.{ReadsToken, ReadsItems, top_item}
-use Rattle.swc_ecma_parser_grammar.specs.ReadsSupported.{ReadsStmt}
+use Rattle.swc_ecma_parser_grammar.specs.Reads.{ReadsToken, ReadsItems, directed, directs_on, top_item}
+use Rattle.swc_ecma_parser_grammar.specs.ReadsSupported.{ReadsTop}
 
 -- a script is no module code
 abbrev pub script_code : Code → Code
@@ -22,15 +22,24 @@ pub data ReadsShebang (c d : Place) : Option Text → Type 0 where
   some_shebang : (text : Text) (s : Span) → ReadsToken (token.Shebang text) s c d → ReadsShebang c d (Some text)
   no_shebang : sees kind.Shebang c ≡ false → d ≡ c → ReadsShebang c d None
 
+-- whether one of the statements begins with `await`
+abbrev pub items_await : (Item : Code → Tree → Place → Place → Type 0) (k : Code) (directives : Bool) (xs : List Tree) (c d : Place) → ReadsItems Item k directives xs c d → Bool
+items_await Item k directives [] c d r = false
+items_await Item k directives (x ∷ xs) c d (m, r, rs) = sees kind.Await c || items_await Item (directed k directives x) (directs_on directives x) xs m d rs
+
 -- a script within so many levels, which takes the whole list
 pub record ReadsScript (n : ℕ) (k : Code) (x : Tree) (c d : Place) : Type 0 where
   pub shebang : Option Text
   pub first : Place
   pub reads_shebang : ReadsShebang c first shebang
   pub items : List Tree
-  pub reads_items : ReadsItems (λ j. ReadsStmt n j top_item) (script_code k) true items first d
+  pub reads_items : ReadsItems (λ j. ReadsTop n j top_item) (script_code k) true items first d
   pub whole : kind_at d ≡ kind.End
   pub is : x ≡ tree.script (spanned c d) (listed items) shebang
+
+-- whether one of its own statements begins with `await`
+abbrev pub script_awaits : (n : ℕ) (k : Code) (x : Tree) (c d : Place) → ReadsScript n k x c d → Bool
+script_awaits n k x c d r = items_await (λ j. ReadsTop n j top_item) (script_code k) true r.items r.first d r.reads_items
 
 -- no error token stands in the list
 abbrev pub has_error_token : List TokenAndSpan → Bool

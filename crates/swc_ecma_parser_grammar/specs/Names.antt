@@ -35,7 +35,7 @@ strict_words =
 unfoldable pub is_reserved : Context → Text → Bool
 is_reserved c text = is_one_of reserved_words text || ((c.strict && is_one_of strict_words text) || (c.in_generator && bytes_eq text (codes "yield")))
 
--- A name. `await` is no name yet: it is read nowhere.
+-- A name. `await` is no name yet: as one it is read nowhere.
 unfoldable pub is_name : Context → Text → Bool
 is_name c text = not (is_reserved c text) && not (bytes_eq text (codes "await"))
 

@@ -142,6 +142,13 @@ pub record ReadsFunctionExpr (Stmt : Code → Position → Tree → Place → Pl
   pub directs : misplaced_directive (has_plain_params (parameters patterns)) body ≡ []
   pub is : x ≡ tree.fn_expr (spanned c d) name (tree.function (spanned c d) (listed []) (parameters patterns) body is_async is_generator)
 
+-- the parameters and the body of a method or an accessor: section 15.4
+pub record ReadsParts (Stmt : Code → Position → Tree → Place → Place → Type 0) (Params : Code → List Tree → Place → Place → Type 0) (k : Code) (is_async is_generator : Bool)
+    (patterns : List Tree) (body : Tree) (c d : Place) : Type 0 where
+  pub middle : Place
+  pub reads_parameters : Params (in_parameters k is_async is_generator) patterns c middle
+  pub reads_body : ReadsBraced Stmt true (in_body k is_async is_generator) body middle d
+
 -- `( Expression )` behind the word of a statement
 pub record ReadsHead (Expr : Class → Code → Tree → Place → Place → Type 0) (k : Code) (e : Tree) (c d : Place) : Type 0 where
   pub close : Place

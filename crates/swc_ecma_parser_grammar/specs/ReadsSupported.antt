@@ -10,6 +10,7 @@ use Rattle.swc_ecma_parser_grammar.specs.Reads.{StmtRule}
 use Rattle.swc_ecma_parser_grammar.specs.Supported.{supported_in, all_supported_in}
 use Rattle.swc_ecma_parser_grammar.specs.language.Goals.{Class, callee, binding, assigning, expr_goal, callee_goal, pattern_goal, element_goal}
 use Rattle.swc_ecma_parser_grammar.specs.language.Functions.{ParametersRule}
+use Rattle.swc_ecma_parser_grammar.specs.language.Statements.{may_begin_at_top}
 use Rattle.swc_ecma_parser_grammar.specs.language.Reads.{Reads}
 
 -- An expression of a class within so many levels. Behind what `new` calls its arguments may stand.
@@ -36,3 +37,7 @@ ReadsParams n k ps c d = ParametersRule (Reads n) k ps c d × (all_supported_in 
 abbrev pub ReadsStmt : ℕ → Code → Position → Tree → Place → Place → Type 0
 ReadsStmt zero k at x c d = ⊥
 ReadsStmt (suc n) k at x c d = StmtRule (ReadsStmt n) (ReadsClass n) (ReadsPat n) (ReadsTarget n) (ReadsParams n) k at x c d
+
+-- one that stands in no other: at the top level it begins with `await` only in what may be a module's code
+abbrev pub ReadsTop : ℕ → Code → Position → Tree → Place → Place → Type 0
+ReadsTop n k at x c d = ReadsStmt n k at x c d × (may_begin_at_top k at c ≡ true)

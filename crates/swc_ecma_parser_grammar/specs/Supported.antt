@@ -4,7 +4,7 @@ use Rattle.std.specs.Str.{bytes_eq}
 use Rattle.swc_ecma_parser_error.specs.Kind.{Fault}
 use Rattle.swc_ecma_parser_model.specs.Tree as tree
 use Rattle.swc_ecma_parser_model.specs.Tree.{Tree, Trees, none, also}
-use Rattle.swc_ecma_parser_model.specs.Forms.{has_plain_params}
+use Rattle.swc_ecma_parser_model.specs.Forms.{has_plain_params, is_plain_param}
 use Rattle.swc_ecma_parser_grammar.specs.Follows.{is_bare_async}
 use Rattle.swc_ecma_parser_grammar.specs.Notes.{notes}
 use Rattle.swc_ecma_parser_grammar.specs.Own.{misplaced_directive}
@@ -27,11 +27,15 @@ abbrev pub is_rightly_directed : Tree → Bool
 is_rightly_directed (tree.function s decorators params body is_async is_generator) = is_clean (misplaced_directive (has_plain_params params) body)
 is_rightly_directed _ = true
 
+-- the same of a setter, which has one parameter
+abbrev pub is_rightly_set : (p body : Tree) → Bool
+is_rightly_set p body = is_clean (misplaced_directive (is_plain_param p) body)
+
 -- whether a tree is made of these forms alone, in module code or elsewhere
 abbrev mutual
   pub supported_in : (in_module : Bool) → Tree → Bool
   supported_in m (tree.list ts) = all_supported_in m ts
-  -- names but `await`, literals, arrays, objects without methods and parentheses: ECMA-262, section 13.2
+  -- names but `await`, literals, arrays, objects and parentheses: ECMA-262, section 13.2
   supported_in m (tree.ident s text) = not (bytes_eq text (codes "await"))
   supported_in m (tree.str s value raw) = true
   supported_in m (tree.bool s b) = true
@@ -43,6 +47,10 @@ abbrev mutual
   supported_in m (tree.spread_prop dots e) = supported_in m e
   supported_in m (tree.shorthand_prop s text) = not (bytes_eq text (codes "await"))
   supported_in m (tree.key_value_prop s key value) = is_supported_key_in m key && supported_in m value
+  -- Methods and accessors, with what is said of functions as expressions: section 15.4
+  supported_in m (tree.getter_prop s key body) = is_supported_key_in m key && (supported_in m body && (not m || has_no_note body))
+  supported_in m (tree.setter_prop s key p body) = is_supported_key_in m key && ((supported_in m p && supported_in m body) && (is_rightly_set p body && (not m || (has_no_note p && has_no_note body))))
+  supported_in m (tree.method_prop s key fn) = is_supported_key_in m key && (supported_in m fn && (is_rightly_directed fn && (not m || has_no_note fn)))
   supported_in m (tree.paren s e) = supported_in m e
   supported_in m (tree.this s) = true
   -- accesses, calls, `import(..)`, `import.meta` and `new`: section 13.3
@@ -64,6 +72,8 @@ abbrev mutual
   supported_in m (tree.seq s exprs) = supported_in m exprs
   -- `yield`: section 15.5
   supported_in m (tree.yield s arg delegate) = supported_in m arg
+  -- `await`: section 15.8
+  supported_in m (tree.await s arg) = supported_in m arg
   -- what `=` assigns to, and what `var` binds: sections 13.15.5 and 14.3.3
   supported_in m (tree.ident_pat s text) = not (bytes_eq text (codes "await"))
   supported_in m (tree.array_pat s elems) = supported_in m elems

@@ -12,8 +12,6 @@ ghost use Rattle.swc_ecma_parser_source.specs.Literals.{literal_tree};
 ghost use Rattle.swc_ecma_parser_token.specs.declared.kind.TokenKind.TheVariants as kind;
 
 use crate::access::{Property, access, arguments, begins_access, brackets};
-use crate::array::array;
-use crate::object::object;
 use std::alloc::{AllocError, Global};
 use swc_ecma_parser_common::Span;
 use swc_ecma_parser_error::{PResult, SyntaxError};
@@ -23,11 +21,13 @@ use swc_ecma_parser_inner::cover::{Cover, Reading, close, inside, nested};
 use swc_ecma_parser_inner::grammar::{Grammar, Part};
 use swc_ecma_parser_inner::keys::word_property;
 use swc_ecma_parser_inner::steps::{grown, since};
+use swc_ecma_parser_literals::array::array;
+use swc_ecma_parser_literals::object::object;
 use swc_ecma_parser_model::MetaPropKind;
 use swc_ecma_parser_source::{Literal, Source, Wanted};
 use swc_ecma_parser_token::TokenKind;
 use swc_ecma_parser_trees::{
-    BuildsCall, BuildsExpr, BuildsFunction, BuildsObject, BuildsOperator, BuildsPattern, MakerOf,
+    BuildsCall, BuildsExpr, BuildsMethod, BuildsOperator, BuildsPattern, MakerOf,
 };
 
 /// A name.
@@ -126,7 +126,7 @@ fn paren<
 #[tactic(auto, unfolding(swc_ecma_parser_reader::specs::Expressions::marked_primary))]
 fn marked_primary<
     P: Source,
-    T: BuildsExpr + BuildsCall + BuildsObject + BuildsOperator + BuildsPattern + BuildsFunction,
+    T: BuildsExpr + BuildsCall + BuildsMethod + BuildsOperator + BuildsPattern,
     S: Fn(&MakerOf<T>, &mut P, usize, Position) -> PResult<T::Stmt>,
     E: Fn(&MakerOf<T>, &mut P, usize, Reading) -> PResult<Cover<T::Expr>>,
     N: Fn(&MakerOf<T>, &mut P, usize, Part) -> PResult<T::Pat>,
@@ -158,7 +158,7 @@ fn marked_primary<
 #[tactic(auto, unfolding(swc_ecma_parser_reader::specs::Expressions::primary, swc_ecma_parser_reader::specs::Expressions::named_expr))]
 fn primary<
     P: Source,
-    T: BuildsExpr + BuildsCall + BuildsObject + BuildsOperator + BuildsPattern + BuildsFunction,
+    T: BuildsExpr + BuildsCall + BuildsMethod + BuildsOperator + BuildsPattern,
     S: Fn(&MakerOf<T>, &mut P, usize, Position) -> PResult<T::Stmt>,
     E: Fn(&MakerOf<T>, &mut P, usize, Reading) -> PResult<Cover<T::Expr>>,
     N: Fn(&MakerOf<T>, &mut P, usize, Part) -> PResult<T::Pat>,
@@ -433,7 +433,7 @@ fn begins_import<P: Source>(p: &P, calls: bool) -> bool
 #[tactic(auto, unfolding(swc_ecma_parser_reader::specs::Expressions::left_head))]
 fn left_head<
     P: Source,
-    T: BuildsExpr + BuildsCall + BuildsObject + BuildsOperator + BuildsPattern + BuildsFunction,
+    T: BuildsExpr + BuildsCall + BuildsMethod + BuildsOperator + BuildsPattern,
     S: Fn(&MakerOf<T>, &mut P, usize, Position) -> PResult<T::Stmt>,
     E: Fn(&MakerOf<T>, &mut P, usize, Reading) -> PResult<Cover<T::Expr>>,
     N: Fn(&MakerOf<T>, &mut P, usize, Part) -> PResult<T::Pat>,
@@ -457,7 +457,7 @@ fn left_head<
 #[tactic(auto, unfolding(swc_ecma_parser_reader::specs::Expressions::left))]
 pub fn left<
     P: Source,
-    T: BuildsExpr + BuildsCall + BuildsObject + BuildsOperator + BuildsPattern + BuildsFunction,
+    T: BuildsExpr + BuildsCall + BuildsMethod + BuildsOperator + BuildsPattern,
     S: Fn(&MakerOf<T>, &mut P, usize, Position) -> PResult<T::Stmt>,
     E: Fn(&MakerOf<T>, &mut P, usize, Reading) -> PResult<Cover<T::Expr>>,
     N: Fn(&MakerOf<T>, &mut P, usize, Part) -> PResult<T::Pat>,
@@ -474,7 +474,7 @@ pub fn left<
 #[tactic(auto, unfolding(swc_ecma_parser_reader::specs::Expressions::left_expr, swc_ecma_parser_reader::specs::Expressions::closed_left))]
 pub fn left_expr<
     P: Source,
-    T: BuildsExpr + BuildsCall + BuildsObject + BuildsOperator + BuildsPattern + BuildsFunction,
+    T: BuildsExpr + BuildsCall + BuildsMethod + BuildsOperator + BuildsPattern,
     S: Fn(&MakerOf<T>, &mut P, usize, Position) -> PResult<T::Stmt>,
     E: Fn(&MakerOf<T>, &mut P, usize, Reading) -> PResult<Cover<T::Expr>>,
     N: Fn(&MakerOf<T>, &mut P, usize, Part) -> PResult<T::Pat>,

@@ -2,6 +2,4 @@
 #![tactic(auto)]
 
 pub mod access;
-pub mod array;
 pub mod left;
-pub mod object;

@@ -19,14 +19,14 @@ use swc_ecma_parser_grammar::{Class, Position};
 use swc_ecma_parser_inner::cover::{Cover, Reading, close, done, nested, target};
 use swc_ecma_parser_inner::grammar::{Grammar, Part};
 use swc_ecma_parser_inner::steps::{grown, since};
-use swc_ecma_parser_left::array::array;
 use swc_ecma_parser_left::left::left_from;
-use swc_ecma_parser_left::object::object;
+use swc_ecma_parser_literals::array::array;
+use swc_ecma_parser_literals::object::object;
 use swc_ecma_parser_model::AssignOp;
 use swc_ecma_parser_source::Source;
 use swc_ecma_parser_token::TokenKind;
 use swc_ecma_parser_trees::{
-    BuildsCall, BuildsExpr, BuildsFunction, BuildsObject, BuildsOperator, BuildsPattern, MakerOf,
+    BuildsCall, BuildsExpr, BuildsMethod, BuildsOperator, BuildsPattern, MakerOf,
 };
 
 /// Whether anything but `=` goes on with an array or object here.
@@ -142,13 +142,13 @@ fn behind_literal<
 #[tactic(auto, unfolding(swc_ecma_parser_reader::specs::Expressions::open_literal))]
 fn open_literal<
     P: Source,
-    T: BuildsCall + BuildsObject + BuildsOperator + BuildsPattern,
+    T: BuildsCall + BuildsMethod + BuildsOperator + BuildsPattern,
     S: Fn(&MakerOf<T>, &mut P, usize, Position) -> PResult<T::Stmt>,
     E: Fn(&MakerOf<T>, &mut P, usize, Reading) -> PResult<Cover<T::Expr>>,
     N: Fn(&MakerOf<T>, &mut P, usize, Part) -> PResult<T::Pat>,
 >(g: &Grammar<S, E, N>, t: &MakerOf<T>, p: &mut P) -> PResult<Cover<T::Expr>>
     requires { Nests P.seen T.expr_of T.pat_of T.stmt_of g.now.depth (S.pre g.now.stmt) (S.post g.now.stmt) (E.pre g.now.expr) (E.post g.now.expr) (N.pre g.now.pat) (N.post g.now.pat) }
-    ensures { GivesAs (cover_of T.expr_of) (exprs.open_literal (rules.expr g.now.depth) (rules.cover g.now.depth) (P.seen p.old)) result (P.seen p.new) }
+    ensures { GivesAs (cover_of T.expr_of) (exprs.open_literal (rules.expr g.now.depth) (rules.cover g.now.depth) (rules.function g.now.depth) (P.seen p.old)) result (P.seen p.new) }
 {
     let start = p.span();
     if p.sees(TokenKind::LBracket) {
@@ -163,7 +163,7 @@ fn open_literal<
 #[tactic(auto, unfolding(swc_ecma_parser_reader::specs::Expressions::cover_expr, swc_ecma_parser_reader::specs::Expressions::done_expr))]
 pub fn cover_expr<
     P: Source,
-    T: BuildsExpr + BuildsCall + BuildsObject + BuildsOperator + BuildsPattern + BuildsFunction,
+    T: BuildsExpr + BuildsCall + BuildsMethod + BuildsOperator + BuildsPattern,
     S: Fn(&MakerOf<T>, &mut P, usize, Position) -> PResult<T::Stmt>,
     E: Fn(&MakerOf<T>, &mut P, usize, Reading) -> PResult<Cover<T::Expr>>,
     N: Fn(&MakerOf<T>, &mut P, usize, Part) -> PResult<T::Pat>,
@@ -181,7 +181,7 @@ pub fn cover_expr<
 #[tactic(auto, unfolding(swc_ecma_parser_reader::specs::Expressions::assignment_expr))]
 pub(crate) fn assignment_expr<
     P: Source,
-    T: BuildsExpr + BuildsCall + BuildsObject + BuildsOperator + BuildsPattern + BuildsFunction,
+    T: BuildsExpr + BuildsCall + BuildsMethod + BuildsOperator + BuildsPattern,
     S: Fn(&MakerOf<T>, &mut P, usize, Position) -> PResult<T::Stmt>,
     E: Fn(&MakerOf<T>, &mut P, usize, Reading) -> PResult<Cover<T::Expr>>,
     N: Fn(&MakerOf<T>, &mut P, usize, Part) -> PResult<T::Pat>,
@@ -197,7 +197,7 @@ pub(crate) fn assignment_expr<
 #[tactic(auto, unfolding(swc_ecma_parser_reader::specs::Heads::head_expr, swc_ecma_parser_reader::specs::Heads::sequenced))]
 pub fn head_expr<
     P: Source,
-    T: BuildsExpr + BuildsCall + BuildsObject + BuildsOperator + BuildsPattern + BuildsFunction,
+    T: BuildsExpr + BuildsCall + BuildsMethod + BuildsOperator + BuildsPattern,
     S: Fn(&MakerOf<T>, &mut P, usize, Position) -> PResult<T::Stmt>,
     E: Fn(&MakerOf<T>, &mut P, usize, Reading) -> PResult<Cover<T::Expr>>,
     N: Fn(&MakerOf<T>, &mut P, usize, Part) -> PResult<T::Pat>,

@@ -14,6 +14,7 @@ use crate::assignment::assignment_expr;
 use std::alloc::Global;
 use swc_ecma_parser_common::Span;
 use swc_ecma_parser_error::{PResult, SyntaxError};
+use swc_ecma_parser_functions::awaits::await_expr;
 use swc_ecma_parser_functions::yields::{begins_yield, yield_expr};
 use swc_ecma_parser_grammar::{Class, Position};
 use swc_ecma_parser_inner::cover::{Cover, Reading, inside, nested};
@@ -27,7 +28,7 @@ use swc_ecma_parser_source::{
 };
 use swc_ecma_parser_token::TokenKind;
 use swc_ecma_parser_trees::{
-    BuildsCall, BuildsExpr, BuildsFunction, BuildsObject, BuildsOperator, BuildsPattern, MakerOf,
+    BuildsCall, BuildsExpr, BuildsMethod, BuildsOperator, BuildsPattern, MakerOf,
 };
 
 /// An operator before its operand.
@@ -127,7 +128,7 @@ pub(crate) fn postfixed<P: Source, T: BuildsOperator>(
 #[tactic(auto, unfolding(swc_ecma_parser_reader::specs::Expressions::postfix))]
 fn postfix<
     P: Source,
-    T: BuildsExpr + BuildsCall + BuildsObject + BuildsOperator + BuildsPattern + BuildsFunction,
+    T: BuildsExpr + BuildsCall + BuildsMethod + BuildsOperator + BuildsPattern,
     S: Fn(&MakerOf<T>, &mut P, usize, Position) -> PResult<T::Stmt>,
     E: Fn(&MakerOf<T>, &mut P, usize, Reading) -> PResult<Cover<T::Expr>>,
     N: Fn(&MakerOf<T>, &mut P, usize, Part) -> PResult<T::Pat>,
@@ -140,11 +141,11 @@ fn postfix<
     postfixed::<P, T>(t.alloc, p, start, operand)
 }
 
-/// A unary expression: sections 13.4 and 13.5.
+/// A unary expression: sections 13.4, 13.5 and 15.8.
 #[tactic(auto, unfolding(swc_ecma_parser_reader::specs::Expressions::unary_expr))]
 fn unary_expr<
     P: Source,
-    T: BuildsExpr + BuildsCall + BuildsObject + BuildsOperator + BuildsPattern + BuildsFunction,
+    T: BuildsExpr + BuildsCall + BuildsMethod + BuildsOperator + BuildsPattern,
     S: Fn(&MakerOf<T>, &mut P, usize, Position) -> PResult<T::Stmt>,
     E: Fn(&MakerOf<T>, &mut P, usize, Reading) -> PResult<Cover<T::Expr>>,
     N: Fn(&MakerOf<T>, &mut P, usize, Part) -> PResult<T::Pat>,
@@ -154,6 +155,9 @@ fn unary_expr<
 {
     if let Some(op) = unary_operator(p.kind()) {
         return prefixed(g, t, p, op);
+    }
+    if p.awaits() {
+        return await_expr(g, t, p);
     }
     if let Some(op) = update_operator(p.kind()) {
         return update_before(g, t, p, op);
@@ -282,7 +286,7 @@ pub(crate) fn binary_from<
 #[tactic(auto, unfolding(swc_ecma_parser_reader::specs::Expressions::binary_expr))]
 fn binary_expr<
     P: Source,
-    T: BuildsExpr + BuildsCall + BuildsObject + BuildsOperator + BuildsPattern + BuildsFunction,
+    T: BuildsExpr + BuildsCall + BuildsMethod + BuildsOperator + BuildsPattern,
     S: Fn(&MakerOf<T>, &mut P, usize, Position) -> PResult<T::Stmt>,
     E: Fn(&MakerOf<T>, &mut P, usize, Reading) -> PResult<Cover<T::Expr>>,
     N: Fn(&MakerOf<T>, &mut P, usize, Part) -> PResult<T::Pat>,
@@ -410,7 +414,7 @@ pub(crate) fn behind_operators<
 #[tactic(auto, unfolding(swc_ecma_parser_reader::specs::Expressions::operators_expr))]
 fn operators_expr<
     P: Source,
-    T: BuildsExpr + BuildsCall + BuildsObject + BuildsOperator + BuildsPattern + BuildsFunction,
+    T: BuildsExpr + BuildsCall + BuildsMethod + BuildsOperator + BuildsPattern,
     S: Fn(&MakerOf<T>, &mut P, usize, Position) -> PResult<T::Stmt>,
     E: Fn(&MakerOf<T>, &mut P, usize, Reading) -> PResult<Cover<T::Expr>>,
     N: Fn(&MakerOf<T>, &mut P, usize, Part) -> PResult<T::Pat>,
@@ -428,7 +432,7 @@ fn operators_expr<
 #[tactic(auto, unfolding(swc_ecma_parser_reader::specs::Expressions::plain_expr))]
 pub(crate) fn plain_expr<
     P: Source,
-    T: BuildsExpr + BuildsCall + BuildsObject + BuildsOperator + BuildsPattern + BuildsFunction,
+    T: BuildsExpr + BuildsCall + BuildsMethod + BuildsOperator + BuildsPattern,
     S: Fn(&MakerOf<T>, &mut P, usize, Position) -> PResult<T::Stmt>,
     E: Fn(&MakerOf<T>, &mut P, usize, Reading) -> PResult<Cover<T::Expr>>,
     N: Fn(&MakerOf<T>, &mut P, usize, Part) -> PResult<T::Pat>,
@@ -446,7 +450,7 @@ pub(crate) fn plain_expr<
 #[tactic(auto, unfolding(swc_ecma_parser_reader::specs::Expressions::sequence_from), using(swc_ecma_parser_reader::proofs::expressions::Loops::sequence_done, swc_ecma_parser_reader::proofs::expressions::Loops::sequence_more, swc_ecma_parser_reader::proofs::expressions::Loops::sequence_err, swc_ecma_parser_reader::proofs::expressions::Loops::assignment_shorter, swc_ecma_parser_reader::proofs::expressions::Loops::sequence_shorter, std::proofs::lemmas::List::map_push))]
 pub(crate) fn sequence_from<
     P: Source,
-    T: BuildsExpr + BuildsCall + BuildsObject + BuildsOperator + BuildsPattern + BuildsFunction,
+    T: BuildsExpr + BuildsCall + BuildsMethod + BuildsOperator + BuildsPattern,
     S: Fn(&MakerOf<T>, &mut P, usize, Position) -> PResult<T::Stmt>,
     E: Fn(&MakerOf<T>, &mut P, usize, Reading) -> PResult<Cover<T::Expr>>,
     N: Fn(&MakerOf<T>, &mut P, usize, Part) -> PResult<T::Pat>,
@@ -472,7 +476,7 @@ pub(crate) fn sequence_from<
 #[tactic(auto, unfolding(swc_ecma_parser_reader::specs::Expressions::expression_expr))]
 fn expression_expr<
     P: Source,
-    T: BuildsExpr + BuildsCall + BuildsObject + BuildsOperator + BuildsPattern + BuildsFunction,
+    T: BuildsExpr + BuildsCall + BuildsMethod + BuildsOperator + BuildsPattern,
     S: Fn(&MakerOf<T>, &mut P, usize, Position) -> PResult<T::Stmt>,
     E: Fn(&MakerOf<T>, &mut P, usize, Reading) -> PResult<Cover<T::Expr>>,
     N: Fn(&MakerOf<T>, &mut P, usize, Part) -> PResult<T::Pat>,
@@ -492,7 +496,7 @@ fn expression_expr<
 #[tactic(auto, unfolding(swc_ecma_parser_reader::specs::Expressions::expr_level))]
 pub fn expr_level<
     P: Source,
-    T: BuildsExpr + BuildsCall + BuildsObject + BuildsOperator + BuildsPattern + BuildsFunction,
+    T: BuildsExpr + BuildsCall + BuildsMethod + BuildsOperator + BuildsPattern,
     S: Fn(&MakerOf<T>, &mut P, usize, Position) -> PResult<T::Stmt>,
     E: Fn(&MakerOf<T>, &mut P, usize, Reading) -> PResult<Cover<T::Expr>>,
     N: Fn(&MakerOf<T>, &mut P, usize, Part) -> PResult<T::Pat>,

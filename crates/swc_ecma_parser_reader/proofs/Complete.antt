@@ -5,10 +5,10 @@ use Rattle.swc_ecma_parser_grammar.specs.Parameters.{parameters as parameter_tre
 use Rattle.swc_ecma_parser_grammar.specs.Walk.{in_body as walks_in_body, in_params, walk_body}
 use Rattle.swc_ecma_parser_token.specs.Text.{word_text}
 use Rattle.swc_ecma_parser_token.specs.declared.token.Word.{Word}
-use Rattle.swc_ecma_parser_grammar.proofs.Tests.{and_both, and_no}
+use Rattle.swc_ecma_parser_grammar.proofs.Tests.{and_yes, and_both, and_no}
 use Rattle.swc_ecma_parser_grammar.proofs.SupportedBegins.{word_begins, name_begins}
 use Rattle.swc_ecma_parser_grammar.specs.Own.{labelled_function, duplicates, misplaced_directive}
-use Rattle.swc_ecma_parser_grammar.specs.Reads.{labeled_rule, with_rule, function_rule, ReadsFunction, ReadsFunctionExpr, OwnNameRule, no_own_name_rule, own_name_rule, ReadsBraced}
+use Rattle.swc_ecma_parser_grammar.specs.Reads.{labeled_rule, with_rule, function_rule, ReadsFunction, ReadsFunctionExpr, ReadsParts, OwnNameRule, no_own_name_rule, own_name_rule, ReadsBraced}
 use Rattle.swc_ecma_parser_grammar.specs.Names.{is_name, name_at, first_is_name}
 use Rattle.swc_ecma_parser_grammar.specs.language.Items.{labelled_item}
 use Rattle.swc_ecma_parser_reader.specs.Reader.{begins_label, relabels, labelled_body, labeled_stmt, other_stmt, with_stmt, await_here, misdirected, function_body, function_parts, function_decl, function_stmt, function_word, async_or_other}
@@ -32,45 +32,53 @@ use Rattle.swc_ecma_parser_token.specs.declared.token.Token.TheVariants as token
 use Rattle.swc_ecma_parser_input.specs.Place.{Place, after}
 use Rattle.swc_ecma_parser_model.specs.Tree as tree
 use Rattle.swc_ecma_parser_model.specs.Tree.{Tree, Text, listed, trees}
-use Rattle.swc_ecma_parser_model.specs.Forms.{is_absent, has_plain_params}
+use Rattle.swc_ecma_parser_model.specs.Forms.{is_absent, is_rest, is_binding_name, is_plain_param, has_plain_params}
 use Rattle.swc_ecma_parser_grammar.specs.declared.position.Position.{Position}
 use Rattle.swc_ecma_parser_grammar.specs.Looks.{kind_at, sees, same_kind, span_at, spanned}
 use Rattle.swc_ecma_parser_grammar.specs.Names.{Code}
 use Rattle.swc_ecma_parser_grammar.specs.Ends.{OptionalEnds}
-use Rattle.swc_ecma_parser_grammar.specs.Reads.{with_in, nested_item, top_item, ReadsToken, ReadsItems, break_rule, continue_rule, return_rule, StmtRule, block_rule, empty_rule, debugger_rule, variables_rule, if_statement_rule, CaseRule, case_clause_rule, default_clause_rule, ReadsCases, switch_rule, throw_rule, try_rule, while_rule, do_while_rule, expr_rule, import_rule, ReadsBlock, CatchRule, no_catch_rule, catch_rule, catch_parameter_rule, FinallyRule, no_finally_rule, finally_rule, ReadsHead, IfRule, if_rule, no_else_rule, else_rule, else_if_rule}
+use Rattle.swc_ecma_parser_grammar.specs.Reads.{with_in, nested_item, ReadsToken, ReadsItems, break_rule, continue_rule, return_rule, StmtRule, block_rule, empty_rule, debugger_rule, variables_rule, if_statement_rule, CaseRule, case_clause_rule, default_clause_rule, ReadsCases, switch_rule, throw_rule, try_rule, while_rule, do_while_rule, expr_rule, import_rule, ReadsBlock, CatchRule, no_catch_rule, catch_rule, catch_parameter_rule, FinallyRule, no_finally_rule, finally_rule, ReadsHead, IfRule, if_rule, no_else_rule, else_rule, else_if_rule}
 use Rattle.swc_ecma_parser_grammar.specs.ReadsSupported.{ReadsClass, ReadsPat, ReadsTarget, ReadsStmt, ReadsParams}
 use Rattle.swc_ecma_parser_grammar.specs.language.Contexts.{in_loop, in_breakable, in_with, named_by, in_parameters, in_body}
-use Rattle.swc_ecma_parser_grammar.specs.language.Goals.{expression, assignment}
+use Rattle.swc_ecma_parser_grammar.specs.language.Goals.{Goal, Purpose, binding, expression, assignment}
 use Rattle.swc_ecma_parser_grammar.specs.language.Items.{sub_statement}
-use Rattle.swc_ecma_parser_grammar.specs.Entries.{script_code, ReadsScript}
 use Rattle.swc_ecma_parser_grammar.specs.Notes.{notes, with_note}
 use Rattle.swc_ecma_parser_grammar.specs.language.Noted.{has_meta}
 use Rattle.swc_ecma_parser_grammar.specs.Walk.{Env, env_of, walk, walks}
 use Rattle.swc_ecma_parser_reader.specs.Notes.{Notes, ◌⊕◌, notes_of, all_notes_of, held}
 use Rattle.swc_ecma_parser_reader.specs.State.{Scope, State, Outcome, and_then, loop}
-use Rattle.swc_ecma_parser_reader.specs.Reader.{star, named, own_name, function_expr, expr, cover, head_cover, pattern, element, parameters, function}
-use Rattle.swc_ecma_parser_reader.specs.Reader.{closes, at_end, block_from, block, braced, expr_stmt_at, import_stmt_at, while_stmt, do_while, goes_on, closed_link, alternative, link_from, link, if_stmt, begins_clause, closes_clause, clause_from, default_clause, case_clause, clause, clauses_turn, clauses, switch_stmt, is_handled, handled, bound, parameter, finalizer, caught, handler, try_stmt, stmt_level, stmt, script_body, script}
-use Rattle.swc_ecma_parser_reader.specs.Entry.{script_left}
+use Rattle.swc_ecma_parser_reader.specs.Methods.{getter_form, setter_form, method_form, expression_form, star}
+use Rattle.swc_ecma_parser_reader.specs.Reader.{getter, setter, plain_method, named, own_name, function_expr, expr, cover, head_cover, pattern, element, parameters, function, function_by}
+use Rattle.swc_ecma_parser_reader.specs.Reader.{closes, block_from, block, braced, expr_stmt_at, import_stmt_at, while_stmt, do_while, goes_on, closed_link, alternative, link_from, link, if_stmt, begins_clause, closes_clause, clause_from, default_clause, case_clause, clause, clauses_turn, clauses, switch_stmt, is_handled, handled, bound, parameter, finalizer, caught, handler, try_stmt, stmt_level, stmt}
 use Rattle.swc_ecma_parser_reader.proofs.Notes.{or_nil, or_assoc}
 use Rattle.swc_ecma_parser_reader.proofs.Answered.{st, Reads, Calm, ReadsCalm, ReadsAs}
 use Rattle.swc_ecma_parser_reader.proofs.Errors.{is_error}
+use Rattle.swc_ecma_parser_reader.proofs.Between.{nil-split}
 use Rattle.swc_ecma_parser_reader.proofs.Meets.{saw}
 use Rattle.swc_ecma_parser_reader.proofs.expressions.CompleteParts.{name_reads}
 use Rattle.swc_ecma_parser_reader.proofs.expressions.CompleteKinds.{seen, expr_no_const, name_no_const}
 use Rattle.swc_ecma_parser_reader.proofs.expressions.CompleteKinds as kinds
-use Rattle.swc_ecma_parser_reader.proofs.expressions.CompleteParts.{AsExpr, IsFunctionRead}
+use Rattle.swc_ecma_parser_reader.proofs.expressions.CompleteParts.{AsExpr, MethodIsRead, IsFunctionRead}
 use Rattle.swc_ecma_parser_reader.proofs.expressions.Complete.{read_above, read_nowhere}
 use Rattle.swc_ecma_parser_reader.proofs.expressions.CompleteHeads.{Heads, AsLeft, head_expr_reads, head_target_reads}
 use Rattle.swc_ecma_parser_reader.proofs.patterns.Complete.{pattern_above, pattern_nowhere}
 use Rattle.swc_ecma_parser_reader.proofs.Below.{Below, expr_reads, pattern_reads, parameters_reads}
 use Rattle.swc_ecma_parser_reader.proofs.Falls.{expr_falls, cover_falls, pattern_falls, element_falls, functions_fall}
 use Rattle.swc_ecma_parser_grammar.proofs.FunctionExprs.{function_narrows}
+use Rattle.swc_ecma_parser_grammar.proofs.MethodParts.{parts_narrow}
+use Rattle.swc_ecma_parser_grammar.proofs.Unnoted.{clean_is}
+use Rattle.swc_ecma_parser_grammar.proofs.Widens.{parameters_same}
+use Rattle.swc_ecma_parser_grammar.specs.Supported.{supported_in, is_supported_key_in, is_rightly_directed, is_rightly_set, has_no_note}
+use Rattle.swc_ecma_parser_grammar.specs.language.Functions as formal
+use Rattle.swc_ecma_parser_grammar.specs.language.Functions.{PatternItemRule, ParametersRule}
+use Rattle.swc_ecma_parser_grammar.specs.language.Patterns as patterns
+use Rattle.swc_ecma_parser_grammar.specs.language.Patterns.{PatternRule, PatternElementRule}
 use Rattle.swc_ecma_parser_grammar.specs.language.Reads as language
 use Rattle.swc_ecma_parser_reader.proofs.Loops.{stmt_shorter, clauses_done, clauses_more}
 use Rattle.swc_ecma_parser_grammar.proofs.SupportedBegins.{expr_opens}
 use Rattle.swc_ecma_parser_reader.proofs.Opens.{opened, no_block_or_import, import_stands, stmt_goes}
 use Rattle.swc_ecma_parser_reader.proofs.Chains.{if_last, if_more}
-use Rattle.swc_ecma_parser_reader.proofs.CompleteParts.{at_end_at, behind_setting, break_reads, calm_first, calm_last, clause_ends, close_reads, closes_at, code_stays, condition_reads, continue_reads, debugger_reads, empty_reads, expect_reads, expr_stmt_reads, head_reads, import_stmt_reads, items_read, name_no_function, no_brace, no_label_here, opening_reads_init, opening_reads_left, optional_end_reads, return_reads, shebang_reads, throw_reads, told_reads, variables_reads, note_with_reads, code_behind}
+use Rattle.swc_ecma_parser_reader.proofs.CompleteParts.{behind_setting, break_reads, calm_first, calm_last, clause_ends, close_reads, closes_at, code_stays, condition_reads, continue_reads, debugger_reads, empty_reads, expect_reads, expr_stmt_reads, head_reads, import_stmt_reads, items_read, name_no_function, no_brace, no_label_here, opening_reads_init, opening_reads_left, optional_end_reads, return_reads, throw_reads, told_reads, variables_reads, note_with_reads, code_behind}
 
 -- ---- all levels
 
@@ -157,8 +165,8 @@ module _ (n : ℕ) (below : Below n) (reads : (at : Position) (k : Code) (x : Tr
   own_name_quiet env (own_name_rule u sp r o g) = (ap (walk env) g, ap notes g, ap has_meta g)
 
   -- no fault is told behind it, so an error token may stand there
-  function_expr_reads : (k : Code) (x : Tree) (c d : Place) → ReadsFunctionExpr (ReadsStmt n) (ReadsParams n) k x c d → Reads (function n) k x c d
-  unfolding function_expr function_parts misdirected spanned
+  function_expr_reads : (k : Code) (x : Tree) (c d : Place) → ReadsFunctionExpr (ReadsStmt n) (ReadsParams n) k x c d → Reads (function n expression_form) k x c d
+  unfolding function function_by function_expr function_parts misdirected spanned
   function_expr_reads k x c d r w f h =
       let env = env_of k w.labels in
       let a = walks (in_params env) false (trees r.patterns) in
@@ -178,6 +186,54 @@ module _ (n : ℕ) (below : Below n) (reads : (at : Position) (k : Code) (x : Tr
         ap (λ z. z.held_back) (parameters_notes r.patterns),
         ap (λ z. z.found_module_item) (parameters_notes r.patterns),
       ) (simp (append_assoc, append-nil) refl)
+
+  -- ---- methods, from behind their key
+
+  getter_reads : (k : Code) (key body x : Tree) (c m d : Place) → ReadsParts (ReadsStmt n) (ReadsParams n) k false false [] body m d → x ≡ tree.getter_prop (spanned c d) key body
+      → MethodIsRead (function n) getter_form k key x c m d
+  unfolding function function_by getter spanned
+  getter_reads k key body x c m d r e w f h =
+      let f' = f ++ walk (env_of k w.labels) key in
+      let h' = h ⊕ notes_of key in
+      rw (
+        parameters_reads n below (in_parameters k false false) [] m r.middle r.reads_parameters w f' h',
+        function_body_reads false false k body r.middle d w (f' ++ []) (h' ⊕ all_notes_of (trees [])) r.reads_body,
+        e,
+      ) (simp (append_assoc, append-nil, or_nil) refl)
+
+  setter_reads : (k : Code) (key p body x : Tree) (c m d : Place) → ReadsParts (ReadsStmt n) (ReadsParams n) k false false (p ∷ []) body m d → is_rest p ≡ false
+      → is_plain_param p ≡ is_binding_name p → misplaced_directive (is_plain_param p) body ≡ [] → x ≡ tree.setter_prop (spanned c d) key p body → MethodIsRead (function n) setter_form k key x c m d
+  unfolding function function_by setter spanned
+  setter_reads k key p body x c m d r q s z e w f h =
+      let env = env_of k w.labels in
+      let f' = f ++ walk env key in
+      let h' = h ⊕ notes_of key in
+      rw (
+        parameters_reads n below (in_parameters k false false) (p ∷ []) m r.middle r.reads_parameters w f' h',
+        q,
+        function_body_reads false false k body r.middle d w (f' ++ walks (in_params env) false (trees (p ∷ []))) (h' ⊕ all_notes_of (trees (p ∷ []))) r.reads_body,
+        e,
+        ← s,
+        z,
+      ) (simp (append_assoc, append-nil, or_assoc, or_nil) refl)
+
+  method_reads : (k : Code) (a g : Bool) (key : Tree) (ps : List Tree) (body x : Tree) (c m d : Place) → ReadsParts (ReadsStmt n) (ReadsParams n) k a g ps body m d
+      → misplaced_directive (has_plain_params (parameter_trees ps)) body ≡ [] → x ≡ tree.method_prop (spanned c d) key (tree.function (spanned c d) (listed []) (parameter_trees ps) body a g)
+      → MethodIsRead (function n) (method_form a g) k key x c m d
+  unfolding function function_by plain_method function_parts misdirected spanned
+  method_reads k a g key ps body x c m d r z e w f h =
+      let env = env_of k w.labels in
+      let f' = f ++ walk env key in
+      let h' = h ⊕ notes_of key in
+      rw (
+        parameters_reads n below (in_parameters k a g) ps m r.middle r.reads_parameters w f' h',
+        function_body_reads a g k body r.middle d w (f' ++ walks (in_params env) false (trees ps)) (h' ⊕ all_notes_of (trees ps)) r.reads_body,
+        e,
+        z,
+        parameters_walk (in_params env) ps,
+        ap (λ z. z.held_back) (parameters_notes ps),
+        ap (λ z. z.found_module_item) (parameters_notes ps),
+      ) (simp (append_assoc, append-nil, or_assoc) refl)
 
   -- ---- `switch`
 
@@ -592,6 +648,33 @@ module _ (n : ℕ) (below : Below n) (reads : (at : Position) (k : Code) (x : Tr
       ∙ rw (no_label_here n below k e c m r l, b) (expr_stmt_reads n below e m k x c d r l i g j w f h)
   by_rules at k x c d (import_rule e m b r g j) w f h q = rw (import_stands c b, b) (import_stmt_reads n below e m k x c d b r g j w f h)
 
+-- ---- the parameter of a setter
+
+-- a pattern is no parameter that holds one
+pattern_plain : {In : Goal → Type 0} {purpose : Purpose} (k : Code) (p : Tree) (c d : Place) → PatternRule In purpose k p c d → is_plain_param p ≡ is_binding_name p
+pattern_plain k p c d (patterns.binding_name_rule text s i r e) = ap is_plain_param e ∙ ap is_binding_name (sym e)
+pattern_plain k p c d (patterns.target_name_rule text s i a r e) = ap is_plain_param e ∙ ap is_binding_name (sym e)
+pattern_plain k p c d (patterns.target_rule y i r t u e) = ap is_plain_param e ∙ ap is_binding_name (sym e)
+pattern_plain k p c d (patterns.array_rule xs m i r j g e) = ap is_plain_param e ∙ ap is_binding_name (sym e)
+pattern_plain k p c d (patterns.object_rule xs m i r j g e) = ap is_plain_param e ∙ ap is_binding_name (sym e)
+
+element_plain : {In : Goal → Type 0} {purpose : Purpose} (k : Code) (p : Tree) (c d : Place) → PatternElementRule In purpose k p c d → is_plain_param p ≡ is_binding_name p
+element_plain k p c d (patterns.bare_rule r e) = pattern_plain k p c d r
+element_plain k p c d (patterns.initialized_rule y z m r i v e) = ap is_plain_param e ∙ ap is_binding_name (sym e)
+
+item_plain : (n : ℕ) (k : Code) (p : Tree) (c d : Place) → PatternItemRule (language.Reads n) binding k p c d → is_plain_param p ≡ is_binding_name p
+item_plain zero k p c d (formal.element_rule r) = absurd r
+item_plain (suc n) k p c d (formal.element_rule r) = element_plain k p c d r
+item_plain n k p c d (formal.rest_rule y o r e) = ap is_plain_param e ∙ ap is_binding_name (sym e)
+
+parameter_plain : {k : Code} {c d : Place} (n : ℕ) (p : Tree) → ParametersRule (language.Reads n) k (p ∷ []) c d → is_plain_param p ≡ is_binding_name p
+parameter_plain {k = k} {c = c} n p r = let (m, one, l) = r.reads_patterns in item_plain n (with_in k) p (after c) m one
+
+-- what is tested in module code
+in_module : (m b : Bool) → (not m || b) ≡ true → m ≡ true → b ≡ true
+in_module true b h o = h
+in_module false b h o = cc
+
 record Whole (n : ℕ) : Type 0 where
   parts : Below n
   stmts : (at : Position) (k : Code) (x : Tree) (c d : Place) → ReadsStmt n k at x c d → ReadsCalm (stmt n at) k x c d
@@ -601,19 +684,41 @@ module _ (n : ℕ) (b : Whole n) where
   functions : IsFunctionRead (language.Reads n) (function n)
   functions = record {
     reads = λ k x c d name y r e s w f h. function_expr_reads n b.parts b.stmts k x c d (function_narrows n k x c d name y r e s) w f h;
+    getters = λ k key body x c m d r e s w f h.
+        let t = and_yes (is_supported_key_in k.flags.module key) _ (kinds.supported_as _ x (tree.getter_prop (spanned c d) key body) e s) in
+        let i = and_yes (supported_in k.flags.module body) _ t.1 in
+        getter_reads n b.parts b.stmts k key body x c m d (parts_narrow n k false false [] body m d r refl i.0 (λ o. clean_is (notes body) (in_module k.flags.module _ i.1 o))) e w f h;
+    setters = λ k key p body x c m d r q e s w f h.
+        let t = and_yes (is_supported_key_in k.flags.module key) _ (kinds.supported_as _ x (tree.setter_prop (spanned c d) key p body) e s) in
+        let i = and_yes (supported_in k.flags.module p && supported_in k.flags.module body) _ t.1 in
+        let j = and_yes (supported_in k.flags.module p) _ i.0 in
+        let l = and_yes (is_rightly_set p body) _ i.1 in
+        setter_reads n b.parts b.stmts k key p body x c m d
+        (parts_narrow n k false false (p ∷ []) body m d r (parameters_same k.flags.module (p ∷ []) ∙ and_both (supported_in k.flags.module p) true j.0 refl) j.1
+        (λ o. clean_is (notes body) (and_yes (has_no_note p) _ (in_module k.flags.module _ l.1 o)).1))
+        q (parameter_plain n p r.reads_parameters) (clean_is _ l.0) e w f h;
+    methods = λ k a g key ps body x c m d r e s w f h.
+        let fn = tree.function (spanned c d) (listed []) (parameter_trees ps) body a g in
+        let t = and_yes (is_supported_key_in k.flags.module key) _ (kinds.supported_as _ x (tree.method_prop (spanned c d) key fn) e s) in
+        let i = and_yes (supported_in k.flags.module fn) _ t.1 in
+        let j = and_yes (supported_in k.flags.module (parameter_trees ps)) _ i.0 in
+        let l = and_yes (is_rightly_directed fn) _ i.1 in
+        method_reads n b.parts b.stmts k a g key ps body x c m d
+        (parts_narrow n k a g ps body m d r j.0 j.1 (λ o. (nil-split (notes (parameter_trees ps)) (notes body) (clean_is _ (in_module k.flags.module _ l.1 o))).1))
+        (clean_is _ l.0) e w f h;
     falls = functions_fall n;
   }
 
   heads_above : (k : Code) (x : Tree) (c d : Place) → ReadsClass (suc n) expression k x c d → ReadsAs (AsExpr x) (head_cover (suc n)) k x c d
-  unfolding head_cover
+  unfolding function head_cover
   heads_above k x c d r w f h = head_expr_reads n (expr n) (cover n) b.parts.exprs (function n) functions k x c d r.0 r.1 w f h
 
   targets_above : (k : Code) (p : Tree) (c d : Place) → ReadsTarget (suc n) k p c d → Heads k p d → ReadsAs (AsLeft p) (head_cover (suc n)) k p c d
-  unfolding head_cover
+  unfolding function head_cover
   targets_above k p c d r e w f h = head_target_reads n (expr n) (cover n) b.parts.exprs (function n) functions k p c d r.0 r.1 e w f h
 
 whole : (n : ℕ) → Whole n
-unfolding expr cover pattern element stmt
+unfolding function expr cover pattern element stmt
 whole zero = record {
   parts = record {
     exprs = read_nowhere (expr zero) (cover zero) (expr_falls zero) (cover_falls zero);
@@ -635,14 +740,3 @@ whole (suc n) = let b = whole n in record {
 
 pub stmt_reads : (n : ℕ) (at : Position) (k : Code) (x : Tree) (c d : Place) → ReadsStmt n k at x c d → ReadsCalm (stmt n at) k x c d
 stmt_reads n = (whole n).stmts
-
-pub script_reads : (n : ℕ) (s : State) (x : Tree) (d : Place) → ReadsScript n s.code x s.at d → script n s ≡ Ok (x, script_left s x d)
-unfolding script script_body
-script_reads n s x d r =
-    rw (
-      shebang_reads r.shebang s.at r.first (script_code s.code) s.scope s.faults s.notes r.reads_shebang,
-      items_read (λ j. ReadsStmt n j top_item) (stmt n top_item) (stmt_reads n top_item) (stmt_shorter n top_item) at_end (λ j y a b q. (stmt_goes n j top_item y a b q).1)
-          (λ j y a b q. (stmt_goes n j top_item y a b q).3) true r.items (script_code s.code) r.first d s.scope s.faults s.notes r.reads_items (at_end_at d r.whole) (ap is_error r.whole),
-      r.is,
-      behind_setting (script_code s.code) true r.items,
-    ) refl

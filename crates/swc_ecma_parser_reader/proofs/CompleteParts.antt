@@ -47,7 +47,7 @@ use Rattle.swc_ecma_parser_grammar.specs.language.Noted.{has_meta}
 use Rattle.swc_ecma_parser_grammar.specs.Walk as walks_of
 use Rattle.swc_ecma_parser_grammar.specs.Walk.{Env, env_of, walk, walks}
 use Rattle.swc_ecma_parser_reader.specs.Notes.{Notes, held, ◌⊕◌, notes_of, all_notes_of}
-use Rattle.swc_ecma_parser_reader.specs.State.{Scope, State, Outcome, Reader, noted, holding_back, recorded_at, recorded_in, fault, labelled, expect, end, fault_at, loop}
+use Rattle.swc_ecma_parser_reader.specs.State.{Scope, State, Outcome, Reader, noted, holding_back, fault, labelled, expect, end, fault_at, loop}
 use Rattle.swc_ecma_parser_reader.specs.Expressions.{Cover}
 use Rattle.swc_ecma_parser_reader.specs.Reader.{expr, head_cover, pattern}
 use Rattle.swc_ecma_parser_reader.specs.Reader.{told, target, unbroken, break_stmt, uncontinued, continue_stmt, misplaced, operand, returned, return_stmt, empty, debugger, initialized, declarator, declarators_turn, declarators, variables, Opening, Nothing, Variables, Expression, as_init, as_left, head_variables, head_expression, opening, closes, at_end, close, directs, items_turn, items, note_statement, no_label, expr_stmt, optional_end, import_stmt, thrown, throw, head, condition, begins_clause, closes_clause, shebang_of, shebang_in, shebang}

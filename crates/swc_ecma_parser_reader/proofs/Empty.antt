@@ -10,7 +10,7 @@ use Rattle.swc_ecma_parser_grammar.specs.Entries.{script_code, ReadsScript, no_s
 use Rattle.swc_ecma_parser_reader.proofs.Notes.{notes_nil}
 use Rattle.swc_ecma_parser_reader.specs.State.{State, Outcome, coded}
 use Rattle.swc_ecma_parser_reader.specs.Reader.{at_end, shebang, script}
-use Rattle.swc_ecma_parser_reader.proofs.Complete.{script_reads}
+use Rattle.swc_ecma_parser_reader.proofs.CompleteScripts.{script_reads}
 
 pub ended : (c : Place) → c.left ≡ [] → kind_at c ≡ kind.End
 unfolding kind_at
@@ -53,4 +53,5 @@ nothing_reads n k c e = record {
 }
 
 pub script_of_nothing : (n : ℕ) (s : State) → s.at.left ≡ [] → script n s ≡ Ok (tree.script (spanned s.at s.at) (listed []) None, coded (script_code s.code) s)
+unfolding nothing_reads
 script_of_nothing n s e = script_reads n s (nothing s.at) s.at (nothing_reads n s.code s.at e) ∙ rw (append-nil s.faults, notes_nil s.notes) refl

@@ -6,15 +6,17 @@ use Rattle.swc_ecma_parser_error.specs.Kind as faults
 use Rattle.swc_ecma_parser_error.specs.Kind.{Fault, fault_of, kind_of}
 use Rattle.swc_ecma_parser_token.specs.declared.token.Token.TheVariants as token
 use Rattle.swc_ecma_parser_token.specs.declared.token.TokenAndSpan.{TokenAndSpan}
+use Rattle.swc_ecma_parser_input.specs.Place.{Place}
 use Rattle.swc_ecma_parser_model.specs.Tree.{Tree}
 use Rattle.swc_ecma_parser_grammar.specs.Entries.{script_code}
-use Rattle.swc_ecma_parser_grammar.proofs.Narrows.{script_narrows}
+use Rattle.swc_ecma_parser_grammar.specs.language.Programs.{script_awaits}
+use Rattle.swc_ecma_parser_grammar.proofs.Narrows.{script_narrows, script_awaits_as}
 use Rattle.swc_ecma_parser_reader.specs.State.{State, Outcome, coded}
 use Rattle.swc_ecma_parser_reader.specs.Reader.{script_body, script}
-use Rattle.swc_ecma_parser_reader.specs.Entry.{SoundScript, CompleteScript, AnswersScript}
+use Rattle.swc_ecma_parser_reader.specs.Entry.{script_left, SoundScript, ReadsSupported, CompleteScript, AnswersScript}
 use Rattle.swc_ecma_parser_reader.specs.Limits.{has_too_deep_token, has_out_of_memory_token}
-use Rattle.swc_ecma_parser_reader.proofs.Sound.{script_is_sound, script_lacks_out_of_memory}
-use Rattle.swc_ecma_parser_reader.proofs.Complete.{script_reads}
+use Rattle.swc_ecma_parser_reader.proofs.SoundScripts.{script_is_sound, script_lacks_out_of_memory}
+use Rattle.swc_ecma_parser_reader.proofs.CompleteScripts.{script_reads}
 use Rattle.swc_ecma_parser_reader.proofs.Limits.{script_fits}
 use Rattle.swc_ecma_parser_reader.proofs.Refusals.{script_of_error_token}
 
@@ -36,9 +38,12 @@ module _ (X : Type 0) (view : X → Tree) (limit : ℕ) (s : State) where
   never_both : {A : Type 0} (f : Fault) (u : State) (x : Tree) (v : State) → script limit s ≡ Err (f, u) → script limit s ≡ Ok (x, v) → A
   never_both f u x v h g = cc
 
+  reads : (x : Tree) (d : Place) (k : ReadsSupported limit s.code x s.at d) → script limit s ≡ Ok (x, script_left s x d (script_awaits limit s.code x s.at d k.0))
+  reads x d k = script_reads limit s x d (script_narrows limit s.code x s.at d k.0 k.1) ∙ ap (λ b. Ok (x, script_left s x d b)) (script_awaits_as limit s.code x s.at d k.0 k.1)
+
   pub entry_complete : (r : Result X Error) (t : State) → AnswersScript view limit s r t → CompleteScript view limit s r t
-  entry_complete (Ok y) t h = λ x d k g. sym (script_reads limit s x d (script_narrows limit s.code x s.at d k.0 k.1)) ∙ h
-  entry_complete (Err e) t h = λ x d k g n. never_both (fault_of e) _ x _ (h n).1 (script_reads limit s x d (script_narrows limit s.code x s.at d k.0 k.1))
+  entry_complete (Ok y) t h = λ x d k g. sym (reads x d k) ∙ h
+  entry_complete (Err e) t h = λ x d k g n. never_both (fault_of e) _ x _ (h n).1 (reads x d k)
 
   -- an answer has read no token for which there was no memory
   pub entry_memory : (r : Result X Error) (t : State) → AnswersScript view limit s r t → IfOk r (λ x. has_out_of_memory_token s.at.left ≡ false)

@@ -1,9 +1,10 @@
 -- A statement takes a token at least.
 use Rattle.swc_ecma_parser_reader.proofs.Words.{async_kind, async_begins, function_begins, function_kind, begins_function}
+use Rattle.swc_ecma_parser_grammar.specs.Own.{misplaced_directive}
 use Rattle.swc_ecma_parser_grammar.specs.Parameters.{parameters}
 use Rattle.swc_ecma_parser_reader.proofs.Errors.{is_error, fault_here}
 use Rattle.swc_ecma_parser_reader.proofs.patterns.Falls as patterns
-use Rattle.swc_ecma_parser_reader.specs.State.{Scope, and_then, below, relabelled, below_label, enclosed, unlabelled, fault_at, noted}
+use Rattle.swc_ecma_parser_reader.specs.State.{Scope, and_then, below, relabelled, below_label, enclosed, unlabelled, fault_at, noted, module_found}
 use Rattle.swc_ecma_parser_grammar.specs.language.Items.{labelled_item}
 use Rattle.swc_ecma_parser_reader.specs.Reader.{begins_label, relabels, labelled_body, labeled_stmt, other_stmt, note_with, with_stmt, await_here, unless_awaited, function_body, function_decl, function_parts, function_stmt, misdirected, function_word, async_or_other}
 use Rattle.swc_ecma_parser_reader.specs.Reader.{missing_initializer, Opening, Nothing, Variables, Expression, as_init, as_left, head_variables, head_expression, opening, head_part, misdeclared, for_parts, for_in, for_of, for_behind, for_stmt, const_stmt, let_stmt}
@@ -21,7 +22,7 @@ use Rattle.swc_ecma_parser_token.specs.declared.kind.TokenKind.TheVariants as ki
 use Rattle.swc_ecma_parser_input.specs.Place.{Place, after}
 use Rattle.swc_ecma_parser_model.specs.Tree as tree
 use Rattle.swc_ecma_parser_model.specs.Tree.{Tree, Text}
-use Rattle.swc_ecma_parser_model.specs.Forms.{is_ident, is_ident_named}
+use Rattle.swc_ecma_parser_model.specs.Forms.{is_ident, is_ident_named, is_binding_name, is_rest}
 use Rattle.swc_ecma_parser_grammar.specs.declared.position.Position.{Position}
 use Rattle.swc_ecma_parser_grammar.specs.Looks.{kind_at, breaks_at, sees, same_kind, span_at}
 use Rattle.swc_ecma_parser_grammar.specs.Follows.{word_at, may_begin_expression_statement, begins_import_expression, is_let_declaration, is_async_function}
@@ -34,12 +35,13 @@ use Rattle.swc_ecma_parser_grammar.specs.language.Items.{sub_statement}
 use Rattle.swc_ecma_parser_reader.specs.State.{State, Outcome, Reader, moved, coded, within, fault, labelled, labelled_as, name, expect, end}
 use Rattle.swc_ecma_parser_reader.specs.Expressions.{Cover}
 use Rattle.swc_ecma_parser_reader.specs.Reader as reader
-use Rattle.swc_ecma_parser_reader.specs.Reader.{star, named, own_name, function_expr, expr, cover, head_cover, pattern, element, function}
+use Rattle.swc_ecma_parser_reader.specs.Methods.{MethodForm, getter_form, setter_form, method_form, property_form, star}
+use Rattle.swc_ecma_parser_reader.specs.Reader.{no_parameter, one_parameter, getter, setter, plain_method, function_by, named, own_name, function_expr, expr, cover, head_cover, pattern, element, function}
 use Rattle.swc_ecma_parser_grammar.specs.Names.{name_at}
-use Rattle.swc_ecma_parser_reader.specs.Reader.{empty, debugger, uninitialized, initialized, declarator, declarators_turn, declarators, variables, closes, at_end, close, items_turn, items, block_from, block, braced, note_statement, no_label, expr_stmt, expr_stmt_at, told, target, unbroken, break_stmt, uncontinued, continue_stmt, misplaced, after_return, operand, returned, return_stmt, optional_end, import_stmt, import_stmt_at, thrown, throw, head, while_stmt, do_while, Link, goes_on, condition, alternative, link_from, link, behind_link, links, if_stmt, begins_clause, closes_clause, Clauses, clause_from, default_clause, case_clause, clause, clauses_turn, clauses, switch_stmt, is_handled, handled, bound, parameter, finalizer, caught, handler, try_stmt, stmt_by, stmt_level, stmt, shebang_in, shebang_taken, shebang, script_body, script}
+use Rattle.swc_ecma_parser_reader.specs.Reader.{empty, debugger, uninitialized, initialized, declarator, declarators_turn, declarators, variables, closes, at_end, close, items_turn, items, block_from, block, braced, note_statement, no_label, expr_stmt, expr_stmt_at, told, target, unbroken, break_stmt, uncontinued, continue_stmt, misplaced, after_return, operand, returned, return_stmt, optional_end, import_stmt, import_stmt_at, thrown, throw, head, while_stmt, do_while, Link, goes_on, condition, alternative, link_from, link, behind_link, links, if_stmt, begins_clause, closes_clause, Clauses, clause_from, default_clause, case_clause, clause, clauses_turn, clauses, switch_stmt, is_handled, handled, bound, parameter, finalizer, caught, handler, try_stmt, stmt_by, stmt_level, stmt, top_await_fault, top_await, whole_stmt, shebang_in, shebang_taken, shebang, script_body, script}
 use Rattle.swc_ecma_parser_reader.proofs.Takes.{Falls, falls_then, falls_last, falls_coded, falls_if, less, falls_next, moves, takes, falls_past, falls_moved, wanted_falls, too_deep_falls, refuse_falls, refused_falls, fewer, name_falls, fault_falls, end_falls, close_falls, expect_falls, loop_falls}
 use Rattle.swc_ecma_parser_reader.proofs.expressions.Falls as exprs
-use Rattle.swc_ecma_parser_reader.proofs.expressions.Falls.{reject_falls, falls_when}
+use Rattle.swc_ecma_parser_reader.proofs.expressions.Falls.{reject_falls, falls_when, star_falls, FunctionsFall}
 
 -- a choice whose test is known
 falls_where : {A : Type 0} (k n : ℕ) (b : Bool) (x y : Outcome A) → (b ≡ true → Falls k n x) → Falls k n y → Falls k n (cond b x y)
@@ -512,10 +514,6 @@ function_word_falls s e = falls_when 1 (length s.at.left) (is_async_function s.a
     (λ h. let b = moves (after s.at) in let c = takes s.at (λ g. let k = sym g ∙ async_kind s.at h in cc) in omega arith)
     (λ h. takes s.at (λ g. let k = sym g ∙ function_kind s.at e h in cc))
 
-star_falls : (s : State) → Falls 0 (length s.at.left) (star s)
-unfolding star
-star_falls s = falls_if 0 (length s.at.left) (sees kind.Mul s.at) _ _ (let b = moves s.at in omega arith) (omega arith)
-
 module _ (inner : Reader Tree) (h : (s : State) → Falls 1 (length s.at.left) (inner s)) (params : Reader (List Tree)) (g : (s : State) → Falls 0 (length s.at.left) (params s)) where
   function_body_falls : (w g : Bool) (s : State) → Falls 0 (length s.at.left) (function_body inner params w g s)
   unfolding function_body
@@ -554,6 +552,38 @@ module _ (inner : Reader Tree) (h : (s : State) → Falls 1 (length s.at.left) (
       falls_then 0 0 (length r.at.left) (star r) _ (star_falls r) (λ v u.
       falls_then 0 0 (length u.at.left) (own_name w v u) _ (own_name_falls w v u) (λ i t.
       falls_last 0 (length t.at.left) (function_parts inner params w v (span_at s.at) t) _ (function_parts_falls w v (span_at s.at) t))))
+
+  -- methods, from behind their key
+  method_params_falls : (s : State) → Falls 0 (length s.at.left) (within (λ k. in_parameters k false false) params s)
+  method_params_falls s = falls_coded 0 (length s.at.left) (params (coded (in_parameters s.code false false) s)) _ _ (g (coded (in_parameters s.code false false) s))
+
+  no_parameter_falls : (word : Span) (ps : List Tree) (s : State) → Falls 0 (length s.at.left) (no_parameter word ps s)
+  no_parameter_falls word [] s = omega arith
+  no_parameter_falls word (p ∷ ps) s = reject_falls (Unit {0}) 0 (length s.at.left) _ s
+
+  one_parameter_falls : (word : Span) (ps : List Tree) (s : State) → Falls 0 (length s.at.left) (one_parameter word ps s)
+  one_parameter_falls word [] s = reject_falls Tree 0 (length s.at.left) _ s
+  one_parameter_falls word (p ∷ []) s = falls_if 0 (length s.at.left) (is_rest p) _ _ (reject_falls Tree 0 (length s.at.left) _ s) (omega arith)
+  one_parameter_falls word (p ∷ q ∷ qs) s = reject_falls Tree 0 (length s.at.left) _ s
+
+  getter_falls : (start : Span) (x : Tree) (s : State) → Falls 0 (length s.at.left) (getter inner params start x s)
+  unfolding getter
+  getter_falls start x s = falls_then 0 0 (length s.at.left) (within (λ k. in_parameters k false false) params s) _ (method_params_falls s) (λ ps t.
+      falls_then 0 0 (length t.at.left) (no_parameter start ps t) _ (no_parameter_falls start ps t) (λ _ u.
+      falls_last 0 (length u.at.left) (function_body inner params false false u) _ (function_body_falls false false u)))
+
+  setter_falls : (start : Span) (x : Tree) (s : State) → Falls 0 (length s.at.left) (setter inner params start x s)
+  unfolding setter
+  setter_falls start x s = falls_then 0 0 (length s.at.left) (within (λ k. in_parameters k false false) params s) _ (method_params_falls s) (λ ps t.
+      falls_then 0 0 (length t.at.left) (one_parameter start ps t) _ (one_parameter_falls start ps t) (λ p u.
+      falls_then 0 0 (length u.at.left) (function_body inner params false false u) _ (function_body_falls false false u) (λ body v.
+      falls_last 0 (length v.at.left) (told (misplaced_directive (is_binding_name p) body) v) _ (told_falls (misplaced_directive (is_binding_name p) body) v))))
+
+  method_falls : (form : MethodForm) (start : Span) (x : Tree) (s : State) → Falls 0 (length s.at.left) (function_by inner params (property_form form start x) s)
+  unfolding function_by plain_method
+  method_falls getter_form start x s = getter_falls start x s
+  method_falls setter_form start x s = setter_falls start x s
+  method_falls (method_form w v) start x s = falls_last 0 (length s.at.left) (function_parts inner params w v start s) _ (function_parts_falls w v start s)
 
   -- no error token stands where the word does
   function_stmt_falls : (at : Position) (s : State) → kind_at s.at ≡ kind.Function → Falls 1 (length s.at.left) (function_stmt inner params at s)
@@ -633,11 +663,15 @@ module _ (n : ℕ) (b : Taken n) where
   parameters_taken s = less (length s.at.left) (reader.parameters n s)
       (patterns.parameter_list_falls (expr n) b.exprs (cover n) b.covers (pattern n) b.patterns (element n) b.elements s)
 
-  function_taken : (s : State) → begins_function s.at ≡ true → Falls 1 (length s.at.left) (function n s)
-  function_taken s = function_expr_falls (stmt n nested_item) (b.stmts nested_item) (reader.parameters n) parameters_taken s
+  function_taken : FunctionsFall (function n)
+  unfolding function function_by
+  function_taken = record {
+    expressions = function_expr_falls (stmt n nested_item) (b.stmts nested_item) (reader.parameters n) parameters_taken;
+    methods = method_falls (stmt n nested_item) (b.stmts nested_item) (reader.parameters n) parameters_taken;
+  }
 
 all_taken : (n : ℕ) → Taken n
-unfolding expr cover head_cover pattern element stmt
+unfolding function expr cover head_cover pattern element stmt
 all_taken zero = record {
   exprs = λ class s. too_deep_falls Tree 1 (length s.at.left) s;
   covers = λ s. too_deep_falls Cover 1 (length s.at.left) s;
@@ -673,21 +707,37 @@ pattern_falls n = (all_taken n).patterns
 pub element_falls : (n : ℕ) (s : State) → Falls 1 (length s.at.left) (element n s)
 element_falls n = (all_taken n).elements
 
--- the parameters of a function, and one that is an expression
+-- the parameters of a function, and one that is a part of an expression
 pub parameters_fall : (n : ℕ) (s : State) → Falls 0 (length s.at.left) (reader.parameters n s)
 parameters_fall n = parameters_taken n (all_taken n)
 
-pub functions_fall : (n : ℕ) (s : State) → begins_function s.at ≡ true → Falls 1 (length s.at.left) (function n s)
+pub functions_fall : (n : ℕ) → FunctionsFall (function n)
 functions_fall n = function_taken n (all_taken n)
 
 -- a statement
 pub stmt_falls : (n : ℕ) (at : Position) (s : State) → Falls 1 (length s.at.left) (stmt n at s)
 stmt_falls n = (all_taken n).stmts
 
+-- ---- a statement that stands in no other
+
+top_await_fault_falls : (s : State) → Falls 0 (length s.at.left) (top_await_fault s)
+unfolding top_await_fault
+top_await_fault_falls s = falls_if 0 (length s.at.left) s.code.flags.can_be_module _ _ (omega arith) (fault_falls _ s)
+
+top_await_falls : (at : Position) (s : State) → Falls 0 (length s.at.left) (top_await at s)
+unfolding top_await
+top_await_falls at s = falls_if 0 (length s.at.left) (at.top_level && sees kind.Await s.at) _ _ (top_await_fault_falls (module_found s)) (omega arith)
+
+pub whole_stmt_falls : (n : ℕ) (at : Position) (s : State) → Falls 1 (length s.at.left) (whole_stmt n at s)
+unfolding whole_stmt
+whole_stmt_falls n at s = falls_then 0 1 (length s.at.left) (top_await at s) _ (top_await_falls at s) (λ a t. stmt_falls n at t)
+
+-- ---- a whole script
+
 script_body_falls : (n : ℕ) (s : State) → Falls 0 (length s.at.left) (script_body n s)
 unfolding script_body
 script_body_falls n s = falls_then 0 0 (length s.at.left) (shebang s) _ (shebang_falls s) (λ first t.
-    falls_last 0 (length t.at.left) (items (stmt n top_item) at_end true t) _ (items_fall (stmt n top_item) (stmt_falls n top_item) at_end true t))
+    falls_last 0 (length t.at.left) (items (whole_stmt n top_item) at_end true t) _ (items_fall (whole_stmt n top_item) (whole_stmt_falls n top_item) at_end true t))
 
 pub script_falls : (n : ℕ) (s : State) → Falls 0 (length s.at.left) (script n s)
 unfolding script

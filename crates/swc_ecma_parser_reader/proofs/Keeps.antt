@@ -4,12 +4,14 @@ use Rattle.swc_ecma_parser_grammar.specs.Parameters.{parameters}
 use Rattle.swc_ecma_parser_reader.proofs.patterns.Keeps as patterns
 use Rattle.swc_ecma_parser_reader.proofs.expressions.Keeps as expressions
 use Rattle.swc_ecma_parser_reader.specs.Reader as reader
-use Rattle.swc_ecma_parser_reader.specs.Reader.{star, named, own_name, function_expr, expr, cover, head_cover, pattern, element, function, function_word, async_or_other}
+use Rattle.swc_ecma_parser_reader.proofs.expressions.Keeps.{star_keeps}
+use Rattle.swc_ecma_parser_reader.specs.Methods.{FunctionForm, expression_form, property_form, getter_form, setter_form, method_form, star}
+use Rattle.swc_ecma_parser_reader.specs.Reader.{no_parameter, one_parameter, getter, setter, plain_method, function_by, named, own_name, function_expr, expr, cover, head_cover, pattern, element, function, function_word, async_or_other}
 use Rattle.swc_ecma_parser_grammar.specs.Names.{name_at}
 use Rattle.swc_ecma_parser_error.specs.declared.error.Error.{Error}
 use Rattle.swc_ecma_parser_grammar.specs.language.Programs.{at_top}
 use Rattle.swc_ecma_parser_model.specs.Tree.{Text}
-use Rattle.swc_ecma_parser_reader.specs.State.{below, below_label, enclosed, unlabelled}
+use Rattle.swc_ecma_parser_reader.specs.State.{below, below_label, enclosed, unlabelled, module_found}
 use Rattle.swc_ecma_parser_grammar.specs.language.Items.{labelled_item}
 use Rattle.swc_ecma_parser_reader.specs.Reader.{begins_label, relabels, labelled_body, labeled_stmt, other_stmt, note_with, with_stmt, await_here, unless_awaited, function_decl, function_stmt, function_parts, function_body, misdirected}
 use Rattle.swc_ecma_parser_reader.specs.Reader.{missing_initializer, variables, Opening, Nothing, Variables, Expression, as_init, as_left, head_variables, head_expression, opening, head_part, misdeclared, for_parts, for_in, for_of, for_behind, for_stmt, const_stmt, let_stmt}
@@ -18,10 +20,10 @@ use Rattle.swc_ecma_parser_model.specs.declared.leaves.VarDeclKind.{VarDeclKind}
 use Rattle.swc_ecma_parser_model.specs.declared.leaves.VarDeclKind.TheVariants as decl
 use Rattle.swc_ecma_parser_model.specs.Targets.{as_target}
 use Rattle.swc_ecma_parser_grammar.specs.Variables.{is_const, needs_no_initializer}
-use Rattle.swc_ecma_parser_grammar.specs.Own.{head_faults}
+use Rattle.swc_ecma_parser_grammar.specs.Own.{head_faults, misplaced_directive}
 use Rattle.swc_ecma_parser_grammar.specs.language.Contexts.{without_in, named_by, in_parameters, in_body}
 use Rattle.swc_ecma_parser_grammar.specs.Follows.{word_at, is_let_declaration, is_async_function}
-use Rattle.std.proofs.Common.{◌≡◌, ℕ, zero, suc, ◌+◌, Bool, true, false, cond, List, [], ◌∷◌, ◌++◌, length, Option, Some, None, Ok, Err, refl, Result, sym, ◌∙◌, ap, append_assoc}
+use Rattle.std.proofs.Common.{◌≡◌, ℕ, zero, suc, Bool, true, false, cond, List, [], ◌∷◌, ◌++◌, length, Option, Some, None, Ok, Err, refl, Result, sym, ◌∙◌, ap, append_assoc}
 use Rattle.std.specs.Prelude.{◌&&◌, ◌||◌, is_some, codes}
 use Rattle.swc_ecma_parser_common.specs.declared.span.Span.{Span}
 use Rattle.swc_ecma_parser_error.specs.Kind as faults
@@ -31,7 +33,7 @@ use Rattle.swc_ecma_parser_token.specs.declared.kind.TokenKind.TheVariants as ki
 use Rattle.swc_ecma_parser_input.specs.Place.{Place, after}
 use Rattle.swc_ecma_parser_model.specs.Tree as tree
 use Rattle.swc_ecma_parser_model.specs.Tree.{Tree}
-use Rattle.swc_ecma_parser_model.specs.Forms.{is_ident, is_ident_named, span_of}
+use Rattle.swc_ecma_parser_model.specs.Forms.{is_ident, is_ident_named, is_binding_name, is_rest, span_of}
 use Rattle.swc_ecma_parser_grammar.specs.declared.position.Position.{Position}
 use Rattle.swc_ecma_parser_grammar.specs.Looks.{kind_at, breaks_at, sees, span_at}
 use Rattle.swc_ecma_parser_grammar.specs.Follows.{may_begin_expression_statement, begins_import_expression}
@@ -43,7 +45,7 @@ use Rattle.swc_ecma_parser_grammar.specs.language.Goals.{Class, expression, assi
 use Rattle.swc_ecma_parser_grammar.specs.language.Items.{sub_statement}
 use Rattle.swc_ecma_parser_reader.specs.State.{State, Outcome, Reader, moved, coded, within, noted, holding_back, module_fault, fault, fault_at, wanted, refused, labelled, labelled_as, name, expect, end}
 use Rattle.swc_ecma_parser_reader.specs.Expressions.{Cover}
-use Rattle.swc_ecma_parser_reader.specs.Reader.{empty, debugger, initialized, declarator, declarators_turn, declarators, closes, at_end, close, items_turn, items, block_from, block, braced, note_statement, no_label, expr_stmt, expr_stmt_at, optional_end, import_stmt, import_stmt_at, told, target, unbroken, break_stmt, uncontinued, continue_stmt, misplaced, after_return, operand, returned, return_stmt, thrown, throw, head, while_stmt, do_while, goes_on, condition, alternative, link_from, link, links, if_stmt, begins_clause, closes_clause, clause_from, default_clause, case_clause, clause, clauses_turn, clauses, switch_stmt, begins_at, is_handled, handled, bound, parameter, finalizer, caught, handler, try_stmt, stmt_by, stmt_level, stmt, shebang, script_body, script}
+use Rattle.swc_ecma_parser_reader.specs.Reader.{empty, debugger, initialized, declarator, declarators_turn, declarators, closes, at_end, close, items_turn, items, block_from, block, braced, note_statement, no_label, expr_stmt, expr_stmt_at, optional_end, import_stmt, import_stmt_at, told, target, unbroken, break_stmt, uncontinued, continue_stmt, misplaced, after_return, operand, returned, return_stmt, thrown, throw, head, while_stmt, do_while, goes_on, condition, alternative, link_from, link, links, if_stmt, begins_clause, closes_clause, clause_from, default_clause, case_clause, clause, clauses_turn, clauses, switch_stmt, begins_at, is_handled, handled, bound, parameter, finalizer, caught, handler, try_stmt, stmt_by, stmt_level, stmt, top_await_fault, top_await, whole_stmt, shebang, script_body, script}
 use Rattle.swc_ecma_parser_reader.proofs.Meets.{Answers, answers_then, answers_if, meant}
 use Rattle.swc_ecma_parser_reader.proofs.Behind.{Kept, Lost, Passes, behind_self, behind_after, behind_noted, refused_keeps, too_deep_keeps, fault_keeps, wanted_keeps, refuse_keeps, reject_keeps, end_keeps, expect_keeps, close_keeps, shebang_keeps, name_keeps, loop_keeps}
 use Rattle.swc_ecma_parser_reader.specs.Entry.{unmarked, IsBehind, IsSetBack, AnswersScript, AnswersStatement, Stays}
@@ -188,10 +190,15 @@ function_word_keeps : Passes function_word
 unfolding function_word
 function_word_keeps b t g = let k = behind_after b t g in answers_if _ _ (is_async_function t.at) _ _ (λ _. behind_after b (moved t) k) (λ _. k)
 
--- the `*` of a generator
-star_keeps : Passes star
-unfolding star
-star_keeps b t g = answers_if _ _ (sees kind.Mul t.at) _ _ (λ _. behind_after b t g) (λ _. g)
+-- the parameter of an accessor
+no_parameter_keeps : (word : Span) (ps : List Tree) → Passes (no_parameter word ps)
+no_parameter_keeps word [] b s f = f
+no_parameter_keeps word (p ∷ ps) b s f = reject_keeps _ faults.GetterParam word b s f
+
+one_parameter_keeps : (word : Span) (ps : List Tree) → Passes (one_parameter word ps)
+one_parameter_keeps word [] b s f = reject_keeps _ faults.SetterParam word b s f
+one_parameter_keeps word (p ∷ []) b s f = answers_if _ _ (is_rest p) _ _ (λ _. reject_keeps _ faults.RestPatInSetter word b s f) (λ _. f)
+one_parameter_keeps word (p ∷ q ∷ qs) b s f = reject_keeps _ faults.SetterParam word b s f
 
 module _ (inner : Reader Tree) (below : Passes inner) where
   braces_from_keep : (directives : Bool) (start : Place) → Passes (block_from inner directives start)
@@ -204,16 +211,22 @@ module _ (inner : Reader Tree) (below : Passes inner) where
   braces_keep directives b t g = answers_then _ _ (expect kind.LBrace t) _ (expect_keeps b t g kind.LBrace) (λ _ u k. braces_from_keep directives t.at b u k)
 
   module _ (params : Reader (List Tree)) (below_params : Passes params) where
+    function_params_keep : (r g : Bool) → Passes (within (λ k. in_parameters k r g) params)
+    function_params_keep r g b u k = answers_then (Kept b) _ (params (coded (in_parameters u.code r g) u)) _ (below_params b (coded (in_parameters u.code r g) u) k) (λ ps v j. j)
+
+    function_body_keep : (r g : Bool) → Passes (function_body inner params r g)
+    unfolding function_body
+    function_body_keep r g b v j = answers_then (Kept b) _ (enclosed (braced inner true) (coded (in_body v.code r g) v)) _
+        (answers_then (Kept b) _ (braced inner true (unlabelled (coded (in_body v.code r g) v))) _ (braces_keep true b (unlabelled (coded (in_body v.code r g) v)) j) (λ x w z. z))
+        (λ x w z. z)
+
     -- from behind the name
     function_parts_keep : (r g : Bool) (start : Span) → Passes (function_parts inner params r g start)
-    unfolding function_parts function_body misdirected
+    unfolding function_parts misdirected
     function_parts_keep r g start b u k =
-        answers_then (Kept b) _ (within (λ k. in_parameters k r g) params u) _
-        (answers_then (Kept b) _ (params (coded (in_parameters u.code r g) u)) _ (below_params b (coded (in_parameters u.code r g) u) k) (λ ps v j. j)) (λ ps v j.
-        answers_then (Kept b) _ (function_body inner params r g v) _
-        (answers_then (Kept b) _ (enclosed (braced inner true) (coded (in_body v.code r g) v)) _
-        (answers_then (Kept b) _ (braced inner true (unlabelled (coded (in_body v.code r g) v))) _ (braces_keep true b (unlabelled (coded (in_body v.code r g) v)) j) (λ x w z. z))
-        (λ x w z. z)) (λ x w z. answers_then (Kept b) _ (misdirected (parameters ps) x w) _ (told_keeps b _ w z) (λ _ a c. c)))
+        answers_then (Kept b) _ (within (λ k. in_parameters k r g) params u) _ (function_params_keep r g b u k) (λ ps v j.
+        answers_then (Kept b) _ (function_body inner params r g v) _ (function_body_keep r g b v j) (λ x w z.
+        answers_then (Kept b) _ (misdirected (parameters ps) x w) _ (told_keeps b _ w z) (λ _ a c. c)))
 
     own_name_keeps : (w v : Bool) → Passes (own_name w v)
     unfolding own_name named
@@ -226,6 +239,32 @@ module _ (inner : Reader Tree) (below : Passes inner) where
         answers_then (Kept b) _ (star o) _ (star_keeps b o m) (λ v r l.
         answers_then (Kept b) _ (own_name w v r) _ (own_name_keeps w v b r l) (λ i u k.
         answers_then (Kept b) _ (function_parts inner params w v (span_at t.at) u) _ (function_parts_keep w v (span_at t.at) b u k) (λ x z j. j))))
+
+    -- methods, from behind their key
+    getter_keeps : (start : Span) (x : Tree) → Passes (getter inner params start x)
+    unfolding getter
+    getter_keeps start x b t g = answers_then (Kept b) _ (within (λ k. in_parameters k false false) params t) _ (function_params_keep false false b t g) (λ ps u k.
+        answers_then (Kept b) _ (no_parameter start ps u) _ (no_parameter_keeps start ps b u k) (λ _ v j.
+        answers_then (Kept b) _ (function_body inner params false false v) _ (function_body_keep false false b v j) (λ body w z. z)))
+
+    setter_keeps : (start : Span) (x : Tree) → Passes (setter inner params start x)
+    unfolding setter
+    setter_keeps start x b t g = answers_then (Kept b) _ (within (λ k. in_parameters k false false) params t) _ (function_params_keep false false b t g) (λ ps u k.
+        answers_then (Kept b) _ (one_parameter start ps u) _ (one_parameter_keeps start ps b u k) (λ p v j.
+        answers_then (Kept b) _ (function_body inner params false false v) _ (function_body_keep false false b v j) (λ body w z.
+        answers_then (Kept b) _ (told (misplaced_directive (is_binding_name p) body) w) _ (told_keeps b (misplaced_directive (is_binding_name p) body) w z) (λ _ a c. c))))
+
+    plain_method_keeps : (w v : Bool) (start : Span) (x : Tree) → Passes (plain_method inner params w v start x)
+    unfolding plain_method
+    plain_method_keeps w v start x b t g = answers_then (Kept b) _ (function_parts inner params w v start t) _ (function_parts_keep w v start b t g) (λ y u k. k)
+
+    -- a function as a part of an expression
+    function_by_keeps : (form : FunctionForm) → Passes (function_by inner params form)
+    unfolding function_by
+    function_by_keeps expression_form b t g = function_expr_keeps b t g
+    function_by_keeps (property_form getter_form start x) b t g = getter_keeps start x b t g
+    function_by_keeps (property_form setter_form start x) b t g = setter_keeps start x b t g
+    function_by_keeps (property_form (method_form w v) start x) b t g = plain_method_keeps w v start x b t g
 
 module _ (inner : Position → Reader Tree) (inner_expr : Class → Reader Tree) (inner_pat : Reader Tree) (inner_head : Reader Cover) (inner_params : Reader (List Tree))
     (below_stmt : (at : Position) → Passes (inner at)) (below_expr : (class : Class) → Passes (inner_expr class)) (below_pat : Passes inner_pat) (below_head : Passes inner_head)
@@ -564,11 +603,12 @@ module _ (n : ℕ) (b : Passing n) where
   parameters_passing : Passes (reader.parameters n)
   parameters_passing = patterns.parameter_list_keeps (expr n) (cover n) (pattern n) (element n) b.exprs b.covers b.patterns b.elements
 
-  function_passing : Passes (function n)
-  function_passing = function_expr_keeps (stmt n nested_item) (b.stmts nested_item) (reader.parameters n) parameters_passing
+  function_passing : (form : FunctionForm) → Passes (function n form)
+  unfolding function
+  function_passing = function_by_keeps (stmt n nested_item) (b.stmts nested_item) (reader.parameters n) parameters_passing
 
 all_passing : (n : ℕ) → Passing n
-unfolding expr cover head_cover pattern element stmt
+unfolding function expr cover head_cover pattern element stmt
 all_passing zero = record {
   exprs = λ class b s f. too_deep_keeps _ b s f;
   covers = λ b s f. too_deep_keeps _ b s f;
@@ -590,13 +630,26 @@ all_passing (suc n) = let a = all_passing n in record {
 pub stmt_keeps : (n : ℕ) (at : Position) → Passes (stmt n at)
 stmt_keeps n = (all_passing n).stmts
 
+-- a statement that stands in no other
+top_await_fault_keeps : Passes top_await_fault
+unfolding top_await_fault
+top_await_fault_keeps b s f = answers_if _ _ s.code.flags.can_be_module _ _ (λ _. f) (λ _. fault_keeps b s f _)
+
+top_await_keeps : (at : Position) → Passes (top_await at)
+unfolding top_await
+top_await_keeps at b s f = answers_if _ _ (at.top_level && sees kind.Await s.at) _ _ (λ _. top_await_fault_keeps b (module_found s) f) (λ _. f)
+
+whole_stmt_keeps : (n : ℕ) (at : Position) → Passes (whole_stmt n at)
+unfolding whole_stmt
+whole_stmt_keeps n at b s f = answers_then _ _ (top_await at s) _ (top_await_keeps at b s f) (λ _ t g. stmt_keeps n at b t g)
+
 -- a script
 pub script_keeps : (n : ℕ) → Passes (script n)
 unfolding script script_body
 script_keeps n b s f =
     let s1 = coded (script_code s.code) s in
     answers_then _ _ (script_body n s1) _ (answers_then (Kept b) _ (shebang s1) _ (shebang_keeps b s1 f) (λ o t g.
-    answers_then _ _ (items (stmt n top_item) at_end true t) _ (items_keeps (stmt n top_item) (stmt_keeps n top_item) at_end true b t g) (λ xs u k. k))) (λ x t k. k)
+    answers_then _ _ (items (whole_stmt n top_item) at_end true t) _ (items_keeps (whole_stmt n top_item) (whole_stmt_keeps n top_item) at_end true b t g) (λ xs u k. k))) (λ x t k. k)
 
 -- ---- what answers as the reader does
 
@@ -619,6 +672,6 @@ module _ (X : Type 0) (view : X → Tree) (limit : ℕ) (s : State) where
 
   pub statement_stays : (include_decl top_level : Bool) (r : Result X Error) (t : State) → AnswersStatement view limit include_decl top_level (unmarked s) r t → Stays s r t
   statement_stays include_decl top_level (Ok x) t h = let at = at_top include_decl top_level in
-      meant (Kept s) (Lost s) (stmt limit at (unmarked s)) (Ok (view x, t)) h (stmt_keeps limit at s (unmarked s) (behind_self s))
+      meant (Kept s) (Lost s) (whole_stmt limit at (unmarked s)) (Ok (view x, t)) h (whole_stmt_keeps limit at s (unmarked s) (behind_self s))
   statement_stays include_decl top_level (Err e) t h = λ n. let p = h n in let at = at_top include_decl top_level in
-      outcome_behind s (stmt limit at (unmarked s)) (fault_of e) p.0 t (stmt_keeps limit at s (unmarked s) (behind_self s)) p.1 p.2
+      outcome_behind s (whole_stmt limit at (unmarked s)) (fault_of e) p.0 t (whole_stmt_keeps limit at s (unmarked s) (behind_self s)) p.1 p.2

@@ -14,6 +14,7 @@ pub mod SoundParts
 pub mod SoundFor
 pub mod SoundFunctions
 pub mod Sound
+pub mod SoundScripts
 pub mod Plain
 pub mod Opens
 pub mod Chains
@@ -21,6 +22,7 @@ pub mod Answered
 pub mod Below
 pub mod CompleteParts
 pub mod Complete
+pub mod CompleteScripts
 pub mod Unique
 pub mod Empty
 pub mod Shallow

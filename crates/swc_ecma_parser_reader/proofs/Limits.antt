@@ -6,11 +6,12 @@ use Rattle.swc_ecma_parser_reader.proofs.Errors.{is_error, fault_here}
 use Rattle.swc_ecma_parser_reader.proofs.patterns.Limits as patterns
 use Rattle.swc_ecma_parser_reader.proofs.expressions.Limits as expressions
 use Rattle.swc_ecma_parser_reader.specs.Reader as reader
-use Rattle.swc_ecma_parser_reader.specs.Reader.{star, named, own_name, function_expr, expr, cover, head_cover, pattern, element, function, function_word, async_or_other}
+use Rattle.swc_ecma_parser_reader.specs.Methods.{MethodForm, getter_form, setter_form, method_form, property_form, star}
+use Rattle.swc_ecma_parser_reader.specs.Reader.{no_parameter, one_parameter, getter, setter, plain_method, function_by, named, own_name, function_expr, expr, cover, head_cover, pattern, element, function, function_word, async_or_other}
 use Rattle.swc_ecma_parser_grammar.specs.Names.{name_at}
 use Rattle.swc_ecma_parser_reader.proofs.Meets.{saw}
 use Rattle.swc_ecma_parser_model.specs.Tree.{Text}
-use Rattle.swc_ecma_parser_reader.specs.State.{below, below_label, enclosed, unlabelled}
+use Rattle.swc_ecma_parser_reader.specs.State.{below, below_label, enclosed, unlabelled, module_found}
 use Rattle.swc_ecma_parser_grammar.specs.language.Items.{labelled_item}
 use Rattle.swc_ecma_parser_reader.specs.Reader.{begins_label, relabels, labelled_body, labeled_stmt, other_stmt, note_with, with_stmt, await_here, unless_awaited, function_decl, function_stmt, function_parts, function_body, misdirected}
 use Rattle.swc_ecma_parser_reader.specs.Reader.{missing_initializer, variables, Opening, Nothing, Variables, Expression, as_init, as_left, head_variables, head_expression, opening, head_part, misdeclared, for_parts, for_in, for_of, for_behind, for_stmt, const_stmt, let_stmt}
@@ -19,10 +20,10 @@ use Rattle.swc_ecma_parser_model.specs.declared.leaves.VarDeclKind.{VarDeclKind}
 use Rattle.swc_ecma_parser_model.specs.declared.leaves.VarDeclKind.TheVariants as decl
 use Rattle.swc_ecma_parser_model.specs.Targets.{as_target}
 use Rattle.swc_ecma_parser_grammar.specs.Variables.{is_const, needs_no_initializer}
-use Rattle.swc_ecma_parser_grammar.specs.Own.{head_faults}
+use Rattle.swc_ecma_parser_grammar.specs.Own.{head_faults, misplaced_directive}
 use Rattle.swc_ecma_parser_grammar.specs.language.Contexts.{without_in, named_by, in_parameters, in_body}
 use Rattle.swc_ecma_parser_grammar.specs.Follows.{word_at, is_let_declaration, is_async_function}
-use Rattle.std.proofs.Common.{◌≡◌, ◌≢◌, ℕ, zero, suc, ◌+◌, ◌*◌, ◌≤◌, Bool, true, false, cond, List, [], ◌∷◌, ◌++◌, length, Option, Some, None, Ok, Err, refl, arith, ap}
+use Rattle.std.proofs.Common.{◌≡◌, ◌≢◌, ℕ, zero, suc, ◌+◌, ◌*◌, ◌≤◌, Bool, true, false, cond, List, [], ◌∷◌, length, Option, Some, None, Ok, Err, refl, arith, ap}
 use Rattle.std.specs.Prelude.{◌&&◌, ◌||◌, is_some, codes}
 use Rattle.swc_ecma_parser_common.specs.declared.span.Span.{Span}
 use Rattle.swc_ecma_parser_error.specs.declared.kind.SyntaxError.{SyntaxError}
@@ -38,7 +39,7 @@ use Rattle.swc_ecma_parser_input.specs.TokenSource.{means_out_of_memory}
 use Rattle.swc_ecma_parser_input.specs.Place.{Place, after}
 use Rattle.swc_ecma_parser_model.specs.Tree as tree
 use Rattle.swc_ecma_parser_model.specs.Tree.{Tree}
-use Rattle.swc_ecma_parser_model.specs.Forms.{is_ident, is_ident_named, span_of}
+use Rattle.swc_ecma_parser_model.specs.Forms.{is_ident, is_ident_named, is_binding_name, is_rest, span_of}
 use Rattle.swc_ecma_parser_grammar.specs.declared.position.Position.{Position}
 use Rattle.swc_ecma_parser_grammar.specs.Looks.{kind_at, breaks_at, sees, span_at}
 use Rattle.swc_ecma_parser_grammar.specs.Follows.{may_begin_expression_statement, begins_import_expression}
@@ -50,12 +51,12 @@ use Rattle.swc_ecma_parser_grammar.specs.language.Goals.{Class, expression, assi
 use Rattle.swc_ecma_parser_grammar.specs.language.Items.{sub_statement}
 use Rattle.swc_ecma_parser_reader.specs.State.{State, Outcome, Reader, moved, coded, within, noted, holding_back, module_fault, recorded_at, recorded_in, fault, fault_at, wanted, refused, labelled, labelled_as, name, expect, end}
 use Rattle.swc_ecma_parser_reader.specs.Expressions.{Cover}
-use Rattle.swc_ecma_parser_reader.specs.Reader.{empty, debugger, initialized, declarator, declarators_turn, declarators, closes, at_end, close, items_turn, items, block_from, block, braced, note_statement, no_label, expr_stmt, expr_stmt_at, optional_end, import_stmt, import_stmt_at, told, target, unbroken, break_stmt, uncontinued, continue_stmt, misplaced, after_return, operand, returned, return_stmt, thrown, throw, head, while_stmt, do_while, goes_on, condition, alternative, link_from, link, links, if_stmt, begins_clause, closes_clause, clause_from, default_clause, case_clause, clause, clauses_turn, clauses, switch_stmt, begins_at, is_handled, handled, bound, parameter, finalizer, caught, handler, try_stmt, stmt_by, stmt_level, stmt, shebang, script_body, script}
+use Rattle.swc_ecma_parser_reader.specs.Reader.{empty, debugger, initialized, declarator, declarators_turn, declarators, closes, at_end, close, items_turn, items, block_from, block, braced, note_statement, no_label, expr_stmt, expr_stmt_at, optional_end, import_stmt, import_stmt_at, told, target, unbroken, break_stmt, uncontinued, continue_stmt, misplaced, after_return, operand, returned, return_stmt, thrown, throw, head, while_stmt, do_while, goes_on, condition, alternative, link_from, link, links, if_stmt, begins_clause, closes_clause, clause_from, default_clause, case_clause, clause, clauses_turn, clauses, switch_stmt, begins_at, is_handled, handled, bound, parameter, finalizer, caught, handler, try_stmt, stmt_by, stmt_level, stmt, top_await_fault, top_await, whole_stmt, shebang, script_body, script}
 use Rattle.swc_ecma_parser_reader.specs.Limits.{has_too_deep_token}
 use Rattle.swc_ecma_parser_reader.proofs.Meets.{Answers, answers_then, answers_if, loop_answers, meant}
 use Rattle.swc_ecma_parser_reader.proofs.Shallow.{Fine, fine_more, fine_after, fine_taken, Shallow, Kept, too_deep_shallow, name_shallow, fault_shallow, wanted_shallow, refuse_shallow, end_shallow, expect_shallow, close_shallow, shebang_shallow, Levels}
 use Rattle.swc_ecma_parser_reader.proofs.Opens.{chain_goes}
-use Rattle.swc_ecma_parser_reader.proofs.expressions.Limits.{reject_shallow}
+use Rattle.swc_ecma_parser_reader.proofs.expressions.Limits.{reject_shallow, star_shallow, FunctionsShallow}
 
 -- ---- statements: one level more, for an expression that begins with the same token
 
@@ -234,10 +235,15 @@ function_taken m t e f = by_word (is_async_function t.at) refl
     by_word true h = let (i, l, g) = fine_taken m t.at kind.Ident (async_kind t.at h) (λ z. cc) f in (i, l, rw h (fine_after i (after t.at) g))
     by_word false h = let (i, l, g) = fine_taken m t.at kind.Function (function_kind t.at e h) (λ z. cc) f in (i, l, rw h g)
 
--- the `*` of a generator
-star_shallow : (i : ℕ) (t : State) → Fine i t.at.left → Answers (Kept i) Shallow (star t)
-unfolding star
-star_shallow i t g = answers_if _ _ (sees kind.Mul t.at) _ _ (λ _. fine_after i t.at g) (λ _. g)
+-- the parameter of an accessor
+no_parameter_shallow : (word : Span) (ps : List Tree) (i : ℕ) (s : State) → Fine i s.at.left → Answers (Kept i) Shallow (no_parameter word ps s)
+no_parameter_shallow word [] i s f = f
+no_parameter_shallow word (p ∷ ps) i s f = reject_shallow _ faults.GetterParam word (λ e. cc) i s f
+
+one_parameter_shallow : (word : Span) (ps : List Tree) (i : ℕ) (s : State) → Fine i s.at.left → Answers (Kept i) Shallow (one_parameter word ps s)
+one_parameter_shallow word [] i s f = reject_shallow _ faults.SetterParam word (λ e. cc) i s f
+one_parameter_shallow word (p ∷ []) i s f = answers_if _ _ (is_rest p) _ _ (λ _. reject_shallow _ faults.RestPatInSetter word (λ e. cc) i s f) (λ _. f)
+one_parameter_shallow word (p ∷ q ∷ qs) i s f = reject_shallow _ faults.SetterParam word (λ e. cc) i s f
 
 module _ (inner : Reader Tree) (n : ℕ) (below : StmtLevels n inner) where
   braces_from_shallow : (directives : Bool) (start : Place) → StmtLevels n (block_from inner directives start)
@@ -250,17 +256,24 @@ module _ (inner : Reader Tree) (n : ℕ) (below : StmtLevels n inner) where
   braces_shallow directives i t h g = answers_then _ _ (expect kind.LBrace t) _ (expect_shallow i t g kind.LBrace) (λ _ u k. braces_from_shallow directives t.at i u h k)
 
   module _ (params : Reader (List Tree)) (below_params : Levels n params) where
-    -- from behind the name
-    function_parts_shallow : (r g : Bool) (start : Span) → StmtLevels n (function_parts inner params r g start)
-    unfolding function_parts function_body misdirected
-    function_parts_shallow r g start i u h k =
-        answers_then (Kept i) _ (within (λ k. in_parameters k r g) params u) _
-        (answers_then (Kept i) _ (params (coded (in_parameters u.code r g) u)) _ (below_params i (coded (in_parameters u.code r g) u) (omega arith) k) (λ ps v j. j)) (λ ps v j.
-        answers_then (Kept i) _ (function_body inner params r g v) _
-        (answers_then (Kept i) _ (enclosed (braced inner true) (coded (in_body v.code r g) v)) _
+    function_params_shallow : (r g : Bool) → Levels n (within (λ k. in_parameters k r g) params)
+    function_params_shallow r g i u h k =
+        answers_then (Kept i) _ (params (coded (in_parameters u.code r g) u)) _ (below_params i (coded (in_parameters u.code r g) u) h k) (λ ps v j. j)
+
+    function_body_shallow : (r g : Bool) → StmtLevels n (function_body inner params r g)
+    unfolding function_body
+    function_body_shallow r g i v h j = answers_then (Kept i) _ (enclosed (braced inner true) (coded (in_body v.code r g) v)) _
         (answers_then (Kept i) _ (braced inner true (unlabelled (coded (in_body v.code r g) v))) _
         (braces_shallow true i (unlabelled (coded (in_body v.code r g) v)) h j) (λ x w z. z))
-        (λ x w z. z)) (λ x w z. answers_then (Kept i) _ (misdirected (parameters ps) x w) _ (told_shallow i _ w z) (λ _ a c. c)))
+        (λ x w z. z)
+
+    -- from behind the name
+    function_parts_shallow : (r g : Bool) (start : Span) → StmtLevels n (function_parts inner params r g start)
+    unfolding function_parts misdirected
+    function_parts_shallow r g start i u h k =
+        answers_then (Kept i) _ (within (λ k. in_parameters k r g) params u) _ (function_params_shallow r g i u (omega arith) k) (λ ps v j.
+        answers_then (Kept i) _ (function_body inner params r g v) _ (function_body_shallow r g i v h j) (λ x w z.
+        answers_then (Kept i) _ (misdirected (parameters ps) x w) _ (told_shallow i _ w z) (λ _ a c. c)))
 
     own_name_shallow : (w v : Bool) (i : ℕ) (t : State) → Fine i t.at.left → Answers (Kept i) Shallow (own_name w v t)
     unfolding own_name named
@@ -276,6 +289,30 @@ module _ (inner : Reader Tree) (n : ℕ) (below : StmtLevels n inner) where
         answers_then (Kept m) _ (star o) _ (star_shallow i o b) (λ v r l.
         answers_then (Kept m) _ (own_name w v r) _ (own_name_shallow w v i r l) (λ x u k.
         answers_then (Kept m) _ (function_parts inner params w v (span_at t.at) u) _ (function_parts_shallow w v (span_at t.at) i u (omega arith) k) (λ y z j. fine_more i m z.at.left (omega arith) j))))
+
+    -- methods, from behind their key
+    getter_shallow : (start : Span) (x : Tree) → StmtLevels n (getter inner params start x)
+    unfolding getter
+    getter_shallow start x i t h g = answers_then (Kept i) _ (within (λ k. in_parameters k false false) params t) _ (function_params_shallow false false i t (omega arith) g) (λ ps u k.
+        answers_then (Kept i) _ (no_parameter start ps u) _ (no_parameter_shallow start ps i u k) (λ _ v j.
+        answers_then (Kept i) _ (function_body inner params false false v) _ (function_body_shallow false false i v h j) (λ body w z. z)))
+
+    setter_shallow : (start : Span) (x : Tree) → StmtLevels n (setter inner params start x)
+    unfolding setter
+    setter_shallow start x i t h g = answers_then (Kept i) _ (within (λ k. in_parameters k false false) params t) _ (function_params_shallow false false i t (omega arith) g) (λ ps u k.
+        answers_then (Kept i) _ (one_parameter start ps u) _ (one_parameter_shallow start ps i u k) (λ p v j.
+        answers_then (Kept i) _ (function_body inner params false false v) _ (function_body_shallow false false i v h j) (λ body w z.
+        answers_then (Kept i) _ (told (misplaced_directive (is_binding_name p) body) w) _ (told_shallow i (misplaced_directive (is_binding_name p) body) w z) (λ _ a c. c))))
+
+    plain_method_shallow : (w v : Bool) (start : Span) (x : Tree) → StmtLevels n (plain_method inner params w v start x)
+    unfolding plain_method
+    plain_method_shallow w v start x i t h g = answers_then (Kept i) _ (function_parts inner params w v start t) _ (function_parts_shallow w v start i t h g) (λ y u k. k)
+
+    method_shallow : (form : MethodForm) (start : Span) (x : Tree) → StmtLevels n (function_by inner params (property_form form start x))
+    unfolding function_by
+    method_shallow getter_form start x i t h g = getter_shallow start x i t h g
+    method_shallow setter_form start x i t h g = setter_shallow start x i t h g
+    method_shallow (method_form w v) start x i t h g = plain_method_shallow w v start x i t h g
 
 module _ (inner : Position → Reader Tree) (inner_expr : Class → Reader Tree) (inner_pat : Reader Tree) (inner_head : Reader Cover) (inner_params : Reader (List Tree)) (n : ℕ)
     (below_stmt : (at : Position) → StmtLevels n (inner at)) (below_expr : (class : Class) → Levels n (inner_expr class)) (below_pat : Levels n inner_pat) (below_head : Levels n inner_head)
@@ -625,11 +662,15 @@ module _ (n : ℕ) (b : Enough n) where
   parameters_enough : Levels n (reader.parameters n)
   parameters_enough m s h f = patterns.parameter_list_shallow (expr n) (cover n) (pattern n) (element n) n b.exprs b.covers b.patterns b.elements m (omega arith) s f
 
-  function_enough : (m : ℕ) (s : State) → 2 * m ≤ suc n → begins_function s.at ≡ true → Fine m s.at.left → Answers (Kept m) Shallow (function n s)
-  function_enough = function_expr_shallow (stmt n nested_item) n (b.stmts nested_item) (reader.parameters n) parameters_enough
+  function_enough : FunctionsShallow n (function n)
+  unfolding function function_by
+  function_enough = record {
+    expressions = function_expr_shallow (stmt n nested_item) n (b.stmts nested_item) (reader.parameters n) parameters_enough;
+    methods = method_shallow (stmt n nested_item) n (b.stmts nested_item) (reader.parameters n) parameters_enough;
+  }
 
 all_enough : (n : ℕ) → Enough n
-unfolding expr cover head_cover pattern element stmt
+unfolding function expr cover head_cover pattern element stmt
 all_enough zero = record {
   exprs = λ class m s h f. too_deep_shallow _ s (omega arith);
   covers = λ m s h f. too_deep_shallow _ s (omega arith);
@@ -650,18 +691,31 @@ all_enough (suc n) = let b = all_enough n in record {
 stmt_shallow : (n : ℕ) (at : Position) → StmtLevels n (stmt n at)
 stmt_shallow n = (all_enough n).stmts
 
--- a script needs no more
+-- one that stands in no other needs no more
+top_await_fault_shallow : (m : ℕ) (s : State) → Fine m s.at.left → Answers (Kept m) Shallow (top_await_fault s)
+unfolding top_await_fault
+top_await_fault_shallow m s f = answers_if _ _ s.code.flags.can_be_module _ _ (λ _. f) (λ _. fault_shallow m s f _)
+
+top_await_shallow : (at : Position) (m : ℕ) (s : State) → Fine m s.at.left → Answers (Kept m) Shallow (top_await at s)
+unfolding top_await
+top_await_shallow at m s f = answers_if _ _ (at.top_level && sees kind.Await s.at) _ _ (λ _. top_await_fault_shallow m (module_found s) f) (λ _. f)
+
+whole_stmt_shallow : (n : ℕ) (at : Position) → StmtLevels n (whole_stmt n at)
+unfolding whole_stmt
+whole_stmt_shallow n at m s h f = answers_then _ _ (top_await at s) _ (top_await_shallow at m s f) (λ _ t g. stmt_shallow n at m t h g)
+
+-- nor does a script
 script_shallow : (n m : ℕ) (s : State) → 2 * m + 2 ≤ n → Fine m s.at.left → Answers (Kept m) Shallow (script n s)
 unfolding script script_body
 script_shallow n m s h f =
     let s1 = coded (script_code s.code) s in
     answers_then _ _ (script_body n s1) _ (answers_then (Kept m) _ (shebang s1) _ (shebang_shallow m s1 f) (λ o t g.
-    answers_then _ _ (items (stmt n top_item) at_end true t) _ (items_shallow (stmt n top_item) n (stmt_shallow n top_item) at_end true m (omega arith) t g) (λ xs u k. k))) (λ x t k. k)
+    answers_then _ _ (items (whole_stmt n top_item) at_end true t) _ (items_shallow (whole_stmt n top_item) n (whole_stmt_shallow n top_item) at_end true m (omega arith) t g) (λ xs u k. k))) (λ x t k. k)
 
 -- a limit of twice the tokens and two more is never met, unless an error token says so
 pub script_fits : (n : ℕ) (s : State) (e : Fault) (t : State) → 2 * length s.at.left + 2 ≤ n → script n s ≡ Err (e, t) → has_too_deep_token s.at.left ≡ false → e.kind ≢ faults.TooDeep
 script_fits n s e t h g k = meant (Kept (length s.at.left)) Shallow (script n s) (Err (e, t)) g (script_shallow n (length s.at.left) s h (record { few = omega arith; shallow = k }))
 
 -- nor is it by a statement
-pub stmt_fits : (n : ℕ) (at : Position) (s : State) (e : Fault) (t : State) → 2 * length s.at.left + 2 ≤ n → stmt n at s ≡ Err (e, t) → has_too_deep_token s.at.left ≡ false → e.kind ≢ faults.TooDeep
-stmt_fits n at s e t h g k = meant (Kept (length s.at.left)) Shallow (stmt n at s) (Err (e, t)) g (stmt_shallow n at (length s.at.left) s (omega arith) (record { few = omega arith; shallow = k }))
+pub whole_fits : (n : ℕ) (at : Position) (s : State) (e : Fault) (t : State) → 2 * length s.at.left + 2 ≤ n → whole_stmt n at s ≡ Err (e, t) → has_too_deep_token s.at.left ≡ false → e.kind ≢ faults.TooDeep
+whole_fits n at s e t h g k = meant (Kept (length s.at.left)) Shallow (whole_stmt n at s) (Err (e, t)) g (whole_stmt_shallow n at (length s.at.left) s (omega arith) (record { few = omega arith; shallow = k }))

@@ -14,16 +14,19 @@ use Rattle.swc_ecma_parser_grammar.specs.Reads.{directed, nested_item}
 use Rattle.swc_ecma_parser_grammar.specs.language.Contexts.{named_by}
 use Rattle.swc_ecma_parser_grammar.specs.language.Goals.{expression}
 use Rattle.swc_ecma_parser_reader.specs.State.{State, Reader, coded, moved, within, too_deep, loop}
-use Rattle.swc_ecma_parser_reader.specs.Reader.{declarator, declarators_turn, directs, items_turn, begins_clause, Clauses, clause, clauses_turn, named, own_name, stmt_level, stmt, expr, head_cover, pattern, parameters}
+use Rattle.swc_ecma_parser_reader.specs.Reader.{declarator, declarators_turn, directs, items_turn, begins_clause, Clauses, clause, clauses_turn, named, own_name, stmt_level, stmt, whole_stmt, expr, head_cover, pattern, parameters}
 use Rattle.swc_ecma_parser_reader.proofs.Steps.{loop_more, loop_done, loop_err}
 use Rattle.swc_ecma_parser_reader.proofs.Takes.{moves}
-use Rattle.swc_ecma_parser_reader.proofs.Falls.{stmt_falls, declarator_falls, clause_falls, expr_falls, pattern_falls}
+use Rattle.swc_ecma_parser_reader.proofs.Falls.{stmt_falls, whole_stmt_falls, declarator_falls, clause_falls, expr_falls, pattern_falls}
 use Rattle.swc_ecma_parser_reader.proofs.expressions.Loops.{shorter_by, deeper}
 
 -- ---- what takes a token leaves fewer
 
 pub stmt_shorter : (n : ℕ) (at : Position) (s : State) (x : Tree) (t : State) → stmt n at s ≡ Ok (x, t) → length t.at.left < length s.at.left
 stmt_shorter n at s x t e = shorter_by (length s.at.left) (stmt n at s) x t e (stmt_falls n at s)
+
+pub whole_shorter : (n : ℕ) (at : Position) (s : State) (x : Tree) (t : State) → whole_stmt n at s ≡ Ok (x, t) → length t.at.left < length s.at.left
+whole_shorter n at s x t e = shorter_by (length s.at.left) (whole_stmt n at s) x t e (whole_stmt_falls n at s)
 
 pub declarator_shorter : (n : ℕ) (in_head : Bool) (word : VarDeclKind) (s : State) (x : Tree) (t : State) → declarator (expr n) (pattern n) in_head word s ≡ Ok (x, t) → length t.at.left < length s.at.left
 declarator_shorter n in_head word s x t e = shorter_by (length s.at.left) (declarator (expr n) (pattern n) in_head word s) x t e (declarator_falls (expr n) (expr_falls n) (pattern n) (pattern_falls n) in_head word s)

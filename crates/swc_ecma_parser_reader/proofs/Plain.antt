@@ -11,13 +11,14 @@ use Rattle.swc_ecma_parser_reader.specs.Reader as reader
 use Rattle.swc_ecma_parser_model.specs.declared.leaves.Ident.{Ident}
 use Rattle.swc_ecma_parser_grammar.specs.Parameters.{parameters}
 use Rattle.swc_ecma_parser_reader.proofs.expressions.SoundSteps.{reject_meets, meets_as}
-use Rattle.std.proofs.Common.{◌≡◌, ℕ, zero, suc, ◌+◌, ◌-◌, ◌<◌, Bool, true, false, cond, List, [], ◌∷◌, ◌++◌, length, replicate, count_by, Ok, Err, refl, ap, ◌∙◌, arith, Option, is_some, Some, None, append-nil, sym}
+use Rattle.std.proofs.Common.{◌≡◌, ℕ, zero, suc, ◌+◌, ◌-◌, ◌<◌, Bool, true, false, cond, List, [], ◌∷◌, ◌++◌, length, replicate, count_by, Ok, Err, refl, ap, ◌∙◌, arith, Option, is_some, Some, None, sym}
 use Rattle.std.specs.Str.{bytes_eq}
 use Rattle.swc_ecma_parser_error.specs.Kind.{Fault}
 use Rattle.swc_ecma_parser_grammar.specs.Own.{only, duplicates}
 use Rattle.swc_ecma_parser_grammar.specs.language.Items.{labelled_item}
 use Rattle.swc_ecma_parser_reader.specs.State.{coded, below, below_label, fault, fault_at, recorded_at, recorded_in, noted}
-use Rattle.swc_ecma_parser_reader.specs.Reader.{star, told, with_stmt, note_with, await_here, unless_awaited, misdirected, function_body, function_parts, function_decl, function_stmt, expr, head_cover, pattern, function_word, async_or_other}
+use Rattle.swc_ecma_parser_reader.specs.Methods.{star}
+use Rattle.swc_ecma_parser_reader.specs.Reader.{told, with_stmt, note_with, await_here, unless_awaited, misdirected, function_body, function_parts, function_decl, function_stmt, expr, head_cover, pattern, function_word, async_or_other}
 use Rattle.swc_ecma_parser_reader.proofs.Meets.{meets_then}
 use Rattle.std.specs.Prelude.{◌&&◌, ◌||◌, codes}
 use Rattle.std.proofs.lemmas.List.Recursion.{is_count_by}
@@ -39,7 +40,7 @@ use Rattle.swc_ecma_parser_grammar.specs.language.Contexts.{in_loop, in_breakabl
 use Rattle.swc_ecma_parser_grammar.specs.language.Goals.{Class, expression, assignment}
 use Rattle.swc_ecma_parser_grammar.specs.language.Items.{sub_statement}
 use Rattle.swc_ecma_parser_reader.specs.State.{State, Outcome, Reader, and_then, moved, within, wanted, name, expect, end}
-use Rattle.swc_ecma_parser_reader.specs.Expressions.{Cover, taken}
+use Rattle.swc_ecma_parser_reader.specs.Expressions.{Cover}
 use Rattle.swc_ecma_parser_reader.specs.Reader.{items, closes, close, declarators, link, alternative, head, clauses, target, unbroken, uncontinued, operand, braced, handler, finalizer, handled, optional_end, Opening, as_init, as_left, opening, head_part, misdeclared, labelled_body, relabels, no_label, note_statement, empty, debugger, variables, block, block_from, expr_stmt, expr_stmt_at, import_stmt, import_stmt_at, thrown, throw, while_stmt, do_while, for_parts, for_in, for_of, for_behind, for_stmt, goes_on, links, if_stmt, break_stmt, continue_stmt, returned, return_stmt, misplaced, begins_label, labeled_stmt, other_stmt, switch_stmt, try_stmt, const_stmt, let_stmt, stmt_by, stmt_level, stmt}
 use Rattle.swc_ecma_parser_reader.proofs.Meets.{Meets, Refuses, meets_if, wanted_meets, too_deep_meets, refuse_meets, meant}
 use Rattle.swc_ecma_parser_reader.proofs.SoundParts.{after_return_meets}

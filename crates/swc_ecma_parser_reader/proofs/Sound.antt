@@ -1,11 +1,11 @@
 -- What is read is in the grammar where nothing was recorded, and the faults of the table are the walk's.
 use Rattle.swc_ecma_parser_reader.proofs.Words.{async_begins, or_later, begins_function}
-use Rattle.swc_ecma_parser_reader.proofs.SoundFunctions.{SoundBraces, InBraces, body_from_sound, braces_sound, in_braces, function_expr_sound, function_stmt_sound, function_decl_sound}
+use Rattle.swc_ecma_parser_reader.proofs.SoundFunctions.{SoundBraces, InBraces, body_from_sound, braces_sound, in_braces, function_expr_sound, function_stmt_sound, function_decl_sound, GetterRead, SetterRead, MethodRead as MethodIs, getter_sound, setter_sound, method_sound, getter_stays, setter_stays, method_stays}
 use Rattle.swc_ecma_parser_reader.specs.Reader as reader
 use Rattle.swc_ecma_parser_reader.proofs.patterns.Sound as patterns
-use Rattle.swc_ecma_parser_reader.proofs.patterns.Sound.{SoundParams}
+use Rattle.swc_ecma_parser_reader.proofs.patterns.Sound.{SoundParams, Unwrapped}
 use Rattle.swc_ecma_parser_reader.proofs.expressions.Sound as expressions
-use Rattle.swc_ecma_parser_reader.proofs.expressions.SoundLefts.{FunctionRead}
+use Rattle.swc_ecma_parser_reader.proofs.expressions.SoundLefts.{FunctionRead, FunctionsSound}
 use Rattle.std.proofs.Common.{append_assoc}
 use Rattle.swc_ecma_parser_reader.specs.Notes.{no_notes}
 use Rattle.swc_ecma_parser_reader.proofs.Between.{sound_below, sound_coded}
@@ -23,62 +23,52 @@ use Rattle.swc_ecma_parser_reader.specs.Reader.{variables, const_stmt, let_stmt}
 use Rattle.swc_ecma_parser_reader.proofs.expressions.CompleteKinds.{seen}
 use Rattle.swc_ecma_parser_reader.proofs.expressions.Heads.{SoundHead, head_expr_sound}
 use Rattle.swc_ecma_parser_reader.proofs.SoundFor.{SoundAs, looped_sound, for_sound}
-use Rattle.std.proofs.Common.{◌≡◌, ℕ, zero, suc, Bool, true, false, cond, List, [], ◌∷◌, ◌++◌, Option, length, Ok, Err, refl, sym, ◌∙◌, ap, subst, append-nil}
-use Rattle.std.specs.Prelude.{◌&&◌, ◌||◌, is_some}
+use Rattle.std.proofs.Common.{◌≡◌, ℕ, zero, suc, Bool, true, false, cond, List, [], ◌∷◌, ◌++◌, length, Ok, Err, refl, sym, ◌∙◌, ap, subst, append-nil}
+use Rattle.std.specs.Prelude.{not, ◌&&◌, ◌||◌, is_some}
 use Rattle.swc_ecma_parser_common.specs.declared.span.Span.{Span}
 use Rattle.swc_ecma_parser_error.specs.Kind as faults
-use Rattle.swc_ecma_parser_token.specs.declared.keyword.Keyword.{Keyword}
-use Rattle.swc_ecma_parser_token.specs.declared.keyword.Keyword.TheVariants as keyword
-use Rattle.swc_ecma_parser_token.specs.declared.operator.BinOpToken.{BinOpToken}
-use Rattle.swc_ecma_parser_token.specs.declared.operator.BinOpToken.TheVariants as bin
-use Rattle.swc_ecma_parser_token.specs.declared.operator.AssignOp.{AssignOp}
-use Rattle.swc_ecma_parser_token.specs.declared.operator.AssignOp.TheVariants as assign
 use Rattle.swc_ecma_parser_token.specs.declared.kind.TokenKind.{TokenKind}
 use Rattle.swc_ecma_parser_token.specs.declared.kind.TokenKind.TheVariants as kind
-use Rattle.swc_ecma_parser_token.specs.declared.token.Token.{Token}
-use Rattle.swc_ecma_parser_token.specs.declared.token.Token.TheVariants as token
-use Rattle.swc_ecma_parser_token.specs.declared.token.Word.{Word}
-use Rattle.swc_ecma_parser_token.specs.declared.token.Word.TheVariants as word
-use Rattle.swc_ecma_parser_token.specs.declared.token.TokenAndSpan.{TokenAndSpan}
-use Rattle.swc_ecma_parser_token.specs.Kind.{token_kind, word_kind, keyword_kind, bin_op_kind, assign_op_kind}
 use Rattle.swc_ecma_parser_input.specs.Place.{Place, after}
 use Rattle.swc_ecma_parser_model.specs.Tree as tree
-use Rattle.swc_ecma_parser_model.specs.Tree.{Tree, Text, listed, trees}
+use Rattle.swc_ecma_parser_model.specs.Tree.{Tree, Text, also, listed, trees}
 use Rattle.swc_ecma_parser_model.specs.Forms.{is_absent}
 use Rattle.swc_ecma_parser_grammar.specs.declared.position.Position.{Position}
-use Rattle.swc_ecma_parser_grammar.specs.Looks.{kind_at, breaks_at, sees, same_kind, span_at, spanned}
+use Rattle.swc_ecma_parser_grammar.specs.Looks.{kind_at, breaks_at, sees, span_at, spanned}
 use Rattle.swc_ecma_parser_grammar.specs.Names.{Code}
 use Rattle.swc_ecma_parser_grammar.specs.Ends.{Ends, ends_at}
 use Rattle.swc_ecma_parser_grammar.specs.Follows.{may_begin_expression_statement, begins_import_expression, is_let_declaration, is_async_function}
 use Rattle.swc_ecma_parser_grammar.specs.language.Contexts.{in_loop, in_breakable, in_with}
 use Rattle.swc_ecma_parser_grammar.specs.language.Goals.{Class, expression}
 use Rattle.swc_ecma_parser_grammar.specs.language.Items.{sub_statement}
-use Rattle.swc_ecma_parser_grammar.specs.Reads.{with_in, nested_item, top_item, ReadsItems, TargetRule, OperandRule, no_operand_rule, operand_rule, break_rule, continue_rule, return_rule, StmtRule, block_rule, empty_rule, debugger_rule, if_statement_rule, CaseRule, case_clause_rule, default_clause_rule, ReadsCases, switch_rule, throw_rule, try_rule, while_rule, do_while_rule, expr_rule, import_rule, ReadsBlock, CatchRule, no_catch_rule, catch_rule, catch_parameter_rule, FinallyRule, no_finally_rule, finally_rule, ReadsHead, IfRule, if_rule, ElseRule, no_else_rule, else_rule, else_if_rule}
+use Rattle.swc_ecma_parser_grammar.specs.Reads.{with_in, nested_item, ReadsItems, TargetRule, OperandRule, no_operand_rule, operand_rule, break_rule, continue_rule, return_rule, StmtRule, block_rule, empty_rule, debugger_rule, if_statement_rule, CaseRule, case_clause_rule, default_clause_rule, ReadsCases, switch_rule, throw_rule, try_rule, while_rule, do_while_rule, expr_rule, import_rule, ReadsBlock, CatchRule, no_catch_rule, catch_rule, catch_parameter_rule, FinallyRule, no_finally_rule, finally_rule, ReadsHead, IfRule, if_rule, ElseRule, no_else_rule, else_rule, else_if_rule}
 use Rattle.swc_ecma_parser_grammar.specs.ReadsSupported.{ReadsClass, ReadsPat, ReadsElement, ReadsTarget, ReadsStmt, ReadsParams}
-use Rattle.swc_ecma_parser_grammar.specs.Entries.{ReadsScript, ReadsShebang, some_shebang, no_shebang, script_code}
 use Rattle.swc_ecma_parser_grammar.specs.Walk as walks
 use Rattle.swc_ecma_parser_grammar.specs.Walk.{walk, env_of, tabled, drops}
 use Rattle.swc_ecma_parser_grammar.specs.Notes.{notes, statement_note}
 use Rattle.swc_ecma_parser_grammar.specs.language.Noted.{has_meta}
-use Rattle.swc_ecma_parser_grammar.proofs.Tests.{or_no, and_yes}
-use Rattle.swc_ecma_parser_grammar.proofs.Widens.{script_widens, script_supported}
+use Rattle.swc_ecma_parser_grammar.proofs.Tests.{or_no, and_yes, and_both}
 use Rattle.swc_ecma_parser_grammar.proofs.FunctionExprs.{function_widens, function_supported}
+use Rattle.swc_ecma_parser_grammar.proofs.MethodParts.{parts_widen, params_supported, body_supported, parameters_unnoted, body_unnoted}
+use Rattle.swc_ecma_parser_grammar.proofs.Unnoted.{joined}
+use Rattle.swc_ecma_parser_grammar.specs.Parameters.{parameters}
+use Rattle.swc_ecma_parser_grammar.specs.Supported.{supported_in, is_supported_key_in, is_rightly_directed, is_rightly_set, has_no_note, is_clean}
+use Rattle.swc_ecma_parser_grammar.specs.language.Objects.{getter_rule, setter_rule, method_rule}
+use Rattle.swc_ecma_parser_model.specs.Targets.{as_properties}
+use Rattle.swc_ecma_parser_reader.specs.Methods.{MethodForm, getter_form, setter_form, method_form, expression_form, property_form}
 use Rattle.swc_ecma_parser_grammar.specs.language.LeftSides.{is_callee}
 use Rattle.swc_ecma_parser_reader.specs.Notes.{◌⊕◌, notes_of, all_notes_of}
-use Rattle.swc_ecma_parser_reader.specs.State.{State, Reader, moved, coded, flagged, within, fault_at, Outcome, wanted, labelled, labelled_as, expect, end}
+use Rattle.swc_ecma_parser_reader.specs.State.{State, Reader, moved, coded, within, fault_at, Outcome, wanted, labelled, labelled_as, expect, end}
 use Rattle.swc_ecma_parser_reader.specs.Expressions.{Cover}
-use Rattle.swc_ecma_parser_reader.specs.Reader.{expr, cover, head_cover, pattern, element, function}
-use Rattle.swc_ecma_parser_reader.specs.Reader.{target, unbroken, break_stmt, uncontinued, continue_stmt, misplaced, operand, returned, return_stmt, empty, debugger, declarators, closes, at_end, close, items, block_from, block, braced, note_statement, no_label, expr_stmt, expr_stmt_at, optional_end, import_stmt, import_stmt_at, thrown, throw, head, while_stmt, do_while, Link, goes_on, condition, alternative, link_from, link, links, if_stmt, begins_clause, closes_clause, Clauses, clause_from, default_clause, case_clause, clause, clauses_turn, clauses, switch_stmt, begins_at, is_handled, handled, bound, parameter, finalizer, caught, handler, try_stmt, stmt_by, stmt_level, stmt, shebang_of, shebang_in, shebang_taken, shebang, script_body, script}
-use Rattle.swc_ecma_parser_reader.specs.Entry.{SoundScript, error_tokens}
-use Rattle.swc_ecma_parser_reader.specs.Limits.{has_out_of_memory_token}
-use Rattle.swc_ecma_parser_reader.proofs.expressions.SoundCovers.{SoundCover}
+use Rattle.swc_ecma_parser_reader.specs.Reader.{expr, cover, head_cover, pattern, element, function, function_by, getter, setter, plain_method}
+use Rattle.swc_ecma_parser_reader.specs.Reader.{target, unbroken, break_stmt, uncontinued, continue_stmt, misplaced, operand, returned, return_stmt, empty, debugger, declarators, closes, close, items, block_from, block, braced, note_statement, no_label, expr_stmt, expr_stmt_at, optional_end, import_stmt, import_stmt_at, thrown, throw, head, while_stmt, do_while, Link, goes_on, condition, alternative, link_from, link, links, if_stmt, begins_clause, closes_clause, Clauses, clause_from, default_clause, case_clause, clause, clauses_turn, clauses, switch_stmt, begins_at, is_handled, handled, bound, parameter, finalizer, caught, handler, try_stmt, stmt_by, stmt_level, stmt}
+use Rattle.swc_ecma_parser_reader.proofs.expressions.SoundCovers.{SoundCover, HeadRead, Headed, MethodRead}
 use Rattle.swc_ecma_parser_reader.proofs.expressions.SoundSteps.{meets_as, FreeWord, name_sound, Takes, expect_sound, fault_sound, walks_push, notes_push}
 use Rattle.swc_ecma_parser_reader.proofs.Notes.{or_nil, or_true, notes_nil}
 use Rattle.swc_ecma_parser_reader.proofs.Meets.{Meets, Refuses, meets_then, meets_if, wanted_meets, too_deep_meets, refuse_meets, Turned, loop_answers, saw, meant}
-use Rattle.swc_ecma_parser_reader.proofs.Errors.{kind_here, none_counted, nothing_at_end}
 use Rattle.swc_ecma_parser_reader.proofs.Opens.{import_unnoted, chain_goes, chain_stops}
-use Rattle.swc_ecma_parser_reader.proofs.Between.{Sound, SoundTree, SoundStep, no_faults, same, sound_then, sound_more, sound_moved, sound_here, sound_as, sound_held, sound_after, within_sound, flags_back}
-use Rattle.swc_ecma_parser_reader.proofs.SoundParts.{end_sound, optional_end_sound, Declarators, declarators_sound, inside_sound, variables_sound, code_after, code_stays, code_setting, code_module, items_sound, close_sound, NoLabel, no_label_sound, NoNote, SoundNote, note_sound, and_false, unbroken_sound, uncontinued_sound, misplaced_sound, target_sound, after_return_meets}
+use Rattle.swc_ecma_parser_reader.proofs.Between.{Sound, SoundTree, SoundStep, no_faults, same, nil-split, sound_then, sound_more, sound_moved, sound_here, sound_as, sound_held, sound_after, within_sound}
+use Rattle.swc_ecma_parser_reader.proofs.SoundParts.{end_sound, optional_end_sound, Declarators, declarators_sound, inside_sound, variables_sound, code_stays, code_setting, code_module, items_sound, NoLabel, no_label_sound, NoNote, SoundNote, note_sound, and_false, unbroken_sound, uncontinued_sound, misplaced_sound, target_sound, after_return_meets}
 
 -- ---- statements
 
@@ -544,91 +534,6 @@ module _ (Stmt : Code → Position → Tree → Place → Place → Type 0) (Exp
   unfolding stmt_level
   level_sound s = by_sound (kind_at s.at) s refl
 
--- ---- a script
-
--- no word and no operator is a first line
-keyword_no_shebang : (k : Keyword) → same_kind (keyword_kind k) kind.Shebang ≡ false
-unfolding same_kind
-keyword_no_shebang keyword.Await = refl
-keyword_no_shebang _ = refl
-
-word_no_shebang : (w : Word) → same_kind (word_kind w) kind.Shebang ≡ false
-unfolding same_kind
-word_no_shebang (word.Keyword k) = keyword_no_shebang k
-word_no_shebang _ = refl
-
-bin_op_no_shebang : (o : BinOpToken) → same_kind (bin_op_kind o) kind.Shebang ≡ false
-unfolding same_kind
-bin_op_no_shebang bin.EqEq = refl
-bin_op_no_shebang _ = refl
-
-assign_op_no_shebang : (o : AssignOp) → same_kind (assign_op_kind o) kind.Shebang ≡ false
-unfolding same_kind
-assign_op_no_shebang assign.Assign = refl
-assign_op_no_shebang _ = refl
-
--- a first line, or none
-SoundShebang : State → Option Text → State → Type 0
-SoundShebang s o t = SoundStep (λ k c d. ReadsShebang c d o) s t
-
--- another kind stands first
-sees_other : (c : Place) (u : TokenAndSpan) (ts : List TokenAndSpan) (j : TokenKind) → c.left ≡ u ∷ ts → same_kind (token_kind u.token) j ≡ false → sees j c ≡ false
-unfolding kind_at
-sees_other c u ts j e h = rw e h
-
-shebang_of_sound : (s : State) (u : TokenAndSpan) (ts : List TokenAndSpan) (v : Token) → s.at.left ≡ u ∷ ts → u.token ≡ v → Meets (SoundShebang s) (shebang_taken (shebang_of v) s)
-unfolding same_kind SoundShebang
-shebang_of_sound s u ts (token.Shebang text) e h =
-    sound_moved s (kind_here s.at u ts (token.Shebang text) e h) refl (some_shebang text u.span (record { had_line_break = u.had_line_break; rest = ts; is = e ∙ rw (← h) refl; next = refl }))
-shebang_of_sound s u ts (token.Word w) e h = sound_here s (no_shebang (sees_other s.at u ts kind.Shebang e (rw h (word_no_shebang w))) refl)
-shebang_of_sound s u ts (token.BinOp o) e h = sound_here s (no_shebang (sees_other s.at u ts kind.Shebang e (rw h (bin_op_no_shebang o))) refl)
-shebang_of_sound s u ts (token.AssignOp o) e h = sound_here s (no_shebang (sees_other s.at u ts kind.Shebang e (rw h (assign_op_no_shebang o))) refl)
-shebang_of_sound s u ts _ e h = sound_here s (no_shebang (sees_other s.at u ts kind.Shebang e (rw h refl)) refl)
-
-shebang_in_sound : (s : State) (ts : List TokenAndSpan) → s.at.left ≡ ts → Meets (SoundShebang s) (shebang_taken (shebang_in ts) s)
-unfolding same_kind SoundShebang kind_at
-shebang_in_sound s [] e = sound_here s (no_shebang (rw e refl) refl)
-shebang_in_sound s (u ∷ ts) e = shebang_of_sound s u ts u.token e refl
-
-shebang_sound : (s : State) → Meets (SoundShebang s) (shebang s)
-unfolding shebang
-shebang_sound s = shebang_in_sound s s.at.left refl
-
--- a script ends where the list does
-at_end_seen : (c : Place) → at_end c ≡ true → kind_at c ≡ kind.End
-unfolding at_end
-at_end_seen c e = saw c kind.End e
-
--- the rule of a script under the code of one
-record ReadsBody (n : ℕ) (x : Tree) (k : Code) (c d : Place) : Type 0 where
-  shebang : Option Text
-  first : Place
-  reads_shebang : ReadsShebang c first shebang
-  items : List Tree
-  reads_items : ReadsItems (λ j. ReadsStmt n j top_item) k true items first d
-  is : x ≡ tree.script (spanned c d) (listed items) shebang
-
--- ends where the list does
-abbrev SoundBody : ℕ → State → Tree → State → Type 0
-SoundBody n s x t = ((f : Code → Code) × ((k : Code) → (f k).setting ≡ k.setting) × Sound f (λ k l. walk (env_of k l) x) (notes_of x) (ReadsBody n x) s t) × (kind_at t.at ≡ kind.End)
-
-script_is : (n : ℕ) (s : State) (x : Tree) (t : State) → SoundBody n (coded (script_code s.code) s) x t → SoundScript n s x (flagged (script_code s.code) t)
-script_is n s x t ((f, keeps, p), e) =
-    let spelled : p.added ≡ [] → ReadsScript n s.code x s.at t.at = λ h. let r = p.reads h in
-    record { shebang = r.shebang; first = r.first; reads_shebang = r.reads_shebang; items = r.items; reads_items = r.reads_items; whole = e; is = r.is } in
-    record {
-      code = flags_back (script_code s.code) t.code (ap (λ k. k.setting) p.code ∙ keeps (script_code s.code));
-      scope = p.scope;
-      whole = e;
-      added = p.added;
-      faults = p.faults;
-      spells = λ h. (script_widens n s.code x s.at t.at (spelled h), p.clean h);
-      is_supported = λ h. script_supported n s.code x s.at t.at (spelled h);
-      walked = λ h d. p.walked (none_counted s.at.left h ∙ sym (ap error_tokens (nothing_at_end t.at e))) d;
-      noted = p.notes;
-      found = p.found;
-    }
-
 -- ---- all levels
 
 record Sounds (n : ℕ) : Type 0 where
@@ -639,6 +544,51 @@ record Sounds (n : ℕ) : Type 0 where
   elements : (s : State) → Meets (λ x t. SoundTree (ReadsElement n) s x t) (element n s)
   stmts : (at : Position) (s : State) → Meets (λ x t. SoundTree (λ k. ReadsStmt n k at) s x t) (stmt n at s)
 
+-- ---- methods of the small relation are those of the whole language
+
+element_unwrapped : (n : ℕ) (s : State) → Meets Unwrapped (element n s)
+unfolding element
+element_unwrapped zero s = too_deep_meets _ s
+element_unwrapped (suc n) s = patterns.element_level_unwrapped (expr n) (cover n) (pattern n) (element n) s
+
+-- what is tested in module code
+tested : (m : Bool) (b : Bool) → (m ≡ true → b ≡ true) → (not m || b) ≡ true
+tested true b h = h refl
+tested false b h = refl
+
+module _ (n : ℕ) (k : Code) (x : Tree) (c d : Place) (key : Tree) where
+  abbrev m : Bool
+  m = k.flags.module
+
+  getter_read : GetterRead (ReadsStmt n) (ReadsParams n) (HeadRead n getter_form key) key x k c d → MethodRead n k x c d
+  getter_read r = let (j, w, i, h) = r.before in let p = r.parts in (
+    getter_rule key r.body (record { behind_head = j; behind_key = r.behind_key; reads_head = w; reads_key = i; reads_parts = parts_widen n k false false [] r.body r.behind_key d p; arity = refl }) r.is,
+    ap (supported_in m) r.is ∙ and_both (is_supported_key_in m key) _ h (and_both (supported_in m r.body) _ (body_supported n k false false [] r.body r.behind_key d p)
+        (tested m (has_no_note r.body) (λ o. ap is_clean (body_unnoted n k false false [] r.body r.behind_key d o p)))),
+    λ ys. ap (λ z. as_properties (also z ys)) r.is,
+  )
+
+  setter_read : SetterRead (ReadsStmt n) (ReadsParams n) (HeadRead n setter_form key) key x k c d → MethodRead n k x c d
+  setter_read r = let (j, w, i, h) = r.before in let p = r.parts in let ps = r.p ∷ [] in (
+    setter_rule key r.p r.body (record { behind_head = j; behind_key = r.behind_key; reads_head = w; reads_key = i; reads_parts = parts_widen n k false false ps r.body r.behind_key d p; arity = ap not r.no_rest }) r.is,
+    ap (supported_in m) r.is ∙ and_both (is_supported_key_in m key) _ h (and_both (supported_in m r.p && supported_in m r.body) _
+        (and_both (supported_in m r.p) _ (and_yes (supported_in m r.p) _ (params_supported n k false false ps r.body r.behind_key d p)).0 (body_supported n k false false ps r.body r.behind_key d p))
+        (and_both (is_rightly_set r.p r.body) _ (ap is_clean r.directs) (tested m (has_no_note r.p && has_no_note r.body) (λ o. and_both (has_no_note r.p) _
+        (ap is_clean (nil-split (notes r.p) [] (parameters_unnoted n k false false ps r.body r.behind_key d o p)).0) (ap is_clean (body_unnoted n k false false ps r.body r.behind_key d o p)))))),
+    λ ys. ap (λ z. as_properties (also z ys)) r.is,
+  )
+
+  method_read : (w g : Bool) → MethodIs (ReadsStmt n) (ReadsParams n) (HeadRead n (method_form w g) key) key w g x k c d → MethodRead n k x c d
+  method_read a g r = let (j, w, i, h) = r.before in let p = r.parts in
+      let fn = tree.function (spanned c d) (listed []) (parameters r.patterns) r.body a g in (
+        method_rule a g key r.patterns r.body (record { behind_head = j; behind_key = r.behind_key; reads_head = w; reads_key = i; reads_parts = parts_widen n k a g r.patterns r.body r.behind_key d p; arity = refl }) r.is,
+        ap (supported_in m) r.is ∙ and_both (is_supported_key_in m key) _ h (and_both (supported_in m fn) _
+            (and_both (supported_in m (parameters r.patterns)) _ (params_supported n k a g r.patterns r.body r.behind_key d p) (body_supported n k a g r.patterns r.body r.behind_key d p))
+            (and_both (is_rightly_directed fn) _ (ap is_clean r.directs) (tested m (has_no_note fn) (λ o. ap is_clean
+            (joined (notes (parameters r.patterns)) (notes r.body) (parameters_unnoted n k a g r.patterns r.body r.behind_key d o p) (body_unnoted n k a g r.patterns r.body r.behind_key d o p)))))),
+        λ ys. ap (λ z. as_properties (also z ys)) r.is,
+      )
+
 module _ (n : ℕ) (b : Sounds n) where
   -- what the head of a loop begins with, as an expression and as a target
   openings : (s : State) → Meets (λ v t. SoundAs (ReadsClass n) (ReadsTarget n) s v t) (head_cover n s)
@@ -647,13 +597,30 @@ module _ (n : ℕ) (b : Sounds n) where
   params : (s : State) → Meets (λ ps t. SoundParams n s ps t) (reader.parameters n s)
   params = patterns.parameter_list_sound n (expr n) (cover n) (pattern n) (element n) b.exprs b.covers b.patterns b.elements
 
-  -- a function that is an expression is one of the whole language
-  functions : (s : State) → begins_function s.at ≡ true → Meets (λ x t. SoundTree (FunctionRead n) s x t) (function n s)
-  functions s e = meets_as (function n s) (function_expr_sound (ReadsStmt n) (ReadsParams n) (stmt n nested_item) (b.stmts nested_item) (reader.parameters n) params (λ k ps c d r. r.0.opens) s e)
-      (λ x t p. sound_as s t refl refl refl (λ r. (function_widens n s.code x s.at t.at r, function_supported n s.code x s.at t.at r, ap is_callee r.is)) p)
+  -- functions as parts of expressions are those of the whole language
+  functions : FunctionsSound n (function n)
+  unfolding function function_by
+  functions = record {
+    expressions = λ s e. meets_as (function n expression_form s)
+        (function_expr_sound (ReadsStmt n) (ReadsParams n) (stmt n nested_item) (b.stmts nested_item) (reader.parameters n) params (λ k ps c d r. r.0.opens) s e)
+        (λ x t p. sound_as s t refl refl refl (λ r. (function_widens n s.code x s.at t.at r, function_supported n s.code x s.at t.at r, ap is_callee r.is)) p);
+    methods = methods;
+  }
+    where
+      methods : (form : MethodForm) (key : Tree) (s m : State) → Headed n form key s m → Meets (λ x t. SoundTree (MethodRead n) s x t) (function n (property_form form (span_at s.at) key) m)
+      methods getter_form key s m p = meets_as (function n (property_form getter_form (span_at s.at) key) m)
+          (getter_sound (ReadsStmt n) (ReadsParams n) (stmt n nested_item) (b.stmts nested_item) (reader.parameters n) params (HeadRead n getter_form key) key s m p)
+          (λ x t q. sound_as s t refl refl refl (λ r. getter_read n s.code x s.at t.at key r) q)
+      methods setter_form key s m p = meets_as (function n (property_form setter_form (span_at s.at) key) m)
+          (setter_sound (ReadsStmt n) (ReadsParams n) (stmt n nested_item) (b.stmts nested_item) (reader.parameters n) params (HeadRead n setter_form key) key s m p
+          (patterns.parameter_list_unwrapped (expr n) (cover n) (pattern n) (element n) (element_unwrapped n)))
+          (λ x t q. sound_as s t refl refl refl (λ r. setter_read n s.code x s.at t.at key r) q)
+      methods (method_form w g) key s m p = meets_as (function n (property_form (method_form w g) (span_at s.at) key) m)
+          (method_sound (ReadsStmt n) (ReadsParams n) (stmt n nested_item) (b.stmts nested_item) (reader.parameters n) params (HeadRead n (method_form w g) key) key s m p w g)
+          (λ x t q. sound_as s t refl refl refl (λ r. method_read n s.code x s.at t.at key w g r) q)
 
 all_sound : (n : ℕ) → Sounds n
-unfolding expr cover head_cover pattern element stmt
+unfolding function expr cover head_cover pattern element stmt
 all_sound zero = record {
   exprs = λ class s. too_deep_meets _ s;
   covers = λ s. too_deep_meets _ s;
@@ -697,43 +664,12 @@ element_sound n = (all_sound n).elements
 pub parameters_sound : (n : ℕ) (s : State) → Meets (λ ps t. SoundParams n s ps t) (reader.parameters n s)
 parameters_sound n = params n (all_sound n)
 
-pub function_sound : (n : ℕ) (s : State) → begins_function s.at ≡ true → Meets (λ x t. SoundTree (FunctionRead n) s x t) (function n s)
-function_sound n = functions n (all_sound n)
+pub function_sound : (n : ℕ) (s : State) → begins_function s.at ≡ true → Meets (λ x t. SoundTree (FunctionRead n) s x t) (function n expression_form s)
+function_sound n = (functions n (all_sound n)).expressions
 
 -- a statement is in the grammar within as many levels
 pub stmt_sound : (n : ℕ) (at : Position) (s : State) → Meets (λ x t. SoundTree (λ k. ReadsStmt n k at) s x t) (stmt n at s)
 stmt_sound n = (all_sound n).stmts
-
--- a first line and statements up to the end
-body_sound : (n : ℕ) (s : State) → Meets (SoundBody n s) (script_body n s)
-unfolding script_body SoundShebang
-body_sound n s = meets_then _ (shebang s) _ (shebang_sound s) (λ o m p.
-    meets_then _ (items (stmt n top_item) at_end true m) _ (items_sound (λ k. ReadsStmt n k top_item) (stmt n top_item) (stmt_sound n top_item) at_end true m) (λ xs t q. (
-      (
-        (λ k. code_after k true xs),
-        (λ k. code_setting k true xs),
-        sound_as s t refl refl refl (λ (i, r, z). record { shebang = o; first = i; reads_shebang = r; items = xs; reads_items = z; is = refl }) (sound_then p q.0),
-      ),
-      at_end_seen t.at q.1,
-    )))
-
--- the answer for a script is sound
-pub script_sound : (n : ℕ) (s : State) → Meets (λ x t. SoundScript n s x t) (script n s)
-unfolding script
-script_sound n s = meets_then _ (script_body n (coded (script_code s.code) s)) _ (body_sound n (coded (script_code s.code) s)) (λ x t p. script_is n s x t p)
-
--- the same of an outcome that is known
-pub script_is_sound : (n : ℕ) (s : State) (x : Tree) (t : State) → script n s ≡ Ok (x, t) → SoundScript n s x t
-script_is_sound n s x t e = meant (λ y u. SoundScript n s y u) Refuses (script n s) (Ok (x, t)) e (script_sound n s)
-
--- a list with a token that says that memory ran out spells no script
-script_remembers : (n : ℕ) (s : State) → Meets (λ x t. has_out_of_memory_token s.at.left ≡ false) (script n s)
-unfolding script
-script_remembers n s = meets_then _ (script_body n (coded (script_code s.code) s)) _ (body_sound n (coded (script_code s.code) s))
-    (λ x t ((f, keeps, p), e). p.remembers (ap has_out_of_memory_token (nothing_at_end t.at e)))
-
-pub script_lacks_out_of_memory : (n : ℕ) (s : State) (x : Tree) (t : State) → script n s ≡ Ok (x, t) → has_out_of_memory_token s.at.left ≡ false
-script_lacks_out_of_memory n s x t e = meant (λ y u. has_out_of_memory_token s.at.left ≡ false) Refuses (script n s) (Ok (x, t)) e (script_remembers n s)
 
 -- what is read leaves the code as it was
 pub stmt_code : (n : ℕ) (at : Position) (s : State) (x : Tree) (t : State) → stmt n at s ≡ Ok (x, t) → t.code ≡ s.code
@@ -763,8 +699,22 @@ pattern_code n s x t e = let p : SoundTree (ReadsPat n) s x t = meant (λ y u. S
 pub element_code : (n : ℕ) (s : State) (x : Tree) (t : State) → element n s ≡ Ok (x, t) → t.code ≡ s.code
 element_code n s x t e = let p : SoundTree (ReadsElement n) s x t = meant (λ y u. SoundTree (ReadsElement n) s y u) Refuses (element n s) (Ok (x, t)) e (element_sound n s) in p.code
 
-pub function_code : (n : ℕ) (s : State) (x : Tree) (t : State) → begins_function s.at ≡ true → function n s ≡ Ok (x, t) → t.code ≡ s.code
-function_code n s x t k e = let p : SoundTree (FunctionRead n) s x t = meant (λ y u. SoundTree (FunctionRead n) s y u) Refuses (function n s) (Ok (x, t)) e (function_sound n s k) in p.code
+pub function_code : (n : ℕ) (s : State) (x : Tree) (t : State) → begins_function s.at ≡ true → function n expression_form s ≡ Ok (x, t) → t.code ≡ s.code
+function_code n s x t k e = let p : SoundTree (FunctionRead n) s x t = meant (λ y u. SoundTree (FunctionRead n) s y u) Refuses (function n expression_form s) (Ok (x, t)) e (function_sound n s k) in p.code
+
+-- so do methods, from behind their key
+pub getter_code : (n : ℕ) (start : Span) (key : Tree) (s : State) (x : Tree) (t : State) → getter (stmt n nested_item) (reader.parameters n) start key s ≡ Ok (x, t) → t.code ≡ s.code
+getter_code n start key s x t e = meant (λ _ u. u.code ≡ s.code) Refuses (getter (stmt n nested_item) (reader.parameters n) start key s) (Ok (x, t)) e
+    (getter_stays (ReadsStmt n) (ReadsParams n) (stmt n nested_item) (stmt_sound n nested_item) (reader.parameters n) (parameters_sound n) start key s)
+
+pub setter_code : (n : ℕ) (start : Span) (key : Tree) (s : State) (x : Tree) (t : State) → setter (stmt n nested_item) (reader.parameters n) start key s ≡ Ok (x, t) → t.code ≡ s.code
+setter_code n start key s x t e = meant (λ _ u. u.code ≡ s.code) Refuses (setter (stmt n nested_item) (reader.parameters n) start key s) (Ok (x, t)) e
+    (setter_stays (ReadsStmt n) (ReadsParams n) (stmt n nested_item) (stmt_sound n nested_item) (reader.parameters n) (parameters_sound n) start key s)
+
+pub method_code : (n : ℕ) (w g : Bool) (start : Span) (key : Tree) (s : State) (x : Tree) (t : State) → plain_method (stmt n nested_item) (reader.parameters n) w g start key s ≡ Ok (x, t)
+    → t.code ≡ s.code
+method_code n w g start key s x t e = meant (λ _ u. u.code ≡ s.code) Refuses (plain_method (stmt n nested_item) (reader.parameters n) w g start key s) (Ok (x, t)) e
+    (method_stays (ReadsStmt n) (ReadsParams n) (stmt n nested_item) (stmt_sound n nested_item) (reader.parameters n) (parameters_sound n) w g start key s)
 
 -- a body leaves what is a module's as it was, and the labels and the mark
 module _ (n : ℕ) (s : State) (x : Tree) (t : State) (e : braced (stmt n nested_item) true s ≡ Ok (x, t)) where

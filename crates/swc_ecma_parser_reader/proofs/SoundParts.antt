@@ -15,7 +15,7 @@ use Rattle.swc_ecma_parser_model.specs.declared.leaves.VarDeclKind.TheVariants a
 use Rattle.swc_ecma_parser_model.specs.Tree as tree
 use Rattle.swc_ecma_parser_model.specs.Tree.{Tree, Trees, Text, none, also, trees}
 use Rattle.swc_ecma_parser_model.specs.Directive.{is_use_strict, is_string_statement}
-use Rattle.swc_ecma_parser_model.specs.Forms.{is_ident, is_ident_named, span_of, has_plain_params}
+use Rattle.swc_ecma_parser_model.specs.Forms.{is_ident, is_ident_named, is_binding_name, span_of, has_plain_params}
 use Rattle.swc_ecma_parser_grammar.specs.declared.position.Position.{Position}
 use Rattle.swc_ecma_parser_grammar.specs.Looks.{kind_at, sees, span_at, spanned}
 use Rattle.swc_ecma_parser_grammar.specs.Names.{Code}
@@ -168,7 +168,7 @@ never_directs [] = refl
 never_directs (x ∷ xs) = never_directs xs
 
 -- the reader's test for directives is that of the grammar
-directs_agrees : (directives : Bool) (xs : List Tree) → directs directives xs ≡ directs_after directives xs
+pub directs_agrees : (directives : Bool) (xs : List Tree) → directs directives xs ≡ directs_after directives xs
 directs_agrees directives [] = refl
 directs_agrees directives (x ∷ xs) = sym (never_directs xs)
 
@@ -416,7 +416,7 @@ told_stays [] s h = refl
 told_stays (f ∷ fs) s h = meets_then _ (fault f s) _ (recorded_in_stays f s s.at.left refl h) (λ _ m e.
     meets_as (told fs m) (told_stays fs m (subst (λ c. is_error (kind_at c) ≡ false) (sym e) h)) (λ _ t g. g ∙ e))
 
-meets_both : {A : Type 0} (P Q : A → State → Type 0) (o : Outcome A) → Meets P o → Meets Q o → Meets (λ a t. P a t × Q a t) o
+pub meets_both : {A : Type 0} (P Q : A → State → Type 0) (o : Outcome A) → Meets P o → Meets Q o → Meets (λ a t. P a t × Q a t) o
 meets_both P Q (Ok p) h g = (h, g)
 meets_both P Q (Err e) h g = tt
 
@@ -444,6 +444,11 @@ misplaced_tabled plain _ = tt
 pub misdirected_sound : (params body : Tree) (s : State) → Meets (λ _ t. SoundOwn (λ k l. misplaced_directive (has_plain_params params) body) s t) (misdirected params body s)
 unfolding misdirected SoundTold
 misdirected_sound params body s = meets_as (misdirected params body s) (told_sound _ (misplaced_tabled (has_plain_params params) body) s) (λ _ t p. sound_as s t refl refl refl (λ h. h) p)
+
+-- the same of a setter, which has one parameter
+pub misset_sound : (p body : Tree) (s : State) → Meets (λ _ t. SoundOwn (λ k l. misplaced_directive (is_binding_name p) body) s t) (told (misplaced_directive (is_binding_name p) body) s)
+unfolding SoundTold
+misset_sound p body s = meets_as (told (misplaced_directive (is_binding_name p) body) s) (told_sound _ (misplaced_tabled (is_binding_name p) body) s) (λ _ t q. sound_as s t refl refl refl (λ h. h) q)
 
 -- the label of `break` and `continue`, in which the walk finds nothing
 pub target_sound : (s : State) → Meets (λ x t. Sound same no_faults (notes_of x) (λ k. TargetRule k x) s t) (target s)

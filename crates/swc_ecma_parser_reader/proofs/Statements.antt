@@ -14,22 +14,24 @@ use Rattle.swc_ecma_parser_grammar.specs.declared.position.Position.{Position}
 use Rattle.swc_ecma_parser_grammar.specs.Looks.{kind_at, sees, same_kind}
 use Rattle.swc_ecma_parser_grammar.specs.Names.{Code, name_at}
 use Rattle.swc_ecma_parser_grammar.specs.Follows.{may_begin_expression_statement, is_async_function, is_let_declaration, word_at}
-use Rattle.swc_ecma_parser_grammar.specs.ReadsSupported.{ReadsStmt}
+use Rattle.swc_ecma_parser_grammar.specs.ReadsSupported.{ReadsTop}
 use Rattle.swc_ecma_parser_grammar.specs.Walk.{walk, env_of}
 use Rattle.swc_ecma_parser_grammar.specs.language.Programs.{at_top, entry_code, ReadsEntry}
 use Rattle.swc_ecma_parser_grammar.proofs.StatementEntries.{ReadsStatement, statement_widens, statement_narrows}
 use Rattle.swc_ecma_parser_reader.specs.State.{State, Outcome, wanted, too_deep}
+use Rattle.swc_ecma_parser_grammar.specs.language.Begins.{awaits}
 use Rattle.swc_ecma_parser_reader.specs.Expressions.{literal, marked_primary, primary, left_head, left, postfix, unary_expr, binary_expr, operators_expr, done_expr, cover_expr, assignment_expr, expression_expr, expr_level, plain_expr}
 use Rattle.swc_ecma_parser_reader.specs.Yields.{begins_yield}
-use Rattle.swc_ecma_parser_reader.specs.Reader.{expr_stmt, expr_stmt_at, begins_label, other_stmt, stmt_level, stmt, expr}
+use Rattle.swc_ecma_parser_reader.specs.Reader.{expr_stmt, expr_stmt_at, begins_label, other_stmt, stmt_level, stmt, top_await, whole_stmt, expr}
 use Rattle.swc_ecma_parser_reader.specs.Entry.{statement_entry, statement_walk, statement_left, SoundStatement, ReadsSupportedStatement, CompleteStatement, AnswersStatement}
 use Rattle.swc_ecma_parser_reader.specs.Limits.{has_too_deep_token, has_out_of_memory_token}
-use Rattle.swc_ecma_parser_reader.proofs.Meets.{Refuses, meant}
-use Rattle.swc_ecma_parser_reader.proofs.Errors.{is_error}
-use Rattle.swc_ecma_parser_reader.proofs.Between.{SoundTree}
-use Rattle.swc_ecma_parser_reader.proofs.Sound.{stmt_sound}
-use Rattle.swc_ecma_parser_reader.proofs.Complete.{stmt_reads}
-use Rattle.swc_ecma_parser_reader.proofs.Limits.{stmt_fits}
+use Rattle.swc_ecma_parser_reader.proofs.Errors.{is_error, kind_here}
+use Rattle.swc_ecma_parser_reader.proofs.expressions.SoundSteps.{elsewhere}
+use Rattle.swc_ecma_parser_reader.proofs.SoundParts.{and_false}
+use Rattle.swc_ecma_parser_reader.proofs.SoundScripts.{SoundWhole, whole_is_sound}
+use Rattle.swc_ecma_parser_reader.proofs.CompleteScripts.{whole_reads}
+use Rattle.swc_ecma_parser_reader.proofs.Empty.{ended}
+use Rattle.swc_ecma_parser_reader.proofs.Limits.{whole_fits}
 
 -- ---- an entry reads what a statement is
 
@@ -50,32 +52,23 @@ walks_here false top_level s x e = e
 
 -- ---- what is read
 
-SoundStmt : ℕ → Position → State → Tree → State → Type 0
-SoundStmt n at s x t = SoundTree (λ k. ReadsStmt n k at) s x t
-
-stmt_is_sound : (n : ℕ) (at : Position) (s : State) (x : Tree) (t : State) → stmt n at s ≡ Ok (x, t) → SoundStmt n at s x t
-unfolding SoundStmt
-stmt_is_sound n at s x t e = meant (λ y u. SoundTree (λ k. ReadsStmt n k at) s y u) Refuses (stmt n at s) (Ok (x, t)) e (stmt_sound n at s)
-
-sound_by : (limit : ℕ) (include_decl top_level : Bool) (s : State) (x : Tree) (t : State) → SoundStmt limit (at_top include_decl top_level) s x t → SoundStatement limit include_decl top_level s x t
-unfolding SoundStmt
-sound_by limit include_decl top_level s x t p =
+sound_by : (limit : ℕ) (include_decl top_level : Bool) (s : State) (x : Tree) (t : State) → SoundWhole (at_top include_decl top_level) limit s x t → SoundStatement limit include_decl top_level s x t
+sound_by limit include_decl top_level s x t (p, h) =
     let at : Position = at_top include_decl top_level in record {
       code = p.code;
       scope = p.scope;
       added = p.added;
       faults = p.faults;
-      spells = λ h. (as_entry limit include_decl top_level s.code x s.at t.at (statement_widens limit s.code at x s.at t.at (p.reads h)).0, walks_here include_decl top_level s x (p.clean h));
-      is_supported = λ h. (statement_widens limit s.code at x s.at t.at (p.reads h)).1;
+      spells = λ h. (as_entry limit include_decl top_level s.code x s.at t.at (statement_widens limit s.code at x s.at t.at (p.reads h).0).0, walks_here include_decl top_level s x (p.clean h));
+      is_supported = λ h. (statement_widens limit s.code at x s.at t.at (p.reads h).0).1;
       fewer = p.fewer;
       walked = p.walked;
       noted = p.notes;
       found = p.found;
     }
 
-stmt_remembers : (n : ℕ) (at : Position) (s : State) (x : Tree) (t : State) → stmt n at s ≡ Ok (x, t) → has_out_of_memory_token t.at.left ≡ false → has_out_of_memory_token s.at.left ≡ false
-unfolding SoundStmt
-stmt_remembers n at s x t e = (stmt_is_sound n at s x t e).remembers
+whole_remembers : (n : ℕ) (at : Position) (s : State) (x : Tree) (t : State) → whole_stmt n at s ≡ Ok (x, t) → has_out_of_memory_token t.at.left ≡ false → has_out_of_memory_token s.at.left ≡ false
+whole_remembers n at s x t e = (whole_is_sound n at s x t e).0.remembers
 
 -- no error token stands there
 no_error : (j : TokenKind) → same_kind j kind.Error ≡ false → is_error j ≡ false
@@ -83,13 +76,18 @@ unfolding same_kind
 no_error kind.Error h = cc
 no_error _ h = refl
 
-statement_reads : (limit : ℕ) (include_decl top_level : Bool) (s : State) (x : Tree) (d : Place) → ReadsStmt limit s.code (at_top include_decl top_level) x s.at d
-    → (statement_walk s x ≡ []) ⊎ (sees kind.Error d ≡ false) → stmt limit (at_top include_decl top_level) s ≡ Ok (x, statement_left s x d)
-statement_reads limit include_decl top_level s x d r (inl e) = stmt_reads limit (at_top include_decl top_level) s.code x s.at d r s.scope s.faults s.notes (inl e)
+statement_reads : (limit : ℕ) (include_decl top_level : Bool) (s : State) (x : Tree) (d : Place) → ReadsTop limit s.code (at_top include_decl top_level) x s.at d
+    → (statement_walk s x ≡ []) ⊎ (sees kind.Error d ≡ false) → whole_stmt limit (at_top include_decl top_level) s ≡ Ok (x, statement_left top_level s x d)
+statement_reads limit include_decl top_level s x d r (inl e) = whole_reads limit (at_top include_decl top_level) s.code x s.at d r s.scope s.faults s.notes (inl e)
 statement_reads limit include_decl top_level s x d r (inr e) =
-    stmt_reads limit (at_top include_decl top_level) s.code x s.at d r s.scope s.faults s.notes (inr (no_error (kind_at d) e))
+    whole_reads limit (at_top include_decl top_level) s.code x s.at d r s.scope s.faults s.notes (inr (no_error (kind_at d) e))
 
 -- ---- an error token in first place, and no token
+
+-- where no `await` stands first it is read as any
+read_as_any : (n : ℕ) (at : Position) (s : State) (j : TokenKind) → kind_at s.at ≡ j → same_kind j kind.Await ≡ false → whole_stmt n at s ≡ stmt n at s
+unfolding whole_stmt top_await
+read_as_any n at s j e h = rw (and_false at.top_level (sees kind.Await s.at) (elsewhere s.at j kind.Await e h)) refl
 
 abbrev before : State → List TokenAndSpan → State
 before s ts = record s { at = record s.at { left = ts } }
@@ -97,7 +95,7 @@ before s ts = record s { at = record s.at { left = ts } }
 -- nothing but the fault is answered, in however many levels
 refused_in : (n : ℕ) (include_decl top_level : Bool) (s : State) (t : TokenAndSpan) (e : Error) (ts : List TokenAndSpan)
     → (u : State) × (stmt n (at_top include_decl top_level) (before s (record t { token = token.Error e } ∷ ts)) ≡ Err (fault_of e, u))
-unfolding stmt stmt_level other_stmt begins_label expr_stmt_at expr_stmt expr expr_level expression_expr assignment_expr cover_expr done_expr plain_expr begins_yield operators_expr binary_expr unary_expr postfix left left_head primary literal marked_primary wanted too_deep kind_at same_kind name_at may_begin_expression_statement is_async_function is_let_declaration word_at
+unfolding stmt stmt_level other_stmt begins_label expr_stmt_at expr_stmt expr expr_level expression_expr assignment_expr cover_expr done_expr plain_expr begins_yield operators_expr binary_expr unary_expr awaits postfix left left_head primary literal marked_primary wanted too_deep kind_at same_kind name_at may_begin_expression_statement is_async_function is_let_declaration word_at
 refused_in zero include_decl top_level s t e ts = (_, refl)
 refused_in (suc zero) true top_level s t e ts = (_, refl)
 refused_in (suc zero) false top_level s t e ts = (_, refl)
@@ -111,12 +109,20 @@ stmt_of_error_token n include_decl top_level s t ts e h g =
     subst (λ v. (u : State) × (stmt n (at_top include_decl top_level) (before s (record t { token = v } ∷ ts)) ≡ Err (fault_of e, u))) (sym g) (refused_in n include_decl top_level s t e ts) in
     subst (λ l. (u : State) × (stmt n (at_top include_decl top_level) (before s l) ≡ Err (fault_of e, u))) (sym h) k
 
+-- of a statement that stands in no other too
+whole_of_error_token : (n : ℕ) (include_decl top_level : Bool) (s : State) (t : TokenAndSpan) (ts : List TokenAndSpan) (e : Error) → s.at.left ≡ t ∷ ts → t.token ≡ token.Error e
+    → (u : State) × (whole_stmt n (at_top include_decl top_level) s ≡ Err (fault_of e, u))
+unfolding same_kind
+whole_of_error_token n include_decl top_level s t ts e h g =
+    let p = stmt_of_error_token n include_decl top_level s t ts e h g in
+    (p.0, read_as_any n (at_top include_decl top_level) s kind.Error (kind_here s.at t ts (token.Error e) h g) refl ∙ p.1)
+
 -- at the end of the list a statement is wanted
 abbrev Ended : ℕ → Position → State → Type 0
 Ended n at s = (f : Fault) × (u : State) × (f.kind ≡ faults.Eof) × (stmt n at s ≡ Err (f, u))
 
 ended_in : (n : ℕ) (include_decl top_level : Bool) (s : State) → Ended n (at_top include_decl top_level) (before s [])
-unfolding stmt stmt_level other_stmt begins_label expr_stmt_at expr_stmt expr expr_level expression_expr assignment_expr cover_expr done_expr plain_expr begins_yield operators_expr binary_expr unary_expr postfix left left_head primary literal marked_primary wanted too_deep kind_at same_kind name_at may_begin_expression_statement is_async_function is_let_declaration word_at
+unfolding stmt stmt_level other_stmt begins_label expr_stmt_at expr_stmt expr expr_level expression_expr assignment_expr cover_expr done_expr plain_expr begins_yield operators_expr binary_expr unary_expr awaits postfix left left_head primary literal marked_primary wanted too_deep kind_at same_kind name_at may_begin_expression_statement is_async_function is_let_declaration word_at
 ended_in zero include_decl top_level s = (_, _, refl, refl)
 ended_in (suc zero) true top_level s = (_, _, refl, refl)
 ended_in (suc zero) false top_level s = (_, _, refl, refl)
@@ -125,6 +131,12 @@ ended_in (suc (suc n)) false top_level s = (_, _, refl, refl)
 
 stmt_at_end : (n : ℕ) (include_decl top_level : Bool) (s : State) → s.at.left ≡ [] → Ended n (at_top include_decl top_level) s
 stmt_at_end n include_decl top_level s h = subst (λ l. Ended n (at_top include_decl top_level) (before s l)) (sym h) (ended_in n include_decl top_level s)
+
+-- so is one that stands in no other
+whole_at_end : (n : ℕ) (include_decl top_level : Bool) (s : State) → s.at.left ≡ [] → (f : Fault) × (u : State) × (f.kind ≡ faults.Eof) × (whole_stmt n (at_top include_decl top_level) s ≡ Err (f, u))
+unfolding same_kind
+whole_at_end n include_decl top_level s h =
+    let p = stmt_at_end n include_decl top_level s h in (p.0, p.1, p.2, read_as_any n (at_top include_decl top_level) s kind.End (ended s.at h) refl ∙ p.3)
 
 -- ---- what is answered
 
@@ -135,14 +147,14 @@ refusal_of f (Err e) = e.0
 
 module _ (X : Type 0) (view : X → Tree) (limit : ℕ) (include_decl top_level : Bool) (s : State) where
   pub statement_sound : (r : Result X Error) (t : State) → AnswersStatement view limit include_decl top_level s r t → IfOk r (λ x. SoundStatement limit include_decl top_level s (view x) t)
-  statement_sound (Ok x) t h = sound_by limit include_decl top_level s (view x) t (stmt_is_sound limit (at_top include_decl top_level) s (view x) t h)
+  statement_sound (Ok x) t h = sound_by limit include_decl top_level s (view x) t (whole_is_sound limit (at_top include_decl top_level) s (view x) t h)
   statement_sound (Err e) t h = tt
 
-  never_both : {A : Type 0} (f : Fault) (u : State) (x : Tree) (v : State) → stmt limit (at_top include_decl top_level) s ≡ Err (f, u) → stmt limit (at_top include_decl top_level) s ≡ Ok (x, v) → A
+  never_both : {A : Type 0} (f : Fault) (u : State) (x : Tree) (v : State) → whole_stmt limit (at_top include_decl top_level) s ≡ Err (f, u) → whole_stmt limit (at_top include_decl top_level) s ≡ Ok (x, v) → A
   never_both f u x v h g = cc
 
   reads : (x : Tree) (d : Place) → ReadsSupportedStatement limit include_decl top_level s.code x s.at d → (statement_walk s x ≡ []) ⊎ (sees kind.Error d ≡ false)
-      → stmt limit (at_top include_decl top_level) s ≡ Ok (x, statement_left s x d)
+      → whole_stmt limit (at_top include_decl top_level) s ≡ Ok (x, statement_left top_level s x d)
   reads x d k g =
       statement_reads limit include_decl top_level s x d
       (statement_narrows limit s.code (at_top include_decl top_level) x s.at d (as_statement limit include_decl top_level s.code x s.at d k.0) k.1) g
@@ -154,7 +166,7 @@ module _ (X : Type 0) (view : X → Tree) (limit : ℕ) (include_decl top_level 
   -- an answer has read no token for which there was no memory
   pub statement_memory : (r : Result X Error) (t : State) → AnswersStatement view limit include_decl top_level s r t
       → IfOk r (λ x. has_out_of_memory_token t.at.left ≡ false → has_out_of_memory_token s.at.left ≡ false)
-  statement_memory (Ok x) t h = stmt_remembers limit (at_top include_decl top_level) s (view x) t h
+  statement_memory (Ok x) t h = whole_remembers limit (at_top include_decl top_level) s (view x) t h
   statement_memory (Err e) t h = tt
 
   no_memory : (k : faults.Kind) → k ≡ faults.TooDeep → k ≢ faults.OutOfMemory
@@ -164,24 +176,25 @@ module _ (X : Type 0) (view : X → Tree) (limit : ℕ) (include_decl top_level 
   pub statement_fits : (r : Result X Error) (t : State) → AnswersStatement view limit include_decl top_level s r t → 2 * length s.at.left + 2 ≤ limit → has_too_deep_token s.at.left ≡ false
       → IfErr r (λ e. kind_of e.kind ≢ faults.TooDeep)
   statement_fits (Ok x) t h l n = tt
-  statement_fits (Err e) t h l n = λ d. let p = h (no_memory (kind_of e.kind) d) in stmt_fits limit (at_top include_decl top_level) s (fault_of e) p.0 l p.1 n d
+  statement_fits (Err e) t h l n = λ d. let p = h (no_memory (kind_of e.kind) d) in whole_fits limit (at_top include_decl top_level) s (fault_of e) p.0 l p.1 n d
 
-  same_refusal : (e : Error) (f : Fault) (u v : State) → stmt limit (at_top include_decl top_level) s ≡ Err (fault_of e, u) → stmt limit (at_top include_decl top_level) s ≡ Err (f, v) → fault_of e ≡ f
+  same_refusal : (e : Error) (f : Fault) (u v : State) → whole_stmt limit (at_top include_decl top_level) s ≡ Err (fault_of e, u) → whole_stmt limit (at_top include_decl top_level) s ≡ Err (f, v)
+      → fault_of e ≡ f
   same_refusal e f u v h g = ap (refusal_of f) (sym h ∙ g)
 
   -- an error token in first place is answered
   pub statement_of_error_token : (r : Result X Error) (t : State) → AnswersStatement view limit include_decl top_level s r t
       → (u : TokenAndSpan) (us : List TokenAndSpan) (d : Error) → s.at.left ≡ u ∷ us → u.token ≡ token.Error d → IsErrAnd r (λ e. kind_of e.kind ≢ faults.OutOfMemory → fault_of e ≡ fault_of d)
-  statement_of_error_token (Ok x) t h u us d l e = let p = stmt_of_error_token limit include_decl top_level s u us d l e in never_both (fault_of d) p.0 (view x) t p.1 h
+  statement_of_error_token (Ok x) t h u us d l e = let p = whole_of_error_token limit include_decl top_level s u us d l e in never_both (fault_of d) p.0 (view x) t p.1 h
   statement_of_error_token (Err x) t h u us d l e = λ n.
-      let p = stmt_of_error_token limit include_decl top_level s u us d l e in
+      let p = whole_of_error_token limit include_decl top_level s u us d l e in
       let q = h n in same_refusal x (fault_of d) q.0 p.0 q.1 p.1
 
   -- at the end of the list no statement is read
   pub statement_at_end : (r : Result X Error) (t : State) → AnswersStatement view limit include_decl top_level s r t → s.at.left ≡ []
       → IsErrAnd r (λ e. kind_of e.kind ≢ faults.OutOfMemory → kind_of e.kind ≡ faults.Eof)
-  statement_at_end (Ok x) t h l = let p = stmt_at_end limit include_decl top_level s l in never_both p.0 p.1 (view x) t p.3 h
+  statement_at_end (Ok x) t h l = let p = whole_at_end limit include_decl top_level s l in never_both p.0 p.1 (view x) t p.3 h
   statement_at_end (Err x) t h l = λ n.
-      let p = stmt_at_end limit include_decl top_level s l in
+      let p = whole_at_end limit include_decl top_level s l in
       let q = h n in
       let e : fault_of x ≡ p.0 = same_refusal x p.0 q.0 p.1 q.1 p.3 in ap (λ f. f.kind) e ∙ p.2

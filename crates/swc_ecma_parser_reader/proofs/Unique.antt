@@ -5,9 +5,9 @@ use Rattle.swc_ecma_parser_grammar.proofs.Narrows.{script_narrows}
 use Rattle.swc_ecma_parser_reader.specs.Notes.{no_notes}
 use Rattle.swc_ecma_parser_reader.specs.State.{State, Scope, Outcome}
 use Rattle.swc_ecma_parser_reader.specs.Reader.{script}
-use Rattle.swc_ecma_parser_reader.specs.Entry.{script_left, IsOneScript}
+use Rattle.swc_ecma_parser_reader.specs.Entry.{IsOneScript}
 use Rattle.swc_ecma_parser_reader.proofs.Answered.{st}
-use Rattle.swc_ecma_parser_reader.proofs.Complete.{script_reads}
+use Rattle.swc_ecma_parser_reader.proofs.CompleteScripts.{script_reads}
 
 -- one answer is one tree and one place
 one_answer : (o : Outcome Tree) (x y : Tree) (t u : State) → o ≡ Ok (x, t) → o ≡ Ok (y, u) → (x ≡ y) × (t.at ≡ u.at)
@@ -20,4 +20,4 @@ unmarked = record { labels = []; mark = None }
 pub script_is_one : IsOneScript
 script_is_one limit k x y c d e r q =
     let s : State = st c k unmarked [] no_notes in
-    one_answer (script limit s) x y (script_left s x d) (script_left s y e) (script_reads limit s x d (script_narrows limit k x c d r.0 r.1)) (script_reads limit s y e (script_narrows limit k y c e q.0 q.1))
+    one_answer (script limit s) x y _ _ (script_reads limit s x d (script_narrows limit k x c d r.0 r.1)) (script_reads limit s y e (script_narrows limit k y c e q.0 q.1))

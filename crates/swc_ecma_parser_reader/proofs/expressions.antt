@@ -1,8 +1,10 @@
+pub mod Awaits
 pub mod Falls
 pub mod Loops
 pub mod Limits
 pub mod Keeps
 pub mod CompleteKinds
+pub mod CompleteMethods
 pub mod Yields
 pub mod Covers
 pub mod Targets

@@ -1,7 +1,7 @@
 -- What an entry gives, by the grammar and the walk alone.
-use Rattle.std.specs.Prelude.{◌≡◌, ◌≢◌, ℕ, suc, ◌≤◌, if◌then◌else◌, Bool, true, false, ◌||◌, ◌⊎◌, List, [], ◌∷◌, ◌++◌, None, Result, Ok, Err}
+use Rattle.std.specs.Prelude.{◌≡◌, ◌≢◌, ℕ, suc, ◌≤◌, if◌then◌else◌, Bool, true, false, ◌&&◌, ◌||◌, ◌⊎◌, List, [], ◌∷◌, ◌++◌, None, Result, Ok, Err}
 use Rattle.swc_ecma_parser_error.specs.declared.error.Error.{Error}
-use Rattle.swc_ecma_parser_error.specs.Kind.{Fault, fault_of, kind_of, OutOfMemory}
+use Rattle.swc_ecma_parser_error.specs.Kind.{Kind, Fault, fault_of, kind_of, OutOfMemory, TopLevelAwaitInScript}
 use Rattle.swc_ecma_parser_token.specs.declared.kind.TokenKind.TheVariants as kind
 use Rattle.swc_ecma_parser_token.specs.declared.token.TokenAndSpan.{TokenAndSpan}
 use Rattle.swc_ecma_parser_token.specs.Kind.{token_kind}
@@ -13,24 +13,34 @@ use Rattle.swc_ecma_parser_grammar.specs.Entries.{script_code, has_error_token}
 use Rattle.swc_ecma_parser_grammar.specs.Supported.{supported}
 use Rattle.swc_ecma_parser_grammar.specs.language.Noted.{has_meta}
 use Rattle.swc_ecma_parser_grammar.specs.language.Programs as programs
-use Rattle.swc_ecma_parser_grammar.specs.language.Programs.{Entry, at_top, ReadsEntry, Spells}
+use Rattle.swc_ecma_parser_grammar.specs.language.Programs.{Entry, at_top, ReadsEntry, script_awaits, Spells}
 use Rattle.swc_ecma_parser_grammar.specs.Walk.{walk, env_of, tabled, drops}
-use Rattle.swc_ecma_parser_reader.specs.Notes.{notes_of, ◌⊕◌}
+use Rattle.swc_ecma_parser_reader.specs.Notes.{Notes, notes_with, ◌⊕◌}
 use Rattle.swc_ecma_parser_reader.specs.State.{State, GivesAs}
-use Rattle.swc_ecma_parser_reader.specs.Reader.{stmt, script}
+use Rattle.swc_ecma_parser_reader.specs.Reader.{whole_stmt, script}
 
 -- the walk of a script read in a state
 abbrev pub script_walk : State → Tree → List Fault
 script_walk s x = walk (env_of (script_code s.code) s.scope.labels) x
 
--- the state after a script
-abbrev pub script_left : State → Tree → Place → State
-script_left s x d = record s { at = d; code = script_code s.code; faults = s.faults ++ script_walk s x; notes = s.notes ⊕ notes_of x }
+-- the state after a script, where one of its own statements begins with `await`, or none does
+abbrev pub script_left : State → Tree → Place → (awaits : Bool) → State
+script_left s x d awaits = record s { at = d; code = script_code s.code; faults = s.faults ++ script_walk s x; notes = s.notes ⊕ notes_with x awaits }
+
+-- whether a fault among these says that a statement of a script begins with `await`
+abbrev pub is_top_await : Kind → Bool
+is_top_await TopLevelAwaitInScript = true
+is_top_await _ = false
+
+abbrev pub tells_top_await : List Fault → Bool
+tells_top_await [] = false
+tells_top_await (f ∷ fs) = is_top_await f.kind || tells_top_await fs
 
 -- An answer: it takes the whole list; where nothing was recorded the list spells it as a script of the language, it has supported
 -- forms alone, its walk is empty, and what was noted are its notes; where no error token stands and nothing was dropped, the
 -- faults of the table among those recorded are the walk's; and whatever was recorded, that the code is a module's is noted
--- where the tree says so, and nowhere else.
+-- where the tree says so and where one of its own statements begins with `await`, and nowhere else. That it does is told, but in
+-- code that may be a module's.
 pub record SoundScript (limit : ℕ) (s : State) (x : Tree) (t : State) : Type 0 where
   pub code : t.code ≡ script_code s.code
   pub scope : t.scope ≡ s.scope
@@ -40,8 +50,12 @@ pub record SoundScript (limit : ℕ) (s : State) (x : Tree) (t : State) : Type 0
   pub spells : added ≡ [] → Spells limit programs.script s.code s.scope.labels x s.at t.at
   pub is_supported : added ≡ [] → supported x ≡ true
   pub walked : has_error_token s.at.left ≡ false → drops added ≡ false → tabled added ≡ script_walk s x
-  pub noted : added ≡ [] → t.notes ≡ s.notes ⊕ notes_of x
-  pub found : t.notes.found_module_item ≡ (s.notes.found_module_item || has_meta x)
+  -- whether one of its own statements begins with `await`
+  pub awaits : Bool
+  pub awaited : (h : added ≡ []) → awaits ≡ script_awaits limit s.code x s.at t.at (spells h).0
+  pub told : awaits ≡ true → s.code.flags.can_be_module || tells_top_await added ≡ true
+  pub noted : added ≡ [] → t.notes ≡ s.notes ⊕ notes_with x awaits
+  pub found : t.notes.found_module_item ≡ (s.notes.found_module_item || (has_meta x || awaits))
 
 -- a script of the language within a limit, of supported forms alone
 abbrev pub ReadsSupported : ℕ → Code → Tree → Place → Place → Type 0
@@ -59,7 +73,8 @@ unmarked s = record s { scope = record s.scope { mark = None } }
 -- out; where the walk finds some, no error token may stand in the list.
 abbrev pub CompleteScript : {X : Type 0} → (X → Tree) → ℕ → State → Result X Error → State → Type 0
 CompleteScript view limit s result t =
-    (x : Tree) (d : Place) → ReadsSupported limit s.code x s.at d → (script_walk s x ≡ []) ⊎ (has_error_token s.at.left ≡ false) → GivesAs view (Ok (x, script_left s x d)) result t
+    (x : Tree) (d : Place) (r : ReadsSupported limit s.code x s.at d) → (script_walk s x ≡ []) ⊎ (has_error_token s.at.left ≡ false)
+    → GivesAs view (Ok (x, script_left s x d (script_awaits limit s.code x s.at d r.0))) result t
 
 -- after a refusal: the context is as before the call, no label is left, and the note is as before
 pub record IsRestored (s t : State) : Type 0 where
@@ -112,14 +127,19 @@ statement_entry true top_level = programs.stmt_list_item top_level
 abbrev pub statement_walk : State → Tree → List Fault
 statement_walk s x = walk (env_of s.code s.scope.labels) x
 
+-- what it notes: `await` first in one of the top level makes a program a module
+abbrev pub statement_notes : (top_level : Bool) → Place → Tree → Notes
+statement_notes top_level c x = notes_with x (top_level && sees kind.Await c)
+
 -- the state after it
-abbrev pub statement_left : State → Tree → Place → State
-statement_left s x d = record s { at = d; faults = s.faults ++ statement_walk s x; notes = s.notes ⊕ notes_of x }
+abbrev pub statement_left : (top_level : Bool) → State → Tree → Place → State
+statement_left top_level s x d = record s { at = d; faults = s.faults ++ statement_walk s x; notes = s.notes ⊕ statement_notes top_level s.at x }
 
 -- An answer: the code and the labels around are as before; where nothing was recorded the tokens up to its end spell it as a
 -- statement of the language, it has supported forms alone, its walk is empty, and what was noted are its notes; where no error
 -- token was read and nothing was dropped, the faults of the table among those recorded are the walk's; and whatever was recorded,
--- that the code is a module's is noted where the tree says so, and nowhere else.
+-- that the code is a module's is noted where the tree says so and where a statement of the top level begins with `await`, and
+-- nowhere else.
 pub record SoundStatement (limit : ℕ) (include_decl top_level : Bool) (s : State) (x : Tree) (t : State) : Type 0 where
   pub code : t.code ≡ s.code
   pub scope : t.scope ≡ s.scope
@@ -130,8 +150,8 @@ pub record SoundStatement (limit : ℕ) (include_decl top_level : Bool) (s : Sta
   -- no error token comes to those that are left, and there are as many where none was read
   pub fewer : error_tokens t.at.left ≤ error_tokens s.at.left
   pub walked : error_tokens s.at.left ≡ error_tokens t.at.left → drops added ≡ false → tabled added ≡ statement_walk s x
-  pub noted : added ≡ [] → t.notes ≡ s.notes ⊕ notes_of x
-  pub found : t.notes.found_module_item ≡ (s.notes.found_module_item || has_meta x)
+  pub noted : added ≡ [] → t.notes ≡ s.notes ⊕ statement_notes top_level s.at x
+  pub found : t.notes.found_module_item ≡ (s.notes.found_module_item || (has_meta x || (top_level && sees kind.Await s.at)))
 
 -- a statement of the language within a limit, of supported forms alone
 abbrev pub ReadsSupportedStatement : ℕ → (include_decl top_level : Bool) → Code → Tree → Place → Place → Type 0
@@ -142,9 +162,9 @@ ReadsSupportedStatement limit include_decl top_level k x c d = ReadsEntry limit 
 abbrev pub CompleteStatement : {X : Type 0} → (X → Tree) → ℕ → (include_decl top_level : Bool) → State → Result X Error → State → Type 0
 CompleteStatement view limit include_decl top_level s result t =
     (x : Tree) (d : Place) → ReadsSupportedStatement limit include_decl top_level s.code x s.at d → (statement_walk s x ≡ []) ⊎ (sees kind.Error d ≡ false)
-    → GivesAs view (Ok (x, statement_left s x d)) result t
+    → GivesAs view (Ok (x, statement_left top_level s x d)) result t
 
 -- what the reader answers, or refuses, with the state set back
 abbrev pub AnswersStatement : {X : Type 0} → (X → Tree) → ℕ → (include_decl top_level : Bool) → State → Result X Error → State → Type 0
-AnswersStatement view limit include_decl top_level s (Ok x) t = stmt limit (at_top include_decl top_level) s ≡ Ok (view x, t)
-AnswersStatement view limit include_decl top_level s (Err e) t = kind_of e.kind ≢ OutOfMemory → (u : State) × (stmt limit (at_top include_decl top_level) s ≡ Err (fault_of e, u)) × IsSetBack u t
+AnswersStatement view limit include_decl top_level s (Ok x) t = whole_stmt limit (at_top include_decl top_level) s ≡ Ok (view x, t)
+AnswersStatement view limit include_decl top_level s (Err e) t = kind_of e.kind ≢ OutOfMemory → (u : State) × (whole_stmt limit (at_top include_decl top_level) s ≡ Err (fault_of e, u)) × IsSetBack u t

@@ -1,6 +1,6 @@
 -- The reader of expressions, rule by rule: ECMA-262, section 13. What is read one level further in is read by a reader for each
 -- class of expressions.
-use Rattle.std.specs.Prelude.{ℕ, suc, Bool, true, false, not, ◌&&◌, ◌||◌, if◌then◌else◌, nat_le, nat_eq, is_some, List, [], ◌∷◌, ◌++◌, codes, Option, Some, None, Ok}
+use Rattle.std.specs.Prelude.{ℕ, suc, Bool, true, false, not, ◌&&◌, ◌||◌, if◌then◌else◌, nat_le, is_some, List, [], ◌∷◌, ◌++◌, codes, Option, Some, None, Ok}
 use Rattle.swc_ecma_parser_common.specs.declared.span.Span.{Span}
 use Rattle.swc_ecma_parser_error.specs.Kind as faults
 use Rattle.swc_ecma_parser_error.specs.Kind.{Kind}
@@ -9,9 +9,7 @@ use Rattle.swc_ecma_parser_token.specs.declared.token.Token.{Token}
 use Rattle.swc_ecma_parser_token.specs.declared.token.Token.TheVariants as token
 use Rattle.swc_ecma_parser_token.specs.declared.token.Word.TheVariants as word
 use Rattle.swc_ecma_parser_token.specs.declared.token.TokenAndSpan.{TokenAndSpan}
-use Rattle.swc_ecma_parser_token.specs.Text.{word_text}
-use Rattle.swc_ecma_parser_input.specs.Place.{Place, after}
-use Rattle.swc_ecma_parser_model.specs.declared.leaves.Ident.{Ident}
+use Rattle.swc_ecma_parser_input.specs.Place.{Place}
 use Rattle.swc_ecma_parser_model.specs.declared.leaves.MetaPropKind.TheVariants as meta
 use Rattle.swc_ecma_parser_model.specs.declared.operators.UnaryOp.{UnaryOp}
 use Rattle.swc_ecma_parser_model.specs.declared.operators.UpdateOp.{UpdateOp}
@@ -20,17 +18,21 @@ use Rattle.swc_ecma_parser_model.specs.declared.operators.AssignOp.{AssignOp}
 use Rattle.swc_ecma_parser_model.specs.declared.operators.AssignOp.TheVariants as assign
 use Rattle.swc_ecma_parser_model.specs.Tree as tree
 use Rattle.swc_ecma_parser_model.specs.Tree.{Tree, Text, listed}
-use Rattle.swc_ecma_parser_model.specs.Forms.{is_ident_named, is_simple_target, span_of}
+use Rattle.swc_ecma_parser_model.specs.Forms.{is_simple_target, span_of}
 use Rattle.swc_ecma_parser_model.specs.Targets.{as_target}
 use Rattle.swc_ecma_parser_grammar.specs.Looks.{kind_at, breaks_at, sees, span_at}
-use Rattle.swc_ecma_parser_grammar.specs.Names.{Code, is_name, name_at, identifier_at}
+use Rattle.swc_ecma_parser_grammar.specs.Names.{Code, is_name, name_at}
 use Rattle.swc_ecma_parser_grammar.specs.Follows.{word_at, is_async_function, continues_left_side}
 use Rattle.swc_ecma_parser_grammar.specs.Reads.{with_in}
 use Rattle.swc_ecma_parser_grammar.specs.language.Goals.{Class, expression, assignment, operator, unary, left_side, callee}
+use Rattle.swc_ecma_parser_grammar.specs.language.Begins.{awaits}
+use Rattle.swc_ecma_parser_grammar.specs.language.Contexts.{may_await}
 use Rattle.swc_ecma_parser_grammar.specs.language.Operators.{unary_operator, update_operator, binary_operator, assign_operator, precedence, groups_left, is_operator, mixes, is_unary}
 use Rattle.swc_ecma_parser_grammar.specs.language.Continues.{continues_conditional}
+unfoldable pub use Rattle.swc_ecma_parser_reader.specs.Words.{word_by, word_in, any_word, touching_word, private_name, begins_async_call, is_head, heads_arrow}
 use Rattle.swc_ecma_parser_reader.specs.Yields.{begins_yield, yield_expr}
-use Rattle.swc_ecma_parser_reader.specs.State.{State, Outcome, Reader, ◌>>=◌, ◌>>◌, pure, span_here, since, skip, moved, note_module_item, within, fault, fault_at, wanted, reject, expect, name, Step, More, Done, loop}
+use Rattle.swc_ecma_parser_reader.specs.Methods.{MethodForm, FunctionForm, expression_form, property_form, method_words, is_bare}
+use Rattle.swc_ecma_parser_reader.specs.State.{State, Reader, ◌>>=◌, ◌>>◌, pure, span_here, since, skip, moved, note_module_item, within, fault, fault_at, wanted, reject, expect, name, Step, More, Done, loop}
 
 -- ---- literals
 
@@ -54,49 +56,6 @@ taken (Some x) = λ s. Ok (Some x, moved s)
 -- a literal, if one stands here
 unfoldable pub literal : Reader (Option Tree)
 literal = λ s. taken (literal_in s.at.left) s
-
--- ---- words and private names
-
--- a word, reserved or not
-abbrev pub word_by : State → Token → Span → Outcome Ident
-word_by s (token.Word w) span = Ok (record { span = span; sym = word_text w }, moved s)
-word_by s _ span = wanted faults.Unexpected s
-
-abbrev pub word_in : State → List TokenAndSpan → Outcome Ident
-word_in s [] = wanted faults.Unexpected s
-word_in s (t ∷ ts) = word_by s t.token t.span
-
-unfoldable pub any_word : Reader Ident
-any_word = λ s. word_in s s.at.left
-
--- a word that begins where the token before it ends
-unfoldable pub touching_word : Reader Ident
-touching_word = λ s. if nat_eq s.at.last.hi.0 (span_at s.at).lo.0 then any_word s else wanted faults.Unexpected s
-
--- `#` and its word
-unfoldable pub private_name : Reader Tree
-private_name = do
-  start ← span_here
-  skip
-  i ← touching_word
-  span ← since start
-  pure (tree.private_name span i.span i.sym)
-
--- ---- heads of arrow functions
-
--- `async` and its arguments on one line
-unfoldable pub begins_async_call : Place → Bool
-begins_async_call c = word_at (codes "async") c && (sees kind.LParen (after c) && not (breaks_at (after c)))
-
--- what can stand before `=>`, read from a place where such a call begins or not
-abbrev pub is_head : Bool → Tree → Bool
-is_head is_async (tree.ident s text) = true
-is_head is_async (tree.paren s e) = true
-is_head is_async (tree.call s f args) = is_async && is_ident_named (codes "async") f
-is_head is_async _ = false
-
-unfoldable pub heads_arrow : Bool → Tree → State → Bool
-heads_arrow is_async x s = (is_head is_async x && sees kind.Arrow s.at) || (is_ident_named (codes "async") x && (not (breaks_at s.at) && identifier_at s.code.flags s.at))
 
 -- ---- steps that read nothing further in
 
@@ -194,6 +153,13 @@ behind_operand start e (Some op) = update_behind start e op
 -- an operator behind an operand stands on its line
 unfoldable pub postfix_at : Place → Option UpdateOp
 postfix_at c = if breaks_at c then None else update_operator (kind_at c)
+
+-- `await` is a fault in the body of a function that is not async, and in parameters
+abbrev pub misplaced_await : Code → Kind
+misplaced_await k = if k.flags.in_function then faults.AwaitInFunction else faults.AwaitParamInAsync
+
+unfoldable pub await_allowed : Reader (Unit {0})
+await_allowed = λ s. if may_await s.code then Ok (tt, s) else fault (fault_at (span_at s.at) (misplaced_await s.code)) s
 
 -- the class of the right operand
 abbrev pub right_class : BinaryOp → Class
@@ -449,20 +415,11 @@ module _ (inner : Class → Reader Tree) (cover : Reader Cover) where
       else if sees kind.Assign s.at then initialized_key start x s
       else bare_key x s
 
-  unfoldable pub keyed_property : Reader Cover
-  keyed_property = do
-    start ← span_here
-    x ← key
-    behind_key start x
-
   unfoldable pub spread_property : Reader Cover
   spread_property = λ s. (do
     skip
     v ← covered
     pure (part_as (tree.spread_prop (span_at s.at)) v)) s
-
-  unfoldable pub property : Reader Cover
-  property = λ s. if sees kind.DotDotDot s.at then spread_property s else keyed_property s
 
   -- behind a property a comma stands, or the end
   abbrev pub behind_property : Bool → Covers → Reader (Step Covers Covers)
@@ -470,21 +427,43 @@ module _ (inner : Class → Reader Tree) (cover : Reader Cover) where
     expect kind.Comma
     pure (More (with_comma is_spread found))) s
 
-  unfoldable pub object_turn : Covers → Reader (Step Covers Covers)
-  object_turn found = λ s. if sees kind.RBrace s.at then Ok (Done found, moved s) else (do
-    v ← property
-    behind_property (sees kind.DotDotDot s.at) (with_cover found v)) s
+  -- what may be a method, which the reader of functions reads
+  module _ (function : FunctionForm → Reader Tree) where
+    -- a method is no part of a pattern
+    unfoldable pub method : MethodForm → Span → Tree → Reader Cover
+    method form start x = do
+      y ← function (property_form form start x)
+      pure (done y)
 
-  -- from `{` on
-  unfoldable pub properties : Reader Covers
-  properties = skip >> loop object_turn no_covers
+    -- a plain method has nothing before its key
+    unfoldable pub behind_words : MethodForm → Span → Tree → Reader Cover
+    behind_words form start x = λ s. if is_bare form && not (sees kind.LParen s.at) then behind_key start x s else method form start x s
 
-  unfoldable pub object : Reader Cover
-  object = do
-    start ← span_here
-    found ← properties
-    span ← since start
-    pure (whole_of (tree.object span) found)
+    unfoldable pub keyed_property : Reader Cover
+    keyed_property = do
+      start ← span_here
+      form ← method_words
+      x ← key
+      behind_words form start x
+
+    unfoldable pub property : Reader Cover
+    property = λ s. if sees kind.DotDotDot s.at then spread_property s else keyed_property s
+
+    unfoldable pub object_turn : Covers → Reader (Step Covers Covers)
+    object_turn found = λ s. if sees kind.RBrace s.at then Ok (Done found, moved s) else (do
+      v ← property
+      behind_property (sees kind.DotDotDot s.at) (with_cover found v)) s
+
+    -- from `{` on
+    unfoldable pub properties : Reader Covers
+    properties = skip >> loop object_turn no_covers
+
+    unfoldable pub object : Reader Cover
+    object = do
+      start ← span_here
+      found ← properties
+      span ← since start
+      pure (whole_of (tree.object span) found)
 
   unfoldable pub paren : Reader Tree
   paren = do
@@ -597,6 +576,18 @@ module _ (inner : Class → Reader Tree) (cover : Reader Cover) where
     span ← since start
     pure (tree.update span op true e)
 
+  -- ---- `await`: section 15.8
+
+  -- where it may not stand the fault is recorded before it is read
+  unfoldable pub await_expr : Reader Tree
+  await_expr = do
+    start ← span_here
+    await_allowed
+    skip
+    e ← inner unary
+    span ← since start
+    pure (tree.await span e)
+
   -- ---- binary operators: sections 13.6 to 13.13
 
   unfoldable pub operated : Span → Tree → BinaryOp → Reader Tree
@@ -675,22 +666,22 @@ module _ (inner : Class → Reader Tree) (cover : Reader Cover) where
       else if goes_on s then closed start v s
       else Ok (v, s)
 
-  unfoldable pub open_literal : Reader Cover
-  open_literal = do
-    start ← span_here
-    v ← (λ s. if sees kind.LBracket s.at then array s else object s)
-    behind_literal start v
+  -- ---- what may begin with a function, or hold one that is no expression, which a reader of its own reads
 
-  -- ---- what may begin with a function, which a reader of its own reads
+  module _ (function : FunctionForm → Reader Tree) where
+    unfoldable pub open_literal : Reader Cover
+    open_literal = do
+      start ← span_here
+      v ← (λ s. if sees kind.LBracket s.at then array s else object function s)
+      behind_literal start v
 
-  module _ (function : Reader Tree) where
     unfoldable pub marked_primary : Reader Tree
     marked_primary = λ s.
         if sees kind.LParen s.at then paren s
         else if sees kind.LBracket s.at then (array >>= close) s
-        else if sees kind.LBrace s.at then (object >>= close) s
+        else if sees kind.LBrace s.at then (object function >>= close) s
         else if sees kind.This s.at then this s
-        else if sees kind.Function s.at then function s
+        else if sees kind.Function s.at then function expression_form s
         else wanted faults.Unexpected s
 
     abbrev pub literal_or : Option Tree → Reader Tree
@@ -699,7 +690,7 @@ module _ (inner : Class → Reader Tree) (cover : Reader Cover) where
 
     -- `async function` on one line is no name
     unfoldable pub named_expr : Reader Tree
-    named_expr = λ s. if is_async_function s.at then function s else ident_expr s
+    named_expr = λ s. if is_async_function s.at then function expression_form s else ident_expr s
 
     unfoldable pub primary : Reader Tree
     primary = λ s. if name_at s.code.flags s.at then named_expr s else (literal >>= literal_or) s
@@ -734,7 +725,7 @@ module _ (inner : Class → Reader Tree) (cover : Reader Cover) where
 
     abbrev pub unary_by : Option UnaryOp → Reader Tree
     unary_by (Some op) = prefixed op
-    unary_by None = λ s. updated (update_operator (kind_at s.at)) s
+    unary_by None = λ s. if awaits s.code.flags s.at then await_expr s else updated (update_operator (kind_at s.at)) s
 
     unfoldable pub unary_expr : Reader Tree
     unary_expr = λ s. unary_by (unary_operator (kind_at s.at)) s

@@ -5,10 +5,11 @@ use Rattle.swc_ecma_parser_token.specs.declared.kind.TokenKind.TheVariants as ki
 use Rattle.swc_ecma_parser_model.specs.Tree.{Tree}
 use Rattle.swc_ecma_parser_grammar.specs.Looks.{sees}
 use Rattle.swc_ecma_parser_grammar.specs.language.Goals.{Class}
+use Rattle.swc_ecma_parser_reader.specs.Methods.{FunctionForm}
 use Rattle.swc_ecma_parser_reader.specs.State.{Reader, ◌>>=◌, pure, span_here}
 use Rattle.swc_ecma_parser_reader.specs.Expressions.{Cover, done, close, cover_expr, sequence_from}
 
-module _ (inner : Class → Reader Tree) (covers : Reader Cover) (function : Reader Tree) where
+module _ (inner : Class → Reader Tree) (covers : Reader Cover) (function : FunctionForm → Reader Tree) where
   -- a sequence, behind its first part
   unfoldable pub sequenced : Span → Cover → Reader Cover
   sequenced start v = do

@@ -2,9 +2,12 @@ pub mod Notes
 pub mod State
 pub mod Classes
 pub mod Yields
+pub mod Methods
+pub mod Words
 pub mod Expressions
 pub mod Heads
 pub mod Patterns
+pub mod Jumps
 pub mod Reader
 pub mod Entry
 pub mod Limits

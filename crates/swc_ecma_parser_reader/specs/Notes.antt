@@ -34,3 +34,10 @@ notes_of x = record { held_back = notes x; found_module_item = has_meta x }
 
 abbrev pub all_notes_of : Trees → Notes
 all_notes_of xs = record { held_back = all_notes xs; found_module_item = any_has_meta xs }
+
+-- the same where a statement of the top level begins with `await`, or none does
+abbrev pub notes_with : Tree → (awaits : Bool) → Notes
+notes_with x awaits = record { held_back = notes x; found_module_item = has_meta x || awaits }
+
+abbrev pub all_notes_with : Trees → (awaits : Bool) → Notes
+all_notes_with xs awaits = record { held_back = all_notes xs; found_module_item = any_has_meta xs || awaits }

@@ -1,5 +1,5 @@
 -- The reader, rule by rule.
-use Rattle.std.specs.Prelude.{ℕ, zero, suc, Bool, true, false, ◌&&◌, ◌||◌, if◌then◌else◌, List, [], ◌∷◌, ◌++◌, length, codes, Option, Some, None, is_some, Ok, Err}
+use Rattle.std.specs.Prelude.{ℕ, zero, suc, Bool, true, false, ◌&&◌, ◌||◌, if◌then◌else◌, List, [], ◌∷◌, ◌++◌, length, codes, Option, Some, None, is_some, Ok}
 use Rattle.swc_ecma_parser_common.specs.declared.span.Span.{Span}
 use Rattle.swc_ecma_parser_error.specs.Kind as faults
 use Rattle.swc_ecma_parser_error.specs.Kind.{Fault}
@@ -13,7 +13,7 @@ use Rattle.swc_ecma_parser_model.specs.declared.leaves.VarDeclKind.{VarDeclKind}
 use Rattle.swc_ecma_parser_model.specs.declared.leaves.VarDeclKind.TheVariants as decl
 use Rattle.swc_ecma_parser_model.specs.Tree as tree
 use Rattle.swc_ecma_parser_model.specs.Tree.{Tree, Text, listed}
-use Rattle.swc_ecma_parser_model.specs.Forms.{is_ident, is_ident_named, span_of, has_plain_params}
+use Rattle.swc_ecma_parser_model.specs.Forms.{is_ident, is_ident_named, is_binding_name, is_rest, span_of, has_plain_params}
 use Rattle.swc_ecma_parser_grammar.specs.declared.position.Position.{Position}
 use Rattle.swc_ecma_parser_grammar.specs.Looks.{kind_at, breaks_at, sees, span_at}
 use Rattle.swc_ecma_parser_grammar.specs.Names.{Code, name_at}
@@ -21,8 +21,7 @@ use Rattle.swc_ecma_parser_grammar.specs.Follows.{word_at, may_begin_expression_
 use Rattle.swc_ecma_parser_grammar.specs.Variables.{is_const, needs_no_initializer}
 use Rattle.swc_ecma_parser_grammar.specs.Parameters as formal
 use Rattle.swc_ecma_parser_grammar.specs.Reads.{with_in, head_code, directed, nested_item, top_item}
-use Rattle.swc_ecma_parser_grammar.specs.Ends.{ends_at}
-use Rattle.swc_ecma_parser_grammar.specs.Own.{break_faults, continue_faults, return_faults, labelled_function, duplicates, misplaced_directive, head_faults}
+use Rattle.swc_ecma_parser_grammar.specs.Own.{labelled_function, duplicates, misplaced_directive, head_faults}
 use Rattle.swc_ecma_parser_grammar.specs.Entries.{script_code}
 use Rattle.swc_ecma_parser_grammar.specs.language.Contexts.{named_by, in_parameters, in_body, in_loop, in_breakable, in_with, without_in}
 use Rattle.swc_ecma_parser_grammar.specs.language.Goals.{Class, expression, assignment}
@@ -30,15 +29,10 @@ use Rattle.swc_ecma_parser_grammar.specs.language.Items.{sub_statement, labelled
 use Rattle.swc_ecma_parser_reader.specs.Expressions as exprs
 use Rattle.swc_ecma_parser_reader.specs.Expressions.{Cover}
 use Rattle.swc_ecma_parser_reader.specs.Heads.{head_expr}
+use Rattle.swc_ecma_parser_reader.specs.Methods.{FunctionForm, expression_form, property_form, getter_form, setter_form, method_form, star}
+unfoldable pub use Rattle.swc_ecma_parser_reader.specs.Jumps.{told, target, unbroken, break_stmt, uncontinued, continue_stmt, misplaced, after_return, operand, returned, return_stmt}
 use Rattle.swc_ecma_parser_reader.specs.Patterns.{pattern_level, element_level, parameter_list}
-use Rattle.swc_ecma_parser_reader.specs.State.{Outcome, Reader, ◌>>=◌, ◌>>◌, pure, here, span_here, since, skip, moved, spanned_from, coded, flagged, within, below_label, enclosed, fault, fault_at, end_of, module_fault, wanted, too_deep, refuse, reject, refused, labelled, name, expect, end, stuck, Step, More, Done, loop}
-
--- ---- what is told
-
--- these faults, one behind another
-abbrev pub told : List Fault → Reader (Unit {0})
-told [] = λ s. Ok (tt, s)
-told (f ∷ fs) = fault f >> told fs
+use Rattle.swc_ecma_parser_reader.specs.State.{Reader, ◌>>=◌, ◌>>◌, pure, here, span_here, since, skip, moved, spanned_from, coded, flagged, within, below_label, enclosed, note_module_item, fault, fault_at, end_of, module_fault, wanted, too_deep, refuse, reject, refused, labelled, name, expect, end, stuck, Step, More, Done, loop}
 
 -- ---- statements
 
@@ -422,69 +416,6 @@ module _ (stmt : Reader Tree) (expr : Reader Tree) where
   unfoldable pub if_stmt : Reader Tree
   if_stmt = λ s. links (suc (length s.at.left)) s
 
--- ---- `break`, `continue` and `return`
-
--- the label of `break` and `continue`: none where the statement can end
-unfoldable pub target : Reader Tree
-target = λ s. if ends_at s.at then Ok (tree.absent, s) else (do
-  i ← name faults.ExpectedIdent
-  pure (tree.ident i.span i.sym)) s
-
--- nothing to break, or no such label around
-unfoldable pub unbroken : Tree → Span → Reader (Unit {0})
-unbroken label span = λ s. told (break_faults s.code.flags.is_break_allowed s.scope.labels label span) s
-
-unfoldable pub break_stmt : Reader Tree
-break_stmt = do
-  start ← span_here
-  skip
-  label ← target
-  end faults.Expected
-  span ← since start
-  unbroken label span
-  pure (tree.break span label)
-
-unfoldable pub uncontinued : Tree → Span → Reader (Unit {0})
-uncontinued label span = λ s. told (continue_faults s.code.flags.is_continue_allowed s.scope.labels label span) s
-
-unfoldable pub continue_stmt : Reader Tree
-continue_stmt = do
-  start ← span_here
-  skip
-  label ← target
-  end faults.Expected
-  span ← since start
-  uncontinued label span
-  pure (tree.continue span label)
-
--- no function stands around `return`, and the setting asks for one
-unfoldable pub misplaced : Span → Reader (Unit {0})
-misplaced start = λ s. told (return_faults (s.code.flags.in_function || s.code.setting.allow_return_outside_function) (record { lo = start.lo; hi = s.at.last.hi })) s
-
--- This is told of a `return` that is refused too, up to what was read, unless the state is marked.
-abbrev pub after_return : Span → Outcome Tree → Outcome Tree
-after_return start (Ok p) = (misplaced start >> pure p.0) p.1
-after_return start (Err e) = if is_some e.1.scope.mark then Err e else refused e.0 (misplaced start e.1)
-
-module _ (expr : Reader Tree) where
-  -- what `return` answers: nothing where the statement can end
-  unfoldable pub operand : Reader Tree
-  operand = λ s. if ends_at s.at then Ok (tree.absent, s) else within with_in expr s
-
-  -- from behind the word
-  unfoldable pub returned : Span → Reader Tree
-  returned start = do
-    x ← operand
-    end faults.Expected
-    span ← since start
-    pure (tree.return span x)
-
-  unfoldable pub return_stmt : Reader Tree
-  return_stmt = do
-    start ← span_here
-    skip
-    λ s. after_return start (returned start s)
-
 -- ---- labels
 
 -- a name and `:`
@@ -644,13 +575,18 @@ named = do
 unfoldable pub function_word : Reader Bool
 function_word = λ s. if is_async_function s.at then Ok (true, moved (moved s)) else Ok (false, moved s)
 
--- the `*` of a generator, if one stands here
-unfoldable pub star : Reader Bool
-star = λ s. if sees kind.Mul s.at then Ok (true, moved s) else Ok (false, s)
-
 -- the name of a function that is an expression, which is read in the function's own code, or none
 unfoldable pub own_name : (is_async is_generator : Bool) → Reader Tree
 own_name is_async is_generator = λ s. if name_at (named_by s.code is_async is_generator).flags s.at then within (λ k. named_by k is_async is_generator) named s else Ok (tree.absent, s)
+
+-- A getter has no parameter, a setter one, which is no rest; else the word that it begins with is refused.
+abbrev pub no_parameter : Span → List Tree → Reader (Unit {0})
+no_parameter word [] = pure tt
+no_parameter word (p ∷ ps) = reject (fault_at word faults.GetterParam)
+
+abbrev pub one_parameter : Span → List Tree → Reader Tree
+one_parameter word (p ∷ []) = λ s. if is_rest p then reject (fault_at word faults.RestPatInSetter) s else Ok (p, s)
+one_parameter word _ = reject (fault_at word faults.SetterParam)
 
 module _ (stmt : Reader Tree) (params : Reader (List Tree)) where
   -- a body, which has labels and an entry of its own
@@ -684,6 +620,37 @@ module _ (stmt : Reader Tree) (params : Reader (List Tree)) where
     i ← own_name is_async is_generator
     fn ← function_parts is_async is_generator start
     pure (tree.fn_expr (span_of fn) i fn)
+
+  -- ---- methods, from behind their key: section 15.4
+
+  unfoldable pub getter : Span → Tree → Reader Tree
+  getter start key = do
+    ps ← within (λ k. in_parameters k false false) params
+    no_parameter start ps
+    body ← function_body false false
+    span ← since start
+    pure (tree.getter_prop span key body)
+
+  unfoldable pub setter : Span → Tree → Reader Tree
+  setter start key = do
+    ps ← within (λ k. in_parameters k false false) params
+    p ← one_parameter start ps
+    body ← function_body false false
+    span ← since start
+    told (misplaced_directive (is_binding_name p) body)
+    pure (tree.setter_prop span key p body)
+
+  unfoldable pub plain_method : (is_async is_generator : Bool) → Span → Tree → Reader Tree
+  plain_method is_async is_generator start key = do
+    fn ← function_parts is_async is_generator start
+    pure (tree.method_prop (span_of fn) key fn)
+
+  -- a function as a part of an expression
+  unfoldable pub function_by : FunctionForm → Reader Tree
+  function_by expression_form = function_expr
+  function_by (property_form getter_form start key) = getter start key
+  function_by (property_form setter_form start key) = setter start key
+  function_by (property_form (method_form is_async is_generator) start key) = plain_method is_async is_generator start key
 
   -- where no declaration is read, its word is a fault
   unfoldable pub function_stmt : Position → Reader Tree
@@ -734,17 +701,17 @@ unfoldable mutual
   -- an expression of a class
   pub expr : ℕ → Class → Reader Tree
   expr zero class = too_deep
-  expr (suc n) class = exprs.expr_level (expr n) (cover n) (function_expr (stmt n nested_item) (parameter_list (expr n) (cover n) (pattern n) (element n))) class
+  expr (suc n) class = exprs.expr_level (expr n) (cover n) (function_by (stmt n nested_item) (parameter_list (expr n) (cover n) (pattern n) (element n))) class
 
   -- an assignment expression that may still become a pattern
   pub cover : ℕ → Reader Cover
   cover zero = too_deep
-  cover (suc n) = exprs.cover_expr (expr n) (cover n) (function_expr (stmt n nested_item) (parameter_list (expr n) (cover n) (pattern n) (element n)))
+  cover (suc n) = exprs.cover_expr (expr n) (cover n) (function_by (stmt n nested_item) (parameter_list (expr n) (cover n) (pattern n) (element n)))
 
   -- what the head of a loop begins with
   pub head_cover : ℕ → Reader Cover
   head_cover zero = too_deep
-  head_cover (suc n) = head_expr (expr n) (cover n) (function_expr (stmt n nested_item) (parameter_list (expr n) (cover n) (pattern n) (element n)))
+  head_cover (suc n) = head_expr (expr n) (cover n) (function_by (stmt n nested_item) (parameter_list (expr n) (cover n) (pattern n) (element n)))
 
   -- a pattern without default
   pub pattern : ℕ → Reader Tree
@@ -765,9 +732,22 @@ unfoldable mutual
 abbrev pub parameters : ℕ → Reader (List Tree)
 parameters n = parameter_list (expr n) (cover n) (pattern n) (element n)
 
--- a function that is an expression
-abbrev pub function : ℕ → Reader Tree
-function n = function_expr (stmt n nested_item) (parameters n)
+-- a function as a part of an expression
+unfoldable pub function : ℕ → FunctionForm → Reader Tree
+function n = function_by (stmt n nested_item) (parameters n)
+
+-- ---- the top level: a statement that begins with `await` makes a program a module
+
+-- it is a fault in code that cannot be a module's
+unfoldable pub top_await_fault : Reader (Unit {0})
+top_await_fault = λ s. if s.code.flags.can_be_module then Ok (tt, s) else fault (fault_at (span_at s.at) faults.TopLevelAwaitInScript) s
+
+unfoldable pub top_await : Position → Reader (Unit {0})
+top_await at = λ s. if at.top_level && sees kind.Await s.at then (note_module_item >> top_await_fault) s else Ok (tt, s)
+
+-- a statement that stands in no other
+unfoldable pub whole_stmt : ℕ → Position → Reader Tree
+whole_stmt n at = top_await at >> stmt n at
 
 -- ---- a script
 
@@ -790,7 +770,7 @@ unfoldable pub script_body : ℕ → Reader Tree
 script_body n = do
   start ← here
   first ← shebang
-  body ← items (stmt n top_item) at_end true
+  body ← items (whole_stmt n top_item) at_end true
   span ← spanned_from start
   pure (tree.script span (listed body) first)
 

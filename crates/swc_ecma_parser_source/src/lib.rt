@@ -2,6 +2,7 @@
 #![tactic(auto)]
 
 mod around;
+mod keys;
 mod literal;
 mod names;
 mod operators;
@@ -9,6 +10,7 @@ mod source;
 mod wanted;
 
 pub use around::Around;
+pub use keys::ends_key;
 pub use literal::Literal;
 pub use names::{count_labels, is_identifier, is_label, is_name, is_reserved_word};
 pub use operators::{

@@ -7,10 +7,12 @@ ghost use Rattle.swc_ecma_parser_error.specs.Kind.{fault_of, kind_of, IsOutOfMem
 ghost use Rattle.swc_ecma_parser_grammar.specs.Follows as follows;
 ghost use Rattle.swc_ecma_parser_grammar.specs.Looks as looks;
 ghost use Rattle.swc_ecma_parser_grammar.specs.Names as names;
+ghost use Rattle.swc_ecma_parser_grammar.specs.language.Begins as begins;
 ghost use Rattle.swc_ecma_parser_model.specs.Tree.{Tree};
 ghost use Rattle.swc_ecma_parser_model.specs.declared.leaves.Ident.{Ident};
 ghost use Rattle.swc_ecma_parser_input.specs.Place as place;
 ghost use Rattle.swc_ecma_parser_reader.specs.Expressions as exprs;
+ghost use Rattle.swc_ecma_parser_reader.specs.Methods as methods;
 ghost use Rattle.swc_ecma_parser_reader.specs.Reader as rules;
 ghost use Rattle.swc_ecma_parser_reader.specs.State as reader;
 ghost use Rattle.swc_ecma_parser_reader.specs.State.{Gives, GivesAs};
@@ -113,6 +115,10 @@ pub trait Source {
     fn identifier_at(&self) -> bool
         ensures { result ≡ names.identifier_at (seen self.now).code.flags (seen self.now).at };
 
+    /// Whether `await` stands here as an operator: an operand can begin behind it.
+    fn awaits(&self) -> bool
+        ensures { result ≡ begins.awaits (seen self.now).code.flags (seen self.now).at };
+
     /// Whether a word stands here, reserved or not.
     fn is_word_here(&self) -> bool
         ensures { result ≡ exprs.is_word_at (seen self.now).at };
@@ -128,6 +134,14 @@ pub trait Source {
     /// Whether `async function` stands here on one line.
     fn is_async_function(&self) -> bool
         ensures { result ≡ follows.is_async_function (seen self.now).at };
+
+    /// Whether this word stands here and is no key, but what a method begins with.
+    fn modifies(&self, text: &'static str) -> bool
+        ensures { result ≡ methods.modifies text.now (seen self.now).at };
+
+    /// Whether `async` stands here, and on its line what it makes async.
+    fn begins_async_method(&self) -> bool
+        ensures { result ≡ methods.begins_async_method (seen self.now).at };
 
     /// Whether `async` and its arguments stand here on one line.
     fn begins_async_call(&self) -> bool

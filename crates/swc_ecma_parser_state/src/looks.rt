@@ -5,13 +5,15 @@ ghost use Rattle.swc_ecma_parser_grammar.specs.Ends as ends;
 ghost use Rattle.swc_ecma_parser_grammar.specs.Follows as follows;
 ghost use Rattle.swc_ecma_parser_grammar.specs.Looks as looks;
 ghost use Rattle.swc_ecma_parser_grammar.specs.Names as names;
+ghost use Rattle.swc_ecma_parser_grammar.specs.language.Begins as begins;
 ghost use Rattle.swc_ecma_parser_input.specs.Place as place;
 ghost use Rattle.swc_ecma_parser_reader.specs.Expressions as exprs;
+ghost use Rattle.swc_ecma_parser_reader.specs.Methods as methods;
 
 use crate::state::State;
 use swc_ecma_parser_grammar::Position;
 use swc_ecma_parser_input::Tokens;
-use swc_ecma_parser_source::{is_identifier, is_reserved_word};
+use swc_ecma_parser_source::{begins_operand, ends_key, is_identifier, is_reserved_word};
 use swc_ecma_parser_token::{Token, TokenAndSpan, TokenKind, Word};
 
 /// Whether it is an operator between two operands that is no word.
@@ -166,6 +168,22 @@ impl<I: Tokens> State<I> {
         self.word_at("async") && self.next_sees(TokenKind::Function) && !self.next_had_line_break()
     }
 
+    /// Whether this word stands here and is no key, but what a method begins with.
+    #[tactic(auto, unfolding(swc_ecma_parser_reader::specs::Methods::modifies))]
+    pub fn modifies(&self, text: &str) -> bool
+        ensures { result ≡ methods.modifies text.now self.now.at }
+    {
+        self.word_at(text) && !ends_key(self.next_kind())
+    }
+
+    /// Whether `async` stands here, and on its line what it makes async.
+    #[tactic(auto, unfolding(swc_ecma_parser_reader::specs::Methods::begins_async_method))]
+    pub fn begins_async_method(&self) -> bool
+        ensures { result ≡ methods.begins_async_method self.now.at }
+    {
+        self.modifies("async") && !self.next_had_line_break()
+    }
+
     /// Whether `async` and its arguments stand here on one line.
     #[tactic(auto, unfolding(swc_ecma_parser_reader::specs::Expressions::begins_async_call))]
     pub fn begins_async_call(&self) -> bool
@@ -188,6 +206,31 @@ impl<I: Tokens> State<I> {
             ) => is_identifier(self.flags(), word.as_str()),
             _ => false,
         }
+    }
+
+    /// Whether a word that is not reserved stands behind the current token.
+    #[tactic(auto, unfolding(swc_ecma_parser_grammar::specs::Names::identifier_at, swc_ecma_parser_input::specs::Place::after))]
+    fn next_is_identifier(&self) -> bool
+        ensures { result ≡ names.identifier_at self.now.code.flags (place.after self.now.at) }
+    {
+        match self.buffer.peek() {
+            Some(
+                TokenAndSpan {
+                    token: Token::Word(word),
+                    ..
+                },
+            ) => is_identifier(self.flags(), word.as_str()),
+            _ => false,
+        }
+    }
+
+    /// Whether `await` stands here as an operator: an operand can begin behind it. ECMA-262, section 15.8.
+    #[tactic(auto, unfolding(swc_ecma_parser_grammar::specs::language::Begins::awaits, swc_ecma_parser_grammar::specs::language::Begins::begins_unary))]
+    pub fn awaits(&self) -> bool
+        ensures { result ≡ begins.awaits self.now.code.flags self.now.at }
+    {
+        self.sees(TokenKind::Await)
+            && (begins_operand(self.next_kind()) || self.next_is_identifier())
     }
 
     #[tactic(auto, unfolding(swc_ecma_parser_input::specs::Place::after))]

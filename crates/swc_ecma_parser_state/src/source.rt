@@ -85,6 +85,10 @@ impl<I: Tokens> Source for State<I> {
         State::identifier_at(self)
     }
 
+    fn awaits(&self) -> bool {
+        State::awaits(self)
+    }
+
     fn is_word_here(&self) -> bool {
         State::is_word_here(self)
     }
@@ -99,6 +103,14 @@ impl<I: Tokens> Source for State<I> {
 
     fn is_async_function(&self) -> bool {
         State::is_async_function(self)
+    }
+
+    fn modifies(&self, text: &'static str) -> bool {
+        State::modifies(self, text)
+    }
+
+    fn begins_async_method(&self) -> bool {
+        State::begins_async_method(self)
     }
 
     fn begins_async_call(&self) -> bool {

@@ -180,7 +180,7 @@ pub trait BuildsStmt: Trees {
 /// Makes all that statements are made of.
 pub trait BuildsStatements: BuildsExpr
     + BuildsCall
-    + BuildsObject
+    + BuildsMethod
     + BuildsOperator
     + BuildsPat
     + BuildsPattern

@@ -1,5 +1,5 @@
 -- What a list of tokens spells, by what is asked of it: ECMA-262, sections 16.1 and 16.2.
-use Rattle.std.specs.Prelude.{◌≡◌, ℕ, Bool, true, false, ◌||◌, if◌then◌else◌, List, [], Option, Some, None}
+use Rattle.std.specs.Prelude.{◌≡◌, ℕ, Bool, true, false, ◌||◌, if◌then◌else◌, List, [], ◌∷◌, Option, Some, None}
 use Rattle.std.specs.List.{list_any}
 use Rattle.swc_ecma_parser_common.specs.declared.span.Span.{Span}
 use Rattle.swc_ecma_parser_token.specs.declared.kind.TokenKind.TheVariants as kind
@@ -15,7 +15,7 @@ use Rattle.swc_ecma_parser_grammar.specs.Reads.{ReadsToken}
 use Rattle.swc_ecma_parser_grammar.specs.Notes.{notes}
 use Rattle.swc_ecma_parser_grammar.specs.Walk.{walk, env_of}
 use Rattle.swc_ecma_parser_grammar.specs.language.Goals.{Goal, stmt_goal, item_goal}
-use Rattle.swc_ecma_parser_grammar.specs.language.Items.{top_item, ItemsRule}
+use Rattle.swc_ecma_parser_grammar.specs.language.Items.{top_item, directed, directs_on, ItemsRule}
 use Rattle.swc_ecma_parser_grammar.specs.language.ModuleItems.{ModuleItemsRule, behind_item}
 use Rattle.swc_ecma_parser_grammar.specs.language.Noted.{has_meta}
 use Rattle.swc_ecma_parser_grammar.specs.language.Reads.{Reads}
@@ -98,6 +98,15 @@ is_module_code k x = (behind_item k x).flags.«module» || is_module_program x
 -- within so many levels; no `with` and no bare name `interface` is a statement of module code
 abbrev pub ReadsEntry : ℕ → Entry → Code → Tree → Place → Place → Type 0
 ReadsEntry n entry k x c d = EntryRule (Reads n) entry (entry_code entry k) x c d × (is_module_code (entry_code entry k) x ≡ true → notes x ≡ [])
+
+-- whether one of the statements of a list begins with `await`, which is told by the tokens
+abbrev pub items_await : (In : Goal → Type 0) (k : Code) (directives : Bool) (at : Position) (xs : List Tree) (c d : Place) → ItemsRule In k directives at xs c d → Bool
+items_await In k directives at [] c d r = false
+items_await In k directives at (x ∷ xs) c d (m, r, rs) = sees kind.Await c || items_await In (directed k directives x) (directs_on directives x) at xs m d rs
+
+-- whether one of its own statements makes a module of what is read as a script: in what may be a module's code alone
+abbrev pub script_awaits : (n : ℕ) (k : Code) (x : Tree) (c d : Place) → ReadsEntry n script k x c d → Bool
+script_awaits n k x c d r = items_await (Reads n) (entry_code script k) true top_item r.0.items r.0.first d r.0.reads_items
 
 -- it is read, and the walk finds nothing, with these labels around
 abbrev pub Spells : ℕ → Entry → Code → (labels : List Text) → Tree → Place → Place → Type 0

@@ -1,7 +1,11 @@
 -- What the language allows of the forms that are read is read, with the faults of the walk and the notes held back, and no others:
 -- expressions from operators on, what may still become a pattern, and an expression of any class.
 use Rattle.swc_ecma_parser_reader.proofs.expressions.Yields.{never_yields, begun_no_star}
-use Rattle.swc_ecma_parser_grammar.specs.language.Begins.{begins_expression}
+use Rattle.swc_ecma_parser_grammar.specs.language.Begins.{begins_expression, awaits}
+use Rattle.swc_ecma_parser_grammar.specs.language.Contexts.{may_await}
+use Rattle.swc_ecma_parser_grammar.proofs.ExpressionBegins.{await_stands}
+use Rattle.swc_ecma_parser_grammar.proofs.Marks.{awaits_apart}
+use Rattle.swc_ecma_parser_reader.proofs.expressions.Awaits.{update_no_await}
 use Rattle.std.proofs.Common.{◌≡◌, ℕ, zero, suc, ◌≤◌, Bool, true, false, List, [], ◌∷◌, ◌++◌, length, inl, inr, Option, Some, None, Ok, refl, sym, ◌∙◌, ap, arith, append_assoc, append-nil, subst}
 use Rattle.std.specs.Prelude.{◌&&◌, ◌||◌, is_some, codes, not}
 use Rattle.std.proofs.lemmas.Bool.{le-leb}
@@ -28,7 +32,7 @@ use Rattle.swc_ecma_parser_grammar.specs.language.Noted.{has_meta}
 use Rattle.swc_ecma_parser_grammar.specs.Walk.{env_of, walk, walks}
 use Rattle.swc_ecma_parser_grammar.specs.Supported.{supported_in, all_supported_in}
 use Rattle.swc_ecma_parser_grammar.specs.ReadsSupported.{ReadsClass}
-use Rattle.swc_ecma_parser_grammar.specs.language.Goals.{Goal, Class, expression, assignment, operator, unary, left_side, callee, assigning, expr_goal, callee_goal, element_goal, pattern_goal}
+use Rattle.swc_ecma_parser_grammar.specs.language.Goals.{Goal, Class, expression, assignment, operator, unary, left_side, callee, assigning, expr_goal, callee_goal}
 use Rattle.swc_ecma_parser_grammar.specs.language.Operators.{unary_operator, update_operator, binary_operator, assign_operator, precedence, groups_left, is_operator, mixes, is_unary}
 use Rattle.swc_ecma_parser_grammar.specs.language.Continues.{is_operation, is_arrow_head, binds, continues_callee, continues_unary, continues_operand, continues_head, continues_conditional, continues_assignment, continues_yield}
 use Rattle.swc_ecma_parser_grammar.specs.language.LeftSides as sides
@@ -42,7 +46,8 @@ use Rattle.swc_ecma_parser_grammar.proofs.Tests.{or_no, or_none, and_yes, and_bo
 use Rattle.swc_ecma_parser_grammar.proofs.language.spans.Expressions.{left_side_rule}
 use Rattle.swc_ecma_parser_reader.specs.Notes.{Notes, ◌⊕◌, notes_of, all_notes_of}
 use Rattle.swc_ecma_parser_reader.specs.State.{Scope, State, Outcome, Reader, loop}
-use Rattle.swc_ecma_parser_reader.specs.Expressions.{Cover, done, goes_on, begins_async_call, is_head, heads_arrow, closed_left, simple, update_behind, read_operator, operator_at, left_operand, unmixed, unassigned, unheaded, left, left_expr, prefixed, update_before, postfix, unary_expr, operated, binary_turn, binary_from, binary_expr, conditional, assigned_to, assigned, behind_operators, operators_expr, cover_expr, assignment_expr, sequence_turn, sequence_from, expression_expr, expr_level, is_literal, plain_expr}
+use Rattle.swc_ecma_parser_reader.specs.Methods.{FunctionForm}
+use Rattle.swc_ecma_parser_reader.specs.Expressions.{Cover, done, goes_on, begins_async_call, is_head, heads_arrow, closed_left, simple, update_behind, read_operator, operator_at, left_operand, unmixed, unassigned, unheaded, left, left_expr, prefixed, update_before, await_allowed, await_expr, postfix, unary_expr, operated, binary_turn, binary_from, binary_expr, conditional, assigned_to, assigned, behind_operators, operators_expr, cover_expr, assignment_expr, sequence_turn, sequence_from, expression_expr, expr_level, is_literal, plain_expr}
 use Rattle.swc_ecma_parser_reader.specs.Yields.{begins_yield, bare_yield, yielded, behind_yield, yield_expr}
 use Rattle.swc_ecma_parser_reader.proofs.Notes.{or_nil, or_assoc}
 use Rattle.swc_ecma_parser_reader.proofs.Answered.{st, Reads, Gets, gets_also, ReadsAs}
@@ -198,7 +203,7 @@ part_closes k p c d t = record {
   literal_ends = λ w f h. nothing_goes_on (st d k w f h) t;
 }
 
-module _ (In : Goal → Type 0) (inner : Class → Reader Tree) (cover : Reader Cover) (given : IsRead In inner cover) (function : Reader Tree) (functions : IsFunctionRead In function) where
+module _ (In : Goal → Type 0) (inner : Class → Reader Tree) (cover : Reader Cover) (given : IsRead In inner cover) (function : FunctionForm → Reader Tree) (functions : IsFunctionRead In function) where
   -- ---- operands
 
   -- a left side, and no token that goes on with it
@@ -206,12 +211,12 @@ module _ (In : Goal → Type 0) (inner : Class → Reader Tree) (cover : Reader 
       → Reads (left inner cover function true) k x c d
   side_reads k x c d r s dot bracket paren w f h = left_reads In inner cover given function functions true k x c d r s refl (or_none _ _ dot bracket) paren w f h
 
-  operand_reads : (k : Code) (x : Tree) (c d : Place) → LeftSideRule In k x c d → supported_in k.flags.module x ≡ true → continues_left_side d ≡ false → Reads (unary_expr inner cover function) k x c d
+  operand_reads : (k : Code) (x : Tree) (c d : Place) → LeftSideRule In k x c d → awaits k.flags c ≡ false → supported_in k.flags.module x ≡ true → continues_left_side d ≡ false → Reads (unary_expr inner cover function) k x c d
   unfolding unary_expr postfix
-  operand_reads k x c d r s e w f h =
+  operand_reads k x c d r a s e w f h =
       let first = left_first In k x c d r s in
       let t = stopped d e in
-      rw (operand_plain (kind_at c) first, operand_update (kind_at c) first, side_reads k x c d r s t.dot t.bracket t.paren w f h, t.postfix) refl
+      rw (operand_plain (kind_at c) first, a, operand_update (kind_at c) first, side_reads k x c d r s t.dot t.bracket t.paren w f h, t.postfix) refl
 
   prefixed_reads : (op : UnaryOp) (e : Tree) (k : Code) (x : Tree) (c d : Place) → unary_operator (kind_at c) ≡ Some op → In (expr_goal unary k e (after c) d) → supported_in k.flags.module e ≡ true
       → x ≡ tree.unary (spanned c d) op e → Reads (unary_expr inner cover function) k x c d
@@ -221,23 +226,28 @@ module _ (In : Goal → Type 0) (inner : Class → Reader Tree) (cover : Reader 
   update_before_reads : (op : UpdateOp) (e : Tree) (k : Code) (x : Tree) (c d : Place) → update_operator (kind_at c) ≡ Some op → In (expr_goal unary k e (after c) d) → supported_in k.flags.module e ≡ true
       → is_simple_target e ≡ true → x ≡ tree.update (spanned c d) op true e → Reads (unary_expr inner cover function) k x c d
   unfolding unary_expr update_before simple spanned
-  update_before_reads op e k x c d o r s t j w f h = rw (update_plain (kind_at c) op o, o, given.reads unary k e (after c) d r s w f h, t, j) refl
+  update_before_reads op e k x c d o r s t j w f h = rw (update_plain (kind_at c) op o, awaits_apart k.flags c (update_no_await (kind_at c) op o), o, given.reads unary k e (after c) d r s w f h, t, j) refl
 
-  update_behind_reads : (op : UpdateOp) (e : Tree) (m : Place) (k : Code) (x : Tree) (c d : Place) → LeftSideRule In k e c m → supported_in k.flags.module e ≡ true → is_simple_target e ≡ true
+  await_reads : (e : Tree) (k : Code) (x : Tree) (c d : Place) → awaits k.flags c ≡ true → may_await k ≡ true → In (expr_goal unary k e (after c) d) → supported_in k.flags.module e ≡ true
+      → x ≡ tree.await (spanned c d) e → Reads (unary_expr inner cover function) k x c d
+  unfolding unary_expr await_expr await_allowed spanned
+  await_reads e k x c d a m r s j w f h = rw (ap unary_operator (await_stands k.flags c a), a, m, given.reads unary k e (after c) d r s w f h, j) refl
+
+  update_behind_reads : (op : UpdateOp) (e : Tree) (m : Place) (k : Code) (x : Tree) (c d : Place) → LeftSideRule In k e c m → awaits k.flags c ≡ false → supported_in k.flags.module e ≡ true → is_simple_target e ≡ true
       → breaks_at m ≡ false → update_operator (kind_at m) ≡ Some op → d ≡ after m → x ≡ tree.update (spanned c d) op false e → Reads (unary_expr inner cover function) k x c d
   unfolding unary_expr postfix update_behind simple spanned
-  update_behind_reads op e m k x c d r s t b o i j w f h =
+  update_behind_reads op e m k x c d r a s t b o i j w f h =
       let first = left_first In k e c m r s in
       let apart = update_seen m op o in
-      rw (operand_plain (kind_at c) first, operand_update (kind_at c) first, side_reads k e c m r s apart.0 apart.1 apart.2 w f h, postfix_seen m op b o, t, j, i) refl
+      rw (operand_plain (kind_at c) first, a, operand_update (kind_at c) first, side_reads k e c m r s apart.0 apart.1 apart.2 w f h, postfix_seen m op b o, t, j, i) refl
 
   unary_reads : (k : Code) (x : Tree) (c d : Place) → UnaryRule In k x c d → supported_in k.flags.module x ≡ true → continues_unary x d ≡ false → Reads (unary_expr inner cover function) k x c d
-  unary_reads k x c d (rules.operand_rule r) s e w f h = operand_reads k x c d r.0 s (unary_stops x d (left_simple In k x c d r.0) e) w f h
+  unary_reads k x c d (rules.operand_rule r) s e w f h = operand_reads k x c d r.0 r.1 s (unary_stops x d (left_simple In k x c d r.0) e) w f h
   unary_reads k x c d (rules.unary_rule op y i r j) s e w f h = prefixed_reads op y k x c d i r (supported_as _ x (tree.unary (spanned c d) op y) j s) j w f h
   unary_reads k x c d (rules.prefix_rule op y i r t j) s e w f h = update_before_reads op y k x c d i r (supported_as _ x (tree.update (spanned c d) op true y) j s) t j w f h
   unary_reads k x c d (rules.postfix_rule op y m r t b o i j) s e w f h =
-      update_behind_reads op y m k x c d r.0 (supported_as _ x (tree.update (spanned c d) op false y) j s) t b o i j w f h
-  unary_reads k x c d (rules.await_rule y a m r j) s e w f h = refuted _ x (ap (supported_in k.flags.module) j) s
+      update_behind_reads op y m k x c d r.0 r.1 (supported_as _ x (tree.update (spanned c d) op false y) j s) t b o i j w f h
+  unary_reads k x c d (rules.await_rule y a m r j) s e w f h = await_reads y k x c d a m r (supported_as _ x (tree.await (spanned c d) y) j s) j w f h
 
   -- ---- binary operators
 
@@ -390,7 +400,7 @@ module _ (In : Goal → Type 0) (inner : Class → Reader Tree) (cover : Reader 
 
   -- what is no array or object has no comma behind a spread
   commaless : (s : State) (v : Cover) (t : State) → is_literal v.x ≡ false → Becomes inner cover function s v t → v.comma ≡ false
-  commaless s v t g (inl o) = absurd (let h : is_literal v.x ≡ true = met (λ (u : Cover) (n : State). is_literal u.x ≡ true) (opened inner cover s) v t (opened_literal inner cover s) o.read in cc)
+  commaless s v t g (inl o) = absurd (let h : is_literal v.x ≡ true = met (λ (u : Cover) (n : State). is_literal u.x ≡ true) (opened inner cover function s) v t (opened_literal inner cover function s) o.read in cc)
   commaless s v t g (inr (inl o)) = ap (λ (u : Cover). u.comma) o.is
   commaless s v t g (inr (inr o)) = ap (λ (u : Cover). u.comma) o.is
 
@@ -404,7 +414,7 @@ module _ (In : Goal → Type 0) (inner : Class → Reader Tree) (cover : Reader 
 
   -- an array or object that is a pattern
   literal_reads : (k : Code) (p : Tree) (c d : Place) → PatternRule In assigning k p c d → is_pattern_target p ≡ true → supported_in k.flags.module p ≡ true
-      → (begins_literal c ≡ true) × ReadsAs (AsLiteral p c d) (opened inner cover) k p c d
+      → (begins_literal c ≡ true) × ReadsAs (AsLiteral p c d) (opened inner cover function) k p c d
   unfolding same_kind
   literal_reads k p c d (patterns.binding_name_rule text sp b r e) g s = cc
   literal_reads k p c d (patterns.target_name_rule text sp b a r e) g s = absurd (let i : is_pattern_target p ≡ false = ap is_pattern_target e in cc)
@@ -412,7 +422,7 @@ module _ (In : Goal → Type 0) (inner : Class → Reader Tree) (cover : Reader 
   literal_reads k p c d (patterns.array_rule ps m i r j n e) g s =
       (rw i refl, λ w f h. rw i (array_pattern In inner cover given ps m k p c d r (supported_as _ p (tree.array_pat (spanned c d) (listed ps)) e s) j n e w f h))
   literal_reads k p c d (patterns.object_rule ps m i r j n e) g s =
-      (rw i refl, λ w f h. rw i (object_pattern In inner cover given ps m k p c d r (supported_as _ p (tree.object_pat (spanned c d) (listed ps)) e s) j n e w f h))
+      (rw i refl, λ w f h. rw i (object_pattern In inner cover given function functions ps m k p c d r (supported_as _ p (tree.object_pat (spanned c d) (listed ps)) e s) j n e w f h))
 
   -- one that is assigned to
   destructured : (p y : Tree) (m : Place) (k : Code) (c d : Place) → PatternRule In assigning k p c m → is_pattern_target p ≡ true → kind_at m ≡ kind.Assign
@@ -425,7 +435,7 @@ module _ (In : Goal → Type 0) (inner : Class → Reader Tree) (cover : Reader 
       let f' = f ++ walk (env_of k w.labels) p in
       let h' = h ⊕ notes_of p in
       let x = tree.assign (spanned c d) assign.Assign p y in
-      let u : Assigns inner cover (st c k w f h) (done x) (st d k w (f' ++ walk (env_of k w.labels) y) (h' ⊕ notes_of y)) = record {
+      let u : Assigns inner cover function (st c k w f h) (done x) (st d k w (f' ++ walk (env_of k w.labels) y) (h' ⊕ notes_of y)) = record {
         found = v.value;
         behind = st m k w f' h';
         p = p;
@@ -620,7 +630,7 @@ bare_calls : (n : ℕ) (k : Code) (x : Tree) (c d : Place) → language.Reads n 
 bare_calls zero k x c d r = absurd r
 bare_calls (suc n) k x c d r = r.0
 
-module _ (n : ℕ) (inner : Class → Reader Tree) (cover : Reader Cover) (given : IsRead (language.Reads n) inner cover) (function : Reader Tree) (functions : IsFunctionRead (language.Reads n) function) where
+module _ (n : ℕ) (inner : Class → Reader Tree) (cover : Reader Cover) (given : IsRead (language.Reads n) inner cover) (function : FunctionForm → Reader Tree) (functions : IsFunctionRead (language.Reads n) function) where
   class_reads : (class : Class) (k : Code) (x : Tree) (c d : Place) → language.Reads (suc n) (expr_goal class k x c d) → supported_in k.flags.module x ≡ true
       → Reads (expr_level inner cover function class) k x c d
   unfolding expr_level

@@ -1,18 +1,21 @@
 -- Arrays and objects of the language are read, as expressions and as patterns, with the faults of the walk and the notes held
 -- back, and no others.
 use Rattle.std.proofs.Common.{◌≡◌, ◌⊎◌, inl, inr, Bool, true, false, not, List, [], ◌∷◌, ◌++◌, length, Option, Some, None, Ok, refl, sym, ◌∙◌, ap, arith, append_assoc, append-nil}
-use Rattle.std.specs.Prelude.{◌&&◌}
+use Rattle.std.specs.Prelude.{◌&&◌, codes}
 use Rattle.swc_ecma_parser_common.specs.declared.span.Span.{Span}
 use Rattle.swc_ecma_parser_error.specs.Kind.{Fault}
 use Rattle.swc_ecma_parser_token.specs.declared.kind.TokenKind.{TokenKind}
 use Rattle.swc_ecma_parser_token.specs.declared.kind.TokenKind.TheVariants as kind
 use Rattle.swc_ecma_parser_input.specs.Place.{Place, after}
+use Rattle.swc_ecma_parser_model.specs.declared.leaves.MethodKind.TheVariants as forms
 use Rattle.swc_ecma_parser_model.specs.Tree as tree
 use Rattle.swc_ecma_parser_model.specs.Tree.{Tree, Trees, none, also, Text, listed, trees}
 use Rattle.swc_ecma_parser_model.specs.Forms.{is_pattern_target, is_rest, span_of}
 use Rattle.swc_ecma_parser_model.specs.Targets.{simple_target, array_of, object_of, rest_of, alone, as_target, as_element, as_elements, as_properties}
 use Rattle.swc_ecma_parser_grammar.specs.Looks.{kind_at, sees, same_kind, span_at, spanned}
 use Rattle.swc_ecma_parser_grammar.specs.Names.{Code, is_name, is_reserved}
+use Rattle.swc_ecma_parser_grammar.specs.Follows.{word_at, AsyncWord, Star}
+use Rattle.swc_ecma_parser_grammar.specs.Parameters.{parameters}
 use Rattle.swc_ecma_parser_grammar.specs.Reads.{with_in}
 use Rattle.swc_ecma_parser_grammar.specs.Notes.{notes}
 use Rattle.swc_ecma_parser_grammar.specs.language.Noted.{has_meta}
@@ -25,23 +28,25 @@ use Rattle.swc_ecma_parser_grammar.specs.language.Parts.{ReadsName, ReadsWord, E
 use Rattle.swc_ecma_parser_grammar.specs.language.Objects as objects
 use Rattle.swc_ecma_parser_grammar.specs.language.Objects.{PropertyRule}
 use Rattle.swc_ecma_parser_grammar.specs.language.Functions as functions
-use Rattle.swc_ecma_parser_grammar.specs.language.Functions.{PatternItemRule}
+use Rattle.swc_ecma_parser_grammar.specs.language.Functions.{PatternItemRule, MethodHead, MethodRule}
 use Rattle.swc_ecma_parser_grammar.specs.language.Patterns as patterns
 use Rattle.swc_ecma_parser_grammar.specs.language.Patterns.{PatternPropertyRule}
-use Rattle.swc_ecma_parser_grammar.proofs.Tests.{or_none, and_yes}
+use Rattle.swc_ecma_parser_grammar.proofs.Tests.{or_none, and_yes, and_no}
 use Rattle.swc_ecma_parser_grammar.proofs.language.spans.Expressions.{name_span}
 use Rattle.swc_ecma_parser_reader.specs.Notes.{Notes, ◌⊕◌, notes_of, all_notes_of}
 use Rattle.swc_ecma_parser_reader.specs.State.{Scope, Reader, loop}
-use Rattle.swc_ecma_parser_reader.specs.Expressions.{Cover, Covers, first_mark, no_covers, with_cover, with_comma, done, part_as, whole_of, covered, spread_item, plain_item, item, array_turn, elements, array, key_value, initialized, initialized_name, bare_key, behind_key, keyed_property, spread_property, property, object_turn, properties, object}
+use Rattle.swc_ecma_parser_reader.specs.Methods.{MethodForm, getter_form, setter_form, method_form, FunctionForm, ends_key, method_words, is_bare}
+use Rattle.swc_ecma_parser_reader.specs.Expressions.{Cover, Covers, first_mark, no_covers, with_cover, with_comma, done, part_as, whole_of, covered, spread_item, plain_item, item, array_turn, elements, array, key_value, initialized, initialized_name, bare_key, behind_key, method, behind_words, keyed_property, spread_property, property, object_turn, properties, object}
 use Rattle.swc_ecma_parser_reader.proofs.Notes.{or_nil, or_assoc}
 use Rattle.swc_ecma_parser_reader.proofs.Answered.{st, Gets, ReadsAs}
 use Rattle.swc_ecma_parser_reader.proofs.Takes.{moves, takes}
 use Rattle.swc_ecma_parser_reader.proofs.Steps.{loop_more, loop_done}
 use Rattle.swc_ecma_parser_reader.proofs.expressions.Falls.{item_falls, property_falls}
-use Rattle.swc_ecma_parser_reader.proofs.expressions.CompleteKinds.{refuted, supported_as, seen, key_begins, begin_seen, ends_part, ended_at}
+use Rattle.swc_ecma_parser_reader.proofs.expressions.CompleteKinds.{supported_as, seen, key_begins, begin_seen, ends_part, ended_at, ends_property, property_ended}
+use Rattle.swc_ecma_parser_reader.proofs.expressions.CompleteMethods.{bare_words, getter_words, setter_words, plain_words, head_begins}
 use Rattle.swc_ecma_parser_grammar.proofs.Naming.{name_is_name}
 use Rattle.swc_ecma_parser_reader.proofs.expressions.Loops.{shorter_by}
-use Rattle.swc_ecma_parser_reader.proofs.expressions.CompleteParts.{expect_reads, AsExpr, AsElement, AsTarget, IsRead, Behind, behind_last, inside_reads, element_begins, key_reads, shorthand_reads}
+use Rattle.swc_ecma_parser_reader.proofs.expressions.CompleteParts.{expect_reads, AsExpr, AsElement, AsTarget, IsRead, IsFunctionRead, MethodIsRead, Behind, behind_last, inside_reads, element_begins, key_reads, shorthand_reads}
 
 -- ---- what is found so far
 
@@ -112,6 +117,10 @@ behind_ends : (j : TokenKind) (m d : Place) → ends_part j ≡ true → Behind 
 behind_ends j m d g (inl (e, i)) = rw e g
 behind_ends j m d g (inr (e, i)) = rw e refl
 
+property_behind : (m d : Place) → Behind kind.RBrace m d → ends_property (kind_at m) ≡ true
+property_behind m d (inl (e, i)) = rw e refl
+property_behind m d (inr (e, i)) = rw e refl
+
 plain_array : {X : Type 0} (s : Span) (p : Tree) (o : Option Trees) → array_of s o ≡ Some p → is_pattern_target p ≡ false → X
 plain_array s p None e h = cc
 plain_array s p (Some xs) e h = let i : p ≡ tree.array_pat s (tree.list xs) = cc in let g : is_pattern_target p ≡ true = ap is_pattern_target i in cc
@@ -135,6 +144,26 @@ name_inside k text = refl
 rest_ended : (turned : Tree → Option Tree) (dots : Span) (x p : Tree) (d : Place) → turned x ≡ Some p → (span_of x).hi ≡ d.last.hi
     → alone (rest_of dots x (turned x)) ≡ Some (also (tree.rest_pat (record { lo = dots.lo; hi = d.last.hi }) p) none)
 rest_ended turned dots x p d e h = rw (e, h) refl
+
+-- the words before a key
+getter_there : {a v : Bool} (c d : Place) → MethodHead forms.Getter a v c d → (word_at (codes "get") c ≡ true) × (d ≡ after c)
+getter_there c d (functions.method_head m e a s) = cc
+getter_there c d (functions.getter_head e p q w n) = (w, n)
+getter_there c d (functions.setter_head e p q w n) = cc
+
+setter_there : {a v : Bool} (c d : Place) → MethodHead forms.Setter a v c d → (word_at (codes "set") c ≡ true) × (d ≡ after c)
+setter_there c d (functions.method_head m e a s) = cc
+setter_there c d (functions.getter_head e p q w n) = cc
+setter_there c d (functions.setter_head e p q w n) = (w, n)
+
+method_there : (a v : Bool) (c d : Place) → MethodHead forms.Method a v c d → (m : Place) × AsyncWord a c m × Star v m d
+method_there a v c d (functions.method_head m e r s) = (m, r, s)
+method_there a v c d (functions.getter_head e p q w n) = cc
+method_there a v c d (functions.setter_head e p q w n) = cc
+
+not_yes : (b : Bool) → not b ≡ true → b ≡ false
+not_yes true e = cc
+not_yes false e = refl
 
 module _ (In : Goal → Type 0) (inner : Class → Reader Tree) (cover : Reader Cover) (given : IsRead In inner cover) where
   covered_reads : (P : Cover → Type 0) (k : Code) (x : Tree) (c d : Place) → ReadsAs P cover (with_in k) x c d → ReadsAs P (covered inner cover) k x c d
@@ -382,207 +411,10 @@ module _ (In : Goal → Type 0) (inner : Class → Reader Tree) (cover : Reader 
         is = rw o.is refl;
       })
 
-  -- ---- the parts of an object
-
-  -- a key and a value
-  valued : (y z : Tree) (v : Cover) (m : Place) (k : Code) (c d : Place) (w : Scope) (f : List Fault) (h : Notes) → KeyRule In k y c m → is_supported_key_in k.flags.module y ≡ true → kind_at m ≡ kind.Colon
-      → covered inner cover (st (after m) k w (f ++ walk (env_of k w.labels) y) (h ⊕ notes_of y))
-      ≡ Ok (v, st d k w ((f ++ walk (env_of k w.labels) y) ++ walk (env_of k w.labels) z) ((h ⊕ notes_of y) ⊕ notes_of z))
-      → property inner cover (st c k w f h)
-      ≡ Ok (part_as (tree.key_value_prop (spanned c d) y) v, st d k w (f ++ (walk (env_of k w.labels) y ++ walk (env_of k w.labels) z)) (h ⊕ (notes_of y ⊕ notes_of z)))
-  unfolding property keyed_property behind_key key_value spanned
-  valued y z v m k c d w f h r s i g =
-      rw (
-        (key_begins In k y c m r).1,
-        key_reads In inner cover given k y c m r s w f h,
-        seen m kind.Colon i,
-        g,
-        append_assoc f (walk (env_of k w.labels) y) (walk (env_of k w.labels) z),
-        append_assoc h.held_back (notes y) (notes z),
-        or_assoc h.found_module_item (has_meta y) (has_meta z),
-      ) refl
-
-  valued_property : (y z : Tree) (m : Place) (k : Code) (c d : Place) → KeyRule In k y c m → is_supported_key_in k.flags.module y ≡ true → kind_at m ≡ kind.Colon
-      → In (expr_goal assignment (with_in k) z (after m) d) → supported_in k.flags.module z ≡ true
-      → ReadsAs (AsExpr (tree.key_value_prop (spanned c d) y z)) (property inner cover) k (tree.key_value_prop (spanned c d) y z) c d
-  valued_property y z m k c d r s i g t w f h =
-      let v = covered_reads (AsExpr z) k z (after m) d (given.exprs (with_in k) z (after m) d g t) w (f ++ walk (env_of k w.labels) y) (h ⊕ notes_of y) in
-      record {
-        value = part_as (tree.key_value_prop (spanned c d) y) v.value;
-        holds = (ap (tree.key_value_prop (spanned c d) y) v.holds.0, v.holds.1);
-        is = valued y z v.value m k c d w f h r s i v.is;
-      }
-
-  -- a name alone
-  shorthand_reads_as : (text : Text) (sp : Span) (k : Code) (c d : Place) (w : Scope) (f : List Fault) (h : Notes) → ReadsWord text sp c d → is_name k.flags text ≡ true → ends_part (kind_at d) ≡ true
-      → property inner cover (st c k w f h) ≡ Ok (done (tree.shorthand_prop sp text), st d k w f h)
-  unfolding property keyed_property behind_key bare_key
-  shorthand_reads_as text sp k c d w f h r n e =
-      let t = ended_at d e in
-      rw (
-        (key_begins In k (tree.ident sp text) c d (parts.word_key text sp r refl)).1,
-        key_reads In inner cover given k (tree.ident sp text) c d (parts.word_key text sp r refl) refl w f h,
-        append-nil f,
-        append-nil h.held_back,
-        or_nil h.found_module_item,
-        t.colon,
-        t.assign,
-        shorthand_reads text sp (tree.shorthand_prop sp text) d k w f h n refl,
-      ) refl
-
-  spread_property_reads : (e : Tree) (k : Code) (c d : Place) → kind_at c ≡ kind.DotDotDot → In (expr_goal assignment (with_in k) e (after c) d) → supported_in k.flags.module e ≡ true
-      → ReadsAs (AsExpr (tree.spread_prop (span_at c) e)) (property inner cover) k (tree.spread_prop (span_at c) e) c d
-  unfolding property spread_property
-  spread_property_reads e k c d o r s w f h =
-      let v = covered_reads (AsExpr e) k e (after c) d (given.exprs (with_in k) e (after c) d r s) w f h in
-      record {
-        value = part_as (tree.spread_prop (span_at c)) v.value;
-        holds = (ap (tree.spread_prop (span_at c)) v.holds.0, v.holds.1);
-        is = rw (seen c kind.DotDotDot o, v.is) refl;
-      }
+  -- ---- names and keys in objects and their patterns
 
   pub word_of : (k : Code) (text : Text) (sp : Span) (c d : Place) → ReadsName k text sp c d → ReadsWord text sp c d
   word_of k text sp c d r = record { word = r.word; reads_word = r.reads_word; is_text = r.is_text }
-
-  property_reads : (k : Code) (x : Tree) (c d : Place) → PropertyRule In k x c d → supported_in k.flags.module x ≡ true → ends_part (kind_at d) ≡ true → ReadsAs (AsExpr x) (property inner cover) k x c d
-  property_reads k x c d (objects.spread_rule e o r g) s q w f h = rw g (spread_property_reads e k c d o r (supported_as _ x (tree.spread_prop (span_at c) e) g s) w f h)
-  property_reads k x c d (objects.shorthand_rule text sp r g) s q w f h =
-      let n : is_name k.flags text ≡ true = ap (is_name k.flags) r.is_text ∙ name_is_name k text sp c d r (supported_as _ x (tree.shorthand_prop sp text) g s) in
-      rw g (record {
-        value = done (tree.shorthand_prop sp text);
-        holds = (refl, refl);
-        is = rw (append-nil f, append-nil h.held_back, or_nil h.found_module_item) (shorthand_reads_as text sp k c d w f h (word_of k text sp c d r) n q);
-      })
-  property_reads k x c d (objects.key_value_rule y z m r i v g) s q w f h =
-      let t = and_yes (is_supported_key_in k.flags.module y) _ (supported_as _ x (tree.key_value_prop (spanned c d) y z) g s) in
-      rw g (valued_property y z m k c d r t.0 i v t.1 w f h)
-  property_reads k x c d (objects.getter_rule y b r g) s q w f h = refuted _ x (ap (supported_in k.flags.module) g) s
-  property_reads k x c d (objects.setter_rule y p b r g) s q w f h = refuted _ x (ap (supported_in k.flags.module) g) s
-  property_reads k x c d (objects.method_rule i j y ps b r g) s q w f h = refuted _ x (ap (supported_in k.flags.module) g) s
-
-  property_begins : (k : Code) (x : Tree) (c d : Place) → PropertyRule In k x c d → supported_in k.flags.module x ≡ true → sees kind.RBrace c ≡ false
-  unfolding same_kind
-  property_begins k x c d (objects.spread_rule e o r g) s = rw o refl
-  property_begins k x c d (objects.shorthand_rule text sp r g) s = (key_begins In k (tree.ident sp text) c d (parts.word_key text sp (word_of k text sp c d r) refl)).0
-  property_begins k x c d (objects.key_value_rule y z m r i v g) s = (key_begins In k y c m r).0
-  property_begins k x c d (objects.getter_rule y b r g) s = refuted _ x (ap (supported_in k.flags.module) g) s
-  property_begins k x c d (objects.setter_rule y p b r g) s = refuted _ x (ap (supported_in k.flags.module) g) s
-  property_begins k x c d (objects.method_rule i j y ps b r g) s = refuted _ x (ap (supported_in k.flags.module) g) s
-
-  -- a property, and what stands behind it
-  property_more : (found : Covers) (v : Cover) (k : Code) (c m d : Place) (w : Scope) (f : List Fault) (h : Notes) (i : List Fault) (j : Notes) → property inner cover (st c k w f h) ≡ Ok (v, st m k w i j)
-      → sees kind.RBrace c ≡ false → (b : Behind kind.RBrace m d)
-      → loop (object_turn inner cover) found (st c k w f h) ≡ loop (object_turn inner cover) (commaed b (sees kind.DotDotDot c) (with_cover found v)) (st d k w i j)
-  unfolding object_turn same_kind
-  property_more found v k c m d w f h i j r brace (inl (e, g)) =
-      let l = shorter_by (length c.left) (property inner cover (st c k w f h)) v (st m k w i j) r (property_falls inner cover given.falls given.cover_falls (st c k w f h)) in
-      loop_more (object_turn inner cover) found (with_cover found v) (st c k w f h) (st d k w i j) (rw (brace, r, e, g) refl) (rw g l)
-  property_more found v k c m d w f h i j r brace (inr (e, g)) =
-      let l = shorter_by (length c.left) (property inner cover (st c k w f h)) v (st m k w i j) r (property_falls inner cover given.falls given.cover_falls (st c k w f h)) in
-      loop_more (object_turn inner cover) found (with_comma (sees kind.DotDotDot c) (with_cover found v)) (st c k w f h) (st d k w i j)
-      (rw (brace, r, e, expect_reads kind.Comma m k w i j e, g) refl) (rw g (let n = moves m in omega arith))
-
-  properties_end : (found : Covers) (k : Code) (c : Place) (w : Scope) (f : List Fault) (h : Notes) → kind_at c ≡ kind.RBrace
-      → loop (object_turn inner cover) found (st c k w f h) ≡ Ok (found, st (after c) k w f h)
-  unfolding object_turn
-  properties_end found k c w f h e = loop_done (object_turn inner cover) found found (st c k w f h) (st (after c) k w f h) (rw (seen c kind.RBrace e) refl)
-
-  many_properties : (xs : List Tree) (found : Covers) (k : Code) (c d : Place) (w : Scope) (f : List Fault) (h : Notes) → ReadsListed true (PropertyRule In k) xs c d → all_supported_in k.flags.module (trees xs) ≡ true
-      → kind_at d ≡ kind.RBrace → found.mark ≡ None
-      → Gets (AsExprs xs found) (loop (object_turn inner cover) found (st c k w f h)) (st (after d) k w (f ++ walks (env_of k w.labels) false (trees xs)) (h ⊕ all_notes_of (trees xs)))
-  many_properties [] found k c d w f h r s e n =
-      record { value = found; holds = (sym (append-nil found.xs), n); is = rw (append-nil f, append-nil h.held_back, or_nil h.found_module_item, r) (properties_end found k c w f h (ap kind_at (sym r) ∙ e)) }
-  many_properties (x ∷ []) found k c d w f h (m, r, l) s e n =
-      let t = (and_yes (supported_in k.flags.module x) _ s).0 in
-      let b = behind_last kind.RBrace x m d l e in
-      let v = property_reads k x c m r t (behind_ends kind.RBrace m d refl b) w f h in
-      let more = commaed b (sees kind.DotDotDot c) (with_cover found v.value) in
-      let f' = f ++ walk (env_of k w.labels) x in
-      let h' = h ⊕ notes_of x in
-      record {
-        value = more;
-        holds = (commaed_trees b _ _ ∙ ap (λ z. found.xs ++ z ∷ []) v.holds.0, commaed_mark b _ _ ∙ no_mark _ _ n v.holds.1);
-        is = rw (append-nil (walk (env_of k w.labels) x), append-nil (notes x), or_nil (has_meta x))
-            (property_more found v.value k c m d w f h f' h' v.is (property_begins k x c m r t) b ∙ properties_end more k d w f' h' e);
-      }
-  many_properties (x ∷ y ∷ ys) found k c d w f h (m, r, a, i, more) s e n =
-      let t = and_yes (supported_in k.flags.module x) _ s in
-      let v = property_reads k x c m r t.0 (rw i refl) w f h in
-      let next = with_comma (sees kind.DotDotDot c) (with_cover found v.value) in
-      let f' = f ++ walk (env_of k w.labels) x in
-      let h' = h ⊕ notes_of x in
-      let o = many_properties (y ∷ ys) next k (after m) d w f' h' more t.1 e (no_mark _ _ n v.holds.1) in
-      record {
-        value = o.value;
-        holds = (o.holds.0 ∙ ap (λ z. (found.xs ++ z ∷ []) ++ y ∷ ys) v.holds.0 ∙ append_assoc found.xs (x ∷ []) (y ∷ ys), o.holds.1);
-        is = property_more found v.value k c m (after m) w f h f' h' v.is (property_begins k x c m r t.0) (inr (i, refl)) ∙ o.is ∙ simp (append_assoc, or_assoc) refl;
-      }
-
-  pub object_reads : (xs : List Tree) (m : Place) (k : Code) (x : Tree) (c d : Place) → ReadsListed true (PropertyRule In k) xs (after c) m → all_supported_in k.flags.module (trees xs) ≡ true
-      → kind_at m ≡ kind.RBrace → d ≡ after m → x ≡ tree.object (spanned c d) (listed xs) → ReadsAs (AsExpr x) (object inner cover) k x c d
-  unfolding object properties spanned
-  object_reads xs m k x c d r s g i j w f h =
-      let o = many_properties xs no_covers k (after c) m w f h r s g refl in
-      let span : Span = record { lo = (span_at c).lo; hi = (after m).last.hi } in
-      rw (j, i) (record { value = whole_of (tree.object span) o.value; holds = (ap (λ z. tree.object span (listed z)) o.holds.0, o.holds.1); is = rw o.is refl })
-
-  -- ---- the parts of an object pattern
-
-  -- a rest, whose target is no pattern
-  record RestProperty (k : Code) (p : Tree) (c d : Place) : Type 0 where
-    y : Tree
-    dots : kind_at c ≡ kind.DotDotDot
-    reads_rest : In (pattern_goal assigning k y (after c) d)
-    plain : is_pattern_target y ≡ false
-    is : p ≡ tree.rest_pat (spanned c d) y
-
-  rest_property : (y : Tree) (k : Code) (c d : Place) → kind_at c ≡ kind.DotDotDot → In (pattern_goal assigning (with_in k) y (after c) d) → is_pattern_target y ≡ false → supported_in k.flags.module y ≡ true
-      → ends_part (kind_at d) ≡ true → ReadsAs (AsLast as_properties (tree.rest_pat (spanned c d) y)) (property inner cover) k (tree.rest_pat (spanned c d) y) c d
-  unfolding property spread_property spanned
-  rest_property y k c d o r n s t w f h =
-      let v = covered_reads (AsTarget y d) k y (after c) d (given.targets k y (after c) d r s t) w f h in
-      record {
-        value = part_as (tree.spread_prop (span_at c)) v.value;
-        holds = (rest_ended simple_target (span_at c) v.value.x y d (plain_target v.value.x y v.holds.0 n) v.holds.2, v.holds.1);
-        is = rw (seen c kind.DotDotDot o, v.is) refl;
-      }
-
-  valued_part : (y z : Tree) (m : Place) (k : Code) (c d : Place) → KeyRule In k y c m → is_supported_key_in k.flags.module y ≡ true → kind_at m ≡ kind.Colon
-      → In (element_goal assigning (with_in k) z (after m) d) → supported_in k.flags.module z ≡ true → ends_part (kind_at d) ≡ true
-      → ReadsAs (AsPart as_properties (tree.key_value_pat_prop (spanned c d) y z)) (property inner cover) k (tree.key_value_pat_prop (spanned c d) y z) c d
-  valued_part y z m k c d r s i g t q w f h =
-      let v = covered_reads (AsElement z) k z (after m) d (given.elements k z (after m) d g t q) w (f ++ walk (env_of k w.labels) y) (h ⊕ notes_of y) in
-      record {
-        value = part_as (tree.key_value_prop (spanned c d) y) v.value;
-        holds = (λ zs qs e. rw (v.holds.0, e) refl, v.holds.1);
-        is = valued y z v.value m k c d w f h r s i v.is;
-      }
-
-  -- a name, `=` and a value
-  initialized_part : (text : Text) (sp : Span) (z : Tree) (m : Place) (k : Code) (c d : Place) → ReadsWord text sp c m → is_name k.flags text ≡ true → kind_at m ≡ kind.Assign
-      → In (expr_goal assignment (with_in k) z (after m) d) → supported_in k.flags.module z ≡ true
-      → ReadsAs (AsPart as_properties (tree.assign_pat_prop (spanned c d) (tree.ident_pat sp text) z)) (property inner cover) k (tree.assign_pat_prop (spanned c d) (tree.ident_pat sp text) z) c d
-  unfolding property keyed_property behind_key initialized_name initialized spanned same_kind
-  initialized_part text sp z m k c d r n i g t w f h = record {
-    value = record { x = tree.assign_prop (spanned c d) (tree.ident sp text) z; mark = Some (spanned c d); comma = false };
-    holds = (λ zs qs e. rw e refl, refl);
-    is = rw (
-      (key_begins In k (tree.ident sp text) c m (parts.word_key text sp r refl)).1,
-      key_reads In inner cover given k (tree.ident sp text) c m (parts.word_key text sp r refl) refl w f h,
-      append-nil f,
-      append-nil h.held_back,
-      or_nil h.found_module_item,
-      i,
-      n,
-      inside_reads In inner cover given assignment k z (after m) d g t w f h,
-    ) refl;
-  }
-
-  rest_property_or : (k : Code) (p : Tree) (c d : Place) → PatternPropertyRule In assigning k p c d → (is_rest p ≡ false) ⊎ RestProperty k p c d
-  rest_property_or k p c d (patterns.key_value_rule y z m r i v g) = inl (ap is_rest g)
-  rest_property_or k p c d (patterns.shorthand_rule text sp r n g) = inl (ap is_rest g)
-  rest_property_or k p c d (patterns.default_rule text sp z m r i v g) = inl (ap is_rest g)
-  rest_property_or k p c d (patterns.rest_rule y o r n e) = inr (record { y = y; dots = o; reads_rest = r; plain = n; is = e })
 
   -- brackets, braces and parentheses in a key change nothing
   pub key_outside : (k : Code) (y : Tree) (c d : Place) → KeyRule In (with_in k) y c d → KeyRule In k y c d
@@ -597,24 +429,6 @@ module _ (In : Goal → Type 0) (inner : Class → Reader Tree) (cover : Reader 
   pub name_there : (k : Code) (text : Text) (sp : Span) (c d : Place) → ReadsName (with_in k) text sp c d → supported_in k.flags.module (tree.ident sp text) ≡ true → is_name k.flags text ≡ true
   name_there k text sp c d r s = sym (name_inside k text) ∙ ap (is_name (with_in k).flags) r.is_text ∙ name_is_name (with_in k) text sp c d r s
 
-  part_property : (k : Code) (p : Tree) (c d : Place) → PatternPropertyRule In assigning (with_in k) p c d → is_rest p ≡ false → supported_in k.flags.module p ≡ true → ends_part (kind_at d) ≡ true
-      → ReadsAs (AsPart as_properties p) (property inner cover) k p c d
-  part_property k p c d (patterns.key_value_rule y z m r i v g) a s q w f h =
-      let t = and_yes (is_supported_key_in k.flags.module y) _ (supported_as _ p (tree.key_value_pat_prop (spanned c d) y z) g s) in
-      rw g (valued_part y z m k c d (key_outside k y c m r) t.0 i v t.1 q w f h)
-  part_property k p c d (patterns.shorthand_rule text sp r n g) a s q w f h =
-      let t = and_yes (supported_in k.flags.module (tree.ident_pat sp text)) _ (supported_as _ p (tree.assign_pat_prop (spanned c d) (tree.ident_pat sp text) tree.absent) g s) in
-      let e : p ≡ tree.assign_pat_prop sp (tree.ident_pat sp text) tree.absent = g ∙ ap (λ z. tree.assign_pat_prop z (tree.ident_pat sp text) tree.absent) (sym (name_span r)) in
-      rw e (record {
-        value = done (tree.shorthand_prop sp text);
-        holds = (λ zs qs j. rw j refl, refl);
-        is = rw (append-nil f, append-nil h.held_back, or_nil h.found_module_item) (shorthand_reads_as text sp k c d w f h (word_of (with_in k) text sp c d r) (name_there k text sp c d r t.0) q);
-      })
-  part_property k p c d (patterns.default_rule text sp z m r i v g) a s q w f h =
-      let t = and_yes (supported_in k.flags.module (tree.ident_pat sp text)) _ (supported_as _ p (tree.assign_pat_prop (spanned c d) (tree.ident_pat sp text) z) g s) in
-      rw g (initialized_part text sp z m k c d (word_of (with_in k) text sp c m r) (name_there k text sp c m r t.0) i v t.1 w f h)
-  part_property k p c d (patterns.rest_rule y o r n e) a s q w f h = absurd (let b : is_rest p ≡ true = ap is_rest e in cc)
-
   pub part_begins : {purpose : Purpose} (k : Code) (p : Tree) (c d : Place) → PatternPropertyRule In purpose k p c d → is_rest p ≡ false
       → (sees kind.RBrace c ≡ false) × (sees kind.DotDotDot c ≡ false)
   part_begins k p c d (patterns.key_value_rule y z m r i v g) a = key_begins In k y c m r
@@ -622,82 +436,348 @@ module _ (In : Goal → Type 0) (inner : Class → Reader Tree) (cover : Reader 
   part_begins k p c d (patterns.default_rule text sp z m r i v g) a = key_begins In k (tree.ident sp text) c m (parts.word_key text sp (word_of k text sp c m r) refl)
   part_begins k p c d (patterns.rest_rule y o r n e) a = absurd (let b : is_rest p ≡ true = ap is_rest e in cc)
 
-  one_property : (k : Code) (p : Tree) (found : Covers) (c m d : Place) (w : Scope) (f : List Fault) (h : Notes) → PatternPropertyRule In assigning (with_in k) p c m → is_rest p ≡ false
-      → Behind kind.RBrace m d → supported_in k.flags.module p ≡ true → kind_at d ≡ kind.RBrace → found.comma ≡ false
-      → Gets (AsParts as_properties (p ∷ []) found) (loop (object_turn inner cover) found (st c k w f h))
-      (st (after d) k w (f ++ walks (env_of k w.labels) false (trees (p ∷ []))) (h ⊕ all_notes_of (trees (p ∷ []))))
-  one_property k p found c m d w f h r a b s e n =
-      let v = part_property k p c m r a s (behind_ends kind.RBrace m d refl b) w f h in
-      let first = part_begins (with_in k) p c m r a in
-      let more = commaed b (sees kind.DotDotDot c) (with_cover found v.value) in
-      let f' = f ++ walk (env_of k w.labels) p in
-      let h' = h ⊕ notes_of p in
-      record {
-        value = more;
-        holds = parts_last as_properties p found v.value more (v.holds.0 none none refl, v.holds.1) (commaed_trees b _ _) (commaed_comma b _ _ first.1 (or_none _ _ n v.holds.1));
-        is = rw (append-nil (walk (env_of k w.labels) p), append-nil (notes p), or_nil (has_meta p)) (property_more found v.value k c m d w f h f' h' v.is first.0 b ∙ properties_end more k d w f' h' e);
-      }
+  -- ---- the parts of an object
 
-  one_rest_property : (k : Code) (p : Tree) (found : Covers) (c m : Place) (w : Scope) (f : List Fault) (h : Notes) → RestProperty (with_in k) p c m → supported_in k.flags.module p ≡ true
-      → kind_at m ≡ kind.RBrace → found.comma ≡ false
-      → Gets (AsParts as_properties (p ∷ []) found) (loop (object_turn inner cover) found (st c k w f h))
-      (st (after m) k w (f ++ walks (env_of k w.labels) false (trees (p ∷ []))) (h ⊕ all_notes_of (trees (p ∷ []))))
-  unfolding same_kind
-  one_rest_property k p found c m w f h r s e n =
-      let q = tree.rest_pat (spanned c m) r.y in
-      let v = rest_property r.y k c m r.dots r.reads_rest r.plain (supported_as _ p q r.is s) (rw e refl) w f h in
-      let more = with_cover found v.value in
-      let f' = f ++ walk (env_of k w.labels) q in
-      let h' = h ⊕ notes_of q in
-      rw r.is (record {
-        value = more;
-        holds = parts_last as_properties q found v.value more v.holds refl (or_none _ _ n v.holds.1);
-        is = rw (append-nil (walk (env_of k w.labels) q), append-nil (notes q), or_nil (has_meta q))
-            (property_more found v.value k c m m w f h f' h' v.is (rw r.dots refl) (inl (e, refl)) ∙ properties_end more k m w f' h' e);
-      })
+  -- methods are read by the reader of functions
+  module _ (function : FunctionForm → Reader Tree) (functions : IsFunctionRead In function) where
+    -- a key and a value
+    valued : (y z : Tree) (v : Cover) (m : Place) (k : Code) (c d : Place) (w : Scope) (f : List Fault) (h : Notes) → KeyRule In k y c m → is_supported_key_in k.flags.module y ≡ true → kind_at m ≡ kind.Colon
+        → covered inner cover (st (after m) k w (f ++ walk (env_of k w.labels) y) (h ⊕ notes_of y))
+        ≡ Ok (v, st d k w ((f ++ walk (env_of k w.labels) y) ++ walk (env_of k w.labels) z) ((h ⊕ notes_of y) ⊕ notes_of z))
+        → property inner cover function (st c k w f h)
+        ≡ Ok (part_as (tree.key_value_prop (spanned c d) y) v, st d k w (f ++ (walk (env_of k w.labels) y ++ walk (env_of k w.labels) z)) (h ⊕ (notes_of y ⊕ notes_of z)))
+    unfolding property keyed_property behind_words behind_key key_value spanned same_kind
+    valued y z v m k c d w f h r s i g =
+        rw (
+          (key_begins In k y c m r).1,
+          bare_words In k y m w f h c r (ap ends_key i),
+          key_reads In inner cover given k y c m r s w f h,
+          i,
+          g,
+          append_assoc f (walk (env_of k w.labels) y) (walk (env_of k w.labels) z),
+          append_assoc h.held_back (notes y) (notes z),
+          or_assoc h.found_module_item (has_meta y) (has_meta z),
+        ) refl
 
-  last_property : (k : Code) (p : Tree) (found : Covers) (c m d : Place) (w : Scope) (f : List Fault) (h : Notes) → PatternPropertyRule In assigning (with_in k) p c m
-      → (is_rest p ≡ false) ⊎ RestProperty (with_in k) p c m → LastComma true p m d → supported_in k.flags.module p ≡ true → kind_at d ≡ kind.RBrace → found.comma ≡ false
-      → Gets (AsParts as_properties (p ∷ []) found) (loop (object_turn inner cover) found (st c k w f h))
-      (st (after d) k w (f ++ walks (env_of k w.labels) false (trees (p ∷ []))) (h ⊕ all_notes_of (trees (p ∷ []))))
-  last_property k p found c m d w f h r (inl a) l s e n = one_property k p found c m d w f h r a (behind_last kind.RBrace p m d l e) s e n
-  last_property k p found c m d w f h r (inr a) l s e n =
-      let g = rest_ends p m d (ap is_rest a.is) l in
-      rw g (one_rest_property k p found c m w f h a s (ap kind_at (sym g) ∙ e) n)
+    valued_property : (y z : Tree) (m : Place) (k : Code) (c d : Place) → KeyRule In k y c m → is_supported_key_in k.flags.module y ≡ true → kind_at m ≡ kind.Colon
+        → In (expr_goal assignment (with_in k) z (after m) d) → supported_in k.flags.module z ≡ true
+        → ReadsAs (AsExpr (tree.key_value_prop (spanned c d) y z)) (property inner cover function) k (tree.key_value_prop (spanned c d) y z) c d
+    valued_property y z m k c d r s i g t w f h =
+        let v = covered_reads (AsExpr z) k z (after m) d (given.exprs (with_in k) z (after m) d g t) w (f ++ walk (env_of k w.labels) y) (h ⊕ notes_of y) in
+        record {
+          value = part_as (tree.key_value_prop (spanned c d) y) v.value;
+          holds = (ap (tree.key_value_prop (spanned c d) y) v.holds.0, v.holds.1);
+          is = valued y z v.value m k c d w f h r s i v.is;
+        }
 
-  many_part_properties : (ps : List Tree) (found : Covers) (k : Code) (c d : Place) (w : Scope) (f : List Fault) (h : Notes) → ReadsListed true (PatternPropertyRule In assigning (with_in k)) ps c d
-      → all_supported_in k.flags.module (trees ps) ≡ true → kind_at d ≡ kind.RBrace → found.comma ≡ false
-      → Gets (AsParts as_properties ps found) (loop (object_turn inner cover) found (st c k w f h)) (st (after d) k w (f ++ walks (env_of k w.labels) false (trees ps)) (h ⊕ all_notes_of (trees ps)))
-  many_part_properties [] found k c d w f h r s e n = record {
-    value = found;
-    holds = record { behind = []; trees_are = sym (append-nil found.xs); is_turned = refl; no_commas = n };
-    is = rw (append-nil f, append-nil h.held_back, or_nil h.found_module_item, r) (properties_end found k c w f h (ap kind_at (sym r) ∙ e));
-  }
-  many_part_properties (p ∷ []) found k c d w f h (m, r, l) s e n =
-      last_property k p found c m d w f h r (rest_property_or (with_in k) p c m r) l (and_yes (supported_in k.flags.module p) _ s).0 e n
-  many_part_properties (p ∷ q ∷ qs) found k c d w f h (m, r, a, i, more) s e n =
-      let t = and_yes (supported_in k.flags.module p) _ s in
-      let v = part_property k p c m r a t.0 (rw i refl) w f h in
-      let first = part_begins (with_in k) p c m r a in
-      let next = with_comma (sees kind.DotDotDot c) (with_cover found v.value) in
-      let f' = f ++ walk (env_of k w.labels) p in
-      let h' = h ⊕ notes_of p in
-      let o = many_part_properties (q ∷ qs) next k (after m) d w f' h' more t.1 e (or_none _ _ (or_none _ _ n v.holds.1) first.1) in
-      record {
-        value = o.value;
-        holds = parts_more as_properties p (q ∷ qs) found v.value next o.value v.holds refl o.holds;
-        is = property_more found v.value k c m (after m) w f h f' h' v.is first.0 (inr (i, refl)) ∙ o.is ∙ simp (append_assoc, or_assoc) refl;
-      }
+    -- a name alone
+    shorthand_reads_as : (text : Text) (sp : Span) (k : Code) (c d : Place) (w : Scope) (f : List Fault) (h : Notes) → ReadsWord text sp c d → is_name k.flags text ≡ true → ends_property (kind_at d) ≡ true
+        → property inner cover function (st c k w f h) ≡ Ok (done (tree.shorthand_prop sp text), st d k w f h)
+    unfolding property keyed_property behind_words behind_key bare_key
+    shorthand_reads_as text sp k c d w f h r n e =
+        let p = property_ended d e in
+        let t = ended_at d p.0 in
+        rw (
+          (key_begins In k (tree.ident sp text) c d (parts.word_key text sp r refl)).1,
+          bare_words In k (tree.ident sp text) d w f h c (parts.word_key text sp r refl) p.1,
+          key_reads In inner cover given k (tree.ident sp text) c d (parts.word_key text sp r refl) refl w f h,
+          append-nil f,
+          append-nil h.held_back,
+          or_nil h.found_module_item,
+          t.quiet.2,
+          t.colon,
+          t.assign,
+          shorthand_reads text sp (tree.shorthand_prop sp text) d k w f h n refl,
+        ) refl
 
-  pub object_pattern : (ps : List Tree) (m : Place) (k : Code) (p : Tree) (c d : Place) → ReadsListed true (PatternPropertyRule In assigning (with_in k)) ps (after c) m
-      → all_supported_in k.flags.module (trees ps) ≡ true → kind_at m ≡ kind.RBrace → d ≡ after m → p ≡ tree.object_pat (spanned c d) (listed ps) → ReadsAs (AsLiteral p c d) (object inner cover) k p c d
-  unfolding object properties spanned
-  object_pattern ps m k p c d r s g i j w f h =
-      let o = many_part_properties ps no_covers k (after c) m w f h r s g refl in
-      let span : Span = record { lo = (span_at c).lo; hi = (after m).last.hi } in
-      let turned : as_properties (trees o.value.xs) ≡ Some (trees ps) = ap (λ z. as_properties (trees z)) o.holds.trees_are ∙ o.holds.is_turned in
-      rw (j, i) (record {
-        value = whole_of (tree.object span) o.value;
-        holds = (ap (object_of span) turned, ap (object_of span) turned, o.holds.no_commas, refl);
-        is = rw o.is refl;
-      })
+    spread_property_reads : (e : Tree) (k : Code) (c d : Place) → kind_at c ≡ kind.DotDotDot → In (expr_goal assignment (with_in k) e (after c) d) → supported_in k.flags.module e ≡ true
+        → ReadsAs (AsExpr (tree.spread_prop (span_at c) e)) (property inner cover function) k (tree.spread_prop (span_at c) e) c d
+    unfolding property spread_property
+    spread_property_reads e k c d o r s w f h =
+        let v = covered_reads (AsExpr e) k e (after c) d (given.exprs (with_in k) e (after c) d r s) w f h in
+        record {
+          value = part_as (tree.spread_prop (span_at c)) v.value;
+          holds = (ap (tree.spread_prop (span_at c)) v.holds.0, v.holds.1);
+          is = rw (seen c kind.DotDotDot o, v.is) refl;
+        }
+
+    -- a method or an accessor
+    method_property : (form : MethodForm) (y x : Tree) (i m : Place) (k : Code) (c d : Place) → sees kind.DotDotDot c ≡ false
+        → ((w : Scope) (f : List Fault) (h : Notes) → method_words (st c k w f h) ≡ Ok (form, st i k w f h)) → KeyRule In k y i m → is_supported_key_in k.flags.module y ≡ true → kind_at m ≡ kind.LParen
+        → MethodIsRead function form k y x c m d → ReadsAs (AsExpr x) (property inner cover function) k x c d
+    unfolding property keyed_property behind_words method
+    method_property form y x i m k c d o words r s l reads w f h = record {
+      value = done x;
+      holds = (refl, refl);
+      is = rw (o, words w f h, key_reads In inner cover given k y i m r s w f h, and_no (is_bare form) (not (sees kind.LParen m)) (ap not (seen m kind.LParen l)), reads w f h) refl;
+    }
+
+    -- what stands before the key of each
+    getter_property : (y body : Tree) (k : Code) (x : Tree) (c d : Place) → MethodRule In (KeyRule In k) k forms.Getter false false y [] body c d → x ≡ tree.getter_prop (spanned c d) y body
+        → supported_in k.flags.module x ≡ true → ReadsAs (AsExpr x) (property inner cover function) k x c d
+    getter_property y body k x c d r g s =
+        let (a, n) = getter_there c r.behind_head r.reads_head in
+        let t = and_yes (is_supported_key_in k.flags.module y) _ (supported_as _ x (tree.getter_prop (spanned c d) y body) g s) in
+        method_property getter_form y x r.behind_head r.behind_key k c d (head_begins In k y c r.behind_head r.behind_key r.reads_head r.reads_key).1
+        (λ w f h. rw n (getter_words In k y r.behind_key w f h c a (rw (← n) r.reads_key))) r.reads_key t.0 r.reads_parts.reads_parameters.opens
+        (functions.getters k y body x c r.behind_key d r.reads_parts g s)
+
+    setter_property : (y p body : Tree) (k : Code) (x : Tree) (c d : Place) → MethodRule In (KeyRule In k) k forms.Setter false false y (p ∷ []) body c d → x ≡ tree.setter_prop (spanned c d) y p body
+        → supported_in k.flags.module x ≡ true → ReadsAs (AsExpr x) (property inner cover function) k x c d
+    setter_property y p body k x c d r g s =
+        let (a, n) = setter_there c r.behind_head r.reads_head in
+        let t = and_yes (is_supported_key_in k.flags.module y) _ (supported_as _ x (tree.setter_prop (spanned c d) y p body) g s) in
+        method_property setter_form y x r.behind_head r.behind_key k c d (head_begins In k y c r.behind_head r.behind_key r.reads_head r.reads_key).1
+        (λ w f h. rw n (setter_words In k y r.behind_key w f h c a (rw (← n) r.reads_key))) r.reads_key t.0 r.reads_parts.reads_parameters.opens
+        (functions.setters k y p body x c r.behind_key d r.reads_parts (not_yes (is_rest p) r.arity) g s)
+
+    plain_method_property : (a v : Bool) (y : Tree) (ps : List Tree) (body : Tree) (k : Code) (x : Tree) (c d : Place) → MethodRule In (KeyRule In k) k forms.Method a v y ps body c d
+        → x ≡ tree.method_prop (spanned c d) y (tree.function (spanned c d) (listed []) (parameters ps) body a v) → supported_in k.flags.module x ≡ true
+        → ReadsAs (AsExpr x) (property inner cover function) k x c d
+    plain_method_property a v y ps body k x c d r g s =
+        let (j, q, o) = method_there a v c r.behind_head r.reads_head in
+        let l = r.reads_parts.reads_parameters.opens in
+        let fn = tree.function (spanned c d) (listed []) (parameters ps) body a v in
+        let t = and_yes (is_supported_key_in k.flags.module y) _ (supported_as _ x (tree.method_prop (spanned c d) y fn) g s) in
+        method_property (method_form a v) y x r.behind_head r.behind_key k c d (head_begins In k y c r.behind_head r.behind_key r.reads_head r.reads_key).1
+        (λ w f h. plain_words In k y r.behind_key w f h c j r.behind_head q o r.reads_key (ap ends_key l)) r.reads_key t.0 l
+        (functions.methods k a v y ps body x c r.behind_key d r.reads_parts g s)
+
+    property_reads : (k : Code) (x : Tree) (c d : Place) → PropertyRule In k x c d → supported_in k.flags.module x ≡ true → ends_property (kind_at d) ≡ true → ReadsAs (AsExpr x) (property inner cover function) k x c d
+    property_reads k x c d (objects.spread_rule e o r g) s q w f h = rw g (spread_property_reads e k c d o r (supported_as _ x (tree.spread_prop (span_at c) e) g s) w f h)
+    property_reads k x c d (objects.shorthand_rule text sp r g) s q w f h =
+        let n : is_name k.flags text ≡ true = ap (is_name k.flags) r.is_text ∙ name_is_name k text sp c d r (supported_as _ x (tree.shorthand_prop sp text) g s) in
+        rw g (record {
+          value = done (tree.shorthand_prop sp text);
+          holds = (refl, refl);
+          is = rw (append-nil f, append-nil h.held_back, or_nil h.found_module_item) (shorthand_reads_as text sp k c d w f h (word_of k text sp c d r) n q);
+        })
+    property_reads k x c d (objects.key_value_rule y z m r i v g) s q w f h =
+        let t = and_yes (is_supported_key_in k.flags.module y) _ (supported_as _ x (tree.key_value_prop (spanned c d) y z) g s) in
+        rw g (valued_property y z m k c d r t.0 i v t.1 w f h)
+    property_reads k x c d (objects.getter_rule y b r g) s q w f h = getter_property y b k x c d r g s w f h
+    property_reads k x c d (objects.setter_rule y p b r g) s q w f h = setter_property y p b k x c d r g s w f h
+    property_reads k x c d (objects.method_rule i j y ps b r g) s q w f h = plain_method_property i j y ps b k x c d r g s w f h
+
+    property_begins : (k : Code) (x : Tree) (c d : Place) → PropertyRule In k x c d → supported_in k.flags.module x ≡ true → sees kind.RBrace c ≡ false
+    unfolding same_kind
+    property_begins k x c d (objects.spread_rule e o r g) s = rw o refl
+    property_begins k x c d (objects.shorthand_rule text sp r g) s = (key_begins In k (tree.ident sp text) c d (parts.word_key text sp (word_of k text sp c d r) refl)).0
+    property_begins k x c d (objects.key_value_rule y z m r i v g) s = (key_begins In k y c m r).0
+    property_begins k x c d (objects.getter_rule y b r g) s = (head_begins In k y c r.behind_head r.behind_key r.reads_head r.reads_key).0
+    property_begins k x c d (objects.setter_rule y p b r g) s = (head_begins In k y c r.behind_head r.behind_key r.reads_head r.reads_key).0
+    property_begins k x c d (objects.method_rule i j y ps b r g) s = (head_begins In k y c r.behind_head r.behind_key r.reads_head r.reads_key).0
+
+    -- a property, and what stands behind it
+    property_more : (found : Covers) (v : Cover) (k : Code) (c m d : Place) (w : Scope) (f : List Fault) (h : Notes) (i : List Fault) (j : Notes) → property inner cover function (st c k w f h) ≡ Ok (v, st m k w i j)
+        → sees kind.RBrace c ≡ false → (b : Behind kind.RBrace m d)
+        → loop (object_turn inner cover function) found (st c k w f h) ≡ loop (object_turn inner cover function) (commaed b (sees kind.DotDotDot c) (with_cover found v)) (st d k w i j)
+    unfolding object_turn same_kind
+    property_more found v k c m d w f h i j r brace (inl (e, g)) =
+        let l = shorter_by (length c.left) (property inner cover function (st c k w f h)) v (st m k w i j) r (property_falls inner cover given.falls given.cover_falls function functions.falls (st c k w f h)) in
+        loop_more (object_turn inner cover function) found (with_cover found v) (st c k w f h) (st d k w i j) (rw (brace, r, e, g) refl) (rw g l)
+    property_more found v k c m d w f h i j r brace (inr (e, g)) =
+        let l = shorter_by (length c.left) (property inner cover function (st c k w f h)) v (st m k w i j) r (property_falls inner cover given.falls given.cover_falls function functions.falls (st c k w f h)) in
+        loop_more (object_turn inner cover function) found (with_comma (sees kind.DotDotDot c) (with_cover found v)) (st c k w f h) (st d k w i j)
+        (rw (brace, r, e, expect_reads kind.Comma m k w i j e, g) refl) (rw g (let n = moves m in omega arith))
+
+    properties_end : (found : Covers) (k : Code) (c : Place) (w : Scope) (f : List Fault) (h : Notes) → kind_at c ≡ kind.RBrace
+        → loop (object_turn inner cover function) found (st c k w f h) ≡ Ok (found, st (after c) k w f h)
+    unfolding object_turn
+    properties_end found k c w f h e = loop_done (object_turn inner cover function) found found (st c k w f h) (st (after c) k w f h) (rw (seen c kind.RBrace e) refl)
+
+    many_properties : (xs : List Tree) (found : Covers) (k : Code) (c d : Place) (w : Scope) (f : List Fault) (h : Notes) → ReadsListed true (PropertyRule In k) xs c d → all_supported_in k.flags.module (trees xs) ≡ true
+        → kind_at d ≡ kind.RBrace → found.mark ≡ None
+        → Gets (AsExprs xs found) (loop (object_turn inner cover function) found (st c k w f h)) (st (after d) k w (f ++ walks (env_of k w.labels) false (trees xs)) (h ⊕ all_notes_of (trees xs)))
+    many_properties [] found k c d w f h r s e n =
+        record { value = found; holds = (sym (append-nil found.xs), n); is = rw (append-nil f, append-nil h.held_back, or_nil h.found_module_item, r) (properties_end found k c w f h (ap kind_at (sym r) ∙ e)) }
+    many_properties (x ∷ []) found k c d w f h (m, r, l) s e n =
+        let t = (and_yes (supported_in k.flags.module x) _ s).0 in
+        let b = behind_last kind.RBrace x m d l e in
+        let v = property_reads k x c m r t (property_behind m d b) w f h in
+        let more = commaed b (sees kind.DotDotDot c) (with_cover found v.value) in
+        let f' = f ++ walk (env_of k w.labels) x in
+        let h' = h ⊕ notes_of x in
+        record {
+          value = more;
+          holds = (commaed_trees b _ _ ∙ ap (λ z. found.xs ++ z ∷ []) v.holds.0, commaed_mark b _ _ ∙ no_mark _ _ n v.holds.1);
+          is = rw (append-nil (walk (env_of k w.labels) x), append-nil (notes x), or_nil (has_meta x))
+              (property_more found v.value k c m d w f h f' h' v.is (property_begins k x c m r t) b ∙ properties_end more k d w f' h' e);
+        }
+    many_properties (x ∷ y ∷ ys) found k c d w f h (m, r, a, i, more) s e n =
+        let t = and_yes (supported_in k.flags.module x) _ s in
+        let v = property_reads k x c m r t.0 (rw i refl) w f h in
+        let next = with_comma (sees kind.DotDotDot c) (with_cover found v.value) in
+        let f' = f ++ walk (env_of k w.labels) x in
+        let h' = h ⊕ notes_of x in
+        let o = many_properties (y ∷ ys) next k (after m) d w f' h' more t.1 e (no_mark _ _ n v.holds.1) in
+        record {
+          value = o.value;
+          holds = (o.holds.0 ∙ ap (λ z. (found.xs ++ z ∷ []) ++ y ∷ ys) v.holds.0 ∙ append_assoc found.xs (x ∷ []) (y ∷ ys), o.holds.1);
+          is = property_more found v.value k c m (after m) w f h f' h' v.is (property_begins k x c m r t.0) (inr (i, refl)) ∙ o.is ∙ simp (append_assoc, or_assoc) refl;
+        }
+
+    pub object_reads : (xs : List Tree) (m : Place) (k : Code) (x : Tree) (c d : Place) → ReadsListed true (PropertyRule In k) xs (after c) m → all_supported_in k.flags.module (trees xs) ≡ true
+        → kind_at m ≡ kind.RBrace → d ≡ after m → x ≡ tree.object (spanned c d) (listed xs) → ReadsAs (AsExpr x) (object inner cover function) k x c d
+    unfolding object properties spanned
+    object_reads xs m k x c d r s g i j w f h =
+        let o = many_properties xs no_covers k (after c) m w f h r s g refl in
+        let span : Span = record { lo = (span_at c).lo; hi = (after m).last.hi } in
+        rw (j, i) (record { value = whole_of (tree.object span) o.value; holds = (ap (λ z. tree.object span (listed z)) o.holds.0, o.holds.1); is = rw o.is refl })
+
+    -- ---- the parts of an object pattern
+
+    -- a rest, whose target is no pattern
+    record RestProperty (k : Code) (p : Tree) (c d : Place) : Type 0 where
+      y : Tree
+      dots : kind_at c ≡ kind.DotDotDot
+      reads_rest : In (pattern_goal assigning k y (after c) d)
+      plain : is_pattern_target y ≡ false
+      is : p ≡ tree.rest_pat (spanned c d) y
+
+    rest_property : (y : Tree) (k : Code) (c d : Place) → kind_at c ≡ kind.DotDotDot → In (pattern_goal assigning (with_in k) y (after c) d) → is_pattern_target y ≡ false → supported_in k.flags.module y ≡ true
+        → ends_part (kind_at d) ≡ true → ReadsAs (AsLast as_properties (tree.rest_pat (spanned c d) y)) (property inner cover function) k (tree.rest_pat (spanned c d) y) c d
+    unfolding property spread_property spanned
+    rest_property y k c d o r n s t w f h =
+        let v = covered_reads (AsTarget y d) k y (after c) d (given.targets k y (after c) d r s t) w f h in
+        record {
+          value = part_as (tree.spread_prop (span_at c)) v.value;
+          holds = (rest_ended simple_target (span_at c) v.value.x y d (plain_target v.value.x y v.holds.0 n) v.holds.2, v.holds.1);
+          is = rw (seen c kind.DotDotDot o, v.is) refl;
+        }
+
+    valued_part : (y z : Tree) (m : Place) (k : Code) (c d : Place) → KeyRule In k y c m → is_supported_key_in k.flags.module y ≡ true → kind_at m ≡ kind.Colon
+        → In (element_goal assigning (with_in k) z (after m) d) → supported_in k.flags.module z ≡ true → ends_part (kind_at d) ≡ true
+        → ReadsAs (AsPart as_properties (tree.key_value_pat_prop (spanned c d) y z)) (property inner cover function) k (tree.key_value_pat_prop (spanned c d) y z) c d
+    valued_part y z m k c d r s i g t q w f h =
+        let v = covered_reads (AsElement z) k z (after m) d (given.elements k z (after m) d g t q) w (f ++ walk (env_of k w.labels) y) (h ⊕ notes_of y) in
+        record {
+          value = part_as (tree.key_value_prop (spanned c d) y) v.value;
+          holds = (λ zs qs e. rw (v.holds.0, e) refl, v.holds.1);
+          is = valued y z v.value m k c d w f h r s i v.is;
+        }
+
+    -- a name, `=` and a value
+    initialized_part : (text : Text) (sp : Span) (z : Tree) (m : Place) (k : Code) (c d : Place) → ReadsWord text sp c m → is_name k.flags text ≡ true → kind_at m ≡ kind.Assign
+        → In (expr_goal assignment (with_in k) z (after m) d) → supported_in k.flags.module z ≡ true
+        → ReadsAs (AsPart as_properties (tree.assign_pat_prop (spanned c d) (tree.ident_pat sp text) z)) (property inner cover function) k (tree.assign_pat_prop (spanned c d) (tree.ident_pat sp text) z) c d
+    unfolding property keyed_property behind_words behind_key initialized_name initialized spanned same_kind
+    initialized_part text sp z m k c d r n i g t w f h = record {
+      value = record { x = tree.assign_prop (spanned c d) (tree.ident sp text) z; mark = Some (spanned c d); comma = false };
+      holds = (λ zs qs e. rw e refl, refl);
+      is = rw (
+        (key_begins In k (tree.ident sp text) c m (parts.word_key text sp r refl)).1,
+        bare_words In k (tree.ident sp text) m w f h c (parts.word_key text sp r refl) (ap ends_key i),
+        key_reads In inner cover given k (tree.ident sp text) c m (parts.word_key text sp r refl) refl w f h,
+        append-nil f,
+        append-nil h.held_back,
+        or_nil h.found_module_item,
+        i,
+        n,
+        inside_reads In inner cover given assignment k z (after m) d g t w f h,
+      ) refl;
+    }
+
+    rest_property_or : (k : Code) (p : Tree) (c d : Place) → PatternPropertyRule In assigning k p c d → (is_rest p ≡ false) ⊎ RestProperty k p c d
+    rest_property_or k p c d (patterns.key_value_rule y z m r i v g) = inl (ap is_rest g)
+    rest_property_or k p c d (patterns.shorthand_rule text sp r n g) = inl (ap is_rest g)
+    rest_property_or k p c d (patterns.default_rule text sp z m r i v g) = inl (ap is_rest g)
+    rest_property_or k p c d (patterns.rest_rule y o r n e) = inr (record { y = y; dots = o; reads_rest = r; plain = n; is = e })
+
+    part_property : (k : Code) (p : Tree) (c d : Place) → PatternPropertyRule In assigning (with_in k) p c d → is_rest p ≡ false → supported_in k.flags.module p ≡ true → ends_property (kind_at d) ≡ true
+        → ReadsAs (AsPart as_properties p) (property inner cover function) k p c d
+    part_property k p c d (patterns.key_value_rule y z m r i v g) a s q w f h =
+        let t = and_yes (is_supported_key_in k.flags.module y) _ (supported_as _ p (tree.key_value_pat_prop (spanned c d) y z) g s) in
+        rw g (valued_part y z m k c d (key_outside k y c m r) t.0 i v t.1 (property_ended d q).0 w f h)
+    part_property k p c d (patterns.shorthand_rule text sp r n g) a s q w f h =
+        let t = and_yes (supported_in k.flags.module (tree.ident_pat sp text)) _ (supported_as _ p (tree.assign_pat_prop (spanned c d) (tree.ident_pat sp text) tree.absent) g s) in
+        let e : p ≡ tree.assign_pat_prop sp (tree.ident_pat sp text) tree.absent = g ∙ ap (λ z. tree.assign_pat_prop z (tree.ident_pat sp text) tree.absent) (sym (name_span r)) in
+        rw e (record {
+          value = done (tree.shorthand_prop sp text);
+          holds = (λ zs qs j. rw j refl, refl);
+          is = rw (append-nil f, append-nil h.held_back, or_nil h.found_module_item) (shorthand_reads_as text sp k c d w f h (word_of (with_in k) text sp c d r) (name_there k text sp c d r t.0) q);
+        })
+    part_property k p c d (patterns.default_rule text sp z m r i v g) a s q w f h =
+        let t = and_yes (supported_in k.flags.module (tree.ident_pat sp text)) _ (supported_as _ p (tree.assign_pat_prop (spanned c d) (tree.ident_pat sp text) z) g s) in
+        rw g (initialized_part text sp z m k c d (word_of (with_in k) text sp c m r) (name_there k text sp c m r t.0) i v t.1 w f h)
+    part_property k p c d (patterns.rest_rule y o r n e) a s q w f h = absurd (let b : is_rest p ≡ true = ap is_rest e in cc)
+
+    one_property : (k : Code) (p : Tree) (found : Covers) (c m d : Place) (w : Scope) (f : List Fault) (h : Notes) → PatternPropertyRule In assigning (with_in k) p c m → is_rest p ≡ false
+        → Behind kind.RBrace m d → supported_in k.flags.module p ≡ true → kind_at d ≡ kind.RBrace → found.comma ≡ false
+        → Gets (AsParts as_properties (p ∷ []) found) (loop (object_turn inner cover function) found (st c k w f h))
+        (st (after d) k w (f ++ walks (env_of k w.labels) false (trees (p ∷ []))) (h ⊕ all_notes_of (trees (p ∷ []))))
+    one_property k p found c m d w f h r a b s e n =
+        let v = part_property k p c m r a s (property_behind m d b) w f h in
+        let first = part_begins (with_in k) p c m r a in
+        let more = commaed b (sees kind.DotDotDot c) (with_cover found v.value) in
+        let f' = f ++ walk (env_of k w.labels) p in
+        let h' = h ⊕ notes_of p in
+        record {
+          value = more;
+          holds = parts_last as_properties p found v.value more (v.holds.0 none none refl, v.holds.1) (commaed_trees b _ _) (commaed_comma b _ _ first.1 (or_none _ _ n v.holds.1));
+          is = rw (append-nil (walk (env_of k w.labels) p), append-nil (notes p), or_nil (has_meta p)) (property_more found v.value k c m d w f h f' h' v.is first.0 b ∙ properties_end more k d w f' h' e);
+        }
+
+    one_rest_property : (k : Code) (p : Tree) (found : Covers) (c m : Place) (w : Scope) (f : List Fault) (h : Notes) → RestProperty (with_in k) p c m → supported_in k.flags.module p ≡ true
+        → kind_at m ≡ kind.RBrace → found.comma ≡ false
+        → Gets (AsParts as_properties (p ∷ []) found) (loop (object_turn inner cover function) found (st c k w f h))
+        (st (after m) k w (f ++ walks (env_of k w.labels) false (trees (p ∷ []))) (h ⊕ all_notes_of (trees (p ∷ []))))
+    unfolding same_kind
+    one_rest_property k p found c m w f h r s e n =
+        let q = tree.rest_pat (spanned c m) r.y in
+        let v = rest_property r.y k c m r.dots r.reads_rest r.plain (supported_as _ p q r.is s) (rw e refl) w f h in
+        let more = with_cover found v.value in
+        let f' = f ++ walk (env_of k w.labels) q in
+        let h' = h ⊕ notes_of q in
+        rw r.is (record {
+          value = more;
+          holds = parts_last as_properties q found v.value more v.holds refl (or_none _ _ n v.holds.1);
+          is = rw (append-nil (walk (env_of k w.labels) q), append-nil (notes q), or_nil (has_meta q))
+              (property_more found v.value k c m m w f h f' h' v.is (rw r.dots refl) (inl (e, refl)) ∙ properties_end more k m w f' h' e);
+        })
+
+    last_property : (k : Code) (p : Tree) (found : Covers) (c m d : Place) (w : Scope) (f : List Fault) (h : Notes) → PatternPropertyRule In assigning (with_in k) p c m
+        → (is_rest p ≡ false) ⊎ RestProperty (with_in k) p c m → LastComma true p m d → supported_in k.flags.module p ≡ true → kind_at d ≡ kind.RBrace → found.comma ≡ false
+        → Gets (AsParts as_properties (p ∷ []) found) (loop (object_turn inner cover function) found (st c k w f h))
+        (st (after d) k w (f ++ walks (env_of k w.labels) false (trees (p ∷ []))) (h ⊕ all_notes_of (trees (p ∷ []))))
+    last_property k p found c m d w f h r (inl a) l s e n = one_property k p found c m d w f h r a (behind_last kind.RBrace p m d l e) s e n
+    last_property k p found c m d w f h r (inr a) l s e n =
+        let g = rest_ends p m d (ap is_rest a.is) l in
+        rw g (one_rest_property k p found c m w f h a s (ap kind_at (sym g) ∙ e) n)
+
+    many_part_properties : (ps : List Tree) (found : Covers) (k : Code) (c d : Place) (w : Scope) (f : List Fault) (h : Notes) → ReadsListed true (PatternPropertyRule In assigning (with_in k)) ps c d
+        → all_supported_in k.flags.module (trees ps) ≡ true → kind_at d ≡ kind.RBrace → found.comma ≡ false
+        → Gets (AsParts as_properties ps found) (loop (object_turn inner cover function) found (st c k w f h)) (st (after d) k w (f ++ walks (env_of k w.labels) false (trees ps)) (h ⊕ all_notes_of (trees ps)))
+    many_part_properties [] found k c d w f h r s e n = record {
+      value = found;
+      holds = record { behind = []; trees_are = sym (append-nil found.xs); is_turned = refl; no_commas = n };
+      is = rw (append-nil f, append-nil h.held_back, or_nil h.found_module_item, r) (properties_end found k c w f h (ap kind_at (sym r) ∙ e));
+    }
+    many_part_properties (p ∷ []) found k c d w f h (m, r, l) s e n =
+        last_property k p found c m d w f h r (rest_property_or (with_in k) p c m r) l (and_yes (supported_in k.flags.module p) _ s).0 e n
+    many_part_properties (p ∷ q ∷ qs) found k c d w f h (m, r, a, i, more) s e n =
+        let t = and_yes (supported_in k.flags.module p) _ s in
+        let v = part_property k p c m r a t.0 (rw i refl) w f h in
+        let first = part_begins (with_in k) p c m r a in
+        let next = with_comma (sees kind.DotDotDot c) (with_cover found v.value) in
+        let f' = f ++ walk (env_of k w.labels) p in
+        let h' = h ⊕ notes_of p in
+        let o = many_part_properties (q ∷ qs) next k (after m) d w f' h' more t.1 e (or_none _ _ (or_none _ _ n v.holds.1) first.1) in
+        record {
+          value = o.value;
+          holds = parts_more as_properties p (q ∷ qs) found v.value next o.value v.holds refl o.holds;
+          is = property_more found v.value k c m (after m) w f h f' h' v.is first.0 (inr (i, refl)) ∙ o.is ∙ simp (append_assoc, or_assoc) refl;
+        }
+
+    pub object_pattern : (ps : List Tree) (m : Place) (k : Code) (p : Tree) (c d : Place) → ReadsListed true (PatternPropertyRule In assigning (with_in k)) ps (after c) m
+        → all_supported_in k.flags.module (trees ps) ≡ true → kind_at m ≡ kind.RBrace → d ≡ after m → p ≡ tree.object_pat (spanned c d) (listed ps) → ReadsAs (AsLiteral p c d) (object inner cover function) k p c d
+    unfolding object properties spanned
+    object_pattern ps m k p c d r s g i j w f h =
+        let o = many_part_properties ps no_covers k (after c) m w f h r s g refl in
+        let span : Span = record { lo = (span_at c).lo; hi = (after m).last.hi } in
+        let turned : as_properties (trees o.value.xs) ≡ Some (trees ps) = ap (λ z. as_properties (trees z)) o.holds.trees_are ∙ o.holds.is_turned in
+        rw (j, i) (record {
+          value = whole_of (tree.object span) o.value;
+          holds = (ap (object_of span) turned, ap (object_of span) turned, o.holds.no_commas, refl);
+          is = rw o.is refl;
+        })

@@ -1,8 +1,6 @@
 -- What the language allows at the beginning of the head of a loop is read: an expression, or what takes each value.
-use Rattle.std.proofs.Common.{◌≡◌, ◌⊎◌, inl, inr, ℕ, zero, suc, ◌-◌, ◌<◌, Bool, true, false, List, [], ◌∷◌, ◌++◌, Option, Some, None, Ok, length, refl, sym, ◌∙◌, ap, arith, append_assoc}
+use Rattle.std.proofs.Common.{◌≡◌, ◌⊎◌, inl, inr, ℕ, Bool, true, false, List, [], ◌∷◌, ◌++◌, Some, None, Ok, refl, sym, ◌∙◌, ap, append_assoc}
 use Rattle.std.specs.Prelude.{not, ◌&&◌, codes}
-use Rattle.std.specs.Str.{bytes_eq}
-use Rattle.swc_ecma_parser_common.specs.declared.span.Span.{Span}
 use Rattle.swc_ecma_parser_error.specs.Kind.{Fault}
 use Rattle.swc_ecma_parser_token.specs.declared.kind.TokenKind.TheVariants as kind
 use Rattle.swc_ecma_parser_input.specs.Place.{Place, after}
@@ -15,27 +13,26 @@ use Rattle.swc_ecma_parser_grammar.specs.Names.{Code, identifier_at}
 use Rattle.swc_ecma_parser_grammar.specs.Follows.{word_at, is_bare_async, is_async_of}
 use Rattle.swc_ecma_parser_grammar.specs.Reads.{ReadsSeparated}
 use Rattle.swc_ecma_parser_grammar.specs.Supported.{supported_in, all_supported_in}
-use Rattle.swc_ecma_parser_grammar.specs.ReadsSupported.{ReadsTarget}
 use Rattle.swc_ecma_parser_grammar.specs.Walk.{env_of, walk}
 use Rattle.swc_ecma_parser_grammar.specs.language.Goals.{Class, assigning}
 use Rattle.swc_ecma_parser_grammar.specs.language.Patterns.{PatternRule}
-use Rattle.swc_ecma_parser_grammar.specs.language.Continues.{continues_operand, continues_conditional, continues_head, continues_assignment, is_arrow_head}
 use Rattle.swc_ecma_parser_grammar.specs.language.Expressions.{AssignmentRule, ExpressionRule, assignment_rule, sequence_rule}
 use Rattle.swc_ecma_parser_grammar.specs.language.Reads.{Reads}
-use Rattle.swc_ecma_parser_grammar.proofs.Tests.{or_no, and_yes, and_no, no_and}
+use Rattle.swc_ecma_parser_grammar.proofs.Tests.{and_yes, and_no, no_and}
 use Rattle.swc_ecma_parser_reader.specs.Notes.{Notes, ◌⊕◌, notes_of}
-use Rattle.swc_ecma_parser_reader.specs.State.{Scope, State, Reader, and_then, too_deep, loop}
+use Rattle.swc_ecma_parser_reader.specs.State.{Scope, Reader}
+use Rattle.swc_ecma_parser_reader.specs.Methods.{FunctionForm}
 use Rattle.swc_ecma_parser_reader.specs.Expressions.{Cover, done, close, cover_expr, sequence_from}
 use Rattle.swc_ecma_parser_reader.specs.Heads.{sequenced, head_expr}
 use Rattle.swc_ecma_parser_reader.proofs.Notes.{or_assoc}
 use Rattle.swc_ecma_parser_reader.proofs.Answered.{st, gets_also, ReadsAs}
-use Rattle.swc_ecma_parser_reader.proofs.expressions.Targets.{leaf_async, target_async}
+use Rattle.swc_ecma_parser_reader.proofs.expressions.Targets.{leaf_async}
 use Rattle.swc_ecma_parser_reader.proofs.expressions.CompleteKinds.{supported_as, seen}
 use Rattle.swc_ecma_parser_reader.proofs.expressions.CompleteParts.{AsExpr, IsRead, IsFunctionRead}
 use Rattle.swc_ecma_parser_reader.proofs.expressions.Complete.{AsWhole, AsBare, Closes, whole_reads, bare_reads, many_parts}
 use Rattle.swc_ecma_parser_reader.proofs.expressions.HeadEnds.{of_named, in_unnamed, Passed, passed_in, passed_of, passed_continues, passed_goes_on}
 
-module _ (n : ℕ) (inner : Class → Reader Tree) (cover : Reader Cover) (given : IsRead (Reads n) inner cover) (function : Reader Tree) (functions : IsFunctionRead (Reads n) function) where
+module _ (n : ℕ) (inner : Class → Reader Tree) (cover : Reader Cover) (given : IsRead (Reads n) inner cover) (function : FunctionForm → Reader Tree) (functions : IsFunctionRead (Reads n) function) where
   single_reads : (P : Cover → Type 0) (k : Code) (x : Tree) (c d : Place) → ReadsAs P (cover_expr inner cover function) k x c d → sees kind.Comma d ≡ false → ReadsAs P (head_expr inner cover function) k x c d
   unfolding head_expr
   single_reads P k x c d r e w f h = let v = r w f h in record { value = v.value; holds = v.holds; is = rw (v.is, e) refl }
@@ -96,7 +93,7 @@ heads_close k p c d e = let t = heads_passed k p d e in record {
   literal_ends = λ w f h. passed_goes_on k d w f h t;
 }
 
-module _ (n : ℕ) (inner : Class → Reader Tree) (cover : Reader Cover) (given : IsRead (Reads n) inner cover) (function : Reader Tree) (functions : IsFunctionRead (Reads n) function) where
+module _ (n : ℕ) (inner : Class → Reader Tree) (cover : Reader Cover) (given : IsRead (Reads n) inner cover) (function : FunctionForm → Reader Tree) (functions : IsFunctionRead (Reads n) function) where
   -- and each target
   pub head_target_reads : (k : Code) (p : Tree) (c d : Place) → PatternRule (Reads n) assigning k p c d → supported_in k.flags.module p ≡ true → Heads k p d
       → ReadsAs (AsLeft p) (head_expr inner cover function) k p c d

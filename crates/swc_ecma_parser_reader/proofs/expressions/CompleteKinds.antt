@@ -32,11 +32,13 @@ use Rattle.swc_ecma_parser_grammar.specs.Reads.{ReadsToken}
 use Rattle.swc_ecma_parser_grammar.specs.Supported.{supported_in}
 use Rattle.swc_ecma_parser_grammar.specs.ReadsSupported.{ReadsClass}
 use Rattle.swc_ecma_parser_grammar.specs.language.Goals.{Goal, Purpose, expr_goal, element_goal, expression, assignment}
+use Rattle.swc_ecma_parser_grammar.proofs.ExpressionBegins.{await_stands}
 use Rattle.swc_ecma_parser_grammar.specs.language.Operators.{unary_operator, update_operator, binary_operator, assign_operator}
 use Rattle.swc_ecma_parser_grammar.specs.language.Continues.{continues_unary, is_operation, continues_operand, continues_head, continues_conditional, continues_assignment}
 use Rattle.swc_ecma_parser_grammar.specs.language.Parts as parts
 use Rattle.swc_ecma_parser_grammar.specs.language.Parts.{ReadsName, ReadsWord, KeyRule}
 use Rattle.swc_ecma_parser_grammar.specs.language.Functions as functions
+use Rattle.swc_ecma_parser_grammar.specs.language.Functions.{MethodHead}
 use Rattle.swc_ecma_parser_grammar.specs.language.LeftSides as sides
 use Rattle.swc_ecma_parser_grammar.proofs.SupportedBegins.{function_begins}
 use Rattle.swc_ecma_parser_grammar.specs.language.LeftSides.{PrimaryRule, LeftSideRule}
@@ -48,6 +50,7 @@ use Rattle.swc_ecma_parser_grammar.specs.language.Reads as language
 use Rattle.swc_ecma_parser_grammar.proofs.Tests.{or_no, or_none, and_yes, and_no}
 use Rattle.swc_ecma_parser_grammar.proofs.Naming.{name_is_name}
 use Rattle.swc_ecma_parser_grammar.proofs.Unnoted as unnoted
+use Rattle.swc_ecma_parser_reader.specs.Methods.{ends_key}
 use Rattle.swc_ecma_parser_reader.specs.Expressions.{literal_of, literal_in, token_is_word, first_is_word, is_word_at, postfix_at}
 
 -- ---- supported forms
@@ -411,7 +414,7 @@ module _ (In : Goal → Type 0) where
   unary_first k x c d (rules.unary_rule op y i r e) h = unary_begins (kind_at c) op i
   unary_first k x c d (rules.prefix_rule op y i r t e) h = update_begins (kind_at c) op i
   unary_first k x c d (rules.postfix_rule op y m r t b i n e) h = operand_begins (kind_at c) (left_first k y c m r.0 (supported_as _ x (tree.update (spanned c d) op false y) e h))
-  unary_first k x c d (rules.await_rule y a m r e) h = refuted _ x (ap (supported_in k.flags.module) e) h
+  unary_first k x c d (rules.await_rule y a m r e) h = ap begin_kind (await_stands k.flags c a)
 
   binary_first : (k : Code) (n : ℕ) (x : Tree) (c d : Place) → BinaryRule In k n x c d → supported_in k.flags.module x ≡ true → begin_kind (kind_at c) ≡ true
   binary_first k n x c d (rules.single_rule r) h = unary_first k x c d r h
@@ -633,6 +636,20 @@ ended _ e = cc
 
 pub ended_at : (c : Place) → ends_part (kind_at c) ≡ true → Ended (kind_at c)
 ended_at c e = ended (kind_at c) e
+
+-- a part of an object ends before its comma or its brace
+abbrev pub ends_property : TokenKind → Bool
+ends_property kind.Comma = true
+ends_property kind.RBrace = true
+ends_property _ = false
+
+property_ends : (k : TokenKind) → ends_property k ≡ true → (ends_part k ≡ true) × (ends_key k ≡ true)
+property_ends kind.Comma e = (refl, refl)
+property_ends kind.RBrace e = (refl, refl)
+property_ends _ e = cc
+
+pub property_ended : (c : Place) → ends_property (kind_at c) ≡ true → (ends_part (kind_at c) ≡ true) × (ends_key (kind_at c) ≡ true)
+property_ended c e = property_ends (kind_at c) e
 
 pub ended_stops : (c : Place) → ends_part (kind_at c) ≡ true → continues_left_side c ≡ false
 ended_stops c e = quiet_stops c (ended_at c e).quiet

@@ -2,7 +2,7 @@
 -- others.
 use Rattle.swc_ecma_parser_reader.proofs.Words.{async_named, async_stands}
 use Rattle.std.proofs.Common.{◌≡◌, Bool, true, false, List, [], ◌++◌, length, Some, Ok, refl, sym, ◌∙◌, ap, append_assoc, append-nil}
-use Rattle.std.specs.Prelude.{not, ◌&&◌, ◌||◌, codes}
+use Rattle.std.specs.Prelude.{◌&&◌, ◌||◌, codes}
 use Rattle.swc_ecma_parser_common.specs.declared.span.Span.{Span}
 use Rattle.swc_ecma_parser_error.specs.Kind as faults
 use Rattle.swc_ecma_parser_error.specs.Kind.{Fault}
@@ -25,13 +25,12 @@ use Rattle.swc_ecma_parser_grammar.specs.Walk.{Env, env_of, walk}
 use Rattle.swc_ecma_parser_grammar.specs.Supported.{supported_in, is_supported_property_in}
 use Rattle.swc_ecma_parser_grammar.specs.language.Goals.{Goal, Class, expression, callee, expr_goal, callee_goal}
 use Rattle.swc_ecma_parser_grammar.specs.language.Parts.{ReadsName, AccessRule, is_private, ArgumentsRule}
-use Rattle.swc_ecma_parser_grammar.specs.Parameters.{parameters}
-use Rattle.swc_ecma_parser_grammar.specs.language.Functions.{FunctionRule}
 use Rattle.swc_ecma_parser_grammar.specs.language.LeftSides as sides
 use Rattle.swc_ecma_parser_grammar.specs.language.LeftSides.{PrimaryRule, LeftSideRule, is_callee}
 use Rattle.swc_ecma_parser_grammar.proofs.Tests.{and_yes, and_no}
 use Rattle.swc_ecma_parser_reader.specs.Notes.{Notes, ◌⊕◌, notes_of}
 use Rattle.swc_ecma_parser_reader.specs.State.{and_then, ◌>>=◌, Scope, State, Reader, name}
+use Rattle.swc_ecma_parser_reader.specs.Methods.{FunctionForm, expression_form}
 use Rattle.swc_ecma_parser_reader.specs.Expressions.{Cover, close, literal_of, literal, ident_expr, this, bare_new, access, arguments, array, property, object, paren, marked_primary, primary, accessed, called, left_turn, left_from, super_call, super_access, behind_super, super_head, constructed, new_head, import_call, meta_fault, import_meta, import_head, left_head, left, named_expr}
 use Rattle.swc_ecma_parser_reader.proofs.Notes.{or_nil, or_true, or_assoc}
 use Rattle.swc_ecma_parser_reader.proofs.Answered.{st, Reads, ReadsAs}
@@ -43,7 +42,7 @@ use Rattle.swc_ecma_parser_reader.proofs.expressions.CompleteCovers.{array_reads
 use Rattle.swc_ecma_parser_reader.proofs.expressions.CompleteKinds.{refuted, supported_as, seen, named, null_unnamed, true_unnamed, false_unnamed, paren_here, array_here, object_here, this_here, function_here, primary_first, primary_seen}
 use Rattle.swc_ecma_parser_grammar.proofs.Naming.{name_is_name}
 
-module _ (In : Goal → Type 0) (inner : Class → Reader Tree) (cover : Reader Cover) (given : IsRead In inner cover) (function : Reader Tree) (functions : IsFunctionRead In function) where
+module _ (In : Goal → Type 0) (inner : Class → Reader Tree) (cover : Reader Cover) (given : IsRead In inner cover) (function : FunctionForm → Reader Tree) (functions : IsFunctionRead In function) where
   -- ---- primary expressions
 
   -- a literal as an expression
@@ -68,9 +67,9 @@ module _ (In : Goal → Type 0) (inner : Class → Reader Tree) (cover : Reader 
   first_array k x c d e reads w f h = rw ((array_here k.flags c e).0, (array_here k.flags c e).1, e) (closed_reads (array inner cover) k x c d reads w f h)
 
   -- `{` leads to an object
-  first_object : (k : Code) (x : Tree) (c d : Place) → kind_at c ≡ kind.LBrace → ReadsAs (AsExpr x) (object inner cover) k x c d → Reads (primary inner cover function) k x c d
+  first_object : (k : Code) (x : Tree) (c d : Place) → kind_at c ≡ kind.LBrace → ReadsAs (AsExpr x) (object inner cover function) k x c d → Reads (primary inner cover function) k x c d
   unfolding primary literal marked_primary same_kind
-  first_object k x c d e reads w f h = rw ((object_here k.flags c e).0, (object_here k.flags c e).1, e) (closed_reads (object inner cover) k x c d reads w f h)
+  first_object k x c d e reads w f h = rw ((object_here k.flags c e).0, (object_here k.flags c e).1, e) (closed_reads (object inner cover function) k x c d reads w f h)
 
   -- `(` leads to what stands in parentheses
   first_paren : (k : Code) (x : Tree) (c d : Place) → kind_at c ≡ kind.LParen → Reads (paren inner cover) k x c d → Reads (primary inner cover function) k x c d
@@ -78,15 +77,15 @@ module _ (In : Goal → Type 0) (inner : Class → Reader Tree) (cover : Reader 
   first_paren k x c d e reads w f h = rw ((paren_here k.flags c e).0, (paren_here k.flags c e).1, seen c kind.LParen e) (reads w f h)
 
   -- its word leads to a function, and so does `async` before it
-  plain_function : (k : Code) (x : Tree) (c d : Place) → kind_at c ≡ kind.Function → Reads function k x c d → Reads (primary inner cover function) k x c d
+  plain_function : (k : Code) (x : Tree) (c d : Place) → kind_at c ≡ kind.Function → Reads (function expression_form) k x c d → Reads (primary inner cover function) k x c d
   unfolding primary literal marked_primary same_kind
   plain_function k x c d e reads w f h = rw ((function_here k.flags c e).0, (function_here k.flags c e).1, e) (reads w f h)
 
-  async_function : (k : Code) (x : Tree) (c d : Place) → is_async_function c ≡ true → Reads function k x c d → Reads (primary inner cover function) k x c d
+  async_function : (k : Code) (x : Tree) (c d : Place) → is_async_function c ≡ true → Reads (function expression_form) k x c d → Reads (primary inner cover function) k x c d
   unfolding primary named_expr
   async_function k x c d e reads w f h = rw (async_named k.flags c e, e) (reads w f h)
 
-  first_function : {b : Bool} (k : Code) (x : Tree) (c d m : Place) → AsyncWord b c m → kind_at m ≡ kind.Function → Reads function k x c d → Reads (primary inner cover function) k x c d
+  first_function : {b : Bool} (k : Code) (x : Tree) (c d m : Place) → AsyncWord b c m → kind_at m ≡ kind.Function → Reads (function expression_form) k x c d → Reads (primary inner cover function) k x c d
   first_function k x c d m (not_async i j) e reads = plain_function k x c d (ap kind_at (sym j) ∙ e) reads
   first_function k x c d m (async_word i j l n) e reads = async_function k x c d (async_stands c m j l n e) reads
 
@@ -125,7 +124,7 @@ module _ (In : Goal → Type 0) (inner : Class → Reader Tree) (cover : Reader 
   primary_reads k x c d (sides.array_rule xs m i r j n e) s w f h =
       first_array k x c d i (array_reads In inner cover given xs m k x c d r (supported_as _ x (tree.array (spanned c d) (listed xs)) e s) j n e) w f h
   primary_reads k x c d (sides.object_rule xs m i r j n e) s w f h =
-      first_object k x c d i (object_reads In inner cover given xs m k x c d r (supported_as _ x (tree.object (spanned c d) (listed xs)) e s) j n e) w f h
+      first_object k x c d i (object_reads In inner cover given function functions xs m k x c d r (supported_as _ x (tree.object (spanned c d) (listed xs)) e s) j n e) w f h
   primary_reads k x c d (sides.function_rule name y r e) s w f h = first_function k x c d r.word r.reads_async r.is_function (functions.reads k x c d name y r e s) w f h
   primary_reads k x c d (sides.class_rule name y r e) s w f h = refuted _ x (ap (supported_in k.flags.module) e) s
   primary_reads k x c d (sides.paren_rule e m o r g i j) s w f h =

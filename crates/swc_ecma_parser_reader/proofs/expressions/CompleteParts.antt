@@ -1,7 +1,6 @@
 -- The parts of the language that expressions share are read, with the faults of the walk and the notes held back, and no others:
 -- tokens, accesses, arguments and keys.
-use Rattle.swc_ecma_parser_reader.proofs.Words.{begins_function}
-use Rattle.std.proofs.Common.{◌≡◌, ◌≢◌, ◌<◌, ◌⊎◌, inl, inr, Bool, true, false, List, [], ◌∷◌, ◌++◌, length, Some, None, Ok, refl, sym, ◌∙◌, ap, subst, arith, append_assoc, append-nil}
+use Rattle.std.proofs.Common.{◌≡◌, ◌<◌, ◌⊎◌, inl, inr, Bool, true, false, List, [], ◌∷◌, ◌++◌, length, Some, None, Ok, refl, sym, ◌∙◌, ap, subst, arith, append_assoc, append-nil}
 use Rattle.std.specs.Prelude.{not, ◌&&◌, ◌||◌}
 use Rattle.swc_ecma_parser_common.specs.declared.span.Span.{Span}
 use Rattle.swc_ecma_parser_error.specs.Kind.{Kind, Fault}
@@ -15,7 +14,7 @@ use Rattle.swc_ecma_parser_token.specs.Text.{word_text}
 use Rattle.swc_ecma_parser_input.specs.Place.{Place, after}
 use Rattle.swc_ecma_parser_model.specs.Tree as tree
 use Rattle.swc_ecma_parser_model.specs.Tree.{Tree, Text, listed, trees}
-use Rattle.swc_ecma_parser_model.specs.Forms.{span_of}
+use Rattle.swc_ecma_parser_model.specs.Forms.{span_of, is_rest}
 use Rattle.swc_ecma_parser_model.specs.Targets.{as_target, as_element}
 use Rattle.swc_ecma_parser_grammar.specs.Looks.{kind_at, sees, same_kind, span_at, spanned}
 use Rattle.swc_ecma_parser_grammar.specs.Names.{Code, is_name}
@@ -24,7 +23,8 @@ use Rattle.swc_ecma_parser_grammar.specs.Notes.{notes}
 use Rattle.swc_ecma_parser_grammar.specs.language.Noted.{has_meta}
 use Rattle.swc_ecma_parser_grammar.specs.Walk.{Env, env_of, walk, walks}
 use Rattle.swc_ecma_parser_grammar.specs.Supported.{supported_in, is_supported_property_in, is_supported_key_in, all_supported_in}
-use Rattle.swc_ecma_parser_grammar.specs.language.Functions.{FunctionRule}
+use Rattle.swc_ecma_parser_grammar.specs.Parameters.{parameters}
+use Rattle.swc_ecma_parser_grammar.specs.language.Functions.{FunctionRule, FunctionParts}
 use Rattle.swc_ecma_parser_grammar.specs.language.Goals.{Goal, Class, expression, assignment, callee, assigning, expr_goal, callee_goal, element_goal, pattern_goal}
 use Rattle.swc_ecma_parser_grammar.specs.language.Lists.{ReadsListed, LastComma, no_comma, last_comma}
 use Rattle.swc_ecma_parser_grammar.specs.language.Parts as parts
@@ -32,12 +32,13 @@ use Rattle.swc_ecma_parser_grammar.specs.language.Parts.{ReadsWord, PrivateRule,
 use Rattle.swc_ecma_parser_grammar.proofs.Tests.{and_yes, and_no}
 use Rattle.swc_ecma_parser_reader.specs.Notes.{Notes, no_notes, ◌⊕◌, notes_of, all_notes_of}
 use Rattle.swc_ecma_parser_reader.specs.State.{and_then, Scope, State, Reader, expect, name, loop}
+use Rattle.swc_ecma_parser_reader.specs.Methods.{MethodForm, getter_form, setter_form, method_form, FunctionForm, expression_form, property_form}
 use Rattle.swc_ecma_parser_reader.specs.Expressions.{Cover, literal_of, literal_in, literal, any_word, touching_word, private_name, word_property, token_is_word, literal_key, shorthand_name, shorthand, dotted, super_property, inside, brackets, access, spread_element, plain_element, element, arguments_turn, arguments, computed_key, key, key_or}
 use Rattle.swc_ecma_parser_reader.proofs.Notes.{or_nil, or_assoc}
 use Rattle.swc_ecma_parser_reader.proofs.Answered.{st, Reads, ReadsAs}
 use Rattle.swc_ecma_parser_reader.proofs.Takes.{Falls, moves}
 use Rattle.swc_ecma_parser_reader.proofs.Steps.{loop_more, loop_done}
-use Rattle.swc_ecma_parser_reader.proofs.expressions.Falls.{element_falls}
+use Rattle.swc_ecma_parser_reader.proofs.expressions.Falls.{element_falls, FunctionsFall}
 use Rattle.swc_ecma_parser_reader.proofs.expressions.Loops.{shorter_by}
 use Rattle.swc_ecma_parser_reader.proofs.expressions.CompleteKinds.{supported_as, seen, token_first, touching, no_hash, worded, bracket_here, begin_kind, begin_seen, ends_part}
 
@@ -126,11 +127,23 @@ pub record IsRead (In : Goal → Type 0) (inner : Class → Reader Tree) (cover 
   pub begins_element : (k : Code) (p : Tree) (c d : Place) → In (element_goal assigning k p c d) → supported_in k.flags.module p ≡ true → begin_kind (kind_at c) ≡ true
   pub cover_falls : (s : State) → Falls 1 (length s.at.left) (cover s)
 
--- a function that is an expression is read, and takes a token
-pub record IsFunctionRead (In : Goal → Type 0) (function : Reader Tree) : Type 0 where
+-- a method is read from behind its key, whose walk and notes are before its own
+abbrev pub MethodIsRead : (FunctionForm → Reader Tree) → MethodForm → Code → (key x : Tree) (c m d : Place) → Type 0
+MethodIsRead function form k key x c m d = (w : Scope) (f : List Fault) (h : Notes) → function (property_form form (span_at c) key) (st m k w (f ++ walk (env_of k w.labels) key) (h ⊕ notes_of key))
+    ≡ Ok (x, st d k w (f ++ walk (env_of k w.labels) x) (h ⊕ notes_of x))
+
+-- functions as parts of expressions are read, and take tokens
+pub record IsFunctionRead (In : Goal → Type 0) (function : FunctionForm → Reader Tree) : Type 0 where
   pub reads : (k : Code) (x : Tree) (c d : Place) (name y : Tree) → FunctionRule In true k (listed []) name y c d → x ≡ tree.fn_expr (spanned c d) name y → supported_in k.flags.module x ≡ true
-      → Reads function k x c d
-  pub falls : (s : State) → begins_function s.at ≡ true → Falls 1 (length s.at.left) (function s)
+      → Reads (function expression_form) k x c d
+  pub getters : (k : Code) (key body x : Tree) (c m d : Place) → FunctionParts In k false false [] body m d → x ≡ tree.getter_prop (spanned c d) key body → supported_in k.flags.module x ≡ true
+      → MethodIsRead function getter_form k key x c m d
+  pub setters : (k : Code) (key p body x : Tree) (c m d : Place) → FunctionParts In k false false (p ∷ []) body m d → is_rest p ≡ false → x ≡ tree.setter_prop (spanned c d) key p body
+      → supported_in k.flags.module x ≡ true → MethodIsRead function setter_form k key x c m d
+  pub methods : (k : Code) (w g : Bool) (key : Tree) (ps : List Tree) (body x : Tree) (c m d : Place) → FunctionParts In k w g ps body m d
+      → x ≡ tree.method_prop (spanned c d) key (tree.function (spanned c d) (listed []) (parameters ps) body w g) → supported_in k.flags.module x ≡ true
+      → MethodIsRead function (method_form w g) k key x c m d
+  pub falls : FunctionsFall function
 
 -- behind an argument or an element the list ends, or a comma stands
 abbrev pub Behind : TokenKind → Place → Place → Type 0

@@ -18,10 +18,13 @@ use Rattle.swc_ecma_parser_model.specs.Targets.{as_target}
 use Rattle.swc_ecma_parser_grammar.specs.Looks.{kind_at, first_kind, sees, same_kind, span_at}
 use Rattle.swc_ecma_parser_grammar.specs.Follows.{token_is, first_is, word_at, continues_left_side}
 use Rattle.swc_ecma_parser_grammar.specs.language.Goals.{Class}
+use Rattle.swc_ecma_parser_grammar.specs.language.Begins.{awaits}
 use Rattle.swc_ecma_parser_grammar.specs.language.Operators.{unary_operator, update_operator, assign_operator}
 use Rattle.swc_ecma_parser_grammar.specs.language.Continues.{continues_conditional}
 use Rattle.swc_ecma_parser_grammar.proofs.Tests.{or_no}
 use Rattle.swc_ecma_parser_reader.specs.State.{State, Outcome, Reader, and_then, ◌>>=◌}
+use Rattle.swc_ecma_parser_reader.specs.Methods.{FunctionForm}
+use Rattle.swc_ecma_parser_reader.proofs.expressions.Awaits.{other_awaits}
 use Rattle.swc_ecma_parser_reader.specs.Expressions.{Cover, done, literal, begins_async_call, heads_arrow, operator_at, unheaded, close, unmarked, target, target_or, goes_on, elements, array, properties, object, marked_primary, primary, left_turn, left_from, left_head, left, postfix, unary_expr, binary_turn, binary_from, binary_expr, assigned_to, assigned, behind_operators, operators_expr, postfixed, continued, closed, assigned_pattern, behind_literal, open_literal, done_expr, cover_expr, assignment_expr, is_literal, plain_expr}
 use Rattle.swc_ecma_parser_reader.specs.Yields.{begins_yield}
 use Rattle.swc_ecma_parser_reader.proofs.Steps.{then_ok, chosen, loop_done}
@@ -148,16 +151,6 @@ none_of None e = refl
 none_of (Some a) e = cc
 
 module _ (inner : Class → Reader Tree) (cover : Reader Cover) where
-  -- an array, or an object where none begins
-  abbrev pub opened : Reader Cover
-  opened = λ s. if sees kind.LBracket s.at then array inner cover s else object inner cover s
-
-  pub opened_literal : (s : State) → Meets (λ v t. is_literal v.x ≡ true) (opened s)
-  unfolding array object
-  opened_literal s = meets_if _ (sees kind.LBracket s.at) _ _
-      (λ _. meets_then {P = λ _ _. Unit {0}} _ (elements inner cover s) _ (meets_each _ (elements inner cover s) (λ _ _ _. tt)) (λ _ _ _. refl))
-      (λ _. meets_then {P = λ _ _. Unit {0}} _ (properties inner cover s) _ (meets_each _ (properties inner cover s) (λ _ _ _. tt)) (λ _ _ _. refl))
-
   -- ---- nothing goes on with it
 
   -- no access, no arguments and no operator: each step behind it leaves it as it is
@@ -195,57 +188,67 @@ module _ (inner : Class → Reader Tree) (cover : Reader Cover) where
       absurd (met (λ _ _. ⊥) (behind_operators inner cover false start x s) y t
       (rw (apart.1, k, no_target x h) (reject_meets (λ _ _. ⊥) _ s)) (sym r ∙ e))
 
-  -- ---- what becomes of it
+  -- what may hold a method, or begin with a function
+  module _ (function : FunctionForm → Reader Tree) where
+    -- an array, or an object where none begins
+    abbrev pub opened : Reader Cover
+    opened = λ s. if sees kind.LBracket s.at then array inner cover s else object inner cover function s
 
-  -- it is left open: nothing goes on with it
-  pub record LeftOpen (s : State) (v : Cover) (t : State) : Type 0 where
-    pub first : begins_literal s.at ≡ true
-    pub read : opened s ≡ Ok (v, t)
-    pub unassigned : sees kind.Assign t.at ≡ false
-    pub ended : goes_on t ≡ false
+    pub opened_literal : (s : State) → Meets (λ v t. is_literal v.x ≡ true) (opened s)
+    unfolding array object
+    opened_literal s = meets_if _ (sees kind.LBracket s.at) _ _
+        (λ _. meets_then {P = λ _ _. Unit {0}} _ (elements inner cover s) _ (meets_each _ (elements inner cover s) (λ _ _ _. tt)) (λ _ _ _. refl))
+        (λ _. meets_then {P = λ _ _. Unit {0}} _ (properties inner cover function s) _ (meets_each _ (properties inner cover function s) (λ _ _ _. tt)) (λ _ _ _. refl))
 
-  -- it became a pattern, and is assigned to
-  pub record Assigns (s : State) (v : Cover) (t : State) : Type 0 where
-    pub found : Cover
-    pub behind : State
-    pub p : Tree
-    pub y : Tree
-    pub first : begins_literal s.at ≡ true
-    pub read : opened s ≡ Ok (found, behind)
-    pub equals : sees kind.Assign behind.at ≡ true
-    pub no_comma : found.comma ≡ false
-    pub is_target : as_target found.x ≡ Some p
-    pub value : assigned_to inner cover (span_at s.at) p assign.Assign behind ≡ Ok (y, t)
-    pub is : v ≡ done y
+    -- ---- what becomes of it
 
-  -- from the same tree and state on
-  goes_from : (start : Span) (x y : Tree) (m n : State) (z : Tree) (l t : State) → x ≡ y → m ≡ n → l ≡ t → continued inner cover start y n ≡ Ok (z, l) → continued inner cover start x m ≡ Ok (z, t)
-  goes_from start x y m n z l t e g h i = ap (λ q. continued inner cover start q m) e ∙ ap (λ q. continued inner cover start y q) g ∙ i ∙ ap (λ q. Ok (z, q)) h
+    -- it is left open: nothing goes on with it
+    pub record LeftOpen (s : State) (v : Cover) (t : State) : Type 0 where
+      pub first : begins_literal s.at ≡ true
+      pub read : opened s ≡ Ok (v, t)
+      pub unassigned : sees kind.Assign t.at ≡ false
+      pub ended : goes_on t ≡ false
 
-  assigns_is : (s : State) (u : Cover) (m : State) (v : Cover) (t : State) → begins_literal s.at ≡ true → opened s ≡ Ok (u, m) → sees kind.Assign m.at ≡ true
-      → assigned_pattern inner cover (span_at s.at) u m ≡ Ok (v, t) → Assigns s v t
-  unfolding assigned_pattern
-  assigns_is s u m v t h r a e =
-      let (p, n, g, more) = then_ok (target u m) _ v t e in
-      let (y, l, value, i) = then_ok (assigned_to inner cover (span_at s.at) p assign.Assign n) _ v t more in
-      let (c, is, same) = target_is u m p n g in
-      let (j, k) = same_answer (done y) v l t i in
-      record {
-        found = u;
-        behind = m;
-        p = p;
-        y = y;
-        first = h;
-        read = r;
-        equals = a;
-        no_comma = c;
-        is_target = is;
-        value = ap (λ q. assigned_to inner cover (span_at s.at) p assign.Assign q) same ∙ value ∙ ap (λ q. Ok (y, q)) k;
-        is = sym j;
-      }
+    -- it became a pattern, and is assigned to
+    pub record Assigns (s : State) (v : Cover) (t : State) : Type 0 where
+      pub found : Cover
+      pub behind : State
+      pub p : Tree
+      pub y : Tree
+      pub first : begins_literal s.at ≡ true
+      pub read : opened s ≡ Ok (found, behind)
+      pub equals : sees kind.Assign behind.at ≡ true
+      pub no_comma : found.comma ≡ false
+      pub is_target : as_target found.x ≡ Some p
+      pub value : assigned_to inner cover (span_at s.at) p assign.Assign behind ≡ Ok (y, t)
+      pub is : v ≡ done y
 
-  -- what a function may begin
-  module _ (function : Reader Tree) where
+    -- from the same tree and state on
+    goes_from : (start : Span) (x y : Tree) (m n : State) (z : Tree) (l t : State) → x ≡ y → m ≡ n → l ≡ t → continued inner cover start y n ≡ Ok (z, l) → continued inner cover start x m ≡ Ok (z, t)
+    goes_from start x y m n z l t e g h i = ap (λ q. continued inner cover start q m) e ∙ ap (λ q. continued inner cover start y q) g ∙ i ∙ ap (λ q. Ok (z, q)) h
+
+    assigns_is : (s : State) (u : Cover) (m : State) (v : Cover) (t : State) → begins_literal s.at ≡ true → opened s ≡ Ok (u, m) → sees kind.Assign m.at ≡ true
+        → assigned_pattern inner cover (span_at s.at) u m ≡ Ok (v, t) → Assigns s v t
+    unfolding assigned_pattern
+    assigns_is s u m v t h r a e =
+        let (p, n, g, more) = then_ok (target u m) _ v t e in
+        let (y, l, value, i) = then_ok (assigned_to inner cover (span_at s.at) p assign.Assign n) _ v t more in
+        let (c, is, same) = target_is u m p n g in
+        let (j, k) = same_answer (done y) v l t i in
+        record {
+          found = u;
+          behind = m;
+          p = p;
+          y = y;
+          first = h;
+          read = r;
+          equals = a;
+          no_comma = c;
+          is_target = is;
+          value = ap (λ q. assigned_to inner cover (span_at s.at) p assign.Assign q) same ∙ value ∙ ap (λ q. Ok (y, q)) k;
+          is = sym j;
+        }
+
     -- ---- as an expression it is closed, and what goes on with it is read
 
     primary_literal : (s : State) → begins_literal s.at ≡ true → primary inner cover function s ≡ and_then (opened s) close
@@ -256,23 +259,23 @@ module _ (inner : Class → Reader Tree) (cover : Reader Cover) where
     ]
 
     -- with an operand that is read first
-    operators_from : (s : State) (o : Outcome Tree) → unary_operator (kind_at s.at) ≡ None → update_operator (kind_at s.at) ≡ None → sees kind.Super s.at ≡ false → sees kind.New s.at ≡ false
+    operators_from : (s : State) (o : Outcome Tree) → unary_operator (kind_at s.at) ≡ None → awaits s.code.flags s.at ≡ false → update_operator (kind_at s.at) ≡ None → sees kind.Super s.at ≡ false → sees kind.New s.at ≡ false
         → sees kind.Import s.at ≡ false → begins_async_call s.at ≡ false → primary inner cover function s ≡ o → operators_expr inner cover function s ≡ and_then o (continued inner cover (span_at s.at))
     unfolding operators_expr binary_expr unary_expr postfix left left_head continued postfixed
-    operators_from s o plain update super new imports call h = rw (plain, update, super, new, imports, call, h)
+    operators_from s o plain awaited update super new imports call h = rw (plain, awaited, update, super, new, imports, call, h)
         (four_steps o (left_from inner cover true (span_at s.at)) (postfixed inner cover (span_at s.at)) (binary_from inner cover 1 (span_at s.at)) (behind_operators inner cover false (span_at s.at)))
 
-    operators_at : (s : State) (k : TokenKind) → kind_at s.at ≡ k → unary_operator k ≡ None → update_operator k ≡ None → same_kind k kind.Super ≡ false → same_kind k kind.New ≡ false
-        → same_kind k kind.Import ≡ false → opens k ≡ true → begins_literal s.at ≡ true → operators_expr inner cover function s ≡ and_then (and_then (opened s) close) (continued inner cover (span_at s.at))
-    operators_at s k e plain update super new imports o h =
-        operators_from s _ (ap unary_operator e ∙ plain) (ap update_operator e ∙ update) (ap (λ j. same_kind j kind.Super) e ∙ super) (ap (λ j. same_kind j kind.New) e ∙ new)
+    operators_at : (s : State) (k : TokenKind) → kind_at s.at ≡ k → unary_operator k ≡ None → same_kind k kind.Await ≡ false → update_operator k ≡ None → same_kind k kind.Super ≡ false
+        → same_kind k kind.New ≡ false → same_kind k kind.Import ≡ false → opens k ≡ true → begins_literal s.at ≡ true → operators_expr inner cover function s ≡ and_then (and_then (opened s) close) (continued inner cover (span_at s.at))
+    operators_at s k e plain awaited update super new imports o h =
+        operators_from s _ (ap unary_operator e ∙ plain) (other_awaits s.code.flags s.at e awaited) (ap update_operator e ∙ update) (ap (λ j. same_kind j kind.Super) e ∙ super) (ap (λ j. same_kind j kind.New) e ∙ new)
         (ap (λ j. same_kind j kind.Import) e ∙ imports) (calls_nothing s.at (ap opens e ∙ o)) (primary_literal s h)
 
     pub operators_literal : (s : State) → begins_literal s.at ≡ true → operators_expr inner cover function s ≡ and_then (and_then (opened s) close) (continued inner cover (span_at s.at))
     unfolding same_kind
     operators_literal s h = elim (literal_kind s.at h) [
-      | inl e ↦ operators_at s kind.LBracket e refl refl refl refl refl refl h
-      | inr e ↦ operators_at s kind.LBrace e refl refl refl refl refl refl h
+      | inl e ↦ operators_at s kind.LBracket e refl refl refl refl refl refl refl h
+      | inr e ↦ operators_at s kind.LBrace e refl refl refl refl refl refl refl h
     ]
 
     -- `yield` begins none
@@ -326,7 +329,7 @@ module _ (inner : Class → Reader Tree) (cover : Reader Cover) where
       ]
     ]
 
-    open_is : (s : State) (v : Cover) (t : State) → begins_literal s.at ≡ true → open_literal inner cover s ≡ Ok (v, t) → Becomes s v t
+    open_is : (s : State) (v : Cover) (t : State) → begins_literal s.at ≡ true → open_literal inner cover function s ≡ Ok (v, t) → Becomes s v t
     unfolding open_literal
     open_is s v t h e = let (u, m, r, more) = then_ok (opened s) _ v t e in behind_is s u m v t h r more
 

@@ -1,7 +1,8 @@
 -- An expression takes a token at least, and no reader of one puts tokens back.
 use Rattle.swc_ecma_parser_reader.proofs.Words.{async_begins, function_begins, begins_function}
-use Rattle.swc_ecma_parser_grammar.specs.language.Begins.{begins_expression}
-use Rattle.std.proofs.Common.{◌≡◌, ◌≢◌, ℕ, zero, suc, ◌+◌, ◌≤◌, Bool, true, false, cond, List, [], ◌∷◌, ◌++◌, length, Option, Some, None, refl, sym, ◌∙◌, arith}
+use Rattle.swc_ecma_parser_grammar.specs.language.Begins.{begins_expression, awaits}
+use Rattle.swc_ecma_parser_grammar.specs.language.Contexts.{may_await}
+use Rattle.std.proofs.Common.{◌≡◌, ◌≢◌, ℕ, ◌+◌, ◌≤◌, Bool, true, false, cond, List, [], ◌∷◌, ◌++◌, length, Option, Some, None, refl, sym, ◌∙◌, arith}
 use Rattle.std.specs.Prelude.{not, ◌&&◌, ◌||◌, codes}
 use Rattle.std.proofs.lemmas.Bool.{and_parts}
 use Rattle.swc_ecma_parser_common.specs.declared.span.Span.{Span}
@@ -32,10 +33,11 @@ use Rattle.swc_ecma_parser_grammar.specs.language.Goals.{Class, expression, assi
 use Rattle.swc_ecma_parser_grammar.specs.language.Operators.{unary_operator, update_operator, assign_operator, groups_left, mixes, is_unary}
 use Rattle.swc_ecma_parser_grammar.specs.language.Continues.{continues_conditional}
 use Rattle.swc_ecma_parser_reader.specs.State.{State, Outcome, Reader, and_then, moved, module_found, coded, reject, reject_in, reject_at, fault, fault_at, expect, name, loop}
-use Rattle.swc_ecma_parser_reader.specs.Expressions.{Cover, Covers, no_covers, with_cover, unmarked, close, target_or, target, goes_on, literal, literal_in, taken, any_word, word_in, word_by, touching_word, private_name, word_property, is_word_at, key_or, literal_key, shorthand_name, shorthand, dotted, ident_expr, this, bare_new, closed_left, simple, update_behind, behind_operand, postfix_at, right_class, operator_at, left_operand, unmixed, unassigned, unheaded, heads_arrow, begins_async_call, inside, brackets, access, spread_element, plain_element, element, behind_comma, behind_argument, arguments_turn, arguments, covered, spread_item, plain_item, item, behind_item, array_turn, elements, array, computed_key, key, key_value, initialized, initialized_name, initialized_key, bare_key, behind_key, keyed_property, spread_property, property, behind_property, object_turn, properties, object, paren, marked_primary, literal_or, primary, accessed, called, left_turn, left_from, super_call, super_property, super_access, behind_super, super_head, constructed, new_head, import_call, meta_fault, import_meta, import_head, left_head, left, left_expr, prefixed, update_before, postfix, updated, unary_by, unary_expr, operated, binary_by, binary_turn, binary_from, binary_expr, conditional, assigned_to, assigned, assigned_or, behind_operators, operators_expr, plain_expr, postfixed, continued, closed, assigned_pattern, behind_literal, open_literal, done_expr, cover_expr, assignment_expr, sequence_turn, sequence_from, expression_expr, expr_level, named_expr}
+use Rattle.swc_ecma_parser_reader.specs.Methods.{MethodForm, FunctionForm, expression_form, property_form, modifies, begins_async_method, star, starred, method_words, is_bare}
+use Rattle.swc_ecma_parser_reader.specs.Expressions.{Cover, Covers, no_covers, with_cover, unmarked, close, target_or, target, goes_on, literal, literal_in, taken, any_word, word_in, word_by, touching_word, private_name, word_property, is_word_at, key_or, literal_key, shorthand_name, shorthand, dotted, ident_expr, this, bare_new, closed_left, simple, update_behind, behind_operand, postfix_at, right_class, operator_at, left_operand, unmixed, unassigned, unheaded, heads_arrow, begins_async_call, inside, brackets, access, spread_element, plain_element, element, behind_comma, behind_argument, arguments_turn, arguments, covered, spread_item, plain_item, item, behind_item, array_turn, elements, array, computed_key, key, key_value, initialized, initialized_name, initialized_key, bare_key, behind_key, method, behind_words, keyed_property, spread_property, property, behind_property, object_turn, properties, object, paren, marked_primary, literal_or, primary, accessed, called, left_turn, left_from, super_call, super_property, super_access, behind_super, super_head, constructed, new_head, import_call, meta_fault, import_meta, import_head, left_head, left, left_expr, prefixed, update_before, await_allowed, await_expr, postfix, updated, unary_by, unary_expr, operated, binary_by, binary_turn, binary_from, binary_expr, conditional, assigned_to, assigned, assigned_or, behind_operators, operators_expr, plain_expr, postfixed, continued, closed, assigned_pattern, behind_literal, open_literal, done_expr, cover_expr, assignment_expr, sequence_turn, sequence_from, expression_expr, expr_level, named_expr}
 use Rattle.swc_ecma_parser_reader.specs.Yields.{begins_yield, bare_yield, yielded, behind_yield, yield_expr}
 use Rattle.swc_ecma_parser_reader.specs.Heads.{sequenced, head_expr}
-use Rattle.swc_ecma_parser_reader.proofs.Takes.{Falls, falls_then, falls_last, falls_coded, falls_if, less, falls_next, moves, takes, takes_one, falls_past, falls_moved, wanted_falls, too_deep_falls, refused_falls, fault_falls, expect_falls, name_falls, loop_falls}
+use Rattle.swc_ecma_parser_reader.proofs.Takes.{Falls, falls_then, falls_last, falls_coded, falls_if, less, falls_next, moves, takes, takes_one, falls_past, falls_moved, wanted_falls, refused_falls, fault_falls, expect_falls, name_falls, loop_falls}
 use Rattle.swc_ecma_parser_reader.proofs.Meets.{saw}
 
 -- ---- refusals of what was read answer nothing
@@ -56,6 +58,27 @@ reject_falls A j n f s = reject_from A j n f s s.at.left
 
 pub no_end : (s : State) (k : TokenKind) → k ≢ kind.End → sees k s.at ≡ true → kind_at s.at ≢ kind.End
 no_end s k h e = λ g. h (sym (saw s.at k e) ∙ g)
+
+-- ---- functions, and the words before the key of a method
+
+-- what a reader of functions reads takes tokens: an expression one at least
+pub record FunctionsFall (function : FunctionForm → Reader Tree) : Type 0 where
+  pub expressions : (s : State) → begins_function s.at ≡ true → Falls 1 (length s.at.left) (function expression_form s)
+  pub methods : (form : MethodForm) (start : Span) (x : Tree) (s : State) → Falls 0 (length s.at.left) (function (property_form form start x) s)
+
+pub star_falls : (s : State) → Falls 0 (length s.at.left) (star s)
+unfolding star
+star_falls s = falls_if 0 (length s.at.left) (sees kind.Mul s.at) _ _ (let m = moves s.at in omega arith) (omega arith)
+
+starred_falls : (is_async : Bool) (s : State) → Falls 0 (length s.at.left) (starred is_async s)
+unfolding starred
+starred_falls is_async s = falls_last 0 (length s.at.left) (star s) _ (star_falls s)
+
+method_words_falls : (s : State) → Falls 0 (length s.at.left) (method_words s)
+unfolding method_words
+method_words_falls s = falls_if 0 (length s.at.left) (modifies (codes "get") s.at) _ _ (let m = moves s.at in omega arith)
+    (falls_if 0 (length s.at.left) (modifies (codes "set") s.at) _ _ (let m = moves s.at in omega arith)
+    (falls_if 0 (length s.at.left) (begins_async_method s.at) _ _ (falls_moved 0 s _ (starred_falls true (moved s))) (starred_falls false s)))
 
 -- ---- words
 
@@ -275,24 +298,31 @@ module _ (inner : Class → Reader Tree) (cover : Reader Cover) (h : (class : Cl
       (falls_if 0 (length s.at.left) (sees kind.Assign s.at) _ _ (initialized_key_falls start x s)
       (falls_last 0 (length s.at.left) (shorthand x s) _ (shorthand_falls x s)))
 
-  pub property_falls : (s : State) → Falls 1 (length s.at.left) (property inner cover s)
-  unfolding property spread_property keyed_property
-  property_falls s = falls_if 1 (length s.at.left) (sees kind.DotDotDot s.at) _ _
-      (falls_moved 1 s _ (falls_last 1 (length (after s.at).left) (covered inner cover (moved s)) _ (covered_falls (moved s))))
-      (falls_next (length s.at.left) (key inner cover s) _ (key_falls s) (λ x t. behind_key_falls (span_at s.at) x t))
-
   behind_property_falls : (is_spread : Bool) (found : Covers) (s : State) → Falls 0 (length s.at.left) (behind_property inner cover is_spread found s)
   behind_property_falls is_spread found s = falls_if 0 (length s.at.left) (sees kind.RBrace s.at) _ _ (omega arith) (falls_last 0 (length s.at.left) (expect kind.Comma s) _ (expect_falls kind.Comma s))
 
-  object_turn_falls : (found : Covers) (s : State) → Falls 0 (length s.at.left) (object_turn inner cover found s)
-  unfolding object_turn
-  object_turn_falls found s = falls_if 0 (length s.at.left) (sees kind.RBrace s.at) _ _ (let m = moves s.at in omega arith)
-      (falls_then 0 0 (length s.at.left) (property inner cover s) _ (less (length s.at.left) (property inner cover s) (property_falls s)) (λ v t.
-      behind_property_falls (sees kind.DotDotDot s.at) (with_cover found v) t))
+  module _ (function : FunctionForm → Reader Tree) (i : FunctionsFall function) where
+    behind_words_falls : (form : MethodForm) (start : Span) (x : Tree) (s : State) → Falls 0 (length s.at.left) (behind_words inner cover function form start x s)
+    unfolding behind_words method
+    behind_words_falls form start x s = falls_if 0 (length s.at.left) (is_bare form && not (sees kind.LParen s.at)) _ _ (behind_key_falls start x s)
+        (falls_last 0 (length s.at.left) (function (property_form form start x) s) _ (i.methods form start x s))
 
-  object_falls : (s : State) → kind_at s.at ≢ kind.End → Falls 1 (length s.at.left) (object inner cover s)
-  unfolding object properties
-  object_falls s e = falls_last 1 (length s.at.left) (properties inner cover s) _ (falls_past s _ e (loop_falls (object_turn inner cover) object_turn_falls no_covers (moved s)))
+    pub property_falls : (s : State) → Falls 1 (length s.at.left) (property inner cover function s)
+    unfolding property spread_property keyed_property
+    property_falls s = falls_if 1 (length s.at.left) (sees kind.DotDotDot s.at) _ _
+        (falls_moved 1 s _ (falls_last 1 (length (after s.at).left) (covered inner cover (moved s)) _ (covered_falls (moved s))))
+        (falls_then 0 1 (length s.at.left) (method_words s) _ (method_words_falls s) (λ form t.
+        falls_next (length t.at.left) (key inner cover t) _ (key_falls t) (λ x u. behind_words_falls form (span_at s.at) x u)))
+
+    object_turn_falls : (found : Covers) (s : State) → Falls 0 (length s.at.left) (object_turn inner cover function found s)
+    unfolding object_turn
+    object_turn_falls found s = falls_if 0 (length s.at.left) (sees kind.RBrace s.at) _ _ (let m = moves s.at in omega arith)
+        (falls_then 0 0 (length s.at.left) (property inner cover function s) _ (less (length s.at.left) (property inner cover function s) (property_falls s)) (λ v t.
+        behind_property_falls (sees kind.DotDotDot s.at) (with_cover found v) t))
+
+    object_falls : (s : State) → kind_at s.at ≢ kind.End → Falls 1 (length s.at.left) (object inner cover function s)
+    unfolding object properties
+    object_falls s e = falls_last 1 (length s.at.left) (properties inner cover function s) _ (falls_past s _ e (loop_falls (object_turn inner cover function) object_turn_falls no_covers (moved s)))
 
   paren_falls : (s : State) → Falls 1 (length s.at.left) (paren inner cover s)
   unfolding paren
@@ -367,6 +397,15 @@ module _ (inner : Class → Reader Tree) (cover : Reader Cover) (h : (class : Cl
   prefixed_falls : (op : UnaryOp) (s : State) → Falls 1 (length s.at.left) (prefixed inner cover op s)
   unfolding prefixed
   prefixed_falls op s = falls_moved 1 s _ (falls_last 1 (length (after s.at).left) (inner unary (moved s)) _ (h unary (moved s)))
+
+  await_allowed_falls : (s : State) → Falls 0 (length s.at.left) (await_allowed s)
+  unfolding await_allowed
+  await_allowed_falls s = falls_if 0 (length s.at.left) (may_await s.code) _ _ (omega arith) (fault_falls _ s)
+
+  await_falls : (s : State) → Falls 1 (length s.at.left) (await_expr inner cover s)
+  unfolding await_expr
+  await_falls s = falls_then 0 1 (length s.at.left) (await_allowed s) _ (await_allowed_falls s) (λ _ t.
+      falls_moved 1 t _ (falls_last 1 (length (after t.at).left) (inner unary (moved t)) _ (h unary (moved t))))
 
   update_before_falls : (op : UpdateOp) (s : State) → Falls 1 (length s.at.left) (update_before inner cover op s)
   unfolding update_before
@@ -449,23 +488,23 @@ module _ (inner : Class → Reader Tree) (cover : Reader Cover) (h : (class : Cl
   unfolding yield_expr begins_yield
   yield_falls s e = falls_past s _ (no_end s kind.Yield (λ z. cc) (and_parts (sees kind.Yield s.at) s.code.flags.in_generator e).0) (behind_yield_falls (span_at s.at) (moved s))
 
-  open_literal_falls : (s : State) → (sees kind.LBracket s.at || sees kind.LBrace s.at) ≡ true → Falls 1 (length s.at.left) (open_literal inner cover s)
-  unfolding open_literal
-  open_literal_falls s e = falls_next (length s.at.left) _ _
-      (falls_when 1 (length s.at.left) (sees kind.LBracket s.at) _ _ (λ i. array_falls s (no_end s kind.LBracket (λ z. cc) i)) (λ i.
-      object_falls s (no_end s kind.LBrace (λ z. cc) (second _ _ e i)))) (λ v t. behind_literal_falls (span_at s.at) v t)
-
   -- what a function may begin
-  module _ (function : Reader Tree) (i : (s : State) → begins_function s.at ≡ true → Falls 1 (length s.at.left) (function s)) where
+  module _ (function : FunctionForm → Reader Tree) (i : FunctionsFall function) where
+    open_literal_falls : (s : State) → (sees kind.LBracket s.at || sees kind.LBrace s.at) ≡ true → Falls 1 (length s.at.left) (open_literal inner cover function s)
+    unfolding open_literal
+    open_literal_falls s e = falls_next (length s.at.left) _ _
+        (falls_when 1 (length s.at.left) (sees kind.LBracket s.at) _ _ (λ g. array_falls s (no_end s kind.LBracket (λ z. cc) g)) (λ g.
+        object_falls function i s (no_end s kind.LBrace (λ z. cc) (second _ _ e g)))) (λ v t. behind_literal_falls (span_at s.at) v t)
+
     marked_falls : (s : State) → Falls 1 (length s.at.left) (marked_primary inner cover function s)
     unfolding marked_primary
     marked_falls s = falls_if 1 (length s.at.left) (sees kind.LParen s.at) _ _ (paren_falls s)
         (falls_when 1 (length s.at.left) (sees kind.LBracket s.at) _ _
         (λ e. falls_next (length s.at.left) (array inner cover s) _ (array_falls s (no_end s kind.LBracket (λ z. cc) e)) close_falls) (λ _.
         falls_when 1 (length s.at.left) (sees kind.LBrace s.at) _ _
-        (λ e. falls_next (length s.at.left) (object inner cover s) _ (object_falls s (no_end s kind.LBrace (λ z. cc) e)) close_falls) (λ _.
+        (λ e. falls_next (length s.at.left) (object inner cover function s) _ (object_falls function i s (no_end s kind.LBrace (λ z. cc) e)) close_falls) (λ _.
         falls_when 1 (length s.at.left) (sees kind.This s.at) _ _ (λ e. this_falls s (no_end s kind.This (λ z. cc) e)) (λ _.
-        falls_when 1 (length s.at.left) (sees kind.Function s.at) _ _ (λ e. i s (function_begins s.at (saw s.at kind.Function e))) (λ _. wanted_falls Tree 1 (length s.at.left) faults.Unexpected s)))))
+        falls_when 1 (length s.at.left) (sees kind.Function s.at) _ _ (λ e. i.expressions s (function_begins s.at (saw s.at kind.Function e))) (λ _. wanted_falls Tree 1 (length s.at.left) faults.Unexpected s)))))
 
     literal_or_falls : (s : State) (o : Option Tree) → literal_in s.at.left ≡ o → Falls 1 (length s.at.left) (and_then (taken o s) (literal_or inner cover function))
     literal_or_falls s None e = marked_falls s
@@ -473,7 +512,7 @@ module _ (inner : Class → Reader Tree) (cover : Reader Cover) (h : (class : Cl
 
     named_falls : (s : State) → Falls 1 (length s.at.left) (named_expr inner cover function s)
     unfolding named_expr
-    named_falls s = falls_when 1 (length s.at.left) (is_async_function s.at) _ _ (λ e. i s (async_begins s.at e)) (λ _. ident_falls s)
+    named_falls s = falls_when 1 (length s.at.left) (is_async_function s.at) _ _ (λ e. i.expressions s (async_begins s.at e)) (λ _. ident_falls s)
 
     pub primary_falls : (s : State) → Falls 1 (length s.at.left) (primary inner cover function s)
     unfolding primary literal
@@ -505,7 +544,7 @@ module _ (inner : Class → Reader Tree) (cover : Reader Cover) (h : (class : Cl
 
     unary_by_falls : (o : Option UnaryOp) (s : State) → Falls 1 (length s.at.left) (unary_by inner cover function o s)
     unary_by_falls (Some op) s = prefixed_falls op s
-    unary_by_falls None s = updated_falls (update_operator (kind_at s.at)) s
+    unary_by_falls None s = falls_if 1 (length s.at.left) (awaits s.code.flags s.at) _ _ (await_falls s) (updated_falls (update_operator (kind_at s.at)) s)
 
     pub unary_falls : (s : State) → Falls 1 (length s.at.left) (unary_expr inner cover function s)
     unfolding unary_expr

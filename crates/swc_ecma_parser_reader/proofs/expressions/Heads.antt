@@ -1,42 +1,39 @@
 -- What the head of a loop begins with: an expression, which may still become what takes each value.
-use Rattle.swc_ecma_parser_reader.proofs.Words.{begins_function}
-use Rattle.std.proofs.Common.{◌≡◌, ◌⊎◌, inl, inr, ℕ, zero, suc, ◌-◌, ◌<◌, Bool, true, false, List, [], ◌∷◌, ◌++◌, Option, Some, None, Ok, length, refl, sym, ◌∙◌, ap, arith, append_assoc}
+use Rattle.std.proofs.Common.{◌≡◌, ℕ, suc, Bool, true, false, [], ◌∷◌, Option, Some, None, Ok, refl, ◌∙◌, ap}
 use Rattle.std.specs.Prelude.{not, ◌&&◌, codes}
 use Rattle.std.specs.Str.{bytes_eq}
 use Rattle.swc_ecma_parser_common.specs.declared.span.Span.{Span}
-use Rattle.swc_ecma_parser_error.specs.Kind.{Fault}
 use Rattle.swc_ecma_parser_token.specs.declared.kind.TokenKind.TheVariants as kind
-use Rattle.swc_ecma_parser_input.specs.Place.{Place, after}
+use Rattle.swc_ecma_parser_input.specs.Place.{Place}
 use Rattle.swc_ecma_parser_model.specs.Tree as tree
 use Rattle.swc_ecma_parser_model.specs.Tree.{Tree, listed, trees}
 use Rattle.swc_ecma_parser_model.specs.Forms.{is_ident_named}
-use Rattle.swc_ecma_parser_model.specs.Targets.{leaf, as_target}
-use Rattle.swc_ecma_parser_grammar.specs.Looks.{kind_at, breaks_at, sees, span_at, spanned}
+use Rattle.swc_ecma_parser_model.specs.Targets.{as_target}
+use Rattle.swc_ecma_parser_grammar.specs.Looks.{kind_at, breaks_at, sees, span_at}
 use Rattle.swc_ecma_parser_grammar.specs.Names.{Code, identifier_at}
-use Rattle.swc_ecma_parser_grammar.specs.Follows.{word_at, is_bare_async, is_async_of}
-use Rattle.swc_ecma_parser_grammar.specs.Reads.{ReadsSeparated}
-use Rattle.swc_ecma_parser_grammar.specs.Supported.{supported, all_supported}
+use Rattle.swc_ecma_parser_grammar.specs.Follows.{word_at, is_async_of}
 use Rattle.swc_ecma_parser_grammar.specs.ReadsSupported.{ReadsClass, ReadsTarget}
 use Rattle.swc_ecma_parser_grammar.specs.Walk.{env_of, walk}
 use Rattle.swc_ecma_parser_grammar.specs.language.Goals.{Goal, Class, expression, assignment}
 use Rattle.swc_ecma_parser_grammar.specs.language.Continues.{continues_operand, continues_conditional, continues_head, continues_assignment, is_arrow_head}
-use Rattle.swc_ecma_parser_grammar.specs.language.Expressions.{AssignmentRule, ExpressionRule, assignment_rule, sequence_rule}
+use Rattle.swc_ecma_parser_grammar.specs.language.Expressions.{AssignmentRule, assignment_rule}
 use Rattle.swc_ecma_parser_grammar.specs.language.Reads.{Reads}
-use Rattle.swc_ecma_parser_grammar.proofs.Tests.{or_no, and_yes, and_no, no_and}
+use Rattle.swc_ecma_parser_grammar.proofs.Tests.{or_no}
 use Rattle.swc_ecma_parser_reader.specs.Notes.{notes_of}
 use Rattle.swc_ecma_parser_reader.specs.State.{State, Reader, and_then, loop}
+use Rattle.swc_ecma_parser_reader.specs.Methods.{FunctionForm}
 use Rattle.swc_ecma_parser_reader.specs.Expressions.{Cover, done, unmarked, close, is_literal, cover_expr, sequence_turn, sequence_from}
 use Rattle.swc_ecma_parser_reader.specs.Heads.{sequenced, head_expr}
-use Rattle.swc_ecma_parser_reader.proofs.Meets.{Meets, meets_then, meets_if, too_deep_meets, saw}
+use Rattle.swc_ecma_parser_reader.proofs.Meets.{Meets, meets_then, meets_if, saw}
 use Rattle.swc_ecma_parser_reader.proofs.Between.{SoundTree, Sound, same, sound_as}
 use Rattle.swc_ecma_parser_reader.proofs.expressions.SoundSteps.{reject_meets}
-use Rattle.swc_ecma_parser_reader.proofs.expressions.Targets.{leaf_async, target_async}
+use Rattle.swc_ecma_parser_reader.proofs.expressions.Targets.{target_async}
 use Rattle.swc_ecma_parser_reader.proofs.expressions.Covers.{meets_each, met}
 use Rattle.swc_ecma_parser_reader.proofs.expressions.SoundCovers.{CoverRead, SoundCover}
-use Rattle.swc_ecma_parser_reader.proofs.expressions.SoundLefts.{FunctionRead}
+use Rattle.swc_ecma_parser_reader.proofs.expressions.SoundLefts.{FunctionsSound}
 use Rattle.swc_ecma_parser_reader.proofs.expressions.SoundTargets.{name_stays}
 use Rattle.swc_ecma_parser_reader.proofs.expressions.Sound.{cover_expr_sound, sequence_sound}
-use Rattle.swc_ecma_parser_reader.proofs.expressions.HeadEnds.{of_named, in_unnamed, Passed, passed_in, passed_of, passed_continues, passed_goes_on}
+use Rattle.swc_ecma_parser_reader.proofs.expressions.HeadEnds.{of_named}
 
 -- an expression where no part is one of a pattern alone, and a target where no comma stands behind a rest
 pub record HeadRead (n : ℕ) (v : Cover) (k : Code) (c d : Place) : Type 0 where
@@ -51,7 +48,7 @@ unturned (Some q) p e h = cc
 sequence_read : (n : ℕ) (k : Code) (y : Tree) (c d : Place) → as_target y ≡ None → ReadsClass n expression k y c d → HeadRead n (done y) k c d
 sequence_read n k y c d e r = record { plain = λ _. r; target = λ _ p h. unturned (as_target y) p e h }
 
-sequence_unturned : (inner : Class → Reader Tree) (cover : Reader Cover) (function : Reader Tree) (start : Span) (x : Tree) (s : State) → Meets (λ y t. as_target y ≡ None) (sequence_from inner cover function start x s)
+sequence_unturned : (inner : Class → Reader Tree) (cover : Reader Cover) (function : FunctionForm → Reader Tree) (start : Span) (x : Tree) (s : State) → Meets (λ y t. as_target y ≡ None) (sequence_from inner cover function start x s)
 unfolding sequence_from
 sequence_unturned inner cover function start x s = meets_then {P = λ _ _. Unit {0}} _ (loop (sequence_turn inner cover function) (x ∷ []) s) _
     (meets_each _ (loop (sequence_turn inner cover function) (x ∷ []) s) (λ _ _ _. tt)) (λ _ _ _. refl)
@@ -88,7 +85,7 @@ SoundHead n s v t = Sound same (λ k l. walk (env_of k l) v.x) (notes_of v.x) (H
 
 module _ (n : ℕ) (inner : Class → Reader Tree) (cover : Reader Cover) (sound : (class : Class) (s : State) → Meets (λ x t. SoundTree (ReadsClass n class) s x t) (inner class s))
     (covers : (s : State) → Meets (λ v t. SoundCover n s v t) (cover s))
-    (function : Reader Tree) (functions : (s : State) → begins_function s.at ≡ true → Meets (λ x t. SoundTree (FunctionRead n) s x t) (function s)) (s : State) where
+    (function : FunctionForm → Reader Tree) (functions : FunctionsSound n function) (s : State) where
   abbrev SoundNext : Cover → State → Type 0
   SoundNext v t = SoundHead (suc n) s v t
 

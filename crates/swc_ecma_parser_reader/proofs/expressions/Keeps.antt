@@ -1,6 +1,6 @@
 -- Whatever an expression is read as, or refused, the tokens that are left are the last of those that were, and no recorded fault is lost.
-use Rattle.swc_ecma_parser_grammar.specs.language.Begins.{begins_expression}
-use Rattle.std.proofs.Common.{◌≡◌, ◌≢◌, ℕ, zero, suc, Bool, true, false, cond, List, [], ◌∷◌, Option, Some, None, refl, sym, ◌∙◌, ap}
+use Rattle.swc_ecma_parser_grammar.specs.language.Begins.{begins_expression, awaits}
+use Rattle.std.proofs.Common.{◌≡◌, ◌≢◌, ℕ, Bool, true, false, cond, List, [], ◌∷◌, Option, Some, None, refl, sym, ◌∙◌, ap, Ok}
 use Rattle.std.specs.Prelude.{nat_eq, not, ◌&&◌, ◌||◌, codes}
 use Rattle.std.proofs.lemmas.Bool.{and_parts}
 use Rattle.swc_ecma_parser_common.specs.declared.span.Span.{Span}
@@ -27,12 +27,14 @@ use Rattle.swc_ecma_parser_grammar.specs.Reads.{with_in}
 use Rattle.swc_ecma_parser_grammar.specs.language.Goals.{Class, expression, assignment, operator, unary, left_side, callee}
 use Rattle.swc_ecma_parser_grammar.specs.language.Operators.{unary_operator, update_operator, binary_operator, assign_operator, groups_left, mixes, is_unary}
 use Rattle.swc_ecma_parser_grammar.specs.language.Continues.{continues_conditional}
-use Rattle.swc_ecma_parser_reader.specs.State.{State, Reader, ◌>>=◌, moved, module_found, coded, wanted, fault_at, fault, expect, name, loop}
-use Rattle.swc_ecma_parser_reader.specs.Expressions.{Cover, no_covers, unmarked, close, target_or, target, goes_on, literal, literal_in, taken, any_word, word_in, word_by, touching_word, private_name, word_property, is_word_at, key_or, literal_key, shorthand_name, shorthand, dotted, ident_expr, this, bare_new, closed_left, simple, update_behind, behind_operand, postfix_at, right_class, read_operator, operator_at, left_operand, unmixed, unassigned, unassignable, unheaded, heads_arrow, begins_async_call, inside, brackets, access, spread_element, plain_element, element, arguments_turn, arguments, covered, spread_item, plain_item, item, array_turn, elements, array, computed_key, key, key_value, initialized, initialized_name, initialized_key, bare_key, behind_key, keyed_property, spread_property, property, object_turn, properties, object, paren, marked_primary, literal_or, primary, accessed, called, left_turn, left_from, super_call, super_property, super_access, behind_super, super_head, constructed, new_head, import_call, meta_fault, import_meta, import_head, left_head, left, left_expr, prefixed, update_before, postfix, updated, unary_by, unary_expr, operated, binary_by, binary_turn, binary_from, binary_expr, conditional, assigned_to, assigned, assigned_or, behind_operators, operators_expr, plain_expr, postfixed, continued, closed, assigned_pattern, behind_literal, open_literal, done_expr, cover_expr, assignment_expr, sequence_turn, sequence_from, expression_expr, expr_level, named_expr}
+use Rattle.swc_ecma_parser_reader.specs.State.{State, Reader, and_then, ◌>>=◌, moved, noted, module_found, coded, wanted, fault_at, fault, expect, name, loop}
+use Rattle.swc_ecma_parser_reader.specs.Methods.{MethodForm, FunctionForm, expression_form, property_form, modifies, begins_async_method, star, starred, method_words, is_bare}
+use Rattle.swc_ecma_parser_reader.specs.Expressions.{Cover, no_covers, unmarked, close, target_or, target, goes_on, literal, literal_in, taken, any_word, word_in, word_by, touching_word, private_name, word_property, is_word_at, key_or, literal_key, shorthand_name, shorthand, dotted, ident_expr, this, bare_new, closed_left, simple, update_behind, behind_operand, postfix_at, right_class, read_operator, operator_at, left_operand, unmixed, unassigned, unassignable, unheaded, heads_arrow, begins_async_call, inside, brackets, access, spread_element, plain_element, element, arguments_turn, arguments, covered, spread_item, plain_item, item, array_turn, elements, array, computed_key, key, key_value, initialized, initialized_name, initialized_key, bare_key, behind_key, method, behind_words, keyed_property, spread_property, property, object_turn, properties, object, paren, marked_primary, literal_or, primary, accessed, called, left_turn, left_from, super_call, super_property, super_access, behind_super, super_head, constructed, new_head, import_call, meta_fault, import_meta, import_head, left_head, left, left_expr, prefixed, update_before, await_expr, postfix, updated, unary_by, unary_expr, operated, binary_by, binary_turn, binary_from, binary_expr, conditional, assigned_to, assigned, assigned_or, behind_operators, operators_expr, plain_expr, postfixed, continued, closed, assigned_pattern, behind_literal, open_literal, done_expr, cover_expr, assignment_expr, sequence_turn, sequence_from, expression_expr, expr_level, named_expr}
 use Rattle.swc_ecma_parser_reader.specs.Yields.{begins_yield, bare_yield, yielded, behind_yield, yield_expr}
 use Rattle.swc_ecma_parser_reader.specs.Heads.{sequenced, head_expr}
 use Rattle.swc_ecma_parser_reader.proofs.Meets.{Answers, answers_then, answers_if, saw}
-use Rattle.swc_ecma_parser_reader.proofs.Behind.{Kept, Lost, Passes, behind_after, too_deep_keeps, fault_keeps, wanted_keeps, reject_keeps, expect_keeps, name_keeps, loop_keeps}
+use Rattle.swc_ecma_parser_reader.proofs.expressions.Awaits.{await_fault, await_either}
+use Rattle.swc_ecma_parser_reader.proofs.Behind.{Kept, Lost, Passes, behind_after, behind_noted, fault_keeps, wanted_keeps, reject_keeps, expect_keeps, name_keeps, loop_keeps}
 use Rattle.swc_ecma_parser_reader.specs.Entry.{IsBehind}
 
 -- ---- what is known of the first token
@@ -162,6 +164,23 @@ behind_operand_keeps : (b : State) (start : Span) (x : Tree) (o : Option UpdateO
 behind_operand_keeps b start x None s f = f
 behind_operand_keeps b start x (Some op) s f = update_behind_keeps b start x op s f
 
+-- ---- what stands before the key of a method
+
+-- the `*` of a generator
+pub star_keeps : Passes star
+unfolding star
+star_keeps b s f = answers_if _ _ (sees kind.Mul s.at) _ _ (λ _. behind_after b s f) (λ _. f)
+
+starred_keeps : (is_async : Bool) → Passes (starred is_async)
+unfolding starred
+starred_keeps is_async b s f = answers_then _ _ (star s) _ (star_keeps b s f) (λ v t g. g)
+
+method_words_keeps : Passes method_words
+unfolding method_words
+method_words_keeps b s f = answers_if _ _ (modifies (codes "get") s.at) _ _ (λ _. behind_after b s f)
+    (λ _. answers_if _ _ (modifies (codes "set") s.at) _ _ (λ _. behind_after b s f)
+    (λ _. answers_if _ _ (begins_async_method s.at) _ _ (λ _. starred_keeps true b (moved s) (behind_after b s f)) (λ _. starred_keeps false b s f)))
+
 -- ---- what is read one level further in
 
 module _ (inner : Class → Reader Tree) (cover : Reader Cover) (below : (class : Class) → Passes (inner class)) (below_cover : Passes cover) where
@@ -231,18 +250,29 @@ module _ (inner : Class → Reader Tree) (cover : Reader Cover) (below : (class 
       (λ _. answers_if _ _ (sees kind.Assign s.at) _ _ (λ _. initialized_key_keeps b start x s f)
       (λ _. answers_then _ _ (shorthand x s) _ (shorthand_keeps b s f x) (λ y t k. k)))
 
-  property_keeps : (b : State) (s : State) → IsBehind b s → Answers (Kept b) (Lost b) (property inner cover s)
-  unfolding property spread_property keyed_property
-  property_keeps b s f = answers_if _ _ (sees kind.DotDotDot s.at) _ _
-      (λ _. answers_then _ _ (covered inner cover (moved s)) _ (covered_keeps b (moved s) (behind_after b s f)) (λ v t k. k))
-      (λ _. answers_then _ _ (key inner cover s) _ (key_keeps b s f) (λ x t k. behind_key_keeps b (span_at s.at) x t k))
+  module _ (function : FunctionForm → Reader Tree) (below_function : (form : FunctionForm) → Passes (function form)) where
+    method_keeps : (form : MethodForm) (start : Span) (x : Tree) → Passes (method inner cover function form start x)
+    unfolding method
+    method_keeps form start x b s f = answers_then _ _ (function (property_form form start x) s) _ (below_function (property_form form start x) b s f) (λ y t g. g)
 
-  many_properties_keeps : (b : State) (s : State) → IsBehind b s → Answers (Kept b) (Lost b) (loop (object_turn inner cover) no_covers s)
-  unfolding object_turn
-  many_properties_keeps b s f = loop_keeps (object_turn inner cover) b
-      (λ found t g. answers_if _ _ (sees kind.RBrace t.at) _ _ (λ _. behind_after b t g) (λ _.
-      answers_then _ _ (property inner cover t) _ (property_keeps b t g) (λ v u k.
-      answers_if _ _ (sees kind.RBrace u.at) _ _ (λ _. k) (λ _. answers_then _ _ (expect kind.Comma u) _ (expect_keeps b u k kind.Comma) (λ _ w j. j))))) no_covers s f
+    behind_words_keeps : (form : MethodForm) (start : Span) (x : Tree) → Passes (behind_words inner cover function form start x)
+    unfolding behind_words
+    behind_words_keeps form start x b s f = answers_if _ _ (is_bare form && not (sees kind.LParen s.at)) _ _ (λ _. behind_key_keeps b start x s f)
+        (λ _. method_keeps form start x b s f)
+
+    property_keeps : (b : State) (s : State) → IsBehind b s → Answers (Kept b) (Lost b) (property inner cover function s)
+    unfolding property spread_property keyed_property
+    property_keeps b s f = answers_if _ _ (sees kind.DotDotDot s.at) _ _
+        (λ _. answers_then _ _ (covered inner cover (moved s)) _ (covered_keeps b (moved s) (behind_after b s f)) (λ v t k. k))
+        (λ _. answers_then _ _ (method_words s) _ (method_words_keeps b s f) (λ form t g.
+        answers_then _ _ (key inner cover t) _ (key_keeps b t g) (λ x u k. behind_words_keeps form (span_at s.at) x b u k)))
+
+    many_properties_keeps : (b : State) (s : State) → IsBehind b s → Answers (Kept b) (Lost b) (loop (object_turn inner cover function) no_covers s)
+    unfolding object_turn
+    many_properties_keeps b s f = loop_keeps (object_turn inner cover function) b
+        (λ found t g. answers_if _ _ (sees kind.RBrace t.at) _ _ (λ _. behind_after b t g) (λ _.
+        answers_then _ _ (property inner cover function t) _ (property_keeps b t g) (λ v u k.
+        answers_if _ _ (sees kind.RBrace u.at) _ _ (λ _. k) (λ _. answers_then _ _ (expect kind.Comma u) _ (expect_keeps b u k kind.Comma) (λ _ w j. j))))) no_covers s f
 
   -- ---- left-hand sides and what stands in brackets
 
@@ -281,15 +311,16 @@ module _ (inner : Class → Reader Tree) (cover : Reader Cover) (below : (class 
     unfolding array
     array_keeps s e f = answers_then _ _ (elements inner cover s) _ (elements_keeps s e f) (λ xs t g. g)
 
-    properties_keeps : (s : State) → kind_at s.at ≡ kind.LBrace → IsBehind b s → Answers (Kept b) (Lost b) (properties inner cover s)
-    unfolding properties
-    properties_keeps s e f =
-        let g = behind_after b s f in
-        (many_properties_keeps b (moved s) g)
+    module _ (function : FunctionForm → Reader Tree) (below_function : (form : FunctionForm) → Passes (function form)) where
+      properties_keeps : (s : State) → kind_at s.at ≡ kind.LBrace → IsBehind b s → Answers (Kept b) (Lost b) (properties inner cover function s)
+      unfolding properties
+      properties_keeps s e f =
+          let g = behind_after b s f in
+          (many_properties_keeps function below_function b (moved s) g)
 
-    object_keeps : (s : State) → kind_at s.at ≡ kind.LBrace → IsBehind b s → Answers (Kept b) (Lost b) (object inner cover s)
-    unfolding object
-    object_keeps s e f = answers_then _ _ (properties inner cover s) _ (properties_keeps s e f) (λ xs t g. g)
+      object_keeps : (s : State) → kind_at s.at ≡ kind.LBrace → IsBehind b s → Answers (Kept b) (Lost b) (object inner cover function s)
+      unfolding object
+      object_keeps s e f = answers_then _ _ (properties inner cover function s) _ (properties_keeps s e f) (λ xs t g. g)
 
     paren_keeps : (s : State) → kind_at s.at ≡ kind.LParen → IsBehind b s → Answers (Kept b) (Lost b) (paren inner cover s)
     unfolding paren
@@ -368,6 +399,13 @@ module _ (inner : Class → Reader Tree) (cover : Reader Cover) (below : (class 
     prefixed_keeps op s e f =
         let g = behind_after b s f in
         answers_then _ _ (inner unary (moved s)) _ (below unary b (moved s) g) (λ x t k. k)
+
+    await_keeps : (s : State) → awaits s.code.flags s.at ≡ true → IsBehind b s → Answers (Kept b) (Lost b) (await_expr inner cover s)
+    unfolding await_expr
+    await_keeps s e f = await_either (Answers (Kept b) (Lost b)) _ s e (λ _. operand_keeps s f) (λ _. operand_keeps (noted (await_fault s) s) (behind_noted b (await_fault s) s f))
+      where
+        operand_keeps : (t : State) → IsBehind b t → Answers (Kept b) (Lost b) (and_then (inner unary (moved t)) (λ x u. Ok (tree.await (record { lo = (span_at s.at).lo; hi = u.at.last.hi }) x, u)))
+        operand_keeps t g = answers_then _ _ (inner unary (moved t)) _ (below unary b (moved t) (behind_after b t g)) (λ x u k. k)
 
     update_before_keeps : (op : UpdateOp) (s : State) → kind_at s.at ≢ kind.End → IsBehind b s → Answers (Kept b) (Lost b) (update_before inner cover op s)
     unfolding update_before
@@ -469,22 +507,22 @@ module _ (inner : Class → Reader Tree) (cover : Reader Cover) (below : (class 
         (λ _. answers_if _ _ (sees kind.Mul (after s.at)) _ _ (λ _. yielded_keeps true (span_at s.at) (moved (moved s)) (behind_after b (moved s) g))
         (λ _. answers_if _ _ (begins_expression s.code.flags (after s.at)) _ _ (λ _. yielded_keeps false (span_at s.at) (moved s) g) (λ _. g)))
 
-    open_literal_keeps : (s : State) → (sees kind.LBracket s.at || sees kind.LBrace s.at) ≡ true → IsBehind b s → Answers (Kept b) (Lost b) (open_literal inner cover s)
-    unfolding open_literal
-    open_literal_keeps s h f = answers_then _ _ (cond (sees kind.LBracket s.at) (array inner cover s) (object inner cover s)) _
-        (answers_if _ _ (sees kind.LBracket s.at) _ _ (λ e. array_keeps s (saw s.at kind.LBracket e) f)
-        (λ e. object_keeps s (saw s.at kind.LBrace (other_test (sees kind.LBracket s.at) (sees kind.LBrace s.at) h e)) f))
-        (λ v t g. behind_literal_keeps (span_at s.at) v t g)
-
     -- what a function may begin
-    module _ (function : Reader Tree) (below_function : Passes function) where
+    module _ (function : FunctionForm → Reader Tree) (below_function : (form : FunctionForm) → Passes (function form)) where
+      open_literal_keeps : (s : State) → (sees kind.LBracket s.at || sees kind.LBrace s.at) ≡ true → IsBehind b s → Answers (Kept b) (Lost b) (open_literal inner cover function s)
+      unfolding open_literal
+      open_literal_keeps s h f = answers_then _ _ (cond (sees kind.LBracket s.at) (array inner cover s) (object inner cover function s)) _
+          (answers_if _ _ (sees kind.LBracket s.at) _ _ (λ e. array_keeps s (saw s.at kind.LBracket e) f)
+          (λ e. object_keeps function below_function s (saw s.at kind.LBrace (other_test (sees kind.LBracket s.at) (sees kind.LBrace s.at) h e)) f))
+          (λ v t g. behind_literal_keeps (span_at s.at) v t g)
+
       marked_keeps : (s : State) → IsBehind b s → Answers (Kept b) (Lost b) (marked_primary inner cover function s)
       unfolding marked_primary
       marked_keeps s f = answers_if _ _ (sees kind.LParen s.at) _ _ (λ e. paren_keeps s (saw s.at kind.LParen e) f)
           (λ _. answers_if _ _ (sees kind.LBracket s.at) _ _ (λ e. answers_then _ _ (array inner cover s) _ (array_keeps s (saw s.at kind.LBracket e) f) (λ v t g. close_keeps b t g v))
-          (λ _. answers_if _ _ (sees kind.LBrace s.at) _ _ (λ e. answers_then _ _ (object inner cover s) _ (object_keeps s (saw s.at kind.LBrace e) f) (λ v t g. close_keeps b t g v))
+          (λ _. answers_if _ _ (sees kind.LBrace s.at) _ _ (λ e. answers_then _ _ (object inner cover function s) _ (object_keeps function below_function s (saw s.at kind.LBrace e) f) (λ v t g. close_keeps b t g v))
           (λ _. answers_if _ _ (sees kind.This s.at) _ _ (λ _. this_keeps b s f)
-          (λ _. answers_if _ _ (sees kind.Function s.at) _ _ (λ _. below_function b s f) (λ _. unexpected_keeps b s f _)))))
+          (λ _. answers_if _ _ (sees kind.Function s.at) _ _ (λ _. below_function expression_form b s f) (λ _. unexpected_keeps b s f _)))))
 
       literal_or_keeps : (o : Option Tree) (s : State) → IsBehind b s → Answers (Kept b) (Lost b) (literal_or inner cover function o s)
       literal_or_keeps (Some x) s f = f
@@ -492,7 +530,7 @@ module _ (inner : Class → Reader Tree) (cover : Reader Cover) (below : (class 
 
       named_keeps : (s : State) → IsBehind b s → Answers (Kept b) (Lost b) (named_expr inner cover function s)
       unfolding named_expr
-      named_keeps s f = answers_if _ _ (is_async_function s.at) _ _ (λ _. below_function b s f) (λ _. ident_keeps b s f)
+      named_keeps s f = answers_if _ _ (is_async_function s.at) _ _ (λ _. below_function expression_form b s f) (λ _. ident_keeps b s f)
 
       primary_keeps : (s : State) → IsBehind b s → Answers (Kept b) (Lost b) (primary inner cover function s)
       unfolding primary
@@ -522,7 +560,7 @@ module _ (inner : Class → Reader Tree) (cover : Reader Cover) (below : (class 
 
       unary_by_keeps : (o : Option UnaryOp) (s : State) → unary_operator (kind_at s.at) ≡ o → IsBehind b s → Answers (Kept b) (Lost b) (unary_by inner cover function o s)
       unary_by_keeps (Some op) s e f = prefixed_keeps op s (no_end_by unary_operator (kind_at s.at) op refl e) f
-      unary_by_keeps None s e f = updated_keeps (update_operator (kind_at s.at)) s refl f
+      unary_by_keeps None s e f = answers_if _ _ (awaits s.code.flags s.at) _ _ (λ a. await_keeps s a f) (λ _. updated_keeps (update_operator (kind_at s.at)) s refl f)
 
       unary_keeps : (s : State) → IsBehind b s → Answers (Kept b) (Lost b) (unary_expr inner cover function s)
       unfolding unary_expr

@@ -1,7 +1,7 @@
 -- With twice as many levels as tokens no expression is too deep, but for what an error token says: each level below needs a token.
 use Rattle.swc_ecma_parser_reader.proofs.Words.{async_begins, function_begins, begins_function}
-use Rattle.swc_ecma_parser_grammar.specs.language.Begins.{begins_expression}
-use Rattle.std.proofs.Common.{◌≡◌, ◌≢◌, ℕ, zero, suc, ◌*◌, ◌≤◌, Bool, true, false, cond, List, [], ◌∷◌, Option, Some, None, Ok, Err, refl, sym, ◌∙◌, ap, arith}
+use Rattle.swc_ecma_parser_grammar.specs.language.Begins.{begins_expression, awaits}
+use Rattle.std.proofs.Common.{◌≡◌, ◌≢◌, ℕ, suc, ◌+◌, ◌*◌, ◌≤◌, Bool, true, false, cond, List, [], ◌∷◌, Option, Some, None, Ok, Err, refl, sym, ◌∙◌, ap, arith}
 use Rattle.std.specs.Prelude.{nat_eq, not, ◌&&◌, ◌||◌, codes}
 use Rattle.std.proofs.lemmas.Bool.{and_parts}
 use Rattle.swc_ecma_parser_common.specs.declared.span.Span.{Span}
@@ -30,12 +30,15 @@ use Rattle.swc_ecma_parser_grammar.specs.Reads.{with_in}
 use Rattle.swc_ecma_parser_grammar.specs.language.Goals.{Class, expression, assignment, operator, unary, left_side, callee}
 use Rattle.swc_ecma_parser_grammar.specs.language.Operators.{unary_operator, update_operator, binary_operator, assign_operator, groups_left, mixes, is_unary}
 use Rattle.swc_ecma_parser_grammar.specs.language.Continues.{continues_conditional}
-use Rattle.swc_ecma_parser_reader.specs.State.{State, Outcome, Reader, ◌>>=◌, moved, module_found, coded, wanted, reject, reject_in, reject_at, fault_at, fault, expect, name, loop}
-use Rattle.swc_ecma_parser_reader.specs.Expressions.{Cover, no_covers, unmarked, close, target_or, target, goes_on, literal, literal_in, taken, any_word, word_in, word_by, touching_word, private_name, word_property, is_word_at, key_or, literal_key, shorthand_name, shorthand, dotted, ident_expr, this, bare_new, closed_left, simple, update_behind, behind_operand, postfix_at, right_class, read_operator, operator_at, left_operand, unmixed, unassigned, unassignable, unheaded, heads_arrow, begins_async_call, inside, brackets, access, spread_element, plain_element, element, arguments_turn, arguments, covered, spread_item, plain_item, item, array_turn, elements, array, computed_key, key, key_value, initialized, initialized_name, initialized_key, bare_key, behind_key, keyed_property, spread_property, property, object_turn, properties, object, paren, marked_primary, literal_or, primary, accessed, called, left_turn, left_from, super_call, super_property, super_access, behind_super, super_head, constructed, new_head, import_call, meta_fault, import_meta, import_head, left_head, left, left_expr, prefixed, update_before, postfix, updated, unary_by, unary_expr, operated, binary_by, binary_turn, binary_from, binary_expr, conditional, assigned_to, assigned, assigned_or, behind_operators, operators_expr, plain_expr, postfixed, continued, closed, assigned_pattern, behind_literal, open_literal, done_expr, cover_expr, assignment_expr, sequence_turn, sequence_from, expression_expr, expr_level, named_expr}
+use Rattle.swc_ecma_parser_reader.specs.State.{State, Outcome, Reader, and_then, ◌>>=◌, moved, noted, module_found, coded, wanted, reject, reject_in, reject_at, fault_at, fault, expect, name, loop}
+use Rattle.swc_ecma_parser_reader.specs.Methods.{MethodForm, FunctionForm, expression_form, property_form, modifies, begins_async_method, star, starred, method_words, is_bare}
+use Rattle.swc_ecma_parser_reader.specs.Expressions.{Cover, no_covers, unmarked, close, target_or, target, goes_on, literal, literal_in, taken, any_word, word_in, word_by, touching_word, private_name, word_property, is_word_at, key_or, literal_key, shorthand_name, shorthand, dotted, ident_expr, this, bare_new, closed_left, simple, update_behind, behind_operand, postfix_at, right_class, read_operator, operator_at, left_operand, unmixed, unassigned, unassignable, unheaded, heads_arrow, begins_async_call, inside, brackets, access, spread_element, plain_element, element, arguments_turn, arguments, covered, spread_item, plain_item, item, array_turn, elements, array, computed_key, key, key_value, initialized, initialized_name, initialized_key, bare_key, behind_key, method, behind_words, keyed_property, spread_property, property, object_turn, properties, object, paren, marked_primary, literal_or, primary, accessed, called, left_turn, left_from, super_call, super_property, super_access, behind_super, super_head, constructed, new_head, import_call, meta_fault, import_meta, import_head, left_head, left, left_expr, prefixed, update_before, await_expr, postfix, updated, unary_by, unary_expr, operated, binary_by, binary_turn, binary_from, binary_expr, conditional, assigned_to, assigned, assigned_or, behind_operators, operators_expr, plain_expr, postfixed, continued, closed, assigned_pattern, behind_literal, open_literal, done_expr, cover_expr, assignment_expr, sequence_turn, sequence_from, expression_expr, expr_level, named_expr}
 use Rattle.swc_ecma_parser_reader.specs.Yields.{begins_yield, bare_yield, yielded, behind_yield, yield_expr}
 use Rattle.swc_ecma_parser_reader.specs.Heads.{sequenced, head_expr}
 use Rattle.swc_ecma_parser_reader.proofs.Meets.{Answers, answers_then, answers_if, Turned, loop_answers, saw}
-use Rattle.swc_ecma_parser_reader.proofs.Shallow.{Fine, fine_more, fine_after, fine_taken, Shallow, Kept, error_shallow, too_deep_shallow, fault_shallow, refused_shallow, wanted_shallow, expect_shallow, name_shallow, Levels}
+use Rattle.swc_ecma_parser_grammar.proofs.ExpressionBegins.{await_stands}
+use Rattle.swc_ecma_parser_reader.proofs.expressions.Awaits.{await_fault, await_either}
+use Rattle.swc_ecma_parser_reader.proofs.Shallow.{Fine, fine_more, fine_after, fine_taken, Shallow, Kept, error_shallow, fault_shallow, refused_shallow, wanted_shallow, expect_shallow, name_shallow, Levels}
 
 -- ---- what is known of the first token
 
@@ -190,6 +193,28 @@ behind_operand_shallow : (m : ℕ) (start : Span) (x : Tree) (o : Option UpdateO
 behind_operand_shallow m start x None s f = f
 behind_operand_shallow m start x (Some op) s f = update_behind_shallow m start x op s f
 
+-- ---- functions, and the words before the key of a method
+
+-- A function that is an expression takes its word before the level below; a method, whose body is a level of statements, has `{` before it.
+pub record FunctionsShallow (n : ℕ) (function : FunctionForm → Reader Tree) : Type 0 where
+  pub expressions : (m : ℕ) (s : State) → 2 * m ≤ suc n → begins_function s.at ≡ true → Fine m s.at.left → Answers (Kept m) Shallow (function expression_form s)
+  pub methods : (form : MethodForm) (start : Span) (x : Tree) (i : ℕ) (s : State) → 2 * i + 1 ≤ n → Fine i s.at.left → Answers (Kept i) Shallow (function (property_form form start x) s)
+
+-- the `*` of a generator
+pub star_shallow : (m : ℕ) (s : State) → Fine m s.at.left → Answers (Kept m) Shallow (star s)
+unfolding star
+star_shallow m s f = answers_if _ _ (sees kind.Mul s.at) _ _ (λ _. fine_after m s.at f) (λ _. f)
+
+starred_shallow : (is_async : Bool) (m : ℕ) (s : State) → Fine m s.at.left → Answers (Kept m) Shallow (starred is_async s)
+unfolding starred
+starred_shallow is_async m s f = answers_then _ _ (star s) _ (star_shallow m s f) (λ v t g. g)
+
+method_words_shallow : (m : ℕ) (s : State) → Fine m s.at.left → Answers (Kept m) Shallow (method_words s)
+unfolding method_words
+method_words_shallow m s f = answers_if _ _ (modifies (codes "get") s.at) _ _ (λ _. fine_after m s.at f)
+    (λ _. answers_if _ _ (modifies (codes "set") s.at) _ _ (λ _. fine_after m s.at f)
+    (λ _. answers_if _ _ (begins_async_method s.at) _ _ (λ _. starred_shallow true m (moved s) (fine_after m s.at f)) (λ _. starred_shallow false m s f)))
+
 -- ---- what is read one level further in
 
 module _ (inner : Class → Reader Tree) (cover : Reader Cover) (n : ℕ) (below : (class : Class) → Levels n (inner class)) (below_cover : Levels n cover) where
@@ -261,19 +286,31 @@ module _ (inner : Class → Reader Tree) (cover : Reader Cover) (n : ℕ) (below
       (λ _. answers_if _ _ (sees kind.Assign s.at) _ _ (λ _. initialized_key_shallow i start x s h f)
       (λ _. answers_then _ _ (shorthand x s) _ (shorthand_shallow i s f x) (λ y t k. k)))
 
-  property_shallow : (i : ℕ) (s : State) → 2 * i ≤ n → Fine i s.at.left → Answers (Kept i) Shallow (property inner cover s)
-  unfolding property spread_property keyed_property
-  property_shallow i s h f = answers_if _ _ (sees kind.DotDotDot s.at) _ _
-      (λ _. answers_then _ _ (covered inner cover (moved s)) _ (covered_shallow i (moved s) h (fine_after i s.at f)) (λ v t k. k))
-      (λ _. answers_then _ _ (key inner cover s) _ (key_shallow i s h f) (λ x t k. behind_key_shallow i (span_at s.at) x t h k))
+  module _ (function : FunctionForm → Reader Tree) (below_function : FunctionsShallow n function) where
+    method_shallow : (form : MethodForm) (start : Span) (x : Tree) (i : ℕ) (s : State) → 2 * i + 1 ≤ n → Fine i s.at.left → Answers (Kept i) Shallow (method inner cover function form start x s)
+    unfolding method
+    method_shallow form start x i s h f = answers_then _ _ (function (property_form form start x) s) _ (below_function.methods form start x i s h f) (λ y t g. g)
 
-  many_properties_shallow : (i : ℕ) (s : State) → 2 * i ≤ n → Fine i s.at.left → Answers (Kept i) Shallow (loop (object_turn inner cover) no_covers s)
-  unfolding object_turn
-  many_properties_shallow i s h f = loop_answers (object_turn inner cover) (Kept i) (Kept i) Shallow
-      (λ found t g. answers_if _ _ (sees kind.RBrace t.at) _ _ (λ _. fine_after i t.at g) (λ _.
-      answers_then _ _ (property inner cover t) _ (property_shallow i t h g) (λ v u k.
-      answers_if _ _ (sees kind.RBrace u.at) _ _ (λ _. k) (λ _. answers_then _ _ (expect kind.Comma u) _ (expect_shallow i u k kind.Comma) (λ _ w j. j)))))
-      (λ t e. cc) no_covers s f
+    behind_words_shallow : (form : MethodForm) (start : Span) (x : Tree) (i : ℕ) (s : State) → 2 * i + 1 ≤ n → Fine i s.at.left
+        → Answers (Kept i) Shallow (behind_words inner cover function form start x s)
+    unfolding behind_words
+    behind_words_shallow form start x i s h f = answers_if _ _ (is_bare form && not (sees kind.LParen s.at)) _ _ (λ _. behind_key_shallow i start x s (omega arith) f)
+        (λ _. method_shallow form start x i s h f)
+
+    property_shallow : (i : ℕ) (s : State) → 2 * i + 1 ≤ n → Fine i s.at.left → Answers (Kept i) Shallow (property inner cover function s)
+    unfolding property spread_property keyed_property
+    property_shallow i s h f = answers_if _ _ (sees kind.DotDotDot s.at) _ _
+        (λ _. answers_then _ _ (covered inner cover (moved s)) _ (covered_shallow i (moved s) (omega arith) (fine_after i s.at f)) (λ v t k. k))
+        (λ _. answers_then _ _ (method_words s) _ (method_words_shallow i s f) (λ form t g.
+        answers_then _ _ (key inner cover t) _ (key_shallow i t (omega arith) g) (λ x u k. behind_words_shallow form (span_at s.at) x i u h k)))
+
+    many_properties_shallow : (i : ℕ) (s : State) → 2 * i + 1 ≤ n → Fine i s.at.left → Answers (Kept i) Shallow (loop (object_turn inner cover function) no_covers s)
+    unfolding object_turn
+    many_properties_shallow i s h f = loop_answers (object_turn inner cover function) (Kept i) (Kept i) Shallow
+        (λ found t g. answers_if _ _ (sees kind.RBrace t.at) _ _ (λ _. fine_after i t.at g) (λ _.
+        answers_then _ _ (property inner cover function t) _ (property_shallow i t h g) (λ v u k.
+        answers_if _ _ (sees kind.RBrace u.at) _ _ (λ _. k) (λ _. answers_then _ _ (expect kind.Comma u) _ (expect_shallow i u k kind.Comma) (λ _ w j. j)))))
+        (λ t e. cc) no_covers s f
 
   -- ---- what takes a token before the level below
 
@@ -312,15 +349,16 @@ module _ (inner : Class → Reader Tree) (cover : Reader Cover) (n : ℕ) (below
     unfolding array
     array_shallow s e f = answers_then _ _ (elements inner cover s) _ (elements_shallow s e f) (λ xs t g. g)
 
-    properties_shallow : (s : State) → kind_at s.at ≡ kind.LBrace → Fine m s.at.left → Answers (Kept m) Shallow (properties inner cover s)
-    unfolding properties
-    properties_shallow s e f =
-        let (i, h, g) = fine_taken m s.at kind.LBrace e (λ z. cc) f in
-        kept_more i m (loop (object_turn inner cover) no_covers (moved s)) (omega arith) (many_properties_shallow i (moved s) (omega arith) g)
+    module _ (function : FunctionForm → Reader Tree) (below_function : FunctionsShallow n function) where
+      properties_shallow : (s : State) → kind_at s.at ≡ kind.LBrace → Fine m s.at.left → Answers (Kept m) Shallow (properties inner cover function s)
+      unfolding properties
+      properties_shallow s e f =
+          let (i, h, g) = fine_taken m s.at kind.LBrace e (λ z. cc) f in
+          kept_more i m (loop (object_turn inner cover function) no_covers (moved s)) (omega arith) (many_properties_shallow function below_function i (moved s) (omega arith) g)
 
-    object_shallow : (s : State) → kind_at s.at ≡ kind.LBrace → Fine m s.at.left → Answers (Kept m) Shallow (object inner cover s)
-    unfolding object
-    object_shallow s e f = answers_then _ _ (properties inner cover s) _ (properties_shallow s e f) (λ xs t g. g)
+      object_shallow : (s : State) → kind_at s.at ≡ kind.LBrace → Fine m s.at.left → Answers (Kept m) Shallow (object inner cover function s)
+      unfolding object
+      object_shallow s e f = answers_then _ _ (properties inner cover function s) _ (properties_shallow s e f) (λ xs t g. g)
 
     paren_shallow : (s : State) → kind_at s.at ≡ kind.LParen → Fine m s.at.left → Answers (Kept m) Shallow (paren inner cover s)
     unfolding paren
@@ -400,6 +438,15 @@ module _ (inner : Class → Reader Tree) (cover : Reader Cover) (n : ℕ) (below
     prefixed_shallow op s e f =
         let (i, h, g) = fine_taken m s.at (kind_at s.at) refl e f in
         answers_then _ _ (inner unary (moved s)) _ (below unary i (moved s) (omega arith) g) (λ x t k. fine_more i m t.at.left (omega arith) k)
+
+    await_shallow : (s : State) → awaits s.code.flags s.at ≡ true → Fine m s.at.left → Answers (Kept m) Shallow (await_expr inner cover s)
+    unfolding await_expr
+    await_shallow s e f = await_either (Answers (Kept m) Shallow) _ s e (λ _. operand_shallow s refl) (λ _. operand_shallow (noted (await_fault s) s) refl)
+      where
+        operand_shallow : (t : State) → t.at ≡ s.at → Answers (Kept m) Shallow (and_then (inner unary (moved t)) (λ x u. Ok (tree.await (record { lo = (span_at s.at).lo; hi = u.at.last.hi }) x, u)))
+        operand_shallow t o =
+            let (i, h, g) = fine_taken m t.at kind.Await (ap kind_at o ∙ await_stands s.code.flags s.at e) (λ z. cc) (rw o f) in
+            answers_then _ _ (inner unary (moved t)) _ (below unary i (moved t) (omega arith) g) (λ x u k. fine_more i m u.at.left (omega arith) k)
 
     update_before_shallow : (op : UpdateOp) (s : State) → kind_at s.at ≢ kind.End → Fine m s.at.left → Answers (Kept m) Shallow (update_before inner cover op s)
     unfolding update_before
@@ -505,22 +552,22 @@ module _ (inner : Class → Reader Tree) (cover : Reader Cover) (n : ℕ) (below
         (λ _. answers_if _ _ (begins_expression s.code.flags (after s.at)) _ _
         (λ _. kept_more i m (yielded inner false (span_at s.at) (moved s)) (omega arith) (yielded_shallow i (omega arith) false (span_at s.at) (moved s) g)) (λ _. k)))
 
-    open_literal_shallow : (s : State) → (sees kind.LBracket s.at || sees kind.LBrace s.at) ≡ true → Fine m s.at.left → Answers (Kept m) Shallow (open_literal inner cover s)
-    unfolding open_literal
-    open_literal_shallow s h f = answers_then _ _ (cond (sees kind.LBracket s.at) (array inner cover s) (object inner cover s)) _
-        (answers_if _ _ (sees kind.LBracket s.at) _ _ (λ e. array_shallow s (saw s.at kind.LBracket e) f)
-        (λ e. object_shallow s (saw s.at kind.LBrace (other_test (sees kind.LBracket s.at) (sees kind.LBrace s.at) h e)) f))
-        (λ v t g. behind_literal_shallow (span_at s.at) v t g)
-
     -- what a function may begin
-    module _ (function : Reader Tree) (below_function : (m : ℕ) (s : State) → 2 * m ≤ suc n → begins_function s.at ≡ true → Fine m s.at.left → Answers (Kept m) Shallow (function s)) where
+    module _ (function : FunctionForm → Reader Tree) (below_function : FunctionsShallow n function) where
+      open_literal_shallow : (s : State) → (sees kind.LBracket s.at || sees kind.LBrace s.at) ≡ true → Fine m s.at.left → Answers (Kept m) Shallow (open_literal inner cover function s)
+      unfolding open_literal
+      open_literal_shallow s h f = answers_then _ _ (cond (sees kind.LBracket s.at) (array inner cover s) (object inner cover function s)) _
+          (answers_if _ _ (sees kind.LBracket s.at) _ _ (λ e. array_shallow s (saw s.at kind.LBracket e) f)
+          (λ e. object_shallow function below_function s (saw s.at kind.LBrace (other_test (sees kind.LBracket s.at) (sees kind.LBrace s.at) h e)) f))
+          (λ v t g. behind_literal_shallow (span_at s.at) v t g)
+
       marked_shallow : (s : State) → Fine m s.at.left → Answers (Kept m) Shallow (marked_primary inner cover function s)
       unfolding marked_primary
       marked_shallow s f = answers_if _ _ (sees kind.LParen s.at) _ _ (λ e. paren_shallow s (saw s.at kind.LParen e) f)
           (λ _. answers_if _ _ (sees kind.LBracket s.at) _ _ (λ e. answers_then _ _ (array inner cover s) _ (array_shallow s (saw s.at kind.LBracket e) f) (λ v t g. close_shallow m t g v))
-          (λ _. answers_if _ _ (sees kind.LBrace s.at) _ _ (λ e. answers_then _ _ (object inner cover s) _ (object_shallow s (saw s.at kind.LBrace e) f) (λ v t g. close_shallow m t g v))
+          (λ _. answers_if _ _ (sees kind.LBrace s.at) _ _ (λ e. answers_then _ _ (object inner cover function s) _ (object_shallow function below_function s (saw s.at kind.LBrace e) f) (λ v t g. close_shallow m t g v))
           (λ _. answers_if _ _ (sees kind.This s.at) _ _ (λ _. this_shallow m s f)
-          (λ _. answers_if _ _ (sees kind.Function s.at) _ _ (λ e. below_function m s enough (function_begins s.at (saw s.at kind.Function e)) f) (λ _. unexpected_shallow m s f _)))))
+          (λ _. answers_if _ _ (sees kind.Function s.at) _ _ (λ e. below_function.expressions m s enough (function_begins s.at (saw s.at kind.Function e)) f) (λ _. unexpected_shallow m s f _)))))
 
       literal_or_shallow : (o : Option Tree) (s : State) → Fine m s.at.left → Answers (Kept m) Shallow (literal_or inner cover function o s)
       literal_or_shallow (Some x) s f = f
@@ -528,7 +575,7 @@ module _ (inner : Class → Reader Tree) (cover : Reader Cover) (n : ℕ) (below
 
       named_shallow : (s : State) → Fine m s.at.left → Answers (Kept m) Shallow (named_expr inner cover function s)
       unfolding named_expr
-      named_shallow s f = answers_if _ _ (is_async_function s.at) _ _ (λ e. below_function m s enough (async_begins s.at e) f) (λ _. ident_shallow m s f)
+      named_shallow s f = answers_if _ _ (is_async_function s.at) _ _ (λ e. below_function.expressions m s enough (async_begins s.at e) f) (λ _. ident_shallow m s f)
 
       primary_shallow : (s : State) → Fine m s.at.left → Answers (Kept m) Shallow (primary inner cover function s)
       unfolding primary
@@ -558,7 +605,7 @@ module _ (inner : Class → Reader Tree) (cover : Reader Cover) (n : ℕ) (below
 
       unary_by_shallow : (o : Option UnaryOp) (s : State) → unary_operator (kind_at s.at) ≡ o → Fine m s.at.left → Answers (Kept m) Shallow (unary_by inner cover function o s)
       unary_by_shallow (Some op) s e f = prefixed_shallow op s (no_end_by unary_operator (kind_at s.at) op refl e) f
-      unary_by_shallow None s e f = updated_shallow (update_operator (kind_at s.at)) s refl f
+      unary_by_shallow None s e f = answers_if _ _ (awaits s.code.flags s.at) _ _ (λ a. await_shallow s a f) (λ _. updated_shallow (update_operator (kind_at s.at)) s refl f)
 
       unary_shallow : (s : State) → Fine m s.at.left → Answers (Kept m) Shallow (unary_expr inner cover function s)
       unfolding unary_expr

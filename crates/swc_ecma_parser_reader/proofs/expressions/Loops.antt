@@ -140,38 +140,38 @@ module _ (n : ℕ) (found : Covers) (s : State) where
 
 -- ---- properties: `}` ends them; behind each it stands, or a comma
 
-module _ (n : ℕ) (s : State) (v : Cover) (t : State) (found_property : property (expr n) (cover n) s ≡ Ok (v, t)) where
+module _ (n : ℕ) (s : State) (v : Cover) (t : State) (found_property : property (expr n) (cover n) (function n) s ≡ Ok (v, t)) where
   pub property_shorter : length t.at.left < length s.at.left
-  property_shorter = shorter_by (length s.at.left) (property (expr n) (cover n) s) v t found_property (property_falls (expr n) (cover n) (expr_falls n) (cover_falls n) s)
+  property_shorter = shorter_by (length s.at.left) (property (expr n) (cover n) (function n) s) v t found_property (property_falls (expr n) (cover n) (expr_falls n) (cover_falls n) (function n) (functions_fall n) s)
 
   -- a property and the comma behind it
   pub properties_shorter : (u : State) → expect kind.Comma t ≡ Ok (tt, u) → length u.at.left < length s.at.left
   properties_shorter u e = kept_by (length s.at.left) (length t.at.left) (expect kind.Comma t) tt u e (expect_falls kind.Comma t) property_shorter
 
 module _ (n : ℕ) (found : Covers) (s : State) where
-  pub properties_done : sees kind.RBrace s.at ≡ true → loop (object_turn (expr n) (cover n)) found s ≡ Ok (found, moved s)
+  pub properties_done : sees kind.RBrace s.at ≡ true → loop (object_turn (expr n) (cover n) (function n)) found s ≡ Ok (found, moved s)
   unfolding object_turn
-  properties_done e = loop_done (object_turn (expr n) (cover n)) found found s (moved s) (rw e refl)
+  properties_done e = loop_done (object_turn (expr n) (cover n) (function n)) found found s (moved s) (rw e refl)
 
-  pub properties_err : (e : Fault × State) → sees kind.RBrace s.at ≡ false → property (expr n) (cover n) s ≡ Err e → loop (object_turn (expr n) (cover n)) found s ≡ Err e
+  pub properties_err : (e : Fault × State) → sees kind.RBrace s.at ≡ false → property (expr n) (cover n) (function n) s ≡ Err e → loop (object_turn (expr n) (cover n) (function n)) found s ≡ Err e
   unfolding object_turn
-  properties_err e h g = loop_err (object_turn (expr n) (cover n)) found s e (rw (h, g) refl)
+  properties_err e h g = loop_err (object_turn (expr n) (cover n) (function n)) found s e (rw (h, g) refl)
 
-  pub properties_last : (v : Cover) (t : State) → sees kind.RBrace s.at ≡ false → property (expr n) (cover n) s ≡ Ok (v, t) → sees kind.RBrace t.at ≡ true
-      → loop (object_turn (expr n) (cover n)) found s ≡ loop (object_turn (expr n) (cover n)) (with_cover found v) t
+  pub properties_last : (v : Cover) (t : State) → sees kind.RBrace s.at ≡ false → property (expr n) (cover n) (function n) s ≡ Ok (v, t) → sees kind.RBrace t.at ≡ true
+      → loop (object_turn (expr n) (cover n) (function n)) found s ≡ loop (object_turn (expr n) (cover n) (function n)) (with_cover found v) t
   unfolding object_turn
-  properties_last v t h g e = loop_more (object_turn (expr n) (cover n)) found (with_cover found v) s t (rw (h, g, e) refl) (property_shorter n s v t g)
+  properties_last v t h g e = loop_more (object_turn (expr n) (cover n) (function n)) found (with_cover found v) s t (rw (h, g, e) refl) (property_shorter n s v t g)
 
-  pub properties_more : (v : Cover) (t u : State) → sees kind.RBrace s.at ≡ false → property (expr n) (cover n) s ≡ Ok (v, t) → sees kind.RBrace t.at ≡ false → expect kind.Comma t ≡ Ok (tt, u)
-      → loop (object_turn (expr n) (cover n)) found s ≡ loop (object_turn (expr n) (cover n)) (with_comma (sees kind.DotDotDot s.at) (with_cover found v)) u
+  pub properties_more : (v : Cover) (t u : State) → sees kind.RBrace s.at ≡ false → property (expr n) (cover n) (function n) s ≡ Ok (v, t) → sees kind.RBrace t.at ≡ false → expect kind.Comma t ≡ Ok (tt, u)
+      → loop (object_turn (expr n) (cover n) (function n)) found s ≡ loop (object_turn (expr n) (cover n) (function n)) (with_comma (sees kind.DotDotDot s.at) (with_cover found v)) u
   unfolding object_turn
   properties_more v t u h g e k =
-      loop_more (object_turn (expr n) (cover n)) found (with_comma (sees kind.DotDotDot s.at) (with_cover found v)) s u (rw (h, g, e, k) refl) (properties_shorter n s v t g u k)
+      loop_more (object_turn (expr n) (cover n) (function n)) found (with_comma (sees kind.DotDotDot s.at) (with_cover found v)) s u (rw (h, g, e, k) refl) (properties_shorter n s v t g u k)
 
-  pub properties_comma_err : (v : Cover) (t : State) (e : Fault × State) → sees kind.RBrace s.at ≡ false → property (expr n) (cover n) s ≡ Ok (v, t) → sees kind.RBrace t.at ≡ false
-      → expect kind.Comma t ≡ Err e → loop (object_turn (expr n) (cover n)) found s ≡ Err e
+  pub properties_comma_err : (v : Cover) (t : State) (e : Fault × State) → sees kind.RBrace s.at ≡ false → property (expr n) (cover n) (function n) s ≡ Ok (v, t) → sees kind.RBrace t.at ≡ false
+      → expect kind.Comma t ≡ Err e → loop (object_turn (expr n) (cover n) (function n)) found s ≡ Err e
   unfolding object_turn
-  properties_comma_err v t e h g i k = loop_err (object_turn (expr n) (cover n)) found s e (rw (h, g, i, k) refl)
+  properties_comma_err v t e h g i k = loop_err (object_turn (expr n) (cover n) (function n)) found s e (rw (h, g, i, k) refl)
 
 -- ---- left-hand sides: an access, arguments where calls are read, or neither
 
@@ -257,7 +257,7 @@ unfolding expr
 expr_lowest n class s e = rw e refl
 
 pub expr_above : (n : ℕ) (class : Class) (s : State) → 0 < n → expr n class s ≡ expr_level (expr (n - 1)) (cover (n - 1)) (function (n - 1)) class s
-unfolding expr
+unfolding function expr
 expr_above n class s h = deeper (λ k. expr k class s) n h
 
 pub cover_lowest : (n : ℕ) (s : State) → n ≡ 0 → cover n s ≡ too_deep s
@@ -265,7 +265,7 @@ unfolding cover
 cover_lowest n s e = rw e refl
 
 pub cover_above : (n : ℕ) (s : State) → 0 < n → cover n s ≡ cover_expr (expr (n - 1)) (cover (n - 1)) (function (n - 1)) s
-unfolding cover
+unfolding function cover
 cover_above n s h = deeper (λ k. cover k s) n h
 
 pub head_lowest : (n : ℕ) (s : State) → n ≡ 0 → head_cover n s ≡ too_deep s
@@ -273,5 +273,5 @@ unfolding head_cover
 head_lowest n s e = rw e refl
 
 pub head_above : (n : ℕ) (s : State) → 0 < n → head_cover n s ≡ head_expr (expr (n - 1)) (cover (n - 1)) (function (n - 1)) s
-unfolding head_cover
+unfolding function head_cover
 head_above n s h = deeper (λ k. head_cover k s) n h

@@ -1,8 +1,7 @@
 -- The reader of expressions is sound: what it reads is in the relation of the whole language, and supported, where nothing was
 -- recorded, and its faults of the table are the walk's.
-use Rattle.swc_ecma_parser_reader.proofs.Words.{begins_function}
 use Rattle.swc_ecma_parser_grammar.specs.language.Begins.{begins_expression}
-use Rattle.std.proofs.Common.{◌≡◌, ℕ, zero, suc, inl, inr, Bool, true, false, List, [], ◌∷◌, ◌++◌, Option, Some, None, Ok, refl, sym, ◌∙◌, ap, subst, append-nil}
+use Rattle.std.proofs.Common.{◌≡◌, ℕ, suc, inl, inr, Bool, true, false, List, [], ◌∷◌, ◌++◌, Option, Some, None, Ok, refl, sym, ◌∙◌, ap, subst, append-nil}
 use Rattle.std.specs.Prelude.{not, ◌&&◌, ◌||◌, is_some, codes}
 use Rattle.swc_ecma_parser_common.specs.declared.span.Span.{Span}
 use Rattle.swc_ecma_parser_error.specs.Kind as faults
@@ -31,10 +30,11 @@ use Rattle.swc_ecma_parser_grammar.specs.Walk.{walk, env_of}
 use Rattle.swc_ecma_parser_grammar.proofs.Tests.{or_none, and_both, and_yes}
 use Rattle.swc_ecma_parser_reader.specs.Notes.{◌⊕◌, notes_of, all_notes_of}
 use Rattle.swc_ecma_parser_reader.specs.State.{State, Reader, and_then, moved, expect, loop}
+use Rattle.swc_ecma_parser_reader.specs.Methods.{FunctionForm}
 use Rattle.swc_ecma_parser_reader.specs.Expressions.{Cover, done, unmarked, close, target, goes_on, begins_async_call, is_head, heads_arrow, unassigned, unheaded, inside, binary_expr, conditional, assigned_to, assigned, assigned_or, behind_operators, operators_expr, continued, closed, assigned_pattern, behind_literal, open_literal, done_expr, cover_expr, assignment_expr, sequence_turn, sequence_from, expression_expr, expr_level, is_literal, plain_expr}
 use Rattle.swc_ecma_parser_reader.specs.Yields.{begins_yield, bare_yield, yielded, behind_yield, yield_expr}
 use Rattle.swc_ecma_parser_reader.proofs.Notes.{notes_nil}
-use Rattle.swc_ecma_parser_reader.proofs.Meets.{Meets, Refuses, meets_then, meets_if, wanted_meets, too_deep_meets, Turned, loop_answers, saw}
+use Rattle.swc_ecma_parser_reader.proofs.Meets.{Meets, Refuses, meets_then, meets_if, wanted_meets, Turned, loop_answers, saw}
 use Rattle.swc_ecma_parser_reader.proofs.Errors.{is_error}
 use Rattle.swc_ecma_parser_reader.proofs.Between.{SoundTree, Sound, same, sound_as, sound_after, sound_moved}
 use Rattle.swc_ecma_parser_reader.proofs.expressions.SoundSteps.{paired, stepped, moved_back, reject_meets, other, clash, elsewhere, expect_sound, walks_push, notes_push, supported_push}
@@ -42,7 +42,7 @@ use Rattle.swc_ecma_parser_reader.proofs.expressions.Targets.{pattern_alike, lit
 use Rattle.swc_ecma_parser_reader.proofs.expressions.Covers.{meets_each, met, begins_literal, literal_kind, close_is, close_reads, target_is, opened, opened_literal, operators_literal}
 use Rattle.swc_ecma_parser_reader.proofs.expressions.Stays.{Stays, continued_stays}
 use Rattle.swc_ecma_parser_reader.proofs.expressions.SoundCovers.{SoundCover, SoundLiteral, inside_sound, array_sound, object_sound}
-use Rattle.swc_ecma_parser_reader.proofs.expressions.SoundLefts.{FunctionRead, callee_sound, left_side_sound}
+use Rattle.swc_ecma_parser_reader.proofs.expressions.SoundLefts.{FunctionsSound, callee_sound, left_side_sound}
 use Rattle.swc_ecma_parser_reader.proofs.expressions.SoundOperators.{Binary, simple_binary, binary_sound, unary_sound, operator_sound}
 use Rattle.swc_ecma_parser_reader.proofs.expressions.SoundTargets.{assignment_first, literal_stays, literal_stops, settled_read, open_read}
 
@@ -120,7 +120,7 @@ parts_rule In k x (y ∷ z ∷ zs) c d h e = sequence_rule y z zs h e
 
 module _ (n : ℕ) (inner : Class → Reader Tree) (cover : Reader Cover) (sound : (class : Class) (s : State) → Meets (λ x t. SoundTree (ReadsClass n class) s x t) (inner class s))
     (covers : (s : State) → Meets (λ v t. SoundCover n s v t) (cover s))
-    (function : Reader Tree) (functions : (s : State) → begins_function s.at ≡ true → Meets (λ x t. SoundTree (FunctionRead n) s x t) (function s)) where
+    (function : FunctionForm → Reader Tree) (functions : FunctionsSound n function) where
   -- ---- AssignmentExpression
 
   abbrev Assignment : Code → Tree → Place → Place → Type 0
@@ -211,9 +211,9 @@ module _ (n : ℕ) (inner : Class → Reader Tree) (cover : Reader Cover) (sound
 
     -- ---- what may still become a pattern
 
-    opened_sound : begins_literal s.at ≡ true → Meets (SoundLiteral n s) (opened inner cover s)
+    opened_sound : begins_literal s.at ≡ true → Meets (SoundLiteral n s) (opened inner cover function s)
     opened_sound h = meets_if _ (sees kind.LBracket s.at) _ _ (λ e. array_sound n inner cover sound covers s (saw s.at kind.LBracket e))
-        (λ e. object_sound n inner cover sound covers s (saw s.at kind.LBrace (other (sees kind.LBracket s.at) (sees kind.LBrace s.at) h e)))
+        (λ e. object_sound n inner cover sound covers function functions.methods s (saw s.at kind.LBrace (other (sees kind.LBracket s.at) (sees kind.LBrace s.at) h e)))
 
     no_await : begins_literal s.at ≡ true → sees kind.Await s.at ≡ false
     unfolding same_kind
@@ -246,30 +246,30 @@ module _ (n : ℕ) (inner : Class → Reader Tree) (cover : Reader Cover) (sound
         clash (goes_on t) g (ap goes_on (sym (stays h)) ∙ literal_stops s.code y s.at u h p.code (literal_stays y s.at u.at h r.0))
     moved_literal y u t p stays g r false h = refl
 
-    continued_sound : (v : Cover) (t : State) → begins_literal s.at ≡ true → opened inner cover s ≡ Ok (v, t) → v.mark ≡ None → goes_on t ≡ true
+    continued_sound : (v : Cover) (t : State) → begins_literal s.at ≡ true → opened inner cover function s ≡ Ok (v, t) → v.mark ≡ None → goes_on t ≡ true
         → Meets SoundNext (and_then (continued inner cover (span_at s.at) v.x t) (λ y u. Ok (done y, u)))
     continued_sound v t h r o g = meets_then _ (continued inner cover (span_at s.at) v.x t) _ (meets_each (λ y u. SoundNext (done y) u) (continued inner cover (span_at s.at) v.x t) (λ y u e.
         let p : SoundAssignment y u = met SoundAssignment (operators_expr inner cover function s) y u operators_sound (operators_literal inner cover function s h ∙ rw (r, close_reads v t o) e) in
         let stays : is_literal y ≡ true → u ≡ t = met (Stays inner cover t) (continued inner cover (span_at s.at) v.x t) y u (continued_stays inner cover t (span_at s.at) v.x) e in
         sound_as s u refl refl refl (λ a. settled_read n s.code y s.at u.at (moved_literal y u t p stays g a (is_literal y) refl) a) p)) (λ y u p. p)
 
-    closed_sound : (v : Cover) (t : State) → begins_literal s.at ≡ true → opened inner cover s ≡ Ok (v, t) → goes_on t ≡ true → Meets SoundNext (closed inner cover (span_at s.at) v t)
+    closed_sound : (v : Cover) (t : State) → begins_literal s.at ≡ true → opened inner cover function s ≡ Ok (v, t) → goes_on t ≡ true → Meets SoundNext (closed inner cover (span_at s.at) v t)
     unfolding closed
     closed_sound v t h r g = meets_then _ (close v t) _ (meets_each (λ x u. (v.mark ≡ None) × (v.x ≡ x) × (t ≡ u)) (close v t) (λ x u e. close_is v t x u e))
         (λ x u (o, i, j). subst (λ z. Meets SoundNext (and_then (continued inner cover (span_at s.at) z u) (λ y m. Ok (done y, m)))) i
         (subst (λ z. Meets SoundNext (and_then (continued inner cover (span_at s.at) v.x z) (λ y m. Ok (done y, m)))) j (continued_sound v t h r o g)))
 
-    behind_literal_sound : (v : Cover) (t : State) → begins_literal s.at ≡ true → opened inner cover s ≡ Ok (v, t) → SoundLiteral n s v t → Meets SoundNext (behind_literal inner cover (span_at s.at) v t)
+    behind_literal_sound : (v : Cover) (t : State) → begins_literal s.at ≡ true → opened inner cover function s ≡ Ok (v, t) → SoundLiteral n s v t → Meets SoundNext (behind_literal inner cover (span_at s.at) v t)
     unfolding behind_literal
     behind_literal_sound v t h r p = meets_if _ (sees kind.Assign t.at) _ _
-        (λ e. pattern_sound v t p (saw t.at kind.Assign e) (met (λ u _. is_literal u.x ≡ true) (opened inner cover s) v t (opened_literal inner cover s) r))
+        (λ e. pattern_sound v t p (saw t.at kind.Assign e) (met (λ u _. is_literal u.x ≡ true) (opened inner cover function s) v t (opened_literal inner cover function s) r))
         (λ a. meets_if _ (goes_on t) _ _ (λ g. closed_sound v t h r g)
         (λ g. sound_as s t refl refl refl (λ q. open_read n s.code v s.at t q p.code (no_await h) a g) p))
 
-    open_sound : begins_literal s.at ≡ true → Meets SoundNext (open_literal inner cover s)
+    open_sound : begins_literal s.at ≡ true → Meets SoundNext (open_literal inner cover function s)
     unfolding open_literal
-    open_sound h = meets_then _ (opened inner cover s) _ (meets_each (λ v t. SoundLiteral n s v t × (opened inner cover s ≡ Ok (v, t))) (opened inner cover s)
-        (λ v t e. (met (SoundLiteral n s) (opened inner cover s) v t (opened_sound h) e, e))) (λ v t (p, e). behind_literal_sound v t h e p)
+    open_sound h = meets_then _ (opened inner cover function s) _ (meets_each (λ v t. SoundLiteral n s v t × (opened inner cover function s ≡ Ok (v, t))) (opened inner cover function s)
+        (λ v t e. (met (SoundLiteral n s) (opened inner cover function s) v t (opened_sound h) e, e))) (λ v t (p, e). behind_literal_sound v t h e p)
 
     unopened : (x : Tree) (t : State) → begins_literal s.at ≡ false → Assignment s.code x s.at t.at → (b : Bool) → is_literal x ≡ b → b ≡ false
     unopened x t h r true e = clash (begins_literal s.at) (assignment_first r.0 e) h

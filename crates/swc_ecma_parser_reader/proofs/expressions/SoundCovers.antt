@@ -1,5 +1,6 @@
 -- The reader of arrays and objects is sound: as expressions, and as the patterns that they may still become.
-use Rattle.std.proofs.Common.{◌≡◌, ℕ, Bool, true, false, List, [], ◌∷◌, Option, Some, None, refl, sym, ◌∙◌, ap, subst}
+use Rattle.std.proofs.Common.{◌≡◌, ℕ, Bool, true, false, codes, List, [], ◌∷◌, Option, Some, None, refl, sym, ◌∙◌, ap, subst}
+use Rattle.std.specs.Prelude.{not, ◌&&◌}
 use Rattle.swc_ecma_parser_common.specs.declared.span.BytePos.{BytePos}
 use Rattle.swc_ecma_parser_common.specs.declared.span.Span.{Span}
 use Rattle.swc_ecma_parser_error.specs.Kind as faults
@@ -9,11 +10,13 @@ use Rattle.swc_ecma_parser_token.specs.declared.token.Token.{Token}
 use Rattle.swc_ecma_parser_token.specs.declared.token.Token.TheVariants as token
 use Rattle.swc_ecma_parser_token.specs.declared.token.TokenAndSpan.{TokenAndSpan}
 use Rattle.swc_ecma_parser_input.specs.Place.{Place, after}
+use Rattle.swc_ecma_parser_model.specs.declared.leaves.MethodKind.TheVariants as kinds
 use Rattle.swc_ecma_parser_model.specs.Tree as tree
 use Rattle.swc_ecma_parser_model.specs.Tree.{Tree, Trees, none, also, Text, listed, trees}
 use Rattle.swc_ecma_parser_model.specs.Forms.{is_rest, is_pattern_target, span_of}
 use Rattle.swc_ecma_parser_model.specs.Targets.{rest_span, simple_target, as_pattern, as_elements, as_properties}
-use Rattle.swc_ecma_parser_grammar.specs.Looks.{kind_at, sees, span_at, spanned}
+use Rattle.swc_ecma_parser_grammar.specs.Looks.{kind_at, breaks_at, sees, span_at, spanned}
+use Rattle.swc_ecma_parser_grammar.specs.Follows.{word_at, Star, no_star, star as a_star, not_async, async_word}
 use Rattle.swc_ecma_parser_grammar.specs.Names.{Code, is_name, is_reserved, is_identifier, is_clean_name}
 use Rattle.swc_ecma_parser_grammar.specs.Reads.{with_in}
 use Rattle.swc_ecma_parser_grammar.specs.Supported.{supported_in, is_supported_key_in, all_supported_in}
@@ -22,21 +25,23 @@ use Rattle.swc_ecma_parser_grammar.specs.language.Goals.{Goal, Class, assignment
 use Rattle.swc_ecma_parser_grammar.specs.language.Lists.{ReadsListed, Elements, hole}
 use Rattle.swc_ecma_parser_grammar.specs.language.Parts as parts
 use Rattle.swc_ecma_parser_grammar.specs.language.Parts.{ElementRule, ReadsWord, ReadsName, KeyRule}
-use Rattle.swc_ecma_parser_grammar.specs.language.Objects.{PropertyRule, spread_rule, shorthand_rule, key_value_rule}
-use Rattle.swc_ecma_parser_grammar.specs.language.Functions.{PatternItemRule, element_rule, rest_rule}
+use Rattle.swc_ecma_parser_grammar.specs.language.Objects.{PropertyRule, spread_rule, shorthand_rule, key_value_rule, getter_rule, setter_rule, method_rule}
+use Rattle.swc_ecma_parser_grammar.specs.language.Functions.{PatternItemRule, element_rule, rest_rule, MethodHead, method_head, getter_head, setter_head}
 use Rattle.swc_ecma_parser_grammar.specs.language.LeftSides.{PrimaryRule, array_rule, object_rule, is_callee}
 use Rattle.swc_ecma_parser_grammar.specs.language.Patterns as patterns
 use Rattle.swc_ecma_parser_grammar.specs.language.Patterns.{PatternRule, PatternPropertyRule}
 use Rattle.swc_ecma_parser_grammar.specs.language.Reads.{Reads}
 use Rattle.swc_ecma_parser_grammar.specs.Walk as walks
 use Rattle.swc_ecma_parser_grammar.specs.Walk.{walk, env_of}
-use Rattle.swc_ecma_parser_grammar.proofs.Tests.{or_no, and_both}
+use Rattle.swc_ecma_parser_grammar.proofs.StatementBegins.{word_place}
+use Rattle.swc_ecma_parser_grammar.proofs.Tests.{or_no, and_yes, and_both}
 use Rattle.swc_ecma_parser_reader.specs.Notes.{notes_of, all_notes_of}
 use Rattle.swc_ecma_parser_reader.specs.State.{State, Reader, moved, coded, expect, loop}
-use Rattle.swc_ecma_parser_reader.specs.Expressions.{Cover, Covers, no_covers, with_cover, with_comma, done, literal_of, literal_in, taken, literal, any_word, word_property, token_is_word, first_is_word, is_word_at, key_or, literal_key, shorthand_name, shorthand, inside, covered, spread_item, plain_item, item, behind_item, array_turn, elements, array, computed_key, key, key_value, initialized, initialized_name, initialized_key, bare_key, behind_key, keyed_property, spread_property, property, behind_property, object_turn, properties, object, is_literal}
+use Rattle.swc_ecma_parser_reader.specs.Methods.{MethodForm, getter_form, setter_form, method_form, FunctionForm, property_form, modifies, begins_async_method, star, starred, method_words, is_bare}
+use Rattle.swc_ecma_parser_reader.specs.Expressions.{Cover, Covers, no_covers, with_cover, with_comma, done, literal_of, literal_in, taken, literal, any_word, word_property, token_is_word, first_is_word, is_word_at, key_or, literal_key, shorthand_name, shorthand, inside, covered, spread_item, plain_item, item, behind_item, array_turn, elements, array, computed_key, key, key_value, initialized, initialized_name, initialized_key, bare_key, behind_key, method, behind_words, keyed_property, spread_property, property, behind_property, object_turn, properties, object, is_literal}
 use Rattle.swc_ecma_parser_reader.proofs.Meets.{Meets, Refuses, meets_then, meets_if, wanted_meets, Turned, loop_answers, saw}
 use Rattle.swc_ecma_parser_reader.proofs.Errors.{kind_here}
-use Rattle.swc_ecma_parser_reader.proofs.Between.{SoundTree, Sound, same, sound_moved, sound_here, sound_as, sound_after, within_sound}
+use Rattle.swc_ecma_parser_reader.proofs.Between.{SoundTree, SoundStep, Sound, same, sound_then, sound_moved, sound_here, sound_as, sound_after, within_sound}
 use Rattle.swc_ecma_parser_reader.proofs.expressions.Targets.{some_array, some_object, some_key_value, some_before, some_alone, some_rest, simple_is, simple_as, leaf_no_pattern, pattern_no_rest}
 use Rattle.swc_ecma_parser_reader.proofs.expressions.SoundSteps.{paired, stepped, moved_back, meets_as, reject_meets, clash, Takes, expect_sound, stands, any_word_sound, word_span, last_span, walks_push, notes_push}
 use Rattle.swc_ecma_parser_grammar.proofs.Naming.{name_is_clean, name_is_supported}
@@ -107,6 +112,84 @@ free_name k text span c d r e = record { word = r.word; reads_word = r.reads_wor
 pub name_inside : (k : Code) (text : Text) (span : Span) (c d : Place) → ReadsName k text span c d → ReadsName (with_in k) text span c d
 unfolding is_clean_name is_identifier is_reserved
 name_inside k text span c d r = record { word = r.word; reads_word = r.reads_word; is_text = r.is_text; is_name = r.is_name }
+
+-- ---- the words before the key of a method
+
+abbrev pub Words : MethodForm → Place → Place → Type 0
+Words getter_form c d = MethodHead kinds.Getter false false c d
+Words setter_form c d = MethodHead kinds.Setter false false c d
+Words (method_form w g) c d = MethodHead kinds.Method w g c d
+
+-- the `*` of a generator
+pub star_sound : (s : State) → Meets (λ g t. SoundStep (λ k. Star g) s t) (star s)
+unfolding star
+star_sound s = meets_if _ (sees kind.Mul s.at) _ _ (λ h. sound_moved s (saw s.at kind.Mul h) refl (a_star refl (saw s.at kind.Mul h) refl)) (λ _. sound_here s (no_star refl refl))
+
+-- a word that is no key
+modified : (text : Text) (c : Place) → modifies text c ≡ true → word_at text c ≡ true
+unfolding modifies
+modified text c h = (and_yes (word_at text c) _ h).0
+
+not_yes : (b : Bool) → not b ≡ true → b ≡ false
+not_yes true e = cc
+not_yes false e = refl
+
+async_modified : (c : Place) → begins_async_method c ≡ true → (word_at (codes "async") c ≡ true) × (breaks_at (after c) ≡ false)
+unfolding begins_async_method
+async_modified c h = let (a, b) = and_yes (modifies (codes "async") c) _ h in (modified (codes "async") c a, not_yes (breaks_at (after c)) b)
+
+pub method_words_sound : (s : State) → Meets (λ form t. SoundStep (λ k. Words form) s t) (method_words s)
+unfolding method_words starred
+method_words_sound s = meets_if _ (modifies (codes "get") s.at) _ _
+    (λ h. let w = modified (codes "get") s.at h in sound_moved s (word_place (codes "get") s.at w) refl (getter_head refl refl refl w refl))
+    (λ _. meets_if _ (modifies (codes "set") s.at) _ _
+    (λ h. let w = modified (codes "set") s.at h in sound_moved s (word_place (codes "set") s.at w) refl (setter_head refl refl refl w refl))
+    (λ _. meets_if _ (begins_async_method s.at) _ _
+    (λ h. let (w, l) = async_modified s.at h in
+    meets_then _ (star (moved s)) _ (star_sound (moved s)) (λ g t p.
+    sound_after s t (word_place (codes "async") s.at w) refl refl refl (λ r. method_head (after s.at) refl (async_word refl w refl l) r) p))
+    (λ _. meets_then _ (star s) _ (star_sound s) (λ g t p. sound_as s t refl refl refl (λ r. method_head s.at refl (not_async refl refl) r) p))))
+
+-- of a plain method there are none
+nothing_taken : (c d : Place) → MethodHead kinds.Method false false c d → d ≡ c
+nothing_taken c d (method_head m e (not_async a i) (no_star b j)) = j ∙ i
+nothing_taken c d (method_head m e (not_async a i) (a_star b h j)) = cc
+nothing_taken c d (method_head m e (async_word a w i l) r) = cc
+nothing_taken c d (getter_head e a b w i) = cc
+nothing_taken c d (setter_head e a b w i) = cc
+
+bare_words : (form : MethodForm) → is_bare form ≡ true → (c d : Place) → Words form c d → d ≡ c
+bare_words getter_form h c d r = cc
+bare_words setter_form h c d r = cc
+bare_words (method_form true g) h c d r = cc
+bare_words (method_form false true) h c d r = cc
+bare_words (method_form false false) h c d r = nothing_taken c d r
+
+-- the words and the key were read
+abbrev pub HeadRead : ℕ → MethodForm → Tree → Code → Place → Place → Type 0
+HeadRead n form key k c d = (i : Place) × Words form c i × KeyRule (Reads n) k key i d × (is_supported_key_in k.flags.module key ≡ true)
+
+abbrev pub Headed : ℕ → MethodForm → Tree → State → State → Type 0
+Headed n form key s m = Sound same (λ k l. walk (env_of k l) key) (notes_of key) (HeadRead n form key) s m
+
+-- a method is no part of a pattern
+abbrev pub MethodRead : ℕ → Code → Tree → Place → Place → Type 0
+MethodRead n k x c d = PropertyRule (Reads n) k x c d × (supported_in k.flags.module x ≡ true) × ((ys : Trees) → as_properties (also x ys) ≡ None)
+
+property_no_rest : (In : Goal → Type 0) (k : Code) (x : Tree) (c d : Place) → PropertyRule In k x c d → is_rest x ≡ false
+property_no_rest In k x c d (spread_rule y h r e) = ap is_rest e
+property_no_rest In k x c d (shorthand_rule text s r e) = ap is_rest e
+property_no_rest In k x c d (key_value_rule y value m r h v e) = ap is_rest e
+property_no_rest In k x c d (getter_rule y body r e) = ap is_rest e
+property_no_rest In k x c d (setter_rule y p body r e) = ap is_rest e
+property_no_rest In k x c d (method_rule w g y ps body r e) = ap is_rest e
+
+no_part : (in_module : Bool) (change : Trees → Option Trees) (Rule : Tree → Place → Place → Type 0) (is_spread : Bool) (x : Tree) (c d : Place) → ((ys : Trees) → change (also x ys) ≡ None)
+    → Part in_module change Rule is_spread x c d
+no_part in_module change Rule is_spread x c d h = record {
+  before_others = λ _ ys qs e. let g = sym (h ys) ∙ e in cc;
+  alone = λ qs e. let g = sym (h none) ∙ e in cc;
+}
 
 -- ---- parts of patterns
 
@@ -436,16 +519,6 @@ module _ (n : ℕ) (inner : Class → Reader Tree) (cover : Reader Cover) (sound
     behind_key_sound x m p = meets_if _ (sees kind.Colon m.at) _ _ (λ e. key_value_sound x m p (saw m.at kind.Colon e))
         (λ _. meets_if _ (sees kind.Assign m.at) _ _ (λ e. initialized_key_sound x m p (saw m.at kind.Assign e)) (λ h. bare_key_sound x m p h))
 
-  property_sound : (s : State) → Meets (SoundProperty s) (property inner cover s)
-  unfolding property spread_property keyed_property
-  property_sound s = meets_if _ (sees kind.DotDotDot s.at) _ _
-      (λ e. meets_then _ (covered inner cover (moved s)) _ (covered_sound (moved s)) (λ v t p.
-      sound_after s t (saw s.at kind.DotDotDot e) refl refl refl (λ r. record {
-        plain = λ h. let w = r.plain h in (record { rule = spread_rule v.x (saw s.at kind.DotDotDot e) w.0 refl; supports = w.1 }, refl);
-        pattern = λ h. rest_part s.code.flags.module as_properties (PartRule n s.code v) (sees kind.DotDotDot s.at) _ s.at t.at e (property_rest n s.code v s.at t.at (saw s.at kind.DotDotDot e) r h);
-      }) p))
-      (λ _. meets_then _ (key inner cover s) _ (key_sound s) (λ x m p. behind_key_sound s x m p))
-
   abbrev pub Props : Code → List Tree → Place → Place → Type 0
   Props k = ReadsListed true (PropertyRule (Reads n) k)
 
@@ -463,49 +536,82 @@ module _ (n : ℕ) (inner : Class → Reader Tree) (cover : Reader Cover) (sound
   abbrev SoundProperties : State → Covers → State → Type 0
   SoundProperties s found t = Sound same (λ k l. walks.walks (env_of k l) false (trees found.xs)) (all_notes_of (trees found.xs)) (ClosedProperties found) s t
 
-  object_turn_sound : (s : State) (found : Covers) (t : State) → PropertiesSoFar s found t
-      → Meets (Turned (object_turn inner cover) (PropertiesSoFar s) (SoundProperties s) Refuses) (object_turn inner cover found t)
-  unfolding object_turn
-  object_turn_sound s found t p = meets_if _ (sees kind.RBrace t.at) _ _
-      (λ e. sound_as s (moved t) refl refl refl (λ (a, b). (
-        t.at,
-        all_read s.code.flags.module (PropertyRule (Reads n) s.code) (PatternPropertyRule (Reads n) assigning (with_in s.code)) as_properties no_properties_left
-            (Props s.code) (Targets s.code) kind.RBrace (properties_list _) (properties_list _) s.at t.at found a,
-        b.0,
-        b.1,
-      ))
-      (stepped p (sound_moved {P = λ k. Takes kind.RBrace} t (saw t.at kind.RBrace e) refl (saw t.at kind.RBrace e, refl))))
-      (λ e. meets_then _ (property inner cover t) _ (property_sound t) (λ v m q. next e v m q))
-    where
-      next : sees kind.RBrace t.at ≡ false → (v : Cover) (m : State) → SoundProperty t v m
-          → Meets (Turned (object_turn inner cover) (PropertiesSoFar s) (SoundProperties s) Refuses) (behind_property inner cover (sees kind.DotDotDot t.at) (with_cover found v) m)
-      next e v m q = meets_if _ (sees kind.RBrace m.at) _ _
-          (λ h. sound_as s m refl (walks_push (env_of s.code s.scope.labels) found.xs v.x) (notes_push found.xs v.x)
-          (λ (a, b). push_last s.code.flags.module (PropertyRule (Reads n) s.code) (PatternPropertyRule (Reads n) assigning (with_in s.code)) as_properties no_properties_left (Props s.code) (Targets s.code) kind.RBrace
-          (properties_list _) (properties_list _) s.at t.at m.at found v (sees kind.DotDotDot t.at) a e b (saw m.at kind.RBrace h)) (paired p q))
-          (λ _. meets_then _ (expect kind.Comma m) _ (expect_sound kind.Comma m refl) (λ _ u r.
-          sound_as s u refl (walks_push (env_of s.code s.scope.labels) found.xs v.x) (notes_push found.xs v.x)
-          (λ ((a, b), o). subst (SoFar s.code.flags.module (Props s.code) as_properties (Targets s.code) kind.RBrace (with_comma (sees kind.DotDotDot t.at) (with_cover found v)) s.at) (sym o.1)
-          (push_next s.code.flags.module (PropertyRule (Reads n) s.code) (PatternPropertyRule (Reads n) assigning (with_in s.code)) as_properties no_properties_left (Props s.code) (Targets s.code) kind.RBrace
-          (properties_list _) (properties_list _) s.at t.at m.at found v (sees kind.DotDotDot t.at) a e b o.0)) (stepped (paired p q) r)))
+  module _ (function : FunctionForm → Reader Tree)
+      (methods : (form : MethodForm) (key : Tree) (s m : State) → Headed n form key s m → Meets (λ x t. SoundTree (MethodRead n) s x t) (function (property_form form (span_at s.at) key) m)) where
+    -- what the words and the key make a method
+    method_sound : (form : MethodForm) (x : Tree) (s m : State) → Headed n form x s m → Meets (SoundProperty s) (method inner cover function form (span_at s.at) x m)
+    unfolding method
+    method_sound form x s m p = meets_then _ (function (property_form form (span_at s.at) x) m) _ (methods form x s m p) (λ y t q. sound_as s t refl refl refl (λ (r, h, g). record {
+      plain = λ _. (record { rule = r; supports = h }, property_no_rest (Reads n) s.code y s.at t.at r);
+      pattern = λ _. no_part s.code.flags.module as_properties (PatternPropertyRule (Reads n) assigning (with_in s.code)) (sees kind.DotDotDot s.at) y s.at t.at g;
+    }) q)
 
-  -- all of them, from `{` on
-  properties_sound : (s : State) → kind_at s.at ≡ kind.LBrace
-      → Meets (λ found t. Sound same (λ k l. walk (env_of k l) (listed found.xs)) (notes_of (listed found.xs)) (λ k c d. ClosedProperties found k (after c) d) s t) (properties inner cover s)
-  unfolding properties
-  properties_sound s e = meets_as (loop (object_turn inner cover) no_covers (moved s))
-      (loop_answers (object_turn inner cover) (PropertiesSoFar (moved s)) (SoundProperties (moved s)) Refuses (object_turn_sound (moved s)) (λ t. tt) no_covers (moved s)
-      (sound_here (moved s) (nothing_yet _ _ _ as_properties kind.RBrace (after s.at))))
-      (λ found t p. sound_after s t e refl refl refl (λ r. r) p)
+    behind_words_sound : (form : MethodForm) (x : Tree) (s m : State) → Headed n form x s m → Meets (SoundProperty s) (behind_words inner cover function form (span_at s.at) x m)
+    unfolding behind_words
+    behind_words_sound form x s m p = meets_if _ (is_bare form && not (sees kind.LParen m.at)) _ _
+        (λ h. behind_key_sound s x m (sound_as s m refl refl refl
+        (λ (i, w, r, g). (subst (λ c. KeyRule (Reads n) s.code x c m.at) (bare_words form (and_yes (is_bare form) _ h).0 s.at i w) r, g)) p))
+        (λ _. method_sound form x s m p)
 
-  pub object_sound : (s : State) → kind_at s.at ≡ kind.LBrace → Meets (SoundLiteral n s) (object inner cover s)
-  unfolding object spanned
-  object_sound s e = meets_then _ (properties inner cover s) _ (properties_sound s e) (λ found t p. sound_as s t refl refl refl (λ (m, r, h, g). record {
-    plain = λ i. let w = r.plain i in (object_rule found.xs m e w.0 h g refl, w.1);
-    pattern = λ i q j. let (ps, a, b) = some_object (spanned s.at t.at) (as_properties (trees found.xs)) q j in let w = r.pattern i ps a in
-        (patterns.object_rule w.patterns m e w.reads h g (b ∙ ap (λ z. tree.object_pat (spanned s.at t.at) (tree.list z)) w.are), ap (supported_in s.code.flags.module) b ∙ w.supports);
-    no_default = refl;
-    literal = refl;
-    called = refl;
-    ends = refl;
-  }) p)
+    keyed_sound : (s : State) → Meets (SoundProperty s) (keyed_property inner cover function s)
+    unfolding keyed_property
+    keyed_sound s = meets_then _ (method_words s) _ (method_words_sound s) (λ form i p.
+        meets_then _ (key inner cover i) _ (key_sound i) (λ x m q.
+        behind_words_sound form x s m (sound_as s m refl refl refl (λ (j, w, (r, g)). (j, w, r, g)) (sound_then p q))))
+
+    property_sound : (s : State) → Meets (SoundProperty s) (property inner cover function s)
+    unfolding property spread_property
+    property_sound s = meets_if _ (sees kind.DotDotDot s.at) _ _
+        (λ e. meets_then _ (covered inner cover (moved s)) _ (covered_sound (moved s)) (λ v t p.
+        sound_after s t (saw s.at kind.DotDotDot e) refl refl refl (λ r. record {
+          plain = λ h. let w = r.plain h in (record { rule = spread_rule v.x (saw s.at kind.DotDotDot e) w.0 refl; supports = w.1 }, refl);
+          pattern = λ h. rest_part s.code.flags.module as_properties (PartRule n s.code v) (sees kind.DotDotDot s.at) _ s.at t.at e (property_rest n s.code v s.at t.at (saw s.at kind.DotDotDot e) r h);
+        }) p))
+        (λ _. keyed_sound s)
+
+    object_turn_sound : (s : State) (found : Covers) (t : State) → PropertiesSoFar s found t
+        → Meets (Turned (object_turn inner cover function) (PropertiesSoFar s) (SoundProperties s) Refuses) (object_turn inner cover function found t)
+    unfolding object_turn
+    object_turn_sound s found t p = meets_if _ (sees kind.RBrace t.at) _ _
+        (λ e. sound_as s (moved t) refl refl refl (λ (a, b). (
+          t.at,
+          all_read s.code.flags.module (PropertyRule (Reads n) s.code) (PatternPropertyRule (Reads n) assigning (with_in s.code)) as_properties no_properties_left
+              (Props s.code) (Targets s.code) kind.RBrace (properties_list _) (properties_list _) s.at t.at found a,
+          b.0,
+          b.1,
+        ))
+        (stepped p (sound_moved {P = λ k. Takes kind.RBrace} t (saw t.at kind.RBrace e) refl (saw t.at kind.RBrace e, refl))))
+        (λ e. meets_then _ (property inner cover function t) _ (property_sound t) (λ v m q. next e v m q))
+      where
+        next : sees kind.RBrace t.at ≡ false → (v : Cover) (m : State) → SoundProperty t v m
+            → Meets (Turned (object_turn inner cover function) (PropertiesSoFar s) (SoundProperties s) Refuses) (behind_property inner cover (sees kind.DotDotDot t.at) (with_cover found v) m)
+        next e v m q = meets_if _ (sees kind.RBrace m.at) _ _
+            (λ h. sound_as s m refl (walks_push (env_of s.code s.scope.labels) found.xs v.x) (notes_push found.xs v.x)
+            (λ (a, b). push_last s.code.flags.module (PropertyRule (Reads n) s.code) (PatternPropertyRule (Reads n) assigning (with_in s.code)) as_properties no_properties_left (Props s.code) (Targets s.code) kind.RBrace
+            (properties_list _) (properties_list _) s.at t.at m.at found v (sees kind.DotDotDot t.at) a e b (saw m.at kind.RBrace h)) (paired p q))
+            (λ _. meets_then _ (expect kind.Comma m) _ (expect_sound kind.Comma m refl) (λ _ u r.
+            sound_as s u refl (walks_push (env_of s.code s.scope.labels) found.xs v.x) (notes_push found.xs v.x)
+            (λ ((a, b), o). subst (SoFar s.code.flags.module (Props s.code) as_properties (Targets s.code) kind.RBrace (with_comma (sees kind.DotDotDot t.at) (with_cover found v)) s.at) (sym o.1)
+            (push_next s.code.flags.module (PropertyRule (Reads n) s.code) (PatternPropertyRule (Reads n) assigning (with_in s.code)) as_properties no_properties_left (Props s.code) (Targets s.code) kind.RBrace
+            (properties_list _) (properties_list _) s.at t.at m.at found v (sees kind.DotDotDot t.at) a e b o.0)) (stepped (paired p q) r)))
+
+    -- all of them, from `{` on
+    properties_sound : (s : State) → kind_at s.at ≡ kind.LBrace
+        → Meets (λ found t. Sound same (λ k l. walk (env_of k l) (listed found.xs)) (notes_of (listed found.xs)) (λ k c d. ClosedProperties found k (after c) d) s t) (properties inner cover function s)
+    unfolding properties
+    properties_sound s e = meets_as (loop (object_turn inner cover function) no_covers (moved s))
+        (loop_answers (object_turn inner cover function) (PropertiesSoFar (moved s)) (SoundProperties (moved s)) Refuses (object_turn_sound (moved s)) (λ t. tt) no_covers (moved s)
+        (sound_here (moved s) (nothing_yet _ _ _ as_properties kind.RBrace (after s.at))))
+        (λ found t p. sound_after s t e refl refl refl (λ r. r) p)
+
+    pub object_sound : (s : State) → kind_at s.at ≡ kind.LBrace → Meets (SoundLiteral n s) (object inner cover function s)
+    unfolding object spanned
+    object_sound s e = meets_then _ (properties inner cover function s) _ (properties_sound s e) (λ found t p. sound_as s t refl refl refl (λ (m, r, h, g). record {
+      plain = λ i. let w = r.plain i in (object_rule found.xs m e w.0 h g refl, w.1);
+      pattern = λ i q j. let (ps, a, b) = some_object (spanned s.at t.at) (as_properties (trees found.xs)) q j in let w = r.pattern i ps a in
+          (patterns.object_rule w.patterns m e w.reads h g (b ∙ ap (λ z. tree.object_pat (spanned s.at t.at) (tree.list z)) w.are), ap (supported_in s.code.flags.module) b ∙ w.supports);
+      no_default = refl;
+      literal = refl;
+      called = refl;
+      ends = refl;
+    }) p)

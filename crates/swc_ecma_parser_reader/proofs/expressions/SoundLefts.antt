@@ -36,6 +36,7 @@ use Rattle.swc_ecma_parser_grammar.specs.Walk.{walk, env_of}
 use Rattle.swc_ecma_parser_grammar.proofs.Tests.{or_no, or_none, and_yes, and_both}
 use Rattle.swc_ecma_parser_reader.specs.Notes.{notes_of, all_notes_of}
 use Rattle.swc_ecma_parser_reader.specs.State.{State, Outcome, Reader, and_then, moved, module_found, fault, fault_at, expect, name, loop}
+use Rattle.swc_ecma_parser_reader.specs.Methods.{MethodForm, FunctionForm, expression_form, property_form}
 use Rattle.swc_ecma_parser_reader.specs.Expressions.{Cover, literal_of, literal_in, taken, literal, ident_expr, this, super_property, bare_new, closed_left, unmarked, close, dotted, inside, brackets, access, spread_element, plain_element, element, behind_argument, arguments_turn, arguments, array, object, paren, marked_primary, literal_or, primary, accessed, called, left_turn, left_from, super_call, super_access, behind_super, super_head, constructed, new_head, import_call, meta_fault, import_meta, import_head, left_head, left, left_expr, any_word, word_property, named_expr}
 use Rattle.swc_ecma_parser_reader.proofs.Notes.{or_true, notes_nil}
 use Rattle.swc_ecma_parser_reader.proofs.Meets.{Meets, Refuses, meets_then, meets_if, wanted_meets, Turned, loop_answers, saw}
@@ -45,7 +46,7 @@ use Rattle.swc_ecma_parser_reader.proofs.Between.{SoundTree, SoundStep, Sound, s
 use Rattle.swc_ecma_parser_reader.proofs.expressions.CompleteKinds.{seen}
 use Rattle.swc_ecma_parser_reader.proofs.expressions.SoundSteps.{paired, stepped, moved_back, meets_as, reject_meets, other, clash, elsewhere, Takes, expect_sound, fault_sound, stands, token_first, FreeWord, name_sound, name_first, Dotted, word_dotted, private_dotted, dotted_sound, walks_push, notes_push, supported_push, any_word_sound}
 use Rattle.swc_ecma_parser_grammar.proofs.Naming.{name_is_clean, name_is_supported}
-use Rattle.swc_ecma_parser_reader.proofs.expressions.SoundCovers.{SoundCover, SoundLiteral, inside_sound, array_sound, object_sound}
+use Rattle.swc_ecma_parser_reader.proofs.expressions.SoundCovers.{SoundCover, SoundLiteral, Headed, MethodRead, inside_sound, array_sound, object_sound}
 
 -- ---- words
 
@@ -112,6 +113,11 @@ pub record Left (In : Goal → Type 0) (calls : Bool) (k : Code) (x : Tree) (c d
 abbrev pub FunctionRead : ℕ → Code → Tree → Place → Place → Type 0
 FunctionRead n k x c d = PrimaryRule (Reads n) k x c d × (supported_in k.flags.module x ≡ true) × (is_callee x ≡ true)
 
+-- the reader of functions as parts of expressions is sound: a method is read from behind its key
+pub record FunctionsSound (n : ℕ) (function : FunctionForm → Reader Tree) : Type 0 where
+  pub expressions : (s : State) → begins_function s.at ≡ true → Meets (λ x t. SoundTree (FunctionRead n) s x t) (function expression_form s)
+  pub methods : (form : MethodForm) (key : Tree) (s m : State) → Headed n form key s m → Meets (λ x t. SoundTree (MethodRead n) s x t) (function (property_form form (span_at s.at) key) m)
+
 -- nothing is taken, in code that can be a module's
 abbrev AsModule : Code → Place → Place → Type 0
 AsModule k c d = (k.flags.can_be_module ≡ true) × (d ≡ c)
@@ -150,7 +156,7 @@ free_left In calls i k c d e r = let free : is_name k.flags i.sym ≡ true = ap 
 
 module _ (n : ℕ) (inner : Class → Reader Tree) (cover : Reader Cover) (sound : (class : Class) (s : State) → Meets (λ x t. SoundTree (ReadsClass n class) s x t) (inner class s))
     (covers : (s : State) → Meets (λ v t. SoundCover n s v t) (cover s))
-    (function : Reader Tree) (functions : (s : State) → begins_function s.at ≡ true → Meets (λ x t. SoundTree (FunctionRead n) s x t) (function s)) where
+    (function : FunctionForm → Reader Tree) (functions : FunctionsSound n function) where
   -- ---- accesses
 
   abbrev SoundAccess : State → Tree → State → Type 0
@@ -312,9 +318,9 @@ module _ (n : ℕ) (inner : Class → Reader Tree) (cover : Reader Cover) (sound
     unfolding same_kind
     array_left e = literal_left (array inner cover s) (array_sound n inner cover sound covers s e) (elsewhere s.at kind.LBracket kind.Await e refl)
 
-    object_left : kind_at s.at ≡ kind.LBrace → Meets (SoundLeft calls s) (and_then (object inner cover s) close)
+    object_left : kind_at s.at ≡ kind.LBrace → Meets (SoundLeft calls s) (and_then (object inner cover function s) close)
     unfolding same_kind
-    object_left e = literal_left (object inner cover s) (object_sound n inner cover sound covers s e) (elsewhere s.at kind.LBrace kind.Await e refl)
+    object_left e = literal_left (object inner cover function s) (object_sound n inner cover sound covers function functions.methods s e) (elsewhere s.at kind.LBrace kind.Await e refl)
 
     paren_sound : kind_at s.at ≡ kind.LParen → Meets (SoundLeft calls s) (paren inner cover s)
     unfolding paren spanned same_kind
@@ -327,8 +333,8 @@ module _ (n : ℕ) (inner : Class → Reader Tree) (cover : Reader Cover) (sound
           is_called = λ _. refl;
         }) (stepped (moved_back e refl p) q)))
 
-    function_left : (e : begins_function s.at ≡ true) → Meets (SoundLeft calls s) (function s)
-    function_left e = meets_as (function s) (functions s e) (λ x t p. sound_as s t refl refl refl (λ r. record {
+    function_left : (e : begins_function s.at ≡ true) → Meets (SoundLeft calls s) (function expression_form s)
+    function_left e = meets_as (function expression_form s) (functions.expressions s e) (λ x t p. sound_as s t refl refl refl (λ r. record {
       rule = primary_rule r.0;
       supports = r.1;
       no_await = function_no_await s.at e;

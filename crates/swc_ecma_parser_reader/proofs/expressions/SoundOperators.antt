@@ -1,5 +1,4 @@
 -- The reader of unary, update and binary operators is sound.
-use Rattle.swc_ecma_parser_reader.proofs.Words.{begins_function}
 use Rattle.std.proofs.Common.{◌≡◌, ℕ, zero, suc, ◌<◌, ◌≤◌, Bool, true, false, cond, Option, Some, None, refl, sym, ◌∙◌, ap, subst, leb-true, leb-false, arith}
 use Rattle.std.specs.Prelude.{nat_le, not, ◌&&◌, ◌||◌}
 use Rattle.swc_ecma_parser_token.specs.declared.kind.TokenKind.{TokenKind}
@@ -25,14 +24,17 @@ use Rattle.swc_ecma_parser_grammar.specs.language.Patterns.{OperandRule}
 use Rattle.swc_ecma_parser_grammar.specs.language.Expressions.{UnaryRule, operand_rule, unary_rule, prefix_rule, postfix_rule, await_rule, BinaryRule, single_rule, left_rule, power_rule}
 use Rattle.swc_ecma_parser_grammar.specs.language.Reads.{Reads}
 use Rattle.swc_ecma_parser_grammar.proofs.Tests.{or_no, or_none, and_yes, and_both, and_no, no_and}
-use Rattle.swc_ecma_parser_reader.specs.State.{State, Reader, moved}
-use Rattle.swc_ecma_parser_reader.specs.Expressions.{Cover, simple, update_behind, behind_operand, postfix_at, right_class, read_operator, operator_at, left_operand, unmixed, left, prefixed, update_before, postfix, updated, unary_by, unary_expr, operated, binary_by, binary_turn, binary_from, binary_expr}
+use Rattle.swc_ecma_parser_reader.specs.State.{State, Reader, moved, noted}
+use Rattle.swc_ecma_parser_reader.specs.Methods.{FunctionForm}
+use Rattle.swc_ecma_parser_reader.specs.Expressions.{Cover, simple, update_behind, behind_operand, postfix_at, right_class, read_operator, operator_at, left_operand, unmixed, left, prefixed, update_before, await_expr, postfix, updated, unary_by, unary_expr, operated, binary_by, binary_turn, binary_from, binary_expr}
 use Rattle.swc_ecma_parser_reader.proofs.Meets.{Meets, Refuses, meets_then, meets_if, Turned, loop_answers}
 use Rattle.swc_ecma_parser_reader.proofs.Errors.{is_error}
-use Rattle.swc_ecma_parser_reader.proofs.Between.{SoundTree, sound_moved, sound_as, sound_after}
+use Rattle.swc_ecma_parser_grammar.proofs.ExpressionBegins.{await_stands}
+use Rattle.swc_ecma_parser_reader.proofs.expressions.Awaits.{await_fault, await_fault_untabled, await_either}
+use Rattle.swc_ecma_parser_reader.proofs.Between.{SoundTree, sound_moved, sound_as, sound_after, sound_noted}
 use Rattle.swc_ecma_parser_reader.proofs.expressions.SoundSteps.{paired, stepped, moved_back, meets_as, reject_meets, when_true, when_false, clash}
 use Rattle.swc_ecma_parser_reader.proofs.expressions.SoundCovers.{SoundCover}
-use Rattle.swc_ecma_parser_reader.proofs.expressions.SoundLefts.{FunctionRead, Left, left_sound}
+use Rattle.swc_ecma_parser_reader.proofs.expressions.SoundLefts.{FunctionsSound, Left, left_sound}
 
 -- ---- what is read
 
@@ -196,7 +198,7 @@ module _ (n : ℕ) (k : Code) (op : BinaryOp) (x y : Tree) (c i d : Place) (h : 
 
 module _ (n : ℕ) (inner : Class → Reader Tree) (cover : Reader Cover) (sound : (class : Class) (s : State) → Meets (λ x t. SoundTree (ReadsClass n class) s x t) (inner class s))
     (covers : (s : State) → Meets (λ v t. SoundCover n s v t) (cover s))
-    (function : Reader Tree) (functions : (s : State) → begins_function s.at ≡ true → Meets (λ x t. SoundTree (FunctionRead n) s x t) (function s)) where
+    (function : FunctionForm → Reader Tree) (functions : FunctionsSound n function) where
   -- ---- unary and update operators
 
   abbrev pub SoundUnary : State → Tree → State → Type 0
@@ -218,6 +220,18 @@ module _ (n : ℕ) (inner : Class → Reader Tree) (cover : Reader Cover) (sound
         supports = r.1;
         ends = operation_ends _ t.at refl;
       }) p))
+
+  -- a misplaced one answers no tree of the relation
+  await_sound : (s : State) → awaits s.code.flags s.at ≡ true → Meets (SoundUnary s) (await_expr inner cover s)
+  unfolding await_expr spanned
+  await_sound s e = await_either (Meets (SoundUnary s)) _ s e
+      (λ g. meets_then _ (inner unary (moved s)) _ (sound unary (moved s)) (λ x t p. sound_after s t (await_stands s.code.flags s.at e) refl refl refl (λ r. record {
+        rule = await_rule x e g r.0 refl;
+        supports = r.1;
+        ends = operation_ends _ t.at refl;
+      }) p))
+      (λ _. meets_then _ (inner unary (moved (noted (await_fault s) s))) _ (sound unary (moved (noted (await_fault s) s))) (λ x t p.
+      sound_noted {P = λ k c d. Unit {0}} s t (await_fault s) (await_fault_untabled s) (sound_after (noted (await_fault s) s) t (await_stands s.code.flags s.at e) refl refl refl (λ _. tt) p)))
 
   -- no `await` stands first
   no_awaits : (k : Code) (c : Place) → sees kind.Await c ≡ false → awaits k.flags c ≡ false
@@ -250,7 +264,7 @@ module _ (n : ℕ) (inner : Class → Reader Tree) (cover : Reader Cover) (sound
 
   unary_by_sound : (s : State) (o : Option UnaryOp) → unary_operator (kind_at s.at) ≡ o → Meets (SoundUnary s) (unary_by inner cover function o s)
   unary_by_sound s (Some op) e = prefixed_sound op s e
-  unary_by_sound s None e = updated_sound s (update_operator (kind_at s.at)) refl
+  unary_by_sound s None e = meets_if _ (awaits s.code.flags s.at) _ _ (λ a. await_sound s a) (λ _. updated_sound s (update_operator (kind_at s.at)) refl)
 
   unary_expr_sound : (s : State) → Meets (SoundUnary s) (unary_expr inner cover function s)
   unfolding unary_expr

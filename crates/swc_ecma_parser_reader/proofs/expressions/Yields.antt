@@ -18,10 +18,12 @@ use Rattle.swc_ecma_parser_input.specs.Place.{Place}
 use Rattle.swc_ecma_parser_model.specs.Tree.{Tree}
 use Rattle.swc_ecma_parser_grammar.specs.Looks.{kind_at, sees, same_kind, first_kind}
 use Rattle.swc_ecma_parser_grammar.specs.Names.{is_name, is_reserved, is_one_of, reserved_words, strict_words, token_is_name, first_is_name, name_at, token_is_identifier, first_is_identifier, identifier_at}
+use Rattle.swc_ecma_parser_reader.proofs.expressions.Awaits.{other_awaits}
 use Rattle.swc_ecma_parser_grammar.specs.language.Begins.{begins_operand, begins_unary, begins_expression}
 use Rattle.swc_ecma_parser_grammar.specs.language.Goals.{Class}
 use Rattle.swc_ecma_parser_grammar.proofs.Tests.{and_yes, and_both, and_no, or_none}
 use Rattle.swc_ecma_parser_reader.specs.State.{State, Reader}
+use Rattle.swc_ecma_parser_reader.specs.Methods.{FunctionForm}
 use Rattle.swc_ecma_parser_reader.specs.Expressions.{Cover, literal, literal_of, literal_in, marked_primary, primary, left_head, left, postfix, unary_expr, binary_expr, operators_expr}
 use Rattle.swc_ecma_parser_reader.specs.Yields.{begins_yield}
 use Rattle.swc_ecma_parser_reader.proofs.Meets.{Meets, meets_then, wanted_meets, saw}
@@ -70,7 +72,7 @@ yield_here f c g e = yield_first f c.left g e
 abbrev Nothing : Tree → State → Type 0
 Nothing x t = ⊥
 
-module _ (inner : Class → Reader Tree) (cover : Reader Cover) (function : Reader Tree) where
+module _ (inner : Class → Reader Tree) (cover : Reader Cover) (function : FunctionForm → Reader Tree) where
   module _ (s : State) (e : kind_at s.at ≡ kind.Yield) (g : s.code.flags.in_generator ≡ true) where
     primary_none : Meets Nothing (primary inner cover function s)
     unfolding primary literal marked_primary same_kind
@@ -89,8 +91,8 @@ module _ (inner : Class → Reader Tree) (cover : Reader Cover) (function : Read
     postfix_none = meets_then Nothing (left inner cover function true s) _ left_none (λ x t h. absurd h)
 
     unary_none : Meets Nothing (unary_expr inner cover function s)
-    unfolding unary_expr
-    unary_none = rw (e, e) postfix_none
+    unfolding unary_expr same_kind
+    unary_none = rw (e, other_awaits s.code.flags s.at e refl, e) postfix_none
 
     operators_none : Meets Nothing (operators_expr inner cover function s)
     unfolding operators_expr binary_expr

@@ -1,5 +1,5 @@
 -- Whatever a binding pattern is read as, or refused, the tokens that are left are the last of those that were, and no recorded fault is lost.
-use Rattle.std.proofs.Common.{◌≡◌, ℕ, zero, suc, []}
+use Rattle.std.proofs.Common.{◌≡◌, []}
 use Rattle.std.specs.Prelude.{◌||◌}
 use Rattle.swc_ecma_parser_common.specs.declared.span.Span.{Span}
 use Rattle.swc_ecma_parser_error.specs.Kind as faults
@@ -14,7 +14,7 @@ use Rattle.swc_ecma_parser_reader.specs.State.{State, Reader, moved, coded, with
 use Rattle.swc_ecma_parser_reader.specs.Expressions.{Cover, inside, key}
 use Rattle.swc_ecma_parser_reader.specs.Patterns.{binding, rest, array_turn, elements, parameters_turn, parameter_list, array, rest_name, rest_property, key_value, initialized_name, bare_name, named, bare_key, behind_key, property, object_turn, properties, object, pattern_level, initialized, element_level}
 use Rattle.swc_ecma_parser_reader.proofs.Meets.{Answers, answers_then, answers_if, saw}
-use Rattle.swc_ecma_parser_reader.proofs.Behind.{Kept, Lost, Passes, behind_after, too_deep_keeps, wanted_keeps, reject_keeps, expect_keeps, name_keeps, loop_keeps}
+use Rattle.swc_ecma_parser_reader.proofs.Behind.{Kept, Lost, Passes, behind_after, wanted_keeps, reject_keeps, expect_keeps, name_keeps, loop_keeps}
 use Rattle.swc_ecma_parser_reader.specs.Entry.{IsBehind}
 use Rattle.swc_ecma_parser_reader.proofs.expressions.Keeps.{unexpected_keeps, inside_keeps, key_keeps}
 

@@ -1,5 +1,5 @@
 -- With twice as many levels as tokens no pattern is too deep, but for what an error token says: each level below needs a token.
-use Rattle.std.proofs.Common.{◌≡◌, ℕ, zero, suc, ◌*◌, ◌≤◌, [], arith}
+use Rattle.std.proofs.Common.{◌≡◌, ℕ, suc, ◌*◌, ◌≤◌, [], arith}
 use Rattle.std.specs.Prelude.{◌||◌}
 use Rattle.swc_ecma_parser_common.specs.declared.span.Span.{Span}
 use Rattle.swc_ecma_parser_error.specs.Kind as faults
@@ -14,7 +14,7 @@ use Rattle.swc_ecma_parser_reader.specs.State.{State, Reader, moved, coded, with
 use Rattle.swc_ecma_parser_reader.specs.Expressions.{Cover, inside, key}
 use Rattle.swc_ecma_parser_reader.specs.Patterns.{binding, rest, array_turn, elements, parameters_turn, parameter_list, array, rest_name, rest_property, key_value, initialized_name, bare_name, named, bare_key, behind_key, property, object_turn, properties, object, pattern_level, initialized, element_level}
 use Rattle.swc_ecma_parser_reader.proofs.Meets.{Answers, answers_then, answers_if, loop_answers, saw}
-use Rattle.swc_ecma_parser_reader.proofs.Shallow.{Fine, fine_more, fine_after, fine_taken, Shallow, Kept, too_deep_shallow, wanted_shallow, refuse_shallow, expect_shallow, name_shallow, Levels}
+use Rattle.swc_ecma_parser_reader.proofs.Shallow.{Fine, fine_more, fine_after, fine_taken, Shallow, Kept, wanted_shallow, refuse_shallow, expect_shallow, name_shallow, Levels}
 use Rattle.swc_ecma_parser_reader.proofs.expressions.Limits.{kept_more, reject_shallow, unexpected_shallow, inside_shallow, key_shallow}
 
 binding_shallow : (m : ℕ) (s : State) → Fine m s.at.left → Answers (Kept m) Shallow (binding s)

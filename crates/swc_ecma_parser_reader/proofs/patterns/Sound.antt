@@ -1,6 +1,6 @@
 -- The reader of binding patterns is sound: what it reads is in the relation of the whole language, and supported, where nothing was
 -- recorded, and its faults of the table are the walk's.
-use Rattle.std.proofs.Common.{◌≡◌, ℕ, zero, suc, true, false, cond, List, [], ◌∷◌, ◌++◌, Ok, refl, sym, ◌∙◌, ap, subst}
+use Rattle.std.proofs.Common.{◌≡◌, ℕ, zero, suc, true, false, cond, List, [], ◌∷◌, ◌++◌, Ok, Err, refl, sym, ◌∙◌, ap, subst}
 use Rattle.std.specs.Prelude.{◌||◌}
 use Rattle.swc_ecma_parser_common.specs.declared.span.Span.{Span}
 use Rattle.swc_ecma_parser_error.specs.Kind as faults
@@ -10,11 +10,10 @@ use Rattle.swc_ecma_parser_input.specs.Place.{Place, after}
 use Rattle.swc_ecma_parser_model.specs.declared.leaves.Ident.{Ident}
 use Rattle.swc_ecma_parser_model.specs.Tree as tree
 use Rattle.swc_ecma_parser_model.specs.Tree.{Tree, Text, listed, trees}
-use Rattle.swc_ecma_parser_model.specs.Forms.{is_rest, is_pattern_target}
+use Rattle.swc_ecma_parser_model.specs.Forms.{is_rest, is_pattern_target, is_plain_param, is_binding_name}
 use Rattle.swc_ecma_parser_grammar.specs.Looks.{kind_at, sees, same_kind, span_at, spanned}
 use Rattle.swc_ecma_parser_grammar.specs.Names.{Code, is_name}
 use Rattle.swc_ecma_parser_grammar.specs.Reads.{with_in}
-use Rattle.swc_ecma_parser_grammar.specs.Supported.{supported_in, is_supported_key_in}
 use Rattle.swc_ecma_parser_grammar.specs.ReadsSupported.{ReadsClass, ReadsPat, ReadsElement, ReadsParams}
 use Rattle.swc_ecma_parser_grammar.specs.language.Goals.{Goal, Class, Purpose, assignment, binding}
 use Rattle.swc_ecma_parser_grammar.specs.language.Lists.{ReadsListed, Elements, hole}
@@ -28,11 +27,11 @@ use Rattle.swc_ecma_parser_grammar.specs.Walk.{walk, env_of}
 use Rattle.swc_ecma_parser_grammar.proofs.Tests.{or_no, and_both}
 use Rattle.swc_ecma_parser_reader.specs.State as state
 use Rattle.swc_ecma_parser_reader.specs.Notes.{notes_of, all_notes_of}
-use Rattle.swc_ecma_parser_reader.specs.State.{State, Reader, and_then, moved, coded, within, expect, name, Step, More, loop}
+use Rattle.swc_ecma_parser_reader.specs.State.{State, Outcome, Reader, and_then, moved, coded, within, expect, name, Step, More, loop}
 use Rattle.swc_ecma_parser_reader.specs.Expressions.{Cover, inside, key}
 use Rattle.swc_ecma_parser_reader.specs.Patterns as reader
 use Rattle.swc_ecma_parser_reader.specs.Patterns.{rest, array_turn, elements, parameters_turn, parameter_list, array, rest_name, rest_property, key_value, initialized_name, bare_name, named, bare_key, behind_key, property, object_turn, properties, object, pattern_level, initialized, element_level}
-use Rattle.swc_ecma_parser_reader.proofs.Meets.{Meets, Refuses, meets_then, meets_if, wanted_meets, too_deep_meets, Turned, loop_answers, saw}
+use Rattle.swc_ecma_parser_reader.proofs.Meets.{Meets, Refuses, meets_then, meets_if, wanted_meets, Turned, loop_answers, saw}
 use Rattle.swc_ecma_parser_reader.proofs.Errors.{is_error}
 use Rattle.swc_ecma_parser_reader.proofs.Between.{SoundTree, Sound, same, sound_moved, sound_here, sound_as, sound_after, within_sound}
 use Rattle.swc_ecma_parser_reader.proofs.expressions.SoundSteps.{paired, stepped, moved_back, meets_as, reject_meets, unseen, Takes, expect_sound, FreeWord, name_sound, walks_push, notes_push}
@@ -383,3 +382,77 @@ module _ (n : ℕ) (inner : Class → Reader Tree) (cover : Reader Cover) (patte
   unfolding element_level
   element_level_sound s = meets_then _ (pattern_level inner cover pattern element s) _ (pattern_level_sound s) (λ p t q. meets_if _ (sees kind.Assign t.at) _ _
       (λ e. initialized_sound s p t q (saw t.at kind.Assign e)) (λ e. sound_as s t refl refl refl (λ r. (patterns.bare_rule r.0 e, r.1)) q))
+
+-- ---- what is read is no parameter as a part of a function, which a pattern is in
+
+-- the two tests of plain names agree on it
+abbrev pub Unwrapped : Tree → State → Type 0
+Unwrapped x t = is_plain_param x ≡ is_binding_name x
+
+abbrev pub AllUnwrapped : List Tree → State → Type 0
+AllUnwrapped [] t = Unit {0}
+AllUnwrapped (x ∷ xs) t = (is_plain_param x ≡ is_binding_name x) × AllUnwrapped xs t
+
+unwrapped_push : (t u : State) (xs : List Tree) (x : Tree) → AllUnwrapped xs t → is_plain_param x ≡ is_binding_name x → AllUnwrapped (xs ++ x ∷ []) u
+unwrapped_push t u [] x h e = (e, tt)
+unwrapped_push t u (y ∷ ys) x (g, h) e = (g, unwrapped_push t u ys x h e)
+
+pub anything : {A : Type 0} (o : Outcome A) → Meets (λ _ _. Unit {0}) o
+anything (Ok p) = tt
+anything (Err e) = tt
+
+binding_unwrapped : (s : State) → Meets Unwrapped (reader.binding s)
+unfolding reader.binding
+binding_unwrapped s = meets_then _ (name faults.ExpectedIdent s) _ (anything (name faults.ExpectedIdent s)) (λ i t _. refl)
+
+module _ (inner : Class → Reader Tree) (cover : Reader Cover) (pattern element : Reader Tree) where
+  array_unwrapped : (s : State) → Meets Unwrapped (array inner cover pattern element s)
+  unfolding array
+  array_unwrapped s = meets_then _ (elements inner cover pattern element s) _ (anything (elements inner cover pattern element s)) (λ xs t _. refl)
+
+  object_unwrapped : (s : State) → Meets Unwrapped (object inner cover pattern element s)
+  unfolding object
+  object_unwrapped s = meets_then _ (properties inner cover pattern element s) _ (anything (properties inner cover pattern element s)) (λ xs t _. refl)
+
+  pattern_level_unwrapped : (s : State) → Meets Unwrapped (pattern_level inner cover pattern element s)
+  unfolding pattern_level
+  pattern_level_unwrapped s = meets_if _ (sees kind.LBracket s.at) _ _ (λ _. array_unwrapped s)
+      (λ _. meets_if _ (sees kind.LBrace s.at) _ _ (λ _. object_unwrapped s) (λ _. binding_unwrapped s))
+
+  initialized_unwrapped : (start : Span) (p : Tree) (s : State) → Meets Unwrapped (initialized inner cover pattern element start p s)
+  unfolding initialized
+  initialized_unwrapped start p s = meets_then _ (inside inner cover assignment (moved s)) _ (anything (inside inner cover assignment (moved s))) (λ y t _. refl)
+
+  pub element_level_unwrapped : (s : State) → Meets Unwrapped (element_level inner cover pattern element s)
+  unfolding element_level
+  element_level_unwrapped s = meets_then _ (pattern_level inner cover pattern element s) _ (pattern_level_unwrapped s) (λ p t h. meets_if _ (sees kind.Assign t.at) _ _
+      (λ _. initialized_unwrapped (span_at s.at) p t) (λ _. h))
+
+  rest_unwrapped : (s : State) → Meets Unwrapped (rest inner cover pattern element s)
+  unfolding rest
+  rest_unwrapped s = meets_then _ (within with_in pattern (moved s)) _ (anything (within with_in pattern (moved s))) (λ p t _. refl)
+
+  -- nor are parameters, where elements are none
+  module _ (unwrapped : (s : State) → Meets Unwrapped (element s)) where
+    element_unwrapped : (s : State) → Meets Unwrapped (within with_in element s)
+    element_unwrapped s = meets_then _ (element (coded (with_in s.code) s)) _ (unwrapped (coded (with_in s.code) s)) (λ x t h. h)
+
+    parameters_turn_unwrapped : (xs : List Tree) (t : State) → AllUnwrapped xs t
+        → Meets (Turned (parameters_turn inner cover pattern element) AllUnwrapped AllUnwrapped Refuses) (parameters_turn inner cover pattern element xs t)
+    unfolding parameters_turn
+    parameters_turn_unwrapped xs t h = meets_if _ (sees kind.RParen t.at) _ _ (λ _. stays (moved t) xs h)
+        (λ _. meets_if _ (sees kind.DotDotDot t.at) _ _
+        (λ _. meets_then _ (rest inner cover pattern element t) _ (rest_unwrapped t) (λ x m e.
+        meets_then _ (expect kind.RParen m) _ (anything (expect kind.RParen m)) (λ _ u _. unwrapped_push t u xs x h e)))
+        (λ _. meets_then _ (within with_in element t) _ (element_unwrapped t) (λ x m e.
+        meets_if _ (sees kind.RParen m.at) _ _ (λ _. unwrapped_push t m xs x h e)
+        (λ _. meets_then _ (expect kind.Comma m) _ (anything (expect kind.Comma m)) (λ _ u _. unwrapped_push t u xs x h e)))))
+      where
+        stays : (u : State) (ys : List Tree) → AllUnwrapped ys t → AllUnwrapped ys u
+        stays u [] g = tt
+        stays u (y ∷ ys) (e, g) = (e, stays u ys g)
+
+    pub parameter_list_unwrapped : (s : State) → Meets AllUnwrapped (parameter_list inner cover pattern element s)
+    unfolding parameter_list
+    parameter_list_unwrapped s = meets_then _ (expect kind.LParen s) _ (anything (expect kind.LParen s)) (λ _ m _.
+        loop_answers (parameters_turn inner cover pattern element) AllUnwrapped AllUnwrapped Refuses parameters_turn_unwrapped (λ _. tt) [] m tt)

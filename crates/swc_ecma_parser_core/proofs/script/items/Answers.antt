@@ -3,8 +3,8 @@ use Rattle.std.specs.Prelude.{◌==◌}
 use Rattle.std.proofs.lemmas.List.{map_push, length-map}
 use Rattle.std.proofs.lemmas.Result.{err_from_is_err_and}
 use Rattle.swc_ecma_parser_grammar.specs.Reads.{top_item}
-use Rattle.swc_ecma_parser_reader.specs.Reader.{stmt, at_end}
-use Rattle.swc_ecma_parser_reader.proofs.Loops.{items_err, stmt_shorter}
+use Rattle.swc_ecma_parser_reader.specs.Reader.{whole_stmt, at_end}
+use Rattle.swc_ecma_parser_reader.proofs.Loops.{items_err, whole_shorter}
 use Rattle.swc_ecma_parser_reader.proofs.Empty.{never_more}
 use Rattle.swc_ecma_parser_core.proofs.Items.{script_more}
 use Rattle.swc_ecma_parser_core.proofs.script.items.Goals as goal
@@ -13,7 +13,7 @@ pub returns-in_err-stmt-clause-gives : goal.returns-in_err-stmt-clause-gives
 returns-in_err-stmt-clause-gives g c =
     let p = err_from_is_err_and c.from_residual.result c.from_residual.ensures.1 in
     rw (p.1, p.2) (λ h. c.items.invariant.0
-    ∙ items_err (stmt c.args.limit top_item) at_end true (map g.T.Trees.stmt_of c.items.found.items) (g.P.Source.seen c.items.p) _ (sym c.at_end.ensures ∙ c.items-test.true) (c.in_err-stmt.ensures h))
+    ∙ items_err (whole_stmt c.args.limit top_item) at_end true (map g.T.Trees.stmt_of c.items.found.items) (g.P.Source.seen c.items.p) _ (sym c.at_end.ensures ∙ c.items-test.true) (c.in_err-stmt.ensures h))
 
 pub returns-in_err-stmt-clause-outright : goal.returns-in_err-stmt-clause-outright
 returns-in_err-stmt-clause-outright g c = λ h. never_more (g.P.Source.seen c.items.p).at (c.items.invariant.1 h) (sym c.at_end.ensures ∙ c.items-test.true)
@@ -28,9 +28,9 @@ items-preserved g c =
     let found = map g.T.Trees.stmt_of c.items.found.items in
     let first : c.is_empty.result ≡ (length found == 0) = c.is_empty.ensures ∙ ap (λ n. n == 0) (c.items.found.ok.0 ∙ sym (length-map c.items.found.items g.T.Trees.stmt_of)) in (
       rw (c.in_ok-pushed.ensures.items, map_push, c.in_ok-pushed.ensures.state, c.direct.ensures) (c.items.invariant.0
-          ∙ script_more (stmt d top_item) at_end found c.is_empty.result s _ _ first (sym c.at_end.ensures ∙ c.items-test.true) c.in_ok-stmt.ensures (stmt_shorter d top_item s _ _ c.in_ok-stmt.ensures)),
+          ∙ script_more (whole_stmt d top_item) at_end found c.is_empty.result s _ _ first (sym c.at_end.ensures ∙ c.items-test.true) c.in_ok-stmt.ensures (whole_shorter d top_item s _ _ c.in_ok-stmt.ensures)),
       λ h. never_more s.at (c.items.invariant.1 h) (sym c.at_end.ensures ∙ c.items-test.true),
     )
 
 pub items-smaller : goal.items-smaller
-items-smaller g c = rw (c.in_ok-pushed.ensures.state, c.direct.ensures) (stmt_shorter c.args.limit top_item (g.P.Source.seen c.items.p) _ _ c.in_ok-stmt.ensures)
+items-smaller g c = rw (c.in_ok-pushed.ensures.state, c.direct.ensures) (whole_shorter c.args.limit top_item (g.P.Source.seen c.items.p) _ _ c.in_ok-stmt.ensures)

@@ -6,7 +6,7 @@ use Rattle.swc_ecma_parser_core.proofs.script.items.Given as goal
 
 -- what the whole loop gives is what the rest of it gives, and an empty list stays empty
 abbrev pub invariant-items : goal.invariant-items
-invariant-items g l = let stmt = rules.stmt l.limit top_item in
+invariant-items g l = let stmt = rules.whole_stmt l.limit top_item in
     (rules.items stmt rules.at_end true (g.P.Source.seen l.fn.p) ≡ loop (rules.items_turn stmt rules.at_end true) (map g.T.Trees.stmt_of l.found.items) (g.P.Source.seen l.p))
     × ((g.P.Source.seen l.fn.p).at.left ≡ [] → (g.P.Source.seen l.p).at.left ≡ [])
 

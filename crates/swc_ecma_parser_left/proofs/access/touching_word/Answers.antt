@@ -1,6 +1,6 @@
 use Rattle.std.proofs.Common.{sym, ◌∙◌}
 use Rattle.swc_ecma_parser_reader.specs.Expressions.{touching_word}
-use Rattle.swc_ecma_parser_left.proofs.Refusals.{wanted_as}
+use Rattle.swc_ecma_parser_literals.proofs.Refusals.{wanted_as}
 use Rattle.swc_ecma_parser_left.proofs.access.touching_word.Goals as goal
 
 pub returns : goal.returns

@@ -1,0 +1,93 @@
+//! Statements: ECMA-262, section 14.
+
+ghost use Rattle.std.specs.Prelude.{◌≡◌};
+ghost use Rattle.swc_ecma_parser_inner.specs.Nests.{Nests};
+ghost use Rattle.swc_ecma_parser_reader.specs.Reader as rules;
+ghost use Rattle.swc_ecma_parser_reader.specs.State.{GivesAs};
+
+use crate::branch::if_stmt;
+use crate::handler::try_stmt;
+use crate::label::{let_stmt, other_stmt};
+use crate::switch::switch_stmt;
+use crate::with_statement::with_stmt;
+use swc_ecma_parser_error::PResult;
+use swc_ecma_parser_functions::body::block;
+use swc_ecma_parser_functions::function::{function_decl, function_stmt};
+use swc_ecma_parser_grammar::Position;
+use swc_ecma_parser_inner::cover::{Cover, Reading};
+use swc_ecma_parser_inner::grammar::{Grammar, Part};
+use swc_ecma_parser_loops::for_loop::for_stmt;
+use swc_ecma_parser_loops::simple::{do_while, while_stmt};
+use swc_ecma_parser_model::VarDeclKind;
+use swc_ecma_parser_source::Source;
+use swc_ecma_parser_statements::jump::{break_stmt, continue_stmt};
+use swc_ecma_parser_statements::leave::{return_stmt, throw};
+use swc_ecma_parser_statements::simple::{debugger, empty, import_stmt_at};
+use swc_ecma_parser_statements::variables::{const_stmt, variables};
+use swc_ecma_parser_token::TokenKind;
+use swc_ecma_parser_trees::{
+    BuildsControl, BuildsDecl, BuildsFor, BuildsLoop, BuildsPattern, BuildsStmt, BuildsSwitch,
+    BuildsTry, MakerOf,
+};
+
+/// A statement that begins with a name: an async function, which may stand in the place of any statement, or another.
+#[tactic(auto, unfolding(swc_ecma_parser_reader::specs::Reader::async_or_other))]
+fn async_or_other<
+    P: Source,
+    T: BuildsPattern + BuildsStmt + BuildsControl + BuildsDecl,
+    S: Fn(&MakerOf<T>, &mut P, usize, Position) -> PResult<T::Stmt>,
+    E: Fn(&MakerOf<T>, &mut P, usize, Reading) -> PResult<Cover<T::Expr>>,
+    N: Fn(&MakerOf<T>, &mut P, usize, Part) -> PResult<T::Pat>,
+>(g: &Grammar<S, E, N>, t: &MakerOf<T>, p: &mut P, at: Position) -> PResult<T::Stmt>
+    requires { Nests P.seen T.expr_of T.pat_of T.stmt_of g.now.depth (S.pre g.now.stmt) (S.post g.now.stmt) (E.pre g.now.expr) (E.post g.now.expr) (N.pre g.now.pat) (N.post g.now.pat) }
+    ensures { GivesAs T.stmt_of (rules.async_or_other (rules.stmt g.now.depth) (rules.expr g.now.depth) (rules.pattern g.now.depth) (rules.head_cover g.now.depth) (rules.parameters g.now.depth) at (P.seen p.old)) result (P.seen p.new) }
+{
+    if p.is_async_function() {
+        return function_decl(g, t, p);
+    }
+    other_stmt(g, t, p, at)
+}
+
+/// A statement, by its first token.
+#[tactic(auto, unfolding(swc_ecma_parser_reader::specs::Reader::stmt_level))]
+pub fn level<
+    P: Source,
+    T: BuildsPattern
+        + BuildsStmt
+        + BuildsControl
+        + BuildsSwitch
+        + BuildsTry
+        + BuildsLoop
+        + BuildsFor
+        + BuildsDecl,
+    S: Fn(&MakerOf<T>, &mut P, usize, Position) -> PResult<T::Stmt>,
+    E: Fn(&MakerOf<T>, &mut P, usize, Reading) -> PResult<Cover<T::Expr>>,
+    N: Fn(&MakerOf<T>, &mut P, usize, Part) -> PResult<T::Pat>,
+>(g: &Grammar<S, E, N>, t: &MakerOf<T>, p: &mut P, at: Position) -> PResult<T::Stmt>
+    requires { Nests P.seen T.expr_of T.pat_of T.stmt_of g.now.depth (S.pre g.now.stmt) (S.post g.now.stmt) (E.pre g.now.expr) (E.post g.now.expr) (N.pre g.now.pat) (N.post g.now.pat) }
+    ensures { GivesAs T.stmt_of (rules.stmt_level (rules.stmt g.now.depth) (rules.expr g.now.depth) (rules.pattern g.now.depth) (rules.head_cover g.now.depth) (rules.parameters g.now.depth) at (P.seen p.old)) result (P.seen p.new) }
+{
+    match p.kind() {
+        TokenKind::LBrace => block(g, t, p),
+        TokenKind::Function => function_stmt(g, t, p, at),
+        TokenKind::Semi => empty::<P, T>(t.alloc, p),
+        TokenKind::Debugger => debugger::<P, T>(t.alloc, p),
+        TokenKind::Var => variables(g, t, p, VarDeclKind::Var),
+        TokenKind::Const => const_stmt(g, t, p, at),
+        TokenKind::Let => let_stmt(g, t, p, at),
+        TokenKind::If => if_stmt(g, t, p),
+        TokenKind::Switch => switch_stmt(g, t, p),
+        TokenKind::Break => break_stmt::<P, T>(t.alloc, p),
+        TokenKind::Continue => continue_stmt::<P, T>(t.alloc, p),
+        TokenKind::Return => return_stmt(g, t, p),
+        TokenKind::Throw => throw(g, t, p),
+        TokenKind::Try => try_stmt(g, t, p),
+        TokenKind::With => with_stmt(g, t, p),
+        TokenKind::While => while_stmt(g, t, p),
+        TokenKind::Do => do_while(g, t, p),
+        TokenKind::For => for_stmt(g, t, p),
+        TokenKind::Import => import_stmt_at(g, t, p),
+        TokenKind::Ident => async_or_other(g, t, p, at),
+        _ => other_stmt(g, t, p, at),
+    }
+}

@@ -1,0 +1,218 @@
+//! Methods and accessors of objects: ECMA-262, section 15.4.
+
+ghost use Rattle.std.specs.Prelude.{◌≡◌, map};
+ghost use Rattle.swc_ecma_parser_functions.specs.Methods.{form_of};
+ghost use Rattle.swc_ecma_parser_grammar.specs.Reads.{nested_item};
+ghost use Rattle.swc_ecma_parser_inner.specs.Keys.{key_of};
+ghost use Rattle.swc_ecma_parser_inner.specs.Nests.{Nests};
+ghost use Rattle.swc_ecma_parser_reader.specs.Methods as methods;
+ghost use Rattle.swc_ecma_parser_reader.specs.Methods.{property_form};
+ghost use Rattle.swc_ecma_parser_reader.specs.Reader as rules;
+ghost use Rattle.swc_ecma_parser_reader.specs.State.{Gives, GivesAs};
+
+use crate::function::{
+    FunctionBody, Manner, function_body, function_parts, misdirected, parameters_inside, star,
+};
+use swc_ecma_parser_common::Span;
+use swc_ecma_parser_error::{PResult, SyntaxError};
+use swc_ecma_parser_grammar::Position;
+use swc_ecma_parser_inner::cover::{Cover, Reading};
+use swc_ecma_parser_inner::grammar::{Grammar, Part};
+use swc_ecma_parser_inner::keys::{Key, made_key};
+use swc_ecma_parser_inner::steps::{grown, since};
+use swc_ecma_parser_source::Source;
+use swc_ecma_parser_trees::{BuildsMethod, BuildsPattern, MakerOf, Trees};
+
+/// What a method is, by the words before its key.
+#[derive(Clone, Copy)]
+pub enum MethodForm {
+    /// `get`
+    Getter,
+    /// `set`
+    Setter,
+    /// A method, async or not, a generator or not.
+    Method(Manner),
+}
+
+impl MethodForm {
+    /// Whether nothing stands before its key.
+    pub fn is_bare(self) -> bool
+        ensures { result ≡ methods.is_bare (form_of self) }
+    {
+        match self {
+            MethodForm::Method(manner) => !manner.is_async && !manner.is_generator,
+            _ => false,
+        }
+    }
+}
+
+/// What stands around an accessor: it is neither async nor a generator.
+const PLAIN: Manner = Manner {
+    is_async: false,
+    is_generator: false,
+};
+
+/// The words before a key, if any stand there.
+#[tactic(auto, unfolding(swc_ecma_parser_reader::specs::Methods::method_words, swc_ecma_parser_reader::specs::Methods::starred))]
+pub fn method_words<P: Source>(p: &mut P) -> PResult<MethodForm>
+    ensures { GivesAs form_of (methods.method_words (P.seen p.old)) result (P.seen p.new) }
+{
+    if p.modifies("get") {
+        p.skip()?;
+        return Ok(MethodForm::Getter);
+    }
+    if p.modifies("set") {
+        p.skip()?;
+        return Ok(MethodForm::Setter);
+    }
+    let is_async = p.begins_async_method();
+    if is_async {
+        p.skip()?;
+    }
+    let is_generator = star(p)?;
+    Ok(MethodForm::Method(Manner {
+        is_async,
+        is_generator,
+    }))
+}
+
+/// A getter has no parameter; else its word is refused.
+fn no_parameter<P: Source, T: Trees>(p: &mut P, params: &[T::Pat], word: Span) -> PResult<()>
+    ensures { Gives (rules.no_parameter word (map T.pat_of params.now) (P.seen p.old)) result (P.seen p.new) }
+{
+    if params.is_empty() {
+        return Ok(());
+    }
+    Err(p.reject(SyntaxError::GetterParam, word))
+}
+
+/// A setter has one parameter, which is no rest; else its word is refused.
+fn one_parameter<P: Source, T: BuildsPattern>(
+    p: &mut P,
+    params: Vec<T::Pat>,
+    word: Span,
+) -> PResult<T::Pat>
+    ensures { GivesAs T.pat_of (rules.one_parameter word (map T.pat_of params.items) (P.seen p.old)) result (P.seen p.new) }
+{
+    let mut params = params;
+    let Some(param) = params.pop() else {
+        return Err(p.reject(SyntaxError::SetterParam, word));
+    };
+    if !params.is_empty() {
+        return Err(p.reject(SyntaxError::SetterParam, word));
+    }
+    if T::is_rest(&param) {
+        return Err(p.reject(SyntaxError::RestPatInSetter, word));
+    }
+    Ok(param)
+}
+
+/// A getter, from behind its key.
+#[tactic(auto, unfolding(swc_ecma_parser_reader::specs::Reader::getter))]
+fn getter<
+    P: Source,
+    T: BuildsMethod + BuildsPattern,
+    S: Fn(&MakerOf<T>, &mut P, usize, Position) -> PResult<T::Stmt>,
+    E: Fn(&MakerOf<T>, &mut P, usize, Reading) -> PResult<Cover<T::Expr>>,
+    N: Fn(&MakerOf<T>, &mut P, usize, Part) -> PResult<T::Pat>,
+>(
+    g: &Grammar<S, E, N>,
+    t: &MakerOf<T>,
+    p: &mut P,
+    start: Span,
+    key: Key<T::Expr>,
+) -> PResult<T::Prop>
+    requires { Nests P.seen T.expr_of T.pat_of T.stmt_of g.now.depth (S.pre g.now.stmt) (S.post g.now.stmt) (E.pre g.now.expr) (E.post g.now.expr) (N.pre g.now.pat) (N.post g.now.pat) }
+    ensures { GivesAs T.prop_of (rules.getter (rules.stmt g.now.depth nested_item) (rules.parameters g.now.depth) start (key_of T.expr_of key) (P.seen p.old)) result (P.seen p.new) }
+{
+    let params = parameters_inside(g, t, p, PLAIN)?;
+    no_parameter::<P, T>(p, &params, start)?;
+    let FunctionBody {
+        block,
+        strict_directive: _,
+    } = function_body(g, t, p, PLAIN)?;
+    let span = since(p, start);
+    let key = grown(p, made_key::<T>(t.alloc, key))?;
+    grown(p, T::getter_prop(t.alloc, span, key, block))
+}
+
+/// A setter, from behind its key.
+#[tactic(auto, unfolding(swc_ecma_parser_reader::specs::Reader::setter))]
+fn setter<
+    P: Source,
+    T: BuildsMethod + BuildsPattern,
+    S: Fn(&MakerOf<T>, &mut P, usize, Position) -> PResult<T::Stmt>,
+    E: Fn(&MakerOf<T>, &mut P, usize, Reading) -> PResult<Cover<T::Expr>>,
+    N: Fn(&MakerOf<T>, &mut P, usize, Part) -> PResult<T::Pat>,
+>(
+    g: &Grammar<S, E, N>,
+    t: &MakerOf<T>,
+    p: &mut P,
+    start: Span,
+    key: Key<T::Expr>,
+) -> PResult<T::Prop>
+    requires { Nests P.seen T.expr_of T.pat_of T.stmt_of g.now.depth (S.pre g.now.stmt) (S.post g.now.stmt) (E.pre g.now.expr) (E.post g.now.expr) (N.pre g.now.pat) (N.post g.now.pat) }
+    ensures { GivesAs T.prop_of (rules.setter (rules.stmt g.now.depth nested_item) (rules.parameters g.now.depth) start (key_of T.expr_of key) (P.seen p.old)) result (P.seen p.new) }
+{
+    let params = parameters_inside(g, t, p, PLAIN)?;
+    let param = one_parameter::<P, T>(p, params, start)?;
+    let FunctionBody {
+        block,
+        strict_directive,
+    } = function_body(g, t, p, PLAIN)?;
+    let span = since(p, start);
+    misdirected(p, T::is_binding_name(&param), strict_directive)?;
+    let key = grown(p, made_key::<T>(t.alloc, key))?;
+    grown(p, T::setter_prop(t.alloc, span, key, param, block))
+}
+
+/// A method that is no accessor, from behind its key.
+#[tactic(auto, unfolding(swc_ecma_parser_reader::specs::Reader::plain_method))]
+fn plain_method<
+    P: Source,
+    T: BuildsMethod + BuildsPattern,
+    S: Fn(&MakerOf<T>, &mut P, usize, Position) -> PResult<T::Stmt>,
+    E: Fn(&MakerOf<T>, &mut P, usize, Reading) -> PResult<Cover<T::Expr>>,
+    N: Fn(&MakerOf<T>, &mut P, usize, Part) -> PResult<T::Pat>,
+>(
+    g: &Grammar<S, E, N>,
+    t: &MakerOf<T>,
+    p: &mut P,
+    manner: Manner,
+    start: Span,
+    key: Key<T::Expr>,
+) -> PResult<T::Prop>
+    requires { Nests P.seen T.expr_of T.pat_of T.stmt_of g.now.depth (S.pre g.now.stmt) (S.post g.now.stmt) (E.pre g.now.expr) (E.post g.now.expr) (N.pre g.now.pat) (N.post g.now.pat) }
+    ensures { GivesAs T.prop_of (rules.plain_method (rules.stmt g.now.depth nested_item) (rules.parameters g.now.depth) manner.is_async manner.is_generator start (key_of T.expr_of key) (P.seen p.old)) result (P.seen p.new) }
+{
+    let function = function_parts(g, t, p, manner, start)?;
+    let span = T::function_span(&function);
+    let key = grown(p, made_key::<T>(t.alloc, key))?;
+    grown(p, T::method_prop(t.alloc, span, key, function))
+}
+
+/// A method, from behind its key.
+#[tactic(auto, unfolding(swc_ecma_parser_reader::specs::Reader::function, swc_ecma_parser_reader::specs::Reader::function_by))]
+pub fn method<
+    P: Source,
+    T: BuildsMethod + BuildsPattern,
+    S: Fn(&MakerOf<T>, &mut P, usize, Position) -> PResult<T::Stmt>,
+    E: Fn(&MakerOf<T>, &mut P, usize, Reading) -> PResult<Cover<T::Expr>>,
+    N: Fn(&MakerOf<T>, &mut P, usize, Part) -> PResult<T::Pat>,
+>(
+    g: &Grammar<S, E, N>,
+    t: &MakerOf<T>,
+    p: &mut P,
+    form: MethodForm,
+    start: Span,
+    key: Key<T::Expr>,
+) -> PResult<T::Prop>
+    requires { Nests P.seen T.expr_of T.pat_of T.stmt_of g.now.depth (S.pre g.now.stmt) (S.post g.now.stmt) (E.pre g.now.expr) (E.post g.now.expr) (N.pre g.now.pat) (N.post g.now.pat) }
+    ensures { GivesAs T.prop_of (rules.function g.now.depth (property_form (form_of form) start (key_of T.expr_of key)) (P.seen p.old)) result (P.seen p.new) }
+{
+    match form {
+        MethodForm::Getter => getter(g, t, p, start, key),
+        MethodForm::Setter => setter(g, t, p, start, key),
+        MethodForm::Method(manner) => plain_method(g, t, p, manner, start, key),
+    }
+}

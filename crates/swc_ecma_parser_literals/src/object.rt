@@ -1,0 +1,319 @@
+//! Objects: ECMA-262, section 13.2.5.
+
+ghost use Rattle.std.specs.Prelude.{◌≡◌, true, IfOk};
+ghost use Rattle.swc_ecma_parser_functions.specs.Methods.{form_of};
+ghost use Rattle.swc_ecma_parser_inner.specs.Covers.{bare, cover_of, covers_of};
+ghost use Rattle.swc_ecma_parser_inner.specs.Keys.{key_of, word_of};
+ghost use Rattle.swc_ecma_parser_inner.specs.Nests.{Nests};
+ghost use Rattle.swc_ecma_parser_reader.specs.Expressions as exprs;
+ghost use Rattle.swc_ecma_parser_reader.specs.Expressions.{is_literal};
+ghost use Rattle.swc_ecma_parser_reader.specs.Reader as rules;
+ghost use Rattle.swc_ecma_parser_reader.specs.State.{GivesAs};
+
+use std::alloc::Global;
+use swc_ecma_parser_common::Span;
+use swc_ecma_parser_error::{PResult, SyntaxError};
+use swc_ecma_parser_functions::methods::{MethodForm, method, method_words};
+use swc_ecma_parser_grammar::{Class, Position};
+use swc_ecma_parser_inner::cover::{
+    Cover, Covers, Reading, behind_comma, covered, done, inside, joined,
+};
+use swc_ecma_parser_inner::grammar::{Grammar, Part};
+use swc_ecma_parser_inner::keys::{Key, made_key, property_key};
+use swc_ecma_parser_inner::steps::{grown, since};
+use swc_ecma_parser_model::Ident;
+use swc_ecma_parser_source::{Source, Wanted, is_name};
+use swc_ecma_parser_token::TokenKind;
+use swc_ecma_parser_trees::{BuildsMethod, BuildsObject, BuildsPattern, MakerOf};
+
+/// A key with nothing behind it: a name.
+#[tactic(auto, unfolding(swc_ecma_parser_reader::specs::Expressions::shorthand_name))]
+fn shorthand_name<P: Source, T: BuildsObject>(
+    alloc: Global,
+    p: &mut P,
+    name: Ident,
+) -> PResult<T::Prop>
+    ensures { GivesAs T.prop_of (exprs.shorthand_name name.span name.sym (P.seen p.old)) result (P.seen p.new) }
+{
+    if is_name(p.flags(), name.sym.as_str()) {
+        return grown(p, T::shorthand_prop(alloc, name));
+    }
+    Err(p.reject(SyntaxError::ExpectedIdent, name.span))
+}
+
+/// A key and its value, from `:` on.
+#[tactic(auto, unfolding(swc_ecma_parser_reader::specs::Expressions::key_value))]
+fn key_value<
+    P: Source,
+    T: BuildsObject,
+    S: Fn(&MakerOf<T>, &mut P, usize, Position) -> PResult<T::Stmt>,
+    E: Fn(&MakerOf<T>, &mut P, usize, Reading) -> PResult<Cover<T::Expr>>,
+    N: Fn(&MakerOf<T>, &mut P, usize, Part) -> PResult<T::Pat>,
+>(
+    g: &Grammar<S, E, N>,
+    t: &MakerOf<T>,
+    p: &mut P,
+    start: Span,
+    key: Key<T::Expr>,
+) -> PResult<Cover<T::Prop>>
+    requires { Nests P.seen T.expr_of T.pat_of T.stmt_of g.now.depth (S.pre g.now.stmt) (S.post g.now.stmt) (E.pre g.now.expr) (E.post g.now.expr) (N.pre g.now.pat) (N.post g.now.pat) }
+    ensures { GivesAs (cover_of T.prop_of) (exprs.key_value (rules.expr g.now.depth) (rules.cover g.now.depth) start (key_of T.expr_of key) (P.seen p.old)) result (P.seen p.new) }
+{
+    p.skip()?;
+    let Cover { tree, mark, comma } = covered(g, t, p)?;
+    let span = since(p, start);
+    let key = grown(p, made_key::<T>(t.alloc, key))?;
+    let tree = grown(p, T::key_value_prop(t.alloc, span, key, tree))?;
+    Ok(Cover { tree, mark, comma })
+}
+
+/// A name and its default, from `=` on: a part that only a pattern has.
+#[tactic(auto, unfolding(swc_ecma_parser_reader::specs::Expressions::initialized))]
+fn initialized<
+    P: Source,
+    T: BuildsObject,
+    S: Fn(&MakerOf<T>, &mut P, usize, Position) -> PResult<T::Stmt>,
+    E: Fn(&MakerOf<T>, &mut P, usize, Reading) -> PResult<Cover<T::Expr>>,
+    N: Fn(&MakerOf<T>, &mut P, usize, Part) -> PResult<T::Pat>,
+>(
+    g: &Grammar<S, E, N>,
+    t: &MakerOf<T>,
+    p: &mut P,
+    start: Span,
+    name: Ident,
+) -> PResult<Cover<T::Prop>>
+    requires { Nests P.seen T.expr_of T.pat_of T.stmt_of g.now.depth (S.pre g.now.stmt) (S.post g.now.stmt) (E.pre g.now.expr) (E.post g.now.expr) (N.pre g.now.pat) (N.post g.now.pat) }
+    ensures { GivesAs (cover_of T.prop_of) (exprs.initialized (rules.expr g.now.depth) (rules.cover g.now.depth) start (word_of name) (P.seen p.old)) result (P.seen p.new) }
+{
+    p.skip()?;
+    let value = inside(g, t, p, Class::Assignment)?;
+    let span = since(p, start);
+    let tree = grown(p, T::assign_prop(t.alloc, span, name, value))?;
+    Ok(Cover {
+        tree,
+        mark: Some(span),
+        comma: false,
+    })
+}
+
+/// The same where it is a name.
+#[tactic(auto, unfolding(swc_ecma_parser_reader::specs::Expressions::initialized_name), using(crate::proofs::Refusals::reject_cover))]
+fn initialized_name<
+    P: Source,
+    T: BuildsObject,
+    S: Fn(&MakerOf<T>, &mut P, usize, Position) -> PResult<T::Stmt>,
+    E: Fn(&MakerOf<T>, &mut P, usize, Reading) -> PResult<Cover<T::Expr>>,
+    N: Fn(&MakerOf<T>, &mut P, usize, Part) -> PResult<T::Pat>,
+>(
+    g: &Grammar<S, E, N>,
+    t: &MakerOf<T>,
+    p: &mut P,
+    start: Span,
+    name: Ident,
+) -> PResult<Cover<T::Prop>>
+    requires { Nests P.seen T.expr_of T.pat_of T.stmt_of g.now.depth (S.pre g.now.stmt) (S.post g.now.stmt) (E.pre g.now.expr) (E.post g.now.expr) (N.pre g.now.pat) (N.post g.now.pat) }
+    ensures { GivesAs (cover_of T.prop_of) (exprs.initialized_name (rules.expr g.now.depth) (rules.cover g.now.depth) start name.span name.sym (P.seen p.old)) result (P.seen p.new) }
+{
+    if !is_name(p.flags(), name.sym.as_str()) {
+        return Err(p.reject(SyntaxError::ExpectedIdent, name.span));
+    }
+    initialized(g, t, p, start, name)
+}
+
+/// A key by itself.
+fn bare_key<P: Source, T: BuildsObject>(
+    alloc: Global,
+    p: &mut P,
+    key: Key<T::Expr>,
+) -> PResult<Cover<T::Prop>>
+    ensures { GivesAs (cover_of T.prop_of) (bare (key_of T.expr_of key) (P.seen p.old)) result (P.seen p.new) }
+{
+    match key {
+        Key::Word(name) => Ok(done(shorthand_name::<P, T>(alloc, p, name)?)),
+        _ => Err(p.wanted(Wanted::Expression)),
+    }
+}
+
+/// A key and its default, from `=` on, which only a name has.
+#[tactic(auto, using(crate::proofs::Refusals::wanted_cover))]
+fn initialized_key<
+    P: Source,
+    T: BuildsObject,
+    S: Fn(&MakerOf<T>, &mut P, usize, Position) -> PResult<T::Stmt>,
+    E: Fn(&MakerOf<T>, &mut P, usize, Reading) -> PResult<Cover<T::Expr>>,
+    N: Fn(&MakerOf<T>, &mut P, usize, Part) -> PResult<T::Pat>,
+>(
+    g: &Grammar<S, E, N>,
+    t: &MakerOf<T>,
+    p: &mut P,
+    start: Span,
+    key: Key<T::Expr>,
+) -> PResult<Cover<T::Prop>>
+    requires { Nests P.seen T.expr_of T.pat_of T.stmt_of g.now.depth (S.pre g.now.stmt) (S.post g.now.stmt) (E.pre g.now.expr) (E.post g.now.expr) (N.pre g.now.pat) (N.post g.now.pat) }
+    ensures { GivesAs (cover_of T.prop_of) (exprs.initialized_key (rules.expr g.now.depth) (rules.cover g.now.depth) start (key_of T.expr_of key) (P.seen p.old)) result (P.seen p.new) }
+{
+    match key {
+        Key::Word(name) => initialized_name(g, t, p, start, name),
+        _ => Err(p.wanted(Wanted::Expression)),
+    }
+}
+
+/// What stands behind a key.
+#[tactic(auto, unfolding(swc_ecma_parser_reader::specs::Expressions::behind_key, swc_ecma_parser_reader::specs::Expressions::bare_key))]
+fn behind_key<
+    P: Source,
+    T: BuildsObject,
+    S: Fn(&MakerOf<T>, &mut P, usize, Position) -> PResult<T::Stmt>,
+    E: Fn(&MakerOf<T>, &mut P, usize, Reading) -> PResult<Cover<T::Expr>>,
+    N: Fn(&MakerOf<T>, &mut P, usize, Part) -> PResult<T::Pat>,
+>(
+    g: &Grammar<S, E, N>,
+    t: &MakerOf<T>,
+    p: &mut P,
+    start: Span,
+    key: Key<T::Expr>,
+) -> PResult<Cover<T::Prop>>
+    requires { Nests P.seen T.expr_of T.pat_of T.stmt_of g.now.depth (S.pre g.now.stmt) (S.post g.now.stmt) (E.pre g.now.expr) (E.post g.now.expr) (N.pre g.now.pat) (N.post g.now.pat) }
+    ensures { GivesAs (cover_of T.prop_of) (exprs.behind_key (rules.expr g.now.depth) (rules.cover g.now.depth) start (key_of T.expr_of key) (P.seen p.old)) result (P.seen p.new) }
+{
+    if p.sees(TokenKind::Colon) {
+        return key_value(g, t, p, start, key);
+    }
+    if p.sees(TokenKind::Assign) {
+        return initialized_key(g, t, p, start, key);
+    }
+    bare_key::<P, T>(t.alloc, p, key)
+}
+
+/// What stands behind a key, where words of a method stand before it or not.
+#[tactic(auto, unfolding(swc_ecma_parser_reader::specs::Expressions::behind_words, swc_ecma_parser_reader::specs::Expressions::method))]
+fn behind_words<
+    P: Source,
+    T: BuildsMethod + BuildsPattern,
+    S: Fn(&MakerOf<T>, &mut P, usize, Position) -> PResult<T::Stmt>,
+    E: Fn(&MakerOf<T>, &mut P, usize, Reading) -> PResult<Cover<T::Expr>>,
+    N: Fn(&MakerOf<T>, &mut P, usize, Part) -> PResult<T::Pat>,
+>(
+    g: &Grammar<S, E, N>,
+    t: &MakerOf<T>,
+    p: &mut P,
+    form: MethodForm,
+    start: Span,
+    key: Key<T::Expr>,
+) -> PResult<Cover<T::Prop>>
+    requires { Nests P.seen T.expr_of T.pat_of T.stmt_of g.now.depth (S.pre g.now.stmt) (S.post g.now.stmt) (E.pre g.now.expr) (E.post g.now.expr) (N.pre g.now.pat) (N.post g.now.pat) }
+    ensures { GivesAs (cover_of T.prop_of) (exprs.behind_words (rules.expr g.now.depth) (rules.cover g.now.depth) (rules.function g.now.depth) (form_of form) start (key_of T.expr_of key) (P.seen p.old)) result (P.seen p.new) }
+{
+    if form.is_bare() && !p.sees(TokenKind::LParen) {
+        return behind_key(g, t, p, start, key);
+    }
+    Ok(done(method(g, t, p, form, start, key)?))
+}
+
+/// A property that begins with a key, or with the words of a method before it.
+#[tactic(auto, unfolding(swc_ecma_parser_reader::specs::Expressions::keyed_property))]
+fn keyed_property<
+    P: Source,
+    T: BuildsMethod + BuildsPattern,
+    S: Fn(&MakerOf<T>, &mut P, usize, Position) -> PResult<T::Stmt>,
+    E: Fn(&MakerOf<T>, &mut P, usize, Reading) -> PResult<Cover<T::Expr>>,
+    N: Fn(&MakerOf<T>, &mut P, usize, Part) -> PResult<T::Pat>,
+>(g: &Grammar<S, E, N>, t: &MakerOf<T>, p: &mut P) -> PResult<Cover<T::Prop>>
+    requires { Nests P.seen T.expr_of T.pat_of T.stmt_of g.now.depth (S.pre g.now.stmt) (S.post g.now.stmt) (E.pre g.now.expr) (E.post g.now.expr) (N.pre g.now.pat) (N.post g.now.pat) }
+    ensures { GivesAs (cover_of T.prop_of) (exprs.keyed_property (rules.expr g.now.depth) (rules.cover g.now.depth) (rules.function g.now.depth) (P.seen p.old)) result (P.seen p.new) }
+{
+    let start = p.span();
+    let form = method_words(p)?;
+    let key = property_key(g, t, p)?;
+    behind_words(g, t, p, form, start, key)
+}
+
+/// A spread property, with the place of its dots.
+#[tactic(auto, unfolding(swc_ecma_parser_reader::specs::Expressions::spread_property))]
+fn spread_property<
+    P: Source,
+    T: BuildsObject,
+    S: Fn(&MakerOf<T>, &mut P, usize, Position) -> PResult<T::Stmt>,
+    E: Fn(&MakerOf<T>, &mut P, usize, Reading) -> PResult<Cover<T::Expr>>,
+    N: Fn(&MakerOf<T>, &mut P, usize, Part) -> PResult<T::Pat>,
+>(g: &Grammar<S, E, N>, t: &MakerOf<T>, p: &mut P) -> PResult<Cover<T::Prop>>
+    requires { Nests P.seen T.expr_of T.pat_of T.stmt_of g.now.depth (S.pre g.now.stmt) (S.post g.now.stmt) (E.pre g.now.expr) (E.post g.now.expr) (N.pre g.now.pat) (N.post g.now.pat) }
+    ensures { GivesAs (cover_of T.prop_of) (exprs.spread_property (rules.expr g.now.depth) (rules.cover g.now.depth) (P.seen p.old)) result (P.seen p.new) }
+{
+    let dots = p.span();
+    p.skip()?;
+    let Cover { tree, mark, comma } = covered(g, t, p)?;
+    let tree = grown(p, T::spread_prop(t.alloc, dots, tree))?;
+    Ok(Cover { tree, mark, comma })
+}
+
+/// A property.
+#[tactic(auto, unfolding(swc_ecma_parser_reader::specs::Expressions::property))]
+fn property<
+    P: Source,
+    T: BuildsMethod + BuildsPattern,
+    S: Fn(&MakerOf<T>, &mut P, usize, Position) -> PResult<T::Stmt>,
+    E: Fn(&MakerOf<T>, &mut P, usize, Reading) -> PResult<Cover<T::Expr>>,
+    N: Fn(&MakerOf<T>, &mut P, usize, Part) -> PResult<T::Pat>,
+>(g: &Grammar<S, E, N>, t: &MakerOf<T>, p: &mut P) -> PResult<Cover<T::Prop>>
+    requires { Nests P.seen T.expr_of T.pat_of T.stmt_of g.now.depth (S.pre g.now.stmt) (S.post g.now.stmt) (E.pre g.now.expr) (E.post g.now.expr) (N.pre g.now.pat) (N.post g.now.pat) }
+    ensures { GivesAs (cover_of T.prop_of) (exprs.property (rules.expr g.now.depth) (rules.cover g.now.depth) (rules.function g.now.depth) (P.seen p.old)) result (P.seen p.new) }
+{
+    if p.sees(TokenKind::DotDotDot) {
+        return spread_property(g, t, p);
+    }
+    keyed_property(g, t, p)
+}
+
+/// Properties, from `{` on.
+#[tactic(auto, unfolding(swc_ecma_parser_reader::specs::Expressions::properties), using(swc_ecma_parser_reader::proofs::expressions::Loops::properties_done, swc_ecma_parser_reader::proofs::expressions::Loops::properties_err, swc_ecma_parser_reader::proofs::expressions::Loops::properties_last, swc_ecma_parser_reader::proofs::expressions::Loops::properties_more, swc_ecma_parser_reader::proofs::expressions::Loops::properties_comma_err, swc_ecma_parser_reader::proofs::expressions::Loops::property_shorter, swc_ecma_parser_reader::proofs::expressions::Loops::properties_shorter))]
+fn properties<
+    P: Source,
+    T: BuildsMethod + BuildsPattern,
+    S: Fn(&MakerOf<T>, &mut P, usize, Position) -> PResult<T::Stmt>,
+    E: Fn(&MakerOf<T>, &mut P, usize, Reading) -> PResult<Cover<T::Expr>>,
+    N: Fn(&MakerOf<T>, &mut P, usize, Part) -> PResult<T::Pat>,
+>(g: &Grammar<S, E, N>, t: &MakerOf<T>, p: &mut P) -> PResult<Covers<T::Prop>>
+    requires { Nests P.seen T.expr_of T.pat_of T.stmt_of g.now.depth (S.pre g.now.stmt) (S.post g.now.stmt) (E.pre g.now.expr) (E.post g.now.expr) (N.pre g.now.pat) (N.post g.now.pat) }
+    ensures { GivesAs (covers_of T.prop_of) (exprs.properties (rules.expr g.now.depth) (rules.cover g.now.depth) (rules.function g.now.depth) (P.seen p.old)) result (P.seen p.new) }
+{
+    p.skip()?;
+    let mut found = Covers {
+        parts: Vec::new(t.alloc),
+        mark: None,
+        comma: false,
+    };
+    'properties: loop {
+        if p.sees(TokenKind::RBrace) {
+            p.skip()?;
+            return Ok(found);
+        }
+        let is_spread = p.sees(TokenKind::DotDotDot);
+        let part = property(g, t, p)?;
+        joined(p, &mut found, part)?;
+        if !p.sees(TokenKind::RBrace) {
+            p.expect(TokenKind::Comma, ",")?;
+            behind_comma(&mut found, is_spread);
+        }
+    }
+}
+
+/// An object.
+#[tactic(auto, unfolding(swc_ecma_parser_reader::specs::Expressions::object))]
+pub fn object<
+    P: Source,
+    T: BuildsMethod + BuildsPattern,
+    S: Fn(&MakerOf<T>, &mut P, usize, Position) -> PResult<T::Stmt>,
+    E: Fn(&MakerOf<T>, &mut P, usize, Reading) -> PResult<Cover<T::Expr>>,
+    N: Fn(&MakerOf<T>, &mut P, usize, Part) -> PResult<T::Pat>,
+>(g: &Grammar<S, E, N>, t: &MakerOf<T>, p: &mut P) -> PResult<Cover<T::Expr>>
+    requires { Nests P.seen T.expr_of T.pat_of T.stmt_of g.now.depth (S.pre g.now.stmt) (S.post g.now.stmt) (E.pre g.now.expr) (E.post g.now.expr) (N.pre g.now.pat) (N.post g.now.pat) }
+    ensures gives { GivesAs (cover_of T.expr_of) (exprs.object (rules.expr g.now.depth) (rules.cover g.now.depth) (rules.function g.now.depth) (P.seen p.old)) result (P.seen p.new) }
+    ensures literal { IfOk result (λ v. is_literal (T.expr_of v.tree) ≡ true) }
+{
+    let start = p.span();
+    let Covers { parts, mark, comma } = properties(g, t, p)?;
+    let span = since(p, start);
+    let tree = grown(p, T::object(t.alloc, span, parts))?;
+    Ok(Cover { tree, mark, comma })
+}
