@@ -26,8 +26,6 @@ mod report;
 #[cfg(test)]
 mod rows;
 #[cfg(test)]
-mod single_expressions;
-#[cfg(test)]
 mod statements;
 #[cfg(test)]
 mod texts;
