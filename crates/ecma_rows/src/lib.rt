@@ -2,8 +2,6 @@
 #![tactic(auto)]
 
 #[cfg(test)]
-mod arrows;
-#[cfg(test)]
 mod awaits;
 #[cfg(test)]
 mod declarations;

@@ -1,3 +1,2 @@
-pub mod Binding
 pub mod Kind
 pub mod Turned
