@@ -134,7 +134,6 @@ const REFUSED: &str = "a ?? b || c → refused 0..11 NullishCoalescingWithLogica
 1 + f() += 2 → refused 0..7 NotSimpleAssign
 1++ → refused 0..1 NotSimpleAssign
 ++1 → refused 2..3 NotSimpleAssign
-(a) => b → refused 4..6 Unexpected
 a ? b → refused 4..5 Expected";
 
 #[test]
@@ -149,7 +148,7 @@ fn tables(rt: HostRuntime) -> Result<(), Fail> {
         (SUPERS, "9 rows"),
         (PRIVATE_NAMES, "7 rows"),
         (IMPORTS, "22 rows"),
-        (REFUSED, "8 rows"),
+        (REFUSED, "7 rows"),
     ] {
         assert_eq!(rt; report(rt.alloc(), rows, 1000)?.as_str(), wanted);
     }

@@ -2,6 +2,8 @@
 #![tactic(auto)]
 
 #[cfg(test)]
+mod arrows;
+#[cfg(test)]
 mod awaits;
 #[cfg(test)]
 mod declarations;

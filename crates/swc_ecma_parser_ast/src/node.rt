@@ -279,6 +279,8 @@ impl ExprBox<Node> {
 }
 
 impl PatBox<Node> {
+    ghost use Rattle.std.specs.Prelude.{◌||◌, true, IfNone};
+
     /// A handle of a pattern; it fails only where memory runs out.
     pub fn new(alloc: Global, value: Pat<Node>) -> Result<PatBox<Node>, AllocError>
         ensures { IfOk result (λ b. b.node.tree ≡ view_pat value) }
@@ -291,7 +293,8 @@ impl PatBox<Node> {
 
     /// The pattern; none only of a handle that no function of this crate makes.
     pub fn get(&self) -> Option<&Pat<Node>>
-        ensures { MatchOption result (is_pat self.now.node.tree ≡ false) (λ e. view_pat e.now ≡ self.now.node.tree) }
+        ensures view { MatchOption result (is_pat self.now.node.tree ≡ false) (λ e. view_pat e.now ≡ self.now.node.tree) }
+        ensures other { let t = self.now.node.tree in IfNone result ((is_expr t || is_stmt t || is_list t) ≡ true) }
     {
         match &self.node.inner {
             Any::Pat(e) => Some(e),

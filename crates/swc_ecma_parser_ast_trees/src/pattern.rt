@@ -8,6 +8,7 @@ use swc_ecma_parser_ast::{
     ArrayPat, AssignPat, AssignPatProp, BindingIdent, Ident, Invalid, ObjectPat, ObjectPatProp,
     Pat, PatBox, PropName, RestPat, Span, Spanned,
 };
+use swc_ecma_parser_ast_parts::binds::binds;
 use swc_ecma_parser_ast_parts::boxes::{beside, key_value_pattern, pattern_elements};
 use swc_ecma_parser_ast_parts::made::Made;
 use swc_ecma_parser_ast_parts::target::as_pattern;
@@ -42,6 +43,14 @@ impl BuildsPattern for Ast {
         as_pattern(alloc, expr.into_inner(), false)
     }
 
+    fn element(alloc: Global, expr: Made) -> Result<Option<Pat>, AllocError> {
+        as_pattern(alloc, expr.into_inner(), true)
+    }
+
+    fn binds(pat: &Pat) -> bool {
+        binds(pat)
+    }
+
     fn invalid_pat(alloc: Global, span: Span) -> Result<Pat, AllocError> {
         Ok(Pat::Invalid(Invalid { span }))
     }
@@ -51,6 +60,13 @@ impl BuildsPattern for Ast {
     }
 
     fn is_binding_name(pat: &Pat) -> bool {
+        match pat {
+            Pat::Ident(_) => true,
+            _ => false,
+        }
+    }
+
+    fn is_plain(pat: &Pat) -> bool {
         match pat {
             Pat::Ident(_) => true,
             _ => false,

@@ -3,3 +3,6 @@ pub mod Enclosed
 pub mod Parts
 pub mod OwnNames
 pub mod Setters
+pub mod NoBlocks
+pub mod Plain
+pub mod ArrowParts

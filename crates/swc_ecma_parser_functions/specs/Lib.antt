@@ -1,3 +1,4 @@
 pub mod Bodies
 pub mod Late
 pub mod Methods
+pub mod Arrows

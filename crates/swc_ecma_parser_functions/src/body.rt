@@ -33,6 +33,20 @@ pub enum Body {
     Clause,
 }
 
+impl Body {
+    /// What holds statements up to a `}`, with directives or without.
+    pub(crate) fn in_braces(directives: bool) -> Body
+        ensures ends { ends_of result ≡ rules.closes }
+        ensures directs { directs_of result ≡ directives }
+    {
+        if directives {
+            Body::Function
+        } else {
+            Body::Block
+        }
+    }
+}
+
 /// A statement in a block or a body.
 const NESTED_ITEM: Position = Position {
     include_decl: true,

@@ -14,7 +14,7 @@ ghost use Rattle.swc_ecma_parser_model.specs.Tree as tree;
 ghost use Rattle.swc_ecma_parser_reader.specs.Methods as methods;
 ghost use Rattle.swc_ecma_parser_reader.specs.Methods.{expression_form};
 ghost use Rattle.swc_ecma_parser_reader.specs.Reader as rules;
-ghost use Rattle.swc_ecma_parser_reader.specs.State.{Gives, GivesAs, within};
+ghost use Rattle.swc_ecma_parser_reader.specs.State.{Gives, GivesAs, enclosed, within};
 ghost use Rattle.swc_ecma_parser_trees.specs.Parts.{part_of};
 
 use crate::body::{Body, body_items, close};
@@ -121,7 +121,7 @@ pub(crate) fn parameters_inside<
     Ok(found)
 }
 
-/// The statements of a body, from its `{` to its `}`.
+/// The statements of a body, from its `{` to its `}`, with directives or without.
 #[tactic(auto, unfolding(swc_ecma_parser_reader::specs::Reader::braced, swc_ecma_parser_reader::specs::Reader::block_from, swc_ecma_parser_grammar::specs::Looks::spanned))]
 fn block<
     P: Source,
@@ -129,14 +129,19 @@ fn block<
     S: Fn(&MakerOf<T>, &mut P, usize, Position) -> PResult<T::Stmt>,
     E: Fn(&MakerOf<T>, &mut P, usize, Reading) -> PResult<Cover<T::Expr>>,
     N: Fn(&MakerOf<T>, &mut P, usize, Part) -> PResult<T::Pat>,
->(g: &Grammar<S, E, N>, t: &MakerOf<T>, p: &mut P) -> PResult<FunctionBody<T::Block>>
+>(
+    g: &Grammar<S, E, N>,
+    t: &MakerOf<T>,
+    p: &mut P,
+    directives: bool,
+) -> PResult<FunctionBody<T::Block>>
     requires { Nests P.seen T.expr_of T.pat_of T.stmt_of g.now.depth (S.pre g.now.stmt) (S.post g.now.stmt) (E.pre g.now.expr) (E.post g.now.expr) (N.pre g.now.pat) (N.post g.now.pat) }
-    ensures gives { GivesAs (λ body. T.block_of body.block) (rules.braced (rules.stmt g.now.depth nested_item) true (P.seen p.old)) result (P.seen p.new) }
+    ensures gives { GivesAs (λ body. T.block_of body.block) (rules.braced (rules.stmt g.now.depth nested_item) directives (P.seen p.old)) result (P.seen p.new) }
     ensures directive { IfOk result (λ body. own.misplaced_directive false (T.block_of body.block) ≡ late body.strict_directive) }
 {
     let start = p.span();
     p.expect(TokenKind::LBrace, "{")?;
-    let stmts = body_items(g, t, p, Body::Function)?;
+    let stmts = body_items(g, t, p, Body::in_braces(directives))?;
     close(t.alloc, p)?;
     let span = since(p, start);
     let strict_directive = first_use_strict::<T>(&stmts);
@@ -147,7 +152,35 @@ fn block<
     })
 }
 
-/// A body, in what stands around its statements.
+/// Statements in braces as a body, in what stands around them, with directives or without.
+pub(crate) fn inner_body<
+    P: Source,
+    T: BuildsBlock,
+    S: Fn(&MakerOf<T>, &mut P, usize, Position) -> PResult<T::Stmt>,
+    E: Fn(&MakerOf<T>, &mut P, usize, Reading) -> PResult<Cover<T::Expr>>,
+    N: Fn(&MakerOf<T>, &mut P, usize, Part) -> PResult<T::Pat>,
+>(
+    g: &Grammar<S, E, N>,
+    t: &MakerOf<T>,
+    p: &mut P,
+    manner: Manner,
+    directives: bool,
+) -> PResult<FunctionBody<T::Block>>
+    requires { Nests P.seen T.expr_of T.pat_of T.stmt_of g.now.depth (S.pre g.now.stmt) (S.post g.now.stmt) (E.pre g.now.expr) (E.post g.now.expr) (N.pre g.now.pat) (N.post g.now.pat) }
+    ensures gives { GivesAs (λ body. T.block_of body.block) (within (λ k. contexts.in_body k manner.is_async manner.is_generator) (enclosed (rules.braced (rules.stmt g.now.depth nested_item) directives)) (P.seen p.old)) result (P.seen p.new) }
+    ensures directive { IfOk result (λ body. own.misplaced_directive false (T.block_of body.block) ≡ late body.strict_directive) }
+{
+    let outer = p.flags();
+    p.set_flags(in_body(outer, manner));
+    let around = p.enter_body(t.alloc);
+    let body = block(g, t, p, directives)?;
+    p.leave_body(around);
+    p.set_flags(outer);
+    Ok(body)
+}
+
+/// The body of a function, in what stands around its statements.
+#[tactic(auto, unfolding(swc_ecma_parser_reader::specs::Reader::function_body))]
 pub(crate) fn function_body<
     P: Source,
     T: BuildsBlock,
@@ -164,13 +197,7 @@ pub(crate) fn function_body<
     ensures gives { GivesAs (λ body. T.block_of body.block) (rules.function_body (rules.stmt g.now.depth nested_item) (rules.parameters g.now.depth) manner.is_async manner.is_generator (P.seen p.old)) result (P.seen p.new) }
     ensures directive { IfOk result (λ body. own.misplaced_directive false (T.block_of body.block) ≡ late body.strict_directive) }
 {
-    let outer = p.flags();
-    p.set_flags(in_body(outer, manner));
-    let around = p.enter_body(t.alloc);
-    let body = block(g, t, p)?;
-    p.leave_body(around);
-    p.set_flags(outer);
-    Ok(body)
+    inner_body(g, t, p, manner, true)
 }
 
 /// Patterns as parameters, each as long as its pattern.

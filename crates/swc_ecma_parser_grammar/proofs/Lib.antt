@@ -9,6 +9,8 @@ pub mod Narrows
 pub mod StatementEntries
 pub mod FunctionExprs
 pub mod MethodParts
+pub mod Arrows
+pub mod Binding
 pub mod FewFlags
 pub mod Tabled
 pub mod language

@@ -1,7 +1,7 @@
 -- With which tokens a supported expression begins: but for `{` and `import` with none that begins or ends a statement. A name is
 -- no `await`.
-use Rattle.std.proofs.Common.{◌≡◌, ◌⊎◌, inl, inr, ℕ, zero, suc, Bool, true, false, [], ◌∷◌, Some, refl, sym, ◌∙◌, ap}
-use Rattle.std.specs.Prelude.{not, codes}
+use Rattle.std.proofs.Common.{◌≡◌, ◌⊎◌, inl, inr, ℕ, zero, suc, Bool, true, false, true≢false, List, [], ◌∷◌, Some, refl, sym, ◌∙◌, ap}
+use Rattle.std.specs.Prelude.{not, ◌&&◌, codes}
 use Rattle.std.specs.Str.{bytes_eq}
 use Rattle.swc_ecma_parser_common.specs.declared.span.Span.{Span}
 use Rattle.swc_ecma_parser_token.specs.declared.kind.TokenKind.{TokenKind}
@@ -20,14 +20,14 @@ use Rattle.swc_ecma_parser_model.specs.declared.operators.UpdateOp.{UpdateOp}
 use Rattle.swc_ecma_parser_model.specs.declared.operators.BinaryOp.TheVariants as binary
 use Rattle.swc_ecma_parser_model.specs.Tree as tree
 use Rattle.swc_ecma_parser_model.specs.Tree.{Tree, Text, listed}
-use Rattle.swc_ecma_parser_model.specs.Forms.{is_pattern_target}
+use Rattle.swc_ecma_parser_model.specs.Forms.{is_pattern_target, is_binding_name}
 use Rattle.swc_ecma_parser_grammar.specs.Follows as follows
 use Rattle.swc_ecma_parser_grammar.specs.Looks.{kind_at, sees, spanned, same_kind}
 use Rattle.swc_ecma_parser_grammar.specs.Names.{Code, is_reserved, is_name, is_identifier, is_clean_name}
 use Rattle.swc_ecma_parser_grammar.specs.Reads.{ReadsToken}
 use Rattle.swc_ecma_parser_grammar.specs.Supported.{supported_in}
 use Rattle.swc_ecma_parser_grammar.specs.ReadsSupported.{ReadsClass}
-use Rattle.swc_ecma_parser_grammar.specs.language.Goals.{Goal, expression, assigning}
+use Rattle.swc_ecma_parser_grammar.specs.language.Goals.{Goal, expression, binding, assigning, pattern_goal}
 use Rattle.swc_ecma_parser_grammar.specs.language.Patterns as patterns
 use Rattle.swc_ecma_parser_grammar.specs.language.Operators.{unary_operator, update_operator}
 use Rattle.swc_ecma_parser_grammar.specs.language.Parts.{ReadsName}
@@ -220,12 +220,31 @@ module _ (In : Goal → Type 0) (k : Code) where
   pattern_opens x c d (patterns.array_rule xs m i r j n e) h = kind_opens c kind.LBracket i refl
   pattern_opens x c d (patterns.object_rule xs m i r j n e) h = kind_opens c kind.LBrace i refl
 
+-- a binding pattern of the next level that is a name begins with it
+abbrev NameOpens : (In : Goal → Type 0) → Code → Type 0
+NameOpens In k = (p : Tree) (c d : Place) → In (pattern_goal binding k p c d) → is_binding_name p ≡ true → supported_in k.flags.module p ≡ true → opens (kind_at c) ≡ true
+
+module _ (In : Goal → Type 0) (k : Code) (small : NameOpens In k) where
+  -- an arrow that is not async begins with its name or with `(`
+  arrow_head_opens : (ps : List Tree) (c d : Place) → expressions.ArrowHeadRule In k ps c d → supported_in k.flags.module (listed ps) ≡ true → opens (kind_at c) ≡ true
+  arrow_head_opens ps c d (expressions.name_head p r i e) h =
+      small p c d r i (and_yes (supported_in k.flags.module p) _ (supported_as _ (listed ps) (listed (p ∷ [])) (ap listed e) h)).0
+  arrow_head_opens ps c d (expressions.parameters_head r) h = kind_opens c kind.LParen r.opens refl
+
+  arrow_opens : (a : Bool) (ps : List Tree) (y : Tree) (s : Span) (c i j : Place) → follows.AsyncWord a c i → expressions.ArrowHeadRule In k ps i j
+      → supported_in k.flags.module (tree.arrow s (listed ps) y a) ≡ true → opens (kind_at c) ≡ true
+  arrow_opens a ps y s c i j (follows.not_async e g) r h =
+      let f = (and_yes (not a) _ h).1 in
+      let l = (and_yes (supported_in k.flags.module (listed ps) && supported_in k.flags.module y) _ f).0 in
+      ap (λ p. opens (kind_at p)) (sym g) ∙ arrow_head_opens ps i j r (and_yes (supported_in k.flags.module (listed ps)) _ l).0
+  arrow_opens a ps y s c i j (follows.async_word e w g b) r h = cc
+
   assignment_opens : (x : Tree) (c d : Place) → expressions.AssignmentRule In k x c d → supported_in k.flags.module x ≡ true → opens (kind_at c) ≡ true
-  assignment_opens x c d (expressions.operators_rule r s) h = binary_opens r h
-  assignment_opens x c d (expressions.conditional_rule t y z i j r q a b s u e) h = binary_opens r (and_yes (supported_in k.flags.module t) _ (supported_as _ x (tree.cond (spanned c d) t y z) e h)).0
-  assignment_opens x c d (expressions.assign_rule op y z m r t a b e) h = left_side_opens r.0 (and_yes (supported_in k.flags.module y) _ (supported_as _ x (tree.assign (spanned c d) op y z) e h)).0
-  assignment_opens x c d (expressions.destructuring_rule y z m r t a b e) h = pattern_opens y c m r t
-  assignment_opens x c d (expressions.arrow_rule a ps y i j r s t b u e) h = refuted _ x (ap (supported_in k.flags.module) e) h
+  assignment_opens x c d (expressions.operators_rule r s) h = binary_opens In k r h
+  assignment_opens x c d (expressions.conditional_rule t y z i j r q a b s u e) h = binary_opens In k r (and_yes (supported_in k.flags.module t) _ (supported_as _ x (tree.cond (spanned c d) t y z) e h)).0
+  assignment_opens x c d (expressions.assign_rule op y z m r t a b e) h = left_side_opens In k r.0 (and_yes (supported_in k.flags.module y) _ (supported_as _ x (tree.assign (spanned c d) op y z) e h)).0
+  assignment_opens x c d (expressions.destructuring_rule y z m r t a b e) h = pattern_opens In k y c m r t
+  assignment_opens x c d (expressions.arrow_rule a ps y i j r s t b u e) h = arrow_opens a ps y (spanned c d) c i j r s (supported_as _ x (tree.arrow (spanned c d) (listed ps) y a) e h)
   assignment_opens x c d (expressions.bare_yield_rule g i n s e) h = kind_opens c kind.Yield i refl
   assignment_opens x c d (expressions.yield_rule y g i b s r e) h = kind_opens c kind.Yield i refl
   assignment_opens x c d (expressions.delegate_rule y g i b m r e) h = kind_opens c kind.Yield i refl
@@ -235,9 +254,22 @@ module _ (In : Goal → Type 0) (k : Code) where
   expression_opens x c d (expressions.sequence_rule y z zs (m, r, i, rs) e) h =
       assignment_opens y c m r (and_yes (supported_in k.flags.module y) _ (supported_as _ x (tree.seq (spanned c d) (listed (y ∷ z ∷ zs))) e h)).0
 
+-- a pattern that is a name
+name_pattern_opens : (In : Goal → Type 0) (k : Code) (x : Tree) (c d : Place) → patterns.PatternRule In binding k x c d → is_binding_name x ≡ true
+    → supported_in k.flags.module x ≡ true → opens (kind_at c) ≡ true
+name_pattern_opens In k x c d (patterns.binding_name_rule text s p r e) i h = name_opens k text s c d r (supported_as _ x (tree.ident_pat s text) e h)
+name_pattern_opens In k x c d (patterns.target_name_rule text s p a r e) i h = cc
+name_pattern_opens In k x c d (patterns.target_rule y p r t j e) i h = cc
+name_pattern_opens In k x c d (patterns.array_rule xs m j r l n e) i h = absurd (true≢false (sym i ∙ ap is_binding_name e))
+name_pattern_opens In k x c d (patterns.object_rule xs m j r l n e) i h = absurd (true≢false (sym i ∙ ap is_binding_name e))
+
+names_open : (n : ℕ) (k : Code) → NameOpens (Reads n) k
+names_open zero k p c d r i h = absurd r
+names_open (suc n) k p c d r i h = name_pattern_opens (Reads n) k p c d r i h
+
 pub expr_opens : (n : ℕ) (k : Code) (x : Tree) (c d : Place) → ReadsClass n expression k x c d → opens (kind_at c) ≡ true
 expr_opens zero k x c d r = absurd r.0
-expr_opens (suc n) k x c d r = expression_opens (Reads n) k x c d r.0 r.1
+expr_opens (suc n) k x c d r = expression_opens (Reads n) k (names_open n k) x c d r.0 r.1
 
 -- a name is neither `await` nor `import`
 word_no_await : (f : Context) (w : Word) → is_name f (word_text w) ≡ true → same_kind (word_kind w) kind.Await ≡ false

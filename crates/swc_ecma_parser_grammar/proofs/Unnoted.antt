@@ -1,7 +1,7 @@
 -- Notes are of statements alone: no supported expression and no supported pattern has any, and none that begins with `import` is a
 -- bare name.
 use Rattle.std.proofs.Common.{◌≡◌, ℕ, zero, suc, Bool, true, false, true≢false, List, [], ◌∷◌, ◌++◌, refl, sym, ◌∙◌, ap, subst}
-use Rattle.std.specs.Prelude.{◌&&◌, None, Some}
+use Rattle.std.specs.Prelude.{not, ◌&&◌, None, Some}
 use Rattle.swc_ecma_parser_common.specs.declared.span.Span.{Span}
 use Rattle.swc_ecma_parser_error.specs.Kind.{Fault}
 use Rattle.swc_ecma_parser_token.specs.declared.kind.TokenKind.TheVariants as kind
@@ -17,7 +17,7 @@ use Rattle.swc_ecma_parser_grammar.specs.Parameters.{parameters}
 use Rattle.swc_ecma_parser_grammar.specs.Follows.{begins_import_expression}
 use Rattle.swc_ecma_parser_grammar.specs.Notes.{notes, all_notes, statement_note}
 use Rattle.swc_ecma_parser_grammar.specs.Reads.{with_in, ReadsSeparated}
-use Rattle.swc_ecma_parser_grammar.specs.Supported.{supported_in, all_supported_in, is_supported_key_in, is_supported_property_in, has_no_note, is_rightly_directed, is_rightly_set, is_clean}
+use Rattle.swc_ecma_parser_grammar.specs.Supported.{supported_in, all_supported_in, is_supported_key_in, is_supported_property_in, has_no_note, is_rightly_directed, is_rightly_set, is_rightly_headed, is_clean}
 use Rattle.swc_ecma_parser_grammar.specs.ReadsSupported.{ReadsClass}
 use Rattle.swc_ecma_parser_grammar.specs.language.Goals.{Goal, Class, Purpose, binding, expression, assignment, operator, unary, left_side, callee, expr_goal, callee_goal, pattern_goal, element_goal, stmt_goal, member_goal, decorator_goal, using_goal, attributes_goal, item_goal}
 use Rattle.swc_ecma_parser_grammar.specs.language.Lists.{ReadsListed, Elements, no_elements, hole, last_element, more_elements}
@@ -32,7 +32,7 @@ use Rattle.swc_ecma_parser_grammar.specs.language.Patterns.{PatternPropertyRule,
 use Rattle.swc_ecma_parser_grammar.specs.language.LeftSides as sides
 use Rattle.swc_ecma_parser_grammar.specs.language.LeftSides.{PrimaryRule, LeftSideRule}
 use Rattle.swc_ecma_parser_grammar.specs.language.Expressions as expressions
-use Rattle.swc_ecma_parser_grammar.specs.language.Expressions.{UnaryRule, BinaryRule, AssignmentRule, ExpressionRule, ExprRule}
+use Rattle.swc_ecma_parser_grammar.specs.language.Expressions.{UnaryRule, BinaryRule, ArrowHeadRule, AssignmentRule, ExpressionRule, ExprRule}
 use Rattle.swc_ecma_parser_grammar.specs.language.Reads.{Reads}
 use Rattle.swc_ecma_parser_grammar.proofs.Tests.{and_yes}
 use Rattle.swc_ecma_parser_grammar.proofs.Naming.{name_is_name}
@@ -244,6 +244,20 @@ module _ (In : Goal → Type 0) (small : (g : Goal) → In g → SilentGoal g) w
   binary_silent {k = k} {x = x} {c = c} {d = d} (expressions.power_rule y z m b r u i s e) =
       silent_as x (tree.bin (spanned c d) binary.Exp y z) e (both_silent y z (unary_silent k y c m r) (small _ s))
 
+  -- the parameters of an arrow, and the whole, whose body has none in module code
+  arrow_head_silent : (k : Code) (ps : List Tree) (c d : Place) → ArrowHeadRule In k ps c d → AllSilent ps
+  arrow_head_silent k ps c d (expressions.name_head p r i e) h =
+      let g = sym (ap (λ l. all_supported_in true (trees l)) e) ∙ h in
+      ap (λ l. all_notes (trees l)) e ∙ joined (notes p) [] (small (pattern_goal binding k p c d) r (and_yes (supported_in true p) _ g).0) refl
+  arrow_head_silent k ps c d (expressions.parameters_head r) h =
+      listed_silent (PatternItemRule In binding (with_in k)) (pattern_item_silent binding (with_in k)) true ps (after c) r.close r.reads_patterns h
+
+  arrow_silent : (k : Code) (a : Bool) (ps : List Tree) (y : Tree) (s : Span) (c d : Place) → ArrowHeadRule In k ps c d → Silent (tree.arrow s (listed ps) y a)
+  arrow_silent k a ps y s c d r h =
+      let g = and_yes (supported_in true (listed ps) && supported_in true y) _ (and_yes (not a) _ h).1 in
+      joined (notes (listed ps)) (notes y) (arrow_head_silent k ps c d r (and_yes (supported_in true (listed ps)) _ g.0).0)
+      (clean_is (notes y) (and_yes (is_rightly_headed (listed ps) y) _ g.1).1)
+
   assignment_silent : (k : Code) (x : Tree) (c d : Place) → AssignmentRule In k x c d → Silent x
   assignment_silent k x c d (expressions.operators_rule r s) = binary_silent r
   assignment_silent k x c d (expressions.conditional_rule t y z i j r q a b s u e) = silent_as x (tree.cond (spanned c d) t y z) e (λ h.
@@ -255,7 +269,7 @@ module _ (In : Goal → Type 0) (small : (g : Goal) → In g → SilentGoal g) w
       silent_as x (tree.assign (spanned c d) op y z) e (both_silent y z (left_silent r.0) (small (expr_goal assignment k z (after m) d) s))
   assignment_silent k x c d (expressions.destructuring_rule y z m r t a s e) =
       silent_as x (tree.assign (spanned c d) assign.Assign y z) e (both_silent y z (pattern_silent r) (small (expr_goal assignment k z (after m) d) s))
-  assignment_silent k x c d (expressions.arrow_rule a ps y i j r s t b u e) = λ h. refuted _ x (ap (supported_in true) e) h
+  assignment_silent k x c d (expressions.arrow_rule a ps y i j r s t b u e) = silent_as x (tree.arrow (spanned c d) (listed ps) y a) e (arrow_silent k a ps y (spanned c d) i j s)
   assignment_silent k x c d (expressions.bare_yield_rule g i n s e) = λ h. ap notes e
   assignment_silent k x c d (expressions.yield_rule y g i b s r e) = silent_as x (tree.yield (spanned c d) y false) e (small (expr_goal assignment k y (after c) d) r)
   assignment_silent k x c d (expressions.delegate_rule y g i b m r e) = silent_as x (tree.yield (spanned c d) y true) e (small (expr_goal assignment k y (after (after c)) d) r)

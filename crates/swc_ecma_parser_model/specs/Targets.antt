@@ -1,6 +1,6 @@
 -- What an expression is where it is assigned to: ECMA-262, section 13.15.5. None where it is no target. An array or object
 -- becomes a pattern, part by part; a part `name = value` of an object is one of a pattern alone.
-use Rattle.std.specs.Prelude.{Bool, true, false, Option, Some, None, if◌then◌else◌}
+use Rattle.std.specs.Prelude.{Bool, true, false, ◌&&◌, Option, Some, None, if◌then◌else◌}
 use Rattle.swc_ecma_parser_common.specs.declared.span.Span.{Span}
 use Rattle.swc_ecma_parser_model.specs.declared.operators.AssignOp.TheVariants as assign
 use Rattle.swc_ecma_parser_model.specs.Tree as tree
@@ -87,3 +87,31 @@ as_target = as_pattern false
 -- an element, or the value of a property
 abbrev pub as_element : Tree → Option Tree
 as_element = as_pattern true
+
+-- ---- parameters of arrow functions, which are read as expressions first: section 15.3
+
+-- whether a pattern has names alone where a target could stand; then it binds what it assigns
+abbrev mutual
+  pub binds : Tree → Bool
+  binds (tree.ident_pat s text) = true
+  binds (tree.array_pat s (tree.list xs)) = all_bind xs
+  binds (tree.object_pat s (tree.list xs)) = all_bind xs
+  binds (tree.rest_pat s p) = binds p
+  binds (tree.assign_pat s left right) = binds left
+  binds (tree.key_value_pat_prop s key p) = binds p
+  binds (tree.assign_pat_prop s key value) = true
+  -- a hole
+  binds tree.absent = true
+  binds _ = false
+
+  pub all_bind : Trees → Bool
+  all_bind none = true
+  all_bind (also x xs) = binds x && all_bind xs
+
+abbrev pub if_binds : Option Tree → Option Tree
+if_binds (Some p) = if binds p then Some p else None
+if_binds None = None
+
+-- as a parameter, with a default or without one
+abbrev pub as_parameter : Tree → Option Tree
+as_parameter x = if_binds (as_element x)

@@ -40,9 +40,9 @@ fn goes_on<P: Source>(p: &P) -> bool
         || assigns_here(p)
 }
 
-/// What goes on with an array or object that was read from a place on.
+/// What goes on with an array or object, or with what stands in parentheses, that was read from a place on.
 #[tactic(auto, unfolding(swc_ecma_parser_reader::specs::Expressions::continued, swc_ecma_parser_reader::specs::Expressions::postfixed))]
-fn continued<
+pub(crate) fn continued<
     P: Source,
     T: BuildsCall + BuildsOperator,
     S: Fn(&MakerOf<T>, &mut P, usize, Position) -> PResult<T::Stmt>,

@@ -2,5 +2,6 @@
 //! What stands further in is read by the readers that a rule takes as parameters.
 #![tactic(auto)]
 
+mod arrows;
 pub mod assignment;
 pub mod operator;

@@ -10,10 +10,12 @@ ghost use Rattle.swc_ecma_parser_reader.specs.Expressions as exprs;
 ghost use Rattle.swc_ecma_parser_reader.specs.Reader as rules;
 ghost use Rattle.swc_ecma_parser_reader.specs.State.{Gives, GivesAs};
 
+use crate::arrows::grouped;
 use crate::assignment::assignment_expr;
 use std::alloc::Global;
 use swc_ecma_parser_common::Span;
 use swc_ecma_parser_error::{PResult, SyntaxError};
+use swc_ecma_parser_functions::arrows::named_arrow;
 use swc_ecma_parser_functions::awaits::await_expr;
 use swc_ecma_parser_functions::yields::{begins_yield, yield_expr};
 use swc_ecma_parser_grammar::{Class, Position};
@@ -428,8 +430,8 @@ fn operators_expr<
     behind_operators(g, t, p, is_async, start, x)
 }
 
-/// `yield`, which is no operand, or operands and operators.
-#[tactic(auto, unfolding(swc_ecma_parser_reader::specs::Expressions::plain_expr))]
+/// `yield` and arrow functions, which are no operands, or operands and operators.
+#[tactic(auto, unfolding(swc_ecma_parser_reader::specs::Expressions::plain_expr, swc_ecma_parser_reader::specs::Arrows::begins_named_arrow))]
 pub(crate) fn plain_expr<
     P: Source,
     T: BuildsExpr + BuildsCall + BuildsMethod + BuildsOperator + BuildsPattern,
@@ -442,6 +444,12 @@ pub(crate) fn plain_expr<
 {
     if begins_yield(p) {
         return yield_expr(g, t, p);
+    }
+    if p.name_at() && p.next_sees(TokenKind::Arrow) {
+        return named_arrow(g, t, p);
+    }
+    if p.sees(TokenKind::LParen) {
+        return grouped(g, t, p);
     }
     operators_expr(g, t, p)
 }

@@ -21,7 +21,7 @@ use Rattle.swc_ecma_parser_grammar.specs.Follows.{word_at, is_async_of, AwaitWor
 use Rattle.swc_ecma_parser_grammar.specs.Own.{head_faults}
 use Rattle.swc_ecma_parser_grammar.specs.Reads.{InitRule, LeftRule, PartRule, no_part_rule, part_rule, for_rule, for_in_rule, for_of_rule}
 use Rattle.swc_ecma_parser_model.specs.declared.leaves.VarDeclKind.TheVariants as decl
-use Rattle.std.proofs.Common.{◌≡◌, inl, inr, ℕ, zero, suc, Bool, true, false, List, [], ◌∷◌, ◌++◌, Ok, refl, sym, ◌∙◌, ap, subst, append_assoc, append-nil, Option, not, is_some, None, Some}
+use Rattle.std.proofs.Common.{◌≡◌, inl, inr, ℕ, zero, suc, Bool, true, false, List, [], ◌∷◌, ◌++◌, length, Ok, refl, sym, ◌∙◌, ap, subst, append_assoc, append-nil, Option, not, is_some, None, Some}
 use Rattle.std.specs.Prelude.{◌&&◌, ◌||◌, codes}
 use Rattle.swc_ecma_parser_common.specs.declared.span.Span.{Span}
 use Rattle.swc_ecma_parser_error.specs.Kind as faults
@@ -39,16 +39,16 @@ use Rattle.swc_ecma_parser_grammar.specs.Names.{Code}
 use Rattle.swc_ecma_parser_grammar.specs.Ends.{OptionalEnds}
 use Rattle.swc_ecma_parser_grammar.specs.Reads.{with_in, nested_item, ReadsToken, ReadsItems, break_rule, continue_rule, return_rule, StmtRule, block_rule, empty_rule, debugger_rule, variables_rule, if_statement_rule, CaseRule, case_clause_rule, default_clause_rule, ReadsCases, switch_rule, throw_rule, try_rule, while_rule, do_while_rule, expr_rule, import_rule, ReadsBlock, CatchRule, no_catch_rule, catch_rule, catch_parameter_rule, FinallyRule, no_finally_rule, finally_rule, ReadsHead, IfRule, if_rule, no_else_rule, else_rule, else_if_rule}
 use Rattle.swc_ecma_parser_grammar.specs.ReadsSupported.{ReadsClass, ReadsPat, ReadsTarget, ReadsStmt, ReadsParams}
-use Rattle.swc_ecma_parser_grammar.specs.language.Contexts.{in_loop, in_breakable, in_with, named_by, in_parameters, in_body}
-use Rattle.swc_ecma_parser_grammar.specs.language.Goals.{Goal, Purpose, binding, expression, assignment}
+use Rattle.swc_ecma_parser_grammar.specs.language.Contexts.{in_loop, in_breakable, in_with, named_by, in_parameters, in_body, in_arrow}
+use Rattle.swc_ecma_parser_grammar.specs.language.Goals.{Goal, Purpose, binding, expression, assignment, pattern_goal}
 use Rattle.swc_ecma_parser_grammar.specs.language.Items.{sub_statement}
 use Rattle.swc_ecma_parser_grammar.specs.Notes.{notes, with_note}
 use Rattle.swc_ecma_parser_grammar.specs.language.Noted.{has_meta}
 use Rattle.swc_ecma_parser_grammar.specs.Walk.{Env, env_of, walk, walks}
 use Rattle.swc_ecma_parser_reader.specs.Notes.{Notes, ◌⊕◌, notes_of, all_notes_of, held}
 use Rattle.swc_ecma_parser_reader.specs.State.{Scope, State, Outcome, and_then, loop}
-use Rattle.swc_ecma_parser_reader.specs.Methods.{getter_form, setter_form, method_form, expression_form, star}
-use Rattle.swc_ecma_parser_reader.specs.Reader.{getter, setter, plain_method, named, own_name, function_expr, expr, cover, head_cover, pattern, element, parameters, function, function_by}
+use Rattle.swc_ecma_parser_reader.specs.Methods.{getter_form, setter_form, method_form, expression_form, parameter_form, block_form, star}
+use Rattle.swc_ecma_parser_reader.specs.Reader.{getter, setter, plain_method, arrow_block, named, own_name, function_expr, expr, cover, head_cover, pattern, element, parameters, function, function_by}
 use Rattle.swc_ecma_parser_reader.specs.Reader.{closes, block_from, block, braced, expr_stmt_at, import_stmt_at, while_stmt, do_while, goes_on, closed_link, alternative, link_from, link, if_stmt, begins_clause, closes_clause, clause_from, default_clause, case_clause, clause, clauses_turn, clauses, switch_stmt, is_handled, handled, bound, parameter, finalizer, caught, handler, try_stmt, stmt_level, stmt}
 use Rattle.swc_ecma_parser_reader.proofs.Notes.{or_nil, or_assoc}
 use Rattle.swc_ecma_parser_reader.proofs.Answered.{st, Reads, Calm, ReadsCalm, ReadsAs}
@@ -58,13 +58,18 @@ use Rattle.swc_ecma_parser_reader.proofs.Meets.{saw}
 use Rattle.swc_ecma_parser_reader.proofs.expressions.CompleteParts.{name_reads}
 use Rattle.swc_ecma_parser_reader.proofs.expressions.CompleteKinds.{seen, expr_no_const, name_no_const}
 use Rattle.swc_ecma_parser_reader.proofs.expressions.CompleteKinds as kinds
-use Rattle.swc_ecma_parser_reader.proofs.expressions.CompleteParts.{AsExpr, MethodIsRead, IsFunctionRead}
+use Rattle.swc_ecma_parser_reader.proofs.expressions.CompleteParts.{AsExpr, ReadsEnclosed, MethodIsRead, IsFunctionRead}
+use Rattle.swc_ecma_parser_reader.proofs.expressions.Groups as groups
+use Rattle.swc_ecma_parser_reader.proofs.expressions.GroupLevels.{tied_at, begins_at}
+use Rattle.swc_ecma_parser_reader.proofs.expressions.Loops.{shorter_by}
+use Rattle.swc_ecma_parser_reader.proofs.Sound.{cover_code}
 use Rattle.swc_ecma_parser_reader.proofs.expressions.Complete.{read_above, read_nowhere}
 use Rattle.swc_ecma_parser_reader.proofs.expressions.CompleteHeads.{Heads, AsLeft, head_expr_reads, head_target_reads}
 use Rattle.swc_ecma_parser_reader.proofs.patterns.Complete.{pattern_above, pattern_nowhere}
 use Rattle.swc_ecma_parser_reader.proofs.Below.{Below, expr_reads, pattern_reads, parameters_reads}
 use Rattle.swc_ecma_parser_reader.proofs.Falls.{expr_falls, cover_falls, pattern_falls, element_falls, functions_fall}
 use Rattle.swc_ecma_parser_grammar.proofs.FunctionExprs.{function_narrows}
+use Rattle.swc_ecma_parser_grammar.proofs.Arrows.{block_narrows}
 use Rattle.swc_ecma_parser_grammar.proofs.MethodParts.{parts_narrow}
 use Rattle.swc_ecma_parser_grammar.proofs.Unnoted.{clean_is}
 use Rattle.swc_ecma_parser_grammar.proofs.Widens.{parameters_same}
@@ -234,6 +239,12 @@ module _ (n : ℕ) (below : Below n) (reads : (at : Position) (k : Code) (x : Tr
         ap (λ z. z.held_back) (parameters_notes ps),
         ap (λ z. z.found_module_item) (parameters_notes ps),
       ) (simp (append_assoc, append-nil, or_assoc) refl)
+
+  -- ---- the block of an arrow function
+
+  arrow_block_reads : (a : Bool) (k : Code) (x : Tree) (c d : Place) → ReadsBlock (ReadsStmt n) (with_in (in_arrow k a)) x c d → ReadsEnclosed (function n (block_form a)) k x c d
+  unfolding function function_by arrow_block
+  arrow_block_reads a k x c d r w f h = rw (braced_reads (with_in (in_arrow k a)) x c d r (record w { labels = [] }) f h) refl
 
   -- ---- `switch`
 
@@ -675,6 +686,15 @@ in_module : (m b : Bool) → (not m || b) ≡ true → m ≡ true → b ≡ true
 in_module true b h o = h
 in_module false b h o = cc
 
+-- a pattern that an arrow function takes as it stands
+parameter_form_reads : (n : ℕ) (below : Below n) (k : Code) (p : Tree) (c d : Place) → language.Reads n (pattern_goal binding k p c d) → supported_in k.flags.module p ≡ true → Reads (function n parameter_form) k p c d
+unfolding function function_by
+parameter_form_reads n below k p c d r s w f h = below.patterns.reads_pattern k p c d r s w f h
+
+-- what stands in parentheses is read part by part
+parts_at : (n : ℕ) → groups.ReadsParts (cover n)
+parts_at n = record { shorter = λ s v t e. shorter_by (length s.at.left) (cover n s) v t e (cover_falls n s); code = cover_code n; begins = begins_at n }
+
 record Whole (n : ℕ) : Type 0 where
   parts : Below n
   stmts : (at : Position) (k : Code) (x : Tree) (c d : Place) → ReadsStmt n k at x c d → ReadsCalm (stmt n at) k x c d
@@ -706,6 +726,8 @@ module _ (n : ℕ) (b : Whole n) where
         method_reads n b.parts b.stmts k a g key ps body x c m d
         (parts_narrow n k a g ps body m d r j.0 j.1 (λ o. (nil-split (notes (parameter_trees ps)) (notes body) (clean_is _ (in_module k.flags.module _ l.1 o))).1))
         (clean_is _ l.0) e w f h;
+    patterns = λ k p c d r s w f h. parameter_form_reads n b.parts k p c d r s w f h;
+    blocks = λ a k x c d r s q w f h. arrow_block_reads n b.parts b.stmts a k x c d (block_narrows n k a x c d r s q) w f h;
     falls = functions_fall n;
   }
 
@@ -721,7 +743,7 @@ whole : (n : ℕ) → Whole n
 unfolding function expr cover pattern element stmt
 whole zero = record {
   parts = record {
-    exprs = read_nowhere (expr zero) (cover zero) (expr_falls zero) (cover_falls zero);
+    exprs = read_nowhere (expr zero) (cover zero) (expr_falls zero) (cover_falls zero) (tied_at zero) (parts_at zero);
     patterns = pattern_nowhere (pattern zero) (element zero) (pattern_falls zero) (element_falls zero);
     heads = λ k x c d r w f h. absurd r.0;
     targets = λ k p c d r e w f h. absurd r.0;
@@ -730,7 +752,7 @@ whole zero = record {
 }
 whole (suc n) = let b = whole n in record {
   parts = record {
-    exprs = read_above n (expr n) (cover n) b.parts.exprs (function n) (functions n b);
+    exprs = read_above n (expr n) (cover n) b.parts.exprs (function n) (functions n b) (tied_at (suc n)) (parts_at (suc n));
     patterns = pattern_above n (expr n) (cover n) b.parts.exprs (pattern n) (element n) b.parts.patterns;
     heads = heads_above n b;
     targets = targets_above n b;

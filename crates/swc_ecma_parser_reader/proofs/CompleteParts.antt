@@ -12,7 +12,7 @@ use Rattle.swc_ecma_parser_reader.proofs.Meets.{saw}
 use Rattle.swc_ecma_parser_reader.specs.Notes.{no_notes}
 use Rattle.swc_ecma_parser_grammar.proofs.Tests.{and_yes}
 use Rattle.swc_ecma_parser_grammar.proofs.Marks.{name_before_colon}
-use Rattle.swc_ecma_parser_grammar.specs.Names.{is_name, is_reserved, name_at, first_is_name, token_is_name}
+use Rattle.swc_ecma_parser_grammar.specs.Names.{is_name, is_reserved, name_at}
 use Rattle.swc_ecma_parser_reader.specs.Reader.{begins_label, note_with}
 use Rattle.std.proofs.Common.{◌≡◌, ◌⊎◌, inl, inr, ℕ, zero, suc, ◌<◌, Bool, true, false, cond, List, [], ◌∷◌, ◌++◌, length, Option, Some, None, Ok, refl, sym, ◌∙◌, ap, append_assoc, append-nil}
 use Rattle.std.specs.Prelude.{◌&&◌, ◌||◌, codes}
@@ -57,7 +57,7 @@ use Rattle.swc_ecma_parser_reader.proofs.Errors.{is_error, fault_here}
 use Rattle.swc_ecma_parser_reader.proofs.Between.{nil-split}
 use Rattle.swc_ecma_parser_reader.proofs.expressions.CompleteParts.{name_reads}
 use Rattle.swc_ecma_parser_grammar.specs.Own.{break_faults, continue_faults, return_faults}
-use Rattle.swc_ecma_parser_reader.proofs.expressions.CompleteKinds.{seen}
+use Rattle.swc_ecma_parser_reader.proofs.expressions.CompleteKinds.{seen, named_here}
 use Rattle.swc_ecma_parser_reader.proofs.Below.{Below, expr_reads, pattern_reads}
 use Rattle.swc_ecma_parser_reader.proofs.expressions.Covers as covers
 use Rattle.swc_ecma_parser_reader.proofs.expressions.CompleteHeads as heads
@@ -471,20 +471,6 @@ shebang_reads first c d k w f h (some_shebang text s r) = rw (shebang_here text 
 shebang_reads first c d k w f h (no_shebang e g) = rw (no_shebang_in c c.left refl e, g) refl
 
 -- ---- labels
-
--- a name stands there
-pub named_in : (f : Context) (c : Place) (ts : List TokenAndSpan) → c.left ≡ ts → first_is_name f ts ≡ true
-    → (v : Word) × (s : Span) × ReadsToken (token.Word v) s c (after c) × (is_name f (word_text v) ≡ true)
-named_in f c [] e h = cc
-named_in f c (t ∷ ts) e h = by_token t.token refl h
-  where
-    by_token : (u : Token) → t.token ≡ u → token_is_name f u ≡ true → (v : Word) × (s : Span) × ReadsToken (token.Word v) s c (after c) × (is_name f (word_text v) ≡ true)
-    by_token (token.Word v) g i = (v, t.span, record { had_line_break = t.had_line_break; rest = ts; is = e ∙ rw (← g) refl; next = refl }, i)
-    by_token _ g i = cc
-
-pub named_here : (f : Context) (c : Place) → name_at f c ≡ true → (v : Word) × (s : Span) × ReadsToken (token.Word v) s c (after c) × (is_name f (word_text v) ≡ true)
-unfolding name_at
-named_here f c h = named_in f c c.left refl h
 
 pub tree_of : Outcome Tree → Tree
 tree_of (Ok p) = p.0

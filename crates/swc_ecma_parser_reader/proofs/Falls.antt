@@ -8,15 +8,15 @@ use Rattle.swc_ecma_parser_reader.specs.State.{Scope, and_then, below, relabelle
 use Rattle.swc_ecma_parser_grammar.specs.language.Items.{labelled_item}
 use Rattle.swc_ecma_parser_reader.specs.Reader.{begins_label, relabels, labelled_body, labeled_stmt, other_stmt, note_with, with_stmt, await_here, unless_awaited, function_body, function_decl, function_parts, function_stmt, misdirected, function_word, async_or_other}
 use Rattle.swc_ecma_parser_reader.specs.Reader.{missing_initializer, Opening, Nothing, Variables, Expression, as_init, as_left, head_variables, head_expression, opening, head_part, misdeclared, for_parts, for_in, for_of, for_behind, for_stmt, const_stmt, let_stmt}
-use Rattle.swc_ecma_parser_grammar.specs.language.Contexts.{without_in, named_by, in_body, in_parameters}
+use Rattle.swc_ecma_parser_grammar.specs.language.Contexts.{without_in, named_by, in_body, in_arrow, in_parameters}
 use Rattle.swc_ecma_parser_grammar.specs.Variables.{is_const, needs_no_initializer}
 use Rattle.swc_ecma_parser_model.specs.declared.leaves.VarDeclKind.{VarDeclKind}
 use Rattle.swc_ecma_parser_model.specs.declared.leaves.VarDeclKind.TheVariants as decl
-use Rattle.std.proofs.Common.{◌≡◌, ◌≢◌, ℕ, zero, suc, ◌+◌, ◌≤◌, Bool, true, false, cond, List, [], ◌∷◌, length, Option, Some, None, Ok, Err, refl, true≢false, sym, ◌∙◌, arith, subst, ap}
+use Rattle.std.proofs.Common.{◌≡◌, ◌≢◌, ℕ, zero, suc, ◌+◌, ◌≤◌, Bool, true, false, cond, List, [], ◌∷◌, length, Option, Some, None, Ok, Err, refl, true≢false, sym, ◌∙◌, arith, ap}
 use Rattle.std.specs.Prelude.{◌&&◌, ◌||◌, is_some, codes}
 use Rattle.swc_ecma_parser_common.specs.declared.span.Span.{Span}
 use Rattle.swc_ecma_parser_error.specs.Kind as faults
-use Rattle.swc_ecma_parser_error.specs.Kind.{Kind, Fault, fault_of}
+use Rattle.swc_ecma_parser_error.specs.Kind.{Kind, fault_of}
 use Rattle.swc_ecma_parser_token.specs.declared.kind.TokenKind.{TokenKind}
 use Rattle.swc_ecma_parser_token.specs.declared.kind.TokenKind.TheVariants as kind
 use Rattle.swc_ecma_parser_input.specs.Place.{Place, after}
@@ -36,12 +36,12 @@ use Rattle.swc_ecma_parser_reader.specs.State.{State, Outcome, Reader, moved, co
 use Rattle.swc_ecma_parser_reader.specs.Expressions.{Cover}
 use Rattle.swc_ecma_parser_reader.specs.Reader as reader
 use Rattle.swc_ecma_parser_reader.specs.Methods.{MethodForm, getter_form, setter_form, method_form, property_form, star}
-use Rattle.swc_ecma_parser_reader.specs.Reader.{no_parameter, one_parameter, getter, setter, plain_method, function_by, named, own_name, function_expr, expr, cover, head_cover, pattern, element, function}
+use Rattle.swc_ecma_parser_reader.specs.Reader.{no_parameter, one_parameter, getter, setter, plain_method, arrow_block, function_by, named, own_name, function_expr, expr, cover, head_cover, pattern, element, function}
 use Rattle.swc_ecma_parser_grammar.specs.Names.{name_at}
 use Rattle.swc_ecma_parser_reader.specs.Reader.{empty, debugger, uninitialized, initialized, declarator, declarators_turn, declarators, variables, closes, at_end, close, items_turn, items, block_from, block, braced, note_statement, no_label, expr_stmt, expr_stmt_at, told, target, unbroken, break_stmt, uncontinued, continue_stmt, misplaced, after_return, operand, returned, return_stmt, optional_end, import_stmt, import_stmt_at, thrown, throw, head, while_stmt, do_while, Link, goes_on, condition, alternative, link_from, link, behind_link, links, if_stmt, begins_clause, closes_clause, Clauses, clause_from, default_clause, case_clause, clause, clauses_turn, clauses, switch_stmt, is_handled, handled, bound, parameter, finalizer, caught, handler, try_stmt, stmt_by, stmt_level, stmt, top_await_fault, top_await, whole_stmt, shebang_in, shebang_taken, shebang, script_body, script}
-use Rattle.swc_ecma_parser_reader.proofs.Takes.{Falls, falls_then, falls_last, falls_coded, falls_if, less, falls_next, moves, takes, falls_past, falls_moved, wanted_falls, too_deep_falls, refuse_falls, refused_falls, fewer, name_falls, fault_falls, end_falls, close_falls, expect_falls, loop_falls}
+use Rattle.swc_ecma_parser_reader.proofs.Takes.{Falls, falls_then, falls_last, falls_coded, falls_found, falls_if, less, falls_next, moves, takes, falls_past, falls_moved, wanted_falls, too_deep_falls, refuse_falls, refused_falls, fewer, name_falls, fault_falls, end_falls, close_falls, expect_falls, loop_falls}
 use Rattle.swc_ecma_parser_reader.proofs.expressions.Falls as exprs
-use Rattle.swc_ecma_parser_reader.proofs.expressions.Falls.{reject_falls, falls_when, star_falls, FunctionsFall}
+use Rattle.swc_ecma_parser_reader.proofs.expressions.Falls.{reject_falls, falls_when, expect_takes, star_falls, told_falls, FunctionsFall}
 
 -- a choice whose test is known
 falls_where : {A : Type 0} (k n : ℕ) (b : Bool) (x y : Outcome A) → (b ≡ true → Falls k n x) → Falls k n y → Falls k n (cond b x y)
@@ -131,6 +131,11 @@ module _ (inner : Reader Tree) (h : (s : State) → Falls 1 (length s.at.left) (
   braced_falls : (directives : Bool) (s : State) → Falls 0 (length s.at.left) (braced inner directives s)
   unfolding braced
   braced_falls directives s = falls_then 0 0 (length s.at.left) (expect kind.LBrace s) _ (expect_falls kind.LBrace s) (λ _ t. block_from_falls directives s.at t)
+
+  -- `{` is taken
+  braced_takes : (directives : Bool) (s : State) → Falls 1 (length s.at.left) (braced inner directives s)
+  unfolding braced
+  braced_takes directives s = falls_next (length s.at.left) (expect kind.LBrace s) _ (expect_takes kind.LBrace (λ z. cc) s) (λ _ t. block_from_falls directives s.at t)
 
 -- a fault of module code is no token, whether recorded or held back
 noted_either : (b : Bool) (n : ℕ) (s t : State) → length s.at.left + 0 ≤ n → length t.at.left + 0 ≤ n → length (cond b s t).at.left + 0 ≤ n
@@ -260,12 +265,6 @@ module _ (inner : Reader Tree) (h : (s : State) → Falls 1 (length s.at.left) (
   unfolding if_stmt links link
   if_falls s e = falls_then 1 0 (length s.at.left) (link inner inner_expr s) _ (falls_past s _ e (link_from_falls (span_at s.at) (moved s))) (λ l t.
       behind_falls (links inner inner_expr (length s.at.left)) (links_fall (length s.at.left)) l t)
-
--- ---- what is told
-
-told_falls : (fs : List Fault) (s : State) → Falls 0 (length s.at.left) (told fs s)
-told_falls [] s = omega arith
-told_falls (f ∷ fs) s = falls_then 0 0 (length s.at.left) (fault f s) _ (fault_falls f s) (λ _ t. told_falls fs t)
 
 -- ---- `for`
 
@@ -502,11 +501,6 @@ module _ (inner : Reader Tree) (h : (s : State) → Falls 1 (length s.at.left) (
 
 -- ---- functions
 
--- nor is whether something was found
-found_falls : {A B : Type 0} (n : ℕ) (o : Outcome A) (f : A → State → State) (g : A → State → B) → ((a : A) (t : State) → (f a t).at ≡ t.at) → Falls 0 n o → Falls 0 n (and_then o (λ a t. Ok (g a t, f a t)))
-found_falls n (Ok p) f g e h = subst (λ c. length c.left + 0 ≤ n) (sym (e p.0 p.1)) h
-found_falls n (Err e) f g k h = tt
-
 -- what a function begins with is taken
 function_word_falls : (s : State) → begins_function s.at ≡ true → Falls 1 (length s.at.left) (function_word s)
 unfolding function_word
@@ -519,7 +513,7 @@ module _ (inner : Reader Tree) (h : (s : State) → Falls 1 (length s.at.left) (
   unfolding function_body
   function_body_falls w g s = let t = coded (in_body s.code w g) s in
       falls_coded 0 (length s.at.left) (enclosed (braced inner true) t) _ _
-      (found_falls (length s.at.left) (braced inner true (unlabelled t)) _ _ (λ _ u. refl) (braced_falls inner h true (unlabelled t)))
+      (falls_found 0 (length s.at.left) (braced inner true (unlabelled t)) _ _ (λ _ u. refl) (braced_falls inner h true (unlabelled t)))
 
   function_parts_falls : (w v : Bool) (start : Span) (s : State) → Falls 0 (length s.at.left) (function_parts inner params w v start s)
   unfolding function_parts misdirected
@@ -579,11 +573,18 @@ module _ (inner : Reader Tree) (h : (s : State) → Falls 1 (length s.at.left) (
       falls_then 0 0 (length u.at.left) (function_body inner params false false u) _ (function_body_falls false false u) (λ body v.
       falls_last 0 (length v.at.left) (told (misplaced_directive (is_binding_name p) body) v) _ (told_falls (misplaced_directive (is_binding_name p) body) v))))
 
-  method_falls : (form : MethodForm) (start : Span) (x : Tree) (s : State) → Falls 0 (length s.at.left) (function_by inner params (property_form form start x) s)
+  -- the block of an arrow function
+  arrow_block_falls : (w : Bool) (s : State) → Falls 1 (length s.at.left) (arrow_block inner params w s)
+  unfolding arrow_block
+  arrow_block_falls w s = let t = coded (with_in (in_arrow s.code w)) s in
+      falls_coded 1 (length s.at.left) (enclosed (braced inner false) t) _ _
+      (falls_found 1 (length s.at.left) (braced inner false (unlabelled t)) _ _ (λ _ u. refl) (braced_takes inner h false (unlabelled t)))
+
+  method_falls : (pat : Reader Tree) (form : MethodForm) (start : Span) (x : Tree) (s : State) → Falls 0 (length s.at.left) (function_by inner params pat (property_form form start x) s)
   unfolding function_by plain_method
-  method_falls getter_form start x s = getter_falls start x s
-  method_falls setter_form start x s = setter_falls start x s
-  method_falls (method_form w v) start x s = falls_last 0 (length s.at.left) (function_parts inner params w v start s) _ (function_parts_falls w v start s)
+  method_falls pat getter_form start x s = getter_falls start x s
+  method_falls pat setter_form start x s = setter_falls start x s
+  method_falls pat (method_form w v) start x s = falls_last 0 (length s.at.left) (function_parts inner params w v start s) _ (function_parts_falls w v start s)
 
   -- no error token stands where the word does
   function_stmt_falls : (at : Position) (s : State) → kind_at s.at ≡ kind.Function → Falls 1 (length s.at.left) (function_stmt inner params at s)
@@ -667,7 +668,9 @@ module _ (n : ℕ) (b : Taken n) where
   unfolding function function_by
   function_taken = record {
     expressions = function_expr_falls (stmt n nested_item) (b.stmts nested_item) (reader.parameters n) parameters_taken;
-    methods = method_falls (stmt n nested_item) (b.stmts nested_item) (reader.parameters n) parameters_taken;
+    methods = method_falls (stmt n nested_item) (b.stmts nested_item) (reader.parameters n) parameters_taken (pattern n);
+    parameters = b.patterns;
+    blocks = arrow_block_falls (stmt n nested_item) (b.stmts nested_item) (reader.parameters n) parameters_taken;
   }
 
 all_taken : (n : ℕ) → Taken n

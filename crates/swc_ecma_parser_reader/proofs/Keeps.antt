@@ -4,9 +4,9 @@ use Rattle.swc_ecma_parser_grammar.specs.Parameters.{parameters}
 use Rattle.swc_ecma_parser_reader.proofs.patterns.Keeps as patterns
 use Rattle.swc_ecma_parser_reader.proofs.expressions.Keeps as expressions
 use Rattle.swc_ecma_parser_reader.specs.Reader as reader
-use Rattle.swc_ecma_parser_reader.proofs.expressions.Keeps.{star_keeps}
-use Rattle.swc_ecma_parser_reader.specs.Methods.{FunctionForm, expression_form, property_form, getter_form, setter_form, method_form, star}
-use Rattle.swc_ecma_parser_reader.specs.Reader.{no_parameter, one_parameter, getter, setter, plain_method, function_by, named, own_name, function_expr, expr, cover, head_cover, pattern, element, function, function_word, async_or_other}
+use Rattle.swc_ecma_parser_reader.proofs.expressions.Keeps.{star_keeps, told_keeps}
+use Rattle.swc_ecma_parser_reader.specs.Methods.{FunctionForm, expression_form, property_form, getter_form, setter_form, method_form, parameter_form, block_form, star}
+use Rattle.swc_ecma_parser_reader.specs.Reader.{no_parameter, one_parameter, getter, setter, plain_method, arrow_block, function_by, named, own_name, function_expr, expr, cover, head_cover, pattern, element, function, function_word, async_or_other}
 use Rattle.swc_ecma_parser_grammar.specs.Names.{name_at}
 use Rattle.swc_ecma_parser_error.specs.declared.error.Error.{Error}
 use Rattle.swc_ecma_parser_grammar.specs.language.Programs.{at_top}
@@ -21,7 +21,7 @@ use Rattle.swc_ecma_parser_model.specs.declared.leaves.VarDeclKind.TheVariants a
 use Rattle.swc_ecma_parser_model.specs.Targets.{as_target}
 use Rattle.swc_ecma_parser_grammar.specs.Variables.{is_const, needs_no_initializer}
 use Rattle.swc_ecma_parser_grammar.specs.Own.{head_faults, misplaced_directive}
-use Rattle.swc_ecma_parser_grammar.specs.language.Contexts.{without_in, named_by, in_parameters, in_body}
+use Rattle.swc_ecma_parser_grammar.specs.language.Contexts.{without_in, named_by, in_parameters, in_body, in_arrow}
 use Rattle.swc_ecma_parser_grammar.specs.Follows.{word_at, is_let_declaration, is_async_function}
 use Rattle.std.proofs.Common.{◌≡◌, ℕ, zero, suc, Bool, true, false, cond, List, [], ◌∷◌, ◌++◌, length, Option, Some, None, Ok, Err, refl, Result, sym, ◌∙◌, ap, append_assoc}
 use Rattle.std.specs.Prelude.{◌&&◌, ◌||◌, is_some, codes}
@@ -97,12 +97,6 @@ note_with_keeps b span s f = module_fault_keeps b (fault_at span faults.WithInSt
 optional_end_keeps : (b : State) (s : State) → IsBehind b s → Answers (Kept b) (Lost b) (optional_end s)
 unfolding optional_end
 optional_end_keeps b s f = answers_if _ _ (sees kind.Semi s.at) _ _ (λ _. behind_after b s f) (λ _. f)
-
--- ---- faults that are told
-
-told_keeps : (b : State) (fs : List Fault) (s : State) → IsBehind b s → Answers (Kept b) (Lost b) (told fs s)
-told_keeps b [] s g = g
-told_keeps b (f ∷ fs) s g = answers_then (Kept b) _ (fault f s) _ (fault_keeps b s g f) (λ _ t k. told_keeps b fs t k)
 
 -- the fault of a `return` that was refused
 after_return_keeps : (b : State) (start : Span) (o : Outcome Tree) → Answers (Kept b) (Lost b) o → Answers (Kept b) (Lost b) (after_return start o)
@@ -258,13 +252,22 @@ module _ (inner : Reader Tree) (below : Passes inner) where
     unfolding plain_method
     plain_method_keeps w v start x b t g = answers_then (Kept b) _ (function_parts inner params w v start t) _ (function_parts_keep w v start b t g) (λ y u k. k)
 
+    -- the block of an arrow function
+    arrow_block_keeps : (w : Bool) → Passes (arrow_block inner params w)
+    unfolding arrow_block
+    arrow_block_keeps w b s f = let t = coded (with_in (in_arrow s.code w)) s in answers_then (Kept b) _ (enclosed (braced inner false) t) _
+        (answers_then (Kept b) _ (braced inner false (unlabelled t)) _ (braces_keep false b (unlabelled t) f) (λ x u k. k))
+        (λ x u k. k)
+
     -- a function as a part of an expression
-    function_by_keeps : (form : FunctionForm) → Passes (function_by inner params form)
+    function_by_keeps : (pat : Reader Tree) → Passes pat → (form : FunctionForm) → Passes (function_by inner params pat form)
     unfolding function_by
-    function_by_keeps expression_form b t g = function_expr_keeps b t g
-    function_by_keeps (property_form getter_form start x) b t g = getter_keeps start x b t g
-    function_by_keeps (property_form setter_form start x) b t g = setter_keeps start x b t g
-    function_by_keeps (property_form (method_form w v) start x) b t g = plain_method_keeps w v start x b t g
+    function_by_keeps pat below_pat expression_form b t g = function_expr_keeps b t g
+    function_by_keeps pat below_pat (property_form getter_form start x) b t g = getter_keeps start x b t g
+    function_by_keeps pat below_pat (property_form setter_form start x) b t g = setter_keeps start x b t g
+    function_by_keeps pat below_pat (property_form (method_form w v) start x) b t g = plain_method_keeps w v start x b t g
+    function_by_keeps pat below_pat parameter_form b t g = below_pat b t g
+    function_by_keeps pat below_pat (block_form w) b t g = arrow_block_keeps w b t g
 
 module _ (inner : Position → Reader Tree) (inner_expr : Class → Reader Tree) (inner_pat : Reader Tree) (inner_head : Reader Cover) (inner_params : Reader (List Tree))
     (below_stmt : (at : Position) → Passes (inner at)) (below_expr : (class : Class) → Passes (inner_expr class)) (below_pat : Passes inner_pat) (below_head : Passes inner_head)
@@ -605,7 +608,7 @@ module _ (n : ℕ) (b : Passing n) where
 
   function_passing : (form : FunctionForm) → Passes (function n form)
   unfolding function
-  function_passing = function_by_keeps (stmt n nested_item) (b.stmts nested_item) (reader.parameters n) parameters_passing
+  function_passing = function_by_keeps (stmt n nested_item) (b.stmts nested_item) (reader.parameters n) parameters_passing (pattern n) b.patterns
 
 all_passing : (n : ℕ) → Passing n
 unfolding function expr cover head_cover pattern element stmt

@@ -7,7 +7,7 @@ use Rattle.swc_ecma_parser_reader.proofs.patterns.Limits as patterns
 use Rattle.swc_ecma_parser_reader.proofs.expressions.Limits as expressions
 use Rattle.swc_ecma_parser_reader.specs.Reader as reader
 use Rattle.swc_ecma_parser_reader.specs.Methods.{MethodForm, getter_form, setter_form, method_form, property_form, star}
-use Rattle.swc_ecma_parser_reader.specs.Reader.{no_parameter, one_parameter, getter, setter, plain_method, function_by, named, own_name, function_expr, expr, cover, head_cover, pattern, element, function, function_word, async_or_other}
+use Rattle.swc_ecma_parser_reader.specs.Reader.{no_parameter, one_parameter, getter, setter, plain_method, arrow_block, function_by, named, own_name, function_expr, expr, cover, head_cover, pattern, element, function, function_word, async_or_other}
 use Rattle.swc_ecma_parser_grammar.specs.Names.{name_at}
 use Rattle.swc_ecma_parser_reader.proofs.Meets.{saw}
 use Rattle.swc_ecma_parser_model.specs.Tree.{Text}
@@ -21,7 +21,7 @@ use Rattle.swc_ecma_parser_model.specs.declared.leaves.VarDeclKind.TheVariants a
 use Rattle.swc_ecma_parser_model.specs.Targets.{as_target}
 use Rattle.swc_ecma_parser_grammar.specs.Variables.{is_const, needs_no_initializer}
 use Rattle.swc_ecma_parser_grammar.specs.Own.{head_faults, misplaced_directive}
-use Rattle.swc_ecma_parser_grammar.specs.language.Contexts.{without_in, named_by, in_parameters, in_body}
+use Rattle.swc_ecma_parser_grammar.specs.language.Contexts.{without_in, named_by, in_parameters, in_body, in_arrow}
 use Rattle.swc_ecma_parser_grammar.specs.Follows.{word_at, is_let_declaration, is_async_function}
 use Rattle.std.proofs.Common.{◌≡◌, ◌≢◌, ℕ, zero, suc, ◌+◌, ◌*◌, ◌≤◌, Bool, true, false, cond, List, [], ◌∷◌, length, Option, Some, None, Ok, Err, refl, arith, ap}
 use Rattle.std.specs.Prelude.{◌&&◌, ◌||◌, is_some, codes}
@@ -54,9 +54,9 @@ use Rattle.swc_ecma_parser_reader.specs.Expressions.{Cover}
 use Rattle.swc_ecma_parser_reader.specs.Reader.{empty, debugger, initialized, declarator, declarators_turn, declarators, closes, at_end, close, items_turn, items, block_from, block, braced, note_statement, no_label, expr_stmt, expr_stmt_at, optional_end, import_stmt, import_stmt_at, told, target, unbroken, break_stmt, uncontinued, continue_stmt, misplaced, after_return, operand, returned, return_stmt, thrown, throw, head, while_stmt, do_while, goes_on, condition, alternative, link_from, link, links, if_stmt, begins_clause, closes_clause, clause_from, default_clause, case_clause, clause, clauses_turn, clauses, switch_stmt, begins_at, is_handled, handled, bound, parameter, finalizer, caught, handler, try_stmt, stmt_by, stmt_level, stmt, top_await_fault, top_await, whole_stmt, shebang, script_body, script}
 use Rattle.swc_ecma_parser_reader.specs.Limits.{has_too_deep_token}
 use Rattle.swc_ecma_parser_reader.proofs.Meets.{Answers, answers_then, answers_if, loop_answers, meant}
-use Rattle.swc_ecma_parser_reader.proofs.Shallow.{Fine, fine_more, fine_after, fine_taken, Shallow, Kept, too_deep_shallow, name_shallow, fault_shallow, wanted_shallow, refuse_shallow, end_shallow, expect_shallow, close_shallow, shebang_shallow, Levels}
+use Rattle.swc_ecma_parser_reader.proofs.Shallow.{Fine, fine_more, fine_after, fine_taken, Shallow, Kept, Taken, too_deep_shallow, name_shallow, fault_shallow, wanted_shallow, refuse_shallow, end_shallow, expect_shallow, close_shallow, shebang_shallow, Levels}
 use Rattle.swc_ecma_parser_reader.proofs.Opens.{chain_goes}
-use Rattle.swc_ecma_parser_reader.proofs.expressions.Limits.{reject_shallow, star_shallow, FunctionsShallow}
+use Rattle.swc_ecma_parser_reader.proofs.expressions.Limits.{reject_shallow, told_shallow, star_shallow, FunctionsShallow}
 
 -- ---- statements: one level more, for an expression that begins with the same token
 
@@ -136,10 +136,6 @@ told_memory : (fs : List Fault) (s : State) → Answers (λ _ _. Unit {0}) Shall
 unfolding fault
 told_memory [] s = tt
 told_memory (f ∷ fs) s = answers_then (λ _ _. Unit {0}) _ (fault f s) _ (recorded_in_memory f s s.at.left) (λ _ t _. told_memory fs t)
-
-told_shallow : (m : ℕ) (fs : List Fault) (s : State) → Fine m s.at.left → Answers (Kept m) Shallow (told fs s)
-told_shallow m [] s g = g
-told_shallow m (f ∷ fs) s g = answers_then (Kept m) _ (fault f s) _ (fault_shallow m s g f) (λ _ t k. told_shallow m fs t k)
 
 refused_kept : {A : Type 0} (P : A → State → Type 0) (f : Fault) (o : Outcome (Unit {0})) → f.kind ≢ faults.TooDeep → Answers (λ _ _. Unit {0}) Shallow o → Answers P Shallow (refused f o)
 refused_kept P f (Ok p) h g = h
@@ -308,11 +304,18 @@ module _ (inner : Reader Tree) (n : ℕ) (below : StmtLevels n inner) where
     unfolding plain_method
     plain_method_shallow w v start x i t h g = answers_then (Kept i) _ (function_parts inner params w v start t) _ (function_parts_shallow w v start i t h g) (λ y u k. k)
 
-    method_shallow : (form : MethodForm) (start : Span) (x : Tree) → StmtLevels n (function_by inner params (property_form form start x))
+    method_shallow : (pat : Reader Tree) (form : MethodForm) (start : Span) (x : Tree) → StmtLevels n (function_by inner params pat (property_form form start x))
     unfolding function_by
-    method_shallow getter_form start x i t h g = getter_shallow start x i t h g
-    method_shallow setter_form start x i t h g = setter_shallow start x i t h g
-    method_shallow (method_form w v) start x i t h g = plain_method_shallow w v start x i t h g
+    method_shallow pat getter_form start x i t h g = getter_shallow start x i t h g
+    method_shallow pat setter_form start x i t h g = setter_shallow start x i t h g
+    method_shallow pat (method_form w v) start x i t h g = plain_method_shallow w v start x i t h g
+
+    -- the block of an arrow function
+    arrow_block_shallow : (w : Bool) → StmtLevels n (arrow_block inner params w)
+    unfolding arrow_block
+    arrow_block_shallow w i s h f = let t = coded (with_in (in_arrow s.code w)) s in answers_then (Kept i) _ (enclosed (braced inner false) t) _
+        (answers_then (Kept i) _ (braced inner false (unlabelled t)) _ (braces_shallow false i (unlabelled t) h f) (λ x u k. k))
+        (λ x u k. k)
 
 module _ (inner : Position → Reader Tree) (inner_expr : Class → Reader Tree) (inner_pat : Reader Tree) (inner_head : Reader Cover) (inner_params : Reader (List Tree)) (n : ℕ)
     (below_stmt : (at : Position) → StmtLevels n (inner at)) (below_expr : (class : Class) → Levels n (inner_expr class)) (below_pat : Levels n inner_pat) (below_head : Levels n inner_head)
@@ -658,6 +661,12 @@ record Enough (n : ℕ) : Type 0 where
   elements : Levels n (element n)
   stmts : (at : Position) → StmtLevels n (stmt n at)
 
+-- a name is read in whatever levels
+names_enough : (n m : ℕ) (s : State) → 2 * m ≤ suc n → name_at s.code.flags s.at ≡ true → Fine m s.at.left → Answers (Taken m) Shallow (pattern n s)
+unfolding pattern
+names_enough zero m s h e f = too_deep_shallow _ s (omega arith)
+names_enough (suc n) m s h e f = patterns.name_level_takes (expr n) (cover n) (pattern n) (element n) m s e f
+
 module _ (n : ℕ) (b : Enough n) where
   parameters_enough : Levels n (reader.parameters n)
   parameters_enough m s h f = patterns.parameter_list_shallow (expr n) (cover n) (pattern n) (element n) n b.exprs b.covers b.patterns b.elements m (omega arith) s f
@@ -666,7 +675,10 @@ module _ (n : ℕ) (b : Enough n) where
   unfolding function function_by
   function_enough = record {
     expressions = function_expr_shallow (stmt n nested_item) n (b.stmts nested_item) (reader.parameters n) parameters_enough;
-    methods = method_shallow (stmt n nested_item) n (b.stmts nested_item) (reader.parameters n) parameters_enough;
+    methods = method_shallow (stmt n nested_item) n (b.stmts nested_item) (reader.parameters n) parameters_enough (pattern n);
+    names = names_enough n;
+    parameters = b.patterns;
+    blocks = arrow_block_shallow (stmt n nested_item) n (b.stmts nested_item) (reader.parameters n) parameters_enough;
   }
 
 all_enough : (n : ℕ) → Enough n

@@ -55,17 +55,25 @@ unfolding after
 fine_after m c f = fine_rest m c c.left refl f
 
 -- one fewer where a token stands
+fine_front : (m : ℕ) (c : Place) (t : TokenAndSpan) (ts : List TokenAndSpan) → c.left ≡ t ∷ ts → Fine m c.left → (i : ℕ) × (m ≡ suc i) × Fine i (past c (t ∷ ts)).left
+fine_front zero c t ts e f = let g : Fine zero (t ∷ ts) = subst (Fine zero) e f in absurd (omega arith)
+fine_front (suc i) c t ts e f =
+    let g : Fine (suc i) (t ∷ ts) = subst (Fine (suc i)) e f in
+    (i, refl, record { few = omega arith; shallow = (either_false (is_too_deep t.token) (has_too_deep_token ts) g.shallow).1 })
+
 fine_taken_in : (m : ℕ) (c : Place) (ts : List TokenAndSpan) → c.left ≡ ts → kind_at c ≢ kind.End → Fine m c.left → (i : ℕ) × (m ≡ suc i) × Fine i (past c ts).left
 unfolding kind_at
 fine_taken_in m c [] e h f = absurd (h (rw e refl))
-fine_taken_in zero c (t ∷ ts) e h f = let g : Fine zero (t ∷ ts) = subst (Fine zero) e f in absurd (omega arith)
-fine_taken_in (suc i) c (t ∷ ts) e h f =
-    let g : Fine (suc i) (t ∷ ts) = subst (Fine (suc i)) e f in
-    (i, refl, record { few = omega arith; shallow = (either_false (is_too_deep t.token) (has_too_deep_token ts) g.shallow).1 })
+fine_taken_in m c (t ∷ ts) e h f = fine_front m c t ts e f
 
 pub fine_taken : (m : ℕ) (c : Place) (k : TokenKind) → kind_at c ≡ k → k ≢ kind.End → Fine m c.left → (i : ℕ) × (m ≡ suc i) × Fine i (after c).left
 unfolding after
 fine_taken m c k e h f = fine_taken_in m c c.left refl (λ g. h (sym e ∙ g)) f
+
+-- the same of a list that is known
+fine_one : (m : ℕ) (c : Place) (t : TokenAndSpan) (ts : List TokenAndSpan) → c.left ≡ t ∷ ts → Fine m c.left → (i : ℕ) × (m ≡ suc i) × Fine i (after c).left
+unfolding after
+fine_one m c t ts e f = subst (λ l. (i : ℕ) × (m ≡ suc i) × Fine i (past c l).left) (sym e) (fine_front m c t ts e f)
 
 -- ---- what is answered is fine, and no fault says too deep
 
@@ -76,6 +84,10 @@ Shallow e s = e.kind ≢ faults.TooDeep
 -- as many tokens at most are left
 abbrev pub Kept : {A : Type 0} → ℕ → A → State → Type 0
 Kept m x t = Fine m t.at.left
+
+-- and one fewer
+abbrev pub Taken : {A : Type 0} → ℕ → A → State → Type 0
+Taken m x t = (i : ℕ) × (m ≡ suc i) × Fine i t.at.left
 
 -- the error tokens of such a list say nothing of the kind
 pub error_shallow : (m : ℕ) (s : State) (u : TokenAndSpan) (ts : List TokenAndSpan) (e : Error) → s.at.left ≡ u ∷ ts → u.token ≡ token.Error e → Fine m s.at.left → kind_of e.kind ≢ faults.TooDeep
@@ -165,6 +177,20 @@ module _ (m : ℕ) (s : State) (f : Fine m s.at.left) where
     pub name_shallow : Answers (Kept m) Shallow (name missing s)
     unfolding name
     name_shallow = name_in_shallow s.at.left
+
+  -- a name is a token
+  module _ (missing : Kind) (other : missing ≢ faults.TooDeep) where
+    name_by_takes : (u : TokenAndSpan) (ts : List TokenAndSpan) (v : Token) (span : Span) → s.at.left ≡ u ∷ ts → Answers (Taken m) Shallow (name_by missing s v span)
+    name_by_takes u ts (token.Word w) span e = answers_if _ _ (is_name s.code.flags (word_text w)) _ _ (λ _. fine_one m s.at u ts e f) (λ _. wanted_shallow _ missing other m s f)
+    name_by_takes u ts _ span e = wanted_shallow _ missing other m s f
+
+    name_in_takes : (ts : List TokenAndSpan) → s.at.left ≡ ts → Answers (Taken m) Shallow (name_in missing s ts)
+    name_in_takes [] e = wanted_shallow _ missing other m s f
+    name_in_takes (u ∷ ts) e = name_by_takes u ts u.token u.span e
+
+    pub name_takes : Answers (Taken m) Shallow (name missing s)
+    unfolding name
+    name_takes = name_in_takes s.at.left refl
 
   shebang_taken_shallow : (o : Option Text) → Answers (Kept m) Shallow (shebang_taken o s)
   shebang_taken_shallow None = f

@@ -1,6 +1,6 @@
 -- What is read is in the grammar where nothing was recorded, and the faults of the table are the walk's.
 use Rattle.swc_ecma_parser_reader.proofs.Words.{async_begins, or_later, begins_function}
-use Rattle.swc_ecma_parser_reader.proofs.SoundFunctions.{SoundBraces, InBraces, body_from_sound, braces_sound, in_braces, function_expr_sound, function_stmt_sound, function_decl_sound, GetterRead, SetterRead, MethodRead as MethodIs, getter_sound, setter_sound, method_sound, getter_stays, setter_stays, method_stays}
+use Rattle.swc_ecma_parser_reader.proofs.SoundFunctions.{SoundBraces, InBraces, body_from_sound, braces_sound, in_braces, arrow_block_sound, function_expr_sound, function_stmt_sound, function_decl_sound, GetterRead, SetterRead, MethodRead as MethodIs, getter_sound, setter_sound, method_sound, getter_stays, setter_stays, method_stays}
 use Rattle.swc_ecma_parser_reader.specs.Reader as reader
 use Rattle.swc_ecma_parser_reader.proofs.patterns.Sound as patterns
 use Rattle.swc_ecma_parser_reader.proofs.patterns.Sound.{SoundParams, Unwrapped}
@@ -21,6 +21,10 @@ use Rattle.swc_ecma_parser_model.specs.declared.leaves.VarDeclKind.TheVariants a
 use Rattle.swc_ecma_parser_grammar.specs.Variables.{begins_variables, is_var}
 use Rattle.swc_ecma_parser_reader.specs.Reader.{variables, const_stmt, let_stmt}
 use Rattle.swc_ecma_parser_reader.proofs.expressions.CompleteKinds.{seen}
+use Rattle.swc_ecma_parser_reader.proofs.expressions.Loops.{cover_shorter}
+use Rattle.swc_ecma_parser_reader.proofs.expressions.Covers.{met}
+use Rattle.swc_ecma_parser_reader.proofs.expressions.Groups.{ReadsParts}
+use Rattle.swc_ecma_parser_reader.proofs.expressions.GroupLevels.{tied_at, begins_at as part_begins}
 use Rattle.swc_ecma_parser_reader.proofs.expressions.Heads.{SoundHead, head_expr_sound}
 use Rattle.swc_ecma_parser_reader.proofs.SoundFor.{SoundAs, looped_sound, for_sound}
 use Rattle.std.proofs.Common.{◌≡◌, ℕ, zero, suc, Bool, true, false, cond, List, [], ◌∷◌, ◌++◌, length, Ok, Err, refl, sym, ◌∙◌, ap, subst, append-nil}
@@ -32,10 +36,10 @@ use Rattle.swc_ecma_parser_token.specs.declared.kind.TokenKind.TheVariants as ki
 use Rattle.swc_ecma_parser_input.specs.Place.{Place, after}
 use Rattle.swc_ecma_parser_model.specs.Tree as tree
 use Rattle.swc_ecma_parser_model.specs.Tree.{Tree, Text, also, listed, trees}
-use Rattle.swc_ecma_parser_model.specs.Forms.{is_absent}
+use Rattle.swc_ecma_parser_model.specs.Forms.{is_absent, is_binding_name}
 use Rattle.swc_ecma_parser_grammar.specs.declared.position.Position.{Position}
 use Rattle.swc_ecma_parser_grammar.specs.Looks.{kind_at, breaks_at, sees, span_at, spanned}
-use Rattle.swc_ecma_parser_grammar.specs.Names.{Code}
+use Rattle.swc_ecma_parser_grammar.specs.Names.{Code, name_at}
 use Rattle.swc_ecma_parser_grammar.specs.Ends.{Ends, ends_at}
 use Rattle.swc_ecma_parser_grammar.specs.Follows.{may_begin_expression_statement, begins_import_expression, is_let_declaration, is_async_function}
 use Rattle.swc_ecma_parser_grammar.specs.language.Contexts.{in_loop, in_breakable, in_with}
@@ -50,12 +54,14 @@ use Rattle.swc_ecma_parser_grammar.specs.language.Noted.{has_meta}
 use Rattle.swc_ecma_parser_grammar.proofs.Tests.{or_no, and_yes, and_both}
 use Rattle.swc_ecma_parser_grammar.proofs.FunctionExprs.{function_widens, function_supported}
 use Rattle.swc_ecma_parser_grammar.proofs.MethodParts.{parts_widen, params_supported, body_supported, parameters_unnoted, body_unnoted}
+use Rattle.swc_ecma_parser_grammar.proofs.Arrows.{block_widens, block_supported, block_unnoted}
 use Rattle.swc_ecma_parser_grammar.proofs.Unnoted.{joined}
 use Rattle.swc_ecma_parser_grammar.specs.Parameters.{parameters}
 use Rattle.swc_ecma_parser_grammar.specs.Supported.{supported_in, is_supported_key_in, is_rightly_directed, is_rightly_set, has_no_note, is_clean}
+use Rattle.swc_ecma_parser_grammar.specs.language.Expressions.{block_body}
 use Rattle.swc_ecma_parser_grammar.specs.language.Objects.{getter_rule, setter_rule, method_rule}
 use Rattle.swc_ecma_parser_model.specs.Targets.{as_properties}
-use Rattle.swc_ecma_parser_reader.specs.Methods.{MethodForm, getter_form, setter_form, method_form, expression_form, property_form}
+use Rattle.swc_ecma_parser_reader.specs.Methods.{MethodForm, getter_form, setter_form, method_form, expression_form, property_form, parameter_form, block_form}
 use Rattle.swc_ecma_parser_grammar.specs.language.LeftSides.{is_callee}
 use Rattle.swc_ecma_parser_reader.specs.Notes.{◌⊕◌, notes_of, all_notes_of}
 use Rattle.swc_ecma_parser_reader.specs.State.{State, Reader, moved, coded, within, fault_at, Outcome, wanted, labelled, labelled_as, expect, end}
@@ -551,6 +557,12 @@ unfolding element
 element_unwrapped zero s = too_deep_meets _ s
 element_unwrapped (suc n) s = patterns.element_level_unwrapped (expr n) (cover n) (pattern n) (element n) s
 
+-- a name is a pattern by itself
+names : (n : ℕ) (s : State) → name_at s.code.flags s.at ≡ true → Meets (λ x t. (t ≡ moved s) × (is_binding_name x ≡ true)) (function n parameter_form s)
+unfolding function function_by pattern
+names zero s h = too_deep_meets _ s
+names (suc n) s h = patterns.pattern_level_named (expr n) (cover n) (pattern n) (element n) s h
+
 -- what is tested in module code
 tested : (m : Bool) (b : Bool) → (m ≡ true → b ≡ true) → (not m || b) ≡ true
 tested true b h = h refl
@@ -597,6 +609,14 @@ module _ (n : ℕ) (b : Sounds n) where
   params : (s : State) → Meets (λ ps t. SoundParams n s ps t) (reader.parameters n s)
   params = patterns.parameter_list_sound n (expr n) (cover n) (pattern n) (element n) b.exprs b.covers b.patterns b.elements
 
+  -- what is read as a part in parentheses takes a token, leaves the code as it is, and begins with neither `)` nor `...`
+  parts : ReadsParts (cover n)
+  parts = record {
+    shorter = cover_shorter n;
+    code = λ s v t e. let p : SoundCover n s v t = met (λ y u. SoundCover n s y u) (cover n s) v t (b.covers s) e in p.code;
+    begins = part_begins n;
+  }
+
   -- functions as parts of expressions are those of the whole language
   functions : FunctionsSound n (function n)
   unfolding function function_by
@@ -605,6 +625,12 @@ module _ (n : ℕ) (b : Sounds n) where
         (function_expr_sound (ReadsStmt n) (ReadsParams n) (stmt n nested_item) (b.stmts nested_item) (reader.parameters n) params (λ k ps c d r. r.0.opens) s e)
         (λ x t p. sound_as s t refl refl refl (λ r. (function_widens n s.code x s.at t.at r, function_supported n s.code x s.at t.at r, ap is_callee r.is)) p);
     methods = methods;
+    parameters = b.patterns;
+    names = names n;
+    blocks = λ w s. meets_as (function n (block_form w) s)
+        (arrow_block_sound (ReadsStmt n) (ReadsParams n) (stmt n nested_item) (b.stmts nested_item) (reader.parameters n) params w s)
+        (λ x t p. sound_as s t refl refl refl
+        (λ r. (block_body (block_widens n s.code w x s.at t.at r), block_supported n s.code w x s.at t.at r, λ o. block_unnoted n s.code w x s.at t.at o r)) p);
   }
     where
       methods : (form : MethodForm) (key : Tree) (s m : State) → Headed n form key s m → Meets (λ x t. SoundTree (MethodRead n) s x t) (function n (property_form form (span_at s.at) key) m)
@@ -630,9 +656,9 @@ all_sound zero = record {
   stmts = λ at s. too_deep_meets _ s;
 }
 all_sound (suc n) = let b = all_sound n in record {
-  exprs = expressions.level_sound n (expr n) (cover n) b.exprs b.covers (function n) (functions n b);
-  covers = expressions.cover_expr_sound n (expr n) (cover n) b.exprs b.covers (function n) (functions n b);
-  heads = head_expr_sound n (expr n) (cover n) b.exprs b.covers (function n) (functions n b);
+  exprs = expressions.level_sound n (expr n) (cover n) b.exprs b.covers (function n) (functions n b) (tied_at n) (parts n b);
+  covers = expressions.cover_expr_sound n (expr n) (cover n) b.exprs b.covers (function n) (functions n b) (tied_at n) (parts n b);
+  heads = head_expr_sound n (expr n) (cover n) b.exprs b.covers (function n) (functions n b) (tied_at n) (parts n b);
   patterns = patterns.pattern_level_sound n (expr n) (cover n) (pattern n) (element n) b.exprs b.covers b.patterns b.elements;
   elements = patterns.element_level_sound n (expr n) (cover n) (pattern n) (element n) b.exprs b.covers b.patterns b.elements;
   stmts = level_sound (ReadsStmt n) (ReadsClass n) (ReadsPat n) (ReadsTarget n) (ReadsParams n) (stmt n) (expr n) (pattern n) (head_cover n) (reader.parameters n) b.stmts b.exprs b.patterns (openings n b) (params n b)

@@ -1,5 +1,5 @@
 -- A reader never puts tokens back: its steps, and its loops.
-use Rattle.std.proofs.Common.{◌≡◌, ◌≢◌, ℕ, zero, suc, ◌+◌, ◌≤◌, Bool, true, false, cond, List, [], ◌∷◌, length, Ok, Err, refl, ap, arith}
+use Rattle.std.proofs.Common.{◌≡◌, ◌≢◌, ℕ, zero, suc, ◌+◌, ◌≤◌, Bool, true, false, cond, List, [], ◌∷◌, length, Ok, Err, refl, sym, ap, subst, arith}
 use Rattle.std.specs.Prelude.{nat_lt}
 use Rattle.swc_ecma_parser_common.specs.declared.span.Span.{Span}
 use Rattle.swc_ecma_parser_error.specs.Kind as faults
@@ -42,6 +42,12 @@ falls_last j n (Err e) g h = tt
 pub falls_coded : {A B : Type 0} (j n : ℕ) (o : Outcome A) (g : A → State → B) (k : A → State → Code) → Falls j n o → Falls j n (and_then o (λ a s. Ok (g a s, coded (k a s) s)))
 falls_coded j n (Ok p) g k h = h
 falls_coded j n (Err e) g k h = tt
+
+-- nor is what was found
+pub falls_found : {A B : Type 0} (j n : ℕ) (o : Outcome A) (f : A → State → State) (g : A → State → B) → ((a : A) (t : State) → (f a t).at ≡ t.at) → Falls j n o
+    → Falls j n (and_then o (λ a t. Ok (g a t, f a t)))
+falls_found j n (Ok p) f g e h = subst (λ c. length c.left + j ≤ n) (sym (e p.0 p.1)) h
+falls_found j n (Err e) f g k h = tt
 
 pub falls_if : {A : Type 0} (k n : ℕ) (b : Bool) (x y : Outcome A) → Falls k n x → Falls k n y → Falls k n (cond b x y)
 falls_if k n true x y h g = h

@@ -7,10 +7,14 @@ pub mod CompleteKinds
 pub mod CompleteMethods
 pub mod Yields
 pub mod Covers
+pub mod Groups
+pub mod GroupLevels
+pub mod NamedArrows
 pub mod Targets
 pub mod CompleteParts
 pub mod CompleteCovers
 pub mod CompleteLefts
+pub mod CompleteArrows
 pub mod Complete
 pub mod HeadEnds
 pub mod SoundSteps
@@ -19,6 +23,8 @@ pub mod SoundCovers
 pub mod SoundLefts
 pub mod SoundOperators
 pub mod SoundTargets
+pub mod SoundArrows
+pub mod SoundGroups
 pub mod Stays
 pub mod Sound
 pub mod Heads

@@ -4,10 +4,12 @@ pub mod Classes
 pub mod Yields
 pub mod Methods
 pub mod Words
+pub mod Operands
+pub mod Jumps
+pub mod Arrows
 pub mod Expressions
 pub mod Heads
 pub mod Patterns
-pub mod Jumps
 pub mod Reader
 pub mod Entry
 pub mod Limits

@@ -23,13 +23,13 @@ use Rattle.swc_ecma_parser_grammar.specs.Parameters as formal
 use Rattle.swc_ecma_parser_grammar.specs.Reads.{with_in, head_code, directed, nested_item, top_item}
 use Rattle.swc_ecma_parser_grammar.specs.Own.{labelled_function, duplicates, misplaced_directive, head_faults}
 use Rattle.swc_ecma_parser_grammar.specs.Entries.{script_code}
-use Rattle.swc_ecma_parser_grammar.specs.language.Contexts.{named_by, in_parameters, in_body, in_loop, in_breakable, in_with, without_in}
+use Rattle.swc_ecma_parser_grammar.specs.language.Contexts.{named_by, in_parameters, in_body, in_arrow, in_loop, in_breakable, in_with, without_in}
 use Rattle.swc_ecma_parser_grammar.specs.language.Goals.{Class, expression, assignment}
 use Rattle.swc_ecma_parser_grammar.specs.language.Items.{sub_statement, labelled_item}
 use Rattle.swc_ecma_parser_reader.specs.Expressions as exprs
 use Rattle.swc_ecma_parser_reader.specs.Expressions.{Cover}
 use Rattle.swc_ecma_parser_reader.specs.Heads.{head_expr}
-use Rattle.swc_ecma_parser_reader.specs.Methods.{FunctionForm, expression_form, property_form, getter_form, setter_form, method_form, star}
+use Rattle.swc_ecma_parser_reader.specs.Methods.{FunctionForm, expression_form, property_form, getter_form, setter_form, method_form, parameter_form, block_form, star}
 unfoldable pub use Rattle.swc_ecma_parser_reader.specs.Jumps.{told, target, unbroken, break_stmt, uncontinued, continue_stmt, misplaced, after_return, operand, returned, return_stmt}
 use Rattle.swc_ecma_parser_reader.specs.Patterns.{pattern_level, element_level, parameter_list}
 use Rattle.swc_ecma_parser_reader.specs.State.{Reader, ◌>>=◌, ◌>>◌, pure, here, span_here, since, skip, moved, spanned_from, coded, flagged, within, below_label, enclosed, note_module_item, fault, fault_at, end_of, module_fault, wanted, too_deep, refuse, reject, refused, labelled, name, expect, end, stuck, Step, More, Done, loop}
@@ -645,12 +645,19 @@ module _ (stmt : Reader Tree) (params : Reader (List Tree)) where
     fn ← function_parts is_async is_generator start
     pure (tree.method_prop (span_of fn) key fn)
 
-  -- a function as a part of an expression
-  unfoldable pub function_by : FunctionForm → Reader Tree
-  function_by expression_form = function_expr
-  function_by (property_form getter_form start key) = getter start key
-  function_by (property_form setter_form start key) = setter start key
-  function_by (property_form (method_form is_async is_generator) start key) = plain_method is_async is_generator start key
+  -- the block of an arrow function, which has no directives, but labels and an entry of its own
+  unfoldable pub arrow_block : (is_async : Bool) → Reader Tree
+  arrow_block is_async = within (λ k. with_in (in_arrow k is_async)) (enclosed (braced stmt false))
+
+  module _ (pat : Reader Tree) where
+    -- a function as a part of an expression
+    unfoldable pub function_by : FunctionForm → Reader Tree
+    function_by expression_form = function_expr
+    function_by (property_form getter_form start key) = getter start key
+    function_by (property_form setter_form start key) = setter start key
+    function_by (property_form (method_form is_async is_generator) start key) = plain_method is_async is_generator start key
+    function_by parameter_form = pat
+    function_by (block_form is_async) = arrow_block is_async
 
   -- where no declaration is read, its word is a fault
   unfoldable pub function_stmt : Position → Reader Tree
@@ -701,17 +708,17 @@ unfoldable mutual
   -- an expression of a class
   pub expr : ℕ → Class → Reader Tree
   expr zero class = too_deep
-  expr (suc n) class = exprs.expr_level (expr n) (cover n) (function_by (stmt n nested_item) (parameter_list (expr n) (cover n) (pattern n) (element n))) class
+  expr (suc n) class = exprs.expr_level (expr n) (cover n) (function_by (stmt n nested_item) (parameter_list (expr n) (cover n) (pattern n) (element n)) (pattern n)) class
 
   -- an assignment expression that may still become a pattern
   pub cover : ℕ → Reader Cover
   cover zero = too_deep
-  cover (suc n) = exprs.cover_expr (expr n) (cover n) (function_by (stmt n nested_item) (parameter_list (expr n) (cover n) (pattern n) (element n)))
+  cover (suc n) = exprs.cover_expr (expr n) (cover n) (function_by (stmt n nested_item) (parameter_list (expr n) (cover n) (pattern n) (element n)) (pattern n))
 
   -- what the head of a loop begins with
   pub head_cover : ℕ → Reader Cover
   head_cover zero = too_deep
-  head_cover (suc n) = head_expr (expr n) (cover n) (function_by (stmt n nested_item) (parameter_list (expr n) (cover n) (pattern n) (element n)))
+  head_cover (suc n) = head_expr (expr n) (cover n) (function_by (stmt n nested_item) (parameter_list (expr n) (cover n) (pattern n) (element n)) (pattern n))
 
   -- a pattern without default
   pub pattern : ℕ → Reader Tree
@@ -734,7 +741,7 @@ parameters n = parameter_list (expr n) (cover n) (pattern n) (element n)
 
 -- a function as a part of an expression
 unfoldable pub function : ℕ → FunctionForm → Reader Tree
-function n = function_by (stmt n nested_item) (parameters n)
+function n = function_by (stmt n nested_item) (parameters n) (pattern n)
 
 -- ---- the top level: a statement that begins with `await` makes a program a module
 

@@ -47,6 +47,14 @@ pub trait BuildsPattern: Trees {
     fn target(alloc: Global, expr: Self::Expr) -> Result<Option<Self::Pat>, AllocError>
         ensures { IfOk result (λ x. targets.as_target (Self.expr_of expr) ≡ option_map Self.pat_of x) };
 
+    /// An expression as an element of such a pattern, with its default if it has one. None where it is no target.
+    fn element(alloc: Global, expr: Self::Expr) -> Result<Option<Self::Pat>, AllocError>
+        ensures { IfOk result (λ x. targets.as_element (Self.expr_of expr) ≡ option_map Self.pat_of x) };
+
+    /// Whether names alone stand in a pattern where targets could, so that it binds what it would assign to.
+    fn binds(pat: &Self::Pat) -> bool
+        ensures { result ≡ targets.binds (Self.pat_of pat.now) };
+
     /// What stands where no pattern was read.
     fn invalid_pat(alloc: Global, span: Span) -> Result<Self::Pat, AllocError>
         ensures { IfOk result (λ x. Self.pat_of x ≡ tree.invalid_pat span) };
@@ -58,6 +66,10 @@ pub trait BuildsPattern: Trees {
     /// Whether it is a plain name.
     fn is_binding_name(pat: &Self::Pat) -> bool
         ensures { result ≡ forms.is_binding_name (Self.pat_of pat.now) };
+
+    /// Whether it is a plain name where it stands as a parameter.
+    fn is_plain(pat: &Self::Pat) -> bool
+        ensures { result ≡ forms.is_plain_param (Self.pat_of pat.now) };
 
     /// Whether it takes the rest.
     fn is_rest(pat: &Self::Pat) -> bool

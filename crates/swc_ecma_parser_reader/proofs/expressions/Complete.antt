@@ -4,6 +4,7 @@ use Rattle.swc_ecma_parser_reader.proofs.expressions.Yields.{never_yields, begun
 use Rattle.swc_ecma_parser_grammar.specs.language.Begins.{begins_expression, awaits}
 use Rattle.swc_ecma_parser_grammar.specs.language.Contexts.{may_await}
 use Rattle.swc_ecma_parser_grammar.proofs.ExpressionBegins.{await_stands}
+use Rattle.swc_ecma_parser_grammar.proofs.Binding.{parameter_down}
 use Rattle.swc_ecma_parser_grammar.proofs.Marks.{awaits_apart}
 use Rattle.swc_ecma_parser_reader.proofs.expressions.Awaits.{update_no_await}
 use Rattle.std.proofs.Common.{◌≡◌, ℕ, zero, suc, ◌≤◌, Bool, true, false, List, [], ◌∷◌, ◌++◌, length, inl, inr, Option, Some, None, Ok, refl, sym, ◌∙◌, ap, arith, append_assoc, append-nil, subst}
@@ -53,16 +54,20 @@ use Rattle.swc_ecma_parser_reader.proofs.Notes.{or_nil, or_assoc}
 use Rattle.swc_ecma_parser_reader.proofs.Answered.{st, Reads, Gets, gets_also, ReadsAs}
 use Rattle.swc_ecma_parser_reader.proofs.Takes.{moves}
 use Rattle.swc_ecma_parser_reader.proofs.Steps.{loop_more, loop_done}
+use Rattle.swc_ecma_parser_reader.proofs.Meets.{saw}
 use Rattle.swc_ecma_parser_reader.proofs.expressions.Falls.{operated_falls, assignment_falls, cover_expr_falls, level_falls}
 use Rattle.swc_ecma_parser_reader.proofs.Takes.{Falls}
 use Rattle.swc_ecma_parser_reader.proofs.expressions.Targets.{leaf_supported, left_target, left_leaf, pattern_alike}
 use Rattle.swc_ecma_parser_reader.proofs.expressions.Covers as covers
-use Rattle.swc_ecma_parser_reader.proofs.expressions.Covers.{met, begins_literal, opened, opened_literal, Assigns, Becomes, cover_is, open_cover, assigns_cover, plain_cover}
-use Rattle.swc_ecma_parser_reader.proofs.expressions.CompleteKinds.{refuted, supported_as, seen, begins, element_begins, ends_part, ended_at, ended_stops, ended_continues, no_async_function, left_first, operand_plain, operand_update, update_plain, operator_stops, assign_stops, question_stops, stops_unary, unary_stops, stopped, update_seen, postfix_seen, assign_seen, unassigned_at}
+use Rattle.swc_ecma_parser_reader.proofs.expressions.Covers.{met, begins_literal, opened, opened_literal, Assigns, Becomes, cover_is, open_cover, assigns_cover, plain_cover, plain_operators, plain_grouped}
+use Rattle.swc_ecma_parser_reader.proofs.expressions.Groups.{sequenced_by, ReadsParts, operators_grouped}
+use Rattle.swc_ecma_parser_reader.proofs.expressions.NamedArrows.{never_named}
+use Rattle.swc_ecma_parser_reader.proofs.expressions.CompleteKinds.{names_stand, supported_as, seen, begins, element_begins, ends_part, ended_at, ended_stops, ended_continues, no_async_function, left_first, operand_plain, operand_update, update_plain, operator_stops, assign_stops, question_stops, stops_unary, unary_stops, stopped, update_seen, postfix_seen, assign_seen, unassigned_at}
 use Rattle.swc_ecma_parser_reader.proofs.expressions.Loops.{shorter_by}
 use Rattle.swc_ecma_parser_reader.proofs.expressions.CompleteParts.{expect_reads, AsExpr, AsElement, AsTarget, IsRead, IsFunctionRead, inside_reads}
 use Rattle.swc_ecma_parser_reader.proofs.expressions.CompleteCovers.{AsLiteral, array_pattern, object_pattern}
 use Rattle.swc_ecma_parser_reader.proofs.expressions.CompleteLefts.{left_reads}
+use Rattle.swc_ecma_parser_reader.proofs.expressions.CompleteArrows.{arrow_reads}
 
 -- ---- what is asked of trees and operators
 
@@ -359,10 +364,20 @@ module _ (In : Goal → Type 0) (inner : Class → Reader Tree) (cover : Reader 
   unfolding begins_yield
   yields_here k c g i = and_both (sees kind.Yield c) _ (seen c kind.Yield i) g
 
-  -- where operands are read it is no word of its own
+  -- An operand begins with no word of its own and with no name before `=>`, and what stands in parentheses is read part by part.
   plain_reads : (k : Code) (x : Tree) (c d : Place) → Reads (operators_expr inner cover function) k x c d → Reads (plain_expr inner cover function) k x c d
-  unfolding plain_expr
-  plain_reads k x c d r w f h = rw (never_yields inner cover function (st c k w f h) x (st d k w (f ++ walk (env_of k w.labels) x) (h ⊕ notes_of x)) (r w f h)) (r w f h)
+  plain_reads k x c d r w f h = by_kind (sees kind.LParen c) refl
+    where
+      s : State
+      s = st c k w f h
+
+      t : State
+      t = st d k w (f ++ walk (env_of k w.labels) x) (h ⊕ notes_of x)
+
+      by_kind : (b : Bool) → sees kind.LParen c ≡ b → plain_expr inner cover function s ≡ Ok (x, t)
+      by_kind true e = let o = saw c kind.LParen e in
+          plain_grouped inner cover function s o ∙ operators_grouped inner function cover given.tied given.parts s o x t (r w f h)
+      by_kind false e = plain_operators inner cover function s (never_yields inner cover function s x t (r w f h)) (never_named inner cover function s x t (r w f h)) e ∙ r w f h
 
   bare_yield_reads : (k : Code) (x : Tree) (c d : Place) → k.flags.in_generator ≡ true → kind_at c ≡ kind.Yield → d ≡ after c → continues_yield k d ≡ false → x ≡ tree.yield (spanned c d) tree.absent false
       → Reads (plain_expr inner cover function) k x c d
@@ -466,7 +481,8 @@ module _ (In : Goal → Type 0) (inner : Class → Reader Tree) (cover : Reader 
   whole_reads k x c d (rules.destructuring_rule y z m r t a b e) s w f h =
       let p = and_yes (supported_in k.flags.module y) _ (supported_as _ x (tree.assign (spanned c d) assign.Assign y z) e s) in
       rw e (destructured y z m k c d r t a b p.0 p.1 w f h)
-  whole_reads k x c d (rules.arrow_rule a ps y i j r q t b u e) s w f h = refuted _ x (ap (supported_in k.flags.module) e) s
+  whole_reads k x c d (rules.arrow_rule a ps y i j v r t b u e) s w f h =
+      kept k x c d (arrow_reads In inner cover given function functions a ps y i j k x c d v r t b u e s) w f h
   whole_reads k x c d (rules.bare_yield_rule g i n t e) s w f h = kept k x c d (bare_yield_reads k x c d g i n t e) w f h
   whole_reads k x c d (rules.yield_rule y g i b t r e) s w f h =
       kept k x c d (yield_reads y k x c d g i b t r (supported_as _ x (tree.yield (spanned c d) y false) e s) e) w f h
@@ -650,9 +666,10 @@ module _ (n : ℕ) (inner : Class → Reader Tree) (cover : Reader Cover) (given
   level_exprs : (k : Code) (x : Tree) (c d : Place) → language.Reads (suc n) (expr_goal assignment k x c d) → supported_in k.flags.module x ≡ true → ReadsAs (AsExpr x) (cover_expr inner cover function) k x c d
   level_exprs k x c d r s w f h = gets_also (AsWhole x) (AsExpr x) _ _ (whole_reads (language.Reads n) inner cover given function functions k x c d r s w f h) (λ v a. (a.0, a.1))
 
-  -- what is read in one level more
-  pub read_above : IsRead (language.Reads (suc n)) (expr_level inner cover function) (cover_expr inner cover function)
-  read_above = record {
+  -- what is read in one level more, given what its parts are
+  pub read_above : ((s : State) → expr_level inner cover function expression s ≡ sequenced_by (cover_expr inner cover function) s) → ReadsParts (cover_expr inner cover function)
+      → IsRead (language.Reads (suc n)) (expr_level inner cover function) (cover_expr inner cover function)
+  read_above tied parts = record {
     reads = class_reads;
     calls = level_calls;
     bare = λ k x c d r. (bare_ends (suc n) k x c d r).1;
@@ -663,12 +680,16 @@ module _ (n : ℕ) (inner : Class → Reader Tree) (cover : Reader Cover) (given
     targets = λ k p c d r s t w f h. target_reads (language.Reads n) inner cover given function functions (with_in k) p c d r s t w f h;
     begins_element = element_begins assigning (suc n);
     cover_falls = cover_expr_falls inner cover given.falls given.cover_falls function functions.falls;
+    tied = tied;
+    parts = parts;
+    names = names_stand (suc n);
+    parameter = λ k x c d r s. parameter_down (suc n) k.flags.module k x c d r s;
   }
 
 -- within no level nothing is
 pub read_nowhere : (inner : Class → Reader Tree) (cover : Reader Cover) → ((class : Class) (s : State) → Falls 1 (length s.at.left) (inner class s)) → ((s : State) → Falls 1 (length s.at.left) (cover s))
-    → IsRead (language.Reads zero) inner cover
-read_nowhere inner cover falls cover_falls = record {
+    → ((s : State) → inner expression s ≡ sequenced_by cover s) → ReadsParts cover → IsRead (language.Reads zero) inner cover
+read_nowhere inner cover falls cover_falls tied parts = record {
   reads = λ class k x c d r s. absurd r;
   calls = λ k x c d r e s. absurd r;
   bare = λ k x c d r. absurd r;
@@ -679,6 +700,10 @@ read_nowhere inner cover falls cover_falls = record {
   targets = λ k p c d r s t. absurd r;
   begins_element = λ k p c d r s. absurd r;
   cover_falls = cover_falls;
+  tied = tied;
+  parts = parts;
+  names = names_stand zero;
+  parameter = λ k x c d r s. parameter_down zero k.flags.module k x c d r s;
 }
 
 -- an expression of a class is

@@ -166,7 +166,7 @@ not_yes true e = cc
 not_yes false e = refl
 
 module _ (In : Goal → Type 0) (inner : Class → Reader Tree) (cover : Reader Cover) (given : IsRead In inner cover) where
-  covered_reads : (P : Cover → Type 0) (k : Code) (x : Tree) (c d : Place) → ReadsAs P cover (with_in k) x c d → ReadsAs P (covered inner cover) k x c d
+  pub covered_reads : (P : Cover → Type 0) (k : Code) (x : Tree) (c d : Place) → ReadsAs P cover (with_in k) x c d → ReadsAs P (covered inner cover) k x c d
   unfolding covered
   covered_reads P k x c d r w f h = let g = r w f h in record { value = g.value; holds = g.holds; is = rw g.is refl }
 

@@ -24,14 +24,15 @@ use Rattle.swc_ecma_parser_model.specs.declared.operators.BinaryOp.{BinaryOp}
 use Rattle.swc_ecma_parser_model.specs.declared.operators.AssignOp.{AssignOp}
 use Rattle.swc_ecma_parser_model.specs.Tree as tree
 use Rattle.swc_ecma_parser_model.specs.Tree.{Tree, Text, listed}
-use Rattle.swc_ecma_parser_model.specs.Forms.{is_ident}
+use Rattle.swc_ecma_parser_model.specs.Forms.{is_ident, is_binding_name}
 use Rattle.swc_ecma_parser_grammar.specs.Looks.{kind_at, first_kind, breaks_at, span_at, first_span, sees, same_kind, spanned}
 use Rattle.swc_ecma_parser_grammar.specs.Names.{Code, is_reserved, is_name, token_is_name, first_is_name, name_at, token_is_identifier, first_is_identifier, identifier_at}
+use Rattle.swc_ecma_parser_grammar.specs.Follows as follows
 use Rattle.swc_ecma_parser_grammar.specs.Follows.{continues_left_side, word_at, is_async_function}
 use Rattle.swc_ecma_parser_grammar.specs.Reads.{ReadsToken}
 use Rattle.swc_ecma_parser_grammar.specs.Supported.{supported_in}
 use Rattle.swc_ecma_parser_grammar.specs.ReadsSupported.{ReadsClass}
-use Rattle.swc_ecma_parser_grammar.specs.language.Goals.{Goal, Purpose, expr_goal, element_goal, expression, assignment}
+use Rattle.swc_ecma_parser_grammar.specs.language.Goals.{Goal, Purpose, binding, expr_goal, pattern_goal, element_goal, expression, assignment}
 use Rattle.swc_ecma_parser_grammar.proofs.ExpressionBegins.{await_stands}
 use Rattle.swc_ecma_parser_grammar.specs.language.Operators.{unary_operator, update_operator, binary_operator, assign_operator}
 use Rattle.swc_ecma_parser_grammar.specs.language.Continues.{continues_unary, is_operation, continues_operand, continues_head, continues_conditional, continues_assignment}
@@ -48,6 +49,7 @@ use Rattle.swc_ecma_parser_grammar.specs.language.Expressions as rules
 use Rattle.swc_ecma_parser_grammar.specs.language.Expressions.{UnaryRule, BinaryRule, AssignmentRule, ExpressionRule}
 use Rattle.swc_ecma_parser_grammar.specs.language.Reads as language
 use Rattle.swc_ecma_parser_grammar.proofs.Tests.{or_no, or_none, and_yes, and_no}
+use Rattle.swc_ecma_parser_grammar.proofs.Arrows.{arrow_parts}
 use Rattle.swc_ecma_parser_grammar.proofs.Naming.{name_is_name}
 use Rattle.swc_ecma_parser_grammar.proofs.Unnoted as unnoted
 use Rattle.swc_ecma_parser_reader.specs.Methods.{ends_key}
@@ -138,13 +140,15 @@ pub false_unnamed : (f : Context) → token_is_name f (token.Word word.False) �
 unfolding is_name is_reserved
 false_unnamed f = refl
 
--- `(`, `[`, `{`, `this` and `function` are no name and no literal
+-- `(`, `[`, `{`, `this` and `function` are no name and no literal, nor are `)` and `...`
 abbrev is_marked : TokenKind → Bool
 is_marked kind.LParen = true
 is_marked kind.LBracket = true
 is_marked kind.LBrace = true
 is_marked kind.This = true
 is_marked kind.Function = true
+is_marked kind.RParen = true
+is_marked kind.DotDotDot = true
 is_marked _ = false
 
 marked_keyword : (f : Context) (k : Keyword) → is_marked (keyword_kind k) ≡ true → is_name f (word_text (word.Keyword k)) ≡ false
@@ -189,6 +193,12 @@ this_here f c e = marked_here f c (rw e refl)
 
 pub function_here : (f : Context) (c : Place) → kind_at c ≡ kind.Function → (name_at f c ≡ false) × (literal_in c.left ≡ None)
 function_here f c e = marked_here f c (rw e refl)
+
+pub close_here : (f : Context) (c : Place) → kind_at c ≡ kind.RParen → (name_at f c ≡ false) × (literal_in c.left ≡ None)
+close_here f c e = marked_here f c (rw e refl)
+
+pub dots_here : (f : Context) (c : Place) → kind_at c ≡ kind.DotDotDot → (name_at f c ≡ false) × (literal_in c.left ≡ None)
+dots_here f c e = marked_here f c (rw e refl)
 
 -- ---- keys
 
@@ -302,7 +312,7 @@ primary_by _ e = (refl, refl, refl)
 pub primary_seen : (c : Place) → primary_kind (kind_at c) ≡ true → (sees kind.Super c ≡ false) × (sees kind.New c ≡ false) × (sees kind.Import c ≡ false)
 primary_seen c e = primary_by (kind_at c) e
 
-primary_operand : (k : TokenKind) → primary_kind k ≡ true → operand_kind k ≡ true
+pub primary_operand : (k : TokenKind) → primary_kind k ≡ true → operand_kind k ≡ true
 primary_operand kind.Super e = refl
 primary_operand kind.New e = refl
 primary_operand kind.Import e = refl
@@ -374,8 +384,43 @@ word_primary : (f : Context) (w : Word) → is_name f (word_text w) ≡ true →
 word_primary f (word.Keyword k) e = keyword_primary f k e
 word_primary f _ e = refl
 
+-- a name stands there
+named_in : (f : Context) (c : Place) (ts : List TokenAndSpan) → c.left ≡ ts → first_is_name f ts ≡ true
+    → (v : Word) × (s : Span) × ReadsToken (token.Word v) s c (after c) × (is_name f (word_text v) ≡ true)
+named_in f c [] e h = cc
+named_in f c (t ∷ ts) e h = by_token t.token refl h
+  where
+    by_token : (u : Token) → t.token ≡ u → token_is_name f u ≡ true → (v : Word) × (s : Span) × ReadsToken (token.Word v) s c (after c) × (is_name f (word_text v) ≡ true)
+    by_token (token.Word v) g i = (v, t.span, record { had_line_break = t.had_line_break; rest = ts; is = e ∙ rw (← g) refl; next = refl }, i)
+    by_token _ g i = cc
+
+pub named_here : (f : Context) (c : Place) → name_at f c ≡ true → (v : Word) × (s : Span) × ReadsToken (token.Word v) s c (after c) × (is_name f (word_text v) ≡ true)
+unfolding name_at
+named_here f c h = named_in f c c.left refl h
+
 token_primary : (t : Token) (s : Span) (c d : Place) → ReadsToken t s c d → primary_kind (token_kind t) ≡ true → primary_kind (kind_at c) ≡ true
 token_primary t s c d r e = ap primary_kind (token_first t s c d r) ∙ e
+
+-- a name begins as an operand does
+pub named_first : (f : Context) (c : Place) → name_at f c ≡ true → primary_kind (kind_at c) ≡ true
+named_first f c h = let (v, s, r, n) = named_here f c h in token_primary (token.Word v) s c (after c) r (word_primary f v n)
+
+-- a binding pattern of the next level that is a name is that name alone
+abbrev pub NamesStand : (Goal → Type 0) → Type 0
+NamesStand In = (k : Code) (p : Tree) (c d : Place) → In (pattern_goal binding k p c d) → is_binding_name p ≡ true → supported_in k.flags.module p ≡ true → (name_at k.flags c ≡ true) × (d ≡ after c)
+
+name_stands : (In : Goal → Type 0) (k : Code) (p : Tree) (c d : Place) → PatternRule In binding k p c d → is_binding_name p ≡ true → supported_in k.flags.module p ≡ true
+    → (name_at k.flags c ≡ true) × (d ≡ after c)
+name_stands In k p c d (patterns.binding_name_rule text s b r e) n h =
+    (named (token.Word r.word) s c d k true r.reads_word (name_is_name k text s c d r (supported_as _ p (tree.ident_pat s text) e h)), r.reads_word.next)
+name_stands In k p c d (patterns.target_name_rule text s b a r e) n h = cc
+name_stands In k p c d (patterns.target_rule y b r t i e) n h = absurd (let g : is_binding_name p ≡ false = ap is_binding_name e in cc)
+name_stands In k p c d (patterns.array_rule xs m i r j q e) n h = absurd (let g : is_binding_name p ≡ false = ap is_binding_name e in cc)
+name_stands In k p c d (patterns.object_rule xs m i r j q e) n h = absurd (let g : is_binding_name p ≡ false = ap is_binding_name e in cc)
+
+pub names_stand : (n : ℕ) → NamesStand (language.Reads n)
+names_stand zero k p c d r i h = absurd r
+names_stand (suc n) k p c d r i h = name_stands (language.Reads n) k p c d r i h
 
 module _ (In : Goal → Type 0) where
   -- a function begins with its word, or with `async`
@@ -439,25 +484,36 @@ module _ (In : Goal → Type 0) where
   element_first k x c d (patterns.bare_rule r e) h = pattern_first k x c d r h
   element_first k x c d (patterns.initialized_rule y z m r i v e) h = pattern_first k y c m r (and_yes (supported_in k.flags.module y) _ (supported_as _ x (tree.assign_pat (spanned c d) y z) e h)).0
 
-  assignment_first : (k : Code) (x : Tree) (c d : Place) → AssignmentRule In k x c d → supported_in k.flags.module x ≡ true → begin_kind (kind_at c) ≡ true
-  assignment_first k x c d (rules.operators_rule r s) h = binary_first k 1 x c d r h
-  assignment_first k x c d (rules.conditional_rule t y z i j r q a b s u e) h = binary_first k 1 t c i r (and_yes (supported_in k.flags.module t) _ (supported_as _ x (tree.cond (spanned c d) t y z) e h)).0
-  assignment_first k x c d (rules.assign_rule op y z m r t a b e) h =
-      operand_begins (kind_at c) (left_first k y c m r.0 (and_yes (supported_in k.flags.module y) _ (supported_as _ x (tree.assign (spanned c d) op y z) e h)).0)
-  assignment_first k x c d (rules.destructuring_rule y z m r t a b e) h = pattern_first k y c m r (and_yes (supported_in k.flags.module y) _ (supported_as _ x (tree.assign (spanned c d) _ y z) e h)).0
-  assignment_first k x c d (rules.arrow_rule a ps y i j r s t b u e) h = refuted _ x (ap (supported_in k.flags.module) e) h
-  assignment_first k x c d (rules.bare_yield_rule g i n s e) h = rw i refl
-  assignment_first k x c d (rules.yield_rule y g i b s r e) h = rw i refl
-  assignment_first k x c d (rules.delegate_rule y g i b m r e) h = rw i refl
+  -- an arrow that is not async begins with its name or with `(`
+  arrow_first : NamesStand In → (a : Bool) (ps : List Tree) (k : Code) (c i j : Place) → follows.AsyncWord a c i → a ≡ false → rules.ArrowHeadRule In k ps i j → supported_in k.flags.module (listed ps) ≡ true
+      → begin_kind (kind_at c) ≡ true
+  arrow_first names a ps k c i j (follows.async_word e w g b) p r h = cc
+  arrow_first names a ps k c i j (follows.not_async e g) p (rules.name_head q r n is) h =
+      let t = (and_yes (supported_in k.flags.module q) _ (supported_as _ (listed ps) (listed (q ∷ [])) (ap listed is) h)).0 in
+      ap (λ z. begin_kind (kind_at z)) (sym g) ∙ operand_begins (kind_at i) (primary_operand (kind_at i) (named_first k.flags i (names k q i j r n t).0))
+  arrow_first names a ps k c i j (follows.not_async e g) p (rules.parameters_head r) h = ap (λ z. begin_kind (kind_at z)) (sym g) ∙ ap begin_kind r.opens
 
-  expression_first : (k : Code) (x : Tree) (c d : Place) → ExpressionRule In k x c d → supported_in k.flags.module x ≡ true → begin_kind (kind_at c) ≡ true
-  expression_first k x c d (rules.assignment_rule r e) h = assignment_first k x c d r h
-  expression_first k x c d (rules.sequence_rule y z zs (m, r, i, more) e) h = assignment_first k y c m r (and_yes (supported_in k.flags.module y) _ (supported_as _ x (tree.seq (spanned c d) (listed (y ∷ z ∷ zs))) e h)).0
+  assignment_first : NamesStand In → (k : Code) (x : Tree) (c d : Place) → AssignmentRule In k x c d → supported_in k.flags.module x ≡ true → begin_kind (kind_at c) ≡ true
+  assignment_first names k x c d (rules.operators_rule r s) h = binary_first k 1 x c d r h
+  assignment_first names k x c d (rules.conditional_rule t y z i j r q a b s u e) h = binary_first k 1 t c i r (and_yes (supported_in k.flags.module t) _ (supported_as _ x (tree.cond (spanned c d) t y z) e h)).0
+  assignment_first names k x c d (rules.assign_rule op y z m r t a b e) h =
+      operand_begins (kind_at c) (left_first k y c m r.0 (and_yes (supported_in k.flags.module y) _ (supported_as _ x (tree.assign (spanned c d) op y z) e h)).0)
+  assignment_first names k x c d (rules.destructuring_rule y z m r t a b e) h = pattern_first k y c m r (and_yes (supported_in k.flags.module y) _ (supported_as _ x (tree.assign (spanned c d) _ y z) e h)).0
+  assignment_first names k x c d (rules.arrow_rule a ps y i j r s t b u e) h =
+      let p = arrow_parts k.flags.module (spanned c d) (listed ps) y a (supported_as _ x (tree.arrow (spanned c d) (listed ps) y a) e h) in
+      arrow_first names a ps k c i j r p.is_plain s p.supports_params
+  assignment_first names k x c d (rules.bare_yield_rule g i n s e) h = rw i refl
+  assignment_first names k x c d (rules.yield_rule y g i b s r e) h = rw i refl
+  assignment_first names k x c d (rules.delegate_rule y g i b m r e) h = rw i refl
+
+  expression_first : NamesStand In → (k : Code) (x : Tree) (c d : Place) → ExpressionRule In k x c d → supported_in k.flags.module x ≡ true → begin_kind (kind_at c) ≡ true
+  expression_first names k x c d (rules.assignment_rule r e) h = assignment_first names k x c d r h
+  expression_first names k x c d (rules.sequence_rule y z zs (m, r, i, more) e) h = assignment_first names k y c m r (and_yes (supported_in k.flags.module y) _ (supported_as _ x (tree.seq (spanned c d) (listed (y ∷ z ∷ zs))) e h)).0
 
 -- an argument or an element begins neither as a spread nor as the end of either, nor as a hole
 pub begins : (n : ℕ) (k : Code) (x : Tree) (c d : Place) → language.Reads n (expr_goal assignment k x c d) → supported_in k.flags.module x ≡ true → begin_kind (kind_at c) ≡ true
 begins zero k x c d r h = absurd r
-begins (suc n) k x c d r h = assignment_first (language.Reads n) k x c d r h
+begins (suc n) k x c d r h = assignment_first (language.Reads n) (names_stand n) k x c d r h
 
 pub element_begins : (purpose : Purpose) (n : ℕ) (k : Code) (x : Tree) (c d : Place) → language.Reads n (element_goal purpose k x c d) → supported_in k.flags.module x ≡ true → begin_kind (kind_at c) ≡ true
 element_begins purpose zero k x c d r h = absurd r
@@ -466,7 +522,7 @@ element_begins purpose (suc n) k x c d r h = element_first (language.Reads n) k 
 -- `const` is reserved: no expression begins with it, and it is no name
 pub expr_no_const : (n : ℕ) (k : Code) (x : Tree) (c d : Place) → ReadsClass n expression k x c d → sees kind.Const c ≡ false
 expr_no_const zero k x c d r = absurd r.0
-expr_no_const (suc n) k x c d r = begin_no_const (kind_at c) (expression_first (language.Reads n) k x c d r.0 r.1)
+expr_no_const (suc n) k x c d r = begin_no_const (kind_at c) (expression_first (language.Reads n) (names_stand n) k x c d r.0 r.1)
 
 pub name_no_const : (f : Context) (w : Word) (s : Span) (c d : Place) → ReadsToken (token.Word w) s c d → is_name f (word_text w) ≡ true → sees kind.Const c ≡ false
 name_no_const f w s c d r h = begin_no_const (kind_at c) (operand_begins (kind_at c) (primary_operand (kind_at c) (token_primary (token.Word w) s c d r (word_primary f w h))))
@@ -587,12 +643,13 @@ none_of (Some a) e = cc
 pub unassigned_at : (c : Place) → is_some (assign_operator (kind_at c)) ≡ false → assign_operator (kind_at c) ≡ None
 unassigned_at c e = none_of (assign_operator (kind_at c)) e
 
--- ---- the end of a part of an array or object
+-- ---- the end of a part of an array, an object or a list of parameters
 
 abbrev pub ends_part : TokenKind → Bool
 ends_part kind.Comma = true
 ends_part kind.RBracket = true
 ends_part kind.RBrace = true
+ends_part kind.RParen = true
 ends_part _ = false
 
 -- no word ends one
@@ -632,6 +689,7 @@ unfolding same_kind
 ended kind.Comma e = record { quiet = (refl, refl, refl, refl, refl); colon = refl; assign = refl; question = refl; arrow = refl; function = refl; binary = refl; assigns = refl }
 ended kind.RBracket e = record { quiet = (refl, refl, refl, refl, refl); colon = refl; assign = refl; question = refl; arrow = refl; function = refl; binary = refl; assigns = refl }
 ended kind.RBrace e = record { quiet = (refl, refl, refl, refl, refl); colon = refl; assign = refl; question = refl; arrow = refl; function = refl; binary = refl; assigns = refl }
+ended kind.RParen e = record { quiet = (refl, refl, refl, refl, refl); colon = refl; assign = refl; question = refl; arrow = refl; function = refl; binary = refl; assigns = refl }
 ended _ e = cc
 
 pub ended_at : (c : Place) → ends_part (kind_at c) ≡ true → Ended (kind_at c)

@@ -21,18 +21,21 @@ use Rattle.swc_ecma_parser_grammar.specs.Names.{Code, is_name}
 use Rattle.swc_ecma_parser_grammar.specs.Reads.{with_in, ReadsToken}
 use Rattle.swc_ecma_parser_grammar.specs.Notes.{notes}
 use Rattle.swc_ecma_parser_grammar.specs.language.Noted.{has_meta}
-use Rattle.swc_ecma_parser_grammar.specs.Walk.{Env, env_of, walk, walks}
+use Rattle.swc_ecma_parser_grammar.specs.Walk.{Env, env_of, in_body, walk, walks}
 use Rattle.swc_ecma_parser_grammar.specs.Supported.{supported_in, is_supported_property_in, is_supported_key_in, all_supported_in}
 use Rattle.swc_ecma_parser_grammar.specs.Parameters.{parameters}
-use Rattle.swc_ecma_parser_grammar.specs.language.Functions.{FunctionRule, FunctionParts}
-use Rattle.swc_ecma_parser_grammar.specs.language.Goals.{Goal, Class, expression, assignment, callee, assigning, expr_goal, callee_goal, element_goal, pattern_goal}
+use Rattle.swc_ecma_parser_grammar.specs.language.Contexts.{in_arrow}
+use Rattle.swc_ecma_parser_grammar.specs.language.Functions.{PatternItemRule, FunctionRule, FunctionParts}
+use Rattle.swc_ecma_parser_grammar.specs.language.Goals.{Goal, Class, expression, assignment, callee, assigning, binding, expr_goal, callee_goal, element_goal, pattern_goal}
+use Rattle.swc_ecma_parser_grammar.specs.language.Items.{BlockRule}
 use Rattle.swc_ecma_parser_grammar.specs.language.Lists.{ReadsListed, LastComma, no_comma, last_comma}
 use Rattle.swc_ecma_parser_grammar.specs.language.Parts as parts
 use Rattle.swc_ecma_parser_grammar.specs.language.Parts.{ReadsWord, PrivateRule, AccessRule, is_private, ElementRule, ArgumentsRule, ComputedRule, KeyRule}
+use Rattle.swc_ecma_parser_grammar.proofs.Binding.{ArrowPartRule}
 use Rattle.swc_ecma_parser_grammar.proofs.Tests.{and_yes, and_no}
 use Rattle.swc_ecma_parser_reader.specs.Notes.{Notes, no_notes, ◌⊕◌, notes_of, all_notes_of}
 use Rattle.swc_ecma_parser_reader.specs.State.{and_then, Scope, State, Reader, expect, name, loop}
-use Rattle.swc_ecma_parser_reader.specs.Methods.{MethodForm, getter_form, setter_form, method_form, FunctionForm, expression_form, property_form}
+use Rattle.swc_ecma_parser_reader.specs.Methods.{MethodForm, getter_form, setter_form, method_form, FunctionForm, expression_form, property_form, parameter_form, block_form}
 use Rattle.swc_ecma_parser_reader.specs.Expressions.{Cover, literal_of, literal_in, literal, any_word, touching_word, private_name, word_property, token_is_word, literal_key, shorthand_name, shorthand, dotted, super_property, inside, brackets, access, spread_element, plain_element, element, arguments_turn, arguments, computed_key, key, key_or}
 use Rattle.swc_ecma_parser_reader.proofs.Notes.{or_nil, or_assoc}
 use Rattle.swc_ecma_parser_reader.proofs.Answered.{st, Reads, ReadsAs}
@@ -40,7 +43,8 @@ use Rattle.swc_ecma_parser_reader.proofs.Takes.{Falls, moves}
 use Rattle.swc_ecma_parser_reader.proofs.Steps.{loop_more, loop_done}
 use Rattle.swc_ecma_parser_reader.proofs.expressions.Falls.{element_falls, FunctionsFall}
 use Rattle.swc_ecma_parser_reader.proofs.expressions.Loops.{shorter_by}
-use Rattle.swc_ecma_parser_reader.proofs.expressions.CompleteKinds.{supported_as, seen, token_first, touching, no_hash, worded, bracket_here, begin_kind, begin_seen, ends_part}
+use Rattle.swc_ecma_parser_reader.proofs.expressions.Groups.{sequenced_by, ReadsParts}
+use Rattle.swc_ecma_parser_reader.proofs.expressions.CompleteKinds.{NamesStand, supported_as, seen, token_first, touching, no_hash, worded, bracket_here, begin_kind, begin_seen, ends_part}
 
 -- ---- fixed tokens, names and words
 
@@ -126,6 +130,17 @@ pub record IsRead (In : Goal → Type 0) (inner : Class → Reader Tree) (cover 
       → ReadsAs (AsTarget p d) cover (with_in k) p c d
   pub begins_element : (k : Code) (p : Tree) (c d : Place) → In (element_goal assigning k p c d) → supported_in k.flags.module p ≡ true → begin_kind (kind_at c) ≡ true
   pub cover_falls : (s : State) → Falls 1 (length s.at.left) (cover s)
+  -- an expression is what its parts say, each of which may still become a pattern
+  pub tied : (s : State) → inner expression s ≡ sequenced_by cover s
+  pub parts : ReadsParts cover
+  -- a name before `=>` is that name alone, and a parameter in parentheses is what could be assigned to, or a rest
+  pub names : NamesStand In
+  pub parameter : (k : Code) (x : Tree) (c d : Place) → PatternItemRule In binding k x c d → supported_in k.flags.module x ≡ true → ArrowPartRule In k x c d
+
+-- what the body of an arrow function is read as: no label stands around it, and nothing in it makes a program a module
+abbrev pub ReadsEnclosed : Reader Tree → Code → Tree → Place → Place → Type 0
+ReadsEnclosed reader k x c d = (w : Scope) (f : List Fault) (h : Notes) → reader (st c k w f h)
+    ≡ Ok (x, st d k w (f ++ walk (in_body (env_of k w.labels)) x) (record { held_back = h.held_back ++ notes x; found_module_item = h.found_module_item }))
 
 -- a method is read from behind its key, whose walk and notes are before its own
 abbrev pub MethodIsRead : (FunctionForm → Reader Tree) → MethodForm → Code → (key x : Tree) (c m d : Place) → Type 0
@@ -143,6 +158,10 @@ pub record IsFunctionRead (In : Goal → Type 0) (function : FunctionForm → Re
   pub methods : (k : Code) (w g : Bool) (key : Tree) (ps : List Tree) (body x : Tree) (c m d : Place) → FunctionParts In k w g ps body m d
       → x ≡ tree.method_prop (spanned c d) key (tree.function (spanned c d) (listed []) (parameters ps) body w g) → supported_in k.flags.module x ≡ true
       → MethodIsRead function (method_form w g) k key x c m d
+  -- a binding pattern, and the block of an arrow function
+  pub patterns : (k : Code) (p : Tree) (c d : Place) → In (pattern_goal binding k p c d) → supported_in k.flags.module p ≡ true → Reads (function parameter_form) k p c d
+  pub blocks : (w : Bool) (k : Code) (x : Tree) (c d : Place) → BlockRule In (with_in (in_arrow k w)) false x c d → supported_in k.flags.module x ≡ true → (k.flags.module ≡ true → notes x ≡ [])
+      → ReadsEnclosed (function (block_form w)) k x c d
   pub falls : FunctionsFall function
 
 -- behind an argument or an element the list ends, or a comma stands

@@ -1,4 +1,5 @@
--- An array or object that stands first: what it is as an expression, and what it is while it may still become a pattern.
+-- An array or object that stands first: what it is as an expression, and what it is while it may still become a pattern. What an
+-- assignment expression is by what stands first.
 use Rattle.std.proofs.Common.{◌≡◌, ◌⊎◌, inl, inr, Bool, true, false, cond, List, [], ◌∷◌, Option, Some, None, Ok, Err, refl, sym, ◌∙◌, ap, subst}
 use Rattle.std.specs.Prelude.{is_some, ◌||◌, if◌then◌else◌, codes}
 use Rattle.swc_ecma_parser_common.specs.declared.span.Span.{Span}
@@ -24,12 +25,13 @@ use Rattle.swc_ecma_parser_grammar.specs.language.Continues.{continues_condition
 use Rattle.swc_ecma_parser_grammar.proofs.Tests.{or_no}
 use Rattle.swc_ecma_parser_reader.specs.State.{State, Outcome, Reader, and_then, ◌>>=◌}
 use Rattle.swc_ecma_parser_reader.specs.Methods.{FunctionForm}
+use Rattle.swc_ecma_parser_reader.specs.Arrows.{begins_named_arrow, named_arrow, grouped}
 use Rattle.swc_ecma_parser_reader.proofs.expressions.Awaits.{other_awaits}
-use Rattle.swc_ecma_parser_reader.specs.Expressions.{Cover, done, literal, begins_async_call, heads_arrow, operator_at, unheaded, close, unmarked, target, target_or, goes_on, elements, array, properties, object, marked_primary, primary, left_turn, left_from, left_head, left, postfix, unary_expr, binary_turn, binary_from, binary_expr, assigned_to, assigned, behind_operators, operators_expr, postfixed, continued, closed, assigned_pattern, behind_literal, open_literal, done_expr, cover_expr, assignment_expr, is_literal, plain_expr}
+use Rattle.swc_ecma_parser_reader.specs.Expressions.{Cover, done, literal, begins_async_call, heads_arrow, operator_at, unheaded, close, unmarked, target, target_or, goes_on, elements, array, properties, object, paren, marked_primary, primary, left_turn, left_from, left_head, left, postfix, unary_expr, binary_turn, binary_from, binary_expr, assigned_to, assigned, behind_operators, operators_expr, postfixed, continued, closed, assigned_pattern, behind_literal, open_literal, done_expr, cover_expr, assignment_expr, is_literal, plain_expr}
 use Rattle.swc_ecma_parser_reader.specs.Yields.{begins_yield}
 use Rattle.swc_ecma_parser_reader.proofs.Steps.{then_ok, chosen, loop_done}
 use Rattle.swc_ecma_parser_reader.proofs.Meets.{Meets, meets_then, meets_if, saw}
-use Rattle.swc_ecma_parser_reader.proofs.expressions.CompleteKinds.{array_here, object_here, stopped, assign_stops, assign_seen, unassigned_at}
+use Rattle.swc_ecma_parser_reader.proofs.expressions.CompleteKinds.{paren_here, array_here, object_here, stopped, assign_stops, assign_seen, unassigned_at}
 use Rattle.swc_ecma_parser_reader.proofs.expressions.SoundSteps.{reject_meets}
 
 -- ---- answers
@@ -74,26 +76,29 @@ either_true false b h = inr h
 pub literal_kind : (c : Place) → begins_literal c ≡ true → (kind_at c ≡ kind.LBracket) ⊎ (kind_at c ≡ kind.LBrace)
 literal_kind c h = elim (either_true (sees kind.LBracket c) (sees kind.LBrace c) h) [ inl e ↦ inl (saw c kind.LBracket e) | inr e ↦ inr (saw c kind.LBrace e) ]
 
-abbrev opens : TokenKind → Bool
-opens kind.LBracket = true
-opens kind.LBrace = true
-opens _ = false
+-- what is no word
+abbrev pub is_mark : TokenKind → Bool
+is_mark kind.LParen = true
+is_mark kind.LBracket = true
+is_mark kind.LBrace = true
+is_mark kind.RParen = true
+is_mark kind.DotDotDot = true
+is_mark _ = false
 
--- which is no word
-unworded_token : (text : Text) (t : Token) → opens (token_kind t) ≡ true → token_is text t ≡ false
+unworded_token : (text : Text) (t : Token) → is_mark (token_kind t) ≡ true → token_is text t ≡ false
 unworded_token text (token.Word (word.Ident name)) e = cc
 unworded_token text (token.Word _) e = refl
 unworded_token text _ e = refl
 
-unworded_first : (text : Text) (ts : List TokenAndSpan) → opens (first_kind ts) ≡ true → first_is text ts ≡ false
+unworded_first : (text : Text) (ts : List TokenAndSpan) → is_mark (first_kind ts) ≡ true → first_is text ts ≡ false
 unworded_first text [] e = refl
 unworded_first text (t ∷ ts) e = unworded_token text t.token e
 
-unworded : (text : Text) (c : Place) → opens (kind_at c) ≡ true → word_at text c ≡ false
+unworded : (text : Text) (c : Place) → is_mark (kind_at c) ≡ true → word_at text c ≡ false
 unfolding word_at kind_at
 unworded text c e = unworded_first text c.left e
 
-calls_nothing : (c : Place) → opens (kind_at c) ≡ true → begins_async_call c ≡ false
+calls_nothing : (c : Place) → is_mark (kind_at c) ≡ true → begins_async_call c ≡ false
 unfolding begins_async_call
 calls_nothing c e = rw (unworded (codes "async") c e) refl
 
@@ -154,7 +159,7 @@ module _ (inner : Class → Reader Tree) (cover : Reader Cover) where
   -- ---- nothing goes on with it
 
   -- no access, no arguments and no operator: each step behind it leaves it as it is
-  stays_by : (start : Span) (x : Tree) (s : State) → continues_left_side s.at ≡ false → operator_at 1 s ≡ None
+  pub stays_by : (start : Span) (x : Tree) (s : State) → continues_left_side s.at ≡ false → operator_at 1 s ≡ None
       → continued inner cover start x s ≡ behind_operators inner cover false start x s
   unfolding continued postfixed left_from left_turn binary_from binary_turn
   stays_by start x s h e =
@@ -265,27 +270,55 @@ module _ (inner : Class → Reader Tree) (cover : Reader Cover) where
     operators_from s o plain awaited update super new imports call h = rw (plain, awaited, update, super, new, imports, call, h)
         (four_steps o (left_from inner cover true (span_at s.at)) (postfixed inner cover (span_at s.at)) (binary_from inner cover 1 (span_at s.at)) (behind_operators inner cover false (span_at s.at)))
 
-    operators_at : (s : State) (k : TokenKind) → kind_at s.at ≡ k → unary_operator k ≡ None → same_kind k kind.Await ≡ false → update_operator k ≡ None → same_kind k kind.Super ≡ false
-        → same_kind k kind.New ≡ false → same_kind k kind.Import ≡ false → opens k ≡ true → begins_literal s.at ≡ true → operators_expr inner cover function s ≡ and_then (and_then (opened s) close) (continued inner cover (span_at s.at))
-    operators_at s k e plain awaited update super new imports o h =
-        operators_from s _ (ap unary_operator e ∙ plain) (other_awaits s.code.flags s.at e awaited) (ap update_operator e ∙ update) (ap (λ j. same_kind j kind.Super) e ∙ super) (ap (λ j. same_kind j kind.New) e ∙ new)
-        (ap (λ j. same_kind j kind.Import) e ∙ imports) (calls_nothing s.at (ap opens e ∙ o)) (primary_literal s h)
+    -- where a mark stands first that is no operator
+    pub operators_at : (s : State) (k : TokenKind) (o : Outcome Tree) → kind_at s.at ≡ k → unary_operator k ≡ None → same_kind k kind.Await ≡ false → update_operator k ≡ None → same_kind k kind.Super ≡ false
+        → same_kind k kind.New ≡ false → same_kind k kind.Import ≡ false → is_mark k ≡ true → primary inner cover function s ≡ o → operators_expr inner cover function s ≡ and_then o (continued inner cover (span_at s.at))
+    operators_at s k o e plain awaited update super new imports mark h =
+        operators_from s o (ap unary_operator e ∙ plain) (other_awaits s.code.flags s.at e awaited) (ap update_operator e ∙ update) (ap (λ j. same_kind j kind.Super) e ∙ super) (ap (λ j. same_kind j kind.New) e ∙ new)
+        (ap (λ j. same_kind j kind.Import) e ∙ imports) (calls_nothing s.at (ap is_mark e ∙ mark)) h
 
     pub operators_literal : (s : State) → begins_literal s.at ≡ true → operators_expr inner cover function s ≡ and_then (and_then (opened s) close) (continued inner cover (span_at s.at))
     unfolding same_kind
     operators_literal s h = elim (literal_kind s.at h) [
-      | inl e ↦ operators_at s kind.LBracket e refl refl refl refl refl refl refl h
-      | inr e ↦ operators_at s kind.LBrace e refl refl refl refl refl refl refl h
+      | inl e ↦ operators_at s kind.LBracket _ e refl refl refl refl refl refl refl (primary_literal s h)
+      | inr e ↦ operators_at s kind.LBrace _ e refl refl refl refl refl refl refl (primary_literal s h)
     ]
 
-    -- `yield` begins none
-    unyielded : (s : State) → begins_literal s.at ≡ true → begins_yield s.code.flags s.at ≡ false
-    unfolding begins_yield same_kind
-    unyielded s h = elim (literal_kind s.at h) [ inl e ↦ rw e refl | inr e ↦ rw e refl ]
+    -- what stands in parentheses, with what goes on with it
+    primary_paren : (s : State) → kind_at s.at ≡ kind.LParen → primary inner cover function s ≡ paren inner cover s
+    unfolding primary literal marked_primary same_kind
+    primary_paren s e = rw ((paren_here s.code.flags s.at e).0, (paren_here s.code.flags s.at e).1, e) refl
+
+    pub operators_paren : (s : State) → kind_at s.at ≡ kind.LParen → operators_expr inner cover function s ≡ and_then (paren inner cover s) (continued inner cover (span_at s.at))
+    unfolding same_kind
+    operators_paren s e = operators_at s kind.LParen _ e refl refl refl refl refl refl refl (primary_paren s e)
+
+    -- ---- an assignment expression, by what stands first
+
+    pub plain_operators : (s : State) → begins_yield s.code.flags s.at ≡ false → begins_named_arrow s.code.flags s.at ≡ false → sees kind.LParen s.at ≡ false → plain_expr inner cover function s ≡ operators_expr inner cover function s
+    unfolding plain_expr
+    plain_operators s y n p = rw (y, n, p) refl
+
+    -- a name before `=>`
+    pub plain_named : (s : State) → begins_yield s.code.flags s.at ≡ false → begins_named_arrow s.code.flags s.at ≡ true → plain_expr inner cover function s ≡ named_arrow inner function s
+    unfolding plain_expr
+    plain_named s y n = rw (y, n) refl
+
+    -- `(`
+    pub plain_grouped : (s : State) → kind_at s.at ≡ kind.LParen → plain_expr inner cover function s ≡ grouped inner function cover s
+    unfolding plain_expr begins_yield begins_named_arrow same_kind
+    plain_grouped s e = rw ((paren_here s.code.flags s.at e).0, e) refl
+
+    -- an array or object begins with no `yield`, no name and no `(`
+    other_first : (s : State) → begins_literal s.at ≡ true → (begins_yield s.code.flags s.at ≡ false) × (begins_named_arrow s.code.flags s.at ≡ false) × (sees kind.LParen s.at ≡ false)
+    unfolding begins_yield begins_named_arrow same_kind
+    other_first s h = elim (literal_kind s.at h) [
+      | inl e ↦ (rw e refl, rw (array_here s.code.flags s.at e).0 refl, rw e refl)
+      | inr e ↦ (rw e refl, rw (object_here s.code.flags s.at e).0 refl, rw e refl)
+    ]
 
     plain_literal : (s : State) → begins_literal s.at ≡ true → plain_expr inner cover function s ≡ and_then (and_then (opened s) close) (continued inner cover (span_at s.at))
-    unfolding plain_expr
-    plain_literal s h = rw (unyielded s h) (operators_literal s h)
+    plain_literal s h = let f = other_first s h in plain_operators s f.0 f.1 f.2 ∙ operators_literal s h
 
     -- an expression, which stays one
     pub record Settled (s : State) (v : Cover) (t : State) : Type 0 where

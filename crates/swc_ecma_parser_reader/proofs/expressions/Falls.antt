@@ -1,7 +1,7 @@
 -- An expression takes a token at least, and no reader of one puts tokens back.
 use Rattle.swc_ecma_parser_reader.proofs.Words.{async_begins, function_begins, begins_function}
 use Rattle.swc_ecma_parser_grammar.specs.language.Begins.{begins_expression, awaits}
-use Rattle.swc_ecma_parser_grammar.specs.language.Contexts.{may_await}
+use Rattle.swc_ecma_parser_grammar.specs.language.Contexts.{may_await, in_arrow}
 use Rattle.std.proofs.Common.{◌≡◌, ◌≢◌, ℕ, ◌+◌, ◌≤◌, Bool, true, false, cond, List, [], ◌∷◌, ◌++◌, length, Option, Some, None, refl, sym, ◌∙◌, arith}
 use Rattle.std.specs.Prelude.{not, ◌&&◌, ◌||◌, codes}
 use Rattle.std.proofs.lemmas.Bool.{and_parts}
@@ -24,7 +24,7 @@ use Rattle.swc_ecma_parser_model.specs.declared.operators.AssignOp.TheVariants a
 use Rattle.swc_ecma_parser_model.specs.Tree as tree
 use Rattle.swc_ecma_parser_model.specs.Tree.{Tree, Text}
 use Rattle.swc_ecma_parser_model.specs.Forms.{is_simple_target}
-use Rattle.swc_ecma_parser_model.specs.Targets.{as_target}
+use Rattle.swc_ecma_parser_model.specs.Targets.{as_target, as_parameter}
 use Rattle.swc_ecma_parser_grammar.specs.Looks.{kind_at, sees, span_at, breaks_at}
 use Rattle.swc_ecma_parser_grammar.specs.Names.{is_name, name_at}
 use Rattle.swc_ecma_parser_grammar.specs.Follows.{word_at, is_async_function, continues_left_side}
@@ -32,12 +32,14 @@ use Rattle.swc_ecma_parser_grammar.specs.Reads.{with_in}
 use Rattle.swc_ecma_parser_grammar.specs.language.Goals.{Class, expression, assignment, operator, unary, left_side, callee}
 use Rattle.swc_ecma_parser_grammar.specs.language.Operators.{unary_operator, update_operator, assign_operator, groups_left, mixes, is_unary}
 use Rattle.swc_ecma_parser_grammar.specs.language.Continues.{continues_conditional}
-use Rattle.swc_ecma_parser_reader.specs.State.{State, Outcome, Reader, and_then, moved, module_found, coded, reject, reject_in, reject_at, fault, fault_at, expect, name, loop}
-use Rattle.swc_ecma_parser_reader.specs.Methods.{MethodForm, FunctionForm, expression_form, property_form, modifies, begins_async_method, star, starred, method_words, is_bare}
+use Rattle.swc_ecma_parser_reader.specs.State.{State, Outcome, Reader, and_then, moved, module_found, coded, within, enclosed, unlabelled, reject, reject_in, reject_at, fault, fault_at, expect, name, loop}
+use Rattle.swc_ecma_parser_reader.specs.Methods.{MethodForm, FunctionForm, expression_form, property_form, parameter_form, block_form, modifies, begins_async_method, star, starred, method_words, is_bare}
 use Rattle.swc_ecma_parser_reader.specs.Expressions.{Cover, Covers, no_covers, with_cover, unmarked, close, target_or, target, goes_on, literal, literal_in, taken, any_word, word_in, word_by, touching_word, private_name, word_property, is_word_at, key_or, literal_key, shorthand_name, shorthand, dotted, ident_expr, this, bare_new, closed_left, simple, update_behind, behind_operand, postfix_at, right_class, operator_at, left_operand, unmixed, unassigned, unheaded, heads_arrow, begins_async_call, inside, brackets, access, spread_element, plain_element, element, behind_comma, behind_argument, arguments_turn, arguments, covered, spread_item, plain_item, item, behind_item, array_turn, elements, array, computed_key, key, key_value, initialized, initialized_name, initialized_key, bare_key, behind_key, method, behind_words, keyed_property, spread_property, property, behind_property, object_turn, properties, object, paren, marked_primary, literal_or, primary, accessed, called, left_turn, left_from, super_call, super_property, super_access, behind_super, super_head, constructed, new_head, import_call, meta_fault, import_meta, import_head, left_head, left, left_expr, prefixed, update_before, await_allowed, await_expr, postfix, updated, unary_by, unary_expr, operated, binary_by, binary_turn, binary_from, binary_expr, conditional, assigned_to, assigned, assigned_or, behind_operators, operators_expr, plain_expr, postfixed, continued, closed, assigned_pattern, behind_literal, open_literal, done_expr, cover_expr, assignment_expr, sequence_turn, sequence_from, expression_expr, expr_level, named_expr}
+use Rattle.swc_ecma_parser_reader.specs.Jumps.{told}
+use Rattle.swc_ecma_parser_reader.specs.Arrows.{begins_named_arrow, Group, behind_part, closed_parts, may_stand_alone, closed_group, parameter_or, parameter, parameters_of, arrow_body, arrow_from, named_arrow, rest_part, part_turn, group_parts, group, behind_group, grouped}
 use Rattle.swc_ecma_parser_reader.specs.Yields.{begins_yield, bare_yield, yielded, behind_yield, yield_expr}
 use Rattle.swc_ecma_parser_reader.specs.Heads.{sequenced, head_expr}
-use Rattle.swc_ecma_parser_reader.proofs.Takes.{Falls, falls_then, falls_last, falls_coded, falls_if, less, falls_next, moves, takes, takes_one, falls_past, falls_moved, wanted_falls, refused_falls, fault_falls, expect_falls, name_falls, loop_falls}
+use Rattle.swc_ecma_parser_reader.proofs.Takes.{Falls, falls_then, falls_last, falls_coded, falls_found, falls_if, less, falls_next, moves, takes, takes_one, falls_past, falls_moved, wanted_falls, refuse_falls, refused_falls, fault_falls, expect_falls, name_falls, loop_falls}
 use Rattle.swc_ecma_parser_reader.proofs.Meets.{saw}
 
 -- ---- refusals of what was read answer nothing
@@ -61,10 +63,12 @@ no_end s k h e = λ g. h (sym (saw s.at k e) ∙ g)
 
 -- ---- functions, and the words before the key of a method
 
--- what a reader of functions reads takes tokens: an expression one at least
+-- what a reader of functions reads takes tokens: an expression, a parameter and a block one at least
 pub record FunctionsFall (function : FunctionForm → Reader Tree) : Type 0 where
   pub expressions : (s : State) → begins_function s.at ≡ true → Falls 1 (length s.at.left) (function expression_form s)
   pub methods : (form : MethodForm) (start : Span) (x : Tree) (s : State) → Falls 0 (length s.at.left) (function (property_form form start x) s)
+  pub parameters : (s : State) → Falls 1 (length s.at.left) (function parameter_form s)
+  pub blocks : (is_async : Bool) (s : State) → Falls 1 (length s.at.left) (function (block_form is_async) s)
 
 pub star_falls : (s : State) → Falls 0 (length s.at.left) (star s)
 unfolding star
@@ -193,6 +197,43 @@ pub falls_when : {A : Type 0} (k n : ℕ) (b : Bool) (x y : Outcome A) → (b �
 falls_when k n true x y f g = f refl
 falls_when k n false x y f g = g refl
 
+-- a fixed token is taken: where it does not stand it is refused
+pub expect_takes : (k : TokenKind) → k ≢ kind.End → (s : State) → Falls 1 (length s.at.left) (expect k s)
+unfolding expect
+expect_takes k h s = falls_when 1 (length s.at.left) (sees k s.at) _ _ (λ e. takes s.at (no_end s k h e)) (λ _. refuse_falls (Unit {0}) 1 (length s.at.left) faults.Expected s)
+
+-- ---- what is told, and what stands in parentheses as an expression and as parameters
+
+pub told_falls : (fs : List Fault) (s : State) → Falls 0 (length s.at.left) (told fs s)
+told_falls [] s = omega arith
+told_falls (f ∷ fs) s = falls_then 0 0 (length s.at.left) (fault f s) _ (fault_falls f s) (λ _ t. told_falls fs t)
+
+closed_parts_fall : (vs : List Cover) (s : State) → Falls 0 (length s.at.left) (closed_parts vs s)
+closed_parts_fall [] s = omega arith
+closed_parts_fall (v ∷ vs) s = falls_then 0 0 (length s.at.left) (close v s) _ (close_falls v s) (λ x t. falls_last 0 (length t.at.left) (closed_parts vs t) _ (closed_parts_fall vs t))
+
+closed_group_falls : (start : Span) (g : Group) (s : State) → Falls 0 (length s.at.left) (closed_group start g s)
+unfolding closed_group
+closed_group_falls start g s = falls_if 0 (length s.at.left) (may_stand_alone g) _ _ (falls_last 0 (length s.at.left) (closed_parts g.parts s) _ (closed_parts_fall g.parts s))
+    (wanted_falls Tree 0 (length s.at.left) faults.Unexpected s)
+
+parameter_or_falls : (x : Tree) (o : Option Tree) (s : State) → Falls 0 (length s.at.left) (parameter_or x o s)
+parameter_or_falls x (Some p) s = omega arith
+parameter_or_falls x None s = reject_falls Tree 0 (length s.at.left) _ s
+
+parameter_falls : (v : Cover) (s : State) → Falls 0 (length s.at.left) (parameter v s)
+unfolding parameter
+parameter_falls v s = parameter_or_falls v.x (cond v.comma None (as_parameter v.x)) s
+
+parameters_of_fall : (vs : List Cover) (rest : Option Tree) (s : State) → Falls 0 (length s.at.left) (parameters_of vs rest s)
+parameters_of_fall [] rest s = omega arith
+parameters_of_fall (v ∷ vs) rest s = falls_then 0 0 (length s.at.left) (parameter v s) _ (parameter_falls v s) (λ p t.
+    falls_last 0 (length t.at.left) (parameters_of vs rest t) _ (parameters_of_fall vs rest t))
+
+behind_part_falls : (found : List Cover) (s : State) → Falls 0 (length s.at.left) (behind_part found s)
+behind_part_falls found s = falls_if 0 (length s.at.left) (sees kind.RParen s.at) _ _ (omega arith)
+    (falls_then 0 0 (length s.at.left) (expect kind.Comma s) _ (expect_falls kind.Comma s) (λ _ t. falls_if 0 (length t.at.left) (sees kind.RParen t.at) _ _ (omega arith) (omega arith)))
+
 -- the second of two tests
 second : (a b : Bool) → (a || b) ≡ true → a ≡ false → b ≡ true
 second true b h e = cc
@@ -242,7 +283,7 @@ module _ (inner : Class → Reader Tree) (cover : Reader Cover) (h : (class : Cl
   unfolding arguments
   arguments_fall commas s e = falls_past s _ e (loop_falls (arguments_turn inner cover commas) (arguments_turn_falls commas) [] (moved s))
 
-  covered_falls : (s : State) → Falls 1 (length s.at.left) (covered inner cover s)
+  pub covered_falls : (s : State) → Falls 1 (length s.at.left) (covered inner cover s)
   unfolding covered
   covered_falls s = falls_coded 1 (length s.at.left) (cover (coded (with_in s.code) s)) _ _ (hc (coded (with_in s.code) s))
 
@@ -558,9 +599,61 @@ module _ (inner : Class → Reader Tree) (cover : Reader Cover) (h : (class : Cl
     unfolding operators_expr
     operators_falls s = falls_next (length s.at.left) (binary_expr inner cover function 1 s) _ (binary_falls 1 s) (λ x t. behind_operators_falls (begins_async_call s.at) (span_at s.at) x t)
 
+    -- ---- arrow functions, and what stands in parentheses where one may begin
+
+    arrow_body_falls : (is_async : Bool) (s : State) → Falls 1 (length s.at.left) (arrow_body inner function is_async s)
+    unfolding arrow_body
+    arrow_body_falls is_async s = let t = coded (in_arrow s.code is_async) s in falls_if 1 (length s.at.left) (sees kind.LBrace s.at) _ _ (i.blocks is_async s)
+        (falls_coded 1 (length s.at.left) (enclosed (inner assignment) t) _ _
+        (falls_found 1 (length s.at.left) (inner assignment (unlabelled t)) _ _ (λ _ u. refl) (h assignment (unlabelled t))))
+
+    arrow_from_falls : (is_async : Bool) (start : Span) (ps : List Tree) (s : State) → Falls 0 (length s.at.left) (arrow_from inner function is_async start ps s)
+    unfolding arrow_from
+    arrow_from_falls is_async start ps s = falls_if 0 (length s.at.left) (breaks_at s.at) _ _ (refuse_falls Tree 0 (length s.at.left) faults.LineBreakBeforeArrow s)
+        (falls_moved 0 s _ (falls_then 0 0 (length (after s.at).left) (arrow_body inner function is_async (moved s)) _
+        (less (length (after s.at).left) (arrow_body inner function is_async (moved s)) (arrow_body_falls is_async (moved s))) (λ body t.
+        falls_last 0 (length t.at.left) (told _ t) _ (told_falls _ t))))
+
+    named_arrow_falls : (s : State) → Falls 1 (length s.at.left) (named_arrow inner function s)
+    unfolding named_arrow
+    named_arrow_falls s = falls_next (length s.at.left) (function parameter_form s) _ (i.parameters s) (λ p t. arrow_from_falls false (span_at s.at) (p ∷ []) t)
+
+    rest_part_falls : (found : List Cover) (s : State) → Falls 1 (length s.at.left) (rest_part inner function found s)
+    unfolding rest_part
+    rest_part_falls found s = let t = coded (with_in s.code) (moved s) in falls_moved 1 s _ (falls_last 1 (length (after s.at).left) (within with_in (function parameter_form) (moved s)) _
+        (falls_coded 1 (length (after s.at).left) (function parameter_form t) _ _ (i.parameters t)))
+
+    -- a part takes a token
+    pub part_turn_falls : (found : List Cover) (s : State) → Falls 1 (length s.at.left) (part_turn inner function cover found s)
+    unfolding part_turn
+    part_turn_falls found s = falls_if 1 (length s.at.left) (sees kind.DotDotDot s.at) _ _
+        (falls_last 1 (length s.at.left) (rest_part inner function found s) _ (rest_part_falls found s))
+        (falls_next (length s.at.left) (covered inner cover s) _ (covered_falls s) (λ v t. behind_part_falls (found ++ v ∷ []) t))
+
+    group_parts_fall : (s : State) → Falls 0 (length s.at.left) (group_parts inner function cover s)
+    unfolding group_parts
+    group_parts_fall s = falls_if 0 (length s.at.left) (sees kind.RParen s.at) _ _ (omega arith)
+        (loop_falls (part_turn inner function cover) (λ found t. less (length t.at.left) (part_turn inner function cover found t) (part_turn_falls found t)) [] s)
+
+    group_falls : (s : State) → kind_at s.at ≢ kind.End → Falls 1 (length s.at.left) (group inner function cover s)
+    unfolding group
+    group_falls s e = falls_past s _ e (falls_then 0 0 (length (after s.at).left) (group_parts inner function cover (moved s)) _ (group_parts_fall (moved s)) (λ g t.
+        falls_last 0 (length t.at.left) (expect kind.RParen t) _ (expect_falls kind.RParen t)))
+
+    behind_group_falls : (start : Span) (g : Group) (s : State) → Falls 0 (length s.at.left) (behind_group inner function cover start g s)
+    behind_group_falls start g s = falls_if 0 (length s.at.left) (sees kind.Arrow s.at) _ _
+        (falls_then 0 0 (length s.at.left) (parameters_of g.parts g.rest s) _ (parameters_of_fall g.parts g.rest s) (λ ps t. arrow_from_falls false start ps t))
+        (falls_then 0 0 (length s.at.left) (closed_group start g s) _ (closed_group_falls start g s) (λ e t. continued_falls start e t))
+
+    pub grouped_falls : (s : State) → kind_at s.at ≢ kind.End → Falls 1 (length s.at.left) (grouped inner function cover s)
+    unfolding grouped
+    grouped_falls s e = falls_next (length s.at.left) (group inner function cover s) _ (group_falls s e) (λ g t. behind_group_falls (span_at s.at) g t)
+
     pub plain_falls : (s : State) → Falls 1 (length s.at.left) (plain_expr inner cover function s)
     unfolding plain_expr
-    plain_falls s = falls_when 1 (length s.at.left) (begins_yield s.code.flags s.at) _ _ (yield_falls s) (λ _. operators_falls s)
+    plain_falls s = falls_when 1 (length s.at.left) (begins_yield s.code.flags s.at) _ _ (yield_falls s) (λ _.
+        falls_if 1 (length s.at.left) (begins_named_arrow s.code.flags s.at) _ _ (named_arrow_falls s)
+        (falls_when 1 (length s.at.left) (sees kind.LParen s.at) _ _ (λ e. grouped_falls s (no_end s kind.LParen (λ z. cc) e)) (λ _. operators_falls s)))
 
     pub cover_expr_falls : (s : State) → Falls 1 (length s.at.left) (cover_expr inner cover function s)
     unfolding cover_expr done_expr

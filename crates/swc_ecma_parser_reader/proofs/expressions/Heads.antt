@@ -29,6 +29,7 @@ use Rattle.swc_ecma_parser_reader.proofs.Between.{SoundTree, Sound, same, sound_
 use Rattle.swc_ecma_parser_reader.proofs.expressions.SoundSteps.{reject_meets}
 use Rattle.swc_ecma_parser_reader.proofs.expressions.Targets.{target_async}
 use Rattle.swc_ecma_parser_reader.proofs.expressions.Covers.{meets_each, met}
+use Rattle.swc_ecma_parser_reader.proofs.expressions.Groups.{sequenced_by, ReadsParts}
 use Rattle.swc_ecma_parser_reader.proofs.expressions.SoundCovers.{CoverRead, SoundCover}
 use Rattle.swc_ecma_parser_reader.proofs.expressions.SoundLefts.{FunctionsSound}
 use Rattle.swc_ecma_parser_reader.proofs.expressions.SoundTargets.{name_stays}
@@ -85,7 +86,7 @@ SoundHead n s v t = Sound same (λ k l. walk (env_of k l) v.x) (notes_of v.x) (H
 
 module _ (n : ℕ) (inner : Class → Reader Tree) (cover : Reader Cover) (sound : (class : Class) (s : State) → Meets (λ x t. SoundTree (ReadsClass n class) s x t) (inner class s))
     (covers : (s : State) → Meets (λ v t. SoundCover n s v t) (cover s))
-    (function : FunctionForm → Reader Tree) (functions : FunctionsSound n function) (s : State) where
+    (function : FunctionForm → Reader Tree) (functions : FunctionsSound n function) (tied : (s : State) → inner expression s ≡ sequenced_by cover s) (parts : ReadsParts cover) (s : State) where
   abbrev SoundNext : Cover → State → Type 0
   SoundNext v t = SoundHead (suc n) s v t
 
@@ -93,7 +94,7 @@ module _ (n : ℕ) (inner : Class → Reader Tree) (cover : Reader Cover) (sound
       → Meets SoundNext (and_then (sequence_from inner cover function (span_at s.at) x t) (λ y u. Ok (done y, u)))
   sequence_head x t p e = let o = sequence_from inner cover function (span_at s.at) x t in
       meets_then _ o _ (meets_each (λ y u. SoundTree (ReadsClass (suc n) expression) s y u × (as_target y ≡ None)) o (λ y u r. (
-        met (λ y u. SoundTree (ReadsClass (suc n) expression) s y u) o y u (sequence_sound n inner cover sound covers function functions s x t p e) r,
+        met (λ y u. SoundTree (ReadsClass (suc n) expression) s y u) o y u (sequence_sound n inner cover sound covers function functions tied parts s x t p e) r,
         met (λ y u. as_target y ≡ None) o y u (sequence_unturned inner cover function (span_at s.at) x t) r,
       ))) (λ y u (q, i). sound_as s u refl refl refl (λ r. sequence_read (suc n) s.code y s.at u.at i r) q)
 
@@ -104,5 +105,5 @@ module _ (n : ℕ) (inner : Class → Reader Tree) (cover : Reader Cover) (sound
 
   pub head_expr_sound : Meets SoundNext (head_expr inner cover function s)
   unfolding head_expr sequenced close
-  head_expr_sound = meets_then _ (cover_expr inner cover function s) _ (cover_expr_sound n inner cover sound covers function functions s) (λ v t p.
+  head_expr_sound = meets_then _ (cover_expr inner cover function s) _ (cover_expr_sound n inner cover sound covers function functions tied parts s) (λ v t p.
       meets_if _ (sees kind.Comma t.at) _ _ (λ e. closed_head v t v.mark refl p (saw t.at kind.Comma e)) (λ e. sound_as s t refl refl refl (λ r. single_read n s.code v s.at t.at r e) p))

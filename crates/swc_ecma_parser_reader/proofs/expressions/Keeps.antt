@@ -1,10 +1,12 @@
 -- Whatever an expression is read as, or refused, the tokens that are left are the last of those that were, and no recorded fault is lost.
 use Rattle.swc_ecma_parser_grammar.specs.language.Begins.{begins_expression, awaits}
-use Rattle.std.proofs.Common.{◌≡◌, ◌≢◌, ℕ, Bool, true, false, cond, List, [], ◌∷◌, Option, Some, None, refl, sym, ◌∙◌, ap, Ok}
+use Rattle.swc_ecma_parser_grammar.specs.language.Contexts.{in_arrow}
+use Rattle.std.proofs.Common.{◌≡◌, ◌≢◌, ℕ, Bool, true, false, cond, List, [], ◌∷◌, ◌++◌, Option, Some, None, refl, sym, ◌∙◌, ap, Ok}
 use Rattle.std.specs.Prelude.{nat_eq, not, ◌&&◌, ◌||◌, codes}
 use Rattle.std.proofs.lemmas.Bool.{and_parts}
 use Rattle.swc_ecma_parser_common.specs.declared.span.Span.{Span}
 use Rattle.swc_ecma_parser_error.specs.Kind as faults
+use Rattle.swc_ecma_parser_error.specs.Kind.{Fault}
 use Rattle.swc_ecma_parser_token.specs.declared.kind.TokenKind.{TokenKind}
 use Rattle.swc_ecma_parser_token.specs.declared.kind.TokenKind.TheVariants as kind
 use Rattle.swc_ecma_parser_token.specs.declared.token.Token.{Token}
@@ -17,24 +19,27 @@ use Rattle.swc_ecma_parser_model.specs.declared.operators.BinaryOp.{BinaryOp}
 use Rattle.swc_ecma_parser_model.specs.declared.operators.AssignOp.{AssignOp}
 use Rattle.swc_ecma_parser_model.specs.declared.operators.AssignOp.TheVariants as assign
 use Rattle.swc_ecma_parser_model.specs.Tree as tree
-use Rattle.swc_ecma_parser_model.specs.Tree.{Tree, Text}
-use Rattle.swc_ecma_parser_model.specs.Forms.{is_simple_target, span_of}
-use Rattle.swc_ecma_parser_model.specs.Targets.{as_target}
+use Rattle.swc_ecma_parser_model.specs.Tree.{Tree, Text, listed}
+use Rattle.swc_ecma_parser_model.specs.Forms.{is_simple_target, span_of, has_plain_params}
+use Rattle.swc_ecma_parser_model.specs.Targets.{as_target, as_parameter}
 use Rattle.swc_ecma_parser_grammar.specs.Looks.{kind_at, sees, span_at, breaks_at}
 use Rattle.swc_ecma_parser_grammar.specs.Names.{is_name, name_at}
 use Rattle.swc_ecma_parser_grammar.specs.Follows.{word_at, is_async_function, continues_left_side}
+use Rattle.swc_ecma_parser_grammar.specs.Own.{misplaced_directive}
 use Rattle.swc_ecma_parser_grammar.specs.Reads.{with_in}
 use Rattle.swc_ecma_parser_grammar.specs.language.Goals.{Class, expression, assignment, operator, unary, left_side, callee}
 use Rattle.swc_ecma_parser_grammar.specs.language.Operators.{unary_operator, update_operator, binary_operator, assign_operator, groups_left, mixes, is_unary}
 use Rattle.swc_ecma_parser_grammar.specs.language.Continues.{continues_conditional}
-use Rattle.swc_ecma_parser_reader.specs.State.{State, Reader, and_then, ◌>>=◌, moved, noted, module_found, coded, wanted, fault_at, fault, expect, name, loop}
-use Rattle.swc_ecma_parser_reader.specs.Methods.{MethodForm, FunctionForm, expression_form, property_form, modifies, begins_async_method, star, starred, method_words, is_bare}
+use Rattle.swc_ecma_parser_reader.specs.State.{State, Reader, and_then, ◌>>=◌, moved, noted, module_found, coded, within, enclosed, unlabelled, wanted, fault_at, fault, expect, name, loop}
+use Rattle.swc_ecma_parser_reader.specs.Methods.{MethodForm, FunctionForm, expression_form, property_form, parameter_form, block_form, modifies, begins_async_method, star, starred, method_words, is_bare}
 use Rattle.swc_ecma_parser_reader.specs.Expressions.{Cover, no_covers, unmarked, close, target_or, target, goes_on, literal, literal_in, taken, any_word, word_in, word_by, touching_word, private_name, word_property, is_word_at, key_or, literal_key, shorthand_name, shorthand, dotted, ident_expr, this, bare_new, closed_left, simple, update_behind, behind_operand, postfix_at, right_class, read_operator, operator_at, left_operand, unmixed, unassigned, unassignable, unheaded, heads_arrow, begins_async_call, inside, brackets, access, spread_element, plain_element, element, arguments_turn, arguments, covered, spread_item, plain_item, item, array_turn, elements, array, computed_key, key, key_value, initialized, initialized_name, initialized_key, bare_key, behind_key, method, behind_words, keyed_property, spread_property, property, object_turn, properties, object, paren, marked_primary, literal_or, primary, accessed, called, left_turn, left_from, super_call, super_property, super_access, behind_super, super_head, constructed, new_head, import_call, meta_fault, import_meta, import_head, left_head, left, left_expr, prefixed, update_before, await_expr, postfix, updated, unary_by, unary_expr, operated, binary_by, binary_turn, binary_from, binary_expr, conditional, assigned_to, assigned, assigned_or, behind_operators, operators_expr, plain_expr, postfixed, continued, closed, assigned_pattern, behind_literal, open_literal, done_expr, cover_expr, assignment_expr, sequence_turn, sequence_from, expression_expr, expr_level, named_expr}
+use Rattle.swc_ecma_parser_reader.specs.Jumps.{told}
+use Rattle.swc_ecma_parser_reader.specs.Arrows.{begins_named_arrow, Group, behind_part, closed_parts, may_stand_alone, closed_group, parameter, parameter_or, parameters_of, arrow_body, arrow_from, named_arrow, rest_part, part_turn, group_parts, group, behind_group, grouped}
 use Rattle.swc_ecma_parser_reader.specs.Yields.{begins_yield, bare_yield, yielded, behind_yield, yield_expr}
 use Rattle.swc_ecma_parser_reader.specs.Heads.{sequenced, head_expr}
 use Rattle.swc_ecma_parser_reader.proofs.Meets.{Answers, answers_then, answers_if, saw}
 use Rattle.swc_ecma_parser_reader.proofs.expressions.Awaits.{await_fault, await_either}
-use Rattle.swc_ecma_parser_reader.proofs.Behind.{Kept, Lost, Passes, behind_after, behind_noted, fault_keeps, wanted_keeps, reject_keeps, expect_keeps, name_keeps, loop_keeps}
+use Rattle.swc_ecma_parser_reader.proofs.Behind.{Kept, Lost, Passes, behind_after, behind_noted, fault_keeps, wanted_keeps, refuse_keeps, reject_keeps, expect_keeps, name_keeps, loop_keeps}
 use Rattle.swc_ecma_parser_reader.specs.Entry.{IsBehind}
 
 -- ---- what is known of the first token
@@ -137,6 +142,38 @@ module _ (b : State) (s : State) (f : IsBehind b s) where
   target_keeps : (v : Cover) → Answers (λ _ t. t ≡ s) (Lost b) (target v s)
   unfolding target
   target_keeps v = target_or_keeps v.x (cond v.comma None (as_target v.x))
+
+-- ---- what is told, and what stands in parentheses as an expression and as parameters
+
+pub told_keeps : (b : State) (fs : List Fault) (s : State) → IsBehind b s → Answers (Kept b) (Lost b) (told fs s)
+told_keeps b [] s g = g
+told_keeps b (f ∷ fs) s g = answers_then (Kept b) _ (fault f s) _ (fault_keeps b s g f) (λ _ t k. told_keeps b fs t k)
+
+closed_parts_keep : (b : State) (vs : List Cover) (s : State) → IsBehind b s → Answers (Kept b) (Lost b) (closed_parts vs s)
+closed_parts_keep b [] s f = f
+closed_parts_keep b (v ∷ vs) s f = answers_then _ _ (close v s) _ (close_keeps b s f v) (λ x t g. answers_then _ _ (closed_parts vs t) _ (closed_parts_keep b vs t g) (λ xs u k. k))
+
+closed_group_keeps : (b : State) (start : Span) (g : Group) (s : State) → IsBehind b s → Answers (Kept b) (Lost b) (closed_group start g s)
+unfolding closed_group
+closed_group_keeps b start g s f = answers_if _ _ (may_stand_alone g) _ _ (λ _. answers_then _ _ (closed_parts g.parts s) _ (closed_parts_keep b g.parts s f) (λ xs t k. k))
+    (λ _. unexpected_keeps b s f _)
+
+parameter_or_keeps : (b : State) (x : Tree) (o : Option Tree) (s : State) → IsBehind b s → Answers (Kept b) (Lost b) (parameter_or x o s)
+parameter_or_keeps b x (Some p) s f = f
+parameter_or_keeps b x None s f = reject_keeps _ faults.InvalidPat (span_of x) b s f
+
+parameter_keeps : (b : State) (v : Cover) (s : State) → IsBehind b s → Answers (Kept b) (Lost b) (parameter v s)
+unfolding parameter
+parameter_keeps b v s f = parameter_or_keeps b v.x (cond v.comma None (as_parameter v.x)) s f
+
+parameters_of_keep : (b : State) (vs : List Cover) (rest : Option Tree) (s : State) → IsBehind b s → Answers (Kept b) (Lost b) (parameters_of vs rest s)
+parameters_of_keep b [] rest s f = f
+parameters_of_keep b (v ∷ vs) rest s f = answers_then _ _ (parameter v s) _ (parameter_keeps b v s f) (λ p t g.
+    answers_then _ _ (parameters_of vs rest t) _ (parameters_of_keep b vs rest t g) (λ ps u k. k))
+
+behind_part_keeps : (b : State) (found : List Cover) (s : State) → IsBehind b s → Answers (Kept b) (Lost b) (behind_part found s)
+behind_part_keeps b found s f = answers_if _ _ (sees kind.RParen s.at) _ _ (λ _. f) (λ _. answers_then _ _ (expect kind.Comma s) _ (expect_keeps b s f kind.Comma) (λ _ t g.
+    answers_if _ _ (sees kind.RParen t.at) _ _ (λ _. g) (λ _. g)))
 
 literal_key_keeps : (b : State) (s : State) → IsBehind b s → Answers (Kept b) (Lost b) (literal_key s)
 unfolding literal_key
@@ -574,9 +611,56 @@ module _ (inner : Class → Reader Tree) (cover : Reader Cover) (below : (class 
       unfolding operators_expr
       operators_keeps s f = answers_then _ _ (binary_expr inner cover function 1 s) _ (binary_keeps 1 s f) (λ x t g. behind_operators_keeps (begins_async_call s.at) (span_at s.at) x t g)
 
+      -- ---- arrow functions, and what stands in parentheses where one may begin
+
+      arrow_body_keeps : (is_async : Bool) (s : State) → IsBehind b s → Answers (Kept b) (Lost b) (arrow_body inner function is_async s)
+      unfolding arrow_body
+      arrow_body_keeps is_async s f = let t = coded (in_arrow s.code is_async) s in answers_if _ _ (sees kind.LBrace s.at) _ _ (λ _. below_function (block_form is_async) b s f)
+          (λ _. answers_then (Kept b) _ (enclosed (inner assignment) t) _ (answers_then (Kept b) _ (inner assignment (unlabelled t)) _ (below assignment b (unlabelled t) f) (λ x u k. k)) (λ x u k. k))
+
+      arrow_from_keeps : (is_async : Bool) (start : Span) (ps : List Tree) (s : State) → IsBehind b s → Answers (Kept b) (Lost b) (arrow_from inner function is_async start ps s)
+      unfolding arrow_from
+      arrow_from_keeps is_async start ps s f = answers_if _ _ (breaks_at s.at) _ _ (λ _. refuse_keeps _ faults.LineBreakBeforeArrow b s f)
+          (λ _. answers_then _ _ (arrow_body inner function is_async (moved s)) _ (arrow_body_keeps is_async (moved s) (behind_after b s f)) (λ body t g.
+          answers_then _ _ (told (misplaced_directive (has_plain_params (listed ps)) body) t) _ (told_keeps b (misplaced_directive (has_plain_params (listed ps)) body) t g) (λ _ u k. k)))
+
+      named_arrow_keeps : (s : State) → IsBehind b s → Answers (Kept b) (Lost b) (named_arrow inner function s)
+      unfolding named_arrow
+      named_arrow_keeps s f = answers_then _ _ (function parameter_form s) _ (below_function parameter_form b s f) (λ p t g. arrow_from_keeps false (span_at s.at) (p ∷ []) t g)
+
+      rest_part_keeps : (found : List Cover) (s : State) → IsBehind b s → Answers (Kept b) (Lost b) (rest_part inner function found s)
+      unfolding rest_part
+      rest_part_keeps found s f = let t = coded (with_in s.code) (moved s) in answers_then (Kept b) _ (within with_in (function parameter_form) (moved s)) _
+          (answers_then (Kept b) _ (function parameter_form t) _ (below_function parameter_form b t (behind_after b s f)) (λ p u k. k)) (λ p u k. k)
+
+      part_turn_keeps : (found : List Cover) (s : State) → IsBehind b s → Answers (Kept b) (Lost b) (part_turn inner function cover found s)
+      unfolding part_turn
+      part_turn_keeps found s f = answers_if _ _ (sees kind.DotDotDot s.at) _ _ (λ _. answers_then _ _ (rest_part inner function found s) _ (rest_part_keeps found s f) (λ g t k. k))
+          (λ _. answers_then _ _ (covered inner cover s) _ (covered_keeps b s f) (λ v t k. behind_part_keeps b (found ++ v ∷ []) t k))
+
+      group_parts_keep : (s : State) → IsBehind b s → Answers (Kept b) (Lost b) (group_parts inner function cover s)
+      unfolding group_parts
+      group_parts_keep s f = answers_if _ _ (sees kind.RParen s.at) _ _ (λ _. f) (λ _. loop_keeps (part_turn inner function cover) b part_turn_keeps [] s f)
+
+      group_keeps : (s : State) → IsBehind b s → Answers (Kept b) (Lost b) (group inner function cover s)
+      unfolding group
+      group_keeps s f = answers_then _ _ (group_parts inner function cover (moved s)) _ (group_parts_keep (moved s) (behind_after b s f)) (λ g t k.
+          answers_then _ _ (expect kind.RParen t) _ (expect_keeps b t k kind.RParen) (λ _ u j. j))
+
+      behind_group_keeps : (start : Span) (g : Group) (s : State) → IsBehind b s → Answers (Kept b) (Lost b) (behind_group inner function cover start g s)
+      behind_group_keeps start g s f = answers_if _ _ (sees kind.Arrow s.at) _ _
+          (λ _. answers_then _ _ (parameters_of g.parts g.rest s) _ (parameters_of_keep b g.parts g.rest s f) (λ ps t k. arrow_from_keeps false start ps t k))
+          (λ _. answers_then _ _ (closed_group start g s) _ (closed_group_keeps b start g s f) (λ e t k. continued_keeps start e t k))
+
+      grouped_keeps : (s : State) → IsBehind b s → Answers (Kept b) (Lost b) (grouped inner function cover s)
+      unfolding grouped
+      grouped_keeps s f = answers_then _ _ (group inner function cover s) _ (group_keeps s f) (λ g t k. behind_group_keeps (span_at s.at) g t k)
+
       plain_keeps : (s : State) → IsBehind b s → Answers (Kept b) (Lost b) (plain_expr inner cover function s)
       unfolding plain_expr
-      plain_keeps s f = answers_if _ _ (begins_yield s.code.flags s.at) _ _ (λ _. yield_keeps s f) (λ _. operators_keeps s f)
+      plain_keeps s f = answers_if _ _ (begins_yield s.code.flags s.at) _ _ (λ _. yield_keeps s f)
+          (λ _. answers_if _ _ (begins_named_arrow s.code.flags s.at) _ _ (λ _. named_arrow_keeps s f)
+          (λ _. answers_if _ _ (sees kind.LParen s.at) _ _ (λ _. grouped_keeps s f) (λ _. operators_keeps s f)))
 
       pub cover_expr_keeps : (s : State) → IsBehind b s → Answers (Kept b) (Lost b) (cover_expr inner cover function s)
       unfolding cover_expr done_expr

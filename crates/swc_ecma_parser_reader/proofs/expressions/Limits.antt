@@ -1,12 +1,13 @@
 -- With twice as many levels as tokens no expression is too deep, but for what an error token says: each level below needs a token.
 use Rattle.swc_ecma_parser_reader.proofs.Words.{async_begins, function_begins, begins_function}
 use Rattle.swc_ecma_parser_grammar.specs.language.Begins.{begins_expression, awaits}
+use Rattle.swc_ecma_parser_grammar.specs.language.Contexts.{in_arrow}
 use Rattle.std.proofs.Common.{◌≡◌, ◌≢◌, ℕ, suc, ◌+◌, ◌*◌, ◌≤◌, Bool, true, false, cond, List, [], ◌∷◌, Option, Some, None, Ok, Err, refl, sym, ◌∙◌, ap, arith}
 use Rattle.std.specs.Prelude.{nat_eq, not, ◌&&◌, ◌||◌, codes}
 use Rattle.std.proofs.lemmas.Bool.{and_parts}
 use Rattle.swc_ecma_parser_common.specs.declared.span.Span.{Span}
 use Rattle.swc_ecma_parser_error.specs.Kind as faults
-use Rattle.swc_ecma_parser_error.specs.Kind.{Kind, fault_of}
+use Rattle.swc_ecma_parser_error.specs.Kind.{Kind, Fault, fault_of}
 use Rattle.swc_ecma_parser_token.specs.declared.kind.TokenKind.{TokenKind}
 use Rattle.swc_ecma_parser_token.specs.declared.kind.TokenKind.TheVariants as kind
 use Rattle.swc_ecma_parser_token.specs.declared.token.Token.{Token}
@@ -20,25 +21,28 @@ use Rattle.swc_ecma_parser_model.specs.declared.operators.BinaryOp.{BinaryOp}
 use Rattle.swc_ecma_parser_model.specs.declared.operators.AssignOp.{AssignOp}
 use Rattle.swc_ecma_parser_model.specs.declared.operators.AssignOp.TheVariants as assign
 use Rattle.swc_ecma_parser_model.specs.Tree as tree
-use Rattle.swc_ecma_parser_model.specs.Tree.{Tree, Text}
-use Rattle.swc_ecma_parser_model.specs.Forms.{is_simple_target, span_of}
-use Rattle.swc_ecma_parser_model.specs.Targets.{as_target}
+use Rattle.swc_ecma_parser_model.specs.Tree.{Tree, Text, listed}
+use Rattle.swc_ecma_parser_model.specs.Forms.{is_simple_target, span_of, has_plain_params}
+use Rattle.swc_ecma_parser_model.specs.Targets.{as_target, as_parameter}
 use Rattle.swc_ecma_parser_grammar.specs.Looks.{kind_at, sees, span_at, breaks_at}
 use Rattle.swc_ecma_parser_grammar.specs.Names.{is_name, name_at}
 use Rattle.swc_ecma_parser_grammar.specs.Follows.{word_at, is_async_function, continues_left_side}
+use Rattle.swc_ecma_parser_grammar.specs.Own.{misplaced_directive}
 use Rattle.swc_ecma_parser_grammar.specs.Reads.{with_in}
 use Rattle.swc_ecma_parser_grammar.specs.language.Goals.{Class, expression, assignment, operator, unary, left_side, callee}
 use Rattle.swc_ecma_parser_grammar.specs.language.Operators.{unary_operator, update_operator, binary_operator, assign_operator, groups_left, mixes, is_unary}
 use Rattle.swc_ecma_parser_grammar.specs.language.Continues.{continues_conditional}
-use Rattle.swc_ecma_parser_reader.specs.State.{State, Outcome, Reader, and_then, ◌>>=◌, moved, noted, module_found, coded, wanted, reject, reject_in, reject_at, fault_at, fault, expect, name, loop}
-use Rattle.swc_ecma_parser_reader.specs.Methods.{MethodForm, FunctionForm, expression_form, property_form, modifies, begins_async_method, star, starred, method_words, is_bare}
+use Rattle.swc_ecma_parser_reader.specs.State.{State, Outcome, Reader, and_then, ◌>>=◌, moved, noted, module_found, coded, within, enclosed, unlabelled, wanted, reject, reject_in, reject_at, fault_at, fault, expect, name, loop}
+use Rattle.swc_ecma_parser_reader.specs.Methods.{MethodForm, FunctionForm, expression_form, property_form, parameter_form, block_form, modifies, begins_async_method, star, starred, method_words, is_bare}
 use Rattle.swc_ecma_parser_reader.specs.Expressions.{Cover, no_covers, unmarked, close, target_or, target, goes_on, literal, literal_in, taken, any_word, word_in, word_by, touching_word, private_name, word_property, is_word_at, key_or, literal_key, shorthand_name, shorthand, dotted, ident_expr, this, bare_new, closed_left, simple, update_behind, behind_operand, postfix_at, right_class, read_operator, operator_at, left_operand, unmixed, unassigned, unassignable, unheaded, heads_arrow, begins_async_call, inside, brackets, access, spread_element, plain_element, element, arguments_turn, arguments, covered, spread_item, plain_item, item, array_turn, elements, array, computed_key, key, key_value, initialized, initialized_name, initialized_key, bare_key, behind_key, method, behind_words, keyed_property, spread_property, property, object_turn, properties, object, paren, marked_primary, literal_or, primary, accessed, called, left_turn, left_from, super_call, super_property, super_access, behind_super, super_head, constructed, new_head, import_call, meta_fault, import_meta, import_head, left_head, left, left_expr, prefixed, update_before, await_expr, postfix, updated, unary_by, unary_expr, operated, binary_by, binary_turn, binary_from, binary_expr, conditional, assigned_to, assigned, assigned_or, behind_operators, operators_expr, plain_expr, postfixed, continued, closed, assigned_pattern, behind_literal, open_literal, done_expr, cover_expr, assignment_expr, sequence_turn, sequence_from, expression_expr, expr_level, named_expr}
+use Rattle.swc_ecma_parser_reader.specs.Jumps.{told}
+use Rattle.swc_ecma_parser_reader.specs.Arrows.{begins_named_arrow, Group, closed_parts, may_stand_alone, closed_group, parameter, parameter_or, parameters_of, arrow_body, arrow_from, named_arrow, rest_part, part_turn, group_parts, group, behind_group, grouped}
 use Rattle.swc_ecma_parser_reader.specs.Yields.{begins_yield, bare_yield, yielded, behind_yield, yield_expr}
 use Rattle.swc_ecma_parser_reader.specs.Heads.{sequenced, head_expr}
 use Rattle.swc_ecma_parser_reader.proofs.Meets.{Answers, answers_then, answers_if, Turned, loop_answers, saw}
 use Rattle.swc_ecma_parser_grammar.proofs.ExpressionBegins.{await_stands}
 use Rattle.swc_ecma_parser_reader.proofs.expressions.Awaits.{await_fault, await_either}
-use Rattle.swc_ecma_parser_reader.proofs.Shallow.{Fine, fine_more, fine_after, fine_taken, Shallow, Kept, error_shallow, fault_shallow, refused_shallow, wanted_shallow, expect_shallow, name_shallow, Levels}
+use Rattle.swc_ecma_parser_reader.proofs.Shallow.{Fine, fine_more, fine_after, fine_taken, Shallow, Kept, Taken, error_shallow, fault_shallow, refused_shallow, wanted_shallow, refuse_shallow, expect_shallow, name_shallow, Levels}
 
 -- ---- what is known of the first token
 
@@ -167,6 +171,34 @@ module _ (m : ℕ) (s : State) (f : Fine m s.at.left) where
   unfolding target
   target_shallow v = target_or_shallow v.x (cond v.comma None (as_target v.x))
 
+-- ---- what is told, and what stands in parentheses as an expression and as parameters
+
+pub told_shallow : (m : ℕ) (fs : List Fault) (s : State) → Fine m s.at.left → Answers (Kept m) Shallow (told fs s)
+told_shallow m [] s g = g
+told_shallow m (f ∷ fs) s g = answers_then (Kept m) _ (fault f s) _ (fault_shallow m s g f) (λ _ t k. told_shallow m fs t k)
+
+closed_parts_shallow : (m : ℕ) (vs : List Cover) (s : State) → Fine m s.at.left → Answers (Kept m) Shallow (closed_parts vs s)
+closed_parts_shallow m [] s f = f
+closed_parts_shallow m (v ∷ vs) s f = answers_then _ _ (close v s) _ (close_shallow m s f v) (λ x t g. answers_then _ _ (closed_parts vs t) _ (closed_parts_shallow m vs t g) (λ xs u k. k))
+
+closed_group_shallow : (m : ℕ) (start : Span) (g : Group) (s : State) → Fine m s.at.left → Answers (Kept m) Shallow (closed_group start g s)
+unfolding closed_group
+closed_group_shallow m start g s f = answers_if _ _ (may_stand_alone g) _ _ (λ _. answers_then _ _ (closed_parts g.parts s) _ (closed_parts_shallow m g.parts s f) (λ xs t k. k))
+    (λ _. unexpected_shallow m s f _)
+
+parameter_or_shallow : (m : ℕ) (x : Tree) (o : Option Tree) (s : State) → Fine m s.at.left → Answers (Kept m) Shallow (parameter_or x o s)
+parameter_or_shallow m x (Some p) s f = f
+parameter_or_shallow m x None s f = reject_shallow _ faults.InvalidPat (span_of x) (λ e. cc) m s f
+
+parameter_shallow : (m : ℕ) (v : Cover) (s : State) → Fine m s.at.left → Answers (Kept m) Shallow (parameter v s)
+unfolding parameter
+parameter_shallow m v s f = parameter_or_shallow m v.x (cond v.comma None (as_parameter v.x)) s f
+
+parameters_of_shallow : (m : ℕ) (vs : List Cover) (rest : Option Tree) (s : State) → Fine m s.at.left → Answers (Kept m) Shallow (parameters_of vs rest s)
+parameters_of_shallow m [] rest s f = f
+parameters_of_shallow m (v ∷ vs) rest s f = answers_then _ _ (parameter v s) _ (parameter_shallow m v s f) (λ p t g.
+    answers_then _ _ (parameters_of vs rest t) _ (parameters_of_shallow m vs rest t g) (λ ps u k. k))
+
 literal_key_shallow : (m : ℕ) (s : State) → Fine m s.at.left → Answers (Kept m) Shallow (literal_key s)
 unfolding literal_key
 literal_key_shallow m s f = answers_then _ _ (literal s) _ (literal_shallow m s f) by_key
@@ -195,10 +227,14 @@ behind_operand_shallow m start x (Some op) s f = update_behind_shallow m start x
 
 -- ---- functions, and the words before the key of a method
 
--- A function that is an expression takes its word before the level below; a method, whose body is a level of statements, has `{` before it.
+-- A function that is an expression takes its word before the level below; a method, whose body is a level of statements, has `{` before it,
+-- and so does a block. A parameter that begins with a name takes it, and reads no level below.
 pub record FunctionsShallow (n : ℕ) (function : FunctionForm → Reader Tree) : Type 0 where
   pub expressions : (m : ℕ) (s : State) → 2 * m ≤ suc n → begins_function s.at ≡ true → Fine m s.at.left → Answers (Kept m) Shallow (function expression_form s)
   pub methods : (form : MethodForm) (start : Span) (x : Tree) (i : ℕ) (s : State) → 2 * i + 1 ≤ n → Fine i s.at.left → Answers (Kept i) Shallow (function (property_form form start x) s)
+  pub names : (m : ℕ) (s : State) → 2 * m ≤ suc n → name_at s.code.flags s.at ≡ true → Fine m s.at.left → Answers (Taken m) Shallow (function parameter_form s)
+  pub parameters : Levels n (function parameter_form)
+  pub blocks : (is_async : Bool) (i : ℕ) (s : State) → 2 * i + 1 ≤ n → Fine i s.at.left → Answers (Kept i) Shallow (function (block_form is_async) s)
 
 -- the `*` of a generator
 pub star_shallow : (m : ℕ) (s : State) → Fine m s.at.left → Answers (Kept m) Shallow (star s)
@@ -311,6 +347,34 @@ module _ (inner : Class → Reader Tree) (cover : Reader Cover) (n : ℕ) (below
         answers_then _ _ (property inner cover function t) _ (property_shallow i t h g) (λ v u k.
         answers_if _ _ (sees kind.RBrace u.at) _ _ (λ _. k) (λ _. answers_then _ _ (expect kind.Comma u) _ (expect_shallow i u k kind.Comma) (λ _ w j. j)))))
         (λ t e. cc) no_covers s f
+
+    -- ---- arrow functions, and the parts of what stands in parentheses
+
+    arrow_body_shallow : (is_async : Bool) (i : ℕ) (s : State) → 2 * i + 1 ≤ n → Fine i s.at.left → Answers (Kept i) Shallow (arrow_body inner function is_async s)
+    unfolding arrow_body
+    arrow_body_shallow is_async i s h f = let t = coded (in_arrow s.code is_async) s in answers_if _ _ (sees kind.LBrace s.at) _ _ (λ _. below_function.blocks is_async i s h f)
+        (λ _. answers_then (Kept i) _ (enclosed (inner assignment) t) _
+        (answers_then (Kept i) _ (inner assignment (unlabelled t)) _ (below assignment i (unlabelled t) (omega arith) f) (λ x u k. k)) (λ x u k. k))
+
+    arrow_from_shallow : (is_async : Bool) (start : Span) (ps : List Tree) (i : ℕ) (s : State) → 2 * i + 1 ≤ n → Fine i s.at.left
+        → Answers (Kept i) Shallow (arrow_from inner function is_async start ps s)
+    unfolding arrow_from
+    arrow_from_shallow is_async start ps i s h f = answers_if _ _ (breaks_at s.at) _ _ (λ _. refuse_shallow _ faults.LineBreakBeforeArrow (λ e. cc) i s f)
+        (λ _. answers_then _ _ (arrow_body inner function is_async (moved s)) _ (arrow_body_shallow is_async i (moved s) h (fine_after i s.at f)) (λ body t g.
+        answers_then _ _ (told (misplaced_directive (has_plain_params (listed ps)) body) t) _ (told_shallow i (misplaced_directive (has_plain_params (listed ps)) body) t g) (λ _ u k. k)))
+
+    rest_part_shallow : (found : List Cover) (i : ℕ) (s : State) → 2 * i ≤ n → Fine i s.at.left → Answers (Kept i) Shallow (rest_part inner function found s)
+    unfolding rest_part
+    rest_part_shallow found i s h f = let t = coded (with_in s.code) (moved s) in answers_then (Kept i) _ (within with_in (function parameter_form) (moved s)) _
+        (answers_then (Kept i) _ (function parameter_form t) _ (below_function.parameters i t h (fine_after i s.at f)) (λ p u k. k)) (λ p u k. k)
+
+    group_parts_shallow : (i : ℕ) (s : State) → 2 * i ≤ n → Fine i s.at.left → Answers (Kept i) Shallow (group_parts inner function cover s)
+    unfolding group_parts part_turn
+    group_parts_shallow i s h f = answers_if _ _ (sees kind.RParen s.at) _ _ (λ _. f) (λ _. loop_answers (part_turn inner function cover) (Kept i) (Kept i) Shallow
+        (λ found t g. answers_if _ _ (sees kind.DotDotDot t.at) _ _ (λ _. answers_then _ _ (rest_part inner function found t) _ (rest_part_shallow found i t h g) (λ p u k. k))
+        (λ _. answers_then _ _ (covered inner cover t) _ (covered_shallow i t h g) (λ v u k.
+        answers_if _ _ (sees kind.RParen u.at) _ _ (λ _. k) (λ _. answers_then _ _ (expect kind.Comma u) _ (expect_shallow i u k kind.Comma) (λ _ w j.
+        answers_if _ _ (sees kind.RParen w.at) _ _ (λ _. j) (λ _. j)))))) (λ t e. cc) [] s f)
 
   -- ---- what takes a token before the level below
 
@@ -619,9 +683,37 @@ module _ (inner : Class → Reader Tree) (cover : Reader Cover) (n : ℕ) (below
       unfolding operators_expr
       operators_shallow s f = answers_then _ _ (binary_expr inner cover function 1 s) _ (binary_shallow 1 s f) (λ x t g. behind_operators_shallow (begins_async_call s.at) (span_at s.at) x t g)
 
+      -- ---- arrow functions, and what stands in parentheses where one may begin
+
+      named_arrow_shallow : (s : State) → begins_named_arrow s.code.flags s.at ≡ true → Fine m s.at.left → Answers (Kept m) Shallow (named_arrow inner function s)
+      unfolding named_arrow begins_named_arrow
+      named_arrow_shallow s e f = answers_then _ _ (function parameter_form s) _
+          (below_function.names m s enough (and_parts (name_at s.code.flags s.at) (sees kind.Arrow (after s.at)) e).0 f) (λ p t (i, h, g).
+          kept_more i m (arrow_from inner function false (span_at s.at) (p ∷ []) t) (omega arith)
+          (arrow_from_shallow function below_function false (span_at s.at) (p ∷ []) i t (omega arith) g))
+
+      group_shallow : (s : State) → kind_at s.at ≡ kind.LParen → Fine m s.at.left → Answers (Taken m) Shallow (group inner function cover s)
+      unfolding group
+      group_shallow s e f =
+          let (i, h, g) = fine_taken m s.at kind.LParen e (λ z. cc) f in
+          answers_then _ _ (group_parts inner function cover (moved s)) _ (group_parts_shallow function below_function i (moved s) (omega arith) g) (λ p t k.
+          answers_then _ _ (expect kind.RParen t) _ (expect_shallow i t k kind.RParen) (λ _ u j. (i, h, j)))
+
+      behind_group_shallow : (start : Span) (p : Group) (s : State) → Taken m p s → Answers (Kept m) Shallow (behind_group inner function cover start p s)
+      behind_group_shallow start p s (i, h, f) = answers_if _ _ (sees kind.Arrow s.at) _ _
+          (λ _. answers_then _ _ (parameters_of p.parts p.rest s) _ (parameters_of_shallow i p.parts p.rest s f) (λ ps t k.
+          kept_more i m (arrow_from inner function false start ps t) (omega arith) (arrow_from_shallow function below_function false start ps i t (omega arith) k)))
+          (λ _. answers_then _ _ (closed_group start p s) _ (closed_group_shallow m start p s (fine_more i m s.at.left (omega arith) f)) (λ e t k. continued_shallow start e t k))
+
+      grouped_shallow : (s : State) → kind_at s.at ≡ kind.LParen → Fine m s.at.left → Answers (Kept m) Shallow (grouped inner function cover s)
+      unfolding grouped
+      grouped_shallow s e f = answers_then _ _ (group inner function cover s) _ (group_shallow s e f) (λ p t k. behind_group_shallow (span_at s.at) p t k)
+
       plain_shallow : (s : State) → Fine m s.at.left → Answers (Kept m) Shallow (plain_expr inner cover function s)
       unfolding plain_expr
-      plain_shallow s f = answers_if _ _ (begins_yield s.code.flags s.at) _ _ (λ h. yield_shallow s h f) (λ _. operators_shallow s f)
+      plain_shallow s f = answers_if _ _ (begins_yield s.code.flags s.at) _ _ (λ h. yield_shallow s h f)
+          (λ _. answers_if _ _ (begins_named_arrow s.code.flags s.at) _ _ (λ h. named_arrow_shallow s h f)
+          (λ _. answers_if _ _ (sees kind.LParen s.at) _ _ (λ e. grouped_shallow s (saw s.at kind.LParen e) f) (λ _. operators_shallow s f)))
 
       pub cover_expr_shallow : (s : State) → Fine m s.at.left → Answers (Kept m) Shallow (cover_expr inner cover function s)
       unfolding cover_expr done_expr

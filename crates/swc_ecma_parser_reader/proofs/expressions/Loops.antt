@@ -14,12 +14,13 @@ use Rattle.swc_ecma_parser_grammar.specs.Looks.{sees}
 use Rattle.swc_ecma_parser_grammar.specs.language.Goals.{Class}
 use Rattle.swc_ecma_parser_reader.proofs.Falls.{expr_falls, cover_falls, functions_fall}
 use Rattle.swc_ecma_parser_reader.specs.Reader.{expr, cover, head_cover, function}
+use Rattle.swc_ecma_parser_reader.specs.Arrows.{Parts, ended, rest_part, part_turn}
 use Rattle.swc_ecma_parser_reader.specs.Heads.{head_expr}
 use Rattle.swc_ecma_parser_reader.specs.State.{State, Outcome, moved, too_deep, fault, fault_at, expect, loop}
-use Rattle.swc_ecma_parser_reader.specs.Expressions.{Cover, Covers, with_cover, with_comma, done, element, behind_comma, arguments_turn, item, array_turn, property, object_turn, accessed, called, left_turn, operator_at, operated, binary_turn, cover_expr, assignment_expr, sequence_turn, expr_level}
+use Rattle.swc_ecma_parser_reader.specs.Expressions.{Cover, Covers, with_cover, with_comma, done, element, behind_comma, arguments_turn, covered, item, array_turn, property, object_turn, accessed, called, left_turn, operator_at, operated, binary_turn, cover_expr, assignment_expr, sequence_turn, expr_level}
 use Rattle.swc_ecma_parser_reader.proofs.Steps.{loop_more, loop_done, loop_err}
 use Rattle.swc_ecma_parser_reader.proofs.Takes.{Falls, moves, takes, fault_falls, expect_falls}
-use Rattle.swc_ecma_parser_reader.proofs.expressions.Falls.{element_falls, item_falls, property_falls, accessed_falls, called_falls, operated_falls, assignment_falls}
+use Rattle.swc_ecma_parser_reader.proofs.expressions.Falls.{element_falls, covered_falls, item_falls, property_falls, accessed_falls, called_falls, operated_falls, assignment_falls}
 use Rattle.swc_ecma_parser_reader.proofs.Meets.{saw}
 
 -- ---- what takes a token leaves fewer
@@ -172,6 +173,51 @@ module _ (n : ℕ) (found : Covers) (s : State) where
       → expect kind.Comma t ≡ Err e → loop (object_turn (expr n) (cover n) (function n)) found s ≡ Err e
   unfolding object_turn
   properties_comma_err v t e h g i k = loop_err (object_turn (expr n) (cover n) (function n)) found s e (rw (h, g, i, k) refl)
+
+-- ---- parts in parentheses: a rest with its dots is the last; behind any other `)` stands, which ends them, or a comma, behind which `)` ends them too
+
+module _ (n : ℕ) (s : State) (v : Cover) (t : State) (found_part : covered (expr n) (cover n) s ≡ Ok (v, t)) where
+  pub part_shorter : length t.at.left < length s.at.left
+  part_shorter = shorter_by (length s.at.left) (covered (expr n) (cover n) s) v t found_part (covered_falls (expr n) (cover n) (expr_falls n) (cover_falls n) s)
+
+  -- a part and the comma behind it
+  pub parts_shorter : (u : State) → expect kind.Comma t ≡ Ok (tt, u) → length u.at.left < length s.at.left
+  parts_shorter u e = kept_by (length s.at.left) (length t.at.left) (expect kind.Comma t) tt u e (expect_falls kind.Comma t) part_shorter
+
+module _ (n : ℕ) (found : List Cover) (s : State) where
+  pub parts_rest : (g : Parts) (t : State) → sees kind.DotDotDot s.at ≡ true → rest_part (expr n) (function n) found s ≡ Ok (g, t) → loop (part_turn (expr n) (function n) (cover n)) found s ≡ Ok (g, t)
+  unfolding part_turn
+  parts_rest g t h e = loop_done (part_turn (expr n) (function n) (cover n)) found g s t (rw (h, e) refl)
+
+  pub parts_rest_err : (e : Fault × State) → sees kind.DotDotDot s.at ≡ true → rest_part (expr n) (function n) found s ≡ Err e → loop (part_turn (expr n) (function n) (cover n)) found s ≡ Err e
+  unfolding part_turn
+  parts_rest_err e h g = loop_err (part_turn (expr n) (function n) (cover n)) found s e (rw (h, g) refl)
+
+  pub parts_err : (e : Fault × State) → sees kind.DotDotDot s.at ≡ false → covered (expr n) (cover n) s ≡ Err e → loop (part_turn (expr n) (function n) (cover n)) found s ≡ Err e
+  unfolding part_turn
+  parts_err e h g = loop_err (part_turn (expr n) (function n) (cover n)) found s e (rw (h, g) refl)
+
+  pub parts_last : (v : Cover) (t : State) → sees kind.DotDotDot s.at ≡ false → covered (expr n) (cover n) s ≡ Ok (v, t) → sees kind.RParen t.at ≡ true
+      → loop (part_turn (expr n) (function n) (cover n)) found s ≡ Ok (ended (found ++ v ∷ []) false, t)
+  unfolding part_turn
+  parts_last v t h g e = loop_done (part_turn (expr n) (function n) (cover n)) found (ended (found ++ v ∷ []) false) s t (rw (h, g, e) refl)
+
+  pub parts_comma_err : (v : Cover) (t : State) (e : Fault × State) → sees kind.DotDotDot s.at ≡ false → covered (expr n) (cover n) s ≡ Ok (v, t) → sees kind.RParen t.at ≡ false
+      → expect kind.Comma t ≡ Err e → loop (part_turn (expr n) (function n) (cover n)) found s ≡ Err e
+  unfolding part_turn
+  parts_comma_err v t e h g i k = loop_err (part_turn (expr n) (function n) (cover n)) found s e (rw (h, g, i, k) refl)
+
+  -- behind a part and a comma
+  module _ (v : Cover) (t u : State) (no_rest : sees kind.DotDotDot s.at ≡ false) (found_part : covered (expr n) (cover n) s ≡ Ok (v, t)) (no_end_behind : sees kind.RParen t.at ≡ false)
+      (found_comma : expect kind.Comma t ≡ Ok (tt, u)) where
+    pub parts_comma_last : sees kind.RParen u.at ≡ true → loop (part_turn (expr n) (function n) (cover n)) found s ≡ Ok (ended (found ++ v ∷ []) true, u)
+    unfolding part_turn
+    parts_comma_last e = loop_done (part_turn (expr n) (function n) (cover n)) found (ended (found ++ v ∷ []) true) s u (rw (no_rest, found_part, no_end_behind, found_comma, e) refl)
+
+    pub parts_more : sees kind.RParen u.at ≡ false → loop (part_turn (expr n) (function n) (cover n)) found s ≡ loop (part_turn (expr n) (function n) (cover n)) (found ++ v ∷ []) u
+    unfolding part_turn
+    parts_more e = loop_more (part_turn (expr n) (function n) (cover n)) found (found ++ v ∷ []) s u (rw (no_rest, found_part, no_end_behind, found_comma, e) refl)
+        (parts_shorter n s v t found_part u found_comma)
 
 -- ---- left-hand sides: an access, arguments where calls are read, or neither
 

@@ -295,7 +295,7 @@ module _ (n : ℕ) (inner : Class → Reader Tree) (cover : Reader Cover) (sound
   inside_sound class s = within_sound (λ x k l. walk (env_of k l) x) notes_of (λ x k. ReadsClass n class k x) with_in (λ k. refl) (inner class) s (sound class (coded (with_in s.code) s))
 
   -- the same of what may still become a pattern
-  covered_sound : (s : State) → Meets (λ v t. Sound same (λ k l. walk (env_of k l) v.x) (notes_of v.x) (λ k. CoverRead n v (with_in k)) s t) (covered inner cover s)
+  pub covered_sound : (s : State) → Meets (λ v t. Sound same (λ k l. walk (env_of k l) v.x) (notes_of v.x) (λ k. CoverRead n v (with_in k)) s t) (covered inner cover s)
   unfolding covered
   covered_sound s = within_sound (λ v k l. walk (env_of k l) v.x) (λ v. notes_of v.x) (λ v. CoverRead n v) with_in (λ k. refl) cover s (covers (coded (with_in s.code) s))
 

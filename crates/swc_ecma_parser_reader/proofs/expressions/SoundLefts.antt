@@ -17,13 +17,15 @@ use Rattle.swc_ecma_parser_model.specs.declared.leaves.Ident.{Ident}
 use Rattle.swc_ecma_parser_model.specs.declared.leaves.MetaPropKind.TheVariants as meta
 use Rattle.swc_ecma_parser_model.specs.Tree as tree
 use Rattle.swc_ecma_parser_model.specs.Tree.{Tree, Text, listed, trees}
-use Rattle.swc_ecma_parser_model.specs.Forms.{is_rest}
+use Rattle.swc_ecma_parser_model.specs.Forms.{is_rest, is_binding_name}
 use Rattle.swc_ecma_parser_grammar.specs.Looks.{first_kind, kind_at, sees, same_kind, span_at, spanned}
 use Rattle.swc_ecma_parser_grammar.specs.Names.{Code, is_name, name_at}
 use Rattle.swc_ecma_parser_grammar.specs.Follows.{token_is, first_is, word_at, is_async_function, continues_left_side}
+use Rattle.swc_ecma_parser_grammar.specs.Notes.{notes}
 use Rattle.swc_ecma_parser_grammar.specs.Reads.{ReadsToken}
 use Rattle.swc_ecma_parser_grammar.specs.Supported.{supported_in, is_supported_property_in, all_supported_in}
-use Rattle.swc_ecma_parser_grammar.specs.ReadsSupported.{ReadsClass}
+use Rattle.swc_ecma_parser_grammar.specs.ReadsSupported.{ReadsClass, ReadsPat}
+use Rattle.swc_ecma_parser_grammar.specs.language.Expressions.{ArrowBodyRule}
 use Rattle.swc_ecma_parser_grammar.specs.language.Goals.{Goal, Class, expression, assignment, left_side, callee, expr_goal, callee_goal}
 use Rattle.swc_ecma_parser_grammar.specs.language.Lists.{ReadsListed, LastComma, no_comma, last_comma}
 use Rattle.swc_ecma_parser_grammar.specs.language.Continues.{continues_callee}
@@ -36,7 +38,7 @@ use Rattle.swc_ecma_parser_grammar.specs.Walk.{walk, env_of}
 use Rattle.swc_ecma_parser_grammar.proofs.Tests.{or_no, or_none, and_yes, and_both}
 use Rattle.swc_ecma_parser_reader.specs.Notes.{notes_of, all_notes_of}
 use Rattle.swc_ecma_parser_reader.specs.State.{State, Outcome, Reader, and_then, moved, module_found, fault, fault_at, expect, name, loop}
-use Rattle.swc_ecma_parser_reader.specs.Methods.{MethodForm, FunctionForm, expression_form, property_form}
+use Rattle.swc_ecma_parser_reader.specs.Methods.{MethodForm, FunctionForm, expression_form, property_form, parameter_form, block_form}
 use Rattle.swc_ecma_parser_reader.specs.Expressions.{Cover, literal_of, literal_in, taken, literal, ident_expr, this, super_property, bare_new, closed_left, unmarked, close, dotted, inside, brackets, access, spread_element, plain_element, element, behind_argument, arguments_turn, arguments, array, object, paren, marked_primary, literal_or, primary, accessed, called, left_turn, left_from, super_call, super_access, behind_super, super_head, constructed, new_head, import_call, meta_fault, import_meta, import_head, left_head, left, left_expr, any_word, word_property, named_expr}
 use Rattle.swc_ecma_parser_reader.proofs.Notes.{or_true, notes_nil}
 use Rattle.swc_ecma_parser_reader.proofs.Meets.{Meets, Refuses, meets_then, meets_if, wanted_meets, Turned, loop_answers, saw}
@@ -113,10 +115,21 @@ pub record Left (In : Goal → Type 0) (calls : Bool) (k : Code) (x : Tree) (c d
 abbrev pub FunctionRead : ℕ → Code → Tree → Place → Place → Type 0
 FunctionRead n k x c d = PrimaryRule (Reads n) k x c d × (supported_in k.flags.module x ≡ true) × (is_callee x ≡ true)
 
--- the reader of functions as parts of expressions is sound: a method is read from behind its key
+-- the body of an arrow function, which has no notes in module code; what makes a program a module is not told of it
+abbrev pub BodyRead : ℕ → (is_async : Bool) → Tree → Code → Place → Place → Type 0
+BodyRead n w x k c d = ArrowBodyRule (Reads n) k w x c d × (supported_in k.flags.module x ≡ true) × (k.flags.module ≡ true → notes x ≡ [])
+
+abbrev pub SoundBody : ℕ → (is_async : Bool) → State → Tree → State → Type 0
+SoundBody n w s x t = Sound same (λ k l. walk (walks.in_body (env_of k l)) x) (record (notes_of x) { found_module_item = false }) (BodyRead n w x) s t
+
+-- the reader of functions as parts of expressions is sound: a method is read from behind its key, and where a name stands a
+-- parameter is that name
 pub record FunctionsSound (n : ℕ) (function : FunctionForm → Reader Tree) : Type 0 where
   pub expressions : (s : State) → begins_function s.at ≡ true → Meets (λ x t. SoundTree (FunctionRead n) s x t) (function expression_form s)
   pub methods : (form : MethodForm) (key : Tree) (s m : State) → Headed n form key s m → Meets (λ x t. SoundTree (MethodRead n) s x t) (function (property_form form (span_at s.at) key) m)
+  pub parameters : (s : State) → Meets (λ x t. SoundTree (ReadsPat n) s x t) (function parameter_form s)
+  pub names : (s : State) → name_at s.code.flags s.at ≡ true → Meets (λ x t. (t ≡ moved s) × (is_binding_name x ≡ true)) (function parameter_form s)
+  pub blocks : (w : Bool) (s : State) → Meets (SoundBody n w s) (function (block_form w) s)
 
 -- nothing is taken, in code that can be a module's
 abbrev AsModule : Code → Place → Place → Type 0

@@ -63,7 +63,7 @@ yield_first : (f : Context) (ts : List TokenAndSpan) → f.in_generator ≡ true
 yield_first f [] g e = (refl, refl)
 yield_first f (t ∷ ts) g e = yield_token f t.token t.span g e
 
-yield_here : (f : Context) (c : Place) → f.in_generator ≡ true → kind_at c ≡ kind.Yield → (name_at f c ≡ false) × (literal_in c.left ≡ None)
+pub yield_here : (f : Context) (c : Place) → f.in_generator ≡ true → kind_at c ≡ kind.Yield → (name_at f c ≡ false) × (literal_in c.left ≡ None)
 unfolding name_at kind_at
 yield_here f c g e = yield_first f c.left g e
 

@@ -14,8 +14,8 @@ use Rattle.swc_ecma_parser_grammar.specs.language.Goals.{Class, assignment}
 use Rattle.swc_ecma_parser_reader.specs.State.{State, Reader, moved, coded, within, expect, name}
 use Rattle.swc_ecma_parser_reader.specs.Expressions.{Cover, inside, key}
 use Rattle.swc_ecma_parser_reader.specs.Patterns.{binding, rest, behind_element, behind_rest, array_turn, elements, behind_parameter, behind_rest_parameter, parameters_turn, parameter_list, array, rest_name, rest_property, key_value, initialized_name, bare_name, named, bare_key, behind_key, property, behind_property, behind_rest_property, object_turn, properties, object, pattern_level, initialized, element_level}
-use Rattle.swc_ecma_parser_reader.proofs.Takes.{Falls, falls_then, falls_last, falls_coded, falls_if, less, falls_next, moves, takes, falls_past, falls_moved, wanted_falls, refuse_falls, expect_falls, name_falls, loop_falls}
-use Rattle.swc_ecma_parser_reader.proofs.expressions.Falls.{reject_falls, no_end, falls_when, inside_falls, key_falls}
+use Rattle.swc_ecma_parser_reader.proofs.Takes.{Falls, falls_then, falls_last, falls_coded, falls_if, less, falls_next, moves, falls_past, falls_moved, wanted_falls, expect_falls, name_falls, loop_falls}
+use Rattle.swc_ecma_parser_reader.proofs.expressions.Falls.{reject_falls, no_end, falls_when, expect_takes, inside_falls, key_falls}
 
 binding_falls : (s : State) → Falls 1 (length s.at.left) (binding s)
 unfolding binding
@@ -23,9 +23,7 @@ binding_falls s = falls_last 1 (length s.at.left) (name faults.ExpectedIdent s) 
 
 -- `(` is taken: where it does not stand the list is refused
 opened_falls : (s : State) → Falls 1 (length s.at.left) (expect kind.LParen s)
-unfolding expect
-opened_falls s = falls_when 1 (length s.at.left) (sees kind.LParen s.at) _ _ (λ e. takes s.at (no_end s kind.LParen (λ z. cc) e)) (λ _.
-    refuse_falls (Unit {0}) 1 (length s.at.left) faults.Expected s)
+opened_falls s = expect_takes kind.LParen (λ z. cc) s
 
 module _ (inner : Class → Reader Tree) (falls : (class : Class) (s : State) → Falls 1 (length s.at.left) (inner class s))
     (cover : Reader Cover) (falls_cover : (s : State) → Falls 1 (length s.at.left) (cover s))

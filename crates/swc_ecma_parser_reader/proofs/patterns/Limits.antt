@@ -1,5 +1,5 @@
 -- With twice as many levels as tokens no pattern is too deep, but for what an error token says: each level below needs a token.
-use Rattle.std.proofs.Common.{◌≡◌, ℕ, suc, ◌*◌, ◌≤◌, [], arith}
+use Rattle.std.proofs.Common.{◌≡◌, ℕ, suc, ◌*◌, ◌≤◌, true, [], sym, ◌∙◌, true≢false, arith}
 use Rattle.std.specs.Prelude.{◌||◌}
 use Rattle.swc_ecma_parser_common.specs.declared.span.Span.{Span}
 use Rattle.swc_ecma_parser_error.specs.Kind as faults
@@ -7,14 +7,15 @@ use Rattle.swc_ecma_parser_token.specs.declared.kind.TokenKind.TheVariants as ki
 use Rattle.swc_ecma_parser_model.specs.Tree as tree
 use Rattle.swc_ecma_parser_model.specs.Tree.{Tree, Text}
 use Rattle.swc_ecma_parser_grammar.specs.Looks.{kind_at, sees, span_at}
-use Rattle.swc_ecma_parser_grammar.specs.Names.{is_name}
+use Rattle.swc_ecma_parser_grammar.specs.Names.{is_name, name_at}
 use Rattle.swc_ecma_parser_grammar.specs.Reads.{with_in}
 use Rattle.swc_ecma_parser_grammar.specs.language.Goals.{Class, assignment}
 use Rattle.swc_ecma_parser_reader.specs.State.{State, Reader, moved, coded, within, expect, name, loop}
 use Rattle.swc_ecma_parser_reader.specs.Expressions.{Cover, inside, key}
 use Rattle.swc_ecma_parser_reader.specs.Patterns.{binding, rest, array_turn, elements, parameters_turn, parameter_list, array, rest_name, rest_property, key_value, initialized_name, bare_name, named, bare_key, behind_key, property, object_turn, properties, object, pattern_level, initialized, element_level}
 use Rattle.swc_ecma_parser_reader.proofs.Meets.{Answers, answers_then, answers_if, loop_answers, saw}
-use Rattle.swc_ecma_parser_reader.proofs.Shallow.{Fine, fine_more, fine_after, fine_taken, Shallow, Kept, wanted_shallow, refuse_shallow, expect_shallow, name_shallow, Levels}
+use Rattle.swc_ecma_parser_reader.proofs.Shallow.{Fine, fine_more, fine_after, fine_taken, Shallow, Kept, Taken, wanted_shallow, refuse_shallow, expect_shallow, name_shallow, name_takes, Levels}
+use Rattle.swc_ecma_parser_reader.proofs.expressions.CompleteKinds.{array_here, object_here}
 use Rattle.swc_ecma_parser_reader.proofs.expressions.Limits.{kept_more, reject_shallow, unexpected_shallow, inside_shallow, key_shallow}
 
 binding_shallow : (m : ℕ) (s : State) → Fine m s.at.left → Answers (Kept m) Shallow (binding s)
@@ -22,13 +23,22 @@ unfolding binding
 binding_shallow m s f = answers_then _ _ (name faults.ExpectedIdent s) _ (name_shallow m s f faults.ExpectedIdent (λ e. cc)) (λ i t g. g)
 
 -- `(` is taken: where it does not stand the list is refused
-abbrev Opened : ℕ → State → Type 0
-Opened m t = (i : ℕ) × (m ≡ suc i) × Fine i t.at.left
-
-opened_shallow : (m : ℕ) (s : State) → Fine m s.at.left → Answers (λ _ t. Opened m t) Shallow (expect kind.LParen s)
+opened_shallow : (m : ℕ) (s : State) → Fine m s.at.left → Answers (Taken m) Shallow (expect kind.LParen s)
 unfolding expect
 opened_shallow m s f = answers_if _ _ (sees kind.LParen s.at) _ _ (λ e. fine_taken m s.at kind.LParen (saw s.at kind.LParen e) (λ z. cc) f)
     (λ _. refuse_shallow _ faults.Expected (λ e. cc) m s f)
+
+-- a pattern that begins with a name is one, and no level below is read
+name_taken : (m : ℕ) (s : State) → Fine m s.at.left → Answers (Taken m) Shallow (binding s)
+unfolding binding
+name_taken m s f = answers_then _ _ (name faults.ExpectedIdent s) _ (name_takes m s f faults.ExpectedIdent (λ e. cc)) (λ i t g. g)
+
+pub name_level_takes : (inner : Class → Reader Tree) (cover : Reader Cover) (pattern element : Reader Tree) (m : ℕ) (s : State) → name_at s.code.flags s.at ≡ true → Fine m s.at.left
+    → Answers (Taken m) Shallow (pattern_level inner cover pattern element s)
+unfolding pattern_level
+name_level_takes inner cover pattern element m s e f =
+    answers_if _ _ (sees kind.LBracket s.at) _ _ (λ h. let k = (array_here s.code.flags s.at (saw s.at kind.LBracket h)).0 in absurd (true≢false (sym e ∙ k))) (λ _.
+    answers_if _ _ (sees kind.LBrace s.at) _ _ (λ h. let k = (object_here s.code.flags s.at (saw s.at kind.LBrace h)).0 in absurd (true≢false (sym e ∙ k))) (λ _. name_taken m s f))
 
 module _ (inner : Class → Reader Tree) (cover : Reader Cover) (pattern element : Reader Tree) (n : ℕ)
     (below : (class : Class) → Levels n (inner class)) (below_cover : Levels n cover) (below_pattern : Levels n pattern) (below_element : Levels n element) where

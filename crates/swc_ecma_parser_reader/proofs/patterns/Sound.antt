@@ -6,13 +6,17 @@ use Rattle.swc_ecma_parser_common.specs.declared.span.Span.{Span}
 use Rattle.swc_ecma_parser_error.specs.Kind as faults
 use Rattle.swc_ecma_parser_token.specs.declared.kind.TokenKind.{TokenKind}
 use Rattle.swc_ecma_parser_token.specs.declared.kind.TokenKind.TheVariants as kind
+use Rattle.swc_ecma_parser_token.specs.declared.token.Token.{Token}
+use Rattle.swc_ecma_parser_token.specs.declared.token.Token.TheVariants as token
+use Rattle.swc_ecma_parser_token.specs.declared.token.TokenAndSpan.{TokenAndSpan}
+use Rattle.swc_ecma_parser_token.specs.Text.{word_text}
 use Rattle.swc_ecma_parser_input.specs.Place.{Place, after}
 use Rattle.swc_ecma_parser_model.specs.declared.leaves.Ident.{Ident}
 use Rattle.swc_ecma_parser_model.specs.Tree as tree
 use Rattle.swc_ecma_parser_model.specs.Tree.{Tree, Text, listed, trees}
 use Rattle.swc_ecma_parser_model.specs.Forms.{is_rest, is_pattern_target, is_plain_param, is_binding_name}
 use Rattle.swc_ecma_parser_grammar.specs.Looks.{kind_at, sees, same_kind, span_at, spanned}
-use Rattle.swc_ecma_parser_grammar.specs.Names.{Code, is_name}
+use Rattle.swc_ecma_parser_grammar.specs.Names.{Code, is_name, name_at}
 use Rattle.swc_ecma_parser_grammar.specs.Reads.{with_in}
 use Rattle.swc_ecma_parser_grammar.specs.ReadsSupported.{ReadsClass, ReadsPat, ReadsElement, ReadsParams}
 use Rattle.swc_ecma_parser_grammar.specs.language.Goals.{Goal, Class, Purpose, assignment, binding}
@@ -27,14 +31,15 @@ use Rattle.swc_ecma_parser_grammar.specs.Walk.{walk, env_of}
 use Rattle.swc_ecma_parser_grammar.proofs.Tests.{or_no, and_both}
 use Rattle.swc_ecma_parser_reader.specs.State as state
 use Rattle.swc_ecma_parser_reader.specs.Notes.{notes_of, all_notes_of}
-use Rattle.swc_ecma_parser_reader.specs.State.{State, Outcome, Reader, and_then, moved, coded, within, expect, name, Step, More, loop}
+use Rattle.swc_ecma_parser_reader.specs.State.{State, Outcome, Reader, and_then, moved, coded, within, expect, name, name_in, name_by, Step, More, loop}
 use Rattle.swc_ecma_parser_reader.specs.Expressions.{Cover, inside, key}
 use Rattle.swc_ecma_parser_reader.specs.Patterns as reader
 use Rattle.swc_ecma_parser_reader.specs.Patterns.{rest, array_turn, elements, parameters_turn, parameter_list, array, rest_name, rest_property, key_value, initialized_name, bare_name, named, bare_key, behind_key, property, object_turn, properties, object, pattern_level, initialized, element_level}
 use Rattle.swc_ecma_parser_reader.proofs.Meets.{Meets, Refuses, meets_then, meets_if, wanted_meets, Turned, loop_answers, saw}
 use Rattle.swc_ecma_parser_reader.proofs.Errors.{is_error}
 use Rattle.swc_ecma_parser_reader.proofs.Between.{SoundTree, Sound, same, sound_moved, sound_here, sound_as, sound_after, within_sound}
-use Rattle.swc_ecma_parser_reader.proofs.expressions.SoundSteps.{paired, stepped, moved_back, meets_as, reject_meets, unseen, Takes, expect_sound, FreeWord, name_sound, walks_push, notes_push}
+use Rattle.swc_ecma_parser_reader.proofs.expressions.CompleteKinds.{array_here, object_here}
+use Rattle.swc_ecma_parser_reader.proofs.expressions.SoundSteps.{paired, stepped, moved_back, meets_as, reject_meets, clash, unseen, Takes, expect_sound, FreeWord, name_sound, walks_push, notes_push}
 use Rattle.swc_ecma_parser_grammar.proofs.Naming.{name_is_clean, name_is_supported}
 use Rattle.swc_ecma_parser_reader.proofs.expressions.SoundLists.{Lists, elements_list, properties_list, Begun, at_more, begun_all, begun_next, begun_last, Plain, Target, nothing_plain, plain_next, plain_last}
 use Rattle.swc_ecma_parser_reader.proofs.expressions.SoundCovers.{SoundCover, SoundKey, key_sound, inside_sound, ident_key, key_inside, free_name, name_inside}
@@ -456,3 +461,25 @@ module _ (inner : Class → Reader Tree) (cover : Reader Cover) (pattern element
     unfolding parameter_list
     parameter_list_unwrapped s = meets_then _ (expect kind.LParen s) _ (anything (expect kind.LParen s)) (λ _ m _.
         loop_answers (parameters_turn inner cover pattern element) AllUnwrapped AllUnwrapped Refuses parameters_turn_unwrapped (λ _. tt) [] m tt)
+
+-- ---- where a name stands, it is read, and nothing else
+
+module _ (missing : faults.Kind) (s : State) where
+  name_by_moves : (v : Token) (span : Span) → Meets (λ _ t. t ≡ moved s) (name_by missing s v span)
+  name_by_moves (token.Word w) span = meets_if _ (is_name s.code.flags (word_text w)) _ _ (λ _. refl) (λ _. wanted_meets _ missing s)
+  name_by_moves _ span = wanted_meets _ missing s
+
+  name_in_moves : (ts : List TokenAndSpan) → Meets (λ _ t. t ≡ moved s) (name_in missing s ts)
+  name_in_moves [] = wanted_meets _ missing s
+  name_in_moves (u ∷ ts) = name_by_moves u.token u.span
+
+  name_moves : Meets (λ _ t. t ≡ moved s) (name missing s)
+  unfolding name
+  name_moves = name_in_moves s.at.left
+
+module _ (inner : Class → Reader Tree) (cover : Reader Cover) (pattern element : Reader Tree) where
+  pub pattern_level_named : (s : State) → name_at s.code.flags s.at ≡ true → Meets (λ x t. (t ≡ moved s) × (is_binding_name x ≡ true)) (pattern_level inner cover pattern element s)
+  unfolding pattern_level reader.binding
+  pattern_level_named s h = meets_if _ (sees kind.LBracket s.at) _ _ (λ e. clash _ h (array_here s.code.flags s.at (saw s.at kind.LBracket e)).0)
+      (λ _. meets_if _ (sees kind.LBrace s.at) _ _ (λ e. clash _ h (object_here s.code.flags s.at (saw s.at kind.LBrace e)).0)
+      (λ _. meets_then _ (name faults.ExpectedIdent s) _ (name_moves faults.ExpectedIdent s) (λ i t e. (e, refl))))

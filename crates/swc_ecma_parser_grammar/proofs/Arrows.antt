@@ -1,0 +1,90 @@
+-- The body of an arrow function, as the whole language reads it and with the statements of the small relation; and what it is for
+-- an arrow function to be supported.
+use Rattle.std.proofs.Common.{◌≡◌, ℕ, Bool, true, false, List, [], refl, ap}
+use Rattle.std.specs.Prelude.{not, ◌&&◌, ◌||◌}
+use Rattle.swc_ecma_parser_error.specs.Kind.{Fault}
+use Rattle.swc_ecma_parser_common.specs.declared.span.Span.{Span}
+use Rattle.swc_ecma_parser_input.specs.Place.{Place}
+use Rattle.swc_ecma_parser_model.specs.Tree as tree
+use Rattle.swc_ecma_parser_model.specs.Tree.{Tree}
+use Rattle.swc_ecma_parser_model.specs.Forms.{has_plain_params}
+use Rattle.swc_ecma_parser_grammar.specs.Names.{Code}
+use Rattle.swc_ecma_parser_grammar.specs.Notes.{notes}
+use Rattle.swc_ecma_parser_grammar.specs.Own.{misplaced_directive}
+use Rattle.swc_ecma_parser_grammar.specs.Reads.{with_in, ReadsBlock}
+use Rattle.swc_ecma_parser_grammar.specs.ReadsSupported.{ReadsStmt, ReadsClass}
+use Rattle.swc_ecma_parser_grammar.specs.Supported.{supported_in, is_rightly_headed, is_clean}
+use Rattle.swc_ecma_parser_grammar.specs.language.Contexts.{in_arrow}
+use Rattle.swc_ecma_parser_grammar.specs.language.Goals.{assignment}
+use Rattle.swc_ecma_parser_grammar.specs.language.Items.{BlockRule}
+use Rattle.swc_ecma_parser_grammar.specs.language.Reads.{Reads}
+use Rattle.swc_ecma_parser_grammar.proofs.Tests.{and_yes, and_both}
+use Rattle.swc_ecma_parser_grammar.proofs.Unnoted.{clean_is, expr_unnoted}
+use Rattle.swc_ecma_parser_grammar.proofs.Widens.{stmt_supported, stmt_widens, braced_supported, braced_widens}
+use Rattle.swc_ecma_parser_grammar.proofs.Narrows.{stmt_narrows, braced_narrows}
+use Rattle.swc_ecma_parser_grammar.proofs.StatementEntries.{stmt_unnoted, braced_unnoted}
+
+-- ---- its body
+
+module _ (n : ℕ) (k : Code) (a : Bool) (x : Tree) (c d : Place) where
+  -- the block of one, one level further in
+  abbrev pub SmallBlock : Type 0
+  SmallBlock = ReadsBlock (ReadsStmt n) (with_in (in_arrow k a)) x c d
+
+  abbrev pub WholeBlock : Type 0
+  WholeBlock = BlockRule (Reads n) (with_in (in_arrow k a)) false x c d
+
+  pub block_widens : SmallBlock → WholeBlock
+  block_widens r = braced_widens n (stmt_widens n) false r
+
+  pub block_supported : SmallBlock → supported_in k.flags.module x ≡ true
+  block_supported r = braced_supported n (stmt_supported n) false r
+
+  -- in module code nothing in it is a fault of it
+  pub block_unnoted : k.flags.module ≡ true → SmallBlock → notes x ≡ []
+  block_unnoted o r = braced_unnoted n (stmt_unnoted n) false o r
+
+  pub block_narrows : WholeBlock → supported_in k.flags.module x ≡ true → (k.flags.module ≡ true → notes x ≡ []) → SmallBlock
+  block_narrows r h q = braced_narrows n (stmt_narrows n) false q r h
+
+  -- an expression that is one has no notes either
+  pub body_unnoted : k.flags.module ≡ true → ReadsClass n assignment (in_arrow k a) x c d → notes x ≡ []
+  body_unnoted o r = expr_unnoted n assignment (in_arrow k a) x c d o r.0 r.1
+
+-- ---- what is supported
+
+-- an arrow function that is not async, whose parameters and body are supported, whose body does not turn parameters strict that
+-- are not all plain names, and has no notes in module code
+pub record SupportedArrow (m : Bool) (params body : Tree) (is_async : Bool) : Type 0 where
+  pub is_plain : is_async ≡ false
+  pub supports_params : supported_in m params ≡ true
+  pub supports_body : supported_in m body ≡ true
+  pub directs : misplaced_directive (has_plain_params params) body ≡ []
+  pub has_no_notes : m ≡ true → notes body ≡ []
+
+untrue : (a : Bool) → not a ≡ true → a ≡ false
+untrue true h = cc
+untrue false h = refl
+
+-- what is tested of notes in module code
+untested : (m : Bool) (es : List Fault) → (not m || is_clean es) ≡ true → m ≡ true → es ≡ []
+untested true es h o = clean_is es h
+untested false es h o = cc
+
+tested : (m : Bool) (es : List Fault) → (m ≡ true → es ≡ []) → (not m || is_clean es) ≡ true
+tested true es q = ap is_clean (q refl)
+tested false es q = refl
+
+pub arrow_parts : (m : Bool) (s : Span) (params body : Tree) (is_async : Bool) → supported_in m (tree.arrow s params body is_async) ≡ true → SupportedArrow m params body is_async
+arrow_parts m s params body is_async h =
+    let g = and_yes (not is_async) _ h in
+    let f = and_yes (supported_in m params && supported_in m body) _ g.1 in
+    let p = and_yes (supported_in m params) _ f.0 in
+    let i = and_yes (is_rightly_headed params body) _ f.1 in
+    record { is_plain = untrue is_async g.0; supports_params = p.0; supports_body = p.1; directs = clean_is _ i.0; has_no_notes = untested m (notes body) i.1 }
+
+pub arrow_supported : (m : Bool) (s : Span) (params body : Tree) (is_async : Bool) → SupportedArrow m params body is_async → supported_in m (tree.arrow s params body is_async) ≡ true
+arrow_supported m s params body is_async r =
+    and_both (not is_async) _ (ap not r.is_plain)
+    (and_both (supported_in m params && supported_in m body) _ (and_both (supported_in m params) _ r.supports_params r.supports_body)
+    (and_both (is_rightly_headed params body) _ (ap is_clean r.directs) (tested m (notes body) r.has_no_notes)))
