@@ -80,8 +80,9 @@ impl<I: Tokens> Parser<I> {
     pub fn parse_script(&mut self) -> PResult<Script>
         ensures limit { self.new.limit ≡ self.old.limit }
 
-        // Of any answer: it takes the whole list; with no fault recorded the list spells it within the limit, and it
-        // is supported; and its tabled faults are its walk where no error token stands and nothing was dropped.
+        // Of any answer: it takes the whole list, and its statements stand on its tokens; with no fault recorded the list
+        // spells it within the limit, and it is supported; and its tabled faults are its walk where no error token stands and
+        // nothing was dropped.
         ensures sound { IfOk result (λ x. SoundScript self.old.limit (unmarked self.old.state) (view_script x) self.new.state) }
 
         // Each supported tree within the limit that spells the list is the answer, and only it, with its walk recorded.
@@ -101,7 +102,8 @@ impl<I: Tokens> Parser<I> {
         ensures outright { self.old.state.at.left ≡ [] → IsOk result }
         ensures refused { OnErr result (IsRestored self.old.state self.new.state) }
 
-        // Whatever comes but want of memory: the tokens that are left are the last of those that were, and no recorded fault is lost.
+        // Whatever comes but want of memory: the tokens that are left are the last of those that were, what was read last is the
+        // token before them, and no recorded fault is lost.
         ensures stays { Stays self.old.state result self.new.state }
     {
         let alloc = self.alloc;
@@ -115,8 +117,8 @@ impl<I: Tokens> Parser<I> {
     pub fn parse_stmt(&mut self, top_level: bool) -> PResult<Stmt>
         ensures limit { self.new.limit ≡ self.old.limit }
 
-        // Of any answer: with no fault recorded the tokens that were read spell it within the limit, it is supported, and its walk
-        // is empty; where no error token was read and nothing was dropped, its tabled faults are its walk.
+        // Of any answer: it stands on the tokens that were taken; with no fault recorded they spell it within the limit, it is
+        // supported, and its walk is empty; where no error token was read and nothing was dropped, its tabled faults are its walk.
         ensures sound { IfOk result (λ x. SoundStatement self.old.limit false top_level (unmarked self.old.state) (view_stmt x) self.new.state) }
 
         // Each supported tree within the limit that tokens from here on spell is the answer, and only it, with its walk recorded.
@@ -135,7 +137,8 @@ impl<I: Tokens> Parser<I> {
         ensures at_end { self.old.state.at.left ≡ [] → IsErrAnd result (λ e. kind_of e.kind ≢ kinds.OutOfMemory → kind_of e.kind ≡ kinds.Eof) }
         ensures refused { OnErr result (IsRestored self.old.state self.new.state) }
 
-        // Whatever comes but want of memory: the tokens that are left are the last of those that were, and no recorded fault is lost.
+        // Whatever comes but want of memory: the tokens that are left are the last of those that were, what was read last is the
+        // token before them, and no recorded fault is lost.
         ensures stays { Stays self.old.state result self.new.state }
     {
         let alloc = self.alloc;
@@ -152,8 +155,8 @@ impl<I: Tokens> Parser<I> {
     pub fn parse_stmt_list_item(&mut self, top_level: bool) -> PResult<Stmt>
         ensures limit { self.new.limit ≡ self.old.limit }
 
-        // Of any answer: with no fault recorded the tokens that were read spell it within the limit, it is supported, and its walk
-        // is empty; where no error token was read and nothing was dropped, its tabled faults are its walk.
+        // Of any answer: it stands on the tokens that were taken; with no fault recorded they spell it within the limit, it is
+        // supported, and its walk is empty; where no error token was read and nothing was dropped, its tabled faults are its walk.
         ensures sound { IfOk result (λ x. SoundStatement self.old.limit true top_level (unmarked self.old.state) (view_stmt x) self.new.state) }
 
         // Each supported tree within the limit that tokens from here on spell is the answer, and only it, with its walk recorded.
@@ -172,7 +175,8 @@ impl<I: Tokens> Parser<I> {
         ensures at_end { self.old.state.at.left ≡ [] → IsErrAnd result (λ e. kind_of e.kind ≢ kinds.OutOfMemory → kind_of e.kind ≡ kinds.Eof) }
         ensures refused { OnErr result (IsRestored self.old.state self.new.state) }
 
-        // Whatever comes but want of memory: the tokens that are left are the last of those that were, and no recorded fault is lost.
+        // Whatever comes but want of memory: the tokens that are left are the last of those that were, what was read last is the
+        // token before them, and no recorded fault is lost.
         ensures stays { Stays self.old.state result self.new.state }
     {
         let alloc = self.alloc;

@@ -371,7 +371,7 @@ top_widens n k at x c d r = stmt_widens n k at x c d r.1 r.0
 
 -- ---- scripts
 
-shebang_widens : (c d : Place) (o : Option Text) → ReadsShebang c d o → programs.ShebangRule c d o
+pub shebang_widens : (c d : Place) (o : Option Text) → ReadsShebang c d o → programs.ShebangRule c d o
 shebang_widens c d _ (some_shebang text s r) = programs.some_shebang text s r
 shebang_widens c d _ (no_shebang h n) = programs.no_shebang h n
 

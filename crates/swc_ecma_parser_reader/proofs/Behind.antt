@@ -1,5 +1,5 @@
--- What answers and refusals leave alike: the tokens that are left are the last of those that were, and the faults that were recorded
--- stand before those that are.
+-- What answers and refusals leave alike: the tokens that are left are the last of those that were, what was read last is the token
+-- before them, and the faults that were recorded stand before those that are.
 use Rattle.std.proofs.Common.{◌≡◌, ℕ, zero, suc, List, [], ◌∷◌, ◌++◌, Option, Some, None, Ok, Err, sym, ◌∙◌, ap, refl, append-nil, append_assoc, suc, length}
 use Rattle.std.specs.Prelude.{nat_lt}
 use Rattle.swc_ecma_parser_common.specs.declared.span.Span.{Span}
@@ -19,16 +19,26 @@ use Rattle.swc_ecma_parser_grammar.specs.Names.{is_name}
 use Rattle.swc_ecma_parser_grammar.specs.Ends.{can_end}
 use Rattle.swc_ecma_parser_reader.specs.State.{State, Outcome, Reader, moved, noted, fault, recorded_in, recorded_at, fault_at, expect, end, name, name_in, name_by, wanted, wanted_in, wanted_at, too_deep, too_deep_in, too_deep_at, refuse, refuse_in, refuse_at, reject, reject_in, reject_at, refused, Step, after_turn, loop, next_turn, turns, More, Done}
 use Rattle.swc_ecma_parser_reader.specs.Reader.{close, shebang_in, shebang_taken, shebang}
-use Rattle.swc_ecma_parser_reader.specs.Entry.{Behind, IsBehind}
+use Rattle.swc_ecma_parser_reader.specs.Entry.{last_span, Behind, IsBehind}
 use Rattle.swc_ecma_parser_reader.proofs.Meets.{Answers, answers_if}
 
 pub behind_self : (s : State) → IsBehind s s
-behind_self s = record { added = []; faults = sym (append-nil s.faults); read = []; tokens = refl }
+behind_self s = record { added = []; faults = sym (append-nil s.faults); read = []; tokens = refl; last = refl }
 
-behind_rest : (b s : State) (ts : List TokenAndSpan) → s.at.left ≡ ts → IsBehind b s → Behind b.faults b.at.left s.faults (past s.at ts).left
+-- the last of some tokens and one more
+last_pushed : (s : Span) (ts : List TokenAndSpan) (t : TokenAndSpan) → last_span s (ts ++ t ∷ []) ≡ t.span
+last_pushed s [] t = refl
+last_pushed s (u ∷ us) t = last_pushed u.span us t
+
+behind_rest : (b s : State) (ts : List TokenAndSpan) → s.at.left ≡ ts → IsBehind b s → Behind b.faults b.at s.faults (past s.at ts)
 behind_rest b s [] e h = h
-behind_rest b s (t ∷ ts) e h =
-    record { added = h.added; faults = h.faults; read = h.read ++ t ∷ []; tokens = h.tokens ∙ ap (λ z. h.read ++ z) e ∙ sym (append_assoc h.read (t ∷ []) ts) }
+behind_rest b s (t ∷ ts) e h = record {
+  added = h.added;
+  faults = h.faults;
+  read = h.read ++ t ∷ [];
+  tokens = h.tokens ∙ ap (λ z. h.read ++ z) e ∙ sym (append_assoc h.read (t ∷ []) ts);
+  last = sym (last_pushed b.at.last h.read t);
+}
 
 -- behind one more token
 pub behind_after : (b s : State) → IsBehind b s → IsBehind b (moved s)
@@ -38,7 +48,7 @@ behind_after b s h = behind_rest b s s.at.left refl h
 -- and behind one more fault
 pub behind_noted : (b : State) (f : Fault) (s : State) → IsBehind b s → IsBehind b (noted f s)
 behind_noted b f s h =
-    record { added = h.added ++ f ∷ []; faults = ap (λ z. z ++ f ∷ []) h.faults ∙ append_assoc b.faults h.added (f ∷ []); read = h.read; tokens = h.tokens }
+    record { added = h.added ++ f ∷ []; faults = ap (λ z. z ++ f ∷ []) h.faults ∙ append_assoc b.faults h.added (f ∷ []); read = h.read; tokens = h.tokens; last = h.last }
 
 abbrev pub Kept : {A : Type 0} → State → A → State → Type 0
 Kept b x t = IsBehind b t

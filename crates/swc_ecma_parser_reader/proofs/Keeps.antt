@@ -104,7 +104,7 @@ unfolding misplaced
 after_return_keeps b start (Ok p) h = answers_then (Kept b) _ (misplaced start p.1) _ (told_keeps b _ p.1 h) (λ _ t k. k)
 after_return_keeps b start (Err e) h = answers_if (Kept b) (Lost b) (is_some e.1.scope.mark) _ _ (λ _. h) (λ _. refused_keeps (Kept b) b e.0 (misplaced start e.1) (told_keeps b _ e.1 h))
 
-target_keeps : (b : State) (s : State) → IsBehind b s → Answers (Kept b) (Lost b) (target s)
+pub target_keeps : (b : State) (s : State) → IsBehind b s → Answers (Kept b) (Lost b) (target s)
 unfolding target
 target_keeps b s g = answers_if _ _ (ends_at s.at) _ _ (λ _. g)
     (λ _. answers_then (Kept b) _ (name faults.ExpectedIdent s) _ (name_keeps b s g faults.ExpectedIdent) (λ x t k. k))
@@ -205,10 +205,10 @@ module _ (inner : Reader Tree) (below : Passes inner) where
   braces_keep directives b t g = answers_then _ _ (expect kind.LBrace t) _ (expect_keeps b t g kind.LBrace) (λ _ u k. braces_from_keep directives t.at b u k)
 
   module _ (params : Reader (List Tree)) (below_params : Passes params) where
-    function_params_keep : (r g : Bool) → Passes (within (λ k. in_parameters k r g) params)
+    pub function_params_keep : (r g : Bool) → Passes (within (λ k. in_parameters k r g) params)
     function_params_keep r g b u k = answers_then (Kept b) _ (params (coded (in_parameters u.code r g) u)) _ (below_params b (coded (in_parameters u.code r g) u) k) (λ ps v j. j)
 
-    function_body_keep : (r g : Bool) → Passes (function_body inner params r g)
+    pub function_body_keep : (r g : Bool) → Passes (function_body inner params r g)
     unfolding function_body
     function_body_keep r g b v j = answers_then (Kept b) _ (enclosed (braced inner true) (coded (in_body v.code r g) v)) _
         (answers_then (Kept b) _ (braced inner true (unlabelled (coded (in_body v.code r g) v))) _ (braces_keep true b (unlabelled (coded (in_body v.code r g) v)) j) (λ x w z. z))
@@ -629,9 +629,15 @@ all_passing (suc n) = let a = all_passing n in record {
   stmts = λ at b s f. level_keeps (stmt n) (expr n) (pattern n) (head_cover n) (reader.parameters n) a.stmts a.exprs a.patterns a.heads (parameters_passing n a) at b s f;
 }
 
--- a statement
+-- a statement, and what it is made of
 pub stmt_keeps : (n : ℕ) (at : Position) → Passes (stmt n at)
 stmt_keeps n = (all_passing n).stmts
+
+pub expr_keeps : (n : ℕ) (class : Class) → Passes (expr n class)
+expr_keeps n = (all_passing n).exprs
+
+pub parameters_keep : (n : ℕ) → Passes (reader.parameters n)
+parameters_keep n = parameters_passing n (all_passing n)
 
 -- a statement that stands in no other
 top_await_fault_keeps : Passes top_await_fault
@@ -663,6 +669,7 @@ set_back_behind s u t h e = record {
   faults = e.faults.1 ∙ ap (λ z. z ++ e.faults.0) h.faults ∙ append_assoc s.faults h.added e.faults.0;
   read = h.read;
   tokens = h.tokens ∙ ap (λ c. h.read ++ c.left) (sym e.at);
+  last = ap (λ c. c.last) e.at ∙ h.last;
 }
 
 outcome_behind : {A : Type 0} (s : State) (o : Outcome A) (e : Fault) (u t : State) → Answers (Kept s) (Lost s) o → o ≡ Err (e, u) → IsSetBack u t → IsBehind s t

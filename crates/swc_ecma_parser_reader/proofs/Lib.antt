@@ -28,6 +28,7 @@ pub mod Empty
 pub mod Shallow
 pub mod Limits
 pub mod Keeps
+pub mod Spans
 pub mod Refusals
 pub mod Entries
 pub mod Statements

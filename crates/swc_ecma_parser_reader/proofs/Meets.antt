@@ -43,6 +43,11 @@ pub meets_then : {A B : Type 0} {P : A → State → Type 0} (Q : B → State �
 meets_then Q (Ok p) f h g = g p.0 p.1 h
 meets_then Q (Err e) f h g = tt
 
+-- whatever was read before
+pub always : {A B : Type 0} (Q : B → State → Type 0) (o : Outcome A) (f : A → Reader B) → ((a : A) (s : State) → Meets Q (f a s)) → Meets Q (and_then o f)
+always Q (Ok p) f h = h p.0 p.1
+always Q (Err e) f h = tt
+
 pub meets_if : {A : Type 0} (P : A → State → Type 0) (b : Bool) (x y : Outcome A) → (b ≡ true → Meets P x) → (b ≡ false → Meets P y) → Meets P (cond b x y)
 meets_if P true x y h g = h refl
 meets_if P false x y h g = g refl

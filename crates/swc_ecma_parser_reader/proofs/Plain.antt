@@ -42,13 +42,8 @@ use Rattle.swc_ecma_parser_grammar.specs.language.Items.{sub_statement}
 use Rattle.swc_ecma_parser_reader.specs.State.{State, Outcome, Reader, and_then, moved, within, wanted, name, expect, end}
 use Rattle.swc_ecma_parser_reader.specs.Expressions.{Cover}
 use Rattle.swc_ecma_parser_reader.specs.Reader.{items, closes, close, declarators, link, alternative, head, clauses, target, unbroken, uncontinued, operand, braced, handler, finalizer, handled, optional_end, Opening, as_init, as_left, opening, head_part, misdeclared, labelled_body, relabels, no_label, note_statement, empty, debugger, variables, block, block_from, expr_stmt, expr_stmt_at, import_stmt, import_stmt_at, thrown, throw, while_stmt, do_while, for_parts, for_in, for_of, for_behind, for_stmt, goes_on, links, if_stmt, break_stmt, continue_stmt, returned, return_stmt, misplaced, begins_label, labeled_stmt, other_stmt, switch_stmt, try_stmt, const_stmt, let_stmt, stmt_by, stmt_level, stmt}
-use Rattle.swc_ecma_parser_reader.proofs.Meets.{Meets, Refuses, meets_if, wanted_meets, too_deep_meets, refuse_meets, meant}
+use Rattle.swc_ecma_parser_reader.proofs.Meets.{Meets, Refuses, always, meets_if, wanted_meets, too_deep_meets, refuse_meets, meant}
 use Rattle.swc_ecma_parser_reader.proofs.SoundParts.{after_return_meets}
-
--- whatever was read before
-always : {A B : Type 0} (Q : B → State → Type 0) (o : Outcome A) (f : A → Reader B) → ((a : A) (s : State) → Meets Q (f a s)) → Meets Q (and_then o f)
-always Q (Ok p) f h = h p.0 p.1
-always Q (Err e) f h = tt
 
 -- no function that a label tells of
 abbrev Plain : Tree → State → Type 0

@@ -1,5 +1,6 @@
--- What is read as a statement that stands in no other, and as a script, is in the grammar where nothing was recorded.
-use Rattle.std.proofs.Common.{◌≡◌, ◌⊎◌, inl, inr, ℕ, Bool, true, false, List, [], ◌∷◌, ◌++◌, Option, Ok, refl, sym, ◌∙◌, ap, subst, append_assoc, append-nil}
+-- What is read as a statement that stands in no other, and as a script, is in the grammar where nothing was recorded; and whatever
+-- was recorded, a script stands on its tokens.
+use Rattle.std.proofs.Common.{◌≡◌, ◌⊎◌, inl, inr, ℕ, Bool, true, false, List, [], ◌∷◌, ◌++◌, Option, Some, None, Ok, refl, sym, ◌∙◌, ap, subst, append_assoc, append-nil}
 use Rattle.std.proofs.lemmas.List.{append_cancel_left}
 use Rattle.std.specs.Prelude.{not, ◌&&◌, ◌||◌, if◌then◌else◌}
 use Rattle.swc_ecma_parser_error.specs.Kind as faults
@@ -32,19 +33,20 @@ use Rattle.swc_ecma_parser_grammar.specs.Walk as walks
 use Rattle.swc_ecma_parser_grammar.specs.Walk.{walk, env_of}
 use Rattle.swc_ecma_parser_grammar.specs.language.Statements.{may_begin_at_top}
 use Rattle.swc_ecma_parser_grammar.proofs.Tests.{and_yes}
-use Rattle.swc_ecma_parser_grammar.proofs.Widens.{script_widens, script_awaits_as, script_supported}
+use Rattle.swc_ecma_parser_grammar.proofs.Widens.{shebang_widens, script_widens, script_awaits_as, script_supported}
 use Rattle.swc_ecma_parser_reader.specs.Notes.{Notes, ◌⊕◌, notes_of, all_notes_of, notes_with, all_notes_with}
-use Rattle.swc_ecma_parser_reader.specs.State.{State, coded, flagged, noted, module_found, fault_at}
+use Rattle.swc_ecma_parser_reader.specs.State.{State, moved, coded, flagged, noted, module_found, fault_at}
 use Rattle.swc_ecma_parser_reader.specs.Reader.{directs, items_turn, items, at_end, stmt, top_await_fault, top_await, whole_stmt, shebang_of, shebang_in, shebang_taken, shebang, script_body, script}
-use Rattle.swc_ecma_parser_reader.specs.Entry.{SoundScript, IsLater, is_top_await, tells_top_await, error_tokens}
+use Rattle.swc_ecma_parser_reader.specs.Entry.{StandsAt, Stand, StandsAsScript, SoundScript, IsLater, is_top_await, tells_top_await, error_tokens}
 use Rattle.swc_ecma_parser_reader.specs.Limits.{has_out_of_memory_token}
 use Rattle.swc_ecma_parser_reader.proofs.Notes.{or_nil, or_true, or_assoc}
 use Rattle.swc_ecma_parser_reader.proofs.Meets.{Meets, Refuses, meets_then, meets_if, Turned, loop_answers, saw, meant}
 use Rattle.swc_ecma_parser_reader.proofs.Errors.{is_error, kind_here, none_counted, nothing_at_end, fault_here}
 use Rattle.swc_ecma_parser_reader.proofs.Between.{Sound, SoundStep, no_faults, same, some_fault, same-fewer, sound_then, sound_moved, sound_here, sound_as, sound_coded, flags_back}
-use Rattle.swc_ecma_parser_reader.proofs.SoundParts.{code_after, code_setting, code_push, directs_agrees, items_walk_push}
+use Rattle.swc_ecma_parser_reader.proofs.SoundParts.{meets_both, code_after, code_setting, code_push, directs_agrees, items_walk_push}
 use Rattle.swc_ecma_parser_reader.proofs.expressions.SoundSteps.{meets_as, notes_push}
 use Rattle.swc_ecma_parser_reader.proofs.Sound.{stmt_sound}
+use Rattle.swc_ecma_parser_reader.proofs.Spans.{whole_stands}
 
 -- ---- what is told between two states
 
@@ -208,6 +210,7 @@ ReadsTops n b xs k c d = (r : ReadsItems (λ j. ReadsTop n j top_item) k true xs
 abbrev SoundTops : ℕ → State → List Tree → State → Type 0
 SoundTops n s xs t = (b : Bool)
     × Sound (λ k. code_after k true xs) (λ k l. walks.walks (env_of k l) true (trees xs)) (all_notes_with (trees xs) b) (ReadsTops n b xs) s t × Told b s t
+    × Stand xs b s.at t.at
 
 abbrev StoppedTops : ℕ → State → List Tree → State → Type 0
 StoppedTops n s xs t = SoundTops n s xs t × (at_end t.at ≡ true)
@@ -218,11 +221,18 @@ tops_push n xs x a b k c m d (r, e) (q, g) =
     let w = items_push (λ j. ReadsTop n j top_item) k true xs x c m d r q in
     (w.0, ap (λ z. z || b) e ∙ ap (λ z. items_await (λ j. ReadsTop n j top_item) k true xs c m r || z) g ∙ sym w.1)
 
+-- one more on its tokens
+stand_push : (xs : List Tree) (x : Tree) (b : Bool) (c m d : Place) → Stand xs b c m → StandsAt x m d → Stand (xs ++ x ∷ []) (b || sees kind.Await m) c d
+stand_push [] x b c m d (e, g) h = (d, subst (λ z. StandsAt x z d) e h, false, ap (λ z. z || sees kind.Await m) g ∙ ap (sees kind.Await) e ∙ sym (or_nil (sees kind.Await c)), (refl, refl))
+stand_push (y ∷ ys) x b c m d (i, a, o, g, more) h =
+    (i, a, o || sees kind.Await m, ap (λ z. z || sees kind.Await m) g ∙ or_assoc (sees kind.Await c) o (sees kind.Await m), stand_push ys x o i m d more h)
+
 -- each turn reads one
 tops_turn_sound : (n : ℕ) (s : State) (xs : List Tree) (t : State) → SoundTops n s xs t
     → Meets (Turned (items_turn (whole_stmt n top_item) at_end true) (SoundTops n s) (StoppedTops n s) Refuses) (items_turn (whole_stmt n top_item) at_end true xs t)
 unfolding items_turn
-tops_turn_sound n s xs t (b, p, h) = meets_if _ (at_end t.at) _ _ (λ e. ((b, p, h), e)) (λ _. meets_then _ (whole_stmt n top_item t) _ (whole_sound top_item n t) (λ x u (q, g).
+tops_turn_sound n s xs t (b, p, h, on) = meets_if _ (at_end t.at) _ _ (λ e. ((b, p, h, on), e)) (λ _. meets_then _ (whole_stmt n top_item t) _
+    (meets_both _ _ (whole_stmt n top_item t) (whole_sound top_item n t) (whole_stands n top_item t)) (λ x u ((q, g), stands).
     let r = sound_then p q in
     let e : directed u.code (directs true xs) x ≡ code_after s.code true (xs ++ x ∷ []) =
     ap (λ j. directed j (directs true xs) x) r.code ∙ ap (λ d. directed (code_after s.code true xs) d x) (directs_agrees true xs) ∙ code_push s.code true xs x in (
@@ -232,12 +242,13 @@ tops_turn_sound n s xs t (b, p, h) = meets_if _ (at_end t.at) _ _ (λ e. ((b, p,
           (λ (i, a, z). tops_push n xs x b (sees kind.Await t.at) s.code s.at i u.at a z) r),
       told_both b (sees kind.Await t.at) s u (told_then s t u (q.added, q.faults) h)
           (then_told s t u (p.added, p.faults) (ap (λ k. k.flags.can_be_module) p.code ∙ code_may s.code true xs) g),
+      stand_push xs x b s.at t.at u.at on stands,
     )))
 
 tops_sound : (n : ℕ) (s : State) → Meets (StoppedTops n s) (items (whole_stmt n top_item) at_end true s)
 unfolding items
 tops_sound n s = loop_answers (items_turn (whole_stmt n top_item) at_end true) (SoundTops n s) (StoppedTops n s) Refuses (tops_turn_sound n s) (λ t. tt) [] s
-    (false, sound_here s (refl, refl), λ e. cc)
+    (false, sound_here s (refl, refl), λ e. cc, (refl, refl))
 
 -- ---- a script
 
@@ -264,7 +275,12 @@ assign_op_no_shebang _ = refl
 
 -- a first line, or none
 SoundShebang : State → Option Text → State → Type 0
-SoundShebang s o t = SoundStep (λ k c d. ReadsShebang c d o) s t
+SoundShebang s o t = SoundStep (λ k c d. ReadsShebang c d o) s t × ReadsShebang s.at t.at o
+
+-- none is
+no_line : (s : State) → sees kind.Shebang s.at ≡ false → SoundShebang s None s
+unfolding SoundShebang
+no_line s h = let r : ReadsShebang s.at s.at None = no_shebang h refl in (sound_here s r, r)
 
 -- another kind stands first
 sees_other : (c : Place) (u : TokenAndSpan) (ts : List TokenAndSpan) (j : TokenKind) → c.left ≡ u ∷ ts → same_kind (token_kind u.token) j ≡ false → sees j c ≡ false
@@ -274,15 +290,16 @@ sees_other c u ts j e h = rw e h
 shebang_of_sound : (s : State) (u : TokenAndSpan) (ts : List TokenAndSpan) (v : Token) → s.at.left ≡ u ∷ ts → u.token ≡ v → Meets (SoundShebang s) (shebang_taken (shebang_of v) s)
 unfolding same_kind SoundShebang
 shebang_of_sound s u ts (token.Shebang text) e h =
-    sound_moved s (kind_here s.at u ts (token.Shebang text) e h) refl (some_shebang text u.span (record { had_line_break = u.had_line_break; rest = ts; is = e ∙ rw (← h) refl; next = refl }))
-shebang_of_sound s u ts (token.Word w) e h = sound_here s (no_shebang (sees_other s.at u ts kind.Shebang e (rw h (word_no_shebang w))) refl)
-shebang_of_sound s u ts (token.BinOp o) e h = sound_here s (no_shebang (sees_other s.at u ts kind.Shebang e (rw h (bin_op_no_shebang o))) refl)
-shebang_of_sound s u ts (token.AssignOp o) e h = sound_here s (no_shebang (sees_other s.at u ts kind.Shebang e (rw h (assign_op_no_shebang o))) refl)
-shebang_of_sound s u ts _ e h = sound_here s (no_shebang (sees_other s.at u ts kind.Shebang e (rw h refl)) refl)
+    let r : ReadsShebang s.at (moved s).at (Some text) = some_shebang text u.span (record { had_line_break = u.had_line_break; rest = ts; is = e ∙ rw (← h) refl; next = refl }) in
+    (sound_moved s (kind_here s.at u ts (token.Shebang text) e h) refl r, r)
+shebang_of_sound s u ts (token.Word w) e h = no_line s (sees_other s.at u ts kind.Shebang e (rw h (word_no_shebang w)))
+shebang_of_sound s u ts (token.BinOp o) e h = no_line s (sees_other s.at u ts kind.Shebang e (rw h (bin_op_no_shebang o)))
+shebang_of_sound s u ts (token.AssignOp o) e h = no_line s (sees_other s.at u ts kind.Shebang e (rw h (assign_op_no_shebang o)))
+shebang_of_sound s u ts _ e h = no_line s (sees_other s.at u ts kind.Shebang e (rw h refl))
 
 shebang_in_sound : (s : State) (ts : List TokenAndSpan) → s.at.left ≡ ts → Meets (SoundShebang s) (shebang_taken (shebang_in ts) s)
 unfolding same_kind SoundShebang kind_at
-shebang_in_sound s [] e = sound_here s (no_shebang (rw e refl) refl)
+shebang_in_sound s [] e = no_line s (rw e refl)
 shebang_in_sound s (u ∷ ts) e = shebang_of_sound s u ts u.token e refl
 
 shebang_sound : (s : State) → Meets (SoundShebang s) (shebang s)
@@ -303,16 +320,16 @@ record ReadsBody (n : ℕ) (awaits : Bool) (x : Tree) (k : Code) (c d : Place) :
   reads_items : ReadsTops n awaits items k first d
   is : x ≡ tree.script (spanned c d) (listed items) shebang
 
--- ends where the list does
+-- on its tokens, and ends where the list does
 abbrev SoundBody : ℕ → State → Tree → State → Type 0
 SoundBody n s x t = (b : Bool) × ((f : Code → Code) × ((k : Code) → (f k).setting ≡ k.setting) × Sound f (λ k l. walk (env_of k l) x) (notes_with x b) (ReadsBody n b x) s t) × Told b s t
-    × (kind_at t.at ≡ kind.End)
+    × StandsAsScript x b s.at t.at × (kind_at t.at ≡ kind.End)
 
 -- a first line and statements up to the end
 body_sound : (n : ℕ) (s : State) → Meets (SoundBody n s) (script_body n s)
 unfolding script_body SoundShebang
-body_sound n s = meets_then _ (shebang s) _ (shebang_sound s) (λ o m p.
-    meets_then _ (items (whole_stmt n top_item) at_end true m) _ (tops_sound n m) (λ xs t ((b, q, h), e). (
+body_sound n s = meets_then _ (shebang s) _ (shebang_sound s) (λ o m (p, line).
+    meets_then _ (items (whole_stmt n top_item) at_end true m) _ (tops_sound n m) (λ xs t ((b, q, h, on), e). (
       b,
       (
         (λ k. code_after k true xs),
@@ -320,6 +337,7 @@ body_sound n s = meets_then _ (shebang s) _ (shebang_sound s) (λ o m p.
         sound_as s t refl refl refl (λ (i, r, z). record { shebang = o; first = i; reads_shebang = r; items = xs; reads_items = z; is = refl }) (sound_then p q),
       ),
       then_told s m t (p.added, p.faults) (ap (λ k. k.flags.can_be_module) p.code) h,
+      record { shebang = o; first = m.at; items = xs; reads_shebang = shebang_widens s.at m.at o line; stand = on; is = refl },
       at_end_seen t.at e,
     )))
 
@@ -332,7 +350,7 @@ told_in b s t added e h y = by_case (h y)
     by_case (inr (es, p, q)) = ap (λ z. s.code.flags.can_be_module || z) (ap tells_top_await (append_cancel_left s.faults added es (sym e ∙ p)) ∙ q) ∙ or_true s.code.flags.can_be_module
 
 script_is : (n : ℕ) (s : State) (x : Tree) (t : State) → SoundBody n (coded (script_code s.code) s) x t → SoundScript n s x (flagged (script_code s.code) t)
-script_is n s x t (b, (f, keeps, p), h, e) =
+script_is n s x t (b, (f, keeps, p), h, stands, e) =
     let spelled : p.added ≡ [] → ReadsScript n s.code x s.at t.at = λ g. let r = p.reads g in
     record { shebang = r.shebang; first = r.first; reads_shebang = r.reads_shebang; items = r.items; reads_items = r.reads_items.0; whole = e; is = r.is } in
     record {
@@ -345,6 +363,7 @@ script_is n s x t (b, (f, keeps, p), h, e) =
       is_supported = λ g. script_supported n s.code x s.at t.at (spelled g);
       walked = λ g d. p.walked (none_counted s.at.left g ∙ sym (ap error_tokens (nothing_at_end t.at e))) d;
       awaits = b;
+      stands = stands;
       awaited = λ g. (p.reads g).reads_items.1 ∙ sym (script_awaits_as n s.code x s.at t.at (spelled g));
       told = told_in b (coded (script_code s.code) s) t p.added p.faults h;
       noted = p.notes;
@@ -364,7 +383,7 @@ script_is_sound n s x t e = meant (λ y u. SoundScript n s y u) Refuses (script 
 script_remembers : (n : ℕ) (s : State) → Meets (λ x t. has_out_of_memory_token s.at.left ≡ false) (script n s)
 unfolding script
 script_remembers n s = meets_then _ (script_body n (coded (script_code s.code) s)) _ (body_sound n (coded (script_code s.code) s))
-    (λ x t (b, (f, keeps, p), h, e). p.remembers (ap has_out_of_memory_token (nothing_at_end t.at e)))
+    (λ x t (b, (f, keeps, p), h, stands, e). p.remembers (ap has_out_of_memory_token (nothing_at_end t.at e)))
 
 pub script_lacks_out_of_memory : (n : ℕ) (s : State) (x : Tree) (t : State) → script n s ≡ Ok (x, t) → has_out_of_memory_token s.at.left ≡ false
 script_lacks_out_of_memory n s x t e = meant (λ y u. has_out_of_memory_token s.at.left ≡ false) Refuses (script n s) (Ok (x, t)) e (script_remembers n s)

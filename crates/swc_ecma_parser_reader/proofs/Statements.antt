@@ -24,12 +24,13 @@ use Rattle.swc_ecma_parser_reader.specs.Expressions.{literal, marked_primary, pr
 use Rattle.swc_ecma_parser_reader.specs.Yields.{begins_yield}
 use Rattle.swc_ecma_parser_reader.specs.Arrows.{begins_named_arrow}
 use Rattle.swc_ecma_parser_reader.specs.Reader.{expr_stmt, expr_stmt_at, begins_label, other_stmt, stmt_level, stmt, top_await, whole_stmt, expr}
-use Rattle.swc_ecma_parser_reader.specs.Entry.{statement_entry, statement_walk, statement_left, SoundStatement, ReadsSupportedStatement, CompleteStatement, AnswersStatement}
+use Rattle.swc_ecma_parser_reader.specs.Entry.{StandsAt, statement_entry, statement_walk, statement_left, SoundStatement, ReadsSupportedStatement, CompleteStatement, AnswersStatement}
 use Rattle.swc_ecma_parser_reader.specs.Limits.{has_too_deep_token, has_out_of_memory_token}
 use Rattle.swc_ecma_parser_reader.proofs.Errors.{is_error, kind_here}
 use Rattle.swc_ecma_parser_reader.proofs.expressions.SoundSteps.{elsewhere}
 use Rattle.swc_ecma_parser_reader.proofs.SoundParts.{and_false}
 use Rattle.swc_ecma_parser_reader.proofs.SoundScripts.{SoundWhole, whole_is_sound}
+use Rattle.swc_ecma_parser_reader.proofs.Spans.{whole_is_on_tokens}
 use Rattle.swc_ecma_parser_reader.proofs.CompleteScripts.{whole_reads}
 use Rattle.swc_ecma_parser_reader.proofs.Empty.{ended}
 use Rattle.swc_ecma_parser_reader.proofs.Limits.{whole_fits}
@@ -53,8 +54,9 @@ walks_here false top_level s x e = e
 
 -- ---- what is read
 
-sound_by : (limit : ℕ) (include_decl top_level : Bool) (s : State) (x : Tree) (t : State) → SoundWhole (at_top include_decl top_level) limit s x t → SoundStatement limit include_decl top_level s x t
-sound_by limit include_decl top_level s x t (p, h) =
+sound_by : (limit : ℕ) (include_decl top_level : Bool) (s : State) (x : Tree) (t : State) → SoundWhole (at_top include_decl top_level) limit s x t → StandsAt x s.at t.at
+    → SoundStatement limit include_decl top_level s x t
+sound_by limit include_decl top_level s x t (p, h) stands =
     let at : Position = at_top include_decl top_level in record {
       code = p.code;
       scope = p.scope;
@@ -62,6 +64,7 @@ sound_by limit include_decl top_level s x t (p, h) =
       faults = p.faults;
       spells = λ h. (as_entry limit include_decl top_level s.code x s.at t.at (statement_widens limit s.code at x s.at t.at (p.reads h).0).0, walks_here include_decl top_level s x (p.clean h));
       is_supported = λ h. (statement_widens limit s.code at x s.at t.at (p.reads h).0).1;
+      stands = stands;
       fewer = p.fewer;
       walked = p.walked;
       noted = p.notes;
@@ -148,7 +151,8 @@ refusal_of f (Err e) = e.0
 
 module _ (X : Type 0) (view : X → Tree) (limit : ℕ) (include_decl top_level : Bool) (s : State) where
   pub statement_sound : (r : Result X Error) (t : State) → AnswersStatement view limit include_decl top_level s r t → IfOk r (λ x. SoundStatement limit include_decl top_level s (view x) t)
-  statement_sound (Ok x) t h = sound_by limit include_decl top_level s (view x) t (whole_is_sound limit (at_top include_decl top_level) s (view x) t h)
+  statement_sound (Ok x) t h = let at = at_top include_decl top_level in
+      sound_by limit include_decl top_level s (view x) t (whole_is_sound limit at s (view x) t h) (whole_is_on_tokens limit at s (view x) t h)
   statement_sound (Err e) t h = tt
 
   never_both : {A : Type 0} (f : Fault) (u : State) (x : Tree) (v : State) → whole_stmt limit (at_top include_decl top_level) s ≡ Err (f, u) → whole_stmt limit (at_top include_decl top_level) s ≡ Ok (x, v) → A

@@ -1,19 +1,22 @@
 -- What an entry gives, by the grammar and the walk alone.
-use Rattle.std.specs.Prelude.{◌≡◌, ◌≢◌, ℕ, suc, ◌≤◌, if◌then◌else◌, Bool, true, false, ◌&&◌, ◌||◌, ◌⊎◌, List, [], ◌∷◌, ◌++◌, None, Result, Ok, Err}
+use Rattle.std.specs.Prelude.{◌≡◌, ◌≢◌, ℕ, suc, ◌≤◌, if◌then◌else◌, Bool, true, false, ◌&&◌, ◌||◌, ◌⊎◌, List, [], ◌∷◌, ◌++◌, Option, None, Result, Ok, Err}
+use Rattle.swc_ecma_parser_common.specs.declared.span.Span.{Span}
 use Rattle.swc_ecma_parser_error.specs.declared.error.Error.{Error}
 use Rattle.swc_ecma_parser_error.specs.Kind.{Kind, Fault, fault_of, kind_of, OutOfMemory, TopLevelAwaitInScript}
 use Rattle.swc_ecma_parser_token.specs.declared.kind.TokenKind.TheVariants as kind
 use Rattle.swc_ecma_parser_token.specs.declared.token.TokenAndSpan.{TokenAndSpan}
 use Rattle.swc_ecma_parser_token.specs.Kind.{token_kind}
 use Rattle.swc_ecma_parser_input.specs.Place.{Place}
-use Rattle.swc_ecma_parser_model.specs.Tree.{Tree}
-use Rattle.swc_ecma_parser_grammar.specs.Looks.{kind_at, sees, same_kind}
+use Rattle.swc_ecma_parser_model.specs.Tree as tree
+use Rattle.swc_ecma_parser_model.specs.Tree.{Tree, Text, listed}
+use Rattle.swc_ecma_parser_model.specs.Forms.{span_of}
+use Rattle.swc_ecma_parser_grammar.specs.Looks.{kind_at, sees, same_kind, spanned}
 use Rattle.swc_ecma_parser_grammar.specs.Names.{Code}
 use Rattle.swc_ecma_parser_grammar.specs.Entries.{script_code, has_error_token}
 use Rattle.swc_ecma_parser_grammar.specs.Supported.{supported}
 use Rattle.swc_ecma_parser_grammar.specs.language.Noted.{has_meta}
 use Rattle.swc_ecma_parser_grammar.specs.language.Programs as programs
-use Rattle.swc_ecma_parser_grammar.specs.language.Programs.{Entry, at_top, ReadsEntry, script_awaits, Spells}
+use Rattle.swc_ecma_parser_grammar.specs.language.Programs.{Entry, at_top, ReadsEntry, ShebangRule, script_awaits, Spells}
 use Rattle.swc_ecma_parser_grammar.specs.Walk.{walk, env_of, tabled, drops}
 use Rattle.swc_ecma_parser_reader.specs.Notes.{Notes, notes_with, ◌⊕◌}
 use Rattle.swc_ecma_parser_reader.specs.State.{State, GivesAs}
@@ -36,11 +39,61 @@ abbrev pub tells_top_await : List Fault → Bool
 tells_top_await [] = false
 tells_top_await (f ∷ fs) = is_top_await f.kind || tells_top_await fs
 
+-- ---- a tree on its tokens, whatever was recorded
+
+-- the span of the last of some tokens, or the one read before them
+abbrev pub last_span : Span → List TokenAndSpan → Span
+last_span s [] = s
+last_span s (t ∷ ts) = last_span t.span ts
+
+-- Tokens were taken from one place to another, one at least, and the last of them is what was read last there.
+pub record TakesSome (c d : Place) : Type 0 where
+  pub first : TokenAndSpan
+  pub others : List TokenAndSpan
+  pub tokens : c.left ≡ (first ∷ others) ++ d.left
+  pub last : d.last ≡ last_span first.span others
+
+-- whether these are error tokens alone
+abbrev pub are_errors : List TokenAndSpan → Bool
+are_errors [] = true
+are_errors (t ∷ ts) = same_kind (token_kind t.token) kind.Error && are_errors ts
+
+-- No tokens but error tokens were taken from one place to another.
+pub record TakesErrors (c d : Place) : Type 0 where
+  pub errors : List TokenAndSpan
+  pub tokens : c.left ≡ errors ++ d.left
+  pub last : d.last ≡ last_span c.last errors
+  pub are : are_errors errors ≡ true
+
+-- A statement on its tokens: it goes from the first of them to the last. Error tokens behind it may be taken as well, with the
+-- faults that are recorded of it.
+pub record StandsAt (x : Tree) (c d : Place) : Type 0 where
+  pub end : Place
+  pub takes : TakesSome c end
+  pub span : span_of x ≡ spanned c end
+  pub behind : TakesErrors end d
+
+-- Statements on their tokens, one behind another, and whether one of them begins with `await`.
+abbrev pub Stand : List Tree → (awaits : Bool) → Place → Place → Type 0
+Stand [] awaits c d = (d ≡ c) × (awaits ≡ false)
+Stand (x ∷ xs) awaits c d = (m : Place) × StandsAt x c m × (others : Bool) × (awaits ≡ (sees kind.Await c || others)) × Stand xs others m d
+
+-- A script on its tokens: a first line, if there is one, and statements.
+pub record StandsAsScript (x : Tree) (awaits : Bool) (c d : Place) : Type 0 where
+  pub shebang : Option Text
+  pub first : Place
+  pub items : List Tree
+  pub reads_shebang : ShebangRule c first shebang
+  pub stand : Stand items awaits first d
+  pub is : x ≡ tree.script (spanned c d) (listed items) shebang
+
+-- ---- a script
+
 -- An answer: it takes the whole list; where nothing was recorded the list spells it as a script of the language, it has supported
 -- forms alone, its walk is empty, and what was noted are its notes; where no error token stands and nothing was dropped, the
--- faults of the table among those recorded are the walk's; and whatever was recorded, that the code is a module's is noted
--- where the tree says so and where one of its own statements begins with `await`, and nowhere else. That it does is told, but in
--- code that may be a module's.
+-- faults of the table among those recorded are the walk's; and whatever was recorded, its statements stand on the tokens of the
+-- list, and that the code is a module's is noted where the tree says so and where one of these statements begins with `await`,
+-- and nowhere else. That one does is told, but in code that may be a module's.
 pub record SoundScript (limit : ℕ) (s : State) (x : Tree) (t : State) : Type 0 where
   pub code : t.code ≡ script_code s.code
   pub scope : t.scope ≡ s.scope
@@ -52,6 +105,7 @@ pub record SoundScript (limit : ℕ) (s : State) (x : Tree) (t : State) : Type 0
   pub walked : has_error_token s.at.left ≡ false → drops added ≡ false → tabled added ≡ script_walk s x
   -- whether one of its own statements begins with `await`
   pub awaits : Bool
+  pub stands : StandsAsScript x awaits s.at t.at
   pub awaited : (h : added ≡ []) → awaits ≡ script_awaits limit s.code x s.at t.at (spells h).0
   pub told : awaits ≡ true → s.code.flags.can_be_module || tells_top_await added ≡ true
   pub noted : added ≡ [] → t.notes ≡ s.notes ⊕ notes_with x awaits
@@ -82,18 +136,20 @@ pub record IsRestored (s t : State) : Type 0 where
   pub labels : t.scope.labels ≡ []
   pub found_module_item : t.notes.found_module_item ≡ s.notes.found_module_item
 
--- Behind a place of a list: tokens were read from there on, and faults recorded behind those that were there.
-pub record Behind (fs : List Fault) (ts : List TokenAndSpan) (gs : List Fault) (us : List TokenAndSpan) : Type 0 where
+-- Behind a place of a list: tokens were read from there on, of which the last is what was read last, and faults recorded behind
+-- those that were there.
+pub record Behind (fs : List Fault) (c : Place) (gs : List Fault) (d : Place) : Type 0 where
   pub added : List Fault
   pub faults : gs ≡ fs ++ added
   pub read : List TokenAndSpan
-  pub tokens : ts ≡ read ++ us
+  pub tokens : c.left ≡ read ++ d.left
+  pub last : d.last ≡ last_span c.last read
 
 abbrev pub IsBehind : State → State → Type 0
-IsBehind s t = Behind s.faults s.at.left t.faults t.at.left
+IsBehind s t = Behind s.faults s.at t.faults t.at
 
--- Whatever a call answers: the tokens that are left are the last of those that were, and no recorded fault is lost. Of a refusal
--- for want of memory it is not said.
+-- Whatever a call answers: the tokens that are left are the last of those that were, what was read last is the token before them,
+-- and no recorded fault is lost. Of a refusal for want of memory it is not said.
 abbrev pub Stays : {X : Type 0} → State → Result X Error → State → Type 0
 Stays s (Ok x) t = IsBehind s t
 Stays s (Err e) t = kind_of e.kind ≢ OutOfMemory → IsBehind s t
@@ -138,8 +194,8 @@ statement_left top_level s x d = record s { at = d; faults = s.faults ++ stateme
 -- An answer: the code and the labels around are as before; where nothing was recorded the tokens up to its end spell it as a
 -- statement of the language, it has supported forms alone, its walk is empty, and what was noted are its notes; where no error
 -- token was read and nothing was dropped, the faults of the table among those recorded are the walk's; and whatever was recorded,
--- that the code is a module's is noted where the tree says so and where a statement of the top level begins with `await`, and
--- nowhere else.
+-- it stands on the tokens that were taken, and that the code is a module's is noted where the tree says so and where a statement
+-- of the top level begins with `await`, and nowhere else.
 pub record SoundStatement (limit : ℕ) (include_decl top_level : Bool) (s : State) (x : Tree) (t : State) : Type 0 where
   pub code : t.code ≡ s.code
   pub scope : t.scope ≡ s.scope
@@ -147,6 +203,7 @@ pub record SoundStatement (limit : ℕ) (include_decl top_level : Bool) (s : Sta
   pub faults : t.faults ≡ s.faults ++ added
   pub spells : added ≡ [] → Spells limit (statement_entry include_decl top_level) s.code s.scope.labels x s.at t.at
   pub is_supported : added ≡ [] → supported x ≡ true
+  pub stands : StandsAt x s.at t.at
   -- no error token comes to those that are left, and there are as many where none was read
   pub fewer : error_tokens t.at.left ≤ error_tokens s.at.left
   pub walked : error_tokens s.at.left ≡ error_tokens t.at.left → drops added ≡ false → tabled added ≡ statement_walk s x
