@@ -1,8 +1,5 @@
 //! Rows of arrow functions, by hand, from the rules of ECMA-262, sections 13.2.9 and 15.3.
 
-use crate::report::report;
-use std::test::Fail;
-
 const ARROWS: &str = "a => b → Script 0..6, Expr 0..6 → ArrowExpr 0..6, Ident 0..1 a, Ident 5..6 b
 () => {} → Script 0..8, Expr 0..8 → ArrowExpr 0..8, BlockStmt 6..8
 (a) => a → Script 0..8, Expr 0..8 → ArrowExpr 0..8, Ident 1..2 a
@@ -42,26 +39,16 @@ for (;;) (() => { continue; }); → Script 0..31, For 0..31, fault 18..27 TS1115
 1 + a => b → refused 6..8 ExpectedSemiForExprStmt
 (a) => → refused 6..6 Eof";
 
-#[test]
-fn tables(rt: HostRuntime) -> Result<(), Fail> {
-    for (rows, wanted) in [(ARROWS, "20 rows"), (ARROW_FAULTS, "17 rows")] {
-        assert_eq!(rt; report(rt.alloc(), rows, 1000)?.as_str(), wanted);
-    }
-    Ok(())
-}
+/// Each table, and how many rows it has.
+pub const TABLES: [(&str, &str); 2] = [(ARROWS, "20 rows"), (ARROW_FAULTS, "17 rows")];
 
-#[test]
-fn limits(rt: HostRuntime) -> Result<(), Fail> {
-    for (rows, limit) in [
-        ("() => {} → Script 0..8, Expr 0..8", 2),
-        ("a => b → Script 0..6, Expr 0..6", 3),
-        ("a => b → refused 0..1 TooDeep", 2),
-        ("(a, [b]) => c → Script 0..13, Expr 0..13", 4),
-        ("(a, [b]) => c → refused 5..6 TooDeep", 3),
-        ("(a = [b]) => c → Script 0..14, Expr 0..14", 5),
-        ("(a = [b]) => c → refused 6..7 TooDeep", 4),
-    ] {
-        assert_eq!(rt; report(rt.alloc(), rows, limit)?.as_str(), "1 rows");
-    }
-    Ok(())
-}
+/// Rows, each within so many levels.
+pub const LIMITS: [(&str, u32); 7] = [
+    ("() => {} → Script 0..8, Expr 0..8", 2),
+    ("a => b → Script 0..6, Expr 0..6", 3),
+    ("a => b → refused 0..1 TooDeep", 2),
+    ("(a, [b]) => c → Script 0..13, Expr 0..13", 4),
+    ("(a, [b]) => c → refused 5..6 TooDeep", 3),
+    ("(a = [b]) => c → Script 0..14, Expr 0..14", 5),
+    ("(a = [b]) => c → refused 6..7 TooDeep", 4),
+];

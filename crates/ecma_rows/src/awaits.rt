@@ -1,8 +1,5 @@
 //! Rows of `await` as an operator, by hand, from the rules of ECMA-262, section 15.8.
 
-use crate::report::report;
-use std::test::Fail;
-
 const AWAITS: &str =
     "async function f() { await a } → Script 0..30, Fn 0..30 → AwaitExpr 21..28, Ident 27..28 a
 async function f() { await a.b(c) } → Script 0..35, Fn 0..35 → AwaitExpr 21..33, CallExpr 27..33
@@ -41,25 +38,15 @@ async function f() { await a ** b } → refused 21..28 UnaryInExp
 async function f() { await a = b } → refused 21..28 InvalidPat
 async function f() { await a++ b } → refused 31..32 ExpectedSemiForExprStmt";
 
-#[test]
-fn tables(rt: HostRuntime) -> Result<(), Fail> {
-    for (rows, wanted) in [(AWAITS, "19 rows"), (AWAIT_FAULTS, "15 rows")] {
-        assert_eq!(rt; report(rt.alloc(), rows, 1000)?.as_str(), wanted);
-    }
-    Ok(())
-}
+/// Each table, and how many rows it has.
+pub const TABLES: [(&str, &str); 2] = [(AWAITS, "19 rows"), (AWAIT_FAULTS, "15 rows")];
 
-#[test]
-fn limits(rt: HostRuntime) -> Result<(), Fail> {
-    for (rows, limit) in [
-        ("a, await b → Script 0..10, Expr 0..10", 3),
-        ("a, await b → refused 9..10 TooDeep", 2),
-        ("{ await a } → Script 0..11, Block 0..11", 4),
-        ("{ await a } → refused 8..9 TooDeep", 3),
-        ("async function f() { await a } → Script 0..30, Fn 0..30", 4),
-        ("async function f() { await a } → refused 27..28 TooDeep", 3),
-    ] {
-        assert_eq!(rt; report(rt.alloc(), rows, limit)?.as_str(), "1 rows");
-    }
-    Ok(())
-}
+/// Rows, each within so many levels.
+pub const LIMITS: [(&str, u32); 6] = [
+    ("a, await b → Script 0..10, Expr 0..10", 3),
+    ("a, await b → refused 9..10 TooDeep", 2),
+    ("{ await a } → Script 0..11, Block 0..11", 4),
+    ("{ await a } → refused 8..9 TooDeep", 3),
+    ("async function f() { await a } → Script 0..30, Fn 0..30", 4),
+    ("async function f() { await a } → refused 27..28 TooDeep", 3),
+];

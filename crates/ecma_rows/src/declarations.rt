@@ -1,8 +1,5 @@
 //! Rows of `let` and `const`, by hand, from the rules of ECMA-262, section 14.3.1.
 
-use crate::report::report;
-use std::test::Fail;
-
 const DECLARATIONS: &str =
     "let a → Script 0..5, Var 0..5 → VarDecl 0..5, kind: Let, VarDeclarator 4..5, init: None
 let a = 1, [b] = c → Script 0..18, Var 0..18 → VarDeclarator 4..9, VarDeclarator 11..18, ArrayPat 11..14
@@ -26,21 +23,13 @@ let a b → refused 6..7 Unexpected
 'use strict'; let → refused 14..17 Unexpected
 while (a) const b = 1 → refused 10..15 Unexpected";
 
-#[test]
-fn declarations(rt: HostRuntime) -> Result<(), Fail> {
-    assert_eq!(rt; report(rt.alloc(), DECLARATIONS, 1000)?.as_str(), "21 rows");
-    Ok(())
-}
+/// Each table, and how many rows it has.
+pub const TABLES: [(&str, &str); 1] = [(DECLARATIONS, "21 rows")];
 
-#[test]
-fn limits(rt: HostRuntime) -> Result<(), Fail> {
-    for (rows, limit) in [
-        ("let a → refused 4..5 TooDeep", 1),
-        ("let a → Script 0..5, Var 0..5", 2),
-        ("const a = b → refused 6..7 TooDeep", 1),
-        ("const a = b → Script 0..11, Var 0..11", 2),
-    ] {
-        assert_eq!(rt; report(rt.alloc(), rows, limit)?.as_str(), "1 rows");
-    }
-    Ok(())
-}
+/// Rows, each within so many levels.
+pub const LIMITS: [(&str, u32); 4] = [
+    ("let a → refused 4..5 TooDeep", 1),
+    ("let a → Script 0..5, Var 0..5", 2),
+    ("const a = b → refused 6..7 TooDeep", 1),
+    ("const a = b → Script 0..11, Var 0..11", 2),
+];

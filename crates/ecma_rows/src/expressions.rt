@@ -1,8 +1,5 @@
 //! Expressions and what they parse to, by hand, from the rules of ECMA-262, section 13.
 
-use crate::report::report;
-use std::test::Fail;
-
 const OPERATORS: &str = "x¶/ y → Script 0..5, Expr 0..5 → BinExpr 0..5
 a¶++b → Script 0..5, Expr 0..1, Expr 2..5 → UpdateExpr 2..5
 a ** b ** c → Script 0..11, Expr 0..11 → BinExpr 0..11, BinExpr 5..11
@@ -136,41 +133,31 @@ const REFUSED: &str = "a ?? b || c → refused 0..11 NullishCoalescingWithLogica
 ++1 → refused 2..3 NotSimpleAssign
 a ? b → refused 4..5 Expected";
 
-#[test]
-fn tables(rt: HostRuntime) -> Result<(), Fail> {
-    for (rows, wanted) in [
-        (OPERATORS, "16 rows"),
-        (CALLS, "8 rows"),
-        (ARRAYS, "6 rows"),
-        (OBJECTS, "7 rows"),
-        (PATTERNS, "21 rows"),
-        (BINDINGS, "18 rows"),
-        (SUPERS, "9 rows"),
-        (PRIVATE_NAMES, "7 rows"),
-        (IMPORTS, "22 rows"),
-        (REFUSED, "7 rows"),
-    ] {
-        assert_eq!(rt; report(rt.alloc(), rows, 1000)?.as_str(), wanted);
-    }
-    Ok(())
-}
+/// Each table, and how many rows it has.
+pub const TABLES: [(&str, &str); 10] = [
+    (OPERATORS, "16 rows"),
+    (CALLS, "8 rows"),
+    (ARRAYS, "6 rows"),
+    (OBJECTS, "7 rows"),
+    (PATTERNS, "21 rows"),
+    (BINDINGS, "18 rows"),
+    (SUPERS, "9 rows"),
+    (PRIVATE_NAMES, "7 rows"),
+    (IMPORTS, "22 rows"),
+    (REFUSED, "7 rows"),
+];
 
-#[test]
-fn levels(rt: HostRuntime) -> Result<(), Fail> {
-    for (rows, limit) in [
-        ("a ** b ** c → refused 10..11 TooDeep", 3),
-        ("a ** b ** c → Script 0..11, Expr 0..11", 4),
-        ("a + b + c → Script 0..9, Expr 0..9", 3),
-        ("[[a]] = b → Script 0..9, Expr 0..9", 4),
-        ("[[a]] = b → refused 2..3 TooDeep", 3),
-        ("({a: [b]} = c) → Script 0..14, Expr 0..14", 5),
-        ("({a: [b]} = c) → refused 6..7 TooDeep", 4),
-        ("var [[a]] = b → Script 0..13, Var 0..13", 4),
-        ("var [[a]] = b → refused 6..7 TooDeep", 3),
-        ("var [a = b] = c → Script 0..15, Var 0..15", 4),
-        ("var [a = b] = c → refused 9..10 TooDeep", 3),
-    ] {
-        assert_eq!(rt; report(rt.alloc(), rows, limit)?.as_str(), "1 rows");
-    }
-    Ok(())
-}
+/// Rows, each within so many levels.
+pub const LIMITS: [(&str, u32); 11] = [
+    ("a ** b ** c → refused 10..11 TooDeep", 3),
+    ("a ** b ** c → Script 0..11, Expr 0..11", 4),
+    ("a + b + c → Script 0..9, Expr 0..9", 3),
+    ("[[a]] = b → Script 0..9, Expr 0..9", 4),
+    ("[[a]] = b → refused 2..3 TooDeep", 3),
+    ("({a: [b]} = c) → Script 0..14, Expr 0..14", 5),
+    ("({a: [b]} = c) → refused 6..7 TooDeep", 4),
+    ("var [[a]] = b → Script 0..13, Var 0..13", 4),
+    ("var [[a]] = b → refused 6..7 TooDeep", 3),
+    ("var [a = b] = c → Script 0..15, Var 0..15", 4),
+    ("var [a = b] = c → refused 9..10 TooDeep", 3),
+];

@@ -1,9 +1,6 @@
 //! Rows of functions and generators, async or not, declared and as expressions, by hand, from the rules of ECMA-262, sections 15.2,
 //! 15.5, 15.6 and 15.8.
 
-use crate::report::report;
-use std::test::Fail;
-
 const FUNCTIONS: &str =
     "function f() {} function g() {} → Script 0..31, Fn 0..15, Fn 16..31 → Function 0..15, Ident 9..10 f, Function 16..31
 function f(a, [b], { c }, ...d) {} → Script 0..34, Fn 0..34 → Param 11..12, ArrayPat 14..17, ObjectPat 19..24, RestPat 26..30
@@ -110,46 +107,36 @@ while (a) async function f() { continue } → Script 0..41, While 0..41, fault 3
 async function () {} → refused 15..16 ExpectedIdent
 async function f → refused 15..16 Expected";
 
-#[test]
-fn tables(rt: HostRuntime) -> Result<(), Fail> {
-    for (rows, wanted) in [
-        (FUNCTIONS, "12 rows"),
-        (FAULTS, "12 rows"),
-        (EXPRESSIONS, "14 rows"),
-        (EXPRESSION_FAULTS, "9 rows"),
-        (GENERATORS, "14 rows"),
-        (GENERATOR_FAULTS, "13 rows"),
-        (ASYNC, "12 rows"),
-        (ASYNC_FAULTS, "5 rows"),
-    ] {
-        assert_eq!(rt; report(rt.alloc(), rows, 1000)?.as_str(), wanted);
-    }
-    Ok(())
-}
+/// Each table, and how many rows it has.
+pub const TABLES: [(&str, &str); 8] = [
+    (FUNCTIONS, "12 rows"),
+    (FAULTS, "12 rows"),
+    (EXPRESSIONS, "14 rows"),
+    (EXPRESSION_FAULTS, "9 rows"),
+    (GENERATORS, "14 rows"),
+    (GENERATOR_FAULTS, "13 rows"),
+    (ASYNC, "12 rows"),
+    (ASYNC_FAULTS, "5 rows"),
+];
 
-#[test]
-fn limits(rt: HostRuntime) -> Result<(), Fail> {
-    for (rows, limit) in [
-        ("function f() {} → refused 0..8 TooDeep", 0),
-        ("function f() {} → Script 0..15, Fn 0..15", 1),
-        ("function f(a) {} → refused 11..12 TooDeep", 1),
-        ("function f(a) {} → Script 0..16, Fn 0..16", 2),
-        ("function f() { ; } → refused 15..16 TooDeep", 1),
-        ("function f() { ; } → Script 0..18, Fn 0..18", 2),
-        ("(function () {}) → refused 1..9 TooDeep", 2),
-        ("(function () {}) → Script 0..16, Expr 0..16", 3),
-        ("(function (a) {}) → refused 11..12 TooDeep", 3),
-        ("(function () { ; }) → Script 0..19, Expr 0..19", 4),
-        ("async function f() {} → refused 0..5 TooDeep", 0),
-        ("async function f() {} → Script 0..21, Fn 0..21", 1),
-        ("(async function () {}) → refused 1..6 TooDeep", 2),
-        ("(async function () {}) → Script 0..22, Expr 0..22", 3),
-        ("function* g() { yield } → refused 16..21 TooDeep", 2),
-        ("function* g() { yield } → Script 0..23, Fn 0..23", 3),
-        ("function* g() { yield a } → refused 22..23 TooDeep", 3),
-        ("function* g() { yield a } → Script 0..25, Fn 0..25", 4),
-    ] {
-        assert_eq!(rt; report(rt.alloc(), rows, limit)?.as_str(), "1 rows");
-    }
-    Ok(())
-}
+/// Rows, each within so many levels.
+pub const LIMITS: [(&str, u32); 18] = [
+    ("function f() {} → refused 0..8 TooDeep", 0),
+    ("function f() {} → Script 0..15, Fn 0..15", 1),
+    ("function f(a) {} → refused 11..12 TooDeep", 1),
+    ("function f(a) {} → Script 0..16, Fn 0..16", 2),
+    ("function f() { ; } → refused 15..16 TooDeep", 1),
+    ("function f() { ; } → Script 0..18, Fn 0..18", 2),
+    ("(function () {}) → refused 1..9 TooDeep", 2),
+    ("(function () {}) → Script 0..16, Expr 0..16", 3),
+    ("(function (a) {}) → refused 11..12 TooDeep", 3),
+    ("(function () { ; }) → Script 0..19, Expr 0..19", 4),
+    ("async function f() {} → refused 0..5 TooDeep", 0),
+    ("async function f() {} → Script 0..21, Fn 0..21", 1),
+    ("(async function () {}) → refused 1..6 TooDeep", 2),
+    ("(async function () {}) → Script 0..22, Expr 0..22", 3),
+    ("function* g() { yield } → refused 16..21 TooDeep", 2),
+    ("function* g() { yield } → Script 0..23, Fn 0..23", 3),
+    ("function* g() { yield a } → refused 22..23 TooDeep", 3),
+    ("function* g() { yield a } → Script 0..25, Fn 0..25", 4),
+];

@@ -1,8 +1,5 @@
 //! Rows of `for` statements, by hand, from the rules of ECMA-262, sections 14.7.4 and 14.7.5.
 
-use crate::report::report;
-use std::test::Fail;
-
 const FORS: &str =
     "for (;;) ; → Script 0..10, For 0..10 → ForStmt 0..10, EmptyStmt 9..10, init: None, test: None, update: None
 for (var a = 1, b; a; a++) c → Script 0..28, For 0..28 → VarDecl 5..17, VarDeclarator 9..14, VarDeclarator 16..17, UpdateExpr 22..25, ExprStmt 27..28
@@ -88,36 +85,26 @@ for await (async of a) b → refused 17..19 Unexpected
 for await (async¶of a) b → refused 17..19 Unexpected
 for await a → refused 10..11 Expected";
 
-#[test]
-fn tables(rt: HostRuntime) -> Result<(), Fail> {
-    for (rows, wanted) in [
-        (FORS, "25 rows"),
-        (FOR_INS, "16 rows"),
-        (FOR_OFS, "20 rows"),
-        (FOR_AWAITS, "16 rows"),
-    ] {
-        assert_eq!(rt; report(rt.alloc(), rows, 1000)?.as_str(), wanted);
-    }
-    Ok(())
-}
+/// Each table, and how many rows it has.
+pub const TABLES: [(&str, &str); 4] = [
+    (FORS, "25 rows"),
+    (FOR_INS, "16 rows"),
+    (FOR_OFS, "20 rows"),
+    (FOR_AWAITS, "16 rows"),
+];
 
-#[test]
-fn limits(rt: HostRuntime) -> Result<(), Fail> {
-    for (rows, limit) in [
-        ("for (;;) a → refused 9..10 TooDeep", 2),
-        ("for (;;) ; → Script 0..10, For 0..10", 2),
-        ("for (a;;) ; → refused 5..6 TooDeep", 1),
-        ("for (var a;;) ; → refused 9..10 TooDeep", 1),
-        ("for (a in b) ; → refused 5..6 TooDeep", 1),
-        ("for (a in b) ; → Script 0..14, ForIn 0..14", 2),
-        ("for (let a of b) ; → refused 9..10 TooDeep", 1),
-        ("for (let a of b) ; → Script 0..18, ForOf 0..18", 2),
-        ("for ([a] of b) ; → refused 6..7 TooDeep", 2),
-        ("for ([a] of b) ; → Script 0..16, ForOf 0..16", 3),
-        ("for await (a of b) ; → refused 11..12 TooDeep", 1),
-        ("for await (a of b) ; → Script 0..20, ForOf 0..20", 2),
-    ] {
-        assert_eq!(rt; report(rt.alloc(), rows, limit)?.as_str(), "1 rows");
-    }
-    Ok(())
-}
+/// Rows, each within so many levels.
+pub const LIMITS: [(&str, u32); 12] = [
+    ("for (;;) a → refused 9..10 TooDeep", 2),
+    ("for (;;) ; → Script 0..10, For 0..10", 2),
+    ("for (a;;) ; → refused 5..6 TooDeep", 1),
+    ("for (var a;;) ; → refused 9..10 TooDeep", 1),
+    ("for (a in b) ; → refused 5..6 TooDeep", 1),
+    ("for (a in b) ; → Script 0..14, ForIn 0..14", 2),
+    ("for (let a of b) ; → refused 9..10 TooDeep", 1),
+    ("for (let a of b) ; → Script 0..18, ForOf 0..18", 2),
+    ("for ([a] of b) ; → refused 6..7 TooDeep", 2),
+    ("for ([a] of b) ; → Script 0..16, ForOf 0..16", 3),
+    ("for await (a of b) ; → refused 11..12 TooDeep", 1),
+    ("for await (a of b) ; → Script 0..20, ForOf 0..20", 2),
+];

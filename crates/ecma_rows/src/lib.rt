@@ -30,4 +30,6 @@ mod rows;
 #[cfg(test)]
 mod statements;
 #[cfg(test)]
+mod tables;
+#[cfg(test)]
 mod texts;

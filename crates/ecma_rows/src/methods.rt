@@ -1,8 +1,5 @@
 //! Rows of methods and accessors of objects, by hand, from the rules of ECMA-262, section 15.4.
 
-use crate::report::report;
-use std::test::Fail;
-
 const METHODS: &str =
     "({ a() {} }) → Script 0..12, Expr 0..12 → MethodProp 3..9, Function 3..9, BlockStmt 7..9
 ({ get a() { return 1 } }) → Script 0..26, Expr 0..26 → GetterProp 3..23, ReturnStmt 13..21
@@ -36,28 +33,18 @@ a: ({ b() { break a } }) → Script 0..24, Labeled 0..24, fault 12..19 TS1116
 ({ async¶a() {} }) → refused 9..10 Expected
 ({ a() { 'use strict'; var public } }) → refused 27..33 ExpectedIdent";
 
-#[test]
-fn tables(rt: HostRuntime) -> Result<(), Fail> {
-    for (rows, wanted) in [(METHODS, "12 rows"), (METHOD_FAULTS, "17 rows")] {
-        assert_eq!(rt; report(rt.alloc(), rows, 1000)?.as_str(), wanted);
-    }
-    Ok(())
-}
+/// Each table, and how many rows it has.
+pub const TABLES: [(&str, &str); 2] = [(METHODS, "12 rows"), (METHOD_FAULTS, "17 rows")];
 
-#[test]
-fn limits(rt: HostRuntime) -> Result<(), Fail> {
-    for (rows, limit) in [
-        ("({ a() {} }) → Script 0..12, Expr 0..12", 3),
-        ("({ a() {} }) → refused 1..2 TooDeep", 2),
-        ("({ a(b) {} }) → Script 0..13, Expr 0..13", 4),
-        ("({ a(b) {} }) → refused 5..6 TooDeep", 3),
-        ("({ a() { ; } }) → Script 0..15, Expr 0..15", 4),
-        ("({ a() { ; } }) → refused 9..10 TooDeep", 3),
-        ("({ set a(b) {} }) → refused 9..10 TooDeep", 3),
-        ("({ get [a]() {} }) → Script 0..18, Expr 0..18", 4),
-        ("({ get [a]() {} }) → refused 8..9 TooDeep", 3),
-    ] {
-        assert_eq!(rt; report(rt.alloc(), rows, limit)?.as_str(), "1 rows");
-    }
-    Ok(())
-}
+/// Rows, each within so many levels.
+pub const LIMITS: [(&str, u32); 9] = [
+    ("({ a() {} }) → Script 0..12, Expr 0..12", 3),
+    ("({ a() {} }) → refused 1..2 TooDeep", 2),
+    ("({ a(b) {} }) → Script 0..13, Expr 0..13", 4),
+    ("({ a(b) {} }) → refused 5..6 TooDeep", 3),
+    ("({ a() { ; } }) → Script 0..15, Expr 0..15", 4),
+    ("({ a() { ; } }) → refused 9..10 TooDeep", 3),
+    ("({ set a(b) {} }) → refused 9..10 TooDeep", 3),
+    ("({ get [a]() {} }) → Script 0..18, Expr 0..18", 4),
+    ("({ get [a]() {} }) → refused 8..9 TooDeep", 3),
+];

@@ -1,8 +1,5 @@
 //! Texts and what they parse to, by hand, from the rules of ECMA-262, sections 12 to 16.
 
-use crate::report::report;
-use std::test::Fail;
-
 const TREES: &str = " → Script 0..0
 { var a; } → Script 0..10, Block 0..10 → Var 2..8
 {} → Script 0..2, Block 0..2 → BlockStmt 0..2
@@ -29,23 +26,13 @@ var a b → refused 6..7 Unexpected
 a b → refused 2..3 ExpectedSemiForExprStmt
 a \\ → fault 2..3 UnexpectedChar, refused 2..3 ExpectedSemiForExprStmt";
 
-#[test]
-fn tables(rt: HostRuntime) -> Result<(), Fail> {
-    for (rows, wanted) in [(TREES, "19 rows"), (FAULTS, "5 rows")] {
-        assert_eq!(rt; report(rt.alloc(), rows, 1000)?.as_str(), wanted);
-    }
-    Ok(())
-}
+/// Each table, and how many rows it has.
+pub const TABLES: [(&str, &str); 2] = [(TREES, "19 rows"), (FAULTS, "5 rows")];
 
-#[test]
-fn limits(rt: HostRuntime) -> Result<(), Fail> {
-    for (rows, limit) in [
-        (" → Script 0..0", 0),
-        ("; → refused 0..1 TooDeep", 0),
-        ("{{}} → refused 1..2 TooDeep", 1),
-        ("{{}} → Script 0..4, Block 0..4 → Block 1..3", 2),
-    ] {
-        assert_eq!(rt; report(rt.alloc(), rows, limit)?.as_str(), "1 rows");
-    }
-    Ok(())
-}
+/// Rows, each within so many levels.
+pub const LIMITS: [(&str, u32); 4] = [
+    (" → Script 0..0", 0),
+    ("; → refused 0..1 TooDeep", 0),
+    ("{{}} → refused 1..2 TooDeep", 1),
+    ("{{}} → Script 0..4, Block 0..4 → Block 1..3", 2),
+];

@@ -1,8 +1,5 @@
 //! Rows of statements, by hand, from the rules of ECMA-262, section 14.
 
-use crate::report::report;
-use std::test::Fail;
-
 const BRANCHES: &str =
     "if (a) b; else c → Script 0..16, If 0..16 → IfStmt 0..16, Ident 4..5 a, ExprStmt 7..9, ExprStmt 15..16
 if (a) b → Script 0..8, If 0..8 → IfStmt 0..8, ExprStmt 7..8, alt: None
@@ -166,61 +163,51 @@ try {} finally → refused 7..14 Expected
 try {} finally {} catch {} → refused 18..23 Unexpected
 catch {} → refused 0..5 Unexpected";
 
-#[test]
-fn tables(rt: HostRuntime) -> Result<(), Fail> {
-    for (rows, wanted) in [
-        (BRANCHES, "20 rows"),
-        (THROWS, "9 rows"),
-        (LOOPS, "17 rows"),
-        (WITHS, "13 rows"),
-        (LABELS, "20 rows"),
-        (SWITCHES, "20 rows"),
-        (JUMPS, "20 rows"),
-        (RETURNS, "9 rows"),
-        (TRIES, "20 rows"),
-    ] {
-        assert_eq!(rt; report(rt.alloc(), rows, 1000)?.as_str(), wanted);
-    }
-    Ok(())
-}
+/// Each table, and how many rows it has.
+pub const TABLES: [(&str, &str); 9] = [
+    (BRANCHES, "20 rows"),
+    (THROWS, "9 rows"),
+    (LOOPS, "17 rows"),
+    (WITHS, "13 rows"),
+    (LABELS, "20 rows"),
+    (SWITCHES, "20 rows"),
+    (JUMPS, "20 rows"),
+    (RETURNS, "9 rows"),
+    (TRIES, "20 rows"),
+];
 
-#[test]
-fn limits(rt: HostRuntime) -> Result<(), Fail> {
-    for (rows, limit) in [
-        ("if (a) b; → refused 4..5 TooDeep", 1),
-        ("if (a) b; → refused 7..8 TooDeep", 2),
-        ("if (a) b; else if (a) b; → Script 0..24, If 0..24", 3),
-        ("if (((a))) b; → refused 6..7 TooDeep", 3),
-        ("throw a → refused 6..7 TooDeep", 1),
-        ("throw a → Script 0..7, Throw 0..7", 2),
-        ("while (a) while (b) c → refused 20..21 TooDeep", 3),
-        ("while (a) while (b) c → Script 0..21, While 0..21", 4),
-        ("with (a) b → refused 6..7 TooDeep", 1),
-        ("with (a) b → refused 9..10 TooDeep", 2),
-        ("with (a) ; → Script 0..10, With 0..10", 2),
-        ("do a; while (b) → refused 3..4 TooDeep", 2),
-        ("do a; while (b) → Script 0..15, DoWhile 0..15", 3),
-        ("a: ; → refused 3..4 TooDeep", 1),
-        ("a: ; → Script 0..4, Labeled 0..4", 2),
-        ("a: b → refused 3..4 TooDeep", 2),
-        ("break → refused 0..5 TooDeep", 0),
-        ("break a → Script 0..7, Break 0..7, fault 0..7 TS1116", 1),
-        ("return a → refused 7..8 TooDeep", 1),
-        (
-            "return a → Script 0..8, Return 0..8, fault 0..8 ReturnNotAllowed",
-            2,
-        ),
-        ("switch (a) {} → refused 8..9 TooDeep", 1),
-        ("switch (a) {} → Script 0..13, Switch 0..13", 2),
-        ("switch (a) { case b: c } → refused 21..22 TooDeep", 2),
-        ("switch (a) { case b: c } → Script 0..24, Switch 0..24", 3),
-        ("try {} catch {} → Script 0..15, Try 0..15", 1),
-        ("try { a } catch {} → refused 6..7 TooDeep", 2),
-        ("try { a } catch {} → Script 0..18, Try 0..18", 3),
-        ("try {} catch (a) {} → refused 14..15 TooDeep", 1),
-        ("try {} catch (a) {} → Script 0..19, Try 0..19", 2),
-    ] {
-        assert_eq!(rt; report(rt.alloc(), rows, limit)?.as_str(), "1 rows");
-    }
-    Ok(())
-}
+/// Rows, each within so many levels.
+pub const LIMITS: [(&str, u32); 29] = [
+    ("if (a) b; → refused 4..5 TooDeep", 1),
+    ("if (a) b; → refused 7..8 TooDeep", 2),
+    ("if (a) b; else if (a) b; → Script 0..24, If 0..24", 3),
+    ("if (((a))) b; → refused 6..7 TooDeep", 3),
+    ("throw a → refused 6..7 TooDeep", 1),
+    ("throw a → Script 0..7, Throw 0..7", 2),
+    ("while (a) while (b) c → refused 20..21 TooDeep", 3),
+    ("while (a) while (b) c → Script 0..21, While 0..21", 4),
+    ("with (a) b → refused 6..7 TooDeep", 1),
+    ("with (a) b → refused 9..10 TooDeep", 2),
+    ("with (a) ; → Script 0..10, With 0..10", 2),
+    ("do a; while (b) → refused 3..4 TooDeep", 2),
+    ("do a; while (b) → Script 0..15, DoWhile 0..15", 3),
+    ("a: ; → refused 3..4 TooDeep", 1),
+    ("a: ; → Script 0..4, Labeled 0..4", 2),
+    ("a: b → refused 3..4 TooDeep", 2),
+    ("break → refused 0..5 TooDeep", 0),
+    ("break a → Script 0..7, Break 0..7, fault 0..7 TS1116", 1),
+    ("return a → refused 7..8 TooDeep", 1),
+    (
+        "return a → Script 0..8, Return 0..8, fault 0..8 ReturnNotAllowed",
+        2,
+    ),
+    ("switch (a) {} → refused 8..9 TooDeep", 1),
+    ("switch (a) {} → Script 0..13, Switch 0..13", 2),
+    ("switch (a) { case b: c } → refused 21..22 TooDeep", 2),
+    ("switch (a) { case b: c } → Script 0..24, Switch 0..24", 3),
+    ("try {} catch {} → Script 0..15, Try 0..15", 1),
+    ("try { a } catch {} → refused 6..7 TooDeep", 2),
+    ("try { a } catch {} → Script 0..18, Try 0..18", 3),
+    ("try {} catch (a) {} → refused 14..15 TooDeep", 1),
+    ("try {} catch (a) {} → Script 0..19, Try 0..19", 2),
+];

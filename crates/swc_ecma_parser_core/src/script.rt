@@ -1,9 +1,8 @@
 //! Scripts: ECMA-262, section 16.1.
 
 ghost use Rattle.std.specs.Prelude.{◌≡◌, true, [], map, IsOk};
-ghost use Rattle.swc_ecma_parser_grammar.specs.Reads.{directed, top_item};
+ghost use Rattle.swc_ecma_parser_grammar.specs.Reads.{top_item};
 ghost use Rattle.swc_ecma_parser_reader.specs.Reader as rules;
-ghost use Rattle.swc_ecma_parser_reader.specs.State as reader;
 ghost use Rattle.swc_ecma_parser_reader.specs.State.{Gives, GivesAs};
 
 use crate::grammar::stmt;
@@ -11,7 +10,6 @@ use swc_ecma_parser_error::{PResult, SyntaxError};
 use swc_ecma_parser_functions::body::direct;
 use swc_ecma_parser_grammar::Position;
 use swc_ecma_parser_inner::steps::{pushed, since};
-use swc_ecma_parser_input::Context;
 use swc_ecma_parser_source::Source;
 use swc_ecma_parser_token::TokenKind;
 use swc_ecma_parser_trees::{BuildsScript, BuildsStatements, MakerOf};

@@ -1,6 +1,6 @@
 -- What is read is in the grammar where nothing was recorded, and the faults of the table are the walk's.
 use Rattle.swc_ecma_parser_reader.proofs.Words.{async_begins, or_later, begins_function}
-use Rattle.swc_ecma_parser_reader.proofs.SoundFunctions.{SoundBraces, InBraces, body_from_sound, braces_sound, in_braces, arrow_block_sound, function_expr_sound, function_stmt_sound, function_decl_sound, GetterRead, SetterRead, MethodRead as MethodIs, getter_sound, setter_sound, method_sound, getter_stays, setter_stays, method_stays}
+use Rattle.swc_ecma_parser_reader.proofs.SoundFunctions.{body_from_sound, braces_sound, in_braces, arrow_block_sound, function_expr_sound, function_stmt_sound, function_decl_sound, GetterRead, SetterRead, MethodRead as MethodIs, getter_sound, setter_sound, method_sound, getter_stays, setter_stays, method_stays}
 use Rattle.swc_ecma_parser_reader.specs.Reader as reader
 use Rattle.swc_ecma_parser_reader.proofs.patterns.Sound as patterns
 use Rattle.swc_ecma_parser_reader.proofs.patterns.Sound.{SoundParams, Unwrapped}
@@ -74,7 +74,7 @@ use Rattle.swc_ecma_parser_reader.proofs.Notes.{or_nil, or_true, notes_nil}
 use Rattle.swc_ecma_parser_reader.proofs.Meets.{Meets, Refuses, meets_then, meets_if, wanted_meets, too_deep_meets, refuse_meets, Turned, loop_answers, saw, meant}
 use Rattle.swc_ecma_parser_reader.proofs.Opens.{import_unnoted, chain_goes, chain_stops}
 use Rattle.swc_ecma_parser_reader.proofs.Between.{Sound, SoundTree, SoundStep, no_faults, same, nil-split, sound_then, sound_more, sound_moved, sound_here, sound_as, sound_held, sound_after, within_sound}
-use Rattle.swc_ecma_parser_reader.proofs.SoundParts.{end_sound, optional_end_sound, Declarators, declarators_sound, inside_sound, variables_sound, code_stays, code_setting, code_module, items_sound, NoLabel, no_label_sound, NoNote, SoundNote, note_sound, and_false, unbroken_sound, uncontinued_sound, misplaced_sound, target_sound, after_return_meets}
+use Rattle.swc_ecma_parser_reader.proofs.SoundParts.{end_sound, optional_end_sound, Declarators, declarators_sound, inside_sound, variables_sound, code_stays, items_sound, NoLabel, no_label_sound, NoNote, SoundNote, note_sound, and_false, unbroken_sound, uncontinued_sound, misplaced_sound, target_sound, after_return_meets}
 
 -- ---- statements
 
@@ -741,20 +741,6 @@ pub method_code : (n : ℕ) (w g : Bool) (start : Span) (key : Tree) (s : State)
     → t.code ≡ s.code
 method_code n w g start key s x t e = meant (λ _ u. u.code ≡ s.code) Refuses (plain_method (stmt n nested_item) (reader.parameters n) w g start key s) (Ok (x, t)) e
     (method_stays (ReadsStmt n) (ReadsParams n) (stmt n nested_item) (stmt_sound n nested_item) (reader.parameters n) (parameters_sound n) w g start key s)
-
--- a body leaves what is a module's as it was, and the labels and the mark
-module _ (n : ℕ) (s : State) (x : Tree) (t : State) (e : braced (stmt n nested_item) true s ≡ Ok (x, t)) where
-  abbrev Body : Tree → State → Type 0
-  Body = SoundBraces (ReadsStmt n) (stmt n nested_item) (stmt_sound n nested_item) true (InBraces (ReadsStmt n) (stmt n nested_item) (stmt_sound n nested_item) true) s.at s
-
-  body_is : Body x t
-  body_is = meant Body Refuses (braced (stmt n nested_item) true s) (Ok (x, t)) e (braces_sound (ReadsStmt n) (stmt n nested_item) (stmt_sound n nested_item) true s)
-
-  pub body_module : t.code.flags.«module» ≡ s.code.flags.«module»
-  body_module = ap (λ k. k.flags.«module») body_is.2.code ∙ code_module s.code true body_is.0
-
-  pub body_setting : t.code.setting ≡ s.code.setting
-  body_setting = ap (λ k. k.setting) body_is.2.code ∙ code_setting s.code true body_is.0
 
 pub clauses_code : (n : ℕ) (s : State) (xs : List Tree) (t : State) → clauses (stmt n nested_item) (expr n expression) s ≡ Ok (xs, t) → t.code ≡ s.code
 clauses_code n s xs t e =

@@ -1,37 +1,23 @@
 -- The reader of expressions, rule by rule: ECMA-262, section 13. What is read one level further in is read by a reader for each
 -- class of expressions.
-use Rattle.std.specs.Prelude.{ℕ, suc, Bool, true, false, not, ◌&&◌, ◌||◌, if◌then◌else◌, nat_le, is_some, List, [], ◌∷◌, ◌++◌, codes, Option, Some, None, Ok}
+use Rattle.std.specs.Prelude.{ℕ, Bool, true, false, ◌&&◌, ◌||◌, if◌then◌else◌, List, [], ◌∷◌, ◌++◌, Option, Some, None, Ok}
 use Rattle.swc_ecma_parser_common.specs.declared.span.Span.{Span}
 use Rattle.swc_ecma_parser_error.specs.Kind as faults
 use Rattle.swc_ecma_parser_error.specs.Kind.{Kind}
 use Rattle.swc_ecma_parser_token.specs.declared.kind.TokenKind.TheVariants as kind
-use Rattle.swc_ecma_parser_token.specs.declared.token.Token.{Token}
-use Rattle.swc_ecma_parser_token.specs.declared.token.Token.TheVariants as token
-use Rattle.swc_ecma_parser_token.specs.declared.token.Word.TheVariants as word
-use Rattle.swc_ecma_parser_token.specs.declared.token.TokenAndSpan.{TokenAndSpan}
-use Rattle.swc_ecma_parser_input.specs.Place.{Place}
-use Rattle.swc_ecma_parser_model.specs.declared.leaves.MetaPropKind.TheVariants as meta
 use Rattle.swc_ecma_parser_model.specs.declared.operators.UnaryOp.{UnaryOp}
 use Rattle.swc_ecma_parser_model.specs.declared.operators.UpdateOp.{UpdateOp}
-use Rattle.swc_ecma_parser_model.specs.declared.operators.BinaryOp.{BinaryOp}
-use Rattle.swc_ecma_parser_model.specs.declared.operators.AssignOp.{AssignOp}
-use Rattle.swc_ecma_parser_model.specs.declared.operators.AssignOp.TheVariants as assign
 use Rattle.swc_ecma_parser_model.specs.Tree as tree
 use Rattle.swc_ecma_parser_model.specs.Tree.{Tree, Text, listed}
-use Rattle.swc_ecma_parser_model.specs.Forms.{is_simple_target, span_of}
-use Rattle.swc_ecma_parser_model.specs.Targets.{as_target}
-use Rattle.swc_ecma_parser_grammar.specs.Looks.{kind_at, breaks_at, sees, span_at}
-use Rattle.swc_ecma_parser_grammar.specs.Names.{Code, is_name, name_at}
-use Rattle.swc_ecma_parser_grammar.specs.Follows.{word_at, is_async_function, continues_left_side}
-use Rattle.swc_ecma_parser_grammar.specs.Reads.{with_in}
+use Rattle.swc_ecma_parser_grammar.specs.Looks.{kind_at, sees, span_at}
+use Rattle.swc_ecma_parser_grammar.specs.Names.{name_at}
+use Rattle.swc_ecma_parser_grammar.specs.Follows.{is_async_function}
 use Rattle.swc_ecma_parser_grammar.specs.language.Goals.{Class, expression, assignment, operator, unary, left_side, callee}
 use Rattle.swc_ecma_parser_grammar.specs.language.Begins.{awaits}
-use Rattle.swc_ecma_parser_grammar.specs.language.Contexts.{may_await}
-use Rattle.swc_ecma_parser_grammar.specs.language.Operators.{unary_operator, update_operator, binary_operator, assign_operator, precedence, groups_left, is_operator, mixes, is_unary}
-use Rattle.swc_ecma_parser_grammar.specs.language.Continues.{continues_conditional}
+use Rattle.swc_ecma_parser_grammar.specs.language.Operators.{unary_operator, update_operator}
 use Rattle.swc_ecma_parser_reader.specs.Yields.{begins_yield, yield_expr}
-use Rattle.swc_ecma_parser_reader.specs.Methods.{MethodForm, FunctionForm, expression_form, property_form, method_words, is_bare}
-use Rattle.swc_ecma_parser_reader.specs.State.{State, Reader, ◌>>=◌, ◌>>◌, pure, span_here, since, skip, moved, note_module_item, within, fault, fault_at, wanted, reject, expect, name, Step, More, Done, loop}
+use Rattle.swc_ecma_parser_reader.specs.Methods.{FunctionForm, expression_form}
+use Rattle.swc_ecma_parser_reader.specs.State.{Reader, ◌>>=◌, ◌>>◌, pure, span_here, since, skip, wanted, Step, More, Done, loop}
 unfoldable pub use Rattle.swc_ecma_parser_reader.specs.Words.{word_by, word_in, any_word, touching_word, private_name, begins_async_call, is_head, heads_arrow}
 pub use Rattle.swc_ecma_parser_reader.specs.Operands.{Cover, Covers}
 unfoldable pub use Rattle.swc_ecma_parser_reader.specs.Operands.{literal_of, literal_in, taken, literal, word_property, token_is_word, first_is_word, is_word_at, key_or, literal_key, shorthand_name, shorthand, dotted, ident_expr, this, meta_fault, import_meta, more, bare_new, closed_left, simple, update_behind, behind_operand, postfix_at, misplaced_await, await_allowed, right_class, read_operator, operator_at, left_operand, unmixed, unassigned, unassignable, unheaded, first_mark, no_covers, with_cover, with_comma, is_literal, done, part_as, whole_of, unmarked, close, target_or, target, goes_on, inside, brackets, access, spread_element, plain_element, element, behind_comma, behind_argument, arguments_turn, arguments, covered, spread_item, plain_item, item, behind_item, array_turn, elements, array, computed_key, key, key_value, initialized, initialized_name, initialized_key, bare_key, behind_key, spread_property, behind_property, method, behind_words, keyed_property, property, object_turn, properties, object, paren, accessed, called, left_turn, left_from, super_call, super_property, super_access, behind_super, super_head, constructed, new_head, import_call, import_head, prefixed, update_before, await_expr, operated, binary_by, binary_turn, binary_from, conditional, assigned_to, assigned, assigned_or, behind_operators, postfixed, continued, closed, assigned_pattern, behind_literal}

@@ -21,17 +21,15 @@ use Rattle.swc_ecma_parser_model.specs.Tree.{Tree, Text, listed}
 use Rattle.swc_ecma_parser_model.specs.Forms.{is_simple_target, span_of}
 use Rattle.swc_ecma_parser_model.specs.Targets.{as_target}
 use Rattle.swc_ecma_parser_grammar.specs.Looks.{kind_at, breaks_at, sees, span_at}
-use Rattle.swc_ecma_parser_grammar.specs.Names.{Code, is_name, name_at}
-use Rattle.swc_ecma_parser_grammar.specs.Follows.{word_at, is_async_function, continues_left_side}
+use Rattle.swc_ecma_parser_grammar.specs.Names.{Code, is_name}
+use Rattle.swc_ecma_parser_grammar.specs.Follows.{word_at, continues_left_side}
 use Rattle.swc_ecma_parser_grammar.specs.Reads.{with_in}
-use Rattle.swc_ecma_parser_grammar.specs.language.Goals.{Class, expression, assignment, operator, unary, left_side, callee}
-use Rattle.swc_ecma_parser_grammar.specs.language.Begins.{awaits}
+use Rattle.swc_ecma_parser_grammar.specs.language.Goals.{Class, expression, assignment, operator, unary, callee}
 use Rattle.swc_ecma_parser_grammar.specs.language.Contexts.{may_await}
-use Rattle.swc_ecma_parser_grammar.specs.language.Operators.{unary_operator, update_operator, binary_operator, assign_operator, precedence, groups_left, is_operator, mixes, is_unary}
+use Rattle.swc_ecma_parser_grammar.specs.language.Operators.{update_operator, binary_operator, assign_operator, precedence, groups_left, is_operator, mixes, is_unary}
 use Rattle.swc_ecma_parser_grammar.specs.language.Continues.{continues_conditional}
 unfoldable pub use Rattle.swc_ecma_parser_reader.specs.Words.{word_by, word_in, any_word, touching_word, private_name, begins_async_call, is_head, heads_arrow}
-use Rattle.swc_ecma_parser_reader.specs.Yields.{begins_yield, yield_expr}
-use Rattle.swc_ecma_parser_reader.specs.Methods.{MethodForm, FunctionForm, expression_form, property_form, method_words, is_bare}
+use Rattle.swc_ecma_parser_reader.specs.Methods.{MethodForm, FunctionForm, property_form, method_words, is_bare}
 use Rattle.swc_ecma_parser_reader.specs.State.{State, Reader, ◌>>=◌, ◌>>◌, pure, span_here, since, skip, moved, note_module_item, within, fault, fault_at, wanted, reject, expect, name, Step, More, Done, loop}
 
 -- ---- literals

@@ -15,7 +15,7 @@ use Rattle.swc_ecma_parser_reader.specs.Methods.{FunctionForm}
 use Rattle.swc_ecma_parser_reader.specs.Yields.{begins_yield}
 use Rattle.swc_ecma_parser_reader.specs.Arrows.{begins_named_arrow}
 use Rattle.swc_ecma_parser_reader.specs.Expressions.{Cover, close, literal, marked_primary, primary, continued, operators_expr, plain_expr, done_expr, cover_expr, assignment_expr, sequence_turn, sequence_from, expression_expr, expr_level}
-use Rattle.swc_ecma_parser_reader.specs.Reader.{expr, cover, function}
+use Rattle.swc_ecma_parser_reader.specs.Reader.{expr, cover}
 use Rattle.swc_ecma_parser_reader.proofs.Meets.{Meets, meets_then, wanted_meets, too_deep_meets, meant, saw}
 use Rattle.swc_ecma_parser_reader.proofs.expressions.CompleteKinds.{close_here, dots_here}
 use Rattle.swc_ecma_parser_reader.proofs.expressions.Covers.{met, plain_operators, operators_at}
