@@ -1,10 +1,10 @@
 //! Faults.
 
+use crate::check::{equals, expect, let_go, note};
 use crate::places::span;
 use std::alloc::{AllocError, Global};
-use std::test::Fail;
 use swc_ecma_parser_common::{Atom, Boxed, Spanned};
-use swc_ecma_parser_error::{Error, PResult, SyntaxError};
+use swc_ecma_parser_error::{Error, SyntaxError};
 
 fn error(kind: SyntaxError) -> Error {
     Error {
@@ -13,84 +13,78 @@ fn error(kind: SyntaxError) -> Error {
     }
 }
 
-/// The text of a fault, and of its kind.
-fn texts(alloc: Global, kind: SyntaxError) -> Result<String, Fail> {
-    let error = error(kind);
-    let kind = &error.kind;
-    Ok(format!(in alloc; "{error}|{kind}")?)
-}
-
-#[test]
-fn a_wanted_token_is_named(rt: HostRuntime) -> Result<(), Fail> {
-    let alloc = rt.alloc();
-    let kind = SyntaxError::Expected(Atom::new(alloc, "from")?, Atom::new(alloc, ",")?);
-    let found = texts(alloc, kind)?;
-    assert_eq!(rt;
-        found.as_str(),
-        "Expected 'from', got ','|Expected 'from', got ','"
-    );
-    Ok(())
-}
-
-#[test]
-fn a_token_that_no_rule_takes_is_named(rt: HostRuntime) -> Result<(), Fail> {
-    let alloc = rt.alloc();
-    let got = Atom::new(alloc, ")")?;
-    let expected = Atom::new(alloc, "an expression")?;
-    let found = texts(alloc, SyntaxError::Unexpected { got, expected })?;
-    let text = "Unexpected token ')'. Expected an expression";
-    let wanted = format!(in alloc; "{text}|{text}")?;
-    assert_eq!(rt; found.as_str(), wanted.as_str());
-    Ok(())
-}
-
-#[test]
-fn a_label_shows_what_it_holds(rt: HostRuntime) -> Result<(), Fail> {
-    let alloc = rt.alloc();
-    let inner = Boxed::new(alloc, error(SyntaxError::ExpectedIdent))?;
+/// A fault that holds one more.
+fn labelled(alloc: Global) -> Result<SyntaxError, AllocError> {
     let note = Atom::new(alloc, "a note")?;
+    let inner = Boxed::new(alloc, error(SyntaxError::ExpectedIdent))?;
     let span = span(0, 1);
-    let found = texts(alloc, SyntaxError::WithLabel { inner, span, note })?;
-    assert_eq!(rt; found.as_str(), "Expected ident|Expected ident");
-    Ok(())
+    Ok(SyntaxError::WithLabel { inner, span, note })
 }
 
-#[test]
-fn a_kind_without_a_text_shows_its_name(rt: HostRuntime) -> Result<(), Fail> {
-    let found = texts(rt.alloc(), SyntaxError::TooDeep)?;
-    assert_eq!(rt; found.as_str(), "TooDeep|TooDeep");
-    Ok(())
+/// A kind of this name.
+fn kind(alloc: Global, name: &str) -> Result<SyntaxError, AllocError> {
+    let kind = match name {
+        "Expected" => SyntaxError::Expected(Atom::new(alloc, "from")?, Atom::new(alloc, ",")?),
+        "Unexpected" => SyntaxError::Unexpected {
+            got: Atom::new(alloc, ")")?,
+            expected: Atom::new(alloc, "an expression")?,
+        },
+        "WithLabel" => labelled(alloc)?,
+        "ExpectedSemiForExprStmt" => SyntaxError::ExpectedSemiForExprStmt { expr: span(0, 1) },
+        _ => SyntaxError::TooDeep,
+    };
+    Ok(kind)
 }
 
-fn has_equal_copies(error: &Error) -> PResult<bool> {
-    let copy = error.try_clone()?;
-    let kind = error.kind().try_clone()?;
-    Ok(copy == *error && kind == error.kind)
+/// Writes the name of a fault and its place, and whether its copy and that of its kind are equal.
+fn write_name(out: &mut String, error: &Error) -> Result<(), AllocError> {
+    let place = (error.span().lo.0, Spanned::span(error).hi.0);
+    let is_copied = equals(error.try_clone(), error);
+    let is_kind_copied = equals(error.kind().try_clone(), &error.kind);
+    note(out, (error.kind().name(), place, is_copied, is_kind_copied))
 }
 
-/// The name of a fault's kind and its place, if its copy and that of its kind are equal.
-fn read(alloc: Global, error: &Error) -> Result<String, Fail> {
-    if !has_equal_copies(error)? {
-        return Err("another fault")?;
+/// Writes what a fault shows, its text and that of its kind.
+fn write_fault(out: &mut String, error: Error) -> Result<(), AllocError> {
+    let named = write_name(out, &error);
+    let kind = &error.kind;
+    let written = writeln!(out, "{error}|{kind}");
+    let_go(error);
+    named?;
+    written
+}
+
+fn write_faults(out: &mut String, alloc: Global) -> Result<(), AllocError> {
+    for name in &[
+        "Expected",
+        "Unexpected",
+        "WithLabel",
+        "TooDeep",
+        "ExpectedSemiForExprStmt",
+    ] {
+        write_fault(out, error(kind(alloc, name)?))?;
     }
-    let low = error.span().lo.0;
-    let high = Spanned::span(error).hi.0;
-    let name = error.kind().name();
-    Ok(format!(in alloc; "{name} {low}..{high}")?)
+    write_fault(out, Error::from(AllocError))
 }
 
-#[test]
-fn faults_are_read_and_copied(rt: HostRuntime) -> Result<(), Fail> {
-    let kind = SyntaxError::ExpectedSemiForExprStmt { expr: span(0, 1) };
-    let error = error(kind);
-    let found = read(rt.alloc(), &error)?;
-    assert_eq!(rt; found.as_str(), "ExpectedSemiForExprStmt 3..4");
-    Ok(())
-}
+// A wanted token is named, and one that no rule takes; a label shows what it holds, and a kind without a text its name.
+const FAULTS: &str = r#"("Expected", (3, 4), Some(true), Some(true))
+Expected 'from', got ','|Expected 'from', got ','
+("Unexpected", (3, 4), Some(true), Some(true))
+Unexpected token ')'. Expected an expression|Unexpected token ')'. Expected an expression
+("WithLabel", (3, 4), Some(true), Some(true))
+Expected ident|Expected ident
+("TooDeep", (3, 4), Some(true), Some(true))
+TooDeep|TooDeep
+("ExpectedSemiForExprStmt", (3, 4), Some(true), Some(true))
+ExpectedSemiForExprStmt|ExpectedSemiForExprStmt
+("OutOfMemory", (0, 0), Some(true), Some(true))
+OutOfMemory|OutOfMemory
+"#;
 
 #[test]
-fn a_want_of_memory_is_a_fault(rt: HostRuntime) -> Result<(), Fail> {
-    let error = Error::from(AllocError);
-    assert_eq!(rt; error.kind().name(), "OutOfMemory");
-    Ok(())
+fn faults_are_read_and_copied(rt: HostRuntime) {
+    let mut out = String::new(rt.alloc());
+    let written = write_faults(&mut out, rt.alloc());
+    expect(&rt, out, written, FAULTS);
 }

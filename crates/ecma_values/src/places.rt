@@ -1,7 +1,7 @@
 //! Positions, spans, texts and what stands at a place.
 
-use std::alloc::Global;
-use std::test::Fail;
+use crate::check::{equals, let_go, shows};
+use std::alloc::{AllocError, Global};
 use swc_ecma_parser_common::{Atom, Boxed, BytePos, Comment, CommentKind, Span, Spanned};
 
 /// The span between two positions.
@@ -10,43 +10,57 @@ pub fn span(low: u32, high: u32) -> Span {
 }
 
 #[test]
-fn positions_are_ordered(rt: HostRuntime) -> Result<(), Fail> {
-    assert!(rt; BytePos(1) < BytePos(2));
-    assert!(rt; BytePos(2) <= BytePos(2));
+fn positions_are_ordered(rt: HostRuntime) {
     let span = Span::new(BytePos(5), BytePos(2));
-    assert_eq!(rt; span.lo(), BytePos(2));
-    assert_eq!(rt; span.hi(), BytePos(5));
-    assert_eq!(rt; span.span(), span);
-    Ok(())
+    let found = [
+        BytePos(1) < BytePos(2),
+        BytePos(2) <= BytePos(2),
+        span.lo() == BytePos(2),
+        span.hi() == BytePos(5),
+        span.span() == span,
+    ];
+    shows(&rt, rt.alloc(), found, "[true, true, true, true, true]\n");
 }
 
-#[test]
-fn texts_are_equal_where_their_characters_are(rt: HostRuntime) -> Result<(), Fail> {
-    let alloc = rt.alloc();
+/// Compares a text with a copy, with an equal text and with another, and its characters with `a`.
+fn compared(alloc: Global, text: &Atom) -> [Option<bool>; 4] {
+    [
+        equals(text.try_clone(), text),
+        equals(Atom::new(alloc, "a"), text),
+        equals(Atom::new(alloc, "b"), text),
+        Some(text.as_str() == "a"),
+    ]
+}
+
+/// Compares a text, and prints it.
+fn texts(alloc: Global) -> Result<([Option<bool>; 4], String), AllocError> {
     let text = Atom::from_string(String::from_str(alloc, "a")?);
-    let copy = text.try_clone()?;
-    assert!(rt; copy == text);
-    assert!(rt; copy == Atom::new(alloc, "a")?);
-    assert!(rt; copy != Atom::new(alloc, "b")?);
-    assert_eq!(rt; copy.as_str(), "a");
-    let printed = format!(in alloc; "{copy}")?;
-    assert_eq!(rt; printed.as_str(), "a");
-    Ok(())
+    let printed = format!(in alloc; "{text}")?;
+    Ok((compared(alloc, &text), printed))
 }
 
 #[test]
-fn boxes_are_equal_where_their_values_are(rt: HostRuntime) -> Result<(), Fail> {
-    let boxed = Boxed::new(rt.alloc(), 5u32)?;
-    let same = Boxed::new(boxed.allocator(), 5u32)?;
-    let other = Boxed::new(rt.alloc(), 6u32)?;
-    assert!(rt; boxed == same);
-    assert!(rt; boxed != other);
-    assert_eq!(rt; *boxed.get(), 5);
-    assert_eq!(rt; other.into_inner(), 6);
-    Ok(())
+fn texts_are_equal_where_their_characters_are(rt: HostRuntime) {
+    let wanted = "Ok(([Some(true), Some(true), Some(false), Some(true)], \"a\"))\n";
+    shows(&rt, rt.alloc(), texts(rt.alloc()), wanted);
 }
 
-fn comment(alloc: Global, kind: CommentKind) -> Result<Comment, Fail> {
+/// Compares a box of 5 with one more and with one of 6, and takes what it holds.
+fn boxes(alloc: Global) -> Result<(Option<bool>, Option<bool>, u32, u32), AllocError> {
+    let boxed = Boxed::new(alloc, 5u32)?;
+    let is_equal = equals(Boxed::new(boxed.allocator(), 5u32), &boxed);
+    let is_other_equal = equals(Boxed::new(alloc, 6u32), &boxed);
+    let held = *boxed.get();
+    Ok((is_equal, is_other_equal, held, boxed.into_inner()))
+}
+
+#[test]
+fn boxes_are_equal_where_their_values_are(rt: HostRuntime) {
+    let wanted = "Ok((Some(true), Some(false), 5, 5))\n";
+    shows(&rt, rt.alloc(), boxes(rt.alloc()), wanted);
+}
+
+fn comment(alloc: Global, kind: CommentKind) -> Result<Comment, AllocError> {
     let text = Atom::new(alloc, " a ")?;
     Ok(Comment {
         kind,
@@ -55,11 +69,19 @@ fn comment(alloc: Global, kind: CommentKind) -> Result<Comment, Fail> {
     })
 }
 
+/// Compares a comment with a copy, and with one of another kind.
+fn comments(alloc: Global) -> Result<[Option<bool>; 2], AllocError> {
+    let block = comment(alloc, CommentKind::Block)?;
+    let found = [
+        equals(block.try_clone(), &block),
+        equals(comment(alloc, CommentKind::Line), &block),
+    ];
+    let_go(block);
+    Ok(found)
+}
+
 #[test]
-fn comments_are_copied(rt: HostRuntime) -> Result<(), Fail> {
-    let block = comment(rt.alloc(), CommentKind::Block)?;
-    let line = comment(rt.alloc(), CommentKind::Line)?;
-    assert!(rt; block.try_clone()? == block);
-    assert!(rt; line != block);
-    Ok(())
+fn comments_are_copied(rt: HostRuntime) {
+    let wanted = "Ok([Some(true), Some(false)])\n";
+    shows(&rt, rt.alloc(), comments(rt.alloc()), wanted);
 }

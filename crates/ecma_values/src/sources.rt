@@ -1,10 +1,10 @@
 //! Lists of tokens as sources, buffers over them, and what a source keeps. What a call finds is written into a text.
 
+use crate::check::{count, expect, found, let_go, made, note, shows};
 use crate::places::span;
 use std::alloc::{AllocError, Global};
-use std::test::Fail;
 use swc_ecma_parser_common::BytePos;
-use swc_ecma_parser_error::{Error, PResult, SyntaxError};
+use swc_ecma_parser_error::{Error, SyntaxError};
 use swc_ecma_parser_input::{
     Buffer, Capturing, Context, EsSyntax, FaultLists, Syntax, Tokens, TokensInput,
     is_out_of_memory, out_of_memory, spans_ordered,
@@ -20,39 +20,39 @@ fn place(token: Token, low: u32, high: u32) -> TokenAndSpan {
 }
 
 /// The tokens of `;{}`, from 5 on.
-fn tokens(alloc: Global) -> Result<Vec<TokenAndSpan>, AllocError> {
-    let mut tokens = Vec::new(alloc);
-    tokens.push(place(Token::Semi, 5, 6))?;
-    tokens.push(place(Token::LBrace, 6, 7))?;
-    tokens.push(place(Token::RBrace, 7, 8))?;
-    Ok(tokens)
+fn put(tokens: &mut Vec<TokenAndSpan>) -> Result<(), AllocError> {
+    made(tokens.push(place(Token::Semi, 5, 6)))?;
+    made(tokens.push(place(Token::LBrace, 6, 7)))?;
+    made(tokens.push(place(Token::RBrace, 7, 8)))
 }
 
 /// A source of them.
-fn list(alloc: Global) -> Result<TokensInput, Fail> {
-    let tokens = tokens(alloc)?;
-    if !spans_ordered(tokens.as_slice()) {
-        return Err("out of order")?;
+fn list(alloc: Global) -> Result<TokensInput, AllocError> {
+    let mut tokens = Vec::new(alloc);
+    let are_put = put(&mut tokens).is_ok();
+    if are_put && spans_ordered(tokens.as_slice()) {
+        let plain = Context::default();
+        return Ok(TokensInput::new(alloc, tokens, plain, Syntax::default()));
     }
-    Ok(TokensInput::new(alloc, tokens, Context::default(), Syntax::default()))
+    let_go(tokens);
+    Err(AllocError)
 }
 
-fn write_token(out: &mut String, found: &TokenAndSpan) -> Result<(), AllocError> {
-    let kind = found.token.kind();
-    let low = found.span.lo.0;
-    let high = found.span.hi.0;
-    write!(out, "{kind:?} {low}..{high} ")
+fn write_token(out: &mut String, found: TokenAndSpan) -> Result<(), AllocError> {
+    let shown = (found.token.kind(), found.span.lo.0, found.span.hi.0);
+    let_go(found);
+    note(out, shown)
 }
 
 /// Writes the kinds and places of the tokens of a source.
 fn write_drawn<I: Tokens>(out: &mut String, source: &mut I) -> Result<(), AllocError> {
     for _ in 0..10 {
         match source.next() {
-            Some(found) => write_token(out, &found)?,
+            Some(token) => write_token(out, token)?,
             None => break,
         }
     }
-    out.push('|')
+    out.push_str("|\n")
 }
 
 fn fault(kind: SyntaxError) -> Error {
@@ -62,78 +62,93 @@ fn fault(kind: SyntaxError) -> Error {
     }
 }
 
-fn write_names(out: &mut String, faults: &[Error]) -> Result<(), AllocError> {
+fn write_each(out: &mut String, faults: &[Error]) -> Result<(), AllocError> {
     for fault in faults {
-        let name = fault.kind.name();
-        write!(out, "{name} ")?;
+        note(out, fault.kind.name())?;
     }
-    out.push('|')
+    out.push_str("|\n")
+}
+
+fn write_names(out: &mut String, faults: Vec<Error>) -> Result<(), AllocError> {
+    let written = write_each(out, faults.as_slice());
+    let_go(faults);
+    written
 }
 
 /// Writes the faults that a source hands out while the code is a script's, and those more once it is a module's.
-fn write_recorded<I: Tokens>(out: &mut String, source: &mut I) -> PResult<()> {
-    source.add_error(fault(SyntaxError::Eof))?;
-    source.add_module_mode_error(fault(SyntaxError::TS1005))?;
-    write_names(out, source.take_errors().as_slice())?;
+fn write_recorded<I: Tokens>(out: &mut String, source: &mut I) -> Result<(), AllocError> {
+    made(source.add_error(fault(SyntaxError::Eof)))?;
+    made(source.add_module_mode_error(fault(SyntaxError::TS1005)))?;
+    write_names(out, source.take_errors())?;
     let mut context = source.ctx();
     context.module = true;
     source.set_ctx(context);
-    source.add_module_mode_error(fault(SyntaxError::TS1009))?;
-    Ok(write_names(out, source.take_errors().as_slice())?)
+    made(source.add_module_mode_error(fault(SyntaxError::TS1009)))?;
+    write_names(out, source.take_errors())
 }
 
-/// Writes what a copy of a source hands out, and then the source.
-fn write_source<I: Tokens>(out: &mut String, source: &mut I) -> PResult<()> {
-    write_drawn(out, &mut source.try_clone()?)?;
+/// Writes where a source starts and whether its settings are plain, what its copy hands out, and then what it does.
+fn write_source<I: Tokens>(out: &mut String, source: &mut I) -> Result<(), AllocError> {
+    let has_no_context = source.ctx() == Context::default();
+    let is_plain = source.syntax() == Syntax::default();
+    note(out, (source.start_pos().0, has_no_context, is_plain))?;
+    let mut copy = made(source.try_clone())?;
+    write_drawn(out, &mut copy)?;
     write_drawn(out, source)?;
     write_recorded(out, source)
 }
 
-const SOURCE: &str = "Semi 5..6 LBrace 6..7 RBrace 7..8 |Semi 5..6 LBrace 6..7 RBrace 7..8 |\
-    Eof |TS1005 TS1009 |";
+const SOURCE: &str = r#"(5, true, true)
+(Semi, 5, 6)
+(LBrace, 6, 7)
+(RBrace, 7, 8)
+|
+(Semi, 5, 6)
+(LBrace, 6, 7)
+(RBrace, 7, 8)
+|
+"Eof"
+|
+"TS1005"
+"TS1009"
+|
+"#;
 
-#[test]
-fn a_list_is_drawn_and_copied(rt: HostRuntime) -> Result<(), Fail> {
-    let mut out = String::new(rt.alloc());
-    let mut source = list(rt.alloc())?;
-    assert_eq!(rt; source.start_pos(), BytePos(5));
-    assert!(rt; source.ctx() == Context::default());
-    assert!(rt; source.syntax() == Syntax::default());
-    write_source(&mut out, &mut source)?;
-    assert_eq!(rt; out.as_str(), SOURCE);
-    Ok(())
-}
-
-/// Writes how many tokens a source has kept, how many it has then, and how many its copy.
-fn write_kept<I: Tokens>(out: &mut String, source: &mut Capturing<I>) -> PResult<()> {
-    let mut copy = source.try_clone()?;
-    let kept = source.take().len();
-    let left = source.take().len();
-    let copied = copy.take().len();
-    Ok(write!(out, "{kept} {left} {copied}")?)
+fn write_list(out: &mut String, alloc: Global) -> Result<(), AllocError> {
+    write_source(out, &mut list(alloc)?)
 }
 
 #[test]
-fn copies_are_kept_of_what_is_drawn(rt: HostRuntime) -> Result<(), Fail> {
+fn a_list_is_drawn_and_copied(rt: HostRuntime) {
     let mut out = String::new(rt.alloc());
-    let mut source = Capturing::new(rt.alloc(), list(rt.alloc())?);
-    assert_eq!(rt; source.start_pos(), BytePos(5));
-    assert!(rt; source.syntax() == Syntax::default());
-    write_source(&mut out, &mut source)?;
-    assert_eq!(rt; out.as_str(), SOURCE);
-    out.clear();
-    write_kept(&mut out, &mut source)?;
-    assert_eq!(rt; out.as_str(), "3 0 3");
-    Ok(())
+    let written = write_list(&mut out, rt.alloc());
+    expect(&rt, out, written, SOURCE);
+}
+
+/// How many tokens a source has kept, how many it has then, and how many its copy.
+fn kept<I: Tokens>(source: &mut Capturing<I>) -> Result<(usize, usize, usize), AllocError> {
+    let mut copy = made(source.try_clone())?;
+    let kept = count(source.take());
+    let left = count(source.take());
+    let copied = count(copy.take());
+    let_go(copy);
+    Ok((kept, left, copied))
+}
+
+#[test]
+fn copies_are_kept_of_what_is_drawn(rt: HostRuntime) {
+    let mut out = String::new(rt.alloc());
+    let mut source = Capturing::new(rt.alloc(), found(&rt, list(rt.alloc())));
+    let written = write_source(&mut out, &mut source);
+    expect(&rt, out, written, SOURCE);
+    shows(&rt, rt.alloc(), kept(&mut source), "Ok((3, 0, 3))\n");
+    let_go(source);
 }
 
 fn write_kind(out: &mut String, token: Option<&TokenAndSpan>) -> Result<(), AllocError> {
     match token {
-        Some(found) => {
-            let kind = found.token.kind();
-            write!(out, "{kind:?} ")
-        }
-        None => out.push_str("None "),
+        Some(token) => note(out, token.token.kind()),
+        None => out.push_str("None\n"),
     }
 }
 
@@ -142,60 +157,84 @@ fn write_ahead<I: Tokens>(out: &mut String, buffer: &Buffer<I>) -> Result<(), Al
     write_kind(out, buffer.cur())?;
     write_kind(out, buffer.peek())?;
     let last = buffer.last_span();
-    let low = last.lo.0;
-    let high = last.hi.0;
-    write!(out, "{low}..{high}|")
+    note(out, (last.lo.0, last.hi.0))
 }
 
 /// Writes what is ahead of a buffer, then one token on, and in a copy.
-fn write_steps<I: Tokens>(out: &mut String, buffer: &mut Buffer<I>) -> PResult<()> {
+fn write_steps<I: Tokens>(out: &mut String, buffer: &mut Buffer<I>) -> Result<(), AllocError> {
+    note(
+        out,
+        (buffer.is_out_of_memory(), buffer.cur_is_out_of_memory()),
+    )?;
     write_ahead(out, buffer)?;
-    let _ = buffer.bump();
+    let_go(buffer.bump());
     write_ahead(out, buffer)?;
-    Ok(write_ahead(out, &buffer.try_clone()?)?)
+    let copy = made(buffer.try_clone())?;
+    let written = write_ahead(out, &copy);
+    let_go(copy);
+    written
 }
 
 #[test]
-fn a_buffer_is_two_tokens_ahead(rt: HostRuntime) -> Result<(), Fail> {
+fn a_buffer_is_two_tokens_ahead(rt: HostRuntime) {
     let mut out = String::new(rt.alloc());
-    let mut buffer = Buffer::new(list(rt.alloc())?);
-    assert!(rt; !buffer.is_out_of_memory());
-    assert!(rt; !buffer.cur_is_out_of_memory());
-    write_steps(&mut out, &mut buffer)?;
-    assert_eq!(rt;
-        out.as_str(),
-        "Semi LBrace 5..5|LBrace RBrace 5..6|LBrace RBrace 5..6|"
-    );
-    Ok(())
+    let mut buffer = Buffer::new(found(&rt, list(rt.alloc())));
+    let written = write_steps(&mut out, &mut buffer);
+    let_go(buffer);
+    let wanted =
+        "(false, false)\nSemi\nLBrace\n(5, 5)\nLBrace\nRBrace\n(5, 6)\nLBrace\nRBrace\n(5, 6)\n";
+    expect(&rt, out, written, wanted);
 }
 
-/// Writes how many faults a buffer hands out, and then.
-fn write_counts<I: Tokens>(out: &mut String, buffer: &mut Buffer<I>) -> PResult<()> {
-    buffer.add_error(fault(SyntaxError::Eof))?;
-    buffer.add_module_mode_error(fault(SyntaxError::TS1005))?;
-    let count = buffer.take_errors().len();
-    let left = buffer.take_errors().len();
-    Ok(write!(out, "{count} {left}")?)
+/// How many faults a buffer hands out, and then.
+fn recorded<I: Tokens>(buffer: &mut Buffer<I>) -> Result<(usize, usize), AllocError> {
+    made(buffer.add_error(fault(SyntaxError::Eof)))?;
+    made(buffer.add_module_mode_error(fault(SyntaxError::TS1005)))?;
+    let found = count(buffer.take_errors());
+    Ok((found, count(buffer.take_errors())))
 }
 
-#[test]
-fn a_buffer_records_faults_and_gives_its_source_back(rt: HostRuntime) -> Result<(), Fail> {
-    let mut out = String::new(rt.alloc());
-    let mut buffer = Buffer::new(list(rt.alloc())?);
-    write_counts(&mut out, &mut buffer)?;
-    assert_eq!(rt; out.as_str(), "1 0");
-    out.clear();
-    let mut context = buffer.ctx();
-    context.strict = true;
+/// Sets the context of a buffer: whether it has it then, whether its syntax is plain, and where it starts.
+fn set<I: Tokens>(buffer: &mut Buffer<I>, context: Context) -> (bool, bool, u32) {
     buffer.set_ctx(context);
-    assert!(rt; buffer.ctx() == context);
-    assert!(rt; buffer.syntax() == Syntax::default());
-    assert_eq!(rt; buffer.start_pos(), BytePos(5));
+    let is_plain = buffer.syntax() == Syntax::default();
+    (buffer.ctx() == context, is_plain, buffer.start_pos().0)
+}
+
+#[test]
+fn a_buffer_records_faults_and_gives_its_source_back(rt: HostRuntime) {
+    let mut out = String::new(rt.alloc());
+    let mut buffer = Buffer::new(found(&rt, list(rt.alloc())));
+    let strict = Context {
+        strict: true,
+        ..buffer.ctx()
+    };
+    let shown = (recorded(&mut buffer), set(&mut buffer, strict));
     let mut source = buffer.into_input();
-    assert!(rt; source.ctx() == context);
-    write_drawn(&mut out, &mut source)?;
-    assert_eq!(rt; out.as_str(), "RBrace 7..8 |");
-    Ok(())
+    let is_kept = source.ctx() == strict;
+    let written = write_drawn(&mut out, &mut source);
+    let_go(source);
+    expect(&rt, out, written, "(RBrace, 7, 8)\n|\n");
+    shows(
+        &rt,
+        rt.alloc(),
+        (shown, is_kept),
+        "((Ok((1, 0)), (true, true, 5)), true)\n",
+    );
+}
+
+#[test]
+fn a_want_of_memory_is_known(rt: HostRuntime) {
+    let error = out_of_memory(span(5, 6));
+    let is_placed = error.span() == span(5, 6);
+    let token = Token::Error(error);
+    let is_known = is_out_of_memory(&token);
+    let_go(token);
+    let semicolon = Token::Semi;
+    let is_other_known = is_out_of_memory(&semicolon);
+    let_go(semicolon);
+    let found = (is_placed, is_known, is_other_known);
+    shows(&rt, rt.alloc(), found, "(true, true, false)\n");
 }
 
 /// How many faults a list hands out, and how many its copy does once the code is a module's.
@@ -204,37 +243,33 @@ fn counts(lists: &mut FaultLists) -> Result<(usize, usize), AllocError> {
     lists.hold_back(fault(SyntaxError::TS1005))?;
     let mut copy = lists.try_clone()?;
     copy.release();
-    Ok((lists.take().len(), copy.take().len()))
+    let copied = count(copy.take());
+    let_go(copy);
+    Ok((count(lists.take()), copied))
 }
 
 #[test]
-fn lists_of_faults_are_copied(rt: HostRuntime) -> Result<(), Fail> {
-    assert_eq!(rt; counts(&mut FaultLists::new(rt.alloc()))?, (1, 2));
-    Ok(())
+fn lists_of_faults_are_copied(rt: HostRuntime) {
+    let mut lists = FaultLists::new(rt.alloc());
+    shows(&rt, rt.alloc(), counts(&mut lists), "Ok((1, 2))\n");
+    let_go(lists);
 }
 
 #[test]
-fn a_want_of_memory_is_known(rt: HostRuntime) -> Result<(), Fail> {
-    let error = out_of_memory(span(5, 6));
-    assert!(rt; error.span() == span(5, 6));
-    assert!(rt; is_out_of_memory(&Token::Error(error)));
-    assert!(rt; !is_out_of_memory(&Token::Semi));
-    Ok(())
-}
-
-#[test]
-fn settings_compare(rt: HostRuntime) -> Result<(), Fail> {
+fn settings_compare(rt: HostRuntime) {
     let plain = EsSyntax::default();
     let decorated = EsSyntax {
         decorators: true,
         ..plain
     };
-    assert!(rt; Syntax::default().es() == plain);
-    assert!(rt; Syntax::Es(decorated) != Syntax::default());
     let strict = Context {
         strict: true,
         ..Context::default()
     };
-    assert!(rt; strict != Context::default());
-    Ok(())
+    let found = [
+        Syntax::default().es() == plain,
+        Syntax::Es(decorated) != Syntax::default(),
+        strict != Context::default(),
+    ];
+    shows(&rt, rt.alloc(), found, "[true, true, true]\n");
 }

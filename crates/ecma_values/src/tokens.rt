@@ -1,18 +1,18 @@
 //! Words, operators and tokens.
 
+use crate::check::{equals, expect, let_go, note, shows};
 use crate::places::span;
 use std::alloc::{AllocError, Global};
-use std::test::Fail;
 use swc_ecma_parser_common::{Atom, Spanned};
 use swc_ecma_parser_error::{Error, SyntaxError};
-use swc_ecma_parser_token::{AssignOp, BinOpToken, Keyword, Token, TokenAndSpan, TokenKind, Word};
+use swc_ecma_parser_token::{AssignOp, BinOpToken, Keyword, Token, TokenAndSpan, Word};
 
 fn text(alloc: Global) -> Result<Atom, AllocError> {
     Atom::new(alloc, "a")
 }
 
 /// A word of this kind.
-fn word(alloc: Global, kind: &str) -> Result<Word, Fail> {
+fn word(alloc: Global, kind: &str) -> Result<Word, AllocError> {
     let word = match kind {
         "InstanceOf" => Word::Keyword(Keyword::InstanceOf),
         "Null" => Word::Null,
@@ -23,59 +23,48 @@ fn word(alloc: Global, kind: &str) -> Result<Word, Fail> {
     Ok(word)
 }
 
-/// The kind of a word and how it is written, if its copy is equal.
-fn word_text(alloc: Global, word: &Word) -> Result<String, Fail> {
-    let copy = word.try_clone()?;
-    if copy != *word {
-        return Err("another word")?;
-    }
-    let kind = word.kind();
-    let text = copy.as_str();
-    Ok(format!(in alloc; "{kind:?} {text}")?)
+/// Writes the kind of a word, how it is written, and whether its copy is equal.
+fn write_word(out: &mut String, word: Word) -> Result<(), AllocError> {
+    let is_copied = equals(word.try_clone(), &word);
+    let written = note(out, (word.kind(), word.as_str(), is_copied));
+    let_go(word);
+    written
 }
 
-/// The same of a word of this kind.
-fn text_of(alloc: Global, kind: &str) -> Result<String, Fail> {
-    let word = word(alloc, kind)?;
-    word_text(alloc, &word)
-}
-
-#[test]
-fn words_are_read_and_copied(rt: HostRuntime) -> Result<(), Fail> {
-    let alloc = rt.alloc();
-    for (kind, wanted) in [
-        ("InstanceOf", "InstanceOf instanceof"),
-        ("Null", "Null null"),
-        ("True", "True true"),
-        ("False", "False false"),
-        ("Ident", "Ident a"),
-    ] {
-        let found = text_of(alloc, kind)?;
-        assert_eq!(rt; found.as_str(), wanted);
+fn write_words(out: &mut String, alloc: Global) -> Result<(), AllocError> {
+    for kind in &["InstanceOf", "Null", "True", "False", "Ident"] {
+        write_word(out, word(alloc, kind)?)?;
     }
     Ok(())
 }
 
-/// The kinds of a keyword and of two operators, and how they are written.
-fn operators(alloc: Global) -> Result<String, AllocError> {
+const WORDS: &str = r#"(InstanceOf, "instanceof", Some(true))
+(Null, "null", Some(true))
+(True, "true", Some(true))
+(False, "false", Some(true))
+(Ident, "a", Some(true))
+"#;
+
+#[test]
+fn words_are_read_and_copied(rt: HostRuntime) {
+    let mut out = String::new(rt.alloc());
+    let written = write_words(&mut out, rt.alloc());
+    expect(&rt, out, written, WORDS);
+}
+
+#[test]
+fn operators_are_read(rt: HostRuntime) {
     let keyword = Keyword::TypeOf;
-    let (first, first_text) = (keyword.kind(), keyword.as_str());
     let operator = BinOpToken::Exp;
-    let (second, second_text) = (operator.kind(), operator.as_str());
     let assignment = AssignOp::NullishAssign;
-    let (third, third_text) = (assignment.kind(), assignment.as_str());
-    format!(in alloc; "{first:?} {first_text} {second:?} {second_text} {third:?} {third_text}")
-}
-
-#[test]
-fn operators_are_read(rt: HostRuntime) -> Result<(), Fail> {
-    let found = operators(rt.alloc())?;
-    assert_eq!(rt; found.as_str(), "TypeOf typeof Exp ** NullishAssign ??=");
-    Ok(())
+    let kinds = (keyword.kind(), operator.kind(), assignment.kind());
+    let texts = (keyword.as_str(), operator.as_str(), assignment.as_str());
+    let wanted = "((TypeOf, Exp, NullishAssign), (\"typeof\", \"**\", \"??=\"))\n";
+    shows(&rt, rt.alloc(), (kinds, texts), wanted);
 }
 
 /// A token of this kind.
-fn token(alloc: Global, kind: &str) -> Result<Token, Fail> {
+fn token(alloc: Global, kind: &str) -> Result<Token, AllocError> {
     let token = match kind {
         "Null" => Token::Word(Word::Null),
         "Lt" => Token::BinOp(BinOpToken::Lt),
@@ -96,43 +85,54 @@ fn token(alloc: Global, kind: &str) -> Result<Token, Fail> {
     Ok(token)
 }
 
-/// The kind of a token, if its copy is equal.
-fn kind(token: &Token) -> Result<TokenKind, Fail> {
-    let copy = token.try_clone()?;
-    if copy != *token {
-        return Err("another token")?;
-    }
-    Ok(copy.kind())
+/// Writes the kind of a token, and whether its copy is equal.
+fn write_token(out: &mut String, token: Token) -> Result<(), AllocError> {
+    let found = (token.kind(), equals(token.try_clone(), &token));
+    let_go(token);
+    note(out, found)
 }
 
-/// The kind of a token that is made of this kind.
-fn kind_of(alloc: Global, wanted: &str) -> Result<String, Fail> {
-    let token = token(alloc, wanted)?;
-    let kind = kind(&token)?;
-    Ok(format!(in alloc; "{kind:?}")?)
-}
-
-#[test]
-fn tokens_are_read_and_copied(rt: HostRuntime) -> Result<(), Fail> {
-    let alloc = rt.alloc();
-    for wanted in [
+fn write_tokens(out: &mut String, alloc: Global) -> Result<(), AllocError> {
+    for kind in &[
         "Null", "Lt", "Assign", "Str", "Num", "BigInt", "Shebang", "Error", "Arrow",
     ] {
-        let found = kind_of(alloc, wanted)?;
-        assert_eq!(rt; found.as_str(), wanted);
+        write_token(out, token(alloc, kind)?)?;
     }
     Ok(())
 }
 
+const TOKENS: &str = "(Null, Some(true))
+(Lt, Some(true))
+(Assign, Some(true))
+(Str, Some(true))
+(Num, Some(true))
+(BigInt, Some(true))
+(Shebang, Some(true))
+(Error, Some(true))
+(Arrow, Some(true))
+";
+
 #[test]
-fn tokens_with_places_are_copied(rt: HostRuntime) -> Result<(), Fail> {
+fn tokens_are_read_and_copied(rt: HostRuntime) {
+    let mut out = String::new(rt.alloc());
+    let written = write_tokens(&mut out, rt.alloc());
+    expect(&rt, out, written, TOKENS);
+}
+
+/// Whether a token with its place is equal to its copy, and where it stands.
+fn placed() -> (Option<bool>, bool) {
     let token = TokenAndSpan {
         token: Token::Semi,
         had_line_break: true,
         span: span(2, 3),
     };
-    let copy = token.try_clone()?;
-    assert!(rt; copy == token);
-    assert_eq!(rt; copy.span(), span(2, 3));
-    Ok(())
+    let is_copied = equals(token.try_clone(), &token);
+    let is_placed = token.span() == span(2, 3);
+    let_go(token);
+    (is_copied, is_placed)
+}
+
+#[test]
+fn tokens_with_places_are_copied(rt: HostRuntime) {
+    shows(&rt, rt.alloc(), placed(), "(Some(true), true)\n");
 }
