@@ -6,8 +6,6 @@ mod arrows;
 #[cfg(test)]
 mod awaits;
 #[cfg(test)]
-mod check;
-#[cfg(test)]
 mod declarations;
 #[cfg(test)]
 mod deep;

@@ -11,7 +11,6 @@ ghost use Rattle.swc_ecma_parser_grammar.specs.language.Begins as begins;
 ghost use Rattle.swc_ecma_parser_model.specs.Tree.{Tree};
 ghost use Rattle.swc_ecma_parser_model.specs.declared.leaves.Ident.{Ident};
 ghost use Rattle.swc_ecma_parser_input.specs.Place as place;
-ghost use Rattle.swc_ecma_parser_reader.specs.AsyncArrows as async_arrows;
 ghost use Rattle.swc_ecma_parser_reader.specs.Expressions as exprs;
 ghost use Rattle.swc_ecma_parser_reader.specs.Methods as methods;
 ghost use Rattle.swc_ecma_parser_reader.specs.Reader as rules;
@@ -147,10 +146,6 @@ pub trait Source {
     /// Whether `async` and its arguments stand here on one line.
     fn begins_async_call(&self) -> bool
         ensures { result ≡ exprs.begins_async_call (seen self.now).at };
-
-    /// Whether `async` and a name stand here on one line.
-    fn begins_async_arrow(&self) -> bool
-        ensures { result ≡ async_arrows.begins_async_arrow (seen self.now).code.flags (seen self.now).at };
 
     /// The look-ahead of an expression statement.
     fn may_begin_expression_statement(&self, at: Position) -> bool

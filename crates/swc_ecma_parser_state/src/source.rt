@@ -117,10 +117,6 @@ impl<I: Tokens> Source for State<I> {
         State::begins_async_call(self)
     }
 
-    fn begins_async_arrow(&self) -> bool {
-        State::begins_async_arrow(self)
-    }
-
     fn may_begin_expression_statement(&self, at: Position) -> bool {
         State::may_begin_expression_statement(self, at)
     }
