@@ -59,7 +59,7 @@ for (a of b in c) d → Script 0..19, ForOf 0..19 → BinExpr 10..16
 for (var a, b of c) ; → Script 0..21, ForOf 0..21, fault 12..13 TooManyVarInForInHead
 for (var i = 0 of {}) ; → Script 0..23, ForOf 0..23, fault 9..10 VarInitializerInForInHead
 for (a of b, c) d → refused 11..12 Expected
-for (async of a) b → refused 11..13 Unexpected
+for (async of a) b → refused 14..15 Unexpected
 for (let of a) b → refused 12..13 Expected
 for (f() of a) ; → refused 5..8 InvalidPat
 for (a = 1 of b) ; → refused 5..10 InvalidPat
@@ -81,7 +81,7 @@ for await (a in b) { → fault 19..20 Expected, refused 4..9 AwaitForStmt
 for await (a in b → refused 16..17 Expected
 for await (a of b, c) ; → refused 17..18 Expected
 for await (let of a) b → refused 18..19 Expected
-for await (async of a) b → refused 17..19 Unexpected
+for await (async of a) b → refused 20..21 Unexpected
 for await (async¶of a) b → refused 17..19 Unexpected
 for await a → refused 10..11 Expected";
 

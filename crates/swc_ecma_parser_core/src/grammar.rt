@@ -68,7 +68,7 @@ pub fn expr<P: Source, T: BuildsStatements>(
 
 /// A pattern in so many levels.
 #[cycle(knot)]
-fn pat<P: Source, T: BuildsStatements>(
+pub fn pat<P: Source, T: BuildsStatements>(
     t: &MakerOf<T>,
     p: &mut P,
     depth: usize,

@@ -30,6 +30,7 @@ use Rattle.swc_ecma_parser_reader.specs.Methods.{FunctionForm, expression_form, 
 use Rattle.swc_ecma_parser_reader.specs.Jumps.{told}
 use Rattle.swc_ecma_parser_reader.specs.Yields.{begins_yield, bare_yield, yielded, behind_yield, yield_expr}
 use Rattle.swc_ecma_parser_reader.specs.Arrows.{begins_named_arrow, Group, may_stand_alone, closed_parts, closed_group, parameters_of, arrow_body, arrow_from, named_arrow, group, grouped}
+use Rattle.swc_ecma_parser_reader.specs.AsyncArrows.{closed_arguments, argument_parameters, async_called, either_arguments, begins_async_arrow, async_named_arrow, async_grouped}
 use Rattle.swc_ecma_parser_reader.specs.Expressions.{Cover, begins_async_call, literal, literal_in, literal_of, taken, ident_expr, this, meta_fault, import_meta, bare_new, simple, update_behind, behind_operand, postfix_at, await_allowed, right_class, operator_at, left_operand, unmixed, unassigned, unheaded, heads_arrow, unmarked, close, target, goes_on, inside, access, arguments, elements, array, properties, object, paren, accessed, called, left_turn, left_from, super_call, super_property, super_access, behind_super, super_head, constructed, new_head, import_call, import_head, prefixed, update_before, await_expr, operated, binary_by, binary_turn, binary_from, conditional, assigned_to, assigned, assigned_or, behind_operators, postfixed, continued, closed, assigned_pattern, behind_literal, open_literal, marked_primary, literal_or, named_expr, primary, left_head, left, postfix, updated, unary_by, unary_expr, binary_expr, operators_expr, plain_expr, done_expr, cover_expr, assignment_expr, expr_level}
 use Rattle.swc_ecma_parser_reader.specs.Reader.{expr, cover, function, function_by, function_word, own_name, function_parts, function_expr, stmt, parameters, pattern}
 use Rattle.swc_ecma_parser_reader.proofs.Meets.{Meets, Refuses, meets_then, meets_if, meant, wanted_meets, refuse_meets, too_deep_meets, Turned, loop_answers}
@@ -268,12 +269,26 @@ module _ (inner : Class → Reader Tree) (covers : Reader Cover) where
         (λ _. always NoBlock (parameters_of g.parts g.rest t) _ (λ ps u. arrow_no_block false (span_at s.at) ps u))
         (λ _. meets_then _ (closed_group (span_at s.at) g t) _ (closed_group_no_block (span_at s.at) g t) (λ x u h. continued_no_block (span_at s.at) x u h)))
 
+    -- behind `async` the same
+    async_named_no_block : (s : State) → Meets NoBlock (async_named_arrow inner function s)
+    unfolding async_named_arrow
+    async_named_no_block s = always NoBlock (function parameter_form (moved s)) _ (λ p t. meets_if NoBlock (sees kind.Arrow t.at) _ _
+        (λ _. arrow_no_block true (span_at s.at) (p ∷ []) t) (λ _. wanted_meets NoBlock faults.Unexpected t))
+
+    async_grouped_no_block : (s : State) → Meets NoBlock (async_grouped inner function covers s)
+    unfolding async_grouped async_called
+    async_grouped_no_block s = always NoBlock (ident_expr s) _ (λ x t. always NoBlock (either_arguments inner covers t) _ (λ found u. meets_if NoBlock (sees kind.Arrow u.at) _ _
+        (λ _. always NoBlock (argument_parameters found u) _ (λ ps v. arrow_no_block true (span_at s.at) ps v))
+        (λ _. meets_then _ (async_called (span_at s.at) x found u) _ (always NoBlock (closed_arguments found u) _ (λ xs v b. refl)) (λ y v h. continued_no_block (span_at s.at) y v h))))
+
     plain_no_block : (s : State) → Meets NoBlock (plain_expr inner covers function s)
     unfolding plain_expr named_arrow
     plain_no_block s = meets_if NoBlock (begins_yield s.code.flags s.at) _ _ (λ _. yield_no_block s)
         (λ _. meets_if NoBlock (begins_named_arrow s.code.flags s.at) _ _
         (λ _. always NoBlock (function parameter_form s) _ (λ p t. arrow_no_block false (span_at s.at) (p ∷ []) t))
-        (λ _. meets_if NoBlock (sees kind.LParen s.at) _ _ (λ _. grouped_no_block s) (λ _. operators_no_block s)))
+        (λ _. meets_if NoBlock (sees kind.LParen s.at) _ _ (λ _. grouped_no_block s)
+        (λ _. meets_if NoBlock (begins_async_arrow s.code.flags s.at) _ _ (λ _. async_named_no_block s)
+        (λ _. meets_if NoBlock (begins_async_call s.at) _ _ (λ _. async_grouped_no_block s) (λ _. operators_no_block s)))))
 
     cover_no_block : (s : State) → Meets NoBlockIn (cover_expr inner covers function s)
     unfolding cover_expr open_literal done_expr

@@ -1,4 +1,4 @@
-//! Arrow functions, from behind their parameters: ECMA-262, section 15.3.
+//! Arrow functions, from behind their parameters: ECMA-262, sections 15.3 and 15.9.
 
 ghost use Rattle.std.specs.Prelude.{◌≡◌, true, false, [], map, IfOk};
 ghost use Rattle.swc_ecma_parser_functions.specs.Arrows.{body_of, directive_of};
@@ -10,6 +10,7 @@ ghost use Rattle.swc_ecma_parser_inner.specs.Nests.{Nests};
 ghost use Rattle.swc_ecma_parser_model.specs.Forms as forms;
 ghost use Rattle.swc_ecma_parser_model.specs.Tree as tree;
 ghost use Rattle.swc_ecma_parser_reader.specs.Arrows as arrows;
+ghost use Rattle.swc_ecma_parser_reader.specs.AsyncArrows as async_arrows;
 ghost use Rattle.swc_ecma_parser_reader.specs.Methods.{block_form};
 ghost use Rattle.swc_ecma_parser_reader.specs.Reader as rules;
 ghost use Rattle.swc_ecma_parser_reader.specs.State.{GivesAs, enclosed, within};
@@ -23,7 +24,7 @@ use swc_ecma_parser_inner::cover::{Cover, Reading, nested};
 use swc_ecma_parser_inner::grammar::{Grammar, Part};
 use swc_ecma_parser_inner::steps::{grown, pushed, since};
 use swc_ecma_parser_input::Context;
-use swc_ecma_parser_source::Source;
+use swc_ecma_parser_source::{Source, Wanted};
 use swc_ecma_parser_token::TokenKind;
 use swc_ecma_parser_trees::{BuildsFunction, BuildsPattern, MakerOf};
 
@@ -203,4 +204,27 @@ pub fn named_arrow<
     let mut params = Vec::new(t.alloc);
     pushed(p, &mut params, param)?;
     arrow_from(g, t, p, false, start, params)
+}
+
+/// An async arrow function whose only parameter is a name with no parentheses, on the line of `async`.
+#[tactic(auto, unfolding(swc_ecma_parser_reader::specs::Reader::function, swc_ecma_parser_reader::specs::Reader::function_by, swc_ecma_parser_reader::specs::AsyncArrows::async_named_arrow))]
+pub fn async_named_arrow<
+    P: Source,
+    T: BuildsFunction + BuildsPattern,
+    S: Fn(&MakerOf<T>, &mut P, usize, Position) -> PResult<T::Stmt>,
+    E: Fn(&MakerOf<T>, &mut P, usize, Reading) -> PResult<Cover<T::Expr>>,
+    N: Fn(&MakerOf<T>, &mut P, usize, Part) -> PResult<T::Pat>,
+>(g: &Grammar<S, E, N>, t: &MakerOf<T>, p: &mut P) -> PResult<T::Expr>
+    requires { Nests P.seen T.expr_of T.pat_of T.stmt_of g.now.depth (S.pre g.now.stmt) (S.post g.now.stmt) (E.pre g.now.expr) (E.post g.now.expr) (N.pre g.now.pat) (N.post g.now.pat) }
+    ensures { GivesAs T.expr_of (async_arrows.async_named_arrow (rules.expr g.now.depth) (rules.function g.now.depth) (P.seen p.old)) result (P.seen p.new) }
+{
+    let start = p.span();
+    p.skip()?;
+    let param = (g.pat)(t, p, g.depth, Part::Pattern)?;
+    if !p.sees(TokenKind::Arrow) {
+        return Err(p.wanted(Wanted::Expression));
+    }
+    let mut params = Vec::new(t.alloc);
+    pushed(p, &mut params, param)?;
+    arrow_from(g, t, p, true, start, params)
 }

@@ -243,7 +243,7 @@ pub(crate) fn misdirected<P: Source>(
 
 /// The words that begin a function, and whether `async` is one of them.
 #[tactic(auto, unfolding(swc_ecma_parser_reader::specs::Reader::function_word))]
-fn function_word<P: Source>(p: &mut P) -> PResult<bool>
+pub fn function_word<P: Source>(p: &mut P) -> PResult<bool>
     ensures { Gives (rules.function_word (P.seen p.old)) result (P.seen p.new) }
 {
     let is_async = p.is_async_function();
@@ -256,7 +256,7 @@ fn function_word<P: Source>(p: &mut P) -> PResult<bool>
 
 /// The `*` of a generator, if one stands here.
 #[tactic(auto, unfolding(swc_ecma_parser_reader::specs::Methods::star))]
-pub(crate) fn star<P: Source>(p: &mut P) -> PResult<bool>
+pub fn star<P: Source>(p: &mut P) -> PResult<bool>
     ensures { Gives (methods.star (P.seen p.old)) result (P.seen p.new) }
 {
     if !p.sees(TokenKind::Mul) {
@@ -268,7 +268,7 @@ pub(crate) fn star<P: Source>(p: &mut P) -> PResult<bool>
 
 /// A function, from behind its name.
 #[tactic(auto, unfolding(swc_ecma_parser_reader::specs::Reader::function_parts, swc_ecma_parser_reader::specs::Reader::misdirected))]
-pub(crate) fn function_parts<
+pub fn function_parts<
     P: Source,
     T: BuildsFunction + BuildsPattern,
     S: Fn(&MakerOf<T>, &mut P, usize, Position) -> PResult<T::Stmt>,

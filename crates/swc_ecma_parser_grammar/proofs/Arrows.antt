@@ -53,18 +53,13 @@ module _ (n : ℕ) (k : Code) (a : Bool) (x : Tree) (c d : Place) where
 
 -- ---- what is supported
 
--- an arrow function that is not async, whose parameters and body are supported, whose body does not turn parameters strict that
--- are not all plain names, and has no notes in module code
-pub record SupportedArrow (m : Bool) (params body : Tree) (is_async : Bool) : Type 0 where
-  pub is_plain : is_async ≡ false
+-- an arrow function whose parameters and body are supported, whose body does not turn parameters strict that are not all plain
+-- names, and has no notes in module code
+pub record SupportedArrow (m : Bool) (params body : Tree) : Type 0 where
   pub supports_params : supported_in m params ≡ true
   pub supports_body : supported_in m body ≡ true
   pub directs : misplaced_directive (has_plain_params params) body ≡ []
   pub has_no_notes : m ≡ true → notes body ≡ []
-
-untrue : (a : Bool) → not a ≡ true → a ≡ false
-untrue true h = cc
-untrue false h = refl
 
 -- what is tested of notes in module code
 untested : (m : Bool) (es : List Fault) → (not m || is_clean es) ≡ true → m ≡ true → es ≡ []
@@ -75,16 +70,14 @@ tested : (m : Bool) (es : List Fault) → (m ≡ true → es ≡ []) → (not m 
 tested true es q = ap is_clean (q refl)
 tested false es q = refl
 
-pub arrow_parts : (m : Bool) (s : Span) (params body : Tree) (is_async : Bool) → supported_in m (tree.arrow s params body is_async) ≡ true → SupportedArrow m params body is_async
+pub arrow_parts : (m : Bool) (s : Span) (params body : Tree) (is_async : Bool) → supported_in m (tree.arrow s params body is_async) ≡ true → SupportedArrow m params body
 arrow_parts m s params body is_async h =
-    let g = and_yes (not is_async) _ h in
-    let f = and_yes (supported_in m params && supported_in m body) _ g.1 in
+    let f = and_yes (supported_in m params && supported_in m body) _ h in
     let p = and_yes (supported_in m params) _ f.0 in
     let i = and_yes (is_rightly_headed params body) _ f.1 in
-    record { is_plain = untrue is_async g.0; supports_params = p.0; supports_body = p.1; directs = clean_is _ i.0; has_no_notes = untested m (notes body) i.1 }
+    record { supports_params = p.0; supports_body = p.1; directs = clean_is _ i.0; has_no_notes = untested m (notes body) i.1 }
 
-pub arrow_supported : (m : Bool) (s : Span) (params body : Tree) (is_async : Bool) → SupportedArrow m params body is_async → supported_in m (tree.arrow s params body is_async) ≡ true
+pub arrow_supported : (m : Bool) (s : Span) (params body : Tree) (is_async : Bool) → SupportedArrow m params body → supported_in m (tree.arrow s params body is_async) ≡ true
 arrow_supported m s params body is_async r =
-    and_both (not is_async) _ (ap not r.is_plain)
-    (and_both (supported_in m params && supported_in m body) _ (and_both (supported_in m params) _ r.supports_params r.supports_body)
-    (and_both (is_rightly_headed params body) _ (ap is_clean r.directs) (tested m (notes body) r.has_no_notes)))
+    and_both (supported_in m params && supported_in m body) _ (and_both (supported_in m params) _ r.supports_params r.supports_body)
+    (and_both (is_rightly_headed params body) _ (ap is_clean r.directs) (tested m (notes body) r.has_no_notes))

@@ -225,6 +225,11 @@ pub element_no_rest : (n : ℕ) (p : Purpose) (k : Code) (x : Tree) (c d : Place
 element_no_rest zero p k x c d r = absurd r
 element_no_rest (suc n) p k x c d r = element_is_none r
 
+-- one parameter as it would be assigned to
+pub item_down : (n : ℕ) (m : Bool) (k : Code) (x : Tree) (c d : Place) → PatternItemRule (Reads n) binding k x c d → supported_in m x ≡ true
+    → PatternItemRule (Reads n) assigning k x c d × (binds x ≡ true)
+item_down n m k x c d r h = item_rule_down (Reads n) m (down n m) (element_down n m) k x c d r h
+
 -- one parameter, and back
 pub parameter_down : (n : ℕ) (m : Bool) (k : Code) (x : Tree) (c d : Place) → PatternItemRule (Reads n) binding k x c d → supported_in m x ≡ true → ArrowPartRule (Reads n) k x c d
 parameter_down n m k x c d (functions.element_rule r) h =

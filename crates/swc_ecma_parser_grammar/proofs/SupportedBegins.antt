@@ -225,7 +225,7 @@ abbrev NameOpens : (In : Goal → Type 0) → Code → Type 0
 NameOpens In k = (p : Tree) (c d : Place) → In (pattern_goal binding k p c d) → is_binding_name p ≡ true → supported_in k.flags.module p ≡ true → opens (kind_at c) ≡ true
 
 module _ (In : Goal → Type 0) (k : Code) (small : NameOpens In k) where
-  -- an arrow that is not async begins with its name or with `(`
+  -- an arrow begins with its name or with `(`, or with `async` before them
   arrow_head_opens : (ps : List Tree) (c d : Place) → expressions.ArrowHeadRule In k ps c d → supported_in k.flags.module (listed ps) ≡ true → opens (kind_at c) ≡ true
   arrow_head_opens ps c d (expressions.name_head p r i e) h =
       small p c d r i (and_yes (supported_in k.flags.module p) _ (supported_as _ (listed ps) (listed (p ∷ [])) (ap listed e) h)).0
@@ -234,10 +234,9 @@ module _ (In : Goal → Type 0) (k : Code) (small : NameOpens In k) where
   arrow_opens : (a : Bool) (ps : List Tree) (y : Tree) (s : Span) (c i j : Place) → follows.AsyncWord a c i → expressions.ArrowHeadRule In k ps i j
       → supported_in k.flags.module (tree.arrow s (listed ps) y a) ≡ true → opens (kind_at c) ≡ true
   arrow_opens a ps y s c i j (follows.not_async e g) r h =
-      let f = (and_yes (not a) _ h).1 in
-      let l = (and_yes (supported_in k.flags.module (listed ps) && supported_in k.flags.module y) _ f).0 in
+      let l = (and_yes (supported_in k.flags.module (listed ps) && supported_in k.flags.module y) _ h).0 in
       ap (λ p. opens (kind_at p)) (sym g) ∙ arrow_head_opens ps i j r (and_yes (supported_in k.flags.module (listed ps)) _ l).0
-  arrow_opens a ps y s c i j (follows.async_word e w g b) r h = cc
+  arrow_opens a ps y s c i j (follows.async_word e w g b) r h = kind_opens c kind.Ident (word_place (codes "async") c w) refl
 
   assignment_opens : (x : Tree) (c d : Place) → expressions.AssignmentRule In k x c d → supported_in k.flags.module x ≡ true → opens (kind_at c) ≡ true
   assignment_opens x c d (expressions.operators_rule r s) h = binary_opens In k r h

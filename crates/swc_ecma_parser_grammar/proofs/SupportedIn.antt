@@ -91,7 +91,7 @@ mutual
   lower m (tree.function s decorators params body is_async is_generator) h = let i = and_yes (has_none decorators) _ h in and_both _ _ i.0 (let j = and_yes (supported_in m params) _ i.1 in and_both _ _ (lower m params j.0) (lower m body j.1))
   lower m (tree.param s decorators p) h = let g = and_yes (has_none decorators) _ h in and_both _ _ g.0 (lower m p g.1)
   lower m (tree.fn_expr s name fn) h = let g = and_yes (supported_in m name) _ h in and_both _ _ (lower m name g.0) (let h = and_yes (supported_in m fn) _ g.1 in and_both _ _ (lower m fn h.0) (let i = and_yes (is_rightly_directed fn) _ h.1 in and_both _ _ i.0 refl))
-  lower m (tree.arrow s params body is_async) h = let g = and_yes (not is_async) _ h in and_both _ _ g.0 (let i = and_yes (supported_in m params && supported_in m body) _ g.1 in let j = and_yes (supported_in m params) _ i.0 in and_both _ _ (and_both _ _ (lower m params j.0) (lower m body j.1)) (let l = and_yes (is_rightly_headed params body) _ i.1 in and_both _ _ l.0 refl))
+  lower m (tree.arrow s params body is_async) h = let i = and_yes (supported_in m params && supported_in m body) _ h in let j = and_yes (supported_in m params) _ i.0 in and_both _ _ (and_both _ _ (lower m params j.0) (lower m body j.1)) (let l = and_yes (is_rightly_headed params body) _ i.1 in and_both _ _ l.0 refl)
   lower m (tree.script s body shebang) h = lower m body h
   lower m _ h = h
 
@@ -184,7 +184,7 @@ mutual
   lift (tree.function s decorators params body is_async is_generator) h o = let i = and_yes (has_none decorators) _ h in and_both _ _ i.0 (let j = and_yes (supported_in false params) _ i.1 in and_both _ _ (lift params j.0 ((parted (notes decorators) (notes params) (parted (notes decorators ++ notes params) (notes body) o).0).1)) (lift body j.1 ((parted (notes decorators ++ notes params) (notes body) o).1)))
   lift (tree.param s decorators p) h o = let g = and_yes (has_none decorators) _ h in and_both _ _ g.0 (lift p g.1 ((parted (notes decorators) (notes p) o).1))
   lift (tree.fn_expr s name fn) h o = let g = and_yes (supported_in false name) _ h in and_both _ _ (lift name g.0 ((parted (notes name) (notes fn) o).0)) (let h = and_yes (supported_in false fn) _ g.1 in and_both _ _ (lift fn h.0 ((parted (notes name) (notes fn) o).1)) (let i = and_yes (is_rightly_directed fn) _ h.1 in and_both _ _ i.0 (ap is_clean ((parted (notes name) (notes fn) o).1))))
-  lift (tree.arrow s params body is_async) h o = let g = and_yes (not is_async) _ h in let n = parted (notes params) (notes body) o in and_both _ _ g.0 (let i = and_yes (supported_in false params && supported_in false body) _ g.1 in let j = and_yes (supported_in false params) _ i.0 in and_both _ _ (and_both _ _ (lift params j.0 n.0) (lift body j.1 n.1)) (let l = and_yes (is_rightly_headed params body) _ i.1 in and_both _ _ l.0 (ap is_clean n.1)))
+  lift (tree.arrow s params body is_async) h o = let n = parted (notes params) (notes body) o in let i = and_yes (supported_in false params && supported_in false body) _ h in let j = and_yes (supported_in false params) _ i.0 in and_both _ _ (and_both _ _ (lift params j.0 n.0) (lift body j.1 n.1)) (let l = and_yes (is_rightly_headed params body) _ i.1 in and_both _ _ l.0 (ap is_clean n.1))
   lift (tree.script s body shebang) h o = lift body h o
   lift _ h o = h
 

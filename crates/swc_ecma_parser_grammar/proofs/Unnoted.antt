@@ -1,7 +1,7 @@
 -- Notes are of statements alone: no supported expression and no supported pattern has any, and none that begins with `import` is a
 -- bare name.
 use Rattle.std.proofs.Common.{◌≡◌, ℕ, zero, suc, Bool, true, false, true≢false, List, [], ◌∷◌, ◌++◌, refl, sym, ◌∙◌, ap, subst}
-use Rattle.std.specs.Prelude.{not, ◌&&◌, None, Some}
+use Rattle.std.specs.Prelude.{◌&&◌, None, Some}
 use Rattle.swc_ecma_parser_common.specs.declared.span.Span.{Span}
 use Rattle.swc_ecma_parser_error.specs.Kind.{Fault}
 use Rattle.swc_ecma_parser_token.specs.declared.kind.TokenKind.TheVariants as kind
@@ -254,7 +254,7 @@ module _ (In : Goal → Type 0) (small : (g : Goal) → In g → SilentGoal g) w
 
   arrow_silent : (k : Code) (a : Bool) (ps : List Tree) (y : Tree) (s : Span) (c d : Place) → ArrowHeadRule In k ps c d → Silent (tree.arrow s (listed ps) y a)
   arrow_silent k a ps y s c d r h =
-      let g = and_yes (supported_in true (listed ps) && supported_in true y) _ (and_yes (not a) _ h).1 in
+      let g = and_yes (supported_in true (listed ps) && supported_in true y) _ h in
       joined (notes (listed ps)) (notes y) (arrow_head_silent k ps c d r (and_yes (supported_in true (listed ps)) _ g.0).0)
       (clean_is (notes y) (and_yes (is_rightly_headed (listed ps) y) _ g.1).1)
 

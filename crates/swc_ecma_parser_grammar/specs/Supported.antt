@@ -123,8 +123,8 @@ abbrev mutual
   -- Such functions as expressions, whose body does not turn parameters strict that are not all plain names. In module code nothing
   -- in them is a fault of it: section 15.2
   supported_in m (tree.fn_expr s name fn) = supported_in m name && (supported_in m fn && (is_rightly_directed fn && (not m || has_no_note fn)))
-  -- Arrow functions that are not async, with what is said of functions as expressions: section 15.3
-  supported_in m (tree.arrow s params body is_async) = not is_async && ((supported_in m params && supported_in m body) && (is_rightly_headed params body && (not m || has_no_note body)))
+  -- Arrow functions, with what is said of functions as expressions: sections 15.3 and 15.9
+  supported_in m (tree.arrow s params body is_async) = (supported_in m params && supported_in m body) && (is_rightly_headed params body && (not m || has_no_note body))
   -- section 16.1
   supported_in m (tree.script s body shebang) = supported_in m body
   supported_in m _ = false

@@ -14,7 +14,7 @@ use swc_ecma_parser_trees::{BuildsPattern, MakerOf, Trees};
 
 /// A part as a parameter.
 #[tactic(auto, unfolding(swc_ecma_parser_reader::specs::Arrows::parameter))]
-fn parameter<P: Source, T: BuildsPattern>(
+pub(crate) fn parameter<P: Source, T: BuildsPattern>(
     t: &MakerOf<T>,
     p: &mut P,
     part: Cover<T::Expr>,

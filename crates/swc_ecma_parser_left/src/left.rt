@@ -32,7 +32,7 @@ use swc_ecma_parser_trees::{
 
 /// A name.
 #[tactic(auto, unfolding(swc_ecma_parser_reader::specs::Expressions::ident_expr))]
-fn ident_expr<P: Source, T: BuildsExpr>(alloc: Global, p: &mut P) -> PResult<T::Expr>
+pub fn ident_expr<P: Source, T: BuildsExpr>(alloc: Global, p: &mut P) -> PResult<T::Expr>
     ensures { GivesAs T.expr_of (exprs.ident_expr (P.seen p.old)) result (P.seen p.new) }
 {
     let name = p.name(Wanted::Expression)?;

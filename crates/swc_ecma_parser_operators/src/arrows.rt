@@ -1,7 +1,8 @@
-//! What stands in parentheses, and arrow functions that begin there: ECMA-262, sections 13.2.9 and 15.3.
+//! What stands in parentheses, behind `async` too, and arrow functions that begin there: ECMA-262, sections 13.2.9, 15.3 and 15.9.
 
 ghost use Rattle.swc_ecma_parser_inner.specs.Nests.{Nests};
 ghost use Rattle.swc_ecma_parser_reader.specs.Arrows as arrows;
+ghost use Rattle.swc_ecma_parser_reader.specs.AsyncArrows as async_arrows;
 ghost use Rattle.swc_ecma_parser_reader.specs.Reader as rules;
 ghost use Rattle.swc_ecma_parser_reader.specs.State.{GivesAs};
 
@@ -9,11 +10,13 @@ use crate::assignment::continued;
 use swc_ecma_parser_error::PResult;
 use swc_ecma_parser_functions::arrows::arrow_from;
 use swc_ecma_parser_grammar::Position;
+use swc_ecma_parser_groups::arguments::{argument_parameters, async_called, either_arguments};
 use swc_ecma_parser_groups::closed::closed_group;
 use swc_ecma_parser_groups::group::parenthesized;
 use swc_ecma_parser_groups::parameters::parameters_of;
 use swc_ecma_parser_inner::cover::{Cover, Reading};
 use swc_ecma_parser_inner::grammar::{Grammar, Part};
+use swc_ecma_parser_left::left::ident_expr;
 use swc_ecma_parser_source::Source;
 use swc_ecma_parser_token::TokenKind;
 use swc_ecma_parser_trees::{
@@ -39,5 +42,29 @@ pub(crate) fn grouped<
         return arrow_from(g, t, p, false, start, params);
     }
     let x = closed_group::<P, T>(t, p, start, found)?;
+    continued(g, t, p, start, x)
+}
+
+/// `async` and what stands in parentheses on its line: the parameters of an arrow function before `=>`, else a call, with what goes
+/// on with it.
+#[tactic(auto, unfolding(swc_ecma_parser_reader::specs::AsyncArrows::async_grouped))]
+pub(crate) fn async_grouped<
+    P: Source,
+    T: BuildsExpr + BuildsCall + BuildsMethod + BuildsOperator + BuildsPattern,
+    S: Fn(&MakerOf<T>, &mut P, usize, Position) -> PResult<T::Stmt>,
+    E: Fn(&MakerOf<T>, &mut P, usize, Reading) -> PResult<Cover<T::Expr>>,
+    N: Fn(&MakerOf<T>, &mut P, usize, Part) -> PResult<T::Pat>,
+>(g: &Grammar<S, E, N>, t: &MakerOf<T>, p: &mut P) -> PResult<T::Expr>
+    requires { Nests P.seen T.expr_of T.pat_of T.stmt_of g.now.depth (S.pre g.now.stmt) (S.post g.now.stmt) (E.pre g.now.expr) (E.post g.now.expr) (N.pre g.now.pat) (N.post g.now.pat) }
+    ensures { GivesAs T.expr_of (async_arrows.async_grouped (rules.expr g.now.depth) (rules.function g.now.depth) (rules.cover g.now.depth) (P.seen p.old)) result (P.seen p.new) }
+{
+    let start = p.span();
+    let callee = ident_expr::<P, T>(t.alloc, p)?;
+    let found = either_arguments(g, t, p)?;
+    if p.sees(TokenKind::Arrow) {
+        let params = argument_parameters::<P, T>(t, p, found)?;
+        return arrow_from(g, t, p, true, start, params);
+    }
+    let x = async_called::<P, T>(t, p, start, callee, found)?;
     continued(g, t, p, start, x)
 }

@@ -10,12 +10,12 @@ ghost use Rattle.swc_ecma_parser_reader.specs.Expressions as exprs;
 ghost use Rattle.swc_ecma_parser_reader.specs.Reader as rules;
 ghost use Rattle.swc_ecma_parser_reader.specs.State.{Gives, GivesAs};
 
-use crate::arrows::grouped;
+use crate::arrows::{async_grouped, grouped};
 use crate::assignment::assignment_expr;
 use std::alloc::Global;
 use swc_ecma_parser_common::Span;
 use swc_ecma_parser_error::{PResult, SyntaxError};
-use swc_ecma_parser_functions::arrows::named_arrow;
+use swc_ecma_parser_functions::arrows::{async_named_arrow, named_arrow};
 use swc_ecma_parser_functions::awaits::await_expr;
 use swc_ecma_parser_functions::yields::{begins_yield, yield_expr};
 use swc_ecma_parser_grammar::{Class, Position};
@@ -450,6 +450,12 @@ pub(crate) fn plain_expr<
     }
     if p.sees(TokenKind::LParen) {
         return grouped(g, t, p);
+    }
+    if p.begins_async_arrow() {
+        return async_named_arrow(g, t, p);
+    }
+    if p.begins_async_call() {
+        return async_grouped(g, t, p);
     }
     operators_expr(g, t, p)
 }

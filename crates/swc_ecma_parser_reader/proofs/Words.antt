@@ -91,9 +91,12 @@ named_first : (f : Context) (ts : List TokenAndSpan) → first_is (codes "async"
 named_first f [] e = cc
 named_first f (t ∷ ts) e = named_token f t.token e
 
-pub async_named : (f : Context) (c : Place) → is_async_function c ≡ true → name_at f c ≡ true
+pub word_named : (f : Context) (c : Place) → word_at (codes "async") c ≡ true → name_at f c ≡ true
 unfolding name_at word_at
-async_named f c h = named_first f c.left (async_parts c h).0
+word_named f c h = named_first f c.left h
+
+pub async_named : (f : Context) (c : Place) → is_async_function c ≡ true → name_at f c ≡ true
+async_named f c h = word_named f c (async_parts c h).0
 
 -- as the rule of functions has it
 pub async_stands : (c m : Place) → word_at (codes "async") c ≡ true → m ≡ after c → breaks_at m ≡ false → kind_at m ≡ kind.Function → is_async_function c ≡ true

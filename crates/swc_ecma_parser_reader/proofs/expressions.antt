@@ -1,6 +1,7 @@
 pub mod Awaits
 pub mod Falls
 pub mod Loops
+pub mod LimitSteps
 pub mod Limits
 pub mod Keeps
 pub mod CompleteKinds
@@ -10,11 +11,15 @@ pub mod Covers
 pub mod Groups
 pub mod GroupLevels
 pub mod NamedArrows
+pub mod AsyncCalls
+pub mod AsyncHeads
+pub mod AsyncGroups
 pub mod Targets
 pub mod CompleteParts
 pub mod CompleteCovers
 pub mod CompleteLefts
 pub mod CompleteArrows
+pub mod CompleteAsync
 pub mod Complete
 pub mod HeadEnds
 pub mod SoundSteps
@@ -25,6 +30,7 @@ pub mod SoundOperators
 pub mod SoundTargets
 pub mod SoundArrows
 pub mod SoundGroups
+pub mod SoundAsync
 pub mod Stays
 pub mod Sound
 pub mod Heads

@@ -22,6 +22,7 @@ unfoldable pub use Rattle.swc_ecma_parser_reader.specs.Words.{word_by, word_in, 
 pub use Rattle.swc_ecma_parser_reader.specs.Operands.{Cover, Covers}
 unfoldable pub use Rattle.swc_ecma_parser_reader.specs.Operands.{literal_of, literal_in, taken, literal, word_property, token_is_word, first_is_word, is_word_at, key_or, literal_key, shorthand_name, shorthand, dotted, ident_expr, this, meta_fault, import_meta, more, bare_new, closed_left, simple, update_behind, behind_operand, postfix_at, misplaced_await, await_allowed, right_class, read_operator, operator_at, left_operand, unmixed, unassigned, unassignable, unheaded, first_mark, no_covers, with_cover, with_comma, is_literal, done, part_as, whole_of, unmarked, close, target_or, target, goes_on, inside, brackets, access, spread_element, plain_element, element, behind_comma, behind_argument, arguments_turn, arguments, covered, spread_item, plain_item, item, behind_item, array_turn, elements, array, computed_key, key, key_value, initialized, initialized_name, initialized_key, bare_key, behind_key, spread_property, behind_property, method, behind_words, keyed_property, property, object_turn, properties, object, paren, accessed, called, left_turn, left_from, super_call, super_property, super_access, behind_super, super_head, constructed, new_head, import_call, import_head, prefixed, update_before, await_expr, operated, binary_by, binary_turn, binary_from, conditional, assigned_to, assigned, assigned_or, behind_operators, postfixed, continued, closed, assigned_pattern, behind_literal}
 use Rattle.swc_ecma_parser_reader.specs.Arrows.{begins_named_arrow, named_arrow, grouped}
+use Rattle.swc_ecma_parser_reader.specs.AsyncArrows.{begins_async_arrow, async_named_arrow, async_grouped}
 
 module _ (inner : Class → Reader Tree) (cover : Reader Cover) where
   -- ---- what may begin with a function, or hold one that is no expression, which a reader of its own reads
@@ -100,12 +101,14 @@ module _ (inner : Class → Reader Tree) (cover : Reader Cover) where
       x ← binary_expr 1
       behind_operators inner cover (begins_async_call s.at) (span_at s.at) x) s
 
-    -- `yield` and arrow functions are no operands; what stands in parentheses may head an arrow function
+    -- `yield` and arrow functions are no operands; what stands in parentheses may head an arrow function, behind `async` too
     unfoldable pub plain_expr : Reader Tree
     plain_expr = λ s.
         if begins_yield s.code.flags s.at then yield_expr inner s
         else if begins_named_arrow s.code.flags s.at then named_arrow inner function s
         else if sees kind.LParen s.at then grouped inner function cover s
+        else if begins_async_arrow s.code.flags s.at then async_named_arrow inner function s
+        else if begins_async_call s.at then async_grouped inner function cover s
         else operators_expr s
 
     unfoldable pub done_expr : Reader Cover

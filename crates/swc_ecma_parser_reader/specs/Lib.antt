@@ -7,6 +7,7 @@ pub mod Words
 pub mod Operands
 pub mod Jumps
 pub mod Arrows
+pub mod AsyncArrows
 pub mod Expressions
 pub mod Heads
 pub mod Patterns

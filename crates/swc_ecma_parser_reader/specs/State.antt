@@ -17,6 +17,7 @@ use Rattle.swc_ecma_parser_model.specs.Tree.{Text}
 use Rattle.swc_ecma_parser_grammar.specs.Looks.{sees, span_at, spanned}
 use Rattle.swc_ecma_parser_grammar.specs.Names.{Code, is_name}
 use Rattle.swc_ecma_parser_grammar.specs.Ends.{can_end}
+use Rattle.swc_ecma_parser_grammar.specs.Follows.{word_at}
 use Rattle.swc_ecma_parser_grammar.specs.Notes.{as_note}
 use Rattle.swc_ecma_parser_reader.specs.Notes.{Notes}
 use Rattle.swc_ecma_parser_reader.specs.declared.mark.Mark.{Mark}
@@ -226,6 +227,10 @@ labelled p = λ s. labelled_as (p s)
 
 unfoldable pub expect : TokenKind → Reader (Unit {0})
 expect k = λ s. if sees k s.at then Ok (tt, moved s) else refuse faults.Expected s
+
+-- a word that is no keyword
+unfoldable pub expect_word : Text → Reader (Unit {0})
+expect_word text = λ s. if word_at text s.at then Ok (tt, moved s) else refuse faults.Expected s
 
 -- the end of a statement
 unfoldable pub end : Kind → Reader (Unit {0})

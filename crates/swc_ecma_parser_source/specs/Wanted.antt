@@ -6,5 +6,6 @@ use Rattle.swc_ecma_parser_source.specs.declared.wanted.Wanted.TheVariants as wa
 abbrev pub wanted_kind : Wanted → Kind
 wanted_kind wanted.Name = ExpectedIdent
 wanted_kind wanted.Expression = Unexpected
+wanted_kind wanted.StringLiteral = Unexpected
 wanted_kind (wanted.Token spelling) = Expected
 wanted_kind (wanted.EndOfExpression span) = ExpectedSemiForExprStmt

@@ -11,6 +11,7 @@ ghost use Rattle.swc_ecma_parser_grammar.specs.language.Begins as begins;
 ghost use Rattle.swc_ecma_parser_model.specs.Tree.{Tree};
 ghost use Rattle.swc_ecma_parser_model.specs.declared.leaves.Ident.{Ident};
 ghost use Rattle.swc_ecma_parser_input.specs.Place as place;
+ghost use Rattle.swc_ecma_parser_reader.specs.AsyncArrows as async_arrows;
 ghost use Rattle.swc_ecma_parser_reader.specs.Expressions as exprs;
 ghost use Rattle.swc_ecma_parser_reader.specs.Methods as methods;
 ghost use Rattle.swc_ecma_parser_reader.specs.Reader as rules;
@@ -67,6 +68,10 @@ pub trait Source {
     /// Whether attributes of imports are read.
     fn import_attributes(&self) -> bool
         ensures { result ≡ (seen self.now).code.setting.import_attributes };
+
+    /// Whether a name may be exported from elsewhere as a default.
+    fn export_default_from(&self) -> bool
+        ensures { result ≡ (seen self.now).code.setting.export_default_from };
 
     /// Whether `return` may stand outside of functions.
     fn allow_return_outside_function(&self) -> bool
@@ -127,6 +132,10 @@ pub trait Source {
     fn word_at(&self, text: &'static str) -> bool
         ensures { result ≡ follows.word_at text.now (seen self.now).at };
 
+    /// The same of the token behind the current one.
+    fn next_word_at(&self, text: &'static str) -> bool
+        ensures { result ≡ follows.word_at text.now (place.after (seen self.now).at) };
+
     /// Whether a token of this kind stands behind the current one.
     fn next_sees(&self, kind: TokenKind) -> bool
         ensures { result ≡ looks.sees kind (place.after (seen self.now).at) };
@@ -146,6 +155,10 @@ pub trait Source {
     /// Whether `async` and its arguments stand here on one line.
     fn begins_async_call(&self) -> bool
         ensures { result ≡ exprs.begins_async_call (seen self.now).at };
+
+    /// Whether `async` and a name stand here on one line.
+    fn begins_async_arrow(&self) -> bool
+        ensures { result ≡ async_arrows.begins_async_arrow (seen self.now).code.flags (seen self.now).at };
 
     /// The look-ahead of an expression statement.
     fn may_begin_expression_statement(&self, at: Position) -> bool
@@ -206,6 +219,10 @@ pub trait Source {
     /// Reads a token that must stand here, which is written so.
     fn expect(&mut self, kind: TokenKind, spelling: &'static str) -> PResult<()>
         ensures { Gives (reader.expect kind (seen self.old)) result (seen self.new) };
+
+    /// Reads a word that must stand here and is no keyword.
+    fn expect_word(&mut self, text: &'static str) -> PResult<()>
+        ensures { Gives (reader.expect_word text.now (seen self.old)) result (seen self.new) };
 
     /// The end of a statement.
     fn end(&mut self, wanted: Wanted) -> PResult<()>

@@ -16,6 +16,8 @@ pub enum Wanted {
     Name,
     /// An expression, or whatever goes on in a way that no rule takes.
     Expression,
+    /// A string.
+    StringLiteral,
     /// A token, by its spelling.
     Token(&'static str),
     /// The end of an expression statement, whose expression has this span.
@@ -77,6 +79,10 @@ pub fn missing(
         Wanted::Expression => SyntaxError::Unexpected {
             got: Atom::new(alloc, text_of(found))?,
             expected: Atom::new(alloc, "an expression")?,
+        },
+        Wanted::StringLiteral => SyntaxError::Unexpected {
+            got: Atom::new(alloc, text_of(found))?,
+            expected: Atom::new(alloc, "a string literal")?,
         },
         Wanted::Token(spelling) => SyntaxError::Expected(
             Atom::new(alloc, spelling)?,

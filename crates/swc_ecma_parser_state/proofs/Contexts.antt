@@ -1,6 +1,7 @@
 -- Setting a context leaves the tokens, and is what is set.
-use Rattle.std.proofs.Common.{◌≡◌, Bool, true, false, cond, [], refl, sym, append-nil}
+use Rattle.std.proofs.Common.{◌≡◌, Bool, true, false, cond, List, [], ◌∷◌, ◌++◌, refl, sym, ap, ◌∙◌, append-nil}
 use Rattle.std.proofs.lemmas.List.{map-append}
+use Rattle.swc_ecma_parser_error.specs.declared.error.Error.{Error}
 use Rattle.swc_ecma_parser_error.specs.Kind.{fault_of, faults_of}
 use Rattle.swc_ecma_parser_input.specs.declared.context.Context.{Context}
 use Rattle.swc_ecma_parser_input.specs.TokenSource as source
@@ -8,6 +9,7 @@ use Rattle.swc_ecma_parser_input.specs.TokenSource.{TokenSource}
 use Rattle.swc_ecma_parser_input.specs.Buffered as buffered
 use Rattle.swc_ecma_parser_input.specs.Buffered.{Buffered}
 use Rattle.swc_ecma_parser_reader.specs.Entry.{IsLater}
+use Rattle.swc_ecma_parser_reader.specs.Notes.{held_of}
 
 left_of : (b : Bool) (c : Context) (s : TokenSource) → (cond b (record (source.released s) { context = c }) (record s { context = c })).left ≡ s.left
 left_of true c s = refl
@@ -30,3 +32,21 @@ recorded_of false c s = ([], sym (append-nil (faults_of s.recorded)))
 -- in a module's those that were held back are recorded
 pub recorded_stay : (c : Context) (s : Buffered) → IsLater (faults_of s.recorded) (faults_of (buffered.with_context c s).recorded)
 recorded_stay c s = recorded_of c.«module» c s
+
+-- ---- where module code begins
+
+nothing_held : (hs : List Error) → held_of hs ≡ [] → hs ≡ []
+nothing_held [] e = refl
+nothing_held (h ∷ hs) e = cc
+
+module _ {c : Context} (b d : Buffered) (e : d ≡ record (buffered.released b) { context = c }) where
+  -- what was held back is recorded
+  pub recorded_later : IsLater (faults_of b.recorded) (faults_of d.recorded)
+  recorded_later = (faults_of b.held_back, ap (λ z. faults_of z.recorded) e ∙ map-append fault_of b.recorded b.held_back)
+
+  -- where nothing was, the context alone is another
+  pub nothing_released : held_of b.held_back ≡ [] → d ≡ record b { context = c }
+  nothing_released h = e ∙ same b.held_back (nothing_held b.held_back h)
+    where
+      same : (hs : List Error) → hs ≡ [] → record b { recorded = b.recorded ++ hs; held_back = []; context = c } ≡ record b { held_back = hs; context = c }
+      same hs g = rw (g, append-nil b.recorded) refl

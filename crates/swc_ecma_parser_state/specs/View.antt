@@ -1,5 +1,5 @@
 -- What a `State` shows.
-use Rattle.std.specs.Prelude.{◌≡◌, true, List, []}
+use Rattle.std.specs.Prelude.{◌≡◌, true, []}
 use Rattle.swc_ecma_parser_error.specs.Kind.{faults_of}
 use Rattle.swc_ecma_parser_input.specs.Setting.{setting_of}
 use Rattle.swc_ecma_parser_state.specs.declared.state.State.TheInside.{Inside}

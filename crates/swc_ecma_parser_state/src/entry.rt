@@ -3,6 +3,7 @@
 ghost use Rattle.std.specs.Prelude.{◌≡◌, ◌||◌, false, [], None, length, drop, IfOk, IfErr};
 ghost use Rattle.swc_ecma_parser_error.specs.Kind.{faults_of, IsOutOfMemory};
 ghost use Rattle.swc_ecma_parser_grammar.specs.Entries.{script_code};
+ghost use Rattle.swc_ecma_parser_grammar.specs.language.Programs.{entry_code, «module»};
 ghost use Rattle.swc_ecma_parser_input.specs.Place as place;
 ghost use Rattle.swc_ecma_parser_reader.specs.Notes.{held_of};
 ghost use Rattle.swc_ecma_parser_reader.specs.Entry.{unmarked, IsLater};
@@ -116,6 +117,24 @@ impl<I: Tokens> State<I> {
         let flags = self.buffer.ctx();
         self.buffer.set_ctx(Context {
             module: false,
+            ..flags
+        });
+    }
+
+    /// Begins module code: what was held back is recorded.
+    pub fn enter_module(&mut self)
+        ensures code { self.new.code ≡ entry_code «module» self.old.code }
+        ensures at { self.new.at ≡ self.old.at }
+        ensures scope { self.new.scope ≡ self.old.scope }
+        ensures found { self.new.notes ≡ record self.old.notes { held_back = [] } }
+        ensures faults { IsLater self.old.faults self.new.faults }
+        ensures settled { self.old.notes.held_back ≡ [] → self.new.faults ≡ self.old.faults }
+    {
+        let flags = self.buffer.ctx();
+        self.buffer.set_ctx(Context {
+            module: true,
+            can_be_module: true,
+            strict: true,
             ..flags
         });
     }

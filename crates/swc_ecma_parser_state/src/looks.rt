@@ -7,13 +7,14 @@ ghost use Rattle.swc_ecma_parser_grammar.specs.Looks as looks;
 ghost use Rattle.swc_ecma_parser_grammar.specs.Names as names;
 ghost use Rattle.swc_ecma_parser_grammar.specs.language.Begins as begins;
 ghost use Rattle.swc_ecma_parser_input.specs.Place as place;
+ghost use Rattle.swc_ecma_parser_reader.specs.AsyncArrows as async_arrows;
 ghost use Rattle.swc_ecma_parser_reader.specs.Expressions as exprs;
 ghost use Rattle.swc_ecma_parser_reader.specs.Methods as methods;
 
 use crate::state::State;
 use swc_ecma_parser_grammar::Position;
 use swc_ecma_parser_input::Tokens;
-use swc_ecma_parser_source::{begins_operand, ends_key, is_identifier, is_reserved_word};
+use swc_ecma_parser_source::{begins_operand, ends_key, is_identifier, is_name, is_reserved_word};
 use swc_ecma_parser_token::{Token, TokenAndSpan, TokenKind, Word};
 
 /// Whether it is an operator between two operands that is no word.
@@ -141,6 +142,22 @@ impl<I: Tokens> State<I> {
         }
     }
 
+    /// The same of the token behind the current one.
+    #[tactic(auto, unfolding(swc_ecma_parser_grammar::specs::Follows::word_at, swc_ecma_parser_input::specs::Place::after))]
+    pub fn next_word_at(&self, text: &str) -> bool
+        ensures { result ≡ follows.word_at text.now (place.after self.now.at) }
+    {
+        match self.buffer.peek() {
+            Some(
+                TokenAndSpan {
+                    token: Token::Word(Word::Ident(word)),
+                    ..
+                },
+            ) => word.as_str() == text,
+            _ => false,
+        }
+    }
+
     /// Whether a line break stands before the token behind the current one.
     #[tactic(auto, unfolding(swc_ecma_parser_grammar::specs::Looks::breaks_at, swc_ecma_parser_input::specs::Place::after))]
     pub fn next_had_line_break(&self) -> bool
@@ -190,6 +207,30 @@ impl<I: Tokens> State<I> {
         ensures { result ≡ exprs.begins_async_call self.now.at }
     {
         self.word_at("async") && self.next_sees(TokenKind::LParen) && !self.next_had_line_break()
+    }
+
+    /// Whether a name stands behind the current token.
+    #[tactic(auto, unfolding(swc_ecma_parser_grammar::specs::Names::name_at, swc_ecma_parser_input::specs::Place::after))]
+    fn next_is_name(&self) -> bool
+        ensures { result ≡ names.name_at self.now.code.flags (place.after self.now.at) }
+    {
+        match self.buffer.peek() {
+            Some(
+                TokenAndSpan {
+                    token: Token::Word(word),
+                    ..
+                },
+            ) => is_name(self.flags(), word.as_str()),
+            _ => false,
+        }
+    }
+
+    /// Whether `async` and a name stand here on one line.
+    #[tactic(auto, unfolding(swc_ecma_parser_reader::specs::AsyncArrows::begins_async_arrow))]
+    pub fn begins_async_arrow(&self) -> bool
+        ensures { result ≡ async_arrows.begins_async_arrow self.now.code.flags self.now.at }
+    {
+        self.word_at("async") && !self.next_had_line_break() && self.next_is_name()
     }
 
     /// Whether a word that is not reserved stands here.

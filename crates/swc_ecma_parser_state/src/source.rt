@@ -41,6 +41,10 @@ impl<I: Tokens> Source for State<I> {
         State::import_attributes(self)
     }
 
+    fn export_default_from(&self) -> bool {
+        State::export_default_from(self)
+    }
+
     fn allow_return_outside_function(&self) -> bool {
         State::allow_return_outside_function(self)
     }
@@ -97,6 +101,10 @@ impl<I: Tokens> Source for State<I> {
         State::word_at(self, text)
     }
 
+    fn next_word_at(&self, text: &'static str) -> bool {
+        State::next_word_at(self, text)
+    }
+
     fn next_sees(&self, kind: TokenKind) -> bool {
         State::next_sees(self, kind)
     }
@@ -115,6 +123,10 @@ impl<I: Tokens> Source for State<I> {
 
     fn begins_async_call(&self) -> bool {
         State::begins_async_call(self)
+    }
+
+    fn begins_async_arrow(&self) -> bool {
+        State::begins_async_arrow(self)
     }
 
     fn may_begin_expression_statement(&self, at: Position) -> bool {
@@ -167,6 +179,10 @@ impl<I: Tokens> Source for State<I> {
 
     fn expect(&mut self, kind: TokenKind, spelling: &'static str) -> PResult<()> {
         State::expect(self, kind, spelling)
+    }
+
+    fn expect_word(&mut self, text: &'static str) -> PResult<()> {
+        State::expect_word(self, text)
     }
 
     fn end(&mut self, wanted: Wanted) -> PResult<()> {

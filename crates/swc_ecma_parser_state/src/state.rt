@@ -127,6 +127,13 @@ impl<I: Tokens> State<I> {
         self.buffer.syntax().es().import_attributes
     }
 
+    /// Whether a name may be exported from elsewhere as a default.
+    pub fn export_default_from(&self) -> bool
+        ensures { result ≡ self.now.code.setting.export_default_from }
+    {
+        self.buffer.syntax().es().export_default_from
+    }
+
     /// Whether `return` may stand outside of functions.
     pub fn allow_return_outside_function(&self) -> bool
         ensures { result ≡ self.now.code.setting.allow_return_outside_function }

@@ -312,6 +312,17 @@ impl<I: Tokens> State<I> {
         self.skip()
     }
 
+    /// Reads a word that must stand here and is no keyword.
+    #[tactic(auto, unfolding(swc_ecma_parser_reader::specs::State::expect_word))]
+    pub fn expect_word(&mut self, text: &'static str) -> PResult<()>
+        ensures { Gives (reader.expect_word text.now self.old) result self.new }
+    {
+        if !self.word_at(text) {
+            return Err(self.refuse(Wanted::Token(text)));
+        }
+        self.skip()
+    }
+
     /// The end of a statement: ECMA-262, section 12.10.
     #[tactic(auto, unfolding(swc_ecma_parser_reader::specs::State::end))]
     pub fn end(&mut self, wanted: Wanted) -> PResult<()>

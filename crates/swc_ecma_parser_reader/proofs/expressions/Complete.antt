@@ -4,7 +4,7 @@ use Rattle.swc_ecma_parser_reader.proofs.expressions.Yields.{never_yields, begun
 use Rattle.swc_ecma_parser_grammar.specs.language.Begins.{begins_expression, awaits}
 use Rattle.swc_ecma_parser_grammar.specs.language.Contexts.{may_await}
 use Rattle.swc_ecma_parser_grammar.proofs.ExpressionBegins.{await_stands}
-use Rattle.swc_ecma_parser_grammar.proofs.Binding.{parameter_down}
+use Rattle.swc_ecma_parser_grammar.proofs.Binding.{parameter_down, item_down}
 use Rattle.swc_ecma_parser_grammar.proofs.Marks.{awaits_apart}
 use Rattle.swc_ecma_parser_reader.proofs.expressions.Awaits.{update_no_await}
 use Rattle.std.proofs.Common.{◌≡◌, ℕ, zero, suc, ◌≤◌, Bool, true, false, List, [], ◌∷◌, ◌++◌, length, inl, inr, Option, Some, None, Ok, refl, sym, ◌∙◌, ap, arith, append_assoc, append-nil, subst}
@@ -60,14 +60,16 @@ use Rattle.swc_ecma_parser_reader.proofs.Takes.{Falls}
 use Rattle.swc_ecma_parser_reader.proofs.expressions.Targets.{leaf_supported, left_target, left_leaf, pattern_alike}
 use Rattle.swc_ecma_parser_reader.proofs.expressions.Covers as covers
 use Rattle.swc_ecma_parser_reader.proofs.expressions.Covers.{met, begins_literal, opened, opened_literal, Assigns, Becomes, cover_is, open_cover, assigns_cover, plain_cover, plain_operators, plain_grouped}
-use Rattle.swc_ecma_parser_reader.proofs.expressions.Groups.{sequenced_by, ReadsParts, operators_grouped}
+use Rattle.swc_ecma_parser_reader.proofs.expressions.Groups.{IsTied, ReadsParts, operators_grouped}
+use Rattle.swc_ecma_parser_reader.proofs.expressions.AsyncHeads.{plain_async_grouped, never_async_named}
+use Rattle.swc_ecma_parser_reader.proofs.expressions.AsyncGroups.{operators_async_grouped}
 use Rattle.swc_ecma_parser_reader.proofs.expressions.NamedArrows.{never_named}
 use Rattle.swc_ecma_parser_reader.proofs.expressions.CompleteKinds.{names_stand, supported_as, seen, begins, element_begins, ends_part, ended_at, ended_stops, ended_continues, no_async_function, left_first, operand_plain, operand_update, update_plain, operator_stops, assign_stops, question_stops, stops_unary, unary_stops, stopped, update_seen, postfix_seen, assign_seen, unassigned_at}
 use Rattle.swc_ecma_parser_reader.proofs.expressions.Loops.{shorter_by}
 use Rattle.swc_ecma_parser_reader.proofs.expressions.CompleteParts.{expect_reads, AsExpr, AsElement, AsTarget, IsRead, IsFunctionRead, inside_reads}
 use Rattle.swc_ecma_parser_reader.proofs.expressions.CompleteCovers.{AsLiteral, array_pattern, object_pattern}
 use Rattle.swc_ecma_parser_reader.proofs.expressions.CompleteLefts.{left_reads}
-use Rattle.swc_ecma_parser_reader.proofs.expressions.CompleteArrows.{arrow_reads}
+use Rattle.swc_ecma_parser_reader.proofs.expressions.CompleteAsync.{arrow_reads}
 
 -- ---- what is asked of trees and operators
 
@@ -364,9 +366,10 @@ module _ (In : Goal → Type 0) (inner : Class → Reader Tree) (cover : Reader 
   unfolding begins_yield
   yields_here k c g i = and_both (sees kind.Yield c) _ (seen c kind.Yield i) g
 
-  -- An operand begins with no word of its own and with no name before `=>`, and what stands in parentheses is read part by part.
+  -- An operand begins with no word of its own, with no name before `=>` and with none behind `async`; what stands in parentheses, or
+  -- in those of a call of `async`, is read part by part.
   plain_reads : (k : Code) (x : Tree) (c d : Place) → Reads (operators_expr inner cover function) k x c d → Reads (plain_expr inner cover function) k x c d
-  plain_reads k x c d r w f h = by_kind (sees kind.LParen c) refl
+  plain_reads k x c d r w f h = by_kind (sees kind.LParen c) (begins_async_call c) refl refl
     where
       s : State
       s = st c k w f h
@@ -374,10 +377,12 @@ module _ (In : Goal → Type 0) (inner : Class → Reader Tree) (cover : Reader 
       t : State
       t = st d k w (f ++ walk (env_of k w.labels) x) (h ⊕ notes_of x)
 
-      by_kind : (b : Bool) → sees kind.LParen c ≡ b → plain_expr inner cover function s ≡ Ok (x, t)
-      by_kind true e = let o = saw c kind.LParen e in
+      by_kind : (b g : Bool) → sees kind.LParen c ≡ b → begins_async_call c ≡ g → plain_expr inner cover function s ≡ Ok (x, t)
+      by_kind true g e i = let o = saw c kind.LParen e in
           plain_grouped inner cover function s o ∙ operators_grouped inner function cover given.tied given.parts s o x t (r w f h)
-      by_kind false e = plain_operators inner cover function s (never_yields inner cover function s x t (r w f h)) (never_named inner cover function s x t (r w f h)) e ∙ r w f h
+      by_kind false true e i = plain_async_grouped inner cover function s i ∙ operators_async_grouped inner cover given.tied given.parts function s i x t (r w f h)
+      by_kind false false e i = plain_operators inner cover function s (never_yields inner cover function s x t (r w f h)) (never_named inner cover function s x t (r w f h)) e
+          (never_async_named inner cover function s x t (r w f h)) i ∙ r w f h
 
   bare_yield_reads : (k : Code) (x : Tree) (c d : Place) → k.flags.in_generator ≡ true → kind_at c ≡ kind.Yield → d ≡ after c → continues_yield k d ≡ false → x ≡ tree.yield (spanned c d) tree.absent false
       → Reads (plain_expr inner cover function) k x c d
@@ -667,7 +672,7 @@ module _ (n : ℕ) (inner : Class → Reader Tree) (cover : Reader Cover) (given
   level_exprs k x c d r s w f h = gets_also (AsWhole x) (AsExpr x) _ _ (whole_reads (language.Reads n) inner cover given function functions k x c d r s w f h) (λ v a. (a.0, a.1))
 
   -- what is read in one level more, given what its parts are
-  pub read_above : ((s : State) → expr_level inner cover function expression s ≡ sequenced_by (cover_expr inner cover function) s) → ReadsParts (cover_expr inner cover function)
+  pub read_above : IsTied (expr_level inner cover function) (cover_expr inner cover function) → ReadsParts (cover_expr inner cover function)
       → IsRead (language.Reads (suc n)) (expr_level inner cover function) (cover_expr inner cover function)
   read_above tied parts = record {
     reads = class_reads;
@@ -684,11 +689,12 @@ module _ (n : ℕ) (inner : Class → Reader Tree) (cover : Reader Cover) (given
     parts = parts;
     names = names_stand (suc n);
     parameter = λ k x c d r s. parameter_down (suc n) k.flags.module k x c d r s;
+    assigned = λ k x c d r s. item_down (suc n) k.flags.module k x c d r s;
   }
 
 -- within no level nothing is
 pub read_nowhere : (inner : Class → Reader Tree) (cover : Reader Cover) → ((class : Class) (s : State) → Falls 1 (length s.at.left) (inner class s)) → ((s : State) → Falls 1 (length s.at.left) (cover s))
-    → ((s : State) → inner expression s ≡ sequenced_by cover s) → ReadsParts cover → IsRead (language.Reads zero) inner cover
+    → IsTied inner cover → ReadsParts cover → IsRead (language.Reads zero) inner cover
 read_nowhere inner cover falls cover_falls tied parts = record {
   reads = λ class k x c d r s. absurd r;
   calls = λ k x c d r e s. absurd r;
@@ -704,6 +710,7 @@ read_nowhere inner cover falls cover_falls tied parts = record {
   parts = parts;
   names = names_stand zero;
   parameter = λ k x c d r s. parameter_down zero k.flags.module k x c d r s;
+  assigned = λ k x c d r s. item_down zero k.flags.module k x c d r s;
 }
 
 -- an expression of a class is

@@ -1,4 +1,4 @@
--- Arrow functions of the language that are not async are read, with the faults of the walk and the notes held back, and no others.
+-- Arrow functions of the language that do not begin with `async` are read, with the faults of the walk and the notes held back, and no others.
 use Rattle.std.proofs.Common.{◌≡◌, ◌<◌, inl, inr, Bool, true, false, List, [], ◌∷◌, ◌++◌, length, Ok, refl, sym, ◌∙◌, ap, arith, append_assoc, append-nil, subst}
 use Rattle.swc_ecma_parser_common.specs.declared.span.Span.{Span}
 use Rattle.swc_ecma_parser_error.specs.Kind.{Fault}
@@ -10,7 +10,6 @@ use Rattle.swc_ecma_parser_model.specs.Forms.{is_rest, is_binding_name}
 use Rattle.swc_ecma_parser_model.specs.Targets.{as_element, binds}
 use Rattle.swc_ecma_parser_grammar.specs.Looks.{kind_at, breaks_at, sees, same_kind, span_at, spanned}
 use Rattle.swc_ecma_parser_grammar.specs.Names.{Code, name_at}
-use Rattle.swc_ecma_parser_grammar.specs.Follows.{AsyncWord, not_async, async_word}
 use Rattle.swc_ecma_parser_grammar.specs.Notes.{notes}
 use Rattle.swc_ecma_parser_grammar.specs.Reads.{with_in}
 use Rattle.swc_ecma_parser_grammar.specs.Supported.{supported_in, all_supported_in}
@@ -21,7 +20,7 @@ use Rattle.swc_ecma_parser_grammar.specs.language.Functions.{PatternItemRule, Pa
 use Rattle.swc_ecma_parser_grammar.specs.language.Goals.{Goal, Class, assignment, assigning, binding, pattern_goal, element_goal}
 use Rattle.swc_ecma_parser_grammar.specs.language.Lists.{ReadsListed, LastComma}
 use Rattle.swc_ecma_parser_grammar.specs.language.Noted.{has_meta}
-use Rattle.swc_ecma_parser_grammar.proofs.Arrows.{SupportedArrow, arrow_parts}
+use Rattle.swc_ecma_parser_grammar.proofs.Arrows.{SupportedArrow}
 use Rattle.swc_ecma_parser_grammar.proofs.Binding.{ArrowPartRule, part_rule, rest_rule, is_bound}
 use Rattle.swc_ecma_parser_grammar.proofs.Tests.{and_yes, and_both}
 use Rattle.swc_ecma_parser_reader.specs.Notes.{Notes, ◌⊕◌, notes_of, all_notes_of}
@@ -67,23 +66,23 @@ module _ (In : Goal → Type 0) (inner : Class → Reader Tree) (cover : Reader 
   body_reads a k x c d (block_body r) s q w f h = rw (seen c kind.LBrace r.opens) (functions.blocks a k x c d r s q w f h)
   body_reads a k x c d (expression_body b r) s q w f h = rw (b, given.reads assignment (in_arrow k a) x c d r s (record w { labels = [] }) f h) refl
 
-  from_reads : (start : Span) (ps : List Tree) (y : Tree) (k : Code) (j d : Place) (w : Scope) (f : List Fault) (h : Notes) → breaks_at j ≡ false → ArrowBodyRule In k false y (after j) d
-      → SupportedArrow k.flags.module (listed ps) y false → arrow_from inner function false start ps (st j k w f h)
-      ≡ Ok (tree.arrow (record { lo = start.lo; hi = d.last.hi }) (listed ps) y false, st d k w (f ++ walk (in_body (env_of k w.labels)) y) (record { held_back = h.held_back ++ notes y; found_module_item = h.found_module_item }))
+  pub from_reads : (a : Bool) (start : Span) (ps : List Tree) (y : Tree) (k : Code) (j d : Place) (w : Scope) (f : List Fault) (h : Notes) → breaks_at j ≡ false → ArrowBodyRule In k a y (after j) d
+      → SupportedArrow k.flags.module (listed ps) y → arrow_from inner function a start ps (st j k w f h)
+      ≡ Ok (tree.arrow (record { lo = start.lo; hi = d.last.hi }) (listed ps) y a, st d k w (f ++ walk (in_body (env_of k w.labels)) y) (record { held_back = h.held_back ++ notes y; found_module_item = h.found_module_item }))
   unfolding arrow_from
-  from_reads start ps y k j d w f h b r s = rw (b, body_reads false k y (after j) d r s.supports_body s.has_no_notes w f h, s.directs) refl
+  from_reads a start ps y k j d w f h b r s = rw (b, body_reads a k y (after j) d r s.supports_body s.has_no_notes w f h, s.directs) refl
 
   -- ---- a name before `=>`
 
   named_reads : (p y : Tree) (j : Place) (k : Code) (x : Tree) (c d : Place) → In (pattern_goal binding k p c j) → is_binding_name p ≡ true → kind_at j ≡ kind.Arrow → breaks_at j ≡ false
-      → ArrowBodyRule In k false y (after j) d → SupportedArrow k.flags.module (listed (p ∷ [])) y false → x ≡ tree.arrow (spanned c d) (listed (p ∷ [])) y false
+      → ArrowBodyRule In k false y (after j) d → SupportedArrow k.flags.module (listed (p ∷ [])) y → x ≡ tree.arrow (spanned c d) (listed (p ∷ [])) y false
       → Reads (plain_expr inner cover function) k x c d
   unfolding named_arrow begins_named_arrow spanned
   named_reads p y j k x c d r m t b u s e w f h =
       let q = (and_yes (supported_in k.flags.module p) _ s.supports_params).0 in
       let (n, i) = given.names k p c j r m q in
       plain_named inner cover function (st c k w f h) (name_no_yield k.flags c n) (and_both (name_at k.flags c) _ n (rw (← i) (seen j kind.Arrow t)))
-      ∙ rw (functions.patterns k p c j r q w f h, from_reads (span_at c) (p ∷ []) y k j d w (f ++ walk (env_of k w.labels) p) (h ⊕ notes_of p) b u s, e, s.directs)
+      ∙ rw (functions.patterns k p c j r q w f h, from_reads false (span_at c) (p ∷ []) y k j d w (f ++ walk (env_of k w.labels) p) (h ⊕ notes_of p) b u s, e, s.directs)
       (simp (append_assoc, append-nil, or_nil) refl)
 
   -- ---- parameters in parentheses
@@ -209,31 +208,19 @@ module _ (In : Goal → Type 0) (inner : Class → Reader Tree) (cover : Reader 
       let g = and_yes (supported_in k.flags.module p) _ s in (m, given.parameter k p c m r g.0, a, i, parts_down k (q ∷ qs) (after m) d more g.1)
 
   grouped_reads : (ps : List Tree) (y : Tree) (j : Place) (k : Code) (x : Tree) (c d : Place) → ParametersRule In (with_in k) ps c j → kind_at j ≡ kind.Arrow → breaks_at j ≡ false
-      → ArrowBodyRule In k false y (after j) d → SupportedArrow k.flags.module (listed ps) y false → x ≡ tree.arrow (spanned c d) (listed ps) y false → Reads (plain_expr inner cover function) k x c d
+      → ArrowBodyRule In k false y (after j) d → SupportedArrow k.flags.module (listed ps) y → x ≡ tree.arrow (spanned c d) (listed ps) y false → Reads (plain_expr inner cover function) k x c d
   unfolding grouped spanned
   grouped_reads ps y j k x c d r t b u s e w f h =
       let g = group_reads ps r.close k c j (parts_down (with_in k) ps (after c) r.close r.reads_patterns s.supports_params) s.supports_params r.closes r.next w f h in
       let f' = f ++ walks (env_of k w.labels) false (trees ps) in
       let h' = h ⊕ all_notes_of (trees ps) in
       plain_grouped inner cover function (st c k w f h) r.opens
-      ∙ rw (g.is, seen j kind.Arrow t, g.holds (st j k w f' h'), from_reads (span_at c) ps y k j d w f' h' b u s, e, s.directs) (simp (append_assoc, append-nil) refl)
+      ∙ rw (g.is, seen j kind.Arrow t, g.holds (st j k w f' h'), from_reads false (span_at c) ps y k j d w f' h' b u s, e, s.directs) (simp (append_assoc, append-nil) refl)
 
-  -- ---- an arrow function that is not async
+  -- ---- either
 
-  arrow_by : (ps : List Tree) (y : Tree) (j : Place) (k : Code) (x : Tree) (c d : Place) → ArrowHeadRule In k ps c j → kind_at j ≡ kind.Arrow → breaks_at j ≡ false → ArrowBodyRule In k false y (after j) d
-      → SupportedArrow k.flags.module (listed ps) y false → x ≡ tree.arrow (spanned c d) (listed ps) y false → Reads (plain_expr inner cover function) k x c d
+  pub arrow_by : (ps : List Tree) (y : Tree) (j : Place) (k : Code) (x : Tree) (c d : Place) → ArrowHeadRule In k ps c j → kind_at j ≡ kind.Arrow → breaks_at j ≡ false → ArrowBodyRule In k false y (after j) d
+      → SupportedArrow k.flags.module (listed ps) y → x ≡ tree.arrow (spanned c d) (listed ps) y false → Reads (plain_expr inner cover function) k x c d
   arrow_by ps y j k x c d (name_head p r m i) t b u s e w f h =
-      named_reads p y j k x c d r m t b u (subst (λ z. SupportedArrow k.flags.module (listed z) y false) i s) (e ∙ ap (λ z. tree.arrow (spanned c d) (listed z) y false) i) w f h
+      named_reads p y j k x c d r m t b u (subst (λ z. SupportedArrow k.flags.module (listed z) y) i s) (e ∙ ap (λ z. tree.arrow (spanned c d) (listed z) y false) i) w f h
   arrow_by ps y j k x c d (parameters_head r) t b u s e w f h = grouped_reads ps y j k x c d r t b u s e w f h
-
-  pub arrow_reads : (a : Bool) (ps : List Tree) (y : Tree) (i j : Place) (k : Code) (x : Tree) (c d : Place) → AsyncWord a c i → ArrowHeadRule In k ps i j → kind_at j ≡ kind.Arrow → breaks_at j ≡ false
-      → ArrowBodyRule In k a y (after j) d → x ≡ tree.arrow (spanned c d) (listed ps) y a → supported_in k.flags.module x ≡ true → Reads (plain_expr inner cover function) k x c d
-  arrow_reads a ps y i j k x c d v r t b u e s w f h =
-      let p = arrow_parts k.flags.module (spanned c d) (listed ps) y a (supported_as _ x (tree.arrow (spanned c d) (listed ps) y a) e s) in
-      by_word v p w f h
-    where
-      by_word : AsyncWord a c i → SupportedArrow k.flags.module (listed ps) y a → Reads (plain_expr inner cover function) k x c d
-      by_word (async_word n g l m) p w f h = absurd (let o : true ≡ false = sym n ∙ p.is_plain in cc)
-      by_word (not_async n g) p w f h =
-          arrow_by ps y j k x c d (subst (λ z. ArrowHeadRule In k ps z j) g r) t b (subst (λ z. ArrowBodyRule In k z y (after j) d) p.is_plain u)
-          (subst (λ z. SupportedArrow k.flags.module (listed ps) y z) p.is_plain p) (e ∙ ap (tree.arrow (spanned c d) (listed ps) y) p.is_plain) w f h

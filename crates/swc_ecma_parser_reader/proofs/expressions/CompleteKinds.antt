@@ -33,6 +33,7 @@ use Rattle.swc_ecma_parser_grammar.specs.Reads.{ReadsToken}
 use Rattle.swc_ecma_parser_grammar.specs.Supported.{supported_in}
 use Rattle.swc_ecma_parser_grammar.specs.ReadsSupported.{ReadsClass}
 use Rattle.swc_ecma_parser_grammar.specs.language.Goals.{Goal, Purpose, binding, expr_goal, pattern_goal, element_goal, expression, assignment}
+use Rattle.swc_ecma_parser_grammar.proofs.StatementBegins.{word_place}
 use Rattle.swc_ecma_parser_grammar.proofs.ExpressionBegins.{await_stands}
 use Rattle.swc_ecma_parser_grammar.specs.language.Operators.{unary_operator, update_operator, binary_operator, assign_operator}
 use Rattle.swc_ecma_parser_grammar.specs.language.Continues.{continues_unary, is_operation, continues_operand, continues_head, continues_conditional, continues_assignment}
@@ -484,14 +485,14 @@ module _ (In : Goal → Type 0) where
   element_first k x c d (patterns.bare_rule r e) h = pattern_first k x c d r h
   element_first k x c d (patterns.initialized_rule y z m r i v e) h = pattern_first k y c m r (and_yes (supported_in k.flags.module y) _ (supported_as _ x (tree.assign_pat (spanned c d) y z) e h)).0
 
-  -- an arrow that is not async begins with its name or with `(`
-  arrow_first : NamesStand In → (a : Bool) (ps : List Tree) (k : Code) (c i j : Place) → follows.AsyncWord a c i → a ≡ false → rules.ArrowHeadRule In k ps i j → supported_in k.flags.module (listed ps) ≡ true
+  -- an arrow begins with its name or with `(`, or with `async` before them
+  arrow_first : NamesStand In → (a : Bool) (ps : List Tree) (k : Code) (c i j : Place) → follows.AsyncWord a c i → rules.ArrowHeadRule In k ps i j → supported_in k.flags.module (listed ps) ≡ true
       → begin_kind (kind_at c) ≡ true
-  arrow_first names a ps k c i j (follows.async_word e w g b) p r h = cc
-  arrow_first names a ps k c i j (follows.not_async e g) p (rules.name_head q r n is) h =
+  arrow_first names a ps k c i j (follows.async_word e w g b) r h = ap begin_kind (word_place (codes "async") c w)
+  arrow_first names a ps k c i j (follows.not_async e g) (rules.name_head q r n is) h =
       let t = (and_yes (supported_in k.flags.module q) _ (supported_as _ (listed ps) (listed (q ∷ [])) (ap listed is) h)).0 in
       ap (λ z. begin_kind (kind_at z)) (sym g) ∙ operand_begins (kind_at i) (primary_operand (kind_at i) (named_first k.flags i (names k q i j r n t).0))
-  arrow_first names a ps k c i j (follows.not_async e g) p (rules.parameters_head r) h = ap (λ z. begin_kind (kind_at z)) (sym g) ∙ ap begin_kind r.opens
+  arrow_first names a ps k c i j (follows.not_async e g) (rules.parameters_head r) h = ap (λ z. begin_kind (kind_at z)) (sym g) ∙ ap begin_kind r.opens
 
   assignment_first : NamesStand In → (k : Code) (x : Tree) (c d : Place) → AssignmentRule In k x c d → supported_in k.flags.module x ≡ true → begin_kind (kind_at c) ≡ true
   assignment_first names k x c d (rules.operators_rule r s) h = binary_first k 1 x c d r h
@@ -501,7 +502,7 @@ module _ (In : Goal → Type 0) where
   assignment_first names k x c d (rules.destructuring_rule y z m r t a b e) h = pattern_first k y c m r (and_yes (supported_in k.flags.module y) _ (supported_as _ x (tree.assign (spanned c d) _ y z) e h)).0
   assignment_first names k x c d (rules.arrow_rule a ps y i j r s t b u e) h =
       let p = arrow_parts k.flags.module (spanned c d) (listed ps) y a (supported_as _ x (tree.arrow (spanned c d) (listed ps) y a) e h) in
-      arrow_first names a ps k c i j r p.is_plain s p.supports_params
+      arrow_first names a ps k c i j r s p.supports_params
   assignment_first names k x c d (rules.bare_yield_rule g i n s e) h = rw i refl
   assignment_first names k x c d (rules.yield_rule y g i b s r e) h = rw i refl
   assignment_first names k x c d (rules.delegate_rule y g i b m r e) h = rw i refl

@@ -15,7 +15,7 @@ use Rattle.swc_ecma_parser_input.specs.Place.{Place, after}
 use Rattle.swc_ecma_parser_model.specs.Tree as tree
 use Rattle.swc_ecma_parser_model.specs.Tree.{Tree, Text, listed, trees}
 use Rattle.swc_ecma_parser_model.specs.Forms.{span_of, is_rest}
-use Rattle.swc_ecma_parser_model.specs.Targets.{as_target, as_element}
+use Rattle.swc_ecma_parser_model.specs.Targets.{as_target, as_element, binds}
 use Rattle.swc_ecma_parser_grammar.specs.Looks.{kind_at, sees, same_kind, span_at, spanned}
 use Rattle.swc_ecma_parser_grammar.specs.Names.{Code, is_name}
 use Rattle.swc_ecma_parser_grammar.specs.Reads.{with_in, ReadsToken}
@@ -43,7 +43,7 @@ use Rattle.swc_ecma_parser_reader.proofs.Takes.{Falls, moves}
 use Rattle.swc_ecma_parser_reader.proofs.Steps.{loop_more, loop_done}
 use Rattle.swc_ecma_parser_reader.proofs.expressions.Falls.{element_falls, FunctionsFall}
 use Rattle.swc_ecma_parser_reader.proofs.expressions.Loops.{shorter_by}
-use Rattle.swc_ecma_parser_reader.proofs.expressions.Groups.{sequenced_by, ReadsParts}
+use Rattle.swc_ecma_parser_reader.proofs.expressions.Groups.{IsTied, ReadsParts}
 use Rattle.swc_ecma_parser_reader.proofs.expressions.CompleteKinds.{NamesStand, supported_as, seen, token_first, touching, no_hash, worded, bracket_here, begin_kind, begin_seen, ends_part}
 
 -- ---- fixed tokens, names and words
@@ -131,11 +131,13 @@ pub record IsRead (In : Goal → Type 0) (inner : Class → Reader Tree) (cover 
   pub begins_element : (k : Code) (p : Tree) (c d : Place) → In (element_goal assigning k p c d) → supported_in k.flags.module p ≡ true → begin_kind (kind_at c) ≡ true
   pub cover_falls : (s : State) → Falls 1 (length s.at.left) (cover s)
   -- an expression is what its parts say, each of which may still become a pattern
-  pub tied : (s : State) → inner expression s ≡ sequenced_by cover s
+  pub tied : IsTied inner cover
   pub parts : ReadsParts cover
   -- a name before `=>` is that name alone, and a parameter in parentheses is what could be assigned to, or a rest
   pub names : NamesStand In
   pub parameter : (k : Code) (x : Tree) (c d : Place) → PatternItemRule In binding k x c d → supported_in k.flags.module x ≡ true → ArrowPartRule In k x c d
+  -- and each is what could be assigned to, and binds
+  pub assigned : (k : Code) (x : Tree) (c d : Place) → PatternItemRule In binding k x c d → supported_in k.flags.module x ≡ true → PatternItemRule In assigning k x c d × (binds x ≡ true)
 
 -- what the body of an arrow function is read as: no label stands around it, and nothing in it makes a program a module
 abbrev pub ReadsEnclosed : Reader Tree → Code → Tree → Place → Place → Type 0

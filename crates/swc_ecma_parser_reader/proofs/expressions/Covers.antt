@@ -10,6 +10,7 @@ use Rattle.swc_ecma_parser_token.specs.declared.token.Token.TheVariants as token
 use Rattle.swc_ecma_parser_token.specs.declared.token.Word.TheVariants as word
 use Rattle.swc_ecma_parser_token.specs.declared.token.TokenAndSpan.{TokenAndSpan}
 use Rattle.swc_ecma_parser_token.specs.Kind.{token_kind}
+use Rattle.swc_ecma_parser_input.specs.declared.context.Context.{Context}
 use Rattle.swc_ecma_parser_input.specs.Place.{Place}
 use Rattle.swc_ecma_parser_model.specs.declared.operators.AssignOp.TheVariants as assign
 use Rattle.swc_ecma_parser_model.specs.Tree as tree
@@ -26,6 +27,7 @@ use Rattle.swc_ecma_parser_grammar.proofs.Tests.{or_no}
 use Rattle.swc_ecma_parser_reader.specs.State.{State, Outcome, Reader, and_then, ◌>>=◌}
 use Rattle.swc_ecma_parser_reader.specs.Methods.{FunctionForm}
 use Rattle.swc_ecma_parser_reader.specs.Arrows.{begins_named_arrow, named_arrow, grouped}
+use Rattle.swc_ecma_parser_reader.specs.AsyncArrows.{begins_async_arrow}
 use Rattle.swc_ecma_parser_reader.proofs.expressions.Awaits.{other_awaits}
 use Rattle.swc_ecma_parser_reader.specs.Expressions.{Cover, done, literal, begins_async_call, heads_arrow, operator_at, unheaded, close, unmarked, target, target_or, goes_on, elements, array, properties, object, paren, marked_primary, primary, left_turn, left_from, left_head, left, postfix, unary_expr, binary_turn, binary_from, binary_expr, assigned_to, assigned, behind_operators, operators_expr, postfixed, continued, closed, assigned_pattern, behind_literal, open_literal, done_expr, cover_expr, assignment_expr, is_literal, plain_expr}
 use Rattle.swc_ecma_parser_reader.specs.Yields.{begins_yield}
@@ -54,7 +56,7 @@ three_steps : {A B C D : Type 0} (o : Outcome A) (f : A → Reader B) (g : B →
 three_steps (Ok p) f g h = two_steps (f p.0 p.1) g h
 three_steps (Err e) f g h = refl
 
-four_steps : {A B C D E : Type 0} (o : Outcome A) (f : A → Reader B) (g : B → Reader C) (h : C → Reader D) (k : D → Reader E)
+pub four_steps : {A B C D E : Type 0} (o : Outcome A) (f : A → Reader B) (g : B → Reader C) (h : C → Reader D) (k : D → Reader E)
     → and_then (and_then (and_then (and_then o f) g) h) k ≡ and_then o (λ a. f a >>= (λ b. g b >>= (λ c. h c >>= k)))
 four_steps (Ok p) f g h k = three_steps (f p.0 p.1) g h k
 four_steps (Err e) f g h k = refl
@@ -98,9 +100,13 @@ unworded : (text : Text) (c : Place) → is_mark (kind_at c) ≡ true → word_a
 unfolding word_at kind_at
 unworded text c e = unworded_first text c.left e
 
-calls_nothing : (c : Place) → is_mark (kind_at c) ≡ true → begins_async_call c ≡ false
+pub calls_nothing : (c : Place) → is_mark (kind_at c) ≡ true → begins_async_call c ≡ false
 unfolding begins_async_call
 calls_nothing c e = rw (unworded (codes "async") c e) refl
+
+pub heads_nothing : (f : Context) (c : Place) → is_mark (kind_at c) ≡ true → begins_async_arrow f c ≡ false
+unfolding begins_async_arrow
+heads_nothing f c e = rw (unworded (codes "async") c e) refl
 
 -- ---- closed, or as a target
 
@@ -295,9 +301,10 @@ module _ (inner : Class → Reader Tree) (cover : Reader Cover) where
 
     -- ---- an assignment expression, by what stands first
 
-    pub plain_operators : (s : State) → begins_yield s.code.flags s.at ≡ false → begins_named_arrow s.code.flags s.at ≡ false → sees kind.LParen s.at ≡ false → plain_expr inner cover function s ≡ operators_expr inner cover function s
+    pub plain_operators : (s : State) → begins_yield s.code.flags s.at ≡ false → begins_named_arrow s.code.flags s.at ≡ false → sees kind.LParen s.at ≡ false
+        → begins_async_arrow s.code.flags s.at ≡ false → begins_async_call s.at ≡ false → plain_expr inner cover function s ≡ operators_expr inner cover function s
     unfolding plain_expr
-    plain_operators s y n p = rw (y, n, p) refl
+    plain_operators s y n p a c = rw (y, n, p, a, c) refl
 
     -- a name before `=>`
     pub plain_named : (s : State) → begins_yield s.code.flags s.at ≡ false → begins_named_arrow s.code.flags s.at ≡ true → plain_expr inner cover function s ≡ named_arrow inner function s
@@ -309,16 +316,17 @@ module _ (inner : Class → Reader Tree) (cover : Reader Cover) where
     unfolding plain_expr begins_yield begins_named_arrow same_kind
     plain_grouped s e = rw ((paren_here s.code.flags s.at e).0, e) refl
 
-    -- an array or object begins with no `yield`, no name and no `(`
+    -- an array or object begins with no `yield`, no name, no `(` and no `async`
     other_first : (s : State) → begins_literal s.at ≡ true → (begins_yield s.code.flags s.at ≡ false) × (begins_named_arrow s.code.flags s.at ≡ false) × (sees kind.LParen s.at ≡ false)
+        × (begins_async_arrow s.code.flags s.at ≡ false) × (begins_async_call s.at ≡ false)
     unfolding begins_yield begins_named_arrow same_kind
     other_first s h = elim (literal_kind s.at h) [
-      | inl e ↦ (rw e refl, rw (array_here s.code.flags s.at e).0 refl, rw e refl)
-      | inr e ↦ (rw e refl, rw (object_here s.code.flags s.at e).0 refl, rw e refl)
+      | inl e ↦ (rw e refl, rw (array_here s.code.flags s.at e).0 refl, rw e refl, heads_nothing s.code.flags s.at (ap is_mark e), calls_nothing s.at (ap is_mark e))
+      | inr e ↦ (rw e refl, rw (object_here s.code.flags s.at e).0 refl, rw e refl, heads_nothing s.code.flags s.at (ap is_mark e), calls_nothing s.at (ap is_mark e))
     ]
 
     plain_literal : (s : State) → begins_literal s.at ≡ true → plain_expr inner cover function s ≡ and_then (and_then (opened s) close) (continued inner cover (span_at s.at))
-    plain_literal s h = let f = other_first s h in plain_operators s f.0 f.1 f.2 ∙ operators_literal s h
+    plain_literal s h = let f = other_first s h in plain_operators s f.0 f.1 f.2 f.3 f.4 ∙ operators_literal s h
 
     -- an expression, which stays one
     pub record Settled (s : State) (v : Cover) (t : State) : Type 0 where

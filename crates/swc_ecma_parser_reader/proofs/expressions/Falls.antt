@@ -37,6 +37,7 @@ use Rattle.swc_ecma_parser_reader.specs.Methods.{MethodForm, FunctionForm, expre
 use Rattle.swc_ecma_parser_reader.specs.Expressions.{Cover, Covers, no_covers, with_cover, unmarked, close, target_or, target, goes_on, literal, literal_in, taken, any_word, word_in, word_by, touching_word, private_name, word_property, is_word_at, key_or, literal_key, shorthand_name, shorthand, dotted, ident_expr, this, bare_new, closed_left, simple, update_behind, behind_operand, postfix_at, right_class, operator_at, left_operand, unmixed, unassigned, unheaded, heads_arrow, begins_async_call, inside, brackets, access, spread_element, plain_element, element, behind_comma, behind_argument, arguments_turn, arguments, covered, spread_item, plain_item, item, behind_item, array_turn, elements, array, computed_key, key, key_value, initialized, initialized_name, initialized_key, bare_key, behind_key, method, behind_words, keyed_property, spread_property, property, behind_property, object_turn, properties, object, paren, marked_primary, literal_or, primary, accessed, called, left_turn, left_from, super_call, super_property, super_access, behind_super, super_head, constructed, new_head, import_call, meta_fault, import_meta, import_head, left_head, left, left_expr, prefixed, update_before, await_allowed, await_expr, postfix, updated, unary_by, unary_expr, operated, binary_by, binary_turn, binary_from, binary_expr, conditional, assigned_to, assigned, assigned_or, behind_operators, operators_expr, plain_expr, postfixed, continued, closed, assigned_pattern, behind_literal, open_literal, done_expr, cover_expr, assignment_expr, sequence_turn, sequence_from, expression_expr, expr_level, named_expr}
 use Rattle.swc_ecma_parser_reader.specs.Jumps.{told}
 use Rattle.swc_ecma_parser_reader.specs.Arrows.{begins_named_arrow, Group, behind_part, closed_parts, may_stand_alone, closed_group, parameter_or, parameter, parameters_of, arrow_body, arrow_from, named_arrow, rest_part, part_turn, group_parts, group, behind_group, grouped}
+use Rattle.swc_ecma_parser_reader.specs.AsyncArrows.{Argument, closed_arguments, closed_argument, argument_pattern, argument_parameter, argument_parameters, async_called, spread_argument, plain_argument, argument, either_turn, either_arguments, begins_async_arrow, async_named_arrow, behind_async, async_grouped}
 use Rattle.swc_ecma_parser_reader.specs.Yields.{begins_yield, bare_yield, yielded, behind_yield, yield_expr}
 use Rattle.swc_ecma_parser_reader.specs.Heads.{sequenced, head_expr}
 use Rattle.swc_ecma_parser_reader.proofs.Takes.{Falls, falls_then, falls_last, falls_coded, falls_found, falls_if, less, falls_next, moves, takes, takes_one, falls_past, falls_moved, wanted_falls, refuse_falls, refused_falls, fault_falls, expect_falls, name_falls, loop_falls}
@@ -234,6 +235,20 @@ behind_part_falls : (found : List Cover) (s : State) → Falls 0 (length s.at.le
 behind_part_falls found s = falls_if 0 (length s.at.left) (sees kind.RParen s.at) _ _ (omega arith)
     (falls_then 0 0 (length s.at.left) (expect kind.Comma s) _ (expect_falls kind.Comma s) (λ _ t. falls_if 0 (length t.at.left) (sees kind.RParen t.at) _ _ (omega arith) (omega arith)))
 
+closed_arguments_fall : (found : List Argument) (s : State) → Falls 0 (length s.at.left) (closed_arguments found s)
+closed_arguments_fall [] s = omega arith
+closed_arguments_fall (a ∷ rest) s = falls_then 0 0 (length s.at.left) (closed_argument a s) _ (falls_last 0 (length s.at.left) (close a.cover s) _ (close_falls a.cover s)) (λ x t.
+    falls_last 0 (length t.at.left) (closed_arguments rest t) _ (closed_arguments_fall rest t))
+
+argument_parameter_falls : (a : Argument) (s : State) → Falls 0 (length s.at.left) (argument_parameter a s)
+unfolding argument_parameter
+argument_parameter_falls a s = parameter_or_falls a.cover.x (cond a.cover.comma None (argument_pattern a.dots a.cover.x)) s
+
+argument_parameters_fall : (found : List Argument) (s : State) → Falls 0 (length s.at.left) (argument_parameters found s)
+argument_parameters_fall [] s = omega arith
+argument_parameters_fall (a ∷ rest) s = falls_then 0 0 (length s.at.left) (argument_parameter a s) _ (argument_parameter_falls a s) (λ p t.
+    falls_last 0 (length t.at.left) (argument_parameters rest t) _ (argument_parameters_fall rest t))
+
 -- the second of two tests
 second : (a b : Bool) → (a || b) ≡ true → a ≡ false → b ≡ true
 second true b h e = cc
@@ -292,6 +307,23 @@ module _ (inner : Class → Reader Tree) (cover : Reader Cover) (h : (class : Cl
   item_falls s = falls_if 1 (length s.at.left) (sees kind.DotDotDot s.at) _ _
       (falls_moved 1 s _ (falls_last 1 (length (after s.at).left) (covered inner cover (moved s)) _ (covered_falls (moved s))))
       (falls_last 1 (length s.at.left) (covered inner cover s) _ (covered_falls s))
+
+  -- an argument that may still become a parameter
+  pub argument_falls : (s : State) → Falls 1 (length s.at.left) (argument inner cover s)
+  unfolding argument spread_argument plain_argument
+  argument_falls s = falls_if 1 (length s.at.left) (sees kind.DotDotDot s.at) _ _
+      (falls_moved 1 s _ (falls_last 1 (length (after s.at).left) (covered inner cover (moved s)) _ (covered_falls (moved s))))
+      (falls_last 1 (length s.at.left) (covered inner cover s) _ (covered_falls s))
+
+  either_turn_falls : (found : List Argument) (s : State) → Falls 0 (length s.at.left) (either_turn inner cover found s)
+  unfolding either_turn
+  either_turn_falls found s = falls_if 0 (length s.at.left) (sees kind.RParen s.at) _ _ (let m = moves s.at in omega arith)
+      (falls_then 0 0 (length s.at.left) (argument inner cover s) _ (less (length s.at.left) (argument inner cover s) (argument_falls s)) (λ a t.
+      falls_if 0 (length t.at.left) (sees kind.RParen t.at) _ _ (omega arith) (falls_last 0 (length t.at.left) (expect kind.Comma t) _ (expect_falls kind.Comma t))))
+
+  either_arguments_fall : (s : State) → Falls 0 (length s.at.left) (either_arguments inner cover s)
+  unfolding either_arguments
+  either_arguments_fall s = falls_moved 0 s _ (loop_falls (either_turn inner cover) either_turn_falls [] (moved s))
 
   behind_item_falls : (is_spread : Bool) (found : Covers) (s : State) → Falls 0 (length s.at.left) (behind_item inner cover is_spread found s)
   behind_item_falls is_spread found s = falls_if 0 (length s.at.left) (sees kind.RBracket s.at) _ _ (omega arith) (falls_last 0 (length s.at.left) (expect kind.Comma s) _ (expect_falls kind.Comma s))
@@ -649,11 +681,31 @@ module _ (inner : Class → Reader Tree) (cover : Reader Cover) (h : (class : Cl
     unfolding grouped
     grouped_falls s e = falls_next (length s.at.left) (group inner function cover s) _ (group_falls s e) (λ g t. behind_group_falls (span_at s.at) g t)
 
+    -- the same behind `async`
+    async_named_falls : (s : State) → Falls 1 (length s.at.left) (async_named_arrow inner function s)
+    unfolding async_named_arrow
+    async_named_falls s = falls_moved 1 s _ (falls_next (length (after s.at).left) (function parameter_form (moved s)) _ (i.parameters (moved s)) (λ p t.
+        falls_if 0 (length t.at.left) (sees kind.Arrow t.at) _ _ (arrow_from_falls true (span_at s.at) (p ∷ []) t) (wanted_falls Tree 0 (length t.at.left) faults.Unexpected t)))
+
+    behind_async_falls : (start : Span) (x : Tree) (found : List Argument) (s : State) → Falls 0 (length s.at.left) (behind_async inner function cover start x found s)
+    unfolding async_called
+    behind_async_falls start x found s = falls_if 0 (length s.at.left) (sees kind.Arrow s.at) _ _
+        (falls_then 0 0 (length s.at.left) (argument_parameters found s) _ (argument_parameters_fall found s) (λ ps t. arrow_from_falls true start ps t))
+        (falls_then 0 0 (length s.at.left) (async_called start x found s) _ (falls_last 0 (length s.at.left) (closed_arguments found s) _ (closed_arguments_fall found s))
+        (λ e t. continued_falls start e t))
+
+    async_grouped_falls : (s : State) → Falls 1 (length s.at.left) (async_grouped inner function cover s)
+    unfolding async_grouped
+    async_grouped_falls s = falls_next (length s.at.left) (ident_expr s) _ (ident_falls s) (λ x t.
+        falls_then 0 0 (length t.at.left) (either_arguments inner cover t) _ (either_arguments_fall t) (λ found u. behind_async_falls (span_at s.at) x found u))
+
     pub plain_falls : (s : State) → Falls 1 (length s.at.left) (plain_expr inner cover function s)
     unfolding plain_expr
     plain_falls s = falls_when 1 (length s.at.left) (begins_yield s.code.flags s.at) _ _ (yield_falls s) (λ _.
         falls_if 1 (length s.at.left) (begins_named_arrow s.code.flags s.at) _ _ (named_arrow_falls s)
-        (falls_when 1 (length s.at.left) (sees kind.LParen s.at) _ _ (λ e. grouped_falls s (no_end s kind.LParen (λ z. cc) e)) (λ _. operators_falls s)))
+        (falls_when 1 (length s.at.left) (sees kind.LParen s.at) _ _ (λ e. grouped_falls s (no_end s kind.LParen (λ z. cc) e)) (λ _.
+        falls_if 1 (length s.at.left) (begins_async_arrow s.code.flags s.at) _ _ (async_named_falls s)
+        (falls_if 1 (length s.at.left) (begins_async_call s.at) _ _ (async_grouped_falls s) (operators_falls s)))))
 
     pub cover_expr_falls : (s : State) → Falls 1 (length s.at.left) (cover_expr inner cover function s)
     unfolding cover_expr done_expr

@@ -9,7 +9,7 @@ use Rattle.swc_ecma_parser_token.specs.declared.token.Token.TheVariants as token
 use Rattle.swc_ecma_parser_token.specs.declared.token.TokenAndSpan.{TokenAndSpan}
 use Rattle.swc_ecma_parser_model.specs.Tree.{Tree}
 use Rattle.swc_ecma_parser_grammar.specs.Looks.{kind_at, sees, same_kind, span_at}
-use Rattle.swc_ecma_parser_grammar.specs.language.Goals.{Class, expression}
+use Rattle.swc_ecma_parser_grammar.specs.language.Goals.{Class, expression, assignment}
 use Rattle.swc_ecma_parser_reader.specs.State.{State, Reader, and_then, wanted, too_deep, too_deep_in, too_deep_at}
 use Rattle.swc_ecma_parser_reader.specs.Methods.{FunctionForm}
 use Rattle.swc_ecma_parser_reader.specs.Yields.{begins_yield}
@@ -18,8 +18,8 @@ use Rattle.swc_ecma_parser_reader.specs.Expressions.{Cover, close, literal, mark
 use Rattle.swc_ecma_parser_reader.specs.Reader.{expr, cover}
 use Rattle.swc_ecma_parser_reader.proofs.Meets.{Meets, meets_then, wanted_meets, too_deep_meets, meant, saw}
 use Rattle.swc_ecma_parser_reader.proofs.expressions.CompleteKinds.{close_here, dots_here}
-use Rattle.swc_ecma_parser_reader.proofs.expressions.Covers.{met, plain_operators, operators_at}
-use Rattle.swc_ecma_parser_reader.proofs.expressions.Groups.{sequence_part, sequence_behind, sequenced_by}
+use Rattle.swc_ecma_parser_reader.proofs.expressions.Covers.{met, is_mark, heads_nothing, calls_nothing, plain_operators, operators_at}
+use Rattle.swc_ecma_parser_reader.proofs.expressions.Groups.{sequence_part, sequence_behind, sequenced_by, IsTied}
 
 -- ---- an expression is what its parts say
 
@@ -39,12 +39,20 @@ too_deep_then : {A B : Type 0} (s : State) (f : A → Reader B) → too_deep {A 
 unfolding too_deep
 too_deep_then s f = too_deep_in_then s s.at.left f
 
-pub tied_at : (n : ℕ) (s : State) → expr n expression s ≡ sequenced_by (cover n) s
+whole_at : (n : ℕ) (s : State) → expr n expression s ≡ sequenced_by (cover n) s
 unfolding expr cover sequenced_by sequence_behind sequence_part expression_expr sequence_from sequence_turn assignment_expr expr_level
-tied_at zero s =
+whole_at zero s =
     let behind : Tree → Reader Tree = λ x t. if sees kind.Comma t.at then sequence_behind (cover zero) (span_at s.at) x t else Ok (x, t) in
     too_deep_then s behind ∙ ap (λ o. and_then o behind) (too_deep_then s close)
-tied_at (suc n) s = refl
+whole_at (suc n) s = refl
+
+each_at : (n : ℕ) (s : State) → expr n assignment s ≡ and_then (cover n s) close
+unfolding expr cover assignment_expr expr_level
+each_at zero s = too_deep_then s close
+each_at (suc n) s = refl
+
+pub tied_at : (n : ℕ) → IsTied (expr n) (cover n)
+tied_at n = record { whole = whole_at n; each = each_at n }
 
 -- ---- what begins no expression
 
@@ -65,8 +73,10 @@ module _ (inner : Class → Reader Tree) (covers : Reader Cover) (function : Fun
 
   plain_none : begins_none (kind_at s.at) → plain_expr inner covers function s ≡ and_then (wanted faults.Unexpected s) (continued inner covers (span_at s.at))
   unfolding begins_yield begins_named_arrow same_kind
-  plain_none (inl e) = plain_operators inner covers function s (rw e refl) (rw (close_here s.code.flags s.at e).0 refl) (rw e refl) ∙ operators_none (inl e)
-  plain_none (inr e) = plain_operators inner covers function s (rw e refl) (rw (dots_here s.code.flags s.at e).0 refl) (rw e refl) ∙ operators_none (inr e)
+  plain_none (inl e) = plain_operators inner covers function s (rw e refl) (rw (close_here s.code.flags s.at e).0 refl) (rw e refl)
+      (heads_nothing s.code.flags s.at (ap is_mark e)) (calls_nothing s.at (ap is_mark e)) ∙ operators_none (inl e)
+  plain_none (inr e) = plain_operators inner covers function s (rw e refl) (rw (dots_here s.code.flags s.at e).0 refl) (rw e refl)
+      (heads_nothing s.code.flags s.at (ap is_mark e)) (calls_nothing s.at (ap is_mark e)) ∙ operators_none (inr e)
 
   plain_refuses : begins_none (kind_at s.at) → Meets (λ _ _. ⊥) (plain_expr inner covers function s)
   plain_refuses h = meant _ _ _ _ (sym (plain_none h)) (meets_then {P = λ _ _. ⊥} _ (wanted faults.Unexpected s) _ (wanted_meets _ faults.Unexpected s) (λ _ _ z. absurd z))

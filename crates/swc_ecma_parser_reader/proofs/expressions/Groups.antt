@@ -11,7 +11,7 @@ use Rattle.swc_ecma_parser_grammar.specs.Looks.{kind_at, breaks_at, sees, same_k
 use Rattle.swc_ecma_parser_grammar.specs.Names.{Code}
 use Rattle.swc_ecma_parser_grammar.specs.Follows.{continues_left_side}
 use Rattle.swc_ecma_parser_grammar.specs.Reads.{with_in}
-use Rattle.swc_ecma_parser_grammar.specs.language.Goals.{Class, expression}
+use Rattle.swc_ecma_parser_grammar.specs.language.Goals.{Class, expression, assignment}
 use Rattle.swc_ecma_parser_grammar.proofs.Tests.{and_yes, and_no}
 use Rattle.swc_ecma_parser_reader.specs.State.{State, Outcome, Reader, and_then, ◌>>=◌, ◌>>◌, pure, span_here, since, skip, moved, coded, flagged, within, expect, Step, More, Done, loop}
 use Rattle.swc_ecma_parser_reader.specs.Methods.{FunctionForm, parameter_form}
@@ -51,6 +51,11 @@ pub record ReadsParts (cover : Reader Cover) : Type 0 where
   pub shorter : (s : State) (v : Cover) (t : State) → cover s ≡ Ok (v, t) → length t.at.left < length s.at.left
   pub code : (s : State) (v : Cover) (t : State) → cover s ≡ Ok (v, t) → t.code ≡ s.code
   pub begins : (s : State) (v : Cover) (t : State) → cover s ≡ Ok (v, t) → (sees kind.RParen s.at ≡ false) × (sees kind.DotDotDot s.at ≡ false)
+
+-- an expression is what its parts say, and an assignment expression is one part, closed
+pub record IsTied (inner : Class → Reader Tree) (cover : Reader Cover) : Type 0 where
+  pub whole : (s : State) → inner expression s ≡ sequenced_by cover s
+  pub each : (s : State) → inner assignment s ≡ and_then (cover s) close
 
 -- ---- lists of parts
 
@@ -141,7 +146,7 @@ closed_group_reads start g s h = rw (h.some, h.no_rest, h.no_comma, closed_parts
 
 -- ---- fixed tokens
 
-expected : (k : TokenKind) (s : State) → Meets (λ _ t. (t ≡ moved s) × (sees k s.at ≡ true)) (expect k s)
+pub expected : (k : TokenKind) (s : State) → Meets (λ _ t. (t ≡ moved s) × (sees k s.at ≡ true)) (expect k s)
 unfolding expect
 expected k s = meets_if _ (sees k s.at) _ _ (λ e. (refl, e)) (λ _. refuse_meets _ _ s)
 
@@ -393,7 +398,7 @@ module _ (k : Code) (inner : Class → Reader Tree) (function : FunctionForm →
       (parts_begin o.before o.m o.begun h ∙ part_last o.before o.m o.v u (begun_inside o.before o.m o.begun) o.reads c ∙ ap (λ z. Ok (ended z false, flagged k u)) (sym o.is))
 
 module _ (inner : Class → Reader Tree) (function : FunctionForm → Reader Tree) (cover : Reader Cover)
-    (tied : (s : State) → inner expression s ≡ sequenced_by cover s) (reads_parts : ReadsParts cover) (s : State) where
+    (tied : IsTied inner cover) (reads_parts : ReadsParts cover) (s : State) where
   -- behind `(`, where `in` is an operator
   abbrev inside_state : State
   inside_state = coded (with_in s.code) (moved s)
@@ -453,7 +458,7 @@ module _ (inner : Class → Reader Tree) (function : FunctionForm → Reader Tre
   paren_reads : (vs : List Cover) (u : State) → Ended cover inside_state vs u → Unmarked vs → sees kind.RParen u.at ≡ true
       → paren inner cover s ≡ Ok (in_parens (span_at s.at) (group_to vs u) (behind_close u), behind_close u)
   unfolding paren inside expect
-  paren_reads vs u o h c = rw (tied inside_state, sequence_reads cover reads_parts inside_state vs u o h (close_apart u.at c), c) refl
+  paren_reads vs u o h c = rw (tied.whole inside_state, sequence_reads cover reads_parts inside_state vs u o h (close_apart u.at c), c) refl
 
   -- a group that is closed is what stands in parentheses
   pub group_paren : (g : Group) (m : State) (e : Tree) (t : State) → group inner function cover s ≡ Ok (g, m) → closed_group (span_at s.at) g m ≡ Ok (e, t)
@@ -484,7 +489,7 @@ module _ (inner : Class → Reader Tree) (function : FunctionForm → Reader Tre
       let (_, w, z, i) = then_ok (expect kind.RParen n) _ e t more in
       let (is, last) = same_answer (tree.paren (record { lo = (span_at s.at).lo; hi = w.at.last.hi }) x) e w t i in
       let (moves_on, close) = expect_is kind.RParen n w z in
-      let p = sequence_is cover inside_state y u (sym (tied inside_state) ∙ q) in
+      let p = sequence_is cover inside_state y u (sym (tied.whole inside_state) ∙ q) in
       let g : Group = group_to p.vs u in
       let h : StandsAlone g = record { some = rw p.ended.is (some_parts p.ended.before p.ended.v); no_rest = refl; no_comma = refl; unmarked = p.unmarked } in
       let form : in_parens (span_at s.at) g t ≡ e = ap (in_parens (span_at s.at) g) (sym last)

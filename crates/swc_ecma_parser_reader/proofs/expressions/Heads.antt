@@ -29,7 +29,7 @@ use Rattle.swc_ecma_parser_reader.proofs.Between.{SoundTree, Sound, same, sound_
 use Rattle.swc_ecma_parser_reader.proofs.expressions.SoundSteps.{reject_meets}
 use Rattle.swc_ecma_parser_reader.proofs.expressions.Targets.{target_async}
 use Rattle.swc_ecma_parser_reader.proofs.expressions.Covers.{meets_each, met}
-use Rattle.swc_ecma_parser_reader.proofs.expressions.Groups.{sequenced_by, ReadsParts}
+use Rattle.swc_ecma_parser_reader.proofs.expressions.Groups.{IsTied, ReadsParts}
 use Rattle.swc_ecma_parser_reader.proofs.expressions.SoundCovers.{CoverRead, SoundCover}
 use Rattle.swc_ecma_parser_reader.proofs.expressions.SoundLefts.{FunctionsSound}
 use Rattle.swc_ecma_parser_reader.proofs.expressions.SoundTargets.{name_stays}
@@ -86,7 +86,7 @@ SoundHead n s v t = Sound same (λ k l. walk (env_of k l) v.x) (notes_of v.x) (H
 
 module _ (n : ℕ) (inner : Class → Reader Tree) (cover : Reader Cover) (sound : (class : Class) (s : State) → Meets (λ x t. SoundTree (ReadsClass n class) s x t) (inner class s))
     (covers : (s : State) → Meets (λ v t. SoundCover n s v t) (cover s))
-    (function : FunctionForm → Reader Tree) (functions : FunctionsSound n function) (tied : (s : State) → inner expression s ≡ sequenced_by cover s) (parts : ReadsParts cover) (s : State) where
+    (function : FunctionForm → Reader Tree) (functions : FunctionsSound n function) (tied : IsTied inner cover) (parts : ReadsParts cover) (s : State) where
   abbrev SoundNext : Cover → State → Type 0
   SoundNext v t = SoundHead (suc n) s v t
 

@@ -35,6 +35,7 @@ use Rattle.swc_ecma_parser_reader.specs.Methods.{MethodForm, FunctionForm, expre
 use Rattle.swc_ecma_parser_reader.specs.Expressions.{Cover, no_covers, unmarked, close, target_or, target, goes_on, literal, literal_in, taken, any_word, word_in, word_by, touching_word, private_name, word_property, is_word_at, key_or, literal_key, shorthand_name, shorthand, dotted, ident_expr, this, bare_new, closed_left, simple, update_behind, behind_operand, postfix_at, right_class, read_operator, operator_at, left_operand, unmixed, unassigned, unassignable, unheaded, heads_arrow, begins_async_call, inside, brackets, access, spread_element, plain_element, element, arguments_turn, arguments, covered, spread_item, plain_item, item, array_turn, elements, array, computed_key, key, key_value, initialized, initialized_name, initialized_key, bare_key, behind_key, method, behind_words, keyed_property, spread_property, property, object_turn, properties, object, paren, marked_primary, literal_or, primary, accessed, called, left_turn, left_from, super_call, super_property, super_access, behind_super, super_head, constructed, new_head, import_call, meta_fault, import_meta, import_head, left_head, left, left_expr, prefixed, update_before, await_expr, postfix, updated, unary_by, unary_expr, operated, binary_by, binary_turn, binary_from, binary_expr, conditional, assigned_to, assigned, assigned_or, behind_operators, operators_expr, plain_expr, postfixed, continued, closed, assigned_pattern, behind_literal, open_literal, done_expr, cover_expr, assignment_expr, sequence_turn, sequence_from, expression_expr, expr_level, named_expr}
 use Rattle.swc_ecma_parser_reader.specs.Jumps.{told}
 use Rattle.swc_ecma_parser_reader.specs.Arrows.{begins_named_arrow, Group, behind_part, closed_parts, may_stand_alone, closed_group, parameter, parameter_or, parameters_of, arrow_body, arrow_from, named_arrow, rest_part, part_turn, group_parts, group, behind_group, grouped}
+use Rattle.swc_ecma_parser_reader.specs.AsyncArrows.{Argument, closed_arguments, closed_argument, argument_pattern, argument_parameter, argument_parameters, async_called, spread_argument, plain_argument, argument, either_turn, either_arguments, begins_async_arrow, async_named_arrow, behind_async, async_grouped}
 use Rattle.swc_ecma_parser_reader.specs.Yields.{begins_yield, bare_yield, yielded, behind_yield, yield_expr}
 use Rattle.swc_ecma_parser_reader.specs.Heads.{sequenced, head_expr}
 use Rattle.swc_ecma_parser_reader.proofs.Meets.{Answers, answers_then, answers_if, saw}
@@ -175,6 +176,20 @@ behind_part_keeps : (b : State) (found : List Cover) (s : State) → IsBehind b 
 behind_part_keeps b found s f = answers_if _ _ (sees kind.RParen s.at) _ _ (λ _. f) (λ _. answers_then _ _ (expect kind.Comma s) _ (expect_keeps b s f kind.Comma) (λ _ t g.
     answers_if _ _ (sees kind.RParen t.at) _ _ (λ _. g) (λ _. g)))
 
+closed_arguments_keep : (b : State) (found : List Argument) (s : State) → IsBehind b s → Answers (Kept b) (Lost b) (closed_arguments found s)
+closed_arguments_keep b [] s f = f
+closed_arguments_keep b (a ∷ rest) s f = answers_then _ _ (closed_argument a s) _ (answers_then _ _ (close a.cover s) _ (close_keeps b s f a.cover) (λ x t g. g)) (λ x t g.
+    answers_then _ _ (closed_arguments rest t) _ (closed_arguments_keep b rest t g) (λ xs u k. k))
+
+argument_parameter_keeps : (b : State) (a : Argument) (s : State) → IsBehind b s → Answers (Kept b) (Lost b) (argument_parameter a s)
+unfolding argument_parameter
+argument_parameter_keeps b a s f = parameter_or_keeps b a.cover.x (cond a.cover.comma None (argument_pattern a.dots a.cover.x)) s f
+
+argument_parameters_keep : (b : State) (found : List Argument) (s : State) → IsBehind b s → Answers (Kept b) (Lost b) (argument_parameters found s)
+argument_parameters_keep b [] s f = f
+argument_parameters_keep b (a ∷ rest) s f = answers_then _ _ (argument_parameter a s) _ (argument_parameter_keeps b a s f) (λ p t g.
+    answers_then _ _ (argument_parameters rest t) _ (argument_parameters_keep b rest t g) (λ ps u k. k))
+
 literal_key_keeps : (b : State) (s : State) → IsBehind b s → Answers (Kept b) (Lost b) (literal_key s)
 unfolding literal_key
 literal_key_keeps b s f = answers_then _ _ (literal s) _ (literal_keeps b s f) by_key
@@ -257,6 +272,19 @@ module _ (inner : Class → Reader Tree) (cover : Reader Cover) (below : (class 
       answers_if _ _ (sees kind.Comma t.at) _ _ (λ _. behind_after b t g) (λ _.
       answers_then _ _ (item inner cover t) _ (item_keeps b t g) (λ v u k.
       answers_if _ _ (sees kind.RBracket u.at) _ _ (λ _. k) (λ _. answers_then _ _ (expect kind.Comma u) _ (expect_keeps b u k kind.Comma) (λ _ w j. j)))))) no_covers s f
+
+  argument_keeps : (b : State) (s : State) → IsBehind b s → Answers (Kept b) (Lost b) (argument inner cover s)
+  unfolding argument spread_argument plain_argument
+  argument_keeps b s f = answers_if _ _ (sees kind.DotDotDot s.at) _ _
+      (λ _. answers_then _ _ (covered inner cover (moved s)) _ (covered_keeps b (moved s) (behind_after b s f)) (λ v t k. k))
+      (λ _. answers_then _ _ (covered inner cover s) _ (covered_keeps b s f) (λ v t k. k))
+
+  either_arguments_keep : (b : State) (s : State) → IsBehind b s → Answers (Kept b) (Lost b) (either_arguments inner cover s)
+  unfolding either_arguments either_turn
+  either_arguments_keep b s f = loop_keeps (either_turn inner cover) b
+      (λ found t g. answers_if _ _ (sees kind.RParen t.at) _ _ (λ _. behind_after b t g) (λ _.
+      answers_then _ _ (argument inner cover t) _ (argument_keeps b t g) (λ a u k.
+      answers_if _ _ (sees kind.RParen u.at) _ _ (λ _. k) (λ _. answers_then _ _ (expect kind.Comma u) _ (expect_keeps b u k kind.Comma) (λ _ w j. j))))) [] (moved s) (behind_after b s f)
 
   -- ---- properties
 
@@ -656,11 +684,31 @@ module _ (inner : Class → Reader Tree) (cover : Reader Cover) (below : (class 
       unfolding grouped
       grouped_keeps s f = answers_then _ _ (group inner function cover s) _ (group_keeps s f) (λ g t k. behind_group_keeps (span_at s.at) g t k)
 
+      -- the same behind `async`
+      async_named_keeps : (s : State) → IsBehind b s → Answers (Kept b) (Lost b) (async_named_arrow inner function s)
+      unfolding async_named_arrow
+      async_named_keeps s f = answers_then _ _ (function parameter_form (moved s)) _ (below_function parameter_form b (moved s) (behind_after b s f)) (λ p t g.
+          answers_if _ _ (sees kind.Arrow t.at) _ _ (λ _. arrow_from_keeps true (span_at s.at) (p ∷ []) t g) (λ _. unexpected_keeps b t g _))
+
+      behind_async_keeps : (start : Span) (x : Tree) (found : List Argument) (s : State) → IsBehind b s → Answers (Kept b) (Lost b) (behind_async inner function cover start x found s)
+      unfolding async_called
+      behind_async_keeps start x found s f = answers_if _ _ (sees kind.Arrow s.at) _ _
+          (λ _. answers_then _ _ (argument_parameters found s) _ (argument_parameters_keep b found s f) (λ ps t k. arrow_from_keeps true start ps t k))
+          (λ _. answers_then _ _ (async_called start x found s) _ (answers_then _ _ (closed_arguments found s) _ (closed_arguments_keep b found s f) (λ xs t k. k))
+          (λ e t k. continued_keeps start e t k))
+
+      async_grouped_keeps : (s : State) → IsBehind b s → Answers (Kept b) (Lost b) (async_grouped inner function cover s)
+      unfolding async_grouped
+      async_grouped_keeps s f = answers_then _ _ (ident_expr s) _ (ident_keeps b s f) (λ x t g.
+          answers_then _ _ (either_arguments inner cover t) _ (either_arguments_keep b t g) (λ found u k. behind_async_keeps (span_at s.at) x found u k))
+
       plain_keeps : (s : State) → IsBehind b s → Answers (Kept b) (Lost b) (plain_expr inner cover function s)
       unfolding plain_expr
       plain_keeps s f = answers_if _ _ (begins_yield s.code.flags s.at) _ _ (λ _. yield_keeps s f)
           (λ _. answers_if _ _ (begins_named_arrow s.code.flags s.at) _ _ (λ _. named_arrow_keeps s f)
-          (λ _. answers_if _ _ (sees kind.LParen s.at) _ _ (λ _. grouped_keeps s f) (λ _. operators_keeps s f)))
+          (λ _. answers_if _ _ (sees kind.LParen s.at) _ _ (λ _. grouped_keeps s f)
+          (λ _. answers_if _ _ (begins_async_arrow s.code.flags s.at) _ _ (λ _. async_named_keeps s f)
+          (λ _. answers_if _ _ (begins_async_call s.at) _ _ (λ _. async_grouped_keeps s f) (λ _. operators_keeps s f)))))
 
       pub cover_expr_keeps : (s : State) → IsBehind b s → Answers (Kept b) (Lost b) (cover_expr inner cover function s)
       unfolding cover_expr done_expr

@@ -2,18 +2,12 @@
 use Rattle.swc_ecma_parser_reader.proofs.Words.{async_begins, function_begins, begins_function}
 use Rattle.swc_ecma_parser_grammar.specs.language.Begins.{begins_expression, awaits}
 use Rattle.swc_ecma_parser_grammar.specs.language.Contexts.{in_arrow}
-use Rattle.std.proofs.Common.{◌≡◌, ◌≢◌, ℕ, suc, ◌+◌, ◌*◌, ◌≤◌, Bool, true, false, cond, List, [], ◌∷◌, Option, Some, None, Ok, Err, refl, sym, ◌∙◌, ap, arith}
-use Rattle.std.specs.Prelude.{nat_eq, not, ◌&&◌, ◌||◌, codes}
+use Rattle.std.proofs.Common.{◌≡◌, ◌≢◌, ℕ, suc, ◌+◌, ◌*◌, ◌≤◌, Bool, true, false, cond, List, [], ◌∷◌, Option, Some, None, Ok, refl, sym, ◌∙◌, ap, arith}
+use Rattle.std.specs.Prelude.{not, ◌&&◌, ◌||◌, codes}
 use Rattle.std.proofs.lemmas.Bool.{and_parts}
 use Rattle.swc_ecma_parser_common.specs.declared.span.Span.{Span}
 use Rattle.swc_ecma_parser_error.specs.Kind as faults
-use Rattle.swc_ecma_parser_error.specs.Kind.{Kind, Fault, fault_of}
-use Rattle.swc_ecma_parser_token.specs.declared.kind.TokenKind.{TokenKind}
 use Rattle.swc_ecma_parser_token.specs.declared.kind.TokenKind.TheVariants as kind
-use Rattle.swc_ecma_parser_token.specs.declared.token.Token.{Token}
-use Rattle.swc_ecma_parser_token.specs.declared.token.Token.TheVariants as token
-use Rattle.swc_ecma_parser_token.specs.declared.token.TokenAndSpan.{TokenAndSpan}
-use Rattle.swc_ecma_parser_input.specs.TokenSource.{means_out_of_memory}
 use Rattle.swc_ecma_parser_input.specs.Place.{after}
 use Rattle.swc_ecma_parser_model.specs.declared.operators.UnaryOp.{UnaryOp}
 use Rattle.swc_ecma_parser_model.specs.declared.operators.UpdateOp.{UpdateOp}
@@ -21,209 +15,28 @@ use Rattle.swc_ecma_parser_model.specs.declared.operators.BinaryOp.{BinaryOp}
 use Rattle.swc_ecma_parser_model.specs.declared.operators.AssignOp.{AssignOp}
 use Rattle.swc_ecma_parser_model.specs.declared.operators.AssignOp.TheVariants as assign
 use Rattle.swc_ecma_parser_model.specs.Tree as tree
-use Rattle.swc_ecma_parser_model.specs.Tree.{Tree, Text, listed}
+use Rattle.swc_ecma_parser_model.specs.Tree.{Tree, listed}
 use Rattle.swc_ecma_parser_model.specs.Forms.{is_simple_target, span_of, has_plain_params}
-use Rattle.swc_ecma_parser_model.specs.Targets.{as_target, as_parameter}
 use Rattle.swc_ecma_parser_grammar.specs.Looks.{kind_at, sees, span_at, breaks_at}
 use Rattle.swc_ecma_parser_grammar.specs.Names.{is_name, name_at}
-use Rattle.swc_ecma_parser_grammar.specs.Follows.{word_at, is_async_function, continues_left_side}
+use Rattle.swc_ecma_parser_grammar.specs.Follows.{word_at, is_async_function}
 use Rattle.swc_ecma_parser_grammar.specs.Own.{misplaced_directive}
 use Rattle.swc_ecma_parser_grammar.specs.Reads.{with_in}
 use Rattle.swc_ecma_parser_grammar.specs.language.Goals.{Class, expression, assignment, operator, unary, left_side, callee}
-use Rattle.swc_ecma_parser_grammar.specs.language.Operators.{unary_operator, update_operator, binary_operator, assign_operator, groups_left, mixes, is_unary}
-use Rattle.swc_ecma_parser_grammar.specs.language.Continues.{continues_conditional}
-use Rattle.swc_ecma_parser_reader.specs.State.{State, Outcome, Reader, and_then, ◌>>=◌, moved, noted, module_found, coded, within, enclosed, unlabelled, wanted, reject, reject_in, reject_at, fault_at, fault, expect, name, loop}
+use Rattle.swc_ecma_parser_grammar.specs.language.Operators.{unary_operator, update_operator, binary_operator, assign_operator}
+use Rattle.swc_ecma_parser_reader.specs.State.{State, Reader, and_then, ◌>>=◌, moved, noted, module_found, coded, within, enclosed, unlabelled, fault_at, fault, expect, loop}
 use Rattle.swc_ecma_parser_reader.specs.Methods.{MethodForm, FunctionForm, expression_form, property_form, parameter_form, block_form, modifies, begins_async_method, star, starred, method_words, is_bare}
-use Rattle.swc_ecma_parser_reader.specs.Expressions.{Cover, no_covers, unmarked, close, target_or, target, goes_on, literal, literal_in, taken, any_word, word_in, word_by, touching_word, private_name, word_property, is_word_at, key_or, literal_key, shorthand_name, shorthand, dotted, ident_expr, this, bare_new, closed_left, simple, update_behind, behind_operand, postfix_at, right_class, read_operator, operator_at, left_operand, unmixed, unassigned, unassignable, unheaded, heads_arrow, begins_async_call, inside, brackets, access, spread_element, plain_element, element, arguments_turn, arguments, covered, spread_item, plain_item, item, array_turn, elements, array, computed_key, key, key_value, initialized, initialized_name, initialized_key, bare_key, behind_key, method, behind_words, keyed_property, spread_property, property, object_turn, properties, object, paren, marked_primary, literal_or, primary, accessed, called, left_turn, left_from, super_call, super_property, super_access, behind_super, super_head, constructed, new_head, import_call, meta_fault, import_meta, import_head, left_head, left, left_expr, prefixed, update_before, await_expr, postfix, updated, unary_by, unary_expr, operated, binary_by, binary_turn, binary_from, binary_expr, conditional, assigned_to, assigned, assigned_or, behind_operators, operators_expr, plain_expr, postfixed, continued, closed, assigned_pattern, behind_literal, open_literal, done_expr, cover_expr, assignment_expr, sequence_turn, sequence_from, expression_expr, expr_level, named_expr}
+use Rattle.swc_ecma_parser_reader.specs.Expressions.{Cover, no_covers, close, target, goes_on, literal, any_word, word_property, is_word_at, shorthand, ident_expr, bare_new, simple, behind_operand, postfix_at, right_class, read_operator, operator_at, left_operand, unmixed, unassigned, unassignable, begins_async_call, inside, brackets, access, spread_element, plain_element, element, arguments_turn, arguments, covered, spread_item, plain_item, item, array_turn, elements, array, computed_key, key, key_value, initialized, initialized_name, initialized_key, bare_key, behind_key, method, behind_words, keyed_property, spread_property, property, object_turn, properties, object, paren, marked_primary, literal_or, primary, accessed, called, left_turn, left_from, super_call, super_property, super_access, behind_super, super_head, constructed, new_head, import_call, meta_fault, import_meta, import_head, left_head, left, left_expr, prefixed, update_before, await_expr, postfix, updated, unary_by, unary_expr, operated, binary_by, binary_turn, binary_from, binary_expr, conditional, assigned_to, assigned, assigned_or, behind_operators, operators_expr, plain_expr, postfixed, continued, closed, assigned_pattern, behind_literal, open_literal, done_expr, cover_expr, assignment_expr, sequence_turn, sequence_from, expression_expr, expr_level, named_expr}
 use Rattle.swc_ecma_parser_reader.specs.Jumps.{told}
-use Rattle.swc_ecma_parser_reader.specs.Arrows.{begins_named_arrow, Group, closed_parts, may_stand_alone, closed_group, parameter, parameter_or, parameters_of, arrow_body, arrow_from, named_arrow, rest_part, part_turn, group_parts, group, behind_group, grouped}
+use Rattle.swc_ecma_parser_reader.specs.AsyncArrows.{Argument, closed_arguments, argument_parameters, async_called, spread_argument, plain_argument, argument, either_turn, either_arguments, begins_async_arrow, async_named_arrow, behind_async, async_grouped}
+use Rattle.swc_ecma_parser_reader.specs.Arrows.{begins_named_arrow, Group, closed_group, parameters_of, arrow_body, arrow_from, named_arrow, rest_part, part_turn, group_parts, group, behind_group, grouped}
 use Rattle.swc_ecma_parser_reader.specs.Yields.{begins_yield, bare_yield, yielded, behind_yield, yield_expr}
 use Rattle.swc_ecma_parser_reader.specs.Heads.{sequenced, head_expr}
 use Rattle.swc_ecma_parser_reader.proofs.Meets.{Answers, answers_then, answers_if, Turned, loop_answers, saw}
 use Rattle.swc_ecma_parser_grammar.proofs.ExpressionBegins.{await_stands}
 use Rattle.swc_ecma_parser_reader.proofs.expressions.Awaits.{await_fault, await_either}
-use Rattle.swc_ecma_parser_reader.proofs.Shallow.{Fine, fine_more, fine_after, fine_taken, Shallow, Kept, Taken, error_shallow, fault_shallow, refused_shallow, wanted_shallow, refuse_shallow, expect_shallow, name_shallow, Levels}
-
--- ---- what is known of the first token
-
--- the second of two tests
-other_test : (a b : Bool) → (a || b) ≡ true → a ≡ false → b ≡ true
-other_test true b h e = cc
-other_test false b h e = h
-
--- an operator is a token
-no_end_by : {A : Type 0} (f : TokenKind → Option A) (k : TokenKind) (x : A) → f kind.End ≡ None → f k ≡ Some x → k ≢ kind.End
-no_end_by f k x n h = λ e. let g : Some x ≡ None = sym h ∙ ap f e ∙ n in cc
-
--- ---- answers with fewer tokens are answers with more
-
-pub kept_more : {A : Type 0} (i m : ℕ) (o : Outcome A) → i ≤ m → Answers (Kept i) Shallow o → Answers (Kept m) Shallow o
-kept_more i m (Ok p) h g = fine_more i m p.1.at.left h g
-kept_more i m (Err e) h g = g
-
--- ---- refusals of what was read
-
-module _ {A : Type 0} (P : A → State → Type 0) (k : Kind) (span : Span) (other : k ≢ faults.TooDeep) (m : ℕ) (s : State) (f : Fine m s.at.left) where
-  reject_at_shallow : (u : TokenAndSpan) (ts : List TokenAndSpan) (v : Token) → s.at.left ≡ u ∷ ts → u.token ≡ v → Answers P Shallow (reject_at (fault_at span k) s v)
-  reject_at_shallow u ts (token.Error e) h i = answers_if _ _ (means_out_of_memory e.kind) _ _ (λ _. error_shallow m s u ts e h i f)
-      (λ _. refused_shallow m P k span (fault (fault_of e) (moved s)) other (fault_shallow m (moved s) (fine_after m s.at f) (fault_of e)))
-  reject_at_shallow u ts _ h i = other
-
-  reject_in_shallow : (ts : List TokenAndSpan) → s.at.left ≡ ts → Answers P Shallow (reject_in (fault_at span k) s ts)
-  reject_in_shallow [] h = other
-  reject_in_shallow (u ∷ ts) h = reject_at_shallow u ts u.token h refl
-
-  pub reject_shallow : Answers P Shallow (reject (fault_at span k) s)
-  unfolding reject
-  reject_shallow = reject_in_shallow s.at.left refl
-
-unassignable_shallow : (op : AssignOp) → unassignable op ≢ faults.TooDeep
-unassignable_shallow assign.Assign e = cc
-unassignable_shallow _ e = cc
-
--- ---- steps that read nothing further in
-
-module _ (m : ℕ) (s : State) (f : Fine m s.at.left) where
-  pub unexpected_shallow : {A : Type 0} (P : A → State → Type 0) → Answers P Shallow (wanted faults.Unexpected s)
-  unexpected_shallow P = wanted_shallow P faults.Unexpected (λ e. cc) m s f
-
-  taken_shallow : (o : Option Tree) → Answers (Kept m) Shallow (taken o s)
-  taken_shallow None = f
-  taken_shallow (Some x) = fine_after m s.at f
-
-  literal_shallow : Answers (Kept m) Shallow (literal s)
-  unfolding literal
-  literal_shallow = taken_shallow (literal_in s.at.left)
-
-  word_by_shallow : (v : Token) (span : Span) → Answers (Kept m) Shallow (word_by s v span)
-  word_by_shallow (token.Word w) span = fine_after m s.at f
-  word_by_shallow _ span = unexpected_shallow _
-
-  word_in_shallow : (ts : List TokenAndSpan) → Answers (Kept m) Shallow (word_in s ts)
-  word_in_shallow [] = unexpected_shallow _
-  word_in_shallow (u ∷ ts) = word_by_shallow u.token u.span
-
-  any_word_shallow : Answers (Kept m) Shallow (any_word s)
-  unfolding any_word
-  any_word_shallow = word_in_shallow s.at.left
-
-  touching_shallow : Answers (Kept m) Shallow (touching_word s)
-  unfolding touching_word
-  touching_shallow = answers_if _ _ (nat_eq s.at.last.hi.0 (span_at s.at).lo.0) _ _ (λ _. any_word_shallow) (λ _. unexpected_shallow _)
-
-  ident_shallow : Answers (Kept m) Shallow (ident_expr s)
-  unfolding ident_expr
-  ident_shallow = answers_then _ _ (name faults.Unexpected s) _ (name_shallow m s f faults.Unexpected (λ e. cc)) (λ i t g. g)
-
-  this_shallow : Answers (Kept m) Shallow (this s)
-  unfolding this
-  this_shallow = fine_after m s.at f
-
-  simple_shallow : (x : Tree) → Answers (Kept m) Shallow (simple x s)
-  unfolding simple
-  simple_shallow x = answers_if _ _ (is_simple_target x) _ _ (λ _. f) (λ _. reject_shallow _ faults.NotSimpleAssign (span_of x) (λ e. cc) m s f)
-
-  closed_shallow : (x : Tree) → Answers (Kept m) Shallow (closed_left x s)
-  unfolding closed_left
-  closed_shallow x = answers_if _ _ (continues_left_side s.at) _ _ (λ _. unexpected_shallow _) (λ _. f)
-
-  unmixed_shallow : (start : Span) (op : BinaryOp) (x y : Tree) → Answers (Kept m) Shallow (unmixed start op x y s)
-  unfolding unmixed
-  unmixed_shallow start op x y = answers_if _ _ (mixes op x || mixes op y) _ _ (λ _. reject_shallow _ faults.NullishCoalescingWithLogicalOp _ (λ e. cc) m s f) (λ _. f)
-
-  unassigned_shallow : (x : Tree) → Answers (Kept m) Shallow (unassigned x s)
-  unfolding unassigned
-  unassigned_shallow x = answers_if _ _ (continues_conditional s.at) _ _ (λ _. unexpected_shallow _) (λ _. f)
-
-  unheaded_shallow : (is_async : Bool) (x : Tree) → Answers (Kept m) Shallow (unheaded is_async x s)
-  unfolding unheaded
-  unheaded_shallow is_async x = answers_if _ _ (heads_arrow is_async x s) _ _ (λ _. unexpected_shallow _) (λ _. f)
-
-  shorthand_name_shallow : (span : Span) (text : Text) → Answers (Kept m) Shallow (shorthand_name span text s)
-  unfolding shorthand_name
-  shorthand_name_shallow span text = answers_if _ _ (is_name s.code.flags text) _ _ (λ _. f) (λ _. reject_shallow _ faults.ExpectedIdent span (λ e. cc) m s f)
-
-  shorthand_shallow : (x : Tree) → Answers (Kept m) Shallow (shorthand x s)
-  shorthand_shallow (tree.ident span text) = shorthand_name_shallow span text
-  shorthand_shallow _ = unexpected_shallow _
-
-  -- a refusal of the left operand, or the state as it is
-  left_operand_shallow : (op : BinaryOp) (x : Tree) → Answers (λ _ t. t ≡ s) Shallow (left_operand op x s)
-  unfolding left_operand
-  left_operand_shallow op x = answers_if _ _ (not (groups_left op) && is_unary x) _ _ (λ _. reject_shallow _ faults.UnaryInExp (span_of x) (λ e. cc) m s f) (λ _. refl)
-
-  -- ---- what is closed, and what is a target
-
-  unmarked_shallow : (x : Tree) (o : Option Span) → Answers (Kept m) Shallow (unmarked x o s)
-  unmarked_shallow x None = f
-  unmarked_shallow x (Some k) = reject_shallow _ faults.AssignProperty k (λ e. cc) m s f
-
-  close_shallow : (v : Cover) → Answers (Kept m) Shallow (close v s)
-  unfolding close
-  close_shallow v = unmarked_shallow v.x v.mark
-
-  -- a target is refused, or the state is as it is
-  target_or_shallow : (x : Tree) (o : Option Tree) → Answers (λ _ t. t ≡ s) Shallow (target_or x o s)
-  target_or_shallow x (Some p) = refl
-  target_or_shallow x None = reject_shallow _ faults.InvalidPat (span_of x) (λ e. cc) m s f
-
-  target_shallow : (v : Cover) → Answers (λ _ t. t ≡ s) Shallow (target v s)
-  unfolding target
-  target_shallow v = target_or_shallow v.x (cond v.comma None (as_target v.x))
-
--- ---- what is told, and what stands in parentheses as an expression and as parameters
-
-pub told_shallow : (m : ℕ) (fs : List Fault) (s : State) → Fine m s.at.left → Answers (Kept m) Shallow (told fs s)
-told_shallow m [] s g = g
-told_shallow m (f ∷ fs) s g = answers_then (Kept m) _ (fault f s) _ (fault_shallow m s g f) (λ _ t k. told_shallow m fs t k)
-
-closed_parts_shallow : (m : ℕ) (vs : List Cover) (s : State) → Fine m s.at.left → Answers (Kept m) Shallow (closed_parts vs s)
-closed_parts_shallow m [] s f = f
-closed_parts_shallow m (v ∷ vs) s f = answers_then _ _ (close v s) _ (close_shallow m s f v) (λ x t g. answers_then _ _ (closed_parts vs t) _ (closed_parts_shallow m vs t g) (λ xs u k. k))
-
-closed_group_shallow : (m : ℕ) (start : Span) (g : Group) (s : State) → Fine m s.at.left → Answers (Kept m) Shallow (closed_group start g s)
-unfolding closed_group
-closed_group_shallow m start g s f = answers_if _ _ (may_stand_alone g) _ _ (λ _. answers_then _ _ (closed_parts g.parts s) _ (closed_parts_shallow m g.parts s f) (λ xs t k. k))
-    (λ _. unexpected_shallow m s f _)
-
-parameter_or_shallow : (m : ℕ) (x : Tree) (o : Option Tree) (s : State) → Fine m s.at.left → Answers (Kept m) Shallow (parameter_or x o s)
-parameter_or_shallow m x (Some p) s f = f
-parameter_or_shallow m x None s f = reject_shallow _ faults.InvalidPat (span_of x) (λ e. cc) m s f
-
-parameter_shallow : (m : ℕ) (v : Cover) (s : State) → Fine m s.at.left → Answers (Kept m) Shallow (parameter v s)
-unfolding parameter
-parameter_shallow m v s f = parameter_or_shallow m v.x (cond v.comma None (as_parameter v.x)) s f
-
-parameters_of_shallow : (m : ℕ) (vs : List Cover) (rest : Option Tree) (s : State) → Fine m s.at.left → Answers (Kept m) Shallow (parameters_of vs rest s)
-parameters_of_shallow m [] rest s f = f
-parameters_of_shallow m (v ∷ vs) rest s f = answers_then _ _ (parameter v s) _ (parameter_shallow m v s f) (λ p t g.
-    answers_then _ _ (parameters_of vs rest t) _ (parameters_of_shallow m vs rest t g) (λ ps u k. k))
-
-literal_key_shallow : (m : ℕ) (s : State) → Fine m s.at.left → Answers (Kept m) Shallow (literal_key s)
-unfolding literal_key
-literal_key_shallow m s f = answers_then _ _ (literal s) _ (literal_shallow m s f) by_key
-  where
-    by_key : (o : Option Tree) (t : State) → Fine m t.at.left → Answers (Kept m) Shallow (key_or o t)
-    by_key (Some (tree.str span value raw)) t g = g
-    by_key (Some (tree.num span raw)) t g = g
-    by_key (Some (tree.big_int span raw)) t g = g
-    by_key _ t g = unexpected_shallow m t g _
-
-private_shallow : (m : ℕ) (s : State) → Fine m s.at.left → Answers (Kept m) Shallow (private_name s)
-unfolding private_name
-private_shallow m s f = answers_then _ _ (touching_word (moved s)) _ (touching_shallow m (moved s) (fine_after m s.at f)) (λ i t g. g)
-
-dotted_shallow : (m : ℕ) (s : State) → Fine m s.at.left → Answers (Kept m) Shallow (dotted s)
-unfolding dotted word_property
-dotted_shallow m s f = answers_if _ _ (sees kind.Hash s.at) _ _ (λ _. private_shallow m s f) (λ _. answers_then _ _ (any_word s) _ (any_word_shallow m s f) (λ i t g. g))
-
-update_behind_shallow : (m : ℕ) (start : Span) (x : Tree) (op : UpdateOp) (s : State) → Fine m s.at.left → Answers (Kept m) Shallow (update_behind start x op s)
-unfolding update_behind
-update_behind_shallow m start x op s f = answers_then _ _ (simple x s) _ (simple_shallow m s f x) (λ _ t g. fine_after m t.at g)
-
-behind_operand_shallow : (m : ℕ) (start : Span) (x : Tree) (o : Option UpdateOp) (s : State) → Fine m s.at.left → Answers (Kept m) Shallow (behind_operand start x o s)
-behind_operand_shallow m start x None s f = f
-behind_operand_shallow m start x (Some op) s f = update_behind_shallow m start x op s f
+use Rattle.swc_ecma_parser_reader.proofs.Shallow.{Fine, fine_more, fine_after, fine_taken, Shallow, Kept, Taken, fault_shallow, refuse_shallow, expect_shallow, Levels}
+use Rattle.swc_ecma_parser_reader.proofs.expressions.LimitSteps.{other_test, no_end_by, kept_more, reject_shallow, unassignable_shallow, unexpected_shallow, literal_shallow, any_word_shallow, ident_shallow, ident_taken, this_shallow, simple_shallow, closed_shallow, unmixed_shallow, unassigned_shallow, unheaded_shallow, shorthand_shallow, left_operand_shallow, close_shallow, target_shallow, told_shallow, closed_group_shallow, parameters_of_shallow, closed_arguments_shallow, argument_parameters_shallow, literal_key_shallow, dotted_shallow, behind_operand_shallow}
 
 -- ---- functions, and the words before the key of a method
 
@@ -292,6 +105,20 @@ module _ (inner : Class → Reader Tree) (cover : Reader Cover) (n : ℕ) (below
       answers_then _ _ (item inner cover t) _ (item_shallow i t h g) (λ v u k.
       answers_if _ _ (sees kind.RBracket u.at) _ _ (λ _. k) (λ _. answers_then _ _ (expect kind.Comma u) _ (expect_shallow i u k kind.Comma) (λ _ w j. j))))))
       (λ t e. cc) no_covers s f
+
+  argument_shallow : (i : ℕ) (s : State) → 2 * i ≤ n → Fine i s.at.left → Answers (Kept i) Shallow (argument inner cover s)
+  unfolding argument spread_argument plain_argument
+  argument_shallow i s h f = answers_if _ _ (sees kind.DotDotDot s.at) _ _
+      (λ _. answers_then _ _ (covered inner cover (moved s)) _ (covered_shallow i (moved s) h (fine_after i s.at f)) (λ v t k. k))
+      (λ _. answers_then _ _ (covered inner cover s) _ (covered_shallow i s h f) (λ v t k. k))
+
+  either_arguments_shallow : (i : ℕ) (s : State) → 2 * i ≤ n → Fine i s.at.left → Answers (Kept i) Shallow (either_arguments inner cover s)
+  unfolding either_arguments either_turn
+  either_arguments_shallow i s h f = loop_answers (either_turn inner cover) (Kept i) (Kept i) Shallow
+      (λ found t g. answers_if _ _ (sees kind.RParen t.at) _ _ (λ _. fine_after i t.at g) (λ _.
+      answers_then _ _ (argument inner cover t) _ (argument_shallow i t h g) (λ a u k.
+      answers_if _ _ (sees kind.RParen u.at) _ _ (λ _. k) (λ _. answers_then _ _ (expect kind.Comma u) _ (expect_shallow i u k kind.Comma) (λ _ w j. j)))))
+      (λ t e. cc) [] (moved s) (fine_after i s.at f)
 
   -- ---- properties
 
@@ -709,11 +536,35 @@ module _ (inner : Class → Reader Tree) (cover : Reader Cover) (n : ℕ) (below
       unfolding grouped
       grouped_shallow s e f = answers_then _ _ (group inner function cover s) _ (group_shallow s e f) (λ p t k. behind_group_shallow (span_at s.at) p t k)
 
+      -- the same behind `async`
+      async_named_shallow : (s : State) → begins_async_arrow s.code.flags s.at ≡ true → Fine m s.at.left → Answers (Kept m) Shallow (async_named_arrow inner function s)
+      unfolding async_named_arrow begins_async_arrow
+      async_named_shallow s e f =
+          let named = (and_parts (not (breaks_at (after s.at))) (name_at s.code.flags (after s.at)) (and_parts (word_at (codes "async") s.at) _ e).1).1 in
+          answers_then _ _ (function parameter_form (moved s)) _ (below_function.names m (moved s) enough named (fine_after m s.at f)) (λ p t (i, h, g).
+          answers_if _ _ (sees kind.Arrow t.at) _ _ (λ _. kept_more i m (arrow_from inner function true (span_at s.at) (p ∷ []) t) (omega arith)
+          (arrow_from_shallow function below_function true (span_at s.at) (p ∷ []) i t (omega arith) g)) (λ _. unexpected_shallow i t g _))
+
+      behind_async_shallow : (start : Span) (x : Tree) (found : List Argument) (s : State) → Taken m found s → Answers (Kept m) Shallow (behind_async inner function cover start x found s)
+      unfolding async_called
+      behind_async_shallow start x found s (i, h, f) = answers_if _ _ (sees kind.Arrow s.at) _ _
+          (λ _. answers_then _ _ (argument_parameters found s) _ (argument_parameters_shallow i found s f) (λ ps t k.
+          kept_more i m (arrow_from inner function true start ps t) (omega arith) (arrow_from_shallow function below_function true start ps i t (omega arith) k)))
+          (λ _. answers_then _ _ (async_called start x found s) _ (answers_then _ _ (closed_arguments found s) _ (closed_arguments_shallow m found s (fine_more i m s.at.left (omega arith) f)) (λ xs t k. k))
+          (λ e t k. continued_shallow start e t k))
+
+      async_grouped_shallow : (s : State) → Fine m s.at.left → Answers (Kept m) Shallow (async_grouped inner function cover s)
+      unfolding async_grouped
+      async_grouped_shallow s f = answers_then _ _ (ident_expr s) _ (ident_taken m s f) (λ x t (i, h, g).
+          answers_then _ _ (either_arguments inner cover t) _ (either_arguments_shallow i t (omega arith) g) (λ found u k. behind_async_shallow (span_at s.at) x found u (i, h, k)))
+
       plain_shallow : (s : State) → Fine m s.at.left → Answers (Kept m) Shallow (plain_expr inner cover function s)
       unfolding plain_expr
       plain_shallow s f = answers_if _ _ (begins_yield s.code.flags s.at) _ _ (λ h. yield_shallow s h f)
           (λ _. answers_if _ _ (begins_named_arrow s.code.flags s.at) _ _ (λ h. named_arrow_shallow s h f)
-          (λ _. answers_if _ _ (sees kind.LParen s.at) _ _ (λ e. grouped_shallow s (saw s.at kind.LParen e) f) (λ _. operators_shallow s f)))
+          (λ _. answers_if _ _ (sees kind.LParen s.at) _ _ (λ e. grouped_shallow s (saw s.at kind.LParen e) f)
+          (λ _. answers_if _ _ (begins_async_arrow s.code.flags s.at) _ _ (λ e. async_named_shallow s e f)
+          (λ _. answers_if _ _ (begins_async_call s.at) _ _ (λ _. async_grouped_shallow s f) (λ _. operators_shallow s f)))))
 
       pub cover_expr_shallow : (s : State) → Fine m s.at.left → Answers (Kept m) Shallow (cover_expr inner cover function s)
       unfolding cover_expr done_expr

@@ -15,12 +15,13 @@ use Rattle.swc_ecma_parser_grammar.specs.language.Goals.{Class}
 use Rattle.swc_ecma_parser_reader.proofs.Falls.{expr_falls, cover_falls, functions_fall}
 use Rattle.swc_ecma_parser_reader.specs.Reader.{expr, cover, head_cover, function}
 use Rattle.swc_ecma_parser_reader.specs.Arrows.{Parts, ended, rest_part, part_turn}
+use Rattle.swc_ecma_parser_reader.specs.AsyncArrows.{Argument, followed, argument, either_turn}
 use Rattle.swc_ecma_parser_reader.specs.Heads.{head_expr}
 use Rattle.swc_ecma_parser_reader.specs.State.{State, Outcome, moved, too_deep, fault, fault_at, expect, loop}
 use Rattle.swc_ecma_parser_reader.specs.Expressions.{Cover, Covers, with_cover, with_comma, done, element, behind_comma, arguments_turn, covered, item, array_turn, property, object_turn, accessed, called, left_turn, operator_at, operated, binary_turn, cover_expr, assignment_expr, sequence_turn, expr_level}
 use Rattle.swc_ecma_parser_reader.proofs.Steps.{loop_more, loop_done, loop_err}
 use Rattle.swc_ecma_parser_reader.proofs.Takes.{Falls, moves, takes, fault_falls, expect_falls}
-use Rattle.swc_ecma_parser_reader.proofs.expressions.Falls.{element_falls, covered_falls, item_falls, property_falls, accessed_falls, called_falls, operated_falls, assignment_falls}
+use Rattle.swc_ecma_parser_reader.proofs.expressions.Falls.{element_falls, covered_falls, item_falls, argument_falls, property_falls, accessed_falls, called_falls, operated_falls, assignment_falls}
 use Rattle.swc_ecma_parser_reader.proofs.Meets.{saw}
 
 -- ---- what takes a token leaves fewer
@@ -218,6 +219,40 @@ module _ (n : ℕ) (found : List Cover) (s : State) where
     unfolding part_turn
     parts_more e = loop_more (part_turn (expr n) (function n) (cover n)) found (found ++ v ∷ []) s u (rw (no_rest, found_part, no_end_behind, found_comma, e) refl)
         (parts_shorter n s v t found_part u found_comma)
+
+-- ---- arguments that may still become parameters: `)` ends them; behind each it stands, or a comma
+
+module _ (n : ℕ) (s : State) (a : Argument) (t : State) (found_argument : argument (expr n) (cover n) s ≡ Ok (a, t)) where
+  pub argument_shorter : length t.at.left < length s.at.left
+  argument_shorter = shorter_by (length s.at.left) (argument (expr n) (cover n) s) a t found_argument (argument_falls (expr n) (cover n) (expr_falls n) (cover_falls n) s)
+
+  -- one and the comma behind it
+  pub eithers_shorter : (u : State) → expect kind.Comma t ≡ Ok (tt, u) → length u.at.left < length s.at.left
+  eithers_shorter u e = kept_by (length s.at.left) (length t.at.left) (expect kind.Comma t) tt u e (expect_falls kind.Comma t) argument_shorter
+
+module _ (n : ℕ) (found : List Argument) (s : State) where
+  pub either_done : sees kind.RParen s.at ≡ true → loop (either_turn (expr n) (cover n)) found s ≡ Ok (found, moved s)
+  unfolding either_turn
+  either_done e = loop_done (either_turn (expr n) (cover n)) found found s (moved s) (rw e refl)
+
+  pub either_err : (e : Fault × State) → sees kind.RParen s.at ≡ false → argument (expr n) (cover n) s ≡ Err e → loop (either_turn (expr n) (cover n)) found s ≡ Err e
+  unfolding either_turn
+  either_err e h g = loop_err (either_turn (expr n) (cover n)) found s e (rw (h, g) refl)
+
+  pub either_last : (a : Argument) (t : State) → sees kind.RParen s.at ≡ false → argument (expr n) (cover n) s ≡ Ok (a, t) → sees kind.RParen t.at ≡ true
+      → loop (either_turn (expr n) (cover n)) found s ≡ loop (either_turn (expr n) (cover n)) (found ++ a ∷ []) t
+  unfolding either_turn
+  either_last a t h g e = loop_more (either_turn (expr n) (cover n)) found (found ++ a ∷ []) s t (rw (h, g, e) refl) (argument_shorter n s a t g)
+
+  pub either_more : (a : Argument) (t u : State) → sees kind.RParen s.at ≡ false → argument (expr n) (cover n) s ≡ Ok (a, t) → sees kind.RParen t.at ≡ false → expect kind.Comma t ≡ Ok (tt, u)
+      → loop (either_turn (expr n) (cover n)) found s ≡ loop (either_turn (expr n) (cover n)) (found ++ followed a ∷ []) u
+  unfolding either_turn
+  either_more a t u h g e k = loop_more (either_turn (expr n) (cover n)) found (found ++ followed a ∷ []) s u (rw (h, g, e, k) refl) (eithers_shorter n s a t g u k)
+
+  pub either_comma_err : (a : Argument) (t : State) (e : Fault × State) → sees kind.RParen s.at ≡ false → argument (expr n) (cover n) s ≡ Ok (a, t) → sees kind.RParen t.at ≡ false
+      → expect kind.Comma t ≡ Err e → loop (either_turn (expr n) (cover n)) found s ≡ Err e
+  unfolding either_turn
+  either_comma_err a t e h g i k = loop_err (either_turn (expr n) (cover n)) found s e (rw (h, g, i, k) refl)
 
 -- ---- left-hand sides: an access, arguments where calls are read, or neither
 

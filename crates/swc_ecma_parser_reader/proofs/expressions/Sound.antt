@@ -33,6 +33,7 @@ use Rattle.swc_ecma_parser_reader.specs.State.{State, Reader, and_then, moved, e
 use Rattle.swc_ecma_parser_reader.specs.Methods.{FunctionForm}
 use Rattle.swc_ecma_parser_reader.specs.Expressions.{Cover, done, unmarked, close, target, goes_on, begins_async_call, is_head, heads_arrow, unassigned, unheaded, inside, binary_expr, conditional, assigned_to, assigned, assigned_or, behind_operators, operators_expr, continued, closed, assigned_pattern, behind_literal, open_literal, done_expr, cover_expr, assignment_expr, sequence_turn, sequence_from, expression_expr, expr_level, is_literal, plain_expr}
 use Rattle.swc_ecma_parser_reader.specs.Arrows.{begins_named_arrow, grouped}
+use Rattle.swc_ecma_parser_reader.specs.AsyncArrows.{begins_async_arrow, async_grouped}
 use Rattle.swc_ecma_parser_reader.specs.Yields.{begins_yield, bare_yield, yielded, behind_yield, yield_expr}
 use Rattle.swc_ecma_parser_reader.proofs.Notes.{notes_nil}
 use Rattle.swc_ecma_parser_reader.proofs.Meets.{Meets, Refuses, meets_then, meets_if, wanted_meets, Turned, loop_answers, saw}
@@ -41,12 +42,14 @@ use Rattle.swc_ecma_parser_reader.proofs.Between.{SoundTree, Sound, same, sound_
 use Rattle.swc_ecma_parser_reader.proofs.expressions.SoundSteps.{paired, stepped, moved_back, reject_meets, other, clash, elsewhere, expect_sound, walks_push, notes_push, supported_push}
 use Rattle.swc_ecma_parser_reader.proofs.expressions.Targets.{pattern_alike, literal_target}
 use Rattle.swc_ecma_parser_reader.proofs.expressions.Covers.{meets_each, met, begins_literal, literal_kind, close_is, close_reads, target_is, opened, opened_literal, operators_literal}
-use Rattle.swc_ecma_parser_reader.proofs.expressions.Groups.{sequenced_by, ReadsParts, grouped_meets}
+use Rattle.swc_ecma_parser_reader.proofs.expressions.Groups.{IsTied, ReadsParts, grouped_meets}
 use Rattle.swc_ecma_parser_reader.proofs.expressions.Stays.{Stays, continued_stays}
 use Rattle.swc_ecma_parser_reader.proofs.expressions.SoundCovers.{SoundCover, SoundLiteral, inside_sound, array_sound, object_sound}
 use Rattle.swc_ecma_parser_reader.proofs.expressions.SoundLefts.{FunctionsSound, callee_sound, left_side_sound}
 use Rattle.swc_ecma_parser_reader.proofs.expressions.SoundOperators.{Binary, simple_binary, binary_sound, unary_sound, operator_sound}
-use Rattle.swc_ecma_parser_reader.proofs.expressions.SoundArrows.{named_arrow_sound}
+use Rattle.swc_ecma_parser_reader.proofs.expressions.SoundArrows.{named_arrow_sound, async_named_sound}
+use Rattle.swc_ecma_parser_reader.proofs.expressions.SoundAsync.{behind_async_sound}
+use Rattle.swc_ecma_parser_reader.proofs.expressions.AsyncGroups.{async_grouped_meets}
 use Rattle.swc_ecma_parser_reader.proofs.expressions.SoundGroups.{behind_group_sound}
 use Rattle.swc_ecma_parser_reader.proofs.expressions.SoundTargets.{assignment_first, literal_stays, literal_stops, settled_read, open_read}
 
@@ -124,7 +127,7 @@ parts_rule In k x (y ∷ z ∷ zs) c d h e = sequence_rule y z zs h e
 
 module _ (n : ℕ) (inner : Class → Reader Tree) (cover : Reader Cover) (sound : (class : Class) (s : State) → Meets (λ x t. SoundTree (ReadsClass n class) s x t) (inner class s))
     (covers : (s : State) → Meets (λ v t. SoundCover n s v t) (cover s))
-    (function : FunctionForm → Reader Tree) (functions : FunctionsSound n function) (tied : (s : State) → inner expression s ≡ sequenced_by cover s) (parts : ReadsParts cover) where
+    (function : FunctionForm → Reader Tree) (functions : FunctionsSound n function) (tied : IsTied inner cover) (parts : ReadsParts cover) where
   -- ---- AssignmentExpression
 
   abbrev Assignment : Code → Tree → Place → Place → Type 0
@@ -214,11 +217,17 @@ module _ (n : ℕ) (inner : Class → Reader Tree) (cover : Reader Cover) (sound
     grouped_sound : kind_at s.at ≡ kind.LParen → Meets SoundAssignment (grouped inner function cover s)
     grouped_sound e = grouped_meets inner function cover tied parts s e SoundAssignment operators_sound (λ g m r a. behind_group_sound n inner cover sound covers function functions s g m e r a)
 
+    -- the same behind `async`
+    async_sound : begins_async_call s.at ≡ true → Meets SoundAssignment (async_grouped inner function cover s)
+    async_sound h = async_grouped_meets inner cover tied parts function s h SoundAssignment operators_sound (λ found m r a. behind_async_sound n inner cover sound covers function functions s h found m r a)
+
     plain_sound : Meets SoundAssignment (plain_expr inner cover function s)
     unfolding plain_expr
     plain_sound = meets_if _ (begins_yield s.code.flags s.at) _ _ yield_sound
         (λ _. meets_if _ (begins_named_arrow s.code.flags s.at) _ _ (λ h. named_arrow_sound n inner sound function functions s h)
-        (λ _. meets_if _ (sees kind.LParen s.at) _ _ (λ e. grouped_sound (saw s.at kind.LParen e)) (λ _. operators_sound)))
+        (λ _. meets_if _ (sees kind.LParen s.at) _ _ (λ e. grouped_sound (saw s.at kind.LParen e))
+        (λ _. meets_if _ (begins_async_arrow s.code.flags s.at) _ _ (λ h. async_named_sound n inner sound function functions s h)
+        (λ _. meets_if _ (begins_async_call s.at) _ _ async_sound (λ _. operators_sound)))))
 
     -- ---- what may still become a pattern
 

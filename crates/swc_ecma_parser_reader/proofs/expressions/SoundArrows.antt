@@ -1,5 +1,5 @@
--- The reader of arrow functions is sound: from `=>` on, and from a name on.
-use Rattle.std.proofs.Common.{◌≡◌, ℕ, Bool, true, false, List, [], ◌∷◌, ◌++◌, refl, sym, ◌∙◌, ap, subst, append-nil}
+-- The reader of arrow functions is sound: from `=>` on, and from a name on, behind `async` too.
+use Rattle.std.proofs.Common.{◌≡◌, ℕ, Bool, true, false, List, [], ◌∷◌, ◌++◌, refl, sym, ◌∙◌, ap, subst, append-nil, codes}
 use Rattle.swc_ecma_parser_common.specs.declared.span.Span.{Span}
 use Rattle.swc_ecma_parser_error.specs.Kind as faults
 use Rattle.swc_ecma_parser_token.specs.declared.kind.TokenKind.TheVariants as kind
@@ -10,7 +10,7 @@ use Rattle.swc_ecma_parser_model.specs.Forms.{has_plain_params}
 use Rattle.swc_ecma_parser_grammar.specs.Looks.{kind_at, breaks_at, sees, span_at, spanned}
 use Rattle.swc_ecma_parser_grammar.specs.Names.{Code, name_at}
 use Rattle.swc_ecma_parser_grammar.specs.Own.{misplaced_directive}
-use Rattle.swc_ecma_parser_grammar.specs.Follows.{not_async}
+use Rattle.swc_ecma_parser_grammar.specs.Follows.{AsyncWord, not_async, async_word}
 use Rattle.swc_ecma_parser_grammar.specs.Supported.{supported_in, all_supported_in}
 use Rattle.swc_ecma_parser_grammar.specs.ReadsSupported.{ReadsClass}
 use Rattle.swc_ecma_parser_grammar.specs.language.Contexts.{in_arrow}
@@ -27,33 +27,36 @@ use Rattle.swc_ecma_parser_reader.specs.State.{State, Reader, moved, coded, unla
 use Rattle.swc_ecma_parser_reader.specs.Reader.{misdirected}
 use Rattle.swc_ecma_parser_reader.specs.Methods.{FunctionForm, parameter_form}
 use Rattle.swc_ecma_parser_reader.specs.Arrows.{begins_named_arrow, arrow_body, arrow_from, named_arrow}
+use Rattle.swc_ecma_parser_reader.specs.AsyncArrows.{begins_async_arrow, async_named_arrow}
 use Rattle.swc_ecma_parser_reader.proofs.Notes.{or_nil, notes_nil}
-use Rattle.swc_ecma_parser_reader.proofs.Meets.{Meets, meets_then, meets_if, refuse_meets, saw}
-use Rattle.swc_ecma_parser_reader.proofs.Between.{Sound, SoundTree, same, nil-split, sound_as, sound_clean, sound_under, sound_enclosed}
+use Rattle.swc_ecma_parser_reader.proofs.Meets.{Meets, meets_then, meets_if, wanted_meets, refuse_meets, saw}
+use Rattle.swc_ecma_parser_reader.proofs.Between.{Sound, SoundTree, same, nil-split, sound_as, sound_after, sound_clean, sound_under, sound_enclosed}
 use Rattle.swc_ecma_parser_reader.proofs.SoundParts.{meets_both, misdirected_sound}
+use Rattle.swc_ecma_parser_grammar.proofs.StatementBegins.{word_place}
+use Rattle.swc_ecma_parser_reader.proofs.expressions.AsyncHeads.{async_arrow_parts}
 use Rattle.swc_ecma_parser_reader.proofs.expressions.SoundSteps.{paired, moved_back}
 use Rattle.swc_ecma_parser_reader.proofs.expressions.SoundLefts.{FunctionsSound, BodyRead, SoundBody}
 
--- the parameters of an arrow function, up to `=>`
-abbrev pub ArrowHeadRead : ℕ → List Tree → Code → Place → Place → Type 0
-ArrowHeadRead n ps k c d = ArrowHeadRule (Reads n) k ps c d × (all_supported_in k.flags.module (trees ps) ≡ true)
+-- `async`, if it stands there, and the parameters of an arrow function, up to `=>`
+abbrev pub ArrowHeadRead : ℕ → Bool → List Tree → Code → Place → Place → Type 0
+ArrowHeadRead n w ps k c d = (i : Place) × AsyncWord w c i × ArrowHeadRule (Reads n) k ps i d × (all_supported_in k.flags.module (trees ps) ≡ true)
 
-abbrev pub SoundArrowHead : ℕ → State → List Tree → State → Type 0
-SoundArrowHead n s ps t = Sound same (λ k l. walks.walks (env_of k l) false (trees ps)) (all_notes_of (trees ps)) (ArrowHeadRead n ps) s t
+abbrev pub SoundArrowHead : ℕ → Bool → State → List Tree → State → Type 0
+SoundArrowHead n w s ps t = Sound same (λ k l. walks.walks (env_of k l) false (trees ps)) (all_notes_of (trees ps)) (ArrowHeadRead n w ps) s t
 
 -- a supported assignment expression one level further out
 abbrev pub Assignment : ℕ → Code → Tree → Place → Place → Type 0
 Assignment n k x c d = AssignmentRule (Reads n) k x c d × (supported_in k.flags.module x ≡ true)
 
 -- what its walk tells of a directive that comes too late
-undirected : (env : Env) (span : Span) (ps : List Tree) (body : Tree) → walk env (tree.arrow span (listed ps) body false) ≡ [] → misplaced_directive (has_plain_params (listed ps)) body ≡ []
-undirected env span ps body h = (nil-split (walk env (listed ps) ++ walk (walks.in_body env) body) (misplaced_directive (has_plain_params (listed ps)) body) h).1
+undirected : (env : Env) (span : Span) (ps : List Tree) (body : Tree) (w : Bool) → walk env (tree.arrow span (listed ps) body w) ≡ [] → misplaced_directive (has_plain_params (listed ps)) body ≡ []
+undirected env span ps body w h = (nil-split (walk env (listed ps) ++ walk (walks.in_body env) body) (misplaced_directive (has_plain_params (listed ps)) body) h).1
 
 -- nothing in its body makes a program a module
-arrow_notes : (span : Span) (ps : List Tree) (body : Tree)
-    → (all_notes_of (trees ps) ⊕ record (notes_of body) { found_module_item = false }) ⊕ no_notes ≡ notes_of (tree.arrow span (listed ps) body false)
-arrow_notes span ps body = notes_nil (all_notes_of (trees ps) ⊕ record (notes_of body) { found_module_item = false })
-    ∙ ap {A = Bool} (λ b. record { held_back = (notes_of (tree.arrow span (listed ps) body false)).held_back; found_module_item = b }) (or_nil (any_has_meta (trees ps)))
+arrow_notes : (span : Span) (ps : List Tree) (body : Tree) (w : Bool)
+    → (all_notes_of (trees ps) ⊕ record (notes_of body) { found_module_item = false }) ⊕ no_notes ≡ notes_of (tree.arrow span (listed ps) body w)
+arrow_notes span ps body w = notes_nil (all_notes_of (trees ps) ⊕ record (notes_of body) { found_module_item = false })
+    ∙ ap {A = Bool} (λ b. record { held_back = (notes_of (tree.arrow span (listed ps) body w)).held_back; found_module_item = b }) (or_nil (any_has_meta (trees ps)))
 
 module _ (n : ℕ) (inner : Class → Reader Tree) (sound : (class : Class) (s : State) → Meets (λ x t. SoundTree (ReadsClass n class) s x t) (inner class s))
     (function : FunctionForm → Reader Tree) (functions : FunctionsSound n function) where
@@ -70,22 +73,22 @@ module _ (n : ℕ) (inner : Class → Reader Tree) (sound : (class : Class) (s :
 
   -- ---- from `=>` on, which stands behind parameters
 
-  pub arrow_from_sound : (s : State) (ps : List Tree) (m : State) → SoundArrowHead n s ps m → kind_at m.at ≡ kind.Arrow
-      → Meets (λ x t. SoundTree (Assignment n) s x t) (arrow_from inner function false (span_at s.at) ps m)
+  pub arrow_from_sound : (w : Bool) (s : State) (ps : List Tree) (m : State) → SoundArrowHead n w s ps m → kind_at m.at ≡ kind.Arrow
+      → Meets (λ x t. SoundTree (Assignment n) s x t) (arrow_from inner function w (span_at s.at) ps m)
   unfolding arrow_from misdirected spanned
-  arrow_from_sound s ps m p e = meets_if _ (breaks_at m.at) _ _ (λ _. refuse_meets _ faults.LineBreakBeforeArrow m) (λ l.
-      meets_then _ (arrow_body inner function false (moved m)) _ (arrow_body_sound false (moved m)) (λ x u q.
+  arrow_from_sound w s ps m p e = meets_if _ (breaks_at m.at) _ _ (λ _. refuse_meets _ faults.LineBreakBeforeArrow m) (λ l.
+      meets_then _ (arrow_body inner function w (moved m)) _ (arrow_body_sound w (moved m)) (λ x u q.
       meets_then _ (misdirected (listed ps) x u) _ (misdirected_sound (listed ps) x u) (λ _ t r.
       let span : Span = record { lo = (span_at s.at).lo; hi = u.at.last.hi } in
-      let whole : Sound same (λ k l. walk (env_of k l) (tree.arrow span (listed ps) x false)) (notes_of (tree.arrow span (listed ps) x false))
-      (λ k c d. (ArrowHeadRead n ps k s.at m.at × BodyRead n false x k (after m.at) u.at) × (t.at ≡ u.at)) s t =
-      sound_as s t refl refl (arrow_notes span ps x) (λ z. z)
+      let whole : Sound same (λ k l. walk (env_of k l) (tree.arrow span (listed ps) x w)) (notes_of (tree.arrow span (listed ps) x w))
+      (λ k c d. (ArrowHeadRead n w ps k s.at m.at × BodyRead n w x k (after m.at) u.at) × (t.at ≡ u.at)) s t =
+      sound_as s t refl refl (arrow_notes span ps x w) (λ z. z)
       (paired (paired p (moved_back e refl q)) r) in
-      sound_as s t refl refl refl (λ (((a, b), o), (k, h)). (
-        arrow_rule false ps x s.at m.at (not_async refl refl) a.0 e l (subst (ArrowBodyRule (Reads n) s.code false x (after m.at)) (sym o) b.0)
-            (ap (λ d. tree.arrow (record { lo = (span_at s.at).lo; hi = d.last.hi }) (listed ps) x false) (sym o)),
-        arrow_supported s.code.flags.module span (listed ps) x false
-            (record { is_plain = refl; supports_params = a.1; supports_body = b.1; directs = undirected (env_of s.code k) span ps x h; has_no_notes = b.2 }),
+      sound_as s t refl refl refl (λ ((((i, v, a, c), b), o), (k, h)). (
+        arrow_rule w ps x i m.at v a e l (subst (ArrowBodyRule (Reads n) s.code w x (after m.at)) (sym o) b.0)
+            (ap (λ d. tree.arrow (record { lo = (span_at s.at).lo; hi = d.last.hi }) (listed ps) x w) (sym o)),
+        arrow_supported s.code.flags.module span (listed ps) x w
+            (record { supports_params = c; supports_body = b.1; directs = undirected (env_of s.code k) span ps x w h; has_no_notes = b.2 }),
       )) (sound_clean s t whole))))
 
   -- ---- from a name on
@@ -95,6 +98,19 @@ module _ (n : ℕ) (inner : Class → Reader Tree) (sound : (class : Class) (s :
   named_arrow_sound s h =
       let (i, a) = and_yes (name_at s.code.flags s.at) _ h in
       meets_then _ (function parameter_form s) _ (meets_both _ _ (function parameter_form s) (functions.parameters s) (functions.names s i)) (λ p t (q, (b, f)).
-      arrow_from_sound s (p ∷ []) t
-      (sound_as s t refl (sym (append-nil (walk (env_of s.code s.scope.labels) p))) (sym (notes_nil (notes_of p))) (λ r. (name_head p r.0 f refl, and_both _ true r.1 refl)) q)
+      arrow_from_sound false s (p ∷ []) t
+      (sound_as s t refl (sym (append-nil (walk (env_of s.code s.scope.labels) p))) (sym (notes_nil (notes_of p))) (λ r. (s.at, not_async refl refl, name_head p r.0 f refl, and_both _ true r.1 refl)) q)
       (ap (λ z. kind_at z.at) b ∙ saw (after s.at) kind.Arrow a))
+
+  -- ---- from `async` and a name on
+
+  pub async_named_sound : (s : State) → begins_async_arrow s.code.flags s.at ≡ true → Meets (λ x t. SoundTree (Assignment n) s x t) (async_named_arrow inner function s)
+  unfolding async_named_arrow
+  async_named_sound s h =
+      let (w, l, i) = async_arrow_parts s.code.flags s.at h in
+      meets_then _ (function parameter_form (moved s)) _ (meets_both _ _ (function parameter_form (moved s)) (functions.parameters (moved s)) (functions.names (moved s) i)) (λ p t (q, (b, f)).
+      meets_if _ (sees kind.Arrow t.at) _ _
+      (λ a. arrow_from_sound true s (p ∷ []) t
+      (sound_after s t (word_place (codes "async") s.at w) refl (sym (append-nil (walk (env_of s.code s.scope.labels) p))) (sym (notes_nil (notes_of p)))
+      (λ r. (after s.at, async_word refl w refl l, name_head p r.0 f refl, and_both _ true r.1 refl)) q) (saw t.at kind.Arrow a))
+      (λ _. wanted_meets _ faults.Unexpected t))

@@ -76,7 +76,7 @@ SoundLiteral n s v t = Sound same (λ k l. walk (env_of k l) v.x) (notes_of v.x)
 -- ---- rests, keys and names
 
 -- a rest ends where what it stands before does
-rest_spanned : (c d : Place) (x p : Tree) → (span_of x).hi ≡ d.last.hi → tree.rest_pat (rest_span (span_at c) x) p ≡ tree.rest_pat (spanned c d) p
+pub rest_spanned : (c d : Place) (x p : Tree) → (span_of x).hi ≡ d.last.hi → tree.rest_pat (rest_span (span_at c) x) p ≡ tree.rest_pat (spanned c d) p
 unfolding spanned
 rest_spanned c d x p e = ap (λ (z : BytePos). tree.rest_pat (record { lo = (span_at c).lo; hi = z }) p) e
 
@@ -216,7 +216,7 @@ rest_part : (in_module : Bool) (change : Trees → Option Trees) (Rule : Tree �
 rest_part in_module change Rule is_spread x c d e f = record { before_others = λ h. clash is_spread e h; alone = f }
 
 -- a target of a rule, said otherwise
-target_as : (in_module : Bool) (Rule : Tree → Place → Place → Type 0) (p q : Tree) (c d : Place) → q ≡ p → Rule q c d → supported_in in_module p ≡ true → Target in_module Rule q c d
+pub target_as : (in_module : Bool) (Rule : Tree → Place → Place → Type 0) (p q : Tree) (c d : Place) → q ≡ p → Rule q c d → supported_in in_module p ≡ true → Target in_module Rule q c d
 target_as in_module Rule p q c d e r s = record { rule = r; supports = ap (supported_in in_module) e ∙ s }
 
 module _ (n : ℕ) (k : Code) (v : Cover) where

@@ -8,6 +8,7 @@ use Rattle.swc_ecma_parser_model.specs.Forms.{is_rest}
 use Rattle.swc_ecma_parser_model.specs.Targets.{as_pattern, as_parameter}
 use Rattle.swc_ecma_parser_grammar.specs.Looks.{kind_at, sees, span_at, spanned}
 use Rattle.swc_ecma_parser_grammar.specs.Names.{Code}
+use Rattle.swc_ecma_parser_grammar.specs.Follows.{not_async}
 use Rattle.swc_ecma_parser_grammar.specs.Reads.{with_in}
 use Rattle.swc_ecma_parser_grammar.specs.ReadsSupported.{ReadsClass, ReadsPat}
 use Rattle.swc_ecma_parser_grammar.specs.language.Goals.{Class, binding}
@@ -42,11 +43,11 @@ AsParameters [] ps = ps ≡ []
 AsParameters (v ∷ vs) [] = ⊥
 AsParameters (v ∷ vs) (p ∷ ps) = (v.comma ≡ false) × (as_parameter v.x ≡ Some p) × AsParameters vs ps
 
-parameter_or_is : (x : Tree) (o : Option Tree) (s : State) → Meets (λ p t. (t ≡ s) × (o ≡ Some p)) (parameter_or x o s)
+pub parameter_or_is : (x : Tree) (o : Option Tree) (s : State) → Meets (λ p t. (t ≡ s) × (o ≡ Some p)) (parameter_or x o s)
 parameter_or_is x (Some p) s = (refl, refl)
 parameter_or_is x None s = reject_meets _ _ s
 
-some_unless : (b : Bool) (o : Option Tree) (p : Tree) → cond b None o ≡ Some p → (b ≡ false) × (o ≡ Some p)
+pub some_unless : (b : Bool) (o : Option Tree) (p : Tree) → cond b None o ≡ Some p → (b ≡ false) × (o ≡ Some p)
 some_unless true o p h = cc
 some_unless false o p h = (refl, h)
 
@@ -88,13 +89,13 @@ parameters_alike rest (v ∷ vs) (q ∷ qs) (c, a, h) =
 
 module _ (n : ℕ) where
   -- a parameter, and those in parentheses
-  abbrev Item : Code → Tree → Place → Place → Type 0
+  abbrev pub Item : Code → Tree → Place → Place → Type 0
   Item k = PatternItemRule (Reads n) binding (with_in (with_in k))
 
-  abbrev Items : Code → List Tree → Place → Place → Type 0
+  abbrev pub Items : Code → List Tree → Place → Place → Type 0
   Items k = ReadsListed true (Item k)
 
-  abbrev PlainItems : Code → List Tree → Place → Place → Type 0
+  abbrev pub PlainItems : Code → List Tree → Place → Place → Type 0
   PlainItems k = Plain k.flags.module (Items k)
 
   -- a part that others may follow
@@ -227,15 +228,15 @@ module _ (n : ℕ) (inner : Class → Reader Tree) (cover : Reader Cover) (sound
       sound_as s t refl refl refl (λ (a, (h, i)). (m.at, a, h, i)) (stepped (moved_back e refl p) q)))
 
   -- as parameters
-  group_head : (s : State) (g : Group) (m : State) (qs : List Tree) → kind_at s.at ≡ kind.LParen → AsParameters g.parts qs → SoundGroup s g m → SoundArrowHead n s (qs ++ rest_list g.rest) m
+  group_head : (s : State) (g : Group) (m : State) (qs : List Tree) → kind_at s.at ≡ kind.LParen → AsParameters g.parts qs → SoundGroup s g m → SoundArrowHead n false s (qs ++ rest_list g.rest) m
   group_head s g m qs e h p =
       let same = parameters_alike (rest_list g.rest) g.parts qs h in
       sound_as s m refl (sym (same.walked (env_of s.code s.scope.labels))) (sym same.noted)
-      (λ (i, r, c, f). let w = r qs h in (parameters_head (record { close = i; opens = e; reads_patterns = w.0; closes = c; next = f }), w.1)) p
+      (λ (i, r, c, f). let w = r qs h in (s.at, not_async refl refl, parameters_head (record { close = i; opens = e; reads_patterns = w.0; closes = c; next = f }), w.1)) p
 
   -- before `=>` it is the head of an arrow function
   pub behind_group_sound : (s : State) (g : Group) (m : State) → kind_at s.at ≡ kind.LParen → group inner function cover s ≡ Ok (g, m) → sees kind.Arrow m.at ≡ true
       → Meets (λ x t. SoundTree (Assignment n) s x t) (and_then (parameters_of g.parts g.rest m) (arrow_from inner function false (span_at s.at)))
   behind_group_sound s g m e r a = meets_then _ (parameters_of g.parts g.rest m) _ (parameters_are g.parts g.rest m) (λ ps t (f, (qs, h, i)).
-      rw (f, i) (arrow_from_sound n inner sound function functions s (qs ++ rest_list g.rest) m
+      rw (f, i) (arrow_from_sound n inner sound function functions false s (qs ++ rest_list g.rest) m
       (group_head s g m qs e h (met (SoundGroup s) (group inner function cover s) g m (group_sound s e) r)) (saw m.at kind.Arrow a)))

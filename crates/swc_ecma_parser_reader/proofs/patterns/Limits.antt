@@ -16,7 +16,8 @@ use Rattle.swc_ecma_parser_reader.specs.Patterns.{binding, rest, array_turn, ele
 use Rattle.swc_ecma_parser_reader.proofs.Meets.{Answers, answers_then, answers_if, loop_answers, saw}
 use Rattle.swc_ecma_parser_reader.proofs.Shallow.{Fine, fine_more, fine_after, fine_taken, Shallow, Kept, Taken, wanted_shallow, refuse_shallow, expect_shallow, name_shallow, name_takes, Levels}
 use Rattle.swc_ecma_parser_reader.proofs.expressions.CompleteKinds.{array_here, object_here}
-use Rattle.swc_ecma_parser_reader.proofs.expressions.Limits.{kept_more, reject_shallow, unexpected_shallow, inside_shallow, key_shallow}
+use Rattle.swc_ecma_parser_reader.proofs.expressions.LimitSteps.{kept_more, reject_shallow, unexpected_shallow}
+use Rattle.swc_ecma_parser_reader.proofs.expressions.Limits.{inside_shallow, key_shallow}
 
 binding_shallow : (m : ℕ) (s : State) → Fine m s.at.left → Answers (Kept m) Shallow (binding s)
 unfolding binding

@@ -1,0 +1,139 @@
+-- What a module takes from the reader of statements is not too deep: an expression and the parts of a function are read as they
+-- are behind words of a statement that stand in as many tokens.
+use Rattle.std.proofs.Common.{◌≡◌, ◌≢◌, ℕ, zero, suc, ◌+◌, ◌*◌, ◌≤◌, Bool, true, false, List, [], ◌∷◌, ◌++◌, Ok, Err, refl, arith, subst}
+use Rattle.std.specs.Prelude.{codes}
+use Rattle.swc_ecma_parser_common.specs.declared.span.Span.{Span}
+use Rattle.swc_ecma_parser_error.specs.Kind as faults
+use Rattle.swc_ecma_parser_error.specs.Kind.{Fault}
+use Rattle.swc_ecma_parser_token.specs.declared.keyword.Keyword.TheVariants as keyword
+use Rattle.swc_ecma_parser_token.specs.declared.operator.BinOpToken.TheVariants as bin
+use Rattle.swc_ecma_parser_token.specs.declared.token.Token.{Token}
+use Rattle.swc_ecma_parser_token.specs.declared.token.Token.TheVariants as token
+use Rattle.swc_ecma_parser_token.specs.declared.token.Word.TheVariants as word
+use Rattle.swc_ecma_parser_token.specs.declared.token.TokenAndSpan.{TokenAndSpan}
+use Rattle.swc_ecma_parser_input.specs.Place.{after}
+use Rattle.swc_ecma_parser_grammar.specs.declared.position.Position.{Position}
+use Rattle.swc_ecma_parser_grammar.specs.Looks.{kind_at, same_kind, breaks_at, span_at}
+use Rattle.swc_ecma_parser_grammar.specs.Names.{is_name, name_at}
+use Rattle.swc_ecma_parser_grammar.specs.Follows.{word_at, is_async_function}
+use Rattle.swc_ecma_parser_grammar.specs.Reads.{with_in, nested_item}
+use Rattle.swc_ecma_parser_grammar.specs.language.Goals.{assignment}
+use Rattle.swc_ecma_parser_reader.specs.Expressions.{expr_level, expression_expr}
+use Rattle.swc_ecma_parser_reader.specs.Methods.{star}
+use Rattle.swc_ecma_parser_reader.specs.Reader.{head, while_stmt, function_stmt, function_decl, function_parts, function_word, async_or_other, expr, stmt, stmt_level, parameters, top_await, whole_stmt}
+use Rattle.swc_ecma_parser_reader.specs.State.{State, Outcome, coded, within, expect, name}
+use Rattle.swc_ecma_parser_reader.specs.Entry.{IsBehind}
+use Rattle.swc_ecma_parser_reader.specs.Limits.{is_too_deep, has_too_deep_token}
+use Rattle.swc_ecma_parser_reader.proofs.Behind as behind
+use Rattle.swc_ecma_parser_reader.proofs.Behind.{Lost, behind_self}
+use Rattle.swc_ecma_parser_reader.proofs.Keeps.{expr_keeps}
+use Rattle.swc_ecma_parser_reader.proofs.Limits.{whole_fits}
+use Rattle.swc_ecma_parser_reader.proofs.Meets.{Answers, answers_then}
+use Rattle.swc_ecma_parser_reader.proofs.Shallow.{Fine, Shallow, Kept, either_false}
+use Rattle.swc_ecma_parser_reader.proofs.Words.{word_named}
+use Rattle.swc_ecma_parser_module_reader.proofs.Keeps.{parts_keep, whole_stmt_keeps}
+
+-- ---- what is left of tokens that are fine
+
+fine_last : (m : ℕ) (read ts : List TokenAndSpan) → Fine m (read ++ ts) → Fine m ts
+fine_last m [] ts f = f
+fine_last m (t ∷ read) ts f = fine_last m read ts
+    (record { few = let l = f.few in omega arith; shallow = (either_false (is_too_deep t.token) (has_too_deep_token (read ++ ts)) f.shallow).1 })
+
+fine_behind : (m : ℕ) (s t : State) → IsBehind s t → Fine m s.at.left → Fine m t.at.left
+fine_behind m s t h f = fine_last m h.read t.at.left (subst (Fine m) h.tokens f)
+
+-- a reader that keeps its tokens answers fine ones
+with_refusals : {A : Type 0} (m : ℕ) (s : State) (o : Outcome A) → Answers (behind.Kept s) (Lost s) o → Fine m s.at.left → ((e : Fault) (t : State) → o ≡ Err (e, t) → e.kind ≢ faults.TooDeep)
+    → Answers (Kept m) Shallow o
+with_refusals m s (Ok p) h f g = fine_behind m s p.1 h f
+with_refusals m s (Err e) h f g = g e.0 e.1 refl
+
+-- ---- statements
+
+pub whole_shallow : (n : ℕ) (at : Position) (m : ℕ) (s : State) → 2 * m + 2 ≤ n → Fine m s.at.left → Answers (Kept m) Shallow (whole_stmt n at s)
+whole_shallow n at m s l f = with_refusals m s (whole_stmt n at s) (whole_stmt_keeps n at s s (behind_self s)) f
+    (λ e t g. whole_fits n at s e t (let k = f.few in omega arith) g f.shallow)
+
+-- one inside another begins with no `await` of the top level
+as_whole : (n : ℕ) (s : State) → whole_stmt n nested_item s ≡ stmt n nested_item s
+unfolding whole_stmt top_await
+as_whole n s = refl
+
+pub stmt_shallow : (n m : ℕ) (s : State) → 2 * m + 2 ≤ n → Fine m s.at.left → Answers (Kept m) Shallow (stmt n nested_item s)
+stmt_shallow n m s l f = subst (Answers (Kept m) Shallow) (as_whole n s) (whole_shallow n nested_item m s l f)
+
+-- a refusal of such a statement
+stmt_fits : (n m : ℕ) (s : State) (e : Fault) (t : State) → 2 * m + 2 ≤ n → Fine m s.at.left → stmt n nested_item s ≡ Err (e, t) → e.kind ≢ faults.TooDeep
+stmt_fits n m s e t l f g = subst (Answers (Kept m) Shallow) g (stmt_shallow n m s l f)
+
+-- ---- expressions: as behind `while (`
+
+a_token : Token → Span → TokenAndSpan
+a_token t span = record { token = t; had_line_break = false; span = span }
+
+abbrev before : State → List TokenAndSpan → State
+before s ts = record s { at = record s.at { left = ts ++ s.at.left } }
+
+abbrev in_while : State → State
+in_while s = before s (a_token (token.Word (word.Keyword keyword.While)) s.at.last ∷ a_token token.LParen s.at.last ∷ [])
+
+refused_in_while : (k : ℕ) (s : State) (p : Fault × State) → expr (suc k) assignment (coded (with_in s.code) s) ≡ Err p → stmt (suc (suc k)) nested_item (in_while s) ≡ Err p
+unfolding stmt stmt_level while_stmt head expect expr expr_level expression_expr a_token kind_at same_kind after
+refused_in_while k s p h = rw h refl
+
+expr_fits : (n m : ℕ) (s : State) (e : Fault) (t : State) → 2 * m + 5 ≤ n → Fine m s.at.left → expr n assignment (coded (with_in s.code) s) ≡ Err (e, t) → e.kind ≢ faults.TooDeep
+unfolding a_token
+expr_fits zero m s e t l f g = absurd (omega arith)
+expr_fits (suc k) m s e t l f g =
+    stmt_fits (suc (suc k)) (suc (suc m)) (in_while s) e t (omega arith) (record { few = let i = f.few in omega arith; shallow = f.shallow }) (refused_in_while k s (e, t) g)
+
+-- an assignment expression in which `in` is an operator
+pub whole_expr_shallow : (n m : ℕ) (s : State) → 2 * m + 5 ≤ n → Fine m s.at.left → Answers (Kept m) Shallow (within with_in (expr n assignment) s)
+whole_expr_shallow n m s l f =
+    let k = coded (with_in s.code) s in
+    answers_then (Kept m) _ (expr n assignment k) _ (with_refusals m k (expr n assignment k) (expr_keeps n assignment k k (behind_self k)) f (λ e t g. expr_fits n m s e t l f g)) (λ x t h. h)
+
+-- ---- the parts of a function: as behind its words and a name
+
+abbrev pub cost : Bool → ℕ
+cost true = 1
+cost false = 0
+
+abbrev function_words : (is_async is_generator : Bool) → (start last : Span) → List TokenAndSpan
+function_words true true start last =
+    a_token (token.Word (word.Ident (codes "async"))) start ∷ a_token (token.Word (word.Keyword keyword.Function)) last ∷ a_token (token.BinOp bin.Mul) last
+    ∷ a_token (token.Word (word.Ident (codes "async"))) last ∷ []
+function_words true false start last =
+    a_token (token.Word (word.Ident (codes "async"))) start ∷ a_token (token.Word (word.Keyword keyword.Function)) last ∷ a_token (token.Word (word.Ident (codes "async"))) last ∷ []
+function_words false true start last =
+    a_token (token.Word (word.Keyword keyword.Function)) start ∷ a_token (token.BinOp bin.Mul) last ∷ a_token (token.Word (word.Ident (codes "async"))) last ∷ []
+function_words false false start last = a_token (token.Word (word.Keyword keyword.Function)) start ∷ a_token (token.Word (word.Ident (codes "async"))) last ∷ []
+
+abbrev in_function : (is_async is_generator : Bool) → Span → State → State
+in_function w v start s = before s (function_words w v start s.at.last)
+
+-- `async` is a name everywhere
+async_name : (s : State) → is_name s.code.flags (codes "async") ≡ true
+unfolding name_at word_at a_token
+async_name s = word_named s.code.flags (before s (a_token (token.Word (word.Ident (codes "async"))) s.at.last ∷ [])).at refl
+
+refused_in_function : (k : ℕ) (w v : Bool) (start : Span) (s : State) (p : Fault × State) → function_parts (stmt k nested_item) (parameters k) w v start s ≡ Err p
+    → stmt (suc k) nested_item (in_function w v start s) ≡ Err p
+unfolding stmt stmt_level function_stmt function_decl async_or_other function_word star name a_token is_async_function word_at kind_at same_kind breaks_at span_at after
+refused_in_function k true true start s p h = rw (async_name s, h) refl
+refused_in_function k true false start s p h = rw (async_name s, h) refl
+refused_in_function k false true start s p h = rw (async_name s, h) refl
+refused_in_function k false false start s p h = rw (async_name s, h) refl
+
+fine_in_function : (w v : Bool) (start : Span) (m : ℕ) (s : State) → Fine m s.at.left → Fine (m + 2 + cost w + cost v) (in_function w v start s).at.left
+unfolding a_token
+fine_in_function true true start m s f = record { few = let i = f.few in omega arith; shallow = f.shallow }
+fine_in_function true false start m s f = record { few = let i = f.few in omega arith; shallow = f.shallow }
+fine_in_function false true start m s f = record { few = let i = f.few in omega arith; shallow = f.shallow }
+fine_in_function false false start m s f = record { few = let i = f.few in omega arith; shallow = f.shallow }
+
+pub parts_shallow : (n m : ℕ) (w v : Bool) (start : Span) (s : State) → 2 * (m + 2 + cost w + cost v) + 2 ≤ suc n → Fine m s.at.left
+    → Answers (Kept m) Shallow (function_parts (stmt n nested_item) (parameters n) w v start s)
+parts_shallow n m w v start s l f = with_refusals m s (function_parts (stmt n nested_item) (parameters n) w v start s) (parts_keep n w v start s s (behind_self s)) f
+    (λ e t g. stmt_fits (suc n) (m + 2 + cost w + cost v) (in_function w v start s) e t l (fine_in_function w v start m s f) (refused_in_function n w v start s (e, t) g))

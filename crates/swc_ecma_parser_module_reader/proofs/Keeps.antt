@@ -1,0 +1,340 @@
+-- Whatever a module is read as, or refused, the tokens that are left are the last of those that were, what was read last is the
+-- token before them, and no recorded fault is lost.
+use Rattle.std.proofs.Common.{◌≡◌, ℕ, zero, suc, Bool, true, List, [], ◌∷◌, ◌++◌, Option, Some, None, Result, Ok, Err, sym, ◌∙◌, ap, subst, append_assoc}
+use Rattle.std.specs.Prelude.{◌&&◌, ◌||◌, codes}
+use Rattle.swc_ecma_parser_common.specs.declared.span.Span.{Span}
+use Rattle.swc_ecma_parser_error.specs.declared.error.Error.{Error}
+use Rattle.swc_ecma_parser_error.specs.Kind as faults
+use Rattle.swc_ecma_parser_error.specs.Kind.{Fault, fault_of}
+use Rattle.swc_ecma_parser_token.specs.declared.kind.TokenKind.TheVariants as kind
+use Rattle.swc_ecma_parser_token.specs.declared.token.Token.{Token}
+use Rattle.swc_ecma_parser_token.specs.declared.token.Token.TheVariants as token
+use Rattle.swc_ecma_parser_token.specs.declared.token.TokenAndSpan.{TokenAndSpan}
+use Rattle.swc_ecma_parser_input.specs.Place.{Place, after}
+use Rattle.swc_ecma_parser_model.specs.declared.leaves.Ident.{Ident}
+use Rattle.swc_ecma_parser_model.specs.declared.leaves.ImportPhase.{ImportPhase}
+use Rattle.swc_ecma_parser_model.specs.declared.leaves.ImportPhase.TheVariants as phase
+use Rattle.swc_ecma_parser_model.specs.declared.leaves.VarDeclKind.TheVariants as decl
+use Rattle.swc_ecma_parser_model.specs.Tree as tree
+use Rattle.swc_ecma_parser_model.specs.Tree.{Tree, Text, listed}
+use Rattle.swc_ecma_parser_grammar.specs.declared.position.Position.{Position}
+use Rattle.swc_ecma_parser_grammar.specs.Looks.{sees, span_at}
+use Rattle.swc_ecma_parser_grammar.specs.Names.{is_name, name_at}
+use Rattle.swc_ecma_parser_grammar.specs.Follows.{word_at, is_let_declaration, is_async_function}
+use Rattle.swc_ecma_parser_grammar.specs.Own.{export_faults}
+use Rattle.swc_ecma_parser_grammar.specs.Parameters as formal
+use Rattle.swc_ecma_parser_grammar.specs.Reads.{with_in, nested_item, top_item}
+use Rattle.swc_ecma_parser_grammar.specs.language.Contexts.{outside_functions, in_parameters}
+use Rattle.swc_ecma_parser_grammar.specs.language.Goals.{assignment}
+use Rattle.swc_ecma_parser_grammar.specs.language.Imports.{follows_phase}
+use Rattle.swc_ecma_parser_grammar.specs.language.ModuleParts.{begins_attributes}
+use Rattle.swc_ecma_parser_reader.specs.Jumps.{told}
+use Rattle.swc_ecma_parser_reader.specs.Methods.{star}
+use Rattle.swc_ecma_parser_reader.specs.Operands.{literal, literal_in, taken, word_property}
+use Rattle.swc_ecma_parser_reader.specs.Reader.{at_end, items_turn, items, variables, function_decl, function_parts, function_body, misdirected, function_word, named, optional_end, expr, pattern, stmt, parameters, top_await_fault, top_await, whole_stmt, shebang}
+use Rattle.swc_ecma_parser_reader.specs.State.{State, Outcome, Reader, moved, coded, within, module_found, name, expect, expect_word, end, loop}
+use Rattle.swc_ecma_parser_reader.specs.Words.{any_word, word_in, word_by}
+use Rattle.swc_ecma_parser_reader.specs.Entry.{unmarked, IsBehind, IsSetBack, Stays}
+use Rattle.swc_ecma_parser_reader.proofs.Behind.{Kept, Lost, Passes, behind_self, behind_after, too_deep_keeps, fault_keeps, wanted_keeps, refuse_keeps, reject_keeps, end_keeps, expect_keeps, name_keeps, shebang_keeps, loop_keeps}
+use Rattle.swc_ecma_parser_reader.proofs.Keeps.{function_params_keep, function_body_keep, stmt_keeps, expr_keeps, parameters_keep}
+use Rattle.swc_ecma_parser_reader.proofs.Meets.{Answers, answers_then, answers_if, meant}
+use Rattle.swc_ecma_parser_reader.proofs.expressions.Keeps.{star_keeps, told_keeps}
+use Rattle.swc_ecma_parser_module_reader.specs.Imports.{str_or, str, source, module_name, no_attributes, specifiers_turn, specifiers, same_name, other_name, import_specifier, binding_name, import_namespace, bindings, more_bindings, default_binding, import_clause, imported, import_from, phase_of, import_phased, is_phase_word, import_decl}
+use Rattle.swc_ecma_parser_module_reader.specs.Exports.{renamed_export, plain_export, export_specifier, export_namespace, names_from, own_names, export_names, behind_namespace, export_all, export_star, default_name, default_function, default_expr, is_default_from, begins_default_function, exported_function, export_default, exported, export_decl}
+use Rattle.swc_ecma_parser_module_reader.specs.Modules.{begins_import, import_in, export_in, module_item, module_code, module_body, module_whole}
+use Rattle.swc_ecma_parser_module_reader.specs.Entry.{AnswersModule}
+use Rattle.swc_ecma_parser_module_reader.proofs.Falls.{var_is_stmt, const_is_stmt, let_is_stmt, function_is_stmt}
+
+-- ---- what imports and exports share
+
+str_or_keeps : (o : Option Tree) → Passes (str_or o)
+str_or_keeps (Some (tree.str span value raw)) b s f = f
+str_or_keeps (Some _) b s f = wanted_keeps _ faults.Unexpected b s f
+str_or_keeps None b s f = wanted_keeps _ faults.Unexpected b s f
+
+taken_keeps : (o : Option Tree) → Passes (taken o)
+taken_keeps None b s f = f
+taken_keeps (Some x) b s f = behind_after b s f
+
+str_keeps : Passes str
+unfolding str literal
+str_keeps b s f = answers_if _ _ (sees kind.Str s.at) _ _
+    (λ _. answers_then _ _ (taken (literal_in s.at.left) s) _ (taken_keeps (literal_in s.at.left) b s f) (λ o t g. str_or_keeps o b t g))
+    (λ _. wanted_keeps _ faults.Unexpected b s f)
+
+expect_word_keeps : (text : Text) → Passes (expect_word text)
+unfolding expect_word
+expect_word_keeps text b s f = answers_if _ _ (word_at text s.at) _ _ (λ _. behind_after b s f) (λ _. refuse_keeps _ faults.Expected b s f)
+
+source_keeps : Passes source
+unfolding source
+source_keeps b s f = answers_then (Kept b) _ (expect_word (codes "from") s) _ (expect_word_keeps (codes "from") b s f) (λ _ t g. str_keeps b t g)
+
+word_by_keeps : (v : Token) (span : Span) (b s : State) → IsBehind b s → Answers (Kept b) (Lost b) (word_by s v span)
+word_by_keeps (token.Word w) span b s f = behind_after b s f
+word_by_keeps _ span b s f = wanted_keeps _ faults.Unexpected b s f
+
+word_in_keeps : (ts : List TokenAndSpan) (b s : State) → IsBehind b s → Answers (Kept b) (Lost b) (word_in s ts)
+word_in_keeps [] b s f = wanted_keeps _ faults.Unexpected b s f
+word_in_keeps (t ∷ ts) b s f = word_by_keeps t.token t.span b s f
+
+any_word_keeps : Passes any_word
+unfolding any_word
+any_word_keeps b s f = word_in_keeps s.at.left b s f
+
+module_name_keeps : Passes module_name
+unfolding module_name word_property
+module_name_keeps b s f = answers_if _ _ (sees kind.Str s.at) _ _ (λ _. str_keeps b s f)
+    (λ _. answers_then (Kept b) _ (any_word s) _ (any_word_keeps b s f) (λ i t g. g))
+
+no_attributes_keeps : Passes no_attributes
+unfolding no_attributes
+no_attributes_keeps b s f = answers_if _ _ (begins_attributes s.code s.at) _ _ (λ _. wanted_keeps _ faults.Unexpected b s f) (λ _. f)
+
+specifiers_keep : (specifier : Reader Tree) → Passes specifier → Passes (specifiers specifier)
+unfolding specifiers specifiers_turn
+specifiers_keep specifier below b s f = answers_then (Kept b) _ (expect kind.LBrace s) _ (expect_keeps b s f kind.LBrace) (λ _ t g.
+    answers_then (Kept b) _ (loop (specifiers_turn specifier) [] t) _ (loop_keeps (specifiers_turn specifier) b
+    (λ xs u h. answers_if _ _ (sees kind.RBrace u.at) _ _ (λ _. h) (λ _. answers_then (Kept b) _ (specifier u) _ (below b u h) (λ x v k.
+    answers_if _ _ (sees kind.Comma v.at) _ _ (λ _. behind_after b v k) (λ _. k)))) [] t g) (λ xs u h.
+    answers_then (Kept b) _ (expect kind.RBrace u) _ (expect_keeps b u h kind.RBrace) (λ _ v k. k)))
+
+-- ---- imports
+
+same_name_keeps : (start : Span) (x : Tree) → Passes (same_name start x)
+same_name_keeps start (tree.ident span text) b s f = answers_if _ _ (is_name s.code.flags text) _ _ (λ _. f) (λ _. reject_keeps _ faults.ReservedWordInImport span b s f)
+same_name_keeps start (tree.str span value raw) b s f = reject_keeps _ faults.ImportBindingIsString span b s f
+same_name_keeps start _ b s f = wanted_keeps _ faults.Unexpected b s f
+
+other_name_keeps : (start : Span) (x : Tree) → Passes (other_name start x)
+unfolding other_name
+other_name_keeps start x b s f = answers_then (Kept b) _ (name faults.ExpectedIdent (moved s)) _ (name_keeps b (moved s) (behind_after b s f) faults.ExpectedIdent) (λ i t g. g)
+
+import_specifier_keeps : Passes import_specifier
+unfolding import_specifier
+import_specifier_keeps b s f = answers_then (Kept b) _ (module_name s) _ (module_name_keeps b s f) (λ x t g.
+    answers_if _ _ (word_at (codes "as") t.at) _ _ (λ _. other_name_keeps (span_at s.at) x b t g) (λ _. same_name_keeps (span_at s.at) x b t g))
+
+binding_keeps : Passes binding_name
+unfolding binding_name
+binding_keeps b s f =
+    let t = coded (outside_functions s.code) s in answers_then (Kept b) _ (name faults.ExpectedIdent t) _ (name_keeps b t f faults.ExpectedIdent) (λ i u g. g)
+
+import_namespace_keeps : Passes import_namespace
+unfolding import_namespace
+import_namespace_keeps b s f = answers_then (Kept b) _ (expect_word (codes "as") (moved s)) _ (expect_word_keeps (codes "as") b (moved s) (behind_after b s f)) (λ _ t g.
+    answers_then (Kept b) _ (binding_name t) _ (binding_keeps b t g) (λ i u h. h))
+
+bindings_keep : Passes bindings
+unfolding bindings
+bindings_keep b s f = answers_if _ _ (sees kind.Mul s.at) _ _ (λ _. import_namespace_keeps b s f) (λ _. specifiers_keep import_specifier import_specifier_keeps b s f)
+
+more_bindings_keep : Passes more_bindings
+unfolding more_bindings
+more_bindings_keep b s f = answers_if _ _ (sees kind.Comma s.at) _ _ (λ _. let g = behind_after b s f in
+    answers_if _ _ (word_at (codes "from") (after s.at)) _ _ (λ _. g) (λ _. bindings_keep b (moved s) g)) (λ _. f)
+
+default_binding_keeps : (i : Ident) → Passes (default_binding i)
+unfolding default_binding
+default_binding_keeps i b s f = answers_then (Kept b) _ (more_bindings s) _ (more_bindings_keep b s f) (λ xs t g. g)
+
+import_clause_keeps : Passes import_clause
+unfolding import_clause
+import_clause_keeps b s f = answers_if _ _ (sees kind.Mul s.at || sees kind.LBrace s.at) _ _ (λ _. bindings_keep b s f)
+    (λ _. answers_then (Kept b) _ (binding_name s) _ (binding_keeps b s f) (λ i t g. default_binding_keeps i b t g))
+
+imported_keeps : (start : Span) (p : ImportPhase) (xs : List Tree) (from : Reader Tree) → Passes from → Passes (imported start p xs from)
+unfolding imported
+imported_keeps start p xs from below b s f = answers_then (Kept b) _ (from s) _ (below b s f) (λ src t g.
+    answers_then (Kept b) _ (no_attributes t) _ (no_attributes_keeps b t g) (λ _ u h.
+    answers_then (Kept b) _ (end faults.Expected u) _ (end_keeps b u h faults.Expected) (λ _ v k. k)))
+
+import_from_keeps : (start : Span) (p : ImportPhase) → Passes (import_from start p)
+unfolding import_from
+import_from_keeps start p b s f = answers_then (Kept b) _ (import_clause s) _ (import_clause_keeps b s f) (λ xs t g. imported_keeps start p xs source source_keeps b t g)
+
+import_phased_keeps : (start : Span) → Passes (import_phased start)
+unfolding import_phased
+import_phased_keeps start b s f = answers_then (Kept b) _ (any_word s) _ (any_word_keeps b s f) (λ i t g.
+    answers_if _ _ (follows_phase t.code t.at) _ _ (λ _. import_from_keeps start (phase_of i.sym) b t g)
+    (λ _. answers_then (Kept b) _ (default_binding i t) _ (default_binding_keeps i b t g) (λ xs u h. imported_keeps start phase.Evaluation xs source source_keeps b u h)))
+
+pub import_decl_keeps : Passes import_decl
+unfolding import_decl
+import_decl_keeps b s f = let t = moved s in let g = behind_after b s f in
+    answers_if _ _ (sees kind.Str t.at) _ _ (λ _. imported_keeps (span_at s.at) phase.Evaluation [] str str_keeps b t g)
+    (λ _. answers_if _ _ (is_phase_word t.at) _ _ (λ _. import_phased_keeps (span_at s.at) b t g) (λ _. import_from_keeps (span_at s.at) phase.Evaluation b t g))
+
+-- ---- exports
+
+renamed_keeps : (start : Span) (x : Tree) → Passes (renamed_export start x)
+unfolding renamed_export
+renamed_keeps start x b s f = answers_then (Kept b) _ (module_name (moved s)) _ (module_name_keeps b (moved s) (behind_after b s f)) (λ n t g. g)
+
+plain_keeps : (start : Span) (x : Tree) → Passes (plain_export start x)
+unfolding plain_export
+plain_keeps start x b s f = f
+
+export_specifier_keeps : Passes export_specifier
+unfolding export_specifier
+export_specifier_keeps b s f = answers_then (Kept b) _ (module_name s) _ (module_name_keeps b s f) (λ x t g.
+    answers_if _ _ (word_at (codes "as") t.at) _ _ (λ _. renamed_keeps (span_at s.at) x b t g) (λ _. plain_keeps (span_at s.at) x b t g))
+
+export_namespace_keeps : (start : Span) → Passes (export_namespace start)
+unfolding export_namespace
+export_namespace_keeps start b s f = answers_then (Kept b) _ (module_name (moved s)) _ (module_name_keeps b (moved s) (behind_after b s f)) (λ n t g. g)
+
+names_from_keep : (start : Span) (xs : List Tree) → Passes (names_from start xs)
+unfolding names_from
+names_from_keep start xs b s f = answers_then (Kept b) _ (source s) _ (source_keeps b s f) (λ src t g.
+    answers_then (Kept b) _ (no_attributes t) _ (no_attributes_keeps b t g) (λ _ u h.
+    answers_then (Kept b) _ (end faults.Expected u) _ (end_keeps b u h faults.Expected) (λ _ v k. k)))
+
+optional_end_keeps : Passes optional_end
+unfolding optional_end
+optional_end_keeps b s f = answers_if _ _ (sees kind.Semi s.at) _ _ (λ _. behind_after b s f) (λ _. f)
+
+own_names_keep : (start : Span) (xs : List Tree) → Passes (own_names start xs)
+unfolding own_names
+own_names_keep start xs b s f =
+    let fs = export_faults tree.absent (listed xs) in
+    answers_then (Kept b) _ (told fs s) _ (told_keeps b fs s f) (λ _ t g. answers_then (Kept b) _ (optional_end t) _ (optional_end_keeps b t g) (λ _ u h. h))
+
+export_names_keep : (start : Span) (before : List Tree) → Passes (export_names start before)
+unfolding export_names
+export_names_keep start before b s f = answers_then (Kept b) _ (specifiers export_specifier s) _ (specifiers_keep export_specifier export_specifier_keeps b s f) (λ xs t g.
+    answers_if _ _ (word_at (codes "from") t.at) _ _ (λ _. names_from_keep start (before ++ xs) b t g) (λ _. own_names_keep start (before ++ xs) b t g))
+
+behind_namespace_keeps : (start : Span) (x : Tree) → Passes (behind_namespace start x)
+unfolding behind_namespace
+behind_namespace_keeps start x b s f = answers_if _ _ (s.code.setting.export_default_from && sees kind.Comma s.at) _ _
+    (λ _. export_names_keep start (x ∷ []) b (moved s) (behind_after b s f)) (λ _. names_from_keep start (x ∷ []) b s f)
+
+export_all_keeps : (start : Span) → Passes (export_all start)
+unfolding export_all
+export_all_keeps start b s f = answers_then (Kept b) _ (source s) _ (source_keeps b s f) (λ src t g.
+    answers_then (Kept b) _ (no_attributes t) _ (no_attributes_keeps b t g) (λ _ u h.
+    answers_then (Kept b) _ (end faults.Expected u) _ (end_keeps b u h faults.Expected) (λ _ v k. k)))
+
+export_star_keeps : (start : Span) → Passes (export_star start)
+unfolding export_star
+export_star_keeps start b s f = let t = moved s in let g = behind_after b s f in answers_if _ _ (word_at (codes "as") t.at) _ _
+    (λ _. answers_then (Kept b) _ (export_namespace (span_at s.at) t) _ (export_namespace_keeps (span_at s.at) b t g) (λ x u h. behind_namespace_keeps start x b u h))
+    (λ _. export_all_keeps start b t g)
+
+default_name_keeps : Passes default_name
+unfolding default_name named
+default_name_keeps b s f = answers_if _ _ (name_at s.code.flags s.at) _ _
+    (λ _. answers_then (Kept b) _ (name faults.ExpectedIdent s) _ (name_keeps b s f faults.ExpectedIdent) (λ i t g. g)) (λ _. f)
+
+function_word_keeps : Passes function_word
+unfolding function_word
+function_word_keeps b s f = let g = behind_after b s f in answers_if _ _ (is_async_function s.at) _ _ (λ _. behind_after b (moved s) g) (λ _. g)
+
+-- ---- in so many levels
+
+module _ (n : ℕ) where
+  pub parts_keep : (w v : Bool) (start : Span) → Passes (function_parts (stmt n nested_item) (parameters n) w v start)
+  unfolding function_parts misdirected
+  parts_keep w v start b s f =
+      answers_then (Kept b) _ (within (λ k. in_parameters k w v) (parameters n) s) _
+      (function_params_keep (stmt n nested_item) (stmt_keeps n nested_item) (parameters n) (parameters_keep n) w v b s f) (λ ps t g.
+      answers_then (Kept b) _ (function_body (stmt n nested_item) (parameters n) w v t) _
+      (function_body_keep (stmt n nested_item) (stmt_keeps n nested_item) (parameters n) (parameters_keep n) w v b t g) (λ x u h.
+      answers_then (Kept b) _ (misdirected (formal.parameters ps) x u) _ (told_keeps b _ u h) (λ _ v k. k)))
+
+  default_function_keeps : Passes (default_function (stmt n nested_item) (parameters n))
+  unfolding default_function
+  default_function_keeps b s f = answers_then (Kept b) _ (function_word s) _ (function_word_keeps b s f) (λ w r g.
+      answers_then (Kept b) _ (star r) _ (star_keeps b r g) (λ v u h.
+      answers_then (Kept b) _ (default_name u) _ (default_name_keeps b u h) (λ i t k.
+      answers_then (Kept b) _ (function_parts (stmt n nested_item) (parameters n) w v (span_at s.at) t) _ (parts_keep w v (span_at s.at) b t k) (λ x z j. j))))
+
+  default_expr_keeps : (start : Span) → Passes (default_expr (expr n) start)
+  unfolding default_expr
+  default_expr_keeps start b s f =
+      let k = coded (with_in s.code) s in
+      answers_then (Kept b) _ (within with_in (expr n assignment) s) _ (answers_then (Kept b) _ (expr n assignment k) _ (expr_keeps n assignment b k f) (λ x t g. g)) (λ x t g.
+      answers_then (Kept b) _ (end faults.Expected t) _ (end_keeps b t g faults.Expected) (λ _ u h. h))
+
+  export_default_keeps : (start : Span) → Passes (export_default (stmt n nested_item) (expr n) (pattern n) (parameters n) start)
+  unfolding export_default exported_function
+  export_default_keeps start b s f = answers_if _ _ (begins_default_function s.at) _ _
+      (λ _. answers_then (Kept b) _ (default_function (stmt n nested_item) (parameters n) s) _ (default_function_keeps b s f) (λ x t g. g))
+      (λ _. answers_if _ _ (is_default_from s.code s.at) _ _ (λ _. wanted_keeps _ faults.Unexpected b s f) (λ _. default_expr_keeps start b s f))
+
+  exported_keeps : (start : Span) (d : Reader Tree) (b s : State) → stmt (suc n) nested_item s ≡ d s → IsBehind b s
+      → Answers (Kept b) (Lost b) (exported (stmt n nested_item) (expr n) (pattern n) (parameters n) start d s)
+  unfolding exported
+  exported_keeps start d b s e f = answers_then (Kept b) _ (d s) _ (subst (Answers (Kept b) (Lost b)) e (stmt_keeps (suc n) nested_item b s f)) (λ x t g. g)
+
+  pub export_decl_keeps : Passes (export_decl (stmt n nested_item) (expr n) (pattern n) (parameters n))
+  unfolding export_decl
+  export_decl_keeps b s f = let t = moved s in let g = behind_after b s f in
+      answers_if _ _ (sees kind.LBrace t.at) _ _ (λ _. export_names_keep (span_at s.at) [] b t g) (λ _.
+      answers_if _ _ (sees kind.Mul t.at) _ _ (λ _. export_star_keeps (span_at s.at) b t g) (λ _.
+      answers_if _ _ (sees kind.Default t.at) _ _ (λ _. export_default_keeps (span_at s.at) b (moved t) (behind_after b t g)) (λ _.
+      answers_if _ _ (sees kind.Var t.at) _ _ (λ h. exported_keeps (span_at s.at) (variables (expr n) (pattern n) decl.Var) b t (var_is_stmt n t h) g) (λ _.
+      answers_if _ _ (sees kind.Const t.at) _ _ (λ h. exported_keeps (span_at s.at) (variables (expr n) (pattern n) decl.Const) b t (const_is_stmt n t h) g) (λ _.
+      answers_if _ _ (is_let_declaration t.at) _ _ (λ h. exported_keeps (span_at s.at) (variables (expr n) (pattern n) decl.Let) b t (let_is_stmt n t h) g) (λ _.
+      answers_if _ _ (begins_default_function t.at) _ _ (λ h. exported_keeps (span_at s.at) (function_decl (stmt n nested_item) (parameters n)) b t (function_is_stmt n t h) g) (λ _.
+      wanted_keeps _ faults.Unexpected b t g)))))))
+
+-- ---- an item, and a module
+
+top_await_keeps : (at : Position) → Passes (top_await at)
+unfolding top_await top_await_fault
+top_await_keeps at b s f = answers_if _ _ (at.top_level && sees kind.Await s.at) _ _
+    (λ _. answers_if _ _ s.code.flags.can_be_module _ _ (λ _. f) (λ _. fault_keeps b (module_found s) f _)) (λ _. f)
+
+-- a statement that stands in no other
+pub whole_stmt_keeps : (n : ℕ) (at : Position) → Passes (whole_stmt n at)
+unfolding whole_stmt
+whole_stmt_keeps n at b s f = answers_then (Kept b) _ (top_await at s) _ (top_await_keeps at b s f) (λ _ t g. stmt_keeps n at b t g)
+
+import_in_keeps : (n : ℕ) → Passes (import_in n)
+unfolding import_in
+import_in_keeps zero b s f = too_deep_keeps _ b s f
+import_in_keeps (suc n) b s f = import_decl_keeps b s f
+
+export_in_keeps : (n : ℕ) → Passes (export_in n)
+unfolding export_in
+export_in_keeps zero b s f = too_deep_keeps _ b s f
+export_in_keeps (suc n) b s f = export_decl_keeps n b s f
+
+pub module_item_keeps : (n : ℕ) → Passes (module_item n)
+unfolding module_item
+module_item_keeps n b s f = answers_if _ _ (begins_import s.at) _ _ (λ _. import_in_keeps n b s f)
+    (λ _. answers_if _ _ (sees kind.Export s.at) _ _ (λ _. export_in_keeps n b s f) (λ _. whole_stmt_keeps n top_item b s f))
+
+items_keep : (inner : Reader Tree) → Passes inner → (stops : Place → Bool) (directives : Bool) → Passes (items inner stops directives)
+unfolding items items_turn
+items_keep inner below stops directives b s f = loop_keeps (items_turn inner stops directives) b
+    (λ xs t g. answers_if _ _ (stops t.at) _ _ (λ _. g) (λ _. answers_then (Kept b) _ (inner t) _ (below b t g) (λ x u k. k))) [] s f
+
+pub module_keeps : (n : ℕ) → Passes (module_whole n)
+unfolding module_whole module_body
+module_keeps n b s f =
+    let s1 = coded (module_code s.code) s in
+    answers_then (Kept b) _ (module_body n s1) _ (answers_then (Kept b) _ (shebang s1) _ (shebang_keeps b s1 f) (λ o t g.
+    answers_then (Kept b) _ (items (module_item n) at_end true t) _ (items_keep (module_item n) (module_item_keeps n) at_end true b t g) (λ xs u k. k))) (λ x t k. k)
+
+-- ---- what answers as the reader does
+
+-- a state that is set back
+set_back_behind : (s u t : State) → IsBehind s u → IsSetBack u t → IsBehind s t
+set_back_behind s u t h e = record {
+  added = h.added ++ e.faults.0;
+  faults = e.faults.1 ∙ ap (λ z. z ++ e.faults.0) h.faults ∙ append_assoc s.faults h.added e.faults.0;
+  read = h.read;
+  tokens = h.tokens ∙ ap (λ c. h.read ++ c.left) (sym e.at);
+  last = ap (λ c. c.last) e.at ∙ h.last;
+}
+
+outcome_behind : {A : Type 0} (s : State) (o : Outcome A) (e : Fault) (u t : State) → Answers (Kept s) (Lost s) o → o ≡ Err (e, u) → IsSetBack u t → IsBehind s t
+outcome_behind s o e u t h g i = set_back_behind s u t (meant (Kept s) (Lost s) o (Err (e, u)) g h) i
+
+module _ (X : Type 0) (view : X → Tree) (limit : ℕ) (s : State) where
+  pub module_stays : (r : Result X Error) (t : State) → AnswersModule view limit (unmarked s) r t → Stays s r t
+  module_stays (Ok x) t h = meant (Kept s) (Lost s) (module_whole limit (unmarked s)) (Ok (view x, t)) h (module_keeps limit s (unmarked s) (behind_self s))
+  module_stays (Err e) t h = λ n. let p = h n in outcome_behind s (module_whole limit (unmarked s)) (fault_of e) p.0 t (module_keeps limit s (unmarked s) (behind_self s)) p.1 p.2

@@ -1,0 +1,326 @@
+-- With twice as many levels as tokens, and two more, nothing in a module is too deep but what an error token says.
+use Rattle.std.proofs.Common.{◌≡◌, ◌≢◌, ℕ, zero, suc, ◌+◌, ◌*◌, ◌≤◌, Bool, true, false, List, [], ◌∷◌, ◌++◌, length, Option, Some, None, Err, refl, sym, ◌∙◌, arith, subst}
+use Rattle.std.specs.Prelude.{◌&&◌, ◌||◌, codes}
+use Rattle.swc_ecma_parser_common.specs.declared.span.Span.{Span}
+use Rattle.swc_ecma_parser_error.specs.Kind as faults
+use Rattle.swc_ecma_parser_error.specs.Kind.{Fault}
+use Rattle.swc_ecma_parser_token.specs.declared.kind.TokenKind.TheVariants as kind
+use Rattle.swc_ecma_parser_input.specs.Place.{Place, after}
+use Rattle.swc_ecma_parser_model.specs.declared.leaves.Ident.{Ident}
+use Rattle.swc_ecma_parser_model.specs.declared.leaves.ImportPhase.{ImportPhase}
+use Rattle.swc_ecma_parser_model.specs.declared.leaves.ImportPhase.TheVariants as phase
+use Rattle.swc_ecma_parser_model.specs.declared.leaves.VarDeclKind.TheVariants as decl
+use Rattle.swc_ecma_parser_model.specs.Tree as tree
+use Rattle.swc_ecma_parser_model.specs.Tree.{Tree, Text, listed}
+use Rattle.swc_ecma_parser_grammar.specs.Looks.{kind_at, sees, span_at}
+use Rattle.swc_ecma_parser_grammar.specs.Names.{is_name, name_at}
+use Rattle.swc_ecma_parser_grammar.specs.Follows.{word_at, is_let_declaration, is_async_function}
+use Rattle.swc_ecma_parser_grammar.specs.Own.{export_faults}
+use Rattle.swc_ecma_parser_grammar.specs.Reads.{with_in, nested_item, top_item}
+use Rattle.swc_ecma_parser_grammar.specs.language.Contexts.{outside_functions}
+use Rattle.swc_ecma_parser_grammar.specs.language.Goals.{assignment}
+use Rattle.swc_ecma_parser_grammar.specs.language.Imports.{follows_phase}
+use Rattle.swc_ecma_parser_grammar.specs.language.ModuleParts.{begins_attributes}
+use Rattle.swc_ecma_parser_reader.specs.Jumps.{told}
+use Rattle.swc_ecma_parser_reader.specs.Methods.{star}
+use Rattle.swc_ecma_parser_reader.specs.Operands.{literal, word_property}
+use Rattle.swc_ecma_parser_reader.specs.Reader.{at_end, items_turn, items, variables, function_decl, function_parts, function_word, named, optional_end, expr, pattern, stmt, parameters, shebang}
+use Rattle.swc_ecma_parser_reader.specs.State.{State, Reader, moved, coded, within, name, expect, expect_word, end, loop}
+use Rattle.swc_ecma_parser_reader.specs.Words.{any_word}
+use Rattle.swc_ecma_parser_reader.specs.Limits.{has_too_deep_token}
+use Rattle.swc_ecma_parser_reader.proofs.Meets.{Answers, answers_then, answers_if, loop_answers, meant, saw}
+use Rattle.swc_ecma_parser_reader.proofs.Shallow.{Fine, fine_after, fine_taken, Shallow, Kept, name_shallow, refuse_shallow, end_shallow, expect_shallow, shebang_shallow}
+use Rattle.swc_ecma_parser_reader.proofs.Words.{async_kind, async_parts}
+use Rattle.swc_ecma_parser_reader.proofs.expressions.LimitSteps.{reject_shallow, told_shallow, literal_shallow, any_word_shallow, unexpected_shallow, kept_more}
+use Rattle.swc_ecma_parser_module_reader.specs.Imports.{str_or, str, source, module_name, no_attributes, specifiers_turn, specifiers, same_name, other_name, import_specifier, binding_name, import_namespace, bindings, more_bindings, default_binding, import_clause, imported, import_from, phase_of, import_phased, is_phase_word, import_decl}
+use Rattle.swc_ecma_parser_module_reader.specs.Exports.{renamed_export, plain_export, export_specifier, export_namespace, names_from, own_names, export_names, behind_namespace, export_all, export_star, default_name, default_function, default_expr, is_default_from, begins_default_function, exported_function, export_default, exported, export_decl}
+use Rattle.swc_ecma_parser_module_reader.specs.Modules.{begins_import, import_in, export_in, module_item, module_code, module_body, module_whole}
+use Rattle.swc_ecma_parser_module_reader.proofs.Falls.{var_is_stmt, const_is_stmt, let_is_stmt, function_is_stmt}
+use Rattle.swc_ecma_parser_module_reader.proofs.Fits.{whole_shallow, stmt_shallow, whole_expr_shallow, cost, parts_shallow}
+
+-- a reader that needs no level
+abbrev Flat : {A : Type 0} → Reader A → Type 0
+Flat p = (m : ℕ) (s : State) → Fine m s.at.left → Answers (Kept m) Shallow (p s)
+
+-- ---- what imports and exports share
+
+str_or_flat : (o : Option Tree) → Flat (str_or o)
+str_or_flat (Some (tree.str span value raw)) m s f = f
+str_or_flat (Some _) m s f = unexpected_shallow m s f _
+str_or_flat None m s f = unexpected_shallow m s f _
+
+str_flat : Flat str
+unfolding str
+str_flat m s f = answers_if _ _ (sees kind.Str s.at) _ _ (λ _. answers_then (Kept m) _ (literal s) _ (literal_shallow m s f) (λ o t g. str_or_flat o m t g)) (λ _. unexpected_shallow m s f _)
+
+expect_word_flat : (text : Text) → Flat (expect_word text)
+unfolding expect_word
+expect_word_flat text m s f = answers_if _ _ (word_at text s.at) _ _ (λ _. fine_after m s.at f) (λ _. refuse_shallow _ faults.Expected (λ e. cc) m s f)
+
+source_flat : Flat source
+unfolding source
+source_flat m s f = answers_then (Kept m) _ (expect_word (codes "from") s) _ (expect_word_flat (codes "from") m s f) (λ _ t g. str_flat m t g)
+
+module_name_flat : Flat module_name
+unfolding module_name word_property
+module_name_flat m s f = answers_if _ _ (sees kind.Str s.at) _ _ (λ _. str_flat m s f) (λ _. answers_then (Kept m) _ (any_word s) _ (any_word_shallow m s f) (λ i t g. g))
+
+no_attributes_flat : Flat no_attributes
+unfolding no_attributes
+no_attributes_flat m s f = answers_if _ _ (begins_attributes s.code s.at) _ _ (λ _. unexpected_shallow m s f _) (λ _. f)
+
+a_name_flat : Flat (name faults.ExpectedIdent)
+a_name_flat m s f = name_shallow m s f faults.ExpectedIdent (λ e. cc)
+
+end_flat : Flat (end faults.Expected)
+end_flat m s f = end_shallow m s f faults.Expected (λ e. cc)
+
+specifiers_flat : (specifier : Reader Tree) → Flat specifier → Flat (specifiers specifier)
+unfolding specifiers specifiers_turn
+specifiers_flat specifier below m s f = answers_then (Kept m) _ (expect kind.LBrace s) _ (expect_shallow m s f kind.LBrace) (λ _ t g.
+    answers_then (Kept m) _ (loop (specifiers_turn specifier) [] t) _ (loop_answers (specifiers_turn specifier) (Kept m) (Kept m) Shallow
+    (λ xs u h. answers_if _ _ (sees kind.RBrace u.at) _ _ (λ _. h) (λ _. answers_then _ _ (specifier u) _ (below m u h) (λ x v k.
+    answers_if _ _ (sees kind.Comma v.at) _ _ (λ _. fine_after m v.at k) (λ _. k)))) (λ u e. cc) [] t g) (λ xs u h.
+    answers_then (Kept m) _ (expect kind.RBrace u) _ (expect_shallow m u h kind.RBrace) (λ _ v k. k)))
+
+-- ---- imports
+
+same_name_flat : (start : Span) (x : Tree) → Flat (same_name start x)
+same_name_flat start (tree.ident span text) m s f = answers_if _ _ (is_name s.code.flags text) _ _ (λ _. f) (λ _. reject_shallow _ faults.ReservedWordInImport span (λ e. cc) m s f)
+same_name_flat start (tree.str span value raw) m s f = reject_shallow _ faults.ImportBindingIsString span (λ e. cc) m s f
+same_name_flat start _ m s f = unexpected_shallow m s f _
+
+other_name_flat : (start : Span) (x : Tree) → Flat (other_name start x)
+unfolding other_name
+other_name_flat start x m s f = answers_then (Kept m) _ (name faults.ExpectedIdent (moved s)) _ (a_name_flat m (moved s) (fine_after m s.at f)) (λ i t g. g)
+
+import_specifier_flat : Flat import_specifier
+unfolding import_specifier
+import_specifier_flat m s f = answers_then (Kept m) _ (module_name s) _ (module_name_flat m s f) (λ x t g.
+    answers_if _ _ (word_at (codes "as") t.at) _ _ (λ _. other_name_flat (span_at s.at) x m t g) (λ _. same_name_flat (span_at s.at) x m t g))
+
+binding_flat : Flat binding_name
+unfolding binding_name
+binding_flat m s f = let t = coded (outside_functions s.code) s in answers_then (Kept m) _ (name faults.ExpectedIdent t) _ (a_name_flat m t f) (λ i u g. g)
+
+import_namespace_flat : Flat import_namespace
+unfolding import_namespace
+import_namespace_flat m s f = answers_then (Kept m) _ (expect_word (codes "as") (moved s)) _ (expect_word_flat (codes "as") m (moved s) (fine_after m s.at f)) (λ _ t g.
+    answers_then (Kept m) _ (binding_name t) _ (binding_flat m t g) (λ i u h. h))
+
+bindings_flat : Flat bindings
+unfolding bindings
+bindings_flat m s f = answers_if _ _ (sees kind.Mul s.at) _ _ (λ _. import_namespace_flat m s f) (λ _. specifiers_flat import_specifier import_specifier_flat m s f)
+
+more_bindings_flat : Flat more_bindings
+unfolding more_bindings
+more_bindings_flat m s f = answers_if _ _ (sees kind.Comma s.at) _ _ (λ _. let g = fine_after m s.at f in
+    answers_if _ _ (word_at (codes "from") (after s.at)) _ _ (λ _. g) (λ _. bindings_flat m (moved s) g)) (λ _. f)
+
+default_binding_flat : (i : Ident) → Flat (default_binding i)
+unfolding default_binding
+default_binding_flat i m s f = answers_then (Kept m) _ (more_bindings s) _ (more_bindings_flat m s f) (λ xs t g. g)
+
+import_clause_flat : Flat import_clause
+unfolding import_clause
+import_clause_flat m s f = answers_if _ _ (sees kind.Mul s.at || sees kind.LBrace s.at) _ _ (λ _. bindings_flat m s f)
+    (λ _. answers_then (Kept m) _ (binding_name s) _ (binding_flat m s f) (λ i t g. default_binding_flat i m t g))
+
+imported_flat : (start : Span) (p : ImportPhase) (xs : List Tree) (from : Reader Tree) → Flat from → Flat (imported start p xs from)
+unfolding imported
+imported_flat start p xs from below m s f = answers_then (Kept m) _ (from s) _ (below m s f) (λ src t g.
+    answers_then (Kept m) _ (no_attributes t) _ (no_attributes_flat m t g) (λ _ u h.
+    answers_then (Kept m) _ (end faults.Expected u) _ (end_flat m u h) (λ _ v k. k)))
+
+import_from_flat : (start : Span) (p : ImportPhase) → Flat (import_from start p)
+unfolding import_from
+import_from_flat start p m s f = answers_then (Kept m) _ (import_clause s) _ (import_clause_flat m s f) (λ xs t g. imported_flat start p xs source source_flat m t g)
+
+import_phased_flat : (start : Span) → Flat (import_phased start)
+unfolding import_phased
+import_phased_flat start m s f = answers_then (Kept m) _ (any_word s) _ (any_word_shallow m s f) (λ i t g.
+    answers_if _ _ (follows_phase t.code t.at) _ _ (λ _. import_from_flat start (phase_of i.sym) m t g)
+    (λ _. answers_then (Kept m) _ (default_binding i t) _ (default_binding_flat i m t g) (λ xs u h. imported_flat start phase.Evaluation xs source source_flat m u h)))
+
+import_decl_flat : Flat import_decl
+unfolding import_decl
+import_decl_flat m s f = let t = moved s in let g = fine_after m s.at f in
+    answers_if _ _ (sees kind.Str t.at) _ _ (λ _. imported_flat (span_at s.at) phase.Evaluation [] str str_flat m t g)
+    (λ _. answers_if _ _ (is_phase_word t.at) _ _ (λ _. import_phased_flat (span_at s.at) m t g) (λ _. import_from_flat (span_at s.at) phase.Evaluation m t g))
+
+-- ---- exports
+
+renamed_flat : (start : Span) (x : Tree) → Flat (renamed_export start x)
+unfolding renamed_export
+renamed_flat start x m s f = answers_then (Kept m) _ (module_name (moved s)) _ (module_name_flat m (moved s) (fine_after m s.at f)) (λ n t g. g)
+
+plain_flat : (start : Span) (x : Tree) → Flat (plain_export start x)
+unfolding plain_export
+plain_flat start x m s f = f
+
+export_specifier_flat : Flat export_specifier
+unfolding export_specifier
+export_specifier_flat m s f = answers_then (Kept m) _ (module_name s) _ (module_name_flat m s f) (λ x t g.
+    answers_if _ _ (word_at (codes "as") t.at) _ _ (λ _. renamed_flat (span_at s.at) x m t g) (λ _. plain_flat (span_at s.at) x m t g))
+
+export_namespace_flat : (start : Span) → Flat (export_namespace start)
+unfolding export_namespace
+export_namespace_flat start m s f = answers_then (Kept m) _ (module_name (moved s)) _ (module_name_flat m (moved s) (fine_after m s.at f)) (λ n t g. g)
+
+names_from_flat : (start : Span) (xs : List Tree) → Flat (names_from start xs)
+unfolding names_from
+names_from_flat start xs m s f = answers_then (Kept m) _ (source s) _ (source_flat m s f) (λ src t g.
+    answers_then (Kept m) _ (no_attributes t) _ (no_attributes_flat m t g) (λ _ u h.
+    answers_then (Kept m) _ (end faults.Expected u) _ (end_flat m u h) (λ _ v k. k)))
+
+optional_end_flat : Flat optional_end
+unfolding optional_end
+optional_end_flat m s f = answers_if _ _ (sees kind.Semi s.at) _ _ (λ _. fine_after m s.at f) (λ _. f)
+
+own_names_flat : (start : Span) (xs : List Tree) → Flat (own_names start xs)
+unfolding own_names
+own_names_flat start xs m s f =
+    let fs = export_faults tree.absent (listed xs) in
+    answers_then (Kept m) _ (told fs s) _ (told_shallow m fs s f) (λ _ t g. answers_then (Kept m) _ (optional_end t) _ (optional_end_flat m t g) (λ _ u h. h))
+
+export_names_flat : (start : Span) (before : List Tree) → Flat (export_names start before)
+unfolding export_names
+export_names_flat start before m s f = answers_then (Kept m) _ (specifiers export_specifier s) _ (specifiers_flat export_specifier export_specifier_flat m s f) (λ xs t g.
+    answers_if _ _ (word_at (codes "from") t.at) _ _ (λ _. names_from_flat start (before ++ xs) m t g) (λ _. own_names_flat start (before ++ xs) m t g))
+
+behind_namespace_flat : (start : Span) (x : Tree) → Flat (behind_namespace start x)
+unfolding behind_namespace
+behind_namespace_flat start x m s f = answers_if _ _ (s.code.setting.export_default_from && sees kind.Comma s.at) _ _
+    (λ _. export_names_flat start (x ∷ []) m (moved s) (fine_after m s.at f)) (λ _. names_from_flat start (x ∷ []) m s f)
+
+export_all_flat : (start : Span) → Flat (export_all start)
+unfolding export_all
+export_all_flat start m s f = answers_then (Kept m) _ (source s) _ (source_flat m s f) (λ src t g.
+    answers_then (Kept m) _ (no_attributes t) _ (no_attributes_flat m t g) (λ _ u h.
+    answers_then (Kept m) _ (end faults.Expected u) _ (end_flat m u h) (λ _ v k. k)))
+
+export_star_flat : (start : Span) → Flat (export_star start)
+unfolding export_star
+export_star_flat start m s f = let t = moved s in let g = fine_after m s.at f in answers_if _ _ (word_at (codes "as") t.at) _ _
+    (λ _. answers_then (Kept m) _ (export_namespace (span_at s.at) t) _ (export_namespace_flat (span_at s.at) m t g) (λ x u h. behind_namespace_flat start x m u h))
+    (λ _. export_all_flat start m t g)
+
+default_name_flat : Flat default_name
+unfolding default_name named
+default_name_flat m s f = answers_if _ _ (name_at s.code.flags s.at) _ _ (λ _. answers_then (Kept m) _ (name faults.ExpectedIdent s) _ (a_name_flat m s f) (λ i t g. g)) (λ _. f)
+
+-- ---- the words of a function, each a token
+
+abbrev Fewer : (m k : ℕ) → State → Type 0
+Fewer m k t = (i : ℕ) × (m ≡ i + k) × Fine i t.at.left
+
+default_kind : (c : Place) → begins_default_function c ≡ true → is_async_function c ≡ false → kind_at c ≡ kind.Function
+unfolding begins_default_function
+default_kind c h g = saw c kind.Function (first (sees kind.Function c) (is_async_function c) h g)
+  where
+    first : (a b : Bool) → (a || b) ≡ true → b ≡ false → a ≡ true
+    first true b h g = refl
+    first false b h g = let e : false ≡ true = sym g ∙ h in cc
+
+function_word_costs : (m : ℕ) (s : State) → begins_default_function s.at ≡ true → Fine m s.at.left → Answers (λ w t. Fewer m (1 + cost w) t) Shallow (function_word s)
+unfolding function_word
+function_word_costs m s h f = answers_if _ _ (is_async_function s.at) _ _
+    (λ e. let (i, a, g) = fine_taken m s.at kind.Ident (async_kind s.at e) (λ z. cc) f in
+    let (j, b, k) = fine_taken i (after s.at) kind.Function (async_parts s.at e).1 (λ z. cc) g in (j, omega arith, k))
+    (λ e. let (i, a, g) = fine_taken m s.at kind.Function (default_kind s.at h e) (λ z. cc) f in (i, omega arith, g))
+
+star_costs : (m : ℕ) (s : State) → Fine m s.at.left → Answers (λ v t. Fewer m (cost v) t) Shallow (star s)
+unfolding star
+star_costs m s f = answers_if _ _ (sees kind.Mul s.at) _ _
+    (λ e. let (i, a, g) = fine_taken m s.at kind.Mul (saw s.at kind.Mul e) (λ z. cc) f in (i, omega arith, g)) (λ _. (m, omega arith, f))
+
+-- ---- in so many levels
+
+module _ (n : ℕ) where
+  -- behind two tokens
+  default_function_shallow : (m : ℕ) (s : State) → 2 * (m + 2) + 2 ≤ suc n → begins_default_function s.at ≡ true → Fine m s.at.left
+      → Answers (Kept m) Shallow (default_function (stmt n nested_item) (parameters n) s)
+  unfolding default_function
+  default_function_shallow m s l e f = answers_then _ _ (function_word s) _ (function_word_costs m s e f) (λ w r (i, a, g).
+      answers_then _ _ (star r) _ (star_costs i r g) (λ v u (j, b, h).
+      answers_then (Kept m) _ (default_name u) _ (default_name_flat j u h) (λ x t k.
+      answers_then (Kept m) _ (function_parts (stmt n nested_item) (parameters n) w v (span_at s.at) t) _ (kept_more j m _ (omega arith)
+      (parts_shallow n j w v (span_at s.at) t (omega arith) k)) (λ y z q. q))))
+
+  default_expr_shallow : (start : Span) (m : ℕ) (s : State) → 2 * (m + 2) + 2 ≤ suc n → Fine m s.at.left → Answers (Kept m) Shallow (default_expr (expr n) start s)
+  unfolding default_expr
+  default_expr_shallow start m s l f = answers_then (Kept m) _ (within with_in (expr n assignment) s) _ (whole_expr_shallow n m s (omega arith) f) (λ x t g.
+      answers_then (Kept m) _ (end faults.Expected t) _ (end_flat m t g) (λ _ u h. h))
+
+  export_default_shallow : (start : Span) (m : ℕ) (s : State) → 2 * (m + 2) + 2 ≤ suc n → Fine m s.at.left
+      → Answers (Kept m) Shallow (export_default (stmt n nested_item) (expr n) (pattern n) (parameters n) start s)
+  unfolding export_default exported_function
+  export_default_shallow start m s l f = answers_if _ _ (begins_default_function s.at) _ _
+      (λ e. answers_then (Kept m) _ (default_function (stmt n nested_item) (parameters n) s) _ (default_function_shallow m s l e f) (λ x t g. g))
+      (λ _. answers_if _ _ (is_default_from s.code s.at) _ _ (λ _. unexpected_shallow m s f _) (λ _. default_expr_shallow start m s l f))
+
+  -- a declaration, which is a statement
+  exported_shallow : (start : Span) (d : Reader Tree) (m : ℕ) (s : State) → stmt (suc n) nested_item s ≡ d s → 2 * m + 2 ≤ suc n → Fine m s.at.left
+      → Answers (Kept m) Shallow (exported (stmt n nested_item) (expr n) (pattern n) (parameters n) start d s)
+  unfolding exported
+  exported_shallow start d m s e l f = answers_then (Kept m) _ (d s) _ (subst (Answers (Kept m) Shallow) e (stmt_shallow (suc n) m s l f)) (λ x t g. g)
+
+  -- from behind `export` on
+  module _ (start : Span) (m : ℕ) (t : State) (l : 2 * (m + 1) + 2 ≤ suc n) (g : Fine m t.at.left) where
+    default_shallow : sees kind.Default t.at ≡ true → Answers (Kept m) Shallow (export_default (stmt n nested_item) (expr n) (pattern n) (parameters n) start (moved t))
+    default_shallow h =
+        let (i, a, k) = fine_taken m t.at kind.Default (saw t.at kind.Default h) (λ z. cc) g in
+        kept_more i m _ (omega arith) (export_default_shallow start i (moved t) (omega arith) k)
+
+    declared_shallow : (d : Reader Tree) → stmt (suc n) nested_item t ≡ d t → Answers (Kept m) Shallow (exported (stmt n nested_item) (expr n) (pattern n) (parameters n) start d t)
+    declared_shallow d e = exported_shallow start d m t e (omega arith) g
+
+  export_decl_shallow : (m : ℕ) (s : State) → 2 * m + 2 ≤ suc n → sees kind.Export s.at ≡ true → Fine m s.at.left
+      → Answers (Kept m) Shallow (export_decl (stmt n nested_item) (expr n) (pattern n) (parameters n) s)
+  unfolding export_decl
+  export_decl_shallow m s l e f =
+      let (i, a, g) = fine_taken m s.at kind.Export (saw s.at kind.Export e) (λ z. cc) f in
+      let t = moved s in let b = span_at s.at in let le : 2 * (i + 1) + 2 ≤ suc n = omega arith in
+      kept_more i m _ (omega arith)
+      (answers_if _ _ (sees kind.LBrace t.at) _ _ (λ _. export_names_flat b [] i t g) (λ _.
+      answers_if _ _ (sees kind.Mul t.at) _ _ (λ _. export_star_flat b i t g) (λ _.
+      answers_if _ _ (sees kind.Default t.at) _ _ (λ h. default_shallow b i t le g h) (λ _.
+      answers_if _ _ (sees kind.Var t.at) _ _ (λ h. declared_shallow b i t le g (variables (expr n) (pattern n) decl.Var) (var_is_stmt n t h)) (λ _.
+      answers_if _ _ (sees kind.Const t.at) _ _ (λ h. declared_shallow b i t le g (variables (expr n) (pattern n) decl.Const) (const_is_stmt n t h)) (λ _.
+      answers_if _ _ (is_let_declaration t.at) _ _ (λ h. declared_shallow b i t le g (variables (expr n) (pattern n) decl.Let) (let_is_stmt n t h)) (λ _.
+      answers_if _ _ (begins_default_function t.at) _ _ (λ h. declared_shallow b i t le g (function_decl (stmt n nested_item) (parameters n)) (function_is_stmt n t h)) (λ _.
+      unexpected_shallow i t g _))))))))
+
+-- ---- an item, and a module
+
+import_in_shallow : (n m : ℕ) (s : State) → 2 * m + 2 ≤ n → Fine m s.at.left → Answers (Kept m) Shallow (import_in n s)
+unfolding import_in
+import_in_shallow zero m s l f = absurd (omega arith)
+import_in_shallow (suc n) m s l f = import_decl_flat m s f
+
+export_in_shallow : (n m : ℕ) (s : State) → 2 * m + 2 ≤ n → sees kind.Export s.at ≡ true → Fine m s.at.left → Answers (Kept m) Shallow (export_in n s)
+unfolding export_in
+export_in_shallow zero m s l e f = absurd (omega arith)
+export_in_shallow (suc n) m s l e f = export_decl_shallow n m s l e f
+
+module_item_shallow : (n m : ℕ) (s : State) → 2 * m + 2 ≤ n → Fine m s.at.left → Answers (Kept m) Shallow (module_item n s)
+unfolding module_item
+module_item_shallow n m s l f = answers_if _ _ (begins_import s.at) _ _ (λ _. import_in_shallow n m s l f)
+    (λ _. answers_if _ _ (sees kind.Export s.at) _ _ (λ e. export_in_shallow n m s l e f) (λ _. whole_shallow n top_item m s l f))
+
+items_shallow : (m : ℕ) (inner : Reader Tree) → ((s : State) → Fine m s.at.left → Answers (Kept m) Shallow (inner s)) → (stops : Place → Bool) (directives : Bool) (s : State)
+    → Fine m s.at.left → Answers (Kept m) Shallow (items inner stops directives s)
+unfolding items items_turn
+items_shallow m inner below stops directives s f = loop_answers (items_turn inner stops directives) (Kept m) (Kept m) Shallow
+    (λ xs t g. answers_if _ _ (stops t.at) _ _ (λ _. g) (λ _. answers_then _ _ (inner t) _ (below t g) (λ x u k. k))) (λ t e. cc) [] s f
+
+module_shallow : (n m : ℕ) (s : State) → 2 * m + 2 ≤ n → Fine m s.at.left → Answers (Kept m) Shallow (module_whole n s)
+unfolding module_whole module_body
+module_shallow n m s l f =
+    let s1 = coded (module_code s.code) s in
+    answers_then _ _ (module_body n s1) _ (answers_then (Kept m) _ (shebang s1) _ (shebang_shallow m s1 f) (λ o t g.
+    answers_then _ _ (items (module_item n) at_end true t) _ (items_shallow m (module_item n) (λ u h. module_item_shallow n m u l h) at_end true t g) (λ xs u k. k))) (λ x t k. k)
+
+-- a limit of twice the tokens and two more is never met, unless an error token says so
+pub module_fits : (n : ℕ) (s : State) (e : Fault) (t : State) → 2 * length s.at.left + 2 ≤ n → module_whole n s ≡ Err (e, t) → has_too_deep_token s.at.left ≡ false → e.kind ≢ faults.TooDeep
+module_fits n s e t h g k = meant (Kept (length s.at.left)) Shallow (module_whole n s) (Err (e, t)) g (module_shallow n (length s.at.left) s h (record { few = omega arith; shallow = k }))

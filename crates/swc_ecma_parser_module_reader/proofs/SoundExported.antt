@@ -1,0 +1,391 @@
+-- Declarations that are exported, and what is exported by default, are read soundly.
+use Rattle.std.proofs.Common.{◌≡◌, ℕ, suc, Bool, true, false, cond, List, [], ◌∷◌, ◌++◌, Ok, Err, refl, sym, ◌∙◌, ap, subst, codes}
+use Rattle.std.specs.Prelude.{not, ◌&&◌, ◌||◌}
+use Rattle.std.specs.Str.{bytes_eq}
+use Rattle.swc_ecma_parser_common.specs.declared.span.Span.{Span}
+use Rattle.swc_ecma_parser_error.specs.Kind as faults
+use Rattle.swc_ecma_parser_token.specs.declared.kind.TokenKind.TheVariants as kind
+use Rattle.swc_ecma_parser_token.specs.declared.token.Token.{Token}
+use Rattle.swc_ecma_parser_token.specs.declared.token.Token.TheVariants as token
+use Rattle.swc_ecma_parser_token.specs.declared.token.TokenAndSpan.{TokenAndSpan}
+use Rattle.swc_ecma_parser_token.specs.Text.{word_text}
+use Rattle.swc_ecma_parser_input.specs.declared.context.Context.{Context}
+use Rattle.swc_ecma_parser_input.specs.Place.{Place, after}
+use Rattle.swc_ecma_parser_model.specs.declared.leaves.VarDeclKind.{VarDeclKind}
+use Rattle.swc_ecma_parser_model.specs.declared.leaves.Ident.{Ident}
+use Rattle.swc_ecma_parser_model.specs.Tree as tree
+use Rattle.swc_ecma_parser_model.specs.Tree.{Tree, Text, listed, trees}
+use Rattle.swc_ecma_parser_model.specs.Forms.{span_of}
+use Rattle.swc_ecma_parser_model.specs.Kinds.{is_module_decl}
+use Rattle.swc_ecma_parser_grammar.specs.Looks.{kind_at, sees, span_at, spanned}
+use Rattle.swc_ecma_parser_grammar.specs.Names.{Code, is_one_of, reserved_words, is_reserved, is_name, token_is_name, first_is_name, name_at}
+use Rattle.swc_ecma_parser_grammar.specs.Ends.{Ends}
+use Rattle.swc_ecma_parser_grammar.specs.Follows.{is_async_function}
+use Rattle.swc_ecma_parser_grammar.specs.Variables.{begins_variables}
+use Rattle.swc_ecma_parser_grammar.specs.Notes.{notes}
+use Rattle.swc_ecma_parser_grammar.specs.Parameters.{parameters}
+use Rattle.swc_ecma_parser_grammar.specs.Supported.{supported, supported_in}
+use Rattle.swc_ecma_parser_grammar.specs.Reads.{with_in, nested_item, DeclaratorRule, plain_rule, initialized_rule, ReadsSeparated, ReadsFunction, ReadsFunctionExpr, OwnNameRule, no_own_name_rule, own_name_rule, variables_rule, function_rule}
+use Rattle.swc_ecma_parser_grammar.specs.ReadsSupported.{ReadsClass, ReadsPat, ReadsStmt, ReadsParams}
+use Rattle.swc_ecma_parser_grammar.specs.Walk as walks
+use Rattle.swc_ecma_parser_grammar.specs.Walk.{Env, walk, env_of}
+use Rattle.swc_ecma_parser_grammar.specs.language.Goals.{Goal, expr_goal, assignment}
+use Rattle.swc_ecma_parser_grammar.specs.language.Contexts.{named_by, in_parameters}
+use Rattle.swc_ecma_parser_grammar.specs.language.Classes as classes
+use Rattle.swc_ecma_parser_grammar.specs.language.Declarations as declarations
+use Rattle.swc_ecma_parser_grammar.specs.language.Parts as parts
+use Rattle.swc_ecma_parser_grammar.specs.language.Exports as exports
+use Rattle.swc_ecma_parser_grammar.specs.language.Exports.{ExportRule, ExportedRule, DefaultRule, ExportFrontRule, decorated_behind, export_word, export_default_words, may_begin_default}
+use Rattle.swc_ecma_parser_grammar.specs.language.Reads.{Reads}
+use Rattle.swc_ecma_parser_grammar.proofs.Tests.{and_yes, and_both, or_no}
+use Rattle.swc_ecma_parser_grammar.proofs.Naming.{name_is_clean}
+use Rattle.swc_ecma_parser_grammar.proofs.SupportedIn.{lower}
+use Rattle.swc_ecma_parser_grammar.proofs.SupportedBegins.{supported_as}
+use Rattle.swc_ecma_parser_grammar.proofs.Unnoted.{joined, expr_unnoted}
+use Rattle.swc_ecma_parser_grammar.proofs.Widens.{stmt_supported, stmt_widens, braced_widens}
+use Rattle.swc_ecma_parser_grammar.proofs.StatementEntries.{stmt_unnoted, braced_unnoted, params_unnoted}
+use Rattle.swc_ecma_parser_grammar.proofs.FunctionExprs.{function_supported}
+use Rattle.swc_ecma_parser_reader.specs.Notes.{notes_of, all_notes_of}
+use Rattle.swc_ecma_parser_reader.specs.Methods.{star}
+use Rattle.swc_ecma_parser_reader.specs.State.{State, Outcome, Reader, and_then, moved, coded, flagged, within, name, name_by, name_in, wanted, end}
+use Rattle.swc_ecma_parser_reader.specs.Reader as reader
+use Rattle.swc_ecma_parser_reader.specs.Reader.{expr, pattern, stmt, declarators, variables, named, own_name, function_word, function_parts, function_decl, function_expr, misdirected, function_body}
+use Rattle.swc_ecma_parser_reader.proofs.Words.{begins_function}
+use Rattle.swc_ecma_parser_reader.proofs.Meets.{Meets, Refuses, meets_then, meets_if, wanted_meets, meant}
+use Rattle.swc_ecma_parser_reader.proofs.Between.{Sound, same, sound_more, sound_as, sound_after, within_sound}
+use Rattle.swc_ecma_parser_reader.proofs.expressions.SoundSteps.{meets_as, moved_back}
+use Rattle.swc_ecma_parser_reader.proofs.patterns.Sound.{anything}
+use Rattle.swc_ecma_parser_reader.proofs.SoundParts.{end_sound, variables_stand, declarators_sound, inside_sound, meets_both}
+use Rattle.swc_ecma_parser_reader.proofs.SoundFunctions.{function_decl_sound, function_expr_sound}
+use Rattle.swc_ecma_parser_reader.proofs.Sound.{expr_sound, pattern_sound, parameters_sound, stmt_sound}
+use Rattle.swc_ecma_parser_module_reader.specs.Exports.{default_name, default_function, default_expr, is_default_from, begins_default_function, exported_function, export_default, exported}
+use Rattle.swc_ecma_parser_module_reader.specs.Supported.{supported_item}
+use Rattle.swc_ecma_parser_module_reader.proofs.ModuleCode.{IsModule, in_module_same}
+use Rattle.swc_ecma_parser_module_reader.proofs.NoClass.{expr_no_class}
+
+-- ---- exports in module code
+
+-- nothing there becomes strict that was not
+pub module_env : (k : Code) (labels : List Text) → IsModule k → ◌≡◌ {A = Env} (walks.in_module (env_of k labels)) (env_of k labels)
+module_env k labels (m, s) = λ i. record (env_of k labels) { strict = sym s i }
+
+-- an export of supported forms alone, without notes
+abbrev pub ExportRead : ℕ → Tree → Code → Place → Place → Type 0
+ExportRead n x k c d = ExportRule (Reads n) k x c d × (supported_item x ≡ true) × (notes x ≡ [])
+
+abbrev pub SoundExport : ℕ → State → Tree → State → Type 0
+SoundExport n s x t = Sound same (λ k l. walk (env_of k l) x) (notes_of x) (ExportRead n x) s t × (is_module_decl x ≡ true)
+
+-- no decorators stand before what is exported
+abbrev IsPlain : Tree → Type 0
+IsPlain x = (env : Env) (s : Span) → walks.walk_exported env s (walk (walks.in_module env) x) x ≡ walk (walks.in_module env) x
+
+-- a declaration that is exported, and a function that is exported by default, in the code of the export
+abbrev ExportedRead : ℕ → Tree → Code → Place → Place → Type 0
+ExportedRead n x k c d = ExportedRule (Reads n) k (listed []) x c d × (supported x ≡ true) × (k.flags.module ≡ true → notes x ≡ [])
+
+abbrev DefaultRead : ℕ → Tree → Code → Place → Place → Type 0
+DefaultRead n x k c d = DefaultRule (Reads n) k (listed []) x c d × ((span : Span) → supported_item (tree.export_default_decl span x) ≡ true) × (notes x ≡ [])
+
+abbrev pub SoundExported : ℕ → State → Tree → State → Type 0
+SoundExported n s x t = Sound same (λ k l. walk (env_of k l) x) (notes_of x) (ExportedRead n x) s t × IsPlain x
+
+abbrev SoundDefault : ℕ → State → Tree → State → Type 0
+SoundDefault n s x t = Sound same (λ k l. walk (env_of k l) x) (notes_of x) (DefaultRead n x) s t × IsPlain x
+
+-- ---- variables
+
+declarator_widens : (n : ℕ) (k : Code) (loop : Bool) (word : VarDeclKind) (x : Tree) (c d : Place) → DeclaratorRule (ReadsClass n assignment) (ReadsPat n) k loop word x c d
+    → declarations.DeclaratorRule (Reads n) k loop word x c d
+declarator_widens n k loop word x c d (plain_rule p r h b e) = declarations.plain_rule p r.0 h b e
+declarator_widens n k loop word x c d (initialized_rule p y m r h s e) = declarations.initialized_rule p y m r.0 h s.0 e
+
+declarators_widen : (n : ℕ) (k : Code) (loop : Bool) (word : VarDeclKind) (xs : List Tree) (c d : Place)
+    → ReadsSeparated (DeclaratorRule (ReadsClass n assignment) (ReadsPat n) k loop word) xs c d → ReadsSeparated (declarations.DeclaratorRule (Reads n) k loop word) xs c d
+declarators_widen n k loop word [] c d h = h
+declarators_widen n k loop word (x ∷ []) c d (r, e) = (declarator_widens n k loop word x c d r, e)
+declarators_widen n k loop word (x ∷ y ∷ ys) c d (m, r, e, rs) = (m, declarator_widens n k loop word x c m r, e, declarators_widen n k loop word (y ∷ ys) (after m) d rs)
+
+variables_read : (n : ℕ) (word : VarDeclKind) (k : Code) (x : Tree) (xs : List Tree) (c m d : Place) → begins_variables word c ≡ true
+    → ReadsSeparated (DeclaratorRule (ReadsClass n assignment) (ReadsPat n) (with_in k) false word) xs (after c) m → Ends m d → x ≡ tree.var (spanned c d) word (listed xs) → ExportedRead n x k c d
+variables_read n word k x xs c m d b r z e = let small : ReadsStmt (suc n) k nested_item x c d = variables_rule word xs m refl b r z e in (
+  exports.exported_variables word xs m refl (b, declarators_widen n (with_in k) false word xs (after c) m r) z e,
+  lower k.flags.module x (stmt_supported (suc n) k nested_item x c d small),
+  λ o. stmt_unnoted (suc n) k nested_item x c d o small,
+)
+
+pub variables_sound : (n : ℕ) (word : VarDeclKind) (s : State) → begins_variables word s.at ≡ true → Meets (SoundExported n s) (variables (expr n) (pattern n) word s)
+unfolding variables
+variables_sound n word s e = meets_then _ (within with_in (declarators (expr n) (pattern n) false word) (moved s)) _
+    (within_sound (λ xs k l. walks.walks (env_of k l) false (trees xs)) (λ xs. all_notes_of (trees xs))
+    (λ xs k. ReadsSeparated (DeclaratorRule (ReadsClass n assignment) (ReadsPat n) k false word) xs) with_in (λ k. refl) (declarators (expr n) (pattern n) false word) (moved s)
+    (declarators_sound (ReadsClass n) (ReadsPat n) (expr n) (pattern n) (expr_sound n) (pattern_sound n) false word (coded (with_in s.code) (moved s)))) (λ xs m p.
+    meets_then _ (end faults.Unexpected m) _ (end_sound faults.Unexpected m) (λ _ t q. (
+      sound_after s t refl (variables_stand word s.at e) refl refl (λ (i, r, z). variables_read n word s.code (tree.var (spanned s.at t.at) word (listed xs)) xs s.at i t.at e r z refl) (sound_more p q),
+      λ env span. refl,
+    )))
+
+-- ---- functions
+
+function_read : (n : ℕ) (k : Code) (x : Tree) (c d : Place) → ReadsFunction (ReadsStmt n) (ReadsParams n) k x c d → ExportedRead n x k c d
+function_read n k x c d r = let small : ReadsStmt (suc n) k nested_item x c d = function_rule refl r in (
+  exports.exported_function (tree.ident r.name_span (word_text r.name)) (tree.function (spanned c d) (listed []) (parameters r.patterns) r.body r.is_async r.is_generator) (record {
+    is_async = r.is_async;
+    is_generator = r.is_generator;
+    patterns = r.patterns;
+    body = r.body;
+    word = r.word;
+    behind_word = r.behind_word;
+    behind_name = r.behind_name;
+    reads_async = r.reads_async;
+    is_function = r.is_function;
+    reads_star = r.reads_star;
+    reads_name = parts.a_name (word_text r.name) r.name_span (record { word = r.name; reads_word = r.reads_name; is_text = refl; is_name = name_is_clean k.flags (word_text r.name) r.is_named }) refl;
+    reads_parts = record { middle = r.middle; reads_parameters = r.reads_parameters.0; reads_body = braced_widens n (stmt_widens n) true r.reads_body };
+    is = refl;
+  }) refl r.is,
+  lower k.flags.module x (stmt_supported (suc n) k nested_item x c d small),
+  λ o. stmt_unnoted (suc n) k nested_item x c d o small,
+)
+
+-- the form of a function without decorators
+abbrev IsFunction : Tree → Type 0
+IsFunction x = (span : Span) × (ps : List Tree) × (body : Tree) × (w : Bool) × (g : Bool) × (x ≡ tree.function span (listed []) (parameters ps) body w g)
+
+-- where its name has no faults the walk of its export is its own
+declaration_plain : (i x : Tree) → ((env : Env) → walk env i ≡ []) → IsFunction x → IsPlain (tree.fn_decl i x)
+declaration_plain i x h (s, ps, body, w, g, e) env span = subst (λ z. walks.walk_exported env span (walk (walks.in_module env) (tree.fn_decl i z)) (tree.fn_decl i z) ≡ walk (walks.in_module env) (tree.fn_decl i z))
+    (sym e) (sym (ap (λ z. z ++ walk (walks.in_module env) (tree.function s (listed []) (parameters ps) body w g)) (h (walks.in_module env))))
+
+expression_plain : (r : Span) (i x : Tree) → ((env : Env) → walk env i ≡ []) → IsFunction x → IsPlain (tree.fn_expr r i x)
+expression_plain r i x h (s, ps, body, w, g, e) env span = subst (λ z. walks.walk_exported env span (walk (walks.in_module env) (tree.fn_expr r i z)) (tree.fn_expr r i z) ≡ walk (walks.in_module env) (tree.fn_expr r i z))
+    (sym e) (sym (ap (λ z. z ++ walk (walks.in_module env) (tree.function s (listed []) (parameters ps) body w g)) (h (walks.in_module env))))
+
+module _ (inner : Reader Tree) (params : Reader (List Tree)) where
+  parts_form : (w g : Bool) (start : Span) (s : State) → Meets (λ x _. IsFunction x) (function_parts inner params w g start s)
+  unfolding function_parts
+  parts_form a g start s = meets_then _ (within (λ k. in_parameters k a g) params s) _ (anything (within (λ k. in_parameters k a g) params s)) (λ ps u _.
+      meets_then _ (function_body inner params a g u) _ (anything (function_body inner params a g u)) (λ body v _.
+      meets_then _ (misdirected (parameters ps) body v) _ (anything (misdirected (parameters ps) body v)) (λ _ t _. (_, ps, body, a, g, refl))))
+
+  decl_plain : (s : State) → Meets (λ x _. IsPlain x) (function_decl inner params s)
+  unfolding function_decl
+  decl_plain s = meets_then _ (function_word s) _ (anything (function_word s)) (λ a m _.
+      meets_then _ (star m) _ (anything (star m)) (λ g o _.
+      meets_then _ (name faults.ExpectedIdent o) _ (anything (name faults.ExpectedIdent o)) (λ i v _.
+      meets_then _ (function_parts inner params a g (span_at s.at) v) _ (parts_form a g (span_at s.at) v) (λ x t f. declaration_plain (tree.ident i.span i.sym) x (λ env. refl) f))))
+
+  -- a name has no faults
+  named_plain : (s : State) → Meets (λ i _. (env : Env) → walk env i ≡ []) (named s)
+  unfolding named
+  named_plain s = meets_then _ (name faults.ExpectedIdent s) _ (anything (name faults.ExpectedIdent s)) (λ i t _ env. refl)
+
+  own_plain : (a g : Bool) (s : State) → Meets (λ i _. (env : Env) → walk env i ≡ []) (own_name a g s)
+  unfolding own_name
+  own_plain a g s = meets_if _ (name_at (named_by s.code a g).flags s.at) _ _
+      (λ _. meets_then _ (named (coded (named_by s.code a g) s)) _ (named_plain (coded (named_by s.code a g) s)) (λ i t h. h)) (λ _ env. refl)
+
+  expr_plain : (s : State) → Meets (λ x _. IsPlain x) (function_expr inner params s)
+  unfolding function_expr
+  expr_plain s = meets_then _ (function_word s) _ (anything (function_word s)) (λ a m _.
+      meets_then _ (star m) _ (anything (star m)) (λ g o _.
+      meets_then _ (own_name a g o) _ (own_plain a g o) (λ i v h.
+      meets_then _ (function_parts inner params a g (span_at s.at) v) _ (parts_form a g (span_at s.at) v) (λ x t f. expression_plain (span_of x) i x h f))))
+
+pub function_sound : (n : ℕ) (s : State) → begins_function s.at ≡ true → Meets (SoundExported n s) (function_decl (stmt n nested_item) (reader.parameters n) s)
+function_sound n s e = meets_as (function_decl (stmt n nested_item) (reader.parameters n) s)
+    (meets_both _ _ (function_decl (stmt n nested_item) (reader.parameters n) s)
+    (function_decl_sound (ReadsStmt n) (ReadsParams n) (stmt n nested_item) (stmt_sound n nested_item) (reader.parameters n) (parameters_sound n) s e)
+    (decl_plain (stmt n nested_item) (reader.parameters n) s))
+    (λ x t (p, f). (sound_as s t refl refl refl (λ r. function_read n s.code x s.at t.at r) p, f))
+
+-- ---- the default function: in module code its name is read as that of a function that is an expression
+
+-- strict code reserves what generators do
+yield_strict : (l y o g f : Bool) → ((l || (y || o)) || (g && y)) ≡ ((l || (y || o)) || (f && y))
+yield_strict true y o g f = refl
+yield_strict false true o g f = refl
+yield_strict false false true g f = refl
+yield_strict false false false true true = refl
+yield_strict false false false true false = refl
+yield_strict false false false false true = refl
+yield_strict false false false false false = refl
+
+name_by_test : (b r l y o w g f : Bool) → b ≡ true → (not (r || ((b && (l || (y || o))) || (g && y))) && w) ≡ (not (r || ((b && (l || (y || o))) || (f && y))) && w)
+name_by_test true r l y o w g f h = ap (λ z. not (r || z) && w) (yield_strict l y o g f)
+name_by_test false r l y o w g f h = cc
+
+pub name_strict : (f : Context) (is_async is_generator : Bool) (text : Text) → f.strict ≡ true → is_name (record f { in_async = is_async; in_generator = is_generator }) text ≡ is_name f text
+unfolding is_name is_reserved
+name_strict f a g text h = name_by_test f.strict (is_one_of reserved_words text) (bytes_eq text (codes "let")) (bytes_eq text (codes "yield"))
+    (is_one_of (codes "implements" ∷ codes "interface" ∷ codes "package" ∷ codes "private" ∷ codes "protected" ∷ codes "public" ∷ []) text) (not (bytes_eq text (codes "await"))) g f.in_generator h
+
+-- a step behind two that are the same
+then_as : {A B : Type 0} {P : A → State → Type 0} (o : Outcome A) (f g : A → Reader B) → Meets P o → ((a : A) (t : State) → P a t → f a t ≡ g a t) → and_then o f ≡ and_then o g
+then_as (Ok p) f g h e = e p.0 p.1 h
+then_as (Err e) f g h i = refl
+
+module _ (a g : Bool) (s : State) (h : s.code.flags.strict ≡ true) where
+  -- in the function's own code
+  abbrev Within : State
+  Within = coded (named_by s.code a g) s
+
+  abbrev as_name : Outcome Ident → Outcome Tree
+  as_name o = and_then o (λ i t. Ok (tree.ident i.span i.sym, t))
+
+  same_by : (i : Ident) (b e : Bool) → e ≡ b
+      → cond b (as_name (cond b (Ok (i, moved s)) (wanted faults.ExpectedIdent s))) (Ok (tree.absent, s))
+      ≡ cond e (and_then (as_name (cond e (Ok (i, moved Within)) (wanted faults.ExpectedIdent Within))) (λ x t. Ok (x, flagged s.code t))) (Ok (tree.absent, s))
+  same_by i true true o = refl
+  same_by i false false o = refl
+  same_by i true false o = cc
+  same_by i false true o = cc
+
+  same_at : (v : Token) (span : Span)
+      → cond (token_is_name s.code.flags v) (as_name (name_by faults.ExpectedIdent s v span)) (Ok (tree.absent, s))
+      ≡ cond (token_is_name (named_by s.code a g).flags v) (and_then (as_name (name_by faults.ExpectedIdent Within v span)) (λ x t. Ok (x, flagged s.code t))) (Ok (tree.absent, s))
+  same_at (token.Word w) span = same_by (record { span = span; sym = word_text w }) (is_name s.code.flags (word_text w)) (is_name (named_by s.code a g).flags (word_text w)) (name_strict s.code.flags a g (word_text w) h)
+  same_at _ span = refl
+
+  same_in : (ts : List TokenAndSpan)
+      → cond (first_is_name s.code.flags ts) (as_name (name_in faults.ExpectedIdent s ts)) (Ok (tree.absent, s))
+      ≡ cond (first_is_name (named_by s.code a g).flags ts) (and_then (as_name (name_in faults.ExpectedIdent Within ts)) (λ x t. Ok (x, flagged s.code t))) (Ok (tree.absent, s))
+  same_in [] = refl
+  same_in (t ∷ ts) = same_at t.token t.span
+
+  pub default_name_same : default_name s ≡ own_name a g s
+  unfolding default_name own_name named name name_at
+  default_name_same = same_in s.at.left
+
+module _ (inner : Reader Tree) (params : Reader (List Tree)) where
+  word_stays : (s : State) → Meets (λ _ t. t.code ≡ s.code) (function_word s)
+  unfolding function_word
+  word_stays s = meets_if _ (is_async_function s.at) _ _ (λ _. refl) (λ _. refl)
+
+  star_stays : (s : State) → Meets (λ _ t. t.code ≡ s.code) (star s)
+  unfolding star
+  star_stays s = meets_if _ (sees kind.Mul s.at) _ _ (λ _. refl) (λ _. refl)
+
+  pub default_function_same : (s : State) → s.code.flags.strict ≡ true → default_function inner params s ≡ function_expr inner params s
+  unfolding default_function function_expr
+  default_function_same s h = then_as (function_word s) _ _ (word_stays s) (λ a m e. then_as (star m) _ _ (star_stays m) (λ g o f.
+      ap (λ z. and_then z (λ i t. and_then (function_parts inner params a g (span_at s.at) t) (λ x u. Ok (tree.fn_expr (span_of x) i x, u))))
+      (default_name_same a g o (ap (λ k. k.flags.strict) (f ∙ e) ∙ h))))
+
+own_name_widens : {k : Code} {w g : Bool} {x : Tree} {c d : Place} → IsModule k → OwnNameRule k w g x c d → parts.OptionalName k x c d
+own_name_widens h (no_own_name_rule p n e) = parts.no_name n e
+own_name_widens {k = k} {w = a} {g = g} h (own_name_rule w s r i e) =
+    parts.a_name (word_text w) s (record { word = w; reads_word = r; is_text = refl; is_name = name_is_clean k.flags (word_text w) (sym (name_strict k.flags a g (word_text w) h.1) ∙ i) }) e
+
+own_name_unnoted : {k : Code} {w g : Bool} {x : Tree} {c d : Place} → OwnNameRule k w g x c d → notes x ≡ []
+own_name_unnoted (no_own_name_rule p n e) = ap notes e
+own_name_unnoted (own_name_rule w s r i e) = ap notes e
+
+default_read : (n : ℕ) (k : Code) (x : Tree) (c d : Place) → IsModule k → ReadsFunctionExpr (ReadsStmt n) (ReadsParams n) k x c d → DefaultRead n x k c d
+default_read n k x c d o r =
+    let fn = tree.function (spanned c d) (listed []) (parameters r.patterns) r.body r.is_async r.is_generator in
+    let h = and_yes (supported_in k.flags.module r.name) _ (supported_as k.flags.module x (tree.fn_expr (spanned c d) r.name fn) r.is (function_supported n k x c d r)) in
+    let g = and_yes (supported_in k.flags.module fn) _ h.1 in (
+      exports.default_function r.name fn (record {
+        is_async = r.is_async;
+        is_generator = r.is_generator;
+        patterns = r.patterns;
+        body = r.body;
+        word = r.word;
+        behind_word = r.behind_word;
+        behind_name = r.behind_name;
+        reads_async = r.reads_async;
+        is_function = r.is_function;
+        reads_star = r.reads_star;
+        reads_name = own_name_widens o r.reads_name;
+        reads_parts = record { middle = r.middle; reads_parameters = r.reads_parameters.0; reads_body = braced_widens n (stmt_widens n) true r.reads_body };
+        is = refl;
+      }) r.is,
+      λ span. ap (λ z. supported_item (tree.export_default_decl span z)) r.is ∙ and_both (supported r.name) (supported fn) (lower k.flags.module r.name h.0) (lower k.flags.module fn g.0),
+      ap notes r.is ∙ joined (notes r.name) (notes fn) (own_name_unnoted r.reads_name)
+          (joined (notes (parameters r.patterns)) (notes r.body) (params_unnoted n r.patterns o.0 r.reads_parameters) (braced_unnoted n (stmt_unnoted n) true o.0 r.reads_body)),
+    )
+
+default_function_sound : (n : ℕ) (s : State) → IsModule s.code → begins_function s.at ≡ true → Meets (SoundDefault n s) (default_function (stmt n nested_item) (reader.parameters n) s)
+default_function_sound n s o e =
+    let p = function_expr (stmt n nested_item) (reader.parameters n) in
+    meant (SoundDefault n s) Refuses (p s) (default_function (stmt n nested_item) (reader.parameters n) s) (sym (default_function_same (stmt n nested_item) (reader.parameters n) s o.1))
+    (meets_as (p s)
+    (meets_both _ _ (p s)
+    (function_expr_sound (ReadsStmt n) (ReadsParams n) (stmt n nested_item) (stmt_sound n nested_item) (reader.parameters n) (parameters_sound n) (λ k ps c d r. r.0.opens) s e)
+    (expr_plain (stmt n nested_item) (reader.parameters n) s))
+    (λ x t (p, f). (sound_as s t refl refl refl (λ r. default_read n s.code x s.at t.at o r) p, f)))
+
+-- ---- exports
+
+pub default_begins : (c : Place) → begins_default_function c ≡ true → begins_function c ≡ true
+unfolding begins_default_function begins_function
+default_begins c h = by_order (sees kind.Function c) (is_async_function c) h
+  where
+    by_order : (a b : Bool) → (a || b) ≡ true → (b || a) ≡ true
+    by_order true true h = refl
+    by_order true false h = refl
+    by_order false b h = rw h refl
+
+-- the words stand where the export begins, with no decorators
+front : {In : Goal → Type 0} {k : Code} (c : Place) → kind_at c ≡ kind.Export → ExportFrontRule In k false (listed []) c c (after c)
+front c e = decorated_behind (after c) refl (export_word refl e refl) (classes.no_decorators refl refl)
+
+default_front : {In : Goal → Type 0} {k : Code} (c : Place) → kind_at c ≡ kind.Export → kind_at (after c) ≡ kind.Default → ExportFrontRule In k true (listed []) c c (after (after c))
+default_front c e f = decorated_behind (after (after c)) refl (export_default_words refl e f refl) (classes.no_decorators refl refl)
+
+-- the walk of what is exported, as that of the export
+plain_walk : (k : Code) (labels : List Text) (span : Span) (x : Tree) → IsModule k → IsPlain x → walk (env_of k labels) x ≡ walks.walk_exported (env_of k labels) span (walk (walks.in_module (env_of k labels)) x) x
+plain_walk k labels span x o f = sym (f (env_of k labels) span ∙ ap (λ z. walk z x) (module_env k labels o))
+
+module _ (n : ℕ) (s : State) (o : IsModule s.code) (e : kind_at s.at ≡ kind.Export) where
+  pub exported_sound : (declaration : Reader Tree) → Meets (SoundExported n (moved s)) (declaration (moved s))
+      → Meets (SoundExport n s) (exported (stmt n nested_item) (expr n) (pattern n) (reader.parameters n) (span_at s.at) declaration (moved s))
+  unfolding exported spanned
+  exported_sound declaration h = meets_then _ (declaration (moved s)) _ h (λ x t (p, f). (
+    sound_after s t e refl (plain_walk s.code s.scope.labels (record { lo = (span_at s.at).lo; hi = t.at.last.hi }) x o f) refl
+        (λ (r, u, q). (exports.export_declaration_rule (listed []) x s.at (after s.at) (front s.at e) (subst (λ k. ExportedRule (Reads n) k (listed []) x (after s.at) t.at) (sym (in_module_same s.code o)) r) refl, u, q o.0)) p,
+    refl,
+  ))
+
+  module _ (f : kind_at (after s.at) ≡ kind.Default) where
+    exported_function_sound : begins_default_function (after (after s.at)) ≡ true
+        → Meets (SoundExport n s) (exported_function (stmt n nested_item) (expr n) (pattern n) (reader.parameters n) (span_at s.at) (moved (moved s)))
+    unfolding exported_function spanned
+    exported_function_sound b = meets_then _ (default_function (stmt n nested_item) (reader.parameters n) (moved (moved s))) _
+        (default_function_sound n (moved (moved s)) o (default_begins (after (after s.at)) b)) (λ x t (p, g). (
+          sound_after s t e refl (plain_walk s.code s.scope.labels (record { lo = (span_at s.at).lo; hi = t.at.last.hi }) x o g) refl
+              (λ (r, u, q). (
+                exports.export_default_declaration_rule (listed []) x s.at (after (after s.at)) (default_front s.at e f)
+                    (subst (λ k. DefaultRule (Reads n) k (listed []) x (after (after s.at)) t.at) (sym (in_module_same s.code o)) r) refl,
+                u (spanned s.at t.at),
+                q,
+              )) (moved_back {s = moved s} f refl p),
+          refl,
+        ))
+
+    -- the look-ahead of an expression
+    may_begin : (c : Place) → begins_default_function c ≡ false → is_default_from s.code c ≡ false → sees kind.Class c ≡ false → may_begin_default s.code c ≡ true
+    unfolding begins_default_function is_default_from may_begin_default
+    may_begin c h g i = let (a, b) = or_no (sees kind.Function c) (is_async_function c) h in rw (a, b, i, g) refl
+
+    default_expr_sound : begins_default_function (after (after s.at)) ≡ false → is_default_from s.code (after (after s.at)) ≡ false
+        → Meets (SoundExport n s) (default_expr (expr n) (span_at s.at) (moved (moved s)))
+    unfolding default_expr spanned
+    default_expr_sound h g = meets_then _ (within with_in (expr n assignment) (moved (moved s))) _
+        (inside_sound (ReadsClass n) (ReadsPat n) (expr n) (pattern n) (expr_sound n) (pattern_sound n) assignment (moved (moved s))) (λ x m p.
+        meets_then _ (end faults.Expected m) _ (end_sound faults.Expected m) (λ _ t q. (
+          sound_after s t e refl (sym (ap (λ z. walk z x) (module_env s.code s.scope.labels o))) refl
+              (λ (i, r, z). (
+                exports.export_default_expression_rule x i e f (may_begin (after (after s.at)) h g (expr_no_class n (with_in s.code) x (after (after s.at)) i r))
+                    (subst (λ k. Reads n (expr_goal assignment (with_in k) x (after (after s.at)) i)) (sym (in_module_same s.code o)) r.0) z refl,
+                lower s.code.flags.module x r.1,
+                expr_unnoted n assignment (with_in s.code) x (after (after s.at)) i o.0 r.0 r.1,
+              )) (moved_back {s = moved s} f refl (sound_more p q)),
+          refl,
+        )))
+
+    pub export_default_sound : Meets (SoundExport n s) (export_default (stmt n nested_item) (expr n) (pattern n) (reader.parameters n) (span_at s.at) (moved (moved s)))
+    unfolding export_default
+    export_default_sound = meets_if _ (begins_default_function (after (after s.at))) _ _ (λ b. exported_function_sound b)
+        (λ h. meets_if _ (is_default_from s.code (after (after s.at))) _ _ (λ _. wanted_meets _ faults.Unexpected (moved (moved s))) (λ g. default_expr_sound h g))

@@ -1,0 +1,159 @@
+-- The reader of exports: ECMA-262, section 16.2.3.
+use Rattle.std.specs.Prelude.{Bool, ◌&&◌, ◌||◌, if◌then◌else◌, List, [], ◌∷◌, ◌++◌, codes, Ok}
+use Rattle.swc_ecma_parser_common.specs.declared.span.Span.{Span}
+use Rattle.swc_ecma_parser_error.specs.Kind as faults
+use Rattle.swc_ecma_parser_token.specs.declared.kind.TokenKind.TheVariants as kind
+use Rattle.swc_ecma_parser_input.specs.Place.{Place}
+use Rattle.swc_ecma_parser_model.specs.declared.leaves.VarDeclKind.TheVariants as decl
+use Rattle.swc_ecma_parser_model.specs.Tree as tree
+use Rattle.swc_ecma_parser_model.specs.Tree.{Tree, listed}
+use Rattle.swc_ecma_parser_model.specs.Forms.{span_of}
+use Rattle.swc_ecma_parser_grammar.specs.Looks.{sees}
+use Rattle.swc_ecma_parser_grammar.specs.Names.{Code, name_at}
+use Rattle.swc_ecma_parser_grammar.specs.Follows.{word_at, is_let_declaration, is_async_function}
+use Rattle.swc_ecma_parser_grammar.specs.Own.{export_faults}
+use Rattle.swc_ecma_parser_grammar.specs.Reads.{with_in}
+use Rattle.swc_ecma_parser_grammar.specs.language.Goals.{Class, assignment}
+use Rattle.swc_ecma_parser_reader.specs.Jumps.{told}
+use Rattle.swc_ecma_parser_reader.specs.Methods.{star}
+use Rattle.swc_ecma_parser_reader.specs.Reader.{variables, function_decl, function_parts, function_word, named, optional_end}
+use Rattle.swc_ecma_parser_reader.specs.State.{Reader, ◌>>=◌, ◌>>◌, pure, span_here, since, skip, within, wanted, end}
+use Rattle.swc_ecma_parser_module_reader.specs.Imports.{source, module_name, no_attributes, specifiers}
+
+-- ---- names that are exported
+
+unfoldable pub renamed_export : Span → Tree → Reader Tree
+renamed_export start orig = do
+  skip
+  n ← module_name
+  span ← since start
+  pure (tree.export_specifier span orig n)
+
+unfoldable pub plain_export : Span → Tree → Reader Tree
+plain_export start orig = do
+  span ← since start
+  pure (tree.export_specifier span orig tree.absent)
+
+unfoldable pub export_specifier : Reader Tree
+export_specifier = do
+  start ← span_here
+  orig ← module_name
+  λ s. if word_at (codes "as") s.at then renamed_export start orig s else plain_export start orig s
+
+-- `as name`, behind `*`; its span begins with what stands behind `export`
+unfoldable pub export_namespace : Span → Reader Tree
+export_namespace start = do
+  skip
+  n ← module_name
+  span ← since start
+  pure (tree.export_namespace span n)
+
+-- from the word `from` on
+unfoldable pub names_from : Span → List Tree → Reader Tree
+names_from start xs = do
+  src ← source
+  no_attributes
+  end faults.Expected
+  span ← since start
+  pure (tree.export_named span (listed xs) src tree.absent)
+
+-- names of the module itself, whose end nothing demands; what is no such name is told before it
+unfoldable pub own_names : Span → List Tree → Reader Tree
+own_names start xs = do
+  told (export_faults tree.absent (listed xs))
+  optional_end
+  span ← since start
+  pure (tree.export_named span (listed xs) tree.absent tree.absent)
+
+-- names in braces, with those before them
+unfoldable pub export_names : Span → List Tree → Reader Tree
+export_names start before = do
+  xs ← specifiers export_specifier
+  λ s. if word_at (codes "from") s.at then names_from start (before ++ xs) s else own_names start (before ++ xs) s
+
+-- behind a namespace: with the setting names in braces, else the other module
+unfoldable pub behind_namespace : Span → Tree → Reader Tree
+behind_namespace start x = λ s. if s.code.setting.export_default_from && sees kind.Comma s.at then (do
+  skip
+  export_names start (x ∷ [])) s else names_from start (x ∷ []) s
+
+unfoldable pub export_all : Span → Reader Tree
+export_all start = do
+  src ← source
+  no_attributes
+  end faults.Expected
+  span ← since start
+  pure (tree.export_all span src tree.absent)
+
+-- from `*` on
+unfoldable pub export_star : Span → Reader Tree
+export_star start = do
+  at ← span_here
+  skip
+  λ s. if word_at (codes "as") s.at then (export_namespace at >>= behind_namespace start) s else export_all start s
+
+-- ---- declarations and defaults
+
+-- the name of a function that is exported by default, which is read in the code around, or none
+unfoldable pub default_name : Reader Tree
+default_name = λ s. if name_at s.code.flags s.at then named s else Ok (tree.absent, s)
+
+module _ (stmt : Reader Tree) (params : Reader (List Tree)) where
+  unfoldable pub default_function : Reader Tree
+  default_function = do
+    start ← span_here
+    is_async ← function_word
+    is_generator ← star
+    i ← default_name
+    fn ← function_parts stmt params is_async is_generator start
+    pure (tree.fn_expr (span_of fn) i fn)
+
+module _ (expr : Class → Reader Tree) where
+  unfoldable pub default_expr : Span → Reader Tree
+  default_expr start = do
+    e ← within with_in (expr assignment)
+    end faults.Expected
+    span ← since start
+    pure (tree.export_default_expr span e)
+
+-- what is exported by default in another module is not read yet
+unfoldable pub is_default_from : Code → Place → Bool
+is_default_from k c = k.setting.export_default_from && word_at (codes "from") c
+
+unfoldable pub begins_default_function : Place → Bool
+begins_default_function c = sees kind.Function c || is_async_function c
+
+module _ (stmt : Reader Tree) (expr : Class → Reader Tree) (pat : Reader Tree) (params : Reader (List Tree)) where
+  unfoldable pub exported_function : Span → Reader Tree
+  exported_function start = do
+    x ← default_function stmt params
+    span ← since start
+    pure (tree.export_default_decl span x)
+
+  -- from behind `export default` on
+  unfoldable pub export_default : Span → Reader Tree
+  export_default start = λ s.
+      if begins_default_function s.at then exported_function start s
+      else if is_default_from s.code s.at then wanted faults.Unexpected s
+      else default_expr expr start s
+
+  -- a declaration that is exported
+  unfoldable pub exported : Span → Reader Tree → Reader Tree
+  exported start declaration = do
+    x ← declaration
+    span ← since start
+    pure (tree.export_decl span x)
+
+  unfoldable pub export_decl : Reader Tree
+  export_decl = do
+    start ← span_here
+    skip
+    λ s.
+        if sees kind.LBrace s.at then export_names start [] s
+        else if sees kind.Mul s.at then export_star start s
+        else if sees kind.Default s.at then (skip >> export_default start) s
+        else if sees kind.Var s.at then exported start (variables expr pat decl.Var) s
+        else if sees kind.Const s.at then exported start (variables expr pat decl.Const) s
+        else if is_let_declaration s.at then exported start (variables expr pat decl.Let) s
+        else if begins_default_function s.at then exported start (function_decl stmt params) s
+        else wanted faults.Unexpected s

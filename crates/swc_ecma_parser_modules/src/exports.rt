@@ -1,0 +1,279 @@
+//! Exports of names: ECMA-262, section 16.2.3, and the proposal of `export * as name, {..} from`.
+
+ghost use Rattle.std.specs.Prelude.{◌≡◌, [], ◌∷◌, map, if◌then◌else◌, IfOk, codes};
+ghost use Rattle.swc_ecma_parser_error.specs.Kind as kinds;
+ghost use Rattle.swc_ecma_parser_error.specs.Kind.{kind_of};
+ghost use Rattle.swc_ecma_parser_grammar.specs.Follows.{word_at};
+ghost use Rattle.swc_ecma_parser_grammar.specs.Own as own;
+ghost use Rattle.swc_ecma_parser_model.specs.Tree.{trees};
+ghost use Rattle.swc_ecma_parser_module_reader.specs.Exports as exports;
+ghost use Rattle.swc_ecma_parser_module_reader.specs.Imports as imports;
+ghost use Rattle.swc_ecma_parser_modules.specs.Names.{name_of};
+ghost use Rattle.swc_ecma_parser_reader.specs.Jumps as rules;
+ghost use Rattle.swc_ecma_parser_reader.specs.State.{Gives, GivesAs, loop};
+
+use crate::parts::{made_name, module_name, no_attributes, source};
+use std::alloc::{AllocError, Global};
+use swc_ecma_parser_common::{Atom, Span};
+use swc_ecma_parser_error::{PResult, SyntaxError};
+use swc_ecma_parser_inner::steps::{grown, pushed, since};
+use swc_ecma_parser_source::{Source, Wanted, is_reserved_word};
+use swc_ecma_parser_token::TokenKind;
+use swc_ecma_parser_trees::{BuildsExport, MakerOf};
+
+/// A name in braces, with the one that it is exported by where `as` stands.
+#[tactic(auto, unfolding(swc_ecma_parser_module_reader::specs::Exports::export_specifier, swc_ecma_parser_module_reader::specs::Exports::renamed_export, swc_ecma_parser_module_reader::specs::Exports::plain_export))]
+fn export_specifier<P: Source, T: BuildsExport>(
+    t: &MakerOf<T>,
+    p: &mut P,
+) -> PResult<T::ExportSpecifier>
+    ensures { GivesAs T.export_specifier_of (exports.export_specifier (P.seen p.old)) result (P.seen p.new) }
+{
+    let start = p.span();
+    let orig = module_name(p)?;
+    if p.word_at("as") {
+        p.skip()?;
+        let exported = module_name(p)?;
+        let span = since(p, start);
+        let orig = grown(p, made_name::<T>(t.alloc, orig))?;
+        let exported = grown(p, made_name::<T>(t.alloc, exported))?;
+        return grown(p, T::export_specifier(t.alloc, span, orig, Some(exported)));
+    }
+    let span = since(p, start);
+    let orig = grown(p, made_name::<T>(t.alloc, orig))?;
+    grown(p, T::export_specifier(t.alloc, span, orig, None))
+}
+
+/// Names in braces, up to `}`; a comma may stand behind the last.
+#[tactic(auto, using(swc_ecma_parser_module_reader::proofs::Loops::specifiers_stop, swc_ecma_parser_module_reader::proofs::Loops::specifiers_more, swc_ecma_parser_module_reader::proofs::Loops::specifiers_last, swc_ecma_parser_module_reader::proofs::Loops::specifiers_err, swc_ecma_parser_module_reader::proofs::Falls::export_specifier_shorter, crate::proofs::Steps::exports_shorter, std::proofs::lemmas::List::map_push))]
+fn named_exports<P: Source, T: BuildsExport>(
+    t: &MakerOf<T>,
+    p: &mut P,
+) -> PResult<Vec<T::ExportSpecifier>>
+    ensures { GivesAs (λ found. map T.export_specifier_of found.items) (loop (imports.specifiers_turn exports.export_specifier) [] (P.seen p.old)) result (P.seen p.new) }
+{
+    let mut found = Vec::new(t.alloc);
+    'specifiers: loop {
+        if p.sees(TokenKind::RBrace) {
+            return Ok(found);
+        }
+        let specifier = export_specifier::<P, T>(t, p)?;
+        pushed(p, &mut found, specifier)?;
+        if !p.sees(TokenKind::Comma) {
+            return Ok(found);
+        }
+        p.skip()?;
+    }
+}
+
+/// Names in braces.
+#[tactic(auto, unfolding(swc_ecma_parser_module_reader::specs::Imports::specifiers))]
+fn specifiers<P: Source, T: BuildsExport>(
+    t: &MakerOf<T>,
+    p: &mut P,
+) -> PResult<Vec<T::ExportSpecifier>>
+    ensures { GivesAs (λ found. map T.export_specifier_of found.items) (imports.specifiers exports.export_specifier (P.seen p.old)) result (P.seen p.new) }
+{
+    p.expect(TokenKind::LBrace, "{")?;
+    let found = named_exports::<P, T>(t, p)?;
+    p.expect(TokenKind::RBrace, "}")?;
+    Ok(found)
+}
+
+/// `as name`, behind `*`.
+#[tactic(auto, unfolding(swc_ecma_parser_module_reader::specs::Exports::export_namespace))]
+fn export_namespace<P: Source, T: BuildsExport>(
+    t: &MakerOf<T>,
+    p: &mut P,
+    start: Span,
+) -> PResult<T::ExportSpecifier>
+    ensures { GivesAs T.export_specifier_of (exports.export_namespace start (P.seen p.old)) result (P.seen p.new) }
+{
+    p.skip()?;
+    let name = module_name(p)?;
+    let span = since(p, start);
+    let name = grown(p, made_name::<T>(t.alloc, name))?;
+    grown(p, T::export_namespace(t.alloc, span, name))
+}
+
+/// Names of another module, from the word `from` on.
+#[tactic(auto, unfolding(swc_ecma_parser_module_reader::specs::Exports::names_from))]
+fn names_from<P: Source, T: BuildsExport>(
+    t: &MakerOf<T>,
+    p: &mut P,
+    start: Span,
+    specifiers: Vec<T::ExportSpecifier>,
+) -> PResult<T::Item>
+    ensures { GivesAs T.item_of (exports.names_from start (map T.export_specifier_of specifiers.items) (P.seen p.old)) result (P.seen p.new) }
+{
+    let src = source(p)?;
+    no_attributes(p)?;
+    p.end(Wanted::Token(";"))?;
+    let span = since(p, start);
+    grown(
+        p,
+        T::export_named(t.alloc, span, specifiers, Some(src), None),
+    )
+}
+
+/// Records that a name of another module stands where no module is named.
+fn foreign<P: Source>(alloc: Global, p: &mut P, text: &str, span: Span) -> PResult<()>
+    ensures { Gives (rules.told (own.fault kinds.ExportExpectFrom span ∷ []) (P.seen p.old)) result (P.seen p.new) }
+{
+    let text = grown(p, Atom::new(alloc, text))?;
+    p.fault(SyntaxError::ExportExpectFrom(text), span)
+}
+
+/// Records that a name is none of the module itself, where it is none.
+fn misnamed<P: Source, T: BuildsExport>(
+    t: &MakerOf<T>,
+    p: &mut P,
+    specifier: &T::ExportSpecifier,
+) -> PResult<()>
+    ensures { Gives (rules.told (own.specifier_faults (T.export_specifier_of specifier.now)) (P.seen p.old)) result (P.seen p.new) }
+{
+    let text = T::export_text(specifier);
+    if T::is_export_namespace(specifier) {
+        return foreign(t.alloc, p, text, T::export_span(specifier));
+    }
+    let span = T::export_name_span(specifier);
+    if T::is_export_default(specifier) {
+        return foreign(t.alloc, p, text, span);
+    }
+    if T::is_str_export(specifier) {
+        return p.fault(SyntaxError::ExportBindingIsString, span);
+    }
+    if is_reserved_word(text) {
+        return foreign(t.alloc, p, text, span);
+    }
+    Ok(())
+}
+
+/// Records which of these are no names of the module itself.
+fn all_misnamed<P: Source, T: BuildsExport>(
+    t: &MakerOf<T>,
+    p: &mut P,
+    specifiers: &[T::ExportSpecifier],
+) -> PResult<()>
+    ensures { Gives (rules.told (own.each_specifier (trees (map T.export_specifier_of specifiers.now))) (P.seen p.old)) result (P.seen p.new) }
+{
+    'specifiers: for specifier in specifiers {
+        misnamed::<P, T>(t, p, specifier)?;
+    }
+    Ok(())
+}
+
+/// Names of the module itself, whose end nothing demands.
+#[tactic(auto, unfolding(swc_ecma_parser_module_reader::specs::Exports::own_names, swc_ecma_parser_reader::specs::Reader::optional_end))]
+fn own_names<P: Source, T: BuildsExport>(
+    t: &MakerOf<T>,
+    p: &mut P,
+    start: Span,
+    specifiers: Vec<T::ExportSpecifier>,
+) -> PResult<T::Item>
+    ensures { GivesAs T.item_of (exports.own_names start (map T.export_specifier_of specifiers.items) (P.seen p.old)) result (P.seen p.new) }
+{
+    all_misnamed::<P, T>(t, p, &specifiers)?;
+    if p.sees(TokenKind::Semi) {
+        p.skip()?;
+    }
+    let span = since(p, start);
+    grown(p, T::export_named(t.alloc, span, specifiers, None, None))
+}
+
+/// Names of another module or of this one.
+fn named<P: Source, T: BuildsExport>(
+    t: &MakerOf<T>,
+    p: &mut P,
+    start: Span,
+    specifiers: Vec<T::ExportSpecifier>,
+) -> PResult<T::Item>
+    ensures { GivesAs T.item_of (if word_at (codes "from") (P.seen p.old).at
+        then exports.names_from start (map T.export_specifier_of specifiers.items) (P.seen p.old)
+        else exports.own_names start (map T.export_specifier_of specifiers.items) (P.seen p.old)) result (P.seen p.new) }
+{
+    if p.word_at("from") {
+        return names_from::<P, T>(t, p, start, specifiers);
+    }
+    own_names::<P, T>(t, p, start, specifiers)
+}
+
+/// An export of names in braces.
+#[tactic(auto, unfolding(swc_ecma_parser_module_reader::specs::Exports::export_names))]
+pub fn export_names<P: Source, T: BuildsExport>(
+    t: &MakerOf<T>,
+    p: &mut P,
+    start: Span,
+) -> PResult<T::Item>
+    ensures { GivesAs T.item_of (exports.export_names start [] (P.seen p.old)) result (P.seen p.new) }
+{
+    let found = specifiers::<P, T>(t, p)?;
+    named::<P, T>(t, p, start, found)
+}
+
+/// A namespace before the names in braces.
+fn with_namespace<T: BuildsExport>(
+    namespace: T::ExportSpecifier,
+    others: Vec<T::ExportSpecifier>,
+) -> Result<Vec<T::ExportSpecifier>, AllocError>
+    ensures { IfOk result (λ all. map T.export_specifier_of all.items ≡ T.export_specifier_of namespace ∷ map T.export_specifier_of others.items) }
+{
+    let mut all = others;
+    all.insert(0, namespace)?;
+    Ok(all)
+}
+
+/// Behind a namespace: with the setting names in braces, else the other module.
+#[tactic(auto, unfolding(swc_ecma_parser_module_reader::specs::Exports::behind_namespace, swc_ecma_parser_module_reader::specs::Exports::export_names))]
+fn behind_namespace<P: Source, T: BuildsExport>(
+    t: &MakerOf<T>,
+    p: &mut P,
+    start: Span,
+    namespace: T::ExportSpecifier,
+) -> PResult<T::Item>
+    ensures { GivesAs T.item_of (exports.behind_namespace start (T.export_specifier_of namespace) (P.seen p.old)) result (P.seen p.new) }
+{
+    if p.export_default_from() && p.sees(TokenKind::Comma) {
+        p.skip()?;
+        let others = specifiers::<P, T>(t, p)?;
+        let all = grown(p, with_namespace::<T>(namespace, others))?;
+        return named::<P, T>(t, p, start, all);
+    }
+    let mut all = Vec::new(t.alloc);
+    pushed(p, &mut all, namespace)?;
+    names_from::<P, T>(t, p, start, all)
+}
+
+/// An export of all names, from the word `from` on.
+#[tactic(auto, unfolding(swc_ecma_parser_module_reader::specs::Exports::export_all))]
+fn export_all<P: Source, T: BuildsExport>(
+    t: &MakerOf<T>,
+    p: &mut P,
+    start: Span,
+) -> PResult<T::Item>
+    ensures { GivesAs T.item_of (exports.export_all start (P.seen p.old)) result (P.seen p.new) }
+{
+    let src = source(p)?;
+    no_attributes(p)?;
+    p.end(Wanted::Token(";"))?;
+    let span = since(p, start);
+    grown(p, T::export_all(t.alloc, span, src, None))
+}
+
+/// An export from `*` on.
+#[tactic(auto, unfolding(swc_ecma_parser_module_reader::specs::Exports::export_star))]
+pub fn export_star<P: Source, T: BuildsExport>(
+    t: &MakerOf<T>,
+    p: &mut P,
+    start: Span,
+) -> PResult<T::Item>
+    ensures { GivesAs T.item_of (exports.export_star start (P.seen p.old)) result (P.seen p.new) }
+{
+    let star = p.span();
+    p.skip()?;
+    if !p.word_at("as") {
+        return export_all::<P, T>(t, p, start);
+    }
+    let namespace = export_namespace::<P, T>(t, p, star)?;
+    behind_namespace::<P, T>(t, p, start, namespace)
+}

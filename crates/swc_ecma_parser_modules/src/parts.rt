@@ -1,0 +1,90 @@
+//! What imports and exports share: ECMA-262, section 16.2.
+
+ghost use Rattle.std.specs.Prelude.{◌≡◌, IfOk};
+ghost use Rattle.swc_ecma_parser_grammar.specs.language.ModuleParts as parts;
+ghost use Rattle.swc_ecma_parser_module_reader.specs.Imports as imports;
+ghost use Rattle.swc_ecma_parser_modules.specs.Names.{name_of, str_of};
+ghost use Rattle.swc_ecma_parser_reader.specs.State.{Gives, GivesAs};
+
+use std::alloc::{AllocError, Global};
+use swc_ecma_parser_error::PResult;
+use swc_ecma_parser_inner::keys::word_property;
+use swc_ecma_parser_model::{Ident, Str};
+use swc_ecma_parser_source::{Literal, Source, Wanted};
+use swc_ecma_parser_token::TokenKind;
+use swc_ecma_parser_trees::BuildsItem;
+
+/// The name by which a module exports something: ModuleExportName.
+#[derive(Drop)]
+pub enum Name {
+    Word(Ident),
+    Str(Str),
+}
+
+/// The tree's name.
+pub fn made_name<T: BuildsItem>(alloc: Global, name: Name) -> Result<T::ModuleName, AllocError>
+    ensures { IfOk result (λ x. T.module_name_of x ≡ name_of name) }
+{
+    match name {
+        Name::Word(x) => T::word_name(alloc, x),
+        Name::Str(x) => T::str_name(alloc, x),
+    }
+}
+
+/// A string that must stand here.
+#[tactic(auto, unfolding(swc_ecma_parser_module_reader::specs::Imports::str))]
+pub fn string<P: Source>(p: &mut P) -> PResult<Str>
+    ensures { GivesAs str_of (imports.str (P.seen p.old)) result (P.seen p.new) }
+{
+    if !p.sees(TokenKind::Str) {
+        return Err(p.wanted(Wanted::StringLiteral));
+    }
+    let Some(literal) = p.literal()? else {
+        return Err(p.wanted(Wanted::StringLiteral));
+    };
+    match literal {
+        Literal::Str(x) => Ok(x),
+        Literal::Num(_) | Literal::BigInt(_) | Literal::Null(_) | Literal::Bool(_) => {
+            Err(p.wanted(Wanted::StringLiteral))
+        }
+    }
+}
+
+/// From the word `from` on: where the other module is.
+#[tactic(auto, unfolding(swc_ecma_parser_module_reader::specs::Imports::source))]
+pub fn source<P: Source>(p: &mut P) -> PResult<Str>
+    ensures { GivesAs str_of (imports.source (P.seen p.old)) result (P.seen p.new) }
+{
+    p.expect_word("from")?;
+    string(p)
+}
+
+/// A name by which a module exports something.
+#[tactic(auto, unfolding(swc_ecma_parser_module_reader::specs::Imports::module_name))]
+pub fn module_name<P: Source>(p: &mut P) -> PResult<Name>
+    ensures { GivesAs name_of (imports.module_name (P.seen p.old)) result (P.seen p.new) }
+{
+    if p.sees(TokenKind::Str) {
+        return Ok(Name::Str(string(p)?));
+    }
+    Ok(Name::Word(word_property(p)?))
+}
+
+/// Whether attributes of an import stand here.
+#[tactic(auto, unfolding(swc_ecma_parser_grammar::specs::language::ModuleParts::begins_attributes))]
+fn begins_attributes<P: Source>(p: &P) -> bool
+    ensures { result ≡ parts.begins_attributes (P.seen p.now).code (P.seen p.now).at }
+{
+    p.import_attributes() && !p.had_line_break() && (p.sees(TokenKind::With) || p.word_at("assert"))
+}
+
+/// Attributes are not read yet.
+#[tactic(auto, unfolding(swc_ecma_parser_module_reader::specs::Imports::no_attributes))]
+pub fn no_attributes<P: Source>(p: &mut P) -> PResult<()>
+    ensures { Gives (imports.no_attributes (P.seen p.old)) result (P.seen p.new) }
+{
+    if begins_attributes(p) {
+        return Err(p.wanted(Wanted::Expression));
+    }
+    Ok(())
+}
