@@ -1,25 +1,19 @@
 //! The functions that tie together the rules and the readers that they take, level by level.
 
-ghost use Rattle.std.specs.Prelude.{map, false};
-ghost use Rattle.swc_ecma_parser_grammar.specs.Reads.{nested_item};
 ghost use Rattle.swc_ecma_parser_inner.specs.Covers.{cover_of, read};
 ghost use Rattle.swc_ecma_parser_inner.specs.Patterns.{read_pat};
 ghost use Rattle.swc_ecma_parser_reader.specs.Reader as rules;
 ghost use Rattle.swc_ecma_parser_reader.specs.State.{GivesAs};
 
-use swc_ecma_parser_common::Span;
 use swc_ecma_parser_control::stmt::level;
 use swc_ecma_parser_error::PResult;
-use swc_ecma_parser_functions::function::{Manner, function_parts};
 use swc_ecma_parser_grammar::Position;
 use swc_ecma_parser_inner::cover::{Cover, Reading, done};
 use swc_ecma_parser_inner::grammar::{Grammar, Part};
-use swc_ecma_parser_model::VarDeclKind;
 use swc_ecma_parser_operators::assignment::{cover_expr, head_expr};
 use swc_ecma_parser_operators::operator::expr_level;
 use swc_ecma_parser_patterns::pat::{element_level, pattern_level};
 use swc_ecma_parser_source::Source;
-use swc_ecma_parser_statements::variables::declarators;
 use swc_ecma_parser_trees::{BuildsStatements, MakerOf};
 
 /// A statement in so many levels.
@@ -95,41 +89,4 @@ pub fn pat<P: Source, T: BuildsStatements>(
         Part::Pattern => pattern_level(&g, t, p),
         Part::Element => element_level(&g, t, p),
     }
-}
-
-/// The declarators of a declaration, in so many levels.
-pub fn inner_declarators<P: Source, T: BuildsStatements>(
-    t: &MakerOf<T>,
-    p: &mut P,
-    depth: usize,
-    word: VarDeclKind,
-) -> PResult<Vec<T::Declarator>>
-    ensures { GivesAs (λ found. map T.declarator_of found.items) (rules.declarators (rules.expr depth) (rules.pattern depth) false word (P.seen p.old)) result (P.seen p.new) }
-{
-    let g = Grammar {
-        depth,
-        stmt: stmt::<P, T>,
-        expr: expr::<P, T>,
-        pat: pat::<P, T>,
-    };
-    declarators(&g, t, p, false, word)
-}
-
-/// A function from behind its name, in so many levels.
-pub fn inner_function<P: Source, T: BuildsStatements>(
-    t: &MakerOf<T>,
-    p: &mut P,
-    depth: usize,
-    manner: Manner,
-    start: Span,
-) -> PResult<T::Function>
-    ensures { GivesAs T.function_of (rules.function_parts (rules.stmt depth nested_item) (rules.parameters depth) manner.is_async manner.is_generator start (P.seen p.old)) result (P.seen p.new) }
-{
-    let g = Grammar {
-        depth,
-        stmt: stmt::<P, T>,
-        expr: expr::<P, T>,
-        pat: pat::<P, T>,
-    };
-    function_parts(&g, t, p, manner, start)
 }
