@@ -6,6 +6,8 @@ mod arrows;
 #[cfg(test)]
 mod awaits;
 #[cfg(test)]
+mod check;
+#[cfg(test)]
 mod declarations;
 #[cfg(test)]
 mod deep;
@@ -19,6 +21,8 @@ mod heads;
 mod items;
 #[cfg(test)]
 mod methods;
+#[cfg(test)]
+mod modules;
 #[cfg(test)]
 mod nodes;
 #[cfg(test)]

@@ -1,6 +1,7 @@
 //! Each public function of parsers once.
 
-use crate::texts::{input, lexed, lexer, listed, tokens};
+use crate::check::{count, count_of, kept, let_go};
+use crate::texts::{input, lexed, lexer, listed, shown, tokens};
 use ecma_report::{Shown, show};
 use std::alloc::{AllocError, Global};
 use std::test::Fail;
@@ -17,12 +18,12 @@ fn error_token(alloc: Global) -> Result<Vec<TokenAndSpan>, AllocError> {
     let span = Span::new(BytePos(0), BytePos(1));
     let kind = SyntaxError::UnexpectedChar;
     let mut tokens = Vec::new(alloc);
-    tokens.push(TokenAndSpan {
+    let pushed = tokens.push(TokenAndSpan {
         token: Token::Error(Error { span, kind }),
         had_line_break: false,
         span,
-    })?;
-    Ok(tokens)
+    });
+    kept(tokens, pushed)
 }
 
 #[test]
@@ -32,12 +33,19 @@ fn an_error_token_is_refused_with_its_error(rt: HostRuntime) -> Result<(), Fail>
     Ok(())
 }
 
+/// Whether the tokens of a text are in order, and whether they are from the last to the first.
+fn orders(alloc: Global, input: StringInput) -> Result<(bool, bool), AllocError> {
+    let mut tokens = tokens(alloc, input)?;
+    let forwards = spans_ordered(tokens.as_slice());
+    tokens.reverse();
+    let backwards = spans_ordered(tokens.as_slice());
+    let_go(tokens);
+    Ok((forwards, backwards))
+}
+
 #[test]
 fn tokens_in_another_order_are_noticed(rt: HostRuntime) -> Result<(), Fail> {
-    let mut tokens = tokens(rt.alloc(), input("a;")?)?;
-    assert!(rt; spans_ordered(tokens.as_slice()));
-    tokens.reverse();
-    assert!(rt; !spans_ordered(tokens.as_slice()));
+    assert_eq!(rt; orders(rt.alloc(), input("a;")?)?, (true, false));
     Ok(())
 }
 
@@ -47,17 +55,22 @@ fn captured<I: Tokens>(alloc: Global, parser: Parser<Capturing<I>>) -> (Vec<Toke
     let _ = show(alloc, &mut parser);
     let mut source = parser.into_input();
     let tokens = source.take();
-    (tokens, source.take().len())
+    (tokens, count(source.take()))
+}
+
+/// How many tokens of a text are kept, how many then, and what the list of them parses to.
+fn parsed_again(alloc: Global, input: StringInput) -> Result<(usize, usize, Shown), AllocError> {
+    let (tokens, left) = captured(alloc, capturing(alloc, lexer(alloc, input)));
+    let count = tokens.len();
+    Ok((count, left, listed(alloc, tokens, 1000)?))
 }
 
 #[test]
 fn captured_tokens_parse_to_the_same(rt: HostRuntime) -> Result<(), Fail> {
     let alloc = rt.alloc();
     let text = "'use strict'; { var a; (b) } 1n";
-    let (tokens, left) = captured(alloc, capturing(alloc, lexer(alloc, input(text)?)));
-    assert_eq!(rt; tokens.len(), 11);
-    assert_eq!(rt; left, 0);
-    let found = listed(alloc, tokens, 1000)?;
+    let (count, left, found) = parsed_again(alloc, input(text)?)?;
+    assert_eq!(rt; (count, left), (11, 0));
     let wanted = lexed(alloc, input(text)?, 1000)?;
     assert_eq!(rt; found.tree.as_str(), wanted.tree.as_str());
     Ok(())
@@ -70,7 +83,7 @@ fn write_lines<I: Tokens>(
     parser: &mut Parser<I>,
 ) -> Result<(), AllocError> {
     out.push_str(show(alloc, parser)?.lines.as_str())?;
-    let left = parser.take_errors().len();
+    let left = count(parser.take_errors());
     writeln!(out, "{left}")
 }
 
@@ -80,6 +93,14 @@ fn write_twice<I: Tokens>(alloc: Global, out: &mut String, parser: &mut Parser<I
     Ok(write_lines(alloc, out, parser)?)
 }
 
+/// The lines of a parser's clone, and then its own.
+fn twice<I: Tokens>(alloc: Global, parser: Parser<I>) -> PResult<String> {
+    let mut parser = parser;
+    let mut out = String::new(alloc);
+    write_twice(alloc, &mut out, &mut parser)?;
+    Ok(out)
+}
+
 /// A parser of a text, in three levels.
 fn flat_parser(alloc: Global, input: StringInput<'_>) -> Parser<Lexer<'_>> {
     Parser::new_from_limited(alloc, lexer(alloc, input), 3)
@@ -87,9 +108,7 @@ fn flat_parser(alloc: Global, input: StringInput<'_>) -> Parser<Lexer<'_>> {
 
 #[test]
 fn a_clone_answers_the_same_and_faults_are_handed_out_once(rt: HostRuntime) -> Result<(), Fail> {
-    let mut out = String::new(rt.alloc());
-    let mut parser = flat_parser(rt.alloc(), input("{ var a")?);
-    write_twice(rt.alloc(), &mut out, &mut parser)?;
+    let out = twice(rt.alloc(), flat_parser(rt.alloc(), input("{ var a")?))?;
     let wanted = "Script 0..7\n  Block 0..7\nfault 6..7 Expected\n0\n\
         Script 0..7\n  Block 0..7\nfault 6..7 Expected\n0\n";
     assert_eq!(rt; out.as_str(), wanted);
@@ -129,6 +148,14 @@ fn write_story<I: CommentSource>(
     write_comments(out, parser)
 }
 
+/// What a parser hands out before it parses, then, and behind its lines.
+fn story<I: CommentSource>(alloc: Global, parser: Parser<I>) -> PResult<String> {
+    let mut parser = parser;
+    let mut out = String::new(alloc);
+    write_story(alloc, &mut out, &mut parser)?;
+    Ok(out)
+}
+
 /// A parser of a text, whose comments may be wanted.
 fn parser(alloc: Global, input: StringInput<'_>, comments: bool) -> Parser<Lexer<'_>> {
     Parser::new(alloc, Syntax::default(), input, comments)
@@ -152,36 +179,34 @@ fn comments_are_handed_out_once(rt: HostRuntime) -> Result<(), Fail> {
     // Two tokens are read ahead.
     let wanted =
         "Block 0..7: a ;Line 10..14: b;||Script 8..16\n  Expr 8..16\n0\nBlock 17..24: c ;|";
-    let mut out = String::new(alloc);
-    write_story(alloc, &mut out, &mut parser(alloc, input(COMMENTED)?, true))?;
+    let out = story(alloc, parser(alloc, input(COMMENTED)?, true))?;
     assert_eq!(rt; out.as_str(), wanted);
-    out.clear();
     let source = commented(alloc, input(COMMENTED)?);
-    write_story(alloc, &mut out, &mut capturing(alloc, source))?;
+    let out = story(alloc, capturing(alloc, source))?;
     assert_eq!(rt; out.as_str(), wanted);
-    out.clear();
-    write_story(
-        alloc,
-        &mut out,
-        &mut parser(alloc, input(COMMENTED)?, false),
-    )?;
+    let out = story(alloc, parser(alloc, input(COMMENTED)?, false))?;
     assert_eq!(rt; out.as_str(), "||Script 8..16\n  Expr 8..16\n0\n|");
     Ok(())
 }
 
 /// How many comments a parser hands out, and how many tokens and comments the source has that it gives back then.
-fn given_back(alloc: Global, input: StringInput) -> PResult<(usize, usize, usize)> {
-    let mut parser = Parser::new_from(alloc, commented(alloc, input));
-    let taken = parser.take_comments()?.len();
-    let mut lexer = parser.into_input();
-    let tokens = lexer.next().iter().count();
-    Ok((taken, tokens, lexer.take_comments()?.len()))
+fn given_back<I: CommentSource>(parser: Parser<I>) -> PResult<(usize, usize, usize)> {
+    let mut parser = parser;
+    let taken = count(parser.take_comments()?);
+    let mut source = parser.into_input();
+    let tokens = count_of(source.next());
+    Ok((taken, tokens, count(source.take_comments()?)))
+}
+
+/// The same of a text's parser.
+fn lexer_back(alloc: Global, input: StringInput) -> PResult<(usize, usize, usize)> {
+    given_back(Parser::new_from(alloc, commented(alloc, input)))
 }
 
 #[test]
 fn a_source_is_given_back(rt: HostRuntime) -> Result<(), Fail> {
-    assert_eq!(rt; given_back(rt.alloc(), input(COMMENTED)?)?, (2, 0, 1));
-    assert_eq!(rt; given_back(rt.alloc(), input("a;b;")?)?, (0, 1, 0));
+    assert_eq!(rt; lexer_back(rt.alloc(), input(COMMENTED)?)?, (2, 0, 1));
+    assert_eq!(rt; lexer_back(rt.alloc(), input("a;b;")?)?, (0, 1, 0));
     Ok(())
 }
 
@@ -205,10 +230,8 @@ fn a_text_can_start_anywhere(rt: HostRuntime) -> Result<(), Fail> {
 
 /// What a text parses to by these settings.
 fn set(alloc: Global, input: StringInput<'_>, settings: EsSyntax) -> Result<Shown, AllocError> {
-    show(
-        alloc,
-        &mut Parser::new(alloc, Syntax::Es(settings), input, false),
-    )
+    let parser = Parser::new(alloc, Syntax::Es(settings), input, false);
+    shown(alloc, parser)
 }
 
 #[test]
@@ -233,17 +256,29 @@ fn return_may_stand_outside_of_functions(rt: HostRuntime) -> Result<(), Fail> {
     Ok(())
 }
 
-/// What a script holds back for module code, told once its source is a module's.
-fn held_back(alloc: Global, input: StringInput<'_>) -> Result<String, AllocError> {
-    let mut parser = Parser::new_from(alloc, lexer(alloc, input));
+/// The faults that a script holds back for module code, told once its source is a module's.
+fn told<I: Tokens>(alloc: Global, parser: Parser<I>) -> Vec<Error> {
+    let mut parser = parser;
     let _ = show(alloc, &mut parser);
     let mut source = parser.into_input();
     source.set_ctx(Context {
         module: true,
         ..Context::default()
     });
-    let faults = source.take_errors();
+    source.take_errors()
+}
+
+/// The first of some faults.
+fn first(alloc: Global, faults: &[Error]) -> Result<String, AllocError> {
     format!(in alloc; "{:?}", faults.first().map(|it| (it.span, it.kind.name())))
+}
+
+/// The first fault that a text holds back.
+fn held_back(alloc: Global, input: StringInput<'_>) -> Result<String, AllocError> {
+    let faults = told(alloc, Parser::new_from(alloc, lexer(alloc, input)));
+    let first = first(alloc, faults.as_slice());
+    let_go(faults);
+    first
 }
 
 #[test]
@@ -261,7 +296,7 @@ fn undecided(alloc: Global, input: StringInput<'_>) -> Result<Shown, AllocError>
         can_be_module: true,
         ..Context::default()
     });
-    show(alloc, &mut Parser::new_from(alloc, lexer))
+    shown(alloc, Parser::new_from(alloc, lexer))
 }
 
 #[test]

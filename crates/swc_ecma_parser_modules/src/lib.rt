@@ -1,6 +1,9 @@
-//! The rules of imports and of exported names: ECMA-262, sections 16.2.2 and 16.2.3.
+//! The rules of modules: imports, exports, items and whole modules: ECMA-262, section 16.2.
 #![tactic(auto)]
 
+pub mod exported;
 pub mod exports;
 pub mod imports;
+mod inner;
+pub mod items;
 pub mod parts;
