@@ -8,10 +8,9 @@ use Rattle.swc_ecma_parser_model.specs.Held.{Held}
 use Rattle.swc_ecma_parser_model.specs.Forms.{span_of}
 use Rattle.swc_ecma_parser_model.specs.Tree as tree
 use Rattle.swc_ecma_parser_model.specs.Tree.{Tree, Trees}
-use Rattle.swc_ecma_parser_ast.specs.declared.program.Module.{Module}
 use Rattle.swc_ecma_parser_ast.specs.declared.script.Script.{Script}
 use Rattle.swc_ecma_parser_ast.specs.declared.stmt.Stmt.{Stmt}
-use Rattle.swc_ecma_parser_ast.specs.View.{view_module, view_script, view_stmt}
+use Rattle.swc_ecma_parser_ast.specs.View.{view_script, view_stmt}
 
 -- `low..high`
 abbrev pub place : Span → List ℕ
@@ -49,12 +48,6 @@ form_name (tree.for s init test next body) = codes "For"
 form_name (tree.for_in s left right body) = codes "ForIn"
 form_name (tree.for_of s is_await left right body) = codes "ForOf"
 form_name (tree.expr_stmt s expr) = codes "Expr"
-form_name (tree.import s specifiers src attributes phase) = codes "Import"
-form_name (tree.export_decl s d) = codes "ExportDecl"
-form_name (tree.export_named s specifiers src attributes) = codes "ExportNamed"
-form_name (tree.export_default_decl s d) = codes "ExportDefaultDecl"
-form_name (tree.export_default_expr s e) = codes "ExportDefaultExpr"
-form_name (tree.export_all s src attributes) = codes "ExportAll"
 form_name _ = []
 
 -- an item's line, two spaces further in
@@ -69,10 +62,6 @@ abbrev pub script_lines : Tree → List ℕ
 script_lines (tree.script span (tree.list items) shebang) = node_line (codes "Script") span ++ item_lines items
 script_lines _ = []
 
-abbrev pub module_lines : Tree → List ℕ
-module_lines (tree.module_program span (tree.list items) shebang) = node_line (codes "Module") span ++ item_lines items
-module_lines _ = []
-
 -- a tree's lines and then its faults, or the faults and then why there is no tree
 abbrev pub answer_lines : Result Tree Fault → List Fault → List ℕ
 answer_lines (Ok x) faults = script_lines x ++ flat_map (fault_line (codes "fault")) faults
@@ -82,15 +71,6 @@ answer_lines (Err fault) faults = flat_map (fault_line (codes "fault")) faults +
 abbrev pub statement_lines : Result Tree Fault → List Fault → List ℕ
 statement_lines (Ok x) faults = item_line x ++ flat_map (fault_line (codes "fault")) faults
 statement_lines (Err fault) faults = flat_map (fault_line (codes "fault")) faults ++ fault_line (codes "refused") fault
-
--- the same of a module
-abbrev pub module_answer_lines : Result Tree Fault → List Fault → List ℕ
-module_answer_lines (Ok x) faults = module_lines x ++ flat_map (fault_line (codes "fault")) faults
-module_answer_lines (Err fault) faults = flat_map (fault_line (codes "fault")) faults ++ fault_line (codes "refused") fault
-
-abbrev pub seen_module : Result (Module Held) Error → Result Tree Fault
-seen_module (Ok x) = Ok (view_module x)
-seen_module (Err e) = Err (fault_of e)
 
 abbrev pub seen_statement : Result (Stmt Held) Error → Result Tree Fault
 seen_statement (Ok x) = Ok (view_stmt x)

@@ -25,7 +25,7 @@ fn declaration_kind(decl: &Decl) -> &'static str
 }
 
 /// The name of a statement's variant, or of a declaration's.
-pub(crate) fn kind_name(stmt: &Stmt) -> &'static str
+fn kind_name(stmt: &Stmt) -> &'static str
     ensures { result.now ≡ form_name (view_stmt stmt.now) }
 {
     match stmt {
@@ -52,7 +52,7 @@ pub(crate) fn kind_name(stmt: &Stmt) -> &'static str
 }
 
 /// Writes a line of a kind and a place.
-pub(crate) fn write_node(out: &mut String, kind: &str, span: Span) -> Result<(), AllocError>
+fn write_node(out: &mut String, kind: &str, span: Span) -> Result<(), AllocError>
     ensures { OnOk result (string_bytes out.new ≡ string_bytes out.old ++ node_line kind.now span) }
 {
     let low = span.lo.0;
@@ -89,7 +89,7 @@ fn write_items(out: &mut String, items: &[Stmt]) -> Result<(), AllocError>
 }
 
 /// Writes a line for each fault.
-pub(crate) fn write_faults(out: &mut String, faults: &[Error]) -> Result<(), AllocError>
+fn write_faults(out: &mut String, faults: &[Error]) -> Result<(), AllocError>
     ensures { OnOk result (string_bytes out.new ≡ string_bytes out.old ++ flat_map (fault_line (codes "fault")) (faults_of faults.now)) }
 {
     for fault in faults {
@@ -117,11 +117,7 @@ fn tree_lines(alloc: Global, script: &Script, faults: &[Error]) -> Result<String
 }
 
 /// The lines of the faults, and of why there is no tree.
-pub(crate) fn refusal_lines(
-    alloc: Global,
-    error: &Error,
-    faults: &[Error],
-) -> Result<String, AllocError>
+fn refusal_lines(alloc: Global, error: &Error, faults: &[Error]) -> Result<String, AllocError>
     ensures { IfOk result (λ out. string_bytes out ≡ answer_lines (Err (fault_of error.now)) (faults_of faults.now)) }
 {
     let mut out = String::new(alloc);

@@ -1,28 +1,26 @@
 //! Rows of single statements, by hand, from the rules of ECMA-262, section 14.
 
-use crate::check::kept;
-use crate::texts::{input, lexer, list, tokens};
+use crate::texts::{input, lexer, tokens};
 use ecma_report::show_statement;
 use std::alloc::{AllocError, Global};
 use std::test::Fail;
 use swc_ecma_parser::Parser;
 use swc_ecma_parser::common::{BytePos, Span};
 use swc_ecma_parser::error::{Error, SyntaxError};
-use swc_ecma_parser::input::{Context, Tokens};
+use swc_ecma_parser::input::{Context, Syntax, Tokens, TokensInput, spans_ordered};
 use swc_ecma_parser::lexer::StringInput;
 use swc_ecma_parser::token::{Token, TokenAndSpan};
 
 /// What a parser answers that is asked so often for a statement of the top level.
 fn asked<I: Tokens>(
     alloc: Global,
-    parser: Parser<I>,
+    parser: &mut Parser<I>,
     may_declare: bool,
     times: u32,
 ) -> Result<String, AllocError> {
-    let mut parser = parser;
     let mut out = String::new(alloc);
     for _ in 0..times {
-        out.push_str(show_statement(alloc, &mut parser, may_declare, true)?.as_str())?;
+        out.push_str(show_statement(alloc, parser, may_declare, true)?.as_str())?;
     }
     Ok(out)
 }
@@ -34,8 +32,8 @@ fn read(
     may_declare: bool,
     times: u32,
 ) -> Result<String, AllocError> {
-    let parser = Parser::new_from(alloc, lexer(alloc, input));
-    asked(alloc, parser, may_declare, times)
+    let mut parser = Parser::new_from(alloc, lexer(alloc, input));
+    asked(alloc, &mut parser, may_declare, times)
 }
 
 #[test]
@@ -100,26 +98,19 @@ fn error_at(low: u32, high: u32, kind: SyntaxError) -> TokenAndSpan {
     }
 }
 
-/// Tokens, and an error token of this kind behind them.
-fn with_error(
-    tokens: Vec<TokenAndSpan>,
-    error: TokenAndSpan,
-) -> Result<Vec<TokenAndSpan>, AllocError> {
-    let mut tokens = tokens;
-    let pushed = tokens.push(error);
-    kept(tokens, pushed)
-}
-
 /// What a list of tokens comes to that is asked so often for a statement.
 fn listed(alloc: Global, tokens: Vec<TokenAndSpan>, times: u32) -> Result<String, AllocError> {
-    let list = list(alloc, tokens)?;
-    asked(alloc, Parser::new_from(alloc, list), false, times)
+    if !spans_ordered(tokens.as_slice()) {
+        return Err(AllocError);
+    }
+    let list = TokensInput::new(alloc, tokens, Context::default(), Syntax::default());
+    asked(alloc, &mut Parser::new_from(alloc, list), false, times)
 }
 
 #[test]
 fn the_fault_of_an_error_token_is_recorded_first(rt: HostRuntime) -> Result<(), Fail> {
-    let found = tokens(rt.alloc(), input("break;")?)?;
-    let found = with_error(found, error_at(7, 8, SyntaxError::TS1107))?;
+    let mut found = tokens(rt.alloc(), input("break;")?)?;
+    found.push(error_at(7, 8, SyntaxError::TS1107))?;
     let wanted = "  Break 0..6\nfault 7..8 TS1107\nfault 0..6 TS1105\nrefused 8..8 Eof\n";
     assert_eq!(rt; listed(rt.alloc(), found, 2)?.as_str(), wanted);
     Ok(())
@@ -127,8 +118,8 @@ fn the_fault_of_an_error_token_is_recorded_first(rt: HostRuntime) -> Result<(), 
 
 #[test]
 fn behind_an_error_token_the_list_ends(rt: HostRuntime) -> Result<(), Fail> {
-    let found = Vec::new(rt.alloc());
-    let found = with_error(found, error_at(0, 1, SyntaxError::UnexpectedChar))?;
+    let mut found = Vec::new(rt.alloc());
+    found.push(error_at(0, 1, SyntaxError::UnexpectedChar))?;
     let wanted = "refused 0..1 UnexpectedChar\nrefused 1..1 Eof\n";
     assert_eq!(rt; listed(rt.alloc(), found, 2)?.as_str(), wanted);
     Ok(())
@@ -141,7 +132,7 @@ fn module_code(alloc: Global, input: StringInput<'_>) -> Result<String, AllocErr
         module: true,
         ..Context::default()
     });
-    asked(alloc, Parser::new_from(alloc, lexer), true, 2)
+    asked(alloc, &mut Parser::new_from(alloc, lexer), true, 2)
 }
 
 #[test]

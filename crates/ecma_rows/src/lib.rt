@@ -6,8 +6,6 @@ mod arrows;
 #[cfg(test)]
 mod awaits;
 #[cfg(test)]
-mod check;
-#[cfg(test)]
 mod declarations;
 #[cfg(test)]
 mod deep;
@@ -21,8 +19,6 @@ mod heads;
 mod items;
 #[cfg(test)]
 mod methods;
-#[cfg(test)]
-mod modules;
 #[cfg(test)]
 mod nodes;
 #[cfg(test)]

@@ -1,7 +1,6 @@
 //! Each public function of parsers once.
 
-use crate::check::{count, count_of, kept, let_go};
-use crate::texts::{input, lexed, lexer, listed, shown, tokens};
+use crate::texts::{input, lexed, lexer, listed, tokens};
 use ecma_report::{Shown, show};
 use std::alloc::{AllocError, Global};
 use std::test::Fail;
@@ -18,12 +17,12 @@ fn error_token(alloc: Global) -> Result<Vec<TokenAndSpan>, AllocError> {
     let span = Span::new(BytePos(0), BytePos(1));
     let kind = SyntaxError::UnexpectedChar;
     let mut tokens = Vec::new(alloc);
-    let pushed = tokens.push(TokenAndSpan {
+    tokens.push(TokenAndSpan {
         token: Token::Error(Error { span, kind }),
         had_line_break: false,
         span,
-    });
-    kept(tokens, pushed)
+    })?;
+    Ok(tokens)
 }
 
 #[test]
@@ -33,19 +32,12 @@ fn an_error_token_is_refused_with_its_error(rt: HostRuntime) -> Result<(), Fail>
     Ok(())
 }
 
-/// Whether the tokens of a text are in order, and whether they are from the last to the first.
-fn orders(alloc: Global, input: StringInput) -> Result<(bool, bool), AllocError> {
-    let mut tokens = tokens(alloc, input)?;
-    let forwards = spans_ordered(tokens.as_slice());
-    tokens.reverse();
-    let backwards = spans_ordered(tokens.as_slice());
-    let_go(tokens);
-    Ok((forwards, backwards))
-}
-
 #[test]
 fn tokens_in_another_order_are_noticed(rt: HostRuntime) -> Result<(), Fail> {
-    assert_eq!(rt; orders(rt.alloc(), input("a;")?)?, (true, false));
+    let mut tokens = tokens(rt.alloc(), input("a;")?)?;
+    assert!(rt; spans_ordered(tokens.as_slice()));
+    tokens.reverse();
+    assert!(rt; !spans_ordered(tokens.as_slice()));
     Ok(())
 }
 
@@ -55,22 +47,17 @@ fn captured<I: Tokens>(alloc: Global, parser: Parser<Capturing<I>>) -> (Vec<Toke
     let _ = show(alloc, &mut parser);
     let mut source = parser.into_input();
     let tokens = source.take();
-    (tokens, count(source.take()))
-}
-
-/// How many tokens of a text are kept, how many then, and what the list of them parses to.
-fn parsed_again(alloc: Global, input: StringInput) -> Result<(usize, usize, Shown), AllocError> {
-    let (tokens, left) = captured(alloc, capturing(alloc, lexer(alloc, input)));
-    let count = tokens.len();
-    Ok((count, left, listed(alloc, tokens, 1000)?))
+    (tokens, source.take().len())
 }
 
 #[test]
 fn captured_tokens_parse_to_the_same(rt: HostRuntime) -> Result<(), Fail> {
     let alloc = rt.alloc();
     let text = "'use strict'; { var a; (b) } 1n";
-    let (count, left, found) = parsed_again(alloc, input(text)?)?;
-    assert_eq!(rt; (count, left), (11, 0));
+    let (tokens, left) = captured(alloc, capturing(alloc, lexer(alloc, input(text)?)));
+    assert_eq!(rt; tokens.len(), 11);
+    assert_eq!(rt; left, 0);
+    let found = listed(alloc, tokens, 1000)?;
     let wanted = lexed(alloc, input(text)?, 1000)?;
     assert_eq!(rt; found.tree.as_str(), wanted.tree.as_str());
     Ok(())
@@ -83,7 +70,7 @@ fn write_lines<I: Tokens>(
     parser: &mut Parser<I>,
 ) -> Result<(), AllocError> {
     out.push_str(show(alloc, parser)?.lines.as_str())?;
-    let left = count(parser.take_errors());
+    let left = parser.take_errors().len();
     writeln!(out, "{left}")
 }
 
@@ -93,14 +80,6 @@ fn write_twice<I: Tokens>(alloc: Global, out: &mut String, parser: &mut Parser<I
     Ok(write_lines(alloc, out, parser)?)
 }
 
-/// The lines of a parser's clone, and then its own.
-fn twice<I: Tokens>(alloc: Global, parser: Parser<I>) -> PResult<String> {
-    let mut parser = parser;
-    let mut out = String::new(alloc);
-    write_twice(alloc, &mut out, &mut parser)?;
-    Ok(out)
-}
-
 /// A parser of a text, in three levels.
 fn flat_parser(alloc: Global, input: StringInput<'_>) -> Parser<Lexer<'_>> {
     Parser::new_from_limited(alloc, lexer(alloc, input), 3)
@@ -108,7 +87,9 @@ fn flat_parser(alloc: Global, input: StringInput<'_>) -> Parser<Lexer<'_>> {
 
 #[test]
 fn a_clone_answers_the_same_and_faults_are_handed_out_once(rt: HostRuntime) -> Result<(), Fail> {
-    let out = twice(rt.alloc(), flat_parser(rt.alloc(), input("{ var a")?))?;
+    let mut out = String::new(rt.alloc());
+    let mut parser = flat_parser(rt.alloc(), input("{ var a")?);
+    write_twice(rt.alloc(), &mut out, &mut parser)?;
     let wanted = "Script 0..7\n  Block 0..7\nfault 6..7 Expected\n0\n\
         Script 0..7\n  Block 0..7\nfault 6..7 Expected\n0\n";
     assert_eq!(rt; out.as_str(), wanted);
@@ -148,14 +129,6 @@ fn write_story<I: CommentSource>(
     write_comments(out, parser)
 }
 
-/// What a parser hands out before it parses, then, and behind its lines.
-fn story<I: CommentSource>(alloc: Global, parser: Parser<I>) -> PResult<String> {
-    let mut parser = parser;
-    let mut out = String::new(alloc);
-    write_story(alloc, &mut out, &mut parser)?;
-    Ok(out)
-}
-
 /// A parser of a text, whose comments may be wanted.
 fn parser(alloc: Global, input: StringInput<'_>, comments: bool) -> Parser<Lexer<'_>> {
     Parser::new(alloc, Syntax::default(), input, comments)
@@ -179,34 +152,36 @@ fn comments_are_handed_out_once(rt: HostRuntime) -> Result<(), Fail> {
     // Two tokens are read ahead.
     let wanted =
         "Block 0..7: a ;Line 10..14: b;||Script 8..16\n  Expr 8..16\n0\nBlock 17..24: c ;|";
-    let out = story(alloc, parser(alloc, input(COMMENTED)?, true))?;
+    let mut out = String::new(alloc);
+    write_story(alloc, &mut out, &mut parser(alloc, input(COMMENTED)?, true))?;
     assert_eq!(rt; out.as_str(), wanted);
+    out.clear();
     let source = commented(alloc, input(COMMENTED)?);
-    let out = story(alloc, capturing(alloc, source))?;
+    write_story(alloc, &mut out, &mut capturing(alloc, source))?;
     assert_eq!(rt; out.as_str(), wanted);
-    let out = story(alloc, parser(alloc, input(COMMENTED)?, false))?;
+    out.clear();
+    write_story(
+        alloc,
+        &mut out,
+        &mut parser(alloc, input(COMMENTED)?, false),
+    )?;
     assert_eq!(rt; out.as_str(), "||Script 8..16\n  Expr 8..16\n0\n|");
     Ok(())
 }
 
 /// How many comments a parser hands out, and how many tokens and comments the source has that it gives back then.
-fn given_back<I: CommentSource>(parser: Parser<I>) -> PResult<(usize, usize, usize)> {
-    let mut parser = parser;
-    let taken = count(parser.take_comments()?);
-    let mut source = parser.into_input();
-    let tokens = count_of(source.next());
-    Ok((taken, tokens, count(source.take_comments()?)))
-}
-
-/// The same of a text's parser.
-fn lexer_back(alloc: Global, input: StringInput) -> PResult<(usize, usize, usize)> {
-    given_back(Parser::new_from(alloc, commented(alloc, input)))
+fn given_back(alloc: Global, input: StringInput) -> PResult<(usize, usize, usize)> {
+    let mut parser = Parser::new_from(alloc, commented(alloc, input));
+    let taken = parser.take_comments()?.len();
+    let mut lexer = parser.into_input();
+    let tokens = lexer.next().iter().count();
+    Ok((taken, tokens, lexer.take_comments()?.len()))
 }
 
 #[test]
 fn a_source_is_given_back(rt: HostRuntime) -> Result<(), Fail> {
-    assert_eq!(rt; lexer_back(rt.alloc(), input(COMMENTED)?)?, (2, 0, 1));
-    assert_eq!(rt; lexer_back(rt.alloc(), input("a;b;")?)?, (0, 1, 0));
+    assert_eq!(rt; given_back(rt.alloc(), input(COMMENTED)?)?, (2, 0, 1));
+    assert_eq!(rt; given_back(rt.alloc(), input("a;b;")?)?, (0, 1, 0));
     Ok(())
 }
 
@@ -230,8 +205,10 @@ fn a_text_can_start_anywhere(rt: HostRuntime) -> Result<(), Fail> {
 
 /// What a text parses to by these settings.
 fn set(alloc: Global, input: StringInput<'_>, settings: EsSyntax) -> Result<Shown, AllocError> {
-    let parser = Parser::new(alloc, Syntax::Es(settings), input, false);
-    shown(alloc, parser)
+    show(
+        alloc,
+        &mut Parser::new(alloc, Syntax::Es(settings), input, false),
+    )
 }
 
 #[test]
@@ -256,29 +233,17 @@ fn return_may_stand_outside_of_functions(rt: HostRuntime) -> Result<(), Fail> {
     Ok(())
 }
 
-/// The faults that a script holds back for module code, told once its source is a module's.
-fn told<I: Tokens>(alloc: Global, parser: Parser<I>) -> Vec<Error> {
-    let mut parser = parser;
+/// What a script holds back for module code, told once its source is a module's.
+fn held_back(alloc: Global, input: StringInput<'_>) -> Result<String, AllocError> {
+    let mut parser = Parser::new_from(alloc, lexer(alloc, input));
     let _ = show(alloc, &mut parser);
     let mut source = parser.into_input();
     source.set_ctx(Context {
         module: true,
         ..Context::default()
     });
-    source.take_errors()
-}
-
-/// The first of some faults.
-fn first(alloc: Global, faults: &[Error]) -> Result<String, AllocError> {
+    let faults = source.take_errors();
     format!(in alloc; "{:?}", faults.first().map(|it| (it.span, it.kind.name())))
-}
-
-/// The first fault that a text holds back.
-fn held_back(alloc: Global, input: StringInput<'_>) -> Result<String, AllocError> {
-    let faults = told(alloc, Parser::new_from(alloc, lexer(alloc, input)));
-    let first = first(alloc, faults.as_slice());
-    let_go(faults);
-    first
 }
 
 #[test]
@@ -296,7 +261,7 @@ fn undecided(alloc: Global, input: StringInput<'_>) -> Result<Shown, AllocError>
         can_be_module: true,
         ..Context::default()
     });
-    shown(alloc, Parser::new_from(alloc, lexer))
+    show(alloc, &mut Parser::new_from(alloc, lexer))
 }
 
 #[test]

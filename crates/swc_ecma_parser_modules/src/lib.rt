@@ -1,9 +1,6 @@
-//! The rules of modules: imports, exports, items and whole modules: ECMA-262, section 16.2.
+//! The rules of imports and of exported names: ECMA-262, sections 16.2.2 and 16.2.3.
 #![tactic(auto)]
 
-pub mod exported;
 pub mod exports;
 pub mod imports;
-mod inner;
-pub mod items;
 pub mod parts;
