@@ -1,6 +1,6 @@
 -- The status of a run.
 use Rattle.std.proofs.Common.{◌≡◌, ℕ, List, Option, Some, None, Result, Ok, Err, refl, ap, ◌⊎◌, inl, inr}
-use Rattle.std.specs.Prelude.{IfOk, IsErr, IfSome}
+use Rattle.std.specs.Prelude.{IfOk, IsOkAnd, IsErr, IfSome}
 use Rattle.ecma_report.specs.declared.answer.Verdict.{Verdict}
 use Rattle.ecma_report.specs.declared.answer.Verdict.TheVariants as verdict
 
@@ -8,6 +8,16 @@ use Rattle.ecma_report.specs.declared.answer.Verdict.TheVariants as verdict
 pub where_known : {P Q : List ℕ → Type 0} (o : Option (List ℕ)) → IfSome o P → ((xs : List ℕ) → P xs → Q xs) → IfSome o Q
 where_known (Some xs) h f = f xs h
 where_known None h f = tt
+
+-- where there are words
+pub where_ok : {X E : Type 0} {P Q : X → Type 0} (r : Result X E) → IfOk r P → ((x : X) → P x → Q x) → IfOk r Q
+where_ok (Ok x) h f = f x h
+where_ok (Err e) h f = tt
+
+-- there are words, of which more holds
+pub more_of : {X E : Type 0} {P Q : X → Type 0} (r : Result X E) → IsOkAnd r P → ((x : X) → P x → Q x) → IsOkAnd r Q
+more_of (Ok x) h f = f x h
+more_of (Err e) h f = h
 
 -- an outcome that can only be clean ends with 0, or with the status of a fault
 pub ends : {E : Type 0} (o : Result Verdict E) (n : ℕ) → (o ≡ Ok verdict.Clean → n ≡ 0) → (IsErr o → n ≡ 3) → IfOk o (λ v. v ≡ verdict.Clean) → (n ≡ 0) ⊎ (n ≡ 3)

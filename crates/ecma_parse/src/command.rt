@@ -1,35 +1,46 @@
 //! The words that a run is called with.
 
-ghost use Rattle.std.specs.Prelude.{◌≡◌, ◌≢◌, ◌↔◌, IsTrue, IsOk, IsOkAnd, IfOk, IfErr, IsErrOf};
+ghost use Rattle.std.specs.Prelude.{◌≡◌, ◌≢◌, Some, None, IsOkAnd, IfOk, IfErr, OnOk, IsErrOf};
 ghost use Rattle.std.specs.IoError.{error_kind};
-ghost use Rattle.ecma_parse.specs.Command.{IsCommand};
+ghost use Rattle.ecma_parse.specs.Command.{named, asked};
 
 use crate::fault::Fault;
+use ecma_report::Goal;
 use std::io;
 use std::io::ErrorKind;
 
-/// Whether the words ask for a script: `script` alone does, and so do no words.
-fn is_command(words: &[String]) -> bool
-    ensures { IsTrue result ↔ IsCommand words.now }
+/// What a word asks for, if it asks for anything.
+fn goal_named(word: &str) -> Option<Goal>
+    ensures { result ≡ named word.now }
 {
-    words.len() <= 1 && words.iter().all(|word| word.as_str() == "script")
+    match word {
+        "script" => Some(Goal::Script),
+        "module" => Some(Goal::Module),
+        _ => None,
+    }
 }
 
-/// Accepts the words that ask for a script. A word that is not UTF-8 is none of those that the program knows.
-pub fn accept(words: &io::Result<Vec<String>>) -> Result<(), Fault>
-    ensures ok { IsOk result ↔ IsOkAnd words.now (λ words. IsCommand words.items) }
-    ensures usage { IfOk words.now (λ words. ¬ IsCommand words.items → IsErrOf result Fault.Usage) }
+/// What the words ask for: one word alone does, and no word asks for a script.
+fn goal_asked(words: &[String]) -> Option<Goal>
+    ensures { result ≡ asked words.now }
+{
+    match words {
+        [] => Some(Goal::Script),
+        [word] => goal_named(word.as_str()),
+        _ => None,
+    }
+}
+
+/// What the words ask for. A word that is not UTF-8 is none of those that the program knows.
+pub fn accept(words: &io::Result<Vec<String>>) -> Result<Goal, Fault>
+    ensures ok { IfOk result (λ goal. IsOkAnd words.now (λ words. asked words.items ≡ Some goal)) }
+    ensures known { IfOk words.now (λ words. (goal : _) → asked words.items ≡ Some goal → IfOk result (λ it. it ≡ goal)) }
+    ensures usage { IfOk words.now (λ words. asked words.items ≡ None → IsErrOf result Fault.Usage) }
     ensures memory { IfErr words.now (λ e. error_kind e ≡ ErrorKind.OutOfMemory → IsErrOf result Fault.OutOfMemory) }
     ensures other { IfErr words.now (λ e. error_kind e ≢ ErrorKind.OutOfMemory → IsErrOf result Fault.Usage) }
 {
     match words {
-        Ok(words) => {
-            if is_command(words.as_slice()) {
-                Ok(())
-            } else {
-                Err(Fault::Usage)
-            }
-        }
+        Ok(words) => goal_asked(words.as_slice()).ok_or(Fault::Usage),
         Err(error) => {
             if error.kind() == ErrorKind::OutOfMemory {
                 Err(Fault::OutOfMemory)

@@ -1,11 +1,12 @@
 //! A run, from its words to its status.
 
-ghost use Rattle.std.specs.Prelude.{◌≡◌, ◌<◌, ◌≤◌, ◌⊎◌, [], length, Ok, IsErr, IsErrOf, IfOk, IfErr, OnOk, IfSome, IsUtf8, string_bytes};
+ghost use Rattle.std.specs.Prelude.{◌≡◌, ◌<◌, ◌≤◌, ◌⊎◌, [], length, Some, None, Ok, IsErr, IsErrOf, IsOkAnd, IfOk, IfErr, OnOk, IfSome, IsUtf8, string_bytes};
 ghost use Rattle.std.specs.Io.KnownBytes.{Appends, IsAtEnd};
 ghost use Rattle.swc_ecma_parser_model.specs.Tree.{Tree};
-ghost use Rattle.ecma_parse.specs.Command.{IsCommand};
+ghost use Rattle.ecma_parse.specs.Command.{asked};
+ghost use Rattle.ecma_report.specs.declared.answer.Goal.{Goal};
 ghost use Rattle.ecma_report.specs.Lines.{answer_lines};
-ghost use Rattle.ecma_report.specs.Spelled.{Spells};
+ghost use Rattle.ecma_report.specs.Spelled.{SpellsAs};
 
 use crate::command::accept;
 use crate::fault::Fault;
@@ -34,22 +35,25 @@ fn answer<R: Read, W: Write>(
     input: &mut R,
     output: &mut W,
 ) -> Result<Verdict, Fault>
-    ensures usage { IfOk words.now (λ words. ¬ IsCommand words.items → IsErrOf result Fault.Usage) }
-    ensures unread { IfOk words.now (λ words. ¬ IsCommand words.items → input.new ≡ input.old) }
-    ensures unwritten { IfOk words.now (λ words. ¬ IsCommand words.items → output.new ≡ output.old) }
+    ensures usage { IfOk words.now (λ words. asked words.items ≡ None → IsErrOf result Fault.Usage) }
+    ensures unread { IfOk words.now (λ words. asked words.items ≡ None → input.new ≡ input.old) }
+    ensures unwritten { IfOk words.now (λ words. asked words.items ≡ None → output.new ≡ output.old) }
     ensures fits { OnOk result (IfSome (R.remaining input.old) (λ xs. length xs ≤ greatest)) }
     ensures utf8 { OnOk result (IfSome (R.remaining input.old) IsUtf8) }
     ensures end { OnOk result (IsAtEnd (R.remaining input.new)) }
-    ensures clean { IfOk result (λ verdict. verdict ≡ Verdict.Clean → IfSome (R.remaining input.old) (λ xs. (x : Tree) × Spells xs x
-        × Appends (W.contents output.old) (W.contents output.new) (answer_lines (Ok x) []))) }
-    ensures spelled { IfSome (R.remaining input.old) (λ xs. (x : Tree) → Spells xs x → IfOk result (λ verdict. verdict ≡ Verdict.Clean)) }
+    ensures clean { IfOk result (λ verdict. verdict ≡ Verdict.Clean → IsOkAnd words.now (λ words. (goal : Goal) × (asked words.items ≡ Some goal)
+        × IfSome (R.remaining input.old) (λ xs. (x : Tree) × SpellsAs goal xs x
+        × Appends (W.contents output.old) (W.contents output.new) (answer_lines (Ok x) [])))) }
+    ensures spelled { IfOk words.now (λ words. (goal : Goal) → asked words.items ≡ Some goal → IfSome (R.remaining input.old) (λ xs. (x : Tree) → SpellsAs goal xs x
+        → IfOk result (λ verdict. verdict ≡ Verdict.Clean))) }
+    ensures wordless { IfErr words.now (λ _. IsErr result) }
 {
-    accept(words)?;
+    let goal = accept(words)?;
     let bytes = read_all(alloc, greatest, input)?;
     let Ok(text) = str::from_utf8(bytes.as_slice()) else {
         return Err(Fault::NotUtf8);
     };
-    let Report { verdict, lines } = parse(alloc, text)?;
+    let Report { verdict, lines } = parse(alloc, text, goal)?;
     write_text(output, lines.as_str())?;
     Ok(verdict)
 }
@@ -82,9 +86,9 @@ pub fn run<R: Read, W: Write, E: Write>(
     ensures status { result ≤ 3 }
 
     // Words that are no command.
-    ensures usage { IfOk words (λ words. ¬ IsCommand words.items → result ≡ 3) }
-    ensures unread { IfOk words (λ words. ¬ IsCommand words.items → input.new ≡ input.old) }
-    ensures unwritten { IfOk words (λ words. ¬ IsCommand words.items → output.new ≡ output.old) }
+    ensures usage { IfOk words (λ words. asked words.items ≡ None → result ≡ 3) }
+    ensures unread { IfOk words (λ words. asked words.items ≡ None → input.new ≡ input.old) }
+    ensures unwritten { IfOk words (λ words. asked words.items ≡ None → output.new ≡ output.old) }
 
     // A text that was parsed.
     ensures fits { result < 3 → IfSome (R.remaining input.old) (λ xs. length xs ≤ greatest) }
@@ -92,11 +96,15 @@ pub fn run<R: Read, W: Write, E: Write>(
     ensures end { result < 3 → IsAtEnd (R.remaining input.new) }
     ensures quiet { result < 3 → errors.new ≡ errors.old }
 
-    // Status 0 says that the text spells a tree of the forms that are read so far and that its lines were written; a text
-    // that does ends with no other status, but that of a fault.
-    ensures clean { result ≡ 0 → IfSome (R.remaining input.old) (λ xs. (x : Tree) × Spells xs x
-        × Appends (W.contents output.old) (W.contents output.new) (answer_lines (Ok x) [])) }
-    ensures spelled { IfSome (R.remaining input.old) (λ xs. (x : Tree) → Spells xs x → (result ≡ 0) ⊎ (result ≡ 3)) }
+    ensures wordless { IfErr words (λ _. result ≡ 3) }
+
+    // Status 0 says that the text spells a tree of what the words ask for, of the forms that are read so far, and that its lines
+    // were written; a text that does ends with no other status, but that of a fault.
+    ensures clean { result ≡ 0 → IsOkAnd words (λ words. (goal : Goal) × (asked words.items ≡ Some goal)
+        × IfSome (R.remaining input.old) (λ xs. (x : Tree) × SpellsAs goal xs x
+        × Appends (W.contents output.old) (W.contents output.new) (answer_lines (Ok x) []))) }
+    ensures spelled { IfOk words (λ words. (goal : Goal) → asked words.items ≡ Some goal → IfSome (R.remaining input.old) (λ xs. (x : Tree) → SpellsAs goal xs x
+        → (result ≡ 0) ⊎ (result ≡ 3))) }
 {
     let outcome = answer(alloc, &words, greatest, input, output);
     if let Err(fault) = outcome {

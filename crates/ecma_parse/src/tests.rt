@@ -145,15 +145,41 @@ fn texts(rt: HostRuntime) -> Result<(), Fail> {
 }
 
 #[test]
+fn modules(rt: HostRuntime) -> Result<(), Fail> {
+    let rows = [
+        ("", "Module 0..0\n||0"),
+        ("import 'a'", "Module 0..10\n  Import 0..10\n||0"),
+        (
+            "export { if }",
+            "Module 0..13\n  ExportNamed 0..13\nfault 9..11 ExportExpectFrom\n||1",
+        ),
+        ("export a", "refused 7..8 Unexpected\n||2"),
+    ];
+    for (text, wanted) in rows {
+        let word = Some("module");
+        let found = outcome(
+            rt.alloc(),
+            Given {
+                word,
+                ..plain(text.as_bytes())
+            },
+        )?;
+        assert_eq!(rt; found.as_str(), wanted, "{text:?}");
+    }
+    Ok(())
+}
+
+#[test]
 fn words_and_lengths(rt: HostRuntime) -> Result<(), Fail> {
     let text = plain(b"{ var a; }");
     let lines = "Script 0..10\n  Block 0..10\n||0";
     let usage = "|usage: ecma-parse script|module|program\n|3";
     for (word, wanted) in [
         ("script", lines),
-        ("module", usage),
+        ("module", "Module 0..10\n  Block 0..10\n||0"),
         ("program", usage),
         ("Script", usage),
+        ("modules", usage),
         ("", usage),
     ] {
         let word = Some(word);
@@ -203,7 +229,7 @@ fn readers_and_writers_that_fail(rt: HostRuntime) -> Result<(), Fail> {
             // The word is judged first.
             Given {
                 is_broken: true,
-                word: Some("module"),
+                word: Some("program"),
                 ..text
             },
             "|usage: ecma-parse script|module|program\n|3",

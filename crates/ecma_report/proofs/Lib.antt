@@ -1,2 +1,3 @@
 pub mod Joined
+mod ModuleReports
 mod Reported

@@ -26,27 +26,27 @@ use Rattle.ecma_report.specs.Spelled.{start_of, Spells}
 use Rattle.ecma_report.specs.Verdicts.{verdict_of}
 
 -- a tree and no faults beside it
-no_faults : (x : Tree) (fs : List Fault) → verdict_of (Ok x) fs ≡ verdict.Clean → fs ≡ []
+pub no_faults : (x : Tree) (fs : List Fault) → verdict_of (Ok x) fs ≡ verdict.Clean → fs ≡ []
 no_faults x [] h = refl
 no_faults x (f ∷ fs) h = cc
 
 -- no outcome is both
-never : {X : Type 0} (f : Fault) (u : State) (x : Tree) (v : State) → ◌≡◌ {A = Outcome Tree} (Ok (x, v)) (Err (f, u)) → X
+pub never : {X : Type 0} (f : Fault) (u : State) (x : Tree) (v : State) → ◌≡◌ {A = Outcome Tree} (Ok (x, v)) (Err (f, u)) → X
 never f u x v h = cc
 
 -- the answers of two outcomes
-abbrev tree_of : Tree → Outcome Tree → Tree
+abbrev pub tree_of : Tree → Outcome Tree → Tree
 tree_of x (Ok p) = p.0
 tree_of x (Err e) = x
 
-abbrev state_of : State → Outcome Tree → State
+abbrev pub state_of : State → Outcome Tree → State
 state_of s (Ok p) = p.1
 state_of s (Err e) = s
 
 module _ (text : List ℕ) (t : State) where
   -- a clean report is of a tree that the text spells
   pub clean_is_spelled : (answer : Result (Script Held) Error) (s : State) → s ≡ start_of text → IfOk answer (λ x. SoundScript 1000 (unmarked s) (view_script x) t)
-      → (fs : List Fault) → fs ≡ t.faults → verdict_of (seen answer) fs ≡ verdict.Clean → (x : Tree) × Spells text x × (answer_lines (seen answer) fs ≡ answer_lines (Ok x) [])
+      → (fs : List Fault) → fs ≡ t.faults → verdict_of (seen view_script answer) fs ≡ verdict.Clean → (x : Tree) × Spells text x × (answer_lines (seen view_script answer) fs ≡ answer_lines (Ok x) [])
   unfolding Spells
   clean_is_spelled (Ok script) s e h fs g v =
       let x = view_script script in
@@ -58,7 +58,7 @@ module _ (text : List ℕ) (t : State) where
   -- a tree that the text spells is reported, and nothing beside it
   pub spelled_is_clean : (answer : Result (Script Held) Error) (s : State) → s ≡ start_of text → CompleteScript view_script 1000 (unmarked s) answer t
       → IfErr answer (λ error. ¬ IsOutOfMemory error) → (fs : List Fault) → fs ≡ t.faults → (x : Tree) → Spells text x
-      → (verdict_of (seen answer) fs ≡ verdict.Clean) × (answer_lines (seen answer) fs ≡ answer_lines (Ok x) [])
+      → (verdict_of (seen view_script answer) fs ≡ verdict.Clean) × (answer_lines (seen view_script answer) fs ≡ answer_lines (Ok x) [])
   unfolding Spells
   spelled_is_clean (Ok script) s e h m fs g x (d, p, known) =
       let q : programs.Spells 1000 programs.script s.code [] x s.at d = subst (λ o. programs.Spells 1000 programs.script o.code [] x o.at d) (sym e) p in
@@ -81,11 +81,11 @@ neither false b h = (refl, h)
 
 module _ {E : Type 0} where
   -- what holds of the answer holds of its report
-  pub clean_report : (text : List ℕ) (r : Result Report E) (a : Result Tree Fault) (fs : List Fault) → IfOk r (λ p. p.verdict ≡ verdict_of a fs) → IfOk r (λ p. string_bytes p.lines ≡ answer_lines a fs)
-      → (verdict_of a fs ≡ verdict.Clean → (x : Tree) × Spells text x × (answer_lines a fs ≡ answer_lines (Ok x) []))
-      → IfOk r (λ p. p.verdict ≡ verdict.Clean → (x : Tree) × Spells text x × (string_bytes p.lines ≡ answer_lines (Ok x) []))
-  clean_report text (Ok p) a fs v l h = λ e. let (x, q, k) = h (sym v ∙ e) in (x, q, l ∙ k)
-  clean_report text (Err e) a fs v l h = tt
+  pub clean_report : {P : Tree → Type 0} (r : Result Report E) (a : Result Tree Fault) (fs : List Fault) → IfOk r (λ p. p.verdict ≡ verdict_of a fs) → IfOk r (λ p. string_bytes p.lines ≡ answer_lines a fs)
+      → (verdict_of a fs ≡ verdict.Clean → (x : Tree) × P x × (answer_lines a fs ≡ answer_lines (Ok x) []))
+      → IfOk r (λ p. p.verdict ≡ verdict.Clean → (x : Tree) × P x × (string_bytes p.lines ≡ answer_lines (Ok x) []))
+  clean_report (Ok p) a fs v l h = λ e. let (x, q, k) = h (sym v ∙ e) in (x, q, l ∙ k)
+  clean_report (Err e) a fs v l h = tt
 
   pub spelled_report : (x : Tree) (r : Result Report E) (a : Result Tree Fault) (fs : List Fault) → IfOk r (λ p. p.verdict ≡ verdict_of a fs) → IfOk r (λ p. string_bytes p.lines ≡ answer_lines a fs)
       → IfOk r (λ _. (verdict_of a fs ≡ verdict.Clean) × (answer_lines a fs ≡ answer_lines (Ok x) []))

@@ -4,13 +4,9 @@ use Rattle.std.specs.List.{flat_map}
 use Rattle.swc_ecma_parser_common.specs.declared.span.Span.{Span}
 use Rattle.swc_ecma_parser_error.specs.declared.error.Error.{Error}
 use Rattle.swc_ecma_parser_error.specs.Kind.{Fault, fault_of, name_of}
-use Rattle.swc_ecma_parser_model.specs.Held.{Held}
 use Rattle.swc_ecma_parser_model.specs.Forms.{span_of}
 use Rattle.swc_ecma_parser_model.specs.Tree as tree
 use Rattle.swc_ecma_parser_model.specs.Tree.{Tree, Trees}
-use Rattle.swc_ecma_parser_ast.specs.declared.script.Script.{Script}
-use Rattle.swc_ecma_parser_ast.specs.declared.stmt.Stmt.{Stmt}
-use Rattle.swc_ecma_parser_ast.specs.View.{view_script, view_stmt}
 
 -- `low..high`
 abbrev pub place : Span → List ℕ
@@ -48,6 +44,12 @@ form_name (tree.for s init test next body) = codes "For"
 form_name (tree.for_in s left right body) = codes "ForIn"
 form_name (tree.for_of s is_await left right body) = codes "ForOf"
 form_name (tree.expr_stmt s expr) = codes "Expr"
+form_name (tree.import s specifiers src attributes phase) = codes "Import"
+form_name (tree.export_decl s d) = codes "ExportDecl"
+form_name (tree.export_named s specifiers src attributes) = codes "ExportNamed"
+form_name (tree.export_default_decl s d) = codes "ExportDefaultDecl"
+form_name (tree.export_default_expr s e) = codes "ExportDefaultExpr"
+form_name (tree.export_all s src attributes) = codes "ExportAll"
 form_name _ = []
 
 -- an item's line, two spaces further in
@@ -58,13 +60,15 @@ abbrev pub item_lines : Trees → List ℕ
 item_lines tree.none = []
 item_lines (tree.also item items) = item_line item ++ item_lines items
 
-abbrev pub script_lines : Tree → List ℕ
-script_lines (tree.script span (tree.list items) shebang) = node_line (codes "Script") span ++ item_lines items
-script_lines _ = []
+-- the lines of a script or a module: its own, and then those of its items
+abbrev pub whole_lines : Tree → List ℕ
+whole_lines (tree.script span (tree.list items) shebang) = node_line (codes "Script") span ++ item_lines items
+whole_lines (tree.module_program span (tree.list items) shebang) = node_line (codes "Module") span ++ item_lines items
+whole_lines _ = []
 
 -- a tree's lines and then its faults, or the faults and then why there is no tree
 abbrev pub answer_lines : Result Tree Fault → List Fault → List ℕ
-answer_lines (Ok x) faults = script_lines x ++ flat_map (fault_line (codes "fault")) faults
+answer_lines (Ok x) faults = whole_lines x ++ flat_map (fault_line (codes "fault")) faults
 answer_lines (Err fault) faults = flat_map (fault_line (codes "fault")) faults ++ fault_line (codes "refused") fault
 
 -- a statement's line and then its faults, or the faults and then why there is none
@@ -72,11 +76,7 @@ abbrev pub statement_lines : Result Tree Fault → List Fault → List ℕ
 statement_lines (Ok x) faults = item_line x ++ flat_map (fault_line (codes "fault")) faults
 statement_lines (Err fault) faults = flat_map (fault_line (codes "fault")) faults ++ fault_line (codes "refused") fault
 
-abbrev pub seen_statement : Result (Stmt Held) Error → Result Tree Fault
-seen_statement (Ok x) = Ok (view_stmt x)
-seen_statement (Err e) = Err (fault_of e)
-
 -- an answer as contracts see it
-abbrev pub seen : Result (Script Held) Error → Result Tree Fault
-seen (Ok x) = Ok (view_script x)
-seen (Err e) = Err (fault_of e)
+abbrev pub seen : {X : Type 0} → (X → Tree) → Result X Error → Result Tree Fault
+seen view (Ok x) = Ok (view x)
+seen view (Err e) = Err (fault_of e)

@@ -1,4 +1,4 @@
--- The scripts that a text spells, in the settings and within the limit that the program reads with.
+-- The scripts and modules that a text spells, in the settings and within the limit that the program reads with.
 use Rattle.std.specs.Prelude.{◌≡◌, ℕ, true, false, List, []}
 use Rattle.std.specs.Str.{chars}
 use Rattle.swc_ecma_parser_input.specs.Setting.{plain_setting, plain}
@@ -10,11 +10,14 @@ use Rattle.swc_ecma_parser_grammar.specs.Supported.{supported}
 use Rattle.swc_ecma_parser_grammar.specs.language.Programs as programs
 use Rattle.swc_ecma_parser_reader.specs.State.{State}
 use Rattle.swc_ecma_parser_state.specs.Opened.{opened}
+use Rattle.swc_ecma_parser_module_reader.specs.Supported.{supported_module}
 use Rattle.swc_ecma_parser_lexer.specs.Source as source
 use Rattle.swc_ecma_parser_lexer.specs.Source.{default_context}
 use Rattle.swc_ecma_parser_lexer.specs.Tokens.{tokens}
+use Rattle.ecma_report.specs.declared.answer.Goal.{Goal}
+use Rattle.ecma_report.specs.declared.answer.Goal.TheVariants as goal
 
--- what stands around a script
+-- what stands around a script or a module
 abbrev pub outside : Code
 outside = record { flags = default_context; setting = plain_setting }
 
@@ -25,6 +28,15 @@ first_place text = place.outset (record { 0 = 0 }) (tokens 0 0 false (chars text
 -- a tree that a text spells as a script of the language, at most 1,000 levels deep, and of the forms that are read so far
 unfoldable pub Spells : List ℕ → Tree → Type 0
 Spells text x = (d : Place) × programs.Spells 1000 programs.script outside [] x (first_place text) d × (supported x ≡ true)
+
+-- the same as a module
+unfoldable pub SpellsModule : List ℕ → Tree → Type 0
+SpellsModule text x = (d : Place) × programs.Spells 1000 programs.«module» outside [] x (first_place text) d × (supported_module x ≡ true)
+
+-- a tree that a text spells as what is asked for
+abbrev pub SpellsAs : Goal → List ℕ → Tree → Type 0
+SpellsAs goal.Script = Spells
+SpellsAs goal.Module = SpellsModule
 
 -- a parser of a text, before anything was read
 abbrev pub start_of : List ℕ → State

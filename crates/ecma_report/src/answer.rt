@@ -5,17 +5,23 @@ ghost use Rattle.swc_ecma_parser_error.specs.Kind.{faults_of, IsOutOfMemory};
 ghost use Rattle.swc_ecma_parser_input.specs.Place as place;
 ghost use Rattle.swc_ecma_parser_model.specs.Tree.{Tree};
 ghost use Rattle.ecma_report.specs.Lines.{seen, answer_lines};
-ghost use Rattle.ecma_report.specs.Spelled.{start_of, Spells};
+ghost use Rattle.ecma_report.specs.Spelled.{start_of, Spells, SpellsModule, SpellsAs};
 ghost use Rattle.ecma_report.specs.Verdicts.{verdict_of};
 
-use crate::lines::lines;
+use crate::lines::{Whole, lines};
 use std::alloc::{AllocError, Global};
 use swc_ecma_parser::Parser;
-use swc_ecma_parser::ast::Script;
 use swc_ecma_parser::common::BytePos;
 use swc_ecma_parser::error::{Error, PResult, SyntaxError};
-use swc_ecma_parser::input::Syntax;
+use swc_ecma_parser::input::{Syntax, Tokens};
 use swc_ecma_parser::lexer::{Lexer, StringInput};
+
+/// What a text is read as: the goal symbols of ECMA-262, section 5.1.4.
+#[derive(Clone, Copy, Debug, PartialEq, Eq)]
+pub enum Goal {
+    Script,
+    Module,
+}
 
 /// How a parse ends.
 #[derive(Clone, Copy, Debug, PartialEq, Eq)]
@@ -36,8 +42,8 @@ pub struct Report {
 }
 
 /// How a parse with this answer and these faults beside it ends.
-fn judge(answer: &PResult<Script>, faults: &[Error]) -> Verdict
-    ensures { result ≡ verdict_of (seen answer.now) (faults_of faults.now) }
+fn judge<T: Whole>(answer: &PResult<T>, faults: &[Error]) -> Verdict
+    ensures { result ≡ verdict_of (seen T.view_of answer.now) (faults_of faults.now) }
 {
     match answer {
         Ok(_) => {
@@ -52,7 +58,7 @@ fn judge(answer: &PResult<Script>, faults: &[Error]) -> Verdict
 }
 
 /// Whether memory ran out on the way to an answer.
-fn lacks_memory(answer: &PResult<Script>) -> bool
+fn lacks_memory<T>(answer: &PResult<T>) -> bool
     ensures ok { IfOk answer.now (λ _. result ≡ false) }
     ensures err { IfErr answer.now (λ error. result ≡ false → ¬ IsOutOfMemory error) }
 {
@@ -63,9 +69,13 @@ fn lacks_memory(answer: &PResult<Script>) -> bool
 }
 
 /// Reports an answer and the faults beside it.
-fn reported(alloc: Global, answer: &PResult<Script>, faults: &[Error]) -> Result<Report, AllocError>
-    ensures verdict { IfOk result (λ report. report.verdict ≡ verdict_of (seen answer.now) (faults_of faults.now)) }
-    ensures lines { IfOk result (λ report. string_bytes report.lines ≡ answer_lines (seen answer.now) (faults_of faults.now)) }
+fn reported<T: Whole>(
+    alloc: Global,
+    answer: &PResult<T>,
+    faults: &[Error],
+) -> Result<Report, AllocError>
+    ensures verdict { IfOk result (λ report. report.verdict ≡ verdict_of (seen T.view_of answer.now) (faults_of faults.now)) }
+    ensures lines { IfOk result (λ report. string_bytes report.lines ≡ answer_lines (seen T.view_of answer.now) (faults_of faults.now)) }
     ensures found { IfOk result (λ _. IfErr answer.now (λ error. ¬ IsOutOfMemory error)) }
 {
     if lacks_memory(answer) {
@@ -78,11 +88,22 @@ fn reported(alloc: Global, answer: &PResult<Script>, faults: &[Error]) -> Result
 }
 
 /// Drops an answer.
-pub fn discard(answer: PResult<Script>) {
-    match answer {
-        Ok(script) => script.discard(),
-        Err(_error) => {}
-    }
+pub(crate) fn discard<T: Drop>(_: PResult<T>) {}
+
+/// Reports what a parser answered, and the faults that it recorded, which it takes.
+fn finished<I: Tokens, T: Whole>(
+    alloc: Global,
+    parser: &mut Parser<I>,
+    answer: PResult<T>,
+) -> Result<Report, AllocError>
+    ensures verdict { IfOk result (λ report. report.verdict ≡ verdict_of (seen T.view_of answer) parser.old.state.faults) }
+    ensures lines { IfOk result (λ report. string_bytes report.lines ≡ answer_lines (seen T.view_of answer) parser.old.state.faults) }
+    ensures found { IfOk result (λ _. IfErr answer (λ error. ¬ IsOutOfMemory error)) }
+{
+    let faults = parser.take_errors();
+    let report = reported(alloc, &answer, faults.as_slice());
+    discard(answer);
+    report
 }
 
 /// A parser of a text, in the default settings.
@@ -97,9 +118,8 @@ fn parser_of(alloc: Global, text: &str) -> Parser<Lexer<'_>>
     Parser::new(alloc, Syntax::default(), input, false)
 }
 
-/// Parses a text as a script. The report is clean exactly where the text spells a tree of the forms that are read so far, and
-/// then its lines are that tree's, unless memory runs out.
-pub fn parse(alloc: Global, text: &str) -> Result<Report, AllocError>
+/// Parses a text as a script.
+fn parse_script(alloc: Global, text: &str) -> Result<Report, AllocError>
     requires { length text.now < 2 ^ 32 }
     ensures clean { IfOk result (λ report. report.verdict ≡ Verdict.Clean
         → (x : Tree) × Spells text.now x × (string_bytes report.lines ≡ answer_lines (Ok x) [])) }
@@ -111,8 +131,36 @@ pub fn parse(alloc: Global, text: &str) -> Result<Report, AllocError>
         return Err(AllocError);
     }
     let answer = parser.parse_script();
-    let faults = parser.take_errors();
-    let report = reported(alloc, &answer, faults.as_slice());
-    discard(answer);
-    report
+    finished(alloc, &mut parser, answer)
+}
+
+/// Parses a text as a module.
+fn parse_module(alloc: Global, text: &str) -> Result<Report, AllocError>
+    requires { length text.now < 2 ^ 32 }
+    ensures clean { IfOk result (λ report. report.verdict ≡ Verdict.Clean
+        → (x : Tree) × SpellsModule text.now x × (string_bytes report.lines ≡ answer_lines (Ok x) [])) }
+    ensures spelled { (x : Tree) → SpellsModule text.now x
+        → IfOk result (λ report. (report.verdict ≡ Verdict.Clean) × (string_bytes report.lines ≡ answer_lines (Ok x) [])) }
+{
+    let mut parser = parser_of(alloc, text);
+    if parser.lacks_memory() {
+        return Err(AllocError);
+    }
+    let answer = parser.parse_module();
+    finished(alloc, &mut parser, answer)
+}
+
+/// Parses a text as a script or a module. The report is clean exactly where the text spells such a tree of the forms that are
+/// read so far, and then its lines are that tree's, unless memory runs out.
+pub fn parse(alloc: Global, text: &str, goal: Goal) -> Result<Report, AllocError>
+    requires { length text.now < 2 ^ 32 }
+    ensures clean { IfOk result (λ report. report.verdict ≡ Verdict.Clean
+        → (x : Tree) × SpellsAs goal text.now x × (string_bytes report.lines ≡ answer_lines (Ok x) [])) }
+    ensures spelled { (x : Tree) → SpellsAs goal text.now x
+        → IfOk result (λ report. (report.verdict ≡ Verdict.Clean) × (string_bytes report.lines ≡ answer_lines (Ok x) [])) }
+{
+    match goal {
+        Goal::Script => parse_script(alloc, text),
+        Goal::Module => parse_module(alloc, text),
+    }
 }

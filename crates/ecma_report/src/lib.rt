@@ -3,9 +3,11 @@
 
 mod answer;
 mod lines;
+mod modules;
 mod statements;
 mod texts;
 
-pub use answer::{Report, Verdict, parse};
+pub use answer::{Goal, Report, Verdict, parse};
+pub use modules::show_module;
 pub use statements::show_statement;
 pub use texts::{Shown, show};

@@ -3,9 +3,9 @@
 ghost use Rattle.std.specs.Prelude.{◌≡◌, ◌++◌, OnOk, IfOk, Ok, Err, codes, map, string_bytes};
 ghost use Rattle.std.specs.List.{flat_map};
 ghost use Rattle.swc_ecma_parser_error.specs.Kind.{fault_of, faults_of};
-ghost use Rattle.swc_ecma_parser_model.specs.Tree.{trees};
+ghost use Rattle.swc_ecma_parser_model.specs.Tree.{Tree, trees};
 ghost use Rattle.swc_ecma_parser_ast.specs.View.{view_decl, view_stmt, view_script};
-ghost use Rattle.ecma_report.specs.Lines.{node_line, fault_line, form_name, item_line, item_lines, script_lines, answer_lines, seen, statement_lines, seen_statement};
+ghost use Rattle.ecma_report.specs.Lines.{node_line, fault_line, form_name, item_line, item_lines, whole_lines, answer_lines, seen, statement_lines};
 
 use std::alloc::{AllocError, Global};
 use swc_ecma_parser::ast::{Decl, Script, Stmt};
@@ -25,7 +25,7 @@ fn declaration_kind(decl: &Decl) -> &'static str
 }
 
 /// The name of a statement's variant, or of a declaration's.
-fn kind_name(stmt: &Stmt) -> &'static str
+pub(crate) fn kind_name(stmt: &Stmt) -> &'static str
     ensures { result.now ≡ form_name (view_stmt stmt.now) }
 {
     match stmt {
@@ -52,7 +52,7 @@ fn kind_name(stmt: &Stmt) -> &'static str
 }
 
 /// Writes a line of a kind and a place.
-fn write_node(out: &mut String, kind: &str, span: Span) -> Result<(), AllocError>
+pub(crate) fn write_node(out: &mut String, kind: &str, span: Span) -> Result<(), AllocError>
     ensures { OnOk result (string_bytes out.new ≡ string_bytes out.old ++ node_line kind.now span) }
 {
     let low = span.lo.0;
@@ -98,20 +98,30 @@ fn write_faults(out: &mut String, faults: &[Error]) -> Result<(), AllocError>
     Ok(())
 }
 
-/// Writes the lines of a tree: the script's, and its items'.
-fn write_script(out: &mut String, script: &Script) -> Result<(), AllocError>
-    ensures { OnOk result (string_bytes out.new ≡ string_bytes out.old ++ script_lines (view_script script.now)) }
-{
-    write_node(out, "Script", script.span)?;
-    write_items(out, script.body.as_slice())
+/// A script or a module.
+pub(crate) trait Whole: Drop {
+    ghost view_of: { Self → Tree };
+
+    /// Writes the lines of the tree: its own, and those of its items.
+    fn write(&self, out: &mut String) -> Result<(), AllocError>
+        ensures { OnOk result (string_bytes out.new ≡ string_bytes out.old ++ whole_lines (view_of self.now)) };
+}
+
+impl Whole for Script {
+    ghost view_of = { view_script };
+
+    fn write(&self, out: &mut String) -> Result<(), AllocError> {
+        write_node(out, "Script", self.span)?;
+        write_items(out, self.body.as_slice())
+    }
 }
 
 /// The lines of a tree and of the faults beside it.
-fn tree_lines(alloc: Global, script: &Script, faults: &[Error]) -> Result<String, AllocError>
-    ensures { IfOk result (λ out. string_bytes out ≡ answer_lines (Ok (view_script script.now)) (faults_of faults.now)) }
+fn tree_lines<T: Whole>(alloc: Global, tree: &T, faults: &[Error]) -> Result<String, AllocError>
+    ensures { IfOk result (λ out. string_bytes out ≡ answer_lines (Ok (T.view_of tree.now)) (faults_of faults.now)) }
 {
     let mut out = String::new(alloc);
-    write_script(&mut out, script)?;
+    tree.write(&mut out)?;
     write_faults(&mut out, faults)?;
     Ok(out)
 }
@@ -127,15 +137,15 @@ fn refusal_lines(alloc: Global, error: &Error, faults: &[Error]) -> Result<Strin
 }
 
 /// The lines of an answer and of the faults beside it.
-pub fn lines(
+pub(crate) fn lines<T: Whole>(
     alloc: Global,
-    answer: &PResult<Script>,
+    answer: &PResult<T>,
     faults: &[Error],
 ) -> Result<String, AllocError>
-    ensures { IfOk result (λ out. string_bytes out ≡ answer_lines (seen answer.now) (faults_of faults.now)) }
+    ensures { IfOk result (λ out. string_bytes out ≡ answer_lines (seen T.view_of answer.now) (faults_of faults.now)) }
 {
     match answer {
-        Ok(script) => tree_lines(alloc, script, faults),
+        Ok(tree) => tree_lines(alloc, tree, faults),
         Err(error) => refusal_lines(alloc, error, faults),
     }
 }
@@ -156,7 +166,7 @@ pub fn lines_of_statement(
     answer: &PResult<Stmt>,
     faults: &[Error],
 ) -> Result<String, AllocError>
-    ensures { IfOk result (λ out. string_bytes out ≡ statement_lines (seen_statement answer.now) (faults_of faults.now)) }
+    ensures { IfOk result (λ out. string_bytes out ≡ statement_lines (seen view_stmt answer.now) (faults_of faults.now)) }
 {
     match answer {
         Ok(item) => lines_of_item(alloc, item, faults),

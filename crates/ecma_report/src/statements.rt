@@ -7,7 +7,7 @@ ghost use Rattle.swc_ecma_parser_error.specs.declared.error.Error.{Error};
 ghost use Rattle.swc_ecma_parser_model.specs.Held.{Held};
 ghost use Rattle.swc_ecma_parser_reader.specs.State.{State};
 ghost use Rattle.swc_ecma_parser_reader.specs.Entry.{unmarked, SoundStatement, CompleteStatement};
-ghost use Rattle.ecma_report.specs.Lines.{statement_lines, seen_statement};
+ghost use Rattle.ecma_report.specs.Lines.{statement_lines, seen};
 
 use crate::lines::lines_of_statement;
 use std::alloc::{AllocError, Global};
@@ -44,7 +44,7 @@ pub fn show_statement<I: Tokens>(
     top_level: bool,
 ) -> Result<String, AllocError>
     ensures { IfOk result (λ shown. (answer : Result (Stmt Held) Error) × (t : State) × (parser.new.state ≡ record t { faults = [] })
-        × (string_bytes shown ≡ statement_lines (seen_statement answer) t.faults)
+        × (string_bytes shown ≡ statement_lines (seen view_stmt answer) t.faults)
         × IfOk answer (λ x. SoundStatement parser.old.limit may_declare top_level (unmarked parser.old.state) (view_stmt x) t)
         × CompleteStatement view_stmt parser.old.limit may_declare top_level (unmarked parser.old.state) answer t) }
 {

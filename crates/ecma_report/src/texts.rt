@@ -11,11 +11,10 @@ ghost use Rattle.swc_ecma_parser_reader.specs.Entry.{unmarked, SoundScript, Comp
 ghost use Rattle.ecma_report.specs.Lines.{answer_lines, seen};
 
 use crate::answer::discard;
-use crate::lines::lines;
+use crate::lines::{Whole, lines};
 use std::alloc::{AllocError, Global};
 use std::fmt::Debug;
 use swc_ecma_parser::Parser;
-use swc_ecma_parser::ast::Script;
 use swc_ecma_parser::error::{Error, PResult};
 use swc_ecma_parser::input::Tokens;
 
@@ -38,8 +37,12 @@ fn printed<T: Debug>(alloc: Global, answer: &PResult<T>) -> Result<String, Alloc
 }
 
 /// An answer and the faults beside it as texts.
-fn texts(alloc: Global, answer: &PResult<Script>, faults: &[Error]) -> Result<Shown, AllocError>
-    ensures { IfOk result (λ shown. string_bytes shown.lines ≡ answer_lines (seen answer.now) (faults_of faults.now)) }
+pub(crate) fn texts<T: Whole + Debug>(
+    alloc: Global,
+    answer: &PResult<T>,
+    faults: &[Error],
+) -> Result<Shown, AllocError>
+    ensures { IfOk result (λ shown. string_bytes shown.lines ≡ answer_lines (seen T.view_of answer.now) (faults_of faults.now)) }
 {
     Ok(Shown {
         lines: lines(alloc, answer, faults)?,
@@ -52,7 +55,7 @@ fn texts(alloc: Global, answer: &PResult<Script>, faults: &[Error]) -> Result<Sh
 /// the limit that spells the parser's list is that answer.
 pub fn show<I: Tokens>(alloc: Global, parser: &mut Parser<I>) -> Result<Shown, AllocError>
     ensures { IfOk result (λ shown. (answer : Result (Script Held) Error) × (t : State) × (parser.new.state ≡ record t { faults = [] })
-        × (string_bytes shown.lines ≡ answer_lines (seen answer) t.faults)
+        × (string_bytes shown.lines ≡ answer_lines (seen view_script answer) t.faults)
         × IfOk answer (λ x. SoundScript parser.old.limit (unmarked parser.old.state) (view_script x) t)
         × CompleteScript view_script parser.old.limit (unmarked parser.old.state) answer t) }
 {

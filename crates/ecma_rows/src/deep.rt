@@ -1,7 +1,8 @@
 //! Texts that nest far deeper than the default limit, and chains that no limit counts.
 
 use crate::report::outcome;
-use ecma_report::parse;
+use ecma_report::{Goal, parse};
+use ecma_texts::plainly;
 use std::alloc::Global;
 use std::test::Fail;
 
@@ -25,7 +26,7 @@ fn texts_that_nest_too_deep(rt: HostRuntime) -> Result<(), Fail> {
         ("a=", "refused 1998..1999 TooDeep\n"),
     ] {
         let text = repeated(rt.alloc(), "", text)?;
-        let found = outcome(rt.alloc(), text.as_str(), 1000)?;
+        let found = outcome(rt.alloc(), text.as_str(), plainly(Goal::Script))?;
         assert_eq!(rt; found.lines.as_str(), wanted);
     }
     Ok(())
@@ -36,7 +37,7 @@ fn parsed(alloc: Global, text: &str) -> Result<String, Fail> {
     if text.len() > 2_000_000 {
         return Err("too long")?;
     }
-    Ok(parse(alloc, text)?.lines)
+    Ok(parse(alloc, text, Goal::Script)?.lines)
 }
 
 #[test]

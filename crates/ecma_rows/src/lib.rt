@@ -1,4 +1,4 @@
-//! Tests that cross crates: texts and what they parse to, and each public function of the parser once.
+//! Tests that cross crates: texts and what they parse to.
 #![tactic(auto)]
 
 #[cfg(test)]
@@ -16,13 +16,11 @@ mod functions;
 #[cfg(test)]
 mod heads;
 #[cfg(test)]
-mod items;
-#[cfg(test)]
 mod methods;
 #[cfg(test)]
-mod nodes;
+mod modules;
 #[cfg(test)]
-mod parsers;
+mod nodes;
 #[cfg(test)]
 mod report;
 #[cfg(test)]
@@ -31,5 +29,3 @@ mod rows;
 mod statements;
 #[cfg(test)]
 mod tables;
-#[cfg(test)]
-mod texts;

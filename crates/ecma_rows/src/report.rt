@@ -2,8 +2,8 @@
 //! pieces of it as it is printed. `¶` stands for a line feed in a text.
 
 use crate::nodes::nodes;
-use crate::texts::{input, lexed, listed, tokens};
 use ecma_report::Shown;
+use ecma_texts::{Asked, input, lexed, listed, tokens};
 use std::alloc::{AllocError, Global};
 use std::test::Fail;
 
@@ -17,9 +17,9 @@ fn unfolded(alloc: Global, row: &str) -> Result<String, AllocError> {
 }
 
 /// What a text parses to, from a list of its tokens and from its lexer, if these agree.
-pub fn outcome(alloc: Global, text: &str, limit: u32) -> Result<Shown, Fail> {
-    let listed = listed(alloc, tokens(alloc, input(text)?)?, limit)?;
-    let lexed = lexed(alloc, input(text)?, limit)?;
+pub fn outcome(alloc: Global, text: &str, asked: Asked) -> Result<Shown, Fail> {
+    let listed = listed(alloc, tokens(alloc, input(text)?)?, asked)?;
+    let lexed = lexed(alloc, input(text)?, asked)?;
     if listed.lines != lexed.lines || listed.tree != lexed.tree {
         return Err("a list and its lexer differ")?;
     }
@@ -68,11 +68,11 @@ fn unlike(alloc: Global, shown: &Shown, lines: &str, wanted: &str) -> Result<Str
 }
 
 /// Writes a row that does not hold.
-fn write_wrong(alloc: Global, out: &mut String, row: &str, limit: u32) -> Result<(), Fail> {
+fn write_wrong(alloc: Global, out: &mut String, row: &str, asked: Asked) -> Result<(), Fail> {
     let row = unfolded(alloc, row)?;
     let (text, wanted) = row.as_str().split_once(" → ").ok_or("no arrow")?;
     let (lines, nodes) = wanted.split_once(" → ").unwrap_or((wanted, ""));
-    let shown = outcome(alloc, text, limit)?;
+    let shown = outcome(alloc, text, asked)?;
     let unlike = unlike(alloc, &shown, lines, nodes)?;
     if !unlike.is_empty() {
         write!(out, "\nnot {text}{unlike}")?;
@@ -80,13 +80,13 @@ fn write_wrong(alloc: Global, out: &mut String, row: &str, limit: u32) -> Result
     Ok(())
 }
 
-/// How many rows there are, and those that do not hold within so many levels.
-pub fn report(alloc: Global, rows: &str, limit: u32) -> Result<String, Fail> {
+/// How many rows there are, and those that do not hold for what is asked.
+pub fn report(alloc: Global, rows: &str, asked: Asked) -> Result<String, Fail> {
     let mut count = 0u32;
     let mut wrong = String::new(alloc);
     for row in rows.lines() {
         count = count.saturating_add(1);
-        write_wrong(alloc, &mut wrong, row, limit)?;
+        write_wrong(alloc, &mut wrong, row, asked)?;
     }
     Ok(format!(in alloc; "{count} rows{wrong}")?)
 }

@@ -2,15 +2,23 @@
 
 use crate::report::report;
 use crate::{
-    arrows, awaits, declarations, expressions, functions, heads, methods, rows, statements,
+    arrows, awaits, declarations, expressions, functions, heads, methods, modules, rows, statements,
 };
+use ecma_report::Goal;
+use ecma_texts::{Asked, plainly};
 use std::alloc::Global;
 use std::test::Fail;
+use swc_ecma_parser::input::EsSyntax;
 
 /// Writes of each table that has not so many rows, or one that does not hold, what it has.
-fn write_tables(alloc: Global, wrong: &mut String, tables: &[(&str, &str)]) -> Result<(), Fail> {
+fn write_tables(
+    alloc: Global,
+    wrong: &mut String,
+    tables: &[(&str, &str)],
+    asked: Asked,
+) -> Result<(), Fail> {
     for (rows, wanted) in tables {
-        let found = report(alloc, rows, 1000)?;
+        let found = report(alloc, rows, asked)?;
         if found.as_str() != *wanted {
             writeln!(wrong, "{wanted}: {found}")?;
         }
@@ -19,9 +27,18 @@ fn write_tables(alloc: Global, wrong: &mut String, tables: &[(&str, &str)]) -> R
 }
 
 /// Writes each row that does not hold within its levels.
-fn write_limits(alloc: Global, wrong: &mut String, limits: &[(&str, u32)]) -> Result<(), Fail> {
+fn write_limits(
+    alloc: Global,
+    wrong: &mut String,
+    limits: &[(&str, u32)],
+    goal: Goal,
+) -> Result<(), Fail> {
     for (row, limit) in limits {
-        let found = report(alloc, row, *limit)?;
+        let asked = Asked {
+            limit: *limit,
+            ..plainly(goal)
+        };
+        let found = report(alloc, row, asked)?;
         if found.as_str() != "1 rows" {
             writeln!(wrong, "{limit}: {found}")?;
         }
@@ -33,15 +50,28 @@ fn write_limits(alloc: Global, wrong: &mut String, limits: &[(&str, u32)]) -> Re
 fn rows_hold(rt: HostRuntime) -> Result<(), Fail> {
     let alloc = rt.alloc();
     let mut wrong = String::new(alloc);
-    write_tables(alloc, &mut wrong, &arrows::TABLES)?;
-    write_tables(alloc, &mut wrong, &awaits::TABLES)?;
-    write_tables(alloc, &mut wrong, &declarations::TABLES)?;
-    write_tables(alloc, &mut wrong, &expressions::TABLES)?;
-    write_tables(alloc, &mut wrong, &functions::TABLES)?;
-    write_tables(alloc, &mut wrong, &heads::TABLES)?;
-    write_tables(alloc, &mut wrong, &methods::TABLES)?;
-    write_tables(alloc, &mut wrong, &rows::TABLES)?;
-    write_tables(alloc, &mut wrong, &statements::TABLES)?;
+    for tables in [
+        arrows::TABLES.as_slice(),
+        awaits::TABLES.as_slice(),
+        declarations::TABLES.as_slice(),
+        expressions::TABLES.as_slice(),
+        functions::TABLES.as_slice(),
+        heads::TABLES.as_slice(),
+        methods::TABLES.as_slice(),
+        rows::TABLES.as_slice(),
+        statements::TABLES.as_slice(),
+    ] {
+        write_tables(alloc, &mut wrong, tables, plainly(Goal::Script))?;
+    }
+    write_tables(alloc, &mut wrong, &modules::TABLES, plainly(Goal::Module))?;
+    let asked = Asked {
+        settings: EsSyntax {
+            export_default_from: true,
+            ..EsSyntax::default()
+        },
+        ..plainly(Goal::Module)
+    };
+    write_tables(alloc, &mut wrong, &modules::SET_TABLES, asked)?;
     assert_eq!(rt; wrong.as_str(), "");
     Ok(())
 }
@@ -50,15 +80,20 @@ fn rows_hold(rt: HostRuntime) -> Result<(), Fail> {
 fn rows_hold_within_their_levels(rt: HostRuntime) -> Result<(), Fail> {
     let alloc = rt.alloc();
     let mut wrong = String::new(alloc);
-    write_limits(alloc, &mut wrong, &arrows::LIMITS)?;
-    write_limits(alloc, &mut wrong, &awaits::LIMITS)?;
-    write_limits(alloc, &mut wrong, &declarations::LIMITS)?;
-    write_limits(alloc, &mut wrong, &expressions::LIMITS)?;
-    write_limits(alloc, &mut wrong, &functions::LIMITS)?;
-    write_limits(alloc, &mut wrong, &heads::LIMITS)?;
-    write_limits(alloc, &mut wrong, &methods::LIMITS)?;
-    write_limits(alloc, &mut wrong, &rows::LIMITS)?;
-    write_limits(alloc, &mut wrong, &statements::LIMITS)?;
+    for limits in [
+        arrows::LIMITS.as_slice(),
+        awaits::LIMITS.as_slice(),
+        declarations::LIMITS.as_slice(),
+        expressions::LIMITS.as_slice(),
+        functions::LIMITS.as_slice(),
+        heads::LIMITS.as_slice(),
+        methods::LIMITS.as_slice(),
+        rows::LIMITS.as_slice(),
+        statements::LIMITS.as_slice(),
+    ] {
+        write_limits(alloc, &mut wrong, limits, Goal::Script)?;
+    }
+    write_limits(alloc, &mut wrong, &modules::LIMITS, Goal::Module)?;
     assert_eq!(rt; wrong.as_str(), "");
     Ok(())
 }

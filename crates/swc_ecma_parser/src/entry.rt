@@ -2,6 +2,8 @@
 
 ghost use Rattle.std.specs.Prelude.{◌≡◌, Some, None, [], IfErr, IfOk, OnErr, IsOk};
 ghost use Rattle.swc_ecma_parser_error.specs.Kind.{IsOutOfMemory};
+ghost use Rattle.swc_ecma_parser_module_reader.specs.Entry.{IsEntered, AnswersModule};
+ghost use Rattle.swc_ecma_parser_reader.specs.State as reader;
 ghost use Rattle.swc_ecma_parser_reader.specs.Entry.{unmarked, AnswersScript, AnswersStatement, IsRestored};
 
 use std::alloc::Global;
@@ -9,8 +11,11 @@ use swc_ecma_parser_core::script::{script_body, whole_stmt};
 use swc_ecma_parser_error::PResult;
 use swc_ecma_parser_grammar::Position;
 use swc_ecma_parser_input::Tokens;
+use swc_ecma_parser_module_items::items::module_body;
 use swc_ecma_parser_state::State;
-use swc_ecma_parser_trees::{BuildsScript, BuildsStatements, Maker, MakerOf};
+use swc_ecma_parser_trees::{
+    BuildsExport, BuildsScript, BuildsStatements, BuildsVarDecl, Maker, MakerOf,
+};
 
 /// A script, whose items may stand so many levels deep.
 #[tactic(auto, unfolding(swc_ecma_parser_reader::specs::Reader::script))]
@@ -36,6 +41,32 @@ pub fn script<I: Tokens, T: BuildsStatements + BuildsScript>(
             state.leave_script(inner);
             Ok(script)
         }
+        Err(error) => {
+            state.restore(outer, found_module_item);
+            Err(error)
+        }
+    }
+}
+
+/// A module, whose items may stand so many levels deep.
+pub fn module<I: Tokens, T: BuildsStatements + BuildsExport + BuildsVarDecl>(
+    alloc: Global,
+    state: &mut State<I>,
+    limit: usize,
+) -> PResult<T::Module>
+    ensures answers { (u : reader.State) × IsEntered (unmarked state.old) u × AnswersModule T.module_of limit u result state.new }
+    ensures outright { state.old.at.left ≡ [] → IsOk result }
+    ensures refused { OnErr result (IsRestored state.old state.new) }
+{
+    let outer = state.flags();
+    let found_module_item = state.found_module_item();
+    state.begin();
+    state.enter_module();
+    let maker: MakerOf<T> = Maker::new(alloc);
+    let read = module_body::<State<I>, T>(&maker, state, limit);
+    maker.finish();
+    match read {
+        Ok(module) => Ok(module),
         Err(error) => {
             state.restore(outer, found_module_item);
             Err(error)

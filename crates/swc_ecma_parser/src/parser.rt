@@ -1,22 +1,24 @@
 //! The parser: a state over a source of tokens, with its entries.
 
 ghost use Rattle.std.specs.Prelude.{◌≡◌, ◌≢◌, ℕ, ◌+◌, ◌*◌, ◌≤◌, ◌||◌, true, false, [], ◌∷◌, length, drop, IfOk, IfErr, OnErr, IsErrAnd, IsOk};
-ghost use Rattle.swc_ecma_parser_ast.specs.View.{view_script, view_stmt};
+ghost use Rattle.swc_ecma_parser_ast.specs.View.{view_module, view_script, view_stmt};
 ghost use Rattle.swc_ecma_parser_error.specs.Kind as kinds;
 ghost use Rattle.swc_ecma_parser_error.specs.Kind.{fault_of, faults_of, kind_of, IsOutOfMemory};
 ghost use Rattle.swc_ecma_parser_error.specs.declared.error.Error.{Error};
 ghost use Rattle.swc_ecma_parser_input.specs.Place as place;
+ghost use Rattle.swc_ecma_parser_module_reader.specs.Entry.{IsEntered, SoundModule, CompleteModule};
 ghost use Rattle.swc_ecma_parser_reader.specs.Notes.{held_of};
+ghost use Rattle.swc_ecma_parser_reader.specs.State as reader;
 ghost use Rattle.swc_ecma_parser_reader.specs.Entry.{unmarked, SoundScript, CompleteScript, SoundStatement, CompleteStatement, IsRestored, Stays};
 ghost use Rattle.swc_ecma_parser_reader.specs.Limits.{has_too_deep_token, has_out_of_memory_token};
 ghost use Rattle.swc_ecma_parser_state.specs.Opened.{opened};
 ghost use Rattle.swc_ecma_parser_token.specs.declared.token.Token.TheVariants as token;
 ghost use Rattle.swc_ecma_parser_token.specs.declared.token.TokenAndSpan.{TokenAndSpan};
 
-use crate::entry::{script, statement};
+use crate::entry::{module, script, statement};
 use std::alloc::Global;
 use std::marker::Model;
-use swc_ecma_parser_ast::{Script, Stmt};
+use swc_ecma_parser_ast::{Module, Script, Stmt};
 use swc_ecma_parser_ast_trees::Ast;
 use swc_ecma_parser_common::Comment;
 use swc_ecma_parser_error::{Error, PResult};
@@ -110,6 +112,46 @@ impl<I: Tokens> Parser<I> {
         let limit = self.limit as usize;
         let state = &mut self.state;
         script::<I, Ast>(alloc, state, limit)
+    }
+
+    /// Reads the whole list as a module: ECMA-262, section 16.2. The code is a module's and strict then, also after the call; what
+    /// was held back until it is one is recorded before anything is read.
+    pub fn parse_module(&mut self) -> PResult<Module>
+        ensures limit { self.new.limit ≡ self.old.limit }
+
+        // Of any answer, from the state `u` on in which module code begins: it takes the whole list; with no fault recorded the
+        // list spells it within the limit, and it is supported; and its tabled faults are its walk where no error token stands
+        // and nothing was dropped.
+        ensures sound { (u : reader.State) × IsEntered (unmarked self.old.state) u
+            × IfOk result (λ x. SoundModule self.old.limit u (view_module x) self.new.state) }
+
+        // Each supported module within the limit that spells the list is the answer, and only it, with its walk recorded.
+        ensures complete { (u : reader.State) × IsEntered (unmarked self.old.state) u
+            × CompleteModule view_module self.old.limit u result self.new.state }
+
+        // No token of an answer is one that memory ran out for.
+        ensures memory { IfOk result (λ x. has_out_of_memory_token self.old.state.at.left ≡ false) }
+
+        // A limit of twice the tokens and two is never met.
+        ensures fits { 2 * length self.old.state.at.left + 2 ≤ self.old.limit → has_too_deep_token self.old.state.at.left ≡ false
+            → IfErr result (λ e. kind_of e.kind ≢ kinds.TooDeep) }
+
+        // An error token in first place is answered, unless memory ran out.
+        ensures error_token { (t : TokenAndSpan) (ts : _) (d : Error) → self.old.state.at.left ≡ t ∷ ts → t.token ≡ token.Error d
+            → IsErrAnd result (λ e. kind_of e.kind ≢ kinds.OutOfMemory → fault_of e ≡ fault_of d) }
+
+        // An empty list is read, whatever memory is left.
+        ensures outright { self.old.state.at.left ≡ [] → IsOk result }
+        ensures refused { OnErr result (IsRestored self.old.state self.new.state) }
+
+        // Whatever comes but want of memory: the tokens that are left are the last of those that were, what was read last is the
+        // token before them, and no recorded fault is lost.
+        ensures stays { Stays self.old.state result self.new.state }
+    {
+        let alloc = self.alloc;
+        let limit = self.limit as usize;
+        let state = &mut self.state;
+        module::<I, Ast>(alloc, state, limit)
     }
 
     /// Reads one statement that is no declaration but one of `var`, behind which anything may stand: ECMA-262, section 14. At the

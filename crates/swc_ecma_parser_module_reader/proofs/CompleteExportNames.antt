@@ -1,11 +1,14 @@
--- Names that are exported are read: in braces, as a namespace, and all of another module.
+-- Names that are exported are read: in braces, as a namespace, as a default, and all of another module.
 use Rattle.std.proofs.Common.{◌≡◌, ◌⊎◌, inl, inr, ℕ, ◌<◌, Bool, true, false, true≢false, List, [], ◌∷◌, ◌++◌, length, Ok, refl, sym, ◌∙◌, ap, subst, append-nil, codes}
+use Rattle.std.specs.Prelude.{if◌then◌else◌}
+use Rattle.std.specs.Str.{bytes_eq}
 use Rattle.std.proofs.lemmas.Slice.Eq.{bytes_eq-Decides}
 use Rattle.swc_ecma_parser_common.specs.declared.span.Span.{Span}
 use Rattle.swc_ecma_parser_error.specs.Kind as faults
 use Rattle.swc_ecma_parser_error.specs.Kind.{Fault}
 use Rattle.swc_ecma_parser_token.specs.declared.keyword.Keyword.{Keyword}
 use Rattle.swc_ecma_parser_token.specs.declared.keyword.Keyword.TheVariants as keyword
+use Rattle.swc_ecma_parser_token.specs.declared.kind.TokenKind.{TokenKind}
 use Rattle.swc_ecma_parser_token.specs.declared.kind.TokenKind.TheVariants as kind
 use Rattle.swc_ecma_parser_token.specs.declared.token.Token.{Token}
 use Rattle.swc_ecma_parser_token.specs.declared.token.Token.TheVariants as token
@@ -13,13 +16,15 @@ use Rattle.swc_ecma_parser_token.specs.declared.token.TokenAndSpan.{TokenAndSpan
 use Rattle.swc_ecma_parser_token.specs.declared.token.Word.{Word}
 use Rattle.swc_ecma_parser_token.specs.declared.token.Word.TheVariants as word
 use Rattle.swc_ecma_parser_token.specs.Kind.{word_kind, keyword_kind}
+use Rattle.swc_ecma_parser_token.specs.Text.{word_text}
+use Rattle.swc_ecma_parser_input.specs.declared.context.Context.{Context}
 use Rattle.swc_ecma_parser_input.specs.Place.{Place, after}
 use Rattle.swc_ecma_parser_model.specs.Tree as tree
 use Rattle.swc_ecma_parser_model.specs.Tree.{Tree, Text, listed, trees}
 use Rattle.swc_ecma_parser_grammar.specs.Looks.{kind_at, sees, same_kind, span_at, spanned}
-use Rattle.swc_ecma_parser_grammar.specs.Names.{Code}
+use Rattle.swc_ecma_parser_grammar.specs.Names.{Code, is_name, is_reserved}
 use Rattle.swc_ecma_parser_grammar.specs.Ends.{Ends, OptionalEnds, by_a_semicolon, by_nothing}
-use Rattle.swc_ecma_parser_grammar.specs.Follows.{word_at, first_is, token_is}
+use Rattle.swc_ecma_parser_grammar.specs.Follows.{word_at, first_is, token_is, is_let_declaration, is_async_function}
 use Rattle.swc_ecma_parser_grammar.specs.Notes.{notes, all_notes}
 use Rattle.swc_ecma_parser_grammar.specs.Own.{export_faults}
 use Rattle.swc_ecma_parser_grammar.specs.Walk.{Env, env_of, walk, walks}
@@ -29,21 +34,23 @@ use Rattle.swc_ecma_parser_grammar.specs.language.ModuleParts.{BracedRule, Strin
 use Rattle.swc_ecma_parser_grammar.specs.language.Noted.{has_meta, any_has_meta}
 use Rattle.swc_ecma_parser_grammar.specs.language.Reads as language
 use Rattle.swc_ecma_parser_grammar.proofs.StatementBegins.{word_place}
-use Rattle.swc_ecma_parser_grammar.proofs.Tests.{and_no}
+use Rattle.swc_ecma_parser_grammar.proofs.Tests.{and_both, and_no, no_and}
 use Rattle.swc_ecma_parser_reader.specs.Notes.{Notes, no_notes, ◌⊕◌, notes_of}
 use Rattle.swc_ecma_parser_reader.specs.Reader.{expr, pattern, parameters, stmt}
 use Rattle.swc_ecma_parser_grammar.specs.Reads.{nested_item}
-use Rattle.swc_ecma_parser_reader.specs.State.{Scope, State, Reader, moved}
+use Rattle.swc_ecma_parser_reader.specs.State.{Scope, State, Outcome, Reader, moved}
 use Rattle.swc_ecma_parser_reader.proofs.Answered.{st, ReadsCalm}
 use Rattle.swc_ecma_parser_reader.proofs.CompleteParts.{calm_same, ends_read, optional_end_reads, told_reads}
 use Rattle.swc_ecma_parser_reader.proofs.Errors.{is_error}
 use Rattle.swc_ecma_parser_reader.proofs.Notes.{or_nil}
-use Rattle.swc_ecma_parser_reader.proofs.expressions.CompleteKinds.{seen, token_first}
+use Rattle.swc_ecma_parser_reader.proofs.Words.{async_kind, or_later}
+use Rattle.swc_ecma_parser_reader.proofs.expressions.CompleteKinds.{seen, token_first, named, no_async_function}
+use Rattle.swc_ecma_parser_reader.proofs.expressions.SoundSteps.{word_span}
 use Rattle.swc_ecma_parser_module_reader.specs.Imports.{specifiers}
-use Rattle.swc_ecma_parser_module_reader.specs.Exports.{renamed_export, plain_export, export_specifier, export_namespace, names_from, own_names, export_names, behind_namespace, export_all, export_star, export_decl}
-use Rattle.swc_ecma_parser_module_reader.specs.Supported.{are_names}
+use Rattle.swc_ecma_parser_module_reader.specs.Exports.{renamed_export, plain_export, export_specifier, export_namespace, names_from, own_names, export_names, more_names, namespace_names, export_all, export_star, is_namespace_next, behind_default, is_name_from, name_from, is_default_from, default_from, begins_default_function, export_default, export_decl}
+use Rattle.swc_ecma_parser_module_reader.proofs.ModuleCode.{IsModule}
 use Rattle.swc_ecma_parser_module_reader.proofs.Falls.{export_specifier_shorter}
-use Rattle.swc_ecma_parser_module_reader.proofs.CompleteShared.{string_seen, source_reads, module_name_reads, no_attributes_read, attributes_absent, specifiers_read}
+use Rattle.swc_ecma_parser_module_reader.proofs.CompleteShared.{string_seen, expect_word_reads, source_reads, module_name_reads, clean_name, name_reads, no_attributes_read, attributes_absent, specifiers_read}
 
 -- ---- trees that the walk finds nothing in
 
@@ -92,6 +99,10 @@ specifier_silent (other_name_rule orig exported m r a s e) =
 namespace_silent : {start : Place} {x : Tree} {c d : Place} → NamespaceExportRule start x c d → Silent x
 namespace_silent r = let q = name_silent r.reads_name in record { walked = λ env. ap (walk env) r.is ∙ q.walked env; noted = ap notes r.is ∙ q.noted; unmet = ap has_meta r.is ∙ q.unmet }
 
+default_silent : {k : Code} {x : Tree} {c d : Place} → DefaultExportRule k x c d → Silent x
+default_silent (under_name_rule text s r e) = record { walked = λ env. ap (walk env) e; noted = ap notes e; unmet = ap has_meta e }
+default_silent (as_default_rule s a r e) = record { walked = λ env. ap (walk env) e; noted = ap notes e; unmet = ap has_meta e }
+
 specifiers_silent : (xs : List Tree) (c d : Place) → ReadsListed true ExportSpecifierRule xs c d → AllSilent xs
 specifiers_silent [] c d r = none_silent
 specifiers_silent (x ∷ []) c d (m, r, l) = one_more x [] (specifier_silent r) none_silent
@@ -133,19 +144,19 @@ specifier_shorter k w x c d r = export_specifier_shorter (st c k w [] no_notes) 
 
 -- ---- words
 
--- `from` is not `as`
-from_token : (t : Token) → token_is (codes "from") t ≡ true → token_is (codes "as") t ≡ false
-from_token (token.Word (word.Ident text)) e = rw ((bytes_eq-Decides text (codes "from")).0 e) refl
-from_token (token.Word _) e = cc
-from_token _ e = cc
+-- `from` is no other word
+from_token : (text : Text) (t : Token) → bytes_eq (codes "from") text ≡ false → token_is (codes "from") t ≡ true → token_is text t ≡ false
+from_token text (token.Word (word.Ident v)) n e = rw ((bytes_eq-Decides v (codes "from")).0 e) n
+from_token text (token.Word _) n e = cc
+from_token text _ n e = cc
 
-from_first : (ts : List TokenAndSpan) → first_is (codes "from") ts ≡ true → first_is (codes "as") ts ≡ false
-from_first [] e = cc
-from_first (t ∷ ts) e = from_token t.token e
+from_first : (text : Text) (ts : List TokenAndSpan) → bytes_eq (codes "from") text ≡ false → first_is (codes "from") ts ≡ true → first_is text ts ≡ false
+from_first text [] n e = cc
+from_first text (t ∷ ts) n e = from_token text t.token n e
 
-from_no_as : (c : Place) → word_at (codes "from") c ≡ true → word_at (codes "as") c ≡ false
+from_other : (text : Text) (c : Place) → bytes_eq (codes "from") text ≡ false → word_at (codes "from") c ≡ true → word_at text c ≡ false
 unfolding word_at
-from_no_as c e = from_first c.left e
+from_other text c n e = from_first text c.left n e
 
 -- nor a comma
 from_no_comma : (c : Place) → word_at (codes "from") c ≡ true → sees kind.Comma c ≡ false
@@ -206,55 +217,143 @@ module _ (n : ℕ) (k : Code) where
       → ◌≡◌ (specifiers export_specifier (st c k w f h)) (Ok (xs, st d k w f h))
   braces_read xs c d w f h r = specifiers_read ExportSpecifierRule export_specifier k (λ y a b s. export_specifier_reads k y a b s) specifier_goes (λ y a b s. specifier_shorter k w y a b s) xs c d w f h r
 
-  export_names_from : (before xs : List Tree) (start : Span) (b l : Place) (w : Scope) (f : List Fault) (h : Notes) → BracedRule ExportSpecifierRule xs b l → word_at (codes "from") l ≡ true
-      → export_names start before (st b k w f h) ≡ names_from start (before ++ xs) (st l k w f h)
-  unfolding export_names
-  export_names_from before xs start b l w f h r e = rw (braces_read xs b l w f h r, e) refl
+  -- from another module or of this one
+  abbrev from_or_own : Span → List Tree → State → Outcome Tree
+  from_or_own start xs s = if word_at (codes "from") s.at then names_from start xs s else own_names start xs s
 
-  export_names_own : (before xs : List Tree) (start : Span) (b l : Place) (w : Scope) (f : List Fault) (h : Notes) → BracedRule ExportSpecifierRule xs b l → word_at (codes "from") l ≡ false
-      → export_names start before (st b k w f h) ≡ own_names start (before ++ xs) (st l k w f h)
+  export_names_read : (before xs : List Tree) (start : Span) (b l : Place) (w : Scope) (f : List Fault) (h : Notes) → BracedRule ExportSpecifierRule xs b l
+      → export_names start before (st b k w f h) ≡ from_or_own start (before ++ xs) (st l k w f h)
   unfolding export_names
-  export_names_own before xs start b l w f h r e = rw (braces_read xs b l w f h r, e) refl
+  export_names_read before xs start b l w f h r = rw (braces_read xs b l w f h r) refl
 
   namespace_reads : (start c d : Place) (y : Tree) (w : Scope) (f : List Fault) (h : Notes) → NamespaceExportRule start y c d
       → export_namespace (span_at start) (st (after c) k w f h) ≡ Ok (y, st d k w f h)
   unfolding export_namespace spanned
-  namespace_reads start c d y w f h r = rw (module_name_reads r.name (after (after c)) d k w f h r.reads_name, r.is) refl
+  namespace_reads start c d y w f h r = rw (expect_word_reads (codes "as") (after c) k w f h r.is_named, module_name_reads r.name (after (after c)) d k w f h r.reads_name, r.is) refl
 
   -- a namespace that the whole begins with
   star_reads : (start : Span) (c d : Place) (y : Tree) (w : Scope) (f : List Fault) (h : Notes) → NamespaceExportRule c y c d
-      → export_star start (st c k w f h) ≡ behind_namespace start y (st d k w f h)
-  unfolding export_star
+      → export_star start (st c k w f h) ≡ more_names start (y ∷ []) (st d k w f h)
+  unfolding export_star namespace_names
   star_reads start c d y w f h r = rw (r.is_named, namespace_reads c c d y w f h r) refl
 
-  from_alone : (start : Span) (y : Tree) (l : Place) (w : Scope) (f : List Fault) (h : Notes) → word_at (codes "from") l ≡ true
-      → behind_namespace start y (st l k w f h) ≡ names_from start (y ∷ []) (st l k w f h)
-  unfolding behind_namespace
-  from_alone start y l w f h e = rw (and_no k.setting.export_default_from (sees kind.Comma l) (from_no_comma l e)) refl
+  from_alone : (start : Span) (xs : List Tree) (l : Place) (w : Scope) (f : List Fault) (h : Notes) → word_at (codes "from") l ≡ true
+      → more_names start xs (st l k w f h) ≡ names_from start xs (st l k w f h)
+  unfolding more_names
+  from_alone start xs l w f h e = rw (and_no k.setting.export_default_from (sees kind.Comma l) (from_no_comma l e)) refl
 
-  braces_behind : (start : Span) (y : Tree) (m : Place) (w : Scope) (f : List Fault) (h : Notes) → k.setting.export_default_from ≡ true → kind_at m ≡ kind.Comma
-      → behind_namespace start y (st m k w f h) ≡ export_names start (y ∷ []) (st (after m) k w f h)
-  unfolding behind_namespace
-  braces_behind start y m w f h o e = rw (o, seen m kind.Comma e) refl
+  braces_behind : (start : Span) (xs : List Tree) (m : Place) (w : Scope) (f : List Fault) (h : Notes) → k.setting.export_default_from ≡ true → kind_at m ≡ kind.Comma
+      → more_names start xs (st m k w f h) ≡ export_names start xs (st (after m) k w f h)
+  unfolding more_names
+  braces_behind start xs m w f h o e = rw (o, seen m kind.Comma e) refl
+
+  -- ---- what stands behind a default, which begins at `c`
+
+  namespace_behind : (start : Span) (c m d : Place) (x y : Tree) (w : Scope) (f : List Fault) (h : Notes) → kind_at m ≡ kind.Comma → NamespaceExportRule c y (after m) d
+      → behind_default start (span_at c) x (st m k w f h) ≡ more_names start (x ∷ y ∷ []) (st d k w f h)
+  unfolding behind_default is_namespace_next namespace_names
+  namespace_behind start c m d x y w f h e r = rw (seen m kind.Comma e, seen (after m) kind.Mul r.star, namespace_reads c (after m) d y w f h r) refl
+
+  no_namespace : (start first : Span) (x : Tree) (m : Place) (w : Scope) (f : List Fault) (h : Notes) → is_namespace_next m ≡ false
+      → behind_default start first x (st m k w f h) ≡ more_names start (x ∷ []) (st m k w f h)
+  unfolding behind_default
+  no_namespace start first x m w f h e = rw e refl
+
+  brace_next : (m : Place) → kind_at (after m) ≡ kind.LBrace → is_namespace_next m ≡ false
+  unfolding is_namespace_next same_kind
+  brace_next m e = and_no (sees kind.Comma m) (sees kind.Mul (after m)) (rw e refl)
+
+  from_next : (m : Place) → word_at (codes "from") m ≡ true → is_namespace_next m ≡ false
+  unfolding is_namespace_next
+  from_next m e = no_and (sees kind.Comma m) (sees kind.Mul (after m)) (from_no_comma m e)
+
+  default_alone : (start first : Span) (x : Tree) (l : Place) (w : Scope) (f : List Fault) (h : Notes) → word_at (codes "from") l ≡ true
+      → behind_default start first x (st l k w f h) ≡ names_from start (x ∷ []) (st l k w f h)
+  default_alone start first x l w f h e = no_namespace start first x l w f h (from_next l e) ∙ from_alone start (x ∷ []) l w f h e
+
+  default_and_braces : (start : Span) (c m l : Place) (x : Tree) (xs : List Tree) (w : Scope) (f : List Fault) (h : Notes) → k.setting.export_default_from ≡ true → kind_at m ≡ kind.Comma
+      → NamesRule k c true xs (after m) l → behind_default start (span_at c) x (st m k w f h) ≡ from_or_own start (x ∷ xs) (st l k w f h)
+  default_and_braces start c m l x xs w f h o e (braces_rule b r) =
+      no_namespace start (span_at c) x m w f h (brace_next m r.opens) ∙ braces_behind start (x ∷ []) m w f h o e ∙ export_names_read (x ∷ []) xs start (after m) l w f h r
+  default_and_braces start c m l x xs w f h o e (namespace_rule y b r g) = absurd (true≢false b)
+  default_and_braces start c m l x xs w f h o e (namespace_and_braces_rule y ys i b a r j s g) =
+      namespace_behind start c m i x y w f h e r ∙ braces_behind start (x ∷ y ∷ []) i w f h o j ∙ export_names_read (x ∷ y ∷ []) ys start (after i) l w f h s
+      ∙ ap (λ z. from_or_own start (x ∷ z) (st l k w f h)) (sym g)
+
+  default_and_namespace : (start : Span) (c m l : Place) (x : Tree) (xs : List Tree) (w : Scope) (f : List Fault) (h : Notes) → kind_at m ≡ kind.Comma → NamesRule k c false xs (after m) l
+      → word_at (codes "from") l ≡ true → behind_default start (span_at c) x (st m k w f h) ≡ names_from start (x ∷ xs) (st l k w f h)
+  default_and_namespace start c m l x xs w f h e (braces_rule b r) a = absurd (true≢false (sym b))
+  default_and_namespace start c m l x xs w f h e (namespace_rule y b r g) a =
+      namespace_behind start c m l x y w f h e r ∙ from_alone start (x ∷ y ∷ []) l w f h a ∙ ap (λ z. names_from start (x ∷ z) (st l k w f h)) (sym g)
+  default_and_namespace start c m l x xs w f h e (namespace_and_braces_rule y ys i b o r j s g) a = absurd (true≢false (sym b))
+
+-- ---- where a default stands
+
+-- with which token no name of strict code begins
+abbrev NameKind : TokenKind → Type 0
+NameKind j = (same_kind j kind.LBrace ≡ false) × (same_kind j kind.Mul ≡ false) × (same_kind j kind.Default ≡ false) × (same_kind j kind.Var ≡ false) × (same_kind j kind.Const ≡ false)
+    × (same_kind j kind.Let ≡ false) × (same_kind j kind.Function ≡ false)
+
+let_no_name : (f : Context) → f.strict ≡ true → is_name f (codes "let") ≡ false
+unfolding is_name is_reserved
+let_no_name f o = rw o refl
+
+keyword_named : (f : Context) (v : Keyword) → f.strict ≡ true → is_name f (word_text (word.Keyword v)) ≡ true → NameKind (keyword_kind v)
+unfolding is_name is_reserved same_kind
+keyword_named f keyword.Let o e = absurd (true≢false (sym e ∙ let_no_name f o))
+keyword_named f keyword.Default o e = cc
+keyword_named f keyword.Var o e = cc
+keyword_named f keyword.Const o e = cc
+keyword_named f keyword.Function o e = cc
+keyword_named f _ o e = (refl, refl, refl, refl, refl, refl, refl)
+
+word_is_named : (f : Context) (v : Word) → f.strict ≡ true → is_name f (word_text v) ≡ true → NameKind (word_kind v)
+unfolding same_kind
+word_is_named f (word.Keyword v) o e = keyword_named f v o e
+word_is_named f _ o e = (refl, refl, refl, refl, refl, refl, refl)
+
+-- what follows a default: `from`, or a comma before a namespace or braces
+abbrev Follows : Place → Type 0
+Follows m = (word_at (codes "from") m ≡ true) ⊎ ((kind_at m ≡ kind.Comma) × ((kind_at (after m) ≡ kind.Mul) ⊎ (kind_at (after m) ≡ kind.LBrace)))
+
+names_follow : {k : Code} {start : Place} {b : Bool} {xs : List Tree} {d : Place} (m : Place) → kind_at m ≡ kind.Comma → NamesRule k start b xs (after m) d → Follows m
+names_follow m e (braces_rule b r) = inr (e, inr r.opens)
+names_follow m e (namespace_rule y b r g) = inr (e, inl r.star)
+names_follow m e (namespace_and_braces_rule y ys i b o r j s g) = inr (e, inl r.star)
+
+no_function : (m : Place) → Follows m → sees kind.Function m ≡ false
+unfolding same_kind
+no_function m (inl e) = rw (word_place (codes "from") m e) refl
+no_function m (inr (e, g)) = rw e refl
+
+no_async : (m : Place) → Follows m → is_async_function m ≡ false
+unfolding is_async_function
+no_async m (inl e) = rw (from_other (codes "async") m refl e) refl
+no_async m (inr (e, g)) = by_test (is_async_function m) refl
+  where
+    by_test : (b : Bool) → is_async_function m ≡ b → b ≡ false
+    by_test false i = refl
+    by_test true i = let a : kind.Comma ≡ kind.Ident = sym e ∙ async_kind m i in cc
+
+from_follows : (k : Code) (m : Place) → k.setting.export_default_from ≡ true → Follows m → is_default_from k m ≡ true
+unfolding is_default_from
+from_follows k m o (inl e) = and_both _ _ o (rw e refl)
+from_follows k m o (inr (e, inl g)) = and_both _ _ o (or_later _ _ (and_both _ _ (seen m kind.Comma e) (rw (seen (after m) kind.Mul g) refl)))
+from_follows k m o (inr (e, inr g)) = and_both _ _ o (or_later _ _ (and_both _ _ (seen m kind.Comma e) (or_later _ _ (seen (after m) kind.LBrace g))))
 
 -- ---- whole exports
-
--- no default of another module is among the names
-no_default : {k : Code} {y : Tree} {c d : Place} (ys : List Tree) → DefaultExportRule k y c d → are_names (listed (y ∷ ys)) ≡ false
-no_default ys (under_name_rule text s r e) = ap (λ z. are_names (listed (z ∷ ys))) e
-no_default ys (as_default_rule s a r e) = ap (λ z. are_names (listed (z ∷ ys))) e
-
-pub clause_names : {k : Code} {b : Bool} {xs : List Tree} {c d : Place} → ExportClauseRule k b xs c d → are_names (listed xs) ≡ true → NamesRule k c b xs c d
-clause_names (names_rule r) h = r
-clause_names (default_alone_rule y e o r g) h = absurd (true≢false (sym h ∙ ap (λ z. are_names (listed z)) g ∙ no_default [] r))
-clause_names (default_and_names_rule y ys m o r e s g) h = absurd (true≢false (sym h ∙ ap (λ z. are_names (listed z)) g ∙ no_default ys r))
 
 names_silent : {k : Code} {start : Place} {b : Bool} {xs : List Tree} {c d : Place} → NamesRule k start b xs c d → AllSilent xs
 names_silent (braces_rule e r) = braced_silent r
 names_silent (namespace_rule y e r g) = subst AllSilent (sym g) (one_more y [] (namespace_silent r) none_silent)
 names_silent (namespace_and_braces_rule y ys m e o r i s g) = subst AllSilent (sym g) (one_more y ys (namespace_silent r) (braced_silent s))
 
-module _ (n : ℕ) (k : Code) where
+clause_silent : {k : Code} {b : Bool} {xs : List Tree} {c d : Place} → ExportClauseRule k b xs c d → AllSilent xs
+clause_silent (names_rule r) = names_silent r
+clause_silent (default_alone_rule y e o r g) = subst AllSilent (sym g) (one_more y [] (default_silent r) none_silent)
+clause_silent (default_and_names_rule y ys m o r e s g) = subst AllSilent (sym g) (one_more y ys (default_silent r) (names_silent s))
+
+module _ (n : ℕ) (k : Code) (o : IsModule k) where
   abbrev reader : Reader Tree
   reader = export_decl (stmt n nested_item) (expr n) (pattern n) (parameters n)
 
@@ -266,34 +365,67 @@ module _ (n : ℕ) (k : Code) where
   unfolding export_decl same_kind
   at_star s e = rw e refl
 
-  -- names up to a place where `from` stands
-  clause_from : (b : Bool) (xs : List Tree) (c l : Place) (w : Scope) (f : List Fault) (h : Notes) → NamesRule k (after c) b xs (after c) l → word_at (codes "from") l ≡ true
+  at_name : (s : State) → NameKind (kind_at (after s.at)) → is_async_function (after s.at) ≡ false → is_name_from s.code (after s.at) ≡ true → reader s ≡ name_from (span_at s.at) (moved s)
+  unfolding export_decl is_let_declaration begins_default_function
+  at_name s t a e = rw (t.0, t.1, t.2, t.3, t.4, t.5, t.6, a, e) refl
+
+  at_default : (s : State) → kind_at (after s.at) ≡ kind.Default → Follows (after (after s.at)) → s.code.setting.export_default_from ≡ true
+      → reader s ≡ default_from (span_at s.at) (span_at (after s.at)) (moved (moved s))
+  unfolding export_decl export_default begins_default_function same_kind
+  at_default s e g b = rw (e, no_function (after (after s.at)) g, no_async (after (after s.at)) g, from_follows s.code (after (after s.at)) b g) refl
+
+  -- a default, up to what follows it
+  default_reads : (y : Tree) (c m : Place) (w : Scope) (f : List Fault) (h : Notes) → k.setting.export_default_from ≡ true → DefaultExportRule k y (after c) m → Follows m
+      → reader (st c k w f h) ≡ behind_default (span_at c) (span_at (after c)) y (st m k w f h)
+  unfolding name_from default_from is_name_from
+  default_reads y c m w f h b (under_name_rule text s r e) g =
+      let i : is_name k.flags (word_text r.word) ≡ true = ap (is_name k.flags) (sym r.is_text) ∙ clean_name k.flags text o.0 r.is_name in
+      let t : NameKind (kind_at (after c)) = subst NameKind (sym (token_first (token.Word r.word) s (after c) m r.reads_word)) (word_is_named k.flags r.word o.1 i) in
+      at_name (st c k w f h) t (no_async_function (after c) m r.reads_word.next (no_function m g)) (and_both _ _ b (named (token.Word r.word) s (after c) m k true r.reads_word i))
+      ∙ rw (name_reads faults.ExpectedIdent text s (after c) m k w f h o.0 r, e) refl
+  default_reads y c m w f h b (as_default_rule s a r e) g =
+      at_default (st c k w f h) a (subst Follows r.reads_word.next g) b ∙ rw (e, r.reads_word.next, word_span (codes "default") s (after c) m r) refl
+
+  -- names in braces, with those before them
+  braces_clause : (xs : List Tree) (c l : Place) (w : Scope) (f : List Fault) (h : Notes) → ExportClauseRule k true xs (after c) l
+      → reader (st c k w f h) ≡ from_or_own n k (span_at c) xs (st l k w f h)
+  braces_clause xs c l w f h (names_rule (braces_rule e r)) = at_brace (st c k w f h) r.opens ∙ export_names_read n k [] xs (span_at c) (after c) l w f h r
+  braces_clause xs c l w f h (names_rule (namespace_rule y e r g)) = absurd (true≢false e)
+  braces_clause xs c l w f h (names_rule (namespace_and_braces_rule y ys m e b r i s g)) =
+      at_star (st c k w f h) r.star ∙ star_reads n k (span_at c) (after c) m y w f h r ∙ braces_behind n k (span_at c) (y ∷ []) m w f h b i
+      ∙ export_names_read n k (y ∷ []) ys (span_at c) (after m) l w f h s ∙ ap (λ z. from_or_own n k (span_at c) z (st l k w f h)) (sym g)
+  braces_clause xs c l w f h (default_alone_rule y e b r g) = absurd (true≢false e)
+  braces_clause xs c l w f h (default_and_names_rule y ys m b r e s g) =
+      default_reads y c m w f h b r (names_follow m e s) ∙ default_and_braces n k (span_at c) (after c) m l y ys w f h b e s ∙ ap (λ z. from_or_own n k (span_at c) z (st l k w f h)) (sym g)
+
+  -- and what does not end in braces
+  open_clause : (xs : List Tree) (c l : Place) (w : Scope) (f : List Fault) (h : Notes) → ExportClauseRule k false xs (after c) l → word_at (codes "from") l ≡ true
       → reader (st c k w f h) ≡ names_from (span_at c) xs (st l k w f h)
-  clause_from b xs c l w f h (braces_rule e r) a = at_brace (st c k w f h) r.opens ∙ export_names_from n k [] xs (span_at c) (after c) l w f h r a
-  clause_from b xs c l w f h (namespace_rule y e r g) a =
-      at_star (st c k w f h) r.star ∙ star_reads n k (span_at c) (after c) l y w f h r ∙ from_alone n k (span_at c) y l w f h a ∙ ap (λ z. names_from (span_at c) z (st l k w f h)) (sym g)
-  clause_from b xs c l w f h (namespace_and_braces_rule y ys m e o r i s g) a =
-      at_star (st c k w f h) r.star ∙ star_reads n k (span_at c) (after c) m y w f h r ∙ braces_behind n k (span_at c) y m w f h o i
-      ∙ export_names_from n k (y ∷ []) ys (span_at c) (after m) l w f h s a ∙ ap (λ z. names_from (span_at c) z (st l k w f h)) (sym g)
+  open_clause xs c l w f h (names_rule (braces_rule e r)) a = absurd (true≢false (sym e))
+  open_clause xs c l w f h (names_rule (namespace_rule y e r g)) a =
+      at_star (st c k w f h) r.star ∙ star_reads n k (span_at c) (after c) l y w f h r ∙ from_alone n k (span_at c) (y ∷ []) l w f h a
+      ∙ ap (λ z. names_from (span_at c) z (st l k w f h)) (sym g)
+  open_clause xs c l w f h (names_rule (namespace_and_braces_rule y ys m e b r i s g)) a = absurd (true≢false (sym e))
+  open_clause xs c l w f h (default_alone_rule y e b r g) a =
+      default_reads y c l w f h b r (inl a) ∙ default_alone n k (span_at c) (span_at (after c)) y l w f h a ∙ ap (λ z. names_from (span_at c) z (st l k w f h)) (sym g)
+  open_clause xs c l w f h (default_and_names_rule y ys m b r e s g) a =
+      default_reads y c m w f h b r (names_follow m e s) ∙ default_and_namespace n k (span_at c) (after c) m l y ys w f h e s a ∙ ap (λ z. names_from (span_at c) z (st l k w f h)) (sym g)
 
-  -- and where none does
-  clause_own : (xs : List Tree) (c l : Place) (w : Scope) (f : List Fault) (h : Notes) → NamesRule k (after c) true xs (after c) l → word_at (codes "from") l ≡ false
-      → reader (st c k w f h) ≡ own_names (span_at c) xs (st l k w f h)
-  clause_own xs c l w f h (braces_rule e r) a = at_brace (st c k w f h) r.opens ∙ export_names_own n k [] xs (span_at c) (after c) l w f h r a
-  clause_own xs c l w f h (namespace_rule y e r g) a = absurd (true≢false e)
-  clause_own xs c l w f h (namespace_and_braces_rule y ys m e o r i s g) a =
-      at_star (st c k w f h) r.star ∙ star_reads n k (span_at c) (after c) m y w f h r ∙ braces_behind n k (span_at c) y m w f h o i
-      ∙ export_names_own n k (y ∷ []) ys (span_at c) (after m) l w f h s a ∙ ap (λ z. own_names (span_at c) z (st l k w f h)) (sym g)
+  -- names up to a place where `from` stands
+  clause_from : (b : Bool) (xs : List Tree) (c l : Place) (w : Scope) (f : List Fault) (h : Notes) → ExportClauseRule k b xs (after c) l → word_at (codes "from") l ≡ true
+      → reader (st c k w f h) ≡ names_from (span_at c) xs (st l k w f h)
+  clause_from true xs c l w f h r a = braces_clause xs c l w f h r ∙ rw a refl
+  clause_from false xs c l w f h r a = open_clause xs c l w f h r a
 
-  pub export_from_read : (b : Bool) (xs : List Tree) (src attributes x : Tree) (c l m i d : Place) → NamesRule k (after c) b xs (after c) l → FromRule src l m
+  pub export_from_read : (b : Bool) (xs : List Tree) (src attributes x : Tree) (c l m i d : Place) → ExportClauseRule k b xs (after c) l → FromRule src l m
       → AttributesRule (language.Reads n) k attributes m i → attributes ≡ tree.absent → Ends i d → x ≡ tree.export_named (spanned c d) (listed xs) src attributes
       → ReadsCalm (export_decl (stmt n nested_item) (expr n) (pattern n) (parameters n)) k x c d
   export_from_read b xs src attributes x c l m i d r s a e g j w f h calm =
-      clause_from b xs c l w f h r s.0 ∙ names_from_read n k xs src attributes x c l m i d w f h (names_silent r) s a e g j
+      clause_from b xs c l w f h r s.0 ∙ names_from_read n k xs src attributes x c l m i d w f h (clause_silent r) s a e g j
 
-  pub export_own_read : (xs : List Tree) (x : Tree) (c m d : Place) → NamesRule k (after c) true xs (after c) m → word_at (codes "from") m ≡ false → OptionalEnds m d
+  pub export_own_read : (xs : List Tree) (x : Tree) (c m d : Place) → ExportClauseRule k true xs (after c) m → word_at (codes "from") m ≡ false → OptionalEnds m d
       → x ≡ tree.export_named (spanned c d) (listed xs) tree.absent tree.absent → ReadsCalm (export_decl (stmt n nested_item) (expr n) (pattern n) (parameters n)) k x c d
-  export_own_read xs x c m d r a g e w f h calm = clause_own xs c m w f h r a ∙ own_names_read n k xs x c m d (names_silent r) g e w f h calm
+  export_own_read xs x c m d r a g e w f h calm = braces_clause xs c m w f h r ∙ rw a refl ∙ own_names_read n k xs x c m d (clause_silent r) g e w f h calm
 
   pub export_all_read : (src attributes x : Tree) (c m i d : Place) → kind_at (after c) ≡ kind.Mul → FromRule src (after (after c)) m → AttributesRule (language.Reads n) k attributes m i
       → attributes ≡ tree.absent → Ends i d → x ≡ tree.export_all (spanned c d) src attributes → ReadsCalm (export_decl (stmt n nested_item) (expr n) (pattern n) (parameters n)) k x c d
@@ -301,7 +433,7 @@ module _ (n : ℕ) (k : Code) where
   export_all_read src attributes x c m i d o r a e g j w f h calm =
       let b = attributes_absent n k attributes m i a e in
       at_star (st c k w f h) o ∙ rw (
-        from_no_as (after (after c)) r.0,
+        from_other (codes "as") (after (after c)) refl r.0,
         source_reads src (after (after c)) m k w f h r,
         no_attributes_read m k w f h b.1,
         ends_read faults.Expected m d k w f h (subst (λ z. Ends z d) b.0 g),

@@ -55,10 +55,10 @@ use Rattle.swc_ecma_parser_reader.proofs.Words.{async_kind, async_stands}
 use Rattle.swc_ecma_parser_reader.proofs.expressions.CompleteKinds as kinds
 use Rattle.swc_ecma_parser_reader.proofs.expressions.CompleteKinds.{seen}
 use Rattle.swc_ecma_parser_module_reader.specs.Exports.{begins_default_function, is_default_from, default_name, default_function, default_expr, exported_function, export_default, exported, export_decl}
-use Rattle.swc_ecma_parser_module_reader.specs.Supported.{are_names, supported_item}
+use Rattle.swc_ecma_parser_module_reader.specs.Supported.{supported_item}
 use Rattle.swc_ecma_parser_module_reader.proofs.ModuleCode.{IsModule, in_module_same}
 use Rattle.swc_ecma_parser_module_reader.proofs.CompleteShared.{clean_name, name_reads}
-use Rattle.swc_ecma_parser_module_reader.proofs.CompleteExportNames.{clause_names, export_from_read, export_own_read, export_all_read}
+use Rattle.swc_ecma_parser_module_reader.proofs.CompleteExportNames.{export_from_read, export_own_read, export_all_read}
 use Rattle.swc_ecma_parser_module_reader.proofs.AllLevels.{below, function_body_reads, word_reads, star_reads}
 
 -- ---- module code
@@ -141,9 +141,17 @@ begins_by false false true d h = cc
 begins_by false false false true h = cc
 begins_by false false false false h = (refl, refl)
 
-begins_expression : (k : Code) (c : Place) → may_begin_default k c ≡ true → (begins_default_function c ≡ false) × (is_default_from k c ≡ false)
+-- nor the default of another module, as no comma begins one
+from_by : (a b c d : Bool) → (a && b) ≡ false → c ≡ false → (a && (b || (c && d))) ≡ false
+from_by true true c d h e = h
+from_by true false c d h e = rw e refl
+from_by false b c d h e = refl
+
+begins_expression : (k : Code) (c : Place) → may_begin_default k c ≡ true → sees kind.Comma c ≡ false → (begins_default_function c ≡ false) × (is_default_from k c ≡ false)
 unfolding may_begin_default begins_default_function is_default_from
-begins_expression k c h = begins_by (sees kind.Function c) (sees kind.Class c) (is_async_function c) (k.setting.export_default_from && word_at (codes "from") c) h
+begins_expression k c h e =
+    let t = begins_by (sees kind.Function c) (sees kind.Class c) (is_async_function c) (k.setting.export_default_from && word_at (codes "from") c) h in
+    (t.0, from_by k.setting.export_default_from (word_at (codes "from") c) (sees kind.Comma c) _ t.1 e)
 
 module _ (n : ℕ) (k : Code) (o : IsModule k) where
   -- ---- variables and functions
@@ -262,12 +270,13 @@ module _ (n : ℕ) (k : Code) (o : IsModule k) where
       → ReadsCalm (export_decl (inner_stmt n) (expr n) (pattern n) (parameters n)) k x c d
   unfolding export_decl export_default default_expr same_kind spanned
   default_expr_read e x c m d b a r g i s q w f h calm =
-      let t = begins_expression k (after (after c)) a in
+      let v = lift_in k.flags.module e s (λ v. q) in
+      let t = begins_expression k (after (after c)) a (kinds.begin_seen (after (after c)) (kinds.begins n (with_in k) e (after (after c)) m r v)).3 in
       rw (
         b,
         t.0,
         t.1,
-        expr_reads n (below n) assignment (with_in k) e (after (after c)) m (r, lift_in k.flags.module e s (λ v. q)) w f h,
+        expr_reads n (below n) assignment (with_in k) e (after (after c)) m (r, v) w f h,
         ends_read faults.Expected m d k w (f ++ walk (env_of k w.labels) e) (h ⊕ notes_of e) g,
         i,
       ) (ap (λ v. Ok (tree.export_default_expr (spanned c d) e, st d k w (f ++ walk v e) (h ⊕ notes_of e))) (sym (module_env k w.labels o)))
@@ -322,17 +331,15 @@ export_reads n k x c d o (export_declaration_rule a y m i v r e) s q =
     declaration_read n k a x y c d o (subst (λ p. ExportedRule (language.Reads n) k a y p d) b.1 (subst (λ j. ExportedRule (language.Reads n) j a y i d) (in_module_same k o) r)) u.1
     (e ∙ ap (λ p. tree.export_decl (spanned p d) y) u.0) t (sym (ap notes e) ∙ q)
 export_reads n k x c d o (export_from_rule b xs src attributes l m i v r a t g e) s q =
-    let u = and_yes (are_names (listed xs)) (is_absent attributes) (item_as x (tree.export_named (spanned c d) (listed xs) src attributes) e s) in
-    export_from_read n k b xs src attributes x c l m i d (clause_names (subst (λ j. ExportClauseRule j b xs (after c) l) (in_module_same k o) r) u.0) a
-    (subst (λ j. AttributesRule (language.Reads n) j attributes m i) (in_module_same k o) t) (absent_is attributes u.1) g e
-export_reads n k x c d o (export_names_rule xs m v r a g e) s q =
-    let u = and_yes (are_names (listed xs)) true (item_as x (tree.export_named (spanned c d) (listed xs) tree.absent tree.absent) e s) in
-    export_own_read n k xs x c m d (clause_names (subst (λ j. ExportClauseRule j true xs (after c) m) (in_module_same k o) r) u.0) a g e
+    export_from_read n k o b xs src attributes x c l m i d (subst (λ j. ExportClauseRule j b xs (after c) l) (in_module_same k o) r) a
+    (subst (λ j. AttributesRule (language.Reads n) j attributes m i) (in_module_same k o) t)
+    (absent_is attributes (item_as x (tree.export_named (spanned c d) (listed xs) src attributes) e s)) g e
+export_reads n k x c d o (export_names_rule xs m v r a g e) s q = export_own_read n k o xs x c m d (subst (λ j. ExportClauseRule j true xs (after c) m) (in_module_same k o) r) a g e
 export_reads n k x c d o (export_default_declaration_rule a y m i v r e) s q =
     default_read n k a x y c m i d o v (subst (λ j. DefaultRule (language.Reads n) j a y i d) (in_module_same k o) r) e s q
 export_reads n k x c d o (export_default_expression_rule e m v a b r g i) s q =
     default_expr_read n k o e x c m d a b (subst (λ j. language.Reads n (expr_goal assignment (with_in j) e (after (after c)) m)) (in_module_same k o) r) g i
     (item_as x (tree.export_default_expr (spanned c d) e) i s) (sym (ap notes i) ∙ q)
 export_reads n k x c d o (export_all_rule src attributes m i v a r t g e) s q =
-    export_all_read n k src attributes x c m i d a r (subst (λ j. AttributesRule (language.Reads n) j attributes m i) (in_module_same k o) t)
+    export_all_read n k o src attributes x c m i d a r (subst (λ j. AttributesRule (language.Reads n) j attributes m i) (in_module_same k o) t)
     (absent_is attributes (item_as x (tree.export_all (spanned c d) src attributes) e s)) g e

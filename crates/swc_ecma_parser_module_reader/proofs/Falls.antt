@@ -34,7 +34,7 @@ use Rattle.swc_ecma_parser_reader.proofs.Words.{async_kind}
 use Rattle.swc_ecma_parser_reader.proofs.expressions.Falls.{reject_falls, falls_when, any_word_falls, star_falls, told_falls, no_end}
 use Rattle.swc_ecma_parser_reader.proofs.expressions.Loops.{shorter_by}
 use Rattle.swc_ecma_parser_module_reader.specs.Imports.{str_or, str, source, module_name, no_attributes, specifiers_turn, specifiers, same_name, other_name, import_specifier, binding_name, import_namespace, bindings, more_bindings, default_binding, import_clause, imported, import_from, phase_of, import_phased, is_phase_word, import_decl}
-use Rattle.swc_ecma_parser_module_reader.specs.Exports.{renamed_export, plain_export, export_specifier, export_namespace, names_from, own_names, export_names, behind_namespace, export_all, export_star, default_name, default_function, default_expr, is_default_from, begins_default_function, exported_function, export_default, exported, export_decl}
+use Rattle.swc_ecma_parser_module_reader.specs.Exports.{renamed_export, plain_export, export_specifier, export_namespace, names_from, own_names, export_names, more_names, namespace_names, export_all, export_star, is_namespace_next, behind_default, is_name_from, name_from, is_default_from, default_from, default_name, default_function, default_expr, begins_default_function, exported_function, export_default, exported, export_decl}
 use Rattle.swc_ecma_parser_module_reader.specs.Modules.{begins_import, import_in, export_in, module_item}
 
 -- ---- a declaration is the statement that it is where it stands
@@ -212,7 +212,8 @@ export_specifier_falls s = falls_next (length s.at.left) (module_name s) _ (modu
 
 export_namespace_falls : (start : Span) (s : State) → Falls 0 (length s.at.left) (export_namespace start s)
 unfolding export_namespace
-export_namespace_falls start s = falls_moved 0 s _ (falls_last 0 (length (after s.at).left) (module_name (moved s)) _ (name_less (moved s)))
+export_namespace_falls start s = falls_then 0 0 (length s.at.left) (expect_word (codes "as") s) _ (expect_word_falls (codes "as") s) (λ _ t.
+    falls_last 0 (length t.at.left) (module_name t) _ (name_less t))
 
 -- the other module, to its end
 behind_source_falls : {A : Type 0} (g : Tree → State → A) (s : State)
@@ -240,16 +241,28 @@ unfolding export_names
 export_names_fall start before s = falls_then 0 0 (length s.at.left) (specifiers export_specifier s) _ (specifiers_fall export_specifier export_specifier_falls s) (λ xs t.
     falls_if 0 (length t.at.left) (word_at (codes "from") t.at) _ _ (names_from_falls start (before ++ xs) t) (own_names_fall start (before ++ xs) t))
 
-behind_namespace_falls : (start : Span) (x : Tree) (s : State) → Falls 0 (length s.at.left) (behind_namespace start x s)
-unfolding behind_namespace
-behind_namespace_falls start x s = falls_if 0 (length s.at.left) (s.code.setting.export_default_from && sees kind.Comma s.at) _ _
-    (falls_moved 0 s _ (export_names_fall start (x ∷ []) (moved s))) (names_from_falls start (x ∷ []) s)
+more_names_fall : (start : Span) (before : List Tree) (s : State) → Falls 0 (length s.at.left) (more_names start before s)
+unfolding more_names
+more_names_fall start before s = falls_if 0 (length s.at.left) (s.code.setting.export_default_from && sees kind.Comma s.at) _ _
+    (falls_moved 0 s _ (export_names_fall start before (moved s))) (names_from_falls start before s)
+
+namespace_names_fall : (start first : Span) (before : List Tree) (s : State) → Falls 0 (length s.at.left) (namespace_names start first before s)
+unfolding namespace_names
+namespace_names_fall start first before s = falls_then 0 0 (length s.at.left) (export_namespace first s) _ (export_namespace_falls first s) (λ x t. more_names_fall start (before ++ x ∷ []) t)
 
 export_star_falls : (start : Span) (s : State) → Falls 0 (length s.at.left) (export_star start s)
 unfolding export_star export_all
 export_star_falls start s = falls_moved 0 s _ (falls_if 0 (length (after s.at).left) (word_at (codes "as") (after s.at)) _ _
-    (falls_then 0 0 (length (after s.at).left) (export_namespace (span_at s.at) (moved s)) _ (export_namespace_falls (span_at s.at) (moved s)) (λ x t. behind_namespace_falls start x t))
-    (behind_source_falls _ (moved s)))
+    (namespace_names_fall start (span_at s.at) [] (moved s)) (behind_source_falls _ (moved s)))
+
+behind_default_falls : (start first : Span) (x : Tree) (s : State) → Falls 0 (length s.at.left) (behind_default start first x s)
+unfolding behind_default
+behind_default_falls start first x s = falls_if 0 (length s.at.left) (is_namespace_next s.at) _ _
+    (falls_moved 0 s _ (falls_moved 0 (moved s) _ (namespace_names_fall start first (x ∷ []) (moved (moved s))))) (more_names_fall start (x ∷ []) s)
+
+name_from_falls : (start : Span) (s : State) → Falls 0 (length s.at.left) (name_from start s)
+unfolding name_from
+name_from_falls start s = falls_then 0 0 (length s.at.left) (name faults.ExpectedIdent s) _ (bound_falls s) (λ i t. behind_default_falls start (span_at s.at) _ t)
 
 default_name_falls : (s : State) → Falls 0 (length s.at.left) (default_name s)
 unfolding default_name named
@@ -283,11 +296,11 @@ module _ (n : ℕ) where
       (falls_coded 0 (length s.at.left) (expr n assignment k) _ _ (less (length s.at.left) (expr n assignment k) (expr_falls n assignment k))) (λ e t.
       falls_last 0 (length t.at.left) (end faults.Expected t) _ (end_falls faults.Expected t))
 
-  export_default_falls : (start : Span) (s : State) → Falls 0 (length s.at.left) (export_default (stmt n nested_item) (expr n) (pattern n) (parameters n) start s)
-  unfolding export_default exported_function
-  export_default_falls start s = falls_if 0 (length s.at.left) (begins_default_function s.at) _ _
+  export_default_falls : (start first : Span) (s : State) → Falls 0 (length s.at.left) (export_default (stmt n nested_item) (expr n) (pattern n) (parameters n) start first s)
+  unfolding export_default exported_function default_from
+  export_default_falls start first s = falls_if 0 (length s.at.left) (begins_default_function s.at) _ _
       (falls_last 0 (length s.at.left) (default_function (stmt n nested_item) (parameters n) s) _ (default_function_falls s))
-      (falls_if 0 (length s.at.left) (is_default_from s.code s.at) _ _ (wanted_falls Tree 0 (length s.at.left) faults.Unexpected s) (default_expr_falls start s))
+      (falls_if 0 (length s.at.left) (is_default_from s.code s.at) _ _ (behind_default_falls start first _ s) (default_expr_falls start s))
 
   -- a declaration, which is a statement
   exported_falls : (start : Span) (d : Reader Tree) (s : State) → stmt (suc n) nested_item s ≡ d s
@@ -300,12 +313,12 @@ module _ (n : ℕ) where
   export_decl_falls s e = let t = moved s in let m = length (after s.at).left in falls_past s _ e
       (falls_if 0 m (sees kind.LBrace t.at) _ _ (export_names_fall (span_at s.at) [] t)
       (falls_if 0 m (sees kind.Mul t.at) _ _ (export_star_falls (span_at s.at) t)
-      (falls_if 0 m (sees kind.Default t.at) _ _ (falls_moved 0 t _ (export_default_falls (span_at s.at) (moved t)))
+      (falls_if 0 m (sees kind.Default t.at) _ _ (falls_moved 0 t _ (export_default_falls (span_at s.at) (span_at t.at) (moved t)))
       (falls_when 0 m (sees kind.Var t.at) _ _ (λ h. exported_falls (span_at s.at) (variables (expr n) (pattern n) decl.Var) t (var_is_stmt n t h)) (λ _.
       falls_when 0 m (sees kind.Const t.at) _ _ (λ h. exported_falls (span_at s.at) (variables (expr n) (pattern n) decl.Const) t (const_is_stmt n t h)) (λ _.
       falls_when 0 m (is_let_declaration t.at) _ _ (λ h. exported_falls (span_at s.at) (variables (expr n) (pattern n) decl.Let) t (let_is_stmt n t h)) (λ _.
       falls_when 0 m (begins_default_function t.at) _ _ (λ h. exported_falls (span_at s.at) (function_decl (stmt n nested_item) (parameters n)) t (function_is_stmt n t h)) (λ _.
-      wanted_falls Tree 0 m faults.Unexpected t))))))))
+      falls_if 0 m (is_name_from t.code t.at) _ _ (name_from_falls (span_at s.at) t) (wanted_falls Tree 0 m faults.Unexpected t)))))))))
 
 -- ---- an item
 

@@ -40,7 +40,7 @@ use Rattle.swc_ecma_parser_reader.proofs.Keeps.{function_params_keep, function_b
 use Rattle.swc_ecma_parser_reader.proofs.Meets.{Answers, answers_then, answers_if, meant}
 use Rattle.swc_ecma_parser_reader.proofs.expressions.Keeps.{star_keeps, told_keeps}
 use Rattle.swc_ecma_parser_module_reader.specs.Imports.{str_or, str, source, module_name, no_attributes, specifiers_turn, specifiers, same_name, other_name, import_specifier, binding_name, import_namespace, bindings, more_bindings, default_binding, import_clause, imported, import_from, phase_of, import_phased, is_phase_word, import_decl}
-use Rattle.swc_ecma_parser_module_reader.specs.Exports.{renamed_export, plain_export, export_specifier, export_namespace, names_from, own_names, export_names, behind_namespace, export_all, export_star, default_name, default_function, default_expr, is_default_from, begins_default_function, exported_function, export_default, exported, export_decl}
+use Rattle.swc_ecma_parser_module_reader.specs.Exports.{renamed_export, plain_export, export_specifier, export_namespace, names_from, own_names, export_names, more_names, namespace_names, export_all, export_star, is_namespace_next, behind_default, is_name_from, name_from, is_default_from, default_from, default_name, default_function, default_expr, begins_default_function, exported_function, export_default, exported, export_decl}
 use Rattle.swc_ecma_parser_module_reader.specs.Modules.{begins_import, import_in, export_in, module_item, module_code, module_body, module_whole}
 use Rattle.swc_ecma_parser_module_reader.specs.Entry.{AnswersModule}
 use Rattle.swc_ecma_parser_module_reader.proofs.Falls.{var_is_stmt, const_is_stmt, let_is_stmt, function_is_stmt}
@@ -182,7 +182,8 @@ export_specifier_keeps b s f = answers_then (Kept b) _ (module_name s) _ (module
 
 export_namespace_keeps : (start : Span) → Passes (export_namespace start)
 unfolding export_namespace
-export_namespace_keeps start b s f = answers_then (Kept b) _ (module_name (moved s)) _ (module_name_keeps b (moved s) (behind_after b s f)) (λ n t g. g)
+export_namespace_keeps start b s f = answers_then (Kept b) _ (expect_word (codes "as") s) _ (expect_word_keeps (codes "as") b s f) (λ _ t g.
+    answers_then (Kept b) _ (module_name t) _ (module_name_keeps b t g) (λ n u h. h))
 
 names_from_keep : (start : Span) (xs : List Tree) → Passes (names_from start xs)
 unfolding names_from
@@ -205,10 +206,14 @@ unfolding export_names
 export_names_keep start before b s f = answers_then (Kept b) _ (specifiers export_specifier s) _ (specifiers_keep export_specifier export_specifier_keeps b s f) (λ xs t g.
     answers_if _ _ (word_at (codes "from") t.at) _ _ (λ _. names_from_keep start (before ++ xs) b t g) (λ _. own_names_keep start (before ++ xs) b t g))
 
-behind_namespace_keeps : (start : Span) (x : Tree) → Passes (behind_namespace start x)
-unfolding behind_namespace
-behind_namespace_keeps start x b s f = answers_if _ _ (s.code.setting.export_default_from && sees kind.Comma s.at) _ _
-    (λ _. export_names_keep start (x ∷ []) b (moved s) (behind_after b s f)) (λ _. names_from_keep start (x ∷ []) b s f)
+more_names_keep : (start : Span) (before : List Tree) → Passes (more_names start before)
+unfolding more_names
+more_names_keep start before b s f = answers_if _ _ (s.code.setting.export_default_from && sees kind.Comma s.at) _ _
+    (λ _. export_names_keep start before b (moved s) (behind_after b s f)) (λ _. names_from_keep start before b s f)
+
+namespace_names_keep : (start first : Span) (before : List Tree) → Passes (namespace_names start first before)
+unfolding namespace_names
+namespace_names_keep start first before b s f = answers_then (Kept b) _ (export_namespace first s) _ (export_namespace_keeps first b s f) (λ x t g. more_names_keep start (before ++ x ∷ []) b t g)
 
 export_all_keeps : (start : Span) → Passes (export_all start)
 unfolding export_all
@@ -219,8 +224,16 @@ export_all_keeps start b s f = answers_then (Kept b) _ (source s) _ (source_keep
 export_star_keeps : (start : Span) → Passes (export_star start)
 unfolding export_star
 export_star_keeps start b s f = let t = moved s in let g = behind_after b s f in answers_if _ _ (word_at (codes "as") t.at) _ _
-    (λ _. answers_then (Kept b) _ (export_namespace (span_at s.at) t) _ (export_namespace_keeps (span_at s.at) b t g) (λ x u h. behind_namespace_keeps start x b u h))
-    (λ _. export_all_keeps start b t g)
+    (λ _. namespace_names_keep start (span_at s.at) [] b t g) (λ _. export_all_keeps start b t g)
+
+behind_default_keeps : (start first : Span) (x : Tree) → Passes (behind_default start first x)
+unfolding behind_default
+behind_default_keeps start first x b s f = let g = behind_after b s f in answers_if _ _ (is_namespace_next s.at) _ _
+    (λ _. namespace_names_keep start first (x ∷ []) b (moved (moved s)) (behind_after b (moved s) g)) (λ _. more_names_keep start (x ∷ []) b s f)
+
+name_from_keeps : (start : Span) → Passes (name_from start)
+unfolding name_from
+name_from_keeps start b s f = answers_then (Kept b) _ (name faults.ExpectedIdent s) _ (name_keeps b s f faults.ExpectedIdent) (λ i t g. behind_default_keeps start (span_at s.at) _ b t g)
 
 default_name_keeps : Passes default_name
 unfolding default_name named
@@ -257,11 +270,11 @@ module _ (n : ℕ) where
       answers_then (Kept b) _ (within with_in (expr n assignment) s) _ (answers_then (Kept b) _ (expr n assignment k) _ (expr_keeps n assignment b k f) (λ x t g. g)) (λ x t g.
       answers_then (Kept b) _ (end faults.Expected t) _ (end_keeps b t g faults.Expected) (λ _ u h. h))
 
-  export_default_keeps : (start : Span) → Passes (export_default (stmt n nested_item) (expr n) (pattern n) (parameters n) start)
-  unfolding export_default exported_function
-  export_default_keeps start b s f = answers_if _ _ (begins_default_function s.at) _ _
+  export_default_keeps : (start first : Span) → Passes (export_default (stmt n nested_item) (expr n) (pattern n) (parameters n) start first)
+  unfolding export_default exported_function default_from
+  export_default_keeps start first b s f = answers_if _ _ (begins_default_function s.at) _ _
       (λ _. answers_then (Kept b) _ (default_function (stmt n nested_item) (parameters n) s) _ (default_function_keeps b s f) (λ x t g. g))
-      (λ _. answers_if _ _ (is_default_from s.code s.at) _ _ (λ _. wanted_keeps _ faults.Unexpected b s f) (λ _. default_expr_keeps start b s f))
+      (λ _. answers_if _ _ (is_default_from s.code s.at) _ _ (λ _. behind_default_keeps start first _ b s f) (λ _. default_expr_keeps start b s f))
 
   exported_keeps : (start : Span) (d : Reader Tree) (b s : State) → stmt (suc n) nested_item s ≡ d s → IsBehind b s
       → Answers (Kept b) (Lost b) (exported (stmt n nested_item) (expr n) (pattern n) (parameters n) start d s)
@@ -273,12 +286,13 @@ module _ (n : ℕ) where
   export_decl_keeps b s f = let t = moved s in let g = behind_after b s f in
       answers_if _ _ (sees kind.LBrace t.at) _ _ (λ _. export_names_keep (span_at s.at) [] b t g) (λ _.
       answers_if _ _ (sees kind.Mul t.at) _ _ (λ _. export_star_keeps (span_at s.at) b t g) (λ _.
-      answers_if _ _ (sees kind.Default t.at) _ _ (λ _. export_default_keeps (span_at s.at) b (moved t) (behind_after b t g)) (λ _.
+      answers_if _ _ (sees kind.Default t.at) _ _ (λ _. export_default_keeps (span_at s.at) (span_at t.at) b (moved t) (behind_after b t g)) (λ _.
       answers_if _ _ (sees kind.Var t.at) _ _ (λ h. exported_keeps (span_at s.at) (variables (expr n) (pattern n) decl.Var) b t (var_is_stmt n t h) g) (λ _.
       answers_if _ _ (sees kind.Const t.at) _ _ (λ h. exported_keeps (span_at s.at) (variables (expr n) (pattern n) decl.Const) b t (const_is_stmt n t h) g) (λ _.
       answers_if _ _ (is_let_declaration t.at) _ _ (λ h. exported_keeps (span_at s.at) (variables (expr n) (pattern n) decl.Let) b t (let_is_stmt n t h) g) (λ _.
       answers_if _ _ (begins_default_function t.at) _ _ (λ h. exported_keeps (span_at s.at) (function_decl (stmt n nested_item) (parameters n)) b t (function_is_stmt n t h) g) (λ _.
-      wanted_keeps _ faults.Unexpected b t g)))))))
+      answers_if _ _ (is_name_from t.code t.at) _ _ (λ _. name_from_keeps (span_at s.at) b t g) (λ _.
+      wanted_keeps _ faults.Unexpected b t g))))))))
 
 -- ---- an item, and a module
 

@@ -6,6 +6,7 @@ pub mod SoundShared
 pub mod SoundImports
 pub mod NoClass
 pub mod SoundExported
+pub mod SoundExportNames
 pub mod SoundExports
 pub mod SoundModules
 pub mod Sound

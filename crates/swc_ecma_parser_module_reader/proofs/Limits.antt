@@ -33,7 +33,7 @@ use Rattle.swc_ecma_parser_reader.proofs.Shallow.{Fine, fine_after, fine_taken, 
 use Rattle.swc_ecma_parser_reader.proofs.Words.{async_kind, async_parts}
 use Rattle.swc_ecma_parser_reader.proofs.expressions.LimitSteps.{reject_shallow, told_shallow, literal_shallow, any_word_shallow, unexpected_shallow, kept_more}
 use Rattle.swc_ecma_parser_module_reader.specs.Imports.{str_or, str, source, module_name, no_attributes, specifiers_turn, specifiers, same_name, other_name, import_specifier, binding_name, import_namespace, bindings, more_bindings, default_binding, import_clause, imported, import_from, phase_of, import_phased, is_phase_word, import_decl}
-use Rattle.swc_ecma_parser_module_reader.specs.Exports.{renamed_export, plain_export, export_specifier, export_namespace, names_from, own_names, export_names, behind_namespace, export_all, export_star, default_name, default_function, default_expr, is_default_from, begins_default_function, exported_function, export_default, exported, export_decl}
+use Rattle.swc_ecma_parser_module_reader.specs.Exports.{renamed_export, plain_export, export_specifier, export_namespace, names_from, own_names, export_names, more_names, namespace_names, export_all, export_star, is_namespace_next, behind_default, is_name_from, name_from, is_default_from, default_from, default_name, default_function, default_expr, begins_default_function, exported_function, export_default, exported, export_decl}
 use Rattle.swc_ecma_parser_module_reader.specs.Modules.{begins_import, import_in, export_in, module_item, module_code, module_body, module_whole}
 use Rattle.swc_ecma_parser_module_reader.proofs.Falls.{var_is_stmt, const_is_stmt, let_is_stmt, function_is_stmt}
 use Rattle.swc_ecma_parser_module_reader.proofs.Fits.{whole_shallow, stmt_shallow, whole_expr_shallow, cost, parts_shallow}
@@ -165,7 +165,8 @@ export_specifier_flat m s f = answers_then (Kept m) _ (module_name s) _ (module_
 
 export_namespace_flat : (start : Span) → Flat (export_namespace start)
 unfolding export_namespace
-export_namespace_flat start m s f = answers_then (Kept m) _ (module_name (moved s)) _ (module_name_flat m (moved s) (fine_after m s.at f)) (λ n t g. g)
+export_namespace_flat start m s f = answers_then (Kept m) _ (expect_word (codes "as") s) _ (expect_word_flat (codes "as") m s f) (λ _ t g.
+    answers_then (Kept m) _ (module_name t) _ (module_name_flat m t g) (λ n u h. h))
 
 names_from_flat : (start : Span) (xs : List Tree) → Flat (names_from start xs)
 unfolding names_from
@@ -188,10 +189,14 @@ unfolding export_names
 export_names_flat start before m s f = answers_then (Kept m) _ (specifiers export_specifier s) _ (specifiers_flat export_specifier export_specifier_flat m s f) (λ xs t g.
     answers_if _ _ (word_at (codes "from") t.at) _ _ (λ _. names_from_flat start (before ++ xs) m t g) (λ _. own_names_flat start (before ++ xs) m t g))
 
-behind_namespace_flat : (start : Span) (x : Tree) → Flat (behind_namespace start x)
-unfolding behind_namespace
-behind_namespace_flat start x m s f = answers_if _ _ (s.code.setting.export_default_from && sees kind.Comma s.at) _ _
-    (λ _. export_names_flat start (x ∷ []) m (moved s) (fine_after m s.at f)) (λ _. names_from_flat start (x ∷ []) m s f)
+more_names_flat : (start : Span) (before : List Tree) → Flat (more_names start before)
+unfolding more_names
+more_names_flat start before m s f = answers_if _ _ (s.code.setting.export_default_from && sees kind.Comma s.at) _ _
+    (λ _. export_names_flat start before m (moved s) (fine_after m s.at f)) (λ _. names_from_flat start before m s f)
+
+namespace_names_flat : (start first : Span) (before : List Tree) → Flat (namespace_names start first before)
+unfolding namespace_names
+namespace_names_flat start first before m s f = answers_then (Kept m) _ (export_namespace first s) _ (export_namespace_flat first m s f) (λ x t g. more_names_flat start (before ++ x ∷ []) m t g)
 
 export_all_flat : (start : Span) → Flat (export_all start)
 unfolding export_all
@@ -202,8 +207,16 @@ export_all_flat start m s f = answers_then (Kept m) _ (source s) _ (source_flat 
 export_star_flat : (start : Span) → Flat (export_star start)
 unfolding export_star
 export_star_flat start m s f = let t = moved s in let g = fine_after m s.at f in answers_if _ _ (word_at (codes "as") t.at) _ _
-    (λ _. answers_then (Kept m) _ (export_namespace (span_at s.at) t) _ (export_namespace_flat (span_at s.at) m t g) (λ x u h. behind_namespace_flat start x m u h))
-    (λ _. export_all_flat start m t g)
+    (λ _. namespace_names_flat start (span_at s.at) [] m t g) (λ _. export_all_flat start m t g)
+
+behind_default_flat : (start first : Span) (x : Tree) → Flat (behind_default start first x)
+unfolding behind_default
+behind_default_flat start first x m s f = let g = fine_after m s.at f in answers_if _ _ (is_namespace_next s.at) _ _
+    (λ _. namespace_names_flat start first (x ∷ []) m (moved (moved s)) (fine_after m (after s.at) g)) (λ _. more_names_flat start (x ∷ []) m s f)
+
+name_from_flat : (start : Span) → Flat (name_from start)
+unfolding name_from
+name_from_flat start m s f = answers_then (Kept m) _ (name faults.ExpectedIdent s) _ (a_name_flat m s f) (λ i t g. behind_default_flat start (span_at s.at) _ m t g)
 
 default_name_flat : Flat default_name
 unfolding default_name named
@@ -252,12 +265,12 @@ module _ (n : ℕ) where
   default_expr_shallow start m s l f = answers_then (Kept m) _ (within with_in (expr n assignment) s) _ (whole_expr_shallow n m s (omega arith) f) (λ x t g.
       answers_then (Kept m) _ (end faults.Expected t) _ (end_flat m t g) (λ _ u h. h))
 
-  export_default_shallow : (start : Span) (m : ℕ) (s : State) → 2 * (m + 2) + 2 ≤ suc n → Fine m s.at.left
-      → Answers (Kept m) Shallow (export_default (stmt n nested_item) (expr n) (pattern n) (parameters n) start s)
-  unfolding export_default exported_function
-  export_default_shallow start m s l f = answers_if _ _ (begins_default_function s.at) _ _
+  export_default_shallow : (start first : Span) (m : ℕ) (s : State) → 2 * (m + 2) + 2 ≤ suc n → Fine m s.at.left
+      → Answers (Kept m) Shallow (export_default (stmt n nested_item) (expr n) (pattern n) (parameters n) start first s)
+  unfolding export_default exported_function default_from
+  export_default_shallow start first m s l f = answers_if _ _ (begins_default_function s.at) _ _
       (λ e. answers_then (Kept m) _ (default_function (stmt n nested_item) (parameters n) s) _ (default_function_shallow m s l e f) (λ x t g. g))
-      (λ _. answers_if _ _ (is_default_from s.code s.at) _ _ (λ _. unexpected_shallow m s f _) (λ _. default_expr_shallow start m s l f))
+      (λ _. answers_if _ _ (is_default_from s.code s.at) _ _ (λ _. behind_default_flat start first _ m s f) (λ _. default_expr_shallow start m s l f))
 
   -- a declaration, which is a statement
   exported_shallow : (start : Span) (d : Reader Tree) (m : ℕ) (s : State) → stmt (suc n) nested_item s ≡ d s → 2 * m + 2 ≤ suc n → Fine m s.at.left
@@ -267,10 +280,10 @@ module _ (n : ℕ) where
 
   -- from behind `export` on
   module _ (start : Span) (m : ℕ) (t : State) (l : 2 * (m + 1) + 2 ≤ suc n) (g : Fine m t.at.left) where
-    default_shallow : sees kind.Default t.at ≡ true → Answers (Kept m) Shallow (export_default (stmt n nested_item) (expr n) (pattern n) (parameters n) start (moved t))
+    default_shallow : sees kind.Default t.at ≡ true → Answers (Kept m) Shallow (export_default (stmt n nested_item) (expr n) (pattern n) (parameters n) start (span_at t.at) (moved t))
     default_shallow h =
         let (i, a, k) = fine_taken m t.at kind.Default (saw t.at kind.Default h) (λ z. cc) g in
-        kept_more i m _ (omega arith) (export_default_shallow start i (moved t) (omega arith) k)
+        kept_more i m _ (omega arith) (export_default_shallow start (span_at t.at) i (moved t) (omega arith) k)
 
     declared_shallow : (d : Reader Tree) → stmt (suc n) nested_item t ≡ d t → Answers (Kept m) Shallow (exported (stmt n nested_item) (expr n) (pattern n) (parameters n) start d t)
     declared_shallow d e = exported_shallow start d m t e (omega arith) g
@@ -289,7 +302,8 @@ module _ (n : ℕ) where
       answers_if _ _ (sees kind.Const t.at) _ _ (λ h. declared_shallow b i t le g (variables (expr n) (pattern n) decl.Const) (const_is_stmt n t h)) (λ _.
       answers_if _ _ (is_let_declaration t.at) _ _ (λ h. declared_shallow b i t le g (variables (expr n) (pattern n) decl.Let) (let_is_stmt n t h)) (λ _.
       answers_if _ _ (begins_default_function t.at) _ _ (λ h. declared_shallow b i t le g (function_decl (stmt n nested_item) (parameters n)) (function_is_stmt n t h)) (λ _.
-      unexpected_shallow i t g _))))))))
+      answers_if _ _ (is_name_from t.code t.at) _ _ (λ _. name_from_flat b i t g) (λ _.
+      unexpected_shallow i t g _)))))))))
 
 -- ---- an item, and a module
 

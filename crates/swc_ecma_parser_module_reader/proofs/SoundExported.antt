@@ -20,7 +20,7 @@ use Rattle.swc_ecma_parser_model.specs.Kinds.{is_module_decl}
 use Rattle.swc_ecma_parser_grammar.specs.Looks.{kind_at, sees, span_at, spanned}
 use Rattle.swc_ecma_parser_grammar.specs.Names.{Code, is_one_of, reserved_words, is_reserved, is_name, token_is_name, first_is_name, name_at}
 use Rattle.swc_ecma_parser_grammar.specs.Ends.{Ends}
-use Rattle.swc_ecma_parser_grammar.specs.Follows.{is_async_function}
+use Rattle.swc_ecma_parser_grammar.specs.Follows.{word_at, is_async_function}
 use Rattle.swc_ecma_parser_grammar.specs.Variables.{begins_variables}
 use Rattle.swc_ecma_parser_grammar.specs.Notes.{notes}
 use Rattle.swc_ecma_parser_grammar.specs.Parameters.{parameters}
@@ -51,14 +51,14 @@ use Rattle.swc_ecma_parser_reader.specs.State.{State, Outcome, Reader, and_then,
 use Rattle.swc_ecma_parser_reader.specs.Reader as reader
 use Rattle.swc_ecma_parser_reader.specs.Reader.{expr, pattern, stmt, declarators, variables, named, own_name, function_word, function_parts, function_decl, function_expr, misdirected, function_body}
 use Rattle.swc_ecma_parser_reader.proofs.Words.{begins_function}
-use Rattle.swc_ecma_parser_reader.proofs.Meets.{Meets, Refuses, meets_then, meets_if, wanted_meets, meant}
+use Rattle.swc_ecma_parser_reader.proofs.Meets.{Meets, Refuses, meets_then, meets_if, meant}
 use Rattle.swc_ecma_parser_reader.proofs.Between.{Sound, same, sound_more, sound_as, sound_after, within_sound}
 use Rattle.swc_ecma_parser_reader.proofs.expressions.SoundSteps.{meets_as, moved_back}
 use Rattle.swc_ecma_parser_reader.proofs.patterns.Sound.{anything}
 use Rattle.swc_ecma_parser_reader.proofs.SoundParts.{end_sound, variables_stand, declarators_sound, inside_sound, meets_both}
 use Rattle.swc_ecma_parser_reader.proofs.SoundFunctions.{function_decl_sound, function_expr_sound}
 use Rattle.swc_ecma_parser_reader.proofs.Sound.{expr_sound, pattern_sound, parameters_sound, stmt_sound}
-use Rattle.swc_ecma_parser_module_reader.specs.Exports.{default_name, default_function, default_expr, is_default_from, begins_default_function, exported_function, export_default, exported}
+use Rattle.swc_ecma_parser_module_reader.specs.Exports.{default_name, default_function, default_expr, is_default_from, begins_default_function, exported_function, exported}
 use Rattle.swc_ecma_parser_module_reader.specs.Supported.{supported_item}
 use Rattle.swc_ecma_parser_module_reader.proofs.ModuleCode.{IsModule, in_module_same}
 use Rattle.swc_ecma_parser_module_reader.proofs.NoClass.{expr_no_class}
@@ -349,7 +349,7 @@ module _ (n : ℕ) (s : State) (o : IsModule s.code) (e : kind_at s.at ≡ kind.
   ))
 
   module _ (f : kind_at (after s.at) ≡ kind.Default) where
-    exported_function_sound : begins_default_function (after (after s.at)) ≡ true
+    pub exported_function_sound : begins_default_function (after (after s.at)) ≡ true
         → Meets (SoundExport n s) (exported_function (stmt n nested_item) (expr n) (pattern n) (reader.parameters n) (span_at s.at) (moved (moved s)))
     unfolding exported_function spanned
     exported_function_sound b = meets_then _ (default_function (stmt n nested_item) (reader.parameters n) (moved (moved s))) _
@@ -367,9 +367,13 @@ module _ (n : ℕ) (s : State) (o : IsModule s.code) (e : kind_at s.at ≡ kind.
     -- the look-ahead of an expression
     may_begin : (c : Place) → begins_default_function c ≡ false → is_default_from s.code c ≡ false → sees kind.Class c ≡ false → may_begin_default s.code c ≡ true
     unfolding begins_default_function is_default_from may_begin_default
-    may_begin c h g i = let (a, b) = or_no (sees kind.Function c) (is_async_function c) h in rw (a, b, i, g) refl
+    may_begin c h g i = let (a, b) = or_no (sees kind.Function c) (is_async_function c) h in rw (a, b, i, no_from s.code.setting.export_default_from (word_at (codes "from") c) _ g) refl
+      where
+        no_from : (a b d : Bool) → (a && (b || d)) ≡ false → (a && b) ≡ false
+        no_from true b d h = (or_no b d h).0
+        no_from false b d h = refl
 
-    default_expr_sound : begins_default_function (after (after s.at)) ≡ false → is_default_from s.code (after (after s.at)) ≡ false
+    pub default_expr_sound : begins_default_function (after (after s.at)) ≡ false → is_default_from s.code (after (after s.at)) ≡ false
         → Meets (SoundExport n s) (default_expr (expr n) (span_at s.at) (moved (moved s)))
     unfolding default_expr spanned
     default_expr_sound h g = meets_then _ (within with_in (expr n assignment) (moved (moved s))) _
@@ -384,8 +388,3 @@ module _ (n : ℕ) (s : State) (o : IsModule s.code) (e : kind_at s.at ≡ kind.
               )) (moved_back {s = moved s} f refl (sound_more p q)),
           refl,
         )))
-
-    pub export_default_sound : Meets (SoundExport n s) (export_default (stmt n nested_item) (expr n) (pattern n) (reader.parameters n) (span_at s.at) (moved (moved s)))
-    unfolding export_default
-    export_default_sound = meets_if _ (begins_default_function (after (after s.at))) _ _ (λ b. exported_function_sound b)
-        (λ h. meets_if _ (is_default_from s.code (after (after s.at))) _ _ (λ _. wanted_meets _ faults.Unexpected (moved (moved s))) (λ g. default_expr_sound h g))

@@ -29,7 +29,6 @@ use Rattle.swc_ecma_parser_grammar.specs.language.Goals.{Goal}
 use Rattle.swc_ecma_parser_grammar.specs.language.Imports.{ImportSpecifierRule, named_rule, renamed_rule, BindingsRule, namespace_rule, named_bindings_rule, MoreBindingsRule, no_more_rule, comma_rule, more_rule, ImportClauseRule, bindings_rule, default_binding_rule, follows_phase, begins_phase, PhaseRule, source_rule, defer_rule, evaluation_rule, ImportRule, bare_import_rule, import_rule}
 use Rattle.swc_ecma_parser_grammar.specs.language.ModuleParts.{BracedRule, StringRule, FromRule, ModuleNameRule, word_name_rule, string_name_rule, AttributesRule}
 use Rattle.swc_ecma_parser_grammar.specs.language.Parts.{ReadsName, ReadsWord, KeyRule, word_key, string_key}
-use Rattle.swc_ecma_parser_grammar.proofs.Naming.{name_is_clean}
 use Rattle.swc_ecma_parser_grammar.proofs.Tests.{and_both, and_no, no_and, or_no, or_none}
 use Rattle.swc_ecma_parser_reader.specs.Notes.{no_notes, ◌⊕◌, notes_of}
 use Rattle.swc_ecma_parser_reader.specs.State.{State, Reader, moved, coded, fault_at, within, name, expect_word, end}
@@ -43,13 +42,9 @@ use Rattle.swc_ecma_parser_reader.proofs.expressions.SoundCovers.{ident_key, fre
 use Rattle.swc_ecma_parser_module_reader.specs.Imports.{same_name, other_name, import_specifier, binding_name, import_namespace, bindings, more_bindings, default_binding, import_clause, imported, import_from, phase_of, import_phased, is_phase_word, import_decl, str, source, module_name, no_attributes, specifiers}
 use Rattle.swc_ecma_parser_module_reader.specs.Supported.{supported_item}
 use Rattle.swc_ecma_parser_module_reader.proofs.ModuleCode.{IsModule, in_module_same}
-use Rattle.swc_ecma_parser_module_reader.proofs.SoundShared.{IsLeaf, AreLeaves, SoundLeaf, expect_word_sound, str_sound, source_sound, module_name_sound, no_attributes_sound, specifiers_sound}
+use Rattle.swc_ecma_parser_module_reader.proofs.SoundShared.{IsLeaf, AreLeaves, no_leaves, SoundLeaf, word_name, expect_word_sound, str_sound, source_sound, module_name_sound, no_attributes_sound, specifiers_sound}
 
 -- ---- names
-
--- a free word is a name
-word_name : (i : Ident) (k : Code) (c d : Place) → FreeWord i k c d → ReadsName k i.sym i.span c d
-word_name i k c d r = record { word = r.word; reads_word = r.token; is_text = r.text; is_name = name_is_clean k.flags i.sym (ap (is_name k.flags) r.text ∙ r.free) }
 
 -- a name of a module's is a key
 as_key : (In : Goal → Type 0) (k : Code) (x : Tree) (c d : Place) → ModuleNameRule x c d → KeyRule In k x c d
@@ -93,29 +88,23 @@ renamed_leaf s span text x l = record {
 }
 
 SoundSpecifier : State → Tree → State → Type 0
-SoundSpecifier s x t = SoundLeaf ImportSpecifierRule s x t × Unit {0}
+SoundSpecifier s x t = SoundLeaf ImportSpecifierRule s x t
 
 other_sound : (s : State) (x : Tree) (m : State) → SoundLeaf (λ k. ModuleNameRule) s x m → word_at (codes "as") m.at ≡ true → Meets (SoundSpecifier s) (other_name (span_at s.at) x m)
 unfolding other_name SoundSpecifier spanned
 other_sound s x m (p, l) e = meets_then _ (name faults.ExpectedIdent (moved m)) _ (name_sound faults.ExpectedIdent (moved m)) (λ i t q.
     let r : SoundStep (λ k c d. FreeWord i k (after c) d × (word_at (codes "as") c ≡ true)) m t = sound_after m t (word_stands (codes "as") m.at e) refl refl refl (λ z. (z, e)) q in (
-      (
-        sound_as s t refl refl refl (λ (j, a, (b, w)). renamed_rule x i.sym i.span j a w (word_name i s.code (after j) t.at b) refl) (sound_then p r),
-        renamed_leaf _ _ _ x l,
-      ),
-      tt,
+      sound_as s t refl refl refl (λ (j, a, (b, w)). renamed_rule x i.sym i.span j a w (word_name i s.code (after j) t.at b) refl) (sound_then p r),
+      renamed_leaf _ _ _ x l,
     ))
 
 -- where no `as` stands: a name, and no string
 same_sound : (s : State) (x : Tree) (m : State) → SoundLeaf (λ k. ModuleNameRule) s x m → word_at (codes "as") m.at ≡ false → Meets (SoundSpecifier s) (same_name (span_at s.at) x m)
 unfolding SoundSpecifier spanned
 same_sound s (tree.ident span text) m (p, l) e = meets_if _ (is_name m.code.flags text) _ _ (λ h. (
-  (
-    sound_as s m refl refl refl
-        (λ r. named_rule text span (free_name s.code text span s.at m.at (as_word s.code span text s.at m.at r) (subst (λ k. is_name k.flags text ≡ true) p.code h)) e refl) p,
-    record { empty = λ env. refl; unnoted = refl; no_rest = refl },
-  ),
-  tt,
+  sound_as s m refl refl refl
+      (λ r. named_rule text span (free_name s.code text span s.at m.at (as_word s.code span text s.at m.at r) (subst (λ k. is_name k.flags text ≡ true) p.code h)) e refl) p,
+  record { empty = λ env. refl; unnoted = refl; no_rest = refl },
 )) (λ _. reject_meets _ (fault_at span faults.ReservedWordInImport) m)
 same_sound s (tree.str span value raw) m p e = reject_meets _ (fault_at span faults.ImportBindingIsString) m
 same_sound s _ m p e = wanted_meets _ faults.Unexpected m
@@ -128,11 +117,11 @@ import_specifier_sound s = meets_then _ (module_name s) _ (module_name_sound s) 
 
 -- trees that are read as a list, without faults and notes
 abbrev SoundTrees : (Code → List Tree → Place → Place → Type 0) → State → List Tree → State → Type 0
-SoundTrees R s xs t = SoundStep (λ k. R k xs) s t × AreLeaves (λ x. Unit {0}) xs
+SoundTrees R s xs t = SoundStep (λ k. R k xs) s t × AreLeaves xs
 
 braced_sound : (s : State) → Meets (λ xs t. SoundTrees (λ k. BracedRule (ImportSpecifierRule k)) s xs t) (specifiers import_specifier s)
 unfolding SoundSpecifier
-braced_sound s = specifiers_sound ImportSpecifierRule (λ x. Unit {0}) import_specifier import_specifier_sound s
+braced_sound s = specifiers_sound ImportSpecifierRule import_specifier import_specifier_sound s
 
 binding_name_sound : (s : State) → Meets (λ i t. SoundStep (λ k. ReadsName (outside_functions k) i.sym i.span) s t) (binding_name s)
 unfolding binding_name
@@ -146,7 +135,7 @@ import_namespace_sound s e = meets_then _ (expect_word (codes "as") (moved s)) _
     meets_then _ (binding_name m) _ (binding_name_sound m) (λ i t q. (
       sound_after s t e refl refl refl
           (λ (j, (a, g), b). namespace_rule i.sym i.span e a (subst (λ z. ReadsName (outside_functions s.code) i.sym i.span z t.at) g b) refl) (sound_then p q),
-      record { empty = λ env. refl; unnoted = refl; are = (tt, tt) },
+      record { empty = λ env. refl; unnoted = refl },
     )))
 
 bindings_sound : (s : State) → Meets (λ xs t. SoundTrees BindingsRule s xs t) (bindings s)
@@ -154,17 +143,14 @@ unfolding bindings
 bindings_sound s = meets_if _ (sees kind.Mul s.at) _ _ (λ e. import_namespace_sound s (saw s.at kind.Mul e))
     (λ _. meets_as (specifiers import_specifier s) (braced_sound s) (λ xs t (p, l). (sound_as s t refl refl refl (λ r. named_bindings_rule r) p, l)))
 
-no_trees : AreLeaves (λ x. Unit {0}) []
-no_trees = record { empty = λ env. refl; unnoted = refl; are = tt }
-
 -- behind a default
 behind_comma_sound : (s : State) → kind_at s.at ≡ kind.Comma → Meets (λ xs t. SoundTrees MoreBindingsRule s xs t) (if word_at (codes "from") (after s.at) then Ok ([], moved s) else bindings (moved s))
-behind_comma_sound s e = meets_if _ (word_at (codes "from") (after s.at)) _ _ (λ _. (sound_moved s e refl (comma_rule e refl refl), no_trees))
+behind_comma_sound s e = meets_if _ (word_at (codes "from") (after s.at)) _ _ (λ _. (sound_moved s e refl (comma_rule e refl refl), no_leaves))
     (λ _. meets_as (bindings (moved s)) (bindings_sound (moved s)) (λ xs t (p, l). (sound_after s t e refl refl refl (λ r. more_rule e r) p, l)))
 
 more_bindings_sound : (s : State) → Meets (λ xs t. SoundTrees MoreBindingsRule s xs t) (more_bindings s)
 unfolding more_bindings
-more_bindings_sound s = meets_if _ (sees kind.Comma s.at) _ _ (λ e. behind_comma_sound s (saw s.at kind.Comma e)) (λ _. (sound_here s (no_more_rule refl refl), no_trees))
+more_bindings_sound s = meets_if _ (sees kind.Comma s.at) _ _ (λ e. behind_comma_sound s (saw s.at kind.Comma e)) (λ _. (sound_here s (no_more_rule refl refl), no_leaves))
 
 -- a default and what stands behind it, where something holds of the place before it
 module _ (Q : Code → Place → Type 0) where
@@ -173,7 +159,7 @@ module _ (Q : Code → Place → Type 0) where
   unfolding default_binding
   default_sound s i m p = meets_then _ (more_bindings m) _ (more_bindings_sound m) (λ xs t (q, l). (
     sound_as s t refl refl refl (λ (j, (a, h), b). (h, default_binding_rule i.sym i.span xs j a b refl)) (sound_then p q),
-    record { empty = l.empty; unnoted = l.unnoted; are = (tt, l.are) },
+    record { empty = l.empty; unnoted = l.unnoted },
   ))
 
 import_clause_sound : (s : State) → Meets (λ xs t. SoundTrees ImportClauseRule s xs t) (import_clause s)
@@ -228,14 +214,14 @@ module _ (In : Goal → Type 0) where
     supports : supported_item x ≡ true
     is_decl : is_module_decl x ≡ true
 
-  import_leaf : (s : Span) (xs : List Tree) (src : Tree) (p : ImportPhase) → AreLeaves (λ x. Unit {0}) xs → IsLeaf src → IsLeaf (tree.import s (listed xs) src tree.absent p)
+  import_leaf : (s : Span) (xs : List Tree) (src : Tree) (p : ImportPhase) → AreLeaves xs → IsLeaf src → IsLeaf (tree.import s (listed xs) src tree.absent p)
   import_leaf s xs src p l h = record {
     empty = λ env. ap (λ z. z ++ walk (walks.in_module env) src ++ []) (l.empty (walks.in_module env)) ∙ ap (λ z. z ++ []) (h.empty (walks.in_module env));
     unnoted = ap (λ z. z ⊕ notes_of src ⊕ no_notes) l.unnoted ∙ ap (λ z. z ⊕ no_notes) h.unnoted;
     no_rest = refl;
   }
 
-  module _ (F : Tree → Place → Place → Type 0) (start : Span) (p : ImportPhase) (xs : List Tree) (leaves : AreLeaves (λ x. Unit {0}) xs) (from : Reader Tree)
+  module _ (F : Tree → Place → Place → Type 0) (start : Span) (p : ImportPhase) (xs : List Tree) (leaves : AreLeaves xs) (from : Reader Tree)
       (sound : (s : State) → Meets (λ x t. SoundLeaf (λ k. F) s x t) (from s)) where
     imported_sound : (s : State) → Meets (λ x t. SoundStep (λ k. Imported F start p xs k x) s t × IsImport x) (imported start p xs from s)
     unfolding imported
@@ -280,7 +266,7 @@ module _ (In : Goal → Type 0) where
 
     bare_sound : Meets (SoundImport s) (imported (span_at s.at) phase.Evaluation [] str (moved s))
     unfolding SoundImport spanned
-    bare_sound = meets_as (imported (span_at s.at) phase.Evaluation [] str (moved s)) (imported_sound (λ x. StringRule x) (span_at s.at) phase.Evaluation [] no_trees str str_sound (moved s)) (λ x t (r, h). (
+    bare_sound = meets_as (imported (span_at s.at) phase.Evaluation [] str (moved s)) (imported_sound (λ x. StringRule x) (span_at s.at) phase.Evaluation [] no_leaves str str_sound (moved s)) (λ x t (r, h). (
       sound_after s t begins refl refl refl (λ (src, y, z, f, g, e, o). bare_import_rule src tree.absent y z begins f g e o) r,
       h,
     ))

@@ -9,16 +9,19 @@ use Rattle.swc_ecma_parser_token.specs.declared.token.Token.TheVariants as token
 use Rattle.swc_ecma_parser_token.specs.declared.token.Word.TheVariants as word
 use Rattle.swc_ecma_parser_token.specs.declared.token.TokenAndSpan.{TokenAndSpan}
 use Rattle.swc_ecma_parser_input.specs.Place.{Place, after}
+use Rattle.swc_ecma_parser_model.specs.declared.leaves.Ident.{Ident}
 use Rattle.swc_ecma_parser_model.specs.Tree as tree
 use Rattle.swc_ecma_parser_model.specs.Tree.{Tree, Text, listed, trees}
 use Rattle.swc_ecma_parser_model.specs.Forms.{is_rest}
 use Rattle.swc_ecma_parser_grammar.specs.Looks.{kind_at, sees}
-use Rattle.swc_ecma_parser_grammar.specs.Names.{Code}
+use Rattle.swc_ecma_parser_grammar.specs.Names.{Code, is_name}
 use Rattle.swc_ecma_parser_grammar.specs.Follows.{word_at}
 use Rattle.swc_ecma_parser_grammar.specs.Walk.{Env, walk}
 use Rattle.swc_ecma_parser_grammar.specs.language.Goals.{Goal}
 use Rattle.swc_ecma_parser_grammar.specs.language.Lists.{ReadsListed}
 use Rattle.swc_ecma_parser_grammar.specs.language.ModuleParts.{BracedRule, StringRule, FromRule, ModuleNameRule, word_name_rule, string_name_rule, begins_attributes, AttributesRule, no_attributes_rule}
+use Rattle.swc_ecma_parser_grammar.specs.language.Parts.{ReadsName}
+use Rattle.swc_ecma_parser_grammar.proofs.Naming.{name_is_clean}
 use Rattle.swc_ecma_parser_reader.specs.Notes.{no_notes, ◌⊕◌, notes_of}
 use Rattle.swc_ecma_parser_reader.specs.Operands.{literal_of, literal_in, taken, literal, word_property}
 use Rattle.swc_ecma_parser_reader.specs.Words.{any_word}
@@ -26,7 +29,7 @@ use Rattle.swc_ecma_parser_reader.specs.State.{State, Reader, and_then, moved, e
 use Rattle.swc_ecma_parser_reader.proofs.Meets.{Meets, Refuses, meets_then, meets_if, wanted_meets, refuse_meets, Turned, loop_answers, saw}
 use Rattle.swc_ecma_parser_reader.proofs.Errors.{kind_here}
 use Rattle.swc_ecma_parser_reader.proofs.Between.{SoundStep, sound_then, sound_moved, sound_here, sound_as}
-use Rattle.swc_ecma_parser_reader.proofs.expressions.SoundSteps.{meets_as, stands, Takes, expect_sound, any_word_sound, walks_push, notes_push}
+use Rattle.swc_ecma_parser_reader.proofs.expressions.SoundSteps.{meets_as, stands, Takes, FreeWord, expect_sound, any_word_sound, walks_push, notes_push}
 use Rattle.swc_ecma_parser_reader.proofs.expressions.SoundLists.{properties_list}
 use Rattle.swc_ecma_parser_reader.proofs.expressions.SoundLefts.{word_stands}
 use Rattle.swc_ecma_parser_module_reader.specs.Imports.{str_or, str, source, module_name, no_attributes, specifiers_turn, specifiers}
@@ -38,15 +41,10 @@ pub record IsLeaf (x : Tree) : Type 0 where
   pub unnoted : notes_of x ≡ no_notes
   pub no_rest : is_rest x ≡ false
 
-abbrev pub Every : (Tree → Type 0) → List Tree → Type 0
-Every P [] = Unit {0}
-Every P (x ∷ xs) = P x × Every P xs
-
--- all of a list are such trees, and have a property
-pub record AreLeaves (P : Tree → Type 0) (xs : List Tree) : Type 0 where
+-- all of a list are such trees
+pub record AreLeaves (xs : List Tree) : Type 0 where
   pub empty : (env : Env) → walk env (listed xs) ≡ []
   pub unnoted : notes_of (listed xs) ≡ no_notes
-  pub are : Every P xs
 
 -- a step that reads such a tree
 abbrev pub SoundLeaf : (Code → Tree → Place → Place → Type 0) → State → Tree → State → Type 0
@@ -54,18 +52,20 @@ SoundLeaf R s x t = SoundStep (λ k. R k x) s t × IsLeaf x
 
 -- ---- lists of such trees
 
-every_push : (P : Tree → Type 0) (xs : List Tree) (x : Tree) → Every P xs → P x → Every P (xs ++ x ∷ [])
-every_push P [] x h p = (p, tt)
-every_push P (y ∷ ys) x h p = (h.0, every_push P ys x h.1 p)
+pub no_leaves : AreLeaves []
+no_leaves = record { empty = λ env. refl; unnoted = refl }
 
-leaves_push : (P : Tree → Type 0) (xs : List Tree) (x : Tree) → AreLeaves P xs → IsLeaf x → P x → AreLeaves P (xs ++ x ∷ [])
-leaves_push P xs x h l p = record {
+leaves_push : (xs : List Tree) (x : Tree) → AreLeaves xs → IsLeaf x → AreLeaves (xs ++ x ∷ [])
+leaves_push xs x h l = record {
   empty = λ env. sym (walks_push env xs x) ∙ ap (λ z. z ++ walk env x) (h.empty env) ∙ l.empty env;
   unnoted = sym (notes_push xs x) ∙ ap (λ z. z ⊕ notes_of x) h.unnoted ∙ l.unnoted;
-  are = every_push P xs x h.are p;
 }
 
 -- ---- words and strings
+
+-- a free word is a name
+pub word_name : (i : Ident) (k : Code) (c d : Place) → FreeWord i k c d → ReadsName k i.sym i.span c d
+word_name i k c d r = record { word = r.word; reads_word = r.token; is_text = r.text; is_name = name_is_clean k.flags i.sym (ap (is_name k.flags) r.text ∙ r.free) }
 
 pub expect_word_sound : (text : Text) (s : State) → Meets (λ _ t. SoundStep (λ k c d. (word_at text c ≡ true) × (d ≡ after c)) s t) (expect_word text s)
 unfolding expect_word
@@ -119,17 +119,16 @@ no_attributes_sound In s = meets_if _ (begins_attributes s.code s.at) _ _ (λ _.
 
 -- ---- specifiers in braces
 
-module _ (R : Code → Tree → Place → Place → Type 0) (P : Tree → Type 0) (specifier : Reader Tree)
-    (sound : (s : State) → Meets (λ x t. SoundLeaf R s x t × P x) (specifier s)) where
+module _ (R : Code → Tree → Place → Place → Type 0) (specifier : Reader Tree) (sound : (s : State) → Meets (λ x t. SoundLeaf R s x t) (specifier s)) where
   -- those so far, behind which more may stand, and all
   abbrev More : List Tree → Code → Place → Place → Type 0
   More xs k c d = (ys : List Tree) (e : Place) → ReadsListed true (R k) ys d e → ReadsListed true (R k) (xs ++ ys) c e
 
   abbrev SoFar : State → List Tree → State → Type 0
-  SoFar s xs t = SoundStep (More xs) s t × AreLeaves P xs
+  SoFar s xs t = SoundStep (More xs) s t × AreLeaves xs
 
   abbrev All : State → List Tree → State → Type 0
-  All s xs t = SoundStep (λ k. ReadsListed true (R k) xs) s t × AreLeaves P xs
+  All s xs t = SoundStep (λ k. ReadsListed true (R k) xs) s t × AreLeaves xs
 
   -- one more, with a comma behind it, and the last
   more_next : (xs : List Tree) (x : Tree) (k : Code) (c m i : Place) → is_rest x ≡ false → More xs k c m → R k x m i → kind_at i ≡ kind.Comma → More (xs ++ x ∷ []) k c (after i)
@@ -144,21 +143,21 @@ module _ (R : Code → Tree → Place → Place → Type 0) (P : Tree → Type 0
   turn_sound : (s : State) (xs : List Tree) (t : State) → SoFar s xs t → Meets (Turned (specifiers_turn specifier) (SoFar s) (All s) Refuses) (specifiers_turn specifier xs t)
   unfolding specifiers_turn
   turn_sound s xs t (p, l) = meets_if _ (sees kind.RBrace t.at) _ _ (λ _. (sound_as s t refl refl refl (λ f. all_none xs s.code s.at t.at f) p, l))
-      (λ _. meets_then _ (specifier t) _ (sound t) (λ x m ((q, leaf), h). meets_if _ (sees kind.Comma m.at) _ _
+      (λ _. meets_then _ (specifier t) _ (sound t) (λ x m (q, leaf). meets_if _ (sees kind.Comma m.at) _ _
       (λ e. (
         sound_as s (moved m) refl refl refl (λ (j, (i, f, r), o). subst (More (xs ++ x ∷ []) s.code s.at) (sym o.1) (more_next xs x s.code s.at i j leaf.no_rest f r o.0))
             (sound_then (sound_then p q) (sound_moved {P = λ k. Takes kind.Comma} m (saw m.at kind.Comma e) refl (saw m.at kind.Comma e, refl))),
-        leaves_push P xs x l leaf h,
+        leaves_push xs x l leaf,
       ))
-      (λ _. (sound_as s m refl refl refl (λ (i, f, r). all_last xs x s.code s.at i m.at f r) (sound_then p q), leaves_push P xs x l leaf h))))
+      (λ _. (sound_as s m refl refl refl (λ (i, f, r). all_last xs x s.code s.at i m.at f r) (sound_then p q), leaves_push xs x l leaf))))
 
   all_sound : (s : State) → Meets (All s) (loop (specifiers_turn specifier) [] s)
   all_sound s = loop_answers (specifiers_turn specifier) (SoFar s) (All s) Refuses (turn_sound s) (λ t. tt) [] s (
     sound_here s (λ ys d l. l),
-    record { empty = λ env. refl; unnoted = refl; are = tt },
+    no_leaves,
   )
 
-  pub specifiers_sound : (s : State) → Meets (λ xs t. SoundStep (λ k. BracedRule (R k) xs) s t × AreLeaves P xs) (specifiers specifier s)
+  pub specifiers_sound : (s : State) → Meets (λ xs t. SoundStep (λ k. BracedRule (R k) xs) s t × AreLeaves xs) (specifiers specifier s)
   unfolding specifiers
   specifiers_sound s = meets_then _ (expect kind.LBrace s) _ (expect_sound kind.LBrace s refl) (λ _ m p. meets_then _ (loop (specifiers_turn specifier) [] m) _ (all_sound m) (λ xs i (q, l).
       meets_then _ (expect kind.RBrace i) _ (expect_sound kind.RBrace i refl) (λ _ t r. (

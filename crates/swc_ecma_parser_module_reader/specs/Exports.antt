@@ -1,14 +1,14 @@
--- The reader of exports: ECMA-262, section 16.2.3.
+-- The reader of exports: ECMA-262, section 16.2.3, and the proposal of `export name from`.
 use Rattle.std.specs.Prelude.{Bool, ◌&&◌, ◌||◌, if◌then◌else◌, List, [], ◌∷◌, ◌++◌, codes, Ok}
 use Rattle.swc_ecma_parser_common.specs.declared.span.Span.{Span}
 use Rattle.swc_ecma_parser_error.specs.Kind as faults
 use Rattle.swc_ecma_parser_token.specs.declared.kind.TokenKind.TheVariants as kind
-use Rattle.swc_ecma_parser_input.specs.Place.{Place}
+use Rattle.swc_ecma_parser_input.specs.Place.{Place, after}
 use Rattle.swc_ecma_parser_model.specs.declared.leaves.VarDeclKind.TheVariants as decl
 use Rattle.swc_ecma_parser_model.specs.Tree as tree
 use Rattle.swc_ecma_parser_model.specs.Tree.{Tree, listed}
 use Rattle.swc_ecma_parser_model.specs.Forms.{span_of}
-use Rattle.swc_ecma_parser_grammar.specs.Looks.{sees}
+use Rattle.swc_ecma_parser_grammar.specs.Looks.{sees, span_at}
 use Rattle.swc_ecma_parser_grammar.specs.Names.{Code, name_at}
 use Rattle.swc_ecma_parser_grammar.specs.Follows.{word_at, is_let_declaration, is_async_function}
 use Rattle.swc_ecma_parser_grammar.specs.Own.{export_faults}
@@ -17,7 +17,7 @@ use Rattle.swc_ecma_parser_grammar.specs.language.Goals.{Class, assignment}
 use Rattle.swc_ecma_parser_reader.specs.Jumps.{told}
 use Rattle.swc_ecma_parser_reader.specs.Methods.{star}
 use Rattle.swc_ecma_parser_reader.specs.Reader.{variables, function_decl, function_parts, function_word, named, optional_end}
-use Rattle.swc_ecma_parser_reader.specs.State.{Reader, ◌>>=◌, ◌>>◌, pure, span_here, since, skip, within, wanted, end}
+use Rattle.swc_ecma_parser_reader.specs.State.{Reader, ◌>>=◌, ◌>>◌, pure, span_here, since, skip, within, wanted, name, expect_word, end}
 use Rattle.swc_ecma_parser_module_reader.specs.Imports.{source, module_name, no_attributes, specifiers}
 
 -- ---- names that are exported
@@ -43,7 +43,7 @@ export_specifier = do
 -- `as name`, behind `*`; its span begins with what stands behind `export`
 unfoldable pub export_namespace : Span → Reader Tree
 export_namespace start = do
-  skip
+  expect_word (codes "as")
   n ← module_name
   span ← since start
   pure (tree.export_namespace span n)
@@ -71,11 +71,17 @@ export_names start before = do
   xs ← specifiers export_specifier
   λ s. if word_at (codes "from") s.at then names_from start (before ++ xs) s else own_names start (before ++ xs) s
 
--- behind a namespace: with the setting names in braces, else the other module
-unfoldable pub behind_namespace : Span → Tree → Reader Tree
-behind_namespace start x = λ s. if s.code.setting.export_default_from && sees kind.Comma s.at then (do
+-- behind a default or a namespace of another module: with the setting names in braces, else the module
+unfoldable pub more_names : Span → List Tree → Reader Tree
+more_names start before = λ s. if s.code.setting.export_default_from && sees kind.Comma s.at then (do
   skip
-  export_names start (x ∷ [])) s else names_from start (x ∷ []) s
+  export_names start before) s else names_from start before s
+
+-- from the word `as` on, with what stands before the star; the words behind `export` begin at `first`
+unfoldable pub namespace_names : (start first : Span) → List Tree → Reader Tree
+namespace_names start first before = do
+  x ← export_namespace first
+  more_names start (before ++ x ∷ [])
 
 unfoldable pub export_all : Span → Reader Tree
 export_all start = do
@@ -90,7 +96,36 @@ unfoldable pub export_star : Span → Reader Tree
 export_star start = do
   at ← span_here
   skip
-  λ s. if word_at (codes "as") s.at then (export_namespace at >>= behind_namespace start) s else export_all start s
+  λ s. if word_at (codes "as") s.at then namespace_names start at [] s else export_all start s
+
+-- ---- with the setting, the default of another module
+
+unfoldable pub is_namespace_next : Place → Bool
+is_namespace_next c = sees kind.Comma c && sees kind.Mul (after c)
+
+-- from behind the default on, which begins at `first`
+unfoldable pub behind_default : (start first : Span) → Tree → Reader Tree
+behind_default start first x = λ s. if is_namespace_next s.at then (do
+  skip
+  skip
+  namespace_names start first (x ∷ [])) s else more_names start (x ∷ []) s
+
+-- under a name
+unfoldable pub is_name_from : Code → Place → Bool
+is_name_from k c = k.setting.export_default_from && name_at k.flags c
+
+unfoldable pub name_from : Span → Reader Tree
+name_from start = do
+  first ← span_here
+  i ← name faults.ExpectedIdent
+  behind_default start first (tree.export_default (tree.ident i.span i.sym))
+
+-- under the word `default`, from behind it on
+unfoldable pub is_default_from : Code → Place → Bool
+is_default_from k c = k.setting.export_default_from && (word_at (codes "from") c || (sees kind.Comma c && (sees kind.Mul (after c) || sees kind.LBrace (after c))))
+
+unfoldable pub default_from : (start first : Span) → Reader Tree
+default_from start first = behind_default start first (tree.export_default (tree.ident first (codes "default")))
 
 -- ---- declarations and defaults
 
@@ -116,10 +151,6 @@ module _ (expr : Class → Reader Tree) where
     span ← since start
     pure (tree.export_default_expr span e)
 
--- what is exported by default in another module is not read yet
-unfoldable pub is_default_from : Code → Place → Bool
-is_default_from k c = k.setting.export_default_from && word_at (codes "from") c
-
 unfoldable pub begins_default_function : Place → Bool
 begins_default_function c = sees kind.Function c || is_async_function c
 
@@ -130,11 +161,11 @@ module _ (stmt : Reader Tree) (expr : Class → Reader Tree) (pat : Reader Tree)
     span ← since start
     pure (tree.export_default_decl span x)
 
-  -- from behind `export default` on
-  unfoldable pub export_default : Span → Reader Tree
-  export_default start = λ s.
+  -- from behind `export default` on; the word `default` stands at `first`
+  unfoldable pub export_default : (start first : Span) → Reader Tree
+  export_default start first = λ s.
       if begins_default_function s.at then exported_function start s
-      else if is_default_from s.code s.at then wanted faults.Unexpected s
+      else if is_default_from s.code s.at then default_from start first s
       else default_expr expr start s
 
   -- a declaration that is exported
@@ -151,9 +182,10 @@ module _ (stmt : Reader Tree) (expr : Class → Reader Tree) (pat : Reader Tree)
     λ s.
         if sees kind.LBrace s.at then export_names start [] s
         else if sees kind.Mul s.at then export_star start s
-        else if sees kind.Default s.at then (skip >> export_default start) s
+        else if sees kind.Default s.at then (skip >> export_default start (span_at s.at)) s
         else if sees kind.Var s.at then exported start (variables expr pat decl.Var) s
         else if sees kind.Const s.at then exported start (variables expr pat decl.Const) s
         else if is_let_declaration s.at then exported start (variables expr pat decl.Let) s
         else if begins_default_function s.at then exported start (function_decl stmt params) s
+        else if is_name_from s.code s.at then name_from start s
         else wanted faults.Unexpected s

@@ -5,22 +5,12 @@ use Rattle.swc_ecma_parser_model.specs.Tree.{Tree, Trees, none, also}
 use Rattle.swc_ecma_parser_model.specs.Forms.{is_absent}
 use Rattle.swc_ecma_parser_grammar.specs.Supported.{supported}
 
--- no name stands for what another module exports by default
-abbrev pub name_no_default : Trees → Bool
-name_no_default none = true
-name_no_default (also (tree.export_default exported) ts) = false
-name_no_default (also t ts) = name_no_default ts
-
-abbrev pub are_names : Tree → Bool
-are_names (tree.list ts) = name_no_default ts
-are_names _ = false
-
 -- Imports and exports without attributes, exports of variables and functions, and of expressions and functions by default, and
 -- the statements of scripts.
 abbrev pub supported_item : Tree → Bool
 supported_item (tree.import s specifiers src attributes phase) = is_absent attributes
 supported_item (tree.export_decl s d) = supported d
-supported_item (tree.export_named s specifiers src attributes) = are_names specifiers && is_absent attributes
+supported_item (tree.export_named s specifiers src attributes) = is_absent attributes
 supported_item (tree.export_default_decl s (tree.fn_expr t name fn)) = supported name && supported fn
 supported_item (tree.export_default_decl s d) = false
 supported_item (tree.export_default_expr s e) = supported e

@@ -1,10 +1,11 @@
-//! Exports of names: ECMA-262, section 16.2.3, and the proposal of `export * as name, {..} from`.
+//! Exports of names: ECMA-262, section 16.2.3, and the proposal of `export name from`.
 
-ghost use Rattle.std.specs.Prelude.{◌≡◌, [], ◌∷◌, map, if◌then◌else◌, IfOk, codes};
+ghost use Rattle.std.specs.Prelude.{◌≡◌, [], ◌∷◌, ◌++◌, map, if◌then◌else◌, IfOk, codes};
 ghost use Rattle.swc_ecma_parser_error.specs.Kind as kinds;
 ghost use Rattle.swc_ecma_parser_error.specs.Kind.{kind_of};
 ghost use Rattle.swc_ecma_parser_grammar.specs.Follows.{word_at};
 ghost use Rattle.swc_ecma_parser_grammar.specs.Own as own;
+ghost use Rattle.swc_ecma_parser_model.specs.Tree as tree;
 ghost use Rattle.swc_ecma_parser_model.specs.Tree.{trees};
 ghost use Rattle.swc_ecma_parser_module_reader.specs.Exports as exports;
 ghost use Rattle.swc_ecma_parser_module_reader.specs.Imports as imports;
@@ -17,6 +18,7 @@ use std::alloc::{AllocError, Global};
 use swc_ecma_parser_common::{Atom, Span};
 use swc_ecma_parser_error::{PResult, SyntaxError};
 use swc_ecma_parser_inner::steps::{grown, pushed, since};
+use swc_ecma_parser_model::Ident;
 use swc_ecma_parser_source::{Source, Wanted, is_reserved_word};
 use swc_ecma_parser_token::TokenKind;
 use swc_ecma_parser_trees::{BuildsExport, MakerOf};
@@ -89,7 +91,7 @@ fn export_namespace<P: Source, T: BuildsExport>(
 ) -> PResult<T::ExportSpecifier>
     ensures { GivesAs T.export_specifier_of (exports.export_namespace start (P.seen p.old)) result (P.seen p.new) }
 {
-    p.skip()?;
+    p.expect_word("as")?;
     let name = module_name(p)?;
     let span = since(p, start);
     let name = grown(p, made_name::<T>(t.alloc, name))?;
@@ -211,37 +213,53 @@ pub fn export_names<P: Source, T: BuildsExport>(
     named::<P, T>(t, p, start, found)
 }
 
-/// A namespace before the names in braces.
-fn with_namespace<T: BuildsExport>(
-    namespace: T::ExportSpecifier,
+/// Names behind those before them.
+fn joined<T: BuildsExport>(
+    before: Vec<T::ExportSpecifier>,
     others: Vec<T::ExportSpecifier>,
 ) -> Result<Vec<T::ExportSpecifier>, AllocError>
-    ensures { IfOk result (λ all. map T.export_specifier_of all.items ≡ T.export_specifier_of namespace ∷ map T.export_specifier_of others.items) }
+    ensures { IfOk result (λ all. map T.export_specifier_of all.items ≡ map T.export_specifier_of before.items ++ map T.export_specifier_of others.items) }
 {
-    let mut all = others;
-    all.insert(0, namespace)?;
+    let mut all = before;
+    let mut others = others;
+    all.append(&mut others)?;
     Ok(all)
 }
 
-/// Behind a namespace: with the setting names in braces, else the other module.
-#[tactic(auto, unfolding(swc_ecma_parser_module_reader::specs::Exports::behind_namespace, swc_ecma_parser_module_reader::specs::Exports::export_names))]
-fn behind_namespace<P: Source, T: BuildsExport>(
+/// Behind a default or a namespace of another module: with the setting names in braces, else the module.
+#[tactic(auto, unfolding(swc_ecma_parser_module_reader::specs::Exports::more_names, swc_ecma_parser_module_reader::specs::Exports::export_names))]
+fn more_names<P: Source, T: BuildsExport>(
     t: &MakerOf<T>,
     p: &mut P,
     start: Span,
-    namespace: T::ExportSpecifier,
+    before: Vec<T::ExportSpecifier>,
 ) -> PResult<T::Item>
-    ensures { GivesAs T.item_of (exports.behind_namespace start (T.export_specifier_of namespace) (P.seen p.old)) result (P.seen p.new) }
+    ensures { GivesAs T.item_of (exports.more_names start (map T.export_specifier_of before.items) (P.seen p.old)) result (P.seen p.new) }
 {
     if p.export_default_from() && p.sees(TokenKind::Comma) {
         p.skip()?;
         let others = specifiers::<P, T>(t, p)?;
-        let all = grown(p, with_namespace::<T>(namespace, others))?;
+        let all = grown(p, joined::<T>(before, others))?;
         return named::<P, T>(t, p, start, all);
     }
-    let mut all = Vec::new(t.alloc);
+    names_from::<P, T>(t, p, start, before)
+}
+
+/// A namespace from the word `as` on, with what stands before its star; the words behind `export` begin at `first`.
+#[tactic(auto, unfolding(swc_ecma_parser_module_reader::specs::Exports::namespace_names), using(std::proofs::lemmas::List::map_push))]
+fn namespace_names<P: Source, T: BuildsExport>(
+    t: &MakerOf<T>,
+    p: &mut P,
+    start: Span,
+    first: Span,
+    before: Vec<T::ExportSpecifier>,
+) -> PResult<T::Item>
+    ensures { GivesAs T.item_of (exports.namespace_names start first (map T.export_specifier_of before.items) (P.seen p.old)) result (P.seen p.new) }
+{
+    let namespace = export_namespace::<P, T>(t, p, first)?;
+    let mut all = before;
     pushed(p, &mut all, namespace)?;
-    names_from::<P, T>(t, p, start, all)
+    more_names::<P, T>(t, p, start, all)
 }
 
 /// An export of all names, from the word `from` on.
@@ -274,6 +292,82 @@ pub fn export_star<P: Source, T: BuildsExport>(
     if !p.word_at("as") {
         return export_all::<P, T>(t, p, start);
     }
-    let namespace = export_namespace::<P, T>(t, p, star)?;
-    behind_namespace::<P, T>(t, p, start, namespace)
+    namespace_names::<P, T>(t, p, start, star, Vec::new(t.alloc))
+}
+
+/// Whether a comma and a namespace stand here.
+#[tactic(auto, unfolding(swc_ecma_parser_module_reader::specs::Exports::is_namespace_next))]
+fn is_namespace_next<P: Source>(p: &P) -> bool
+    ensures { result ≡ exports.is_namespace_next (P.seen p.now).at }
+{
+    p.sees(TokenKind::Comma) && p.next_sees(TokenKind::Mul)
+}
+
+/// From behind the default of another module on, which begins at `first`.
+#[tactic(auto, unfolding(swc_ecma_parser_module_reader::specs::Exports::behind_default))]
+fn behind_default<P: Source, T: BuildsExport>(
+    t: &MakerOf<T>,
+    p: &mut P,
+    start: Span,
+    first: Span,
+    exported: Ident,
+) -> PResult<T::Item>
+    ensures { GivesAs T.item_of (exports.behind_default start first (tree.export_default (tree.ident exported.span exported.sym)) (P.seen p.old)) result (P.seen p.new) }
+{
+    let exported = grown(p, T::export_default(t.alloc, exported))?;
+    let mut all = Vec::new(t.alloc);
+    pushed(p, &mut all, exported)?;
+    if is_namespace_next(p) {
+        p.skip()?;
+        p.skip()?;
+        return namespace_names::<P, T>(t, p, start, first, all);
+    }
+    more_names::<P, T>(t, p, start, all)
+}
+
+/// Whether the default of another module stands here under a name.
+#[tactic(auto, unfolding(swc_ecma_parser_module_reader::specs::Exports::is_name_from))]
+pub fn is_name_from<P: Source>(p: &P) -> bool
+    ensures { result ≡ exports.is_name_from (P.seen p.now).code (P.seen p.now).at }
+{
+    p.export_default_from() && p.name_at()
+}
+
+/// An export of the default of another module, from its name on.
+#[tactic(auto, unfolding(swc_ecma_parser_module_reader::specs::Exports::name_from))]
+pub fn name_from<P: Source, T: BuildsExport>(
+    t: &MakerOf<T>,
+    p: &mut P,
+    start: Span,
+) -> PResult<T::Item>
+    ensures { GivesAs T.item_of (exports.name_from start (P.seen p.old)) result (P.seen p.new) }
+{
+    let first = p.span();
+    let name = p.name(Wanted::Name)?;
+    behind_default::<P, T>(t, p, start, first, name)
+}
+
+/// Whether the default of another module is exported by default, where this stands behind the word.
+#[tactic(auto, unfolding(swc_ecma_parser_module_reader::specs::Exports::is_default_from))]
+pub fn is_default_from<P: Source>(p: &P) -> bool
+    ensures { result ≡ exports.is_default_from (P.seen p.now).code (P.seen p.now).at }
+{
+    p.export_default_from()
+        && (p.word_at("from")
+            || (p.sees(TokenKind::Comma)
+                && (p.next_sees(TokenKind::Mul) || p.next_sees(TokenKind::LBrace))))
+}
+
+/// An export of the default of another module as the default, from behind the word on, which stands at `first`.
+#[tactic(auto, unfolding(swc_ecma_parser_module_reader::specs::Exports::default_from))]
+pub fn default_from<P: Source, T: BuildsExport>(
+    t: &MakerOf<T>,
+    p: &mut P,
+    start: Span,
+    first: Span,
+) -> PResult<T::Item>
+    ensures { GivesAs T.item_of (exports.default_from start first (P.seen p.old)) result (P.seen p.new) }
+{
+    let sym = grown(p, Atom::new(t.alloc, "default"))?;
+    behind_default::<P, T>(t, p, start, first, Ident { span: first, sym })
 }

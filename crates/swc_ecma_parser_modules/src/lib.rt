@@ -1,4 +1,4 @@
-//! The rules of imports and of exported names: ECMA-262, sections 16.2.2 and 16.2.3.
+//! The rules of imports and of names that are exported: ECMA-262, section 16.2.
 #![tactic(auto)]
 
 pub mod exports;

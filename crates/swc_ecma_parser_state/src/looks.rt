@@ -150,10 +150,10 @@ impl<I: Tokens> State<I> {
         match self.buffer.peek() {
             Some(
                 TokenAndSpan {
-                    token: Token::Word(Word::Ident(word)),
+                    token: Token::Word(Word::Ident(next)),
                     ..
                 },
-            ) => word.as_str() == text,
+            ) => next.as_str() == text,
             _ => false,
         }
     }

@@ -1,7 +1,8 @@
 -- What is shown is the answer and the faults behind it.
 use Rattle.std.proofs.Common.{◌≡◌, ap, ◌∙◌}
 use Rattle.swc_ecma_parser_error.specs.Kind.{faults_of}
-use Rattle.ecma_report.specs.Lines.{seen_statement, statement_lines}
+use Rattle.swc_ecma_parser_ast.specs.View.{view_stmt}
+use Rattle.ecma_report.specs.Lines.{seen, statement_lines}
 use Rattle.ecma_report.proofs.Reported.{shown_with}
 use Rattle.ecma_report.proofs.statements.show_statement.Goals as goal
 
@@ -15,7 +16,7 @@ returns g c =
       a,
       t,
       ap (λ p. p.state) c.take_errors-faults.ensures.state,
-      h ∙ ap (statement_lines (seen_statement a)) same,
+      h ∙ ap (statement_lines (seen view_stmt a)) same,
       c.statement-answer.ensures.sound,
       c.statement-answer.ensures.complete,
     ))

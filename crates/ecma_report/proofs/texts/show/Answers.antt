@@ -1,6 +1,7 @@
 -- What is shown is the answer and the faults behind it.
 use Rattle.std.proofs.Common.{◌≡◌, ap, ◌∙◌}
 use Rattle.swc_ecma_parser_error.specs.Kind.{faults_of}
+use Rattle.swc_ecma_parser_ast.specs.View.{view_script}
 use Rattle.ecma_report.specs.Lines.{seen, answer_lines}
 use Rattle.ecma_report.proofs.Reported.{shown_with}
 use Rattle.ecma_report.proofs.texts.show.Goals as goal
@@ -15,7 +16,7 @@ returns g c =
       a,
       t,
       ap (λ p. p.state) c.take_errors-faults.ensures.state,
-      h ∙ ap (answer_lines (seen a)) same,
+      h ∙ ap (answer_lines (seen view_script a)) same,
       c.parse_script-answer.ensures.sound,
       c.parse_script-answer.ensures.complete,
     ))

@@ -3,6 +3,7 @@ use Rattle.std.proofs.lemmas.Result.{err_from_is_err_and}
 use Rattle.swc_ecma_parser_error.specs.Kind.{Fault, fault_of}
 use Rattle.swc_ecma_parser_reader.specs.State.{State, GivesAs}
 use Rattle.swc_ecma_parser_reader.proofs.expressions.Loops.{cover_above, head_above}
+use Rattle.swc_ecma_parser_reader.proofs.Sound.{declarators_code}
 use Rattle.swc_ecma_parser_reader.proofs.patterns.Loops.{pattern_above, element_above}
 use Rattle.swc_ecma_parser_inner.specs.Covers.{cover_of, read}
 use Rattle.swc_ecma_parser_core.proofs.Covers.{read_lowest, read_expr, read_expr_err, at_asked, refused_as}
@@ -50,3 +51,7 @@ pat-returns-in-Element g t c =
     subst (λ o. GivesAs g.T.Trees.pat_of o c.element_level.result (g.P.Source.seen c.element_level.new.p))
     (sym (as_asked c.args.depth (g.P.Source.seen c.args.p.now) c.args.part _ _ c.in-Element.is (element_above c.args.depth (g.P.Source.seen c.args.p.now) (omega arith))))
     c.element_level.ensures
+
+pub declared_variables-set_flags-requires-2 : goal.declared_variables-set_flags-requires-2
+declared_variables-set_flags-requires-2 g t c =
+    sym (ap (λ k. k.flags.«module») (declarators_code _ _ _ _ _ _ c.in_ok-found.ensures) ∙ ap (λ s. s.code.flags.«module») c.set_flags.ensures ∙ ap (λ f. f.«module») c.with_in.ensures)

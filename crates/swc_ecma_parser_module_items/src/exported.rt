@@ -1,0 +1,195 @@
+//! Exports of declarations and of defaults: ECMA-262, section 16.2.3.
+
+ghost use Rattle.std.specs.Prelude.{◌≡◌};
+ghost use Rattle.swc_ecma_parser_grammar.specs.Reads.{nested_item};
+ghost use Rattle.swc_ecma_parser_inner.specs.Keys.{word_of};
+ghost use Rattle.swc_ecma_parser_module_reader.specs.Exports as exports;
+ghost use Rattle.swc_ecma_parser_reader.specs.Reader as rules;
+ghost use Rattle.swc_ecma_parser_reader.specs.State.{GivesAs};
+ghost use Rattle.swc_ecma_parser_trees.specs.Parts.{part_of};
+
+use crate::inner::inner_expr;
+use swc_ecma_parser_common::Span;
+use swc_ecma_parser_core::grammar::{declared_function, inner_declarators, inner_function};
+use swc_ecma_parser_error::PResult;
+use swc_ecma_parser_functions::function::{Manner, function_word, star};
+use swc_ecma_parser_inner::steps::{grown, since, with_in};
+use swc_ecma_parser_model::{Ident, VarDeclKind};
+use swc_ecma_parser_modules::exports::{
+    default_from, export_names, export_star, is_default_from, is_name_from, name_from,
+};
+use swc_ecma_parser_source::{Source, Wanted};
+use swc_ecma_parser_token::TokenKind;
+use swc_ecma_parser_trees::{BuildsExport, BuildsStatements, BuildsVarDecl, MakerOf};
+
+/// The name of a function that is exported by default, which is read in the code around, if there is one.
+#[tactic(auto, unfolding(swc_ecma_parser_module_reader::specs::Exports::default_name, swc_ecma_parser_reader::specs::Reader::named))]
+fn default_name<P: Source>(p: &mut P) -> PResult<Option<Ident>>
+    ensures { GivesAs (part_of word_of) (exports.default_name (P.seen p.old)) result (P.seen p.new) }
+{
+    if !p.name_at() {
+        return Ok(None);
+    }
+    let name = p.name(Wanted::Name)?;
+    Ok(Some(name))
+}
+
+/// A function that is exported by default.
+#[tactic(auto, unfolding(swc_ecma_parser_module_reader::specs::Exports::default_function))]
+fn default_function<P: Source, T: BuildsStatements + BuildsExport>(
+    t: &MakerOf<T>,
+    p: &mut P,
+    depth: usize,
+) -> PResult<T::DefaultDecl>
+    ensures { GivesAs T.default_decl_of (exports.default_function (rules.stmt depth nested_item) (rules.parameters depth) (P.seen p.old)) result (P.seen p.new) }
+{
+    let start = p.span();
+    let is_async = function_word(p)?;
+    let is_generator = star(p)?;
+    let manner = Manner {
+        is_async,
+        is_generator,
+    };
+    let name = default_name(p)?;
+    let function = inner_function::<P, T>(t, p, depth, manner, start)?;
+    let span = T::function_span(&function);
+    grown(p, T::default_fn(t.alloc, span, name, function))
+}
+
+/// An export of such a function, from it on.
+#[tactic(auto, unfolding(swc_ecma_parser_module_reader::specs::Exports::exported_function))]
+fn exported_function<P: Source, T: BuildsStatements + BuildsExport>(
+    t: &MakerOf<T>,
+    p: &mut P,
+    depth: usize,
+    start: Span,
+) -> PResult<T::Item>
+    ensures { GivesAs T.item_of (exports.exported_function (rules.stmt depth nested_item) (rules.expr depth) (rules.pattern depth) (rules.parameters depth) start (P.seen p.old)) result (P.seen p.new) }
+{
+    let decl = default_function::<P, T>(t, p, depth)?;
+    let span = since(p, start);
+    grown(p, T::export_default_decl(t.alloc, span, decl))
+}
+
+/// An export of an expression by default, from it on.
+#[tactic(auto, unfolding(swc_ecma_parser_module_reader::specs::Exports::default_expr))]
+fn default_expr<P: Source, T: BuildsStatements + BuildsExport>(
+    t: &MakerOf<T>,
+    p: &mut P,
+    depth: usize,
+    start: Span,
+) -> PResult<T::Item>
+    ensures { GivesAs T.item_of (exports.default_expr (rules.expr depth) start (P.seen p.old)) result (P.seen p.new) }
+{
+    let expr = inner_expr::<P, T>(t, p, depth)?;
+    p.end(Wanted::Token(";"))?;
+    let span = since(p, start);
+    grown(p, T::export_default_expr(t.alloc, span, expr))
+}
+
+/// Whether a function begins here.
+#[tactic(auto, unfolding(swc_ecma_parser_module_reader::specs::Exports::begins_default_function))]
+fn begins_function<P: Source>(p: &P) -> bool
+    ensures { result ≡ exports.begins_default_function (P.seen p.now).at }
+{
+    p.sees(TokenKind::Function) || p.is_async_function()
+}
+
+/// An export of a default, from behind its words on, the last of which stands at `first`.
+#[tactic(auto, unfolding(swc_ecma_parser_module_reader::specs::Exports::export_default))]
+fn export_default<P: Source, T: BuildsStatements + BuildsExport>(
+    t: &MakerOf<T>,
+    p: &mut P,
+    depth: usize,
+    start: Span,
+    first: Span,
+) -> PResult<T::Item>
+    ensures { GivesAs T.item_of (exports.export_default (rules.stmt depth nested_item) (rules.expr depth) (rules.pattern depth) (rules.parameters depth) start first (P.seen p.old)) result (P.seen p.new) }
+{
+    if begins_function(p) {
+        return exported_function::<P, T>(t, p, depth, start);
+    }
+    if is_default_from(p) {
+        return default_from::<P, T>(t, p, start, first);
+    }
+    default_expr::<P, T>(t, p, depth, start)
+}
+
+/// An export of variables, from their word on.
+#[tactic(auto, unfolding(swc_ecma_parser_module_reader::specs::Exports::exported, swc_ecma_parser_reader::specs::Reader::variables, swc_ecma_parser_grammar::specs::Looks::spanned))]
+fn exported_variables<P: Source, T: BuildsStatements + BuildsExport + BuildsVarDecl>(
+    t: &MakerOf<T>,
+    p: &mut P,
+    depth: usize,
+    start: Span,
+    word: VarDeclKind,
+) -> PResult<T::Item>
+    ensures { GivesAs T.item_of (exports.exported (rules.stmt depth nested_item) (rules.expr depth) (rules.pattern depth) (rules.parameters depth) start (rules.variables (rules.expr depth) (rules.pattern depth) word) (P.seen p.old)) result (P.seen p.new) }
+{
+    let first = p.span();
+    p.skip()?;
+    let outer = p.flags();
+    p.set_flags(with_in(outer));
+    let found = inner_declarators::<P, T>(t, p, depth, word)?;
+    p.set_flags(outer);
+    p.end(Wanted::Expression)?;
+    let span = since(p, first);
+    let decl = grown(p, T::var_decl(t.alloc, span, word, found))?;
+    let span = since(p, start);
+    grown(p, T::export_decl(t.alloc, span, decl))
+}
+
+/// An export of a function, from it on.
+#[tactic(auto, unfolding(swc_ecma_parser_module_reader::specs::Exports::exported))]
+fn exported_decl<P: Source, T: BuildsStatements + BuildsExport>(
+    t: &MakerOf<T>,
+    p: &mut P,
+    depth: usize,
+    start: Span,
+) -> PResult<T::Item>
+    ensures { GivesAs T.item_of (exports.exported (rules.stmt depth nested_item) (rules.expr depth) (rules.pattern depth) (rules.parameters depth) start (rules.function_decl (rules.stmt depth nested_item) (rules.parameters depth)) (P.seen p.old)) result (P.seen p.new) }
+{
+    let decl = declared_function::<P, T>(t, p, depth)?;
+    let span = since(p, start);
+    grown(p, T::export_decl(t.alloc, span, decl))
+}
+
+/// An export.
+#[tactic(auto, unfolding(swc_ecma_parser_module_reader::specs::Exports::export_decl))]
+pub fn export_decl<P: Source, T: BuildsStatements + BuildsExport + BuildsVarDecl>(
+    t: &MakerOf<T>,
+    p: &mut P,
+    depth: usize,
+) -> PResult<T::Item>
+    ensures { GivesAs T.item_of (exports.export_decl (rules.stmt depth nested_item) (rules.expr depth) (rules.pattern depth) (rules.parameters depth) (P.seen p.old)) result (P.seen p.new) }
+{
+    let start = p.span();
+    p.skip()?;
+    if p.sees(TokenKind::LBrace) {
+        return export_names::<P, T>(t, p, start);
+    }
+    if p.sees(TokenKind::Mul) {
+        return export_star::<P, T>(t, p, start);
+    }
+    if p.sees(TokenKind::Default) {
+        let first = p.span();
+        p.skip()?;
+        return export_default::<P, T>(t, p, depth, start, first);
+    }
+    if p.sees(TokenKind::Var) {
+        return exported_variables::<P, T>(t, p, depth, start, VarDeclKind::Var);
+    }
+    if p.sees(TokenKind::Const) {
+        return exported_variables::<P, T>(t, p, depth, start, VarDeclKind::Const);
+    }
+    if p.is_let_declaration() {
+        return exported_variables::<P, T>(t, p, depth, start, VarDeclKind::Let);
+    }
+    if begins_function(p) {
+        return exported_decl::<P, T>(t, p, depth, start);
+    }
+    if is_name_from(p) {
+        return name_from::<P, T>(t, p, start);
+    }
+    Err(p.wanted(Wanted::Expression))
+}

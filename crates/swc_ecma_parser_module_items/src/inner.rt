@@ -1,0 +1,41 @@
+//! Expressions in exports, one level further in.
+
+ghost use Rattle.swc_ecma_parser_grammar.specs.Reads.{with_in};
+ghost use Rattle.swc_ecma_parser_grammar.specs.language.Goals.{assignment};
+ghost use Rattle.swc_ecma_parser_reader.specs.Reader as rules;
+ghost use Rattle.swc_ecma_parser_reader.specs.State.{GivesAs, within};
+
+use swc_ecma_parser_core::grammar::expr;
+use swc_ecma_parser_error::PResult;
+use swc_ecma_parser_grammar::Class;
+use swc_ecma_parser_inner::cover::Reading;
+use swc_ecma_parser_inner::steps;
+use swc_ecma_parser_source::Source;
+use swc_ecma_parser_trees::{BuildsStatements, MakerOf};
+
+/// An expression without commas, as the code around has it, in so many levels.
+fn assignment_expr<P: Source, T: BuildsStatements>(
+    t: &MakerOf<T>,
+    p: &mut P,
+    depth: usize,
+) -> PResult<T::Expr>
+    ensures { GivesAs T.expr_of (rules.expr depth assignment (P.seen p.old)) result (P.seen p.new) }
+{
+    let found = expr::<P, T>(t, p, depth, Reading::Expr(Class::Assignment))?;
+    Ok(found.tree)
+}
+
+/// An expression without commas, in so many levels.
+pub fn inner_expr<P: Source, T: BuildsStatements>(
+    t: &MakerOf<T>,
+    p: &mut P,
+    depth: usize,
+) -> PResult<T::Expr>
+    ensures { GivesAs T.expr_of (within with_in (rules.expr depth assignment) (P.seen p.old)) result (P.seen p.new) }
+{
+    let outer = p.flags();
+    p.set_flags(steps::with_in(outer));
+    let inner = assignment_expr::<P, T>(t, p, depth)?;
+    p.set_flags(outer);
+    Ok(inner)
+}

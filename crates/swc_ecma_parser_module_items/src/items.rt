@@ -1,0 +1,139 @@
+//! Items of modules, and whole modules: ECMA-262, section 16.2.
+
+ghost use Rattle.std.specs.Prelude.{◌≡◌, true, [], map, IsOk};
+ghost use Rattle.swc_ecma_parser_grammar.specs.Reads.{directed};
+ghost use Rattle.swc_ecma_parser_module_reader.specs.Modules as modules;
+ghost use Rattle.swc_ecma_parser_reader.specs.Reader as rules;
+ghost use Rattle.swc_ecma_parser_reader.specs.State as reader;
+ghost use Rattle.swc_ecma_parser_reader.specs.State.{GivesAs};
+
+use crate::exported::export_decl;
+use swc_ecma_parser_core::script::whole_stmt;
+use swc_ecma_parser_error::PResult;
+use swc_ecma_parser_grammar::Position;
+use swc_ecma_parser_inner::steps::{grown, pushed, since};
+use swc_ecma_parser_input::Context;
+use swc_ecma_parser_modules::imports::import_decl;
+use swc_ecma_parser_source::Source;
+use swc_ecma_parser_token::TokenKind;
+use swc_ecma_parser_trees::{BuildsExport, BuildsItem, BuildsStatements, BuildsVarDecl, MakerOf};
+
+/// A statement of the module itself.
+const TOP_ITEM: Position = Position {
+    include_decl: true,
+    top_level: true,
+};
+
+/// Whether `import` stands here and begins no expression.
+#[tactic(auto, unfolding(swc_ecma_parser_module_reader::specs::Modules::begins_import, swc_ecma_parser_grammar::specs::Follows::begins_import_expression))]
+fn begins_import<P: Source>(p: &P) -> bool
+    ensures { result ≡ modules.begins_import (P.seen p.now).at }
+{
+    p.sees(TokenKind::Import) && !(p.next_sees(TokenKind::LParen) || p.next_sees(TokenKind::Dot))
+}
+
+/// An import, in so many levels.
+#[tactic(auto, using(swc_ecma_parser_module_reader::proofs::Levels::import_lowest, swc_ecma_parser_module_reader::proofs::Levels::import_above))]
+fn import_in<P: Source, T: BuildsExport>(
+    t: &MakerOf<T>,
+    p: &mut P,
+    limit: usize,
+) -> PResult<T::Item>
+    ensures { GivesAs T.item_of (modules.import_in limit (P.seen p.old)) result (P.seen p.new) }
+{
+    if limit == 0 {
+        return Err(p.too_deep());
+    }
+    import_decl::<P, T>(t, p)
+}
+
+/// An export, in so many levels.
+#[tactic(auto, using(swc_ecma_parser_module_reader::proofs::Levels::export_lowest, swc_ecma_parser_module_reader::proofs::Levels::export_above))]
+fn export_in<P: Source, T: BuildsStatements + BuildsExport + BuildsVarDecl>(
+    t: &MakerOf<T>,
+    p: &mut P,
+    limit: usize,
+) -> PResult<T::Item>
+    ensures { GivesAs T.item_of (modules.export_in limit (P.seen p.old)) result (P.seen p.new) }
+{
+    if limit == 0 {
+        return Err(p.too_deep());
+    }
+    export_decl::<P, T>(t, p, limit - 1)
+}
+
+/// An item of a module, in so many levels: an import, an export or a statement.
+#[tactic(auto, unfolding(swc_ecma_parser_module_reader::specs::Modules::module_item))]
+pub fn module_item<P: Source, T: BuildsStatements + BuildsExport + BuildsVarDecl>(
+    t: &MakerOf<T>,
+    p: &mut P,
+    limit: usize,
+) -> PResult<T::Item>
+    ensures { GivesAs T.item_of (modules.module_item limit (P.seen p.old)) result (P.seen p.new) }
+{
+    if begins_import(p) {
+        return import_in::<P, T>(t, p, limit);
+    }
+    if p.sees(TokenKind::Export) {
+        return export_in::<P, T>(t, p, limit);
+    }
+    let stmt = whole_stmt::<P, T>(t, p, limit, TOP_ITEM)?;
+    grown(p, T::stmt_item(t.alloc, stmt))
+}
+
+/// Turns strict what follows a directive.
+fn direct<P: Source, T: BuildsItem>(p: &mut P, directives: bool, x: &T::Item)
+    ensures { P.seen p.new ≡ reader.coded (directed (P.seen p.old).code directives (T.item_of x.now)) (P.seen p.old) }
+{
+    if directives && T::is_use_strict_item(x) {
+        let flags = p.flags();
+        p.set_flags(Context {
+            strict: true,
+            ..flags
+        });
+    }
+}
+
+/// Whether the list has ended.
+#[tactic(auto, unfolding(swc_ecma_parser_reader::specs::Reader::at_end))]
+fn at_end<P: Source>(p: &P) -> bool
+    ensures { result ≡ rules.at_end (P.seen p.now).at }
+{
+    p.sees(TokenKind::End)
+}
+
+/// The items of a module, the first of which can be a directive.
+#[tactic(auto, unfolding(swc_ecma_parser_reader::specs::Reader::items), using(swc_ecma_parser_reader::proofs::Loops::items_stop, swc_ecma_parser_reader::proofs::Loops::items_err, swc_ecma_parser_core::proofs::Items::script_more, swc_ecma_parser_module_reader::proofs::Falls::item_shorter, std::proofs::lemmas::List::map_push))]
+fn items<P: Source, T: BuildsStatements + BuildsExport + BuildsVarDecl>(
+    t: &MakerOf<T>,
+    p: &mut P,
+    limit: usize,
+) -> PResult<Vec<T::Item>>
+    ensures gives { GivesAs (λ found. map T.item_of found.items) (rules.items (modules.module_item limit) rules.at_end true (P.seen p.old)) result (P.seen p.new) }
+    ensures outright { (P.seen p.old).at.left ≡ [] → IsOk result }
+{
+    let mut found = Vec::new(t.alloc);
+    'items: while !at_end(p) {
+        let item = module_item::<P, T>(t, p, limit)?;
+        direct::<P, T>(p, found.is_empty(), &item);
+        pushed(p, &mut found, item)?;
+    }
+    Ok(found)
+}
+
+/// A module, whose items may stand so many levels deep.
+#[tactic(auto, unfolding(swc_ecma_parser_module_reader::specs::Modules::module_body, swc_ecma_parser_grammar::specs::Looks::spanned))]
+pub fn module_body<P: Source, T: BuildsStatements + BuildsExport + BuildsVarDecl>(
+    t: &MakerOf<T>,
+    p: &mut P,
+    limit: usize,
+) -> PResult<T::Module>
+    ensures gives { GivesAs T.module_of (modules.module_body limit (P.seen p.old)) result (P.seen p.new) }
+    ensures outright { (P.seen p.old).at.left ≡ [] → IsOk result }
+{
+    let start = p.span();
+    let shebang = p.shebang()?;
+    let body = items::<P, T>(t, p, limit)?;
+    let span = since(p, start);
+    Ok(T::module(span, body, shebang))
+}
