@@ -1,0 +1,4 @@
+pub mod Refusals
+pub mod Members
+pub mod Setters
+pub mod Surplus
