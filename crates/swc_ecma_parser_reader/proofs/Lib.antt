@@ -5,7 +5,6 @@ pub mod Words
 pub mod Falls
 pub mod expressions
 pub mod patterns
-pub mod classes
 pub mod Loops
 pub mod Meets
 pub mod Behind

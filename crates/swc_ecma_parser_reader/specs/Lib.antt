@@ -11,8 +11,6 @@ pub mod AsyncArrows
 pub mod Expressions
 pub mod Heads
 pub mod Patterns
-pub mod Bodies
-pub mod Members
 pub mod Reader
 pub mod Entry
 pub mod Limits

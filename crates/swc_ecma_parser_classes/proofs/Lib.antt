@@ -1,4 +1,0 @@
-pub mod Refusals
-pub mod Members
-pub mod Setters
-pub mod Surplus
