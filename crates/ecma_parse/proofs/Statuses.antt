@@ -19,6 +19,15 @@ pub more_of : {X E : Type 0} {P Q : X → Type 0} (r : Result X E) → IsOkAnd r
 more_of (Ok x) h f = f x h
 more_of (Err e) h f = h
 
+-- what an answer holds
+abbrev value_or : {X E : Type 0} → X → Result X E → X
+value_or d (Ok x) = x
+value_or d (Err e) = d
+
+-- two equal answers hold the same
+pub same_ok : {X E : Type 0} (x y : X) → ◌≡◌ {A = Result X E} (Ok x) (Ok y) → x ≡ y
+same_ok x y h = ap (value_or x) h
+
 -- an outcome that can only be clean ends with 0, or with the status of a fault
 pub ends : {E : Type 0} (o : Result Verdict E) (n : ℕ) → (o ≡ Ok verdict.Clean → n ≡ 0) → (IsErr o → n ≡ 3) → IfOk o (λ v. v ≡ verdict.Clean) → (n ≡ 0) ⊎ (n ≡ 3)
 ends (Ok v) n z t h = inl (z (ap Ok h))

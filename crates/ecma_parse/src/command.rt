@@ -1,6 +1,6 @@
 //! The words that a run is called with.
 
-ghost use Rattle.std.specs.Prelude.{◌≡◌, ◌≢◌, Some, None, IsOkAnd, IfOk, IfErr, OnOk, IsErrOf};
+ghost use Rattle.std.specs.Prelude.{◌≡◌, ◌≢◌, Some, None, Ok, IsOkAnd, IfOk, IfErr, IsErrOf};
 ghost use Rattle.std.specs.IoError.{error_kind};
 ghost use Rattle.ecma_parse.specs.Command.{named, asked};
 
@@ -34,7 +34,7 @@ fn goal_asked(words: &[String]) -> Option<Goal>
 /// What the words ask for. A word that is not UTF-8 is none of those that the program knows.
 pub fn accept(words: &io::Result<Vec<String>>) -> Result<Goal, Fault>
     ensures ok { IfOk result (λ goal. IsOkAnd words.now (λ words. asked words.items ≡ Some goal)) }
-    ensures known { IfOk words.now (λ words. (goal : _) → asked words.items ≡ Some goal → IfOk result (λ it. it ≡ goal)) }
+    ensures known { IfOk words.now (λ words. (goal : _) → asked words.items ≡ Some goal → result ≡ Ok goal) }
     ensures usage { IfOk words.now (λ words. asked words.items ≡ None → IsErrOf result Fault.Usage) }
     ensures memory { IfErr words.now (λ e. error_kind e ≡ ErrorKind.OutOfMemory → IsErrOf result Fault.OutOfMemory) }
     ensures other { IfErr words.now (λ e. error_kind e ≢ ErrorKind.OutOfMemory → IsErrOf result Fault.Usage) }
