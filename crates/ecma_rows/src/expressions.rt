@@ -14,6 +14,7 @@ typeof -a → Script 0..9, Expr 0..9 → UnaryExpr 0..9, UnaryExpr 7..9
 a++ + b → Script 0..7, Expr 0..7 → BinExpr 0..7, UpdateExpr 0..3
 a = b += c → Script 0..10, Expr 0..10 → AssignExpr 0..10, AssignExpr 4..10
 a ? b : c ? d : e → Script 0..17, Expr 0..17 → CondExpr 0..17, CondExpr 8..17
+a, b = [c]; d → Script 0..13, Expr 0..11, Expr 12..13 → SeqExpr 0..10, AssignExpr 3..10
 a, b, c → Script 0..7, Expr 0..7 → SeqExpr 0..7
 var a = b = 1, c; → Script 0..17, Var 0..17 → VarDeclarator 4..13, AssignExpr 8..13, VarDeclarator 15..16";
 
@@ -133,9 +134,14 @@ const REFUSED: &str = "a ?? b || c → refused 0..11 NullishCoalescingWithLogica
 ++1 → refused 2..3 NotSimpleAssign
 a ? b → refused 4..5 Expected";
 
+const ATTRIBUTES: &str = "import('foo',) → Script 0..14, Expr 0..14 → CallExpr 0..14";
+
+/// With the setting `import_attributes`.
+pub const SET_TABLES: [(&str, &str); 1] = [(ATTRIBUTES, "1 rows")];
+
 /// Each table, and how many rows it has.
 pub const TABLES: [(&str, &str); 10] = [
-    (OPERATORS, "16 rows"),
+    (OPERATORS, "17 rows"),
     (CALLS, "8 rows"),
     (ARRAYS, "6 rows"),
     (OBJECTS, "7 rows"),

@@ -2,7 +2,8 @@
 
 use crate::report::report;
 use crate::{
-    arrows, awaits, declarations, expressions, functions, heads, methods, modules, rows, statements,
+    arrows, awaits, classes, declarations, expressions, functions, heads, methods, modules, rows,
+    statements,
 };
 use ecma_report::Goal;
 use ecma_texts::{Asked, plainly};
@@ -53,6 +54,7 @@ fn rows_hold(rt: HostRuntime) -> Result<(), Fail> {
     for tables in [
         arrows::TABLES.as_slice(),
         awaits::TABLES.as_slice(),
+        classes::TABLES.as_slice(),
         declarations::TABLES.as_slice(),
         expressions::TABLES.as_slice(),
         functions::TABLES.as_slice(),
@@ -64,6 +66,12 @@ fn rows_hold(rt: HostRuntime) -> Result<(), Fail> {
         write_tables(alloc, &mut wrong, tables, plainly(Goal::Script))?;
     }
     write_tables(alloc, &mut wrong, &modules::TABLES, plainly(Goal::Module))?;
+    write_tables(
+        alloc,
+        &mut wrong,
+        &classes::MODULE_TABLES,
+        plainly(Goal::Module),
+    )?;
     let asked = Asked {
         settings: EsSyntax {
             export_default_from: true,
@@ -72,6 +80,14 @@ fn rows_hold(rt: HostRuntime) -> Result<(), Fail> {
         ..plainly(Goal::Module)
     };
     write_tables(alloc, &mut wrong, &modules::SET_TABLES, asked)?;
+    let asked = Asked {
+        settings: EsSyntax {
+            import_attributes: true,
+            ..EsSyntax::default()
+        },
+        ..plainly(Goal::Script)
+    };
+    write_tables(alloc, &mut wrong, &expressions::SET_TABLES, asked)?;
     assert_eq!(rt; wrong.as_str(), "");
     Ok(())
 }
@@ -83,6 +99,7 @@ fn rows_hold_within_their_levels(rt: HostRuntime) -> Result<(), Fail> {
     for limits in [
         arrows::LIMITS.as_slice(),
         awaits::LIMITS.as_slice(),
+        classes::LIMITS.as_slice(),
         declarations::LIMITS.as_slice(),
         expressions::LIMITS.as_slice(),
         functions::LIMITS.as_slice(),
@@ -94,6 +111,7 @@ fn rows_hold_within_their_levels(rt: HostRuntime) -> Result<(), Fail> {
         write_limits(alloc, &mut wrong, limits, Goal::Script)?;
     }
     write_limits(alloc, &mut wrong, &modules::LIMITS, Goal::Module)?;
+    write_limits(alloc, &mut wrong, &classes::MODULE_LIMITS, Goal::Module)?;
     assert_eq!(rt; wrong.as_str(), "");
     Ok(())
 }

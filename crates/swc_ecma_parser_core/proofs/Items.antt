@@ -1,5 +1,5 @@
 -- The turns of item lists, with directives or without.
-use Rattle.std.proofs.Common.{◌≡◌, ℕ, suc, nat_eq, arith, ◌<◌, Bool, true, false, List, [], ◌∷◌, ◌++◌, length, Ok, refl, sym, ap, ◌∙◌}
+use Rattle.std.proofs.Common.{◌≡◌, ℕ, suc, nat_eq, arith, ◌<◌, Bool, true, false, List, [], ◌∷◌, ◌++◌, length, Ok, sym, ap, ◌∙◌}
 use Rattle.std.specs.Prelude.{◌==◌}
 use Rattle.std.proofs.lemmas.Bool.Decides.{nat_tests}
 use Rattle.swc_ecma_parser_input.specs.Place.{Place}

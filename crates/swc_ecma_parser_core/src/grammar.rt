@@ -1,21 +1,27 @@
 //! The functions that tie together the rules and the readers that they take, level by level.
 
 ghost use Rattle.std.specs.Prelude.{◌≡◌, ◌||◌, map, false};
+ghost use Rattle.swc_ecma_parser_classes.specs.Named.{class_expr_of};
 ghost use Rattle.swc_ecma_parser_grammar.specs.Follows as follows;
 ghost use Rattle.swc_ecma_parser_grammar.specs.Looks as looks;
 ghost use Rattle.swc_ecma_parser_grammar.specs.Reads.{nested_item};
+ghost use Rattle.swc_ecma_parser_grammar.specs.language.Goals.{left_side};
 ghost use Rattle.swc_ecma_parser_model.specs.declared.leaves.VarDeclKind.TheVariants as decl;
 ghost use Rattle.swc_ecma_parser_token.specs.declared.kind.TokenKind.TheVariants as kind;
 ghost use Rattle.swc_ecma_parser_inner.specs.Covers.{cover_of, read};
 ghost use Rattle.swc_ecma_parser_inner.specs.Patterns.{read_pat};
+ghost use Rattle.swc_ecma_parser_reader.specs.Classes.{class_of};
+ghost use Rattle.swc_ecma_parser_reader.specs.Members as members;
 ghost use Rattle.swc_ecma_parser_reader.specs.Reader as rules;
 ghost use Rattle.swc_ecma_parser_reader.specs.State.{GivesAs};
 
+use swc_ecma_parser_classes::class::{ClassGrammar, NamedClass, class_decl, class_expr};
+use swc_ecma_parser_classes::member::member_level;
 use swc_ecma_parser_common::Span;
 use swc_ecma_parser_control::stmt::level;
-use swc_ecma_parser_error::PResult;
+use swc_ecma_parser_error::{PResult, SyntaxError};
 use swc_ecma_parser_functions::function::{Manner, function_parts, function_word, star};
-use swc_ecma_parser_grammar::Position;
+use swc_ecma_parser_grammar::{Class, Position};
 use swc_ecma_parser_inner::cover::{Cover, Reading, done};
 use swc_ecma_parser_inner::grammar::{Grammar, Part};
 use swc_ecma_parser_inner::steps::{grown, since, with_in};
@@ -30,7 +36,7 @@ use swc_ecma_parser_trees::{BuildsStatements, MakerOf};
 
 /// A statement in so many levels.
 #[cycle(knot)]
-#[tactic(auto, using(swc_ecma_parser_reader::proofs::Loops::stmt_lowest, swc_ecma_parser_reader::proofs::Loops::stmt_above, crate::proofs::Declared::function_is_stmt, crate::proofs::Declared::var_is_stmt))]
+#[tactic(auto, using(swc_ecma_parser_reader::proofs::Loops::stmt_lowest, swc_ecma_parser_reader::proofs::Loops::stmt_above, crate::proofs::Declared::function_is_stmt, crate::proofs::Declared::var_is_stmt, crate::proofs::Declared::class_is_stmt))]
 pub fn stmt<P: Source, T: BuildsStatements>(
     t: &MakerOf<T>,
     p: &mut P,
@@ -49,6 +55,9 @@ pub fn stmt<P: Source, T: BuildsStatements>(
     if p.sees(TokenKind::Var) {
         return declared_variables::<P, T>(t, p, depth - 1);
     }
+    if p.sees(TokenKind::Class) {
+        return class_statement::<P, T>(t, p, depth - 1, at);
+    }
     let g = Grammar {
         depth: depth - 1,
         stmt: stmt::<P, T>,
@@ -58,9 +67,8 @@ pub fn stmt<P: Source, T: BuildsStatements>(
     level(&g, t, p, at)
 }
 
-/// An expression in so many levels.
+/// What is asked for, in so many levels.
 #[cycle(knot)]
-#[tactic(auto, using(crate::proofs::Covers::read_lowest, crate::proofs::Covers::read_expr, crate::proofs::Covers::read_expr_err, swc_ecma_parser_reader::proofs::expressions::Loops::cover_above))]
 pub fn expr<P: Source, T: BuildsStatements>(
     t: &MakerOf<T>,
     p: &mut P,
@@ -68,6 +76,25 @@ pub fn expr<P: Source, T: BuildsStatements>(
     asked: Reading,
 ) -> PResult<Cover<T::Expr>>
     ensures { GivesAs (cover_of T.expr_of) (read depth asked (P.seen p.old)) result (P.seen p.new) }
+{
+    match asked {
+        Reading::Expr(class) => Ok(done(expression::<P, T>(t, p, depth, class)?)),
+        Reading::Cover => cover::<P, T>(t, p, depth),
+        Reading::Head => head::<P, T>(t, p, depth),
+        Reading::Class => Ok(done(class_expression::<P, T>(t, p, depth)?)),
+    }
+}
+
+/// An expression in so many levels.
+#[cycle(knot)]
+#[tactic(auto, using(swc_ecma_parser_reader::proofs::expressions::Loops::expr_lowest, swc_ecma_parser_reader::proofs::expressions::Loops::expr_above))]
+pub fn expression<P: Source, T: BuildsStatements>(
+    t: &MakerOf<T>,
+    p: &mut P,
+    depth: usize,
+    class: Class,
+) -> PResult<T::Expr>
+    ensures { GivesAs T.expr_of (rules.expr depth (class_of class) (P.seen p.old)) result (P.seen p.new) }
 {
     if depth == 0 {
         return Err(p.too_deep());
@@ -78,11 +105,141 @@ pub fn expr<P: Source, T: BuildsStatements>(
         expr: expr::<P, T>,
         pat: pat::<P, T>,
     };
-    match asked {
-        Reading::Expr(class) => Ok(done(expr_level(&g, t, p, class)?)),
-        Reading::Cover => cover_expr(&g, t, p),
-        Reading::Head => head_expr(&g, t, p),
+    expr_level(&g, t, p, class)
+}
+
+/// An expression that may still become a pattern, in so many levels.
+#[cycle(knot)]
+#[tactic(auto, using(swc_ecma_parser_reader::proofs::expressions::Loops::cover_above))]
+fn cover<P: Source, T: BuildsStatements>(
+    t: &MakerOf<T>,
+    p: &mut P,
+    depth: usize,
+) -> PResult<Cover<T::Expr>>
+    ensures { GivesAs (cover_of T.expr_of) (rules.cover depth (P.seen p.old)) result (P.seen p.new) }
+{
+    if depth == 0 {
+        return Err(p.too_deep());
     }
+    let g = Grammar {
+        depth: depth - 1,
+        stmt: stmt::<P, T>,
+        expr: expr::<P, T>,
+        pat: pat::<P, T>,
+    };
+    cover_expr(&g, t, p)
+}
+
+/// What the head of a loop begins with, in so many levels.
+#[cycle(knot)]
+#[tactic(auto, using(swc_ecma_parser_reader::proofs::expressions::Loops::head_above))]
+fn head<P: Source, T: BuildsStatements>(
+    t: &MakerOf<T>,
+    p: &mut P,
+    depth: usize,
+) -> PResult<Cover<T::Expr>>
+    ensures { GivesAs (cover_of T.expr_of) (rules.head_cover depth (P.seen p.old)) result (P.seen p.new) }
+{
+    if depth == 0 {
+        return Err(p.too_deep());
+    }
+    let g = Grammar {
+        depth: depth - 1,
+        stmt: stmt::<P, T>,
+        expr: expr::<P, T>,
+        pat: pat::<P, T>,
+    };
+    head_expr(&g, t, p)
+}
+
+/// A member of a class, in so many levels.
+#[cycle(knot)]
+#[tactic(auto, using(swc_ecma_parser_reader::proofs::Loops::member_lowest, swc_ecma_parser_reader::proofs::Loops::member_above))]
+fn member<P: Source, T: BuildsStatements>(
+    t: &MakerOf<T>,
+    p: &mut P,
+    depth: usize,
+    _before: &[T::Member],
+) -> PResult<T::Member>
+    ensures { GivesAs T.member_of (rules.member depth (P.seen p.old)) result (P.seen p.new) }
+{
+    if depth == 0 {
+        return Err(p.too_deep());
+    }
+    let g = Grammar {
+        depth: depth - 1,
+        stmt: stmt::<P, T>,
+        expr: expr::<P, T>,
+        pat: pat::<P, T>,
+    };
+    member_level(&g, t, p)
+}
+
+/// A class as its parts, with what stands in it in so many levels.
+#[cycle(knot)]
+pub fn inner_class<P: Source, T: BuildsStatements>(
+    t: &MakerOf<T>,
+    p: &mut P,
+    depth: usize,
+) -> PResult<NamedClass<T::Class>>
+    ensures { GivesAs (class_expr_of T.class_of) (members.class_expr (rules.expr depth left_side) (rules.member depth) (P.seen p.old)) result (P.seen p.new) }
+{
+    let c = ClassGrammar {
+        depth,
+        expr: expression::<P, T>,
+        member: member::<P, T>,
+    };
+    class_expr(&c, t, p)
+}
+
+/// A class that is declared, with what stands in it in so many levels.
+#[cycle(knot)]
+pub fn declared_class<P: Source, T: BuildsStatements>(
+    t: &MakerOf<T>,
+    p: &mut P,
+    depth: usize,
+) -> PResult<T::Decl>
+    ensures { GivesAs T.decl_of (members.class_decl (rules.expr depth left_side) (rules.member depth) (P.seen p.old)) result (P.seen p.new) }
+{
+    let c = ClassGrammar {
+        depth,
+        expr: expression::<P, T>,
+        member: member::<P, T>,
+    };
+    class_decl(&c, t, p)
+}
+
+/// A class that is an expression, with what stands in it in so many levels.
+#[cycle(knot)]
+fn class_expression<P: Source, T: BuildsStatements>(
+    t: &MakerOf<T>,
+    p: &mut P,
+    depth: usize,
+) -> PResult<T::Expr>
+    ensures { GivesAs T.expr_of (members.class_expr (rules.expr depth left_side) (rules.member depth) (P.seen p.old)) result (P.seen p.new) }
+{
+    let NamedClass { name, class } = inner_class::<P, T>(t, p, depth)?;
+    let span = T::class_span(&class);
+    grown(p, T::class_expr(t.alloc, span, name, class))
+}
+
+/// A class as a statement, where declarations are read or with a fault of its word.
+#[cycle(knot)]
+#[tactic(auto, unfolding(swc_ecma_parser_reader::specs::Members::class_stmt))]
+fn class_statement<P: Source, T: BuildsStatements>(
+    t: &MakerOf<T>,
+    p: &mut P,
+    depth: usize,
+    at: Position,
+) -> PResult<T::Stmt>
+    ensures { GivesAs T.stmt_of (members.class_stmt (rules.expr depth left_side) (rules.member depth) at (P.seen p.old)) result (P.seen p.new) }
+{
+    if !at.include_decl {
+        let word = p.span();
+        p.fault(SyntaxError::DeclNotAllowed, word)?;
+    }
+    let decl = declared_class::<P, T>(t, p, depth)?;
+    grown(p, T::decl_stmt(t.alloc, decl))
 }
 
 /// A pattern in so many levels.

@@ -1,5 +1,5 @@
 -- An expression is no block, so none that is the body of an arrow function has a directive.
-use Rattle.std.proofs.Common.{◌≡◌, ℕ, zero, suc, Bool, true, false, cond, List, [], ◌∷◌, Option, Some, None, Ok, Err, refl}
+use Rattle.std.proofs.Common.{◌≡◌, ℕ, zero, suc, Bool, true, false, cond, List, [], ◌∷◌, Option, Some, None, Ok, refl}
 use Rattle.std.specs.Prelude.{◌&&◌, ◌||◌, codes}
 use Rattle.swc_ecma_parser_common.specs.declared.span.Span.{Span}
 use Rattle.swc_ecma_parser_error.specs.Kind as faults
@@ -21,19 +21,21 @@ use Rattle.swc_ecma_parser_grammar.specs.Looks.{kind_at, breaks_at, sees, span_a
 use Rattle.swc_ecma_parser_grammar.specs.Names.{name_at}
 use Rattle.swc_ecma_parser_grammar.specs.Own.{misplaced_directive}
 use Rattle.swc_ecma_parser_grammar.specs.Reads.{nested_item}
+use Rattle.swc_ecma_parser_grammar.specs.language.Contexts.{in_class}
 use Rattle.swc_ecma_parser_grammar.specs.language.Begins.{begins_expression, awaits}
 use Rattle.swc_ecma_parser_grammar.specs.language.Continues.{continues_conditional}
-use Rattle.swc_ecma_parser_grammar.specs.language.Goals.{Class, expression, assignment, unary, callee}
+use Rattle.swc_ecma_parser_grammar.specs.language.Goals.{Class, expression, assignment, unary, callee, left_side}
 use Rattle.swc_ecma_parser_grammar.specs.language.Operators.{unary_operator, update_operator, assign_operator, mixes}
-use Rattle.swc_ecma_parser_reader.specs.State.{State, Outcome, Reader, and_then, moved, module_found, expect, name}
-use Rattle.swc_ecma_parser_reader.specs.Methods.{FunctionForm, expression_form, parameter_form, star}
+use Rattle.swc_ecma_parser_reader.specs.State.{State, Reader, and_then, moved, coded, module_found, expect, name}
+use Rattle.swc_ecma_parser_reader.specs.Methods.{FunctionForm, expression_form, class_form, parameter_form, star}
+use Rattle.swc_ecma_parser_reader.specs.Members.{class_name, class_parts, unnamed_class, class_expr}
 use Rattle.swc_ecma_parser_reader.specs.Jumps.{told}
 use Rattle.swc_ecma_parser_reader.specs.Yields.{begins_yield, bare_yield, yielded, behind_yield, yield_expr}
 use Rattle.swc_ecma_parser_reader.specs.Arrows.{begins_named_arrow, Group, may_stand_alone, closed_parts, closed_group, parameters_of, arrow_body, arrow_from, named_arrow, group, grouped}
 use Rattle.swc_ecma_parser_reader.specs.AsyncArrows.{closed_arguments, argument_parameters, async_called, either_arguments, begins_async_arrow, async_named_arrow, async_grouped}
 use Rattle.swc_ecma_parser_reader.specs.Expressions.{Cover, begins_async_call, literal, literal_in, literal_of, taken, ident_expr, this, meta_fault, import_meta, bare_new, simple, update_behind, behind_operand, postfix_at, await_allowed, right_class, operator_at, left_operand, unmixed, unassigned, unheaded, heads_arrow, unmarked, close, target, goes_on, inside, access, arguments, elements, array, properties, object, paren, accessed, called, left_turn, left_from, super_call, super_property, super_access, behind_super, super_head, constructed, new_head, import_call, import_head, prefixed, update_before, await_expr, operated, binary_by, binary_turn, binary_from, conditional, assigned_to, assigned, assigned_or, behind_operators, postfixed, continued, closed, assigned_pattern, behind_literal, open_literal, marked_primary, literal_or, named_expr, primary, left_head, left, postfix, updated, unary_by, unary_expr, binary_expr, operators_expr, plain_expr, done_expr, cover_expr, assignment_expr, expr_level}
-use Rattle.swc_ecma_parser_reader.specs.Reader.{expr, cover, function, function_by, function_word, own_name, function_parts, function_expr, stmt, parameters, pattern}
-use Rattle.swc_ecma_parser_reader.proofs.Meets.{Meets, Refuses, meets_then, meets_if, meant, wanted_meets, refuse_meets, too_deep_meets, Turned, loop_answers}
+use Rattle.swc_ecma_parser_reader.specs.Reader.{expr, cover, function, function_by, function_word, own_name, function_parts, function_expr, stmt, parameters, pattern, member}
+use Rattle.swc_ecma_parser_reader.proofs.Meets.{Meets, Refuses, meets_then, always, meets_if, meant, wanted_meets, refuse_meets, too_deep_meets, Turned, loop_answers}
 use Rattle.swc_ecma_parser_reader.proofs.expressions.SoundSteps.{reject_meets}
 
 -- no directive of it comes too late
@@ -42,11 +44,6 @@ NoBlock x t = (plain : Bool) → misplaced_directive plain x ≡ []
 
 abbrev NoBlockIn : Cover → State → Type 0
 NoBlockIn v t = NoBlock v.x t
-
--- whatever was read before
-always : {A B : Type 0} (Q : B → State → Type 0) (o : Outcome A) (f : A → Reader B) → ((a : A) (s : State) → Meets Q (f a s)) → Meets Q (and_then o f)
-always Q (Ok p) f h = h p.0 p.1
-always Q (Err e) f h = tt
 
 -- ---- literals
 
@@ -194,14 +191,15 @@ module _ (inner : Class → Reader Tree) (covers : Reader Cover) where
       (λ _. wanted_meets NoBlock faults.Unexpected (moved (moved s))))
       (λ _. wanted_meets NoBlock faults.Unexpected (moved s)))
 
-  module _ (function : FunctionForm → Reader Tree) (functions : (s : State) → Meets NoBlock (function expression_form s)) where
+  module _ (function : FunctionForm → Reader Tree) (functions : (s : State) → Meets NoBlock (function expression_form s)) (classes : (s : State) → Meets NoBlock (function class_form s)) where
     marked_no_block : (s : State) → Meets NoBlock (marked_primary inner covers function s)
     unfolding marked_primary this
     marked_no_block s = meets_if NoBlock (sees kind.LParen s.at) _ _ (λ _. paren_no_block s)
         (λ _. meets_if NoBlock (sees kind.LBracket s.at) _ _ (λ _. meets_then _ (array inner covers s) _ (array_no_block s) (λ v t h. closed_no_block v t h))
         (λ _. meets_if NoBlock (sees kind.LBrace s.at) _ _ (λ _. meets_then _ (object inner covers function s) _ (object_no_block function s) (λ v t h. closed_no_block v t h))
         (λ _. meets_if NoBlock (sees kind.This s.at) _ _ (λ _ b. refl)
-        (λ _. meets_if NoBlock (sees kind.Function s.at) _ _ (λ _. functions s) (λ _. wanted_meets NoBlock faults.Unexpected s)))))
+        (λ _. meets_if NoBlock (sees kind.Function s.at) _ _ (λ _. functions s)
+        (λ _. meets_if NoBlock (sees kind.Class s.at) _ _ (λ _. classes s) (λ _. wanted_meets NoBlock faults.Unexpected s))))))
 
     literal_or_no_block : (o : Option Tree) (s : State) → NoBlockOr o → Meets NoBlock (and_then (taken o s) (literal_or inner covers function))
     literal_or_no_block None s h = marked_no_block s
@@ -308,10 +306,20 @@ unfolding function function_by function_expr
 function_no_block n s = always NoBlock (function_word s) _ (λ w t. always NoBlock (star t) _ (λ g u. always NoBlock (own_name w g u) _ (λ i v.
     always NoBlock (function_parts (stmt n nested_item) (parameters n) w g (span_at s.at) v) _ (λ f m b. refl))))
 
+class_no_block : (heritage inner_member : Reader Tree) (s : State) → Meets NoBlock (class_expr heritage inner_member s)
+unfolding class_expr unnamed_class
+class_no_block heritage inner_member s = meets_then NoBlock (unnamed_class heritage inner_member (coded (in_class s.code) s)) _
+    (always NoBlock (class_name heritage inner_member (moved (coded (in_class s.code) s))) _ (λ i t. always NoBlock (class_parts heritage inner_member (span_at s.at) t) _ (λ x u b. refl)))
+    (λ x t h. h)
+
+inner_class_no_block : (n : ℕ) (s : State) → Meets NoBlock (function n class_form s)
+unfolding function function_by
+inner_class_no_block n s = class_no_block (expr n left_side) (member n) s
+
 level_no_block : (n : ℕ) (s : State) → Meets NoBlock (expr n assignment s)
 unfolding expr expr_level function
 level_no_block zero s = too_deep_meets NoBlock s
-level_no_block (suc n) s = assignment_no_block (expr n) (cover n) (function_by (stmt n nested_item) (parameters n) (pattern n)) (function_no_block n) s
+level_no_block (suc n) s = assignment_no_block (expr n) (cover n) (function_by (stmt n nested_item) (parameters n) (pattern n) (class_expr (expr n left_side) (member n))) (function_no_block n) (inner_class_no_block n) s
 
 pub expr_no_block : (n : ℕ) (s : State) (x : Tree) (t : State) → expr n assignment s ≡ Ok (x, t) → (plain : Bool) → misplaced_directive plain x ≡ []
 expr_no_block n s x t e = meant NoBlock Refuses (expr n assignment s) (Ok (x, t)) e (level_no_block n s)

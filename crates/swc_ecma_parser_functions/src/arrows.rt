@@ -1,6 +1,6 @@
 //! Arrow functions, from behind their parameters: ECMA-262, sections 15.3 and 15.9.
 
-ghost use Rattle.std.specs.Prelude.{◌≡◌, true, false, [], map, IfOk};
+ghost use Rattle.std.specs.Prelude.{◌≡◌, true, false, [], ◌∷◌, map, IfOk};
 ghost use Rattle.swc_ecma_parser_functions.specs.Arrows.{body_of, directive_of};
 ghost use Rattle.swc_ecma_parser_functions.specs.Late.{late};
 ghost use Rattle.swc_ecma_parser_grammar.specs.Own as own;
@@ -11,7 +11,7 @@ ghost use Rattle.swc_ecma_parser_model.specs.Forms as forms;
 ghost use Rattle.swc_ecma_parser_model.specs.Tree as tree;
 ghost use Rattle.swc_ecma_parser_reader.specs.Arrows as arrows;
 ghost use Rattle.swc_ecma_parser_reader.specs.AsyncArrows as async_arrows;
-ghost use Rattle.swc_ecma_parser_reader.specs.Methods.{block_form};
+ghost use Rattle.swc_ecma_parser_reader.specs.Methods.{block_form, parameter_form};
 ghost use Rattle.swc_ecma_parser_reader.specs.Reader as rules;
 ghost use Rattle.swc_ecma_parser_reader.specs.State.{GivesAs, enclosed, within};
 
@@ -26,7 +26,7 @@ use swc_ecma_parser_inner::steps::{grown, pushed, since};
 use swc_ecma_parser_input::Context;
 use swc_ecma_parser_source::{Source, Wanted};
 use swc_ecma_parser_token::TokenKind;
-use swc_ecma_parser_trees::{BuildsFunction, BuildsPattern, MakerOf};
+use swc_ecma_parser_trees::{BuildsFunction, BuildsPattern, MakerOf, Trees};
 
 /// The body of an arrow function.
 #[derive(Drop)]
@@ -187,8 +187,46 @@ pub fn arrow_from<
     grown(p, made_arrow::<T>(t.alloc, span, params, body, is_async))
 }
 
+/// The only parameter of an arrow function, a name with no parentheses.
+#[tactic(auto, unfolding(swc_ecma_parser_reader::specs::Reader::function, swc_ecma_parser_reader::specs::Reader::function_by))]
+fn only_parameter<
+    P: Source,
+    T: Trees,
+    S: Fn(&MakerOf<T>, &mut P, usize, Position) -> PResult<T::Stmt>,
+    E: Fn(&MakerOf<T>, &mut P, usize, Reading) -> PResult<Cover<T::Expr>>,
+    N: Fn(&MakerOf<T>, &mut P, usize, Part) -> PResult<T::Pat>,
+>(g: &Grammar<S, E, N>, t: &MakerOf<T>, p: &mut P) -> PResult<T::Pat>
+    requires { Nests P.seen T.expr_of T.pat_of T.stmt_of g.now.depth (S.pre g.now.stmt) (S.post g.now.stmt) (E.pre g.now.expr) (E.post g.now.expr) (N.pre g.now.pat) (N.post g.now.pat) }
+    ensures { GivesAs T.pat_of (rules.function g.now.depth parameter_form (P.seen p.old)) result (P.seen p.new) }
+{
+    (g.pat)(t, p, g.depth, Part::Pattern)
+}
+
+/// An arrow function with one parameter, from its `=>` on.
+fn arrow_of_one<
+    P: Source,
+    T: BuildsFunction + BuildsPattern,
+    S: Fn(&MakerOf<T>, &mut P, usize, Position) -> PResult<T::Stmt>,
+    E: Fn(&MakerOf<T>, &mut P, usize, Reading) -> PResult<Cover<T::Expr>>,
+    N: Fn(&MakerOf<T>, &mut P, usize, Part) -> PResult<T::Pat>,
+>(
+    g: &Grammar<S, E, N>,
+    t: &MakerOf<T>,
+    p: &mut P,
+    is_async: bool,
+    start: Span,
+    param: T::Pat,
+) -> PResult<T::Expr>
+    requires { Nests P.seen T.expr_of T.pat_of T.stmt_of g.now.depth (S.pre g.now.stmt) (S.post g.now.stmt) (E.pre g.now.expr) (E.post g.now.expr) (N.pre g.now.pat) (N.post g.now.pat) }
+    ensures { GivesAs T.expr_of (arrows.arrow_from (rules.expr g.now.depth) (rules.function g.now.depth) is_async start (T.pat_of param ∷ []) (P.seen p.old)) result (P.seen p.new) }
+{
+    let mut params = Vec::new(t.alloc);
+    pushed(p, &mut params, param)?;
+    arrow_from(g, t, p, is_async, start, params)
+}
+
 /// An arrow function whose only parameter is a name with no parentheses.
-#[tactic(auto, unfolding(swc_ecma_parser_reader::specs::Reader::function, swc_ecma_parser_reader::specs::Reader::function_by, swc_ecma_parser_reader::specs::Arrows::named_arrow))]
+#[tactic(auto, unfolding(swc_ecma_parser_reader::specs::Arrows::named_arrow))]
 pub fn named_arrow<
     P: Source,
     T: BuildsFunction + BuildsPattern,
@@ -200,14 +238,12 @@ pub fn named_arrow<
     ensures { GivesAs T.expr_of (arrows.named_arrow (rules.expr g.now.depth) (rules.function g.now.depth) (P.seen p.old)) result (P.seen p.new) }
 {
     let start = p.span();
-    let param = (g.pat)(t, p, g.depth, Part::Pattern)?;
-    let mut params = Vec::new(t.alloc);
-    pushed(p, &mut params, param)?;
-    arrow_from(g, t, p, false, start, params)
+    let param = only_parameter(g, t, p)?;
+    arrow_of_one(g, t, p, false, start, param)
 }
 
 /// An async arrow function whose only parameter is a name with no parentheses, on the line of `async`.
-#[tactic(auto, unfolding(swc_ecma_parser_reader::specs::Reader::function, swc_ecma_parser_reader::specs::Reader::function_by, swc_ecma_parser_reader::specs::AsyncArrows::async_named_arrow))]
+#[tactic(auto, unfolding(swc_ecma_parser_reader::specs::AsyncArrows::async_named_arrow))]
 pub fn async_named_arrow<
     P: Source,
     T: BuildsFunction + BuildsPattern,
@@ -220,11 +256,9 @@ pub fn async_named_arrow<
 {
     let start = p.span();
     p.skip()?;
-    let param = (g.pat)(t, p, g.depth, Part::Pattern)?;
+    let param = only_parameter(g, t, p)?;
     if !p.sees(TokenKind::Arrow) {
         return Err(p.wanted(Wanted::Expression));
     }
-    let mut params = Vec::new(t.alloc);
-    pushed(p, &mut params, param)?;
-    arrow_from(g, t, p, true, start, params)
+    arrow_of_one(g, t, p, true, start, param)
 }

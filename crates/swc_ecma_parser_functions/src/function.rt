@@ -33,9 +33,9 @@ use swc_ecma_parser_trees::{BuildsBlock, BuildsDecl, BuildsFunction, BuildsPatte
 
 /// A body, with the first directive that says it is strict.
 #[derive(Drop)]
-pub(crate) struct FunctionBody<B> {
-    pub(crate) block: B,
-    pub(crate) strict_directive: Option<Span>,
+pub struct FunctionBody<B> {
+    pub block: B,
+    pub strict_directive: Option<Span>,
 }
 
 /// Whether a function is async, and whether it is a generator.
@@ -104,7 +104,7 @@ fn first_use_strict<T: BuildsBlock>(stmts: &[T::Stmt]) -> Option<Span>
 }
 
 /// Parameters, in what stands around them.
-pub(crate) fn parameters_inside<
+pub fn parameters_inside<
     P: Source,
     T: BuildsPattern,
     S: Fn(&MakerOf<T>, &mut P, usize, Position) -> PResult<T::Stmt>,
@@ -181,7 +181,7 @@ pub(crate) fn inner_body<
 
 /// The body of a function, in what stands around its statements.
 #[tactic(auto, unfolding(swc_ecma_parser_reader::specs::Reader::function_body))]
-pub(crate) fn function_body<
+pub fn function_body<
     P: Source,
     T: BuildsBlock,
     S: Fn(&MakerOf<T>, &mut P, usize, Position) -> PResult<T::Stmt>,
@@ -201,7 +201,7 @@ pub(crate) fn function_body<
 }
 
 /// Patterns as parameters, each as long as its pattern.
-fn as_params<P: Source, T: BuildsFunction + BuildsPattern>(
+pub fn as_params<P: Source, T: BuildsFunction + BuildsPattern>(
     t: &MakerOf<T>,
     p: &mut P,
     pats: Vec<T::Pat>,
@@ -220,18 +220,14 @@ fn as_params<P: Source, T: BuildsFunction + BuildsPattern>(
 }
 
 /// Whether each of these is a plain name.
-fn are_plain<T: BuildsFunction>(params: &[T::Param]) -> bool
+pub fn are_plain<T: BuildsFunction>(params: &[T::Param]) -> bool
     ensures { result ≡ forms.are_plain_params (tree.trees (map T.param_of params.now)) }
 {
     params.iter().all(|param| T::is_plain_param(param))
 }
 
 /// Records a directive that says a body is strict, where a parameter is no plain name.
-pub(crate) fn misdirected<P: Source>(
-    p: &mut P,
-    is_plain: bool,
-    directive: Option<Span>,
-) -> PResult<()>
+pub fn misdirected<P: Source>(p: &mut P, is_plain: bool, directive: Option<Span>) -> PResult<()>
     ensures plain { is_plain ≡ true → Gives (rules.told [] (P.seen p.old)) result (P.seen p.new) }
     ensures late { is_plain ≡ false → Gives (rules.told (late directive) (P.seen p.old)) result (P.seen p.new) }
 {

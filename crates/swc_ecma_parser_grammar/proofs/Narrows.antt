@@ -1,16 +1,15 @@
 -- What the whole language reads and is supported, the rules of the first forms read.
-use Rattle.swc_ecma_parser_token.specs.declared.token.Token.TheVariants as token
 use Rattle.swc_ecma_parser_grammar.specs.language.Parts.{ReadsName}
 use Rattle.swc_ecma_parser_grammar.proofs.StatementBegins.{word_place}
 use Rattle.swc_ecma_parser_model.specs.Forms.{is_absent}
 use Rattle.swc_ecma_parser_common.specs.declared.span.Span.{Span}
 use Rattle.swc_ecma_parser_grammar.specs.Parameters.{parameters}
-use Rattle.std.proofs.Common.{◌≡◌, ℕ, zero, suc, Bool, true, false, cond, List, [], ◌∷◌, ◌++◌, Option, refl, true≢false, sym, ◌∙◌, ap, subst, scan, codes, bytes_eq}
+use Rattle.std.proofs.Common.{◌≡◌, ℕ, zero, suc, Bool, true, false, cond, List, [], ◌∷◌, ◌++◌, Option, refl, true≢false, sym, ◌∙◌, ap, subst, codes, bytes_eq}
 use Rattle.std.specs.Prelude.{not, ◌&&◌, ◌||◌, if◌then◌else◌}
 use Rattle.std.specs.List.{list_any}
 use Rattle.swc_ecma_parser_error.specs.Kind.{Fault}
 use Rattle.swc_ecma_parser_token.specs.declared.kind.TokenKind.TheVariants as kind
-use Rattle.swc_ecma_parser_grammar.specs.Follows.{is_async_of, await_word, no_await, AwaitWord, is_bare_async, is_async_function, word_at, Star, AsyncWord}
+use Rattle.swc_ecma_parser_grammar.specs.Follows.{is_async_of, is_bare_async, is_async_function, word_at, Star, AsyncWord}
 use Rattle.swc_ecma_parser_input.specs.Place.{Place, after}
 use Rattle.swc_ecma_parser_model.specs.declared.leaves.VarDeclKind.{VarDeclKind}
 use Rattle.swc_ecma_parser_model.specs.Tree as tree
@@ -19,12 +18,12 @@ use Rattle.swc_ecma_parser_model.specs.Directive.{is_use_strict}
 use Rattle.swc_ecma_parser_grammar.specs.declared.position.Position.{Position}
 use Rattle.swc_ecma_parser_grammar.specs.Looks.{kind_at, sees, same_kind, spanned, breaks_at}
 use Rattle.swc_ecma_parser_grammar.specs.Names.{Code}
-use Rattle.swc_ecma_parser_grammar.specs.Reads.{with_in, in_strict, directed, directs_on, nested_item, top_item, DeclaratorRule, plain_rule, initialized_rule, ReadsSeparated, ReadsItems, StmtRule, block_rule, empty_rule, debugger_rule, variables_rule, if_statement_rule, TargetRule, no_target_rule, target_rule, OperandRule, no_operand_rule, operand_rule, break_rule, continue_rule, return_rule, case_clause_rule, default_clause_rule, ReadsCases, switch_rule, throw_rule, try_rule, with_rule, while_rule, do_while_rule, expr_rule, import_rule, ReadsBlock, CatchRule, no_catch_rule, catch_rule, catch_parameter_rule, FinallyRule, no_finally_rule, finally_rule, ReadsHead, IfRule, if_rule, ElseRule, no_else_rule, else_rule, else_if_rule, ReadsBraced, function_rule, ReadsToken}
+use Rattle.swc_ecma_parser_grammar.specs.Reads.{with_in, directed, directs_on, nested_item, top_item, DeclaratorRule, plain_rule, initialized_rule, ReadsSeparated, ReadsItems, StmtRule, block_rule, empty_rule, debugger_rule, variables_rule, if_statement_rule, TargetRule, no_target_rule, target_rule, OperandRule, no_operand_rule, operand_rule, break_rule, continue_rule, return_rule, case_clause_rule, default_clause_rule, ReadsCases, switch_rule, throw_rule, try_rule, with_rule, while_rule, do_while_rule, expr_rule, import_rule, ReadsBlock, CatchRule, no_catch_rule, catch_rule, catch_parameter_rule, FinallyRule, no_finally_rule, finally_rule, ReadsHead, IfRule, if_rule, ElseRule, no_else_rule, else_rule, else_if_rule, ReadsBraced, class_rule, function_rule}
 use Rattle.swc_ecma_parser_grammar.specs.Reads.{labeled_rule, head_code, HeadVariables, InitRule, no_init_rule, init_variables_rule, init_expression_rule, LeftRule, declared_rule, left_target_rule, for_in_rule, for_of_rule, PartRule, no_part_rule, part_rule, for_rule}
 use Rattle.swc_ecma_parser_grammar.specs.Entries.{ReadsScript, ReadsShebang, some_shebang, no_shebang, script_code, items_await, script_awaits}
 use Rattle.swc_ecma_parser_grammar.specs.Notes.{notes, all_notes, statement_note, with_note}
 use Rattle.swc_ecma_parser_grammar.specs.Supported.{supported, supported_in, all_supported_in, has_none}
-use Rattle.swc_ecma_parser_grammar.specs.ReadsSupported.{ReadsClass, ReadsPat, ReadsTarget, ReadsStmt, ReadsTop, ReadsParams}
+use Rattle.swc_ecma_parser_grammar.specs.ReadsSupported.{ReadsClass, ReadsPat, ReadsTarget, ReadsStmt, ReadsTop, ReadsParams, ReadsNamedClass}
 use Rattle.swc_ecma_parser_grammar.specs.language.Goals.{assignment, stmt_goal}
 use Rattle.swc_ecma_parser_grammar.specs.language.Contexts.{in_loop, in_breakable, in_with}
 use Rattle.swc_ecma_parser_grammar.specs.language.ForHeads as heads
@@ -265,7 +264,7 @@ module _ (n : ℕ) (narrow : (k : Code) (at : Position) (x : Tree) (c d : Place)
       → functions.FunctionParts (Reads n) k w g ps body behind_name d → at.include_decl || is_async_function m ≡ true → not (bytes_eq text (codes "await")) ≡ true
       → supported_in k.flags.module (parameters ps) && supported_in k.flags.module body ≡ true → Quiet k (notes body)
       → x ≡ tree.fn_decl (tree.ident sp text) (tree.function (spanned m d) (listed []) (parameters ps) body w g)
-      → StmtRule (ReadsStmt n) (ReadsClass n) (ReadsPat n) (ReadsTarget n) (ReadsParams n) k at x c d
+      → StmtRule (ReadsStmt n) (ReadsClass n) (ReadsPat n) (ReadsTarget n) (ReadsParams n) (ReadsNamedClass n) k at x c d
   plain_function k at x c m d w g text sp ps body word bw bn o a f s r p i t h q e =
       let u = and_yes (supported_in k.flags.module (parameters ps)) _ h in
       function_rule (subst (λ b. at.include_decl || is_async_function b ≡ true) o i) (record {
@@ -293,7 +292,7 @@ module _ (n : ℕ) (narrow : (k : Code) (at : Position) (x : Tree) (c d : Place)
   -- with a name, and behind no decorators
   function_narrows : (k : Code) (at : Position) (a name x y : Tree) (c m d : Place) → Quiet k (notes y) → classes.DecoratorsRule (Reads n) k a c m → at.include_decl || is_async_function m ≡ true
       → (s : functions.FunctionRule (Reads n) false k a name y m d) → parts.OptionalName k name s.behind_word s.behind_name → is_absent name ≡ false → supported_in k.flags.module name ≡ true → supported_in k.flags.module y ≡ true
-      → x ≡ tree.fn_decl name y → StmtRule (ReadsStmt n) (ReadsClass n) (ReadsPat n) (ReadsTarget n) (ReadsParams n) k at x c d
+      → x ≡ tree.fn_decl name y → StmtRule (ReadsStmt n) (ReadsClass n) (ReadsPat n) (ReadsTarget n) (ReadsParams n) (ReadsNamedClass n) k at x c d
   function_narrows k at a name x y c m d o (classes.some_decorators z zs v r l) i s u b h t e =
       let f = supported_as _ y (tree.function (spanned m d) a (parameters s.patterns) s.body s.is_async s.is_generator) s.is t in
       absurd (true≢false (sym (and_yes (has_none a) _ f).0 ∙ ap has_none l))
@@ -305,9 +304,20 @@ module _ (n : ℕ) (narrow : (k : Code) (at : Position) (x : Tree) (c d : Place)
       (quiet_last k (notes (parameters s.patterns)) (notes s.body) (quiet_as k y (tree.function (spanned m d) (listed []) (parameters s.patterns) s.body s.is_async s.is_generator) v o))
       (e ∙ ap (λ z. tree.fn_decl z y) u ∙ ap (tree.fn_decl (tree.ident sp text)) v)
 
+  -- a class behind no decorators
+  class_narrows : (k : Code) (at : Position) (a name x y : Tree) (c m d : Place) → classes.DecoratorsRule (Reads n) k a c m → at.include_decl ≡ true → classes.ClassRule (Reads n) k c a name y m d
+      → is_absent name ≡ false → x ≡ tree.class_decl name y → supported_in k.flags.module x ≡ true
+      → StmtRule (ReadsStmt n) (ReadsClass n) (ReadsPat n) (ReadsTarget n) (ReadsParams n) (ReadsNamedClass n) k at x c d
+  class_narrows k at a name x y c m d (classes.some_decorators z zs v r l) i s b e h =
+      let g = and_yes (supported_in k.flags.module name) _ (supported_as _ x (tree.class_decl name y) e h) in
+      let f = supported_as _ y (tree.class (spanned c d) a (listed s.members) s.heritage) s.is g.1 in
+      absurd (true≢false (sym (and_yes (has_none a) _ f).0 ∙ ap has_none l))
+  class_narrows k at a name x y c m d (classes.no_decorators g l) i s b e h =
+      class_rule name y i (subst (λ p. classes.ClassRule (Reads n) k c (listed []) name y p d) g (subst (λ z. classes.ClassRule (Reads n) k c z name y m d) l s), supported_as _ x (tree.class_decl name y) e h) b e
+
   form_narrows : (k : Code) (at : Position) (x : Tree) (c d : Place) → Quiet k (notes x) → statements.FormRule (Reads n) k at x c d → supported_in k.flags.module x ≡ true
-      → StmtRule (ReadsStmt n) (ReadsClass n) (ReadsPat n) (ReadsTarget n) (ReadsParams n) k at x c d
-  form_narrows k at x c d o (statements.class_rule a name y m i r s b e) h = refuted _ x (ap (supported_in k.flags.module) e) h
+      → StmtRule (ReadsStmt n) (ReadsClass n) (ReadsPat n) (ReadsTarget n) (ReadsParams n) (ReadsNamedClass n) k at x c d
+  form_narrows k at x c d o (statements.class_rule a name y m i r s b e) h = class_narrows k at a name x y c m d r i s b e h
   form_narrows k at x c d o (statements.function_rule a name y m r i s b e) h =
       let g = and_yes (supported_in k.flags.module name) _ (supported_as _ x (tree.fn_decl name y) e h) in
       let q = quiet_last k (notes name) (notes y) (quiet_as k x (tree.fn_decl name y) e o) in

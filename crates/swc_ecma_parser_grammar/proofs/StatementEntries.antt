@@ -17,15 +17,15 @@ use Rattle.swc_ecma_parser_grammar.specs.declared.position.Position.{Position}
 use Rattle.swc_ecma_parser_grammar.specs.Looks.{sees}
 use Rattle.swc_ecma_parser_grammar.specs.Names.{Code}
 use Rattle.swc_ecma_parser_grammar.specs.Notes.{notes, all_notes, statement_note}
-use Rattle.swc_ecma_parser_grammar.specs.Reads.{with_in, directed, directs_on, nested_item, DeclaratorRule, plain_rule, initialized_rule, ReadsSeparated, ReadsItems, StmtRule, block_rule, empty_rule, debugger_rule, variables_rule, if_statement_rule, TargetRule, no_target_rule, target_rule, OperandRule, no_operand_rule, operand_rule, break_rule, continue_rule, return_rule, labeled_rule, HeadVariables, InitRule, no_init_rule, init_variables_rule, init_expression_rule, LeftRule, declared_rule, left_target_rule, for_in_rule, for_of_rule, head_code, PartRule, no_part_rule, part_rule, for_rule, CaseRule, case_clause_rule, default_clause_rule, ReadsCases, switch_rule, throw_rule, try_rule, with_rule, while_rule, do_while_rule, expr_rule, import_rule, ReadsBlock, CatchRule, no_catch_rule, catch_rule, catch_parameter_rule, FinallyRule, no_finally_rule, finally_rule, ReadsHead, IfRule, if_rule, ElseRule, no_else_rule, else_rule, else_if_rule, ReadsBraced, function_rule}
+use Rattle.swc_ecma_parser_grammar.specs.Reads.{with_in, directed, directs_on, nested_item, DeclaratorRule, plain_rule, initialized_rule, ReadsSeparated, ReadsItems, StmtRule, block_rule, empty_rule, debugger_rule, variables_rule, if_statement_rule, TargetRule, no_target_rule, target_rule, OperandRule, no_operand_rule, operand_rule, break_rule, continue_rule, return_rule, labeled_rule, HeadVariables, InitRule, no_init_rule, init_variables_rule, init_expression_rule, LeftRule, declared_rule, left_target_rule, for_in_rule, for_of_rule, head_code, PartRule, no_part_rule, part_rule, for_rule, CaseRule, case_clause_rule, default_clause_rule, ReadsCases, switch_rule, throw_rule, try_rule, with_rule, while_rule, do_while_rule, expr_rule, import_rule, ReadsBlock, CatchRule, no_catch_rule, catch_rule, catch_parameter_rule, FinallyRule, no_finally_rule, finally_rule, ReadsHead, IfRule, if_rule, ElseRule, no_else_rule, else_rule, else_if_rule, ReadsBraced, class_rule, function_rule}
 use Rattle.swc_ecma_parser_grammar.specs.Supported.{supported, supported_in, all_supported_in}
-use Rattle.swc_ecma_parser_grammar.specs.ReadsSupported.{ReadsClass, ReadsPat, ReadsTarget, ReadsStmt, ReadsTop, ReadsParams}
+use Rattle.swc_ecma_parser_grammar.specs.ReadsSupported.{ReadsClass, ReadsPat, ReadsTarget, ReadsStmt, ReadsTop, ReadsParams, ReadsNamedClass}
 use Rattle.swc_ecma_parser_grammar.specs.language.Goals.{binding, assigning, expression, assignment, stmt_goal}
 use Rattle.swc_ecma_parser_grammar.specs.language.Contexts.{in_module, in_loop, in_breakable}
 use Rattle.swc_ecma_parser_grammar.specs.language.Items.{sub_statement, labelled_item}
 use Rattle.swc_ecma_parser_grammar.specs.language.Reads.{Reads}
 use Rattle.swc_ecma_parser_grammar.specs.language.Programs.{is_module_program, is_module_code}
-use Rattle.swc_ecma_parser_grammar.proofs.Unnoted.{joined, expr_unnoted, pattern_unnoted, import_unnoted, parameter_unnoted}
+use Rattle.swc_ecma_parser_grammar.proofs.Unnoted.{joined, expr_unnoted, pattern_unnoted, import_unnoted, parameter_unnoted, class_unnoted}
 use Rattle.swc_ecma_parser_grammar.proofs.Widens.{top_widens, stmt_supported}
 use Rattle.swc_ecma_parser_grammar.proofs.SupportedIn.{strict_module, head_module, lower, lift_in}
 use Rattle.swc_ecma_parser_grammar.proofs.Narrows.{top_narrows}
@@ -130,7 +130,8 @@ module _ (n : ℕ) (small : (k : Code) (at : Position) (x : Tree) (c d : Place) 
     else_unnoted {k = k} {x = x} {c = c} {d = d} o (else_rule h i s) = small k sub_statement x (after c) d o s
     else_unnoted o (else_if_rule h r) = if_unnoted o r
 
-  rule_unnoted : (k : Code) (at : Position) (x : Tree) (c d : Place) → k.flags.module ≡ true → StmtRule (ReadsStmt n) (ReadsClass n) (ReadsPat n) (ReadsTarget n) (ReadsParams n) k at x c d → notes x ≡ []
+  rule_unnoted : (k : Code) (at : Position) (x : Tree) (c d : Place) → k.flags.module ≡ true → StmtRule (ReadsStmt n) (ReadsClass n) (ReadsPat n) (ReadsTarget n) (ReadsParams n) (ReadsNamedClass n) k at x c d → notes x ≡ []
+  rule_unnoted k at x c d o (class_rule name y a r b e) = ap notes e ∙ class_unnoted n k name y c d o r.0 r.1
   rule_unnoted k at x c d o (function_rule a r) =
       ap notes r.is ∙ joined (notes (parameters r.patterns)) (notes r.body) (params_unnoted n r.patterns o r.reads_parameters) (braced_unnoted true o r.reads_body)
   rule_unnoted k at x c d o (block_rule r) = block_unnoted o r

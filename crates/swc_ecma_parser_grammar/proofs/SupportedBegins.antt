@@ -184,7 +184,7 @@ module _ (In : Goal → Type 0) (k : Code) where
   primary_opens x c d (sides.array_rule xs m i r j n e) h = kind_opens c kind.LBracket i refl
   primary_opens x c d (sides.object_rule xs m i r j n e) h = kind_opens c kind.LBrace i refl
   primary_opens x c d (sides.function_rule name y r e) h = function_opens c r
-  primary_opens x c d (sides.class_rule name y r e) h = refuted _ x (ap (supported_in k.flags.module) e) h
+  primary_opens x c d (sides.class_rule name y r e) h = kind_opens c kind.Class r.is_class refl
   primary_opens x c d (sides.paren_rule y m i r j n e) h = kind_opens c kind.LParen i refl
 
   left_side_opens : {x : Tree} {c d : Place} → LeftSideRule In k x c d → supported_in k.flags.module x ≡ true → opens (kind_at c) ≡ true

@@ -1,7 +1,7 @@
 -- Notes are of statements alone: no supported expression and no supported pattern has any, and none that begins with `import` is a
 -- bare name.
 use Rattle.std.proofs.Common.{◌≡◌, ℕ, zero, suc, Bool, true, false, true≢false, List, [], ◌∷◌, ◌++◌, refl, sym, ◌∙◌, ap, subst}
-use Rattle.std.specs.Prelude.{◌&&◌, None, Some}
+use Rattle.std.specs.Prelude.{◌&&◌, if◌then◌else◌, None, Some}
 use Rattle.swc_ecma_parser_common.specs.declared.span.Span.{Span}
 use Rattle.swc_ecma_parser_error.specs.Kind.{Fault}
 use Rattle.swc_ecma_parser_token.specs.declared.kind.TokenKind.TheVariants as kind
@@ -9,22 +9,27 @@ use Rattle.swc_ecma_parser_input.specs.Place.{Place, after}
 use Rattle.swc_ecma_parser_model.specs.declared.operators.AssignOp.TheVariants as assign
 use Rattle.swc_ecma_parser_model.specs.declared.operators.BinaryOp.TheVariants as binary
 use Rattle.swc_ecma_parser_model.specs.Tree as tree
-use Rattle.swc_ecma_parser_model.specs.Tree.{Tree, trees, listed}
+use Rattle.swc_ecma_parser_model.specs.declared.leaves.MethodKind.{MethodKind}
+use Rattle.swc_ecma_parser_model.specs.Tree.{Tree, trees, listed, none}
 use Rattle.swc_ecma_parser_model.specs.Forms.{is_ident}
+use Rattle.swc_ecma_parser_model.specs.Kinds.{is_function}
 use Rattle.swc_ecma_parser_grammar.specs.Looks.{sees, span_at, spanned}
 use Rattle.swc_ecma_parser_grammar.specs.Names.{Code}
 use Rattle.swc_ecma_parser_grammar.specs.Parameters.{parameters}
 use Rattle.swc_ecma_parser_grammar.specs.Follows.{begins_import_expression}
-use Rattle.swc_ecma_parser_grammar.specs.Notes.{notes, all_notes, statement_note}
+use Rattle.swc_ecma_parser_grammar.specs.Notes.{notes, method_notes, all_notes, statement_note}
 use Rattle.swc_ecma_parser_grammar.specs.Reads.{with_in, ReadsSeparated}
-use Rattle.swc_ecma_parser_grammar.specs.Supported.{supported_in, all_supported_in, is_supported_key_in, is_supported_property_in, has_no_note, is_rightly_directed, is_rightly_set, is_rightly_headed, is_clean}
+use Rattle.swc_ecma_parser_grammar.specs.Supported.{supported_in, all_supported_in, is_supported_key_in, is_supported_property_in, has_no_note, is_rightly_directed, is_rightly_set, is_rightly_headed, is_clean, has_none}
 use Rattle.swc_ecma_parser_grammar.specs.ReadsSupported.{ReadsClass}
 use Rattle.swc_ecma_parser_grammar.specs.language.Goals.{Goal, Class, Purpose, binding, expression, assignment, operator, unary, left_side, callee, expr_goal, callee_goal, pattern_goal, element_goal, stmt_goal, member_goal, decorator_goal, using_goal, attributes_goal, item_goal}
-use Rattle.swc_ecma_parser_grammar.specs.language.Lists.{ReadsListed, Elements, no_elements, hole, last_element, more_elements}
+use Rattle.swc_ecma_parser_grammar.specs.language.Lists.{ReadsEach, ReadsListed, Elements, no_elements, hole, last_element, more_elements}
 use Rattle.swc_ecma_parser_grammar.specs.language.Parts as parts
-use Rattle.swc_ecma_parser_grammar.specs.language.Parts.{KeyRule, AccessRule, ElementRule, ArgumentsRule}
+use Rattle.swc_ecma_parser_grammar.specs.language.Parts.{KeyRule, AccessRule, is_private, ElementRule, ArgumentsRule}
 use Rattle.swc_ecma_parser_grammar.specs.language.Functions as functions
 use Rattle.swc_ecma_parser_grammar.specs.language.Functions.{PatternItemRule}
+use Rattle.swc_ecma_parser_grammar.specs.language.Contexts.{in_class}
+use Rattle.swc_ecma_parser_grammar.specs.language.Classes as classes
+use Rattle.swc_ecma_parser_grammar.specs.language.Classes.{MemberKeyRule, method_member, field_member, FieldValueRule, CoreRule, MemberRule, HeritageRule, ClassRule}
 use Rattle.swc_ecma_parser_grammar.specs.language.Objects as objects
 use Rattle.swc_ecma_parser_grammar.specs.language.Objects.{PropertyRule}
 use Rattle.swc_ecma_parser_grammar.specs.language.Patterns as patterns
@@ -36,7 +41,7 @@ use Rattle.swc_ecma_parser_grammar.specs.language.Expressions.{UnaryRule, Binary
 use Rattle.swc_ecma_parser_grammar.specs.language.Reads.{Reads}
 use Rattle.swc_ecma_parser_grammar.proofs.Tests.{and_yes}
 use Rattle.swc_ecma_parser_grammar.proofs.Naming.{name_is_name}
-use Rattle.swc_ecma_parser_grammar.proofs.SupportedBegins.{refuted, supported_as, name_begins}
+use Rattle.swc_ecma_parser_grammar.proofs.SupportedBegins.{supported_as, name_begins}
 
 -- ---- notes, joined
 
@@ -82,11 +87,23 @@ SilentGoal (callee_goal k x c d) = Silent x
 SilentGoal (pattern_goal p k x c d) = Silent x
 SilentGoal (element_goal p k x c d) = Silent x
 SilentGoal (stmt_goal k at x c d) = Unit {0}
-SilentGoal (member_goal k x c d) = Unit {0}
+SilentGoal (member_goal k x c d) = Silent x
 SilentGoal (decorator_goal k x c d) = Unit {0}
 SilentGoal (using_goal k x c d) = Unit {0}
 SilentGoal (attributes_goal k x c d) = Unit {0}
 SilentGoal (item_goal k x c d) = Unit {0}
+
+-- no decorators
+none_unnoted : (x : Tree) → has_none x ≡ true → notes x ≡ []
+none_unnoted (tree.list none) h = refl
+none_unnoted _ h = absurd (true≢false (sym h))
+
+method_joined : (key : List Fault) (fn : Tree) → is_function fn ≡ true → key ≡ [] → notes fn ≡ [] → method_notes key fn ≡ []
+method_joined key (tree.function s ds ps body a g) f e o =
+    let n = nil_split (notes ds ++ notes ps) (notes body) o in
+    let l = nil_split (notes ds) (notes ps) n.0 in
+    joined (notes ds ++ key ++ notes ps) (notes body) (joined (notes ds ++ key) (notes ps) (joined (notes ds) key l.0 e) l.1) n.1
+method_joined key _ f e o = absurd (true≢false (sym f))
 
 -- the form that a tree is
 silent_as : (x y : Tree) → x ≡ y → Silent y → Silent x
@@ -174,6 +191,23 @@ module _ (In : Goal → Type 0) (small : (g : Goal) → In g → SilentGoal g) w
       let i = (and_yes (is_rightly_directed y) _ (and_yes (supported_in true y) _ g.1).1).1 in
       ap notes e ∙ joined (notes name) (notes y) (name_silent r.reads_name) (clean_is (notes y) i)
 
+  -- the members of a class, one behind another
+  members_silent : (k : Code) (xs : List Tree) (c d : Place) → ReadsEach (λ y i j. In (member_goal k y i j)) xs c d → AllSilent xs
+  members_silent k [] c d r h = refl
+  members_silent k (x ∷ xs) c d (m, r, rs) h =
+      let g = and_yes (supported_in true x) _ h in joined (notes x) _ (small (member_goal k x c m) r g.0) (members_silent k xs m d rs g.1)
+
+  heritage_silent : {k : Code} {x : Tree} {c d : Place} → HeritageRule In k x c d → Silent x
+  heritage_silent (classes.no_heritage n e) h = ap notes e
+  heritage_silent {k = k} {x = x} {c = c} {d = d} (classes.heritage_rule i r) h = small (expr_goal left_side k x (after c) d) r h
+
+  -- a class has none in module code
+  named_class_silent : {k : Code} {b : Place} {name x : Tree} {c d : Place} → ClassRule In k b (listed []) name x c d → supported_in true name && supported_in true x ≡ true → notes name ++ notes x ≡ []
+  named_class_silent {k = k} {b = b} {name = name} {x = x} {d = d} r h =
+      let f = and_yes (supported_in true r.heritage) _ (supported_as _ x (tree.class (spanned b d) (listed []) (listed r.members) r.heritage) r.is (and_yes (supported_in true name) _ h).1) in
+      joined (notes name) (notes x) (name_silent r.reads_name)
+      (ap notes r.is ∙ joined (notes r.heritage) _ (heritage_silent r.reads_heritage f.0) (members_silent (with_in (in_class k)) r.members (after r.opening) r.close r.reads_members f.1))
+
   primary_silent : (k : Code) (x : Tree) (c d : Place) → PrimaryRule In k x c d → Silent x
   primary_silent k x c d (sides.name_rule text s r i e) h = ap notes e
   primary_silent k x c d (sides.string_rule value raw s r e) h = ap notes e
@@ -187,7 +221,7 @@ module _ (In : Goal → Type 0) (small : (g : Goal) → In g → SilentGoal g) w
   primary_silent k x c d (sides.object_rule xs m i r j n e) h =
       silent_as x (tree.object (spanned c d) (listed xs)) e (listed_silent (PropertyRule In k) (property_silent k) true xs (after c) m r) h
   primary_silent k x c d (sides.function_rule name y r e) h = function_silent r e h
-  primary_silent k x c d (sides.class_rule name y r e) h = refuted _ x (ap (supported_in true) e) h
+  primary_silent k x c d (sides.class_rule name y r e) h = silent_as x (tree.class_expr (spanned c d) name y) e (named_class_silent r) h
   primary_silent k x c d (sides.paren_rule y m i r j n e) h = silent_as x (tree.paren (spanned c d) y) e (small (expr_goal expression (with_in k) y (after c) m) r) h
 
   left_silent : {k : Code} {x : Tree} {c d : Place} → LeftSideRule In k x c d → Silent x
@@ -258,6 +292,61 @@ module _ (In : Goal → Type 0) (small : (g : Goal) → In g → SilentGoal g) w
       joined (notes (listed ps)) (notes y) (arrow_head_silent k ps c d r (and_yes (supported_in true (listed ps)) _ g.0).0)
       (clean_is (notes y) (and_yes (is_rightly_headed (listed ps) y) _ g.1).1)
 
+  -- ---- members of classes: their functions and blocks have none in module code
+
+  key_is_public : {k : Code} {x : Tree} {c d : Place} → KeyRule In k x c d → is_private x ≡ false
+  key_is_public (parts.word_key text s r e) = ap is_private e
+  key_is_public (parts.string_key value raw s r e) = ap is_private e
+  key_is_public (parts.number_key raw s r e) = ap is_private e
+  key_is_public (parts.big_int_key raw s r e) = ap is_private e
+  key_is_public (parts.computed_key r) = ap is_private r.is
+
+  method_is_silent : (key fn : Tree) (b : Bool) → (b ≡ true → notes key ≡ []) → b && (is_function fn && (supported_in true fn && has_no_note fn)) ≡ true → method_notes (notes key) fn ≡ []
+  method_is_silent key fn b q h =
+      let i = and_yes (is_function fn) _ (and_yes b _ h).1 in method_joined (notes key) fn i.0 (q (and_yes b _ h).0) (clean_is (notes fn) (and_yes (supported_in true fn) _ i.1).1)
+
+  method_silent : {k : Code} (s : Span) (key fn : Tree) (form : MethodKind) (st : Bool) {c d : Place} → MemberKeyRule In k key c d → Silent (method_member s key fn form st)
+  method_silent s key fn form st (classes.member_key r) =
+      silent_as _ (tree.method s key fn form st) (ap (λ b. if b then tree.private_method s key fn form st else tree.method s key fn form st) (key_is_public r))
+      (method_is_silent key fn (is_supported_key_in true key) (key_silent r))
+  method_silent s key fn form st (classes.private_key t word text r e i) =
+      silent_as _ (tree.private_method s key fn form st) (ap (λ b. if b then tree.private_method s key fn form st else tree.method s key fn form st) (ap is_private e))
+      (method_is_silent key fn (is_supported_property_in true key) (λ _. ap notes e))
+
+  field_is_silent : (ds key value : Tree) (b : Bool) → (b ≡ true → notes key ≡ []) → Silent value → has_none ds && (b && supported_in true value) ≡ true → notes ds ++ notes key ++ notes value ≡ []
+  field_is_silent ds key value b q v h =
+      let g = and_yes (has_none ds) _ h in
+      let i = and_yes b _ g.1 in
+      joined (notes ds ++ notes key) (notes value) (joined (notes ds) (notes key) (none_unnoted ds g.0) (q i.0)) (v i.1)
+
+  field_silent : {k : Code} (s : Span) (key value : Tree) (st accessor : Bool) (ds : Tree) {c d : Place} → MemberKeyRule In k key c d → Silent value → Silent (field_member s key value st accessor ds)
+  field_silent s key value st true ds r v h = absurd (true≢false (sym h))
+  field_silent s key value st false ds (classes.member_key r) v h =
+      silent_as _ (tree.class_prop s key value st ds) (ap (λ b. if b then tree.private_prop s key value st ds else tree.class_prop s key value st ds) (key_is_public r))
+      (field_is_silent ds key value (is_supported_key_in true key) (key_silent r) v) h
+  field_silent s key value st false ds (classes.private_key t word text r e i) v h =
+      silent_as _ (tree.private_prop s key value st ds) (ap (λ b. if b then tree.private_prop s key value st ds else tree.class_prop s key value st ds) (ap is_private e))
+      (field_is_silent ds key value (is_supported_property_in true key) (λ _. ap notes e) v) h
+
+  value_silent : {k : Code} {key x : Tree} {c d : Place} → FieldValueRule In k key x c d → Silent x
+  value_silent (classes.no_value a b i n e) h = ap notes e
+  value_silent {k = k} {x = x} {c = c} {d = d} (classes.a_value i r) h = small (expr_goal assignment (with_in k) x (after c) d) r h
+
+  core_silent : {k : Code} {st accessor : Bool} {ds x : Tree} {c m d : Place} → CoreRule In k st accessor ds x c m d → Silent x
+  core_silent {x = x} {c = c} {d = d} (classes.constructor_rule key ps body i j f a n r b p q e) = silent_as x (tree.constructor (spanned c d) key (parameters ps) body) e (λ h.
+      let g = and_yes (is_supported_key_in true key) _ h in
+      let l = and_yes (has_no_note (parameters ps)) (has_no_note body) (and_yes (supported_in true (parameters ps) && supported_in true body) _ g.1).1 in
+      joined (notes key ++ notes (parameters ps)) (notes body) (joined (notes key) (notes (parameters ps)) (key_silent r g.0) (clean_is (notes (parameters ps)) l.0)) (clean_is (notes body) l.1))
+  core_silent {st = st} {ds = ds} {x = x} {c = c} {d = d} (classes.method_rule form a g key ps body b r i e) =
+      silent_as x _ e (method_silent (spanned c d) key (tree.function (spanned c d) ds (parameters ps) body a g) form st r.reads_key)
+  core_silent {st = st} {accessor = accessor} {ds = ds} {x = x} {c = c} {d = d} (classes.field_rule key value i j r b v g e) =
+      silent_as x _ e (field_silent (spanned c d) key value st accessor ds r (value_silent v))
+  core_silent {x = x} {c = c} {d = d} (classes.static_block_rule body f a n r e) = silent_as x (tree.static_block (spanned c d) body) e (λ h. clean_is (notes body) (and_yes (supported_in true body) _ h).1)
+
+  member_silent : (k : Code) (x : Tree) (c d : Place) → MemberRule In k x c d → Silent x
+  member_silent k x c d (classes.empty_rule i n e) h = ap notes e
+  member_silent k x c d (classes.member_rule ds m r s) h = core_silent s h
+
   assignment_silent : (k : Code) (x : Tree) (c d : Place) → AssignmentRule In k x c d → Silent x
   assignment_silent k x c d (expressions.operators_rule r s) = binary_silent r
   assignment_silent k x c d (expressions.conditional_rule t y z i j r q a b s u e) = silent_as x (tree.cond (spanned c d) t y z) e (λ h.
@@ -294,7 +383,7 @@ silent (suc n) (callee_goal k x c d) r = left_silent (Reads n) (silent n) r.0
 silent (suc n) (pattern_goal p k x c d) r = pattern_silent (Reads n) (silent n) r
 silent (suc n) (element_goal p k x c d) r = pattern_element_silent (Reads n) (silent n) r
 silent (suc n) (stmt_goal k at x c d) r = tt
-silent (suc n) (member_goal k x c d) r = tt
+silent (suc n) (member_goal k x c d) r = member_silent (Reads n) (silent n) k x c d r
 silent (suc n) (decorator_goal k x c d) r = tt
 silent (suc n) (using_goal k x c d) r = tt
 silent (suc n) (attributes_goal k x c d) r = tt
@@ -312,6 +401,11 @@ pattern_unnoted n p k x c d o r h = silent n (pattern_goal p k x c d) r (in_modu
 pub parameter_unnoted : (n : ℕ) (k : Code) (x : Tree) (c d : Place) → k.flags.module ≡ true → PatternItemRule (Reads n) binding k x c d → supported_in k.flags.module x ≡ true → notes x ≡ []
 parameter_unnoted n k x c d o (functions.element_rule r) h = silent n (element_goal binding k x c d) r (in_module x o h)
 parameter_unnoted n k x c d o (functions.rest_rule y i r e) h = ap notes e ∙ silent n (pattern_goal binding k y (after c) d) r (supported_as _ x (tree.rest_pat (spanned c d) y) e (in_module x o h))
+
+-- a class, with its name
+pub class_unnoted : (n : ℕ) (k : Code) (name x : Tree) (c d : Place) → k.flags.module ≡ true → ClassRule (Reads n) k c (listed []) name x c d → supported_in k.flags.module (tree.class_decl name x) ≡ true
+    → notes name ++ notes x ≡ []
+class_unnoted n k name x c d o r h = named_class_silent (Reads n) (silent n) r (in_module (tree.class_decl name x) o h)
 
 -- ---- an expression that begins with `import`
 

@@ -228,62 +228,64 @@ pub data FinallyRule (Stmt : Code → Position → Tree → Place → Place → 
   finally_rule : kind_at c ≡ kind.Finally → ReadsBlock Stmt k x (after c) d → FinallyRule Stmt k x c d
 
 pub data StmtRule (Stmt : Code → Position → Tree → Place → Place → Type 0) (Expr : Class → Code → Tree → Place → Place → Type 0) (Pat Target : Code → Tree → Place → Place → Type 0)
-    (Params : Code → List Tree → Place → Place → Type 0) (k : Code) (at : Position) (x : Tree) (c d : Place) : Type 0 where
+    (Params : Code → List Tree → Place → Place → Type 0) (Named : Code → (name x : Tree) → Place → Place → Type 0) (k : Code) (at : Position) (x : Tree) (c d : Place) : Type 0 where
+  -- section 15.7, where declarations are read
+  class_rule : (name y : Tree) → at.include_decl ≡ true → Named k name y c d → is_absent name ≡ false → x ≡ tree.class_decl name y → StmtRule Stmt Expr Pat Target Params Named k at x c d
   -- section 15.2, where declarations are read; as in the crate, an async one may stand in the place of any statement
-  function_rule : at.include_decl || is_async_function c ≡ true → ReadsFunction Stmt Params k x c d → StmtRule Stmt Expr Pat Target Params k at x c d
+  function_rule : at.include_decl || is_async_function c ≡ true → ReadsFunction Stmt Params k x c d → StmtRule Stmt Expr Pat Target Params Named k at x c d
   -- section 14.2
-  block_rule : ReadsBlock Stmt k x c d → StmtRule Stmt Expr Pat Target Params k at x c d
+  block_rule : ReadsBlock Stmt k x c d → StmtRule Stmt Expr Pat Target Params Named k at x c d
   -- section 14.4
-  empty_rule : kind_at c ≡ kind.Semi → d ≡ after c → x ≡ tree.empty (spanned c d) → StmtRule Stmt Expr Pat Target Params k at x c d
+  empty_rule : kind_at c ≡ kind.Semi → d ≡ after c → x ≡ tree.empty (spanned c d) → StmtRule Stmt Expr Pat Target Params Named k at x c d
   -- section 14.16
-  debugger_rule : kind_at c ≡ kind.Debugger → Ends (after c) d → x ≡ tree.debugger (spanned c d) → StmtRule Stmt Expr Pat Target Params k at x c d
+  debugger_rule : kind_at c ≡ kind.Debugger → Ends (after c) d → x ≡ tree.debugger (spanned c d) → StmtRule Stmt Expr Pat Target Params Named k at x c d
   -- sections 14.3.2 and 14.3.1; `let` and `const` where declarations are read
   variables_rule : (word : VarDeclKind) (xs : List Tree) (m : Place) → at.include_decl || is_var word ≡ true → begins_variables word c ≡ true
       → ReadsSeparated (DeclaratorRule (Expr assignment) Pat (with_in k) false word) xs (after c) m → Ends m d → x ≡ tree.var (spanned c d) word (listed xs)
-      → StmtRule Stmt Expr Pat Target Params k at x c d
-  if_statement_rule : IfRule Stmt Expr k x c d → StmtRule Stmt Expr Pat Target Params k at x c d
+      → StmtRule Stmt Expr Pat Target Params Named k at x c d
+  if_statement_rule : IfRule Stmt Expr k x c d → StmtRule Stmt Expr Pat Target Params Named k at x c d
   -- section 14.11; in module code it is a fault, in strict code it is none
   with_rule : (e y : Tree) (m : Place) → kind_at c ≡ kind.With → k.flags.module ≡ false → ReadsHead Expr k e (after c) m → Stmt (in_with k) sub_statement y m d
-      → x ≡ tree.with (spanned c d) e y → StmtRule Stmt Expr Pat Target Params k at x c d
+      → x ≡ tree.with (spanned c d) e y → StmtRule Stmt Expr Pat Target Params Named k at x c d
   -- section 14.12
   switch_rule : (e : Tree) (xs : List Tree) (m n : Place) → kind_at c ≡ kind.Switch → ReadsHead Expr k e (after c) m → kind_at m ≡ kind.LBrace
       → ReadsCases Stmt Expr (in_breakable k) false xs (after m) n → kind_at n ≡ kind.RBrace → d ≡ after n → x ≡ tree.switch (spanned c d) e (listed xs)
-      → StmtRule Stmt Expr Pat Target Params k at x c d
+      → StmtRule Stmt Expr Pat Target Params Named k at x c d
   -- section 14.13
   labeled_rule : (w : Word) (s : Span) (y : Tree) (m : Place) → ReadsToken (token.Word w) s c m → is_name k.flags (word_text w) ≡ true → kind_at m ≡ kind.Colon
-      → Stmt (in_breakable k) (labelled_item (after m)) y (after m) d → x ≡ tree.labeled (spanned c d) (tree.ident s (word_text w)) y → StmtRule Stmt Expr Pat Target Params k at x c d
+      → Stmt (in_breakable k) (labelled_item (after m)) y (after m) d → x ≡ tree.labeled (spanned c d) (tree.ident s (word_text w)) y → StmtRule Stmt Expr Pat Target Params Named k at x c d
   -- sections 14.9, 14.8 and 14.10
-  break_rule : (label : Tree) (m : Place) → kind_at c ≡ kind.Break → TargetRule k label (after c) m → Ends m d → x ≡ tree.break (spanned c d) label → StmtRule Stmt Expr Pat Target Params k at x c d
+  break_rule : (label : Tree) (m : Place) → kind_at c ≡ kind.Break → TargetRule k label (after c) m → Ends m d → x ≡ tree.break (spanned c d) label → StmtRule Stmt Expr Pat Target Params Named k at x c d
   continue_rule : (label : Tree) (m : Place) → kind_at c ≡ kind.Continue → TargetRule k label (after c) m → Ends m d → x ≡ tree.continue (spanned c d) label
-      → StmtRule Stmt Expr Pat Target Params k at x c d
-  return_rule : (e : Tree) (m : Place) → kind_at c ≡ kind.Return → OperandRule Expr k e (after c) m → Ends m d → x ≡ tree.return (spanned c d) e → StmtRule Stmt Expr Pat Target Params k at x c d
+      → StmtRule Stmt Expr Pat Target Params Named k at x c d
+  return_rule : (e : Tree) (m : Place) → kind_at c ≡ kind.Return → OperandRule Expr k e (after c) m → Ends m d → x ≡ tree.return (spanned c d) e → StmtRule Stmt Expr Pat Target Params Named k at x c d
   -- section 14.14
   throw_rule : (e : Tree) (m : Place) → kind_at c ≡ kind.Throw → breaks_at (after c) ≡ false → Expr expression (with_in k) e (after c) m → Ends m d
-      → x ≡ tree.throw (spanned c d) e → StmtRule Stmt Expr Pat Target Params k at x c d
+      → x ≡ tree.throw (spanned c d) e → StmtRule Stmt Expr Pat Target Params Named k at x c d
   -- section 14.15: it has a catch, a finally, or both
   try_rule : (body handler finalizer : Tree) (m n : Place) → kind_at c ≡ kind.Try → ReadsBlock Stmt k body (after c) m → CatchRule Stmt Pat k handler m n
-      → FinallyRule Stmt k finalizer n d → is_absent handler && is_absent finalizer ≡ false → x ≡ tree.try (spanned c d) body handler finalizer → StmtRule Stmt Expr Pat Target Params k at x c d
+      → FinallyRule Stmt k finalizer n d → is_absent handler && is_absent finalizer ≡ false → x ≡ tree.try (spanned c d) body handler finalizer → StmtRule Stmt Expr Pat Target Params Named k at x c d
   -- section 14.7.3
   while_rule : (e y : Tree) (m : Place) → kind_at c ≡ kind.While → ReadsHead Expr k e (after c) m → Stmt (in_loop k) sub_statement y m d
-      → x ≡ tree.while (spanned c d) e y → StmtRule Stmt Expr Pat Target Params k at x c d
+      → x ≡ tree.while (spanned c d) e y → StmtRule Stmt Expr Pat Target Params Named k at x c d
   -- section 14.7.2; its end is demanded nowhere
   do_while_rule : (e y : Tree) (m n : Place) → kind_at c ≡ kind.Do → Stmt (in_loop k) sub_statement y (after c) m → kind_at m ≡ kind.While → ReadsHead Expr k e (after m) n
-      → OptionalEnds n d → x ≡ tree.do_while (spanned c d) e y → StmtRule Stmt Expr Pat Target Params k at x c d
+      → OptionalEnds n d → x ≡ tree.do_while (spanned c d) e y → StmtRule Stmt Expr Pat Target Params Named k at x c d
   -- section 14.7.4
   for_rule : (init test update y : Tree) (l m n : Place) → kind_at c ≡ kind.For → kind_at (after c) ≡ kind.LParen → InitRule Expr Pat k init (after (after c)) l → kind_at l ≡ kind.Semi
       → PartRule Expr k test (after l) m → kind_at m ≡ kind.Semi → PartRule Expr k update (after m) n → kind_at n ≡ kind.RParen → Stmt (in_loop k) sub_statement y (after n) d
-      → x ≡ tree.for (spanned c d) init test update y → StmtRule Stmt Expr Pat Target Params k at x c d
+      → x ≡ tree.for (spanned c d) init test update y → StmtRule Stmt Expr Pat Target Params Named k at x c d
   -- section 14.7.5
   for_in_rule : (left right y : Tree) (m n : Place) → kind_at c ≡ kind.For → kind_at (after c) ≡ kind.LParen → LeftRule Expr Pat Target k left (after (after c)) m → kind_at m ≡ kind.In
       → Expr expression (with_in k) right (after m) n → kind_at n ≡ kind.RParen → Stmt (in_loop k) sub_statement y (after n) d → x ≡ tree.for_in (spanned c d) left right y
-      → StmtRule Stmt Expr Pat Target Params k at x c d
+      → StmtRule Stmt Expr Pat Target Params Named k at x c d
   for_of_rule : (is_await : Bool) (left right y : Tree) (l m n : Place) → kind_at c ≡ kind.For → AwaitWord is_await (after c) l → kind_at l ≡ kind.LParen
       → LeftRule Expr Pat Target k left (after l) m → word_at (codes "of") m ≡ true → is_async_of false left m ≡ false → not (is_await && is_bare_async left) ≡ true
       → Expr assignment (with_in k) right (after m) n → kind_at n ≡ kind.RParen → Stmt (in_loop k) sub_statement y (after n) d
-      → x ≡ tree.for_of (spanned c d) is_await left right y → StmtRule Stmt Expr Pat Target Params k at x c d
+      → x ≡ tree.for_of (spanned c d) is_await left right y → StmtRule Stmt Expr Pat Target Params Named k at x c d
   -- section 14.5. A bare name before `:` is a label; in module code the bare name `interface` is none.
   expr_rule : (e : Tree) (m : Place) → may_begin_expression_statement at c ≡ true → Expr expression (with_in k) e c m → is_ident e && sees kind.Colon m ≡ false
-      → k.flags.module && is_ident_named (codes "interface") e ≡ false → Ends m d → x ≡ tree.expr_stmt (spanned c d) e → StmtRule Stmt Expr Pat Target Params k at x c d
+      → k.flags.module && is_ident_named (codes "interface") e ≡ false → Ends m d → x ≡ tree.expr_stmt (spanned c d) e → StmtRule Stmt Expr Pat Target Params Named k at x c d
   -- as in the crate, one that begins with `import` has an end that nothing demands
   import_rule : (e : Tree) (m : Place) → begins_import_expression c ≡ true → Expr expression (with_in k) e c m → OptionalEnds m d → x ≡ tree.expr_stmt (spanned c d) e
-      → StmtRule Stmt Expr Pat Target Params k at x c d
+      → StmtRule Stmt Expr Pat Target Params Named k at x c d

@@ -1,15 +1,17 @@
 -- The part of the relation of the whole language that the parser reads so far.
-use Rattle.std.specs.Prelude.{◌≡◌, ℕ, zero, suc, true, false, ◌||◌, List}
+use Rattle.std.specs.Prelude.{◌≡◌, ℕ, zero, suc, true, false, ◌||◌, List, []}
 use Rattle.swc_ecma_parser_token.specs.declared.kind.TokenKind.TheVariants as kind
 use Rattle.swc_ecma_parser_input.specs.Place.{Place}
-use Rattle.swc_ecma_parser_model.specs.Tree.{Tree, trees}
+use Rattle.swc_ecma_parser_model.specs.Tree as tree
+use Rattle.swc_ecma_parser_model.specs.Tree.{Tree, trees, listed}
 use Rattle.swc_ecma_parser_grammar.specs.declared.position.Position.{Position}
 use Rattle.swc_ecma_parser_grammar.specs.Looks.{sees}
 use Rattle.swc_ecma_parser_grammar.specs.Names.{Code}
 use Rattle.swc_ecma_parser_grammar.specs.Reads.{StmtRule}
 use Rattle.swc_ecma_parser_grammar.specs.Supported.{supported_in, all_supported_in}
-use Rattle.swc_ecma_parser_grammar.specs.language.Goals.{Class, callee, binding, assigning, expr_goal, callee_goal, pattern_goal, element_goal}
+use Rattle.swc_ecma_parser_grammar.specs.language.Goals.{Class, callee, binding, assigning, expr_goal, callee_goal, pattern_goal, element_goal, member_goal}
 use Rattle.swc_ecma_parser_grammar.specs.language.Functions.{ParametersRule}
+use Rattle.swc_ecma_parser_grammar.specs.language.Classes.{ClassRule}
 use Rattle.swc_ecma_parser_grammar.specs.language.Statements.{may_begin_at_top}
 use Rattle.swc_ecma_parser_grammar.specs.language.Reads.{Reads}
 
@@ -33,10 +35,18 @@ ReadsTarget n k x c d = Reads n (pattern_goal assigning k x c d) × (supported_i
 abbrev pub ReadsParams : ℕ → Code → List Tree → Place → Place → Type 0
 ReadsParams n k ps c d = ParametersRule (Reads n) k ps c d × (all_supported_in k.flags.module (trees ps) ≡ true)
 
+-- a member of a class within so many levels
+abbrev pub ReadsMember : ℕ → Code → Tree → Place → Place → Type 0
+ReadsMember n k x c d = Reads n (member_goal k x c d) × (supported_in k.flags.module x ≡ true)
+
+-- a class from its word on, with a name or without one; no decorators stand before it
+abbrev pub ReadsNamedClass : ℕ → Code → (name x : Tree) → Place → Place → Type 0
+ReadsNamedClass n k name x c d = ClassRule (Reads n) k c (listed []) name x c d × (supported_in k.flags.module (tree.class_decl name x) ≡ true)
+
 -- a statement within so many levels
 abbrev pub ReadsStmt : ℕ → Code → Position → Tree → Place → Place → Type 0
 ReadsStmt zero k at x c d = ⊥
-ReadsStmt (suc n) k at x c d = StmtRule (ReadsStmt n) (ReadsClass n) (ReadsPat n) (ReadsTarget n) (ReadsParams n) k at x c d
+ReadsStmt (suc n) k at x c d = StmtRule (ReadsStmt n) (ReadsClass n) (ReadsPat n) (ReadsTarget n) (ReadsParams n) (ReadsNamedClass n) k at x c d
 
 -- one that stands in no other: at the top level it begins with `await` only in what may be a module's code
 abbrev pub ReadsTop : ℕ → Code → Position → Tree → Place → Place → Type 0

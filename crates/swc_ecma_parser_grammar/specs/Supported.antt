@@ -5,6 +5,7 @@ use Rattle.swc_ecma_parser_error.specs.Kind.{Fault}
 use Rattle.swc_ecma_parser_model.specs.Tree as tree
 use Rattle.swc_ecma_parser_model.specs.Tree.{Tree, Trees, none, also}
 use Rattle.swc_ecma_parser_model.specs.Forms.{has_plain_params, is_plain_param}
+use Rattle.swc_ecma_parser_model.specs.Kinds.{is_function}
 use Rattle.swc_ecma_parser_grammar.specs.Follows.{is_bare_async}
 use Rattle.swc_ecma_parser_grammar.specs.Notes.{notes}
 use Rattle.swc_ecma_parser_grammar.specs.Own.{misplaced_directive}
@@ -125,6 +126,18 @@ abbrev mutual
   supported_in m (tree.fn_expr s name fn) = supported_in m name && (supported_in m fn && (is_rightly_directed fn && (not m || has_no_note fn)))
   -- Arrow functions, with what is said of functions as expressions: sections 15.3 and 15.9
   supported_in m (tree.arrow s params body is_async) = (supported_in m params && supported_in m body) && (is_rightly_headed params body && (not m || has_no_note body))
+  -- Classes without decorators, declared or as expressions: section 15.7. In module code nothing in the functions and static blocks
+  -- of their members is a fault of it.
+  supported_in m (tree.class_expr s name body) = supported_in m name && supported_in m body
+  supported_in m (tree.class_decl name body) = supported_in m name && supported_in m body
+  supported_in m (tree.class s decorators body super_class) = has_none decorators && (supported_in m super_class && supported_in m body)
+  supported_in m (tree.constructor s key params body) = is_supported_key_in m key && ((supported_in m params && supported_in m body) && (not m || (has_no_note params && has_no_note body)))
+  supported_in m (tree.method s key fn kind is_static) = is_supported_key_in m key && (is_function fn && (supported_in m fn && (not m || has_no_note fn)))
+  supported_in m (tree.private_method s key fn kind is_static) = is_supported_property_in m key && (is_function fn && (supported_in m fn && (not m || has_no_note fn)))
+  supported_in m (tree.class_prop s key value is_static decorators) = has_none decorators && (is_supported_key_in m key && supported_in m value)
+  supported_in m (tree.private_prop s key value is_static decorators) = has_none decorators && (is_supported_property_in m key && supported_in m value)
+  supported_in m (tree.static_block s body) = supported_in m body && (not m || has_no_note body)
+  supported_in m (tree.empty_member s) = true
   -- section 16.1
   supported_in m (tree.script s body shebang) = supported_in m body
   supported_in m _ = false

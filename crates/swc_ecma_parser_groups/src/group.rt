@@ -2,11 +2,13 @@
 
 ghost use Rattle.std.specs.Prelude.{◌≡◌, None, map};
 ghost use Rattle.swc_ecma_parser_groups.specs.Groups.{group_of, parts_of};
+ghost use Rattle.swc_ecma_parser_grammar.specs.Reads.{with_in};
 ghost use Rattle.swc_ecma_parser_inner.specs.Covers.{cover_of};
 ghost use Rattle.swc_ecma_parser_inner.specs.Nests.{Nests};
 ghost use Rattle.swc_ecma_parser_reader.specs.Arrows as arrows;
+ghost use Rattle.swc_ecma_parser_reader.specs.Methods.{parameter_form};
 ghost use Rattle.swc_ecma_parser_reader.specs.Reader as rules;
-ghost use Rattle.swc_ecma_parser_reader.specs.State.{GivesAs};
+ghost use Rattle.swc_ecma_parser_reader.specs.State.{GivesAs, within};
 
 use swc_ecma_parser_common::Span;
 use swc_ecma_parser_error::PResult;
@@ -42,8 +44,23 @@ struct Parts<E, N> {
     comma: bool,
 }
 
+/// What a rest binds.
+#[tactic(auto, unfolding(swc_ecma_parser_reader::specs::Reader::function, swc_ecma_parser_reader::specs::Reader::function_by))]
+fn rest_binding<
+    P: Source,
+    T: BuildsPattern,
+    S: Fn(&MakerOf<T>, &mut P, usize, Position) -> PResult<T::Stmt>,
+    E: Fn(&MakerOf<T>, &mut P, usize, Reading) -> PResult<Cover<T::Expr>>,
+    N: Fn(&MakerOf<T>, &mut P, usize, Part) -> PResult<T::Pat>,
+>(g: &Grammar<S, E, N>, t: &MakerOf<T>, p: &mut P) -> PResult<T::Pat>
+    requires { Nests P.seen T.expr_of T.pat_of T.stmt_of g.now.depth (S.pre g.now.stmt) (S.post g.now.stmt) (E.pre g.now.expr) (E.post g.now.expr) (N.pre g.now.pat) (N.post g.now.pat) }
+    ensures { GivesAs T.pat_of (within with_in (rules.function g.now.depth parameter_form) (P.seen p.old)) result (P.seen p.new) }
+{
+    inner_pat(g, t, p, Part::Pattern)
+}
+
 /// A rest with its dots, which is the last.
-#[tactic(auto, unfolding(swc_ecma_parser_reader::specs::Arrows::rest_part, swc_ecma_parser_reader::specs::Reader::function, swc_ecma_parser_reader::specs::Reader::function_by))]
+#[tactic(auto, unfolding(swc_ecma_parser_reader::specs::Arrows::rest_part))]
 fn rest_part<
     P: Source,
     T: BuildsPattern,
@@ -61,7 +78,7 @@ fn rest_part<
 {
     let start = p.span();
     p.skip()?;
-    let pat = inner_pat(g, t, p, Part::Pattern)?;
+    let pat = rest_binding(g, t, p)?;
     let span = since(p, start);
     let rest = grown(p, T::rest_pat(t.alloc, span, pat))?;
     Ok(Parts {

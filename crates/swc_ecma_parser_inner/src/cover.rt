@@ -47,6 +47,8 @@ pub enum Reading {
     Cover,
     /// What the head of a loop begins with: an expression that may still become a target.
     Head,
+    /// A class that is an expression, whose heritage and members stand in so many levels.
+    Class,
 }
 
 /// An expression, which stays one.

@@ -1,11 +1,12 @@
 //! Keys of properties: PropertyName, ECMA-262, section 13.2.5.
 
-ghost use Rattle.std.specs.Prelude.{◌≡◌, IfOk};
-ghost use Rattle.swc_ecma_parser_inner.specs.Keys.{key_of, word_of};
+ghost use Rattle.std.specs.Prelude.{◌≡◌, IfOk, nat_eq};
+ghost use Rattle.swc_ecma_parser_grammar.specs.Looks.{span_at};
+ghost use Rattle.swc_ecma_parser_inner.specs.Keys.{key_of, private_of, word_of};
 ghost use Rattle.swc_ecma_parser_inner.specs.Nests.{Nests};
 ghost use Rattle.swc_ecma_parser_reader.specs.Expressions as exprs;
 ghost use Rattle.swc_ecma_parser_reader.specs.Reader as rules;
-ghost use Rattle.swc_ecma_parser_reader.specs.State.{GivesAs};
+ghost use Rattle.swc_ecma_parser_reader.specs.State.{Gives, GivesAs};
 
 use crate::cover::{Cover, Reading, inside};
 use crate::grammar::{Grammar, Part};
@@ -14,7 +15,7 @@ use std::alloc::{AllocError, Global};
 use swc_ecma_parser_common::Span;
 use swc_ecma_parser_error::PResult;
 use swc_ecma_parser_grammar::{Class, Position};
-use swc_ecma_parser_model::{BigInt, Ident, Number, Str};
+use swc_ecma_parser_model::{BigInt, Ident, Number, PrivateName, Str};
 use swc_ecma_parser_source::{Literal, Source, Wanted};
 use swc_ecma_parser_token::TokenKind;
 use swc_ecma_parser_trees::{BuildsKey, MakerOf, Trees};
@@ -49,6 +50,36 @@ pub fn word_property<P: Source>(p: &mut P) -> PResult<Ident>
     ensures { GivesAs word_of (exprs.word_property (P.seen p.old)) result (P.seen p.new) }
 {
     p.any_word()
+}
+
+/// Whether what stands here begins where the token before it ends.
+fn touches<P: Source>(p: &P) -> bool
+    ensures { result ≡ nat_eq (P.seen p.now).at.last.hi.0 (span_at (P.seen p.now).at).lo.0 }
+{
+    p.last_span().hi.0 == p.span().lo.0
+}
+
+/// A word that begins where the token before it ends.
+#[tactic(auto, unfolding(swc_ecma_parser_reader::specs::Expressions::touching_word))]
+fn touching_word<P: Source>(p: &mut P) -> PResult<Ident>
+    ensures { Gives (exprs.touching_word (P.seen p.old)) result (P.seen p.new) }
+{
+    if touches(p) {
+        return p.any_word();
+    }
+    Err(p.wanted(Wanted::Expression))
+}
+
+/// `#` and its word.
+#[tactic(auto, unfolding(swc_ecma_parser_reader::specs::Expressions::private_name))]
+pub fn private_name<P: Source>(p: &mut P) -> PResult<PrivateName>
+    ensures { GivesAs private_of (exprs.private_name (P.seen p.old)) result (P.seen p.new) }
+{
+    let start = p.span();
+    p.skip()?;
+    let id = touching_word(p)?;
+    let span = since(p, start);
+    Ok(PrivateName { span, id })
 }
 
 /// A string or a number as a key.

@@ -1,13 +1,9 @@
 -- What stands behind an object, as a part of the model's tree.
-use Rattle.swc_ecma_parser_model.specs.declared.leaves.PrivateName.{PrivateName}
 use Rattle.swc_ecma_parser_model.specs.Tree as tree
 use Rattle.swc_ecma_parser_model.specs.Tree.{Tree}
-use Rattle.swc_ecma_parser_inner.specs.Keys.{word_of}
+use Rattle.swc_ecma_parser_inner.specs.Keys.{private_of, word_of}
 use Rattle.swc_ecma_parser_left.specs.declared.access.Property.{Property}
 use Rattle.swc_ecma_parser_left.specs.declared.access.Property.TheVariants as access
-
-abbrev pub private_of : PrivateName → Tree
-private_of x = tree.private_name x.span x.id.span x.id.sym
 
 abbrev pub property_of : {E : Type 0} → (E → Tree) → Property E → Tree
 property_of view (access.Word i) = word_of i

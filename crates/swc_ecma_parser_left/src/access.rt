@@ -1,9 +1,9 @@
 //! Accesses and arguments: ECMA-262, sections 13.3.2 and 13.3.8.
 
-ghost use Rattle.std.specs.Prelude.{◌≡◌, ◌&&◌, ◌||◌, not, IfOk, map, nat_eq};
-ghost use Rattle.swc_ecma_parser_grammar.specs.Looks.{sees, span_at};
+ghost use Rattle.std.specs.Prelude.{◌≡◌, ◌&&◌, ◌||◌, not, IfOk, map};
+ghost use Rattle.swc_ecma_parser_grammar.specs.Looks.{sees};
 ghost use Rattle.swc_ecma_parser_inner.specs.Nests.{Nests};
-ghost use Rattle.swc_ecma_parser_left.specs.Accesses.{private_of, property_of};
+ghost use Rattle.swc_ecma_parser_left.specs.Accesses.{property_of};
 ghost use Rattle.swc_ecma_parser_model.specs.Tree as tree;
 ghost use Rattle.swc_ecma_parser_reader.specs.Expressions as exprs;
 ghost use Rattle.swc_ecma_parser_reader.specs.Reader as rules;
@@ -15,7 +15,7 @@ use swc_ecma_parser_error::{PResult, SyntaxError};
 use swc_ecma_parser_grammar::{Class, Position};
 use swc_ecma_parser_inner::cover::{Cover, Reading, inside};
 use swc_ecma_parser_inner::grammar::{Grammar, Part};
-use swc_ecma_parser_inner::keys::word_property;
+use swc_ecma_parser_inner::keys::{private_name, word_property};
 use swc_ecma_parser_inner::steps::{grown, pushed, since};
 use swc_ecma_parser_model::{Ident, PrivateName};
 use swc_ecma_parser_source::{Source, Wanted};
@@ -30,36 +30,6 @@ pub enum Property<E> {
     Private(PrivateName),
     /// An expression in brackets, which stand there.
     Brackets(Span, E),
-}
-
-/// Whether what stands here begins where the token before it ends.
-fn touches<P: Source>(p: &P) -> bool
-    ensures { result ≡ nat_eq (P.seen p.now).at.last.hi.0 (span_at (P.seen p.now).at).lo.0 }
-{
-    p.last_span().hi.0 == p.span().lo.0
-}
-
-/// A word that begins where the token before it ends.
-#[tactic(auto, unfolding(swc_ecma_parser_reader::specs::Expressions::touching_word))]
-fn touching_word<P: Source>(p: &mut P) -> PResult<Ident>
-    ensures { Gives (exprs.touching_word (P.seen p.old)) result (P.seen p.new) }
-{
-    if touches(p) {
-        return p.any_word();
-    }
-    Err(p.wanted(Wanted::Expression))
-}
-
-/// `#` and its word.
-#[tactic(auto, unfolding(swc_ecma_parser_reader::specs::Expressions::private_name))]
-fn private_name<P: Source>(p: &mut P) -> PResult<PrivateName>
-    ensures { GivesAs private_of (exprs.private_name (P.seen p.old)) result (P.seen p.new) }
-{
-    let start = p.span();
-    p.skip()?;
-    let id = touching_word(p)?;
-    let span = since(p, start);
-    Ok(PrivateName { span, id })
 }
 
 /// What stands behind `.`.

@@ -6,6 +6,7 @@ ghost use Rattle.swc_ecma_parser_inner.specs.Nests.{Nests};
 ghost use Rattle.swc_ecma_parser_left.specs.Accesses.{property_of};
 ghost use Rattle.swc_ecma_parser_model.specs.Tree as tree;
 ghost use Rattle.swc_ecma_parser_reader.specs.Expressions as exprs;
+ghost use Rattle.swc_ecma_parser_reader.specs.Methods.{class_form};
 ghost use Rattle.swc_ecma_parser_reader.specs.Reader as rules;
 ghost use Rattle.swc_ecma_parser_reader.specs.State.{Gives, GivesAs};
 ghost use Rattle.swc_ecma_parser_source.specs.Literals.{literal_tree};
@@ -27,7 +28,7 @@ use swc_ecma_parser_model::MetaPropKind;
 use swc_ecma_parser_source::{Literal, Source, Wanted};
 use swc_ecma_parser_token::TokenKind;
 use swc_ecma_parser_trees::{
-    BuildsCall, BuildsExpr, BuildsMethod, BuildsOperator, BuildsPattern, MakerOf,
+    BuildsCall, BuildsExpr, BuildsMethod, BuildsOperator, BuildsPattern, MakerOf, Trees,
 };
 
 /// A name.
@@ -122,7 +123,22 @@ fn paren<
     grown(p, T::paren(t.alloc, span, expr))
 }
 
-/// Parentheses, an array, an object, `this`, or a function.
+/// A class that is an expression, which the reader of expressions reads one level further in.
+fn class_expr<
+    P: Source,
+    T: Trees,
+    S: Fn(&MakerOf<T>, &mut P, usize, Position) -> PResult<T::Stmt>,
+    E: Fn(&MakerOf<T>, &mut P, usize, Reading) -> PResult<Cover<T::Expr>>,
+    N: Fn(&MakerOf<T>, &mut P, usize, Part) -> PResult<T::Pat>,
+>(g: &Grammar<S, E, N>, t: &MakerOf<T>, p: &mut P) -> PResult<T::Expr>
+    requires { Nests P.seen T.expr_of T.pat_of T.stmt_of g.now.depth (S.pre g.now.stmt) (S.post g.now.stmt) (E.pre g.now.expr) (E.post g.now.expr) (N.pre g.now.pat) (N.post g.now.pat) }
+    ensures { GivesAs T.expr_of (rules.function g.now.depth class_form (P.seen p.old)) result (P.seen p.new) }
+{
+    let found = (g.expr)(t, p, g.depth, Reading::Class)?;
+    Ok(found.tree)
+}
+
+/// Parentheses, an array, an object, `this`, a function, or a class.
 #[tactic(auto, unfolding(swc_ecma_parser_reader::specs::Expressions::marked_primary))]
 fn marked_primary<
     P: Source,
@@ -150,6 +166,9 @@ fn marked_primary<
     }
     if p.sees(TokenKind::Function) {
         return function_expr(g, t, p);
+    }
+    if p.sees(TokenKind::Class) {
+        return class_expr(g, t, p);
     }
     Err(p.wanted(Wanted::Expression))
 }

@@ -1,4 +1,4 @@
--- A refusal is the same whatever would have been read.
+-- A refusal of what may still become a pattern is one of an expression.
 use Rattle.std.proofs.Common.{◌≡◌, Bool, true, false, if◌then◌else◌, List, [], ◌∷◌, Ok, Err, refl}
 use Rattle.swc_ecma_parser_common.specs.declared.span.Span.{Span}
 use Rattle.swc_ecma_parser_error.specs.Kind.{Fault, Kind, fault_of}
@@ -8,21 +8,6 @@ use Rattle.swc_ecma_parser_token.specs.declared.token.TokenAndSpan.{TokenAndSpan
 use Rattle.swc_ecma_parser_input.specs.TokenSource.{means_out_of_memory}
 use Rattle.swc_ecma_parser_reader.specs.State.{State, Outcome, and_then, pure, moved, wanted_at, wanted_in, wanted, fault, refused, reject_at, reject_in, reject}
 use Rattle.swc_ecma_parser_reader.specs.Expressions as exprs
-
-module _ {A B : Type 0} (kind : Kind) (s : State) (f : Fault) (t : State) where
-  wanted_at_as : (x : Token) (span : Span) → ◌≡◌ {A = Outcome A} (wanted_at kind s x span) (Err (f, t)) → ◌≡◌ {A = Outcome B} (wanted_at kind s x span) (Err (f, t))
-  wanted_at_as (token.Error e) span h = cc
-  wanted_at_as _ span h = cc
-
-  wanted_in_as : (ts : List TokenAndSpan) → ◌≡◌ {A = Outcome A} (wanted_in kind s ts) (Err (f, t)) → ◌≡◌ {A = Outcome B} (wanted_in kind s ts) (Err (f, t))
-  wanted_in_as [] h = cc
-  wanted_in_as (x ∷ xs) h = wanted_at_as x.token x.span h
-
-  pub wanted_as : ◌≡◌ {A = Outcome A} (wanted kind s) (Err (f, t)) → ◌≡◌ {A = Outcome B} (wanted kind s) (Err (f, t))
-  unfolding wanted
-  wanted_as h = wanted_in_as s.at.left h
-
--- ---- the same, of what may still become a pattern
 
 module _ (kind : Kind) (s : State) where
   wanted_at_cover : (x : Token) (span : Span) → wanted_at kind s x span ≡ and_then (wanted_at kind s x span) (λ y. pure (exprs.done y))

@@ -2,15 +2,20 @@
 
 ghost use Rattle.std.specs.Prelude.{◌≡◌};
 ghost use Rattle.swc_ecma_parser_grammar.specs.Reads.{nested_item};
+ghost use Rattle.swc_ecma_parser_grammar.specs.language.Goals.{left_side};
 ghost use Rattle.swc_ecma_parser_inner.specs.Keys.{word_of};
 ghost use Rattle.swc_ecma_parser_module_reader.specs.Exports as exports;
+ghost use Rattle.swc_ecma_parser_reader.specs.Members as members;
 ghost use Rattle.swc_ecma_parser_reader.specs.Reader as rules;
 ghost use Rattle.swc_ecma_parser_reader.specs.State.{GivesAs};
 ghost use Rattle.swc_ecma_parser_trees.specs.Parts.{part_of};
 
 use crate::inner::inner_expr;
+use swc_ecma_parser_classes::class::NamedClass;
 use swc_ecma_parser_common::Span;
-use swc_ecma_parser_core::grammar::{declared_function, inner_declarators, inner_function};
+use swc_ecma_parser_core::grammar::{
+    declared_class, declared_function, inner_class, inner_declarators, inner_function,
+};
 use swc_ecma_parser_error::PResult;
 use swc_ecma_parser_functions::function::{Manner, function_word, star};
 use swc_ecma_parser_inner::steps::{grown, since, with_in};
@@ -64,9 +69,37 @@ fn exported_function<P: Source, T: BuildsStatements + BuildsExport>(
     depth: usize,
     start: Span,
 ) -> PResult<T::Item>
-    ensures { GivesAs T.item_of (exports.exported_function (rules.stmt depth nested_item) (rules.expr depth) (rules.pattern depth) (rules.parameters depth) start (P.seen p.old)) result (P.seen p.new) }
+    ensures { GivesAs T.item_of (exports.exported_function (rules.stmt depth nested_item) (rules.expr depth) (rules.pattern depth) (rules.parameters depth) (rules.member depth) start (P.seen p.old)) result (P.seen p.new) }
 {
     let decl = default_function::<P, T>(t, p, depth)?;
+    let span = since(p, start);
+    grown(p, T::export_default_decl(t.alloc, span, decl))
+}
+
+/// A class that is exported by default, which is read as an expression: its name may be missing too.
+fn default_class<P: Source, T: BuildsStatements + BuildsExport>(
+    t: &MakerOf<T>,
+    p: &mut P,
+    depth: usize,
+) -> PResult<T::DefaultDecl>
+    ensures { GivesAs T.default_decl_of (members.class_expr (rules.expr depth left_side) (rules.member depth) (P.seen p.old)) result (P.seen p.new) }
+{
+    let NamedClass { name, class } = inner_class::<P, T>(t, p, depth)?;
+    let span = T::class_span(&class);
+    grown(p, T::default_class(t.alloc, span, name, class))
+}
+
+/// An export of such a class, from it on.
+#[tactic(auto, unfolding(swc_ecma_parser_module_reader::specs::Exports::exported_class))]
+fn exported_class<P: Source, T: BuildsStatements + BuildsExport>(
+    t: &MakerOf<T>,
+    p: &mut P,
+    depth: usize,
+    start: Span,
+) -> PResult<T::Item>
+    ensures { GivesAs T.item_of (exports.exported_class (rules.stmt depth nested_item) (rules.expr depth) (rules.pattern depth) (rules.parameters depth) (rules.member depth) start (P.seen p.old)) result (P.seen p.new) }
+{
+    let decl = default_class::<P, T>(t, p, depth)?;
     let span = since(p, start);
     grown(p, T::export_default_decl(t.alloc, span, decl))
 }
@@ -104,8 +137,11 @@ fn export_default<P: Source, T: BuildsStatements + BuildsExport>(
     start: Span,
     first: Span,
 ) -> PResult<T::Item>
-    ensures { GivesAs T.item_of (exports.export_default (rules.stmt depth nested_item) (rules.expr depth) (rules.pattern depth) (rules.parameters depth) start first (P.seen p.old)) result (P.seen p.new) }
+    ensures { GivesAs T.item_of (exports.export_default (rules.stmt depth nested_item) (rules.expr depth) (rules.pattern depth) (rules.parameters depth) (rules.member depth) start first (P.seen p.old)) result (P.seen p.new) }
 {
+    if p.sees(TokenKind::Class) {
+        return exported_class::<P, T>(t, p, depth, start);
+    }
     if begins_function(p) {
         return exported_function::<P, T>(t, p, depth, start);
     }
@@ -124,7 +160,7 @@ fn exported_variables<P: Source, T: BuildsStatements + BuildsExport + BuildsVarD
     start: Span,
     word: VarDeclKind,
 ) -> PResult<T::Item>
-    ensures { GivesAs T.item_of (exports.exported (rules.stmt depth nested_item) (rules.expr depth) (rules.pattern depth) (rules.parameters depth) start (rules.variables (rules.expr depth) (rules.pattern depth) word) (P.seen p.old)) result (P.seen p.new) }
+    ensures { GivesAs T.item_of (exports.exported (rules.stmt depth nested_item) (rules.expr depth) (rules.pattern depth) (rules.parameters depth) (rules.member depth) start (rules.variables (rules.expr depth) (rules.pattern depth) word) (P.seen p.old)) result (P.seen p.new) }
 {
     let first = p.span();
     p.skip()?;
@@ -147,9 +183,24 @@ fn exported_decl<P: Source, T: BuildsStatements + BuildsExport>(
     depth: usize,
     start: Span,
 ) -> PResult<T::Item>
-    ensures { GivesAs T.item_of (exports.exported (rules.stmt depth nested_item) (rules.expr depth) (rules.pattern depth) (rules.parameters depth) start (rules.function_decl (rules.stmt depth nested_item) (rules.parameters depth)) (P.seen p.old)) result (P.seen p.new) }
+    ensures { GivesAs T.item_of (exports.exported (rules.stmt depth nested_item) (rules.expr depth) (rules.pattern depth) (rules.parameters depth) (rules.member depth) start (rules.function_decl (rules.stmt depth nested_item) (rules.parameters depth)) (P.seen p.old)) result (P.seen p.new) }
 {
     let decl = declared_function::<P, T>(t, p, depth)?;
+    let span = since(p, start);
+    grown(p, T::export_decl(t.alloc, span, decl))
+}
+
+/// An export of a class, from it on.
+#[tactic(auto, unfolding(swc_ecma_parser_module_reader::specs::Exports::exported))]
+fn exported_class_decl<P: Source, T: BuildsStatements + BuildsExport>(
+    t: &MakerOf<T>,
+    p: &mut P,
+    depth: usize,
+    start: Span,
+) -> PResult<T::Item>
+    ensures { GivesAs T.item_of (exports.exported (rules.stmt depth nested_item) (rules.expr depth) (rules.pattern depth) (rules.parameters depth) (rules.member depth) start (members.class_decl (rules.expr depth left_side) (rules.member depth)) (P.seen p.old)) result (P.seen p.new) }
+{
+    let decl = declared_class::<P, T>(t, p, depth)?;
     let span = since(p, start);
     grown(p, T::export_decl(t.alloc, span, decl))
 }
@@ -161,7 +212,7 @@ pub fn export_decl<P: Source, T: BuildsStatements + BuildsExport + BuildsVarDecl
     p: &mut P,
     depth: usize,
 ) -> PResult<T::Item>
-    ensures { GivesAs T.item_of (exports.export_decl (rules.stmt depth nested_item) (rules.expr depth) (rules.pattern depth) (rules.parameters depth) (P.seen p.old)) result (P.seen p.new) }
+    ensures { GivesAs T.item_of (exports.export_decl (rules.stmt depth nested_item) (rules.expr depth) (rules.pattern depth) (rules.parameters depth) (rules.member depth) (P.seen p.old)) result (P.seen p.new) }
 {
     let start = p.span();
     p.skip()?;
@@ -184,6 +235,9 @@ pub fn export_decl<P: Source, T: BuildsStatements + BuildsExport + BuildsVarDecl
     }
     if p.is_let_declaration() {
         return exported_variables::<P, T>(t, p, depth, start, VarDeclKind::Let);
+    }
+    if p.sees(TokenKind::Class) {
+        return exported_class_decl::<P, T>(t, p, depth, start);
     }
     if begins_function(p) {
         return exported_decl::<P, T>(t, p, depth, start);

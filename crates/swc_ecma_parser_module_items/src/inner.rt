@@ -5,25 +5,12 @@ ghost use Rattle.swc_ecma_parser_grammar.specs.language.Goals.{assignment};
 ghost use Rattle.swc_ecma_parser_reader.specs.Reader as rules;
 ghost use Rattle.swc_ecma_parser_reader.specs.State.{GivesAs, within};
 
-use swc_ecma_parser_core::grammar::expr;
+use swc_ecma_parser_core::grammar::expression;
 use swc_ecma_parser_error::PResult;
 use swc_ecma_parser_grammar::Class;
-use swc_ecma_parser_inner::cover::Reading;
 use swc_ecma_parser_inner::steps;
 use swc_ecma_parser_source::Source;
 use swc_ecma_parser_trees::{BuildsStatements, MakerOf};
-
-/// An expression without commas, as the code around has it, in so many levels.
-fn assignment_expr<P: Source, T: BuildsStatements>(
-    t: &MakerOf<T>,
-    p: &mut P,
-    depth: usize,
-) -> PResult<T::Expr>
-    ensures { GivesAs T.expr_of (rules.expr depth assignment (P.seen p.old)) result (P.seen p.new) }
-{
-    let found = expr::<P, T>(t, p, depth, Reading::Expr(Class::Assignment))?;
-    Ok(found.tree)
-}
 
 /// An expression without commas, in so many levels.
 pub fn inner_expr<P: Source, T: BuildsStatements>(
@@ -35,7 +22,7 @@ pub fn inner_expr<P: Source, T: BuildsStatements>(
 {
     let outer = p.flags();
     p.set_flags(steps::with_in(outer));
-    let inner = assignment_expr::<P, T>(t, p, depth)?;
+    let inner = expression::<P, T>(t, p, depth, Class::Assignment)?;
     p.set_flags(outer);
     Ok(inner)
 }

@@ -11,12 +11,12 @@ use Rattle.swc_ecma_parser_grammar.specs.Follows.{Star, no_star, star as starred
 use Rattle.std.proofs.Common.{◌≡◌, ℕ, zero, suc, Bool, true, false, List, [], ◌∷◌, ◌++◌, length, Ok, refl, sym, ◌∙◌, ap, append_assoc, append-nil, not}
 use Rattle.std.specs.Prelude.{◌&&◌, ◌||◌}
 use Rattle.swc_ecma_parser_error.specs.Kind as faults
-use Rattle.swc_ecma_parser_error.specs.Kind.{Kind, Fault}
+use Rattle.swc_ecma_parser_error.specs.Kind.{Fault}
 use Rattle.swc_ecma_parser_token.specs.declared.kind.TokenKind.TheVariants as kind
 use Rattle.swc_ecma_parser_token.specs.declared.token.Token.TheVariants as token
 use Rattle.swc_ecma_parser_input.specs.Place.{Place, after}
 use Rattle.swc_ecma_parser_model.specs.Tree as tree
-use Rattle.swc_ecma_parser_model.specs.Tree.{Tree, Text, listed, trees}
+use Rattle.swc_ecma_parser_model.specs.Tree.{Tree, listed, trees}
 use Rattle.swc_ecma_parser_model.specs.Forms.{is_rest, is_binding_name, is_plain_param, has_plain_params}
 use Rattle.swc_ecma_parser_grammar.specs.Looks.{kind_at, sees, same_kind, spanned}
 use Rattle.swc_ecma_parser_grammar.specs.Names.{Code}
@@ -37,7 +37,7 @@ use Rattle.swc_ecma_parser_reader.proofs.Answered.{st, Reads, ReadsAs}
 use Rattle.swc_ecma_parser_reader.proofs.Errors.{is_error}
 use Rattle.swc_ecma_parser_reader.proofs.Between.{nil-split}
 use Rattle.swc_ecma_parser_reader.proofs.expressions.CompleteParts.{name_reads}
-use Rattle.swc_ecma_parser_reader.proofs.expressions.CompleteKinds.{seen, expr_no_const, name_no_const}
+use Rattle.swc_ecma_parser_reader.proofs.expressions.CompleteKinds.{seen}
 use Rattle.swc_ecma_parser_reader.proofs.expressions.CompleteKinds as kinds
 use Rattle.swc_ecma_parser_reader.proofs.expressions.CompleteParts.{AsExpr, ReadsEnclosed, MethodIsRead, IsFunctionRead}
 use Rattle.swc_ecma_parser_reader.proofs.expressions.Groups as groups
@@ -63,7 +63,8 @@ use Rattle.swc_ecma_parser_grammar.specs.language.Reads as language
 use Rattle.swc_ecma_parser_reader.proofs.Loops.{stmt_shorter}
 use Rattle.swc_ecma_parser_reader.proofs.Opens.{stmt_goes}
 use Rattle.swc_ecma_parser_reader.proofs.CompleteParts.{behind_setting, close_reads, closes_at, code_stays, expect_reads, items_read, code_behind}
-use Rattle.swc_ecma_parser_reader.proofs.Complete.{stmt_reads}
+use Rattle.swc_ecma_parser_reader.proofs.Complete.{member_reads, stmt_reads}
+use Rattle.swc_ecma_parser_reader.proofs.classes.CompleteClasses.{class_expr_reads}
 
 -- ---- functions, whose statements are read
 
@@ -247,6 +248,7 @@ parts_at n = record { shorter = λ s v t e. shorter_by (length s.at.left) (cover
 module _ (n : ℕ) (b : Below n) where
   -- a function of the whole language that is supported is read
   functions : IsFunctionRead (language.Reads n) (function n)
+  unfolding function function_by
   functions = record {
     reads = λ k x c d name y r e s w f h. function_expr_reads n b k x c d (function_narrows n k x c d name y r e s) w f h;
     getters = λ k key body x c m d r e s w f h.
@@ -271,6 +273,7 @@ module _ (n : ℕ) (b : Below n) where
         method_reads n b k a g key ps body x c m d
         (parts_narrow n k a g ps body m d r j.0 j.1 (λ o. (nil-split (notes (parameter_trees ps)) (notes body) (clean_is _ (in_module k.flags.module _ l.1 o))).1))
         (clean_is _ l.0) e w f h;
+    classes = class_expr_reads n b (member_reads n);
     patterns = λ k p c d r s w f h. parameter_form_reads n b k p c d r s w f h;
     blocks = λ a k x c d r s q w f h. arrow_block_reads n b a k x c d (block_narrows n k a x c d r s q) w f h;
     falls = functions_fall n;

@@ -36,7 +36,7 @@ use Rattle.swc_ecma_parser_grammar.specs.language.Reads as language
 use Rattle.swc_ecma_parser_grammar.proofs.StatementBegins.{word_place}
 use Rattle.swc_ecma_parser_grammar.proofs.Tests.{and_both, and_no, no_and}
 use Rattle.swc_ecma_parser_reader.specs.Notes.{Notes, no_notes, ◌⊕◌, notes_of}
-use Rattle.swc_ecma_parser_reader.specs.Reader.{expr, pattern, parameters, stmt}
+use Rattle.swc_ecma_parser_reader.specs.Reader.{expr, pattern, member, parameters, stmt}
 use Rattle.swc_ecma_parser_grammar.specs.Reads.{nested_item}
 use Rattle.swc_ecma_parser_reader.specs.State.{Scope, State, Outcome, Reader, moved}
 use Rattle.swc_ecma_parser_reader.proofs.Answered.{st, ReadsCalm}
@@ -292,7 +292,7 @@ module _ (n : ℕ) (k : Code) where
 -- with which token no name of strict code begins
 abbrev NameKind : TokenKind → Type 0
 NameKind j = (same_kind j kind.LBrace ≡ false) × (same_kind j kind.Mul ≡ false) × (same_kind j kind.Default ≡ false) × (same_kind j kind.Var ≡ false) × (same_kind j kind.Const ≡ false)
-    × (same_kind j kind.Let ≡ false) × (same_kind j kind.Function ≡ false)
+    × (same_kind j kind.Let ≡ false) × (same_kind j kind.Class ≡ false) × (same_kind j kind.Function ≡ false)
 
 let_no_name : (f : Context) → f.strict ≡ true → is_name f (codes "let") ≡ false
 unfolding is_name is_reserved
@@ -304,13 +304,14 @@ keyword_named f keyword.Let o e = absurd (true≢false (sym e ∙ let_no_name f 
 keyword_named f keyword.Default o e = cc
 keyword_named f keyword.Var o e = cc
 keyword_named f keyword.Const o e = cc
+keyword_named f keyword.Class o e = cc
 keyword_named f keyword.Function o e = cc
-keyword_named f _ o e = (refl, refl, refl, refl, refl, refl, refl)
+keyword_named f _ o e = (refl, refl, refl, refl, refl, refl, refl, refl)
 
 word_is_named : (f : Context) (v : Word) → f.strict ≡ true → is_name f (word_text v) ≡ true → NameKind (word_kind v)
 unfolding same_kind
 word_is_named f (word.Keyword v) o e = keyword_named f v o e
-word_is_named f _ o e = (refl, refl, refl, refl, refl, refl, refl)
+word_is_named f _ o e = (refl, refl, refl, refl, refl, refl, refl, refl)
 
 -- what follows a default: `from`, or a comma before a namespace or braces
 abbrev Follows : Place → Type 0
@@ -325,6 +326,11 @@ no_function : (m : Place) → Follows m → sees kind.Function m ≡ false
 unfolding same_kind
 no_function m (inl e) = rw (word_place (codes "from") m e) refl
 no_function m (inr (e, g)) = rw e refl
+
+no_class : (m : Place) → Follows m → sees kind.Class m ≡ false
+unfolding same_kind
+no_class m (inl e) = rw (word_place (codes "from") m e) refl
+no_class m (inr (e, g)) = rw e refl
 
 no_async : (m : Place) → Follows m → is_async_function m ≡ false
 unfolding is_async_function
@@ -355,7 +361,7 @@ clause_silent (default_and_names_rule y ys m o r e s g) = subst AllSilent (sym g
 
 module _ (n : ℕ) (k : Code) (o : IsModule k) where
   abbrev reader : Reader Tree
-  reader = export_decl (stmt n nested_item) (expr n) (pattern n) (parameters n)
+  reader = export_decl (stmt n nested_item) (expr n) (pattern n) (parameters n) (member n)
 
   at_brace : (s : State) → kind_at (after s.at) ≡ kind.LBrace → reader s ≡ export_names (span_at s.at) [] (moved s)
   unfolding export_decl same_kind
@@ -367,12 +373,12 @@ module _ (n : ℕ) (k : Code) (o : IsModule k) where
 
   at_name : (s : State) → NameKind (kind_at (after s.at)) → is_async_function (after s.at) ≡ false → is_name_from s.code (after s.at) ≡ true → reader s ≡ name_from (span_at s.at) (moved s)
   unfolding export_decl is_let_declaration begins_default_function
-  at_name s t a e = rw (t.0, t.1, t.2, t.3, t.4, t.5, t.6, a, e) refl
+  at_name s t a e = rw (t.0, t.1, t.2, t.3, t.4, t.5, t.6, t.7, a, e) refl
 
   at_default : (s : State) → kind_at (after s.at) ≡ kind.Default → Follows (after (after s.at)) → s.code.setting.export_default_from ≡ true
       → reader s ≡ default_from (span_at s.at) (span_at (after s.at)) (moved (moved s))
   unfolding export_decl export_default begins_default_function same_kind
-  at_default s e g b = rw (e, no_function (after (after s.at)) g, no_async (after (after s.at)) g, from_follows s.code (after (after s.at)) b g) refl
+  at_default s e g b = rw (e, no_class (after (after s.at)) g, no_function (after (after s.at)) g, no_async (after (after s.at)) g, from_follows s.code (after (after s.at)) b g) refl
 
   -- a default, up to what follows it
   default_reads : (y : Tree) (c m : Place) (w : Scope) (f : List Fault) (h : Notes) → k.setting.export_default_from ≡ true → DefaultExportRule k y (after c) m → Follows m
@@ -419,16 +425,16 @@ module _ (n : ℕ) (k : Code) (o : IsModule k) where
 
   pub export_from_read : (b : Bool) (xs : List Tree) (src attributes x : Tree) (c l m i d : Place) → ExportClauseRule k b xs (after c) l → FromRule src l m
       → AttributesRule (language.Reads n) k attributes m i → attributes ≡ tree.absent → Ends i d → x ≡ tree.export_named (spanned c d) (listed xs) src attributes
-      → ReadsCalm (export_decl (stmt n nested_item) (expr n) (pattern n) (parameters n)) k x c d
+      → ReadsCalm (export_decl (stmt n nested_item) (expr n) (pattern n) (parameters n) (member n)) k x c d
   export_from_read b xs src attributes x c l m i d r s a e g j w f h calm =
       clause_from b xs c l w f h r s.0 ∙ names_from_read n k xs src attributes x c l m i d w f h (clause_silent r) s a e g j
 
   pub export_own_read : (xs : List Tree) (x : Tree) (c m d : Place) → ExportClauseRule k true xs (after c) m → word_at (codes "from") m ≡ false → OptionalEnds m d
-      → x ≡ tree.export_named (spanned c d) (listed xs) tree.absent tree.absent → ReadsCalm (export_decl (stmt n nested_item) (expr n) (pattern n) (parameters n)) k x c d
+      → x ≡ tree.export_named (spanned c d) (listed xs) tree.absent tree.absent → ReadsCalm (export_decl (stmt n nested_item) (expr n) (pattern n) (parameters n) (member n)) k x c d
   export_own_read xs x c m d r a g e w f h calm = braces_clause xs c m w f h r ∙ rw a refl ∙ own_names_read n k xs x c m d (clause_silent r) g e w f h calm
 
   pub export_all_read : (src attributes x : Tree) (c m i d : Place) → kind_at (after c) ≡ kind.Mul → FromRule src (after (after c)) m → AttributesRule (language.Reads n) k attributes m i
-      → attributes ≡ tree.absent → Ends i d → x ≡ tree.export_all (spanned c d) src attributes → ReadsCalm (export_decl (stmt n nested_item) (expr n) (pattern n) (parameters n)) k x c d
+      → attributes ≡ tree.absent → Ends i d → x ≡ tree.export_all (spanned c d) src attributes → ReadsCalm (export_decl (stmt n nested_item) (expr n) (pattern n) (parameters n) (member n)) k x c d
   unfolding export_star export_all spanned
   export_all_read src attributes x c m i d o r a e g j w f h calm =
       let b = attributes_absent n k attributes m i a e in

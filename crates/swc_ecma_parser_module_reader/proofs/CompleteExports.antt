@@ -25,36 +25,39 @@ use Rattle.swc_ecma_parser_grammar.specs.Reads.{nested_item, with_in}
 use Rattle.swc_ecma_parser_grammar.specs.Supported.{supported, supported_in, has_none}
 use Rattle.swc_ecma_parser_grammar.specs.Variables.{begins_variables}
 use Rattle.swc_ecma_parser_grammar.specs.Walk as walks_of
-use Rattle.swc_ecma_parser_grammar.specs.Walk.{Env, env_of, in_body as walks_in_body, in_params, walk, walks, walk_body, walk_exported}
-use Rattle.swc_ecma_parser_grammar.specs.language.Classes.{DecoratorsRule, no_decorators, some_decorators}
+use Rattle.swc_ecma_parser_grammar.specs.Walk.{Env, env_of, in_body as walks_in_body, in_params, walk, walks, walk_body}
+use Rattle.swc_ecma_parser_grammar.specs.language.Classes.{DecoratorsRule, no_decorators, some_decorators, ClassRule}
 use Rattle.swc_ecma_parser_grammar.specs.language.Contexts.{in_parameters}
-use Rattle.swc_ecma_parser_grammar.specs.language.Exports.{ExportClauseRule, ExportFrontRule, decorated_before, decorated_behind, ExportWords, export_word, export_default_words, ExportedRule, exported_class, exported_function as exported_function_rule, exported_variables, DefaultRule, default_class, default_function as default_function_rule, may_begin_default, ExportRule, export_declaration_rule, export_from_rule, export_names_rule, export_default_declaration_rule, export_default_expression_rule, export_all_rule}
+use Rattle.swc_ecma_parser_grammar.specs.language.Exports.{ExportClauseRule, ExportFrontRule, decorated_before, decorated_behind, ExportWords, export_word, export_default_words, ExportedRule, exported_class as exported_class_rule, exported_function as exported_function_rule, exported_variables, DefaultRule, default_class as default_class_rule, default_function as default_function_rule, may_begin_default, ExportRule, export_declaration_rule, export_from_rule, export_names_rule, export_default_declaration_rule, export_default_expression_rule, export_all_rule}
 use Rattle.swc_ecma_parser_grammar.specs.language.ModuleParts.{AttributesRule}
 use Rattle.swc_ecma_parser_grammar.specs.language.Functions.{FunctionRule}
 use Rattle.swc_ecma_parser_grammar.specs.language.Declarations.{VariablesRule}
-use Rattle.swc_ecma_parser_grammar.specs.language.Goals.{Goal, expr_goal, assignment}
+use Rattle.swc_ecma_parser_grammar.specs.language.Goals.{Goal, expr_goal, assignment, left_side}
 use Rattle.swc_ecma_parser_grammar.specs.language.Parts.{OptionalName, no_name, a_name}
 use Rattle.swc_ecma_parser_grammar.specs.language.Reads as language
 use Rattle.swc_ecma_parser_grammar.specs.language.Statements.{FormRule, function_rule, variables_rule, may_begin_at_top}
 use Rattle.swc_ecma_parser_grammar.proofs.MethodParts.{parts_narrow}
 use Rattle.swc_ecma_parser_grammar.proofs.Narrows.{stmt_narrows}
+use Rattle.swc_ecma_parser_grammar.proofs.SupportedBegins.{supported_as}
 use Rattle.swc_ecma_parser_grammar.proofs.SupportedIn.{lift_in}
 use Rattle.swc_ecma_parser_grammar.proofs.Tests.{and_yes}
+use Rattle.swc_ecma_parser_reader.specs.Members.{class_decl}
 use Rattle.swc_ecma_parser_reader.specs.Notes.{Notes, ◌⊕◌, notes_of, all_notes_of}
-use Rattle.swc_ecma_parser_reader.specs.Reader.{expr, pattern, parameters, stmt, stmt_level, const_stmt, let_stmt, function_stmt, async_or_other, variables, function_decl, function_parts, misdirected, named}
+use Rattle.swc_ecma_parser_reader.specs.Reader.{expr, pattern, member, parameters, stmt, stmt_level, const_stmt, let_stmt, function_stmt, async_or_other, variables, function_decl, function_parts, misdirected, named}
 use Rattle.swc_ecma_parser_reader.specs.State.{Scope, State, Reader, moved}
 use Rattle.swc_ecma_parser_reader.proofs.Answered.{st, Calm, ReadsCalm}
 use Rattle.swc_ecma_parser_reader.proofs.Below.{expr_reads, parameters_reads}
 use Rattle.swc_ecma_parser_reader.proofs.Between.{nil-split}
-use Rattle.swc_ecma_parser_reader.proofs.Complete.{stmt_reads}
+use Rattle.swc_ecma_parser_reader.proofs.Complete.{member_reads, stmt_reads}
 use Rattle.swc_ecma_parser_reader.proofs.CompleteParts.{calm_same, calm_last, ends_read, told_reads}
 use Rattle.swc_ecma_parser_reader.proofs.Meets.{saw}
 use Rattle.swc_ecma_parser_reader.proofs.Opens.{let_stands}
 use Rattle.swc_ecma_parser_reader.proofs.SoundFunctions.{parameters_walk, parameters_notes}
 use Rattle.swc_ecma_parser_reader.proofs.Words.{async_kind, async_stands}
+use Rattle.swc_ecma_parser_reader.proofs.classes.CompleteClasses.{class_decl_reads, class_expr_reads}
 use Rattle.swc_ecma_parser_reader.proofs.expressions.CompleteKinds as kinds
 use Rattle.swc_ecma_parser_reader.proofs.expressions.CompleteKinds.{seen}
-use Rattle.swc_ecma_parser_module_reader.specs.Exports.{begins_default_function, is_default_from, default_name, default_function, default_expr, exported_function, export_default, exported, export_decl}
+use Rattle.swc_ecma_parser_module_reader.specs.Exports.{begins_default_function, is_default_from, default_name, default_function, default_expr, exported_function, exported_class, export_default, exported, export_decl}
 use Rattle.swc_ecma_parser_module_reader.specs.Supported.{supported_item}
 use Rattle.swc_ecma_parser_module_reader.proofs.ModuleCode.{IsModule, in_module_same}
 use Rattle.swc_ecma_parser_module_reader.proofs.CompleteShared.{clean_name, name_reads}
@@ -105,19 +108,31 @@ module _ (n : ℕ) where
 
   -- so does what stands behind `export`
   export_variables : (word : VarDeclKind) (s : State) → begins_variables word (after s.at) ≡ true
-      → export_decl inner_stmt (expr n) (pattern n) (parameters n) s
-      ≡ exported inner_stmt (expr n) (pattern n) (parameters n) (span_at s.at) (variables (expr n) (pattern n) word) (moved s)
+      → export_decl inner_stmt (expr n) (pattern n) (parameters n) (member n) s
+      ≡ exported inner_stmt (expr n) (pattern n) (parameters n) (member n) (span_at s.at) (variables (expr n) (pattern n) word) (moved s)
   unfolding export_decl same_kind
   export_variables decl.Var s e = rw (saw (after s.at) kind.Var e) refl
   export_variables decl.Const s e = rw (saw (after s.at) kind.Const e) refl
   export_variables decl.Let s e = rw (let_stands (after s.at) e, e) refl
 
   export_function : {b : Bool} (s : State) (m : Place) → AsyncWord b (after s.at) m → kind_at m ≡ kind.Function
-      → export_decl inner_stmt (expr n) (pattern n) (parameters n) s
-      ≡ exported inner_stmt (expr n) (pattern n) (parameters n) (span_at s.at) (function_decl inner_stmt (parameters n)) (moved s)
+      → export_decl inner_stmt (expr n) (pattern n) (parameters n) (member n) s
+      ≡ exported inner_stmt (expr n) (pattern n) (parameters n) (member n) (span_at s.at) (function_decl inner_stmt (parameters n)) (moved s)
   unfolding export_decl same_kind is_let_declaration begins_default_function
   export_function s m (not_async i j) e = rw (ap kind_at (sym j) ∙ e) refl
   export_function s m (async_word i j l o) e = let v = async_stands (after s.at) m j l o e in rw (async_kind (after s.at) v, v) refl
+
+  export_class : (s : State) → kind_at (after s.at) ≡ kind.Class
+      → export_decl inner_stmt (expr n) (pattern n) (parameters n) (member n) s
+      ≡ exported inner_stmt (expr n) (pattern n) (parameters n) (member n) (span_at s.at) (class_decl (expr n left_side) (member n)) (moved s)
+  unfolding export_decl same_kind is_let_declaration
+  export_class s e = rw e refl
+
+  -- no function begins with that word
+  no_class : {b : Bool} (c m : Place) → AsyncWord b c m → kind_at m ≡ kind.Function → sees kind.Class c ≡ false
+  unfolding same_kind
+  no_class c m (not_async i j) e = rw (ap kind_at (sym j) ∙ e) refl
+  no_class c m (async_word i j l o) e = rw (async_kind c (async_stands c m j l o e)) refl
 
   function_begins : {b : Bool} (c m : Place) → AsyncWord b c m → kind_at m ≡ kind.Function → begins_default_function c ≡ true
   unfolding begins_default_function same_kind
@@ -133,13 +148,13 @@ name_notes : {k : Code} {x : Tree} {c d : Place} → OptionalName k x c d → (n
 name_notes (no_name e g) = (ap notes g, ap has_meta g)
 name_notes (a_name text s r e) = (ap notes e, ap has_meta e)
 
--- what may begin an expression that is exported by default begins no function
-begins_by : (a b c d : Bool) → not (a || (b || (c || d))) ≡ true → ((a || c) ≡ false) × (d ≡ false)
+-- what may begin an expression that is exported by default begins neither a class nor a function
+begins_by : (a b c d : Bool) → not (a || (b || (c || d))) ≡ true → (b ≡ false) × ((a || c) ≡ false) × (d ≡ false)
 begins_by true b c d h = cc
 begins_by false true c d h = cc
 begins_by false false true d h = cc
 begins_by false false false true h = cc
-begins_by false false false false h = (refl, refl)
+begins_by false false false false h = (refl, refl, refl)
 
 -- nor the default of another module, as no comma begins one
 from_by : (a b c d : Bool) → (a && b) ≡ false → c ≡ false → (a && (b || (c && d))) ≡ false
@@ -147,14 +162,14 @@ from_by true true c d h e = h
 from_by true false c d h e = rw e refl
 from_by false b c d h e = refl
 
-begins_expression : (k : Code) (c : Place) → may_begin_default k c ≡ true → sees kind.Comma c ≡ false → (begins_default_function c ≡ false) × (is_default_from k c ≡ false)
+begins_expression : (k : Code) (c : Place) → may_begin_default k c ≡ true → sees kind.Comma c ≡ false → (sees kind.Class c ≡ false) × (begins_default_function c ≡ false) × (is_default_from k c ≡ false)
 unfolding may_begin_default begins_default_function is_default_from
 begins_expression k c h e =
     let t = begins_by (sees kind.Function c) (sees kind.Class c) (is_async_function c) (k.setting.export_default_from && word_at (codes "from") c) h in
-    (t.0, from_by k.setting.export_default_from (word_at (codes "from") c) (sees kind.Comma c) _ t.1 e)
+    (t.0, t.1, from_by k.setting.export_default_from (word_at (codes "from") c) (sees kind.Comma c) _ t.2 e)
 
 module _ (n : ℕ) (k : Code) (o : IsModule k) where
-  -- ---- variables and functions
+  -- ---- variables, classes and functions
 
   -- what is declared is a statement one level further out
   declared_reads : (y : Tree) (c d : Place) → FormRule (language.Reads n) k nested_item y c d → supported y ≡ true → notes y ≡ [] → ReadsCalm (stmt (suc n) nested_item) k y c d
@@ -164,7 +179,7 @@ module _ (n : ℕ) (k : Code) (o : IsModule k) where
   exported_reads : (declaration : Reader Tree) (x y : Tree) (c d : Place) (w : Scope) (f : List Fault) (h : Notes)
       → declaration (st (after c) k w f h) ≡ Ok (y, st d k w (f ++ walk (env_of k w.labels) y) (h ⊕ notes_of y)) → x ≡ tree.export_decl (spanned c d) y
       → walk (env_of k w.labels) x ≡ walk (env_of k w.labels) y
-      → exported (inner_stmt n) (expr n) (pattern n) (parameters n) (span_at c) declaration (st (after c) k w f h) ≡ Ok (x, st d k w (f ++ walk (env_of k w.labels) x) (h ⊕ notes_of x))
+      → exported (inner_stmt n) (expr n) (pattern n) (parameters n) (member n) (span_at c) declaration (st (after c) k w f h) ≡ Ok (x, st d k w (f ++ walk (env_of k w.labels) x) (h ⊕ notes_of x))
   unfolding exported spanned
   exported_reads declaration x y c d w f h e i v = rw (e, v, i) refl
 
@@ -179,7 +194,7 @@ module _ (n : ℕ) (k : Code) (o : IsModule k) where
 
   variables_read : (word : VarDeclKind) (xs : List Tree) (x y : Tree) (c m d : Place) → VariablesRule (language.Reads n) (with_in k) false word xs (after c) m → Ends m d
       → y ≡ tree.var (spanned (after c) d) word (listed xs) → x ≡ tree.export_decl (spanned c d) y → supported y ≡ true → notes y ≡ []
-      → ReadsCalm (export_decl (inner_stmt n) (expr n) (pattern n) (parameters n)) k x c d
+      → ReadsCalm (export_decl (inner_stmt n) (expr n) (pattern n) (parameters n) (member n)) k x c d
   variables_read word xs x y c m d r g i e s q w f h calm =
       let v = variables_walk x y (spanned c d) (spanned (after c) d) word xs w.labels e i in
       let b = declared_reads y (after c) d (variables_rule word xs m refl r g i) s q w f h (calm_same d (walk (env_of k w.labels) x) (walk (env_of k w.labels) y) v calm) in
@@ -188,13 +203,31 @@ module _ (n : ℕ) (k : Code) (o : IsModule k) where
 
   function_read : (a name x y z : Tree) (c d : Place) → FunctionRule (language.Reads n) false k a name z (after c) d → a ≡ listed [] → is_absent name ≡ false
       → y ≡ tree.fn_decl name z → x ≡ tree.export_decl (spanned c d) y → supported y ≡ true → notes y ≡ []
-      → ReadsCalm (export_decl (inner_stmt n) (expr n) (pattern n) (parameters n)) k x c d
+      → ReadsCalm (export_decl (inner_stmt n) (expr n) (pattern n) (parameters n) (member n)) k x c d
   function_read a name x y z c d r u t i e s q w f h calm =
       let j = r.is ∙ ap (λ v. tree.function (spanned (after c) d) v (parameter_trees r.patterns) r.body r.is_async r.is_generator) u in
       let v = function_walk x y name z (spanned c d) (spanned (after c) d) (parameter_trees r.patterns) r.body r.is_async r.is_generator w.labels e i j (name_walk (env_of k w.labels) r.reads_name) in
       let b = declared_reads y (after c) d (function_rule a name z (after c) (no_decorators refl u) refl r t i) s q w f h (calm_same d (walk (env_of k w.labels) x) (walk (env_of k w.labels) y) v calm) in
       export_function n (st c k w f h) r.word r.reads_async r.is_function
       ∙ exported_reads (function_decl (inner_stmt n) (parameters n)) x y c d w f h (sym (stmt_function n (st (after c) k w f h) r.word r.reads_async r.is_function) ∙ b) e v
+
+  class_walk : (x y name z : Tree) (s t : Span) (xs base : Tree) (l : List Text) → x ≡ tree.export_decl s y → y ≡ tree.class_decl name z
+      → z ≡ tree.class t (listed []) xs base → walk (env_of k l) name ≡ [] → walk (env_of k l) x ≡ walk (env_of k l) y
+  class_walk x y name z s t xs base l e i j v = rw (e, i, j, v) refl
+
+  -- no decorators stand before it
+  plain_class : (a name z : Tree) (c d : Place) → ClassRule (language.Reads n) k c a name z c d → a ≡ listed [] → ClassRule (language.Reads n) k c (listed []) name z c d
+  plain_class a name z c d r u = subst (λ v. ClassRule (language.Reads n) k c v name z c d) u r
+
+  class_read : (a name x y z : Tree) (c d : Place) → ClassRule (language.Reads n) k (after c) a name z (after c) d → a ≡ listed [] → is_absent name ≡ false
+      → y ≡ tree.class_decl name z → x ≡ tree.export_decl (spanned c d) y → supported y ≡ true → notes y ≡ []
+      → ReadsCalm (export_decl (inner_stmt n) (expr n) (pattern n) (parameters n) (member n)) k x c d
+  class_read a name x y z c d r u t i e s q w f h calm =
+      let p = plain_class a name z (after c) d r u in
+      let v = class_walk x y name z (spanned c d) (spanned (after c) d) (listed p.members) p.heritage w.labels e i p.is (name_walk (env_of k w.labels) p.reads_name) in
+      let m = supported_as k.flags.module y (tree.class_decl name z) i (lift_in k.flags.module y s (λ z. q)) in
+      export_class n (st c k w f h) p.is_class
+      ∙ exported_reads (class_decl (expr n left_side) (member n)) x y c d w f h (class_decl_reads n (below n) (member_reads n) k y (after c) d name z (p, m) t i w f h) e v
 
   -- ---- defaults
 
@@ -251,7 +284,7 @@ module _ (n : ℕ) (k : Code) (o : IsModule k) where
 
   default_function_read : (a name x y z : Tree) (c d : Place) → kind_at (after c) ≡ kind.Default → FunctionRule (language.Reads n) false k a name z (after (after c)) d → a ≡ listed []
       → y ≡ tree.fn_expr (spanned (after (after c)) d) name z → x ≡ tree.export_default_decl (spanned c d) y → supported z ≡ true → notes z ≡ []
-      → ReadsCalm (export_decl (inner_stmt n) (expr n) (pattern n) (parameters n)) k x c d
+      → ReadsCalm (export_decl (inner_stmt n) (expr n) (pattern n) (parameters n) (member n)) k x c d
   unfolding export_decl export_default exported_function same_kind spanned
   default_function_read a name x y z c d b r u i e s q w f h calm =
       let j = r.is ∙ ap (λ v. tree.function (spanned (after (after c)) d) v (parameter_trees r.patterns) r.body r.is_async r.is_generator) u in
@@ -259,15 +292,36 @@ module _ (n : ℕ) (k : Code) (o : IsModule k) where
       (name_walk (env_of k w.labels) r.reads_name) in
       rw (
         b,
+        no_class n (after (after c)) r.word r.reads_async r.is_function,
         function_begins n (after (after c)) r.word r.reads_async r.is_function,
         default_function_reads a name y z (after (after c)) d r u i s q w f h (calm_same d (walk (env_of k w.labels) x) (walk (env_of k w.labels) y) v calm),
         v,
         e,
       ) refl
 
+  default_class_walk : (x y name z : Tree) (s r t : Span) (xs base : Tree) (l : List Text) → x ≡ tree.export_default_decl s y → y ≡ tree.class_expr r name z
+      → z ≡ tree.class t (listed []) xs base → walk (env_of k l) name ≡ [] → walk (env_of k l) x ≡ walk (env_of k l) y
+  default_class_walk x y name z s r t xs base l e i j v = rw (e, i, j, v) refl
+
+  default_class_read : (a name x y z : Tree) (c d : Place) → kind_at (after c) ≡ kind.Default → ClassRule (language.Reads n) k (after (after c)) a name z (after (after c)) d → a ≡ listed []
+      → y ≡ tree.class_expr (spanned (after (after c)) d) name z → x ≡ tree.export_default_decl (spanned c d) y → supported y ≡ true → notes y ≡ []
+      → ReadsCalm (export_decl (inner_stmt n) (expr n) (pattern n) (parameters n) (member n)) k x c d
+  unfolding export_decl export_default exported_class same_kind spanned
+  default_class_read a name x y z c d b r u i e s q w f h calm =
+      let p = plain_class a name z (after (after c)) d r u in
+      let v = default_class_walk x y name z (spanned c d) (spanned (after (after c)) d) (spanned (after (after c)) d) (listed p.members) p.heritage w.labels e i p.is
+      (name_walk (env_of k w.labels) p.reads_name) in
+      rw (
+        b,
+        seen (after (after c)) kind.Class p.is_class,
+        class_expr_reads n (below n) (member_reads n) k y (after (after c)) d name z p i (lift_in k.flags.module y s (λ z. q)) w f h,
+        v,
+        e,
+      ) refl
+
   default_expr_read : (e x : Tree) (c m d : Place) → kind_at (after c) ≡ kind.Default → may_begin_default k (after (after c)) ≡ true
       → language.Reads n (expr_goal assignment (with_in k) e (after (after c)) m) → Ends m d → x ≡ tree.export_default_expr (spanned c d) e → supported e ≡ true → notes e ≡ []
-      → ReadsCalm (export_decl (inner_stmt n) (expr n) (pattern n) (parameters n)) k x c d
+      → ReadsCalm (export_decl (inner_stmt n) (expr n) (pattern n) (parameters n) (member n)) k x c d
   unfolding export_decl export_default default_expr same_kind spanned
   default_expr_read e x c m d b a r g i s q w f h calm =
       let v = lift_in k.flags.module e s (λ v. q) in
@@ -276,6 +330,7 @@ module _ (n : ℕ) (k : Code) (o : IsModule k) where
         b,
         t.0,
         t.1,
+        t.2,
         expr_reads n (below n) assignment (with_in k) e (after (after c)) m (r, v) w f h,
         ends_read faults.Expected m d k w (f ++ walk (env_of k w.labels) e) (h ⊕ notes_of e) g,
         i,
@@ -292,27 +347,32 @@ absent_is _ h = cc
 
 -- decorators are not supported
 exported_plain : {In : Goal → Type 0} {k : Code} {a y : Tree} {c d : Place} → ExportedRule In k a y c d → supported y ≡ true → has_none a ≡ true
-exported_plain (exported_class name z r b g) s = absurd (true≢false (sym s ∙ ap supported g))
+exported_plain {a = a} (exported_class_rule name z r b g) s =
+    let t = and_yes (supported name) (supported z) (sym (ap supported g) ∙ s) in (and_yes (has_none a) _ (sym (ap supported r.is) ∙ t.1)).0
 exported_plain {a = a} (exported_function_rule name z r b g) s =
     let t = and_yes (supported name) (supported z) (sym (ap supported g) ∙ s) in (and_yes (has_none a) _ (sym (ap supported r.is) ∙ t.1)).0
 exported_plain (exported_variables word xs m b r g i) s = ap has_none b
 
 declaration_read : (n : ℕ) (k : Code) (a x y : Tree) (c d : Place) → IsModule k → ExportedRule (language.Reads n) k a y (after c) d → a ≡ listed []
-    → x ≡ tree.export_decl (spanned c d) y → supported y ≡ true → notes y ≡ [] → ReadsCalm (export_decl (inner_stmt n) (expr n) (pattern n) (parameters n)) k x c d
-declaration_read n k a x y c d o (exported_class name z r b g) p e s q = absurd (true≢false (sym s ∙ ap supported g))
+    → x ≡ tree.export_decl (spanned c d) y → supported y ≡ true → notes y ≡ [] → ReadsCalm (export_decl (inner_stmt n) (expr n) (pattern n) (parameters n) (member n)) k x c d
+declaration_read n k a x y c d o (exported_class_rule name z r b g) p e s q = class_read n k o a name x y z c d r p b g e s q
 declaration_read n k a x y c d o (exported_function_rule name z r b g) p e s q = function_read n k o a name x y z c d r p b g e s q
 declaration_read n k a x y c d o (exported_variables word xs m b r g i) p e s q = variables_read n k o word xs x y c m d r g i e s q
-
--- no class is supported as a default
-default_class_read : {X : Type 0} (x y name z : Tree) (s t : Span) → x ≡ tree.export_default_decl s y → y ≡ tree.class_expr t name z → supported_item x ≡ true → X
-default_class_read x y name z s t e g h = absurd (true≢false (sym h ∙ ap supported_item (e ∙ ap (tree.export_default_decl s) g)))
 
 default_parts : (x y name z : Tree) (s t : Span) → x ≡ tree.export_default_decl s y → y ≡ tree.fn_expr t name z → supported_item x ≡ true → (supported name ≡ true) × (supported z ≡ true)
 default_parts x y name z s t e g h = and_yes (supported name) (supported z) (item_as x (tree.export_default_decl s (tree.fn_expr t name z)) (e ∙ ap (tree.export_default_decl s) g) h)
 
+class_default_parts : (x y name z : Tree) (s t : Span) → x ≡ tree.export_default_decl s y → y ≡ tree.class_expr t name z → supported_item x ≡ true → supported (tree.class_expr t name z) ≡ true
+class_default_parts x y name z s t e g h = item_as x (tree.export_default_decl s (tree.class_expr t name z)) (e ∙ ap (tree.export_default_decl s) g) h
+
 default_read : (n : ℕ) (k : Code) (a x y : Tree) (c m i d : Place) → IsModule k → ExportFrontRule (language.Reads n) k true a c m i → DefaultRule (language.Reads n) k a y i d
-    → x ≡ tree.export_default_decl (spanned m d) y → supported_item x ≡ true → notes x ≡ [] → ReadsCalm (export_decl (inner_stmt n) (expr n) (pattern n) (parameters n)) k x c d
-default_read n k a x y c m i d o v (default_class name z r g) e s q = default_class_read x y name z (spanned m d) (spanned i d) e g s
+    → x ≡ tree.export_default_decl (spanned m d) y → supported_item x ≡ true → notes x ≡ [] → ReadsCalm (export_decl (inner_stmt n) (expr n) (pattern n) (parameters n) (member n)) k x c d
+default_read n k a x y c m i d o v (default_class_rule name z r g) e s q =
+    let t = class_default_parts x y name z (spanned m d) (spanned i d) e g s in
+    let u = front_plain v (and_yes (has_none a) _ (sym (ap supported r.is) ∙ (and_yes (supported name) (supported z) t).1)).0 in
+    let b = default_words u.2 in
+    default_class_read n k o a name x y z c d b.0 (subst (λ p. ClassRule (language.Reads n) k p a name z p d) b.1 r) u.1 (g ∙ ap (λ p. tree.class_expr (spanned p d) name z) b.1)
+    (e ∙ ap (λ p. tree.export_default_decl (spanned p d) y) u.0) (ap supported g ∙ t) (sym (ap notes e) ∙ q)
 default_read n k a x y c m i d o v (default_function_rule name z r g) e s q =
     let t = default_parts x y name z (spanned m d) (spanned i d) e g s in
     let u = front_plain v (and_yes (has_none a) _ (sym (ap supported r.is) ∙ t.1)).0 in
@@ -323,7 +383,7 @@ default_read n k a x y c m i d o v (default_function_rule name z r g) e s q =
 
 pub export_reads : (n : ℕ) (k : Code) (x : Tree) (c d : Place) → IsModule k → ExportRule (language.Reads n) k x c d → supported_item x ≡ true → notes x ≡ []
     → (w : Scope) (f : List Fault) (h : Notes) → Calm k w.labels x d
-    → export_decl (stmt n nested_item) (expr n) (pattern n) (parameters n) (st c k w f h) ≡ Ok (x, st d k w (f ++ walk (env_of k w.labels) x) (h ⊕ notes_of x))
+    → export_decl (stmt n nested_item) (expr n) (pattern n) (parameters n) (member n) (st c k w f h) ≡ Ok (x, st d k w (f ++ walk (env_of k w.labels) x) (h ⊕ notes_of x))
 export_reads n k x c d o (export_declaration_rule a y m i v r e) s q =
     let t = item_as x (tree.export_decl (spanned m d) y) e s in
     let u = front_plain v (exported_plain r t) in

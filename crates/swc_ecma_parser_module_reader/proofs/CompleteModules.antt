@@ -30,7 +30,7 @@ use Rattle.swc_ecma_parser_grammar.proofs.StatementEntries.{statement_narrows}
 use Rattle.swc_ecma_parser_grammar.proofs.Tests.{and_yes}
 use Rattle.swc_ecma_parser_reader.specs.Notes.{Notes, ◌⊕◌, notes_of, notes_with, all_notes_with}
 use Rattle.swc_ecma_parser_reader.specs.State.{Scope, State, loop}
-use Rattle.swc_ecma_parser_reader.specs.Reader.{expr, pattern, stmt, parameters, directs, items_turn, items, at_end}
+use Rattle.swc_ecma_parser_reader.specs.Reader.{expr, pattern, member, stmt, parameters, directs, items_turn, items, at_end}
 use Rattle.swc_ecma_parser_reader.proofs.Answered.{st, Calm}
 use Rattle.swc_ecma_parser_reader.proofs.Between.{nil-split}
 use Rattle.swc_ecma_parser_reader.proofs.CompleteParts.{at_end_at, directs_behind, shebang_reads}
@@ -119,7 +119,7 @@ or_shift false false true d e = sym (or_true d)
 or_shift false false false d e = refl
 
 module _ (export_reads : (n : ℕ) (k : Code) (x : Tree) (c d : Place) → IsModule k → ExportRule (Reads n) k x c d → supported_item x ≡ true → notes x ≡ [] → (w : Scope) (f : List Fault) (h : Notes)
-    → Calm k w.labels x d → export_decl (stmt n nested_item) (expr n) (pattern n) (parameters n) (st c k w f h) ≡ Ok (x, st d k w (f ++ walk (env_of k w.labels) x) (h ⊕ notes_of x))) where
+    → Calm k w.labels x d → export_decl (stmt n nested_item) (expr n) (pattern n) (parameters n) (member n) (st c k w f h) ≡ Ok (x, st d k w (f ++ walk (env_of k w.labels) x) (h ⊕ notes_of x))) where
   -- ---- an item
 
   pub item_reads : (n : ℕ) (k : Code) (x : Tree) (c d : Place) → IsModule k → Reads n (item_goal k x c d) → supported_item x ≡ true → notes x ≡ [] → (w : Scope) (f : List Fault) (h : Notes) → Calm k w.labels x d

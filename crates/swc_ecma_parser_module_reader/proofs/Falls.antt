@@ -18,23 +18,25 @@ use Rattle.swc_ecma_parser_grammar.specs.Follows.{word_at, is_let_declaration, i
 use Rattle.swc_ecma_parser_grammar.specs.Own.{export_faults}
 use Rattle.swc_ecma_parser_grammar.specs.Reads.{with_in, nested_item, top_item}
 use Rattle.swc_ecma_parser_grammar.specs.language.Contexts.{outside_functions}
-use Rattle.swc_ecma_parser_grammar.specs.language.Goals.{assignment}
+use Rattle.swc_ecma_parser_grammar.specs.language.Goals.{assignment, left_side}
 use Rattle.swc_ecma_parser_grammar.specs.language.Imports.{follows_phase}
 use Rattle.swc_ecma_parser_grammar.specs.language.ModuleParts.{begins_attributes}
 use Rattle.swc_ecma_parser_reader.specs.Jumps.{told}
+use Rattle.swc_ecma_parser_reader.specs.Members.{class_decl, class_expr, class_stmt}
 use Rattle.swc_ecma_parser_reader.specs.Methods.{method_form, star}
 use Rattle.swc_ecma_parser_reader.specs.Operands.{literal, literal_in, taken, word_property}
-use Rattle.swc_ecma_parser_reader.specs.Reader.{variables, const_stmt, let_stmt, function_stmt, function_decl, function_parts, function_word, function_by, function, plain_method, async_or_other, named, optional_end, expr, pattern, stmt, stmt_level, parameters}
+use Rattle.swc_ecma_parser_reader.specs.Reader.{variables, const_stmt, let_stmt, function_stmt, function_decl, function_parts, function_word, function_by, function, plain_method, async_or_other, named, optional_end, expr, pattern, member, stmt, stmt_level, parameters}
 use Rattle.swc_ecma_parser_reader.specs.State.{State, Outcome, Reader, and_then, moved, coded, within, name, expect, expect_word, end, loop}
 use Rattle.swc_ecma_parser_reader.specs.Words.{any_word}
-use Rattle.swc_ecma_parser_reader.proofs.Falls.{expr_falls, functions_fall, stmt_falls, whole_stmt_falls}
+use Rattle.swc_ecma_parser_reader.proofs.Falls.{expr_falls, functions_fall, member_falls, stmt_falls, whole_stmt_falls}
+use Rattle.swc_ecma_parser_reader.proofs.classes.Falls as classes
 use Rattle.swc_ecma_parser_reader.proofs.Meets.{saw}
 use Rattle.swc_ecma_parser_reader.proofs.Takes.{Falls, falls_then, falls_last, falls_coded, falls_if, less, falls_next, moves, takes_one, falls_past, falls_moved, wanted_falls, too_deep_falls, refuse_falls, name_falls, end_falls, expect_falls, loop_falls}
 use Rattle.swc_ecma_parser_reader.proofs.Words.{async_kind}
 use Rattle.swc_ecma_parser_reader.proofs.expressions.Falls.{reject_falls, falls_when, any_word_falls, star_falls, told_falls, no_end}
 use Rattle.swc_ecma_parser_reader.proofs.expressions.Loops.{shorter_by}
 use Rattle.swc_ecma_parser_module_reader.specs.Imports.{str_or, str, source, module_name, no_attributes, specifiers_turn, specifiers, same_name, other_name, import_specifier, binding_name, import_namespace, bindings, more_bindings, default_binding, import_clause, imported, import_from, phase_of, import_phased, is_phase_word, import_decl}
-use Rattle.swc_ecma_parser_module_reader.specs.Exports.{renamed_export, plain_export, export_specifier, export_namespace, names_from, own_names, export_names, more_names, namespace_names, export_all, export_star, is_namespace_next, behind_default, is_name_from, name_from, is_default_from, default_from, default_name, default_function, default_expr, begins_default_function, exported_function, export_default, exported, export_decl}
+use Rattle.swc_ecma_parser_module_reader.specs.Exports.{renamed_export, plain_export, export_specifier, export_namespace, names_from, own_names, export_names, more_names, namespace_names, export_all, export_star, is_namespace_next, behind_default, is_name_from, name_from, is_default_from, default_from, default_name, default_function, default_expr, begins_default_function, exported_function, exported_class, export_default, exported, export_decl}
 use Rattle.swc_ecma_parser_module_reader.specs.Modules.{begins_import, import_in, export_in, module_item}
 
 -- ---- a declaration is the statement that it is where it stands
@@ -68,6 +70,10 @@ module _ (n : ℕ) (s : State) where
       by_word true b h g i = rw (saw s.at kind.Function h) refl
       by_word false true h g i = rw (async_kind s.at g, g) refl
       by_word false false h g i = cc
+
+  pub class_is_stmt : sees kind.Class s.at ≡ true → stmt (suc n) nested_item s ≡ class_decl (expr n left_side) (member n) s
+  unfolding stmt stmt_level class_stmt
+  class_is_stmt e = rw (saw s.at kind.Class e) refl
 
 -- ---- what imports and exports share
 
@@ -296,19 +302,25 @@ module _ (n : ℕ) where
       (falls_coded 0 (length s.at.left) (expr n assignment k) _ _ (less (length s.at.left) (expr n assignment k) (expr_falls n assignment k))) (λ e t.
       falls_last 0 (length t.at.left) (end faults.Expected t) _ (end_falls faults.Expected t))
 
-  export_default_falls : (start first : Span) (s : State) → Falls 0 (length s.at.left) (export_default (stmt n nested_item) (expr n) (pattern n) (parameters n) start first s)
-  unfolding export_default exported_function default_from
-  export_default_falls start first s = falls_if 0 (length s.at.left) (begins_default_function s.at) _ _
+  default_class_falls : (s : State) → sees kind.Class s.at ≡ true → Falls 0 (length s.at.left) (class_expr (expr n left_side) (member n) s)
+  default_class_falls s e = less (length s.at.left) (class_expr (expr n left_side) (member n) s)
+      (classes.class_expr_falls (expr n left_side) (expr_falls n left_side) (member n) (member_falls n) s (saw s.at kind.Class e))
+
+  export_default_falls : (start first : Span) (s : State) → Falls 0 (length s.at.left) (export_default (stmt n nested_item) (expr n) (pattern n) (parameters n) (member n) start first s)
+  unfolding export_default exported_function exported_class default_from
+  export_default_falls start first s = falls_when 0 (length s.at.left) (sees kind.Class s.at) _ _
+      (λ e. falls_last 0 (length s.at.left) (class_expr (expr n left_side) (member n) s) _ (default_class_falls s e)) (λ _.
+      falls_if 0 (length s.at.left) (begins_default_function s.at) _ _
       (falls_last 0 (length s.at.left) (default_function (stmt n nested_item) (parameters n) s) _ (default_function_falls s))
-      (falls_if 0 (length s.at.left) (is_default_from s.code s.at) _ _ (behind_default_falls start first _ s) (default_expr_falls start s))
+      (falls_if 0 (length s.at.left) (is_default_from s.code s.at) _ _ (behind_default_falls start first _ s) (default_expr_falls start s)))
 
   -- a declaration, which is a statement
   exported_falls : (start : Span) (d : Reader Tree) (s : State) → stmt (suc n) nested_item s ≡ d s
-      → Falls 0 (length s.at.left) (exported (stmt n nested_item) (expr n) (pattern n) (parameters n) start d s)
+      → Falls 0 (length s.at.left) (exported (stmt n nested_item) (expr n) (pattern n) (parameters n) (member n) start d s)
   unfolding exported
   exported_falls start d s e = falls_last 0 (length s.at.left) (d s) _ (less (length s.at.left) (d s) (subst (Falls 1 (length s.at.left)) e (stmt_falls (suc n) nested_item s)))
 
-  pub export_decl_falls : (s : State) → kind_at s.at ≢ kind.End → Falls 1 (length s.at.left) (export_decl (stmt n nested_item) (expr n) (pattern n) (parameters n) s)
+  pub export_decl_falls : (s : State) → kind_at s.at ≢ kind.End → Falls 1 (length s.at.left) (export_decl (stmt n nested_item) (expr n) (pattern n) (parameters n) (member n) s)
   unfolding export_decl
   export_decl_falls s e = let t = moved s in let m = length (after s.at).left in falls_past s _ e
       (falls_if 0 m (sees kind.LBrace t.at) _ _ (export_names_fall (span_at s.at) [] t)
@@ -317,8 +329,9 @@ module _ (n : ℕ) where
       (falls_when 0 m (sees kind.Var t.at) _ _ (λ h. exported_falls (span_at s.at) (variables (expr n) (pattern n) decl.Var) t (var_is_stmt n t h)) (λ _.
       falls_when 0 m (sees kind.Const t.at) _ _ (λ h. exported_falls (span_at s.at) (variables (expr n) (pattern n) decl.Const) t (const_is_stmt n t h)) (λ _.
       falls_when 0 m (is_let_declaration t.at) _ _ (λ h. exported_falls (span_at s.at) (variables (expr n) (pattern n) decl.Let) t (let_is_stmt n t h)) (λ _.
+      falls_when 0 m (sees kind.Class t.at) _ _ (λ h. exported_falls (span_at s.at) (class_decl (expr n left_side) (member n)) t (class_is_stmt n t h)) (λ _.
       falls_when 0 m (begins_default_function t.at) _ _ (λ h. exported_falls (span_at s.at) (function_decl (stmt n nested_item) (parameters n)) t (function_is_stmt n t h)) (λ _.
-      falls_if 0 m (is_name_from t.code t.at) _ _ (name_from_falls (span_at s.at) t) (wanted_falls Tree 0 m faults.Unexpected t)))))))))
+      falls_if 0 m (is_name_from t.code t.at) _ _ (name_from_falls (span_at s.at) t) (wanted_falls Tree 0 m faults.Unexpected t))))))))))
 
 -- ---- an item
 

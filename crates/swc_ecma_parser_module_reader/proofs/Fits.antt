@@ -1,36 +1,44 @@
 -- What a module takes from the reader of statements is not too deep: an expression and the parts of a function are read as they
 -- are behind words of a statement that stand in as many tokens.
-use Rattle.std.proofs.Common.{◌≡◌, ◌≢◌, ℕ, zero, suc, ◌+◌, ◌*◌, ◌≤◌, Bool, true, false, List, [], ◌∷◌, ◌++◌, Ok, Err, refl, arith, subst}
+use Rattle.std.proofs.Common.{◌≡◌, ◌≢◌, ℕ, zero, suc, ◌+◌, ◌*◌, ◌≤◌, Bool, true, false, List, [], ◌∷◌, ◌++◌, Ok, Err, refl, sym, ◌∙◌, ap, arith, subst}
 use Rattle.std.specs.Prelude.{codes}
 use Rattle.swc_ecma_parser_common.specs.declared.span.Span.{Span}
 use Rattle.swc_ecma_parser_error.specs.Kind as faults
 use Rattle.swc_ecma_parser_error.specs.Kind.{Fault}
 use Rattle.swc_ecma_parser_token.specs.declared.keyword.Keyword.TheVariants as keyword
+use Rattle.swc_ecma_parser_token.specs.declared.kind.TokenKind.TheVariants as kind
 use Rattle.swc_ecma_parser_token.specs.declared.operator.BinOpToken.TheVariants as bin
 use Rattle.swc_ecma_parser_token.specs.declared.token.Token.{Token}
 use Rattle.swc_ecma_parser_token.specs.declared.token.Token.TheVariants as token
 use Rattle.swc_ecma_parser_token.specs.declared.token.Word.TheVariants as word
 use Rattle.swc_ecma_parser_token.specs.declared.token.TokenAndSpan.{TokenAndSpan}
 use Rattle.swc_ecma_parser_input.specs.Place.{after}
+use Rattle.swc_ecma_parser_model.specs.declared.leaves.Ident.{Ident}
+use Rattle.swc_ecma_parser_model.specs.Tree.{Tree}
 use Rattle.swc_ecma_parser_grammar.specs.declared.position.Position.{Position}
 use Rattle.swc_ecma_parser_grammar.specs.Looks.{kind_at, same_kind, breaks_at, span_at}
-use Rattle.swc_ecma_parser_grammar.specs.Names.{is_name, name_at}
+use Rattle.swc_ecma_parser_grammar.specs.Names.{Code, is_name, name_at}
 use Rattle.swc_ecma_parser_grammar.specs.Follows.{word_at, is_async_function}
 use Rattle.swc_ecma_parser_grammar.specs.Reads.{with_in, nested_item}
-use Rattle.swc_ecma_parser_grammar.specs.language.Goals.{assignment}
+use Rattle.swc_ecma_parser_grammar.specs.language.Contexts.{in_class}
+use Rattle.swc_ecma_parser_grammar.specs.language.Goals.{assignment, left_side}
 use Rattle.swc_ecma_parser_reader.specs.Expressions.{expr_level, expression_expr}
+use Rattle.swc_ecma_parser_reader.specs.Members.{class_parts, class_name, named_class, unnamed_class, class_decl, class_expr, class_stmt}
 use Rattle.swc_ecma_parser_reader.specs.Methods.{star}
-use Rattle.swc_ecma_parser_reader.specs.Reader.{head, while_stmt, function_stmt, function_decl, function_parts, function_word, async_or_other, expr, stmt, stmt_level, parameters, top_await, whole_stmt}
-use Rattle.swc_ecma_parser_reader.specs.State.{State, Outcome, coded, within, expect, name}
+use Rattle.swc_ecma_parser_reader.specs.Reader.{head, while_stmt, function_stmt, function_decl, function_parts, function_word, async_or_other, named, expr, member, stmt, stmt_level, parameters, top_await, whole_stmt}
+use Rattle.swc_ecma_parser_reader.specs.State.{State, Outcome, moved, coded, within, expect, name}
 use Rattle.swc_ecma_parser_reader.specs.Entry.{IsBehind}
 use Rattle.swc_ecma_parser_reader.specs.Limits.{is_too_deep, has_too_deep_token}
 use Rattle.swc_ecma_parser_reader.proofs.Behind as behind
 use Rattle.swc_ecma_parser_reader.proofs.Behind.{Lost, behind_self}
-use Rattle.swc_ecma_parser_reader.proofs.Keeps.{expr_keeps}
+use Rattle.swc_ecma_parser_reader.proofs.Keeps.{expr_keeps, member_keeps}
+use Rattle.swc_ecma_parser_reader.proofs.classes.Keeps.{class_expr_keeps}
 use Rattle.swc_ecma_parser_reader.proofs.Limits.{whole_fits}
-use Rattle.swc_ecma_parser_reader.proofs.Meets.{Answers, answers_then}
-use Rattle.swc_ecma_parser_reader.proofs.Shallow.{Fine, Shallow, Kept, either_false}
+use Rattle.swc_ecma_parser_reader.proofs.Meets.{Answers, Meets, answers_then, answers_if, meant}
+use Rattle.swc_ecma_parser_reader.proofs.Shallow.{Fine, fine_taken, Shallow, Kept, either_false, name_shallow}
 use Rattle.swc_ecma_parser_reader.proofs.Words.{word_named}
+use Rattle.swc_ecma_parser_reader.proofs.expressions.SoundSteps.{FreeWord, name_sound}
+use Rattle.swc_ecma_parser_reader.proofs.Between.{SoundStep}
 use Rattle.swc_ecma_parser_module_reader.proofs.Keeps.{parts_keep, whole_stmt_keeps}
 
 -- ---- what is left of tokens that are fine
@@ -137,3 +145,56 @@ pub parts_shallow : (n m : ℕ) (w v : Bool) (start : Span) (s : State) → 2 * 
     → Answers (Kept m) Shallow (function_parts (stmt n nested_item) (parameters n) w v start s)
 parts_shallow n m w v start s l f = with_refusals m s (function_parts (stmt n nested_item) (parameters n) w v start s) (parts_keep n w v start s s (behind_self s)) f
     (λ e t g. stmt_fits (suc n) (m + 2 + cost w + cost v) (in_function w v start s) e t l (fine_in_function w v start m s f) (refused_in_function n w v start s (e, t) g))
+
+-- ---- a class that may have no name: as behind its word and a name
+
+abbrev in_words : Span → State → State
+in_words start s = before s (a_token (token.Word (word.Keyword keyword.Class)) start ∷ a_token (token.Word (word.Ident (codes "async"))) s.at.last ∷ [])
+
+refused_in_words : (k : ℕ) (start : Span) (s : State) (p : Fault × State) → class_parts (expr k left_side) (member k) start (coded (in_class s.code) s) ≡ Err p
+    → stmt (suc k) nested_item (in_words start s) ≡ Err p
+unfolding stmt stmt_level class_stmt class_decl named_class named name a_token kind_at same_kind span_at after
+refused_in_words k start s p h = rw (async_name (coded (in_class s.code) s), h) refl
+
+-- the code of a class is that of a class in it
+same_class : (k : Code) (s : State) → s.code ≡ in_class k → coded (in_class s.code) s ≡ s
+same_class k s e = ap (λ j. coded j s) (ap in_class e ∙ sym e)
+
+module _ (n : ℕ) where
+  class_parts_fit : (m : ℕ) (k : Code) (start : Span) (s : State) → 2 * (m + 2) + 2 ≤ suc n → s.code ≡ in_class k → Fine m s.at.left
+      → Answers (λ _ _. Unit {0}) Shallow (class_parts (expr n left_side) (member n) start s)
+  unfolding a_token
+  class_parts_fit m k start s l e f = by_answer (class_parts (expr n left_side) (member n) start s) refl
+    where
+      by_answer : (o : Outcome Tree) → class_parts (expr n left_side) (member n) start s ≡ o → Answers (λ _ _. Unit {0}) Shallow o
+      by_answer (Ok p) h = tt
+      by_answer (Err p) h = stmt_fits (suc n) (m + 2) (in_words start s) p.0 p.1 l (record { few = let i = f.few in omega arith; shallow = f.shallow })
+          (refused_in_words n start s p (ap (class_parts (expr n left_side) (member n) start) (same_class k s e) ∙ h))
+
+  -- a name, or none, in the code of the class
+  named_fits : (m : ℕ) (s : State) → Fine m s.at.left → Answers (λ _ t. Fine m t.at.left × (t.code ≡ s.code)) Shallow (named s)
+  unfolding named
+  named_fits m s f = answers_then _ _ (name faults.ExpectedIdent s) _
+      (with_code (name faults.ExpectedIdent s) (name_shallow m s f faults.ExpectedIdent (λ z. cc)) (name_sound faults.ExpectedIdent s)) (λ i t g. g)
+    where
+      with_code : (o : Outcome Ident) → Answers (Kept m) Shallow o → Meets (λ i t. SoundStep (FreeWord i) s t) o → Answers (λ _ t. Fine m t.at.left × (t.code ≡ s.code)) Shallow o
+      with_code (Ok p) g h = (g, h.code)
+      with_code (Err e) g h = g
+
+  class_name_fits : (m : ℕ) (s : State) → Fine m s.at.left → Answers (λ _ t. Fine m t.at.left × (t.code ≡ s.code)) Shallow (class_name (expr n left_side) (member n) s)
+  unfolding class_name
+  class_name_fits m s f = answers_if _ _ (name_at s.code.flags s.at) _ _ (λ _. named_fits m s f) (λ _. (f, refl))
+
+  class_fits : (m : ℕ) (s : State) → 2 * (m + 1) + 2 ≤ suc n → kind_at s.at ≡ kind.Class → Fine m s.at.left → Answers (λ _ _. Unit {0}) Shallow (class_expr (expr n left_side) (member n) s)
+  unfolding class_expr unnamed_class
+  class_fits m s l e f =
+      let c = coded (in_class s.code) s in
+      let (i, a, g) = fine_taken m s.at kind.Class e (λ z. cc) f in
+      answers_then {P = λ _ _. Unit {0}} _ _ (unnamed_class (expr n left_side) (member n) c) _
+      (answers_then _ _ (class_name (expr n left_side) (member n) (moved c)) _ (class_name_fits i (moved c) g) (λ x t (h, o).
+      answers_then {P = λ _ _. Unit {0}} _ _ (class_parts (expr n left_side) (member n) (span_at s.at) t) _ (class_parts_fit i s.code (span_at s.at) t (omega arith) o h) (λ y u _. tt))) (λ y u _. tt)
+
+  pub whole_class_shallow : (m : ℕ) (s : State) → 2 * (m + 1) + 2 ≤ suc n → kind_at s.at ≡ kind.Class → Fine m s.at.left → Answers (Kept m) Shallow (class_expr (expr n left_side) (member n) s)
+  whole_class_shallow m s l e f = with_refusals m s (class_expr (expr n left_side) (member n) s)
+      (class_expr_keeps (expr n left_side) (member n) (expr_keeps n left_side) (member_keeps n) s s (behind_self s)) f
+      (λ z t h. meant (λ _ _. Unit {0}) Shallow (class_expr (expr n left_side) (member n) s) (Err (z, t)) h (class_fits m s l e f))

@@ -24,8 +24,8 @@ use Rattle.swc_ecma_parser_grammar.specs.declared.position.Position.{Position}
 use Rattle.swc_ecma_parser_grammar.specs.Follows.{begins_import_expression, AsyncWord, not_async, async_word}
 use Rattle.swc_ecma_parser_grammar.specs.Looks.{kind_at, first_kind, sees, same_kind}
 use Rattle.swc_ecma_parser_grammar.specs.Names.{Code, is_reserved, is_name, is_identifier, token_is_identifier, first_is_identifier, identifier_at}
-use Rattle.swc_ecma_parser_grammar.specs.Reads.{ReadsToken, with_in, StmtRule, block_rule, empty_rule, debugger_rule, variables_rule, if_statement_rule, switch_rule, labeled_rule, break_rule, continue_rule, return_rule, throw_rule, try_rule, while_rule, do_while_rule, for_rule, for_in_rule, for_of_rule, expr_rule, import_rule, if_rule, with_rule, function_rule}
-use Rattle.swc_ecma_parser_grammar.specs.ReadsSupported.{ReadsClass, ReadsPat, ReadsTarget, ReadsStmt, ReadsParams}
+use Rattle.swc_ecma_parser_grammar.specs.Reads.{ReadsToken, with_in, StmtRule, block_rule, empty_rule, debugger_rule, variables_rule, if_statement_rule, switch_rule, labeled_rule, break_rule, continue_rule, return_rule, throw_rule, try_rule, while_rule, do_while_rule, for_rule, for_in_rule, for_of_rule, expr_rule, import_rule, if_rule, with_rule, function_rule, class_rule}
+use Rattle.swc_ecma_parser_grammar.specs.ReadsSupported.{ReadsClass, ReadsPat, ReadsTarget, ReadsStmt, ReadsParams, ReadsNamedClass}
 use Rattle.swc_ecma_parser_grammar.specs.Supported.{supported, has_none}
 use Rattle.swc_ecma_parser_grammar.specs.Variables.{begins_variables}
 use Rattle.swc_ecma_parser_grammar.specs.language.Begins.{begins_operand, begins_unary, begins_expression}
@@ -129,8 +129,9 @@ word_no_item f _ e = (refl, refl)
 name_starts : (f : Context) (v : Word) (s : Span) (c d : Place) → ReadsToken (token.Word v) s c d → is_name f (word_text v) ≡ true → NoItemWord c
 name_starts f v s c d r e = let g = word_no_item f v e in starts_by c (word_kind v) (token_first (token.Word v) s c d r) g.0 g.1
 
-rule_starts : (n : ℕ) (k : Code) (at : Position) (x : Tree) (c d : Place) → StmtRule (ReadsStmt n) (ReadsClass n) (ReadsPat n) (ReadsTarget n) (ReadsParams n) k at x c d → NoItemWord c
+rule_starts : (n : ℕ) (k : Code) (at : Position) (x : Tree) (c d : Place) → StmtRule (ReadsStmt n) (ReadsClass n) (ReadsPat n) (ReadsTarget n) (ReadsParams n) (ReadsNamedClass n) k at x c d → NoItemWord c
 unfolding same_kind
+rule_starts n k at x c d (class_rule name y a r b e) = starts_by c kind.Class r.0.is_class refl refl
 rule_starts n k at x c d (function_rule a r) = function_starts c r.word r.reads_async r.is_function
 rule_starts n k at x c d (block_rule r) = starts_by c kind.LBrace r.opens refl refl
 rule_starts n k at x c d (empty_rule e g i) = starts_by c kind.Semi e refl refl
@@ -220,14 +221,19 @@ module _ (In : Goal → Type 0) where
       let a : supported (tree.function s ds params body w g) ≡ true = sym (ap supported e) ∙ (and_yes (supported name) (supported y) h).1 in
       (and_yes (has_none ds) _ a).0
 
+  class_bare : (ds name y : Tree) (s : Span) (body base : Tree) → y ≡ tree.class s ds body base → supported name && supported y ≡ true → has_none ds ≡ true
+  class_bare ds name y s body base e h =
+      let a : supported (tree.class s ds body base) ≡ true = sym (ap supported e) ∙ (and_yes (supported name) (supported y) h).1 in
+      (and_yes (has_none ds) _ a).0
+
   exported_bare : (k : Code) (ds y : Tree) (c d : Place) → ExportedRule In k ds y c d → supported y ≡ true → has_none ds ≡ true
-  exported_bare k ds y c d (exports.exported_class name z r a e) h = absurd (let g : false ≡ true = sym (ap supported e) ∙ h in cc)
+  exported_bare k ds y c d (exports.exported_class name z r a e) h = class_bare ds name z _ _ _ r.is (sym (ap supported e) ∙ h)
   exported_bare k ds y c d (exports.exported_function name z r a e) h = function_bare ds name z k c d _ _ _ _ _ r.is (sym (ap supported e) ∙ h)
   exported_bare k ds y c d (exports.exported_variables v xs m e r g i) h = ap has_none e
 
   default_bare : (k : Code) (ds x y : Tree) (s : Span) (c d : Place) → DefaultRule In k ds y c d → x ≡ tree.export_default_decl s y → supported_item x ≡ true → has_none ds ≡ true
   default_bare k ds x y s c d (exports.default_class name z r e) i h =
-      absurd (let g : false ≡ true = sym (ap supported_item (i ∙ ap (tree.export_default_decl s) e)) ∙ h in cc)
+      class_bare ds name z _ _ _ r.is (sym (ap supported_item (i ∙ ap (tree.export_default_decl s) e)) ∙ h)
   default_bare k ds x y s c d (exports.default_function name z r e) i h =
       function_bare ds name z k c d _ _ _ _ _ r.is (sym (ap supported_item (i ∙ ap (tree.export_default_decl s) e)) ∙ h)
 

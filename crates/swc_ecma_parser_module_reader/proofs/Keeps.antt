@@ -25,25 +25,27 @@ use Rattle.swc_ecma_parser_grammar.specs.Own.{export_faults}
 use Rattle.swc_ecma_parser_grammar.specs.Parameters as formal
 use Rattle.swc_ecma_parser_grammar.specs.Reads.{with_in, nested_item, top_item}
 use Rattle.swc_ecma_parser_grammar.specs.language.Contexts.{outside_functions, in_parameters}
-use Rattle.swc_ecma_parser_grammar.specs.language.Goals.{assignment}
+use Rattle.swc_ecma_parser_grammar.specs.language.Goals.{assignment, left_side}
 use Rattle.swc_ecma_parser_grammar.specs.language.Imports.{follows_phase}
 use Rattle.swc_ecma_parser_grammar.specs.language.ModuleParts.{begins_attributes}
 use Rattle.swc_ecma_parser_reader.specs.Jumps.{told}
+use Rattle.swc_ecma_parser_reader.specs.Members.{class_decl, class_expr}
 use Rattle.swc_ecma_parser_reader.specs.Methods.{star}
 use Rattle.swc_ecma_parser_reader.specs.Operands.{literal, literal_in, taken, word_property}
-use Rattle.swc_ecma_parser_reader.specs.Reader.{at_end, items_turn, items, variables, function_decl, function_parts, function_body, misdirected, function_word, named, optional_end, expr, pattern, stmt, parameters, top_await_fault, top_await, whole_stmt, shebang}
+use Rattle.swc_ecma_parser_reader.specs.Reader.{at_end, items_turn, items, variables, function_decl, function_parts, function_body, misdirected, function_word, named, optional_end, expr, pattern, member, stmt, parameters, top_await_fault, top_await, whole_stmt, shebang}
 use Rattle.swc_ecma_parser_reader.specs.State.{State, Outcome, Reader, moved, coded, within, module_found, name, expect, expect_word, end, loop}
 use Rattle.swc_ecma_parser_reader.specs.Words.{any_word, word_in, word_by}
 use Rattle.swc_ecma_parser_reader.specs.Entry.{unmarked, IsBehind, IsSetBack, Stays}
 use Rattle.swc_ecma_parser_reader.proofs.Behind.{Kept, Lost, Passes, behind_self, behind_after, too_deep_keeps, fault_keeps, wanted_keeps, refuse_keeps, reject_keeps, end_keeps, expect_keeps, name_keeps, shebang_keeps, loop_keeps}
-use Rattle.swc_ecma_parser_reader.proofs.Keeps.{function_params_keep, function_body_keep, stmt_keeps, expr_keeps, parameters_keep}
+use Rattle.swc_ecma_parser_reader.proofs.Keeps.{function_params_keep, function_body_keep, stmt_keeps, expr_keeps, parameters_keep, member_keeps}
+use Rattle.swc_ecma_parser_reader.proofs.classes.Keeps as classes
 use Rattle.swc_ecma_parser_reader.proofs.Meets.{Answers, answers_then, answers_if, meant}
 use Rattle.swc_ecma_parser_reader.proofs.expressions.Keeps.{star_keeps, told_keeps}
 use Rattle.swc_ecma_parser_module_reader.specs.Imports.{str_or, str, source, module_name, no_attributes, specifiers_turn, specifiers, same_name, other_name, import_specifier, binding_name, import_namespace, bindings, more_bindings, default_binding, import_clause, imported, import_from, phase_of, import_phased, is_phase_word, import_decl}
-use Rattle.swc_ecma_parser_module_reader.specs.Exports.{renamed_export, plain_export, export_specifier, export_namespace, names_from, own_names, export_names, more_names, namespace_names, export_all, export_star, is_namespace_next, behind_default, is_name_from, name_from, is_default_from, default_from, default_name, default_function, default_expr, begins_default_function, exported_function, export_default, exported, export_decl}
+use Rattle.swc_ecma_parser_module_reader.specs.Exports.{renamed_export, plain_export, export_specifier, export_namespace, names_from, own_names, export_names, more_names, namespace_names, export_all, export_star, is_namespace_next, behind_default, is_name_from, name_from, is_default_from, default_from, default_name, default_function, default_expr, begins_default_function, exported_function, exported_class, export_default, exported, export_decl}
 use Rattle.swc_ecma_parser_module_reader.specs.Modules.{begins_import, import_in, export_in, module_item, module_code, module_body, module_whole}
 use Rattle.swc_ecma_parser_module_reader.specs.Entry.{AnswersModule}
-use Rattle.swc_ecma_parser_module_reader.proofs.Falls.{var_is_stmt, const_is_stmt, let_is_stmt, function_is_stmt}
+use Rattle.swc_ecma_parser_module_reader.proofs.Falls.{var_is_stmt, const_is_stmt, let_is_stmt, function_is_stmt, class_is_stmt}
 
 -- ---- what imports and exports share
 
@@ -270,18 +272,23 @@ module _ (n : ℕ) where
       answers_then (Kept b) _ (within with_in (expr n assignment) s) _ (answers_then (Kept b) _ (expr n assignment k) _ (expr_keeps n assignment b k f) (λ x t g. g)) (λ x t g.
       answers_then (Kept b) _ (end faults.Expected t) _ (end_keeps b t g faults.Expected) (λ _ u h. h))
 
-  export_default_keeps : (start first : Span) → Passes (export_default (stmt n nested_item) (expr n) (pattern n) (parameters n) start first)
-  unfolding export_default exported_function default_from
-  export_default_keeps start first b s f = answers_if _ _ (begins_default_function s.at) _ _
+  pub default_class_keeps : Passes (class_expr (expr n left_side) (member n))
+  default_class_keeps = classes.class_expr_keeps (expr n left_side) (member n) (expr_keeps n left_side) (member_keeps n)
+
+  export_default_keeps : (start first : Span) → Passes (export_default (stmt n nested_item) (expr n) (pattern n) (parameters n) (member n) start first)
+  unfolding export_default exported_function exported_class default_from
+  export_default_keeps start first b s f = answers_if _ _ (sees kind.Class s.at) _ _
+      (λ _. answers_then (Kept b) _ (class_expr (expr n left_side) (member n) s) _ (default_class_keeps b s f) (λ x t g. g))
+      (λ _. answers_if _ _ (begins_default_function s.at) _ _
       (λ _. answers_then (Kept b) _ (default_function (stmt n nested_item) (parameters n) s) _ (default_function_keeps b s f) (λ x t g. g))
-      (λ _. answers_if _ _ (is_default_from s.code s.at) _ _ (λ _. behind_default_keeps start first _ b s f) (λ _. default_expr_keeps start b s f))
+      (λ _. answers_if _ _ (is_default_from s.code s.at) _ _ (λ _. behind_default_keeps start first _ b s f) (λ _. default_expr_keeps start b s f)))
 
   exported_keeps : (start : Span) (d : Reader Tree) (b s : State) → stmt (suc n) nested_item s ≡ d s → IsBehind b s
-      → Answers (Kept b) (Lost b) (exported (stmt n nested_item) (expr n) (pattern n) (parameters n) start d s)
+      → Answers (Kept b) (Lost b) (exported (stmt n nested_item) (expr n) (pattern n) (parameters n) (member n) start d s)
   unfolding exported
   exported_keeps start d b s e f = answers_then (Kept b) _ (d s) _ (subst (Answers (Kept b) (Lost b)) e (stmt_keeps (suc n) nested_item b s f)) (λ x t g. g)
 
-  pub export_decl_keeps : Passes (export_decl (stmt n nested_item) (expr n) (pattern n) (parameters n))
+  pub export_decl_keeps : Passes (export_decl (stmt n nested_item) (expr n) (pattern n) (parameters n) (member n))
   unfolding export_decl
   export_decl_keeps b s f = let t = moved s in let g = behind_after b s f in
       answers_if _ _ (sees kind.LBrace t.at) _ _ (λ _. export_names_keep (span_at s.at) [] b t g) (λ _.
@@ -290,9 +297,10 @@ module _ (n : ℕ) where
       answers_if _ _ (sees kind.Var t.at) _ _ (λ h. exported_keeps (span_at s.at) (variables (expr n) (pattern n) decl.Var) b t (var_is_stmt n t h) g) (λ _.
       answers_if _ _ (sees kind.Const t.at) _ _ (λ h. exported_keeps (span_at s.at) (variables (expr n) (pattern n) decl.Const) b t (const_is_stmt n t h) g) (λ _.
       answers_if _ _ (is_let_declaration t.at) _ _ (λ h. exported_keeps (span_at s.at) (variables (expr n) (pattern n) decl.Let) b t (let_is_stmt n t h) g) (λ _.
+      answers_if _ _ (sees kind.Class t.at) _ _ (λ h. exported_keeps (span_at s.at) (class_decl (expr n left_side) (member n)) b t (class_is_stmt n t h) g) (λ _.
       answers_if _ _ (begins_default_function t.at) _ _ (λ h. exported_keeps (span_at s.at) (function_decl (stmt n nested_item) (parameters n)) b t (function_is_stmt n t h) g) (λ _.
       answers_if _ _ (is_name_from t.code t.at) _ _ (λ _. name_from_keeps (span_at s.at) b t g) (λ _.
-      wanted_keeps _ faults.Unexpected b t g))))))))
+      wanted_keeps _ faults.Unexpected b t g)))))))))
 
 -- ---- an item, and a module
 

@@ -4,7 +4,6 @@ pub mod Loops
 pub mod Levels
 pub mod SoundShared
 pub mod SoundImports
-pub mod NoClass
 pub mod SoundExported
 pub mod SoundExportNames
 pub mod SoundExports

@@ -18,13 +18,14 @@ use Rattle.swc_ecma_parser_grammar.specs.Follows.{word_at, is_let_declaration, i
 use Rattle.swc_ecma_parser_grammar.specs.Own.{export_faults}
 use Rattle.swc_ecma_parser_grammar.specs.Reads.{with_in, nested_item, top_item}
 use Rattle.swc_ecma_parser_grammar.specs.language.Contexts.{outside_functions}
-use Rattle.swc_ecma_parser_grammar.specs.language.Goals.{assignment}
+use Rattle.swc_ecma_parser_grammar.specs.language.Goals.{assignment, left_side}
 use Rattle.swc_ecma_parser_grammar.specs.language.Imports.{follows_phase}
 use Rattle.swc_ecma_parser_grammar.specs.language.ModuleParts.{begins_attributes}
 use Rattle.swc_ecma_parser_reader.specs.Jumps.{told}
+use Rattle.swc_ecma_parser_reader.specs.Members.{class_decl, class_expr}
 use Rattle.swc_ecma_parser_reader.specs.Methods.{star}
 use Rattle.swc_ecma_parser_reader.specs.Operands.{literal, word_property}
-use Rattle.swc_ecma_parser_reader.specs.Reader.{at_end, items_turn, items, variables, function_decl, function_parts, function_word, named, optional_end, expr, pattern, stmt, parameters, shebang}
+use Rattle.swc_ecma_parser_reader.specs.Reader.{at_end, items_turn, items, variables, function_decl, function_parts, function_word, named, optional_end, expr, pattern, member, stmt, parameters, shebang}
 use Rattle.swc_ecma_parser_reader.specs.State.{State, Reader, moved, coded, within, name, expect, expect_word, end, loop}
 use Rattle.swc_ecma_parser_reader.specs.Words.{any_word}
 use Rattle.swc_ecma_parser_reader.specs.Limits.{has_too_deep_token}
@@ -33,10 +34,10 @@ use Rattle.swc_ecma_parser_reader.proofs.Shallow.{Fine, fine_after, fine_taken, 
 use Rattle.swc_ecma_parser_reader.proofs.Words.{async_kind, async_parts}
 use Rattle.swc_ecma_parser_reader.proofs.expressions.LimitSteps.{reject_shallow, told_shallow, literal_shallow, any_word_shallow, unexpected_shallow, kept_more}
 use Rattle.swc_ecma_parser_module_reader.specs.Imports.{str_or, str, source, module_name, no_attributes, specifiers_turn, specifiers, same_name, other_name, import_specifier, binding_name, import_namespace, bindings, more_bindings, default_binding, import_clause, imported, import_from, phase_of, import_phased, is_phase_word, import_decl}
-use Rattle.swc_ecma_parser_module_reader.specs.Exports.{renamed_export, plain_export, export_specifier, export_namespace, names_from, own_names, export_names, more_names, namespace_names, export_all, export_star, is_namespace_next, behind_default, is_name_from, name_from, is_default_from, default_from, default_name, default_function, default_expr, begins_default_function, exported_function, export_default, exported, export_decl}
+use Rattle.swc_ecma_parser_module_reader.specs.Exports.{renamed_export, plain_export, export_specifier, export_namespace, names_from, own_names, export_names, more_names, namespace_names, export_all, export_star, is_namespace_next, behind_default, is_name_from, name_from, is_default_from, default_from, default_name, default_function, default_expr, begins_default_function, exported_function, exported_class, export_default, exported, export_decl}
 use Rattle.swc_ecma_parser_module_reader.specs.Modules.{begins_import, import_in, export_in, module_item, module_code, module_body, module_whole}
-use Rattle.swc_ecma_parser_module_reader.proofs.Falls.{var_is_stmt, const_is_stmt, let_is_stmt, function_is_stmt}
-use Rattle.swc_ecma_parser_module_reader.proofs.Fits.{whole_shallow, stmt_shallow, whole_expr_shallow, cost, parts_shallow}
+use Rattle.swc_ecma_parser_module_reader.proofs.Falls.{var_is_stmt, const_is_stmt, let_is_stmt, function_is_stmt, class_is_stmt}
+use Rattle.swc_ecma_parser_module_reader.proofs.Fits.{whole_shallow, stmt_shallow, whole_expr_shallow, cost, parts_shallow, whole_class_shallow}
 
 -- a reader that needs no level
 abbrev Flat : {A : Type 0} → Reader A → Type 0
@@ -266,30 +267,32 @@ module _ (n : ℕ) where
       answers_then (Kept m) _ (end faults.Expected t) _ (end_flat m t g) (λ _ u h. h))
 
   export_default_shallow : (start first : Span) (m : ℕ) (s : State) → 2 * (m + 2) + 2 ≤ suc n → Fine m s.at.left
-      → Answers (Kept m) Shallow (export_default (stmt n nested_item) (expr n) (pattern n) (parameters n) start first s)
-  unfolding export_default exported_function default_from
-  export_default_shallow start first m s l f = answers_if _ _ (begins_default_function s.at) _ _
+      → Answers (Kept m) Shallow (export_default (stmt n nested_item) (expr n) (pattern n) (parameters n) (member n) start first s)
+  unfolding export_default exported_function exported_class default_from
+  export_default_shallow start first m s l f = answers_if _ _ (sees kind.Class s.at) _ _
+      (λ e. answers_then (Kept m) _ (class_expr (expr n left_side) (member n) s) _ (whole_class_shallow n m s (omega arith) (saw s.at kind.Class e) f) (λ x t g. g))
+      (λ _. answers_if _ _ (begins_default_function s.at) _ _
       (λ e. answers_then (Kept m) _ (default_function (stmt n nested_item) (parameters n) s) _ (default_function_shallow m s l e f) (λ x t g. g))
-      (λ _. answers_if _ _ (is_default_from s.code s.at) _ _ (λ _. behind_default_flat start first _ m s f) (λ _. default_expr_shallow start m s l f))
+      (λ _. answers_if _ _ (is_default_from s.code s.at) _ _ (λ _. behind_default_flat start first _ m s f) (λ _. default_expr_shallow start m s l f)))
 
   -- a declaration, which is a statement
   exported_shallow : (start : Span) (d : Reader Tree) (m : ℕ) (s : State) → stmt (suc n) nested_item s ≡ d s → 2 * m + 2 ≤ suc n → Fine m s.at.left
-      → Answers (Kept m) Shallow (exported (stmt n nested_item) (expr n) (pattern n) (parameters n) start d s)
+      → Answers (Kept m) Shallow (exported (stmt n nested_item) (expr n) (pattern n) (parameters n) (member n) start d s)
   unfolding exported
   exported_shallow start d m s e l f = answers_then (Kept m) _ (d s) _ (subst (Answers (Kept m) Shallow) e (stmt_shallow (suc n) m s l f)) (λ x t g. g)
 
   -- from behind `export` on
   module _ (start : Span) (m : ℕ) (t : State) (l : 2 * (m + 1) + 2 ≤ suc n) (g : Fine m t.at.left) where
-    default_shallow : sees kind.Default t.at ≡ true → Answers (Kept m) Shallow (export_default (stmt n nested_item) (expr n) (pattern n) (parameters n) start (span_at t.at) (moved t))
+    default_shallow : sees kind.Default t.at ≡ true → Answers (Kept m) Shallow (export_default (stmt n nested_item) (expr n) (pattern n) (parameters n) (member n) start (span_at t.at) (moved t))
     default_shallow h =
         let (i, a, k) = fine_taken m t.at kind.Default (saw t.at kind.Default h) (λ z. cc) g in
         kept_more i m _ (omega arith) (export_default_shallow start (span_at t.at) i (moved t) (omega arith) k)
 
-    declared_shallow : (d : Reader Tree) → stmt (suc n) nested_item t ≡ d t → Answers (Kept m) Shallow (exported (stmt n nested_item) (expr n) (pattern n) (parameters n) start d t)
+    declared_shallow : (d : Reader Tree) → stmt (suc n) nested_item t ≡ d t → Answers (Kept m) Shallow (exported (stmt n nested_item) (expr n) (pattern n) (parameters n) (member n) start d t)
     declared_shallow d e = exported_shallow start d m t e (omega arith) g
 
   export_decl_shallow : (m : ℕ) (s : State) → 2 * m + 2 ≤ suc n → sees kind.Export s.at ≡ true → Fine m s.at.left
-      → Answers (Kept m) Shallow (export_decl (stmt n nested_item) (expr n) (pattern n) (parameters n) s)
+      → Answers (Kept m) Shallow (export_decl (stmt n nested_item) (expr n) (pattern n) (parameters n) (member n) s)
   unfolding export_decl
   export_decl_shallow m s l e f =
       let (i, a, g) = fine_taken m s.at kind.Export (saw s.at kind.Export e) (λ z. cc) f in
@@ -301,9 +304,10 @@ module _ (n : ℕ) where
       answers_if _ _ (sees kind.Var t.at) _ _ (λ h. declared_shallow b i t le g (variables (expr n) (pattern n) decl.Var) (var_is_stmt n t h)) (λ _.
       answers_if _ _ (sees kind.Const t.at) _ _ (λ h. declared_shallow b i t le g (variables (expr n) (pattern n) decl.Const) (const_is_stmt n t h)) (λ _.
       answers_if _ _ (is_let_declaration t.at) _ _ (λ h. declared_shallow b i t le g (variables (expr n) (pattern n) decl.Let) (let_is_stmt n t h)) (λ _.
+      answers_if _ _ (sees kind.Class t.at) _ _ (λ h. declared_shallow b i t le g (class_decl (expr n left_side) (member n)) (class_is_stmt n t h)) (λ _.
       answers_if _ _ (begins_default_function t.at) _ _ (λ h. declared_shallow b i t le g (function_decl (stmt n nested_item) (parameters n)) (function_is_stmt n t h)) (λ _.
       answers_if _ _ (is_name_from t.code t.at) _ _ (λ _. name_from_flat b i t g) (λ _.
-      unexpected_shallow i t g _)))))))))
+      unexpected_shallow i t g _))))))))))
 
 -- ---- an item, and a module
 

@@ -1,5 +1,5 @@
 -- Declarations that are exported, and what is exported by default, are read soundly.
-use Rattle.std.proofs.Common.{◌≡◌, ℕ, suc, Bool, true, false, cond, List, [], ◌∷◌, ◌++◌, Ok, Err, refl, sym, ◌∙◌, ap, subst, codes}
+use Rattle.std.proofs.Common.{◌≡◌, ℕ, suc, Bool, true, false, true≢false, cond, List, [], ◌∷◌, ◌++◌, Ok, Err, refl, sym, ◌∙◌, ap, subst, codes}
 use Rattle.std.specs.Prelude.{not, ◌&&◌, ◌||◌}
 use Rattle.std.specs.Str.{bytes_eq}
 use Rattle.swc_ecma_parser_common.specs.declared.span.Span.{Span}
@@ -15,7 +15,7 @@ use Rattle.swc_ecma_parser_model.specs.declared.leaves.VarDeclKind.{VarDeclKind}
 use Rattle.swc_ecma_parser_model.specs.declared.leaves.Ident.{Ident}
 use Rattle.swc_ecma_parser_model.specs.Tree as tree
 use Rattle.swc_ecma_parser_model.specs.Tree.{Tree, Text, listed, trees}
-use Rattle.swc_ecma_parser_model.specs.Forms.{span_of}
+use Rattle.swc_ecma_parser_model.specs.Forms.{is_absent, span_of}
 use Rattle.swc_ecma_parser_model.specs.Kinds.{is_module_decl}
 use Rattle.swc_ecma_parser_grammar.specs.Looks.{kind_at, sees, span_at, spanned}
 use Rattle.swc_ecma_parser_grammar.specs.Names.{Code, is_one_of, reserved_words, is_reserved, is_name, token_is_name, first_is_name, name_at}
@@ -25,43 +25,46 @@ use Rattle.swc_ecma_parser_grammar.specs.Variables.{begins_variables}
 use Rattle.swc_ecma_parser_grammar.specs.Notes.{notes}
 use Rattle.swc_ecma_parser_grammar.specs.Parameters.{parameters}
 use Rattle.swc_ecma_parser_grammar.specs.Supported.{supported, supported_in}
-use Rattle.swc_ecma_parser_grammar.specs.Reads.{with_in, nested_item, DeclaratorRule, plain_rule, initialized_rule, ReadsSeparated, ReadsFunction, ReadsFunctionExpr, OwnNameRule, no_own_name_rule, own_name_rule, variables_rule, function_rule}
-use Rattle.swc_ecma_parser_grammar.specs.ReadsSupported.{ReadsClass, ReadsPat, ReadsStmt, ReadsParams}
+use Rattle.swc_ecma_parser_grammar.specs.Reads.{with_in, nested_item, DeclaratorRule, plain_rule, initialized_rule, ReadsSeparated, ReadsFunction, ReadsFunctionExpr, OwnNameRule, no_own_name_rule, own_name_rule, variables_rule, function_rule, class_rule}
+use Rattle.swc_ecma_parser_grammar.specs.ReadsSupported.{ReadsClass, ReadsPat, ReadsStmt, ReadsParams, ReadsNamedClass}
 use Rattle.swc_ecma_parser_grammar.specs.Walk as walks
 use Rattle.swc_ecma_parser_grammar.specs.Walk.{Env, walk, env_of}
-use Rattle.swc_ecma_parser_grammar.specs.language.Goals.{Goal, expr_goal, assignment}
-use Rattle.swc_ecma_parser_grammar.specs.language.Contexts.{named_by, in_parameters}
+use Rattle.swc_ecma_parser_grammar.specs.language.Goals.{Goal, expr_goal, assignment, left_side}
+use Rattle.swc_ecma_parser_grammar.specs.language.Contexts.{named_by, in_parameters, in_class}
 use Rattle.swc_ecma_parser_grammar.specs.language.Classes as classes
+use Rattle.swc_ecma_parser_grammar.specs.language.Classes.{ClassRule}
 use Rattle.swc_ecma_parser_grammar.specs.language.Declarations as declarations
 use Rattle.swc_ecma_parser_grammar.specs.language.Parts as parts
 use Rattle.swc_ecma_parser_grammar.specs.language.Exports as exports
 use Rattle.swc_ecma_parser_grammar.specs.language.Exports.{ExportRule, ExportedRule, DefaultRule, ExportFrontRule, decorated_behind, export_word, export_default_words, may_begin_default}
+use Rattle.swc_ecma_parser_grammar.specs.language.LeftSides as sides
+use Rattle.swc_ecma_parser_grammar.specs.language.LeftSides.{PrimaryRule}
 use Rattle.swc_ecma_parser_grammar.specs.language.Reads.{Reads}
 use Rattle.swc_ecma_parser_grammar.proofs.Tests.{and_yes, and_both, or_no}
 use Rattle.swc_ecma_parser_grammar.proofs.Naming.{name_is_clean}
 use Rattle.swc_ecma_parser_grammar.proofs.SupportedIn.{lower}
 use Rattle.swc_ecma_parser_grammar.proofs.SupportedBegins.{supported_as}
-use Rattle.swc_ecma_parser_grammar.proofs.Unnoted.{joined, expr_unnoted}
+use Rattle.swc_ecma_parser_grammar.proofs.Unnoted.{joined, expr_unnoted, class_unnoted}
 use Rattle.swc_ecma_parser_grammar.proofs.Widens.{stmt_supported, stmt_widens, braced_widens}
 use Rattle.swc_ecma_parser_grammar.proofs.StatementEntries.{stmt_unnoted, braced_unnoted, params_unnoted}
 use Rattle.swc_ecma_parser_grammar.proofs.FunctionExprs.{function_supported}
 use Rattle.swc_ecma_parser_reader.specs.Notes.{notes_of, all_notes_of}
+use Rattle.swc_ecma_parser_reader.specs.Members.{extended, surplus, members, class_parts, named_class, class_decl, class_name, unnamed_class, class_expr, class_stmt}
 use Rattle.swc_ecma_parser_reader.specs.Methods.{star}
-use Rattle.swc_ecma_parser_reader.specs.State.{State, Outcome, Reader, and_then, moved, coded, flagged, within, name, name_by, name_in, wanted, end}
+use Rattle.swc_ecma_parser_reader.specs.State.{State, Outcome, Reader, and_then, moved, coded, flagged, within, name, name_by, name_in, wanted, expect, end}
 use Rattle.swc_ecma_parser_reader.specs.Reader as reader
-use Rattle.swc_ecma_parser_reader.specs.Reader.{expr, pattern, stmt, declarators, variables, named, own_name, function_word, function_parts, function_decl, function_expr, misdirected, function_body}
+use Rattle.swc_ecma_parser_reader.specs.Reader.{expr, pattern, member, stmt, declarators, variables, named, own_name, function_word, function_parts, function_decl, function_expr, misdirected, function_body, close}
 use Rattle.swc_ecma_parser_reader.proofs.Words.{begins_function}
-use Rattle.swc_ecma_parser_reader.proofs.Meets.{Meets, Refuses, meets_then, meets_if, meant}
+use Rattle.swc_ecma_parser_reader.proofs.Meets.{Meets, Refuses, meets_then, meets_if, meant, saw}
 use Rattle.swc_ecma_parser_reader.proofs.Between.{Sound, same, sound_more, sound_as, sound_after, within_sound}
 use Rattle.swc_ecma_parser_reader.proofs.expressions.SoundSteps.{meets_as, moved_back}
 use Rattle.swc_ecma_parser_reader.proofs.patterns.Sound.{anything}
 use Rattle.swc_ecma_parser_reader.proofs.SoundParts.{end_sound, variables_stand, declarators_sound, inside_sound, meets_both}
 use Rattle.swc_ecma_parser_reader.proofs.SoundFunctions.{function_decl_sound, function_expr_sound}
-use Rattle.swc_ecma_parser_reader.proofs.Sound.{expr_sound, pattern_sound, parameters_sound, stmt_sound}
-use Rattle.swc_ecma_parser_module_reader.specs.Exports.{default_name, default_function, default_expr, is_default_from, begins_default_function, exported_function, exported}
+use Rattle.swc_ecma_parser_reader.proofs.Sound.{expr_sound, pattern_sound, parameters_sound, stmt_sound, classes_sound, class_sound as class_expr_sound}
+use Rattle.swc_ecma_parser_module_reader.specs.Exports.{default_name, default_function, default_expr, is_default_from, begins_default_function, exported_function, exported_class, exported}
 use Rattle.swc_ecma_parser_module_reader.specs.Supported.{supported_item}
 use Rattle.swc_ecma_parser_module_reader.proofs.ModuleCode.{IsModule, in_module_same}
-use Rattle.swc_ecma_parser_module_reader.proofs.NoClass.{expr_no_class}
 
 -- ---- exports in module code
 
@@ -80,7 +83,7 @@ SoundExport n s x t = Sound same (λ k l. walk (env_of k l) x) (notes_of x) (Exp
 abbrev IsPlain : Tree → Type 0
 IsPlain x = (env : Env) (s : Span) → walks.walk_exported env s (walk (walks.in_module env) x) x ≡ walk (walks.in_module env) x
 
--- a declaration that is exported, and a function that is exported by default, in the code of the export
+-- a declaration that is exported, and a function or a class that is exported by default, in the code of the export
 abbrev ExportedRead : ℕ → Tree → Code → Place → Place → Type 0
 ExportedRead n x k c d = ExportedRule (Reads n) k (listed []) x c d × (supported x ≡ true) × (k.flags.module ≡ true → notes x ≡ [])
 
@@ -148,6 +151,11 @@ function_read n k x c d r = let small : ReadsStmt (suc n) k nested_item x c d = 
   λ o. stmt_unnoted (suc n) k nested_item x c d o small,
 )
 
+-- a name has no faults
+named_plain : (s : State) → Meets (λ i _. (env : Env) → walk env i ≡ []) (named s)
+unfolding named
+named_plain s = meets_then _ (name faults.ExpectedIdent s) _ (anything (name faults.ExpectedIdent s)) (λ i t _ env. refl)
+
 -- the form of a function without decorators
 abbrev IsFunction : Tree → Type 0
 IsFunction x = (span : Span) × (ps : List Tree) × (body : Tree) × (w : Bool) × (g : Bool) × (x ≡ tree.function span (listed []) (parameters ps) body w g)
@@ -174,11 +182,6 @@ module _ (inner : Reader Tree) (params : Reader (List Tree)) where
       meets_then _ (star m) _ (anything (star m)) (λ g o _.
       meets_then _ (name faults.ExpectedIdent o) _ (anything (name faults.ExpectedIdent o)) (λ i v _.
       meets_then _ (function_parts inner params a g (span_at s.at) v) _ (parts_form a g (span_at s.at) v) (λ x t f. declaration_plain (tree.ident i.span i.sym) x (λ env. refl) f))))
-
-  -- a name has no faults
-  named_plain : (s : State) → Meets (λ i _. (env : Env) → walk env i ≡ []) (named s)
-  unfolding named
-  named_plain s = meets_then _ (name faults.ExpectedIdent s) _ (anything (name faults.ExpectedIdent s)) (λ i t _ env. refl)
 
   own_plain : (a g : Bool) (s : State) → Meets (λ i _. (env : Env) → walk env i ≡ []) (own_name a g s)
   unfolding own_name
@@ -316,6 +319,98 @@ default_function_sound n s o e =
     (expr_plain (stmt n nested_item) (reader.parameters n) s))
     (λ x t (p, f). (sound_as s t refl refl refl (λ r. default_read n s.code x s.at t.at o r) p, f)))
 
+-- ---- classes
+
+-- the form of a class without decorators
+abbrev IsClass : Tree → Type 0
+IsClass x = (span : Span) × (xs : List Tree) × (base : Tree) × (x ≡ tree.class span (listed []) (listed xs) base)
+
+class_decl_plain : (i x : Tree) → ((env : Env) → walk env i ≡ []) → IsClass x → IsPlain (tree.class_decl i x)
+class_decl_plain i x h (s, xs, base, e) env span = subst (λ z. walks.walk_exported env span (walk (walks.in_module env) (tree.class_decl i z)) (tree.class_decl i z) ≡ walk (walks.in_module env) (tree.class_decl i z))
+    (sym e) (sym (ap (λ z. z ++ walk (walks.in_module env) (tree.class s (listed []) (listed xs) base)) (h (walks.in_module env))))
+
+class_expr_plain : (r : Span) (i x : Tree) → ((env : Env) → walk env i ≡ []) → IsClass x → IsPlain (tree.class_expr r i x)
+class_expr_plain r i x h (s, xs, base, e) env span = subst (λ z. walks.walk_exported env span (walk (walks.in_module env) (tree.class_expr r i z)) (tree.class_expr r i z) ≡ walk (walks.in_module env) (tree.class_expr r i z))
+    (sym e) (sym (ap (λ z. z ++ walk (walks.in_module env) (tree.class s (listed []) (listed xs) base)) (h (walks.in_module env))))
+
+-- which primary expressions are classes
+abbrev is_class_expr : Tree → Bool
+is_class_expr (tree.class_expr s name y) = true
+is_class_expr _ = false
+
+module _ (heritage element : Reader Tree) where
+  class_form : (start : Span) (s : State) → Meets (λ x _. IsClass x) (class_parts heritage element start s)
+  unfolding class_parts
+  class_form start s = meets_then _ (extended heritage element s) _ (anything (extended heritage element s)) (λ base m _.
+      meets_then _ (surplus heritage element m) _ (anything (surplus heritage element m)) (λ _ u _.
+      meets_then _ (expect kind.LBrace u) _ (anything (expect kind.LBrace u)) (λ _ v _.
+      meets_then _ (within with_in (members heritage element) v) _ (anything (within with_in (members heritage element) v)) (λ xs w _.
+      meets_then _ (close w) _ (anything (close w)) (λ _ t _. (_, xs, base, refl))))))
+
+  declared_plain : (s : State) → Meets (λ x _. IsPlain x) (class_decl heritage element s)
+  unfolding class_decl named_class
+  declared_plain s = let c = coded (in_class s.code) s in
+      meets_then _ (named_class heritage element c) _
+      (meets_then _ (named (moved c)) _ (named_plain (moved c)) (λ i m h.
+      meets_then _ (class_parts heritage element (span_at s.at) m) _ (class_form (span_at s.at) m) (λ x t f. class_decl_plain i x h f))) (λ x t p. p)
+
+  own_class_plain : (s : State) → Meets (λ i _. (env : Env) → walk env i ≡ []) (class_name heritage element s)
+  unfolding class_name
+  own_class_plain s = meets_if _ (name_at s.code.flags s.at) _ _ (λ _. named_plain s) (λ _ env. refl)
+
+  as_expression_plain : (s : State) → Meets (λ x _. IsPlain x × (is_class_expr x ≡ true)) (class_expr heritage element s)
+  unfolding class_expr unnamed_class
+  as_expression_plain s = let c = coded (in_class s.code) s in
+      meets_then _ (unnamed_class heritage element c) _
+      (meets_then _ (class_name heritage element (moved c)) _ (own_class_plain (moved c)) (λ i m h.
+      meets_then _ (class_parts heritage element (span_at s.at) m) _ (class_form (span_at s.at) m) (λ x t f. (class_expr_plain (span_of x) i x h f, refl)))) (λ x t p. p)
+
+class_read : (n : ℕ) (k : Code) (name y x : Tree) (c d : Place) → ReadsNamedClass n k name y c d → is_absent name ≡ false → x ≡ tree.class_decl name y → ExportedRead n x k c d
+class_read n k name y x c d r a e = let small : ReadsStmt (suc n) k nested_item x c d = class_rule name y refl r a e in (
+  exports.exported_class name y r.0 a e,
+  lower k.flags.module x (stmt_supported (suc n) k nested_item x c d small),
+  λ o. stmt_unnoted (suc n) k nested_item x c d o small,
+)
+
+pub class_sound : (n : ℕ) (s : State) → sees kind.Class s.at ≡ true → Meets (SoundExported n s) (class_decl (expr n left_side) (member n) s)
+unfolding class_stmt
+class_sound n s h = let p = class_decl (expr n left_side) (member n) s in
+    meets_as p (meets_both _ _ p (classes_sound n nested_item s (saw s.at kind.Class h)) (declared_plain (expr n left_side) (member n) s))
+    (λ x t (q, f). (sound_as s t refl refl refl (λ (i, name, y, r, a, e). class_read n s.code name y x s.at t.at r a e) q, f))
+
+-- a class that is an expression, with its name or none
+abbrev ClassFound : ℕ → Code → Tree → Place → Place → Type 0
+ClassFound n k x c d = (name : Tree) × (y : Tree) × ClassRule (Reads n) k c (listed []) name y c d × (x ≡ tree.class_expr (spanned c d) name y)
+
+class_found : (n : ℕ) (k : Code) (x : Tree) (c d : Place) → PrimaryRule (Reads n) k x c d → is_class_expr x ≡ true → ClassFound n k x c d
+class_found n k x c d (sides.class_rule name y r e) h = (name, y, r, e)
+class_found n k x c d (sides.name_rule text s r f e) h = absurd (true≢false (sym h ∙ ap is_class_expr e))
+class_found n k x c d (sides.string_rule value raw s r e) h = absurd (true≢false (sym h ∙ ap is_class_expr e))
+class_found n k x c d (sides.true_rule s r e) h = absurd (true≢false (sym h ∙ ap is_class_expr e))
+class_found n k x c d (sides.false_rule s r e) h = absurd (true≢false (sym h ∙ ap is_class_expr e))
+class_found n k x c d (sides.null_rule s r e) h = absurd (true≢false (sym h ∙ ap is_class_expr e))
+class_found n k x c d (sides.number_rule raw s r e) h = absurd (true≢false (sym h ∙ ap is_class_expr e))
+class_found n k x c d (sides.big_int_rule raw s r e) h = absurd (true≢false (sym h ∙ ap is_class_expr e))
+class_found n k x c d (sides.this_rule i m e) h = absurd (true≢false (sym h ∙ ap is_class_expr e))
+class_found n k x c d (sides.array_rule xs m i r j l e) h = absurd (true≢false (sym h ∙ ap is_class_expr e))
+class_found n k x c d (sides.object_rule xs m i r j l e) h = absurd (true≢false (sym h ∙ ap is_class_expr e))
+class_found n k x c d (sides.function_rule name y r e) h = absurd (true≢false (sym h ∙ ap is_class_expr e))
+class_found n k x c d (sides.paren_rule y m i r j l e) h = absurd (true≢false (sym h ∙ ap is_class_expr e))
+
+default_class_read : (n : ℕ) (k : Code) (x : Tree) (c d : Place) → IsModule k → ClassFound n k x c d → supported_in k.flags.module x ≡ true → DefaultRead n x k c d
+default_class_read n k x c d o (name, y, r, e) s =
+    let both : supported_in k.flags.module name && supported_in k.flags.module y ≡ true = supported_as k.flags.module x (tree.class_expr (spanned c d) name y) e s in
+    let g = and_yes (supported_in k.flags.module name) _ both in (
+      exports.default_class name y r e,
+      λ span. ap (λ z. supported_item (tree.export_default_decl span z)) e ∙ and_both (supported name) (supported y) (lower k.flags.module name g.0) (lower k.flags.module y g.1),
+      ap notes e ∙ class_unnoted n k name y c d o.0 r both,
+    )
+
+default_class_sound : (n : ℕ) (s : State) → IsModule s.code → sees kind.Class s.at ≡ true → Meets (SoundDefault n s) (class_expr (expr n left_side) (member n) s)
+default_class_sound n s o h = let p = class_expr (expr n left_side) (member n) s in
+    meets_as p (meets_both _ _ p (class_expr_sound n s (saw s.at kind.Class h)) (as_expression_plain (expr n left_side) (member n) s))
+    (λ x t (q, g). (sound_as s t refl refl refl (λ (r, a, i). default_class_read n s.code x s.at t.at o (class_found n s.code x s.at t.at r g.1) a) q, g.0))
+
 -- ---- exports
 
 pub default_begins : (c : Place) → begins_default_function c ≡ true → begins_function c ≡ true
@@ -340,7 +435,7 @@ plain_walk k labels span x o f = sym (f (env_of k labels) span ∙ ap (λ z. wal
 
 module _ (n : ℕ) (s : State) (o : IsModule s.code) (e : kind_at s.at ≡ kind.Export) where
   pub exported_sound : (declaration : Reader Tree) → Meets (SoundExported n (moved s)) (declaration (moved s))
-      → Meets (SoundExport n s) (exported (stmt n nested_item) (expr n) (pattern n) (reader.parameters n) (span_at s.at) declaration (moved s))
+      → Meets (SoundExport n s) (exported (stmt n nested_item) (expr n) (pattern n) (reader.parameters n) (member n) (span_at s.at) declaration (moved s))
   unfolding exported spanned
   exported_sound declaration h = meets_then _ (declaration (moved s)) _ h (λ x t (p, f). (
     sound_after s t e refl (plain_walk s.code s.scope.labels (record { lo = (span_at s.at).lo; hi = t.at.last.hi }) x o f) refl
@@ -350,7 +445,7 @@ module _ (n : ℕ) (s : State) (o : IsModule s.code) (e : kind_at s.at ≡ kind.
 
   module _ (f : kind_at (after s.at) ≡ kind.Default) where
     pub exported_function_sound : begins_default_function (after (after s.at)) ≡ true
-        → Meets (SoundExport n s) (exported_function (stmt n nested_item) (expr n) (pattern n) (reader.parameters n) (span_at s.at) (moved (moved s)))
+        → Meets (SoundExport n s) (exported_function (stmt n nested_item) (expr n) (pattern n) (reader.parameters n) (member n) (span_at s.at) (moved (moved s)))
     unfolding exported_function spanned
     exported_function_sound b = meets_then _ (default_function (stmt n nested_item) (reader.parameters n) (moved (moved s))) _
         (default_function_sound n (moved (moved s)) o (default_begins (after (after s.at)) b)) (λ x t (p, g). (
@@ -364,6 +459,20 @@ module _ (n : ℕ) (s : State) (o : IsModule s.code) (e : kind_at s.at ≡ kind.
           refl,
         ))
 
+    pub exported_class_sound : sees kind.Class (after (after s.at)) ≡ true
+        → Meets (SoundExport n s) (exported_class (stmt n nested_item) (expr n) (pattern n) (reader.parameters n) (member n) (span_at s.at) (moved (moved s)))
+    unfolding exported_class spanned
+    exported_class_sound b = meets_then _ (class_expr (expr n left_side) (member n) (moved (moved s))) _ (default_class_sound n (moved (moved s)) o b) (λ x t (p, g). (
+      sound_after s t e refl (plain_walk s.code s.scope.labels (record { lo = (span_at s.at).lo; hi = t.at.last.hi }) x o g) refl
+          (λ (r, u, q). (
+            exports.export_default_declaration_rule (listed []) x s.at (after (after s.at)) (default_front s.at e f)
+                (subst (λ k. DefaultRule (Reads n) k (listed []) x (after (after s.at)) t.at) (sym (in_module_same s.code o)) r) refl,
+            u (spanned s.at t.at),
+            q,
+          )) (moved_back {s = moved s} f refl p),
+      refl,
+    ))
+
     -- the look-ahead of an expression
     may_begin : (c : Place) → begins_default_function c ≡ false → is_default_from s.code c ≡ false → sees kind.Class c ≡ false → may_begin_default s.code c ≡ true
     unfolding begins_default_function is_default_from may_begin_default
@@ -373,15 +482,15 @@ module _ (n : ℕ) (s : State) (o : IsModule s.code) (e : kind_at s.at ≡ kind.
         no_from true b d h = (or_no b d h).0
         no_from false b d h = refl
 
-    pub default_expr_sound : begins_default_function (after (after s.at)) ≡ false → is_default_from s.code (after (after s.at)) ≡ false
+    pub default_expr_sound : sees kind.Class (after (after s.at)) ≡ false → begins_default_function (after (after s.at)) ≡ false → is_default_from s.code (after (after s.at)) ≡ false
         → Meets (SoundExport n s) (default_expr (expr n) (span_at s.at) (moved (moved s)))
     unfolding default_expr spanned
-    default_expr_sound h g = meets_then _ (within with_in (expr n assignment) (moved (moved s))) _
+    default_expr_sound b h g = meets_then _ (within with_in (expr n assignment) (moved (moved s))) _
         (inside_sound (ReadsClass n) (ReadsPat n) (expr n) (pattern n) (expr_sound n) (pattern_sound n) assignment (moved (moved s))) (λ x m p.
         meets_then _ (end faults.Expected m) _ (end_sound faults.Expected m) (λ _ t q. (
           sound_after s t e refl (sym (ap (λ z. walk z x) (module_env s.code s.scope.labels o))) refl
               (λ (i, r, z). (
-                exports.export_default_expression_rule x i e f (may_begin (after (after s.at)) h g (expr_no_class n (with_in s.code) x (after (after s.at)) i r))
+                exports.export_default_expression_rule x i e f (may_begin (after (after s.at)) h g b)
                     (subst (λ k. Reads n (expr_goal assignment (with_in k) x (after (after s.at)) i)) (sym (in_module_same s.code o)) r.0) z refl,
                 lower s.code.flags.module x r.1,
                 expr_unnoted n assignment (with_in s.code) x (after (after s.at)) i o.0 r.0 r.1,

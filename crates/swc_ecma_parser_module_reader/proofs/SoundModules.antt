@@ -40,7 +40,7 @@ use Rattle.swc_ecma_parser_grammar.proofs.Unnoted.{joined}
 use Rattle.swc_ecma_parser_reader.specs.Entry.{error_tokens}
 use Rattle.swc_ecma_parser_reader.specs.Limits.{has_out_of_memory_token}
 use Rattle.swc_ecma_parser_reader.specs.Notes.{Notes, ◌⊕◌, notes_of, all_notes_of, notes_with, all_notes_with}
-use Rattle.swc_ecma_parser_reader.specs.Reader.{expr, pattern, stmt, parameters, directs, items_turn, items, at_end, whole_stmt, shebang_of, shebang_in, shebang_taken, shebang}
+use Rattle.swc_ecma_parser_reader.specs.Reader.{expr, pattern, member, stmt, parameters, directs, items_turn, items, at_end, whole_stmt, shebang_of, shebang_in, shebang_taken, shebang}
 use Rattle.swc_ecma_parser_reader.specs.State.{State, coded, flagged}
 use Rattle.swc_ecma_parser_reader.proofs.Notes.{or_nil, or_true, or_assoc}
 use Rattle.swc_ecma_parser_reader.proofs.Meets.{Meets, Refuses, meets_then, meets_if, too_deep_meets, Turned, loop_answers, saw, meant}
@@ -318,11 +318,11 @@ module_is n s x t (b, p, e) = record {
 
 module _ (export_sound : (n : ℕ) (s : State) → IsModule s.code → kind_at s.at ≡ kind.Export
     → Meets (λ x t. Sound same (λ k l. walk (env_of k l) x) (notes_of x) (λ k c d. ExportRule (Reads n) k x c d × (supported_item x ≡ true) × (notes x ≡ [])) s t × (is_module_decl x ≡ true))
-    (export_decl (stmt n nested_item) (expr n) (pattern n) (parameters n) s)) where
+    (export_decl (stmt n nested_item) (expr n) (pattern n) (parameters n) (member n) s)) where
   export_in_sound : (n : ℕ) (s : State) → IsModule s.code → kind_at s.at ≡ kind.Export → Meets (SoundItem n s) (export_in n s)
   unfolding export_in
   export_in_sound zero s m e = too_deep_meets _ s
-  export_in_sound (suc n) s m e = meets_as (export_decl (stmt n nested_item) (expr n) (pattern n) (parameters n) s) (export_sound n s m e) (λ x t (p, h). (
+  export_in_sound (suc n) s m e = meets_as (export_decl (stmt n nested_item) (expr n) (pattern n) (parameters n) (member n) s) (export_sound n s m e) (λ x t (p, h). (
     false,
     sound_as s t refl refl (unawaited x) (λ (r, a, b). record { reads = export_item_rule r; supports = a; unnoted = b; awaits = decl_awaits x s.at h }) p,
   ))

@@ -13,8 +13,9 @@ use Rattle.swc_ecma_parser_grammar.specs.Names.{Code, name_at}
 use Rattle.swc_ecma_parser_grammar.specs.Follows.{word_at, is_let_declaration, is_async_function}
 use Rattle.swc_ecma_parser_grammar.specs.Own.{export_faults}
 use Rattle.swc_ecma_parser_grammar.specs.Reads.{with_in}
-use Rattle.swc_ecma_parser_grammar.specs.language.Goals.{Class, assignment}
+use Rattle.swc_ecma_parser_grammar.specs.language.Goals.{Class, assignment, left_side}
 use Rattle.swc_ecma_parser_reader.specs.Jumps.{told}
+use Rattle.swc_ecma_parser_reader.specs.Members.{class_decl, class_expr}
 use Rattle.swc_ecma_parser_reader.specs.Methods.{star}
 use Rattle.swc_ecma_parser_reader.specs.Reader.{variables, function_decl, function_parts, function_word, named, optional_end}
 use Rattle.swc_ecma_parser_reader.specs.State.{Reader, ◌>>=◌, ◌>>◌, pure, span_here, since, skip, within, wanted, name, expect_word, end}
@@ -154,17 +155,25 @@ module _ (expr : Class → Reader Tree) where
 unfoldable pub begins_default_function : Place → Bool
 begins_default_function c = sees kind.Function c || is_async_function c
 
-module _ (stmt : Reader Tree) (expr : Class → Reader Tree) (pat : Reader Tree) (params : Reader (List Tree)) where
+module _ (stmt : Reader Tree) (expr : Class → Reader Tree) (pat : Reader Tree) (params : Reader (List Tree)) (member : Reader Tree) where
   unfoldable pub exported_function : Span → Reader Tree
   exported_function start = do
     x ← default_function stmt params
     span ← since start
     pure (tree.export_default_decl span x)
 
+  -- a class is read as an expression, whose name may be missing too
+  unfoldable pub exported_class : Span → Reader Tree
+  exported_class start = do
+    x ← class_expr (expr left_side) member
+    span ← since start
+    pure (tree.export_default_decl span x)
+
   -- from behind `export default` on; the word `default` stands at `first`
   unfoldable pub export_default : (start first : Span) → Reader Tree
   export_default start first = λ s.
-      if begins_default_function s.at then exported_function start s
+      if sees kind.Class s.at then exported_class start s
+      else if begins_default_function s.at then exported_function start s
       else if is_default_from s.code s.at then default_from start first s
       else default_expr expr start s
 
@@ -186,6 +195,7 @@ module _ (stmt : Reader Tree) (expr : Class → Reader Tree) (pat : Reader Tree)
         else if sees kind.Var s.at then exported start (variables expr pat decl.Var) s
         else if sees kind.Const s.at then exported start (variables expr pat decl.Const) s
         else if is_let_declaration s.at then exported start (variables expr pat decl.Let) s
+        else if sees kind.Class s.at then exported start (class_decl (expr left_side) member) s
         else if begins_default_function s.at then exported start (function_decl stmt params) s
         else if is_name_from s.code s.at then name_from start s
         else wanted faults.Unexpected s

@@ -8,7 +8,7 @@ use Rattle.swc_ecma_parser_token.specs.declared.token.Word.{Word}
 use Rattle.swc_ecma_parser_grammar.proofs.Tests.{and_yes, and_both, and_no}
 use Rattle.swc_ecma_parser_grammar.proofs.SupportedBegins.{word_begins, name_begins}
 use Rattle.swc_ecma_parser_grammar.specs.Own.{labelled_function, duplicates, misplaced_directive}
-use Rattle.swc_ecma_parser_grammar.specs.Reads.{labeled_rule, with_rule, function_rule, ReadsFunction, ReadsFunctionExpr, ReadsParts, OwnNameRule, no_own_name_rule, own_name_rule, ReadsBraced}
+use Rattle.swc_ecma_parser_grammar.specs.Reads.{labeled_rule, with_rule, class_rule, function_rule, ReadsFunction, ReadsFunctionExpr, ReadsParts, OwnNameRule, no_own_name_rule, own_name_rule, ReadsBraced}
 use Rattle.swc_ecma_parser_grammar.specs.Names.{is_name, name_at, first_is_name}
 use Rattle.swc_ecma_parser_grammar.specs.language.Items.{labelled_item}
 use Rattle.swc_ecma_parser_reader.specs.Reader.{begins_label, relabels, labelled_body, labeled_stmt, other_stmt, with_stmt, await_here, misdirected, function_body, function_parts, function_decl, function_stmt, function_word, async_or_other}
@@ -38,7 +38,7 @@ use Rattle.swc_ecma_parser_grammar.specs.Looks.{kind_at, sees, same_kind, span_a
 use Rattle.swc_ecma_parser_grammar.specs.Names.{Code}
 use Rattle.swc_ecma_parser_grammar.specs.Ends.{OptionalEnds}
 use Rattle.swc_ecma_parser_grammar.specs.Reads.{with_in, nested_item, ReadsToken, ReadsItems, break_rule, continue_rule, return_rule, StmtRule, block_rule, empty_rule, debugger_rule, variables_rule, if_statement_rule, CaseRule, case_clause_rule, default_clause_rule, ReadsCases, switch_rule, throw_rule, try_rule, while_rule, do_while_rule, expr_rule, import_rule, ReadsBlock, CatchRule, no_catch_rule, catch_rule, catch_parameter_rule, FinallyRule, no_finally_rule, finally_rule, ReadsHead, IfRule, if_rule, no_else_rule, else_rule, else_if_rule}
-use Rattle.swc_ecma_parser_grammar.specs.ReadsSupported.{ReadsClass, ReadsPat, ReadsTarget, ReadsStmt, ReadsParams}
+use Rattle.swc_ecma_parser_grammar.specs.ReadsSupported.{ReadsClass, ReadsPat, ReadsTarget, ReadsStmt, ReadsParams, ReadsMember, ReadsNamedClass}
 use Rattle.swc_ecma_parser_grammar.specs.language.Contexts.{in_loop, in_breakable, in_with, named_by, in_parameters, in_body, in_arrow}
 use Rattle.swc_ecma_parser_grammar.specs.language.Goals.{Goal, Purpose, binding, expression, assignment, pattern_goal}
 use Rattle.swc_ecma_parser_grammar.specs.language.Items.{sub_statement}
@@ -48,7 +48,7 @@ use Rattle.swc_ecma_parser_grammar.specs.Walk.{Env, env_of, walk, walks}
 use Rattle.swc_ecma_parser_reader.specs.Notes.{Notes, ◌⊕◌, notes_of, all_notes_of, held}
 use Rattle.swc_ecma_parser_reader.specs.State.{Scope, State, Outcome, and_then, loop}
 use Rattle.swc_ecma_parser_reader.specs.Methods.{getter_form, setter_form, method_form, expression_form, parameter_form, block_form, star}
-use Rattle.swc_ecma_parser_reader.specs.Reader.{getter, setter, plain_method, arrow_block, named, own_name, function_expr, expr, cover, head_cover, pattern, element, parameters, function, function_by}
+use Rattle.swc_ecma_parser_reader.specs.Reader.{getter, setter, plain_method, arrow_block, named, own_name, function_expr, expr, cover, head_cover, pattern, element, member, parameters, function, function_by}
 use Rattle.swc_ecma_parser_reader.specs.Reader.{closes, block_from, block, braced, expr_stmt_at, import_stmt_at, while_stmt, do_while, goes_on, closed_link, alternative, link_from, link, if_stmt, begins_clause, closes_clause, clause_from, default_clause, case_clause, clause, clauses_turn, clauses, switch_stmt, is_handled, handled, bound, parameter, finalizer, caught, handler, try_stmt, stmt_level, stmt}
 use Rattle.swc_ecma_parser_reader.proofs.Notes.{or_nil, or_assoc}
 use Rattle.swc_ecma_parser_reader.proofs.Answered.{st, Reads, Calm, ReadsCalm, ReadsAs}
@@ -67,6 +67,10 @@ use Rattle.swc_ecma_parser_reader.proofs.expressions.Complete.{read_above, read_
 use Rattle.swc_ecma_parser_reader.proofs.expressions.CompleteHeads.{Heads, AsLeft, head_expr_reads, head_target_reads}
 use Rattle.swc_ecma_parser_reader.proofs.patterns.Complete.{pattern_above, pattern_nowhere}
 use Rattle.swc_ecma_parser_reader.proofs.Below.{Below, expr_reads, pattern_reads, parameters_reads}
+use Rattle.swc_ecma_parser_reader.proofs.classes.Shared.{MemberFollows}
+use Rattle.swc_ecma_parser_reader.proofs.classes.CompleteMembers.{member_level_reads}
+use Rattle.swc_ecma_parser_reader.proofs.classes.CompleteClasses.{class_expr_reads, class_decl_reads}
+use Rattle.swc_ecma_parser_reader.specs.Members.{class_stmt}
 use Rattle.swc_ecma_parser_reader.proofs.Falls.{expr_falls, cover_falls, pattern_falls, element_falls, functions_fall}
 use Rattle.swc_ecma_parser_grammar.proofs.FunctionExprs.{function_narrows}
 use Rattle.swc_ecma_parser_grammar.proofs.Arrows.{block_narrows}
@@ -83,11 +87,12 @@ use Rattle.swc_ecma_parser_reader.proofs.Loops.{stmt_shorter, clauses_done, clau
 use Rattle.swc_ecma_parser_grammar.proofs.SupportedBegins.{expr_opens}
 use Rattle.swc_ecma_parser_reader.proofs.Opens.{opened, no_block_or_import, import_stands, stmt_goes}
 use Rattle.swc_ecma_parser_reader.proofs.Chains.{if_last, if_more}
-use Rattle.swc_ecma_parser_reader.proofs.CompleteParts.{behind_setting, break_reads, calm_first, calm_last, clause_ends, close_reads, closes_at, code_stays, condition_reads, continue_reads, debugger_reads, empty_reads, expect_reads, expr_stmt_reads, head_reads, import_stmt_reads, items_read, name_no_function, no_brace, no_label_here, opening_reads_init, opening_reads_left, optional_end_reads, return_reads, throw_reads, told_reads, variables_reads, note_with_reads, code_behind}
+use Rattle.swc_ecma_parser_reader.proofs.CompleteParts.{behind_setting, break_reads, calm_first, calm_last, clause_ends, close_reads, closes_at, code_stays, condition_reads, continue_reads, debugger_reads, empty_reads, expect_reads, expr_stmt_reads, head_reads, import_stmt_reads, items_read, name_no_function, name_no_class, no_brace, no_label_here, opening_reads_init, opening_reads_left, optional_end_reads, return_reads, throw_reads, told_reads, variables_reads, note_with_reads, code_behind}
 
 -- ---- all levels
 
-module _ (n : ℕ) (below : Below n) (reads : (at : Position) (k : Code) (x : Tree) (c d : Place) → ReadsStmt n k at x c d → ReadsCalm (stmt n at) k x c d) where
+module _ (n : ℕ) (below : Below n) (reads : (at : Position) (k : Code) (x : Tree) (c d : Place) → ReadsStmt n k at x c d → ReadsCalm (stmt n at) k x c d)
+    (members : (k : Code) (x : Tree) (c d : Place) → ReadsMember n k x c d → MemberFollows d → Reads (member n) k x c d) where
   block_from_reads : (directives : Bool) (k : Code) (x : Tree) (c d : Place) (w : Scope) (f : List Fault) (h : Notes) (r : ReadsBraced (ReadsStmt n) directives k x c d)
       → block_from (stmt n nested_item) directives c (st (after c) k w f h) ≡ Ok (x, st d (code_behind k directives r.items) w (f ++ walks (env_of k w.labels) directives (trees r.items)) (h ⊕ notes_of x))
   unfolding block_from
@@ -619,15 +624,16 @@ module _ (n : ℕ) (below : Below n) (reads : (at : Position) (k : Code) (x : Tr
 
   -- a function where declarations are read, or an async one
   function_statement : {b : Bool} (at : Position) (k : Code) (x : Tree) (c d m : Place) → at.include_decl || is_async_function c ≡ true → AsyncWord b c m → kind_at m ≡ kind.Function
-      → ReadsCalm (function_decl (stmt n nested_item) (parameters n)) k x c d → ReadsCalm (stmt_level (stmt n) (expr n) (pattern n) (head_cover n) (parameters n) at) k x c d
+      → ReadsCalm (function_decl (stmt n nested_item) (parameters n)) k x c d → ReadsCalm (stmt_level (stmt n) (expr n) (pattern n) (head_cover n) (parameters n) (member n) at) k x c d
   unfolding stmt_level function_stmt async_or_other
   function_statement at k x c d m a (not_async i j) e reads w f h q =
       let v = ap kind_at (sym j) ∙ e in rw (v, or_earlier at.include_decl (is_async_function c) a (plain_function c v)) (reads w f h q)
   function_statement at k x c d m a (async_word i j l o) e reads w f h q = let v = async_stands c m j l o e in rw (async_kind c v, v) (reads w f h q)
 
-  by_rules : (at : Position) (k : Code) (x : Tree) (c d : Place) → StmtRule (ReadsStmt n) (ReadsClass n) (ReadsPat n) (ReadsTarget n) (ReadsParams n) k at x c d
-      → ReadsCalm (stmt_level (stmt n) (expr n) (pattern n) (head_cover n) (parameters n) at) k x c d
-  unfolding stmt_level other_stmt const_stmt let_stmt expr_stmt_at import_stmt_at function_stmt
+  by_rules : (at : Position) (k : Code) (x : Tree) (c d : Place) → StmtRule (ReadsStmt n) (ReadsClass n) (ReadsPat n) (ReadsTarget n) (ReadsParams n) (ReadsNamedClass n) k at x c d
+      → ReadsCalm (stmt_level (stmt n) (expr n) (pattern n) (head_cover n) (parameters n) (member n) at) k x c d
+  unfolding stmt_level other_stmt const_stmt let_stmt expr_stmt_at import_stmt_at function_stmt class_stmt
+  by_rules at k x c d (class_rule name y a r b e) w f h q = rw (r.0.is_class, a) (class_decl_reads n below members k x c d name y r b e w f h)
   by_rules at k x c d (function_rule a r) w f h q = function_statement at k x c d r.word a r.reads_async r.is_function (function_reads k x c d r) w f h q
   by_rules at k x c d (block_rule r) w f h q = rw r.opens (block_reads k x c d r w f h)
   by_rules at k x c d (empty_rule e g i) w f h q = rw e (empty_reads k x c d g i w f h)
@@ -645,8 +651,8 @@ module _ (n : ℕ) (below : Below n) (reads : (at : Position) (k : Code) (x : Tr
   by_rules at k x c d (for_of_rule b a g y l m i e v o r s u n' t z j p) w f h q = rw e (for_of_reads b a g y l m i k x c d v o r s u n' t z j p w f h q)
   by_rules at k x c d (labeled_rule v s y m r o i t e) w f h q =
       let b = name_begins k.flags v s c m r o in
-      opened (stmt n) (expr n) (pattern n) (head_cover n) (parameters n) at (st c k w f h) (kind_at c) (word_begins k.flags v s c m r o) (no_brace v s c m r) b.1 (name_no_const k.flags v s c m r o)
-      (and_no at.include_decl _ (let_before_colon c (seen (after c) kind.Colon (ap kind_at (sym r.next) ∙ i)))) (name_no_function k.flags v s c m r o) (kinds.no_async_function c m r.next (colon_no_function m i))
+      opened (stmt n) (expr n) (pattern n) (head_cover n) (parameters n) (member n) at (st c k w f h) (kind_at c) (word_begins k.flags v s c m r o) (no_brace v s c m r) b.1 (name_no_const k.flags v s c m r o)
+      (and_no at.include_decl _ (let_before_colon c (seen (after c) kind.Colon (ap kind_at (sym r.next) ∙ i)))) (name_no_function k.flags v s c m r o) (kinds.no_async_function c m r.next (colon_no_function m i)) (name_no_class k.flags v s c m r o)
       ∙ rw (label_begins k v s c m r o i) (labeled_reads v s y m k x c d r o i t e w f h q)
   by_rules at k x c d (throw_rule y m e b r g i) w f h q = rw e (throw_reads n below y m k x c d b r g i w f h)
   by_rules at k x c d (try_rule y z v m i e r s t b g) w f h q = rw e (try_reads y z v m i k x c d r s t b g w f h)
@@ -655,7 +661,7 @@ module _ (n : ℕ) (below : Below n) (reads : (at : Position) (k : Code) (x : Tr
   by_rules at k x c d (do_while_rule y z m i e s j r g o) w f h q = rw e (do_while_reads y z m i k x c d s j r g o w f h)
   by_rules at k x c d (expr_rule e m b r l i g j) w f h q =
       let o = no_block_or_import at c b in
-      opened (stmt n) (expr n) (pattern n) (head_cover n) (parameters n) at (st c k w f h) (kind_at c) (expr_opens n (with_in k) e c m r) o.0 o.1 (expr_no_const n (with_in k) e c m r) o.2 o.3 o.4
+      opened (stmt n) (expr n) (pattern n) (head_cover n) (parameters n) (member n) at (st c k w f h) (kind_at c) (expr_opens n (with_in k) e c m r) o.0 o.1 (expr_no_const n (with_in k) e c m r) o.2 o.3 o.4 o.5
       ∙ rw (no_label_here n below k e c m r l, b) (expr_stmt_reads n below e m k x c d r l i g j w f h)
   by_rules at k x c d (import_rule e m b r g j) w f h q = rw (import_stands c b, b) (import_stmt_reads n below e m k x c d b r g j w f h)
 
@@ -697,23 +703,25 @@ parts_at n = record { shorter = λ s v t e. shorter_by (length s.at.left) (cover
 
 record Whole (n : ℕ) : Type 0 where
   parts : Below n
+  members : (k : Code) (x : Tree) (c d : Place) → ReadsMember n k x c d → MemberFollows d → Reads (member n) k x c d
   stmts : (at : Position) (k : Code) (x : Tree) (c d : Place) → ReadsStmt n k at x c d → ReadsCalm (stmt n at) k x c d
 
 module _ (n : ℕ) (b : Whole n) where
   -- a function of the whole language that is supported is read
   functions : IsFunctionRead (language.Reads n) (function n)
+  unfolding function function_by
   functions = record {
-    reads = λ k x c d name y r e s w f h. function_expr_reads n b.parts b.stmts k x c d (function_narrows n k x c d name y r e s) w f h;
+    reads = λ k x c d name y r e s w f h. function_expr_reads n b.parts b.stmts b.members k x c d (function_narrows n k x c d name y r e s) w f h;
     getters = λ k key body x c m d r e s w f h.
         let t = and_yes (is_supported_key_in k.flags.module key) _ (kinds.supported_as _ x (tree.getter_prop (spanned c d) key body) e s) in
         let i = and_yes (supported_in k.flags.module body) _ t.1 in
-        getter_reads n b.parts b.stmts k key body x c m d (parts_narrow n k false false [] body m d r refl i.0 (λ o. clean_is (notes body) (in_module k.flags.module _ i.1 o))) e w f h;
+        getter_reads n b.parts b.stmts b.members k key body x c m d (parts_narrow n k false false [] body m d r refl i.0 (λ o. clean_is (notes body) (in_module k.flags.module _ i.1 o))) e w f h;
     setters = λ k key p body x c m d r q e s w f h.
         let t = and_yes (is_supported_key_in k.flags.module key) _ (kinds.supported_as _ x (tree.setter_prop (spanned c d) key p body) e s) in
         let i = and_yes (supported_in k.flags.module p && supported_in k.flags.module body) _ t.1 in
         let j = and_yes (supported_in k.flags.module p) _ i.0 in
         let l = and_yes (is_rightly_set p body) _ i.1 in
-        setter_reads n b.parts b.stmts k key p body x c m d
+        setter_reads n b.parts b.stmts b.members k key p body x c m d
         (parts_narrow n k false false (p ∷ []) body m d r (parameters_same k.flags.module (p ∷ []) ∙ and_both (supported_in k.flags.module p) true j.0 refl) j.1
         (λ o. clean_is (notes body) (and_yes (has_no_note p) _ (in_module k.flags.module _ l.1 o)).1))
         q (parameter_plain n p r.reads_parameters) (clean_is _ l.0) e w f h;
@@ -723,11 +731,12 @@ module _ (n : ℕ) (b : Whole n) where
         let i = and_yes (supported_in k.flags.module fn) _ t.1 in
         let j = and_yes (supported_in k.flags.module (parameter_trees ps)) _ i.0 in
         let l = and_yes (is_rightly_directed fn) _ i.1 in
-        method_reads n b.parts b.stmts k a g key ps body x c m d
+        method_reads n b.parts b.stmts b.members k a g key ps body x c m d
         (parts_narrow n k a g ps body m d r j.0 j.1 (λ o. (nil-split (notes (parameter_trees ps)) (notes body) (clean_is _ (in_module k.flags.module _ l.1 o))).1))
         (clean_is _ l.0) e w f h;
+    classes = class_expr_reads n b.parts b.members;
     patterns = λ k p c d r s w f h. parameter_form_reads n b.parts k p c d r s w f h;
-    blocks = λ a k x c d r s q w f h. arrow_block_reads n b.parts b.stmts a k x c d (block_narrows n k a x c d r s q) w f h;
+    blocks = λ a k x c d r s q w f h. arrow_block_reads n b.parts b.stmts b.members a k x c d (block_narrows n k a x c d r s q) w f h;
     falls = functions_fall n;
   }
 
@@ -740,7 +749,7 @@ module _ (n : ℕ) (b : Whole n) where
   targets_above k p c d r e w f h = head_target_reads n (expr n) (cover n) b.parts.exprs (function n) functions k p c d r.0 r.1 e w f h
 
 whole : (n : ℕ) → Whole n
-unfolding function expr cover pattern element stmt
+unfolding function expr cover pattern element member stmt
 whole zero = record {
   parts = record {
     exprs = read_nowhere (expr zero) (cover zero) (expr_falls zero) (cover_falls zero) (tied_at zero) (parts_at zero);
@@ -748,6 +757,7 @@ whole zero = record {
     heads = λ k x c d r w f h. absurd r.0;
     targets = λ k p c d r e w f h. absurd r.0;
   };
+  members = λ k x c d r e w f h. absurd r.0;
   stmts = λ at k x c d r w f h q. absurd r;
 }
 whole (suc n) = let b = whole n in record {
@@ -757,8 +767,12 @@ whole (suc n) = let b = whole n in record {
     heads = heads_above n b;
     targets = targets_above n b;
   };
-  stmts = λ at k x c d r w f h q. by_rules n b.parts b.stmts at k x c d r w f h q;
+  members = member_level_reads n b.parts (function_body_reads n b.parts b.stmts b.members) (braced_reads n b.parts b.stmts b.members);
+  stmts = λ at k x c d r w f h q. by_rules n b.parts b.stmts b.members at k x c d r w f h q;
 }
+
+pub member_reads : (n : ℕ) (k : Code) (x : Tree) (c d : Place) → ReadsMember n k x c d → MemberFollows d → Reads (member n) k x c d
+member_reads n = (whole n).members
 
 pub stmt_reads : (n : ℕ) (at : Position) (k : Code) (x : Tree) (c d : Place) → ReadsStmt n k at x c d → ReadsCalm (stmt n at) k x c d
 stmt_reads n = (whole n).stmts

@@ -524,3 +524,18 @@ word_no_function f _ e = refl
 pub name_no_function : (f : Context) (v : Word) (s : Span) (c d : Place) → ReadsToken (token.Word v) s c d → is_name f (word_text v) ≡ true → sees kind.Function c ≡ false
 unfolding kind_at
 name_no_function f v s c d r e = rw r.is (word_no_function f v e)
+
+-- nor is it the word of a class
+keyword_no_class : (f : Context) (v : Keyword) → is_name f (word_text (word.Keyword v)) ≡ true → same_kind (keyword_kind v) kind.Class ≡ false
+unfolding is_name is_reserved same_kind
+keyword_no_class f keyword.Class e = cc
+keyword_no_class f _ e = refl
+
+word_no_class : (f : Context) (v : Word) → is_name f (word_text v) ≡ true → same_kind (word_kind v) kind.Class ≡ false
+unfolding same_kind
+word_no_class f (word.Keyword v) e = keyword_no_class f v e
+word_no_class f _ e = refl
+
+pub name_no_class : (f : Context) (v : Word) (s : Span) (c d : Place) → ReadsToken (token.Word v) s c d → is_name f (word_text v) ≡ true → sees kind.Class c ≡ false
+unfolding kind_at
+name_no_class f v s c d r e = rw r.is (word_no_class f v e)

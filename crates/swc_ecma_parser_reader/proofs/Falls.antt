@@ -4,6 +4,8 @@ use Rattle.swc_ecma_parser_grammar.specs.Own.{misplaced_directive}
 use Rattle.swc_ecma_parser_grammar.specs.Parameters.{parameters}
 use Rattle.swc_ecma_parser_reader.proofs.Errors.{is_error, fault_here}
 use Rattle.swc_ecma_parser_reader.proofs.patterns.Falls as patterns
+use Rattle.swc_ecma_parser_reader.specs.Members.{class_expr}
+use Rattle.swc_ecma_parser_reader.proofs.classes.Falls as classes
 use Rattle.swc_ecma_parser_reader.specs.State.{Scope, and_then, below, relabelled, below_label, enclosed, unlabelled, fault_at, noted, module_found}
 use Rattle.swc_ecma_parser_grammar.specs.language.Items.{labelled_item}
 use Rattle.swc_ecma_parser_reader.specs.Reader.{begins_label, relabels, labelled_body, labeled_stmt, other_stmt, note_with, with_stmt, await_here, unless_awaited, function_body, function_decl, function_parts, function_stmt, misdirected, function_word, async_or_other}
@@ -30,13 +32,13 @@ use Rattle.swc_ecma_parser_grammar.specs.Reads.{with_in, head_code, nested_item,
 use Rattle.swc_ecma_parser_grammar.specs.Ends.{ends_at}
 use Rattle.swc_ecma_parser_grammar.specs.Entries.{script_code}
 use Rattle.swc_ecma_parser_grammar.specs.language.Contexts.{in_loop, in_breakable, in_with}
-use Rattle.swc_ecma_parser_grammar.specs.language.Goals.{Class, expression, assignment}
+use Rattle.swc_ecma_parser_grammar.specs.language.Goals.{Class, expression, assignment, left_side}
 use Rattle.swc_ecma_parser_grammar.specs.language.Items.{sub_statement}
 use Rattle.swc_ecma_parser_reader.specs.State.{State, Outcome, Reader, moved, coded, within, fault, labelled, labelled_as, name, expect, end}
 use Rattle.swc_ecma_parser_reader.specs.Expressions.{Cover}
 use Rattle.swc_ecma_parser_reader.specs.Reader as reader
 use Rattle.swc_ecma_parser_reader.specs.Methods.{MethodForm, getter_form, setter_form, method_form, property_form, star}
-use Rattle.swc_ecma_parser_reader.specs.Reader.{no_parameter, one_parameter, getter, setter, plain_method, arrow_block, function_by, named, own_name, function_expr, expr, cover, head_cover, pattern, element, function}
+use Rattle.swc_ecma_parser_reader.specs.Reader.{no_parameter, one_parameter, getter, setter, plain_method, arrow_block, function_by, named, own_name, function_expr, expr, cover, head_cover, pattern, element, member, function}
 use Rattle.swc_ecma_parser_grammar.specs.Names.{name_at}
 use Rattle.swc_ecma_parser_reader.specs.Reader.{empty, debugger, uninitialized, initialized, declarator, declarators_turn, declarators, variables, closes, at_end, close, items_turn, items, block_from, block, braced, note_statement, no_label, expr_stmt, expr_stmt_at, told, target, unbroken, break_stmt, uncontinued, continue_stmt, misplaced, after_return, operand, returned, return_stmt, optional_end, import_stmt, import_stmt_at, thrown, throw, head, while_stmt, do_while, Link, goes_on, condition, alternative, link_from, link, behind_link, links, if_stmt, begins_clause, closes_clause, Clauses, clause_from, default_clause, case_clause, clause, clauses_turn, clauses, switch_stmt, is_handled, handled, bound, parameter, finalizer, caught, handler, try_stmt, stmt_by, stmt_level, stmt, top_await_fault, top_await, whole_stmt, shebang_in, shebang_taken, shebang, script_body, script}
 use Rattle.swc_ecma_parser_reader.proofs.Takes.{Falls, falls_then, falls_last, falls_coded, falls_found, falls_if, less, falls_next, moves, takes, falls_past, falls_moved, wanted_falls, too_deep_falls, refuse_falls, refused_falls, fewer, name_falls, fault_falls, end_falls, close_falls, expect_falls, loop_falls}
@@ -580,11 +582,11 @@ module _ (inner : Reader Tree) (h : (s : State) → Falls 1 (length s.at.left) (
       falls_coded 1 (length s.at.left) (enclosed (braced inner false) t) _ _
       (falls_found 1 (length s.at.left) (braced inner false (unlabelled t)) _ _ (λ _ u. refl) (braced_takes inner h false (unlabelled t)))
 
-  method_falls : (pat : Reader Tree) (form : MethodForm) (start : Span) (x : Tree) (s : State) → Falls 0 (length s.at.left) (function_by inner params pat (property_form form start x) s)
+  method_falls : (pat inner_class : Reader Tree) (form : MethodForm) (start : Span) (x : Tree) (s : State) → Falls 0 (length s.at.left) (function_by inner params pat inner_class (property_form form start x) s)
   unfolding function_by plain_method
-  method_falls pat getter_form start x s = getter_falls start x s
-  method_falls pat setter_form start x s = setter_falls start x s
-  method_falls pat (method_form w v) start x s = falls_last 0 (length s.at.left) (function_parts inner params w v start s) _ (function_parts_falls w v start s)
+  method_falls pat inner_class getter_form start x s = getter_falls start x s
+  method_falls pat inner_class setter_form start x s = setter_falls start x s
+  method_falls pat inner_class (method_form w v) start x s = falls_last 0 (length s.at.left) (function_parts inner params w v start s) _ (function_parts_falls w v start s)
 
   -- no error token stands where the word does
   function_stmt_falls : (at : Position) (s : State) → kind_at s.at ≡ kind.Function → Falls 1 (length s.at.left) (function_stmt inner params at s)
@@ -596,22 +598,23 @@ module _ (inner : Reader Tree) (h : (s : State) → Falls 1 (length s.at.left) (
 module _ (inner : Position → Reader Tree) (h : (at : Position) (s : State) → Falls 1 (length s.at.left) (inner at s))
     (inner_expr : Class → Reader Tree) (g : (class : Class) (s : State) → Falls 1 (length s.at.left) (inner_expr class s))
     (inner_pat : Reader Tree) (i : (s : State) → Falls 1 (length s.at.left) (inner_pat s)) (inner_cover : Reader Cover) (j : (s : State) → Falls 1 (length s.at.left) (inner_cover s))
-    (inner_params : Reader (List Tree)) (l : (s : State) → Falls 0 (length s.at.left) (inner_params s)) where
-  const_falls : (at : Position) (s : State) → kind_at s.at ≢ kind.End → Falls 1 (length s.at.left) (const_stmt inner inner_expr inner_pat inner_cover inner_params at s)
+    (inner_params : Reader (List Tree)) (l : (s : State) → Falls 0 (length s.at.left) (inner_params s))
+    (inner_member : Reader Tree) (m : (s : State) → Falls 1 (length s.at.left) (inner_member s)) where
+  const_falls : (at : Position) (s : State) → kind_at s.at ≢ kind.End → Falls 1 (length s.at.left) (const_stmt inner inner_expr inner_pat inner_cover inner_params inner_member at s)
   unfolding const_stmt
   const_falls at s e = falls_choice 1 (length s.at.left) at.include_decl _ _ s (variables_falls inner_expr g inner_pat i decl.Const s e) (wanted_falls Tree 1 (length s.at.left) faults.Unexpected s)
 
-  let_falls : (at : Position) (s : State) → kind_at s.at ≢ kind.End → Falls 1 (length s.at.left) (let_stmt inner inner_expr inner_pat inner_cover inner_params at s)
+  let_falls : (at : Position) (s : State) → kind_at s.at ≢ kind.End → Falls 1 (length s.at.left) (let_stmt inner inner_expr inner_pat inner_cover inner_params inner_member at s)
   unfolding let_stmt
   let_falls at s e = falls_if 1 (length s.at.left) (at.include_decl && is_let_declaration s.at) _ _ (variables_falls inner_expr g inner_pat i decl.Let s e)
       (other_falls inner h (inner_expr expression) (g expression) at s)
 
-  async_or_other_falls : (at : Position) (s : State) → Falls 1 (length s.at.left) (async_or_other inner inner_expr inner_pat inner_cover inner_params at s)
+  async_or_other_falls : (at : Position) (s : State) → Falls 1 (length s.at.left) (async_or_other inner inner_expr inner_pat inner_cover inner_params inner_member at s)
   unfolding async_or_other
   async_or_other_falls at s = falls_when 1 (length s.at.left) (is_async_function s.at) _ _ (λ e. function_falls (inner nested_item) (h nested_item) inner_params l s (async_begins s.at e))
       (λ _. other_falls inner h (inner_expr expression) (g expression) at s)
 
-  stmt_by_falls : (at : Position) (k : TokenKind) (s : State) → kind_at s.at ≡ k → Falls 1 (length s.at.left) (stmt_by inner inner_expr inner_pat inner_cover inner_params at k s)
+  stmt_by_falls : (at : Position) (k : TokenKind) (s : State) → kind_at s.at ≡ k → Falls 1 (length s.at.left) (stmt_by inner inner_expr inner_pat inner_cover inner_params inner_member at k s)
   stmt_by_falls at kind.LBrace s e = block_falls (inner nested_item) (h nested_item) s (λ h. cc)
   stmt_by_falls at kind.Semi s e = empty_falls s (λ h. cc)
   stmt_by_falls at kind.Debugger s e = debugger_falls s (λ h. cc)
@@ -630,11 +633,12 @@ module _ (inner : Position → Reader Tree) (h : (at : Position) (s : State) →
   stmt_by_falls at kind.Do s e = do_while_falls (inner sub_statement) (h sub_statement) (inner_expr expression) (g expression) s (λ h. cc)
   stmt_by_falls at kind.For s e = for_falls (inner sub_statement) (h sub_statement) inner_expr g inner_pat i inner_cover j s (λ h. cc)
   stmt_by_falls at kind.Function s e = function_stmt_falls (inner nested_item) (h nested_item) inner_params l at s e
+  stmt_by_falls at kind.Class s e = classes.class_stmt_falls (inner_expr left_side) (g left_side) inner_member m at s e
   stmt_by_falls at kind.Ident s e = async_or_other_falls at s
   stmt_by_falls at kind.Import s e = import_stmt_at_falls (inner_expr expression) (g expression) s
   stmt_by_falls at _ s e = other_falls inner h (inner_expr expression) (g expression) at s
 
-  stmt_level_falls : (at : Position) (s : State) → Falls 1 (length s.at.left) (stmt_level inner inner_expr inner_pat inner_cover inner_params at s)
+  stmt_level_falls : (at : Position) (s : State) → Falls 1 (length s.at.left) (stmt_level inner inner_expr inner_pat inner_cover inner_params inner_member at s)
   unfolding stmt_level
   stmt_level_falls at s = stmt_by_falls at (kind_at s.at) s refl
 
@@ -657,6 +661,7 @@ record Taken (n : ℕ) : Type 0 where
   heads : (s : State) → Falls 1 (length s.at.left) (head_cover n s)
   patterns : (s : State) → Falls 1 (length s.at.left) (pattern n s)
   elements : (s : State) → Falls 1 (length s.at.left) (element n s)
+  members : (s : State) → Falls 1 (length s.at.left) (member n s)
   stmts : (at : Position) (s : State) → Falls 1 (length s.at.left) (stmt n at s)
 
 module _ (n : ℕ) (b : Taken n) where
@@ -668,19 +673,21 @@ module _ (n : ℕ) (b : Taken n) where
   unfolding function function_by
   function_taken = record {
     expressions = function_expr_falls (stmt n nested_item) (b.stmts nested_item) (reader.parameters n) parameters_taken;
-    methods = method_falls (stmt n nested_item) (b.stmts nested_item) (reader.parameters n) parameters_taken (pattern n);
+    classes = classes.class_expr_falls (expr n left_side) (b.exprs left_side) (member n) b.members;
+    methods = method_falls (stmt n nested_item) (b.stmts nested_item) (reader.parameters n) parameters_taken (pattern n) (class_expr (expr n left_side) (member n));
     parameters = b.patterns;
     blocks = arrow_block_falls (stmt n nested_item) (b.stmts nested_item) (reader.parameters n) parameters_taken;
   }
 
 all_taken : (n : ℕ) → Taken n
-unfolding function expr cover head_cover pattern element stmt
+unfolding function expr cover head_cover pattern element member stmt
 all_taken zero = record {
   exprs = λ class s. too_deep_falls Tree 1 (length s.at.left) s;
   covers = λ s. too_deep_falls Cover 1 (length s.at.left) s;
   heads = λ s. too_deep_falls Cover 1 (length s.at.left) s;
   patterns = λ s. too_deep_falls Tree 1 (length s.at.left) s;
   elements = λ s. too_deep_falls Tree 1 (length s.at.left) s;
+  members = λ s. too_deep_falls Tree 1 (length s.at.left) s;
   stmts = λ at s. too_deep_falls Tree 1 (length s.at.left) s;
 }
 all_taken (suc n) = let b = all_taken n in record {
@@ -689,7 +696,9 @@ all_taken (suc n) = let b = all_taken n in record {
   heads = exprs.head_expr_falls (expr n) (cover n) b.exprs b.covers (function n) (function_taken n b);
   patterns = patterns.pattern_level_falls (expr n) b.exprs (cover n) b.covers (pattern n) b.patterns (element n) b.elements;
   elements = patterns.element_level_falls (expr n) b.exprs (cover n) b.covers (pattern n) b.patterns (element n) b.elements;
-  stmts = stmt_level_falls (stmt n) b.stmts (expr n) b.exprs (pattern n) b.patterns (head_cover n) b.heads (reader.parameters n) (parameters_taken n b);
+  members = classes.member_level_falls (expr n) b.exprs (cover n) b.covers (stmt n nested_item) (reader.parameters n) (parameters_taken n b)
+      (function_body_falls (stmt n nested_item) (b.stmts nested_item) (reader.parameters n) (parameters_taken n b)) (braced_takes (stmt n nested_item) (b.stmts nested_item) false);
+  stmts = stmt_level_falls (stmt n) b.stmts (expr n) b.exprs (pattern n) b.patterns (head_cover n) b.heads (reader.parameters n) (parameters_taken n b) (member n) b.members;
 }
 
 -- an expression of any class takes a token, and so does what may still become a pattern
@@ -716,6 +725,10 @@ parameters_fall n = parameters_taken n (all_taken n)
 
 pub functions_fall : (n : ℕ) → FunctionsFall (function n)
 functions_fall n = function_taken n (all_taken n)
+
+-- a member of a class
+pub member_falls : (n : ℕ) (s : State) → Falls 1 (length s.at.left) (member n s)
+member_falls n = (all_taken n).members
 
 -- a statement
 pub stmt_falls : (n : ℕ) (at : Position) (s : State) → Falls 1 (length s.at.left) (stmt n at s)

@@ -5,12 +5,14 @@ use Rattle.swc_ecma_parser_reader.proofs.patterns.Keeps as patterns
 use Rattle.swc_ecma_parser_reader.proofs.expressions.Keeps as expressions
 use Rattle.swc_ecma_parser_reader.specs.Reader as reader
 use Rattle.swc_ecma_parser_reader.proofs.expressions.Keeps.{star_keeps, told_keeps}
-use Rattle.swc_ecma_parser_reader.specs.Methods.{FunctionForm, expression_form, property_form, getter_form, setter_form, method_form, parameter_form, block_form, star}
-use Rattle.swc_ecma_parser_reader.specs.Reader.{no_parameter, one_parameter, getter, setter, plain_method, arrow_block, function_by, named, own_name, function_expr, expr, cover, head_cover, pattern, element, function, function_word, async_or_other}
+use Rattle.swc_ecma_parser_reader.specs.Methods.{FunctionForm, expression_form, class_form, property_form, getter_form, setter_form, method_form, parameter_form, block_form, star}
+use Rattle.swc_ecma_parser_reader.specs.Reader.{no_parameter, one_parameter, getter, setter, plain_method, arrow_block, function_by, named, own_name, function_expr, expr, cover, head_cover, pattern, element, member, function, function_word, async_or_other}
 use Rattle.swc_ecma_parser_grammar.specs.Names.{name_at}
 use Rattle.swc_ecma_parser_error.specs.declared.error.Error.{Error}
 use Rattle.swc_ecma_parser_grammar.specs.language.Programs.{at_top}
 use Rattle.swc_ecma_parser_model.specs.Tree.{Text}
+use Rattle.swc_ecma_parser_reader.specs.Members.{class_expr}
+use Rattle.swc_ecma_parser_reader.proofs.classes.Keeps as classes
 use Rattle.swc_ecma_parser_reader.specs.State.{below, below_label, enclosed, unlabelled, module_found}
 use Rattle.swc_ecma_parser_grammar.specs.language.Items.{labelled_item}
 use Rattle.swc_ecma_parser_reader.specs.Reader.{begins_label, relabels, labelled_body, labeled_stmt, other_stmt, note_with, with_stmt, await_here, unless_awaited, function_decl, function_stmt, function_parts, function_body, misdirected}
@@ -41,7 +43,7 @@ use Rattle.swc_ecma_parser_grammar.specs.Reads.{with_in, head_code, nested_item,
 use Rattle.swc_ecma_parser_grammar.specs.Ends.{ends_at}
 use Rattle.swc_ecma_parser_grammar.specs.Entries.{script_code}
 use Rattle.swc_ecma_parser_grammar.specs.language.Contexts.{in_loop, in_breakable, in_with}
-use Rattle.swc_ecma_parser_grammar.specs.language.Goals.{Class, expression, assignment}
+use Rattle.swc_ecma_parser_grammar.specs.language.Goals.{Class, expression, assignment, left_side}
 use Rattle.swc_ecma_parser_grammar.specs.language.Items.{sub_statement}
 use Rattle.swc_ecma_parser_reader.specs.State.{State, Outcome, Reader, moved, coded, within, noted, holding_back, module_fault, fault, fault_at, wanted, refused, labelled, labelled_as, name, expect, end}
 use Rattle.swc_ecma_parser_reader.specs.Expressions.{Cover}
@@ -260,18 +262,19 @@ module _ (inner : Reader Tree) (below : Passes inner) where
         (λ x u k. k)
 
     -- a function as a part of an expression
-    function_by_keeps : (pat : Reader Tree) → Passes pat → (form : FunctionForm) → Passes (function_by inner params pat form)
+    function_by_keeps : (pat inner_class : Reader Tree) → Passes pat → Passes inner_class → (form : FunctionForm) → Passes (function_by inner params pat inner_class form)
     unfolding function_by
-    function_by_keeps pat below_pat expression_form b t g = function_expr_keeps b t g
-    function_by_keeps pat below_pat (property_form getter_form start x) b t g = getter_keeps start x b t g
-    function_by_keeps pat below_pat (property_form setter_form start x) b t g = setter_keeps start x b t g
-    function_by_keeps pat below_pat (property_form (method_form w v) start x) b t g = plain_method_keeps w v start x b t g
-    function_by_keeps pat below_pat parameter_form b t g = below_pat b t g
-    function_by_keeps pat below_pat (block_form w) b t g = arrow_block_keeps w b t g
+    function_by_keeps pat inner_class below_pat below_class expression_form b t g = function_expr_keeps b t g
+    function_by_keeps pat inner_class below_pat below_class class_form b t g = below_class b t g
+    function_by_keeps pat inner_class below_pat below_class (property_form getter_form start x) b t g = getter_keeps start x b t g
+    function_by_keeps pat inner_class below_pat below_class (property_form setter_form start x) b t g = setter_keeps start x b t g
+    function_by_keeps pat inner_class below_pat below_class (property_form (method_form w v) start x) b t g = plain_method_keeps w v start x b t g
+    function_by_keeps pat inner_class below_pat below_class parameter_form b t g = below_pat b t g
+    function_by_keeps pat inner_class below_pat below_class (block_form w) b t g = arrow_block_keeps w b t g
 
 module _ (inner : Position → Reader Tree) (inner_expr : Class → Reader Tree) (inner_pat : Reader Tree) (inner_head : Reader Cover) (inner_params : Reader (List Tree))
-    (below_stmt : (at : Position) → Passes (inner at)) (below_expr : (class : Class) → Passes (inner_expr class)) (below_pat : Passes inner_pat) (below_head : Passes inner_head)
-    (below_params : Passes inner_params) (at : Position) (b : State) (s : State) (f : IsBehind b s) where
+    (inner_member : Reader Tree) (below_stmt : (at : Position) → Passes (inner at)) (below_expr : (class : Class) → Passes (inner_expr class)) (below_pat : Passes inner_pat) (below_head : Passes inner_head)
+    (below_params : Passes inner_params) (below_member : Passes inner_member) (at : Position) (b : State) (s : State) (f : IsBehind b s) where
   block_from_keeps : (directives : Bool) (start : Place) (t : State) → IsBehind b t → Answers (Kept b) (Lost b) (block_from (inner nested_item) directives start t)
   block_from_keeps directives start t g = braces_from_keep (inner nested_item) (below_stmt nested_item) directives start b t g
 
@@ -296,7 +299,7 @@ module _ (inner : Position → Reader Tree) (inner_expr : Class → Reader Tree)
       (declarators_keeps inner_expr inner_pat below_expr below_pat b false word (coded (with_in s.code) (moved s)) (behind_after b s f)) (λ x t k. k)) (λ x t k.
       answers_then _ _ (end faults.Unexpected t) _ (end_keeps b t k faults.Unexpected) (λ _ u j. j))
 
-  const_keeps : Answers (Kept b) (Lost b) (const_stmt inner inner_expr inner_pat inner_head inner_params at s)
+  const_keeps : Answers (Kept b) (Lost b) (const_stmt inner inner_expr inner_pat inner_head inner_params inner_member at s)
   unfolding const_stmt
   const_keeps = where_declared at.include_decl
     where
@@ -352,7 +355,7 @@ module _ (inner : Position → Reader Tree) (inner_expr : Class → Reader Tree)
   unfolding other_stmt
   other_keeps = answers_if _ _ (begins_label s.code s.at) _ _ (λ _. labeled_keeps) (λ _. expr_stmt_at_keeps)
 
-  let_keeps : Answers (Kept b) (Lost b) (let_stmt inner inner_expr inner_pat inner_head inner_params at s)
+  let_keeps : Answers (Kept b) (Lost b) (let_stmt inner inner_expr inner_pat inner_head inner_params inner_member at s)
   unfolding let_stmt
   let_keeps = answers_if _ _ (at.include_decl && is_let_declaration s.at) _ _ (λ _. variables_keeps decl.Let) (λ _. other_keeps)
 
@@ -560,11 +563,11 @@ module _ (inner : Position → Reader Tree) (inner_expr : Class → Reader Tree)
   function_stmt_keeps = answers_if _ _ at.include_decl _ _ (λ _. function_keeps s f) (λ _. answers_then (Kept b) _ (fault (fault_at (span_at s.at) faults.DeclNotAllowed) s) _
       (fault_keeps b s f (fault_at (span_at s.at) faults.DeclNotAllowed)) (λ _ t g. function_keeps t g))
 
-  async_or_other_keeps : Answers (Kept b) (Lost b) (async_or_other inner inner_expr inner_pat inner_head inner_params at s)
+  async_or_other_keeps : Answers (Kept b) (Lost b) (async_or_other inner inner_expr inner_pat inner_head inner_params inner_member at s)
   unfolding async_or_other
   async_or_other_keeps = answers_if _ _ (is_async_function s.at) _ _ (λ _. function_keeps s f) (λ _. other_keeps)
 
-  by_keeps : (k : TokenKind) → kind_at s.at ≡ k → Answers (Kept b) (Lost b) (stmt_by inner inner_expr inner_pat inner_head inner_params at k s)
+  by_keeps : (k : TokenKind) → kind_at s.at ≡ k → Answers (Kept b) (Lost b) (stmt_by inner inner_expr inner_pat inner_head inner_params inner_member at k s)
   unfolding empty if_stmt
   by_keeps kind.LBrace e = block_keeps e
   by_keeps kind.Semi e = behind_after b s f
@@ -584,11 +587,12 @@ module _ (inner : Position → Reader Tree) (inner_expr : Class → Reader Tree)
   by_keeps kind.Do e = do_while_keeps e
   by_keeps kind.For e = for_keeps e
   by_keeps kind.Function e = function_stmt_keeps
+  by_keeps kind.Class e = classes.class_stmt_keeps (inner_expr left_side) inner_member (below_expr left_side) below_member at b s f
   by_keeps kind.Ident e = async_or_other_keeps
   by_keeps kind.Import e = import_stmt_at_keeps
   by_keeps _ e = other_keeps
 
-  level_keeps : Answers (Kept b) (Lost b) (stmt_level inner inner_expr inner_pat inner_head inner_params at s)
+  level_keeps : Answers (Kept b) (Lost b) (stmt_level inner inner_expr inner_pat inner_head inner_params inner_member at s)
   unfolding stmt_level
   level_keeps = by_keeps (kind_at s.at) refl
 
@@ -600,6 +604,7 @@ record Passing (n : ℕ) : Type 0 where
   heads : Passes (head_cover n)
   patterns : Passes (pattern n)
   elements : Passes (element n)
+  members : Passes (member n)
   stmts : (at : Position) → Passes (stmt n at)
 
 module _ (n : ℕ) (b : Passing n) where
@@ -608,16 +613,18 @@ module _ (n : ℕ) (b : Passing n) where
 
   function_passing : (form : FunctionForm) → Passes (function n form)
   unfolding function
-  function_passing = function_by_keeps (stmt n nested_item) (b.stmts nested_item) (reader.parameters n) parameters_passing (pattern n) b.patterns
+  function_passing = function_by_keeps (stmt n nested_item) (b.stmts nested_item) (reader.parameters n) parameters_passing (pattern n) (class_expr (expr n left_side) (member n)) b.patterns
+      (classes.class_expr_keeps (expr n left_side) (member n) (b.exprs left_side) b.members)
 
 all_passing : (n : ℕ) → Passing n
-unfolding function expr cover head_cover pattern element stmt
+unfolding function expr cover head_cover pattern element member stmt
 all_passing zero = record {
   exprs = λ class b s f. too_deep_keeps _ b s f;
   covers = λ b s f. too_deep_keeps _ b s f;
   heads = λ b s f. too_deep_keeps _ b s f;
   patterns = λ b s f. too_deep_keeps _ b s f;
   elements = λ b s f. too_deep_keeps _ b s f;
+  members = λ b s f. too_deep_keeps _ b s f;
   stmts = λ at b s f. too_deep_keeps _ b s f;
 }
 all_passing (suc n) = let a = all_passing n in record {
@@ -626,7 +633,9 @@ all_passing (suc n) = let a = all_passing n in record {
   heads = λ b s f. expressions.head_expr_keeps (expr n) (cover n) a.exprs a.covers b (function n) (function_passing n a) s f;
   patterns = λ b s f. patterns.pattern_level_keeps (expr n) (cover n) (pattern n) (element n) a.exprs a.covers a.patterns a.elements b s f;
   elements = λ b s f. patterns.element_level_keeps (expr n) (cover n) (pattern n) (element n) a.exprs a.covers a.patterns a.elements b s f;
-  stmts = λ at b s f. level_keeps (stmt n) (expr n) (pattern n) (head_cover n) (reader.parameters n) a.stmts a.exprs a.patterns a.heads (parameters_passing n a) at b s f;
+  members = classes.member_level_keeps (expr n) (cover n) (stmt n nested_item) (reader.parameters n) a.exprs a.covers (parameters_passing n a)
+      (function_body_keep (stmt n nested_item) (a.stmts nested_item) (reader.parameters n) (parameters_passing n a)) (braces_keep (stmt n nested_item) (a.stmts nested_item) false);
+  stmts = λ at b s f. level_keeps (stmt n) (expr n) (pattern n) (head_cover n) (reader.parameters n) (member n) a.stmts a.exprs a.patterns a.heads (parameters_passing n a) a.members at b s f;
 }
 
 -- a statement, and what it is made of
@@ -638,6 +647,10 @@ expr_keeps n = (all_passing n).exprs
 
 pub parameters_keep : (n : ℕ) → Passes (reader.parameters n)
 parameters_keep n = parameters_passing n (all_passing n)
+
+-- a member of a class
+pub member_keeps : (n : ℕ) → Passes (member n)
+member_keeps n = (all_passing n).members
 
 -- a statement that stands in no other
 top_await_fault_keeps : Passes top_await_fault

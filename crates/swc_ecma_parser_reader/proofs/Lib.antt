@@ -5,6 +5,7 @@ pub mod Words
 pub mod Falls
 pub mod expressions
 pub mod patterns
+pub mod classes
 pub mod Loops
 pub mod Meets
 pub mod Behind

@@ -7,7 +7,7 @@ use Rattle.swc_ecma_parser_reader.proofs.patterns.Limits as patterns
 use Rattle.swc_ecma_parser_reader.proofs.expressions.Limits as expressions
 use Rattle.swc_ecma_parser_reader.specs.Reader as reader
 use Rattle.swc_ecma_parser_reader.specs.Methods.{MethodForm, getter_form, setter_form, method_form, property_form, star}
-use Rattle.swc_ecma_parser_reader.specs.Reader.{no_parameter, one_parameter, getter, setter, plain_method, arrow_block, function_by, named, own_name, function_expr, expr, cover, head_cover, pattern, element, function, function_word, async_or_other}
+use Rattle.swc_ecma_parser_reader.specs.Reader.{no_parameter, one_parameter, getter, setter, plain_method, arrow_block, function_by, named, own_name, function_expr, expr, cover, head_cover, pattern, element, member, function, function_word, async_or_other}
 use Rattle.swc_ecma_parser_grammar.specs.Names.{name_at}
 use Rattle.swc_ecma_parser_reader.proofs.Meets.{saw}
 use Rattle.swc_ecma_parser_model.specs.Tree.{Text}
@@ -47,23 +47,21 @@ use Rattle.swc_ecma_parser_grammar.specs.Reads.{with_in, head_code, nested_item,
 use Rattle.swc_ecma_parser_grammar.specs.Ends.{ends_at}
 use Rattle.swc_ecma_parser_grammar.specs.Entries.{script_code}
 use Rattle.swc_ecma_parser_grammar.specs.language.Contexts.{in_loop, in_breakable, in_with}
-use Rattle.swc_ecma_parser_grammar.specs.language.Goals.{Class, expression, assignment}
+use Rattle.swc_ecma_parser_grammar.specs.language.Goals.{Class, expression, assignment, left_side}
 use Rattle.swc_ecma_parser_grammar.specs.language.Items.{sub_statement}
 use Rattle.swc_ecma_parser_reader.specs.State.{State, Outcome, Reader, moved, coded, within, noted, holding_back, module_fault, recorded_at, recorded_in, fault, fault_at, wanted, refused, labelled, labelled_as, name, expect, end}
 use Rattle.swc_ecma_parser_reader.specs.Expressions.{Cover}
 use Rattle.swc_ecma_parser_reader.specs.Reader.{empty, debugger, initialized, declarator, declarators_turn, declarators, closes, at_end, close, items_turn, items, block_from, block, braced, note_statement, no_label, expr_stmt, expr_stmt_at, optional_end, import_stmt, import_stmt_at, told, target, unbroken, break_stmt, uncontinued, continue_stmt, misplaced, after_return, operand, returned, return_stmt, thrown, throw, head, while_stmt, do_while, goes_on, condition, alternative, link_from, link, links, if_stmt, begins_clause, closes_clause, clause_from, default_clause, case_clause, clause, clauses_turn, clauses, switch_stmt, begins_at, is_handled, handled, bound, parameter, finalizer, caught, handler, try_stmt, stmt_by, stmt_level, stmt, top_await_fault, top_await, whole_stmt, shebang, script_body, script}
 use Rattle.swc_ecma_parser_reader.specs.Limits.{has_too_deep_token}
 use Rattle.swc_ecma_parser_reader.proofs.Meets.{Answers, answers_then, answers_if, loop_answers, meant}
-use Rattle.swc_ecma_parser_reader.proofs.Shallow.{Fine, fine_more, fine_after, fine_taken, Shallow, Kept, Taken, too_deep_shallow, name_shallow, fault_shallow, wanted_shallow, refuse_shallow, end_shallow, expect_shallow, close_shallow, shebang_shallow, Levels}
+use Rattle.swc_ecma_parser_reader.proofs.Shallow.{StmtLevels, Fine, fine_more, fine_after, fine_taken, Shallow, Kept, Taken, too_deep_shallow, name_shallow, fault_shallow, wanted_shallow, refuse_shallow, end_shallow, expect_shallow, close_shallow, shebang_shallow, Levels}
 use Rattle.swc_ecma_parser_reader.proofs.Opens.{chain_goes}
 use Rattle.swc_ecma_parser_reader.proofs.expressions.LimitSteps.{reject_shallow, told_shallow}
 use Rattle.swc_ecma_parser_reader.proofs.expressions.Limits.{star_shallow, FunctionsShallow}
+use Rattle.swc_ecma_parser_reader.proofs.classes.Limits as classes
+use Rattle.swc_ecma_parser_reader.specs.Members.{class_expr}
 
 -- ---- statements: one level more, for an expression that begins with the same token
-
--- a reader in so many levels for two, and one more
-abbrev StmtLevels : ℕ → Reader Tree → Type 0
-StmtLevels n p = (m : ℕ) (s : State) → 2 * m + 1 ≤ n → Fine m s.at.left → Answers (Kept m) Shallow (p s)
 
 -- where an initializer is asked for, a fault is recorded, or what was read is refused
 missing_shallow : (m : ℕ) (word : VarDeclKind) (span : Span) (p : Tree) (s : State) → Fine m s.at.left → Answers (Kept m) Shallow (missing_initializer word span p s)
@@ -305,11 +303,11 @@ module _ (inner : Reader Tree) (n : ℕ) (below : StmtLevels n inner) where
     unfolding plain_method
     plain_method_shallow w v start x i t h g = answers_then (Kept i) _ (function_parts inner params w v start t) _ (function_parts_shallow w v start i t h g) (λ y u k. k)
 
-    method_shallow : (pat : Reader Tree) (form : MethodForm) (start : Span) (x : Tree) → StmtLevels n (function_by inner params pat (property_form form start x))
+    method_shallow : (pat inner_class : Reader Tree) (form : MethodForm) (start : Span) (x : Tree) → StmtLevels n (function_by inner params pat inner_class (property_form form start x))
     unfolding function_by
-    method_shallow pat getter_form start x i t h g = getter_shallow start x i t h g
-    method_shallow pat setter_form start x i t h g = setter_shallow start x i t h g
-    method_shallow pat (method_form w v) start x i t h g = plain_method_shallow w v start x i t h g
+    method_shallow pat inner_class getter_form start x i t h g = getter_shallow start x i t h g
+    method_shallow pat inner_class setter_form start x i t h g = setter_shallow start x i t h g
+    method_shallow pat inner_class (method_form w v) start x i t h g = plain_method_shallow w v start x i t h g
 
     -- the block of an arrow function
     arrow_block_shallow : (w : Bool) → StmtLevels n (arrow_block inner params w)
@@ -318,9 +316,9 @@ module _ (inner : Reader Tree) (n : ℕ) (below : StmtLevels n inner) where
         (answers_then (Kept i) _ (braced inner false (unlabelled t)) _ (braces_shallow false i (unlabelled t) h f) (λ x u k. k))
         (λ x u k. k)
 
-module _ (inner : Position → Reader Tree) (inner_expr : Class → Reader Tree) (inner_pat : Reader Tree) (inner_head : Reader Cover) (inner_params : Reader (List Tree)) (n : ℕ)
+module _ (inner : Position → Reader Tree) (inner_expr : Class → Reader Tree) (inner_pat : Reader Tree) (inner_head : Reader Cover) (inner_params : Reader (List Tree)) (inner_member : Reader Tree) (n : ℕ)
     (below_stmt : (at : Position) → StmtLevels n (inner at)) (below_expr : (class : Class) → Levels n (inner_expr class)) (below_pat : Levels n inner_pat) (below_head : Levels n inner_head)
-    (below_params : Levels n inner_params) (at : Position) (m : ℕ) (enough : 2 * m + 1 ≤ suc n) (s : State) (f : Fine m s.at.left) where
+    (below_params : Levels n inner_params) (below_member : Levels n inner_member) (at : Position) (m : ℕ) (enough : 2 * m + 1 ≤ suc n) (s : State) (f : Fine m s.at.left) where
   block_from_shallow : (i : ℕ) → 2 * i + 1 ≤ n → (directives : Bool) (start : Place) (t : State) → Fine i t.at.left → Answers (Kept i) Shallow (block_from (inner nested_item) directives start t)
   block_from_shallow i h directives start t g = braces_from_shallow (inner nested_item) n (below_stmt nested_item) directives start i t h g
 
@@ -345,7 +343,7 @@ module _ (inner : Position → Reader Tree) (inner_expr : Class → Reader Tree)
       (declarators_shallow inner_expr inner_pat n below_expr below_pat m (omega arith) false word (coded (with_in s.code) (moved s)) (fine_after m s.at f)) (λ x t k. k)) (λ x t k.
       answers_then _ _ (end faults.Unexpected t) _ (end_shallow m t k faults.Unexpected (λ e. cc)) (λ _ u j. j))
 
-  const_shallow : Answers (Kept m) Shallow (const_stmt inner inner_expr inner_pat inner_head inner_params at s)
+  const_shallow : Answers (Kept m) Shallow (const_stmt inner inner_expr inner_pat inner_head inner_params inner_member at s)
   unfolding const_stmt
   const_shallow = where_declared at.include_decl
     where
@@ -406,7 +404,7 @@ module _ (inner : Position → Reader Tree) (inner_expr : Class → Reader Tree)
   unfolding other_stmt
   other_shallow = answers_if _ _ (begins_label s.code s.at) _ _ (λ _. labeled_shallow) (λ _. expr_stmt_at_shallow)
 
-  let_shallow : Answers (Kept m) Shallow (let_stmt inner inner_expr inner_pat inner_head inner_params at s)
+  let_shallow : Answers (Kept m) Shallow (let_stmt inner inner_expr inner_pat inner_head inner_params inner_member at s)
   unfolding let_stmt
   let_shallow = answers_if _ _ (at.include_decl && is_let_declaration s.at) _ _ (λ _. variables_shallow decl.Let) (λ _. other_shallow)
 
@@ -618,11 +616,11 @@ module _ (inner : Position → Reader Tree) (inner_expr : Class → Reader Tree)
   function_stmt_shallow e = answers_if _ _ at.include_decl _ _ (λ _. function_shallow s (function_begins s.at e) f) (λ _. rw (fault_here s (fault_at (span_at s.at) faults.DeclNotAllowed) (ap is_error e))
       (function_shallow (noted (fault_at (span_at s.at) faults.DeclNotAllowed) s) (function_begins s.at e) f))
 
-  async_or_other_shallow : Answers (Kept m) Shallow (async_or_other inner inner_expr inner_pat inner_head inner_params at s)
+  async_or_other_shallow : Answers (Kept m) Shallow (async_or_other inner inner_expr inner_pat inner_head inner_params inner_member at s)
   unfolding async_or_other
   async_or_other_shallow = answers_if _ _ (is_async_function s.at) _ _ (λ e. function_shallow s (async_begins s.at e) f) (λ _. other_shallow)
 
-  by_shallow : (k : TokenKind) → kind_at s.at ≡ k → Answers (Kept m) Shallow (stmt_by inner inner_expr inner_pat inner_head inner_params at k s)
+  by_shallow : (k : TokenKind) → kind_at s.at ≡ k → Answers (Kept m) Shallow (stmt_by inner inner_expr inner_pat inner_head inner_params inner_member at k s)
   unfolding empty if_stmt
   by_shallow kind.LBrace e = block_shallow e
   by_shallow kind.Semi e = fine_after m s.at f
@@ -642,11 +640,12 @@ module _ (inner : Position → Reader Tree) (inner_expr : Class → Reader Tree)
   by_shallow kind.Do e = do_while_shallow e
   by_shallow kind.For e = for_shallow e
   by_shallow kind.Function e = function_stmt_shallow e
+  by_shallow kind.Class e = classes.class_stmt_shallow (inner_expr left_side) inner_member n (below_expr left_side) below_member at m s (omega arith) e f
   by_shallow kind.Ident e = async_or_other_shallow
   by_shallow kind.Import e = import_stmt_at_shallow
   by_shallow _ e = other_shallow
 
-  level_shallow : Answers (Kept m) Shallow (stmt_level inner inner_expr inner_pat inner_head inner_params at s)
+  level_shallow : Answers (Kept m) Shallow (stmt_level inner inner_expr inner_pat inner_head inner_params inner_member at s)
   unfolding stmt_level
   level_shallow = by_shallow (kind_at s.at) refl
 
@@ -660,6 +659,7 @@ record Enough (n : ℕ) : Type 0 where
   heads : Levels n (head_cover n)
   patterns : Levels n (pattern n)
   elements : Levels n (element n)
+  members : Levels n (member n)
   stmts : (at : Position) → StmtLevels n (stmt n at)
 
 -- a name is read in whatever levels
@@ -676,20 +676,22 @@ module _ (n : ℕ) (b : Enough n) where
   unfolding function function_by
   function_enough = record {
     expressions = function_expr_shallow (stmt n nested_item) n (b.stmts nested_item) (reader.parameters n) parameters_enough;
-    methods = method_shallow (stmt n nested_item) n (b.stmts nested_item) (reader.parameters n) parameters_enough (pattern n);
+    classes = classes.class_expr_shallow (expr n left_side) (member n) n (b.exprs left_side) b.members;
+    methods = method_shallow (stmt n nested_item) n (b.stmts nested_item) (reader.parameters n) parameters_enough (pattern n) (class_expr (expr n left_side) (member n));
     names = names_enough n;
     parameters = b.patterns;
     blocks = arrow_block_shallow (stmt n nested_item) n (b.stmts nested_item) (reader.parameters n) parameters_enough;
   }
 
 all_enough : (n : ℕ) → Enough n
-unfolding function expr cover head_cover pattern element stmt
+unfolding function expr cover head_cover pattern element member stmt
 all_enough zero = record {
   exprs = λ class m s h f. too_deep_shallow _ s (omega arith);
   covers = λ m s h f. too_deep_shallow _ s (omega arith);
   heads = λ m s h f. too_deep_shallow _ s (omega arith);
   patterns = λ m s h f. too_deep_shallow _ s (omega arith);
   elements = λ m s h f. too_deep_shallow _ s (omega arith);
+  members = λ m s h f. too_deep_shallow _ s (omega arith);
   stmts = λ at m s h f. absurd (omega arith);
 }
 all_enough (suc n) = let b = all_enough n in record {
@@ -698,7 +700,9 @@ all_enough (suc n) = let b = all_enough n in record {
   heads = λ m s h f. expressions.head_expr_shallow (expr n) (cover n) n b.exprs b.covers m h (function n) (function_enough n b) s f;
   patterns = λ m s h f. patterns.pattern_level_shallow (expr n) (cover n) (pattern n) (element n) n b.exprs b.covers b.patterns b.elements m h s f;
   elements = λ m s h f. patterns.element_level_shallow (expr n) (cover n) (pattern n) (element n) n b.exprs b.covers b.patterns b.elements m h s f;
-  stmts = λ at m s h f. level_shallow (stmt n) (expr n) (pattern n) (head_cover n) (reader.parameters n) n b.stmts b.exprs b.patterns b.heads (parameters_enough n b) at m h s f;
+  members = classes.member_level_shallow (expr n) (cover n) (stmt n nested_item) (reader.parameters n) n b.exprs b.covers (parameters_enough n b)
+      (function_body_shallow (stmt n nested_item) n (b.stmts nested_item) (reader.parameters n) (parameters_enough n b)) (braces_shallow (stmt n nested_item) n (b.stmts nested_item) false);
+  stmts = λ at m s h f. level_shallow (stmt n) (expr n) (pattern n) (head_cover n) (reader.parameters n) (member n) n b.stmts b.exprs b.patterns b.heads (parameters_enough n b) b.members at m h s f;
 }
 
 stmt_shallow : (n : ℕ) (at : Position) → StmtLevels n (stmt n at)

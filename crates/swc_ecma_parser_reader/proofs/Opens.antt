@@ -23,9 +23,9 @@ use Rattle.swc_ecma_parser_grammar.specs.Looks.{kind_at, sees, same_kind, first_
 use Rattle.swc_ecma_parser_grammar.specs.Names.{Code}
 use Rattle.swc_ecma_parser_grammar.specs.Follows.{may_begin_expression_statement, begins_import_expression, may_begin_head, token_follows_let, first_follows_let, is_let_declaration, is_async_function, AsyncWord, not_async, async_word}
 use Rattle.swc_ecma_parser_grammar.specs.Variables.{begins_variables}
-use Rattle.swc_ecma_parser_grammar.specs.Reads.{with_in, StmtRule, block_rule, empty_rule, debugger_rule, variables_rule, if_statement_rule, switch_rule, labeled_rule, break_rule, continue_rule, return_rule, throw_rule, try_rule, while_rule, do_while_rule, for_rule, for_in_rule, for_of_rule, expr_rule, import_rule, if_rule, with_rule, function_rule}
+use Rattle.swc_ecma_parser_grammar.specs.Reads.{with_in, StmtRule, block_rule, empty_rule, debugger_rule, variables_rule, if_statement_rule, switch_rule, labeled_rule, break_rule, continue_rule, return_rule, throw_rule, try_rule, while_rule, do_while_rule, for_rule, for_in_rule, for_of_rule, expr_rule, import_rule, if_rule, with_rule, class_rule, function_rule}
 use Rattle.swc_ecma_parser_grammar.specs.Notes.{statement_note}
-use Rattle.swc_ecma_parser_grammar.specs.ReadsSupported.{ReadsClass, ReadsPat, ReadsTarget, ReadsStmt, ReadsParams}
+use Rattle.swc_ecma_parser_grammar.specs.ReadsSupported.{ReadsClass, ReadsPat, ReadsTarget, ReadsStmt, ReadsParams, ReadsNamedClass}
 use Rattle.swc_ecma_parser_grammar.specs.language.Goals.{Class, expression}
 use Rattle.swc_ecma_parser_grammar.proofs.Tests.{and_yes, and_no}
 use Rattle.swc_ecma_parser_grammar.proofs.SupportedBegins.{opens, expr_opens, word_begins}
@@ -38,46 +38,47 @@ use Rattle.swc_ecma_parser_reader.proofs.expressions.CompleteKinds.{import_unnam
 
 -- ---- an expression statement is read by its first token
 
-pub opened : (stmt : Position → Reader Tree) (expr : Class → Reader Tree) (pat : Reader Tree) (cover : Reader Cover) (params : Reader (List Tree)) (at : Position) (s : State) (k : TokenKind) → opens k ≡ true
-    → same_kind k kind.LBrace ≡ false → same_kind k kind.Import ≡ false → same_kind k kind.Const ≡ false → at.include_decl && is_let_declaration s.at ≡ false → same_kind k kind.Function ≡ false → is_async_function s.at ≡ false
-    → stmt_by stmt expr pat cover params at k s ≡ other_stmt stmt (expr expression) at s
+pub opened : (stmt : Position → Reader Tree) (expr : Class → Reader Tree) (pat : Reader Tree) (cover : Reader Cover) (params : Reader (List Tree)) (member : Reader Tree) (at : Position) (s : State) (k : TokenKind) → opens k ≡ true
+    → same_kind k kind.LBrace ≡ false → same_kind k kind.Import ≡ false → same_kind k kind.Const ≡ false → at.include_decl && is_let_declaration s.at ≡ false → same_kind k kind.Function ≡ false → is_async_function s.at ≡ false → same_kind k kind.Class ≡ false
+    → stmt_by stmt expr pat cover params member at k s ≡ other_stmt stmt (expr expression) at s
 unfolding same_kind let_stmt async_or_other
-opened stmt expr pat cover params at s kind.LBrace e h g i l j a = cc
-opened stmt expr pat cover params at s kind.Semi e h g i l j a = cc
-opened stmt expr pat cover params at s kind.Debugger e h g i l j a = cc
-opened stmt expr pat cover params at s kind.Var e h g i l j a = cc
-opened stmt expr pat cover params at s kind.Const e h g i l j a = cc
-opened stmt expr pat cover params at s kind.If e h g i l j a = cc
-opened stmt expr pat cover params at s kind.Break e h g i l j a = cc
-opened stmt expr pat cover params at s kind.Continue e h g i l j a = cc
-opened stmt expr pat cover params at s kind.Return e h g i l j a = cc
-opened stmt expr pat cover params at s kind.For e h g i l j a = cc
-opened stmt expr pat cover params at s kind.Throw e h g i l j a = cc
-opened stmt expr pat cover params at s kind.Switch e h g i l j a = cc
-opened stmt expr pat cover params at s kind.Try e h g i l j a = cc
-opened stmt expr pat cover params at s kind.With e h g i l j a = cc
-opened stmt expr pat cover params at s kind.While e h g i l j a = cc
-opened stmt expr pat cover params at s kind.Do e h g i l j a = cc
-opened stmt expr pat cover params at s kind.Function e h g i l j a = cc
-opened stmt expr pat cover params at s kind.Import e h g i l j a = cc
-opened stmt expr pat cover params at s kind.Let e h g i l j a = rw l refl
-opened stmt expr pat cover params at s kind.Ident e h g i l j a = rw a refl
-opened stmt expr pat cover params at s _ e h g i l j a = refl
+opened stmt expr pat cover params member at s kind.LBrace e h g i l j a o = cc
+opened stmt expr pat cover params member at s kind.Semi e h g i l j a o = cc
+opened stmt expr pat cover params member at s kind.Debugger e h g i l j a o = cc
+opened stmt expr pat cover params member at s kind.Var e h g i l j a o = cc
+opened stmt expr pat cover params member at s kind.Const e h g i l j a o = cc
+opened stmt expr pat cover params member at s kind.If e h g i l j a o = cc
+opened stmt expr pat cover params member at s kind.Break e h g i l j a o = cc
+opened stmt expr pat cover params member at s kind.Continue e h g i l j a o = cc
+opened stmt expr pat cover params member at s kind.Return e h g i l j a o = cc
+opened stmt expr pat cover params member at s kind.For e h g i l j a o = cc
+opened stmt expr pat cover params member at s kind.Throw e h g i l j a o = cc
+opened stmt expr pat cover params member at s kind.Switch e h g i l j a o = cc
+opened stmt expr pat cover params member at s kind.Try e h g i l j a o = cc
+opened stmt expr pat cover params member at s kind.With e h g i l j a o = cc
+opened stmt expr pat cover params member at s kind.While e h g i l j a o = cc
+opened stmt expr pat cover params member at s kind.Do e h g i l j a o = cc
+opened stmt expr pat cover params member at s kind.Function e h g i l j a o = cc
+opened stmt expr pat cover params member at s kind.Class e h g i l j a o = cc
+opened stmt expr pat cover params member at s kind.Import e h g i l j a o = cc
+opened stmt expr pat cover params member at s kind.Let e h g i l j a o = rw l refl
+opened stmt expr pat cover params member at s kind.Ident e h g i l j a o = rw a refl
+opened stmt expr pat cover params member at s _ e h g i l j a o = refl
 
 -- where one may begin neither a block does nor `import`, nor a function or another declaration
 neither_by : (block function class import async declares : Bool) → not (block || (function || (class || (import || (async || declares))))) ≡ true
-    → (block ≡ false) × (import ≡ false) × (declares ≡ false) × (function ≡ false) × (async ≡ false)
+    → (block ≡ false) × (import ≡ false) × (declares ≡ false) × (function ≡ false) × (async ≡ false) × (class ≡ false)
 neither_by true function class import async declares h = cc
 neither_by false true class import async declares h = cc
 neither_by false false true import async declares h = cc
 neither_by false false false true async declares h = cc
 neither_by false false false false true declares h = cc
 neither_by false false false false false true h = cc
-neither_by false false false false false false h = (refl, refl, refl, refl, refl)
+neither_by false false false false false false h = (refl, refl, refl, refl, refl, refl)
 
 pub no_block_or_import : (at : Position) (c : Place) → may_begin_expression_statement at c ≡ true
     → (sees kind.LBrace c ≡ false) × (sees kind.Import c ≡ false) × (at.include_decl && is_let_declaration c ≡ false) × (sees kind.Function c ≡ false)
-    × (is_async_function c ≡ false)
+    × (is_async_function c ≡ false) × (sees kind.Class c ≡ false)
 unfolding may_begin_expression_statement
 no_block_or_import at c h =
     neither_by (sees kind.LBrace c) (sees kind.Function c) (sees kind.Class c) (sees kind.Import c) (is_async_function c) (at.include_decl && is_let_declaration c) h
@@ -199,31 +200,33 @@ function_goes c m (not_async i j) e = goes_by c kind.Function (ap kind_at (sym j
 function_goes c m (async_word i j l n) e = goes_by c kind.Ident (word_place (codes "async") c j) (refl, refl, refl, refl, refl)
 
 rule_goes : (Stmt : Code → Position → Tree → Place → Place → Type 0) (Expr : Class → Code → Tree → Place → Place → Type 0) (Pat Target : Code → Tree → Place → Place → Type 0)
-    (Params : Code → List Tree → Place → Place → Type 0) → ((k : Code) (x : Tree) (c d : Place) → Expr expression k x c d → opens (kind_at c) ≡ true)
-    → (k : Code) (at : Position) (x : Tree) (c d : Place) → StmtRule Stmt Expr Pat Target Params k at x c d → Goes c
+    (Params : Code → List Tree → Place → Place → Type 0) (Named : Code → (name x : Tree) → Place → Place → Type 0) → ((k : Code) (x : Tree) (c d : Place) → Expr expression k x c d → opens (kind_at c) ≡ true)
+    → ((k : Code) (name x : Tree) (c d : Place) → Named k name x c d → kind_at c ≡ kind.Class)
+    → (k : Code) (at : Position) (x : Tree) (c d : Place) → StmtRule Stmt Expr Pat Target Params Named k at x c d → Goes c
 unfolding same_kind
-rule_goes Stmt Expr Pat Target Params h k at x c d (function_rule a r) = function_goes c r.word r.reads_async r.is_function
-rule_goes Stmt Expr Pat Target Params h k at x c d (block_rule r) = goes_by c kind.LBrace r.opens (refl, refl, refl, refl, refl)
-rule_goes Stmt Expr Pat Target Params h k at x c d (empty_rule e g i) = goes_by c kind.Semi e (refl, refl, refl, refl, refl)
-rule_goes Stmt Expr Pat Target Params h k at x c d (debugger_rule e g i) = goes_by c kind.Debugger e (refl, refl, refl, refl, refl)
-rule_goes Stmt Expr Pat Target Params h k at x c d (variables_rule word xs m a e r g i) = variables_go word c e
-rule_goes Stmt Expr Pat Target Params h k at x c d (if_statement_rule (if_rule t y z m n e r s o i)) = goes_by c kind.If e (refl, refl, refl, refl, refl)
-rule_goes Stmt Expr Pat Target Params h k at x c d (switch_rule y xs m n e r i s g j z) = goes_by c kind.Switch e (refl, refl, refl, refl, refl)
-rule_goes Stmt Expr Pat Target Params h k at x c d (break_rule y m e r g i) = goes_by c kind.Break e (refl, refl, refl, refl, refl)
-rule_goes Stmt Expr Pat Target Params h k at x c d (continue_rule y m e r g i) = goes_by c kind.Continue e (refl, refl, refl, refl, refl)
-rule_goes Stmt Expr Pat Target Params h k at x c d (return_rule y m e r g i) = goes_by c kind.Return e (refl, refl, refl, refl, refl)
-rule_goes Stmt Expr Pat Target Params h k at x c d (for_rule a b f y l m n e i r j s o t p u z) = goes_by c kind.For e (refl, refl, refl, refl, refl)
-rule_goes Stmt Expr Pat Target Params h k at x c d (for_in_rule a b y m n e i r j s o t z) = goes_by c kind.For e (refl, refl, refl, refl, refl)
-rule_goes Stmt Expr Pat Target Params h k at x c d (for_of_rule w a b y l m n e v i r j z q s o t g) = goes_by c kind.For e (refl, refl, refl, refl, refl)
-rule_goes Stmt Expr Pat Target Params h k at x c d (labeled_rule w s y m r f e t i) = goes_by c (kind_at c) refl (goes_open (kind_at c) (word_begins k.flags w s c m r f))
-rule_goes Stmt Expr Pat Target Params h k at x c d (throw_rule y m e b r g i) = goes_by c kind.Throw e (refl, refl, refl, refl, refl)
-rule_goes Stmt Expr Pat Target Params h k at x c d (try_rule y z w m n e r s o a i) = goes_by c kind.Try e (refl, refl, refl, refl, refl)
-rule_goes Stmt Expr Pat Target Params h k at x c d (with_rule y z m e o r s i) = goes_by c kind.With e (refl, refl, refl, refl, refl)
-rule_goes Stmt Expr Pat Target Params h k at x c d (while_rule y z m e r s i) = goes_by c kind.While e (refl, refl, refl, refl, refl)
-rule_goes Stmt Expr Pat Target Params h k at x c d (do_while_rule y z m n e s j r g i) = goes_by c kind.Do e (refl, refl, refl, refl, refl)
-rule_goes Stmt Expr Pat Target Params h k at x c d (expr_rule e m b r l i g j) = goes_by c (kind_at c) refl (goes_open (kind_at c) (h (with_in k) e c m r))
-rule_goes Stmt Expr Pat Target Params h k at x c d (import_rule e m b r g i) = goes_by c (kind_at c) refl (goes_open (kind_at c) (h (with_in k) e c m r))
+rule_goes Stmt Expr Pat Target Params Named h named k at x c d (class_rule name y a r b e) = goes_by c kind.Class (named k name y c d r) (refl, refl, refl, refl, refl)
+rule_goes Stmt Expr Pat Target Params Named h named k at x c d (function_rule a r) = function_goes c r.word r.reads_async r.is_function
+rule_goes Stmt Expr Pat Target Params Named h named k at x c d (block_rule r) = goes_by c kind.LBrace r.opens (refl, refl, refl, refl, refl)
+rule_goes Stmt Expr Pat Target Params Named h named k at x c d (empty_rule e g i) = goes_by c kind.Semi e (refl, refl, refl, refl, refl)
+rule_goes Stmt Expr Pat Target Params Named h named k at x c d (debugger_rule e g i) = goes_by c kind.Debugger e (refl, refl, refl, refl, refl)
+rule_goes Stmt Expr Pat Target Params Named h named k at x c d (variables_rule word xs m a e r g i) = variables_go word c e
+rule_goes Stmt Expr Pat Target Params Named h named k at x c d (if_statement_rule (if_rule t y z m n e r s o i)) = goes_by c kind.If e (refl, refl, refl, refl, refl)
+rule_goes Stmt Expr Pat Target Params Named h named k at x c d (switch_rule y xs m n e r i s g j z) = goes_by c kind.Switch e (refl, refl, refl, refl, refl)
+rule_goes Stmt Expr Pat Target Params Named h named k at x c d (break_rule y m e r g i) = goes_by c kind.Break e (refl, refl, refl, refl, refl)
+rule_goes Stmt Expr Pat Target Params Named h named k at x c d (continue_rule y m e r g i) = goes_by c kind.Continue e (refl, refl, refl, refl, refl)
+rule_goes Stmt Expr Pat Target Params Named h named k at x c d (return_rule y m e r g i) = goes_by c kind.Return e (refl, refl, refl, refl, refl)
+rule_goes Stmt Expr Pat Target Params Named h named k at x c d (for_rule a b f y l m n e i r j s o t p u z) = goes_by c kind.For e (refl, refl, refl, refl, refl)
+rule_goes Stmt Expr Pat Target Params Named h named k at x c d (for_in_rule a b y m n e i r j s o t z) = goes_by c kind.For e (refl, refl, refl, refl, refl)
+rule_goes Stmt Expr Pat Target Params Named h named k at x c d (for_of_rule w a b y l m n e v i r j z q s o t g) = goes_by c kind.For e (refl, refl, refl, refl, refl)
+rule_goes Stmt Expr Pat Target Params Named h named k at x c d (labeled_rule w s y m r f e t i) = goes_by c (kind_at c) refl (goes_open (kind_at c) (word_begins k.flags w s c m r f))
+rule_goes Stmt Expr Pat Target Params Named h named k at x c d (throw_rule y m e b r g i) = goes_by c kind.Throw e (refl, refl, refl, refl, refl)
+rule_goes Stmt Expr Pat Target Params Named h named k at x c d (try_rule y z w m n e r s o a i) = goes_by c kind.Try e (refl, refl, refl, refl, refl)
+rule_goes Stmt Expr Pat Target Params Named h named k at x c d (with_rule y z m e o r s i) = goes_by c kind.With e (refl, refl, refl, refl, refl)
+rule_goes Stmt Expr Pat Target Params Named h named k at x c d (while_rule y z m e r s i) = goes_by c kind.While e (refl, refl, refl, refl, refl)
+rule_goes Stmt Expr Pat Target Params Named h named k at x c d (do_while_rule y z m n e s j r g i) = goes_by c kind.Do e (refl, refl, refl, refl, refl)
+rule_goes Stmt Expr Pat Target Params Named h named k at x c d (expr_rule e m b r l i g j) = goes_by c (kind_at c) refl (goes_open (kind_at c) (h (with_in k) e c m r))
+rule_goes Stmt Expr Pat Target Params Named h named k at x c d (import_rule e m b r g i) = goes_by c (kind_at c) refl (goes_open (kind_at c) (h (with_in k) e c m r))
 
 pub stmt_goes : (n : ℕ) (k : Code) (at : Position) (x : Tree) (c d : Place) → ReadsStmt n k at x c d → Goes c
 stmt_goes zero k at x c d h = absurd h
-stmt_goes (suc n) k at x c d h = rule_goes (ReadsStmt n) (ReadsClass n) (ReadsPat n) (ReadsTarget n) (ReadsParams n) (expr_opens n) k at x c d h
+stmt_goes (suc n) k at x c d h = rule_goes (ReadsStmt n) (ReadsClass n) (ReadsPat n) (ReadsTarget n) (ReadsParams n) (ReadsNamedClass n) (expr_opens n) (λ j name y a b r. r.0.is_class) k at x c d h

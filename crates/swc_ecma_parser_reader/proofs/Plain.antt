@@ -16,9 +16,10 @@ use Rattle.std.specs.Str.{bytes_eq}
 use Rattle.swc_ecma_parser_error.specs.Kind.{Fault}
 use Rattle.swc_ecma_parser_grammar.specs.Own.{only, duplicates}
 use Rattle.swc_ecma_parser_grammar.specs.language.Items.{labelled_item}
+use Rattle.swc_ecma_parser_reader.specs.Members.{class_parts, named_class, class_decl, class_stmt}
 use Rattle.swc_ecma_parser_reader.specs.State.{coded, below, below_label, fault, fault_at, recorded_at, recorded_in, noted}
 use Rattle.swc_ecma_parser_reader.specs.Methods.{star}
-use Rattle.swc_ecma_parser_reader.specs.Reader.{told, with_stmt, note_with, await_here, unless_awaited, misdirected, function_body, function_parts, function_decl, function_stmt, expr, head_cover, pattern, function_word, async_or_other}
+use Rattle.swc_ecma_parser_reader.specs.Reader.{told, named, with_stmt, note_with, await_here, unless_awaited, misdirected, function_body, function_parts, function_decl, function_stmt, expr, head_cover, pattern, member, function_word, async_or_other}
 use Rattle.swc_ecma_parser_reader.proofs.Meets.{meets_then}
 use Rattle.std.specs.Prelude.{◌&&◌, ◌||◌, codes}
 use Rattle.std.proofs.lemmas.List.Recursion.{is_count_by}
@@ -36,8 +37,8 @@ use Rattle.swc_ecma_parser_grammar.specs.Looks.{kind_at, breaks_at, sees, span_a
 use Rattle.swc_ecma_parser_grammar.specs.Follows.{word_at, may_begin_expression_statement, begins_import_expression, is_let_declaration, is_async_function}
 use Rattle.swc_ecma_parser_grammar.specs.Own.{labelled_function}
 use Rattle.swc_ecma_parser_grammar.specs.Reads.{nested_item, with_in}
-use Rattle.swc_ecma_parser_grammar.specs.language.Contexts.{in_loop, in_breakable, in_with, in_parameters}
-use Rattle.swc_ecma_parser_grammar.specs.language.Goals.{Class, expression, assignment}
+use Rattle.swc_ecma_parser_grammar.specs.language.Contexts.{in_class, in_loop, in_breakable, in_with, in_parameters}
+use Rattle.swc_ecma_parser_grammar.specs.language.Goals.{Class, expression, assignment, left_side}
 use Rattle.swc_ecma_parser_grammar.specs.language.Items.{sub_statement}
 use Rattle.swc_ecma_parser_reader.specs.State.{State, Outcome, Reader, and_then, moved, within, wanted, name, expect, end}
 use Rattle.swc_ecma_parser_reader.specs.Expressions.{Cover}
@@ -66,7 +67,8 @@ Told j is_starred x t = (strict : Bool) → labelled_function strict x
 abbrev pub is_starred : State → Bool
 is_starred s = sees kind.Mul (after s.at)
 
-module _ (inner : Position → Reader Tree) (inner_expr : Class → Reader Tree) (inner_pat : Reader Tree) (inner_head : Reader Cover) (inner_params : Reader (List Tree)) where
+module _ (inner : Position → Reader Tree) (inner_expr : Class → Reader Tree) (inner_pat : Reader Tree) (inner_head : Reader Cover) (inner_params : Reader (List Tree))
+    (inner_member : Reader Tree) where
   block_plain : (s : State) → Meets Plain (block (inner nested_item) s)
   unfolding block block_from
   block_plain s = always Plain (items (inner nested_item) closes false (moved s)) _ (λ xs t. always Plain (close t) _ (λ _ u b. refl))
@@ -79,7 +81,7 @@ module _ (inner : Position → Reader Tree) (inner_expr : Class → Reader Tree)
   unfolding variables
   variables_plain word s = always Plain (within with_in (declarators inner_expr inner_pat false word) (moved s)) _ (λ xs t. always Plain (end faults.Unexpected t) _ (λ _ u b. refl))
 
-  const_plain : (at : Position) (s : State) → Meets Plain (const_stmt inner inner_expr inner_pat inner_head inner_params at s)
+  const_plain : (at : Position) (s : State) → Meets Plain (const_stmt inner inner_expr inner_pat inner_head inner_params inner_member at s)
   unfolding const_stmt
   const_plain at s = where_declared at.include_decl
     where
@@ -196,7 +198,7 @@ module _ (inner : Position → Reader Tree) (inner_expr : Class → Reader Tree)
   unfolding other_stmt
   other_plain at s = meets_if Plain (begins_label s.code s.at) _ _ (λ _. labeled_plain s) (λ _. expr_plain at s)
 
-  let_plain : (at : Position) (s : State) → Meets Plain (let_stmt inner inner_expr inner_pat inner_head inner_params at s)
+  let_plain : (at : Position) (s : State) → Meets Plain (let_stmt inner inner_expr inner_pat inner_head inner_params inner_member at s)
   unfolding let_stmt
   let_plain at s = meets_if Plain (at.include_decl && is_let_declaration s.at) _ _ (λ _. variables_plain decl.Let s) (λ _. other_plain at s)
 
@@ -237,11 +239,25 @@ module _ (inner : Position → Reader Tree) (inner_expr : Class → Reader Tree)
   function_stmt_told at s e = meets_if (Told kind.Function (is_starred s)) at.include_decl _ _ (λ _. function_told s (plain_function s.at e))
       (λ _. rw (fault_here s (fault_at (span_at s.at) faults.DeclNotAllowed) (ap is_error e)) (function_told (noted (fault_at (span_at s.at) faults.DeclNotAllowed) s) (plain_function s.at e)))
 
-  async_or_other_plain : (at : Position) (s : State) → Meets Plain (async_or_other inner inner_expr inner_pat inner_head inner_params at s)
+  async_or_other_plain : (at : Position) (s : State) → Meets Plain (async_or_other inner inner_expr inner_pat inner_head inner_params inner_member at s)
   unfolding async_or_other
   async_or_other_plain at s = meets_if Plain (is_async_function s.at) _ _ (λ e. async_plain s e) (λ _. other_plain at s)
 
-  by_told : (at : Position) (j : TokenKind) (s : State) → kind_at s.at ≡ j → Meets (Told j (is_starred s)) (stmt_by inner inner_expr inner_pat inner_head inner_params at j s)
+  -- nor is a class
+  named_class_plain : (s : State) → Meets Plain (named_class (inner_expr left_side) inner_member s)
+  unfolding named_class
+  named_class_plain s = always Plain (named (moved s)) _ (λ i t. always Plain (class_parts (inner_expr left_side) inner_member (span_at s.at) t) _ (λ x u b. refl))
+
+  class_plain : (s : State) → Meets Plain (class_decl (inner_expr left_side) inner_member s)
+  unfolding class_decl
+  class_plain s = let t = coded (in_class s.code) s in meets_then Plain (named_class (inner_expr left_side) inner_member t) _ (named_class_plain t) (λ x u h. h)
+
+  class_stmt_plain : (at : Position) (s : State) → kind_at s.at ≡ kind.Class → Meets Plain (class_stmt (inner_expr left_side) inner_member at s)
+  unfolding class_stmt
+  class_stmt_plain at s e = meets_if Plain at.include_decl _ _ (λ _. class_plain s)
+      (λ _. rw (fault_here s (fault_at (span_at s.at) faults.DeclNotAllowed) (ap is_error e)) (class_plain (noted (fault_at (span_at s.at) faults.DeclNotAllowed) s)))
+
+  by_told : (at : Position) (j : TokenKind) (s : State) → kind_at s.at ≡ j → Meets (Told j (is_starred s)) (stmt_by inner inner_expr inner_pat inner_head inner_params inner_member at j s)
   unfolding empty if_stmt same_kind
   by_told at kind.LBrace s e = block_plain s
   by_told at kind.Semi s e = λ b. refl
@@ -261,6 +277,7 @@ module _ (inner : Position → Reader Tree) (inner_expr : Class → Reader Tree)
   by_told at kind.Do s e = do_while_plain s
   by_told at kind.For s e = for_plain s
   by_told at kind.Function s e = function_stmt_told at s e
+  by_told at kind.Class s e = class_stmt_plain at s e
   by_told at kind.Ident s e = async_or_other_plain at s
   by_told at kind.Import s e = import_plain s
   by_told at _ s e = other_plain at s
@@ -268,7 +285,7 @@ module _ (inner : Position → Reader Tree) (inner_expr : Class → Reader Tree)
 stmt_meets_told : (n : ℕ) (at : Position) (s : State) → Meets (Told (kind_at s.at) (is_starred s)) (stmt n at s)
 unfolding stmt stmt_level
 stmt_meets_told zero at s = too_deep_meets (Told (kind_at s.at) (is_starred s)) s
-stmt_meets_told (suc n) at s = by_told (stmt n) (expr n) (pattern n) (head_cover n) (reader.parameters n) at (kind_at s.at) s refl
+stmt_meets_told (suc n) at s = by_told (stmt n) (expr n) (pattern n) (head_cover n) (reader.parameters n) (member n) at (kind_at s.at) s refl
 
 -- ---- the faults of a label
 

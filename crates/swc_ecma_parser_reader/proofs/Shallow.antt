@@ -1,5 +1,5 @@
 -- What is never too deep: tokens that say nothing of the kind, and steps over them.
-use Rattle.std.proofs.Common.{◌≡◌, ◌≢◌, ℕ, zero, suc, ◌*◌, ◌≤◌, Bool, true, false, List, [], ◌∷◌, length, Option, Some, None, Ok, Err, refl, sym, ◌∙◌, ap, subst, arith}
+use Rattle.std.proofs.Common.{◌≡◌, ◌≢◌, ℕ, zero, suc, ◌+◌, ◌*◌, ◌≤◌, Bool, true, false, List, [], ◌∷◌, length, Option, Some, None, Ok, Err, refl, sym, ◌∙◌, ap, subst, arith}
 use Rattle.std.specs.Prelude.{◌||◌}
 use Rattle.swc_ecma_parser_common.specs.declared.span.Span.{Span}
 use Rattle.swc_ecma_parser_error.specs.declared.error.Error.{Error}
@@ -15,7 +15,7 @@ use Rattle.swc_ecma_parser_token.specs.declared.token.TokenAndSpan.{TokenAndSpan
 use Rattle.swc_ecma_parser_token.specs.Text.{word_text}
 use Rattle.swc_ecma_parser_input.specs.TokenSource.{means_out_of_memory}
 use Rattle.swc_ecma_parser_input.specs.Place.{Place, after, past}
-use Rattle.swc_ecma_parser_model.specs.Tree.{Text}
+use Rattle.swc_ecma_parser_model.specs.Tree.{Tree, Text}
 use Rattle.swc_ecma_parser_grammar.specs.Looks.{kind_at, sees, span_at}
 use Rattle.swc_ecma_parser_grammar.specs.Names.{is_name}
 use Rattle.swc_ecma_parser_grammar.specs.Ends.{can_end}
@@ -205,3 +205,7 @@ module _ (m : ℕ) (s : State) (f : Fine m s.at.left) where
 -- a reader in so many levels for two
 abbrev pub Levels : {A : Type 0} → ℕ → Reader A → Type 0
 Levels n p = (m : ℕ) (s : State) → 2 * m ≤ n → Fine m s.at.left → Answers (Kept m) Shallow (p s)
+
+-- the same, and one more: a reader of statements, for an expression that begins with the same token
+abbrev pub StmtLevels : ℕ → Reader Tree → Type 0
+StmtLevels n p = (m : ℕ) (s : State) → 2 * m + 1 ≤ n → Fine m s.at.left → Answers (Kept m) Shallow (p s)

@@ -2,6 +2,10 @@
 use Rattle.swc_ecma_parser_reader.proofs.Words.{async_begins, or_later, begins_function}
 use Rattle.swc_ecma_parser_reader.proofs.SoundFunctions.{body_from_sound, braces_sound, in_braces, arrow_block_sound, function_expr_sound, function_stmt_sound, function_decl_sound, GetterRead, SetterRead, MethodRead as MethodIs, getter_sound, setter_sound, method_sound, getter_stays, setter_stays, method_stays}
 use Rattle.swc_ecma_parser_reader.specs.Reader as reader
+use Rattle.swc_ecma_parser_reader.specs.Members.{class_expr, class_stmt}
+use Rattle.swc_ecma_parser_reader.proofs.classes.Shared.{Declared}
+use Rattle.swc_ecma_parser_reader.proofs.classes.SoundMembers.{member_level_sound}
+use Rattle.swc_ecma_parser_reader.proofs.classes.SoundClasses.{class_expr_sound, class_stmt_sound}
 use Rattle.swc_ecma_parser_reader.proofs.patterns.Sound as patterns
 use Rattle.swc_ecma_parser_reader.proofs.patterns.Sound.{SoundParams, Unwrapped}
 use Rattle.swc_ecma_parser_reader.proofs.expressions.Sound as expressions
@@ -10,7 +14,7 @@ use Rattle.std.proofs.Common.{append_assoc}
 use Rattle.swc_ecma_parser_reader.specs.Notes.{no_notes}
 use Rattle.swc_ecma_parser_reader.proofs.Between.{sound_below, sound_coded}
 use Rattle.swc_ecma_parser_reader.specs.State.{name}
-use Rattle.swc_ecma_parser_grammar.specs.Reads.{labeled_rule, with_rule, function_rule}
+use Rattle.swc_ecma_parser_grammar.specs.Reads.{labeled_rule, with_rule, class_rule, function_rule}
 use Rattle.swc_ecma_parser_grammar.specs.Own.{labelled_function, duplicates}
 use Rattle.swc_ecma_parser_reader.proofs.SoundParts.{relabels_sound, SoundWith, note_with_sound}
 use Rattle.swc_ecma_parser_reader.specs.State.{below, below_label}
@@ -43,10 +47,10 @@ use Rattle.swc_ecma_parser_grammar.specs.Names.{Code, name_at}
 use Rattle.swc_ecma_parser_grammar.specs.Ends.{Ends, ends_at}
 use Rattle.swc_ecma_parser_grammar.specs.Follows.{may_begin_expression_statement, begins_import_expression, is_let_declaration, is_async_function}
 use Rattle.swc_ecma_parser_grammar.specs.language.Contexts.{in_loop, in_breakable, in_with}
-use Rattle.swc_ecma_parser_grammar.specs.language.Goals.{Class, expression}
+use Rattle.swc_ecma_parser_grammar.specs.language.Goals.{Class, expression, left_side}
 use Rattle.swc_ecma_parser_grammar.specs.language.Items.{sub_statement}
 use Rattle.swc_ecma_parser_grammar.specs.Reads.{with_in, nested_item, ReadsItems, TargetRule, OperandRule, no_operand_rule, operand_rule, break_rule, continue_rule, return_rule, StmtRule, block_rule, empty_rule, debugger_rule, if_statement_rule, CaseRule, case_clause_rule, default_clause_rule, ReadsCases, switch_rule, throw_rule, try_rule, while_rule, do_while_rule, expr_rule, import_rule, ReadsBlock, CatchRule, no_catch_rule, catch_rule, catch_parameter_rule, FinallyRule, no_finally_rule, finally_rule, ReadsHead, IfRule, if_rule, ElseRule, no_else_rule, else_rule, else_if_rule}
-use Rattle.swc_ecma_parser_grammar.specs.ReadsSupported.{ReadsClass, ReadsPat, ReadsElement, ReadsTarget, ReadsStmt, ReadsParams}
+use Rattle.swc_ecma_parser_grammar.specs.ReadsSupported.{ReadsClass, ReadsPat, ReadsElement, ReadsTarget, ReadsStmt, ReadsParams, ReadsMember, ReadsNamedClass}
 use Rattle.swc_ecma_parser_grammar.specs.Walk as walks
 use Rattle.swc_ecma_parser_grammar.specs.Walk.{walk, env_of, tabled, drops}
 use Rattle.swc_ecma_parser_grammar.specs.Notes.{notes, statement_note}
@@ -66,7 +70,7 @@ use Rattle.swc_ecma_parser_grammar.specs.language.LeftSides.{is_callee}
 use Rattle.swc_ecma_parser_reader.specs.Notes.{◌⊕◌, notes_of, all_notes_of}
 use Rattle.swc_ecma_parser_reader.specs.State.{State, Reader, moved, coded, within, fault_at, Outcome, wanted, labelled, labelled_as, expect, end}
 use Rattle.swc_ecma_parser_reader.specs.Expressions.{Cover}
-use Rattle.swc_ecma_parser_reader.specs.Reader.{expr, cover, head_cover, pattern, element, function, function_by, getter, setter, plain_method}
+use Rattle.swc_ecma_parser_reader.specs.Reader.{expr, cover, head_cover, pattern, element, member, function, function_by, getter, setter, plain_method}
 use Rattle.swc_ecma_parser_reader.specs.Reader.{target, unbroken, break_stmt, uncontinued, continue_stmt, misplaced, operand, returned, return_stmt, empty, debugger, declarators, closes, close, items, block_from, block, braced, note_statement, no_label, expr_stmt, expr_stmt_at, optional_end, import_stmt, import_stmt_at, thrown, throw, head, while_stmt, do_while, Link, goes_on, condition, alternative, link_from, link, links, if_stmt, begins_clause, closes_clause, Clauses, clause_from, default_clause, case_clause, clause, clauses_turn, clauses, switch_stmt, begins_at, is_handled, handled, bound, parameter, finalizer, caught, handler, try_stmt, stmt_by, stmt_level, stmt}
 use Rattle.swc_ecma_parser_reader.proofs.expressions.SoundCovers.{SoundCover, HeadRead, Headed, MethodRead}
 use Rattle.swc_ecma_parser_reader.proofs.expressions.SoundSteps.{meets_as, FreeWord, name_sound, Takes, expect_sound, fault_sound, walks_push, notes_push}
@@ -79,17 +83,18 @@ use Rattle.swc_ecma_parser_reader.proofs.SoundParts.{end_sound, optional_end_sou
 -- ---- statements
 
 module _ (Stmt : Code → Position → Tree → Place → Place → Type 0) (Expr : Class → Code → Tree → Place → Place → Type 0) (Pat Target : Code → Tree → Place → Place → Type 0)
-    (Params : Code → List Tree → Place → Place → Type 0) (inner : Position → Reader Tree) (inner_expr : Class → Reader Tree) (inner_pat : Reader Tree) (inner_head : Reader Cover)
-    (inner_params : Reader (List Tree))
+    (Params : Code → List Tree → Place → Place → Type 0) (Named : Code → (name x : Tree) → Place → Place → Type 0) (inner : Position → Reader Tree) (inner_expr : Class → Reader Tree)
+    (inner_pat : Reader Tree) (inner_head : Reader Cover) (inner_params : Reader (List Tree)) (inner_member : Reader Tree)
     (sound : (at : Position) (s : State) → Meets (λ x t. SoundTree (λ k. Stmt k at) s x t) (inner at s))
     (sound_expr : (class : Class) (s : State) → Meets (λ x t. SoundTree (Expr class) s x t) (inner_expr class s))
     (sound_pat : (s : State) → Meets (λ x t. SoundTree Pat s x t) (inner_pat s))
     (sound_head : (s : State) → Meets (λ v t. SoundAs Expr Target s v t) (inner_head s))
     (sound_params : (s : State) → Meets (λ ps t. Sound same (λ k l. walks.walks (env_of k l) false (trees ps)) (all_notes_of (trees ps)) (λ k. Params k ps) s t) (inner_params s))
+    (sound_class : (at : Position) (s : State) → kind_at s.at ≡ kind.Class → Meets (λ x t. SoundTree (Declared Named at) s x t) (class_stmt (inner_expr left_side) inner_member at s))
     (unnoted : (k : Code) (x : Tree) (c d : Place) → begins_import_expression c ≡ true → Expr expression k x c d → statement_note x ≡ []) (at : Position) where
   -- a statement in its place
   abbrev SoundStmt : State → Tree → State → Type 0
-  SoundStmt s x t = SoundTree (λ k. StmtRule Stmt Expr Pat Target Params k at) s x t
+  SoundStmt s x t = SoundTree (λ k. StmtRule Stmt Expr Pat Target Params Named k at) s x t
 
   empty_sound : (s : State) → kind_at s.at ≡ kind.Semi → Meets (SoundStmt s) (empty s)
   unfolding empty
@@ -484,13 +489,13 @@ module _ (Stmt : Code → Position → Tree → Place → Place → Type 0) (Exp
   -- ---- declarations
 
   declared_sound : (word : VarDeclKind) (s : State) → at.include_decl || is_var word ≡ true → begins_variables word s.at ≡ true → Meets (SoundStmt s) (variables inner_expr inner_pat word s)
-  declared_sound = variables_sound Expr Pat inner_expr inner_pat sound_expr sound_pat Stmt Target Params at
+  declared_sound = variables_sound Expr Pat inner_expr inner_pat sound_expr sound_pat Stmt Target Params Named at
 
   -- where declarations are read
   allowed : (word : VarDeclKind) → at.include_decl ≡ true → at.include_decl || is_var word ≡ true
   allowed word h = rw h refl
 
-  const_stmt_sound : (s : State) → begins_variables decl.Const s.at ≡ true → Meets (SoundStmt s) (const_stmt inner inner_expr inner_pat inner_head inner_params at s)
+  const_stmt_sound : (s : State) → begins_variables decl.Const s.at ≡ true → Meets (SoundStmt s) (const_stmt inner inner_expr inner_pat inner_head inner_params inner_member at s)
   unfolding const_stmt
   const_stmt_sound s e = by_place at.include_decl refl
     where
@@ -498,21 +503,21 @@ module _ (Stmt : Code → Position → Tree → Place → Place → Type 0) (Exp
       by_place true h = declared_sound decl.Const s (allowed decl.Const h) e
       by_place false h = wanted_meets _ faults.Unexpected s
 
-  let_stmt_sound : (s : State) → Meets (SoundStmt s) (let_stmt inner inner_expr inner_pat inner_head inner_params at s)
+  let_stmt_sound : (s : State) → Meets (SoundStmt s) (let_stmt inner inner_expr inner_pat inner_head inner_params inner_member at s)
   unfolding let_stmt
   let_stmt_sound s = meets_if _ (at.include_decl && is_let_declaration s.at) _ _
       (λ h. let b = and_yes at.include_decl (is_let_declaration s.at) h in declared_sound decl.Let s (allowed decl.Let b.0) b.1) (λ _. other_sound s)
 
   -- each kind of token begins its statement
   -- an async function may stand in the place of any statement
-  async_or_other_sound : (s : State) → Meets (SoundStmt s) (async_or_other inner inner_expr inner_pat inner_head inner_params at s)
+  async_or_other_sound : (s : State) → Meets (SoundStmt s) (async_or_other inner inner_expr inner_pat inner_head inner_params inner_member at s)
   unfolding async_or_other
   async_or_other_sound s = meets_if _ (is_async_function s.at) _ _
       (λ h. meets_as (function_decl (inner nested_item) inner_params s) (function_decl_sound Stmt Params (inner nested_item) (sound nested_item) inner_params sound_params s (async_begins s.at h))
       (λ x t p. sound_as s t refl refl refl (λ r. function_rule (or_later at.include_decl _ h) r) p))
       (λ _. other_sound s)
 
-  by_sound : (j : TokenKind) (s : State) → kind_at s.at ≡ j → Meets (SoundStmt s) (stmt_by inner inner_expr inner_pat inner_head inner_params at j s)
+  by_sound : (j : TokenKind) (s : State) → kind_at s.at ≡ j → Meets (SoundStmt s) (stmt_by inner inner_expr inner_pat inner_head inner_params inner_member at j s)
   by_sound kind.LBrace s e = block_sound s e
   by_sound kind.Semi s e = empty_sound s e
   by_sound kind.Debugger s e = debugger_sound s e
@@ -529,14 +534,15 @@ module _ (Stmt : Code → Position → Tree → Place → Place → Type 0) (Exp
   by_sound kind.With s e = with_sound s e
   by_sound kind.While s e = while_sound s e
   by_sound kind.Do s e = do_while_sound s e
-  by_sound kind.For s e = for_sound Stmt Expr Pat Target inner inner_expr inner_pat inner_head sound sound_expr sound_pat sound_head Params at s e
+  by_sound kind.For s e = for_sound Stmt Expr Pat Target inner inner_expr inner_pat inner_head sound sound_expr sound_pat sound_head Params Named at s e
   by_sound kind.Function s e = meets_as (function_stmt (inner nested_item) inner_params at s)
       (function_stmt_sound Stmt Params (inner nested_item) (sound nested_item) inner_params sound_params at s e) (λ x t p. sound_as s t refl refl refl (λ (h, r). function_rule (rw h refl) r) p)
+  by_sound kind.Class s e = meets_as (class_stmt (inner_expr left_side) inner_member at s) (sound_class at s e) (λ x t p. sound_as s t refl refl refl (λ (h, name, y, r, b, g). class_rule name y h r b g) p)
   by_sound kind.Ident s e = async_or_other_sound s
   by_sound kind.Import s e = import_stmt_at_sound s
   by_sound _ s e = other_sound s
 
-  level_sound : (s : State) → Meets (SoundStmt s) (stmt_level inner inner_expr inner_pat inner_head inner_params at s)
+  level_sound : (s : State) → Meets (SoundStmt s) (stmt_level inner inner_expr inner_pat inner_head inner_params inner_member at s)
   unfolding stmt_level
   level_sound s = by_sound (kind_at s.at) s refl
 
@@ -548,6 +554,7 @@ record Sounds (n : ℕ) : Type 0 where
   heads : (s : State) → Meets (λ v t. SoundHead n s v t) (head_cover n s)
   patterns : (s : State) → Meets (λ x t. SoundTree (ReadsPat n) s x t) (pattern n s)
   elements : (s : State) → Meets (λ x t. SoundTree (ReadsElement n) s x t) (element n s)
+  members : (s : State) → Meets (λ x t. SoundTree (ReadsMember n) s x t) (member n s)
   stmts : (at : Position) (s : State) → Meets (λ x t. SoundTree (λ k. ReadsStmt n k at) s x t) (stmt n at s)
 
 -- ---- methods of the small relation are those of the whole language
@@ -624,6 +631,7 @@ module _ (n : ℕ) (b : Sounds n) where
     expressions = λ s e. meets_as (function n expression_form s)
         (function_expr_sound (ReadsStmt n) (ReadsParams n) (stmt n nested_item) (b.stmts nested_item) (reader.parameters n) params (λ k ps c d r. r.0.opens) s e)
         (λ x t p. sound_as s t refl refl refl (λ r. (function_widens n s.code x s.at t.at r, function_supported n s.code x s.at t.at r, ap is_callee r.is)) p);
+    classes = class_expr_sound n (expr n left_side) (member n) (b.exprs left_side) b.members;
     methods = methods;
     parameters = b.patterns;
     names = names n;
@@ -646,13 +654,14 @@ module _ (n : ℕ) (b : Sounds n) where
           (λ x t q. sound_as s t refl refl refl (λ r. method_read n s.code x s.at t.at key w g r) q)
 
 all_sound : (n : ℕ) → Sounds n
-unfolding function expr cover head_cover pattern element stmt
+unfolding function expr cover head_cover pattern element member stmt
 all_sound zero = record {
   exprs = λ class s. too_deep_meets _ s;
   covers = λ s. too_deep_meets _ s;
   heads = λ s. too_deep_meets _ s;
   patterns = λ s. too_deep_meets _ s;
   elements = λ s. too_deep_meets _ s;
+  members = λ s. too_deep_meets _ s;
   stmts = λ at s. too_deep_meets _ s;
 }
 all_sound (suc n) = let b = all_sound n in record {
@@ -661,7 +670,9 @@ all_sound (suc n) = let b = all_sound n in record {
   heads = head_expr_sound n (expr n) (cover n) b.exprs b.covers (function n) (functions n b) (tied_at n) (parts n b);
   patterns = patterns.pattern_level_sound n (expr n) (cover n) (pattern n) (element n) b.exprs b.covers b.patterns b.elements;
   elements = patterns.element_level_sound n (expr n) (cover n) (pattern n) (element n) b.exprs b.covers b.patterns b.elements;
-  stmts = level_sound (ReadsStmt n) (ReadsClass n) (ReadsPat n) (ReadsTarget n) (ReadsParams n) (stmt n) (expr n) (pattern n) (head_cover n) (reader.parameters n) b.stmts b.exprs b.patterns (openings n b) (params n b)
+  members = member_level_sound n (expr n) (cover n) (stmt n nested_item) (reader.parameters n) b.exprs b.covers (b.stmts nested_item) (params n b);
+  stmts = level_sound (ReadsStmt n) (ReadsClass n) (ReadsPat n) (ReadsTarget n) (ReadsParams n) (ReadsNamedClass n) (stmt n) (expr n) (pattern n) (head_cover n) (reader.parameters n) (member n)
+      b.stmts b.exprs b.patterns (openings n b) (params n b) (class_stmt_sound n (expr n left_side) (member n) (b.exprs left_side) b.members)
       (λ k x c d h r. import_unnoted n k x c d r h);
 }
 
@@ -697,7 +708,20 @@ function_sound n = (functions n (all_sound n)).expressions
 pub stmt_sound : (n : ℕ) (at : Position) (s : State) → Meets (λ x t. SoundTree (λ k. ReadsStmt n k at) s x t) (stmt n at s)
 stmt_sound n = (all_sound n).stmts
 
+-- so are a member of a class, and a class that is declared or is an expression
+pub member_sound : (n : ℕ) (s : State) → Meets (λ x t. SoundTree (ReadsMember n) s x t) (member n s)
+member_sound n = (all_sound n).members
+
+pub classes_sound : (n : ℕ) (at : Position) (s : State) → kind_at s.at ≡ kind.Class → Meets (λ x t. SoundTree (Declared (ReadsNamedClass n) at) s x t) (class_stmt (expr n left_side) (member n) at s)
+classes_sound n = class_stmt_sound n (expr n left_side) (member n) (expr_sound n left_side) (member_sound n)
+
+pub class_sound : (n : ℕ) (s : State) → kind_at s.at ≡ kind.Class → Meets (λ x t. SoundTree (FunctionRead n) s x t) (class_expr (expr n left_side) (member n) s)
+class_sound n = class_expr_sound n (expr n left_side) (member n) (expr_sound n left_side) (member_sound n)
+
 -- what is read leaves the code as it was
+pub member_code : (n : ℕ) (s : State) (x : Tree) (t : State) → member n s ≡ Ok (x, t) → t.code ≡ s.code
+member_code n s x t e = let p : SoundTree (ReadsMember n) s x t = meant (λ y u. SoundTree (ReadsMember n) s y u) Refuses (member n s) (Ok (x, t)) e (member_sound n s) in p.code
+
 pub stmt_code : (n : ℕ) (at : Position) (s : State) (x : Tree) (t : State) → stmt n at s ≡ Ok (x, t) → t.code ≡ s.code
 stmt_code n at s x t e =
     let P : Tree → State → Type 0 = λ y u. SoundTree (λ k. ReadsStmt n k at) s y u in
@@ -745,9 +769,9 @@ method_code n w g start key s x t e = meant (λ _ u. u.code ≡ s.code) Refuses 
 pub clauses_code : (n : ℕ) (s : State) (xs : List Tree) (t : State) → clauses (stmt n nested_item) (expr n expression) s ≡ Ok (xs, t) → t.code ≡ s.code
 clauses_code n s xs t e =
     let noted : (k : Code) (x : Tree) (c d : Place) → begins_import_expression c ≡ true → ReadsClass n expression k x c d → statement_note x ≡ [] = λ k x c d h r. import_unnoted n k x c d r h in
-    let P : List Tree → State → Type 0 = SoundCases (ReadsStmt n) (ReadsClass n) (ReadsPat n) (ReadsTarget n) (ReadsParams n) (stmt n) (expr n) (pattern n) (head_cover n) (reader.parameters n) (stmt_sound n) (expr_sound n) (pattern_sound n) (opens_sound n) (parameters_sound n) noted nested_item s in
+    let P : List Tree → State → Type 0 = SoundCases (ReadsStmt n) (ReadsClass n) (ReadsPat n) (ReadsTarget n) (ReadsParams n) (ReadsNamedClass n) (stmt n) (expr n) (pattern n) (head_cover n) (reader.parameters n) (member n) (stmt_sound n) (expr_sound n) (pattern_sound n) (opens_sound n) (parameters_sound n) (classes_sound n) noted nested_item s in
     let p : P xs t = meant P Refuses (clauses (stmt n nested_item) (expr n expression) s) (Ok (xs, t)) e
-    (clauses_sound (ReadsStmt n) (ReadsClass n) (ReadsPat n) (ReadsTarget n) (ReadsParams n) (stmt n) (expr n) (pattern n) (head_cover n) (reader.parameters n) (stmt_sound n) (expr_sound n) (pattern_sound n) (opens_sound n) (parameters_sound n) noted nested_item s) in p.code
+    (clauses_sound (ReadsStmt n) (ReadsClass n) (ReadsPat n) (ReadsTarget n) (ReadsParams n) (ReadsNamedClass n) (stmt n) (expr n) (pattern n) (head_cover n) (reader.parameters n) (member n) (stmt_sound n) (expr_sound n) (pattern_sound n) (opens_sound n) (parameters_sound n) (classes_sound n) noted nested_item s) in p.code
 
 pub declarators_code : (n : ℕ) (in_head : Bool) (word : VarDeclKind) (s : State) (xs : List Tree) (t : State) → declarators (expr n) (pattern n) in_head word s ≡ Ok (xs, t) → t.code ≡ s.code
 declarators_code n in_head word s xs t e =

@@ -190,9 +190,9 @@ module _ (Stmt : Code → Position → Tree → Place → Place → Type 0) (Exp
 
   -- ---- the loops
 
-  module _ (Params : Code → List Tree → Place → Place → Type 0) (at : Position) where
+  module _ (Params : Code → List Tree → Place → Place → Type 0) (Named : Code → (name x : Tree) → Place → Place → Type 0) (at : Position) where
     abbrev SoundStmt : State → Tree → State → Type 0
-    SoundStmt s x t = SoundTree (λ k. StmtRule Stmt Expr Pat Target Params k at) s x t
+    SoundStmt s x t = SoundTree (λ k. StmtRule Stmt Expr Pat Target Params Named k at) s x t
 
     -- each from behind what its head begins with
     for_parts_sound : (s i m : State) (o : Opening) → kind_at s.at ≡ kind.For → SoundStep (λ k. Takes kind.LParen) (moved s) i → SoundOpening i o m

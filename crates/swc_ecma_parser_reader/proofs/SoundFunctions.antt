@@ -133,7 +133,7 @@ module _ (Stmt : Code → Position → Tree → Place → Place → Type 0) (Par
   ))
 
   -- under the flags of one
-  function_body_sound : (w g : Bool) (s : State)
+  pub function_body_sound : (w g : Bool) (s : State)
       → Meets (λ x t. Sound same (λ k l. walks.walk_body (walks.in_body (env_of k l)) x) (record (notes_of x) { found_module_item = false }) (λ k. ReadsBraced Stmt true (in_body k w g) x) s t)
       (function_body inner params w g s)
   unfolding function_body SoundEnclosed
@@ -389,7 +389,7 @@ module _ (Stmt : Code → Position → Tree → Place → Place → Type 0) (Par
           meets_then _ (function_body inner params w g u) _ (anything (function_body inner params w g u)) (λ body n _.
           meets_then _ (misdirected (parameters ps) body n) _ (anything (misdirected (parameters ps) body n)) (λ _ t _. (_, ps, body, refl))))
 
-      method_walk : (env : Env) (span f : Span) (x : Tree) (ps : List Tree) (body : Tree) (w g : Bool) → x ≡ tree.function f (listed []) (parameters ps) body w g
+      pub method_walk : (env : Env) (span f : Span) (x : Tree) (ps : List Tree) (body : Tree) (w g : Bool) → x ≡ tree.function f (listed []) (parameters ps) body w g
           → walk env key ++ walk env x ≡ walk env (tree.method_prop span key x)
       method_walk env span f x ps body w g e =
           let here = walk env key in

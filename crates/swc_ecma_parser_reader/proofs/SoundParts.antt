@@ -143,9 +143,9 @@ module _ (Expr : Class → Code → Tree → Place → Place → Type 0) (Pat : 
 
   -- `var`, `let` or `const`
   pub variables_sound : (Stmt : Code → Position → Tree → Place → Place → Type 0) (Target : Code → Tree → Place → Place → Type 0) (Params : Code → List Tree → Place → Place → Type 0)
-      (at : Position) (word : VarDeclKind) (s : State) → at.include_decl || is_var word ≡ true → begins_variables word s.at ≡ true → Meets (λ x t. SoundTree (λ k. StmtRule Stmt Expr Pat Target Params k at) s x t) (variables expr pat word s)
+      (Named : Code → (name x : Tree) → Place → Place → Type 0) (at : Position) (word : VarDeclKind) (s : State) → at.include_decl || is_var word ≡ true → begins_variables word s.at ≡ true → Meets (λ x t. SoundTree (λ k. StmtRule Stmt Expr Pat Target Params Named k at) s x t) (variables expr pat word s)
   unfolding variables
-  variables_sound Stmt Target Params at word s b e = meets_then _ (within with_in (declarators expr pat false word) (moved s)) _
+  variables_sound Stmt Target Params Named at word s b e = meets_then _ (within with_in (declarators expr pat false word) (moved s)) _
       (within_sound (λ xs k l. walks.walks (env_of k l) false (trees xs)) (λ xs. all_notes_of (trees xs)) (λ xs k. ReadsSeparated (Declared false word k) xs) with_in (λ k. refl)
       (declarators expr pat false word) (moved s) (declarators_sound false word (coded (with_in s.code) (moved s)))) (λ xs m p.
       meets_then _ (end faults.Unexpected m) _ (end_sound faults.Unexpected m) (λ _ t q.

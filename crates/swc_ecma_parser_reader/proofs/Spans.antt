@@ -27,22 +27,24 @@ use Rattle.swc_ecma_parser_grammar.specs.Follows.{word_at, may_begin_expression_
 use Rattle.swc_ecma_parser_grammar.specs.Parameters.{parameters}
 use Rattle.swc_ecma_parser_grammar.specs.Reads.{nested_item, with_in}
 use Rattle.swc_ecma_parser_grammar.specs.Ends.{ends_at}
-use Rattle.swc_ecma_parser_grammar.specs.language.Contexts.{in_loop, in_breakable, in_with, in_parameters}
-use Rattle.swc_ecma_parser_grammar.specs.language.Goals.{Class, expression, assignment}
+use Rattle.swc_ecma_parser_grammar.specs.language.Contexts.{in_class, in_loop, in_breakable, in_with, in_parameters}
+use Rattle.swc_ecma_parser_grammar.specs.language.Goals.{Class, expression, assignment, left_side}
 use Rattle.swc_ecma_parser_grammar.specs.language.Items.{sub_statement, labelled_item}
 use Rattle.swc_ecma_parser_grammar.proofs.Tests.{and_yes}
+use Rattle.swc_ecma_parser_reader.specs.Members.{extended, surplus, members, class_parts, named_class, class_decl, class_stmt}
 use Rattle.swc_ecma_parser_reader.specs.State.{State, Outcome, Reader, moved, coded, below, below_label, within, noted, module_found, recorded_at, recorded_in, fault, fault_at, wanted, name_by, name_in, name, expect, end}
 use Rattle.swc_ecma_parser_reader.specs.Methods.{star}
 use Rattle.swc_ecma_parser_reader.specs.Expressions.{Cover}
 use Rattle.swc_ecma_parser_reader.specs.Reader as reader
-use Rattle.swc_ecma_parser_reader.specs.Reader.{told, items, closes, close, declarators, Link, link, link_from, condition, alternative, head, clauses, target, unbroken, uncontinued, operand, braced, handler, finalizer, handled, optional_end, note_with, await_here, unless_awaited, Opening, as_init, as_left, opening, head_part, misdeclared, misdirected, labelled_body, relabels, no_label, note_statement, empty, debugger, variables, block, block_from, expr_stmt, expr_stmt_at, import_stmt, import_stmt_at, thrown, throw, while_stmt, with_stmt, do_while, for_parts, for_in, for_of, for_behind, for_stmt, goes_on, links, if_stmt, break_stmt, continue_stmt, returned, return_stmt, misplaced, begins_label, labeled_stmt, other_stmt, switch_stmt, try_stmt, function_word, function_body, function_parts, function_decl, function_stmt, const_stmt, let_stmt, async_or_other, stmt_by, stmt_level, stmt, top_await_fault, top_await, whole_stmt, expr, head_cover, pattern}
+use Rattle.swc_ecma_parser_reader.specs.Reader.{told, named, items, closes, close, declarators, Link, link, link_from, condition, alternative, head, clauses, target, unbroken, uncontinued, operand, braced, handler, finalizer, handled, optional_end, note_with, await_here, unless_awaited, Opening, as_init, as_left, opening, head_part, misdeclared, misdirected, labelled_body, relabels, no_label, note_statement, empty, debugger, variables, block, block_from, expr_stmt, expr_stmt_at, import_stmt, import_stmt_at, thrown, throw, while_stmt, with_stmt, do_while, for_parts, for_in, for_of, for_behind, for_stmt, goes_on, links, if_stmt, break_stmt, continue_stmt, returned, return_stmt, misplaced, begins_label, labeled_stmt, other_stmt, switch_stmt, try_stmt, function_word, function_body, function_parts, function_decl, function_stmt, const_stmt, let_stmt, async_or_other, stmt_by, stmt_level, stmt, top_await_fault, top_await, whole_stmt, expr, head_cover, pattern}
+use Rattle.swc_ecma_parser_reader.specs.Reader.{member}
 use Rattle.swc_ecma_parser_reader.specs.Entry.{last_span, are_errors, TakesSome, TakesErrors, StandsAt, IsBehind}
 use Rattle.swc_ecma_parser_reader.proofs.Takes.{Falls}
 use Rattle.swc_ecma_parser_reader.proofs.Falls.{stmt_falls}
 use Rattle.swc_ecma_parser_reader.proofs.Meets.{Answers, Meets, Refuses, answers_then, answers_if, always, meets_then, meets_if, wanted_meets, too_deep_meets, refuse_meets, meant, saw}
 use Rattle.swc_ecma_parser_reader.proofs.Errors.{is_error, fault_here}
 use Rattle.swc_ecma_parser_reader.proofs.Behind.{Kept, Lost, Passes, behind_self, behind_after, end_keeps, expect_keeps, name_keeps}
-use Rattle.swc_ecma_parser_reader.proofs.Keeps.{target_keeps, function_params_keep, function_body_keep, parameters_keep, stmt_keeps, expr_keeps}
+use Rattle.swc_ecma_parser_reader.proofs.Keeps.{target_keeps, function_params_keep, function_body_keep, parameters_keep, stmt_keeps, expr_keeps, member_keeps}
 use Rattle.swc_ecma_parser_reader.proofs.SoundParts.{after_return_meets}
 use Rattle.swc_ecma_parser_reader.proofs.expressions.SoundSteps.{reject_meets, meets_as}
 use Rattle.swc_ecma_parser_reader.proofs.expressions.Keeps.{star_keeps}
@@ -137,7 +139,8 @@ word_behind : (s : State) → Meets (Kept (moved s)) (function_word s)
 unfolding function_word
 word_behind s = meets_if _ (is_async_function s.at) _ _ (λ _. behind_after (moved s) (moved s) (behind_self (moved s))) (λ _. behind_self (moved s))
 
-module _ (inner : Position → Reader Tree) (inner_expr : Class → Reader Tree) (inner_pat : Reader Tree) (inner_head : Reader Cover) (inner_params : Reader (List Tree)) where
+module _ (inner : Position → Reader Tree) (inner_expr : Class → Reader Tree) (inner_pat : Reader Tree) (inner_head : Reader Cover) (inner_params : Reader (List Tree))
+    (inner_member : Reader Tree) where
   block_ends : (s : State) → Meets (Ends s.at) (block (inner nested_item) s)
   unfolding block block_from
   block_ends s = always _ (items (inner nested_item) closes false (moved s)) _ (λ xs t. always _ (close t) _ (λ _ u. inl refl))
@@ -150,7 +153,7 @@ module _ (inner : Position → Reader Tree) (inner_expr : Class → Reader Tree)
   unfolding variables
   variables_end word s = always _ (within with_in (declarators inner_expr inner_pat false word) (moved s)) _ (λ xs t. always _ (end faults.Unexpected t) _ (λ _ u. inl refl))
 
-  const_ends : (at : Position) (s : State) → Meets (Ends s.at) (const_stmt inner inner_expr inner_pat inner_head inner_params at s)
+  const_ends : (at : Position) (s : State) → Meets (Ends s.at) (const_stmt inner inner_expr inner_pat inner_head inner_params inner_member at s)
   unfolding const_stmt
   const_ends at s = where_declared at.include_decl
     where
@@ -247,6 +250,20 @@ module _ (inner : Position → Reader Tree) (inner_expr : Class → Reader Tree)
       (λ _. always _ (within with_in (inner_expr expression) s) _ (λ x t. always _ (no_label x t) _ (λ _ u. always _ (note_statement x u) _ (λ _ v.
       always _ (end faults.ExpectedSemiForExprStmt v) _ (λ _ o. inl refl))))) (λ _. wanted_meets _ faults.Unexpected s)
 
+  -- a class ends with its `}`, from its name on and from its word on
+  class_parts_end : (c : Place) (s : State) → Meets (Spans c) (class_parts (inner_expr left_side) inner_member (span_at c) s)
+  unfolding class_parts spanned
+  class_parts_end c s = always _ (extended (inner_expr left_side) inner_member s) _ (λ x t. always _ (surplus (inner_expr left_side) inner_member t) _ (λ _ u.
+      always _ (expect kind.LBrace u) _ (λ _ v. always _ (within with_in (members (inner_expr left_side) inner_member) v) _ (λ xs w. always _ (close w) _ (λ _ o. refl)))))
+
+  named_class_ends : (s : State) → Meets (Spans s.at) (named_class (inner_expr left_side) inner_member s)
+  unfolding named_class
+  named_class_ends s = always _ (named (moved s)) _ (λ i t. meets_then _ (class_parts (inner_expr left_side) inner_member (span_at s.at) t) _ (class_parts_end s.at t) (λ x u h. h))
+
+  class_ends : (s : State) → Meets (Ends s.at) (class_decl (inner_expr left_side) inner_member s)
+  unfolding class_decl
+  class_ends s = let t = coded (in_class s.code) s in meets_then _ (named_class (inner_expr left_side) inner_member t) _ (named_class_ends t) (λ x u h. inl h)
+
   -- ---- those of which faults are recorded behind their end
 
   break_ends : (s : State) → Meets (Ends s.at) (break_stmt s)
@@ -263,7 +280,7 @@ module _ (inner : Position → Reader Tree) (inner_expr : Class → Reader Tree)
       meets_then _ (end faults.Expected t) _ (kept b (end faults.Expected t) (end_keeps b t k faults.Expected)) (λ _ u j.
       meets_then _ (uncontinued x (record { lo = (span_at s.at).lo; hi = u.at.last.hi }) u) _ (told_errs _ u) (λ _ v z. inr (u.at, refl, (j.read, j.tokens, j.last), z))))
 
-  module _ (below_stmt : (at : Position) → Passes (inner at)) (below_expr : (class : Class) → Passes (inner_expr class)) (below_params : Passes inner_params) where
+  module _ (below_stmt : (at : Position) → Passes (inner at)) (below_expr : (class : Class) → Passes (inner_expr class)) (below_params : Passes inner_params) (below_member : Passes inner_member) where
     operand_keeps : (b s : State) → IsBehind b s → Answers (Kept b) (Lost b) (operand (inner_expr expression) s)
     unfolding operand
     operand_keeps b s f = answers_if (Kept b) _ (ends_at s.at) _ _ (λ _. f)
@@ -301,7 +318,7 @@ module _ (inner : Position → Reader Tree) (inner_expr : Class → Reader Tree)
     unfolding other_stmt
     other_ends at s = meets_if _ (begins_label s.code s.at) _ _ (λ _. labeled_ends s) (λ _. expr_ends at s)
 
-    let_ends : (at : Position) (s : State) → Meets (Ends s.at) (let_stmt inner inner_expr inner_pat inner_head inner_params at s)
+    let_ends : (at : Position) (s : State) → Meets (Ends s.at) (let_stmt inner inner_expr inner_pat inner_head inner_params inner_member at s)
     unfolding let_stmt
     let_ends at s = meets_if _ (at.include_decl && is_let_declaration s.at) _ _ (λ _. variables_end decl.Let s) (λ _. other_ends at s)
 
@@ -327,11 +344,16 @@ module _ (inner : Position → Reader Tree) (inner_expr : Class → Reader Tree)
     function_stmt_ends at s e = meets_if _ at.include_decl _ _ (λ _. function_ends s)
         (λ _. rw (fault_here s (fault_at (span_at s.at) faults.DeclNotAllowed) (ap is_error e)) (function_ends (noted (fault_at (span_at s.at) faults.DeclNotAllowed) s)))
 
-    async_or_other_ends : (at : Position) (s : State) → Meets (Ends s.at) (async_or_other inner inner_expr inner_pat inner_head inner_params at s)
+    async_or_other_ends : (at : Position) (s : State) → Meets (Ends s.at) (async_or_other inner inner_expr inner_pat inner_head inner_params inner_member at s)
     unfolding async_or_other
     async_or_other_ends at s = meets_if _ (is_async_function s.at) _ _ (λ _. function_ends s) (λ _. other_ends at s)
 
-    by_ends : (at : Position) (j : TokenKind) (s : State) → kind_at s.at ≡ j → Meets (Ends s.at) (stmt_by inner inner_expr inner_pat inner_head inner_params at j s)
+    class_stmt_ends : (at : Position) (s : State) → kind_at s.at ≡ kind.Class → Meets (Ends s.at) (class_stmt (inner_expr left_side) inner_member at s)
+    unfolding class_stmt
+    class_stmt_ends at s e = meets_if _ at.include_decl _ _ (λ _. class_ends s)
+        (λ _. rw (fault_here s (fault_at (span_at s.at) faults.DeclNotAllowed) (ap is_error e)) (class_ends (noted (fault_at (span_at s.at) faults.DeclNotAllowed) s)))
+
+    by_ends : (at : Position) (j : TokenKind) (s : State) → kind_at s.at ≡ j → Meets (Ends s.at) (stmt_by inner inner_expr inner_pat inner_head inner_params inner_member at j s)
     unfolding empty if_stmt
     by_ends at kind.LBrace s e = block_ends s
     by_ends at kind.Semi s e = inl refl
@@ -351,6 +373,7 @@ module _ (inner : Position → Reader Tree) (inner_expr : Class → Reader Tree)
     by_ends at kind.Do s e = do_while_ends s
     by_ends at kind.For s e = for_ends s
     by_ends at kind.Function s e = function_stmt_ends at s e
+    by_ends at kind.Class s e = class_stmt_ends at s e
     by_ends at kind.Ident s e = async_or_other_ends at s
     by_ends at kind.Import s e = import_ends s
     by_ends at _ s e = other_ends at s
@@ -358,7 +381,7 @@ module _ (inner : Position → Reader Tree) (inner_expr : Class → Reader Tree)
 stmt_ends : (n : ℕ) (at : Position) (s : State) → Meets (Ends s.at) (stmt n at s)
 unfolding stmt stmt_level
 stmt_ends zero at s = too_deep_meets _ s
-stmt_ends (suc n) at s = by_ends (stmt n) (expr n) (pattern n) (head_cover n) (reader.parameters n) (stmt_keeps n) (expr_keeps n) (parameters_keep n) at (kind_at s.at) s refl
+stmt_ends (suc n) at s = by_ends (stmt n) (expr n) (pattern n) (head_cover n) (reader.parameters n) (member n) (stmt_keeps n) (expr_keeps n) (parameters_keep n) (member_keeps n) at (kind_at s.at) s refl
 
 -- ---- a statement on its tokens
 

@@ -16,7 +16,7 @@ use Rattle.swc_ecma_parser_grammar.specs.language.Goals.{Class, expression, assi
 use Rattle.swc_ecma_parser_grammar.specs.language.Begins.{awaits}
 use Rattle.swc_ecma_parser_grammar.specs.language.Operators.{unary_operator, update_operator}
 use Rattle.swc_ecma_parser_reader.specs.Yields.{begins_yield, yield_expr}
-use Rattle.swc_ecma_parser_reader.specs.Methods.{FunctionForm, expression_form}
+use Rattle.swc_ecma_parser_reader.specs.Methods.{FunctionForm, expression_form, class_form}
 use Rattle.swc_ecma_parser_reader.specs.State.{Reader, ◌>>=◌, ◌>>◌, pure, span_here, since, skip, wanted, Step, More, Done, loop}
 unfoldable pub use Rattle.swc_ecma_parser_reader.specs.Words.{word_by, word_in, any_word, touching_word, private_name, begins_async_call, is_head, heads_arrow}
 pub use Rattle.swc_ecma_parser_reader.specs.Operands.{Cover, Covers}
@@ -41,6 +41,7 @@ module _ (inner : Class → Reader Tree) (cover : Reader Cover) where
         else if sees kind.LBrace s.at then (object inner cover function >>= close) s
         else if sees kind.This s.at then this s
         else if sees kind.Function s.at then function expression_form s
+        else if sees kind.Class s.at then function class_form s
         else wanted faults.Unexpected s
 
     abbrev pub literal_or : Option Tree → Reader Tree

@@ -11,6 +11,8 @@ pub mod AsyncArrows
 pub mod Expressions
 pub mod Heads
 pub mod Patterns
+pub mod Bodies
+pub mod Members
 pub mod Reader
 pub mod Entry
 pub mod Limits

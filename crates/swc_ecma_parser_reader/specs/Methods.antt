@@ -15,10 +15,11 @@ pub data MethodForm : Type 0 where
   setter_form : MethodForm
   method_form : (is_async is_generator : Bool) → MethodForm
 
--- A function that is an expression; a method that begins at a span, from behind its key; a pattern that an arrow function takes as
--- it stands; and the block of an arrow function.
+-- A function or a class that is an expression; a method that begins at a span, from behind its key; a pattern that an arrow function
+-- takes as it stands; and the block of an arrow function.
 pub data FunctionForm : Type 0 where
   expression_form : FunctionForm
+  class_form : FunctionForm
   property_form : MethodForm → Span → Tree → FunctionForm
   parameter_form : FunctionForm
   block_form : (is_async : Bool) → FunctionForm

@@ -2,7 +2,6 @@
 use Rattle.std.specs.Prelude.{ℕ, zero, suc, Bool, true, false, ◌&&◌, ◌||◌, if◌then◌else◌, List, [], ◌∷◌, ◌++◌, length, codes, Option, Some, None, is_some, Ok}
 use Rattle.swc_ecma_parser_common.specs.declared.span.Span.{Span}
 use Rattle.swc_ecma_parser_error.specs.Kind as faults
-use Rattle.swc_ecma_parser_error.specs.Kind.{Fault}
 use Rattle.swc_ecma_parser_token.specs.declared.kind.TokenKind.{TokenKind}
 use Rattle.swc_ecma_parser_token.specs.declared.kind.TokenKind.TheVariants as kind
 use Rattle.swc_ecma_parser_token.specs.declared.token.Token.{Token}
@@ -13,26 +12,27 @@ use Rattle.swc_ecma_parser_model.specs.declared.leaves.VarDeclKind.{VarDeclKind}
 use Rattle.swc_ecma_parser_model.specs.declared.leaves.VarDeclKind.TheVariants as decl
 use Rattle.swc_ecma_parser_model.specs.Tree as tree
 use Rattle.swc_ecma_parser_model.specs.Tree.{Tree, Text, listed}
-use Rattle.swc_ecma_parser_model.specs.Forms.{is_ident, is_ident_named, is_binding_name, is_rest, span_of, has_plain_params}
+use Rattle.swc_ecma_parser_model.specs.Forms.{is_ident, is_ident_named, span_of}
 use Rattle.swc_ecma_parser_grammar.specs.declared.position.Position.{Position}
 use Rattle.swc_ecma_parser_grammar.specs.Looks.{kind_at, breaks_at, sees, span_at}
 use Rattle.swc_ecma_parser_grammar.specs.Names.{Code, name_at}
 use Rattle.swc_ecma_parser_grammar.specs.Follows.{word_at, may_begin_expression_statement, begins_import_expression, is_let_declaration, is_async_function}
 use Rattle.swc_ecma_parser_grammar.specs.Variables.{is_const, needs_no_initializer}
-use Rattle.swc_ecma_parser_grammar.specs.Parameters as formal
-use Rattle.swc_ecma_parser_grammar.specs.Reads.{with_in, head_code, directed, nested_item, top_item}
-use Rattle.swc_ecma_parser_grammar.specs.Own.{labelled_function, duplicates, misplaced_directive, head_faults}
+use Rattle.swc_ecma_parser_grammar.specs.Reads.{with_in, head_code, nested_item, top_item}
+use Rattle.swc_ecma_parser_grammar.specs.Own.{labelled_function, duplicates, head_faults}
 use Rattle.swc_ecma_parser_grammar.specs.Entries.{script_code}
-use Rattle.swc_ecma_parser_grammar.specs.language.Contexts.{named_by, in_parameters, in_body, in_arrow, in_loop, in_breakable, in_with, without_in}
-use Rattle.swc_ecma_parser_grammar.specs.language.Goals.{Class, expression, assignment}
+use Rattle.swc_ecma_parser_grammar.specs.language.Contexts.{in_loop, in_breakable, in_with, without_in}
+use Rattle.swc_ecma_parser_grammar.specs.language.Goals.{Class, expression, assignment, left_side}
 use Rattle.swc_ecma_parser_grammar.specs.language.Items.{sub_statement, labelled_item}
 use Rattle.swc_ecma_parser_reader.specs.Expressions as exprs
 use Rattle.swc_ecma_parser_reader.specs.Expressions.{Cover}
 use Rattle.swc_ecma_parser_reader.specs.Heads.{head_expr}
-use Rattle.swc_ecma_parser_reader.specs.Methods.{FunctionForm, expression_form, property_form, getter_form, setter_form, method_form, parameter_form, block_form, star}
+use Rattle.swc_ecma_parser_reader.specs.Methods.{FunctionForm, expression_form, class_form, property_form, getter_form, setter_form, method_form, parameter_form, block_form}
+unfoldable pub use Rattle.swc_ecma_parser_reader.specs.Bodies.{closes, at_end, close, directs, after_item, items_turn, items, block_from, block, braced, misdirected, named, function_word, own_name, no_parameter, one_parameter, function_body, function_parts, function_decl, function_expr, getter, setter, plain_method, arrow_block}
+use Rattle.swc_ecma_parser_reader.specs.Members.{member_level, class_expr, class_stmt}
 unfoldable pub use Rattle.swc_ecma_parser_reader.specs.Jumps.{told, target, unbroken, break_stmt, uncontinued, continue_stmt, misplaced, after_return, operand, returned, return_stmt}
 use Rattle.swc_ecma_parser_reader.specs.Patterns.{pattern_level, element_level, parameter_list}
-use Rattle.swc_ecma_parser_reader.specs.State.{Reader, ◌>>=◌, ◌>>◌, pure, here, span_here, since, skip, moved, spanned_from, coded, flagged, within, below_label, enclosed, note_module_item, fault, fault_at, end_of, module_fault, wanted, too_deep, refuse, reject, refused, labelled, name, expect, end, stuck, Step, More, Done, loop}
+use Rattle.swc_ecma_parser_reader.specs.State.{Reader, ◌>>=◌, ◌>>◌, pure, here, span_here, since, skip, moved, spanned_from, coded, flagged, within, below_label, note_module_item, fault, fault_at, end_of, module_fault, wanted, too_deep, refuse, reject, refused, labelled, name, expect, end, stuck, Step, More, Done, loop}
 
 -- ---- statements
 
@@ -98,54 +98,6 @@ module _ (expr : Class → Reader Tree) (pat : Reader Tree) where
     end faults.Unexpected
     span ← spanned_from start
     pure (tree.var span word (listed found))
-
--- a block's statements end before `}` or at the end of the list
-unfoldable pub closes : Place → Bool
-closes c = sees kind.RBrace c || sees kind.End c
-
-unfoldable pub at_end : Place → Bool
-at_end c = sees kind.End c
-
--- the `}`, or a fault where the list has ended
-unfoldable pub close : Reader (Unit {0})
-close = λ s. if sees kind.RBrace s.at then skip s else fault (fault_at (span_at s.at) faults.Expected) s
-
--- whether a statement behind these can be a directive
-abbrev pub directs : Bool → List Tree → Bool
-directs directives [] = directives
-directs directives (x ∷ xs) = false
-
-abbrev pub after_item : Bool → List Tree → Tree → Reader (Step (List Tree) (List Tree))
-after_item directives found x = λ s. Ok (More (found ++ x ∷ []), coded (directed s.code (directs directives found) x) s)
-
-module _ (stmt : Reader Tree) where
-  unfoldable pub items_turn : (Place → Bool) → Bool → List Tree → Reader (Step (List Tree) (List Tree))
-  items_turn stops directives found = λ s. if stops s.at then Ok (Done found, s) else (stmt >>= after_item directives found) s
-
-  -- statements up to a place where they stop, in a body with directives or without
-  unfoldable pub items : (Place → Bool) → Bool → Reader (List Tree)
-  items stops directives = loop (items_turn stops directives) []
-
-  -- statements in braces, from behind the `{`, with directives or without
-  unfoldable pub block_from : Bool → Place → Reader Tree
-  block_from directives start = do
-    body ← items closes directives
-    close
-    span ← spanned_from start
-    pure (tree.block span (listed body))
-
-  unfoldable pub block : Reader Tree
-  block = do
-    start ← here
-    skip
-    block_from false start
-
-  -- statements in braces that must stand here
-  unfoldable pub braced : Bool → Reader Tree
-  braced directives = do
-    start ← here
-    expect kind.LBrace
-    block_from directives start
 
 -- in module code `with` is a fault, which is said at that word
 unfoldable pub note_with : Span → Reader (Unit {0})
@@ -560,110 +512,25 @@ module _ (stmt : Reader Tree) where
       span ← spanned_from start
       pure (tree.try span body h f)
 
--- ---- functions
-
--- parameters that are no plain names, before a body that says it is strict
-unfoldable pub misdirected : (params body : Tree) → Reader (Unit {0})
-misdirected params body = told (misplaced_directive (has_plain_params params) body)
-
-unfoldable pub named : Reader Tree
-named = do
-  i ← name faults.ExpectedIdent
-  pure (tree.ident i.span i.sym)
-
--- the words that begin a function, and whether `async` is one of them
-unfoldable pub function_word : Reader Bool
-function_word = λ s. if is_async_function s.at then Ok (true, moved (moved s)) else Ok (false, moved s)
-
--- the name of a function that is an expression, which is read in the function's own code, or none
-unfoldable pub own_name : (is_async is_generator : Bool) → Reader Tree
-own_name is_async is_generator = λ s. if name_at (named_by s.code is_async is_generator).flags s.at then within (λ k. named_by k is_async is_generator) named s else Ok (tree.absent, s)
-
--- A getter has no parameter, a setter one, which is no rest; else the word that it begins with is refused.
-abbrev pub no_parameter : Span → List Tree → Reader (Unit {0})
-no_parameter word [] = pure tt
-no_parameter word (p ∷ ps) = reject (fault_at word faults.GetterParam)
-
-abbrev pub one_parameter : Span → List Tree → Reader Tree
-one_parameter word (p ∷ []) = λ s. if is_rest p then reject (fault_at word faults.RestPatInSetter) s else Ok (p, s)
-one_parameter word _ = reject (fault_at word faults.SetterParam)
+-- ---- a function or a class as a part of an expression
 
 module _ (stmt : Reader Tree) (params : Reader (List Tree)) where
-  -- a body, which has labels and an entry of its own
-  unfoldable pub function_body : (is_async is_generator : Bool) → Reader Tree
-  function_body is_async is_generator = within (λ k. in_body k is_async is_generator) (enclosed (braced stmt true))
-
-  -- from behind the name
-  unfoldable pub function_parts : (is_async is_generator : Bool) → Span → Reader Tree
-  function_parts is_async is_generator start = do
-    ps ← within (λ k. in_parameters k is_async is_generator) params
-    body ← function_body is_async is_generator
-    span ← since start
-    misdirected (formal.parameters ps) body
-    pure (tree.function span (listed []) (formal.parameters ps) body is_async is_generator)
-
-  unfoldable pub function_decl : Reader Tree
-  function_decl = do
-    start ← span_here
-    is_async ← function_word
-    is_generator ← star
-    i ← name faults.ExpectedIdent
-    fn ← function_parts is_async is_generator start
-    pure (tree.fn_decl (tree.ident i.span i.sym) fn)
-
-  -- a function that is an expression, with a name or without one
-  unfoldable pub function_expr : Reader Tree
-  function_expr = do
-    start ← span_here
-    is_async ← function_word
-    is_generator ← star
-    i ← own_name is_async is_generator
-    fn ← function_parts is_async is_generator start
-    pure (tree.fn_expr (span_of fn) i fn)
-
-  -- ---- methods, from behind their key: section 15.4
-
-  unfoldable pub getter : Span → Tree → Reader Tree
-  getter start key = do
-    ps ← within (λ k. in_parameters k false false) params
-    no_parameter start ps
-    body ← function_body false false
-    span ← since start
-    pure (tree.getter_prop span key body)
-
-  unfoldable pub setter : Span → Tree → Reader Tree
-  setter start key = do
-    ps ← within (λ k. in_parameters k false false) params
-    p ← one_parameter start ps
-    body ← function_body false false
-    span ← since start
-    told (misplaced_directive (is_binding_name p) body)
-    pure (tree.setter_prop span key p body)
-
-  unfoldable pub plain_method : (is_async is_generator : Bool) → Span → Tree → Reader Tree
-  plain_method is_async is_generator start key = do
-    fn ← function_parts is_async is_generator start
-    pure (tree.method_prop (span_of fn) key fn)
-
-  -- the block of an arrow function, which has no directives, but labels and an entry of its own
-  unfoldable pub arrow_block : (is_async : Bool) → Reader Tree
-  arrow_block is_async = within (λ k. with_in (in_arrow k is_async)) (enclosed (braced stmt false))
-
-  module _ (pat : Reader Tree) where
-    -- a function as a part of an expression
+  module _ (pat inner_class : Reader Tree) where
     unfoldable pub function_by : FunctionForm → Reader Tree
-    function_by expression_form = function_expr
-    function_by (property_form getter_form start key) = getter start key
-    function_by (property_form setter_form start key) = setter start key
-    function_by (property_form (method_form is_async is_generator) start key) = plain_method is_async is_generator start key
+    function_by expression_form = function_expr stmt params
+    function_by class_form = inner_class
+    function_by (property_form getter_form start key) = getter stmt params start key
+    function_by (property_form setter_form start key) = setter stmt params start key
+    function_by (property_form (method_form is_async is_generator) start key) = plain_method stmt params is_async is_generator start key
     function_by parameter_form = pat
-    function_by (block_form is_async) = arrow_block is_async
+    function_by (block_form is_async) = arrow_block stmt params is_async
 
   -- where no declaration is read, its word is a fault
   unfoldable pub function_stmt : Position → Reader Tree
-  function_stmt at = λ s. if at.include_decl then function_decl s else (fault (fault_at (span_at s.at) faults.DeclNotAllowed) >> function_decl) s
+  function_stmt at = λ s. if at.include_decl then function_decl stmt params s else (fault (fault_at (span_at s.at) faults.DeclNotAllowed) >> function_decl stmt params) s
 
-module _ (stmt : Position → Reader Tree) (expr : Class → Reader Tree) (pat : Reader Tree) (head_cover : Reader Cover) (params : Reader (List Tree)) where
+module _ (stmt : Position → Reader Tree) (expr : Class → Reader Tree) (pat : Reader Tree) (head_cover : Reader Cover) (params : Reader (List Tree))
+    (member : Reader Tree) where
   -- `const`, where declarations are read
   unfoldable pub const_stmt : Position → Reader Tree
   const_stmt at = if at.include_decl then variables expr pat decl.Const else wanted faults.Unexpected
@@ -695,6 +562,7 @@ module _ (stmt : Position → Reader Tree) (expr : Class → Reader Tree) (pat :
   stmt_by at kind.Do = do_while (stmt sub_statement) (expr expression)
   stmt_by at kind.For = for_stmt (stmt sub_statement) expr pat head_cover
   stmt_by at kind.Function = function_stmt (stmt nested_item) params at
+  stmt_by at kind.Class = class_stmt (expr left_side) member at
   stmt_by at kind.Ident = async_or_other at
   stmt_by at kind.Import = import_stmt_at (expr expression)
   stmt_by at _ = other_stmt stmt (expr expression) at
@@ -708,17 +576,17 @@ unfoldable mutual
   -- an expression of a class
   pub expr : ℕ → Class → Reader Tree
   expr zero class = too_deep
-  expr (suc n) class = exprs.expr_level (expr n) (cover n) (function_by (stmt n nested_item) (parameter_list (expr n) (cover n) (pattern n) (element n)) (pattern n)) class
+  expr (suc n) class = exprs.expr_level (expr n) (cover n) (function_by (stmt n nested_item) (parameter_list (expr n) (cover n) (pattern n) (element n)) (pattern n) (class_expr (expr n left_side) (member n))) class
 
   -- an assignment expression that may still become a pattern
   pub cover : ℕ → Reader Cover
   cover zero = too_deep
-  cover (suc n) = exprs.cover_expr (expr n) (cover n) (function_by (stmt n nested_item) (parameter_list (expr n) (cover n) (pattern n) (element n)) (pattern n))
+  cover (suc n) = exprs.cover_expr (expr n) (cover n) (function_by (stmt n nested_item) (parameter_list (expr n) (cover n) (pattern n) (element n)) (pattern n) (class_expr (expr n left_side) (member n)))
 
   -- what the head of a loop begins with
   pub head_cover : ℕ → Reader Cover
   head_cover zero = too_deep
-  head_cover (suc n) = head_expr (expr n) (cover n) (function_by (stmt n nested_item) (parameter_list (expr n) (cover n) (pattern n) (element n)) (pattern n))
+  head_cover (suc n) = head_expr (expr n) (cover n) (function_by (stmt n nested_item) (parameter_list (expr n) (cover n) (pattern n) (element n)) (pattern n) (class_expr (expr n left_side) (member n)))
 
   -- a pattern without default
   pub pattern : ℕ → Reader Tree
@@ -730,10 +598,15 @@ unfoldable mutual
   element zero = too_deep
   element (suc n) = element_level (expr n) (cover n) (pattern n) (element n)
 
+  -- a member of a class
+  pub member : ℕ → Reader Tree
+  member zero = too_deep
+  member (suc n) = member_level (expr n) (cover n) (stmt n nested_item) (parameter_list (expr n) (cover n) (pattern n) (element n))
+
   -- a statement
   pub stmt : ℕ → Position → Reader Tree
   stmt zero at = too_deep
-  stmt (suc n) at = stmt_level (stmt n) (expr n) (pattern n) (head_cover n) (parameter_list (expr n) (cover n) (pattern n) (element n)) at
+  stmt (suc n) at = stmt_level (stmt n) (expr n) (pattern n) (head_cover n) (parameter_list (expr n) (cover n) (pattern n) (element n)) (member n) at
 
 -- the parameters of a function, each with its default, if one stands there
 abbrev pub parameters : ℕ → Reader (List Tree)
@@ -741,7 +614,7 @@ parameters n = parameter_list (expr n) (cover n) (pattern n) (element n)
 
 -- a function as a part of an expression
 unfoldable pub function : ℕ → FunctionForm → Reader Tree
-function n = function_by (stmt n nested_item) (parameters n) (pattern n)
+function n = function_by (stmt n nested_item) (parameters n) (pattern n) (class_expr (expr n left_side) (member n))
 
 -- ---- the top level: a statement that begins with `await` makes a program a module
 

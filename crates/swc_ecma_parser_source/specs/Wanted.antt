@@ -7,5 +7,6 @@ abbrev pub wanted_kind : Wanted → Kind
 wanted_kind wanted.Name = ExpectedIdent
 wanted_kind wanted.Expression = Unexpected
 wanted_kind wanted.StringLiteral = Unexpected
+wanted_kind wanted.Member = Unexpected
 wanted_kind (wanted.Token spelling) = Expected
 wanted_kind (wanted.EndOfExpression span) = ExpectedSemiForExprStmt

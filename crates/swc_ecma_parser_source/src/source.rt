@@ -73,6 +73,10 @@ pub trait Source {
     fn export_default_from(&self) -> bool
         ensures { result ≡ (seen self.now).code.setting.export_default_from };
 
+    /// Whether fields with a getter and a setter are read.
+    fn auto_accessors(&self) -> bool
+        ensures { result ≡ (seen self.now).code.setting.auto_accessors };
+
     /// Whether `return` may stand outside of functions.
     fn allow_return_outside_function(&self) -> bool
         ensures { result ≡ (seen self.now).code.setting.allow_return_outside_function };
@@ -135,6 +139,10 @@ pub trait Source {
     /// The same of the token behind the current one.
     fn next_word_at(&self, text: &'static str) -> bool
         ensures { result ≡ follows.word_at text.now (place.after (seen self.now).at) };
+
+    /// Whether a line break stands before the token behind the current one.
+    fn next_had_line_break(&self) -> bool
+        ensures { result ≡ looks.breaks_at (place.after (seen self.now).at) };
 
     /// Whether a token of this kind stands behind the current one.
     fn next_sees(&self, kind: TokenKind) -> bool

@@ -18,6 +18,8 @@ pub enum Wanted {
     Expression,
     /// A string.
     StringLiteral,
+    /// What goes on behind the key of a member of a class.
+    Member,
     /// A token, by its spelling.
     Token(&'static str),
     /// The end of an expression statement, whose expression has this span.
@@ -83,6 +85,10 @@ pub fn missing(
         Wanted::StringLiteral => SyntaxError::Unexpected {
             got: Atom::new(alloc, text_of(found))?,
             expected: Atom::new(alloc, "a string literal")?,
+        },
+        Wanted::Member => SyntaxError::Unexpected {
+            got: Atom::new(alloc, text_of(found))?,
+            expected: Atom::new(alloc, "* for generator, private key, identifier or async")?,
         },
         Wanted::Token(spelling) => SyntaxError::Expected(
             Atom::new(alloc, spelling)?,

@@ -45,6 +45,10 @@ impl<I: Tokens> Source for State<I> {
         State::export_default_from(self)
     }
 
+    fn auto_accessors(&self) -> bool {
+        State::auto_accessors(self)
+    }
+
     fn allow_return_outside_function(&self) -> bool {
         State::allow_return_outside_function(self)
     }
@@ -103,6 +107,10 @@ impl<I: Tokens> Source for State<I> {
 
     fn next_word_at(&self, text: &'static str) -> bool {
         State::next_word_at(self, text)
+    }
+
+    fn next_had_line_break(&self) -> bool {
+        State::next_had_line_break(self)
     }
 
     fn next_sees(&self, kind: TokenKind) -> bool {

@@ -134,6 +134,13 @@ impl<I: Tokens> State<I> {
         self.buffer.syntax().es().export_default_from
     }
 
+    /// Whether fields with a getter and a setter are read.
+    pub fn auto_accessors(&self) -> bool
+        ensures { result ≡ self.now.code.setting.auto_accessors }
+    {
+        self.buffer.syntax().es().auto_accessors
+    }
+
     /// Whether `return` may stand outside of functions.
     pub fn allow_return_outside_function(&self) -> bool
         ensures { result ≡ self.now.code.setting.allow_return_outside_function }

@@ -192,4 +192,4 @@ pub trait BuildsStatements: BuildsExpr
     + BuildsTry
     + BuildsLoop
     + BuildsFor
-    + BuildsDecl {}
+    + BuildsClassDecl {}

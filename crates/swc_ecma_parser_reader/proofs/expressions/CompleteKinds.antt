@@ -141,13 +141,14 @@ pub false_unnamed : (f : Context) → token_is_name f (token.Word word.False) �
 unfolding is_name is_reserved
 false_unnamed f = refl
 
--- `(`, `[`, `{`, `this` and `function` are no name and no literal, nor are `)` and `...`
+-- `(`, `[`, `{`, `this`, `function` and `class` are no name and no literal, nor are `)` and `...`
 abbrev is_marked : TokenKind → Bool
 is_marked kind.LParen = true
 is_marked kind.LBracket = true
 is_marked kind.LBrace = true
 is_marked kind.This = true
 is_marked kind.Function = true
+is_marked kind.Class = true
 is_marked kind.RParen = true
 is_marked kind.DotDotDot = true
 is_marked _ = false
@@ -156,6 +157,7 @@ marked_keyword : (f : Context) (k : Keyword) → is_marked (keyword_kind k) ≡ 
 unfolding is_name is_reserved
 marked_keyword f keyword.This e = refl
 marked_keyword f keyword.Function e = refl
+marked_keyword f keyword.Class e = refl
 marked_keyword f _ e = cc
 
 marked_word : (f : Context) (w : Word) (s : Span) → is_marked (word_kind w) ≡ true → (token_is_name f (token.Word w) ≡ false) × (literal_of s (token.Word w) ≡ None)
@@ -194,6 +196,9 @@ this_here f c e = marked_here f c (rw e refl)
 
 pub function_here : (f : Context) (c : Place) → kind_at c ≡ kind.Function → (name_at f c ≡ false) × (literal_in c.left ≡ None)
 function_here f c e = marked_here f c (rw e refl)
+
+pub class_here : (f : Context) (c : Place) → kind_at c ≡ kind.Class → (name_at f c ≡ false) × (literal_in c.left ≡ None)
+class_here f c e = marked_here f c (rw e refl)
 
 pub close_here : (f : Context) (c : Place) → kind_at c ≡ kind.RParen → (name_at f c ≡ false) × (literal_in c.left ≡ None)
 close_here f c e = marked_here f c (rw e refl)
@@ -441,7 +446,7 @@ module _ (In : Goal → Type 0) where
   primary_first k x c d (sides.array_rule xs m i r j n e) h = rw i refl
   primary_first k x c d (sides.object_rule xs m i r j n e) h = rw i refl
   primary_first k x c d (sides.function_rule name y r e) h = function_first c r
-  primary_first k x c d (sides.class_rule name y r e) h = refuted _ x (ap (supported_in k.flags.module) e) h
+  primary_first k x c d (sides.class_rule name y r e) h = ap primary_kind r.is_class
   primary_first k x c d (sides.paren_rule y m i r j n e) h = rw i refl
 
   pub left_first : (k : Code) (x : Tree) (c d : Place) → LeftSideRule In k x c d → supported_in k.flags.module x ≡ true → operand_kind (kind_at c) ≡ true

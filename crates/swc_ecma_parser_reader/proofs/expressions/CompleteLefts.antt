@@ -30,7 +30,7 @@ use Rattle.swc_ecma_parser_grammar.specs.language.LeftSides.{PrimaryRule, LeftSi
 use Rattle.swc_ecma_parser_grammar.proofs.Tests.{and_yes, and_no}
 use Rattle.swc_ecma_parser_reader.specs.Notes.{Notes, ◌⊕◌, notes_of}
 use Rattle.swc_ecma_parser_reader.specs.State.{and_then, ◌>>=◌, Scope, State, Reader, name}
-use Rattle.swc_ecma_parser_reader.specs.Methods.{FunctionForm, expression_form}
+use Rattle.swc_ecma_parser_reader.specs.Methods.{FunctionForm, expression_form, class_form}
 use Rattle.swc_ecma_parser_reader.specs.Expressions.{Cover, close, literal_of, literal, ident_expr, this, bare_new, access, arguments, array, property, object, paren, marked_primary, primary, accessed, called, left_turn, left_from, super_call, super_access, behind_super, super_head, constructed, new_head, import_call, meta_fault, import_meta, import_head, left_head, left, named_expr}
 use Rattle.swc_ecma_parser_reader.proofs.Notes.{or_nil, or_true, or_assoc}
 use Rattle.swc_ecma_parser_reader.proofs.Answered.{st, Reads, ReadsAs}
@@ -39,7 +39,7 @@ use Rattle.swc_ecma_parser_reader.proofs.expressions.Falls.{access_falls, argume
 use Rattle.swc_ecma_parser_reader.proofs.expressions.Loops.{shorter_by}
 use Rattle.swc_ecma_parser_reader.proofs.expressions.CompleteParts.{expect_reads, name_reads, literal_reads, AsExpr, IsRead, IsFunctionRead, inside_reads, access_reads, access_seen, super_property_reads, arguments_read}
 use Rattle.swc_ecma_parser_reader.proofs.expressions.CompleteCovers.{array_reads, object_reads}
-use Rattle.swc_ecma_parser_reader.proofs.expressions.CompleteKinds.{refuted, supported_as, seen, named, null_unnamed, true_unnamed, false_unnamed, paren_here, array_here, object_here, this_here, function_here, primary_first, primary_seen}
+use Rattle.swc_ecma_parser_reader.proofs.expressions.CompleteKinds.{refuted, supported_as, seen, named, null_unnamed, true_unnamed, false_unnamed, paren_here, array_here, object_here, this_here, function_here, class_here, primary_first, primary_seen}
 use Rattle.swc_ecma_parser_grammar.proofs.Naming.{name_is_name}
 
 module _ (In : Goal → Type 0) (inner : Class → Reader Tree) (cover : Reader Cover) (given : IsRead In inner cover) (function : FunctionForm → Reader Tree) (functions : IsFunctionRead In function) where
@@ -89,6 +89,11 @@ module _ (In : Goal → Type 0) (inner : Class → Reader Tree) (cover : Reader 
   first_function k x c d m (not_async i j) e reads = plain_function k x c d (ap kind_at (sym j) ∙ e) reads
   first_function k x c d m (async_word i j l n) e reads = async_function k x c d (async_stands c m j l n e) reads
 
+  -- its word leads to a class
+  first_class : (k : Code) (x : Tree) (c d : Place) → kind_at c ≡ kind.Class → Reads (function class_form) k x c d → Reads (primary inner cover function) k x c d
+  unfolding primary literal marked_primary same_kind
+  first_class k x c d e reads w f h = rw ((class_here k.flags c e).0, (class_here k.flags c e).1, e) (reads w f h)
+
   paren_reads : (e : Tree) (m : Place) (k : Code) (x : Tree) (c d : Place) → In (expr_goal expression (with_in k) e (after c) m) → supported_in k.flags.module e ≡ true → kind_at m ≡ kind.RParen → d ≡ after m
       → x ≡ tree.paren (spanned c d) e → Reads (paren inner cover) k x c d
   unfolding paren spanned
@@ -126,7 +131,7 @@ module _ (In : Goal → Type 0) (inner : Class → Reader Tree) (cover : Reader 
   primary_reads k x c d (sides.object_rule xs m i r j n e) s w f h =
       first_object k x c d i (object_reads In inner cover given function functions xs m k x c d r (supported_as _ x (tree.object (spanned c d) (listed xs)) e s) j n e) w f h
   primary_reads k x c d (sides.function_rule name y r e) s w f h = first_function k x c d r.word r.reads_async r.is_function (functions.reads k x c d name y r e s) w f h
-  primary_reads k x c d (sides.class_rule name y r e) s w f h = refuted _ x (ap (supported_in k.flags.module) e) s
+  primary_reads k x c d (sides.class_rule name y r e) s w f h = first_class k x c d r.is_class (functions.classes k x c d name y r e s) w f h
   primary_reads k x c d (sides.paren_rule e m o r g i j) s w f h =
       first_paren k x c d o (paren_reads e m k x c d r (supported_as _ x (tree.paren (spanned c d) e) j s) g i j) w f h
 

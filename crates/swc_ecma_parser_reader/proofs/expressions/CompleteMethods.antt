@@ -48,7 +48,7 @@ apart_first : (a b : Text) (ts : List TokenAndSpan) → bytes_eq a b ≡ false �
 apart_first a b [] e h = cc
 apart_first a b (t ∷ ts) e h = apart_token a b t.token e h
 
-apart : (a b : Text) (c : Place) → bytes_eq a b ≡ false → word_at a c ≡ true → word_at b c ≡ false
+pub apart : (a b : Text) (c : Place) → bytes_eq a b ≡ false → word_at a c ≡ true → word_at b c ≡ false
 unfolding word_at
 apart a b c e h = apart_first a b c.left e h
 
@@ -61,11 +61,11 @@ unworded_first : (text : Text) (ts : List TokenAndSpan) → first_is_word ts ≡
 unworded_first text [] e = refl
 unworded_first text (t ∷ ts) e = unworded_token text t.token e
 
-unworded : (text : Text) (c : Place) → is_word_at c ≡ false → word_at text c ≡ false
+pub unworded : (text : Text) (c : Place) → is_word_at c ≡ false → word_at text c ≡ false
 unfolding word_at is_word_at
 unworded text c e = unworded_first text c.left e
 
-star_unworded : (text : Text) (c : Place) → kind_at c ≡ kind.Mul → word_at text c ≡ false
+pub star_unworded : (text : Text) (c : Place) → kind_at c ≡ kind.Mul → word_at text c ≡ false
 star_unworded text c e = by_test (word_at text c) refl
   where
     by_test : (b : Bool) → word_at text c ≡ b → word_at text c ≡ false

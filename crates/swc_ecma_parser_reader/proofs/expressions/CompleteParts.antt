@@ -26,6 +26,7 @@ use Rattle.swc_ecma_parser_grammar.specs.Supported.{supported_in, is_supported_p
 use Rattle.swc_ecma_parser_grammar.specs.Parameters.{parameters}
 use Rattle.swc_ecma_parser_grammar.specs.language.Contexts.{in_arrow}
 use Rattle.swc_ecma_parser_grammar.specs.language.Functions.{PatternItemRule, FunctionRule, FunctionParts}
+use Rattle.swc_ecma_parser_grammar.specs.language.Classes.{ClassRule}
 use Rattle.swc_ecma_parser_grammar.specs.language.Goals.{Goal, Class, expression, assignment, callee, assigning, binding, expr_goal, callee_goal, element_goal, pattern_goal}
 use Rattle.swc_ecma_parser_grammar.specs.language.Items.{BlockRule}
 use Rattle.swc_ecma_parser_grammar.specs.language.Lists.{ReadsListed, LastComma, no_comma, last_comma}
@@ -35,7 +36,7 @@ use Rattle.swc_ecma_parser_grammar.proofs.Binding.{ArrowPartRule}
 use Rattle.swc_ecma_parser_grammar.proofs.Tests.{and_yes, and_no}
 use Rattle.swc_ecma_parser_reader.specs.Notes.{Notes, no_notes, ◌⊕◌, notes_of, all_notes_of}
 use Rattle.swc_ecma_parser_reader.specs.State.{and_then, Scope, State, Reader, expect, name, loop}
-use Rattle.swc_ecma_parser_reader.specs.Methods.{MethodForm, getter_form, setter_form, method_form, FunctionForm, expression_form, property_form, parameter_form, block_form}
+use Rattle.swc_ecma_parser_reader.specs.Methods.{MethodForm, getter_form, setter_form, method_form, FunctionForm, expression_form, class_form, property_form, parameter_form, block_form}
 use Rattle.swc_ecma_parser_reader.specs.Expressions.{Cover, literal_of, literal_in, literal, any_word, touching_word, private_name, word_property, token_is_word, literal_key, shorthand_name, shorthand, dotted, super_property, inside, brackets, access, spread_element, plain_element, element, arguments_turn, arguments, computed_key, key, key_or}
 use Rattle.swc_ecma_parser_reader.proofs.Notes.{or_nil, or_assoc}
 use Rattle.swc_ecma_parser_reader.proofs.Answered.{st, Reads, ReadsAs}
@@ -66,7 +67,7 @@ any_word_reads : (text : Text) (sp : Span) (c d : Place) (k : Code) (w : Scope) 
     → any_word (st c k w f h) ≡ Ok (record { span = sp; sym = text }, st d k w f h)
 any_word_reads text sp c d k w f h r = rw (any_word_by r.word sp c d k w f h r.reads_word, ← r.is_text) refl
 
-private_reads : (k : Code) (x : Tree) (c d : Place) → PrivateRule x c d → Reads private_name k x c d
+pub private_reads : (k : Code) (x : Tree) (c d : Place) → PrivateRule x c d → Reads private_name k x c d
 unfolding private_name touching_word spanned
 private_reads k x c d r w f h =
     rw (touching r.text r.span c d r.hash r.reads_word r.touches, any_word_reads r.text r.span (after c) d k w f h r.reads_word, r.is, append-nil f, append-nil h.held_back, or_nil h.found_module_item) refl
@@ -153,6 +154,8 @@ MethodIsRead function form k key x c m d = (w : Scope) (f : List Fault) (h : Not
 pub record IsFunctionRead (In : Goal → Type 0) (function : FunctionForm → Reader Tree) : Type 0 where
   pub reads : (k : Code) (x : Tree) (c d : Place) (name y : Tree) → FunctionRule In true k (listed []) name y c d → x ≡ tree.fn_expr (spanned c d) name y → supported_in k.flags.module x ≡ true
       → Reads (function expression_form) k x c d
+  pub classes : (k : Code) (x : Tree) (c d : Place) (name y : Tree) → ClassRule In k c (listed []) name y c d → x ≡ tree.class_expr (spanned c d) name y → supported_in k.flags.module x ≡ true
+      → Reads (function class_form) k x c d
   pub getters : (k : Code) (key body x : Tree) (c m d : Place) → FunctionParts In k false false [] body m d → x ≡ tree.getter_prop (spanned c d) key body → supported_in k.flags.module x ≡ true
       → MethodIsRead function getter_form k key x c m d
   pub setters : (k : Code) (key p body x : Tree) (c m d : Place) → FunctionParts In k false false (p ∷ []) body m d → is_rest p ≡ false → x ≡ tree.setter_prop (spanned c d) key p body

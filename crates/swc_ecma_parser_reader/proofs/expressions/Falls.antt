@@ -33,7 +33,7 @@ use Rattle.swc_ecma_parser_grammar.specs.language.Goals.{Class, expression, assi
 use Rattle.swc_ecma_parser_grammar.specs.language.Operators.{unary_operator, update_operator, assign_operator, groups_left, mixes, is_unary}
 use Rattle.swc_ecma_parser_grammar.specs.language.Continues.{continues_conditional}
 use Rattle.swc_ecma_parser_reader.specs.State.{State, Outcome, Reader, and_then, moved, module_found, coded, within, enclosed, unlabelled, reject, reject_in, reject_at, fault, fault_at, expect, name, loop}
-use Rattle.swc_ecma_parser_reader.specs.Methods.{MethodForm, FunctionForm, expression_form, property_form, parameter_form, block_form, modifies, begins_async_method, star, starred, method_words, is_bare}
+use Rattle.swc_ecma_parser_reader.specs.Methods.{MethodForm, FunctionForm, expression_form, class_form, property_form, parameter_form, block_form, modifies, begins_async_method, star, starred, method_words, is_bare}
 use Rattle.swc_ecma_parser_reader.specs.Expressions.{Cover, Covers, no_covers, with_cover, unmarked, close, target_or, target, goes_on, literal, literal_in, taken, any_word, word_in, word_by, touching_word, private_name, word_property, is_word_at, key_or, literal_key, shorthand_name, shorthand, dotted, ident_expr, this, bare_new, closed_left, simple, update_behind, behind_operand, postfix_at, right_class, operator_at, left_operand, unmixed, unassigned, unheaded, heads_arrow, begins_async_call, inside, brackets, access, spread_element, plain_element, element, behind_comma, behind_argument, arguments_turn, arguments, covered, spread_item, plain_item, item, behind_item, array_turn, elements, array, computed_key, key, key_value, initialized, initialized_name, initialized_key, bare_key, behind_key, method, behind_words, keyed_property, spread_property, property, behind_property, object_turn, properties, object, paren, marked_primary, literal_or, primary, accessed, called, left_turn, left_from, super_call, super_property, super_access, behind_super, super_head, constructed, new_head, import_call, meta_fault, import_meta, import_head, left_head, left, left_expr, prefixed, update_before, await_allowed, await_expr, postfix, updated, unary_by, unary_expr, operated, binary_by, binary_turn, binary_from, binary_expr, conditional, assigned_to, assigned, assigned_or, behind_operators, operators_expr, plain_expr, postfixed, continued, closed, assigned_pattern, behind_literal, open_literal, done_expr, cover_expr, assignment_expr, sequence_turn, sequence_from, expression_expr, expr_level, named_expr}
 use Rattle.swc_ecma_parser_reader.specs.Jumps.{told}
 use Rattle.swc_ecma_parser_reader.specs.Arrows.{begins_named_arrow, Group, behind_part, closed_parts, may_stand_alone, closed_group, parameter_or, parameter, parameters_of, arrow_body, arrow_from, named_arrow, rest_part, part_turn, group_parts, group, behind_group, grouped}
@@ -67,6 +67,7 @@ no_end s k h e = λ g. h (sym (saw s.at k e) ∙ g)
 -- what a reader of functions reads takes tokens: an expression, a parameter and a block one at least
 pub record FunctionsFall (function : FunctionForm → Reader Tree) : Type 0 where
   pub expressions : (s : State) → begins_function s.at ≡ true → Falls 1 (length s.at.left) (function expression_form s)
+  pub classes : (s : State) → kind_at s.at ≡ kind.Class → Falls 1 (length s.at.left) (function class_form s)
   pub methods : (form : MethodForm) (start : Span) (x : Tree) (s : State) → Falls 0 (length s.at.left) (function (property_form form start x) s)
   pub parameters : (s : State) → Falls 1 (length s.at.left) (function parameter_form s)
   pub blocks : (is_async : Bool) (s : State) → Falls 1 (length s.at.left) (function (block_form is_async) s)
@@ -75,7 +76,7 @@ pub star_falls : (s : State) → Falls 0 (length s.at.left) (star s)
 unfolding star
 star_falls s = falls_if 0 (length s.at.left) (sees kind.Mul s.at) _ _ (let m = moves s.at in omega arith) (omega arith)
 
-starred_falls : (is_async : Bool) (s : State) → Falls 0 (length s.at.left) (starred is_async s)
+pub starred_falls : (is_async : Bool) (s : State) → Falls 0 (length s.at.left) (starred is_async s)
 unfolding starred
 starred_falls is_async s = falls_last 0 (length s.at.left) (star s) _ (star_falls s)
 
@@ -103,7 +104,7 @@ touching_falls : (s : State) → Falls 1 (length s.at.left) (touching_word s)
 unfolding touching_word
 touching_falls s = falls_if 1 (length s.at.left) _ _ _ (any_word_falls s) (wanted_falls Ident 1 (length s.at.left) faults.Unexpected s)
 
-private_falls : (s : State) → Falls 1 (length s.at.left) (private_name s)
+pub private_falls : (s : State) → Falls 1 (length s.at.left) (private_name s)
 unfolding private_name
 private_falls s = falls_moved 1 s _ (falls_last 1 (length (after s.at).left) (touching_word (moved s)) _ (touching_falls (moved s)))
 
@@ -163,7 +164,7 @@ key_or_falls s (Some (tree.num span raw)) e = literal_takes s s.at.left (tree.nu
 key_or_falls s (Some (tree.big_int span raw)) e = literal_takes s s.at.left (tree.big_int span raw) refl e
 key_or_falls s (Some _) e = falls_moved 1 s _ (wanted_falls Tree 1 (length (after s.at).left) faults.Unexpected (moved s))
 
-literal_key_falls : (s : State) → Falls 1 (length s.at.left) (literal_key s)
+pub literal_key_falls : (s : State) → Falls 1 (length s.at.left) (literal_key s)
 unfolding literal_key literal
 literal_key_falls s = key_or_falls s (literal_in s.at.left) refl
 
@@ -577,7 +578,8 @@ module _ (inner : Class → Reader Tree) (cover : Reader Cover) (h : (class : Cl
         falls_when 1 (length s.at.left) (sees kind.LBrace s.at) _ _
         (λ e. falls_next (length s.at.left) (object inner cover function s) _ (object_falls function i s (no_end s kind.LBrace (λ z. cc) e)) close_falls) (λ _.
         falls_when 1 (length s.at.left) (sees kind.This s.at) _ _ (λ e. this_falls s (no_end s kind.This (λ z. cc) e)) (λ _.
-        falls_when 1 (length s.at.left) (sees kind.Function s.at) _ _ (λ e. i.expressions s (function_begins s.at (saw s.at kind.Function e))) (λ _. wanted_falls Tree 1 (length s.at.left) faults.Unexpected s)))))
+        falls_when 1 (length s.at.left) (sees kind.Function s.at) _ _ (λ e. i.expressions s (function_begins s.at (saw s.at kind.Function e))) (λ _.
+        falls_when 1 (length s.at.left) (sees kind.Class s.at) _ _ (λ e. i.classes s (saw s.at kind.Class e)) (λ _. wanted_falls Tree 1 (length s.at.left) faults.Unexpected s))))))
 
     literal_or_falls : (s : State) (o : Option Tree) → literal_in s.at.left ≡ o → Falls 1 (length s.at.left) (and_then (taken o s) (literal_or inner cover function))
     literal_or_falls s None e = marked_falls s

@@ -31,7 +31,7 @@ use Rattle.swc_ecma_parser_grammar.specs.language.Goals.{Class, expression, assi
 use Rattle.swc_ecma_parser_grammar.specs.language.Operators.{unary_operator, update_operator, binary_operator, assign_operator, groups_left, mixes, is_unary}
 use Rattle.swc_ecma_parser_grammar.specs.language.Continues.{continues_conditional}
 use Rattle.swc_ecma_parser_reader.specs.State.{State, Reader, and_then, ◌>>=◌, moved, noted, module_found, coded, within, enclosed, unlabelled, wanted, fault_at, fault, expect, name, loop}
-use Rattle.swc_ecma_parser_reader.specs.Methods.{MethodForm, FunctionForm, expression_form, property_form, parameter_form, block_form, modifies, begins_async_method, star, starred, method_words, is_bare}
+use Rattle.swc_ecma_parser_reader.specs.Methods.{MethodForm, FunctionForm, expression_form, class_form, property_form, parameter_form, block_form, modifies, begins_async_method, star, starred, method_words, is_bare}
 use Rattle.swc_ecma_parser_reader.specs.Expressions.{Cover, no_covers, unmarked, close, target_or, target, goes_on, literal, literal_in, taken, any_word, word_in, word_by, touching_word, private_name, word_property, is_word_at, key_or, literal_key, shorthand_name, shorthand, dotted, ident_expr, this, bare_new, closed_left, simple, update_behind, behind_operand, postfix_at, right_class, read_operator, operator_at, left_operand, unmixed, unassigned, unassignable, unheaded, heads_arrow, begins_async_call, inside, brackets, access, spread_element, plain_element, element, arguments_turn, arguments, covered, spread_item, plain_item, item, array_turn, elements, array, computed_key, key, key_value, initialized, initialized_name, initialized_key, bare_key, behind_key, method, behind_words, keyed_property, spread_property, property, object_turn, properties, object, paren, marked_primary, literal_or, primary, accessed, called, left_turn, left_from, super_call, super_property, super_access, behind_super, super_head, constructed, new_head, import_call, meta_fault, import_meta, import_head, left_head, left, left_expr, prefixed, update_before, await_expr, postfix, updated, unary_by, unary_expr, operated, binary_by, binary_turn, binary_from, binary_expr, conditional, assigned_to, assigned, assigned_or, behind_operators, operators_expr, plain_expr, postfixed, continued, closed, assigned_pattern, behind_literal, open_literal, done_expr, cover_expr, assignment_expr, sequence_turn, sequence_from, expression_expr, expr_level, named_expr}
 use Rattle.swc_ecma_parser_reader.specs.Jumps.{told}
 use Rattle.swc_ecma_parser_reader.specs.Arrows.{begins_named_arrow, Group, behind_part, closed_parts, may_stand_alone, closed_group, parameter, parameter_or, parameters_of, arrow_body, arrow_from, named_arrow, rest_part, part_turn, group_parts, group, behind_group, grouped}
@@ -200,7 +200,7 @@ literal_key_keeps b s f = answers_then _ _ (literal s) _ (literal_keeps b s f) b
     by_key (Some (tree.big_int span raw)) t g = g
     by_key _ t g = unexpected_keeps b t g _
 
-private_keeps : (b : State) (s : State) → IsBehind b s → Answers (Kept b) (Lost b) (private_name s)
+pub private_keeps : (b : State) (s : State) → IsBehind b s → Answers (Kept b) (Lost b) (private_name s)
 unfolding private_name
 private_keeps b s f = answers_then _ _ (touching_word (moved s)) _ (touching_keeps b (moved s) (behind_after b s f)) (λ i t g. g)
 
@@ -223,7 +223,7 @@ pub star_keeps : Passes star
 unfolding star
 star_keeps b s f = answers_if _ _ (sees kind.Mul s.at) _ _ (λ _. behind_after b s f) (λ _. f)
 
-starred_keeps : (is_async : Bool) → Passes (starred is_async)
+pub starred_keeps : (is_async : Bool) → Passes (starred is_async)
 unfolding starred
 starred_keeps is_async b s f = answers_then _ _ (star s) _ (star_keeps b s f) (λ v t g. g)
 
@@ -587,7 +587,8 @@ module _ (inner : Class → Reader Tree) (cover : Reader Cover) (below : (class 
           (λ _. answers_if _ _ (sees kind.LBracket s.at) _ _ (λ e. answers_then _ _ (array inner cover s) _ (array_keeps s (saw s.at kind.LBracket e) f) (λ v t g. close_keeps b t g v))
           (λ _. answers_if _ _ (sees kind.LBrace s.at) _ _ (λ e. answers_then _ _ (object inner cover function s) _ (object_keeps function below_function s (saw s.at kind.LBrace e) f) (λ v t g. close_keeps b t g v))
           (λ _. answers_if _ _ (sees kind.This s.at) _ _ (λ _. this_keeps b s f)
-          (λ _. answers_if _ _ (sees kind.Function s.at) _ _ (λ _. below_function expression_form b s f) (λ _. unexpected_keeps b s f _)))))
+          (λ _. answers_if _ _ (sees kind.Function s.at) _ _ (λ _. below_function expression_form b s f)
+          (λ _. answers_if _ _ (sees kind.Class s.at) _ _ (λ _. below_function class_form b s f) (λ _. unexpected_keeps b s f _))))))
 
       literal_or_keeps : (o : Option Tree) (s : State) → IsBehind b s → Answers (Kept b) (Lost b) (literal_or inner cover function o s)
       literal_or_keeps (Some x) s f = f

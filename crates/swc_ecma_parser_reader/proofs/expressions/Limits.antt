@@ -25,7 +25,7 @@ use Rattle.swc_ecma_parser_grammar.specs.Reads.{with_in}
 use Rattle.swc_ecma_parser_grammar.specs.language.Goals.{Class, expression, assignment, operator, unary, left_side, callee}
 use Rattle.swc_ecma_parser_grammar.specs.language.Operators.{unary_operator, update_operator, binary_operator, assign_operator}
 use Rattle.swc_ecma_parser_reader.specs.State.{State, Reader, and_then, ◌>>=◌, moved, noted, module_found, coded, within, enclosed, unlabelled, fault_at, fault, expect, loop}
-use Rattle.swc_ecma_parser_reader.specs.Methods.{MethodForm, FunctionForm, expression_form, property_form, parameter_form, block_form, modifies, begins_async_method, star, starred, method_words, is_bare}
+use Rattle.swc_ecma_parser_reader.specs.Methods.{MethodForm, FunctionForm, expression_form, class_form, property_form, parameter_form, block_form, modifies, begins_async_method, star, starred, method_words, is_bare}
 use Rattle.swc_ecma_parser_reader.specs.Expressions.{Cover, no_covers, close, target, goes_on, literal, any_word, word_property, is_word_at, shorthand, ident_expr, bare_new, simple, behind_operand, postfix_at, right_class, read_operator, operator_at, left_operand, unmixed, unassigned, unassignable, begins_async_call, inside, brackets, access, spread_element, plain_element, element, arguments_turn, arguments, covered, spread_item, plain_item, item, array_turn, elements, array, computed_key, key, key_value, initialized, initialized_name, initialized_key, bare_key, behind_key, method, behind_words, keyed_property, spread_property, property, object_turn, properties, object, paren, marked_primary, literal_or, primary, accessed, called, left_turn, left_from, super_call, super_property, super_access, behind_super, super_head, constructed, new_head, import_call, meta_fault, import_meta, import_head, left_head, left, left_expr, prefixed, update_before, await_expr, postfix, updated, unary_by, unary_expr, operated, binary_by, binary_turn, binary_from, binary_expr, conditional, assigned_to, assigned, assigned_or, behind_operators, operators_expr, plain_expr, postfixed, continued, closed, assigned_pattern, behind_literal, open_literal, done_expr, cover_expr, assignment_expr, sequence_turn, sequence_from, expression_expr, expr_level, named_expr}
 use Rattle.swc_ecma_parser_reader.specs.Jumps.{told}
 use Rattle.swc_ecma_parser_reader.specs.AsyncArrows.{Argument, closed_arguments, argument_parameters, async_called, spread_argument, plain_argument, argument, either_turn, either_arguments, begins_async_arrow, async_named_arrow, behind_async, async_grouped}
@@ -40,10 +40,11 @@ use Rattle.swc_ecma_parser_reader.proofs.expressions.LimitSteps.{other_test, no_
 
 -- ---- functions, and the words before the key of a method
 
--- A function that is an expression takes its word before the level below; a method, whose body is a level of statements, has `{` before it,
+-- A function or a class that is an expression takes its word before the level below; a method, whose body is a level of statements, has `{` before it,
 -- and so does a block. A parameter that begins with a name takes it, and reads no level below.
 pub record FunctionsShallow (n : ℕ) (function : FunctionForm → Reader Tree) : Type 0 where
   pub expressions : (m : ℕ) (s : State) → 2 * m ≤ suc n → begins_function s.at ≡ true → Fine m s.at.left → Answers (Kept m) Shallow (function expression_form s)
+  pub classes : (m : ℕ) (s : State) → 2 * m ≤ suc n → kind_at s.at ≡ kind.Class → Fine m s.at.left → Answers (Kept m) Shallow (function class_form s)
   pub methods : (form : MethodForm) (start : Span) (x : Tree) (i : ℕ) (s : State) → 2 * i + 1 ≤ n → Fine i s.at.left → Answers (Kept i) Shallow (function (property_form form start x) s)
   pub names : (m : ℕ) (s : State) → 2 * m ≤ suc n → name_at s.code.flags s.at ≡ true → Fine m s.at.left → Answers (Taken m) Shallow (function parameter_form s)
   pub parameters : Levels n (function parameter_form)
@@ -458,7 +459,8 @@ module _ (inner : Class → Reader Tree) (cover : Reader Cover) (n : ℕ) (below
           (λ _. answers_if _ _ (sees kind.LBracket s.at) _ _ (λ e. answers_then _ _ (array inner cover s) _ (array_shallow s (saw s.at kind.LBracket e) f) (λ v t g. close_shallow m t g v))
           (λ _. answers_if _ _ (sees kind.LBrace s.at) _ _ (λ e. answers_then _ _ (object inner cover function s) _ (object_shallow function below_function s (saw s.at kind.LBrace e) f) (λ v t g. close_shallow m t g v))
           (λ _. answers_if _ _ (sees kind.This s.at) _ _ (λ _. this_shallow m s f)
-          (λ _. answers_if _ _ (sees kind.Function s.at) _ _ (λ e. below_function.expressions m s enough (function_begins s.at (saw s.at kind.Function e)) f) (λ _. unexpected_shallow m s f _)))))
+          (λ _. answers_if _ _ (sees kind.Function s.at) _ _ (λ e. below_function.expressions m s enough (function_begins s.at (saw s.at kind.Function e)) f)
+          (λ _. answers_if _ _ (sees kind.Class s.at) _ _ (λ e. below_function.classes m s enough (saw s.at kind.Class e) f) (λ _. unexpected_shallow m s f _))))))
 
       literal_or_shallow : (o : Option Tree) (s : State) → Fine m s.at.left → Answers (Kept m) Shallow (literal_or inner cover function o s)
       literal_or_shallow (Some x) s f = f

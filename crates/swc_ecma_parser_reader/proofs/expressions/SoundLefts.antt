@@ -38,7 +38,7 @@ use Rattle.swc_ecma_parser_grammar.specs.Walk.{walk, env_of}
 use Rattle.swc_ecma_parser_grammar.proofs.Tests.{or_no, or_none, and_yes, and_both}
 use Rattle.swc_ecma_parser_reader.specs.Notes.{notes_of, all_notes_of}
 use Rattle.swc_ecma_parser_reader.specs.State.{State, Outcome, Reader, and_then, moved, module_found, fault, fault_at, expect, name, loop}
-use Rattle.swc_ecma_parser_reader.specs.Methods.{MethodForm, FunctionForm, expression_form, property_form, parameter_form, block_form}
+use Rattle.swc_ecma_parser_reader.specs.Methods.{MethodForm, FunctionForm, expression_form, class_form, property_form, parameter_form, block_form}
 use Rattle.swc_ecma_parser_reader.specs.Expressions.{Cover, literal_of, literal_in, taken, literal, ident_expr, this, super_property, bare_new, closed_left, unmarked, close, dotted, inside, brackets, access, spread_element, plain_element, element, behind_argument, arguments_turn, arguments, array, object, paren, marked_primary, literal_or, primary, accessed, called, left_turn, left_from, super_call, super_access, behind_super, super_head, constructed, new_head, import_call, meta_fault, import_meta, import_head, left_head, left, left_expr, any_word, word_property, named_expr}
 use Rattle.swc_ecma_parser_reader.proofs.Notes.{or_true, notes_nil}
 use Rattle.swc_ecma_parser_reader.proofs.Meets.{Meets, Refuses, meets_then, meets_if, wanted_meets, Turned, loop_answers, saw}
@@ -111,7 +111,7 @@ pub record Left (In : Goal → Type 0) (calls : Bool) (k : Code) (x : Tree) (c d
   pub no_await : sees kind.Await c ≡ false
   pub is_called : calls ≡ false → is_callee x ≡ true
 
--- a function, from its word on
+-- a function or a class, from its word on
 abbrev pub FunctionRead : ℕ → Code → Tree → Place → Place → Type 0
 FunctionRead n k x c d = PrimaryRule (Reads n) k x c d × (supported_in k.flags.module x ≡ true) × (is_callee x ≡ true)
 
@@ -126,6 +126,7 @@ SoundBody n w s x t = Sound same (λ k l. walk (walks.in_body (env_of k l)) x) (
 -- parameter is that name
 pub record FunctionsSound (n : ℕ) (function : FunctionForm → Reader Tree) : Type 0 where
   pub expressions : (s : State) → begins_function s.at ≡ true → Meets (λ x t. SoundTree (FunctionRead n) s x t) (function expression_form s)
+  pub classes : (s : State) → kind_at s.at ≡ kind.Class → Meets (λ x t. SoundTree (FunctionRead n) s x t) (function class_form s)
   pub methods : (form : MethodForm) (key : Tree) (s m : State) → Headed n form key s m → Meets (λ x t. SoundTree (MethodRead n) s x t) (function (property_form form (span_at s.at) key) m)
   pub parameters : (s : State) → Meets (λ x t. SoundTree (ReadsPat n) s x t) (function parameter_form s)
   pub names : (s : State) → name_at s.code.flags s.at ≡ true → Meets (λ x t. (t ≡ moved s) × (is_binding_name x ≡ true)) (function parameter_form s)
@@ -354,13 +355,23 @@ module _ (n : ℕ) (inner : Class → Reader Tree) (cover : Reader Cover) (sound
       is_called = λ _. r.2;
     }) p)
 
+    class_left : kind_at s.at ≡ kind.Class → Meets (SoundLeft calls s) (function class_form s)
+    unfolding same_kind
+    class_left e = meets_as (function class_form s) (functions.classes s e) (λ x t p. sound_as s t refl refl refl (λ r. record {
+      rule = primary_rule r.0;
+      supports = r.1;
+      no_await = elsewhere s.at kind.Class kind.Await e refl;
+      is_called = λ _. r.2;
+    }) p)
+
     marked_sound : Meets (SoundLeft calls s) (marked_primary inner cover function s)
     unfolding marked_primary
     marked_sound = meets_if _ (sees kind.LParen s.at) _ _ (λ e. paren_sound (saw s.at kind.LParen e))
         (λ _. meets_if _ (sees kind.LBracket s.at) _ _ (λ e. array_left (saw s.at kind.LBracket e))
         (λ _. meets_if _ (sees kind.LBrace s.at) _ _ (λ e. object_left (saw s.at kind.LBrace e))
         (λ _. meets_if _ (sees kind.This s.at) _ _ (λ e. this_sound (saw s.at kind.This e))
-        (λ _. meets_if _ (sees kind.Function s.at) _ _ (λ e. function_left (function_begins s.at (saw s.at kind.Function e))) (λ _. wanted_meets _ faults.Unexpected s)))))
+        (λ _. meets_if _ (sees kind.Function s.at) _ _ (λ e. function_left (function_begins s.at (saw s.at kind.Function e)))
+        (λ _. meets_if _ (sees kind.Class s.at) _ _ (λ e. class_left (saw s.at kind.Class e)) (λ _. wanted_meets _ faults.Unexpected s))))))
 
     literal_or_sound : (o : Option Tree) (t : State) → Literal calls s o t → Meets (SoundLeft calls s) (literal_or inner cover function o t)
     literal_or_sound (Some x) t p = p

@@ -251,10 +251,10 @@ unfolding span_at
 word_span text span c d r = rw r.reads_word.is refl
 
 -- a word that begins where the token before it ends
-abbrev Touching : Ident → Place → Place → Type 0
+abbrev pub Touching : Ident → Place → Place → Type 0
 Touching i c d = ReadsWord i.sym i.span c d × (c.last.hi ≡ i.span.lo)
 
-touching_sound : (s : State) → Meets (λ i t. SoundStep (λ k. Touching i) s t) (touching_word s)
+pub touching_sound : (s : State) → Meets (λ i t. SoundStep (λ k. Touching i) s t) (touching_word s)
 unfolding touching_word
 touching_sound s = meets_if _ (nat_eq s.at.last.hi.0 (span_at s.at).lo.0) _ _ (λ e. meets_as (any_word s) (any_word_sound s) (λ i t p.
     sound_as s t refl refl refl (λ r. (r, same_position s.at.last.hi (span_at s.at).lo e ∙ ap (λ z. z.lo) (word_span i.sym i.span s.at t.at r))) p))

@@ -1,41 +1,61 @@
-use Rattle.std.proofs.Common.{Ok, Err, arith, sym, ap, subst, ◌∙◌}
+use Rattle.std.proofs.Common.{Ok, Err, refl, arith, sym, ap, subst, ◌∙◌}
 use Rattle.std.proofs.lemmas.Result.{err_from_is_err_and}
 use Rattle.swc_ecma_parser_error.specs.Kind.{Fault, fault_of}
 use Rattle.swc_ecma_parser_reader.specs.State.{State, GivesAs}
-use Rattle.swc_ecma_parser_reader.proofs.expressions.Loops.{cover_above, head_above}
 use Rattle.swc_ecma_parser_reader.proofs.Sound.{declarators_code}
+use Rattle.swc_ecma_parser_core.proofs.Declared.{no_class}
 use Rattle.swc_ecma_parser_reader.proofs.patterns.Loops.{pattern_above, element_above}
 use Rattle.swc_ecma_parser_inner.specs.Covers.{cover_of, read}
-use Rattle.swc_ecma_parser_core.proofs.Covers.{read_lowest, read_expr, read_expr_err, at_asked, refused_as}
+use Rattle.swc_ecma_parser_core.proofs.Covers.{cover_refused, head_refused, read_class, read_expr, at_asked, refused_as}
 use Rattle.swc_ecma_parser_patterns.proofs.Patterns.{read_pat_lowest, as_asked}
 use Rattle.swc_ecma_parser_core.proofs.grammar.+knot.Goals as goal
 
-pub expr-returns-then-depth-eq0 : goal.expr-returns-then-depth-eq0
-expr-returns-then-depth-eq0 g t c = λ h. read_lowest c.args.depth (g.P.Source.seen c.args.p.now) c.args.asked _ c.if-depth-eq0.true (c.too_deep.ensures h)
-
-pub expr-returns-in_err-expr_level-in-Expr : goal.expr-returns-in_err-expr_level-in-Expr
-expr-returns-in_err-expr_level-in-Expr g t c =
+pub expr-returns-in_err-expression-in-Expr : goal.expr-returns-in_err-expression-in-Expr
+expr-returns-in_err-expression-in-Expr g t c =
     let p = err_from_is_err_and c.from_residual.result c.from_residual.ensures.1 in
     let s = g.P.Source.seen c.args.p.now in
-    let e : Fault × State = (fault_of c.in_err-expr_level-in-Expr.field-0.0, g.P.Source.seen c.expr_level.new.p) in
-    refused_as (cover_of g.T.Trees.expr_of) (read c.args.depth c.args.asked s) c.from_residual.result p.0 c.in_err-expr_level-in-Expr.field-0.0 (g.P.Source.seen c.expr_level.new.p) p.1 p.2
-    (λ h. at_asked c.args.depth s c.args.asked _ (Err e) c.in-Expr.is (read_expr_err c.args.depth s c.in-Expr.class e (omega arith) (c.in_err-expr_level-in-Expr.ensures h)))
+    let e : Fault × State = (fault_of c.in_err-expression-in-Expr.field-0.0, g.P.Source.seen c.expression.new.p) in
+    refused_as (cover_of g.T.Trees.expr_of) (read c.args.depth c.args.asked s) c.from_residual.result p.0 c.in_err-expression-in-Expr.field-0.0 (g.P.Source.seen c.expression.new.p) p.1 p.2
+    (λ h. read_expr c.args.depth s c.args.asked c.in-Expr.class (Err e) c.in-Expr.is (c.in_err-expression-in-Expr.ensures h))
 
-pub expr-returns-in_ok-expr_level-in-Expr : goal.expr-returns-in_ok-expr_level-in-Expr
-expr-returns-in_ok-expr_level-in-Expr g t c =
-    at_asked c.args.depth (g.P.Source.seen c.args.p.now) c.args.asked _ _ c.in-Expr.is
-    (read_expr c.args.depth (g.P.Source.seen c.args.p.now) c.in-Expr.class _ (g.P.Source.seen c.expr_level.new.p) (omega arith) c.in_ok-expr_level-in-Expr.ensures)
-    ∙ ap (λ v. Ok (cover_of g.T.Trees.expr_of v, g.P.Source.seen c.expr_level.new.p)) (sym c.done.ensures)
+pub expr-returns-in_ok-expression-in-Expr : goal.expr-returns-in_ok-expression-in-Expr
+expr-returns-in_ok-expression-in-Expr g t c =
+    read_expr c.args.depth (g.P.Source.seen c.args.p.now) c.args.asked c.in-Expr.class (Ok (_, g.P.Source.seen c.expression.new.p)) c.in-Expr.is c.in_ok-expression-in-Expr.ensures
+    ∙ ap (λ v. Ok (cover_of g.T.Trees.expr_of v, g.P.Source.seen c.expression.new.p)) (sym c.done.ensures)
 
 pub expr-returns-in-Cover : goal.expr-returns-in-Cover
 expr-returns-in-Cover g t c =
-    subst (λ o. GivesAs (cover_of g.T.Trees.expr_of) o c.cover_expr.result (g.P.Source.seen c.cover_expr.new.p))
-    (sym (at_asked c.args.depth (g.P.Source.seen c.args.p.now) c.args.asked _ _ c.in-Cover.is (cover_above c.args.depth (g.P.Source.seen c.args.p.now) (omega arith)))) c.cover_expr.ensures
+    subst (λ o. GivesAs (cover_of g.T.Trees.expr_of) o c.cover.result (g.P.Source.seen c.cover.new.p))
+    (sym (at_asked c.args.depth (g.P.Source.seen c.args.p.now) c.args.asked _ _ c.in-Cover.is refl)) c.cover.ensures
 
 pub expr-returns-in-Head : goal.expr-returns-in-Head
 expr-returns-in-Head g t c =
-    subst (λ o. GivesAs (cover_of g.T.Trees.expr_of) o c.head_expr.result (g.P.Source.seen c.head_expr.new.p))
-    (sym (at_asked c.args.depth (g.P.Source.seen c.args.p.now) c.args.asked _ _ c.in-Head.is (head_above c.args.depth (g.P.Source.seen c.args.p.now) (omega arith)))) c.head_expr.ensures
+    subst (λ o. GivesAs (cover_of g.T.Trees.expr_of) o c.head.result (g.P.Source.seen c.head.new.p))
+    (sym (at_asked c.args.depth (g.P.Source.seen c.args.p.now) c.args.asked _ _ c.in-Head.is refl)) c.head.ensures
+
+pub expr-returns-in_err-class_expression-in-Class : goal.expr-returns-in_err-class_expression-in-Class
+expr-returns-in_err-class_expression-in-Class g t c =
+    let r = c.from_residual-in_err-class_expression-in-Class in
+    let p = err_from_is_err_and r.result r.ensures.1 in
+    let s = g.P.Source.seen c.args.p.now in
+    let e : Fault × State = (fault_of c.in_err-class_expression-in-Class.field-0.0, g.P.Source.seen c.class_expression.new.p) in
+    refused_as (cover_of g.T.Trees.expr_of) (read c.args.depth c.args.asked s) r.result p.0 c.in_err-class_expression-in-Class.field-0.0 (g.P.Source.seen c.class_expression.new.p) p.1 p.2
+    (λ h. read_class c.args.depth s c.args.asked (Err e) c.in-Class.is (c.in_err-class_expression-in-Class.ensures h))
+
+pub expr-returns-in_ok-class_expression-in-Class : goal.expr-returns-in_ok-class_expression-in-Class
+expr-returns-in_ok-class_expression-in-Class g t c =
+    read_class c.args.depth (g.P.Source.seen c.args.p.now) c.args.asked (Ok (_, g.P.Source.seen c.class_expression.new.p)) c.in-Class.is c.in_ok-class_expression-in-Class.ensures
+    ∙ ap (λ v. Ok (cover_of g.T.Trees.expr_of v, g.P.Source.seen c.class_expression.new.p)) (sym c.done-in-Class.ensures)
+
+pub cover-returns-then-depth-eq0 : goal.cover-returns-then-depth-eq0
+cover-returns-then-depth-eq0 g t c = λ h. cover_refused c.args.depth (g.P.Source.seen c.args.p.now) _ c.if-depth-eq0.true (c.too_deep.ensures h)
+
+pub head-returns-then-depth-eq0 : goal.head-returns-then-depth-eq0
+head-returns-then-depth-eq0 g t c = λ h. head_refused c.args.depth (g.P.Source.seen c.args.p.now) _ c.if-depth-eq0.true (c.too_deep.ensures h)
+
+-- a class was read before
+pub stmt-level-requires-clause-no_class : goal.stmt-level-requires-clause-no_class
+stmt-level-requires-clause-no_class g t c = no_class (g.P.Source.seen c.args.p.now).at (sym c.sees-2.ensures ∙ c.if-sees-2.false)
 
 pub pat-returns-then-depth-eq0 : goal.pat-returns-then-depth-eq0
 pat-returns-then-depth-eq0 g t c = λ h. read_pat_lowest c.args.depth c.args.part (g.P.Source.seen c.args.p.now) _ c.if-depth-eq0.true (c.too_deep.ensures h)

@@ -11,7 +11,7 @@ use Rattle.swc_ecma_parser_reader.specs.Reader as rules
 use Rattle.swc_ecma_parser_inner.specs.Keys.{key_of}
 use Rattle.swc_ecma_parser_inner.specs.declared.keys.Key.{Key}
 use Rattle.swc_ecma_parser_inner.specs.declared.keys.Key.TheVariants as key
-use Rattle.swc_ecma_parser_literals.proofs.Refusals.{wanted_as}
+use Rattle.swc_ecma_parser_inner.proofs.Refusals.{wanted_as}
 use Rattle.swc_ecma_parser_literals.proofs.object.initialized_key.Goals as goal
 
 -- what is no name has no default

@@ -1,0 +1,312 @@
+//! Classes, declared or as expressions: ECMA-262, section 15.7.
+
+ghost use Rattle.std.specs.Prelude.{◌≡◌, ◌||◌, true, map};
+ghost use Rattle.swc_ecma_parser_classes.specs.Heads.{ReadsClass};
+ghost use Rattle.swc_ecma_parser_classes.specs.Named.{class_expr_of};
+ghost use Rattle.swc_ecma_parser_grammar.specs.Own as own;
+ghost use Rattle.swc_ecma_parser_grammar.specs.language.Goals.{left_side};
+ghost use Rattle.swc_ecma_parser_inner.specs.Keys.{word_of};
+ghost use Rattle.swc_ecma_parser_model.specs.Forms as forms;
+ghost use Rattle.swc_ecma_parser_reader.specs.Jumps.{told};
+ghost use Rattle.swc_ecma_parser_reader.specs.Members as members;
+ghost use Rattle.swc_ecma_parser_reader.specs.Reader as rules;
+ghost use Rattle.swc_ecma_parser_reader.specs.State.{Gives, GivesAs};
+ghost use Rattle.swc_ecma_parser_trees.specs.Parts.{part_of};
+
+use crate::told::told_if;
+use std::alloc::Global;
+use swc_ecma_parser_common::Span;
+use swc_ecma_parser_error::{PResult, SyntaxError};
+use swc_ecma_parser_functions::body::close;
+use swc_ecma_parser_grammar::Class;
+use swc_ecma_parser_inner::steps::{grown, pushed, since, with_in};
+use swc_ecma_parser_input::Context;
+use swc_ecma_parser_model::Ident;
+use swc_ecma_parser_source::{Around, Source, Wanted};
+use swc_ecma_parser_token::TokenKind;
+use swc_ecma_parser_trees::{BuildsClass, BuildsClassDecl, MakerOf};
+
+/// The readers of what stands in a class: what it extends, and its members.
+#[derive(Clone, Copy)]
+pub struct ClassGrammar<E, M> {
+    /// How many levels are left there.
+    pub depth: usize,
+    pub expr: E,
+    /// It is handed the members before, whose type it answers.
+    pub member: M,
+}
+
+/// Whether the members of a class end here.
+#[tactic(auto, unfolding(swc_ecma_parser_reader::specs::Reader::closes))]
+fn closes<P: Source>(p: &P) -> bool
+    ensures { result ≡ rules.closes (P.seen p.now).at }
+{
+    p.sees(TokenKind::RBrace) || p.sees(TokenKind::End)
+}
+
+/// Records a constructor behind another.
+fn second_constructor<P: Source, T: BuildsClass>(
+    p: &mut P,
+    has_constructor: bool,
+    member: &T::Member,
+) -> PResult<()>
+    ensures { Gives (told (own.second_constructor has_constructor (T.member_of member.now)) (P.seen p.old)) result (P.seen p.new) }
+{
+    let is_second = has_constructor && T::is_constructor(member);
+    let span = T::member_span(member);
+    told_if(p, is_second, SyntaxError::DuplicateConstructor, span)
+}
+
+/// Whether a constructor is one of the members so far, or is this one.
+fn with_constructor<T: BuildsClass>(has_constructor: bool, member: &T::Member) -> bool
+    ensures { result ≡ (has_constructor || forms.is_constructor (T.member_of member.now)) }
+{
+    has_constructor || T::is_constructor(member)
+}
+
+/// Members one behind another. Each constructor behind the first is a fault.
+#[tactic(auto, unfolding(swc_ecma_parser_reader::specs::Members::members), using(swc_ecma_parser_reader::proofs::classes::Loops::members_done))]
+fn members<
+    P: Source,
+    T: BuildsClass,
+    E: Fn(&MakerOf<T>, &mut P, usize, Class) -> PResult<T::Expr>,
+    M: Fn(&MakerOf<T>, &mut P, usize, &[T::Member]) -> PResult<T::Member>,
+>(c: &ClassGrammar<E, M>, t: &MakerOf<T>, p: &mut P) -> PResult<Vec<T::Member>>
+    requires { ReadsClass P.seen T.expr_of T.member_of c.now.depth (E.pre c.now.expr) (E.post c.now.expr) (M.pre c.now.member) (M.post c.now.member) }
+    ensures { GivesAs (λ found. map T.member_of found.items) (members.members (rules.expr c.now.depth left_side) (rules.member c.now.depth) (P.seen p.old)) result (P.seen p.new) }
+{
+    let mut found = Vec::new(t.alloc);
+    let mut has_constructor = false;
+    'members: while !closes(p) {
+        let member = (c.member)(t, p, c.depth, found.as_slice())?;
+        second_constructor::<P, T>(p, has_constructor, &member)?;
+        has_constructor = with_constructor::<T>(has_constructor, &member);
+        pushed(p, &mut found, member)?;
+    }
+    Ok(found)
+}
+
+/// What a class extends, from behind `extends`.
+fn heritage<
+    P: Source,
+    T: BuildsClass,
+    E: Fn(&MakerOf<T>, &mut P, usize, Class) -> PResult<T::Expr>,
+    M: Fn(&MakerOf<T>, &mut P, usize, &[T::Member]) -> PResult<T::Member>,
+>(c: &ClassGrammar<E, M>, t: &MakerOf<T>, p: &mut P) -> PResult<T::Expr>
+    requires { ReadsClass P.seen T.expr_of T.member_of c.now.depth (E.pre c.now.expr) (E.post c.now.expr) (M.pre c.now.member) (M.post c.now.member) }
+    ensures { GivesAs T.expr_of (rules.expr c.now.depth left_side (P.seen p.old)) result (P.seen p.new) }
+{
+    (c.expr)(t, p, c.depth, Class::LeftSide)
+}
+
+/// What a class extends, if anything.
+#[tactic(auto, unfolding(swc_ecma_parser_reader::specs::Members::extended))]
+fn extended<
+    P: Source,
+    T: BuildsClass,
+    E: Fn(&MakerOf<T>, &mut P, usize, Class) -> PResult<T::Expr>,
+    M: Fn(&MakerOf<T>, &mut P, usize, &[T::Member]) -> PResult<T::Member>,
+>(c: &ClassGrammar<E, M>, t: &MakerOf<T>, p: &mut P) -> PResult<Option<T::Expr>>
+    requires { ReadsClass P.seen T.expr_of T.member_of c.now.depth (E.pre c.now.expr) (E.post c.now.expr) (M.pre c.now.member) (M.post c.now.member) }
+    ensures { GivesAs (part_of T.expr_of) (members.extended (rules.expr c.now.depth left_side) (rules.member c.now.depth) (P.seen p.old)) result (P.seen p.new) }
+{
+    if !p.sees(TokenKind::Extends) {
+        return Ok(None);
+    }
+    p.skip()?;
+    let found = heritage(c, t, p)?;
+    Ok(Some(found))
+}
+
+/// Whether something was read that makes a program a module.
+fn found_module_item<P: Source>(alloc: Global, p: &mut P) -> bool
+    ensures found { result ≡ (P.seen p.old).notes.found_module_item }
+    ensures state { P.seen p.new ≡ P.seen p.old }
+{
+    let around = p.enter_body(alloc);
+    let found = around.found_module_item;
+    p.leave_body(around);
+    found
+}
+
+/// Sets whether something was read that makes a program a module.
+fn set_found_module_item<P: Source>(alloc: Global, p: &mut P, found: bool)
+    ensures { P.seen p.new ≡ record (P.seen p.old) { notes = record (P.seen p.old).notes { found_module_item = found } } }
+{
+    let Around {
+        labels,
+        found_module_item: _,
+    } = p.enter_body(alloc);
+    p.leave_body(Around {
+        labels,
+        found_module_item: found,
+    });
+}
+
+/// What a class extends, dropped, with what in it makes a program a module.
+fn dropped<
+    P: Source,
+    T: BuildsClass,
+    E: Fn(&MakerOf<T>, &mut P, usize, Class) -> PResult<T::Expr>,
+    M: Fn(&MakerOf<T>, &mut P, usize, &[T::Member]) -> PResult<T::Member>,
+>(c: &ClassGrammar<E, M>, t: &MakerOf<T>, p: &mut P) -> PResult<()>
+    requires { ReadsClass P.seen T.expr_of T.member_of c.now.depth (E.pre c.now.expr) (E.post c.now.expr) (M.pre c.now.member) (M.post c.now.member) }
+    ensures { Gives (members.dropped (rules.expr c.now.depth left_side) (P.seen p.old)) result (P.seen p.new) }
+{
+    let found = found_module_item(t.alloc, p);
+    let _dropped = heritage(c, t, p)?;
+    set_found_module_item(t.alloc, p, found);
+    Ok(())
+}
+
+/// A second `extends`, which is a fault of its word.
+#[tactic(auto, using(crate::proofs::Surplus::surplus_none, crate::proofs::Surplus::surplus_err, crate::proofs::Surplus::surplus_told))]
+fn surplus<
+    P: Source,
+    T: BuildsClass,
+    E: Fn(&MakerOf<T>, &mut P, usize, Class) -> PResult<T::Expr>,
+    M: Fn(&MakerOf<T>, &mut P, usize, &[T::Member]) -> PResult<T::Member>,
+>(c: &ClassGrammar<E, M>, t: &MakerOf<T>, p: &mut P) -> PResult<()>
+    requires { ReadsClass P.seen T.expr_of T.member_of c.now.depth (E.pre c.now.expr) (E.post c.now.expr) (M.pre c.now.member) (M.post c.now.member) }
+    ensures { Gives (members.surplus (rules.expr c.now.depth left_side) (rules.member c.now.depth) (P.seen p.old)) result (P.seen p.new) }
+{
+    if !p.sees(TokenKind::Extends) {
+        return Ok(());
+    }
+    let word = p.span();
+    p.skip()?;
+    p.fault(SyntaxError::TS1172, word)?;
+    dropped(c, t, p)
+}
+
+/// A class, from behind its name.
+#[tactic(auto, unfolding(swc_ecma_parser_reader::specs::Members::class_parts))]
+pub fn class_parts<
+    P: Source,
+    T: BuildsClass,
+    E: Fn(&MakerOf<T>, &mut P, usize, Class) -> PResult<T::Expr>,
+    M: Fn(&MakerOf<T>, &mut P, usize, &[T::Member]) -> PResult<T::Member>,
+>(c: &ClassGrammar<E, M>, t: &MakerOf<T>, p: &mut P, start: Span) -> PResult<T::Class>
+    requires { ReadsClass P.seen T.expr_of T.member_of c.now.depth (E.pre c.now.expr) (E.post c.now.expr) (M.pre c.now.member) (M.post c.now.member) }
+    ensures { GivesAs T.class_of (members.class_parts (rules.expr c.now.depth left_side) (rules.member c.now.depth) start (P.seen p.old)) result (P.seen p.new) }
+{
+    let super_class = extended(c, t, p)?;
+    surplus(c, t, p)?;
+    p.expect(TokenKind::LBrace, "{")?;
+    let outer = p.flags();
+    p.set_flags(with_in(outer));
+    let found = members(c, t, p)?;
+    p.set_flags(outer);
+    close(t.alloc, p)?;
+    let span = since(p, start);
+    let decorators = Vec::new(t.alloc);
+    grown(p, T::class(t.alloc, span, decorators, found, super_class))
+}
+
+/// What stands around a class, from its name on.
+fn in_class(flags: Context) -> Context
+    ensures { result ≡ record flags { in_class = true; strict = true } }
+{
+    Context {
+        in_class: true,
+        strict: true,
+        ..flags
+    }
+}
+
+/// A class that is declared, in what stands around it.
+#[tactic(auto, unfolding(swc_ecma_parser_reader::specs::Members::named_class, swc_ecma_parser_reader::specs::Reader::named))]
+fn named_class<
+    P: Source,
+    T: BuildsClassDecl,
+    E: Fn(&MakerOf<T>, &mut P, usize, Class) -> PResult<T::Expr>,
+    M: Fn(&MakerOf<T>, &mut P, usize, &[T::Member]) -> PResult<T::Member>,
+>(c: &ClassGrammar<E, M>, t: &MakerOf<T>, p: &mut P) -> PResult<T::Decl>
+    requires { ReadsClass P.seen T.expr_of T.member_of c.now.depth (E.pre c.now.expr) (E.post c.now.expr) (M.pre c.now.member) (M.post c.now.member) }
+    ensures { GivesAs T.decl_of (members.named_class (rules.expr c.now.depth left_side) (rules.member c.now.depth) (P.seen p.old)) result (P.seen p.new) }
+{
+    let start = p.span();
+    p.skip()?;
+    let name = p.name(Wanted::Name)?;
+    let class = class_parts(c, t, p, start)?;
+    grown(p, T::class_decl(t.alloc, name, class))
+}
+
+/// A class that is declared.
+#[tactic(auto, unfolding(swc_ecma_parser_reader::specs::Members::class_decl))]
+pub fn class_decl<
+    P: Source,
+    T: BuildsClassDecl,
+    E: Fn(&MakerOf<T>, &mut P, usize, Class) -> PResult<T::Expr>,
+    M: Fn(&MakerOf<T>, &mut P, usize, &[T::Member]) -> PResult<T::Member>,
+>(c: &ClassGrammar<E, M>, t: &MakerOf<T>, p: &mut P) -> PResult<T::Decl>
+    requires { ReadsClass P.seen T.expr_of T.member_of c.now.depth (E.pre c.now.expr) (E.post c.now.expr) (M.pre c.now.member) (M.post c.now.member) }
+    ensures { GivesAs T.decl_of (members.class_decl (rules.expr c.now.depth left_side) (rules.member c.now.depth) (P.seen p.old)) result (P.seen p.new) }
+{
+    let outer = p.flags();
+    p.set_flags(in_class(outer));
+    let decl = named_class(c, t, p)?;
+    p.set_flags(outer);
+    Ok(decl)
+}
+
+/// The name of a class that is an expression, if it has one.
+#[tactic(auto, unfolding(swc_ecma_parser_reader::specs::Members::class_name, swc_ecma_parser_reader::specs::Reader::named))]
+fn class_name<
+    P: Source,
+    T: BuildsClass,
+    E: Fn(&MakerOf<T>, &mut P, usize, Class) -> PResult<T::Expr>,
+    M: Fn(&MakerOf<T>, &mut P, usize, &[T::Member]) -> PResult<T::Member>,
+>(c: &ClassGrammar<E, M>, t: &MakerOf<T>, p: &mut P) -> PResult<Option<Ident>>
+    requires { ReadsClass P.seen T.expr_of T.member_of c.now.depth (E.pre c.now.expr) (E.post c.now.expr) (M.pre c.now.member) (M.post c.now.member) }
+    ensures { GivesAs (part_of word_of) (members.class_name (rules.expr c.now.depth left_side) (rules.member c.now.depth) (P.seen p.old)) result (P.seen p.new) }
+{
+    if !p.name_at() {
+        return Ok(None);
+    }
+    let name = p.name(Wanted::Name)?;
+    Ok(Some(name))
+}
+
+/// A class with its name, if it has one.
+#[derive(Drop)]
+pub struct NamedClass<C> {
+    pub name: Option<Ident>,
+    pub class: C,
+}
+
+/// A class that is an expression, in what stands around it.
+#[tactic(auto, unfolding(swc_ecma_parser_reader::specs::Members::unnamed_class))]
+fn unnamed_class<
+    P: Source,
+    T: BuildsClass,
+    E: Fn(&MakerOf<T>, &mut P, usize, Class) -> PResult<T::Expr>,
+    M: Fn(&MakerOf<T>, &mut P, usize, &[T::Member]) -> PResult<T::Member>,
+>(c: &ClassGrammar<E, M>, t: &MakerOf<T>, p: &mut P) -> PResult<NamedClass<T::Class>>
+    requires { ReadsClass P.seen T.expr_of T.member_of c.now.depth (E.pre c.now.expr) (E.post c.now.expr) (M.pre c.now.member) (M.post c.now.member) }
+    ensures { GivesAs (class_expr_of T.class_of) (members.unnamed_class (rules.expr c.now.depth left_side) (rules.member c.now.depth) (P.seen p.old)) result (P.seen p.new) }
+{
+    let start = p.span();
+    p.skip()?;
+    let name = class_name(c, t, p)?;
+    let class = class_parts(c, t, p, start)?;
+    Ok(NamedClass { name, class })
+}
+
+/// A class that is an expression, as its parts.
+#[tactic(auto, unfolding(swc_ecma_parser_reader::specs::Members::class_expr))]
+pub fn class_expr<
+    P: Source,
+    T: BuildsClass,
+    E: Fn(&MakerOf<T>, &mut P, usize, Class) -> PResult<T::Expr>,
+    M: Fn(&MakerOf<T>, &mut P, usize, &[T::Member]) -> PResult<T::Member>,
+>(c: &ClassGrammar<E, M>, t: &MakerOf<T>, p: &mut P) -> PResult<NamedClass<T::Class>>
+    requires { ReadsClass P.seen T.expr_of T.member_of c.now.depth (E.pre c.now.expr) (E.post c.now.expr) (M.pre c.now.member) (M.post c.now.member) }
+    ensures { GivesAs (class_expr_of T.class_of) (members.class_expr (rules.expr c.now.depth left_side) (rules.member c.now.depth) (P.seen p.old)) result (P.seen p.new) }
+{
+    let outer = p.flags();
+    p.set_flags(in_class(outer));
+    let class = unnamed_class(c, t, p)?;
+    p.set_flags(outer);
+    Ok(class)
+}

@@ -1,0 +1,399 @@
+-- What the grammar allows of the members of classes is read: their keys, fields, methods, constructors and static blocks.
+use Rattle.std.proofs.Common.{◌≡◌, inr, ℕ, suc, Bool, true, false, true≢false, List, [], ◌∷◌, ◌++◌, Ok, refl, sym, ◌∙◌, ap, subst, append_assoc, append-nil}
+use Rattle.std.specs.Prelude.{not, ◌&&◌, ◌||◌, if◌then◌else◌, codes}
+use Rattle.swc_ecma_parser_common.specs.declared.span.Span.{Span}
+use Rattle.swc_ecma_parser_error.specs.Kind as faults
+use Rattle.swc_ecma_parser_error.specs.Kind.{Fault}
+use Rattle.swc_ecma_parser_token.specs.declared.kind.TokenKind.TheVariants as kind
+use Rattle.swc_ecma_parser_input.specs.Place.{Place, after}
+use Rattle.swc_ecma_parser_model.specs.declared.leaves.MethodKind.{MethodKind}
+use Rattle.swc_ecma_parser_model.specs.Tree as tree
+use Rattle.swc_ecma_parser_model.specs.Tree.{Tree, listed, trees}
+use Rattle.swc_ecma_parser_model.specs.Forms.{is_constructor_key, is_rest, has_plain_params, span_of}
+use Rattle.swc_ecma_parser_model.specs.Kinds.{is_function}
+use Rattle.swc_ecma_parser_grammar.specs.Looks.{kind_at, sees, same_kind, span_at, spanned}
+use Rattle.swc_ecma_parser_grammar.specs.Names.{Code}
+use Rattle.swc_ecma_parser_grammar.specs.Ends.{Ends, by_semicolon, by_insertion, can_end, ends_at}
+use Rattle.swc_ecma_parser_grammar.specs.Follows.{word_at}
+use Rattle.swc_ecma_parser_grammar.specs.Own.{only, misplaced_directive}
+use Rattle.swc_ecma_parser_grammar.specs.Parameters.{parameters as parameter_trees}
+use Rattle.swc_ecma_parser_grammar.specs.Notes.{notes, method_notes}
+use Rattle.swc_ecma_parser_grammar.specs.Reads.{nested_item, ReadsBraced, ReadsBlock, ReadsParts}
+use Rattle.swc_ecma_parser_grammar.specs.ReadsSupported.{ReadsStmt, ReadsParams, ReadsMember}
+use Rattle.swc_ecma_parser_grammar.specs.Supported.{supported_in, is_supported_key_in, is_supported_property_in, has_none, has_no_note}
+use Rattle.swc_ecma_parser_grammar.specs.Walk.{Env, env_of, walk, walks, walk_body, walk_method, in_params, in_body as walks_in_body}
+use Rattle.swc_ecma_parser_grammar.specs.language.Classes as classes
+use Rattle.swc_ecma_parser_grammar.specs.language.Classes.{DecoratorsRule, no_decorators, some_decorators, ends_key, is_static_word, is_accessor_word, behind_modifier, has_accessor, MemberKeyRule, method_member, field_member, FieldValueRule, no_value, a_value, CoreRule, constructor_rule, method_rule, field_rule, static_block_rule, empty_rule, member_rule}
+use Rattle.swc_ecma_parser_grammar.specs.language.Contexts.{in_static_block, in_parameters, in_body}
+use Rattle.swc_ecma_parser_grammar.specs.language.Functions.{MethodRule, ParametersRule, takes}
+use Rattle.swc_ecma_parser_grammar.specs.language.Goals.{Goal, assignment}
+use Rattle.swc_ecma_parser_grammar.specs.language.Items.{BlockRule}
+use Rattle.swc_ecma_parser_grammar.specs.language.Noted.{has_meta}
+use Rattle.swc_ecma_parser_grammar.specs.language.Parts.{KeyRule, is_private}
+use Rattle.swc_ecma_parser_grammar.specs.language.Reads as language
+use Rattle.swc_ecma_parser_grammar.proofs.MethodParts.{parts_narrow}
+use Rattle.swc_ecma_parser_grammar.proofs.Narrows.{stmt_narrows, braced_narrows}
+use Rattle.swc_ecma_parser_grammar.proofs.StatementBegins.{word_place}
+use Rattle.swc_ecma_parser_grammar.proofs.Tests.{and_yes, and_no}
+use Rattle.swc_ecma_parser_grammar.proofs.Unnoted.{clean_is}
+use Rattle.swc_ecma_parser_grammar.proofs.Widens.{parameters_same}
+use Rattle.swc_ecma_parser_reader.specs.Notes.{Notes, ◌⊕◌, notes_of, all_notes_of}
+use Rattle.swc_ecma_parser_reader.specs.State.{Scope}
+use Rattle.swc_ecma_parser_reader.specs.Methods.{MethodForm, getter_form, setter_form, method_form}
+use Rattle.swc_ecma_parser_reader.specs.Members as members
+use Rattle.swc_ecma_parser_reader.specs.Members.{kind_of_form, form_is_async, form_is_generator, parameter_faults, misnamed, method_parts, method, constructor, plain_method, static_block, behind_key, keyed_member, full_member, empty_member, member_level, field_end, field_named, field_value, field_from, field}
+use Rattle.swc_ecma_parser_reader.specs.Reader.{expr, cover, stmt, parameters, braced, function_body, misdirected}
+use Rattle.swc_ecma_parser_reader.proofs.Answered.{st, Reads}
+use Rattle.swc_ecma_parser_reader.proofs.Below.{Below, parameters_reads}
+use Rattle.swc_ecma_parser_reader.proofs.Between.{nil-split}
+use Rattle.swc_ecma_parser_reader.proofs.CompleteParts.{told_reads}
+use Rattle.swc_ecma_parser_reader.proofs.Errors.{is_error}
+use Rattle.swc_ecma_parser_reader.proofs.Notes.{or_nil, or_true, or_assoc}
+use Rattle.swc_ecma_parser_reader.proofs.SoundFunctions.{parameters_walk, parameters_notes}
+use Rattle.swc_ecma_parser_reader.proofs.classes.CompleteKeys.{static_reads, member_key_reads, Ended, paren_ended, assign_ended, bare_words, by_form, words_read, Keyed, key_keyed, head_keyed}
+use Rattle.swc_ecma_parser_reader.proofs.classes.Shared.{MemberFollows}
+use Rattle.swc_ecma_parser_reader.proofs.expressions.CompleteKinds.{seen, supported_as}
+use Rattle.swc_ecma_parser_reader.proofs.expressions.CompleteParts.{inside_reads}
+
+-- ---- the trees of members: a private one has what another has
+
+either : {A : Type 0} (f : Tree → A) (b : Bool) (x y : Tree) (v : A) → f x ≡ v → f y ≡ v → f (if b then x else y) ≡ v
+either f true x y v e g = e
+either f false x y v e g = g
+
+module _ (s : Span) (key fn : Tree) (form : MethodKind) (is_static : Bool) where
+  method_walk : (env : Env) → walk env (method_member s key fn form is_static) ≡ walk_method env (walk env key) fn
+  method_walk env = either (walk env) (is_private key) (tree.private_method s key fn form is_static) (tree.method s key fn form is_static) (walk_method env (walk env key) fn) refl refl
+
+  method_noted : notes (method_member s key fn form is_static) ≡ method_notes (notes key) fn
+  method_noted = either notes (is_private key) (tree.private_method s key fn form is_static) (tree.method s key fn form is_static) (method_notes (notes key) fn) refl refl
+
+  method_meta : has_meta (method_member s key fn form is_static) ≡ (has_meta key || has_meta fn)
+  method_meta = either has_meta (is_private key) (tree.private_method s key fn form is_static) (tree.method s key fn form is_static) (has_meta key || has_meta fn) refl refl
+
+module _ (s : Span) (key value : Tree) (is_static : Bool) where
+  field_walk : (env : Env) → walk env (field_member s key value is_static false (listed [])) ≡ walk env key ++ walk env value
+  field_walk env =
+      either (walk env) (is_private key) (tree.private_prop s key value is_static (listed [])) (tree.class_prop s key value is_static (listed [])) (walk env key ++ walk env value) refl refl
+
+  field_noted : notes (field_member s key value is_static false (listed [])) ≡ notes key ++ notes value
+  field_noted = either notes (is_private key) (tree.private_prop s key value is_static (listed [])) (tree.class_prop s key value is_static (listed [])) (notes key ++ notes value) refl refl
+
+  field_meta : has_meta (field_member s key value is_static false (listed [])) ≡ (has_meta key || has_meta value)
+  field_meta = either has_meta (is_private key) (tree.private_prop s key value is_static (listed [])) (tree.class_prop s key value is_static (listed [])) (has_meta key || has_meta value) refl refl
+
+-- ---- what is supported of them
+
+-- what is tested in module code
+in_module : (m b : Bool) → (not m || b) ≡ true → m ≡ true → b ≡ true
+in_module true b h o = h
+in_module false b h o = cc
+
+abbrev Keyable : Bool → Tree → Type 0
+Keyable m key = is_supported_key_in m key || is_private key ≡ true
+
+plainly : (a b : Bool) → a ≡ true → (a || b) ≡ true
+plainly true b e = refl
+plainly false b e = cc
+
+method_supported : (m : Bool) (s : Span) (key fn : Tree) (form : MethodKind) (is_static : Bool) → supported_in m (method_member s key fn form is_static) ≡ true
+    → Keyable m key × (supported_in m fn ≡ true) × ((not m || has_no_note fn) ≡ true)
+method_supported m s key fn form is_static h = by_key (is_private key) h
+  where
+    parts : (b : Bool) → (b && (is_function fn && (supported_in m fn && (not m || has_no_note fn)))) ≡ true → (b ≡ true) × (supported_in m fn ≡ true) × ((not m || has_no_note fn) ≡ true)
+    parts b i = let o = and_yes b _ i in let l = and_yes (supported_in m fn) _ (and_yes (is_function fn) _ o.1).1 in (o.0, l.0, l.1)
+
+    by_key : (b : Bool) → supported_in m (if b then tree.private_method s key fn form is_static else tree.method s key fn form is_static) ≡ true
+        → ((is_supported_key_in m key || b) ≡ true) × (supported_in m fn ≡ true) × ((not m || has_no_note fn) ≡ true)
+    by_key true i = let l = parts (is_supported_property_in m key) i in (or_true (is_supported_key_in m key), l.1, l.2)
+    by_key false i = let l = parts (is_supported_key_in m key) i in (plainly (is_supported_key_in m key) false l.0, l.1, l.2)
+
+field_supported : (m : Bool) (s : Span) (key value : Tree) (is_static : Bool) (ds : Tree) → supported_in m (field_member s key value is_static false ds) ≡ true
+    → (has_none ds ≡ true) × Keyable m key × (supported_in m value ≡ true)
+field_supported m s key value is_static ds h = by_key (is_private key) h
+  where
+    parts : (b : Bool) → (has_none ds && (b && supported_in m value)) ≡ true → (has_none ds ≡ true) × (b ≡ true) × (supported_in m value ≡ true)
+    parts b i = let o = and_yes (has_none ds) _ i in let l = and_yes b _ o.1 in (o.0, l.0, l.1)
+
+    by_key : (b : Bool) → supported_in m (if b then tree.private_prop s key value is_static ds else tree.class_prop s key value is_static ds) ≡ true
+        → (has_none ds ≡ true) × ((is_supported_key_in m key || b) ≡ true) × (supported_in m value ≡ true)
+    by_key true i = let l = parts (is_supported_property_in m key) i in (l.0, or_true (is_supported_key_in m key), l.2)
+    by_key false i = let l = parts (is_supported_key_in m key) i in (l.0, plainly (is_supported_key_in m key) false l.1, l.2)
+
+-- no auto-accessor is
+field_unaccessed : (m : Bool) (s : Span) (key value : Tree) (is_static is_accessor : Bool) (ds : Tree) → supported_in m (field_member s key value is_static is_accessor ds) ≡ true → is_accessor ≡ false
+field_unaccessed m s key value is_static true ds h = absurd (true≢false (sym h))
+field_unaccessed m s key value is_static false ds h = refl
+
+none_is : (x : Tree) → x ≡ listed [] → has_none x ≡ true
+none_is x e = ap has_none e
+
+-- what is supported of a member: it has no decorators and is no auto-accessor
+core_plain : {In : Goal → Type 0} {k : Code} {is_static is_accessor : Bool} {ds x : Tree} {c m d : Place} → CoreRule In k is_static is_accessor ds x c m d → supported_in k.flags.module x ≡ true
+    → (has_none ds ≡ true) × (is_accessor ≡ false)
+core_plain {ds = ds} (constructor_rule key ps body i j f a e r b p q g) s = (none_is ds e, a)
+core_plain {k = k} {is_static = is_static} {ds = ds} {x = x} {c = c} {d = d} (method_rule form a g key ps body b r i e) s =
+    let t = method_supported k.flags.module (spanned c d) key (tree.function (spanned c d) ds (parameter_trees ps) body a g) form is_static (supported_as _ x _ e s) in
+    ((and_yes (has_none ds) _ t.1).0, b)
+core_plain {k = k} {is_static = is_static} {is_accessor = is_accessor} {ds = ds} {x = x} {c = c} {d = d} (field_rule key value i j r b v g e) s =
+    let h = supported_as _ x (field_member (spanned c d) key value is_static is_accessor ds) e s in
+    let a = field_unaccessed k.flags.module (spanned c d) key value is_static is_accessor ds h in
+    ((field_supported k.flags.module (spanned c d) key value is_static ds (subst (λ z. supported_in k.flags.module (field_member (spanned c d) key value is_static z ds) ≡ true) a h)).0, a)
+core_plain {ds = ds} (static_block_rule body f a e r g) s = (none_is ds e, a)
+
+-- none stand before it
+undecorated : {In : Goal → Type 0} {k : Code} {ds : Tree} {c m : Place} → DecoratorsRule In k ds c m → has_none ds ≡ true → (m ≡ c) × (ds ≡ listed [])
+undecorated (no_decorators e i) h = (e, i)
+undecorated {ds = ds} (some_decorators y ys s r i) h = absurd (true≢false (sym h ∙ ap has_none i))
+
+-- an accessor takes as many parameters as it may
+arity_told : (form : MethodForm) (word : Span) (ps : List Tree) → takes (kind_of_form form) ps ≡ true → parameter_faults form word ps ≡ []
+arity_told getter_form word [] h = refl
+arity_told getter_form word (p ∷ ps) h = cc
+arity_told setter_form word [] h = cc
+arity_told setter_form word (p ∷ []) h = by_test (is_rest p) h
+  where
+    by_test : (b : Bool) → not b ≡ true → only b faults.RestPatInSetter (span_of p) ≡ []
+    by_test true i = cc
+    by_test false i = refl
+arity_told setter_form word (p ∷ q ∷ qs) h = cc
+arity_told (method_form a g) word ps h = refl
+
+-- ---- what stands behind the key of a field
+
+paren_no_brace : (c : Place) → kind_at c ≡ kind.LParen → sees kind.LBrace c ≡ false
+unfolding same_kind
+paren_no_brace c e = rw e refl
+
+brace_no_semicolon : (c : Place) → kind_at c ≡ kind.LBrace → sees kind.Semi c ≡ false
+unfolding same_kind
+brace_no_semicolon c e = rw e refl
+
+record FieldGoes (key : Tree) (c d : Place) : Type 0 where
+  ended : Ended key c
+  no_paren : sees kind.LParen c ≡ false
+  goes : (sees kind.Assign c || ends_at c) ≡ true
+  no_brace : sees kind.LBrace d ≡ false → sees kind.LBrace c ≡ false
+
+-- where a field ends
+ends_goes : (c d : Place) → Ends c d → ((not (ends_key c) && not (can_end c)) ≡ false) × (ends_at c ≡ true) × (sees kind.LBrace d ≡ false → sees kind.LBrace c ≡ false)
+unfolding ends_key ends_at same_kind
+ends_goes c d (by_semicolon e g) = (rw e refl, rw e refl, λ h. rw e refl)
+ends_goes c d (by_insertion s e g) = (and_no (not (ends_key c)) _ (ap not e), rw (s, e) refl, λ h. ap (sees kind.LBrace) (sym g) ∙ h)
+
+or_yes : (a b : Bool) → b ≡ true → (a || b) ≡ true
+or_yes true b h = refl
+or_yes false b h = h
+
+field_goes : {In : Goal → Type 0} {k : Code} (key value : Tree) {c m d : Place} → FieldValueRule In k key value c m → Ends m d → FieldGoes key c d
+unfolding same_kind
+field_goes key value {c = c} {d = d} (no_value a p g e i) q =
+    let (modifies, ends, brace) = ends_goes c d (subst (λ z. Ends z d) e q) in
+    record { ended = record { no_accessor = g; no_modifier = modifies }; no_paren = p; goes = or_yes (sees kind.Assign c) _ ends; no_brace = brace }
+field_goes key value {c = c} (a_value i r) q = record { ended = assign_ended key c i; no_paren = rw i refl; goes = rw (seen c kind.Assign i) refl; no_brace = λ h. rw i refl }
+
+-- a member that begins with `static` begins with no `;`
+static_no_semicolon : (c : Place) → sees kind.Semi (classes.behind_static c) ≡ false → sees kind.Semi c ≡ false
+unfolding is_static_word same_kind
+static_no_semicolon c = by_test (is_static_word c) refl
+  where
+    by_test : (b : Bool) → is_static_word c ≡ b → sees kind.Semi (behind_modifier b c) ≡ false → sees kind.Semi c ≡ false
+    by_test false h g = g
+    by_test true h g = rw (word_place (codes "static") c (and_yes (word_at (codes "static") c) _ h).0) refl
+
+module _ (n : ℕ) (below : Below n)
+    (body_reads : (a g : Bool) (k : Code) (x : Tree) (c d : Place) (w : Scope) (f : List Fault) (h : Notes) → ReadsBraced (ReadsStmt n) true (in_body k a g) x c d
+    → function_body (stmt n nested_item) (parameters n) a g (st c k w f h)
+    ≡ Ok (x, st d k w (f ++ walk_body (walks_in_body (env_of k w.labels)) x) (record { held_back = h.held_back ++ notes x; found_module_item = h.found_module_item })))
+    (block_reads : (k : Code) (x : Tree) (c d : Place) → ReadsBlock (ReadsStmt n) k x c d → Reads (braced (stmt n nested_item) false) k x c d) where
+  -- ---- methods
+
+  -- from behind the key
+  method_parts_reads : (form : MethodForm) (start word : Span) (ps : List Tree) (body : Tree) (k : Code) (c d : Place) (w : Scope) (f : List Fault) (h : Notes)
+      → ReadsParts (ReadsStmt n) (ReadsParams n) k (form_is_async form) (form_is_generator form) ps body c d → takes (kind_of_form form) ps ≡ true → is_error (kind_at d) ≡ false
+      → (let fn = tree.function (record { lo = start.lo; hi = d.last.hi }) (listed []) (parameter_trees ps) body (form_is_async form) (form_is_generator form) in
+      method_parts (stmt n nested_item) (parameters n) form start word (st c k w f h) ≡ Ok (fn, st d k w (f ++ walk (env_of k w.labels) fn) (h ⊕ notes_of fn)))
+  unfolding method_parts misdirected
+  method_parts_reads form start word ps body k c d w f h r t e =
+      let env = env_of k w.labels in
+      let a = walks (in_params env) false (trees ps) in
+      let b = walk_body (walks_in_body env) body in
+      rw (
+        parameters_reads n below (in_parameters k (form_is_async form) (form_is_generator form)) ps c r.middle r.reads_parameters w f h,
+        arity_told form word ps t,
+        body_reads (form_is_async form) (form_is_generator form) k body r.middle d w (f ++ a) (h ⊕ all_notes_of (trees ps)) r.reads_body,
+        told_reads (misplaced_directive (has_plain_params (parameter_trees ps)) body) d k w (f ++ a ++ b) _ (inr e),
+        parameters_walk (in_params env) ps,
+        ap (λ z. z.held_back) (parameters_notes ps),
+        ap (λ z. z.found_module_item) (parameters_notes ps),
+      ) (simp (append_assoc) refl)
+
+  -- its words say that it is one, or its `(`
+  behind_key_method : (is_static : Bool) (form : MethodForm) (start word : Span) (x : Tree) (k : Code) (c : Place) (w : Scope) (f : List Fault) (h : Notes) → kind_at c ≡ kind.LParen → is_constructor_key x ≡ false
+      → behind_key (expr n) (cover n) (stmt n nested_item) (parameters n) is_static form start word x (st c k w f h) ≡ method (stmt n nested_item) (parameters n) is_static form start word x (st c k w f h)
+  unfolding behind_key plain_method
+  behind_key_method is_static getter_form start word x k c w f h e i = refl
+  behind_key_method is_static setter_form start word x k c w f h e i = refl
+  behind_key_method is_static (method_form true g) start word x k c w f h e i = refl
+  behind_key_method is_static (method_form false true) start word x k c w f h e i = refl
+  behind_key_method is_static (method_form false false) start word x k c w f h e i = rw (seen c kind.LParen e, i) refl
+
+  method_reads : (is_static : Bool) (form : MethodForm) (key : Tree) (ps : List Tree) (body x : Tree) (k : Code) (c m d : Place)
+      → MethodRule (language.Reads n) (MemberKeyRule (language.Reads n) k) k (kind_of_form form) (form_is_async form) (form_is_generator form) key ps body m d → is_constructor_key key ≡ false
+      → x ≡ method_member (spanned c d) key (tree.function (spanned c d) (listed []) (parameter_trees ps) body (form_is_async form) (form_is_generator form)) (kind_of_form form) is_static
+      → supported_in k.flags.module x ≡ true → is_error (kind_at d) ≡ false → Reads (keyed_member (expr n) (cover n) (stmt n nested_item) (parameters n) is_static (span_at c)) k x m d
+  unfolding keyed_member method misnamed spanned
+  method_reads is_static form key ps body x k c m d r i e s a w f h =
+      let env = env_of k w.labels in
+      let fn = tree.function (spanned c d) (listed []) (parameter_trees ps) body (form_is_async form) (form_is_generator form) in
+      let t = method_supported k.flags.module (spanned c d) key fn (kind_of_form form) is_static (supported_as _ x (method_member (spanned c d) key fn (kind_of_form form) is_static) e s) in
+      let j = and_yes (supported_in k.flags.module (parameter_trees ps)) _ t.1 in
+      let q = parts_narrow n k (form_is_async form) (form_is_generator form) ps body r.behind_key d r.reads_parts j.0 j.1
+      (λ o. (nil-split (notes (parameter_trees ps)) (notes body) (clean_is _ (in_module k.flags.module _ t.2 o))).1) in
+      let paren = r.reads_parts.reads_parameters.opens in
+      rw (
+        words_read w f h form m r.behind_head r.reads_head r.reads_key (paren_ended key r.behind_key paren),
+        member_key_reads (language.Reads n) (expr n) (cover n) below.exprs k key r.behind_head r.behind_key r.reads_key t.0 w f h,
+        behind_key_method is_static form (span_at c) (span_at m) key k r.behind_key w (f ++ walk env key) (h ⊕ notes_of key) paren i,
+        i,
+        method_parts_reads form (span_at c) (span_at m) ps body k r.behind_key d w (f ++ walk env key) (h ⊕ notes_of key) q r.arity a,
+        ap (walk env) e ∙ method_walk (spanned c d) key fn (kind_of_form form) is_static env,
+        ap notes e ∙ method_noted (spanned c d) key fn (kind_of_form form) is_static,
+        ap has_meta e ∙ method_meta (spanned c d) key fn (kind_of_form form) is_static,
+        e,
+      ) (simp (append_assoc, or_assoc) refl)
+
+  -- ---- constructors
+
+  constructor_reads : (key : Tree) (ps : List Tree) (body x : Tree) (k : Code) (c m i j d : Place) → KeyRule (language.Reads n) k key m i → is_constructor_key key ≡ true
+      → ParametersRule (language.Reads n) k ps i j → BlockRule (language.Reads n) (in_body k false false) true body j d → x ≡ tree.constructor (spanned c d) key (parameter_trees ps) body
+      → supported_in k.flags.module x ≡ true → is_error (kind_at d) ≡ false → Reads (keyed_member (expr n) (cover n) (stmt n nested_item) (parameters n) false (span_at c)) k x m d
+  unfolding keyed_member behind_key plain_method constructor misdirected spanned
+  constructor_reads key ps body x k c m i j d r o p q e s a w f h =
+      let env = env_of k w.labels in
+      let key_rule : MemberKeyRule (language.Reads n) k key m i = classes.member_key r in
+      let t = and_yes (is_supported_key_in k.flags.module key) _ (supported_as _ x (tree.constructor (spanned c d) key (parameter_trees ps) body) e s) in
+      let u = and_yes (supported_in k.flags.module (parameter_trees ps) && supported_in k.flags.module body) _ t.1 in
+      let v = and_yes (supported_in k.flags.module (parameter_trees ps)) _ u.0 in
+      let f' = f ++ walk env key in
+      let h' = h ⊕ notes_of key in
+      let b = walks env false (trees ps) in
+      let l = walk_body (walks_in_body env) body in
+      rw (
+        bare_words key_rule (paren_ended key i p.opens) w f h,
+        member_key_reads (language.Reads n) (expr n) (cover n) below.exprs k key m i key_rule (plainly _ _ t.0) w f h,
+        seen i kind.LParen p.opens,
+        o,
+        parameters_reads n below k ps i j (p, sym (parameters_same k.flags.module ps) ∙ v.0) w f' h',
+        body_reads false false k body j d w (f' ++ b) (h' ⊕ all_notes_of (trees ps))
+            (braced_narrows n (stmt_narrows n) true (λ z. clean_is (notes body) (and_yes (has_no_note (parameter_trees ps)) _ (in_module k.flags.module _ u.1 z)).1) q v.1),
+        told_reads (misplaced_directive (has_plain_params (parameter_trees ps)) body) d k w (f' ++ b ++ l) _ (inr a),
+        e,
+        parameters_walk env ps,
+        ap (λ z. z.held_back) (parameters_notes ps),
+        ap (λ z. z.found_module_item) (parameters_notes ps),
+      ) (simp (append_assoc, or_assoc) refl)
+
+  -- ---- fields
+
+  field_end_reads : (c d : Place) (k : Code) (w : Scope) (f : List Fault) (h : Notes) → Ends c d → field_end (st c k w f h) ≡ Ok (tt, st d k w f h)
+  unfolding field_end
+  field_end_reads c d k w f h (by_semicolon e g) = rw (seen c kind.Semi e, g) refl
+  field_end_reads c d k w f h (by_insertion e i g) = rw (e, i, g) refl
+
+  value_reads : (k : Code) (key x : Tree) (c d : Place) → FieldValueRule (language.Reads n) k key x c d → supported_in k.flags.module x ≡ true → Reads (field_value (expr n) (cover n)) k x c d
+  unfolding field_value
+  value_reads k key x c d (no_value a p g e i) s w f h = rw (a, i, e, append-nil f, append-nil h.held_back, or_nil h.found_module_item) refl
+  value_reads k key x c d (a_value i r) s w f h = rw (seen c kind.Assign i) (inside_reads (language.Reads n) (expr n) (cover n) below.exprs assignment k x (after c) d r s w f h)
+
+  field_reads : (is_static : Bool) (key value x : Tree) (k : Code) (c m i j d : Place) → MemberKeyRule (language.Reads n) k key m i → is_constructor_key key ≡ false
+      → FieldValueRule (language.Reads n) k key value i j → Ends j d → x ≡ field_member (spanned c d) key value is_static false (listed []) → supported_in k.flags.module x ≡ true
+      → Reads (keyed_member (expr n) (cover n) (stmt n nested_item) (parameters n) is_static (span_at c)) k x m d
+  unfolding keyed_member behind_key field field_from field_named spanned
+  field_reads is_static key value x k c m i j d r o v q e s w f h =
+      let env = env_of k w.labels in
+      let t = field_supported k.flags.module (spanned c d) key value is_static (listed []) (supported_as _ x (field_member (spanned c d) key value is_static false (listed [])) e s) in
+      let g = field_goes key value v q in
+      rw (
+        bare_words r g.ended w f h,
+        member_key_reads (language.Reads n) (expr n) (cover n) below.exprs k key m i r t.1 w f h,
+        g.no_paren,
+        g.goes,
+        o,
+        value_reads k key value i j v t.2 w (f ++ walk env key) (h ⊕ notes_of key),
+        field_end_reads j d k w (f ++ walk env key ++ walk env value) (h ⊕ notes_of key ⊕ notes_of value) q,
+        ap (walk env) e ∙ field_walk (spanned c d) key value is_static env,
+        ap notes e ∙ field_noted (spanned c d) key value is_static,
+        ap has_meta e ∙ field_meta (spanned c d) key value is_static,
+        e,
+      ) (simp (append_assoc, or_assoc) refl)
+
+  -- ---- behind `static`, or without it
+
+  -- a member that begins with words, `*` or its key
+  keyed_reads : (is_static : Bool) (start : Span) (k : Code) (x : Tree) (c d : Place) → is_accessor_word k c ≡ false → Keyed c
+      → Reads (keyed_member (expr n) (cover n) (stmt n nested_item) (parameters n) is_static start) k x c d
+      → Reads (members.behind_static (expr n) (cover n) (stmt n nested_item) (parameters n) is_static start) k x c d
+  unfolding members.behind_static
+  keyed_reads is_static start k x c d a o r w f h = rw (a, and_no is_static _ o.no_block, and_no is_static _ o.no_static) (r w f h)
+
+  static_block_reads : (body x : Tree) (k : Code) (c m d : Place) → is_accessor_word k m ≡ false → BlockRule (language.Reads n) (in_static_block k) false body m d → x ≡ tree.static_block (spanned c d) body
+      → supported_in k.flags.module x ≡ true → Reads (members.behind_static (expr n) (cover n) (stmt n nested_item) (parameters n) true (span_at c)) k x m d
+  unfolding members.behind_static static_block spanned
+  static_block_reads body x k c m d a r e s w f h =
+      let t = and_yes (supported_in k.flags.module body) _ (supported_as _ x (tree.static_block (spanned c d) body) e s) in
+      rw (
+        a,
+        seen m kind.LBrace r.opens,
+        block_reads (in_static_block k) body m d (braced_narrows n (stmt_narrows n) false (λ z. clean_is (notes body) (in_module k.flags.module _ t.1 z)) r t.0) w f h,
+        e,
+      ) refl
+
+  -- from behind `static` on, and with which token it goes on
+  Behind : (is_static : Bool) (k : Code) (x : Tree) (c m d : Place) → Type 0
+  Behind is_static k x c m d = (sees kind.Semi m ≡ false) × Reads (members.behind_static (expr n) (cover n) (stmt n nested_item) (parameters n) is_static (span_at c)) k x m d
+
+  core_reads : (is_static : Bool) (k : Code) (x : Tree) (c m d : Place) → CoreRule (language.Reads n) k is_static false (listed []) x c m d → is_accessor_word k m ≡ false
+      → supported_in k.flags.module x ≡ true → MemberFollows d → Behind is_static k x c m d
+  unfolding Behind
+  core_reads is_static k x c m d (constructor_rule key ps body i j f b g r o p q e) a s z =
+      let t : Keyed m = key_keyed (classes.member_key r) (paren_no_brace i p.opens) in (
+        t.no_semicolon,
+        subst (λ v. Reads (members.behind_static (expr n) (cover n) (stmt n nested_item) (parameters n) v (span_at c)) k x m d) (sym f)
+            (keyed_reads false (span_at c) k x m d a t (constructor_reads key ps body x k c m i j d r o p q e s z.0)),
+      )
+  core_reads is_static k x c m d (method_rule form w g key ps body b r i e) a s z =
+      let t : Keyed m = head_keyed r.reads_head r.reads_key (paren_no_brace r.behind_key r.reads_parts.reads_parameters.opens) in (
+        t.no_semicolon,
+        keyed_reads is_static (span_at c) k x m d a t (by_form (λ form w g. MethodRule (language.Reads n) (MemberKeyRule (language.Reads n) k) k form w g key ps body m d
+            → x ≡ method_member (spanned c d) key (tree.function (spanned c d) (listed []) (parameter_trees ps) body w g) form is_static
+            → Reads (keyed_member (expr n) (cover n) (stmt n nested_item) (parameters n) is_static (span_at c)) k x m d) r.reads_head (λ form r e. method_reads is_static form key ps body x k c m d r i e s z.0) r e),
+      )
+  core_reads is_static k x c m d (field_rule key value i j r o v q e) a s z =
+      let t : Keyed m = key_keyed r ((field_goes key value v q).no_brace z.1) in
+      (t.no_semicolon, keyed_reads is_static (span_at c) k x m d a t (field_reads is_static key value x k c m i j d r o v q e s))
+  core_reads is_static k x c m d (static_block_rule body f b g r e) a s z =
+      (brace_no_semicolon m r.opens, subst (λ v. Reads (members.behind_static (expr n) (cover n) (stmt n nested_item) (parameters n) v (span_at c)) k x m d) (sym f) (static_block_reads body x k c m d a r e s))
+
+  -- ---- members
+
+  empty_reads : (k : Code) (x : Tree) (c d : Place) → kind_at c ≡ kind.Semi → d ≡ after c → x ≡ tree.empty_member (spanned c d) → Reads (member_level (expr n) (cover n) (stmt n nested_item) (parameters n)) k x c d
+  unfolding member_level empty_member spanned
+  empty_reads k x c d i g e w f h = rw (seen c kind.Semi i, e, g, append-nil f, append-nil h.held_back, or_nil h.found_module_item) refl
+
+  -- with `static` or without it
+  full_reads : (k : Code) (x : Tree) (c d : Place) → Behind (is_static_word c) k x c (classes.behind_static c) d → Reads (member_level (expr n) (cover n) (stmt n nested_item) (parameters n)) k x c d
+  unfolding member_level full_member Behind
+  full_reads k x c d r w f h = rw (static_no_semicolon c r.0, static_reads c k w f h) (r.1 w f h)
+
+  pub member_level_reads : (k : Code) (x : Tree) (c d : Place) → ReadsMember (suc n) k x c d → MemberFollows d → Reads (member_level (expr n) (cover n) (stmt n nested_item) (parameters n)) k x c d
+  member_level_reads k x c d (empty_rule i g e, s) z w f h = empty_reads k x c d i g e w f h
+  member_level_reads k x c d (member_rule ds m r t, s) z w f h =
+      let (plain, no_accessor) = core_plain t s in
+      let (here, none) = undecorated r plain in
+      let u : CoreRule (language.Reads n) k (is_static_word c) (has_accessor k c) ds x c (classes.behind_accessor k c) d =
+      subst (λ v. CoreRule (language.Reads n) k (is_static_word v) (has_accessor k v) ds x c (classes.behind_accessor k v) d) here t in
+      let a : has_accessor k c ≡ false = ap (has_accessor k) (sym here) ∙ no_accessor in
+      full_reads k x c d (core_reads (is_static_word c) k x c (classes.behind_static c) d
+      (subst (λ v. CoreRule (language.Reads n) k (is_static_word c) v (listed []) x c (behind_modifier v (classes.behind_static c)) d) a
+      (subst (λ v. CoreRule (language.Reads n) k (is_static_word c) (has_accessor k c) v x c (classes.behind_accessor k c) d) none u)) a s z) w f h
