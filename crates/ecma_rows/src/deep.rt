@@ -58,3 +58,78 @@ fn chains_of_any_length(rt: HostRuntime) -> Result<(), Fail> {
     assert_eq!(rt; found.as_str(), "Script 0..1100006\n  If 0..1100006\n");
     Ok(())
 }
+
+/// A text so many times, what stands in it all, and another text as often behind.
+fn nested(
+    alloc: Global,
+    open: &str,
+    core: &str,
+    close: &str,
+    times: usize,
+) -> Result<String, Fail> {
+    let mut all = String::new(alloc);
+    for _ in 0..times {
+        all.push_str(open)?;
+    }
+    all.push_str(core)?;
+    for _ in 0..times {
+        all.push_str(close)?;
+    }
+    Ok(all)
+}
+
+/// What stands before a class in a class, and behind it; how many stand in one another within the default limit; how long the
+/// script of these is; and where the class stands that is one too many.
+const CLASSES: [(&str, &str, usize, &str, &str); 10] = [
+    ("class A extends ", "{}", 999, "0..17983", "16000..16005"),
+    ("class A extends f(", "){}", 499, "0..10480", "9000..9005"),
+    ("class A extends [", "]{}", 499, "0..9981", "8500..8505"),
+    ("class A extends {a:", "}{}", 499, "0..10979", "9500..9505"),
+    ("class A extends f[", "]{}", 499, "0..10480", "9000..9005"),
+    (
+        "class A extends f(...",
+        "){}",
+        499,
+        "0..11977",
+        "10500..10505",
+    ),
+    ("class A{a=", "}", 499, "0..5490", "5000..5005"),
+    ("class A{[", "]}", 499, "0..5490", "4500..4505"),
+    ("class A{a(){", "}}", 499, "0..6987", "6000..6005"),
+    ("class A{static{", "}}", 499, "0..8484", "7500..7505"),
+];
+
+/// The lines of a script that is one class.
+fn class_lines(alloc: Global, span: &str) -> Result<String, Fail> {
+    let mut lines = String::new(alloc);
+    lines.push_str("Script ")?;
+    lines.push_str(span)?;
+    lines.push_str("\n  Class ")?;
+    lines.push_str(span)?;
+    lines.push_str("\n")?;
+    Ok(lines)
+}
+
+/// The line of a class that stands too deep.
+fn too_deep_line(alloc: Global, span: &str) -> Result<String, Fail> {
+    let mut lines = String::new(alloc);
+    lines.push_str("refused ")?;
+    lines.push_str(span)?;
+    lines.push_str(" TooDeep\n")?;
+    Ok(lines)
+}
+
+#[test]
+fn classes_in_one_another(rt: HostRuntime) -> Result<(), Fail> {
+    for (open, close, times, whole, deepest) in CLASSES {
+        let text = nested(rt.alloc(), open, "a", close, times)?;
+        let found = parsed(rt.alloc(), text.as_str())?;
+        let wanted = class_lines(rt.alloc(), whole)?;
+        assert_eq!(rt; found.as_str(), wanted.as_str());
+        let text = nested(rt.alloc(), open, "", "", 1_001)?;
+        let found = outcome(rt.alloc(), text.as_str(), plainly(Goal::Script))?;
+        let wanted = too_deep_line(rt.alloc(), deepest)?;
+        assert_eq!(rt; found.lines.as_str(), wanted.as_str());
+    }
+    Ok(())
+}

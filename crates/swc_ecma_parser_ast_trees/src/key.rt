@@ -2,7 +2,7 @@ ghost use Rattle.swc_ecma_parser_ast.specs.View.{view_prop_name};
 
 use crate::Ast;
 use std::alloc::{AllocError, Global};
-use swc_ecma_parser_ast::{BigInt, ComputedPropName, Ident, Number, PropName, Span, Spanned, Str};
+use swc_ecma_parser_ast::{BigInt, ComputedPropName, Ident, Number, PropName, Span, Str};
 use swc_ecma_parser_ast_parts::made::Made;
 use swc_ecma_parser_trees::BuildsKey;
 
@@ -32,21 +32,9 @@ impl BuildsKey for Ast {
         Ok(PropName::Computed(ComputedPropName { span, expr }))
     }
 
-    fn key_span(key: &PropName) -> Span {
-        key.span()
-    }
-
     fn is_word_key(key: &PropName, word: &str) -> bool {
         match key {
             PropName::Ident(x) => x.sym.as_str() == word,
-            _ => false,
-        }
-    }
-
-    fn is_constructor_key(key: &PropName) -> bool {
-        match key {
-            PropName::Ident(x) => x.sym.as_str() == "constructor",
-            PropName::Str(x) => x.value.as_str() == "constructor",
             _ => false,
         }
     }

@@ -14,15 +14,10 @@ use Rattle.swc_ecma_parser_reader.specs.Reader.{closes, named, expr, member}
 use Rattle.swc_ecma_parser_reader.proofs.Falls.{member_falls}
 use Rattle.swc_ecma_parser_reader.proofs.Meets.{Meets, Refuses, meets_then, meets_if, meant}
 use Rattle.swc_ecma_parser_reader.proofs.Steps.{loop_err}
-use Rattle.swc_ecma_parser_reader.proofs.Takes.{Falls}
 use Rattle.swc_ecma_parser_reader.proofs.classes.Codes.{class_parts_code}
-use Rattle.swc_ecma_parser_reader.proofs.expressions.Falls.{told_falls}
+use Rattle.swc_ecma_parser_reader.proofs.classes.Loops.{told_leaves}
 use Rattle.swc_ecma_parser_reader.proofs.expressions.Loops.{shorter_by}
 use Rattle.swc_ecma_parser_reader.proofs.expressions.SoundSteps.{meets_as, name_sound}
-
--- what is told leaves no more tokens
-told_leaves : (fs : List Fault) (t u : State) → told fs t ≡ Ok (tt, u) → length u.at.left ≤ length t.at.left
-told_leaves fs t u e = let f : length u.at.left + 0 ≤ length t.at.left = subst (Falls 0 (length t.at.left)) e (told_falls fs t) in omega arith
 
 module _ (n : ℕ) (l : Members) (s : State) where
   pub members_err : (e : Fault × State) → closes s.at ≡ false → member n s ≡ Err e → loop (members_turn (expr n left_side) (member n)) l s ≡ Err e

@@ -66,6 +66,7 @@ fn with_constructor<T: BuildsClass>(has_constructor: bool, member: &T::Member) -
 
 /// Members one behind another. Each constructor behind the first is a fault.
 #[tactic(auto, unfolding(swc_ecma_parser_reader::specs::Members::members), using(swc_ecma_parser_reader::proofs::classes::Loops::members_done))]
+#[inline(never)]
 fn members<
     P: Source,
     T: BuildsClass,
@@ -101,6 +102,7 @@ fn heritage<
 
 /// What a class extends, if anything.
 #[tactic(auto, unfolding(swc_ecma_parser_reader::specs::Members::extended))]
+#[inline(never)]
 fn extended<
     P: Source,
     T: BuildsClass,
@@ -144,6 +146,7 @@ fn set_found_module_item<P: Source>(alloc: Global, p: &mut P, found: bool)
 }
 
 /// What a class extends, dropped, with what in it makes a program a module.
+#[inline(never)]
 fn dropped<
     P: Source,
     T: BuildsClass,
@@ -161,6 +164,7 @@ fn dropped<
 
 /// A second `extends`, which is a fault of its word.
 #[tactic(auto, using(crate::proofs::Surplus::surplus_none, crate::proofs::Surplus::surplus_err, crate::proofs::Surplus::surplus_told))]
+#[inline(never)]
 fn surplus<
     P: Source,
     T: BuildsClass,

@@ -88,6 +88,7 @@ pub fn expr<P: Source, T: BuildsStatements>(
 /// An expression in so many levels.
 #[cycle(knot)]
 #[tactic(auto, using(swc_ecma_parser_reader::proofs::expressions::Loops::expr_lowest, swc_ecma_parser_reader::proofs::expressions::Loops::expr_above))]
+#[inline(never)]
 pub fn expression<P: Source, T: BuildsStatements>(
     t: &MakerOf<T>,
     p: &mut P,
@@ -111,6 +112,7 @@ pub fn expression<P: Source, T: BuildsStatements>(
 /// An expression that may still become a pattern, in so many levels.
 #[cycle(knot)]
 #[tactic(auto, using(swc_ecma_parser_reader::proofs::expressions::Loops::cover_above))]
+#[inline(never)]
 fn cover<P: Source, T: BuildsStatements>(
     t: &MakerOf<T>,
     p: &mut P,
@@ -133,6 +135,7 @@ fn cover<P: Source, T: BuildsStatements>(
 /// What the head of a loop begins with, in so many levels.
 #[cycle(knot)]
 #[tactic(auto, using(swc_ecma_parser_reader::proofs::expressions::Loops::head_above))]
+#[inline(never)]
 fn head<P: Source, T: BuildsStatements>(
     t: &MakerOf<T>,
     p: &mut P,
@@ -211,6 +214,7 @@ pub fn declared_class<P: Source, T: BuildsStatements>(
 
 /// A class that is an expression, with what stands in it in so many levels.
 #[cycle(knot)]
+#[inline(never)]
 fn class_expression<P: Source, T: BuildsStatements>(
     t: &MakerOf<T>,
     p: &mut P,

@@ -60,6 +60,7 @@ pub(crate) fn continued<
 
 /// An array or object, and what goes on with it.
 #[tactic(auto, unfolding(swc_ecma_parser_reader::specs::Expressions::closed))]
+#[inline(never)]
 fn closed<
     P: Source,
     T: BuildsCall + BuildsOperator,
@@ -82,6 +83,7 @@ fn closed<
 
 /// An array or object pattern, and what it is assigned.
 #[tactic(auto, unfolding(swc_ecma_parser_reader::specs::Expressions::assigned_pattern, swc_ecma_parser_reader::specs::Expressions::assigned_to))]
+#[inline(never)]
 fn assigned_pattern<
     P: Source,
     T: BuildsOperator + BuildsPattern,

@@ -40,17 +40,9 @@ pub trait BuildsKey: Trees {
     fn computed_key(alloc: Global, span: Span, expr: Self::Expr) -> Result<Self::Key, AllocError>
         ensures { IfOk result (λ x. key_of x ≡ tree.computed span (Self.expr_of expr)) };
 
-    /// Where a key stands.
-    fn key_span(key: &Self::Key) -> Span
-        ensures { result ≡ forms.span_of (key_of key.now) };
-
     /// Whether it is this word, as a word and not as a string.
     fn is_word_key(key: &Self::Key, word: &str) -> bool
         ensures { result ≡ forms.is_ident_named word.now (key_of key.now) };
-
-    /// Whether it is `constructor`, as a word or a string.
-    fn is_constructor_key(key: &Self::Key) -> bool
-        ensures { result ≡ forms.is_constructor_key (key_of key.now) };
 
     /// Whether it is `__proto__`, as a word or a string.
     fn is_proto_key(key: &Self::Key) -> bool

@@ -15,7 +15,7 @@ use Rattle.swc_ecma_parser_reader.proofs.expressions.Falls.{told_falls}
 use Rattle.swc_ecma_parser_reader.proofs.expressions.Loops.{shorter_by}
 
 -- what is told leaves no more tokens
-told_leaves : (fs : List Fault) (t u : State) → told fs t ≡ Ok (tt, u) → length u.at.left ≤ length t.at.left
+pub told_leaves : (fs : List Fault) (t u : State) → told fs t ≡ Ok (tt, u) → length u.at.left ≤ length t.at.left
 told_leaves fs t u e = let f : length u.at.left + 0 ≤ length t.at.left = subst (Falls 0 (length t.at.left)) e (told_falls fs t) in omega arith
 
 module _ (n : ℕ) (l : Members) (s : State) where
