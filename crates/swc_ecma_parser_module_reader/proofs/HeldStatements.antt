@@ -1,0 +1,672 @@
+-- Whatever a statement is read as, or refused, no fault that was held back is lost.
+use Rattle.swc_ecma_parser_grammar.specs.Parameters.{parameters}
+use Rattle.swc_ecma_parser_module_reader.proofs.HeldPatterns as patterns
+use Rattle.swc_ecma_parser_module_reader.proofs.HeldExpressions as expressions
+use Rattle.swc_ecma_parser_reader.specs.Reader as reader
+use Rattle.swc_ecma_parser_module_reader.proofs.HeldExpressions.{star_keeps, told_keeps}
+use Rattle.swc_ecma_parser_reader.specs.Methods.{FunctionForm, expression_form, class_form, property_form, getter_form, setter_form, method_form, parameter_form, block_form, star}
+use Rattle.swc_ecma_parser_reader.specs.Reader.{no_parameter, one_parameter, getter, setter, plain_method, arrow_block, function_by, named, own_name, function_expr, expr, cover, head_cover, pattern, element, member, function, function_word, async_or_other}
+use Rattle.swc_ecma_parser_grammar.specs.Names.{name_at}
+use Rattle.swc_ecma_parser_model.specs.Tree.{Text}
+use Rattle.swc_ecma_parser_reader.specs.Members.{class_expr}
+use Rattle.swc_ecma_parser_module_reader.proofs.HeldClasses as classes
+use Rattle.swc_ecma_parser_reader.specs.State.{below, below_label, enclosed, unlabelled, module_found}
+use Rattle.swc_ecma_parser_grammar.specs.language.Items.{labelled_item}
+use Rattle.swc_ecma_parser_reader.specs.Reader.{begins_label, relabels, labelled_body, labeled_stmt, other_stmt, note_with, with_stmt, await_here, unless_awaited, function_decl, function_stmt, function_parts, function_body, misdirected}
+use Rattle.swc_ecma_parser_reader.specs.Reader.{missing_initializer, variables, Opening, Nothing, Variables, Expression, as_init, as_left, head_variables, head_expression, opening, head_part, misdeclared, for_parts, for_in, for_of, for_behind, for_stmt, const_stmt, let_stmt}
+use Rattle.swc_ecma_parser_reader.specs.Expressions as exprs
+use Rattle.swc_ecma_parser_model.specs.declared.leaves.VarDeclKind.{VarDeclKind}
+use Rattle.swc_ecma_parser_model.specs.declared.leaves.VarDeclKind.TheVariants as decl
+use Rattle.swc_ecma_parser_model.specs.Targets.{as_target}
+use Rattle.swc_ecma_parser_grammar.specs.Variables.{is_const, needs_no_initializer}
+use Rattle.swc_ecma_parser_grammar.specs.Own.{head_faults, misplaced_directive}
+use Rattle.swc_ecma_parser_grammar.specs.language.Contexts.{without_in, named_by, in_parameters, in_body, in_arrow}
+use Rattle.swc_ecma_parser_grammar.specs.Follows.{word_at, is_let_declaration, is_async_function}
+use Rattle.std.proofs.Common.{◌≡◌, ℕ, zero, suc, Bool, true, false, cond, List, [], ◌∷◌, length, Option, Some, None, Ok, Err, refl}
+use Rattle.std.specs.Prelude.{◌&&◌, ◌||◌, is_some, codes}
+use Rattle.swc_ecma_parser_common.specs.declared.span.Span.{Span}
+use Rattle.swc_ecma_parser_error.specs.Kind as faults
+use Rattle.swc_ecma_parser_error.specs.Kind.{Fault, fault_of}
+use Rattle.swc_ecma_parser_token.specs.declared.kind.TokenKind.{TokenKind}
+use Rattle.swc_ecma_parser_token.specs.declared.kind.TokenKind.TheVariants as kind
+use Rattle.swc_ecma_parser_input.specs.Place.{Place, after}
+use Rattle.swc_ecma_parser_model.specs.Tree as tree
+use Rattle.swc_ecma_parser_model.specs.Tree.{Tree}
+use Rattle.swc_ecma_parser_model.specs.Forms.{is_ident, is_ident_named, is_binding_name, is_rest, span_of}
+use Rattle.swc_ecma_parser_grammar.specs.declared.position.Position.{Position}
+use Rattle.swc_ecma_parser_grammar.specs.Looks.{kind_at, breaks_at, sees, span_at}
+use Rattle.swc_ecma_parser_grammar.specs.Follows.{may_begin_expression_statement, begins_import_expression}
+use Rattle.swc_ecma_parser_grammar.specs.Reads.{with_in, head_code, nested_item}
+use Rattle.swc_ecma_parser_grammar.specs.Ends.{ends_at}
+use Rattle.swc_ecma_parser_grammar.specs.language.Contexts.{in_loop, in_breakable, in_with}
+use Rattle.swc_ecma_parser_grammar.specs.language.Goals.{Class, expression, assignment, left_side}
+use Rattle.swc_ecma_parser_grammar.specs.language.Items.{sub_statement}
+use Rattle.swc_ecma_parser_reader.specs.State.{State, Outcome, Reader, moved, coded, within, noted, holding_back, module_fault, fault, fault_at, wanted, refused, labelled, labelled_as, name, expect, end}
+use Rattle.swc_ecma_parser_reader.specs.Expressions.{Cover}
+use Rattle.swc_ecma_parser_reader.specs.Reader.{empty, debugger, initialized, declarator, declarators_turn, declarators, closes, at_end, close, items_turn, items, block_from, block, braced, note_statement, no_label, expr_stmt, expr_stmt_at, optional_end, import_stmt, import_stmt_at, told, target, unbroken, break_stmt, uncontinued, continue_stmt, misplaced, after_return, operand, returned, return_stmt, thrown, throw, head, while_stmt, do_while, goes_on, condition, alternative, link_from, link, links, if_stmt, begins_clause, closes_clause, clause_from, default_clause, case_clause, clause, clauses_turn, clauses, switch_stmt, begins_at, is_handled, handled, bound, parameter, finalizer, caught, handler, try_stmt, stmt_by, stmt_level, stmt, top_await_fault, top_await, whole_stmt, shebang, script_body, script}
+use Rattle.swc_ecma_parser_reader.proofs.Meets.{Answers, Meets, answers_then, answers_if}
+use Rattle.swc_ecma_parser_module_reader.proofs.HeldSteps.{HeldBehind, Kept, Lost, Passes, behind_self, behind_after, behind_noted, behind_held, refused_keeps, too_deep_keeps, fault_keeps, wanted_keeps, refuse_keeps, reject_keeps, end_keeps, expect_keeps, close_keeps, shebang_keeps, name_keeps, loop_keeps}
+use Rattle.swc_ecma_parser_reader.proofs.Opens.{chain_goes}
+
+-- ---- statements
+
+-- where an initializer is asked for, a fault is recorded, or what was read is refused
+missing_keeps : (b : State) (word : VarDeclKind) (span : Span) (p : Tree) (s : State) → HeldBehind b s → Answers (Kept b) (Lost b) (missing_initializer word span p s)
+missing_keeps b word span p s f = answers_if _ _ (is_const word && s.code.flags.strict) _ _
+    (λ _. answers_then (Kept b) _ (fault (fault_at span faults.ConstDeclarationsRequireInitialization) s) _
+    (fault_keeps b s f (fault_at span faults.ConstDeclarationsRequireInitialization)) (λ _ t g. g))
+    (λ _. reject_keeps _ faults.PatVarWithoutInit span b s f)
+
+module _ (inner_expr : Class → Reader Tree) (inner_pat : Reader Tree) (below_expr : (class : Class) → Passes (inner_expr class)) (below_pat : Passes inner_pat)
+    (b : State) (in_head : Bool) (word : VarDeclKind) where
+  declarator_keeps : (s : State) → HeldBehind b s → Answers (Kept b) (Lost b) (declarator inner_expr inner_pat in_head word s)
+  unfolding declarator initialized
+  declarator_keeps s f = answers_then _ _ (within with_in inner_pat s) _
+      (answers_then (Kept b) _ (inner_pat (coded (with_in s.code) s)) _ (below_pat b (coded (with_in s.code) s) f) (λ p t g. g)) (λ p t g. answers_if _ _ (sees kind.Assign t.at) _ _
+      (λ _. answers_then _ _ (inner_expr assignment (moved t)) _ (below_expr assignment b (moved t) (behind_after b t g)) (λ x u h. h))
+      (λ _. answers_if _ _ (needs_no_initializer t.code in_head word p t.at) _ _ (λ _. g)
+      (λ _. missing_keeps b word (record { lo = (span_at s.at).lo; hi = t.at.last.hi }) p t g)))
+
+  -- declarators one behind another
+  declarators_keeps : (s : State) → HeldBehind b s → Answers (Kept b) (Lost b) (declarators inner_expr inner_pat in_head word s)
+  unfolding declarators declarators_turn
+  declarators_keeps s f = loop_keeps (declarators_turn inner_expr inner_pat in_head word) b
+      (λ xs t g. answers_then _ _ (declarator inner_expr inner_pat in_head word t) _ (declarator_keeps t g) (λ x u h. answers_if _ _ (sees kind.Comma u.at) _ _ (λ _. behind_after b u h) (λ _. h))) [] s f
+
+-- statements one behind another
+items_keeps : (inner : Reader Tree) → Passes inner → (stops : Place → Bool) (directives : Bool) → Passes (items inner stops directives)
+unfolding items items_turn
+items_keeps inner below stops directives b s f = loop_keeps (items_turn inner stops directives) b
+    (λ xs t g. answers_if _ _ (stops t.at) _ _ (λ _. g) (λ _. answers_then _ _ (inner t) _ (below b t g) (λ x u k. k))) [] s f
+
+-- a fault of module code, whether recorded or held back
+module_fault_keeps : (b : State) (g : Fault) (s : State) → HeldBehind b s → HeldBehind b (module_fault g s)
+module_fault_keeps b g s f = by_module s.code.flags.module
+  where
+    by_module : (o : Bool) → HeldBehind b (cond o (noted g s) (holding_back g s))
+    by_module true = behind_noted b g s f
+    by_module false = behind_held b g s f
+
+note_with_keeps : (b : State) (span : Span) (s : State) → HeldBehind b s → Answers (Kept b) (Lost b) (note_with span s)
+unfolding note_with
+note_with_keeps b span s f = module_fault_keeps b (fault_at span faults.WithInStrict) s f
+
+optional_end_keeps : (b : State) (s : State) → HeldBehind b s → Answers (Kept b) (Lost b) (optional_end s)
+unfolding optional_end
+optional_end_keeps b s f = answers_if _ _ (sees kind.Semi s.at) _ _ (λ _. behind_after b s f) (λ _. f)
+
+-- the fault of a `return` that was refused
+after_return_keeps : (b : State) (start : Span) (o : Outcome Tree) → Answers (Kept b) (Lost b) o → Answers (Kept b) (Lost b) (after_return start o)
+unfolding misplaced
+after_return_keeps b start (Ok p) h = answers_then (Kept b) _ (misplaced start p.1) _ (told_keeps b _ p.1 h) (λ _ t k. k)
+after_return_keeps b start (Err e) h = answers_if (Kept b) (Lost b) (is_some e.1.scope.mark) _ _ (λ _. h) (λ _. refused_keeps (Kept b) b e.0 (misplaced start e.1) (told_keeps b _ e.1 h))
+
+pub target_keeps : (b : State) (s : State) → HeldBehind b s → Answers (Kept b) (Lost b) (target s)
+unfolding target
+target_keeps b s g = answers_if _ _ (ends_at s.at) _ _ (λ _. g)
+    (λ _. answers_then (Kept b) _ (name faults.ExpectedIdent s) _ (name_keeps b s g faults.ExpectedIdent) (λ x t k. k))
+
+-- ---- what the head of a loop begins with, as what it is
+
+as_init_keeps : (b : State) (o : Opening) (s : State) → HeldBehind b s → Answers (Kept b) (Lost b) (as_init o s)
+unfolding exprs.close
+as_init_keeps b Nothing s f = f
+as_init_keeps b (Variables x) s f = f
+as_init_keeps b (Expression v) s f = by_mark v.mark
+  where
+    by_mark : (o : Option Span) → Answers (Kept b) (Lost b) (exprs.unmarked v.x o s)
+    by_mark None = f
+    by_mark (Some k) = reject_keeps _ faults.AssignProperty k b s f
+
+as_left_keeps : (b : State) (w : Bool) (o : Opening) (s : State) → HeldBehind b s → Answers (Kept b) (Lost b) (as_left w o s)
+unfolding exprs.target
+as_left_keeps b w Nothing s f = wanted_keeps _ faults.Unexpected b s f
+as_left_keeps b w (Variables x) s f = f
+as_left_keeps b w (Expression v) s f =
+    answers_if _ _ (w && is_ident_named (codes "async") v.x) _ _ (λ _. wanted_keeps _ faults.Unexpected b s f) (λ _. by_target (cond v.comma None (as_target v.x)))
+  where
+    by_target : (o : Option Tree) → Answers (Kept b) (Lost b) (exprs.target_or v.x o s)
+    by_target (Some p) = f
+    by_target None = reject_keeps _ faults.InvalidPat (span_of v.x) b s f
+
+await_here_keeps : (b : State) (s : State) → HeldBehind b s → Answers (Kept b) (Lost b) (await_here s)
+unfolding await_here
+await_here_keeps b s f = answers_if _ _ (sees kind.Await s.at) _ _ (λ _. behind_after b s f) (λ _. f)
+
+unless_awaited_keeps : (b : State) (word : Option Span) (p : Reader Tree) (s : State) → Answers (Kept b) (Lost b) (p s) → Answers (Kept b) (Lost b) (unless_awaited word p s)
+unless_awaited_keeps b None p s h = h
+unless_awaited_keeps b (Some w) p s h = answers_then _ _ (p s) _ h (λ _ t k. reject_keeps _ faults.AwaitForStmt w b t k)
+
+misdeclared_keeps : (b : State) (refused : Bool) (left : Tree) (s : State) → HeldBehind b s → Answers (Kept b) (Lost b) (misdeclared refused left s)
+unfolding misdeclared
+misdeclared_keeps b refused left s f = told_keeps b (head_faults refused left) s f
+
+-- a refusal that says where it is
+labelled_keeps : {A : Type 0} (b : State) (P : A → State → Type 0) (o : Outcome A) → Answers P (Lost b) o → Answers P (Lost b) (labelled_as o)
+labelled_keeps b P (Ok p) h = h
+labelled_keeps b P (Err e) h = answers_if P (Lost b) (is_some e.1.scope.mark) _ _ (λ _. h) (λ _. h)
+
+-- the links of a chain
+module _ (inner : Position → Reader Tree) (inner_expr : Class → Reader Tree)
+    (below_stmt : (at : Position) → Passes (inner at)) (below_expr : (class : Class) → Passes (inner_expr class)) where
+  link_keeps : (b : State) → (s : State) → HeldBehind b (moved s) → Answers (Kept b) (Lost b) (link (inner sub_statement) (inner_expr expression) s)
+  unfolding link link_from condition labelled
+  link_keeps b s g = answers_then (Kept b) _ (condition (inner_expr expression) (moved s)) _
+      (answers_then _ _ (expect kind.LParen (moved s)) _ (expect_keeps b (moved s) g kind.LParen) (λ _ u j.
+      answers_then _ _ (labelled_as (within with_in (inner_expr expression) u)) _
+      (labelled_keeps b (Kept b) (within with_in (inner_expr expression) u)
+      (answers_then (Kept b) _ (inner_expr expression (coded (with_in u.code) u)) _ (below_expr expression b (coded (with_in u.code) u) j) (λ x v k. k))) (λ x v k.
+      answers_then _ _ (expect kind.RParen v) _ (expect_keeps b v k kind.RParen) (λ _ w z. z)))) (λ x t k.
+      answers_then _ _ (inner sub_statement t) _ (below_stmt sub_statement b t k) (λ y u z. z))
+
+  alternative_keeps : (b : State) → (s : State) → HeldBehind b s → Answers (Kept b) (Lost b) (alternative (inner sub_statement) s)
+  unfolding alternative
+  alternative_keeps b s g = answers_if _ _ (sees kind.Else s.at) _ _ (λ _. below_stmt sub_statement b (moved s) (behind_after b s g)) (λ _. g)
+
+  links_keeps : (l : ℕ) (b s : State) → kind_at s.at ≡ kind.If → HeldBehind b s → Answers (Kept b) (Lost b) (links (inner sub_statement) (inner_expr expression) l s)
+  unfolding links
+  links_keeps zero b s e f = f
+  links_keeps (suc l) b s e f =
+      let g = behind_after b s f in
+      answers_then (Kept b) _ (link (inner sub_statement) (inner_expr expression) s) _ (link_keeps b s g) (λ x t j.
+      answers_if _ _ (goes_on t.at) _ _
+      (λ o. answers_then (Kept b) _ (links (inner sub_statement) (inner_expr expression) l (moved t)) _
+      (links_keeps l b (moved t) (chain_goes t.at o).1 (behind_after b t j)) (λ y u z. z))
+      (λ _. answers_then (Kept b) _ (alternative (inner sub_statement) t) _ (alternative_keeps b t j) (λ y u z. z)))
+
+-- ---- what stands in braces, and functions
+
+-- the words that begin a function
+function_word_keeps : Passes function_word
+unfolding function_word
+function_word_keeps b t g = let k = behind_after b t g in answers_if _ _ (is_async_function t.at) _ _ (λ _. behind_after b (moved t) k) (λ _. k)
+
+-- the parameter of an accessor
+no_parameter_keeps : (word : Span) (ps : List Tree) → Passes (no_parameter word ps)
+no_parameter_keeps word [] b s f = f
+no_parameter_keeps word (p ∷ ps) b s f = reject_keeps _ faults.GetterParam word b s f
+
+one_parameter_keeps : (word : Span) (ps : List Tree) → Passes (one_parameter word ps)
+one_parameter_keeps word [] b s f = reject_keeps _ faults.SetterParam word b s f
+one_parameter_keeps word (p ∷ []) b s f = answers_if _ _ (is_rest p) _ _ (λ _. reject_keeps _ faults.RestPatInSetter word b s f) (λ _. f)
+one_parameter_keeps word (p ∷ q ∷ qs) b s f = reject_keeps _ faults.SetterParam word b s f
+
+module _ (inner : Reader Tree) (below : Passes inner) where
+  braces_from_keep : (directives : Bool) (start : Place) → Passes (block_from inner directives start)
+  unfolding block_from
+  braces_from_keep directives start b t g = answers_then _ _ (items inner closes directives t) _ (items_keeps inner below closes directives b t g) (λ x u k.
+      answers_then _ _ (close u) _ (close_keeps b u k) (λ _ v j. j))
+
+  braces_keep : (directives : Bool) → Passes (braced inner directives)
+  unfolding braced
+  braces_keep directives b t g = answers_then _ _ (expect kind.LBrace t) _ (expect_keeps b t g kind.LBrace) (λ _ u k. braces_from_keep directives t.at b u k)
+
+  module _ (params : Reader (List Tree)) (below_params : Passes params) where
+    pub function_params_keep : (r g : Bool) → Passes (within (λ k. in_parameters k r g) params)
+    function_params_keep r g b u k = answers_then (Kept b) _ (params (coded (in_parameters u.code r g) u)) _ (below_params b (coded (in_parameters u.code r g) u) k) (λ ps v j. j)
+
+    pub function_body_keep : (r g : Bool) → Passes (function_body inner params r g)
+    unfolding function_body
+    function_body_keep r g b v j = answers_then (Kept b) _ (enclosed (braced inner true) (coded (in_body v.code r g) v)) _
+        (answers_then (Kept b) _ (braced inner true (unlabelled (coded (in_body v.code r g) v))) _ (braces_keep true b (unlabelled (coded (in_body v.code r g) v)) j) (λ x w z. z))
+        (λ x w z. z)
+
+    -- from behind the name
+    function_parts_keep : (r g : Bool) (start : Span) → Passes (function_parts inner params r g start)
+    unfolding function_parts misdirected
+    function_parts_keep r g start b u k =
+        answers_then (Kept b) _ (within (λ k. in_parameters k r g) params u) _ (function_params_keep r g b u k) (λ ps v j.
+        answers_then (Kept b) _ (function_body inner params r g v) _ (function_body_keep r g b v j) (λ x w z.
+        answers_then (Kept b) _ (misdirected (parameters ps) x w) _ (told_keeps b _ w z) (λ _ a c. c)))
+
+    own_name_keeps : (w v : Bool) → Passes (own_name w v)
+    unfolding own_name named
+    own_name_keeps w v b t g = let u = coded (named_by t.code w v) t in answers_if _ _ (name_at (named_by t.code w v).flags t.at) _ _
+        (λ _. answers_then (Kept b) _ (named u) _ (answers_then (Kept b) _ (name faults.ExpectedIdent u) _ (name_keeps b u g faults.ExpectedIdent) (λ i v k. k)) (λ x v k. k)) (λ _. g)
+
+    function_expr_keeps : Passes (function_expr inner params)
+    unfolding function_expr
+    function_expr_keeps b t g = answers_then (Kept b) _ (function_word t) _ (function_word_keeps b t g) (λ w o m.
+        answers_then (Kept b) _ (star o) _ (star_keeps b o m) (λ v r l.
+        answers_then (Kept b) _ (own_name w v r) _ (own_name_keeps w v b r l) (λ i u k.
+        answers_then (Kept b) _ (function_parts inner params w v (span_at t.at) u) _ (function_parts_keep w v (span_at t.at) b u k) (λ x z j. j))))
+
+    -- methods, from behind their key
+    getter_keeps : (start : Span) (x : Tree) → Passes (getter inner params start x)
+    unfolding getter
+    getter_keeps start x b t g = answers_then (Kept b) _ (within (λ k. in_parameters k false false) params t) _ (function_params_keep false false b t g) (λ ps u k.
+        answers_then (Kept b) _ (no_parameter start ps u) _ (no_parameter_keeps start ps b u k) (λ _ v j.
+        answers_then (Kept b) _ (function_body inner params false false v) _ (function_body_keep false false b v j) (λ body w z. z)))
+
+    setter_keeps : (start : Span) (x : Tree) → Passes (setter inner params start x)
+    unfolding setter
+    setter_keeps start x b t g = answers_then (Kept b) _ (within (λ k. in_parameters k false false) params t) _ (function_params_keep false false b t g) (λ ps u k.
+        answers_then (Kept b) _ (one_parameter start ps u) _ (one_parameter_keeps start ps b u k) (λ p v j.
+        answers_then (Kept b) _ (function_body inner params false false v) _ (function_body_keep false false b v j) (λ body w z.
+        answers_then (Kept b) _ (told (misplaced_directive (is_binding_name p) body) w) _ (told_keeps b (misplaced_directive (is_binding_name p) body) w z) (λ _ a c. c))))
+
+    plain_method_keeps : (w v : Bool) (start : Span) (x : Tree) → Passes (plain_method inner params w v start x)
+    unfolding plain_method
+    plain_method_keeps w v start x b t g = answers_then (Kept b) _ (function_parts inner params w v start t) _ (function_parts_keep w v start b t g) (λ y u k. k)
+
+    -- the block of an arrow function
+    arrow_block_keeps : (w : Bool) → Passes (arrow_block inner params w)
+    unfolding arrow_block
+    arrow_block_keeps w b s f = let t = coded (with_in (in_arrow s.code w)) s in answers_then (Kept b) _ (enclosed (braced inner false) t) _
+        (answers_then (Kept b) _ (braced inner false (unlabelled t)) _ (braces_keep false b (unlabelled t) f) (λ x u k. k))
+        (λ x u k. k)
+
+    -- a function as a part of an expression
+    function_by_keeps : (pat inner_class : Reader Tree) → Passes pat → Passes inner_class → (form : FunctionForm) → Passes (function_by inner params pat inner_class form)
+    unfolding function_by
+    function_by_keeps pat inner_class below_pat below_class expression_form b t g = function_expr_keeps b t g
+    function_by_keeps pat inner_class below_pat below_class class_form b t g = below_class b t g
+    function_by_keeps pat inner_class below_pat below_class (property_form getter_form start x) b t g = getter_keeps start x b t g
+    function_by_keeps pat inner_class below_pat below_class (property_form setter_form start x) b t g = setter_keeps start x b t g
+    function_by_keeps pat inner_class below_pat below_class (property_form (method_form w v) start x) b t g = plain_method_keeps w v start x b t g
+    function_by_keeps pat inner_class below_pat below_class parameter_form b t g = below_pat b t g
+    function_by_keeps pat inner_class below_pat below_class (block_form w) b t g = arrow_block_keeps w b t g
+
+module _ (inner : Position → Reader Tree) (inner_expr : Class → Reader Tree) (inner_pat : Reader Tree) (inner_head : Reader Cover) (inner_params : Reader (List Tree))
+    (inner_member : Reader Tree) (below_stmt : (at : Position) → Passes (inner at)) (below_expr : (class : Class) → Passes (inner_expr class)) (below_pat : Passes inner_pat) (below_head : Passes inner_head)
+    (below_params : Passes inner_params) (below_member : Passes inner_member) (at : Position) (b : State) (s : State) (f : HeldBehind b s) where
+  block_from_keeps : (directives : Bool) (start : Place) (t : State) → HeldBehind b t → Answers (Kept b) (Lost b) (block_from (inner nested_item) directives start t)
+  block_from_keeps directives start t g = braces_from_keep (inner nested_item) (below_stmt nested_item) directives start b t g
+
+  -- a block
+  block_keeps : kind_at s.at ≡ kind.LBrace → Answers (Kept b) (Lost b) (block (inner nested_item) s)
+  unfolding block
+  block_keeps e =
+      let g = behind_after b s f in
+      block_from_keeps false s.at (moved s) g
+
+  braced_keeps : (directives : Bool) (t : State) → HeldBehind b t → Answers (Kept b) (Lost b) (braced (inner nested_item) directives t)
+  braced_keeps directives t g = braces_keep (inner nested_item) (below_stmt nested_item) directives b t g
+
+  debugger_keeps : Answers (Kept b) (Lost b) (debugger s)
+  unfolding debugger
+  debugger_keeps = answers_then _ _ (end faults.Expected (moved s)) _ (end_keeps b (moved s) (behind_after b s f) faults.Expected) (λ _ t g. g)
+
+  variables_keeps : (word : VarDeclKind) → Answers (Kept b) (Lost b) (variables inner_expr inner_pat word s)
+  unfolding variables
+  variables_keeps word = answers_then _ _ (within with_in (declarators inner_expr inner_pat false word) (moved s)) _
+      (answers_then (Kept b) _ (declarators inner_expr inner_pat false word (coded (with_in s.code) (moved s))) _
+      (declarators_keeps inner_expr inner_pat below_expr below_pat b false word (coded (with_in s.code) (moved s)) (behind_after b s f)) (λ x t k. k)) (λ x t k.
+      answers_then _ _ (end faults.Unexpected t) _ (end_keeps b t k faults.Unexpected) (λ _ u j. j))
+
+  const_keeps : Answers (Kept b) (Lost b) (const_stmt inner inner_expr inner_pat inner_head inner_params inner_member at s)
+  unfolding const_stmt
+  const_keeps = where_declared at.include_decl
+    where
+      where_declared : (o : Bool) → Answers (Kept b) (Lost b) (cond o (variables inner_expr inner_pat decl.Const) (wanted faults.Unexpected) s)
+      where_declared true = variables_keeps decl.Const
+      where_declared false = wanted_keeps _ faults.Unexpected b s f
+
+  -- no token stands before a statement's expression, which is why there is one level more
+  whole_keeps : Answers (Kept b) (Lost b) (within with_in (inner_expr expression) s)
+  whole_keeps = answers_then (Kept b) _ (inner_expr expression (coded (with_in s.code) s)) _ (below_expr expression b (coded (with_in s.code) s) f) (λ x t k. k)
+
+  expr_stmt_keeps : Answers (Kept b) (Lost b) (expr_stmt (inner_expr expression) s)
+  unfolding expr_stmt no_label note_statement
+  expr_stmt_keeps = answers_then _ _ (within with_in (inner_expr expression) s) _ whole_keeps (λ x t k.
+      answers_then _ _ (no_label x t) _ (answers_if (Kept b) _ (is_ident x && sees kind.Colon t.at) _ _ (λ _. wanted_keeps _ faults.Unexpected b t k) (λ _. k)) (λ _ u j.
+      answers_then _ _ (note_statement x u) _ (answers_if (Kept b) _ (is_ident_named (codes "interface") x) _ _
+      (λ _. module_fault_keeps b (fault_at (span_of x) faults.InvalidIdentInStrict) u j) (λ _. j)) (λ _ v g.
+      answers_then _ _ (end faults.ExpectedSemiForExprStmt v) _ (end_keeps b v g faults.ExpectedSemiForExprStmt) (λ _ w z. z))))
+
+  expr_stmt_at_keeps : Answers (Kept b) (Lost b) (expr_stmt_at (inner_expr expression) at s)
+  unfolding expr_stmt_at
+  expr_stmt_at_keeps = answers_if _ _ (may_begin_expression_statement at s.at) _ _ (λ _. expr_stmt_keeps) (λ _. wanted_keeps _ faults.Unexpected b s f)
+
+  import_stmt_keeps : Answers (Kept b) (Lost b) (import_stmt (inner_expr expression) s)
+  unfolding import_stmt
+  import_stmt_keeps = answers_then _ _ (within with_in (inner_expr expression) s) _ whole_keeps (λ x t k.
+      answers_then _ _ (optional_end t) _ (optional_end_keeps b t k) (λ _ u j. j))
+
+  import_stmt_at_keeps : Answers (Kept b) (Lost b) (import_stmt_at (inner_expr expression) s)
+  unfolding import_stmt_at
+  import_stmt_at_keeps = answers_if _ _ (begins_import_expression s.at) _ _ (λ _. import_stmt_keeps) (λ _. refuse_keeps _ faults.ImportExportInScript b s f)
+
+  head_keeps : (t : State) → HeldBehind b t → Answers (Kept b) (Lost b) (head (inner_expr expression) t)
+  unfolding head
+  head_keeps t g = answers_then _ _ (expect kind.LParen t) _ (expect_keeps b t g kind.LParen) (λ _ u j.
+      answers_then _ _ (within with_in (inner_expr expression) u) _
+      (answers_then (Kept b) _ (inner_expr expression (coded (with_in u.code) u)) _ (below_expr expression b (coded (with_in u.code) u) j) (λ x v k. k)) (λ x v k.
+      answers_then _ _ (expect kind.RParen v) _ (expect_keeps b v k kind.RParen) (λ _ w z. z)))
+
+  labelled_body_keeps : (text : Text) (t : State) → HeldBehind b t → Answers (Kept b) (Lost b) (labelled_body inner text t)
+  unfolding labelled_body
+  labelled_body_keeps text t g = answers_then (Kept b) _ (below_label text (inner (labelled_item t.at)) (coded (in_breakable t.code) t)) _
+      (answers_then (Kept b) _ (inner (labelled_item t.at) (below text (coded (in_breakable t.code) t))) _ (below_stmt (labelled_item t.at) b (below text (coded (in_breakable t.code) t)) g) (λ x u k. k)) (λ x u k. k)
+
+  labeled_keeps : Answers (Kept b) (Lost b) (labeled_stmt inner s)
+  unfolding labeled_stmt relabels
+  labeled_keeps = answers_then (Kept b) _ (name faults.ExpectedIdent s) _ (name_keeps b s f faults.ExpectedIdent) (λ x t k.
+      answers_then (Kept b) _ (expect kind.Colon t) _ (expect_keeps b t k kind.Colon) (λ _ u g.
+      answers_then (Kept b) _ (labelled_body inner x.sym u) _ (labelled_body_keeps x.sym u g) (λ y v j.
+      answers_then (Kept b) _ (relabels (tree.ident x.span x.sym) y v) _ (told_keeps b _ v (j)) (λ _ b a. a))))
+
+  other_keeps : Answers (Kept b) (Lost b) (other_stmt inner (inner_expr expression) at s)
+  unfolding other_stmt
+  other_keeps = answers_if _ _ (begins_label s.code s.at) _ _ (λ _. labeled_keeps) (λ _. expr_stmt_at_keeps)
+
+  let_keeps : Answers (Kept b) (Lost b) (let_stmt inner inner_expr inner_pat inner_head inner_params inner_member at s)
+  unfolding let_stmt
+  let_keeps = answers_if _ _ (at.include_decl && is_let_declaration s.at) _ _ (λ _. variables_keeps decl.Let) (λ _. other_keeps)
+
+  break_keeps : Answers (Kept b) (Lost b) (break_stmt s)
+  unfolding break_stmt unbroken
+  break_keeps = answers_then _ _ (target (moved s)) _ (target_keeps b (moved s) (behind_after b s f)) (λ x t k.
+      answers_then _ _ (end faults.Expected t) _ (end_keeps b t k faults.Expected) (λ _ u j.
+      answers_then (Kept b) _ (unbroken x (record { lo = (span_at s.at).lo; hi = u.at.last.hi }) u) _ (told_keeps b _ u j) (λ _ v z. z)))
+
+  continue_keeps : Answers (Kept b) (Lost b) (continue_stmt s)
+  unfolding continue_stmt uncontinued
+  continue_keeps = answers_then _ _ (target (moved s)) _ (target_keeps b (moved s) (behind_after b s f)) (λ x t k.
+      answers_then _ _ (end faults.Expected t) _ (end_keeps b t k faults.Expected) (λ _ u j.
+      answers_then (Kept b) _ (uncontinued x (record { lo = (span_at s.at).lo; hi = u.at.last.hi }) u) _ (told_keeps b _ u j) (λ _ v z. z)))
+
+  return_keeps : kind_at s.at ≡ kind.Return → Answers (Kept b) (Lost b) (return_stmt (inner_expr expression) s)
+  unfolding return_stmt returned operand
+  return_keeps e =
+      let g = behind_after b s f in
+      after_return_keeps b (span_at s.at) (returned (inner_expr expression) (span_at s.at) (moved s)) (answers_then (Kept b) _ (operand (inner_expr expression) (moved s)) _
+      (answers_if (Kept b) _ (ends_at (after s.at)) _ _ (λ _. g)
+      (λ _. answers_then (Kept b) _ (inner_expr expression (coded (with_in s.code) (moved s))) _ (below_expr expression b (coded (with_in s.code) (moved s)) g) (λ x t k. k))) (λ x t k.
+      answers_then _ _ (end faults.Expected t) _ (end_keeps b t k faults.Expected) (λ _ u j. j)))
+
+  throw_keeps : kind_at s.at ≡ kind.Throw → Answers (Kept b) (Lost b) (throw (inner_expr expression) s)
+  unfolding throw thrown
+  throw_keeps e =
+      let g = behind_after b s f in
+      answers_if _ _ (breaks_at (after s.at) || sees kind.End (after s.at)) _ _ (λ _. refuse_keeps _ faults.LineBreakInThrow b (moved s) g) (λ _.
+      answers_then _ _ (within with_in (inner_expr expression) (moved s)) _
+      (answers_then (Kept b) _ (inner_expr expression (coded (with_in s.code) (moved s))) _ (below_expr expression b (coded (with_in s.code) (moved s)) g) (λ x t k. k)) (λ x t k.
+      answers_then _ _ (end faults.Expected t) _ (end_keeps b t k faults.Expected) (λ _ u j. j)))
+
+  -- the body of a loop
+  looped_keeps : (t : State) → HeldBehind b t → Answers (Kept b) (Lost b) (within in_loop (inner sub_statement) t)
+  looped_keeps t g = answers_then (Kept b) _ (inner sub_statement (coded (in_loop t.code) t)) _ (below_stmt sub_statement b (coded (in_loop t.code) t) g) (λ x u k. k)
+
+  while_keeps : kind_at s.at ≡ kind.While → Answers (Kept b) (Lost b) (while_stmt (inner sub_statement) (inner_expr expression) s)
+  unfolding while_stmt
+  while_keeps e =
+      let g = behind_after b s f in
+      answers_then _ _ (head (inner_expr expression) (moved s)) _ (head_keeps (moved s) g) (λ x t k.
+      answers_then _ _ (within in_loop (inner sub_statement) t) _ (looped_keeps t k) (λ y u j. j))
+
+  with_keeps : kind_at s.at ≡ kind.With → Answers (Kept b) (Lost b) (with_stmt (inner sub_statement) (inner_expr expression) s)
+  unfolding with_stmt
+  with_keeps e =
+      let g = behind_after b s f in
+      answers_then (Kept b) _ (note_with (span_at s.at) (moved s)) _ (note_with_keeps b (span_at s.at) (moved s) g) (λ _ r o.
+      answers_then _ _ (head (inner_expr expression) r) _ (head_keeps r o) (λ x t k.
+      answers_then _ _ (within in_with (inner sub_statement) t) _
+      (answers_then (Kept b) _ (inner sub_statement (coded (in_with t.code) t)) _ (below_stmt sub_statement b (coded (in_with t.code) t) k) (λ y u j. j))
+      (λ y u j. j)))
+
+  do_while_keeps : kind_at s.at ≡ kind.Do → Answers (Kept b) (Lost b) (do_while (inner sub_statement) (inner_expr expression) s)
+  unfolding do_while
+  do_while_keeps e =
+      let g = behind_after b s f in
+      answers_then _ _ (within in_loop (inner sub_statement) (moved s)) _ (looped_keeps (moved s) g) (λ y t k.
+      answers_then _ _ (expect kind.While t) _ (expect_keeps b t k kind.While) (λ _ u j.
+      answers_then _ _ (head (inner_expr expression) u) _ (head_keeps u j) (λ x v z.
+      answers_then _ _ (optional_end v) _ (optional_end_keeps b v z) (λ _ b a. a))))
+
+  head_variables_keeps : (word : VarDeclKind) (t : State) → HeldBehind b t → Answers (Kept b) (Lost b) (head_variables inner_expr inner_pat word t)
+  unfolding head_variables
+  head_variables_keeps word t g = answers_then _ _ (within (head_code word) (declarators inner_expr inner_pat true word) (moved t)) _
+      (answers_then (Kept b) _ (declarators inner_expr inner_pat true word (coded (head_code word t.code) (moved t))) _
+      (declarators_keeps inner_expr inner_pat below_expr below_pat b true word (coded (head_code word t.code) (moved t)) (behind_after b t g)) (λ x u k. k)) (λ x u k. k)
+
+  opening_keeps : (t : State) → HeldBehind b t → Answers (Kept b) (Lost b) (opening inner_expr inner_pat inner_head t)
+  unfolding opening head_expression
+  opening_keeps t g = answers_if _ _ (sees kind.Semi t.at) _ _ (λ _. g)
+      (λ _. answers_if _ _ (sees kind.Var t.at) _ _ (λ _. head_variables_keeps decl.Var t g)
+      (λ _. answers_if _ _ (sees kind.Const t.at) _ _ (λ _. head_variables_keeps decl.Const t g)
+      (λ _. answers_if _ _ (is_let_declaration t.at) _ _ (λ _. head_variables_keeps decl.Let t g)
+      (λ _. answers_then _ _ (within without_in inner_head t) _
+      (answers_then (Kept b) _ (inner_head (coded (without_in t.code) t)) _ (below_head b (coded (without_in t.code) t) g) (λ v u k. k)) (λ v u k. k)))))
+
+  head_part_keeps : (j : TokenKind) (t : State) → HeldBehind b t → Answers (Kept b) (Lost b) (head_part j (inner_expr expression) t)
+  unfolding head_part
+  head_part_keeps j t g = answers_if _ _ (sees j t.at) _ _ (λ _. g)
+      (λ _. answers_then (Kept b) _ (inner_expr expression (coded (with_in t.code) t)) _ (below_expr expression b (coded (with_in t.code) t) g) (λ x u k. k))
+
+  for_parts_keeps : (start : Span) (o : Opening) (t : State) → HeldBehind b t
+      → Answers (Kept b) (Lost b) (for_parts (inner sub_statement) inner_expr start o t)
+  unfolding for_parts
+  for_parts_keeps start o t g =
+      answers_then _ _ (as_init o t) _ (as_init_keeps b o t g) (λ x u a.
+      answers_then _ _ (expect kind.Semi u) _ (expect_keeps b u a kind.Semi) (λ _ v c.
+      answers_then _ _ (head_part kind.Semi (inner_expr expression) v) _ (head_part_keeps kind.Semi v c) (λ y w d.
+      answers_then _ _ (expect kind.Semi w) _ (expect_keeps b w d kind.Semi) (λ _ q k.
+      answers_then _ _ (head_part kind.RParen (inner_expr expression) q) _ (head_part_keeps kind.RParen q k) (λ z p l.
+      answers_then _ _ (expect kind.RParen p) _ (expect_keeps b p l kind.RParen) (λ _ r j.
+      answers_then _ _ (within in_loop (inner sub_statement) r) _ (looped_keeps r j) (λ _ b a. a)))))))
+
+  -- what stands behind `in` and `of`
+  behind_keeps : (class : Class) (t : State) → HeldBehind b t → Answers (Kept b) (Lost b) (within with_in (inner_expr class) t)
+  behind_keeps class t g = answers_then (Kept b) _ (inner_expr class (coded (with_in t.code) t)) _ (below_expr class b (coded (with_in t.code) t) g) (λ x u k. k)
+
+  for_in_keeps : (start : Span) (o : Opening) (t : State) → HeldBehind b t
+      → Answers (Kept b) (Lost b) (for_in (inner sub_statement) inner_expr start o t)
+  unfolding for_in
+  for_in_keeps start o t g =
+      answers_then _ _ (as_left false o t) _ (as_left_keeps b false o t g) (λ x u a.
+      answers_then _ _ (misdeclared u.code.flags.strict x u) _ (misdeclared_keeps b u.code.flags.strict x u a) (λ _ v c.
+      answers_then _ _ (within with_in (inner_expr expression) (moved v)) _ (behind_keeps expression (moved v) (behind_after b v c)) (λ y w d.
+      answers_then _ _ (expect kind.RParen w) _ (expect_keeps b w d kind.RParen) (λ _ r j.
+      answers_then _ _ (within in_loop (inner sub_statement) r) _ (looped_keeps r j) (λ _ b a. a)))))
+
+  for_of_keeps : (w : Bool) (start : Span) (o : Opening) (t : State) → HeldBehind b t
+      → Answers (Kept b) (Lost b) (for_of (inner sub_statement) inner_expr w start o t)
+  unfolding for_of
+  for_of_keeps w start o t g =
+      answers_then _ _ (as_left w o t) _ (as_left_keeps b w o t g) (λ x u a.
+      answers_then _ _ (misdeclared true x u) _ (misdeclared_keeps b true x u a) (λ _ v c.
+      answers_then _ _ (within with_in (inner_expr assignment) (moved v)) _ (behind_keeps assignment (moved v) (behind_after b v c)) (λ y w d.
+      answers_then _ _ (expect kind.RParen w) _ (expect_keeps b w d kind.RParen) (λ _ r j.
+      answers_then _ _ (within in_loop (inner sub_statement) r) _ (looped_keeps r j) (λ _ b a. a)))))
+
+  for_behind_keeps : (start : Span) (word : Option Span) (o : Opening) (t : State) → HeldBehind b t
+      → Answers (Kept b) (Lost b) (for_behind (inner sub_statement) inner_expr start word o t)
+  unfolding for_behind
+  for_behind_keeps start word o t g =
+      answers_if _ _ (sees kind.In t.at) _ _ (λ _. unless_awaited_keeps b word (for_in (inner sub_statement) inner_expr start o) t (for_in_keeps start o t g))
+      (λ _. answers_if _ _ (word_at (codes "of") t.at) _ _ (λ _. for_of_keeps (is_some word) start o t g)
+      (λ _. unless_awaited_keeps b word (for_parts (inner sub_statement) inner_expr start o) t (for_parts_keeps start o t g)))
+
+  for_keeps : kind_at s.at ≡ kind.For → Answers (Kept b) (Lost b) (for_stmt (inner sub_statement) inner_expr inner_pat inner_head s)
+  unfolding for_stmt
+  for_keeps e =
+      let g = behind_after b s f in
+      answers_then _ _ (await_here (moved s)) _ (await_here_keeps b (moved s) g) (λ word v c.
+      answers_then _ _ (expect kind.LParen v) _ (expect_keeps b v c kind.LParen) (λ _ t a.
+      answers_then _ _ (opening inner_expr inner_pat inner_head t) _ (opening_keeps t a) (λ o u k.
+      for_behind_keeps (span_at s.at) word o u k)))
+
+  clause_from_keeps : (start : Span) (test : Tree) (t : State) → HeldBehind b t → Answers (Kept b) (Lost b) (clause_from (inner nested_item) start test t)
+  unfolding clause_from
+  clause_from_keeps start test t g = answers_then _ _ (expect kind.Colon t) _ (expect_keeps b t g kind.Colon) (λ _ u k.
+      answers_then _ _ (items (inner nested_item) closes_clause false u) _ (items_keeps (inner nested_item) (below_stmt nested_item) closes_clause false b u k) (λ xs v j. j))
+
+  clause_keeps : (o : Bool) (t : State) → HeldBehind b t → Answers (Kept b) (Lost b) (clause (inner nested_item) (inner_expr expression) o t)
+  unfolding clause case_clause default_clause
+  clause_keeps o t g = answers_if _ _ (sees kind.Case t.at) _ _
+      (λ _. answers_then _ _ (within with_in (inner_expr expression) (moved t)) _
+      (answers_then (Kept b) _ (inner_expr expression (coded (with_in t.code) (moved t))) _ (below_expr expression b (coded (with_in t.code) (moved t)) (behind_after b t g)) (λ x v k. k))
+      (λ x u k. clause_from_keeps (span_at t.at) x u k))
+      (λ _. answers_if _ _ o _ _ (λ _. refuse_keeps _ faults.MultipleDefault b (moved t) (behind_after b t g)) (λ _. clause_from_keeps (span_at t.at) tree.absent (moved t) (behind_after b t g)))
+
+  clauses_keeps : (t : State) → HeldBehind b t → Answers (Kept b) (Lost b) (clauses (inner nested_item) (inner_expr expression) t)
+  unfolding clauses clauses_turn
+  clauses_keeps t g = loop_keeps (clauses_turn (inner nested_item) (inner_expr expression)) b
+      (λ l u k. answers_if _ _ (begins_clause u.at) _ _ (λ _. answers_then _ _ (clause (inner nested_item) (inner_expr expression) l.has_default u) _ (clause_keeps l.has_default u k) (λ x v j. j)) (λ _. k)) (record { found = []; has_default = false }) t g
+
+  switch_keeps : kind_at s.at ≡ kind.Switch → Answers (Kept b) (Lost b) (switch_stmt (inner nested_item) (inner_expr expression) s)
+  unfolding switch_stmt
+  switch_keeps e =
+      let g = behind_after b s f in
+      answers_then _ _ (head (inner_expr expression) (moved s)) _ (head_keeps (moved s) g) (λ x t k.
+      answers_then _ _ (expect kind.LBrace t) _ (expect_keeps b t k kind.LBrace) (λ _ u j.
+      answers_then _ _ (within in_breakable (clauses (inner nested_item) (inner_expr expression)) u) _
+      (answers_then (Kept b) _ (clauses (inner nested_item) (inner_expr expression) (coded (in_breakable u.code) u)) _ (clauses_keeps (coded (in_breakable u.code) u) j) (λ x v k. k)) (λ xs v l.
+      answers_then _ _ (expect kind.RBrace v) _ (expect_keeps b v l kind.RBrace) (λ _ b a. a))))
+
+  parameter_keeps : (t : State) → HeldBehind b t → Answers (Kept b) (Lost b) (parameter inner_pat t)
+  unfolding parameter bound
+  parameter_keeps t g = answers_if _ _ (sees kind.LParen t.at) _ _ (λ _.
+      answers_then _ _ (within with_in inner_pat (moved t)) _
+      (answers_then (Kept b) _ (inner_pat (coded (with_in t.code) (moved t))) _ (below_pat b (coded (with_in t.code) (moved t)) (behind_after b t g)) (λ x v k. k)) (λ x v k.
+      answers_then _ _ (expect kind.RParen v) _ (expect_keeps b v k kind.RParen) (λ _ w z. z))) (λ _. g)
+
+  handler_keeps : (t : State) → HeldBehind b t → Answers (Kept b) (Lost b) (handler (inner nested_item) inner_pat t)
+  unfolding handler caught
+  handler_keeps t g = answers_if _ _ (sees kind.Catch t.at) _ _ (λ _.
+      answers_then _ _ (parameter inner_pat (moved t)) _ (parameter_keeps (moved t) (behind_after b t g)) (λ x u k.
+      answers_then _ _ (braced (inner nested_item) false u) _ (braced_keeps false u k) (λ y v j. j))) (λ _. g)
+
+  finalizer_keeps : (t : State) → HeldBehind b t → Answers (Kept b) (Lost b) (finalizer (inner nested_item) t)
+  unfolding finalizer
+  finalizer_keeps t g = answers_if _ _ (sees kind.Finally t.at) _ _ (λ _. braced_keeps false (moved t) (behind_after b t g)) (λ _. g)
+
+  handled_keeps : (b : State) (behind : Place) (t : State) → HeldBehind b t → Answers (Kept b) (Lost b) (handled behind t)
+  unfolding handled
+  handled_keeps b behind t g = answers_if _ _ (is_handled behind) _ _ (λ _. g) (λ _. fault_keeps b t g (fault_at (begins_at behind) faults.TS1005))
+
+  try_keeps : kind_at s.at ≡ kind.Try → Answers (Kept b) (Lost b) (try_stmt (inner nested_item) inner_pat s)
+  unfolding try_stmt
+  try_keeps e =
+      let g = behind_after b s f in
+      answers_then _ _ (braced (inner nested_item) false (moved s)) _ (braced_keeps false (moved s) g) (λ x t k.
+      answers_then _ _ (handler (inner nested_item) inner_pat t) _ (handler_keeps t k) (λ y u j.
+      answers_then _ _ (finalizer (inner nested_item) u) _ (finalizer_keeps u j) (λ z v l.
+      answers_then _ _ (handled t.at v) _ (handled_keeps b t.at v l) (λ _ b a. a))))
+
+  function_keeps : (t : State) → HeldBehind b t → Answers (Kept b) (Lost b) (function_decl (inner nested_item) inner_params t)
+  unfolding function_decl
+  function_keeps t g = answers_then (Kept b) _ (function_word t) _ (function_word_keeps b t g) (λ w o m.
+      answers_then (Kept b) _ (star o) _ (star_keeps b o m) (λ v r l.
+      answers_then (Kept b) _ (name faults.ExpectedIdent r) _ (name_keeps b r l faults.ExpectedIdent) (λ i u k.
+      answers_then (Kept b) _ (function_parts (inner nested_item) inner_params w v (span_at t.at) u) _
+      (function_parts_keep (inner nested_item) (below_stmt nested_item) inner_params below_params w v (span_at t.at) b u k) (λ x z j. j))))
+
+  function_stmt_keeps : Answers (Kept b) (Lost b) (function_stmt (inner nested_item) inner_params at s)
+  unfolding function_stmt
+  function_stmt_keeps = answers_if _ _ at.include_decl _ _ (λ _. function_keeps s f) (λ _. answers_then (Kept b) _ (fault (fault_at (span_at s.at) faults.DeclNotAllowed) s) _
+      (fault_keeps b s f (fault_at (span_at s.at) faults.DeclNotAllowed)) (λ _ t g. function_keeps t g))
+
+  async_or_other_keeps : Answers (Kept b) (Lost b) (async_or_other inner inner_expr inner_pat inner_head inner_params inner_member at s)
+  unfolding async_or_other
+  async_or_other_keeps = answers_if _ _ (is_async_function s.at) _ _ (λ _. function_keeps s f) (λ _. other_keeps)
+
+  by_keeps : (k : TokenKind) → kind_at s.at ≡ k → Answers (Kept b) (Lost b) (stmt_by inner inner_expr inner_pat inner_head inner_params inner_member at k s)
+  unfolding empty if_stmt
+  by_keeps kind.LBrace e = block_keeps e
+  by_keeps kind.Semi e = behind_after b s f
+  by_keeps kind.Debugger e = debugger_keeps
+  by_keeps kind.Var e = variables_keeps decl.Var
+  by_keeps kind.Const e = const_keeps
+  by_keeps kind.Let e = let_keeps
+  by_keeps kind.If e = links_keeps inner inner_expr below_stmt below_expr (suc (length s.at.left)) b s e f
+  by_keeps kind.Switch e = switch_keeps e
+  by_keeps kind.Break e = break_keeps
+  by_keeps kind.Continue e = continue_keeps
+  by_keeps kind.Return e = return_keeps e
+  by_keeps kind.Throw e = throw_keeps e
+  by_keeps kind.Try e = try_keeps e
+  by_keeps kind.With e = with_keeps e
+  by_keeps kind.While e = while_keeps e
+  by_keeps kind.Do e = do_while_keeps e
+  by_keeps kind.For e = for_keeps e
+  by_keeps kind.Function e = function_stmt_keeps
+  by_keeps kind.Class e = classes.class_stmt_keeps (inner_expr left_side) inner_member (below_expr left_side) below_member at b s f
+  by_keeps kind.Ident e = async_or_other_keeps
+  by_keeps kind.Import e = import_stmt_at_keeps
+  by_keeps _ e = other_keeps
+
+  level_keeps : Answers (Kept b) (Lost b) (stmt_level inner inner_expr inner_pat inner_head inner_params inner_member at s)
+  unfolding stmt_level
+  level_keeps = by_keeps (kind_at s.at) refl
+
+-- ---- all levels
+
+record Passing (n : ℕ) : Type 0 where
+  exprs : (class : Class) → Passes (expr n class)
+  covers : Passes (cover n)
+  heads : Passes (head_cover n)
+  patterns : Passes (pattern n)
+  elements : Passes (element n)
+  members : Passes (member n)
+  stmts : (at : Position) → Passes (stmt n at)
+
+module _ (n : ℕ) (b : Passing n) where
+  parameters_passing : Passes (reader.parameters n)
+  parameters_passing = patterns.parameter_list_keeps (expr n) (cover n) (pattern n) (element n) b.exprs b.covers b.patterns b.elements
+
+  function_passing : (form : FunctionForm) → Passes (function n form)
+  unfolding function
+  function_passing = function_by_keeps (stmt n nested_item) (b.stmts nested_item) (reader.parameters n) parameters_passing (pattern n) (class_expr (expr n left_side) (member n)) b.patterns
+      (classes.class_expr_keeps (expr n left_side) (member n) (b.exprs left_side) b.members)
+
+all_passing : (n : ℕ) → Passing n
+unfolding function expr cover head_cover pattern element member stmt
+all_passing zero = record {
+  exprs = λ class b s f. too_deep_keeps _ b s f;
+  covers = λ b s f. too_deep_keeps _ b s f;
+  heads = λ b s f. too_deep_keeps _ b s f;
+  patterns = λ b s f. too_deep_keeps _ b s f;
+  elements = λ b s f. too_deep_keeps _ b s f;
+  members = λ b s f. too_deep_keeps _ b s f;
+  stmts = λ at b s f. too_deep_keeps _ b s f;
+}
+all_passing (suc n) = let a = all_passing n in record {
+  exprs = λ class b s f. expressions.level_keeps (expr n) (cover n) a.exprs a.covers b (function n) (function_passing n a) class s f;
+  covers = λ b s f. expressions.cover_expr_keeps (expr n) (cover n) a.exprs a.covers b (function n) (function_passing n a) s f;
+  heads = λ b s f. expressions.head_expr_keeps (expr n) (cover n) a.exprs a.covers b (function n) (function_passing n a) s f;
+  patterns = λ b s f. patterns.pattern_level_keeps (expr n) (cover n) (pattern n) (element n) a.exprs a.covers a.patterns a.elements b s f;
+  elements = λ b s f. patterns.element_level_keeps (expr n) (cover n) (pattern n) (element n) a.exprs a.covers a.patterns a.elements b s f;
+  members = classes.member_level_keeps (expr n) (cover n) (stmt n nested_item) (reader.parameters n) a.exprs a.covers (parameters_passing n a)
+      (function_body_keep (stmt n nested_item) (a.stmts nested_item) (reader.parameters n) (parameters_passing n a)) (braces_keep (stmt n nested_item) (a.stmts nested_item) false);
+  stmts = λ at b s f. level_keeps (stmt n) (expr n) (pattern n) (head_cover n) (reader.parameters n) (member n) a.stmts a.exprs a.patterns a.heads (parameters_passing n a) a.members at b s f;
+}
+
+-- a statement, and what it is made of
+pub stmt_keeps : (n : ℕ) (at : Position) → Passes (stmt n at)
+stmt_keeps n = (all_passing n).stmts
+
+pub expr_keeps : (n : ℕ) (class : Class) → Passes (expr n class)
+expr_keeps n = (all_passing n).exprs
+
+pub parameters_keep : (n : ℕ) → Passes (reader.parameters n)
+parameters_keep n = parameters_passing n (all_passing n)
+
+-- a member of a class
+pub member_keeps : (n : ℕ) → Passes (member n)
+member_keeps n = (all_passing n).members
+
+-- a statement that stands in no other
+top_await_fault_keeps : Passes top_await_fault
+unfolding top_await_fault
+top_await_fault_keeps b s f = answers_if _ _ s.code.flags.can_be_module _ _ (λ _. f) (λ _. fault_keeps b s f _)
+
+top_await_keeps : (at : Position) → Passes (top_await at)
+unfolding top_await
+top_await_keeps at b s f = answers_if _ _ (at.top_level && sees kind.Await s.at) _ _ (λ _. top_await_fault_keeps b (module_found s) f) (λ _. f)
+
+pub whole_stmt_keeps : (n : ℕ) (at : Position) → Passes (whole_stmt n at)
+unfolding whole_stmt
+whole_stmt_keeps n at b s f = answers_then _ _ (top_await at s) _ (top_await_keeps at b s f) (λ _ t g. stmt_keeps n at b t g)
+
+-- the same of what is read
+kept : {A : Type 0} (s : State) (o : Outcome A) → Answers (Kept s) (Lost s) o → Meets (λ x t. HeldBehind s t) o
+kept s (Ok p) h = h
+kept s (Err e) h = tt
+
+pub held_grows : (n : ℕ) (at : Position) (s : State) → Meets (λ x t. HeldBehind s t) (whole_stmt n at s)
+held_grows n at s = kept s (whole_stmt n at s) (whole_stmt_keeps n at s s (behind_self s))
+
+pub held_by_line : (s : State) → Meets (λ x t. HeldBehind s t) (shebang s)
+held_by_line s = kept s (shebang s) (shebang_keeps s s (behind_self s))
