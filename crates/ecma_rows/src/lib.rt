@@ -24,8 +24,6 @@ mod modules;
 #[cfg(test)]
 mod nodes;
 #[cfg(test)]
-mod programs;
-#[cfg(test)]
 mod report;
 #[cfg(test)]
 mod rows;

@@ -5,4 +5,3 @@
 pub mod exported;
 mod inner;
 pub mod items;
-pub mod programs;

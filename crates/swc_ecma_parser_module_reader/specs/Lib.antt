@@ -3,5 +3,3 @@ pub mod Exports
 pub mod Modules
 pub mod Supported
 pub mod Entry
-pub mod Programs
-pub mod ProgramEntry
