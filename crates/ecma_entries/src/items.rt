@@ -145,3 +145,16 @@ fn module_code_has_faults_of_its_own(rt: HostRuntime) -> Result<(), Fail> {
     assert_eq!(rt; found.as_str(), wanted);
     Ok(())
 }
+
+#[test]
+fn an_export_is_no_statement(rt: HostRuntime) -> Result<(), Fail> {
+    let wanted = "refused 0..6 ImportExportInScript\n";
+    for (text, may_declare) in [("export {}", true), ("export a", false)] {
+        let found = read(rt.alloc(), input(text)?, may_declare, 1)?;
+        assert_eq!(rt; found.as_str(), wanted);
+    }
+    let found = module_code(rt.alloc(), input("export {}")?)?;
+    let wanted = "refused 0..6 ImportExportInScript\nrefused 0..6 ImportExportInScript\n";
+    assert_eq!(rt; found.as_str(), wanted);
+    Ok(())
+}

@@ -11,6 +11,7 @@ abbrev pub named : List ℕ → Option Goal
 named word =
     if bytes_eq word (codes "script") then Some goal.Script
     else if bytes_eq word (codes "module") then Some goal.Module
+    else if bytes_eq word (codes "program") then Some goal.Program
     else None
 
 -- what the words ask for: one word alone does, and no word asks for a script

@@ -16,6 +16,7 @@ fn goal_named(word: &str) -> Option<Goal>
     match word {
         "script" => Some(Goal::Script),
         "module" => Some(Goal::Module),
+        "program" => Some(Goal::Program),
         _ => None,
     }
 }

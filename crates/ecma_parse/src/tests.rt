@@ -144,6 +144,18 @@ fn texts(rt: HostRuntime) -> Result<(), Fail> {
     Ok(())
 }
 
+/// What a run with a word and a text comes to.
+fn outcome_of(alloc: Global, word: &str, text: &str) -> Result<String, Fail> {
+    let word = Some(word);
+    outcome(
+        alloc,
+        Given {
+            word,
+            ..plain(text.as_bytes())
+        },
+    )
+}
+
 #[test]
 fn modules(rt: HostRuntime) -> Result<(), Fail> {
     let rows = [
@@ -156,14 +168,39 @@ fn modules(rt: HostRuntime) -> Result<(), Fail> {
         ("export a", "refused 7..8 Unexpected\n||2"),
     ];
     for (text, wanted) in rows {
-        let word = Some("module");
-        let found = outcome(
-            rt.alloc(),
-            Given {
-                word,
-                ..plain(text.as_bytes())
-            },
-        )?;
+        let found = outcome_of(rt.alloc(), "module", text)?;
+        assert_eq!(rt; found.as_str(), wanted, "{text:?}");
+    }
+    Ok(())
+}
+
+#[test]
+fn programs(rt: HostRuntime) -> Result<(), Fail> {
+    let rows = [
+        ("", "Script 0..0\n||0"),
+        ("with (a) b", "Script 0..10\n  With 0..10\n||0"),
+        ("await a", "Module 0..7\n  Expr 0..7\n||0"),
+        (
+            "import.meta; a",
+            "Module 0..14\n  Expr 0..12\n  Expr 13..14\n||0",
+        ),
+        (
+            "var public; import 'a'",
+            "Module 0..22\n  Var 0..11\n  Import 12..22\n||0",
+        ),
+        (
+            "with (a) b; export {}",
+            "Module 0..21\n  With 0..11\n  ExportNamed 12..21\nfault 0..4 WithInStrict\n||1",
+        ),
+        ("break", "Script 0..5\n  Break 0..5\nfault 0..5 TS1105\n||1"),
+        (
+            "with (a) b; export c",
+            "fault 0..4 WithInStrict\nrefused 19..20 Unexpected\n||2",
+        ),
+        ("{ import 'a' }", "refused 2..8 ImportExportInScript\n||2"),
+    ];
+    for (text, wanted) in rows {
+        let found = outcome_of(rt.alloc(), "program", text)?;
         assert_eq!(rt; found.as_str(), wanted, "{text:?}");
     }
     Ok(())
@@ -177,7 +214,8 @@ fn words_and_lengths(rt: HostRuntime) -> Result<(), Fail> {
     for (word, wanted) in [
         ("script", lines),
         ("module", "Module 0..10\n  Block 0..10\n||0"),
-        ("program", usage),
+        ("program", lines),
+        ("programs", usage),
         ("Script", usage),
         ("modules", usage),
         ("", usage),
@@ -229,7 +267,7 @@ fn readers_and_writers_that_fail(rt: HostRuntime) -> Result<(), Fail> {
             // The word is judged first.
             Given {
                 is_broken: true,
-                word: Some("program"),
+                word: Some("programs"),
                 ..text
             },
             "|usage: ecma-parse script|module|program\n|3",

@@ -1,3 +1,4 @@
 pub mod Joined
 mod ModuleReports
+mod ProgramReports
 mod Reported

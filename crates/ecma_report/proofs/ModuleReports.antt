@@ -13,6 +13,7 @@ use Rattle.swc_ecma_parser_reader.specs.State.{State}
 use Rattle.swc_ecma_parser_reader.specs.Entry.{unmarked}
 use Rattle.swc_ecma_parser_module_reader.specs.Modules.{module_code}
 use Rattle.swc_ecma_parser_module_reader.specs.Entry.{IsEntered, SoundModule, CompleteModule, module_walk}
+use Rattle.swc_ecma_parser_module_reader.proofs.Entered.{settled}
 use Rattle.ecma_report.specs.declared.answer.Verdict.TheVariants as verdict
 use Rattle.ecma_report.specs.Lines.{seen, answer_lines}
 use Rattle.ecma_report.specs.Spelled.{start_of, SpellsModule, outside, first_place}
@@ -30,7 +31,7 @@ module _ (text : List ℕ) (s u : State) (e : s ≡ start_of text) (i : IsEntere
   labels = ap (λ o. o.labels) i.scope ∙ ap (λ o. o.scope.labels) e
 
   faults : u.faults ≡ []
-  faults = i.settled (ap (λ o. o.notes.held_back) e) ∙ ap (λ o. o.faults) e
+  faults = settled (unmarked s) u i (ap (λ o. o.notes.held_back) e) ∙ ap (λ o. o.faults) e
 
   -- a clean report is of a module that the text spells
   pub clean_module_is_spelled : (t : State) (answer : Result (Module Held) Error) → IfOk answer (λ x. SoundModule 1000 u (view_module x) t)

@@ -1,4 +1,4 @@
--- The scripts and modules that a text spells, in the settings and within the limit that the program reads with.
+-- The scripts, modules and programs that a text spells, in the settings and within the limit that `ecma-parse` reads with.
 use Rattle.std.specs.Prelude.{◌≡◌, ℕ, true, false, List, []}
 use Rattle.std.specs.Str.{chars}
 use Rattle.swc_ecma_parser_input.specs.Setting.{plain_setting, plain}
@@ -7,10 +7,13 @@ use Rattle.swc_ecma_parser_input.specs.Place.{Place}
 use Rattle.swc_ecma_parser_model.specs.Tree.{Tree}
 use Rattle.swc_ecma_parser_grammar.specs.Names.{Code}
 use Rattle.swc_ecma_parser_grammar.specs.Supported.{supported}
+use Rattle.swc_ecma_parser_grammar.specs.Walk.{walk, env_of}
 use Rattle.swc_ecma_parser_grammar.specs.language.Programs as programs
 use Rattle.swc_ecma_parser_reader.specs.State.{State}
 use Rattle.swc_ecma_parser_state.specs.Opened.{opened}
-use Rattle.swc_ecma_parser_module_reader.specs.Supported.{supported_module}
+use Rattle.swc_ecma_parser_module_reader.specs.ProgramEntry.{ReadsProgram}
+use Rattle.swc_ecma_parser_module_reader.specs.Programs.{program_code}
+use Rattle.swc_ecma_parser_module_reader.specs.Supported.{supported_module, supported_program}
 use Rattle.swc_ecma_parser_lexer.specs.Source as source
 use Rattle.swc_ecma_parser_lexer.specs.Source.{default_context}
 use Rattle.swc_ecma_parser_lexer.specs.Tokens.{tokens}
@@ -33,10 +36,16 @@ Spells text x = (d : Place) × programs.Spells 1000 programs.script outside [] x
 unfoldable pub SpellsModule : List ℕ → Tree → Type 0
 SpellsModule text x = (d : Place) × programs.Spells 1000 programs.«module» outside [] x (first_place text) d × (supported_module x ≡ true)
 
+-- the same as a program: a script or a module, whichever it turns out to be
+unfoldable pub SpellsProgram : List ℕ → Tree → Type 0
+SpellsProgram text x =
+    (d : Place) × (ReadsProgram 1000 false outside x (first_place text) d × (walk (env_of (program_code outside) []) x ≡ [])) × (supported_program x ≡ true)
+
 -- a tree that a text spells as what is asked for
 abbrev pub SpellsAs : Goal → List ℕ → Tree → Type 0
 SpellsAs goal.Script = Spells
 SpellsAs goal.Module = SpellsModule
+SpellsAs goal.Program = SpellsProgram
 
 -- a parser of a text, before anything was read
 abbrev pub start_of : List ℕ → State

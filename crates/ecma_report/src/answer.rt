@@ -5,7 +5,7 @@ ghost use Rattle.swc_ecma_parser_error.specs.Kind.{faults_of, IsOutOfMemory};
 ghost use Rattle.swc_ecma_parser_input.specs.Place as place;
 ghost use Rattle.swc_ecma_parser_model.specs.Tree.{Tree};
 ghost use Rattle.ecma_report.specs.Lines.{seen, answer_lines};
-ghost use Rattle.ecma_report.specs.Spelled.{start_of, Spells, SpellsModule, SpellsAs};
+ghost use Rattle.ecma_report.specs.Spelled.{start_of, Spells, SpellsModule, SpellsProgram, SpellsAs};
 ghost use Rattle.ecma_report.specs.Verdicts.{verdict_of};
 
 use crate::lines::{Whole, lines};
@@ -16,11 +16,12 @@ use swc_ecma_parser::error::{Error, PResult, SyntaxError};
 use swc_ecma_parser::input::{Syntax, Tokens};
 use swc_ecma_parser::lexer::{Lexer, StringInput};
 
-/// What a text is read as: the goal symbols of ECMA-262, section 5.1.4.
+/// What a text is read as: a goal symbol of ECMA-262, section 5.1.4, or whichever of the two it turns out to be.
 #[derive(Clone, Copy, Debug, PartialEq, Eq)]
 pub enum Goal {
     Script,
     Module,
+    Program,
 }
 
 /// How a parse ends.
@@ -150,8 +151,24 @@ fn parse_module(alloc: Global, text: &str) -> Result<Report, AllocError>
     finished(alloc, &mut parser, answer)
 }
 
-/// Parses a text as a script or a module. The report is clean exactly where the text spells such a tree of the forms that are
-/// read so far, and then its lines are that tree's, unless memory runs out.
+/// Parses a text as a script or a module, whichever it turns out to be.
+fn parse_program(alloc: Global, text: &str) -> Result<Report, AllocError>
+    requires { length text.now < 2 ^ 32 }
+    ensures clean { IfOk result (λ report. report.verdict ≡ Verdict.Clean
+        → (x : Tree) × SpellsProgram text.now x × (string_bytes report.lines ≡ answer_lines (Ok x) [])) }
+    ensures spelled { (x : Tree) → SpellsProgram text.now x
+        → IfOk result (λ report. (report.verdict ≡ Verdict.Clean) × (string_bytes report.lines ≡ answer_lines (Ok x) [])) }
+{
+    let mut parser = parser_of(alloc, text);
+    if parser.lacks_memory() {
+        return Err(AllocError);
+    }
+    let answer = parser.parse_program();
+    finished(alloc, &mut parser, answer)
+}
+
+/// Parses a text as a script, a module, or whichever of the two it turns out to be. The report is clean exactly where the text
+/// spells such a tree of the forms that are read so far, and then its lines are that tree's, unless memory runs out.
 pub fn parse(alloc: Global, text: &str, goal: Goal) -> Result<Report, AllocError>
     requires { length text.now < 2 ^ 32 }
     ensures clean { IfOk result (λ report. report.verdict ≡ Verdict.Clean
@@ -162,5 +179,6 @@ pub fn parse(alloc: Global, text: &str, goal: Goal) -> Result<Report, AllocError
     match goal {
         Goal::Script => parse_script(alloc, text),
         Goal::Module => parse_module(alloc, text),
+        Goal::Program => parse_program(alloc, text),
     }
 }

@@ -4,10 +4,12 @@
 mod answer;
 mod lines;
 mod modules;
+mod programs;
 mod statements;
 mod texts;
 
 pub use answer::{Goal, Report, Verdict, parse};
 pub use modules::show_module;
+pub use programs::show_program;
 pub use statements::show_statement;
 pub use texts::{Shown, show};

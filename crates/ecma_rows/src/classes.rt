@@ -173,8 +173,8 @@ for (;;) { class A { b = () => { break } } } → Script 0..44, For 0..44, fault 
 class A { static static {} } → Script 0..28, Class 0..28, fault 10..16 TS1184 → StaticBlock 10..26, BlockStmt 24..26
 class A { static¶static¶{ a } } → Script 0..31, Class 0..31, fault 10..16 TS1184 → StaticBlock 10..29
 class A { static static static {} } → refused 24..30 Unexpected
-class A { {} } → refused 10..11 Unexpected
-class A { static() { a } {} } → refused 25..26 Unexpected
+class A { {} } → refused 10..11 ExpectedIdent
+class A { static() { a } {} } → refused 25..26 ExpectedIdent
 class Foo{ static { var await = 'bar'; } } → refused 24..29 ExpectedIdent
 class Foo{ static { function foo() { class Foo { static { var await = 'bar'; } } } } } → refused 62..67 ExpectedIdent";
 
@@ -231,26 +231,27 @@ class A { get a } → refused 16..17 Expected
 class A { get a¶b() {} } → refused 16..17 Expected
 class A { async a } → refused 18..19 Expected
 class A { async a = 1 } → refused 18..19 Expected
-class A { get *a() {} } → refused 14..15 Unexpected
-class A { async *() {} } → refused 17..18 Unexpected
-class A { * () {} } → refused 12..13 Unexpected
-class A { **a() {} } → refused 10..12 Unexpected
+class A { get *a() {} } → refused 14..15 ExpectedIdent
+class A { async *() {} } → refused 17..18 ExpectedIdent
+class A { * () {} } → refused 12..13 ExpectedIdent
+class A { **a() {} } → refused 10..12 ExpectedIdent
 class A { a() b } → refused 14..15 Expected
-class A { a() {}, b() {} } → refused 16..17 Unexpected
-class A { static a() {} = 1 } → refused 24..25 Unexpected
-class A { # a } → refused 12..13 Unexpected
-class A { #1 } → refused 11..12 Unexpected
-class A { #'a' } → refused 11..14 Unexpected
-class A { #[a] } → refused 11..12 Unexpected
-class A { a() { super.#b } } → refused 22..23 Unexpected
+class A { a() {}, b() {} } → refused 16..17 ExpectedIdent
+class A { static a() {} = 1 } → refused 24..25 ExpectedIdent
+class A { # a } → refused 12..13 ExpectedIdent
+class A { #1 } → refused 11..12 ExpectedIdent
+class A { #'a' } → refused 11..14 ExpectedIdent
+class A { #[a] } → refused 11..12 ExpectedIdent
+class A { a() { super.#b } } → refused 22..23 ExpectedIdent
+class A { a() { super. } } → refused 23..24 ExpectedIdent
 class A { a() { super } } → refused 16..21 InvalidSuper";
 
 const FIELD_FAULTS: &str = "class A { a b } → refused 12..13 Unexpected
 class A { a = 1 b } → Script 0..19, Class 0..19, fault 16..17 TS1005 → ClassProp 10..15, ClassProp 16..17
 class A { a = 1 b = 2 c() {} } → Script 0..30, Class 0..30, fault 16..17 TS1005, fault 22..23 TS1005 → ClassProp 10..15, ClassProp 16..21, ClassMethod 22..28
 class A { a = 1 static {} } → Script 0..27, Class 0..27, fault 16..22 TS1005 → StaticBlock 16..25
-class A { a = b, c } → fault 15..16 TS1005, refused 15..16 Unexpected
-class A { a = 1¶*b() {} } → fault 21..22 TS1005, refused 21..22 Unexpected
+class A { a = b, c } → fault 15..16 TS1005, refused 15..16 ExpectedIdent
+class A { a = 1¶*b() {} } → fault 21..22 TS1005, refused 21..22 ExpectedIdent
 class A { a = } → refused 14..15 Unexpected
 class A { a = let } → refused 14..17 Unexpected
 class A { a, b } → refused 11..12 Unexpected
@@ -261,9 +262,13 @@ class A { accessor a } → refused 19..20 Unexpected
 class A { static a b } → refused 19..20 Unexpected
 class A { static static a } → refused 24..25 Unexpected
 class A { 'get' a() {} } → refused 16..17 Unexpected
-class A { + } → refused 10..11 Unexpected
-class A { () {} } → refused 10..11 Unexpected
-class A { @a b } → refused 10..11 Unexpected
+class A { + } → refused 10..11 ExpectedIdent
+class A { static + } → refused 17..18 ExpectedIdent
+class A { get + } → refused 14..15 ExpectedIdent
+class A { async + } → refused 16..17 ExpectedIdent
+class A { #a; , } → refused 14..15 ExpectedIdent
+class A { () {} } → refused 10..11 ExpectedIdent
+class A { @a b } → refused 10..11 ExpectedIdent
 class A { [a, b] } → refused 12..13 Expected
 class A { var a } → refused 14..15 Unexpected
 class A { function a() {} } → refused 19..20 Unexpected";
@@ -393,8 +398,8 @@ pub const TABLES: [(&str, &str); 14] = [
     (CONSTRUCTOR_FAULTS, "22 rows"),
     (STATIC_BLOCKS, "30 rows"),
     (STRICT, "31 rows"),
-    (METHOD_FAULTS, "33 rows"),
-    (FIELD_FAULTS, "22 rows"),
+    (METHOD_FAULTS, "34 rows"),
+    (FIELD_FAULTS, "26 rows"),
     (PLACES, "19 rows"),
     (ENDS, "28 rows"),
     (EXPRESSIONS, "31 rows"),

@@ -99,18 +99,27 @@ const CLASSES: [(&str, &str, usize, &str, &str); 10] = [
     ("class A{static{", "}}", 499, "0..8484", "7500..7505"),
 ];
 
-/// The lines of a script that is one class.
-fn class_lines(alloc: Global, span: &str) -> Result<String, Fail> {
+/// What stands before an argument of a call, plain or spread, and behind it; how many calls stand in one another within the default
+/// limit; how long the script of these is; and where the argument stands of one call more.
+const CALLS: [(&str, &str, usize, &str, &str); 2] = [
+    ("f(", ")", 998, "0..2995", "1998..1999"),
+    ("f(...", ")", 998, "0..5989", "4995..4996"),
+];
+
+/// The lines of a script that is one item.
+fn item_lines(alloc: Global, item: &str, span: &str) -> Result<String, Fail> {
     let mut lines = String::new(alloc);
     lines.push_str("Script ")?;
     lines.push_str(span)?;
-    lines.push_str("\n  Class ")?;
+    lines.push_str("\n  ")?;
+    lines.push_str(item)?;
+    lines.push_str(" ")?;
     lines.push_str(span)?;
     lines.push_str("\n")?;
     Ok(lines)
 }
 
-/// The line of a class that stands too deep.
+/// The line of what stands too deep.
 fn too_deep_line(alloc: Global, span: &str) -> Result<String, Fail> {
     let mut lines = String::new(alloc);
     lines.push_str("refused ")?;
@@ -124,9 +133,24 @@ fn classes_in_one_another(rt: HostRuntime) -> Result<(), Fail> {
     for (open, close, times, whole, deepest) in CLASSES {
         let text = nested(rt.alloc(), open, "a", close, times)?;
         let found = parsed(rt.alloc(), text.as_str())?;
-        let wanted = class_lines(rt.alloc(), whole)?;
+        let wanted = item_lines(rt.alloc(), "Class", whole)?;
         assert_eq!(rt; found.as_str(), wanted.as_str());
         let text = nested(rt.alloc(), open, "", "", 1_001)?;
+        let found = outcome(rt.alloc(), text.as_str(), plainly(Goal::Script))?;
+        let wanted = too_deep_line(rt.alloc(), deepest)?;
+        assert_eq!(rt; found.lines.as_str(), wanted.as_str());
+    }
+    Ok(())
+}
+
+#[test]
+fn calls_in_one_another(rt: HostRuntime) -> Result<(), Fail> {
+    for (open, close, times, whole, deepest) in CALLS {
+        let text = nested(rt.alloc(), open, "a", close, times)?;
+        let found = parsed(rt.alloc(), text.as_str())?;
+        let wanted = item_lines(rt.alloc(), "Expr", whole)?;
+        assert_eq!(rt; found.as_str(), wanted.as_str());
+        let text = nested(rt.alloc(), open, "a", close, 999)?;
         let found = outcome(rt.alloc(), text.as_str(), plainly(Goal::Script))?;
         let wanted = too_deep_line(rt.alloc(), deepest)?;
         assert_eq!(rt; found.lines.as_str(), wanted.as_str());

@@ -21,6 +21,12 @@ var a = b = 1, c; → Script 0..17, Var 0..17 → VarDeclarator 4..13, AssignExp
 const CALLS: &str = "a¶(b) → Script 0..5, Expr 0..5 → CallExpr 0..5
 this.a[b] → Script 0..9, Expr 0..9 → MemberExpr 0..9, MemberExpr 0..6, ThisExpr 0..4
 a.if → Script 0..4, Expr 0..4 → MemberExpr 0..4
+a.+ → refused 2..3 ExpectedIdent
+a.'b' → refused 2..5 ExpectedIdent
+a.\\ → refused 2..3 UnexpectedChar
+a. → refused 2..2 Eof
+a.1 → refused 1..3 ExpectedSemiForExprStmt
+a?.+ → refused 2..3 Unexpected
 f(a, ...b,) → Script 0..11, Expr 0..11 → CallExpr 0..11
 f(a)(b).c → Script 0..9, Expr 0..9 → MemberExpr 0..9, CallExpr 0..7, CallExpr 0..4
 new a → Script 0..5, Expr 0..5 → NewExpr 0..5
@@ -39,6 +45,11 @@ const OBJECTS: &str = "({}) → Script 0..4, Expr 0..4 → ParenExpr 0..4, Objec
 ({if: 1, null: 2}) → Script 0..18, Expr 0..18 → KeyValueProp 2..7, KeyValueProp 9..16
 a = {b: {c}} → Script 0..12, Expr 0..12 → AssignExpr 0..12, ObjectLit 4..12, ObjectLit 8..11
 ({if}) → refused 2..4 ExpectedIdent
+({+}) → refused 2..3 ExpectedIdent
+({+: 1}) → refused 2..3 ExpectedIdent
+({a, #b: 1}) → refused 5..6 ExpectedIdent
+({\\}) → refused 2..3 UnexpectedChar
+({ → refused 2..2 Eof
 ({1}) → refused 3..4 Unexpected
 ({a} += b) → refused 1..4 NotSimpleAssign";
 
@@ -62,6 +73,7 @@ const PATTERNS: &str = "[a, b] = c → Script 0..10, Expr 0..10 → AssignExpr 0
 ({...{a}} = b) → refused 1..9 InvalidPat
 ({if} = a) → refused 2..4 ExpectedIdent
 ({if = 1} = a) → refused 2..4 ExpectedIdent
+({+} = a) → refused 2..3 ExpectedIdent
 ({'a' = 1} = b) → refused 6..7 Unexpected";
 
 const BINDINGS: &str =
@@ -78,6 +90,8 @@ var [...a = b] = c → refused 10..11 Expected
 var {...a, b} = c → refused 9..10 Expected
 var {...[a]} = b → refused 8..9 ExpectedIdent
 var {if} = a → refused 5..7 ExpectedIdent
+var { + } = a → refused 6..7 ExpectedIdent
+var {a, #b: c} = d → refused 8..9 ExpectedIdent
 var {'a'} = b → refused 8..9 Unexpected
 var {a: b.c} = d → refused 9..10 Expected
 var [a.b] = c → refused 6..7 Expected
@@ -92,14 +106,17 @@ super.a = b → Script 0..11, Expr 0..11 → AssignExpr 0..11, SuperPropExpr 0..
 a = super; → refused 4..9 InvalidSuper
 super + a → refused 0..5 InvalidSuper
 new super(a) → refused 4..9 InvalidSuper
-super.#a → refused 6..7 Unexpected";
+super.#a → refused 6..7 ExpectedIdent
+super.+ → refused 6..7 ExpectedIdent
+({ a() { super. } }) → refused 16..17 ExpectedIdent";
 
 const PRIVATE_NAMES: &str = "a.#b → Script 0..4, Expr 0..4 → MemberExpr 0..4, PrivateName 2..4
 a.b.#if(c) → Script 0..10, Expr 0..10 → CallExpr 0..10, MemberExpr 0..7, MemberExpr 0..3, PrivateName 4..7
 a.#b = c → Script 0..8, Expr 0..8 → AssignExpr 0..8, MemberExpr 0..4
 new a.#b(c) → Script 0..11, Expr 0..11 → NewExpr 0..11, MemberExpr 4..8
-a.# b → refused 4..5 Unexpected
-a.#1 → refused 3..4 Unexpected
+a.# b → refused 4..5 ExpectedIdent
+a.#1 → refused 3..4 ExpectedIdent
+a.#'b' → refused 3..6 ExpectedIdent
 #a → refused 0..1 Unexpected";
 
 const IMPORTS: &str =
@@ -118,6 +135,16 @@ import(a(b,)) → Script 0..13, Expr 0..13 → CallExpr 0..13, CallExpr 7..12
 import(a b) → refused 9..10 Expected
 import 'foo'; → refused 0..6 ImportExportInScript
 import → refused 0..6 ImportExportInScript
+export {} → refused 0..6 ImportExportInScript
+export → refused 0..6 ImportExportInScript
+export(a) → refused 0..6 ImportExportInScript
+a; export.b → refused 3..9 ImportExportInScript
+{ export default a } → refused 2..8 ImportExportInScript
+if (a) export b → refused 7..13 ImportExportInScript
+a: export {} → refused 3..9 ImportExportInScript
+function f() { export var a } → refused 15..21 ImportExportInScript
+class A { static { export {} } } → refused 19..25 ImportExportInScript
+a = export {} → refused 4..10 Unexpected
 import.meta → Script 0..11, Expr 0..11, fault 0..11 ImportMetaInScript → MetaPropExpr 0..11
 import.meta.url = a → Script 0..19, Expr 0..19, fault 0..11 ImportMetaInScript → AssignExpr 0..19, MemberExpr 0..15, MetaPropExpr 0..11
 import.other → refused 7..12 Unexpected
@@ -142,14 +169,14 @@ pub const SET_TABLES: [(&str, &str); 1] = [(ATTRIBUTES, "1 rows")];
 /// Each table, and how many rows it has.
 pub const TABLES: [(&str, &str); 10] = [
     (OPERATORS, "17 rows"),
-    (CALLS, "8 rows"),
+    (CALLS, "14 rows"),
     (ARRAYS, "6 rows"),
-    (OBJECTS, "7 rows"),
-    (PATTERNS, "21 rows"),
-    (BINDINGS, "18 rows"),
-    (SUPERS, "9 rows"),
-    (PRIVATE_NAMES, "7 rows"),
-    (IMPORTS, "22 rows"),
+    (OBJECTS, "12 rows"),
+    (PATTERNS, "22 rows"),
+    (BINDINGS, "20 rows"),
+    (SUPERS, "11 rows"),
+    (PRIVATE_NAMES, "8 rows"),
+    (IMPORTS, "32 rows"),
     (REFUSED, "7 rows"),
 ];
 

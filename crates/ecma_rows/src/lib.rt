@@ -24,6 +24,8 @@ mod modules;
 #[cfg(test)]
 mod nodes;
 #[cfg(test)]
+mod programs;
+#[cfg(test)]
 mod report;
 #[cfg(test)]
 mod rows;

@@ -26,15 +26,17 @@ a: ({ b() { break a } }) → Script 0..24, Labeled 0..24, fault 12..19 TS1116
 ({ set a(...b) {} }) → refused 3..6 RestPatInSetter
 ({ a() {} } = b) → refused 1..11 InvalidPat
 ({ *a }) → refused 6..7 Expected
-({ async *() {} }) → refused 10..11 Unexpected
-({ get *a() {} }) → refused 7..8 Unexpected
+({ async *() {} }) → refused 10..11 ExpectedIdent
+({ get *a() {} }) → refused 7..8 ExpectedIdent
+({ set +(a) {} }) → refused 7..8 ExpectedIdent
+({ *() {} }) → refused 4..5 ExpectedIdent
 ({ get a: 1 }) → refused 8..9 Expected
 ({ a() {} b }) → refused 10..11 Expected
 ({ async¶a() {} }) → refused 9..10 Expected
 ({ a() { 'use strict'; var public } }) → refused 27..33 ExpectedIdent";
 
 /// Each table, and how many rows it has.
-pub const TABLES: [(&str, &str); 2] = [(METHODS, "12 rows"), (METHOD_FAULTS, "17 rows")];
+pub const TABLES: [(&str, &str); 2] = [(METHODS, "12 rows"), (METHOD_FAULTS, "19 rows")];
 
 /// Rows, each within so many levels.
 pub const LIMITS: [(&str, u32); 9] = [

@@ -20,6 +20,10 @@ import { if } from 'x' → refused 9..11 ReservedWordInImport
 import { 'a' } from 'x' → refused 9..12 ImportBindingIsString
 import defer, from 'x' → refused 12..13 ExpectedIdent
 import {a b} from 'x' → refused 10..11 Expected
+import {+} from 'a' → refused 8..9 ExpectedIdent
+import { a, 1 } from 'x' → refused 12..13 ExpectedIdent
+import { a as + } from 'x' → refused 14..15 ExpectedIdent
+import { → refused 8..8 Eof
 import a from b → refused 14..15 Unexpected
 import a from 'x' b → refused 18..19 Expected
 import a 'x' → refused 9..12 Expected
@@ -40,6 +44,9 @@ export {} a → Module 0..11, ExportNamed 0..9, Expr 10..11
 export * as foo, { bar } from 'mod' → refused 15..16 Expected
 export { a } from 'x' b → refused 22..23 Expected
 export * from → refused 13..13 Eof
+export {+} → refused 8..9 ExpectedIdent
+export { a as + } → refused 14..15 ExpectedIdent
+export * as + from 'x' → refused 12..13 ExpectedIdent
 export a → refused 7..8 Unexpected
 export foo from 'bar' → refused 7..10 Unexpected
 export default from 'bar' → refused 20..25 Expected
@@ -70,6 +77,9 @@ import a from 'x'¶export { a }¶a; export default a → Module 0..50, Import 0.
 with (a) return; → Module 0..16, With 0..16, fault 0..4 WithInStrict
 a: function f(){} → Module 0..17, Labeled 0..17, fault 3..17 LabelledFunctionInStrict
 break; → Module 0..6, Break 0..6, fault 0..6 TS1105
+{ export {} } → refused 2..8 ImportExportInScript
+if (a) export { b } → refused 7..13 ImportExportInScript
+export {}; function f() { export default a } → refused 26..32 ImportExportInScript
 await foo → Module 0..9, Expr 0..9 → AwaitExpr 0..9
 import.meta → Module 0..11, Expr 0..11 → MetaPropExpr 0..11
 import(filePath).then(bar => {}) → Module 0..32, Expr 0..32
@@ -111,9 +121,9 @@ export await from 'bar' → refused 7..12 Unexpected";
 
 /// Each table, and how many rows it has.
 pub const TABLES: [(&str, &str); 3] = [
-    (IMPORTS, "24 rows"),
-    (EXPORTS, "35 rows"),
-    (MODULES, "18 rows"),
+    (IMPORTS, "28 rows"),
+    (EXPORTS, "38 rows"),
+    (MODULES, "21 rows"),
 ];
 
 /// The same with the setting that exports the defaults of other modules.

@@ -2,8 +2,8 @@
 
 use crate::report::report;
 use crate::{
-    arrows, awaits, classes, declarations, expressions, functions, heads, methods, modules, rows,
-    statements,
+    arrows, awaits, classes, declarations, expressions, functions, heads, methods, modules,
+    programs, rows, statements,
 };
 use ecma_report::Goal;
 use ecma_texts::{Asked, plainly};
@@ -88,6 +88,7 @@ fn rows_hold(rt: HostRuntime) -> Result<(), Fail> {
         ..plainly(Goal::Script)
     };
     write_tables(alloc, &mut wrong, &expressions::SET_TABLES, asked)?;
+    write_tables(alloc, &mut wrong, &programs::TABLES, plainly(Goal::Program))?;
     assert_eq!(rt; wrong.as_str(), "");
     Ok(())
 }
@@ -112,6 +113,7 @@ fn rows_hold_within_their_levels(rt: HostRuntime) -> Result<(), Fail> {
     }
     write_limits(alloc, &mut wrong, &modules::LIMITS, Goal::Module)?;
     write_limits(alloc, &mut wrong, &classes::MODULE_LIMITS, Goal::Module)?;
+    write_limits(alloc, &mut wrong, &programs::LIMITS, Goal::Program)?;
     assert_eq!(rt; wrong.as_str(), "");
     Ok(())
 }

@@ -1,7 +1,7 @@
 //! What the tests of parsers share: sources over a text at position 0, and what parsers of them answer.
 #![tactic(auto)]
 
-use ecma_report::{Goal, Shown, show, show_module};
+use ecma_report::{Goal, Shown, show, show_module, show_program};
 use std::alloc::{AllocError, Global};
 use std::test::Fail;
 use swc_ecma_parser::Parser;
@@ -18,7 +18,7 @@ pub struct Asked {
     pub limit: u32,
 }
 
-/// A script or a module, in the default settings and within the default levels.
+/// What a goal asks for, in the default settings and within the default levels.
 pub fn plainly(goal: Goal) -> Asked {
     Asked {
         goal,
@@ -67,6 +67,7 @@ fn shown<I: Tokens>(
     match goal {
         Goal::Script => show(alloc, parser),
         Goal::Module => show_module(alloc, parser),
+        Goal::Program => show_program(alloc, parser),
     }
 }
 

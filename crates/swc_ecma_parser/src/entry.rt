@@ -3,9 +3,11 @@
 ghost use Rattle.std.specs.Prelude.{◌≡◌, Some, None, [], IfErr, IfOk, OnErr, IsOk};
 ghost use Rattle.swc_ecma_parser_error.specs.Kind.{IsOutOfMemory};
 ghost use Rattle.swc_ecma_parser_module_reader.specs.Entry.{IsEntered, AnswersModule};
+ghost use Rattle.swc_ecma_parser_module_reader.specs.ProgramEntry.{AnswersProgram};
 ghost use Rattle.swc_ecma_parser_reader.specs.State as reader;
 ghost use Rattle.swc_ecma_parser_reader.specs.Entry.{unmarked, AnswersScript, AnswersStatement, IsRestored};
 
+use crate::program::program_body;
 use std::alloc::Global;
 use swc_ecma_parser_core::script::{script_body, whole_stmt};
 use swc_ecma_parser_error::PResult;
@@ -67,6 +69,32 @@ pub fn module<I: Tokens, T: BuildsStatements + BuildsExport + BuildsVarDecl>(
     maker.finish();
     match read {
         Ok(module) => Ok(module),
+        Err(error) => {
+            state.restore(outer, found_module_item);
+            Err(error)
+        }
+    }
+}
+
+/// A program, whose items may stand so many levels deep.
+pub fn program<I: Tokens, T: BuildsStatements + BuildsExport + BuildsVarDecl>(
+    alloc: Global,
+    state: &mut State<I>,
+    limit: usize,
+) -> PResult<T::Program>
+    ensures answers { AnswersProgram T.program_of limit (unmarked state.old) result state.new }
+    ensures outright { state.old.at.left ≡ [] → IsOk result }
+    ensures refused { OnErr result (IsRestored state.old state.new) }
+{
+    let outer = state.flags();
+    let found_module_item = state.found_module_item();
+    state.begin();
+    state.enter_program();
+    let maker: MakerOf<T> = Maker::new(alloc);
+    let read = program_body::<I, T>(&maker, state, limit, outer);
+    maker.finish();
+    match read {
+        Ok(program) => Ok(program),
         Err(error) => {
             state.restore(outer, found_module_item);
             Err(error)

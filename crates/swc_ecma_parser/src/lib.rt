@@ -5,6 +5,7 @@
 mod entry;
 mod lexing;
 mod parser;
+mod program;
 
 pub use parser::Parser;
 pub use swc_ecma_parser_ast as ast;

@@ -1,12 +1,13 @@
 //! The parser: a state over a source of tokens, with its entries.
 
 ghost use Rattle.std.specs.Prelude.{◌≡◌, ◌≢◌, ℕ, ◌+◌, ◌*◌, ◌≤◌, ◌||◌, true, false, [], ◌∷◌, length, drop, IfOk, IfErr, OnErr, IsErrAnd, IsOk};
-ghost use Rattle.swc_ecma_parser_ast.specs.View.{view_module, view_script, view_stmt};
+ghost use Rattle.swc_ecma_parser_ast.specs.View.{view_module, view_program, view_script, view_stmt};
 ghost use Rattle.swc_ecma_parser_error.specs.Kind as kinds;
 ghost use Rattle.swc_ecma_parser_error.specs.Kind.{fault_of, faults_of, kind_of, IsOutOfMemory};
 ghost use Rattle.swc_ecma_parser_error.specs.declared.error.Error.{Error};
 ghost use Rattle.swc_ecma_parser_input.specs.Place as place;
 ghost use Rattle.swc_ecma_parser_module_reader.specs.Entry.{IsEntered, SoundModule, CompleteModule};
+ghost use Rattle.swc_ecma_parser_module_reader.specs.ProgramEntry.{SoundProgram, CompleteProgram};
 ghost use Rattle.swc_ecma_parser_reader.specs.Notes.{held_of};
 ghost use Rattle.swc_ecma_parser_reader.specs.State as reader;
 ghost use Rattle.swc_ecma_parser_reader.specs.Entry.{unmarked, SoundScript, CompleteScript, SoundStatement, CompleteStatement, IsRestored, Stays};
@@ -15,10 +16,10 @@ ghost use Rattle.swc_ecma_parser_state.specs.Opened.{opened};
 ghost use Rattle.swc_ecma_parser_token.specs.declared.token.Token.TheVariants as token;
 ghost use Rattle.swc_ecma_parser_token.specs.declared.token.TokenAndSpan.{TokenAndSpan};
 
-use crate::entry::{module, script, statement};
+use crate::entry::{module, program, script, statement};
 use std::alloc::Global;
 use std::marker::Model;
-use swc_ecma_parser_ast::{Module, Script, Stmt};
+use swc_ecma_parser_ast::{Module, Program, Script, Stmt};
 use swc_ecma_parser_ast_trees::Ast;
 use swc_ecma_parser_common::Comment;
 use swc_ecma_parser_error::{Error, PResult};
@@ -152,6 +153,47 @@ impl<I: Tokens> Parser<I> {
         let limit = self.limit as usize;
         let state = &mut self.state;
         module::<I, Ast>(alloc, state, limit)
+    }
+
+    /// Reads the whole list as a program, which turns out to be a script or a module: ECMA-262, sections 16.1 and 16.2. It is a
+    /// module where an import or an export stands in it, or where something else makes it one, as a statement of its own that
+    /// begins with `await` does. Its code becomes a module's at the first import or export, or at the end of the list; what was
+    /// held back until then is recorded there. Behind a module the code is a module's and strict, behind a script as it was.
+    pub fn parse_program(&mut self) -> PResult<Program>
+        ensures limit { self.new.limit ≡ self.old.limit }
+
+        // Of any answer: it takes the whole list; with no fault recorded but what had been held back before, the list spells it
+        // within the limit, and it is supported; and its tabled faults are its walk where no error token stands and nothing was
+        // dropped.
+        ensures sound { IfOk result (λ x. SoundProgram self.old.limit (unmarked self.old.state) (view_program x) self.new.state) }
+
+        // Each supported program within the limit that spells the list is the answer, and only it, with its walk recorded, and
+        // with what had been held back before, if it is a module.
+        ensures complete { CompleteProgram view_program self.old.limit (unmarked self.old.state) result self.new.state }
+
+        // No token of an answer is one that memory ran out for.
+        ensures memory { IfOk result (λ x. has_out_of_memory_token self.old.state.at.left ≡ false) }
+
+        // A limit of twice the tokens and two is never met.
+        ensures fits { 2 * length self.old.state.at.left + 2 ≤ self.old.limit → has_too_deep_token self.old.state.at.left ≡ false
+            → IfErr result (λ e. kind_of e.kind ≢ kinds.TooDeep) }
+
+        // An error token in first place is answered, unless memory ran out.
+        ensures error_token { (t : TokenAndSpan) (ts : _) (d : Error) → self.old.state.at.left ≡ t ∷ ts → t.token ≡ token.Error d
+            → IsErrAnd result (λ e. kind_of e.kind ≢ kinds.OutOfMemory → fault_of e ≡ fault_of d) }
+
+        // An empty list is read, whatever memory is left.
+        ensures outright { self.old.state.at.left ≡ [] → IsOk result }
+        ensures refused { OnErr result (IsRestored self.old.state self.new.state) }
+
+        // Whatever comes but want of memory: the tokens that are left are the last of those that were, what was read last is the
+        // token before them, and no recorded fault is lost.
+        ensures stays { Stays self.old.state result self.new.state }
+    {
+        let alloc = self.alloc;
+        let limit = self.limit as usize;
+        let state = &mut self.state;
+        program::<I, Ast>(alloc, state, limit)
     }
 
     /// Reads one statement that is no declaration but one of `var`, behind which anything may stand: ECMA-262, section 14. At the

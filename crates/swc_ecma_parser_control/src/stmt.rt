@@ -89,7 +89,7 @@ pub fn level<
         TokenKind::While => while_stmt(g, t, p),
         TokenKind::Do => do_while(g, t, p),
         TokenKind::For => for_stmt(g, t, p),
-        TokenKind::Import => import_stmt_at(g, t, p),
+        TokenKind::Import | TokenKind::Export => import_stmt_at(g, t, p),
         TokenKind::Ident => async_or_other(g, t, p, at),
         _ => other_stmt(g, t, p, at),
     }

@@ -57,6 +57,7 @@ supported_as m x y e h = sym (ap (supported_in m) e) ∙ h
 abbrev pub opens : TokenKind → Bool
 opens kind.Semi = false
 opens kind.Debugger = false
+opens kind.Export = false
 opens kind.Var = false
 opens kind.If = false
 opens kind.Throw = false
@@ -80,6 +81,7 @@ opens _ = true
 word_opens : (f : Context) (w : Word) → is_name f (word_text w) ≡ true → opens (word_kind w) ≡ true
 unfolding is_name is_reserved
 word_opens f (word.Keyword keyword.Debugger) h = cc
+word_opens f (word.Keyword keyword.Export) h = cc
 word_opens f (word.Keyword keyword.Var) h = cc
 word_opens f (word.Keyword keyword.If) h = cc
 word_opens f (word.Keyword keyword.Throw) h = cc
@@ -115,6 +117,7 @@ word_begins f w s c d r h = token_opens (token.Word w) s c d r (word_opens f w h
 unary_opens : (j : TokenKind) (op : UnaryOp) → unary_operator j ≡ Some op → opens j ≡ true
 unary_opens kind.Semi op h = cc
 unary_opens kind.Debugger op h = cc
+unary_opens kind.Export op h = cc
 unary_opens kind.Var op h = cc
 unary_opens kind.If op h = cc
 unary_opens kind.Throw op h = cc
@@ -138,6 +141,7 @@ unary_opens _ op h = refl
 update_opens : (j : TokenKind) (op : UpdateOp) → update_operator j ≡ Some op → opens j ≡ true
 update_opens kind.Semi op h = cc
 update_opens kind.Debugger op h = cc
+update_opens kind.Export op h = cc
 update_opens kind.Var op h = cc
 update_opens kind.If op h = cc
 update_opens kind.Throw op h = cc

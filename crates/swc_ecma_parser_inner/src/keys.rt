@@ -67,7 +67,7 @@ fn touching_word<P: Source>(p: &mut P) -> PResult<Ident>
     if touches(p) {
         return p.any_word();
     }
-    Err(p.wanted(Wanted::Expression))
+    Err(p.wanted(Wanted::Name))
 }
 
 /// `#` and its word.
@@ -88,13 +88,13 @@ fn literal_key<P: Source, T: Trees>(p: &mut P) -> PResult<Key<T::Expr>>
     ensures { GivesAs (key_of T.expr_of) (exprs.literal_key (P.seen p.old)) result (P.seen p.new) }
 {
     let Some(literal) = p.literal()? else {
-        return Err(p.wanted(Wanted::Expression));
+        return Err(p.wanted(Wanted::Name));
     };
     match literal {
         Literal::Str(x) => Ok(Key::Str(x)),
         Literal::Num(x) => Ok(Key::Num(x)),
         Literal::BigInt(x) => Ok(Key::BigInt(x)),
-        Literal::Null(_) | Literal::Bool(_) => Err(p.wanted(Wanted::Expression)),
+        Literal::Null(_) | Literal::Bool(_) => Err(p.wanted(Wanted::Name)),
     }
 }
 

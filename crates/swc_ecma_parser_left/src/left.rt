@@ -450,6 +450,7 @@ fn begins_import<P: Source>(p: &P, calls: bool) -> bool
 
 /// What a left-hand-side expression begins with; `new` does not call what `import` calls.
 #[tactic(auto, unfolding(swc_ecma_parser_reader::specs::Expressions::left_head))]
+#[inline(never)]
 fn left_head<
     P: Source,
     T: BuildsExpr + BuildsCall + BuildsMethod + BuildsOperator + BuildsPattern,

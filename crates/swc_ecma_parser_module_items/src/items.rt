@@ -19,14 +19,14 @@ use swc_ecma_parser_token::TokenKind;
 use swc_ecma_parser_trees::{BuildsExport, BuildsItem, BuildsStatements, BuildsVarDecl, MakerOf};
 
 /// A statement of the module itself.
-const TOP_ITEM: Position = Position {
+pub(crate) const TOP_ITEM: Position = Position {
     include_decl: true,
     top_level: true,
 };
 
 /// Whether `import` stands here and begins no expression.
 #[tactic(auto, unfolding(swc_ecma_parser_module_reader::specs::Modules::begins_import, swc_ecma_parser_grammar::specs::Follows::begins_import_expression))]
-fn begins_import<P: Source>(p: &P) -> bool
+pub(crate) fn begins_import<P: Source>(p: &P) -> bool
     ensures { result ≡ modules.begins_import (P.seen p.now).at }
 {
     p.sees(TokenKind::Import) && !(p.next_sees(TokenKind::LParen) || p.next_sees(TokenKind::Dot))
@@ -96,7 +96,7 @@ fn direct<P: Source, T: BuildsItem>(p: &mut P, directives: bool, x: &T::Item)
 
 /// Whether the list has ended.
 #[tactic(auto, unfolding(swc_ecma_parser_reader::specs::Reader::at_end))]
-fn at_end<P: Source>(p: &P) -> bool
+pub(crate) fn at_end<P: Source>(p: &P) -> bool
     ensures { result ≡ rules.at_end (P.seen p.now).at }
 {
     p.sees(TokenKind::End)
@@ -104,7 +104,7 @@ fn at_end<P: Source>(p: &P) -> bool
 
 /// The items of a module, the first of which can be a directive.
 #[tactic(auto, unfolding(swc_ecma_parser_reader::specs::Reader::items), using(swc_ecma_parser_reader::proofs::Loops::items_stop, swc_ecma_parser_reader::proofs::Loops::items_err, swc_ecma_parser_core::proofs::Items::script_more, swc_ecma_parser_module_reader::proofs::Falls::item_shorter, std::proofs::lemmas::List::map_push))]
-fn items<P: Source, T: BuildsStatements + BuildsExport + BuildsVarDecl>(
+pub(crate) fn items<P: Source, T: BuildsStatements + BuildsExport + BuildsVarDecl>(
     t: &MakerOf<T>,
     p: &mut P,
     limit: usize,

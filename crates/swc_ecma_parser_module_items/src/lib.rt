@@ -5,3 +5,4 @@
 pub mod exported;
 mod inner;
 pub mod items;
+pub mod programs;

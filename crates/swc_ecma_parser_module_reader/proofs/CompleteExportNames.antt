@@ -35,6 +35,7 @@ use Rattle.swc_ecma_parser_grammar.specs.language.Noted.{has_meta, any_has_meta}
 use Rattle.swc_ecma_parser_grammar.specs.language.Reads as language
 use Rattle.swc_ecma_parser_grammar.proofs.StatementBegins.{word_place}
 use Rattle.swc_ecma_parser_grammar.proofs.Tests.{and_both, and_no, no_and}
+use Rattle.swc_ecma_parser_grammar.proofs.Unnoted.{joined}
 use Rattle.swc_ecma_parser_reader.specs.Notes.{Notes, no_notes, ◌⊕◌, notes_of}
 use Rattle.swc_ecma_parser_reader.specs.Reader.{expr, pattern, member, parameters, stmt}
 use Rattle.swc_ecma_parser_grammar.specs.Reads.{nested_item}
@@ -50,7 +51,8 @@ use Rattle.swc_ecma_parser_module_reader.specs.Imports.{specifiers}
 use Rattle.swc_ecma_parser_module_reader.specs.Exports.{renamed_export, plain_export, export_specifier, export_namespace, names_from, own_names, export_names, more_names, namespace_names, export_all, export_star, is_namespace_next, behind_default, is_name_from, name_from, is_default_from, default_from, begins_default_function, export_default, export_decl}
 use Rattle.swc_ecma_parser_module_reader.proofs.ModuleCode.{IsModule}
 use Rattle.swc_ecma_parser_module_reader.proofs.Falls.{export_specifier_shorter}
-use Rattle.swc_ecma_parser_module_reader.proofs.CompleteShared.{string_seen, expect_word_reads, source_reads, module_name_reads, clean_name, name_reads, no_attributes_read, attributes_absent, specifiers_read}
+use Rattle.swc_ecma_parser_module_reader.proofs.CompleteImports.{module_name_goes}
+use Rattle.swc_ecma_parser_module_reader.proofs.CompleteShared.{expect_word_reads, source_reads, module_name_reads, clean_name, name_reads, no_attributes_read, attributes_absent, specifiers_read}
 
 -- ---- trees that the walk finds nothing in
 
@@ -63,9 +65,6 @@ record AllSilent (xs : List Tree) : Type 0 where
   walked : (env : Env) → walks env false (trees xs) ≡ []
   noted : all_notes (trees xs) ≡ []
   unmet : any_has_meta (trees xs) ≡ false
-
-joined : (es fs : List Fault) → es ≡ [] → fs ≡ [] → es ++ fs ≡ []
-joined es fs e g = rw (e, g) refl
 
 none_silent : AllSilent []
 none_silent = record { walked = λ env. refl; noted = refl; unmet = refl }
@@ -119,24 +118,9 @@ export_specifier_reads k x c d (same_name_rule orig r a e) w f h = rw (module_na
 export_specifier_reads k x c d (other_name_rule orig exported m r a s e) w f h = rw (module_name_reads orig c m k w f h r, a, module_name_reads exported (after m) d k w f h s, e) refl
 
 -- no `}` begins one
-keyword_no_brace : (v : Keyword) → same_kind (keyword_kind v) kind.RBrace ≡ false
-unfolding same_kind
-keyword_no_brace keyword.Await = refl
-keyword_no_brace _ = refl
-
-word_no_brace : (v : Word) → same_kind (word_kind v) kind.RBrace ≡ false
-unfolding same_kind
-word_no_brace (word.Keyword v) = keyword_no_brace v
-word_no_brace _ = refl
-
-name_goes : (x : Tree) (c d : Place) → ModuleNameRule x c d → sees kind.RBrace c ≡ false
-unfolding same_kind
-name_goes x c d (word_name_rule text s r e) = rw (token_first (token.Word r.word) s c d r.reads_word) (word_no_brace r.word)
-name_goes x c d (string_name_rule r) = rw (string_seen x c d r) refl
-
 specifier_goes : (x : Tree) (c d : Place) → ExportSpecifierRule x c d → sees kind.RBrace c ≡ false
-specifier_goes x c d (same_name_rule orig r a e) = name_goes orig c d r
-specifier_goes x c d (other_name_rule orig exported m r a s e) = name_goes orig c m r
+specifier_goes x c d (same_name_rule orig r a e) = module_name_goes orig c d r
+specifier_goes x c d (other_name_rule orig exported m r a s e) = module_name_goes orig c m r
 
 -- nothing but its tokens is asked for, so any state shows that it takes one
 specifier_shorter : (k : Code) (w : Scope) (x : Tree) (c d : Place) → ExportSpecifierRule x c d → length d.left < length c.left

@@ -24,7 +24,6 @@ use Rattle.swc_ecma_parser_grammar.specs.Parameters.{parameters as parameter_tre
 use Rattle.swc_ecma_parser_grammar.specs.Reads.{nested_item, with_in}
 use Rattle.swc_ecma_parser_grammar.specs.Supported.{supported, supported_in, has_none}
 use Rattle.swc_ecma_parser_grammar.specs.Variables.{begins_variables}
-use Rattle.swc_ecma_parser_grammar.specs.Walk as walks_of
 use Rattle.swc_ecma_parser_grammar.specs.Walk.{Env, env_of, in_body as walks_in_body, in_params, walk, walks, walk_body}
 use Rattle.swc_ecma_parser_grammar.specs.language.Classes.{DecoratorsRule, no_decorators, some_decorators, ClassRule}
 use Rattle.swc_ecma_parser_grammar.specs.language.Contexts.{in_parameters}
@@ -59,16 +58,11 @@ use Rattle.swc_ecma_parser_reader.proofs.expressions.CompleteKinds as kinds
 use Rattle.swc_ecma_parser_reader.proofs.expressions.CompleteKinds.{seen}
 use Rattle.swc_ecma_parser_module_reader.specs.Exports.{begins_default_function, is_default_from, default_name, default_function, default_expr, exported_function, exported_class, export_default, exported, export_decl}
 use Rattle.swc_ecma_parser_module_reader.specs.Supported.{supported_item}
-use Rattle.swc_ecma_parser_module_reader.proofs.ModuleCode.{IsModule, in_module_same}
+use Rattle.swc_ecma_parser_module_reader.proofs.CompleteImports.{absent_is}
+use Rattle.swc_ecma_parser_module_reader.proofs.ModuleCode.{IsModule, in_module_same, module_env}
 use Rattle.swc_ecma_parser_module_reader.proofs.CompleteShared.{clean_name, name_reads}
 use Rattle.swc_ecma_parser_module_reader.proofs.CompleteExportNames.{export_from_read, export_own_read, export_all_read}
 use Rattle.swc_ecma_parser_module_reader.proofs.AllLevels.{below, function_body_reads, word_reads, star_reads}
-
--- ---- module code
-
--- where the code is a module's the walk of an export finds what it finds of its parts
-module_env : (k : Code) (l : List Text) → IsModule k → ◌≡◌ {A = Env} (walks_of.in_module (env_of k l)) (env_of k l)
-module_env k l (m, s) = ap (λ b. record (env_of k l) { strict = b }) (sym s)
 
 -- ---- words and decorators
 
@@ -340,10 +334,6 @@ module _ (n : ℕ) (k : Code) (o : IsModule k) where
 
 item_as : (x y : Tree) → x ≡ y → supported_item x ≡ true → supported_item y ≡ true
 item_as x y e h = sym (ap supported_item e) ∙ h
-
-absent_is : (x : Tree) → is_absent x ≡ true → x ≡ tree.absent
-absent_is tree.absent h = refl
-absent_is _ h = cc
 
 -- decorators are not supported
 exported_plain : {In : Goal → Type 0} {k : Code} {a y : Tree} {c d : Place} → ExportedRule In k a y c d → supported y ≡ true → has_none a ≡ true

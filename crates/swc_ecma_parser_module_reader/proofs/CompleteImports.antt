@@ -4,7 +4,7 @@ use Rattle.std.proofs.lemmas.Slice.Eq.{bytes_eq-Decides}
 use Rattle.std.specs.Prelude.{◌&&◌, ◌||◌, if◌then◌else◌}
 use Rattle.swc_ecma_parser_common.specs.declared.span.Span.{Span}
 use Rattle.swc_ecma_parser_error.specs.Kind as faults
-use Rattle.swc_ecma_parser_error.specs.Kind.{Kind, Fault}
+use Rattle.swc_ecma_parser_error.specs.Kind.{Fault}
 use Rattle.swc_ecma_parser_token.specs.declared.keyword.Keyword.{Keyword}
 use Rattle.swc_ecma_parser_token.specs.declared.keyword.Keyword.TheVariants as keyword
 use Rattle.swc_ecma_parser_token.specs.declared.kind.TokenKind.{TokenKind}
@@ -157,11 +157,17 @@ clause_quiet k xs c d (default_binding_rule text s ys m r more e) =
     let x = tree.import_default s (tree.ident s text) in
     all_quiet_as xs (x ∷ ys) e (quiet_also x ys (λ env. refl, refl, refl) (more_quiet k ys m d more))
 
-absent_is : (x : Tree) → is_absent x ≡ true → x ≡ tree.absent
+pub absent_is : (x : Tree) → is_absent x ≡ true → x ≡ tree.absent
 absent_is tree.absent e = refl
 absent_is _ e = cc
 
 -- ---- what is imported
+
+-- no `}` begins a name
+pub module_name_goes : (x : Tree) (c d : Place) → ModuleNameRule x c d → sees kind.RBrace c ≡ false
+unfolding same_kind
+module_name_goes x c d (word_name_rule text s r e) = (word_kinds r.reads_word).3
+module_name_goes x c d (string_name_rule r) = rw (string_seen x c d r) refl
 
 module _ (k : Code) (o : IsModule k) where
   specifier_reads : (x : Tree) (c d : Place) → ImportSpecifierRule k x c d → (w : Scope) (f : List Fault) (h : Notes) → import_specifier (st c k w f h) ≡ Ok (x, st d k w f h)
@@ -175,11 +181,6 @@ module _ (k : Code) (o : IsModule k) where
       ) refl
   specifier_reads x c d (renamed_rule y text s m r b n e) w f h =
       rw (module_name_reads y c m k w f h r, b, name_reads faults.ExpectedIdent text s (after m) d k w f h o.0 n, e) refl
-
-  module_name_goes : (x : Tree) (c d : Place) → ModuleNameRule x c d → sees kind.RBrace c ≡ false
-  unfolding same_kind
-  module_name_goes x c d (word_name_rule text s r e) = (word_kinds r.reads_word).3
-  module_name_goes x c d (string_name_rule r) = rw (string_seen x c d r) refl
 
   specifier_goes : (x : Tree) (c d : Place) → ImportSpecifierRule k x c d → sees kind.RBrace c ≡ false
   specifier_goes x c d (named_rule text s r b e) = (word_kinds r.reads_word).3

@@ -1,11 +1,10 @@
 -- An item of a module that the grammar has is read, and so is a module, where what it exports is.
 use Rattle.std.proofs.Common.{◌≡◌, inr, ℕ, zero, suc, Bool, true, false, List, [], ◌∷◌, ◌++◌, Option, Ok, refl, sym, ◌∙◌, ap, subst, append_assoc, append-nil}
-use Rattle.std.specs.Prelude.{not, ◌&&◌, ◌||◌, if◌then◌else◌}
+use Rattle.std.specs.Prelude.{not, ◌&&◌}
 use Rattle.swc_ecma_parser_error.specs.Kind.{Fault}
 use Rattle.swc_ecma_parser_token.specs.declared.kind.TokenKind.{TokenKind}
 use Rattle.swc_ecma_parser_token.specs.declared.kind.TokenKind.TheVariants as kind
 use Rattle.swc_ecma_parser_input.specs.Place.{Place}
-use Rattle.swc_ecma_parser_model.specs.Directive.{is_use_strict}
 use Rattle.swc_ecma_parser_model.specs.Kinds.{is_module_decl}
 use Rattle.swc_ecma_parser_model.specs.Tree as tree
 use Rattle.swc_ecma_parser_model.specs.Tree.{Tree, Text, listed, trees}
@@ -15,8 +14,7 @@ use Rattle.swc_ecma_parser_grammar.specs.Names.{Code}
 use Rattle.swc_ecma_parser_grammar.specs.Notes.{notes, all_notes}
 use Rattle.swc_ecma_parser_grammar.specs.Reads.{nested_item, top_item, directed, directs_on}
 use Rattle.swc_ecma_parser_grammar.specs.ReadsSupported.{ReadsTop}
-use Rattle.swc_ecma_parser_grammar.specs.Walk as walks_of
-use Rattle.swc_ecma_parser_grammar.specs.Walk.{Env, env_of, walk, walk_items}
+use Rattle.swc_ecma_parser_grammar.specs.Walk.{env_of, walk, walk_items}
 use Rattle.swc_ecma_parser_grammar.specs.language.Contexts.{in_module}
 use Rattle.swc_ecma_parser_grammar.specs.language.Exports.{ExportRule}
 use Rattle.swc_ecma_parser_grammar.specs.language.Goals.{item_goal}
@@ -37,8 +35,7 @@ use Rattle.swc_ecma_parser_reader.proofs.CompleteParts.{at_end_at, directs_behin
 use Rattle.swc_ecma_parser_reader.proofs.CompleteScripts.{whole_reads}
 use Rattle.swc_ecma_parser_reader.proofs.Errors.{is_error}
 use Rattle.swc_ecma_parser_reader.proofs.Loops.{items_stop, items_more}
-use Rattle.swc_ecma_parser_reader.proofs.Meets.{saw}
-use Rattle.swc_ecma_parser_reader.proofs.Notes.{or_nil, or_true}
+use Rattle.swc_ecma_parser_reader.proofs.Notes.{or_nil}
 use Rattle.swc_ecma_parser_reader.proofs.Opens.{stmt_goes}
 use Rattle.swc_ecma_parser_module_reader.specs.Exports.{export_decl}
 use Rattle.swc_ecma_parser_module_reader.specs.Modules.{begins_import, import_in, export_in, module_item, module_code, module_body, module_whole}
@@ -46,34 +43,9 @@ use Rattle.swc_ecma_parser_module_reader.specs.Supported.{supported_item, all_su
 use Rattle.swc_ecma_parser_module_reader.specs.Entry.{module_left, ReadsSupportedModule}
 use Rattle.swc_ecma_parser_module_reader.proofs.CompleteImports.{import_reads, import_quiet, import_seen}
 use Rattle.swc_ecma_parser_module_reader.proofs.Falls.{item_shorter}
-use Rattle.swc_ecma_parser_module_reader.proofs.ItemStarts.{stmt_starts, statement_told, import_told, export_told, supported_plain, export_seen}
-use Rattle.swc_ecma_parser_module_reader.proofs.ModuleCode.{IsModule, in_module_same}
-
--- ---- module code behind an item
-
--- a directive changes nothing in it, nor does an import or an export
-strict_same : (k : Code) → IsModule k → (b p : Bool) → ◌≡◌ {A = Code} (if p then in_module (if b then record k { flags = record k.flags { strict = true } } else k) else (if b then record k { flags = record k.flags { strict = true } } else k)) k
-strict_same k o true true = in_module_same k o
-strict_same k o true false = λ i. record k { flags = record k.flags { strict = sym o.1 i } }
-strict_same k o false true = in_module_same k o
-strict_same k o false false = refl
-
-directed_same : (k : Code) → IsModule k → (directives : Bool) (x : Tree) → directed k directives x ≡ k
-directed_same k o directives x = strict_same k o (directives && is_use_strict x) false
-
-behind_same : (k : Code) → IsModule k → (directives : Bool) (x : Tree) → behind_item (directed k directives x) x ≡ k
-behind_same k o directives x = strict_same k o (directives && is_use_strict x) (is_module_decl x)
-
--- nor do they for the walk
-strict_env : (env : Env) → env.strict ≡ true → (b p : Bool)
-    → ◌≡◌ {A = Env} (if p then walks_of.in_module (if b then record env { strict = true } else env) else (if b then record env { strict = true } else env)) env
-strict_env env o true true = λ i. record env { strict = sym o i }
-strict_env env o true false = λ i. record env { strict = sym o i }
-strict_env env o false true = λ i. record env { strict = sym o i }
-strict_env env o false false = refl
-
-walk_same : (env : Env) → env.strict ≡ true → (directives : Bool) (x : Tree) → walks_of.behind_item (walks_of.directed env directives x) x ≡ env
-walk_same env o directives x = strict_env env o (directives && is_use_strict x) (is_module_decl x)
+use Rattle.swc_ecma_parser_module_reader.proofs.ItemLists.{or_shift}
+use Rattle.swc_ecma_parser_module_reader.proofs.ItemStarts.{import_word, stmt_starts, statement_told, import_told, export_told, supported_plain, export_seen}
+use Rattle.swc_ecma_parser_module_reader.proofs.ModuleCode.{IsModule, directed_same, behind_same, env_same}
 
 -- ---- with which token an item begins
 
@@ -84,10 +56,6 @@ Goes c = (at_end c ≡ false) × (is_error (kind_at c) ≡ false)
 goes_by : (c : Place) (j : TokenKind) → kind_at c ≡ j → same_kind j kind.End ≡ false → is_error j ≡ false → Goes c
 unfolding at_end
 goes_by c j e g h = (rw e g, rw e h)
-
-import_word : (c : Place) → begins_import c ≡ true → kind_at c ≡ kind.Import
-unfolding begins_import
-import_word c e = saw c kind.Import (and_yes (sees kind.Import c) _ e).0
 
 -- an item that is a statement, as the statements of scripts are read
 narrow : (n : ℕ) (k : Code) (x : Tree) (c d : Place) → StmtRule (Reads n) k top_item x c d → supported_item x ≡ true → notes x ≡ [] → ReadsTop (suc n) k top_item x c d
@@ -108,15 +76,9 @@ export_stands c e = (rw e refl, rw e refl)
 awaits_told : (x : Tree) (c : Place) (b : Bool) → is_module_decl x ≡ b → begins_with_await x c ≡ (not b && sees kind.Await c)
 awaits_told x c b e = rw e refl
 
-shebang_as : (c d : Place) (first : Option Text) → ShebangRule c d first → ReadsShebang c d first
+pub shebang_as : (c d : Place) (first : Option Text) → ShebangRule c d first → ReadsShebang c d first
 shebang_as c d _ (programs.some_shebang text s r) = some_shebang text s r
 shebang_as c d _ (programs.no_shebang e g) = no_shebang e g
-
-or_shift : (a b c d e : Bool) → ((a || (b || c)) || (d || e)) ≡ (a || ((b || d) || (c || e)))
-or_shift true b c d e = refl
-or_shift false true c d e = refl
-or_shift false false true d e = sym (or_true d)
-or_shift false false false d e = refl
 
 module _ (export_reads : (n : ℕ) (k : Code) (x : Tree) (c d : Place) → IsModule k → ExportRule (Reads n) k x c d → supported_item x ≡ true → notes x ≡ [] → (w : Scope) (f : List Fault) (h : Notes)
     → Calm k w.labels x d → export_decl (stmt n nested_item) (expr n) (pattern n) (parameters n) (member n) (st c k w f h) ≡ Ok (x, st d k w (f ++ walk (env_of k w.labels) x) (h ⊕ notes_of x))) where
@@ -176,7 +138,7 @@ module _ (export_reads : (n : ℕ) (k : Code) (x : Tree) (c d : Place) → IsMod
         let first = items_more (module_item n) at_end true found (st c k w f h) x j (item_goes n k x c m o r t.0 v.0).0 one (item_shorter n (st c k w f h) x j one) in
         let turn = rw (p, directed_same k o b x) at first in
         turn ∙ many_read xs (found ++ x ∷ []) false others m d w j.faults j.notes (directs_behind true found x) more t.1 v.1 e a
-        ∙ rw (z, walk_same (env_of k w.labels) o.1 b x) (simp (append_assoc, or_shift) refl)
+        ∙ rw (z, env_same (env_of k w.labels) o.1 b x) (simp (append_assoc, or_shift) refl)
 
     pub items_read : (xs : List Tree) (awaits : Bool) (c d : Place) (w : Scope) (f : List Fault) (h : Notes) → ModuleItemsRule (Reads n) k true xs awaits c d → all_supported_items (trees xs) ≡ true
         → all_notes (trees xs) ≡ [] → kind_at d ≡ kind.End → items (module_item n) at_end true (st c k w f h)

@@ -13,7 +13,7 @@ use Rattle.swc_ecma_parser_reader.proofs.Empty.{ended}
 use Rattle.swc_ecma_parser_reader.proofs.Loops.{items_stop}
 use Rattle.swc_ecma_parser_module_reader.specs.Modules.{module_code, module_item, module_body, module_whole}
 
-no_shebang_there : (c : Place) → c.left ≡ [] → sees kind.Shebang c ≡ false
+pub no_shebang_there : (c : Place) → c.left ≡ [] → sees kind.Shebang c ≡ false
 unfolding same_kind
 no_shebang_there c e = rw (ended c e) refl
 

@@ -1,9 +1,10 @@
 -- A module in a state in which module code begins, as the entry of the parser has it.
-use Rattle.std.proofs.Common.{◌≡◌, ℕ, ◌++◌, Result, Ok, Err, refl, sym, ◌∙◌, ap, subst, append_assoc}
+use Rattle.std.proofs.Common.{◌≡◌, ℕ, List, [], ◌∷◌, ◌++◌, map, Result, Ok, Err, refl, sym, ◌∙◌, ap, subst, append-nil, append_assoc}
 use Rattle.swc_ecma_parser_error.specs.declared.error.Error.{Error}
 use Rattle.swc_ecma_parser_error.specs.Kind.{Fault}
 use Rattle.swc_ecma_parser_model.specs.Tree.{Tree}
 use Rattle.swc_ecma_parser_grammar.specs.Names.{Code}
+use Rattle.swc_ecma_parser_grammar.specs.Notes.{as_note}
 use Rattle.swc_ecma_parser_reader.specs.State.{Scope, State, Outcome, and_then, coded, flagged}
 use Rattle.swc_ecma_parser_reader.specs.Entry.{IsLater, IsBehind, Stays, last_span, unmarked}
 use Rattle.swc_ecma_parser_module_reader.specs.Modules.{module_code, module_body, module_whole}
@@ -11,6 +12,11 @@ use Rattle.swc_ecma_parser_module_reader.specs.Entry.{IsEntered, AnswersModule}
 use Rattle.swc_ecma_parser_module_reader.proofs.ModuleCode.{IsModule}
 use Rattle.swc_ecma_parser_module_reader.proofs.Keeps as keeps
 use Rattle.swc_ecma_parser_module_reader.proofs.Sound.{body_keeps_code}
+
+-- what is noted of no fault is no fault
+pub none_noted : (fs : List Fault) → map as_note fs ≡ [] → fs ≡ []
+none_noted [] h = refl
+none_noted (f ∷ fs) h = cc
 
 module _ (s u : State) (i : IsEntered s u) where
   -- it is module code already
@@ -32,6 +38,10 @@ module _ (s u : State) (i : IsEntered s u) where
   unfolding module_whole
   module_refused n p e = ap {A = Outcome Tree} (λ o. and_then o (λ y v. Ok (y, flagged (module_code u.code) v))) (ap (module_body n) as_entered ∙ e)
 
+  -- where nothing was held back nothing is recorded
+  pub settled : s.notes.held_back ≡ [] → u.faults ≡ s.faults
+  settled e = i.faults ∙ ap (λ z. s.faults ++ z) (none_noted i.recorded (i.recorded_as ∙ e)) ∙ append-nil s.faults
+
 -- ---- what stays
 
 unmarked_as : (s u : State) → u.scope ≡ (unmarked s).scope → unmarked u ≡ u
@@ -50,5 +60,5 @@ pub stays_entered : (X : Type 0) (view : X → Tree) (limit : ℕ) (s u : State)
 stays_entered X view limit s u i r t h = by_answer r (keeps.module_stays X view limit u r t (subst (λ v. AnswersModule view limit v r t) (sym (unmarked_as s u i.scope)) h))
   where
     by_answer : (r : Result X Error) → Stays u r t → Stays s r t
-    by_answer (Ok x) g = since_entered s u t i.faults i.at g
-    by_answer (Err e) g = λ n. since_entered s u t i.faults i.at (g n)
+    by_answer (Ok x) g = since_entered s u t (i.recorded, i.faults) i.at g
+    by_answer (Err e) g = λ n. since_entered s u t (i.recorded, i.faults) i.at (g n)

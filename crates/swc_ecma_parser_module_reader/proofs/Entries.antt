@@ -51,10 +51,10 @@ module _ (is_sound : (n : ℕ) (s : State) (x : Tree) (t : State) → module_who
 
 -- ---- what is refused, and what stays
 
-module _ (X : Type 0) (view : X → Tree) (limit : ℕ) (s : State) where
-  no_memory : (k : faults.Kind) → k ≡ faults.TooDeep → k ≢ faults.OutOfMemory
-  no_memory k e h = cc
+pub no_memory : (k : faults.Kind) → k ≡ faults.TooDeep → k ≢ faults.OutOfMemory
+no_memory k e h = cc
 
+module _ (X : Type 0) (view : X → Tree) (limit : ℕ) (s : State) where
   -- a limit of twice the tokens and two is never met
   pub module_fits : (r : Result X Error) (t : State) → AnswersModule view limit s r t → 2 * length s.at.left + 2 ≤ limit → has_too_deep_token s.at.left ≡ false → IfErr r (λ e. kind_of e.kind ≢ faults.TooDeep)
   module_fits (Ok x) t h l n = tt

@@ -31,7 +31,7 @@ use Rattle.swc_ecma_parser_reader.specs.Entry.{IsBehind}
 use Rattle.swc_ecma_parser_reader.specs.Limits.{is_too_deep, has_too_deep_token}
 use Rattle.swc_ecma_parser_reader.proofs.Behind as behind
 use Rattle.swc_ecma_parser_reader.proofs.Behind.{Lost, behind_self}
-use Rattle.swc_ecma_parser_reader.proofs.Keeps.{expr_keeps, member_keeps}
+use Rattle.swc_ecma_parser_reader.proofs.Keeps.{whole_stmt_keeps, expr_keeps, member_keeps}
 use Rattle.swc_ecma_parser_reader.proofs.classes.Keeps.{class_expr_keeps}
 use Rattle.swc_ecma_parser_reader.proofs.Limits.{whole_fits}
 use Rattle.swc_ecma_parser_reader.proofs.Meets.{Answers, Meets, answers_then, answers_if, meant}
@@ -39,7 +39,7 @@ use Rattle.swc_ecma_parser_reader.proofs.Shallow.{Fine, fine_taken, Shallow, Kep
 use Rattle.swc_ecma_parser_reader.proofs.Words.{word_named}
 use Rattle.swc_ecma_parser_reader.proofs.expressions.SoundSteps.{FreeWord, name_sound}
 use Rattle.swc_ecma_parser_reader.proofs.Between.{SoundStep}
-use Rattle.swc_ecma_parser_module_reader.proofs.Keeps.{parts_keep, whole_stmt_keeps}
+use Rattle.swc_ecma_parser_module_reader.proofs.Keeps.{parts_keep}
 
 -- ---- what is left of tokens that are fine
 
@@ -54,7 +54,7 @@ fine_behind m s t h f = fine_last m h.read t.at.left (subst (Fine m) h.tokens f)
 -- a reader that keeps its tokens answers fine ones
 with_refusals : {A : Type 0} (m : ℕ) (s : State) (o : Outcome A) → Answers (behind.Kept s) (Lost s) o → Fine m s.at.left → ((e : Fault) (t : State) → o ≡ Err (e, t) → e.kind ≢ faults.TooDeep)
     → Answers (Kept m) Shallow o
-with_refusals m s (Ok p) h f g = fine_behind m s p.1 h f
+with_refusals m s (Ok p) h f g = fine_behind m s p.1 h.0 f
 with_refusals m s (Err e) h f g = g e.0 e.1 refl
 
 -- ---- statements

@@ -19,7 +19,7 @@ use Rattle.swc_ecma_parser_model.specs.declared.leaves.VarDeclKind.{VarDeclKind}
 use Rattle.swc_ecma_parser_model.specs.declared.leaves.VarDeclKind.TheVariants as decl
 use Rattle.swc_ecma_parser_model.specs.Kinds.{is_module_decl}
 use Rattle.swc_ecma_parser_model.specs.Tree as tree
-use Rattle.swc_ecma_parser_model.specs.Tree.{Tree, listed}
+use Rattle.swc_ecma_parser_model.specs.Tree.{Tree}
 use Rattle.swc_ecma_parser_grammar.specs.declared.position.Position.{Position}
 use Rattle.swc_ecma_parser_grammar.specs.Follows.{begins_import_expression, AsyncWord, not_async, async_word}
 use Rattle.swc_ecma_parser_grammar.specs.Looks.{kind_at, first_kind, sees, same_kind}
@@ -208,34 +208,61 @@ supported_plain (tree.export_default_expr s y) e h = cc
 supported_plain (tree.export_all s src attributes) e h = cc
 supported_plain _ e h = h
 
+-- what is supported of a script is in a module, and is no import and no export
+pub item_supported : (x : Tree) → supported x ≡ true → supported_item x ≡ true
+item_supported (tree.import s specifiers src attributes phase) h = cc
+item_supported (tree.export_decl s y) h = cc
+item_supported (tree.export_named s specifiers src attributes) h = cc
+item_supported (tree.export_default_decl s y) h = cc
+item_supported (tree.export_default_expr s e) h = cc
+item_supported (tree.export_all s src attributes) h = cc
+item_supported _ h = h
+
+pub no_module_decl : (x : Tree) → supported x ≡ true → is_module_decl x ≡ false
+no_module_decl (tree.import s specifiers src attributes phase) h = cc
+no_module_decl (tree.export_decl s y) h = cc
+no_module_decl (tree.export_named s specifiers src attributes) h = cc
+no_module_decl (tree.export_default_decl s y) h = cc
+no_module_decl (tree.export_default_expr s e) h = cc
+no_module_decl (tree.export_all s src attributes) h = cc
+no_module_decl _ h = refl
+
+-- ---- an import
+
+pub import_word : (c : Place) → begins_import c ≡ true → kind_at c ≡ kind.Import
+unfolding begins_import
+import_word c e = saw c kind.Import (and_yes (sees kind.Import c) _ e).0
+
 -- ---- an export
+
+-- what is supported has no decorators
+function_bare : (ds name y : Tree) (s : Span) (params body : Tree) (w g : Bool) → y ≡ tree.function s ds params body w g → supported name && supported y ≡ true
+    → has_none ds ≡ true
+function_bare ds name y s params body w g e h =
+    let a : supported (tree.function s ds params body w g) ≡ true = sym (ap supported e) ∙ (and_yes (supported name) (supported y) h).1 in
+    (and_yes (has_none ds) _ a).0
+
+class_bare : (ds name y : Tree) (s : Span) (body base : Tree) → y ≡ tree.class s ds body base → supported name && supported y ≡ true → has_none ds ≡ true
+class_bare ds name y s body base e h =
+    let a : supported (tree.class s ds body base) ≡ true = sym (ap supported e) ∙ (and_yes (supported name) (supported y) h).1 in
+    (and_yes (has_none ds) _ a).0
+
+pub exported_bare : {In : Goal → Type 0} (k : Code) (ds y : Tree) (c d : Place) → ExportedRule In k ds y c d → supported y ≡ true → has_none ds ≡ true
+exported_bare k ds y c d (exports.exported_class name z r a e) h = class_bare ds name z _ _ _ r.is (sym (ap supported e) ∙ h)
+exported_bare k ds y c d (exports.exported_function name z r a e) h = function_bare ds name z _ _ _ _ _ r.is (sym (ap supported e) ∙ h)
+exported_bare k ds y c d (exports.exported_variables v xs m e r g i) h = ap has_none e
+
+pub default_bare : {In : Goal → Type 0} (k : Code) (ds x y : Tree) (s : Span) (c d : Place) → DefaultRule In k ds y c d → x ≡ tree.export_default_decl s y → supported_item x ≡ true
+    → has_none ds ≡ true
+default_bare k ds x y s c d (exports.default_class name z r e) i h =
+    class_bare ds name z _ _ _ r.is (sym (ap supported_item (i ∙ ap (tree.export_default_decl s) e)) ∙ h)
+default_bare k ds x y s c d (exports.default_function name z r e) i h =
+    function_bare ds name z _ _ _ _ _ r.is (sym (ap supported_item (i ∙ ap (tree.export_default_decl s) e)) ∙ h)
 
 module _ (In : Goal → Type 0) where
   words_seen : {b : Bool} {c d : Place} → ExportWords b c d → kind_at c ≡ kind.Export
   words_seen (exports.export_word a e n) = e
   words_seen (exports.export_default_words a e g n) = e
-
-  -- what is supported has no decorators
-  function_bare : (ds name y : Tree) (k : Code) (c d : Place) (s : Span) (params body : Tree) (w g : Bool) → y ≡ tree.function s ds params body w g → supported name && supported y ≡ true → has_none ds ≡ true
-  function_bare ds name y k c d s params body w g e h =
-      let a : supported (tree.function s ds params body w g) ≡ true = sym (ap supported e) ∙ (and_yes (supported name) (supported y) h).1 in
-      (and_yes (has_none ds) _ a).0
-
-  class_bare : (ds name y : Tree) (s : Span) (body base : Tree) → y ≡ tree.class s ds body base → supported name && supported y ≡ true → has_none ds ≡ true
-  class_bare ds name y s body base e h =
-      let a : supported (tree.class s ds body base) ≡ true = sym (ap supported e) ∙ (and_yes (supported name) (supported y) h).1 in
-      (and_yes (has_none ds) _ a).0
-
-  exported_bare : (k : Code) (ds y : Tree) (c d : Place) → ExportedRule In k ds y c d → supported y ≡ true → has_none ds ≡ true
-  exported_bare k ds y c d (exports.exported_class name z r a e) h = class_bare ds name z _ _ _ r.is (sym (ap supported e) ∙ h)
-  exported_bare k ds y c d (exports.exported_function name z r a e) h = function_bare ds name z k c d _ _ _ _ _ r.is (sym (ap supported e) ∙ h)
-  exported_bare k ds y c d (exports.exported_variables v xs m e r g i) h = ap has_none e
-
-  default_bare : (k : Code) (ds x y : Tree) (s : Span) (c d : Place) → DefaultRule In k ds y c d → x ≡ tree.export_default_decl s y → supported_item x ≡ true → has_none ds ≡ true
-  default_bare k ds x y s c d (exports.default_class name z r e) i h =
-      class_bare ds name z _ _ _ r.is (sym (ap supported_item (i ∙ ap (tree.export_default_decl s) e)) ∙ h)
-  default_bare k ds x y s c d (exports.default_function name z r e) i h =
-      function_bare ds name z k c d _ _ _ _ _ r.is (sym (ap supported_item (i ∙ ap (tree.export_default_decl s) e)) ∙ h)
 
   bare_stays : (k : Code) (ds : Tree) (c d : Place) → DecoratorsRule In k ds c d → has_none ds ≡ true → d ≡ c
   bare_stays k ds c d (no_decorators e g) h = e

@@ -1,6 +1,6 @@
 -- Whatever a module is read as, or refused, the tokens that are left are the last of those that were, what was read last is the
 -- token before them, and no recorded fault is lost.
-use Rattle.std.proofs.Common.{◌≡◌, ℕ, zero, suc, Bool, true, List, [], ◌∷◌, ◌++◌, Option, Some, None, Result, Ok, Err, sym, ◌∙◌, ap, subst, append_assoc}
+use Rattle.std.proofs.Common.{◌≡◌, ℕ, zero, suc, Bool, true, List, [], ◌∷◌, ◌++◌, Option, Some, None, Result, Ok, Err, subst}
 use Rattle.std.specs.Prelude.{◌&&◌, ◌||◌, codes}
 use Rattle.swc_ecma_parser_common.specs.declared.span.Span.{Span}
 use Rattle.swc_ecma_parser_error.specs.declared.error.Error.{Error}
@@ -10,14 +10,13 @@ use Rattle.swc_ecma_parser_token.specs.declared.kind.TokenKind.TheVariants as ki
 use Rattle.swc_ecma_parser_token.specs.declared.token.Token.{Token}
 use Rattle.swc_ecma_parser_token.specs.declared.token.Token.TheVariants as token
 use Rattle.swc_ecma_parser_token.specs.declared.token.TokenAndSpan.{TokenAndSpan}
-use Rattle.swc_ecma_parser_input.specs.Place.{Place, after}
+use Rattle.swc_ecma_parser_input.specs.Place.{after}
 use Rattle.swc_ecma_parser_model.specs.declared.leaves.Ident.{Ident}
 use Rattle.swc_ecma_parser_model.specs.declared.leaves.ImportPhase.{ImportPhase}
 use Rattle.swc_ecma_parser_model.specs.declared.leaves.ImportPhase.TheVariants as phase
 use Rattle.swc_ecma_parser_model.specs.declared.leaves.VarDeclKind.TheVariants as decl
 use Rattle.swc_ecma_parser_model.specs.Tree as tree
 use Rattle.swc_ecma_parser_model.specs.Tree.{Tree, Text, listed}
-use Rattle.swc_ecma_parser_grammar.specs.declared.position.Position.{Position}
 use Rattle.swc_ecma_parser_grammar.specs.Looks.{sees, span_at}
 use Rattle.swc_ecma_parser_grammar.specs.Names.{is_name, name_at}
 use Rattle.swc_ecma_parser_grammar.specs.Follows.{word_at, is_let_declaration, is_async_function}
@@ -32,12 +31,12 @@ use Rattle.swc_ecma_parser_reader.specs.Jumps.{told}
 use Rattle.swc_ecma_parser_reader.specs.Members.{class_decl, class_expr}
 use Rattle.swc_ecma_parser_reader.specs.Methods.{star}
 use Rattle.swc_ecma_parser_reader.specs.Operands.{literal, literal_in, taken, word_property}
-use Rattle.swc_ecma_parser_reader.specs.Reader.{at_end, items_turn, items, variables, function_decl, function_parts, function_body, misdirected, function_word, named, optional_end, expr, pattern, member, stmt, parameters, top_await_fault, top_await, whole_stmt, shebang}
-use Rattle.swc_ecma_parser_reader.specs.State.{State, Outcome, Reader, moved, coded, within, module_found, name, expect, expect_word, end, loop}
+use Rattle.swc_ecma_parser_reader.specs.Reader.{at_end, items, variables, function_decl, function_parts, function_body, misdirected, function_word, named, optional_end, expr, pattern, member, stmt, parameters, shebang}
+use Rattle.swc_ecma_parser_reader.specs.State.{State, Reader, moved, coded, within, name, expect, expect_word, end, loop}
 use Rattle.swc_ecma_parser_reader.specs.Words.{any_word, word_in, word_by}
-use Rattle.swc_ecma_parser_reader.specs.Entry.{unmarked, IsBehind, IsSetBack, Stays}
-use Rattle.swc_ecma_parser_reader.proofs.Behind.{Kept, Lost, Passes, behind_self, behind_after, too_deep_keeps, fault_keeps, wanted_keeps, refuse_keeps, reject_keeps, end_keeps, expect_keeps, name_keeps, shebang_keeps, loop_keeps}
-use Rattle.swc_ecma_parser_reader.proofs.Keeps.{function_params_keep, function_body_keep, stmt_keeps, expr_keeps, parameters_keep, member_keeps}
+use Rattle.swc_ecma_parser_reader.specs.Entry.{unmarked, Stays}
+use Rattle.swc_ecma_parser_reader.proofs.Behind.{NothingLost, Kept, Lost, Passes, Follows, follows, behind_self, behind_after, too_deep_keeps, wanted_keeps, refuse_keeps, reject_keeps, end_keeps, expect_keeps, name_keeps, shebang_keeps, loop_keeps}
+use Rattle.swc_ecma_parser_reader.proofs.Keeps.{items_keeps, whole_stmt_keeps, outcome_behind, function_params_keep, function_body_keep, stmt_keeps, expr_keeps, parameters_keep, member_keeps}
 use Rattle.swc_ecma_parser_reader.proofs.classes.Keeps as classes
 use Rattle.swc_ecma_parser_reader.proofs.Meets.{Answers, answers_then, answers_if, meant}
 use Rattle.swc_ecma_parser_reader.proofs.expressions.Keeps.{star_keeps, told_keeps}
@@ -72,12 +71,12 @@ source_keeps : Passes source
 unfolding source
 source_keeps b s f = answers_then (Kept b) _ (expect_word (codes "from") s) _ (expect_word_keeps (codes "from") b s f) (λ _ t g. str_keeps b t g)
 
-word_by_keeps : (v : Token) (span : Span) (b s : State) → IsBehind b s → Answers (Kept b) (Lost b) (word_by s v span)
+word_by_keeps : (v : Token) (span : Span) (b s : State) → NothingLost b s → Answers (Kept b) (Lost b) (word_by s v span)
 word_by_keeps (token.Word w) span b s f = behind_after b s f
-word_by_keeps _ span b s f = wanted_keeps _ faults.Unexpected b s f
+word_by_keeps _ span b s f = wanted_keeps _ faults.ExpectedIdent b s f
 
-word_in_keeps : (ts : List TokenAndSpan) (b s : State) → IsBehind b s → Answers (Kept b) (Lost b) (word_in s ts)
-word_in_keeps [] b s f = wanted_keeps _ faults.Unexpected b s f
+word_in_keeps : (ts : List TokenAndSpan) (b s : State) → NothingLost b s → Answers (Kept b) (Lost b) (word_in s ts)
+word_in_keeps [] b s f = wanted_keeps _ faults.ExpectedIdent b s f
 word_in_keeps (t ∷ ts) b s f = word_by_keeps t.token t.span b s f
 
 any_word_keeps : Passes any_word
@@ -283,7 +282,7 @@ module _ (n : ℕ) where
       (λ _. answers_then (Kept b) _ (default_function (stmt n nested_item) (parameters n) s) _ (default_function_keeps b s f) (λ x t g. g))
       (λ _. answers_if _ _ (is_default_from s.code s.at) _ _ (λ _. behind_default_keeps start first _ b s f) (λ _. default_expr_keeps start b s f)))
 
-  exported_keeps : (start : Span) (d : Reader Tree) (b s : State) → stmt (suc n) nested_item s ≡ d s → IsBehind b s
+  exported_keeps : (start : Span) (d : Reader Tree) (b s : State) → stmt (suc n) nested_item s ≡ d s → NothingLost b s
       → Answers (Kept b) (Lost b) (exported (stmt n nested_item) (expr n) (pattern n) (parameters n) (member n) start d s)
   unfolding exported
   exported_keeps start d b s e f = answers_then (Kept b) _ (d s) _ (subst (Answers (Kept b) (Lost b)) e (stmt_keeps (suc n) nested_item b s f)) (λ x t g. g)
@@ -304,16 +303,6 @@ module _ (n : ℕ) where
 
 -- ---- an item, and a module
 
-top_await_keeps : (at : Position) → Passes (top_await at)
-unfolding top_await top_await_fault
-top_await_keeps at b s f = answers_if _ _ (at.top_level && sees kind.Await s.at) _ _
-    (λ _. answers_if _ _ s.code.flags.can_be_module _ _ (λ _. f) (λ _. fault_keeps b (module_found s) f _)) (λ _. f)
-
--- a statement that stands in no other
-pub whole_stmt_keeps : (n : ℕ) (at : Position) → Passes (whole_stmt n at)
-unfolding whole_stmt
-whole_stmt_keeps n at b s f = answers_then (Kept b) _ (top_await at s) _ (top_await_keeps at b s f) (λ _ t g. stmt_keeps n at b t g)
-
 import_in_keeps : (n : ℕ) → Passes (import_in n)
 unfolding import_in
 import_in_keeps zero b s f = too_deep_keeps _ b s f
@@ -329,34 +318,19 @@ unfolding module_item
 module_item_keeps n b s f = answers_if _ _ (begins_import s.at) _ _ (λ _. import_in_keeps n b s f)
     (λ _. answers_if _ _ (sees kind.Export s.at) _ _ (λ _. export_in_keeps n b s f) (λ _. whole_stmt_keeps n top_item b s f))
 
-items_keep : (inner : Reader Tree) → Passes inner → (stops : Place → Bool) (directives : Bool) → Passes (items inner stops directives)
-unfolding items items_turn
-items_keep inner below stops directives b s f = loop_keeps (items_turn inner stops directives) b
-    (λ xs t g. answers_if _ _ (stops t.at) _ _ (λ _. g) (λ _. answers_then (Kept b) _ (inner t) _ (below b t g) (λ x u k. k))) [] s f
-
 pub module_keeps : (n : ℕ) → Passes (module_whole n)
 unfolding module_whole module_body
 module_keeps n b s f =
     let s1 = coded (module_code s.code) s in
     answers_then (Kept b) _ (module_body n s1) _ (answers_then (Kept b) _ (shebang s1) _ (shebang_keeps b s1 f) (λ o t g.
-    answers_then (Kept b) _ (items (module_item n) at_end true t) _ (items_keep (module_item n) (module_item_keeps n) at_end true b t g) (λ xs u k. k))) (λ x t k. k)
+    answers_then (Kept b) _ (items (module_item n) at_end true t) _ (items_keeps (module_item n) (module_item_keeps n) at_end true b t g) (λ xs u k. k))) (λ x t k. k)
 
 -- ---- what answers as the reader does
 
--- a state that is set back
-set_back_behind : (s u t : State) → IsBehind s u → IsSetBack u t → IsBehind s t
-set_back_behind s u t h e = record {
-  added = h.added ++ e.faults.0;
-  faults = e.faults.1 ∙ ap (λ z. z ++ e.faults.0) h.faults ∙ append_assoc s.faults h.added e.faults.0;
-  read = h.read;
-  tokens = h.tokens ∙ ap (λ c. h.read ++ c.left) (sym e.at);
-  last = ap (λ c. c.last) e.at ∙ h.last;
-}
-
-outcome_behind : {A : Type 0} (s : State) (o : Outcome A) (e : Fault) (u t : State) → Answers (Kept s) (Lost s) o → o ≡ Err (e, u) → IsSetBack u t → IsBehind s t
-outcome_behind s o e u t h g i = set_back_behind s u t (meant (Kept s) (Lost s) o (Err (e, u)) g h) i
-
 module _ (X : Type 0) (view : X → Tree) (limit : ℕ) (s : State) where
+  module_follows : Answers (Follows s) (Follows s) (module_whole limit (unmarked s))
+  module_follows = follows s (module_whole limit (unmarked s)) (module_keeps limit s (unmarked s) (behind_self s))
+
   pub module_stays : (r : Result X Error) (t : State) → AnswersModule view limit (unmarked s) r t → Stays s r t
-  module_stays (Ok x) t h = meant (Kept s) (Lost s) (module_whole limit (unmarked s)) (Ok (view x, t)) h (module_keeps limit s (unmarked s) (behind_self s))
-  module_stays (Err e) t h = λ n. let p = h n in outcome_behind s (module_whole limit (unmarked s)) (fault_of e) p.0 t (module_keeps limit s (unmarked s) (behind_self s)) p.1 p.2
+  module_stays (Ok x) t h = meant (Follows s) (Follows s) (module_whole limit (unmarked s)) (Ok (view x, t)) h module_follows
+  module_stays (Err e) t h = λ n. let p = h n in outcome_behind s (module_whole limit (unmarked s)) (fault_of e) p.0 t module_follows p.1 p.2

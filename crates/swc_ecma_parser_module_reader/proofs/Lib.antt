@@ -16,6 +16,10 @@ pub mod CompleteExportNames
 pub mod CompleteExports
 pub mod ItemStarts
 pub mod CompleteModules
+pub mod ProgramParts
+pub mod CompletePrograms
+pub mod UniquePrograms
+pub mod EmptyPrograms
 pub mod Unique
 pub mod Empty
 pub mod Keeps
@@ -25,3 +29,15 @@ pub mod Refusals
 pub mod Entries
 pub mod Entered
 pub mod Answers
+pub mod ProgramKeeps
+pub mod ProgramLimits
+pub mod ProgramRefusals
+pub mod ProgramAnswers
+pub mod ProgramCode
+pub mod ProgramLoops
+pub mod StatementForms
+pub mod ItemForms
+pub mod ItemLists
+pub mod ProgramItems
+pub mod SoundPrograms
+pub mod Programs

@@ -19,7 +19,7 @@ use Rattle.swc_ecma_parser_reader.specs.Reader.{other_stmt, begins_label, expr, 
 use Rattle.swc_ecma_parser_module_reader.specs.Modules.{begins_import, module_item, module_body, module_whole}
 
 -- a state with this token in first place
-abbrev before : State → TokenAndSpan → Token → List TokenAndSpan → State
+abbrev pub before : State → TokenAndSpan → Token → List TokenAndSpan → State
 before s t v ts = record s { at = record s.at { left = record t { token = v } ∷ ts } }
 
 -- nothing but the fault is answered, in however many levels

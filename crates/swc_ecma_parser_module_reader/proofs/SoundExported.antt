@@ -64,13 +64,9 @@ use Rattle.swc_ecma_parser_reader.proofs.SoundFunctions.{function_decl_sound, fu
 use Rattle.swc_ecma_parser_reader.proofs.Sound.{expr_sound, pattern_sound, parameters_sound, stmt_sound, classes_sound, class_sound as class_expr_sound}
 use Rattle.swc_ecma_parser_module_reader.specs.Exports.{default_name, default_function, default_expr, is_default_from, begins_default_function, exported_function, exported_class, exported}
 use Rattle.swc_ecma_parser_module_reader.specs.Supported.{supported_item}
-use Rattle.swc_ecma_parser_module_reader.proofs.ModuleCode.{IsModule, in_module_same}
+use Rattle.swc_ecma_parser_module_reader.proofs.ModuleCode.{IsModule, in_module_same, module_env}
 
 -- ---- exports in module code
-
--- nothing there becomes strict that was not
-pub module_env : (k : Code) (labels : List Text) → IsModule k → ◌≡◌ {A = Env} (walks.in_module (env_of k labels)) (env_of k labels)
-module_env k labels (m, s) = λ i. record (env_of k labels) { strict = sym s i }
 
 -- an export of supported forms alone, without notes
 abbrev pub ExportRead : ℕ → Tree → Code → Place → Place → Type 0

@@ -1,5 +1,5 @@
 -- What is read as an item of a module, and as a module, is in the grammar where nothing was recorded, given that exports are.
-use Rattle.std.proofs.Common.{◌≡◌, ℕ, zero, suc, Bool, true, false, cond, List, [], ◌∷◌, ◌++◌, Option, None, Ok, refl, sym, ◌∙◌, ap, subst, append_assoc, append-nil}
+use Rattle.std.proofs.Common.{◌≡◌, ℕ, zero, suc, Bool, true, false, List, [], ◌∷◌, ◌++◌, Option, None, Ok, refl, sym, ◌∙◌, ap, subst, append_assoc, append-nil}
 use Rattle.std.specs.Prelude.{not, ◌&&◌, ◌||◌}
 use Rattle.swc_ecma_parser_token.specs.declared.keyword.Keyword.{Keyword}
 use Rattle.swc_ecma_parser_token.specs.declared.keyword.Keyword.TheVariants as keyword
@@ -16,22 +16,18 @@ use Rattle.swc_ecma_parser_token.specs.declared.token.Word.TheVariants as word
 use Rattle.swc_ecma_parser_token.specs.declared.token.TokenAndSpan.{TokenAndSpan}
 use Rattle.swc_ecma_parser_token.specs.Kind.{token_kind, word_kind, keyword_kind, bin_op_kind, assign_op_kind}
 use Rattle.swc_ecma_parser_input.specs.Place.{Place}
-use Rattle.swc_ecma_parser_model.specs.Directive.{is_use_strict}
 use Rattle.swc_ecma_parser_model.specs.Kinds.{is_module_decl}
 use Rattle.swc_ecma_parser_model.specs.Tree as tree
 use Rattle.swc_ecma_parser_model.specs.Tree.{Tree, Text, listed, trees}
 use Rattle.swc_ecma_parser_grammar.specs.Looks.{kind_at, sees, same_kind, spanned}
 use Rattle.swc_ecma_parser_grammar.specs.Names.{Code}
 use Rattle.swc_ecma_parser_grammar.specs.Notes.{notes, all_notes}
-use Rattle.swc_ecma_parser_grammar.specs.Reads.{in_strict, directed, directs_on, nested_item, top_item}
+use Rattle.swc_ecma_parser_grammar.specs.Reads.{directed, directs_on, nested_item, top_item}
 use Rattle.swc_ecma_parser_grammar.specs.ReadsSupported.{ReadsTop}
-use Rattle.swc_ecma_parser_grammar.specs.Supported.{supported}
-use Rattle.swc_ecma_parser_grammar.specs.Walk as walks
 use Rattle.swc_ecma_parser_grammar.specs.Walk.{Env, walk, env_of, walk_items}
-use Rattle.swc_ecma_parser_grammar.specs.language.Contexts.{in_module}
 use Rattle.swc_ecma_parser_grammar.specs.language.Exports.{ExportRule}
 use Rattle.swc_ecma_parser_grammar.specs.language.Goals.{Goal, stmt_goal, item_goal}
-use Rattle.swc_ecma_parser_grammar.specs.language.ModuleItems.{statement_rule, import_item_rule, export_item_rule, behind_item, begins_with_await, ModuleItemsRule}
+use Rattle.swc_ecma_parser_grammar.specs.language.ModuleItems.{statement_rule, import_item_rule, export_item_rule, begins_with_await, ModuleItemsRule}
 use Rattle.swc_ecma_parser_grammar.specs.language.Programs.{ShebangRule, some_shebang, no_shebang}
 use Rattle.swc_ecma_parser_grammar.specs.language.Reads.{Reads}
 use Rattle.swc_ecma_parser_grammar.proofs.StatementEntries.{statement_widens, stmt_unnoted}
@@ -53,35 +49,9 @@ use Rattle.swc_ecma_parser_module_reader.specs.Exports.{export_decl}
 use Rattle.swc_ecma_parser_module_reader.specs.Imports.{import_decl}
 use Rattle.swc_ecma_parser_module_reader.specs.Modules.{begins_import, import_in, export_in, module_item, module_code, module_body, module_whole}
 use Rattle.swc_ecma_parser_module_reader.specs.Supported.{supported_item, all_supported_items, supported_module}
-use Rattle.swc_ecma_parser_module_reader.proofs.ModuleCode.{IsModule, in_module_same}
+use Rattle.swc_ecma_parser_module_reader.proofs.ItemStarts.{import_word, item_supported, no_module_decl}
+use Rattle.swc_ecma_parser_module_reader.proofs.ModuleCode.{IsModule, directed_same, behind_same, env_same}
 use Rattle.swc_ecma_parser_module_reader.proofs.SoundImports.{import_sound}
-
--- ---- module code stays what it is
-
-strict_same : (k : Code) → IsModule k → ◌≡◌ {A = Code} (in_strict k) k
-strict_same k (m, s) = λ i. record k { flags = record k.flags { strict = sym s i } }
-
-directed_same : (k : Code) → IsModule k → (directives : Bool) (x : Tree) → directed k directives x ≡ k
-directed_same k m directives x = by_test (directives && is_use_strict x)
-  where
-    by_test : (b : Bool) → cond b (in_strict k) k ≡ k
-    by_test true = strict_same k m
-    by_test false = refl
-
-behind_same : (k : Code) → IsModule k → (directives : Bool) (x : Tree) → behind_item (directed k directives x) x ≡ k
-behind_same k m directives x = ap (λ j. behind_item j x) (directed_same k m directives x) ∙ by_test (is_module_decl x)
-  where
-    by_test : (b : Bool) → cond b (in_module k) k ≡ k
-    by_test true = in_module_same k m
-    by_test false = refl
-
--- and so does what the walk knows of it
-env_strict : (env : Env) → env.strict ≡ true → (b : Bool) → ◌≡◌ {A = Env} (cond b (record env { strict = true }) env) env
-env_strict env h true = λ i. record env { strict = sym h i }
-env_strict env h false = refl
-
-env_same : (env : Env) → env.strict ≡ true → (directives : Bool) (x : Tree) → walks.behind_item (walks.directed env directives x) x ≡ env
-env_same env h directives x = ap (λ v. walks.behind_item v x) (env_strict env h (directives && is_use_strict x)) ∙ env_strict env h (is_module_decl x)
 
 -- ---- items, one more
 
@@ -126,25 +96,6 @@ module _ (In : Goal → Type 0) (k : Code) (is_module : IsModule k) where
 
 -- ---- a statement of a module
 
--- what is supported of a script is in a module, and is no import and no export
-item_supported : (x : Tree) → supported x ≡ true → supported_item x ≡ true
-item_supported (tree.import s specifiers src attributes phase) h = cc
-item_supported (tree.export_decl s y) h = cc
-item_supported (tree.export_named s specifiers src attributes) h = cc
-item_supported (tree.export_default_decl s y) h = cc
-item_supported (tree.export_default_expr s e) h = cc
-item_supported (tree.export_all s src attributes) h = cc
-item_supported _ h = h
-
-no_module_decl : (x : Tree) → supported x ≡ true → is_module_decl x ≡ false
-no_module_decl (tree.import s specifiers src attributes phase) h = cc
-no_module_decl (tree.export_decl s y) h = cc
-no_module_decl (tree.export_named s specifiers src attributes) h = cc
-no_module_decl (tree.export_default_decl s y) h = cc
-no_module_decl (tree.export_default_expr s e) h = cc
-no_module_decl (tree.export_all s src attributes) h = cc
-no_module_decl _ h = refl
-
 -- an item, and whether it is a statement that begins with `await`
 pub record ReadsItem (n : ℕ) (b : Bool) (k : Code) (x : Tree) (c d : Place) : Type 0 where
   pub reads : Reads n (item_goal k x c d)
@@ -156,7 +107,7 @@ pub record ReadsItem (n : ℕ) (b : Bool) (k : Code) (x : Tree) (c d : Place) : 
 abbrev pub SoundItem : ℕ → State → Tree → State → Type 0
 SoundItem n s x t = (b : Bool) × Sound same (λ k l. walk (env_of k l) x) (notes_with x b) (λ k. ReadsItem n b k x) s t
 
-stmt_item : (n : ℕ) (k : Code) (x : Tree) (c d : Place) → Reads n (stmt_goal k top_item x c d) → Reads n (item_goal k x c d)
+pub stmt_item : (n : ℕ) (k : Code) (x : Tree) (c d : Place) → Reads n (stmt_goal k top_item x c d) → Reads n (item_goal k x c d)
 stmt_item zero k x c d r = absurd r
 stmt_item (suc n) k x c d r = statement_rule r
 
@@ -212,11 +163,10 @@ unfolding same_kind
 assign_op_no_shebang assign.Assign = refl
 assign_op_no_shebang _ = refl
 
-SoundShebang : State → Option Text → State → Type 0
+abbrev pub SoundShebang : State → Option Text → State → Type 0
 SoundShebang s o t = SoundStep (λ k c d. ShebangRule c d o) s t
 
 no_line : (s : State) → sees kind.Shebang s.at ≡ false → SoundShebang s None s
-unfolding SoundShebang
 no_line s h = sound_here s (no_shebang h refl)
 
 -- another kind stands first
@@ -225,7 +175,7 @@ unfolding kind_at
 sees_other c u ts j e h = rw e h
 
 shebang_of_sound : (s : State) (u : TokenAndSpan) (ts : List TokenAndSpan) (v : Token) → s.at.left ≡ u ∷ ts → u.token ≡ v → Meets (SoundShebang s) (shebang_taken (shebang_of v) s)
-unfolding same_kind SoundShebang
+unfolding same_kind
 shebang_of_sound s u ts (token.Shebang text) e h = sound_moved s (kind_here s.at u ts (token.Shebang text) e h) refl (some_shebang text u.span (stands s.at u ts (token.Shebang text) e h))
 shebang_of_sound s u ts (token.Word w) e h = no_line s (sees_other s.at u ts kind.Shebang e (rw h (word_no_shebang w)))
 shebang_of_sound s u ts (token.BinOp o) e h = no_line s (sees_other s.at u ts kind.Shebang e (rw h (bin_op_no_shebang o)))
@@ -233,26 +183,26 @@ shebang_of_sound s u ts (token.AssignOp o) e h = no_line s (sees_other s.at u ts
 shebang_of_sound s u ts _ e h = no_line s (sees_other s.at u ts kind.Shebang e (rw h refl))
 
 shebang_in_sound : (s : State) (ts : List TokenAndSpan) → s.at.left ≡ ts → Meets (SoundShebang s) (shebang_taken (shebang_in ts) s)
-unfolding same_kind SoundShebang kind_at
+unfolding same_kind kind_at
 shebang_in_sound s [] e = no_line s (rw e refl)
 shebang_in_sound s (u ∷ ts) e = shebang_of_sound s u ts u.token e refl
 
-shebang_sound : (s : State) → Meets (SoundShebang s) (shebang s)
+pub shebang_sound : (s : State) → Meets (SoundShebang s) (shebang s)
 unfolding shebang
 shebang_sound s = shebang_in_sound s s.at.left refl
 
 -- ---- items
 
 -- those of a list, and whether one is a statement that begins with `await`
-record ReadsModuleItems (n : ℕ) (b : Bool) (xs : List Tree) (k : Code) (c d : Place) : Type 0 where
-  reads : ModuleItemsRule (Reads n) k true xs b c d
-  support : all_supported_items (trees xs) ≡ true
-  unnoted : all_notes (trees xs) ≡ []
+pub record ReadsModuleItems (n : ℕ) (b : Bool) (xs : List Tree) (k : Code) (c d : Place) : Type 0 where
+  pub reads : ModuleItemsRule (Reads n) k true xs b c d
+  pub support : all_supported_items (trees xs) ≡ true
+  pub unnoted : all_notes (trees xs) ≡ []
 
-abbrev SoundModuleItems : ℕ → State → List Tree → State → Type 0
+abbrev pub SoundModuleItems : ℕ → State → List Tree → State → Type 0
 SoundModuleItems n s xs t = (b : Bool) × Sound same (λ k l. walk_items (env_of k l) true (trees xs)) (all_notes_with (trees xs) b) (ReadsModuleItems n b xs) s t
 
-abbrev StoppedItems : ℕ → State → List Tree → State → Type 0
+abbrev pub StoppedItems : ℕ → State → List Tree → State → Type 0
 StoppedItems n s xs t = SoundModuleItems n s xs t × (at_end t.at ≡ true)
 
 reads_push : (n : ℕ) (xs : List Tree) (x : Tree) (a b : Bool) (k : Code) (c m d : Place) → IsModule k → ReadsModuleItems n a xs k c m → ReadsItem n b k x m d → ReadsModuleItems n (a || b) (xs ++ x ∷ []) k c d
@@ -275,13 +225,9 @@ abbrev SoundBody : ℕ → State → Tree → State → Type 0
 SoundBody n s x t = (b : Bool) × Sound same (λ k l. walk (env_of k l) x) (notes_with x b) (ReadsBody n b x) s t × (kind_at t.at ≡ kind.End)
 
 -- a module ends where the list does
-at_end_seen : (c : Place) → at_end c ≡ true → kind_at c ≡ kind.End
+pub at_end_seen : (c : Place) → at_end c ≡ true → kind_at c ≡ kind.End
 unfolding at_end
 at_end_seen c e = saw c kind.End e
-
-import_seen : (c : Place) → begins_import c ≡ true → kind_at c ≡ kind.Import
-unfolding begins_import
-import_seen c e = saw c kind.Import (and_yes (sees kind.Import c) _ e).0
 
 module_is : (n : ℕ) (s : State) (x : Tree) (t : State) → SoundBody n (coded (module_code s.code) s) x t → SoundModule n s x (flagged (module_code s.code) t)
 module_is n s x t (b, p, e) = record {
@@ -330,7 +276,7 @@ module _ (export_sound : (n : ℕ) (s : State) → IsModule s.code → kind_at s
   -- an item
   pub item_sound : (n : ℕ) (s : State) → IsModule s.code → Meets (SoundItem n s) (module_item n s)
   unfolding module_item
-  item_sound n s m = meets_if _ (begins_import s.at) _ _ (λ e. import_in_sound n s m (import_seen s.at e))
+  item_sound n s m = meets_if _ (begins_import s.at) _ _ (λ e. import_in_sound n s m (import_word s.at e))
       (λ _. meets_if _ (sees kind.Export s.at) _ _ (λ e. export_in_sound n s m (saw s.at kind.Export e)) (λ _. statement_sound n s m))
 
   -- each turn reads one
@@ -346,14 +292,14 @@ module _ (export_sound : (n : ℕ) (s : State) → IsModule s.code → kind_at s
             (λ (i, y, z). reads_push n xs x a b s.code s.at i u.at m y z) r),
       )))
 
-  items_sound : (n : ℕ) (s : State) → IsModule s.code → Meets (StoppedItems n s) (items (module_item n) at_end true s)
+  pub items_sound : (n : ℕ) (s : State) → IsModule s.code → Meets (StoppedItems n s) (items (module_item n) at_end true s)
   unfolding items
   items_sound n s m = loop_answers (items_turn (module_item n) at_end true) (SoundModuleItems n s) (StoppedItems n s) Refuses (items_turn_sound n s m) (λ t. tt) [] s
       (false, sound_here s (record { reads = (refl, refl); support = refl; unnoted = refl }))
 
   -- a first line and items up to the end
   body_sound : (n : ℕ) (s : State) → IsModule s.code → Meets (SoundBody n s) (module_body n s)
-  unfolding module_body SoundShebang
+  unfolding module_body
   body_sound n s k = meets_then _ (shebang s) _ (shebang_sound s) (λ o m p.
       meets_then _ (items (module_item n) at_end true m) _ (items_sound n m (subst IsModule (sym p.code) k)) (λ xs t ((b, q), e). (
         b,

@@ -1,5 +1,5 @@
 -- What the entry for modules gives, by the grammar and the walk alone.
-use Rattle.std.specs.Prelude.{◌≡◌, ◌≢◌, ℕ, Bool, true, false, ◌||◌, ◌⊎◌, List, [], ◌++◌, Result, Ok, Err}
+use Rattle.std.specs.Prelude.{◌≡◌, ◌≢◌, ℕ, Bool, true, false, ◌||◌, ◌⊎◌, List, [], ◌++◌, map, Result, Ok, Err}
 use Rattle.swc_ecma_parser_error.specs.declared.error.Error.{Error}
 use Rattle.swc_ecma_parser_error.specs.Kind.{Fault, fault_of, kind_of, OutOfMemory}
 use Rattle.swc_ecma_parser_token.specs.declared.kind.TokenKind.TheVariants as kind
@@ -8,13 +8,14 @@ use Rattle.swc_ecma_parser_model.specs.Tree.{Tree}
 use Rattle.swc_ecma_parser_grammar.specs.Looks.{kind_at}
 use Rattle.swc_ecma_parser_grammar.specs.Names.{Code}
 use Rattle.swc_ecma_parser_grammar.specs.Entries.{has_error_token}
+use Rattle.swc_ecma_parser_grammar.specs.Notes.{as_note}
 use Rattle.swc_ecma_parser_grammar.specs.language.Noted.{has_meta}
 use Rattle.swc_ecma_parser_grammar.specs.language.Programs as programs
 use Rattle.swc_ecma_parser_grammar.specs.language.Programs.{ReadsEntry, Spells}
 use Rattle.swc_ecma_parser_grammar.specs.Walk.{walk, env_of, tabled, drops}
 use Rattle.swc_ecma_parser_reader.specs.Notes.{notes_with, ◌⊕◌}
 use Rattle.swc_ecma_parser_reader.specs.State.{State, GivesAs}
-use Rattle.swc_ecma_parser_reader.specs.Entry.{IsLater, IsSetBack}
+use Rattle.swc_ecma_parser_reader.specs.Entry.{IsSetBack}
 use Rattle.swc_ecma_parser_module_reader.specs.Modules.{module_code, module_whole}
 use Rattle.swc_ecma_parser_module_reader.specs.Supported.{supported_module}
 
@@ -32,9 +33,9 @@ pub record IsEntered (s u : State) : Type 0 where
   pub at : u.at ≡ s.at
   pub scope : u.scope ≡ s.scope
   pub notes : u.notes ≡ record s.notes { held_back = [] }
-  pub faults : IsLater s.faults u.faults
-  -- where nothing was, they are the same
-  pub settled : s.notes.held_back ≡ [] → u.faults ≡ s.faults
+  pub recorded : List Fault
+  pub faults : u.faults ≡ s.faults ++ recorded
+  pub recorded_as : map as_note recorded ≡ s.notes.held_back
 
 -- An answer: it takes the whole list; where nothing was recorded the list spells it as a module of the language, it has supported
 -- forms alone, its walk is empty, and what was noted are its notes; and where no error token stands and nothing was dropped, the

@@ -3,3 +3,5 @@ pub mod Exports
 pub mod Modules
 pub mod Supported
 pub mod Entry
+pub mod Programs
+pub mod ProgramEntry

@@ -25,3 +25,8 @@ all_supported_items (also t ts) = supported_item t && all_supported_items ts
 abbrev pub supported_module : Tree → Bool
 supported_module (tree.module_program s (tree.list ts) shebang) = all_supported_items ts
 supported_module _ = false
+
+-- scripts and modules
+abbrev pub supported_program : Tree → Bool
+supported_program (tree.script s (tree.list ts) shebang) = all_supported_items ts
+supported_program x = supported_module x

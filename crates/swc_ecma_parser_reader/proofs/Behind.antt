@@ -1,5 +1,5 @@
 -- What answers and refusals leave alike: the tokens that are left are the last of those that were, what was read last is the token
--- before them, and the faults that were recorded stand before those that are.
+-- before them, and the faults that were recorded stand before those that are, as those that were held back do.
 use Rattle.std.proofs.Common.{◌≡◌, ℕ, zero, suc, List, [], ◌∷◌, ◌++◌, Option, Some, None, Ok, Err, sym, ◌∙◌, ap, refl, append-nil, append_assoc, suc, length}
 use Rattle.std.specs.Prelude.{nat_lt}
 use Rattle.swc_ecma_parser_common.specs.declared.span.Span.{Span}
@@ -17,13 +17,18 @@ use Rattle.swc_ecma_parser_model.specs.Tree.{Text}
 use Rattle.swc_ecma_parser_grammar.specs.Looks.{sees, span_at}
 use Rattle.swc_ecma_parser_grammar.specs.Names.{is_name}
 use Rattle.swc_ecma_parser_grammar.specs.Ends.{can_end}
-use Rattle.swc_ecma_parser_reader.specs.State.{State, Outcome, Reader, moved, noted, fault, recorded_in, recorded_at, fault_at, expect, end, name, name_in, name_by, wanted, wanted_in, wanted_at, too_deep, too_deep_in, too_deep_at, refuse, refuse_in, refuse_at, reject, reject_in, reject_at, refused, Step, after_turn, loop, next_turn, turns, More, Done}
+use Rattle.swc_ecma_parser_grammar.specs.Notes.{as_note}
+use Rattle.swc_ecma_parser_reader.specs.State.{State, Outcome, Reader, moved, noted, holding_back, fault, recorded_in, recorded_at, fault_at, expect, end, name, name_in, name_by, wanted, wanted_in, wanted_at, too_deep, too_deep_in, too_deep_at, refuse, refuse_in, refuse_at, reject, reject_in, reject_at, refused, Step, after_turn, loop, next_turn, turns, More, Done}
 use Rattle.swc_ecma_parser_reader.specs.Reader.{close, shebang_in, shebang_taken, shebang}
-use Rattle.swc_ecma_parser_reader.specs.Entry.{last_span, Behind, IsBehind}
+use Rattle.swc_ecma_parser_reader.specs.Entry.{last_span, Behind, IsBehind, IsLater}
 use Rattle.swc_ecma_parser_reader.proofs.Meets.{Answers, answers_if}
 
-pub behind_self : (s : State) → IsBehind s s
-behind_self s = record { added = []; faults = sym (append-nil s.faults); read = []; tokens = refl; last = refl }
+-- nothing is lost, of what was held back neither
+abbrev pub NothingLost : State → State → Type 0
+NothingLost b s = IsBehind b s × IsLater b.notes.held_back s.notes.held_back
+
+pub behind_self : (s : State) → NothingLost s s
+behind_self s = (record { added = []; faults = sym (append-nil s.faults); read = []; tokens = refl; last = refl }, ([], sym (append-nil s.notes.held_back)))
 
 -- the last of some tokens and one more
 last_pushed : (s : Span) (ts : List TokenAndSpan) (t : TokenAndSpan) → last_span s (ts ++ t ∷ []) ≡ t.span
@@ -41,26 +46,38 @@ behind_rest b s (t ∷ ts) e h = record {
 }
 
 -- behind one more token
-pub behind_after : (b s : State) → IsBehind b s → IsBehind b (moved s)
+pub behind_after : (b s : State) → NothingLost b s → NothingLost b (moved s)
 unfolding after
-behind_after b s h = behind_rest b s s.at.left refl h
+behind_after b s h = (behind_rest b s s.at.left refl h.0, h.1)
 
 -- and behind one more fault
-pub behind_noted : (b : State) (f : Fault) (s : State) → IsBehind b s → IsBehind b (noted f s)
-behind_noted b f s h =
-    record { added = h.added ++ f ∷ []; faults = ap (λ z. z ++ f ∷ []) h.faults ∙ append_assoc b.faults h.added (f ∷ []); read = h.read; tokens = h.tokens; last = h.last }
+pub behind_noted : (b : State) (f : Fault) (s : State) → NothingLost b s → NothingLost b (noted f s)
+behind_noted b f s (h, k) =
+    (record { added = h.added ++ f ∷ []; faults = ap (λ z. z ++ f ∷ []) h.faults ∙ append_assoc b.faults h.added (f ∷ []); read = h.read; tokens = h.tokens; last = h.last }, k)
+
+-- or behind one more that is held back
+pub behind_held : (b : State) (f : Fault) (s : State) → NothingLost b s → NothingLost b (holding_back f s)
+behind_held b f s (h, k) = (h, (k.0 ++ as_note f ∷ [], ap (λ z. z ++ as_note f ∷ []) k.1 ∙ append_assoc b.notes.held_back k.0 (as_note f ∷ [])))
 
 abbrev pub Kept : {A : Type 0} → State → A → State → Type 0
-Kept b x t = IsBehind b t
+Kept b x t = NothingLost b t
 
 abbrev pub Lost : State → Fault → State → Type 0
-Lost b e t = IsBehind b t
+Lost b e t = NothingLost b t
+
+-- the same of the tokens and of what was recorded alone
+abbrev pub Follows : {A : Type 0} → State → A → State → Type 0
+Follows b x t = IsBehind b t
+
+pub follows : {A : Type 0} (b : State) (o : Outcome A) → Answers (Kept b) (Lost b) o → Answers (Follows b) (Follows b) o
+follows b (Ok p) h = h.0
+follows b (Err e) h = h.0
 
 -- a reader that keeps them
 abbrev pub Passes : {A : Type 0} → Reader A → Type 0
-Passes p = (b s : State) → IsBehind b s → Answers (Kept b) (Lost b) (p s)
+Passes p = (b s : State) → NothingLost b s → Answers (Kept b) (Lost b) (p s)
 
-module _ (b s : State) (h : IsBehind b s) where
+module _ (b s : State) (h : NothingLost b s) where
   recorded_at_keeps : (f : Fault) (t : Token) → Answers (Kept b) (Lost b) (recorded_at f s t)
   recorded_at_keeps f (token.Error e) = answers_if _ _ (means_out_of_memory e.kind) _ _ (λ _. behind_after b s h)
       (λ _. behind_noted b f (noted (fault_of e) (moved s)) (behind_noted b (fault_of e) (moved s) (behind_after b s h)))
@@ -80,7 +97,7 @@ pub refused_keeps : {A : Type 0} (P : A → State → Type 0) (b : State) (f : F
 refused_keeps P b f (Ok p) h = h
 refused_keeps P b f (Err e) h = h
 
-module _ {A : Type 0} (P : A → State → Type 0) (b s : State) (h : IsBehind b s) where
+module _ {A : Type 0} (P : A → State → Type 0) (b s : State) (h : NothingLost b s) where
   too_deep_at_keeps : (t : Token) (span : Span) → Answers P (Lost b) (too_deep_at s t span)
   too_deep_at_keeps (token.Error e) span = behind_after b s h
   too_deep_at_keeps _ span = h
@@ -105,7 +122,7 @@ module _ {A : Type 0} (P : A → State → Type 0) (b s : State) (h : IsBehind b
   reject_in_keeps f [] = h
   reject_in_keeps f (t ∷ ts) = reject_at_keeps f t.token
 
-module _ {A : Type 0} (P : A → State → Type 0) (k : Kind) (b s : State) (h : IsBehind b s) where
+module _ {A : Type 0} (P : A → State → Type 0) (k : Kind) (b s : State) (h : NothingLost b s) where
   wanted_at_keeps : (t : Token) (span : Span) → Answers P (Lost b) (wanted_at k s t span)
   wanted_at_keeps (token.Error e) span = behind_after b s h
   wanted_at_keeps _ span = h
@@ -130,13 +147,13 @@ module _ {A : Type 0} (P : A → State → Type 0) (k : Kind) (b s : State) (h :
   unfolding refuse
   refuse_keeps = refuse_in_keeps s.at.left
 
-pub reject_keeps : {A : Type 0} (P : A → State → Type 0) (k : Kind) (span : Span) (b s : State) → IsBehind b s → Answers P (Lost b) (reject (fault_at span k) s)
+pub reject_keeps : {A : Type 0} (P : A → State → Type 0) (k : Kind) (span : Span) (b s : State) → NothingLost b s → Answers P (Lost b) (reject (fault_at span k) s)
 unfolding reject
 reject_keeps P k span b s h = reject_in_keeps P b s h (fault_at span k) s.at.left
 
 -- ---- ends, fixed tokens and names
 
-module _ (b s : State) (h : IsBehind b s) where
+module _ (b s : State) (h : NothingLost b s) where
   pub end_keeps : (missing : Kind) → Answers (Kept b) (Lost b) (end missing s)
   unfolding end
   end_keeps missing = answers_if _ _ (sees kind.Semi s.at) _ _ (λ _. behind_after b s h) (λ _. answers_if _ _ (can_end s.at) _ _ (λ _. h) (λ _. refuse_keeps _ missing b s h))
@@ -173,22 +190,22 @@ module _ (b s : State) (h : IsBehind b s) where
 -- ---- loops
 
 module _ {A B : Type 0} (body : A → Reader (Step A B)) (b : State) where
-  after_next_keeps : (go : A → Reader B) (before : ℕ) (s : State) (step : Step A B) → IsBehind b s → ((a : A) (t : State) → IsBehind b t → Answers (Kept b) (Lost b) (go a t))
+  after_next_keeps : (go : A → Reader B) (before : ℕ) (s : State) (step : Step A B) → NothingLost b s → ((a : A) (t : State) → NothingLost b t → Answers (Kept b) (Lost b) (go a t))
       → Answers (Kept b) (Lost b) (next_turn go before s step)
   after_next_keeps go before s (More a) h g = answers_if _ _ (nat_lt (length s.at.left) before) _ _ (λ _. g a s h) (λ _. h)
   after_next_keeps go before s (Done x) h g = h
 
-  after_all_keeps : (go : A → Reader B) (before : ℕ) (o : Outcome (Step A B)) → Answers (Kept b) (Lost b) o → ((a : A) (t : State) → IsBehind b t → Answers (Kept b) (Lost b) (go a t))
+  after_all_keeps : (go : A → Reader B) (before : ℕ) (o : Outcome (Step A B)) → Answers (Kept b) (Lost b) o → ((a : A) (t : State) → NothingLost b t → Answers (Kept b) (Lost b) (go a t))
       → Answers (Kept b) (Lost b) (after_turn go before o)
   after_all_keeps go before (Ok p) h g = after_next_keeps go before p.1 p.0 h g
   after_all_keeps go before (Err e) h g = h
 
-  module _ (turn : (a : A) (s : State) → IsBehind b s → Answers (Kept b) (Lost b) (body a s)) where
-    turns_keep : (n : ℕ) (a : A) (s : State) → IsBehind b s → Answers (Kept b) (Lost b) (turns body n a s)
+  module _ (turn : (a : A) (s : State) → NothingLost b s → Answers (Kept b) (Lost b) (body a s)) where
+    turns_keep : (n : ℕ) (a : A) (s : State) → NothingLost b s → Answers (Kept b) (Lost b) (turns body n a s)
     turns_keep zero a s h = h
     turns_keep (suc n) a s h = after_all_keeps (turns body n) (length s.at.left) (body a s) (turn a s h) (turns_keep n)
 
     -- each turn keeps them, or the loop is stuck
-    pub loop_keeps : (a : A) (s : State) → IsBehind b s → Answers (Kept b) (Lost b) (loop body a s)
+    pub loop_keeps : (a : A) (s : State) → NothingLost b s → Answers (Kept b) (Lost b) (loop body a s)
     unfolding loop
     loop_keeps a s h = turns_keep (suc (length s.at.left)) a s h

@@ -55,13 +55,14 @@ whole_reads n at k x c d r w f h q =
 
 -- ---- the statements of a script
 
-module _ (n : ℕ) where
-  -- such a statement, as an item
-  abbrev Item : Code → Tree → Place → Place → Type 0
-  Item k x c d = ReadsTop n k top_item x c d
+-- such a statement, as an item
+abbrev Item : ℕ → Code → Tree → Place → Place → Type 0
+Item n k x c d = ReadsTop n k top_item x c d
 
+-- up to a place where they stop, and where none begins
+module _ (n : ℕ) (stops : Place → Bool) (begins : (k : Code) (x : Tree) (c d : Place) → ReadsTop n k top_item x c d → stops c ≡ false) where
   -- no error token stands behind one: the next begins there, or all end
-  no_error : (k : Code) (b : Bool) (xs : List Tree) (m d : Place) → ReadsItems Item k b xs m d → is_error (kind_at d) ≡ false → is_error (kind_at m) ≡ false
+  no_error : (k : Code) (b : Bool) (xs : List Tree) (m d : Place) → ReadsItems (Item n) k b xs m d → is_error (kind_at d) ≡ false → is_error (kind_at m) ≡ false
   no_error k b [] m d r e = ap (λ v. is_error (kind_at v)) (sym r) ∙ e
   no_error k b (x ∷ xs) m d (i, r, rs) e = (stmt_goes n k top_item x m i r.0).3
 
@@ -71,22 +72,22 @@ module _ (n : ℕ) where
   or_shift false false true d e = sym (or_true d)
   or_shift false false false d e = refl
 
-  many_read : (xs found : List Tree) (b : Bool) (k : Code) (c d : Place) (w : Scope) (f : List Fault) (h : Notes) → directs true found ≡ b → (r : ReadsItems Item k b xs c d) → at_end d ≡ true
-      → is_error (kind_at d) ≡ false → loop (items_turn (whole_stmt n top_item) at_end true) found (st c k w f h)
-      ≡ Ok (found ++ xs, st d (code_behind k b xs) w (f ++ walks (env_of k w.labels) b (trees xs)) (h ⊕ all_notes_with (trees xs) (items_await Item k b xs c d r)))
+  many_read : (xs found : List Tree) (b : Bool) (k : Code) (c d : Place) (w : Scope) (f : List Fault) (h : Notes) → directs true found ≡ b → (r : ReadsItems (Item n) k b xs c d) → stops d ≡ true
+      → is_error (kind_at d) ≡ false → loop (items_turn (whole_stmt n top_item) stops true) found (st c k w f h)
+      ≡ Ok (found ++ xs, st d (code_behind k b xs) w (f ++ walks (env_of k w.labels) b (trees xs)) (h ⊕ all_notes_with (trees xs) (items_await (Item n) k b xs c d r)))
   many_read [] found b k c d w f h p r e a =
-      rw (append-nil found, append-nil f, append-nil h.held_back, or_nil h.found_module_item, r) (items_stop (whole_stmt n top_item) at_end true found (st c k w f h) (rw (← r) e))
+      rw (append-nil found, append-nil f, append-nil h.held_back, or_nil h.found_module_item, r) (items_stop (whole_stmt n top_item) stops true found (st c k w f h) (rw (← r) e))
   many_read (x ∷ xs) found b k c d w f h p (m, r, more) e a =
       let j = st m k w (f ++ walk (env_of k w.labels) x) (h ⊕ notes_with x (sees kind.Await c)) in
       let one = whole_reads n top_item k x c m r w f h (inr (no_error (directed k b x) (directs_on b x) xs m d more a)) in
-      let first = items_more (whole_stmt n top_item) at_end true found (st c k w f h) x j (stmt_goes n k top_item x c m r.0).1 one (whole_shorter n top_item (st c k w f h) x j one) in
+      let first = items_more (whole_stmt n top_item) stops true found (st c k w f h) x j (begins k x c m r) one (whole_shorter n top_item (st c k w f h) x j one) in
       let rest = many_read xs (found ++ x ∷ []) false (directed k b x) m d w j.faults j.notes (directs_behind true found x) more e a in
       let turn = rw p at first in
       turn ∙ rest ∙ rw (directed_walk k b x w.labels) (simp (append_assoc, or_shift) refl)
 
-  tops_read : (xs : List Tree) (k : Code) (c d : Place) (w : Scope) (f : List Fault) (h : Notes) (r : ReadsItems Item k true xs c d) → at_end d ≡ true → is_error (kind_at d) ≡ false
-      → items (whole_stmt n top_item) at_end true (st c k w f h)
-      ≡ Ok (xs, st d (code_behind k true xs) w (f ++ walks (env_of k w.labels) true (trees xs)) (h ⊕ all_notes_with (trees xs) (items_await Item k true xs c d r)))
+  pub tops_read : (xs : List Tree) (k : Code) (c d : Place) (w : Scope) (f : List Fault) (h : Notes) (r : ReadsItems (Item n) k true xs c d) → stops d ≡ true → is_error (kind_at d) ≡ false
+      → items (whole_stmt n top_item) stops true (st c k w f h)
+      ≡ Ok (xs, st d (code_behind k true xs) w (f ++ walks (env_of k w.labels) true (trees xs)) (h ⊕ all_notes_with (trees xs) (items_await (Item n) k true xs c d r)))
   unfolding items
   tops_read xs k c d w f h r e a = many_read xs [] true k c d w f h refl r e a
 
@@ -97,7 +98,7 @@ unfolding script script_body
 script_reads n s x d r =
     rw (
       shebang_reads r.shebang s.at r.first (script_code s.code) s.scope s.faults s.notes r.reads_shebang,
-      tops_read n r.items (script_code s.code) r.first d s.scope s.faults s.notes r.reads_items (at_end_at d r.whole) (ap is_error r.whole),
+      tops_read n at_end (λ k x c d q. (stmt_goes n k top_item x c d q.0).1) r.items (script_code s.code) r.first d s.scope s.faults s.notes r.reads_items (at_end_at d r.whole) (ap is_error r.whole),
       r.is,
       behind_setting (script_code s.code) true r.items,
     ) refl

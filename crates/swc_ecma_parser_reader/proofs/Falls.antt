@@ -636,6 +636,7 @@ module _ (inner : Position → Reader Tree) (h : (at : Position) (s : State) →
   stmt_by_falls at kind.Class s e = classes.class_stmt_falls (inner_expr left_side) (g left_side) inner_member m at s e
   stmt_by_falls at kind.Ident s e = async_or_other_falls at s
   stmt_by_falls at kind.Import s e = import_stmt_at_falls (inner_expr expression) (g expression) s
+  stmt_by_falls at kind.Export s e = import_stmt_at_falls (inner_expr expression) (g expression) s
   stmt_by_falls at _ s e = other_falls inner h (inner_expr expression) (g expression) at s
 
   stmt_level_falls : (at : Position) (s : State) → Falls 1 (length s.at.left) (stmt_level inner inner_expr inner_pat inner_cover inner_params inner_member at s)

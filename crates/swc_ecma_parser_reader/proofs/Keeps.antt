@@ -1,5 +1,5 @@
--- Whatever a statement or a script is read as, or refused, the tokens that are left are the last of those that were, and no recorded
--- fault is lost.
+-- Whatever a statement or a script is read as, or refused, the tokens that are left are the last of those that were, and no fault
+-- is lost that was recorded or held back.
 use Rattle.swc_ecma_parser_grammar.specs.Parameters.{parameters}
 use Rattle.swc_ecma_parser_reader.proofs.patterns.Keeps as patterns
 use Rattle.swc_ecma_parser_reader.proofs.expressions.Keeps as expressions
@@ -49,14 +49,14 @@ use Rattle.swc_ecma_parser_reader.specs.State.{State, Outcome, Reader, moved, co
 use Rattle.swc_ecma_parser_reader.specs.Expressions.{Cover}
 use Rattle.swc_ecma_parser_reader.specs.Reader.{empty, debugger, initialized, declarator, declarators_turn, declarators, closes, at_end, close, items_turn, items, block_from, block, braced, note_statement, no_label, expr_stmt, expr_stmt_at, optional_end, import_stmt, import_stmt_at, told, target, unbroken, break_stmt, uncontinued, continue_stmt, misplaced, after_return, operand, returned, return_stmt, thrown, throw, head, while_stmt, do_while, goes_on, condition, alternative, link_from, link, links, if_stmt, begins_clause, closes_clause, clause_from, default_clause, case_clause, clause, clauses_turn, clauses, switch_stmt, begins_at, is_handled, handled, bound, parameter, finalizer, caught, handler, try_stmt, stmt_by, stmt_level, stmt, top_await_fault, top_await, whole_stmt, shebang, script_body, script}
 use Rattle.swc_ecma_parser_reader.proofs.Meets.{Answers, answers_then, answers_if, meant}
-use Rattle.swc_ecma_parser_reader.proofs.Behind.{Kept, Lost, Passes, behind_self, behind_after, behind_noted, refused_keeps, too_deep_keeps, fault_keeps, wanted_keeps, refuse_keeps, reject_keeps, end_keeps, expect_keeps, close_keeps, shebang_keeps, name_keeps, loop_keeps}
+use Rattle.swc_ecma_parser_reader.proofs.Behind.{NothingLost, Kept, Lost, Passes, Follows, follows, behind_self, behind_after, behind_noted, behind_held, refused_keeps, too_deep_keeps, fault_keeps, wanted_keeps, refuse_keeps, reject_keeps, end_keeps, expect_keeps, close_keeps, shebang_keeps, name_keeps, loop_keeps}
 use Rattle.swc_ecma_parser_reader.specs.Entry.{unmarked, IsBehind, IsSetBack, AnswersScript, AnswersStatement, Stays}
 use Rattle.swc_ecma_parser_reader.proofs.Opens.{chain_goes}
 
 -- ---- statements
 
 -- where an initializer is asked for, a fault is recorded, or what was read is refused
-missing_keeps : (b : State) (word : VarDeclKind) (span : Span) (p : Tree) (s : State) → IsBehind b s → Answers (Kept b) (Lost b) (missing_initializer word span p s)
+missing_keeps : (b : State) (word : VarDeclKind) (span : Span) (p : Tree) (s : State) → NothingLost b s → Answers (Kept b) (Lost b) (missing_initializer word span p s)
 missing_keeps b word span p s f = answers_if _ _ (is_const word && s.code.flags.strict) _ _
     (λ _. answers_then (Kept b) _ (fault (fault_at span faults.ConstDeclarationsRequireInitialization) s) _
     (fault_keeps b s f (fault_at span faults.ConstDeclarationsRequireInitialization)) (λ _ t g. g))
@@ -64,7 +64,7 @@ missing_keeps b word span p s f = answers_if _ _ (is_const word && s.code.flags.
 
 module _ (inner_expr : Class → Reader Tree) (inner_pat : Reader Tree) (below_expr : (class : Class) → Passes (inner_expr class)) (below_pat : Passes inner_pat)
     (b : State) (in_head : Bool) (word : VarDeclKind) where
-  declarator_keeps : (s : State) → IsBehind b s → Answers (Kept b) (Lost b) (declarator inner_expr inner_pat in_head word s)
+  declarator_keeps : (s : State) → NothingLost b s → Answers (Kept b) (Lost b) (declarator inner_expr inner_pat in_head word s)
   unfolding declarator initialized
   declarator_keeps s f = answers_then _ _ (within with_in inner_pat s) _
       (answers_then (Kept b) _ (inner_pat (coded (with_in s.code) s)) _ (below_pat b (coded (with_in s.code) s) f) (λ p t g. g)) (λ p t g. answers_if _ _ (sees kind.Assign t.at) _ _
@@ -73,30 +73,30 @@ module _ (inner_expr : Class → Reader Tree) (inner_pat : Reader Tree) (below_e
       (λ _. missing_keeps b word (record { lo = (span_at s.at).lo; hi = t.at.last.hi }) p t g)))
 
   -- declarators one behind another
-  declarators_keeps : (s : State) → IsBehind b s → Answers (Kept b) (Lost b) (declarators inner_expr inner_pat in_head word s)
+  declarators_keeps : (s : State) → NothingLost b s → Answers (Kept b) (Lost b) (declarators inner_expr inner_pat in_head word s)
   unfolding declarators declarators_turn
   declarators_keeps s f = loop_keeps (declarators_turn inner_expr inner_pat in_head word) b
       (λ xs t g. answers_then _ _ (declarator inner_expr inner_pat in_head word t) _ (declarator_keeps t g) (λ x u h. answers_if _ _ (sees kind.Comma u.at) _ _ (λ _. behind_after b u h) (λ _. h))) [] s f
 
 -- statements one behind another
-items_keeps : (inner : Reader Tree) → Passes inner → (stops : Place → Bool) (directives : Bool) → Passes (items inner stops directives)
+pub items_keeps : (inner : Reader Tree) → Passes inner → (stops : Place → Bool) (directives : Bool) → Passes (items inner stops directives)
 unfolding items items_turn
 items_keeps inner below stops directives b s f = loop_keeps (items_turn inner stops directives) b
     (λ xs t g. answers_if _ _ (stops t.at) _ _ (λ _. g) (λ _. answers_then _ _ (inner t) _ (below b t g) (λ x u k. k))) [] s f
 
 -- a fault of module code, whether recorded or held back
-module_fault_keeps : (b : State) (g : Fault) (s : State) → IsBehind b s → IsBehind b (module_fault g s)
+module_fault_keeps : (b : State) (g : Fault) (s : State) → NothingLost b s → NothingLost b (module_fault g s)
 module_fault_keeps b g s f = by_module s.code.flags.module
   where
-    by_module : (o : Bool) → IsBehind b (cond o (noted g s) (holding_back g s))
+    by_module : (o : Bool) → NothingLost b (cond o (noted g s) (holding_back g s))
     by_module true = behind_noted b g s f
-    by_module false = f
+    by_module false = behind_held b g s f
 
-note_with_keeps : (b : State) (span : Span) (s : State) → IsBehind b s → Answers (Kept b) (Lost b) (note_with span s)
+note_with_keeps : (b : State) (span : Span) (s : State) → NothingLost b s → Answers (Kept b) (Lost b) (note_with span s)
 unfolding note_with
 note_with_keeps b span s f = module_fault_keeps b (fault_at span faults.WithInStrict) s f
 
-optional_end_keeps : (b : State) (s : State) → IsBehind b s → Answers (Kept b) (Lost b) (optional_end s)
+optional_end_keeps : (b : State) (s : State) → NothingLost b s → Answers (Kept b) (Lost b) (optional_end s)
 unfolding optional_end
 optional_end_keeps b s f = answers_if _ _ (sees kind.Semi s.at) _ _ (λ _. behind_after b s f) (λ _. f)
 
@@ -106,14 +106,14 @@ unfolding misplaced
 after_return_keeps b start (Ok p) h = answers_then (Kept b) _ (misplaced start p.1) _ (told_keeps b _ p.1 h) (λ _ t k. k)
 after_return_keeps b start (Err e) h = answers_if (Kept b) (Lost b) (is_some e.1.scope.mark) _ _ (λ _. h) (λ _. refused_keeps (Kept b) b e.0 (misplaced start e.1) (told_keeps b _ e.1 h))
 
-pub target_keeps : (b : State) (s : State) → IsBehind b s → Answers (Kept b) (Lost b) (target s)
+pub target_keeps : (b : State) (s : State) → NothingLost b s → Answers (Kept b) (Lost b) (target s)
 unfolding target
 target_keeps b s g = answers_if _ _ (ends_at s.at) _ _ (λ _. g)
     (λ _. answers_then (Kept b) _ (name faults.ExpectedIdent s) _ (name_keeps b s g faults.ExpectedIdent) (λ x t k. k))
 
 -- ---- what the head of a loop begins with, as what it is
 
-as_init_keeps : (b : State) (o : Opening) (s : State) → IsBehind b s → Answers (Kept b) (Lost b) (as_init o s)
+as_init_keeps : (b : State) (o : Opening) (s : State) → NothingLost b s → Answers (Kept b) (Lost b) (as_init o s)
 unfolding exprs.close
 as_init_keeps b Nothing s f = f
 as_init_keeps b (Variables x) s f = f
@@ -123,7 +123,7 @@ as_init_keeps b (Expression v) s f = by_mark v.mark
     by_mark None = f
     by_mark (Some k) = reject_keeps _ faults.AssignProperty k b s f
 
-as_left_keeps : (b : State) (w : Bool) (o : Opening) (s : State) → IsBehind b s → Answers (Kept b) (Lost b) (as_left w o s)
+as_left_keeps : (b : State) (w : Bool) (o : Opening) (s : State) → NothingLost b s → Answers (Kept b) (Lost b) (as_left w o s)
 unfolding exprs.target
 as_left_keeps b w Nothing s f = wanted_keeps _ faults.Unexpected b s f
 as_left_keeps b w (Variables x) s f = f
@@ -134,7 +134,7 @@ as_left_keeps b w (Expression v) s f =
     by_target (Some p) = f
     by_target None = reject_keeps _ faults.InvalidPat (span_of v.x) b s f
 
-await_here_keeps : (b : State) (s : State) → IsBehind b s → Answers (Kept b) (Lost b) (await_here s)
+await_here_keeps : (b : State) (s : State) → NothingLost b s → Answers (Kept b) (Lost b) (await_here s)
 unfolding await_here
 await_here_keeps b s f = answers_if _ _ (sees kind.Await s.at) _ _ (λ _. behind_after b s f) (λ _. f)
 
@@ -142,7 +142,7 @@ unless_awaited_keeps : (b : State) (word : Option Span) (p : Reader Tree) (s : S
 unless_awaited_keeps b None p s h = h
 unless_awaited_keeps b (Some w) p s h = answers_then _ _ (p s) _ h (λ _ t k. reject_keeps _ faults.AwaitForStmt w b t k)
 
-misdeclared_keeps : (b : State) (refused : Bool) (left : Tree) (s : State) → IsBehind b s → Answers (Kept b) (Lost b) (misdeclared refused left s)
+misdeclared_keeps : (b : State) (refused : Bool) (left : Tree) (s : State) → NothingLost b s → Answers (Kept b) (Lost b) (misdeclared refused left s)
 unfolding misdeclared
 misdeclared_keeps b refused left s f = told_keeps b (head_faults refused left) s f
 
@@ -154,7 +154,7 @@ labelled_keeps b P (Err e) h = answers_if P (Lost b) (is_some e.1.scope.mark) _ 
 -- the links of a chain
 module _ (inner : Position → Reader Tree) (inner_expr : Class → Reader Tree)
     (below_stmt : (at : Position) → Passes (inner at)) (below_expr : (class : Class) → Passes (inner_expr class)) where
-  link_keeps : (b : State) → (s : State) → IsBehind b (moved s) → Answers (Kept b) (Lost b) (link (inner sub_statement) (inner_expr expression) s)
+  link_keeps : (b : State) → (s : State) → NothingLost b (moved s) → Answers (Kept b) (Lost b) (link (inner sub_statement) (inner_expr expression) s)
   unfolding link link_from condition labelled
   link_keeps b s g = answers_then (Kept b) _ (condition (inner_expr expression) (moved s)) _
       (answers_then _ _ (expect kind.LParen (moved s)) _ (expect_keeps b (moved s) g kind.LParen) (λ _ u j.
@@ -164,11 +164,11 @@ module _ (inner : Position → Reader Tree) (inner_expr : Class → Reader Tree)
       answers_then _ _ (expect kind.RParen v) _ (expect_keeps b v k kind.RParen) (λ _ w z. z)))) (λ x t k.
       answers_then _ _ (inner sub_statement t) _ (below_stmt sub_statement b t k) (λ y u z. z))
 
-  alternative_keeps : (b : State) → (s : State) → IsBehind b s → Answers (Kept b) (Lost b) (alternative (inner sub_statement) s)
+  alternative_keeps : (b : State) → (s : State) → NothingLost b s → Answers (Kept b) (Lost b) (alternative (inner sub_statement) s)
   unfolding alternative
   alternative_keeps b s g = answers_if _ _ (sees kind.Else s.at) _ _ (λ _. below_stmt sub_statement b (moved s) (behind_after b s g)) (λ _. g)
 
-  links_keeps : (l : ℕ) (b s : State) → kind_at s.at ≡ kind.If → IsBehind b s → Answers (Kept b) (Lost b) (links (inner sub_statement) (inner_expr expression) l s)
+  links_keeps : (l : ℕ) (b s : State) → kind_at s.at ≡ kind.If → NothingLost b s → Answers (Kept b) (Lost b) (links (inner sub_statement) (inner_expr expression) l s)
   unfolding links
   links_keeps zero b s e f = f
   links_keeps (suc l) b s e f =
@@ -274,8 +274,8 @@ module _ (inner : Reader Tree) (below : Passes inner) where
 
 module _ (inner : Position → Reader Tree) (inner_expr : Class → Reader Tree) (inner_pat : Reader Tree) (inner_head : Reader Cover) (inner_params : Reader (List Tree))
     (inner_member : Reader Tree) (below_stmt : (at : Position) → Passes (inner at)) (below_expr : (class : Class) → Passes (inner_expr class)) (below_pat : Passes inner_pat) (below_head : Passes inner_head)
-    (below_params : Passes inner_params) (below_member : Passes inner_member) (at : Position) (b : State) (s : State) (f : IsBehind b s) where
-  block_from_keeps : (directives : Bool) (start : Place) (t : State) → IsBehind b t → Answers (Kept b) (Lost b) (block_from (inner nested_item) directives start t)
+    (below_params : Passes inner_params) (below_member : Passes inner_member) (at : Position) (b : State) (s : State) (f : NothingLost b s) where
+  block_from_keeps : (directives : Bool) (start : Place) (t : State) → NothingLost b t → Answers (Kept b) (Lost b) (block_from (inner nested_item) directives start t)
   block_from_keeps directives start t g = braces_from_keep (inner nested_item) (below_stmt nested_item) directives start b t g
 
   -- a block
@@ -285,7 +285,7 @@ module _ (inner : Position → Reader Tree) (inner_expr : Class → Reader Tree)
       let g = behind_after b s f in
       block_from_keeps false s.at (moved s) g
 
-  braced_keeps : (directives : Bool) (t : State) → IsBehind b t → Answers (Kept b) (Lost b) (braced (inner nested_item) directives t)
+  braced_keeps : (directives : Bool) (t : State) → NothingLost b t → Answers (Kept b) (Lost b) (braced (inner nested_item) directives t)
   braced_keeps directives t g = braces_keep (inner nested_item) (below_stmt nested_item) directives b t g
 
   debugger_keeps : Answers (Kept b) (Lost b) (debugger s)
@@ -332,14 +332,14 @@ module _ (inner : Position → Reader Tree) (inner_expr : Class → Reader Tree)
   unfolding import_stmt_at
   import_stmt_at_keeps = answers_if _ _ (begins_import_expression s.at) _ _ (λ _. import_stmt_keeps) (λ _. refuse_keeps _ faults.ImportExportInScript b s f)
 
-  head_keeps : (t : State) → IsBehind b t → Answers (Kept b) (Lost b) (head (inner_expr expression) t)
+  head_keeps : (t : State) → NothingLost b t → Answers (Kept b) (Lost b) (head (inner_expr expression) t)
   unfolding head
   head_keeps t g = answers_then _ _ (expect kind.LParen t) _ (expect_keeps b t g kind.LParen) (λ _ u j.
       answers_then _ _ (within with_in (inner_expr expression) u) _
       (answers_then (Kept b) _ (inner_expr expression (coded (with_in u.code) u)) _ (below_expr expression b (coded (with_in u.code) u) j) (λ x v k. k)) (λ x v k.
       answers_then _ _ (expect kind.RParen v) _ (expect_keeps b v k kind.RParen) (λ _ w z. z)))
 
-  labelled_body_keeps : (text : Text) (t : State) → IsBehind b t → Answers (Kept b) (Lost b) (labelled_body inner text t)
+  labelled_body_keeps : (text : Text) (t : State) → NothingLost b t → Answers (Kept b) (Lost b) (labelled_body inner text t)
   unfolding labelled_body
   labelled_body_keeps text t g = answers_then (Kept b) _ (below_label text (inner (labelled_item t.at)) (coded (in_breakable t.code) t)) _
       (answers_then (Kept b) _ (inner (labelled_item t.at) (below text (coded (in_breakable t.code) t))) _ (below_stmt (labelled_item t.at) b (below text (coded (in_breakable t.code) t)) g) (λ x u k. k)) (λ x u k. k)
@@ -390,7 +390,7 @@ module _ (inner : Position → Reader Tree) (inner_expr : Class → Reader Tree)
       answers_then _ _ (end faults.Expected t) _ (end_keeps b t k faults.Expected) (λ _ u j. j)))
 
   -- the body of a loop
-  looped_keeps : (t : State) → IsBehind b t → Answers (Kept b) (Lost b) (within in_loop (inner sub_statement) t)
+  looped_keeps : (t : State) → NothingLost b t → Answers (Kept b) (Lost b) (within in_loop (inner sub_statement) t)
   looped_keeps t g = answers_then (Kept b) _ (inner sub_statement (coded (in_loop t.code) t)) _ (below_stmt sub_statement b (coded (in_loop t.code) t) g) (λ x u k. k)
 
   while_keeps : kind_at s.at ≡ kind.While → Answers (Kept b) (Lost b) (while_stmt (inner sub_statement) (inner_expr expression) s)
@@ -419,13 +419,13 @@ module _ (inner : Position → Reader Tree) (inner_expr : Class → Reader Tree)
       answers_then _ _ (head (inner_expr expression) u) _ (head_keeps u j) (λ x v z.
       answers_then _ _ (optional_end v) _ (optional_end_keeps b v z) (λ _ b a. a))))
 
-  head_variables_keeps : (word : VarDeclKind) (t : State) → IsBehind b t → Answers (Kept b) (Lost b) (head_variables inner_expr inner_pat word t)
+  head_variables_keeps : (word : VarDeclKind) (t : State) → NothingLost b t → Answers (Kept b) (Lost b) (head_variables inner_expr inner_pat word t)
   unfolding head_variables
   head_variables_keeps word t g = answers_then _ _ (within (head_code word) (declarators inner_expr inner_pat true word) (moved t)) _
       (answers_then (Kept b) _ (declarators inner_expr inner_pat true word (coded (head_code word t.code) (moved t))) _
       (declarators_keeps inner_expr inner_pat below_expr below_pat b true word (coded (head_code word t.code) (moved t)) (behind_after b t g)) (λ x u k. k)) (λ x u k. k)
 
-  opening_keeps : (t : State) → IsBehind b t → Answers (Kept b) (Lost b) (opening inner_expr inner_pat inner_head t)
+  opening_keeps : (t : State) → NothingLost b t → Answers (Kept b) (Lost b) (opening inner_expr inner_pat inner_head t)
   unfolding opening head_expression
   opening_keeps t g = answers_if _ _ (sees kind.Semi t.at) _ _ (λ _. g)
       (λ _. answers_if _ _ (sees kind.Var t.at) _ _ (λ _. head_variables_keeps decl.Var t g)
@@ -434,12 +434,12 @@ module _ (inner : Position → Reader Tree) (inner_expr : Class → Reader Tree)
       (λ _. answers_then _ _ (within without_in inner_head t) _
       (answers_then (Kept b) _ (inner_head (coded (without_in t.code) t)) _ (below_head b (coded (without_in t.code) t) g) (λ v u k. k)) (λ v u k. k)))))
 
-  head_part_keeps : (j : TokenKind) (t : State) → IsBehind b t → Answers (Kept b) (Lost b) (head_part j (inner_expr expression) t)
+  head_part_keeps : (j : TokenKind) (t : State) → NothingLost b t → Answers (Kept b) (Lost b) (head_part j (inner_expr expression) t)
   unfolding head_part
   head_part_keeps j t g = answers_if _ _ (sees j t.at) _ _ (λ _. g)
       (λ _. answers_then (Kept b) _ (inner_expr expression (coded (with_in t.code) t)) _ (below_expr expression b (coded (with_in t.code) t) g) (λ x u k. k))
 
-  for_parts_keeps : (start : Span) (o : Opening) (t : State) → IsBehind b t
+  for_parts_keeps : (start : Span) (o : Opening) (t : State) → NothingLost b t
       → Answers (Kept b) (Lost b) (for_parts (inner sub_statement) inner_expr start o t)
   unfolding for_parts
   for_parts_keeps start o t g =
@@ -452,10 +452,10 @@ module _ (inner : Position → Reader Tree) (inner_expr : Class → Reader Tree)
       answers_then _ _ (within in_loop (inner sub_statement) r) _ (looped_keeps r j) (λ _ b a. a)))))))
 
   -- what stands behind `in` and `of`
-  behind_keeps : (class : Class) (t : State) → IsBehind b t → Answers (Kept b) (Lost b) (within with_in (inner_expr class) t)
+  behind_keeps : (class : Class) (t : State) → NothingLost b t → Answers (Kept b) (Lost b) (within with_in (inner_expr class) t)
   behind_keeps class t g = answers_then (Kept b) _ (inner_expr class (coded (with_in t.code) t)) _ (below_expr class b (coded (with_in t.code) t) g) (λ x u k. k)
 
-  for_in_keeps : (start : Span) (o : Opening) (t : State) → IsBehind b t
+  for_in_keeps : (start : Span) (o : Opening) (t : State) → NothingLost b t
       → Answers (Kept b) (Lost b) (for_in (inner sub_statement) inner_expr start o t)
   unfolding for_in
   for_in_keeps start o t g =
@@ -465,7 +465,7 @@ module _ (inner : Position → Reader Tree) (inner_expr : Class → Reader Tree)
       answers_then _ _ (expect kind.RParen w) _ (expect_keeps b w d kind.RParen) (λ _ r j.
       answers_then _ _ (within in_loop (inner sub_statement) r) _ (looped_keeps r j) (λ _ b a. a)))))
 
-  for_of_keeps : (w : Bool) (start : Span) (o : Opening) (t : State) → IsBehind b t
+  for_of_keeps : (w : Bool) (start : Span) (o : Opening) (t : State) → NothingLost b t
       → Answers (Kept b) (Lost b) (for_of (inner sub_statement) inner_expr w start o t)
   unfolding for_of
   for_of_keeps w start o t g =
@@ -475,7 +475,7 @@ module _ (inner : Position → Reader Tree) (inner_expr : Class → Reader Tree)
       answers_then _ _ (expect kind.RParen w) _ (expect_keeps b w d kind.RParen) (λ _ r j.
       answers_then _ _ (within in_loop (inner sub_statement) r) _ (looped_keeps r j) (λ _ b a. a)))))
 
-  for_behind_keeps : (start : Span) (word : Option Span) (o : Opening) (t : State) → IsBehind b t
+  for_behind_keeps : (start : Span) (word : Option Span) (o : Opening) (t : State) → NothingLost b t
       → Answers (Kept b) (Lost b) (for_behind (inner sub_statement) inner_expr start word o t)
   unfolding for_behind
   for_behind_keeps start word o t g =
@@ -492,12 +492,12 @@ module _ (inner : Position → Reader Tree) (inner_expr : Class → Reader Tree)
       answers_then _ _ (opening inner_expr inner_pat inner_head t) _ (opening_keeps t a) (λ o u k.
       for_behind_keeps (span_at s.at) word o u k)))
 
-  clause_from_keeps : (start : Span) (test : Tree) (t : State) → IsBehind b t → Answers (Kept b) (Lost b) (clause_from (inner nested_item) start test t)
+  clause_from_keeps : (start : Span) (test : Tree) (t : State) → NothingLost b t → Answers (Kept b) (Lost b) (clause_from (inner nested_item) start test t)
   unfolding clause_from
   clause_from_keeps start test t g = answers_then _ _ (expect kind.Colon t) _ (expect_keeps b t g kind.Colon) (λ _ u k.
       answers_then _ _ (items (inner nested_item) closes_clause false u) _ (items_keeps (inner nested_item) (below_stmt nested_item) closes_clause false b u k) (λ xs v j. j))
 
-  clause_keeps : (o : Bool) (t : State) → IsBehind b t → Answers (Kept b) (Lost b) (clause (inner nested_item) (inner_expr expression) o t)
+  clause_keeps : (o : Bool) (t : State) → NothingLost b t → Answers (Kept b) (Lost b) (clause (inner nested_item) (inner_expr expression) o t)
   unfolding clause case_clause default_clause
   clause_keeps o t g = answers_if _ _ (sees kind.Case t.at) _ _
       (λ _. answers_then _ _ (within with_in (inner_expr expression) (moved t)) _
@@ -505,7 +505,7 @@ module _ (inner : Position → Reader Tree) (inner_expr : Class → Reader Tree)
       (λ x u k. clause_from_keeps (span_at t.at) x u k))
       (λ _. answers_if _ _ o _ _ (λ _. refuse_keeps _ faults.MultipleDefault b (moved t) (behind_after b t g)) (λ _. clause_from_keeps (span_at t.at) tree.absent (moved t) (behind_after b t g)))
 
-  clauses_keeps : (t : State) → IsBehind b t → Answers (Kept b) (Lost b) (clauses (inner nested_item) (inner_expr expression) t)
+  clauses_keeps : (t : State) → NothingLost b t → Answers (Kept b) (Lost b) (clauses (inner nested_item) (inner_expr expression) t)
   unfolding clauses clauses_turn
   clauses_keeps t g = loop_keeps (clauses_turn (inner nested_item) (inner_expr expression)) b
       (λ l u k. answers_if _ _ (begins_clause u.at) _ _ (λ _. answers_then _ _ (clause (inner nested_item) (inner_expr expression) l.has_default u) _ (clause_keeps l.has_default u k) (λ x v j. j)) (λ _. k)) (record { found = []; has_default = false }) t g
@@ -520,24 +520,24 @@ module _ (inner : Position → Reader Tree) (inner_expr : Class → Reader Tree)
       (answers_then (Kept b) _ (clauses (inner nested_item) (inner_expr expression) (coded (in_breakable u.code) u)) _ (clauses_keeps (coded (in_breakable u.code) u) j) (λ x v k. k)) (λ xs v l.
       answers_then _ _ (expect kind.RBrace v) _ (expect_keeps b v l kind.RBrace) (λ _ b a. a))))
 
-  parameter_keeps : (t : State) → IsBehind b t → Answers (Kept b) (Lost b) (parameter inner_pat t)
+  parameter_keeps : (t : State) → NothingLost b t → Answers (Kept b) (Lost b) (parameter inner_pat t)
   unfolding parameter bound
   parameter_keeps t g = answers_if _ _ (sees kind.LParen t.at) _ _ (λ _.
       answers_then _ _ (within with_in inner_pat (moved t)) _
       (answers_then (Kept b) _ (inner_pat (coded (with_in t.code) (moved t))) _ (below_pat b (coded (with_in t.code) (moved t)) (behind_after b t g)) (λ x v k. k)) (λ x v k.
       answers_then _ _ (expect kind.RParen v) _ (expect_keeps b v k kind.RParen) (λ _ w z. z))) (λ _. g)
 
-  handler_keeps : (t : State) → IsBehind b t → Answers (Kept b) (Lost b) (handler (inner nested_item) inner_pat t)
+  handler_keeps : (t : State) → NothingLost b t → Answers (Kept b) (Lost b) (handler (inner nested_item) inner_pat t)
   unfolding handler caught
   handler_keeps t g = answers_if _ _ (sees kind.Catch t.at) _ _ (λ _.
       answers_then _ _ (parameter inner_pat (moved t)) _ (parameter_keeps (moved t) (behind_after b t g)) (λ x u k.
       answers_then _ _ (braced (inner nested_item) false u) _ (braced_keeps false u k) (λ y v j. j))) (λ _. g)
 
-  finalizer_keeps : (t : State) → IsBehind b t → Answers (Kept b) (Lost b) (finalizer (inner nested_item) t)
+  finalizer_keeps : (t : State) → NothingLost b t → Answers (Kept b) (Lost b) (finalizer (inner nested_item) t)
   unfolding finalizer
   finalizer_keeps t g = answers_if _ _ (sees kind.Finally t.at) _ _ (λ _. braced_keeps false (moved t) (behind_after b t g)) (λ _. g)
 
-  handled_keeps : (b : State) (behind : Place) (t : State) → IsBehind b t → Answers (Kept b) (Lost b) (handled behind t)
+  handled_keeps : (b : State) (behind : Place) (t : State) → NothingLost b t → Answers (Kept b) (Lost b) (handled behind t)
   unfolding handled
   handled_keeps b behind t g = answers_if _ _ (is_handled behind) _ _ (λ _. g) (λ _. fault_keeps b t g (fault_at (begins_at behind) faults.TS1005))
 
@@ -550,7 +550,7 @@ module _ (inner : Position → Reader Tree) (inner_expr : Class → Reader Tree)
       answers_then _ _ (finalizer (inner nested_item) u) _ (finalizer_keeps u j) (λ z v l.
       answers_then _ _ (handled t.at v) _ (handled_keeps b t.at v l) (λ _ b a. a))))
 
-  function_keeps : (t : State) → IsBehind b t → Answers (Kept b) (Lost b) (function_decl (inner nested_item) inner_params t)
+  function_keeps : (t : State) → NothingLost b t → Answers (Kept b) (Lost b) (function_decl (inner nested_item) inner_params t)
   unfolding function_decl
   function_keeps t g = answers_then (Kept b) _ (function_word t) _ (function_word_keeps b t g) (λ w o m.
       answers_then (Kept b) _ (star o) _ (star_keeps b o m) (λ v r l.
@@ -590,6 +590,7 @@ module _ (inner : Position → Reader Tree) (inner_expr : Class → Reader Tree)
   by_keeps kind.Class e = classes.class_stmt_keeps (inner_expr left_side) inner_member (below_expr left_side) below_member at b s f
   by_keeps kind.Ident e = async_or_other_keeps
   by_keeps kind.Import e = import_stmt_at_keeps
+  by_keeps kind.Export e = import_stmt_at_keeps
   by_keeps _ e = other_keeps
 
   level_keeps : Answers (Kept b) (Lost b) (stmt_level inner inner_expr inner_pat inner_head inner_params inner_member at s)
@@ -661,7 +662,7 @@ top_await_keeps : (at : Position) → Passes (top_await at)
 unfolding top_await
 top_await_keeps at b s f = answers_if _ _ (at.top_level && sees kind.Await s.at) _ _ (λ _. top_await_fault_keeps b (module_found s) f) (λ _. f)
 
-whole_stmt_keeps : (n : ℕ) (at : Position) → Passes (whole_stmt n at)
+pub whole_stmt_keeps : (n : ℕ) (at : Position) → Passes (whole_stmt n at)
 unfolding whole_stmt
 whole_stmt_keeps n at b s f = answers_then _ _ (top_await at s) _ (top_await_keeps at b s f) (λ _ t g. stmt_keeps n at b t g)
 
@@ -675,8 +676,8 @@ script_keeps n b s f =
 
 -- ---- what answers as the reader does
 
--- a state that is set back
-set_back_behind : (s u t : State) → IsBehind s u → IsSetBack u t → IsBehind s t
+-- a state that is set back, and what is refused in it
+pub set_back_behind : (s u t : State) → IsBehind s u → IsSetBack u t → IsBehind s t
 set_back_behind s u t h e = record {
   added = h.added ++ e.faults.0;
   faults = e.faults.1 ∙ ap (λ z. z ++ e.faults.0) h.faults ∙ append_assoc s.faults h.added e.faults.0;
@@ -685,16 +686,22 @@ set_back_behind s u t h e = record {
   last = ap (λ c. c.last) e.at ∙ h.last;
 }
 
-outcome_behind : {A : Type 0} (s : State) (o : Outcome A) (e : Fault) (u t : State) → Answers (Kept s) (Lost s) o → o ≡ Err (e, u) → IsSetBack u t → IsBehind s t
-outcome_behind s o e u t h g i = set_back_behind s u t (meant (Kept s) (Lost s) o (Err (e, u)) g h) i
+pub outcome_behind : {A : Type 0} (s : State) (o : Outcome A) (e : Fault) (u t : State) → Answers (Follows s) (Follows s) o → o ≡ Err (e, u) → IsSetBack u t → IsBehind s t
+outcome_behind s o e u t h g i = set_back_behind s u t (meant (Follows s) (Follows s) o (Err (e, u)) g h) i
 
 module _ (X : Type 0) (view : X → Tree) (limit : ℕ) (s : State) where
+  script_follows : Answers (Follows s) (Follows s) (script limit (unmarked s))
+  script_follows = follows s (script limit (unmarked s)) (script_keeps limit s (unmarked s) (behind_self s))
+
   pub script_stays : (r : Result X Error) (t : State) → AnswersScript view limit (unmarked s) r t → Stays s r t
-  script_stays (Ok x) t h = meant (Kept s) (Lost s) (script limit (unmarked s)) (Ok (view x, t)) h (script_keeps limit s (unmarked s) (behind_self s))
-  script_stays (Err e) t h = λ n. let p = h n in outcome_behind s (script limit (unmarked s)) (fault_of e) p.0 t (script_keeps limit s (unmarked s) (behind_self s)) p.1 p.2
+  script_stays (Ok x) t h = meant (Follows s) (Follows s) (script limit (unmarked s)) (Ok (view x, t)) h script_follows
+  script_stays (Err e) t h = λ n. let p = h n in outcome_behind s (script limit (unmarked s)) (fault_of e) p.0 t script_follows p.1 p.2
+
+  statement_follows : (at : Position) → Answers (Follows s) (Follows s) (whole_stmt limit at (unmarked s))
+  statement_follows at = follows s (whole_stmt limit at (unmarked s)) (whole_stmt_keeps limit at s (unmarked s) (behind_self s))
 
   pub statement_stays : (include_decl top_level : Bool) (r : Result X Error) (t : State) → AnswersStatement view limit include_decl top_level (unmarked s) r t → Stays s r t
   statement_stays include_decl top_level (Ok x) t h = let at = at_top include_decl top_level in
-      meant (Kept s) (Lost s) (whole_stmt limit at (unmarked s)) (Ok (view x, t)) h (whole_stmt_keeps limit at s (unmarked s) (behind_self s))
+      meant (Follows s) (Follows s) (whole_stmt limit at (unmarked s)) (Ok (view x, t)) h (statement_follows at)
   statement_stays include_decl top_level (Err e) t h = λ n. let p = h n in let at = at_top include_decl top_level in
-      outcome_behind s (whole_stmt limit at (unmarked s)) (fault_of e) p.0 t (whole_stmt_keeps limit at s (unmarked s) (behind_self s)) p.1 p.2
+      outcome_behind s (whole_stmt limit at (unmarked s)) (fault_of e) p.0 t (statement_follows at) p.1 p.2

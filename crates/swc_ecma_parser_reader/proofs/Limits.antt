@@ -643,6 +643,7 @@ module _ (inner : Position → Reader Tree) (inner_expr : Class → Reader Tree)
   by_shallow kind.Class e = classes.class_stmt_shallow (inner_expr left_side) inner_member n (below_expr left_side) below_member at m s (omega arith) e f
   by_shallow kind.Ident e = async_or_other_shallow
   by_shallow kind.Import e = import_stmt_at_shallow
+  by_shallow kind.Export e = import_stmt_at_shallow
   by_shallow _ e = other_shallow
 
   level_shallow : Answers (Kept m) Shallow (stmt_level inner inner_expr inner_pat inner_head inner_params inner_member at s)

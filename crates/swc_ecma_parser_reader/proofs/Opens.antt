@@ -61,6 +61,7 @@ opened stmt expr pat cover params member at s kind.Do e h g i l j a o = cc
 opened stmt expr pat cover params member at s kind.Function e h g i l j a o = cc
 opened stmt expr pat cover params member at s kind.Class e h g i l j a o = cc
 opened stmt expr pat cover params member at s kind.Import e h g i l j a o = cc
+opened stmt expr pat cover params member at s kind.Export e h g i l j a o = cc
 opened stmt expr pat cover params member at s kind.Let e h g i l j a o = rw l refl
 opened stmt expr pat cover params member at s kind.Ident e h g i l j a o = rw a refl
 opened stmt expr pat cover params member at s _ e h g i l j a o = refl

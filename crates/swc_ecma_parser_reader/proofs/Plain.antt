@@ -280,6 +280,7 @@ module _ (inner : Position → Reader Tree) (inner_expr : Class → Reader Tree)
   by_told at kind.Class s e = class_stmt_plain at s e
   by_told at kind.Ident s e = async_or_other_plain at s
   by_told at kind.Import s e = import_plain s
+  by_told at kind.Export s e = import_plain s
   by_told at _ s e = other_plain at s
 
 stmt_meets_told : (n : ℕ) (at : Position) (s : State) → Meets (Told (kind_at s.at) (is_starred s)) (stmt n at s)

@@ -540,6 +540,7 @@ module _ (Stmt : Code → Position → Tree → Place → Place → Type 0) (Exp
   by_sound kind.Class s e = meets_as (class_stmt (inner_expr left_side) inner_member at s) (sound_class at s e) (λ x t p. sound_as s t refl refl refl (λ (h, name, y, r, b, g). class_rule name y h r b g) p)
   by_sound kind.Ident s e = async_or_other_sound s
   by_sound kind.Import s e = import_stmt_at_sound s
+  by_sound kind.Export s e = import_stmt_at_sound s
   by_sound _ s e = other_sound s
 
   level_sound : (s : State) → Meets (SoundStmt s) (stmt_level inner inner_expr inner_pat inner_head inner_params inner_member at s)

@@ -204,16 +204,17 @@ notes_with_push xs x a b =
     ∙ ap {A = Notes} (λ z. record z { found_module_item = z.found_module_item || (a || b) }) (notes_push xs x)
 
 -- the items of a script, and whether one begins with `await`
-abbrev ReadsTops : ℕ → Bool → List Tree → Code → Place → Place → Type 0
+abbrev pub ReadsTops : ℕ → Bool → List Tree → Code → Place → Place → Type 0
 ReadsTops n b xs k c d = (r : ReadsItems (λ j. ReadsTop n j top_item) k true xs c d) × (b ≡ items_await (λ j. ReadsTop n j top_item) k true xs c d r)
 
-abbrev SoundTops : ℕ → State → List Tree → State → Type 0
+abbrev pub SoundTops : ℕ → State → List Tree → State → Type 0
 SoundTops n s xs t = (b : Bool)
     × Sound (λ k. code_after k true xs) (λ k l. walks.walks (env_of k l) true (trees xs)) (all_notes_with (trees xs) b) (ReadsTops n b xs) s t × Told b s t
     × Stand xs b s.at t.at
 
-abbrev StoppedTops : ℕ → State → List Tree → State → Type 0
-StoppedTops n s xs t = SoundTops n s xs t × (at_end t.at ≡ true)
+-- up to a place where they stop
+abbrev pub StoppedTops : (Place → Bool) → ℕ → State → List Tree → State → Type 0
+StoppedTops stops n s xs t = SoundTops n s xs t × (stops t.at ≡ true)
 
 tops_push : (n : ℕ) (xs : List Tree) (x : Tree) (a b : Bool) (k : Code) (c m d : Place) → ReadsTops n a xs k c m → ReadsTop n (code_after k true xs) top_item x m d × (b ≡ sees kind.Await m)
     → ReadsTops n (a || b) (xs ++ x ∷ []) k c d
@@ -228,10 +229,10 @@ stand_push (y ∷ ys) x b c m d (i, a, o, g, more) h =
     (i, a, o || sees kind.Await m, ap (λ z. z || sees kind.Await m) g ∙ or_assoc (sees kind.Await c) o (sees kind.Await m), stand_push ys x o i m d more h)
 
 -- each turn reads one
-tops_turn_sound : (n : ℕ) (s : State) (xs : List Tree) (t : State) → SoundTops n s xs t
-    → Meets (Turned (items_turn (whole_stmt n top_item) at_end true) (SoundTops n s) (StoppedTops n s) Refuses) (items_turn (whole_stmt n top_item) at_end true xs t)
+tops_turn_sound : (stops : Place → Bool) (n : ℕ) (s : State) (xs : List Tree) (t : State) → SoundTops n s xs t
+    → Meets (Turned (items_turn (whole_stmt n top_item) stops true) (SoundTops n s) (StoppedTops stops n s) Refuses) (items_turn (whole_stmt n top_item) stops true xs t)
 unfolding items_turn
-tops_turn_sound n s xs t (b, p, h, on) = meets_if _ (at_end t.at) _ _ (λ e. ((b, p, h, on), e)) (λ _. meets_then _ (whole_stmt n top_item t) _
+tops_turn_sound stops n s xs t (b, p, h, on) = meets_if _ (stops t.at) _ _ (λ e. ((b, p, h, on), e)) (λ _. meets_then _ (whole_stmt n top_item t) _
     (meets_both _ _ (whole_stmt n top_item t) (whole_sound top_item n t) (whole_stands n top_item t)) (λ x u ((q, g), stands).
     let r = sound_then p q in
     let e : directed u.code (directs true xs) x ≡ code_after s.code true (xs ++ x ∷ []) =
@@ -245,9 +246,9 @@ tops_turn_sound n s xs t (b, p, h, on) = meets_if _ (at_end t.at) _ _ (λ e. ((b
       stand_push xs x b s.at t.at u.at on stands,
     )))
 
-tops_sound : (n : ℕ) (s : State) → Meets (StoppedTops n s) (items (whole_stmt n top_item) at_end true s)
+pub tops_sound : (stops : Place → Bool) (n : ℕ) (s : State) → Meets (StoppedTops stops n s) (items (whole_stmt n top_item) stops true s)
 unfolding items
-tops_sound n s = loop_answers (items_turn (whole_stmt n top_item) at_end true) (SoundTops n s) (StoppedTops n s) Refuses (tops_turn_sound n s) (λ t. tt) [] s
+tops_sound stops n s = loop_answers (items_turn (whole_stmt n top_item) stops true) (SoundTops n s) (StoppedTops stops n s) Refuses (tops_turn_sound stops n s) (λ t. tt) [] s
     (false, sound_here s (refl, refl), λ e. cc, (refl, refl))
 
 -- ---- a script
@@ -329,7 +330,7 @@ SoundBody n s x t = (b : Bool) × ((f : Code → Code) × ((k : Code) → (f k).
 body_sound : (n : ℕ) (s : State) → Meets (SoundBody n s) (script_body n s)
 unfolding script_body SoundShebang
 body_sound n s = meets_then _ (shebang s) _ (shebang_sound s) (λ o m (p, line).
-    meets_then _ (items (whole_stmt n top_item) at_end true m) _ (tops_sound n m) (λ xs t ((b, q, h, on), e). (
+    meets_then _ (items (whole_stmt n top_item) at_end true m) _ (tops_sound at_end n m) (λ xs t ((b, q, h, on), e). (
       b,
       (
         (λ k. code_after k true xs),

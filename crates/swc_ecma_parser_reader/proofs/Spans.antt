@@ -43,7 +43,7 @@ use Rattle.swc_ecma_parser_reader.proofs.Takes.{Falls}
 use Rattle.swc_ecma_parser_reader.proofs.Falls.{stmt_falls}
 use Rattle.swc_ecma_parser_reader.proofs.Meets.{Answers, Meets, Refuses, answers_then, answers_if, always, meets_then, meets_if, wanted_meets, too_deep_meets, refuse_meets, meant, saw}
 use Rattle.swc_ecma_parser_reader.proofs.Errors.{is_error, fault_here}
-use Rattle.swc_ecma_parser_reader.proofs.Behind.{Kept, Lost, Passes, behind_self, behind_after, end_keeps, expect_keeps, name_keeps}
+use Rattle.swc_ecma_parser_reader.proofs.Behind.{NothingLost, Kept, Lost, Passes, behind_self, behind_after, end_keeps, expect_keeps, name_keeps}
 use Rattle.swc_ecma_parser_reader.proofs.Keeps.{target_keeps, function_params_keep, function_body_keep, parameters_keep, stmt_keeps, expr_keeps, member_keeps}
 use Rattle.swc_ecma_parser_reader.proofs.SoundParts.{after_return_meets}
 use Rattle.swc_ecma_parser_reader.proofs.expressions.SoundSteps.{reject_meets, meets_as}
@@ -271,17 +271,17 @@ module _ (inner : Position → Reader Tree) (inner_expr : Class → Reader Tree)
   break_ends s = let b = moved s in
       meets_then _ (target b) _ (kept b (target b) (target_keeps b b (behind_self b))) (λ x t k.
       meets_then _ (end faults.Expected t) _ (kept b (end faults.Expected t) (end_keeps b t k faults.Expected)) (λ _ u j.
-      meets_then _ (unbroken x (record { lo = (span_at s.at).lo; hi = u.at.last.hi }) u) _ (told_errs _ u) (λ _ v z. inr (u.at, refl, (j.read, j.tokens, j.last), z))))
+      meets_then _ (unbroken x (record { lo = (span_at s.at).lo; hi = u.at.last.hi }) u) _ (told_errs _ u) (λ _ v z. inr (u.at, refl, (j.0.read, j.0.tokens, j.0.last), z))))
 
   continue_ends : (s : State) → Meets (Ends s.at) (continue_stmt s)
   unfolding continue_stmt uncontinued spanned
   continue_ends s = let b = moved s in
       meets_then _ (target b) _ (kept b (target b) (target_keeps b b (behind_self b))) (λ x t k.
       meets_then _ (end faults.Expected t) _ (kept b (end faults.Expected t) (end_keeps b t k faults.Expected)) (λ _ u j.
-      meets_then _ (uncontinued x (record { lo = (span_at s.at).lo; hi = u.at.last.hi }) u) _ (told_errs _ u) (λ _ v z. inr (u.at, refl, (j.read, j.tokens, j.last), z))))
+      meets_then _ (uncontinued x (record { lo = (span_at s.at).lo; hi = u.at.last.hi }) u) _ (told_errs _ u) (λ _ v z. inr (u.at, refl, (j.0.read, j.0.tokens, j.0.last), z))))
 
   module _ (below_stmt : (at : Position) → Passes (inner at)) (below_expr : (class : Class) → Passes (inner_expr class)) (below_params : Passes inner_params) (below_member : Passes inner_member) where
-    operand_keeps : (b s : State) → IsBehind b s → Answers (Kept b) (Lost b) (operand (inner_expr expression) s)
+    operand_keeps : (b s : State) → NothingLost b s → Answers (Kept b) (Lost b) (operand (inner_expr expression) s)
     unfolding operand
     operand_keeps b s f = answers_if (Kept b) _ (ends_at s.at) _ _ (λ _. f)
         (λ _. answers_then (Kept b) _ (inner_expr expression (coded (with_in s.code) s)) _ (below_expr expression b (coded (with_in s.code) s) f) (λ x t k. k))
@@ -293,14 +293,14 @@ module _ (inner : Position → Reader Tree) (inner_expr : Class → Reader Tree)
     unfolding returned spanned
     returned_ends s = let b = moved s in
         meets_then _ (operand (inner_expr expression) b) _ (kept b (operand (inner_expr expression) b) (operand_keeps b b (behind_self b))) (λ x t k.
-        meets_then _ (end faults.Expected t) _ (kept b (end faults.Expected t) (end_keeps b t k faults.Expected)) (λ _ u j. (refl, (j.read, j.tokens, j.last))))
+        meets_then _ (end faults.Expected t) _ (kept b (end faults.Expected t) (end_keeps b t k faults.Expected)) (λ _ u j. (refl, (j.0.read, j.0.tokens, j.0.last))))
 
     return_ends : (s : State) → Meets (Ends s.at) (return_stmt (inner_expr expression) s)
     unfolding return_stmt misplaced
     return_ends s = after_return_meets {P = Returned s.at} (Ends s.at) (span_at s.at) (returned (inner_expr expression) (span_at s.at) (moved s)) (returned_ends s)
         (λ x t (h, k). meets_then _ (misplaced (span_at s.at) t) _ (told_errs _ t) (λ _ u z. inr (t.at, h, k, z)))
 
-    labelled_body_keeps : (text : Text) (b s : State) → IsBehind b s → Answers (Kept b) (Lost b) (labelled_body inner text s)
+    labelled_body_keeps : (text : Text) (b s : State) → NothingLost b s → Answers (Kept b) (Lost b) (labelled_body inner text s)
     unfolding labelled_body
     labelled_body_keeps text b s f = answers_then (Kept b) _ (below_label text (inner (labelled_item s.at)) (coded (in_breakable s.code) s)) _
         (answers_then (Kept b) _ (inner (labelled_item s.at) (below text (coded (in_breakable s.code) s))) _
@@ -312,7 +312,7 @@ module _ (inner : Position → Reader Tree) (inner_expr : Class → Reader Tree)
         meets_then _ (name faults.ExpectedIdent s) _ (named_behind faults.ExpectedIdent s) (λ i t k.
         meets_then _ (expect kind.Colon t) _ (kept b (expect kind.Colon t) (expect_keeps b t k kind.Colon)) (λ _ u j.
         meets_then _ (labelled_body inner i.sym u) _ (kept b (labelled_body inner i.sym u) (labelled_body_keeps i.sym b u j)) (λ y v h.
-        meets_then _ (relabels (tree.ident i.span i.sym) y v) _ (told_errs _ v) (λ _ w z. inr (v.at, refl, (h.read, h.tokens, h.last), z)))))
+        meets_then _ (relabels (tree.ident i.span i.sym) y v) _ (told_errs _ v) (λ _ w z. inr (v.at, refl, (h.0.read, h.0.tokens, h.0.last), z)))))
 
     other_ends : (at : Position) (s : State) → Meets (Ends s.at) (other_stmt inner (inner_expr expression) at s)
     unfolding other_stmt
@@ -322,14 +322,14 @@ module _ (inner : Position → Reader Tree) (inner_expr : Class → Reader Tree)
     unfolding let_stmt
     let_ends at s = meets_if _ (at.include_decl && is_let_declaration s.at) _ _ (λ _. variables_end decl.Let s) (λ _. other_ends at s)
 
-    function_parts_end : (is_async is_generator : Bool) (s t : State) → IsBehind (moved s) t → Meets (Ends s.at) (function_parts (inner nested_item) inner_params is_async is_generator (span_at s.at) t)
+    function_parts_end : (is_async is_generator : Bool) (s t : State) → NothingLost (moved s) t → Meets (Ends s.at) (function_parts (inner nested_item) inner_params is_async is_generator (span_at s.at) t)
     unfolding function_parts misdirected spanned
     function_parts_end a g s t k = let b = moved s in
         meets_then _ (within (λ k. in_parameters k a g) inner_params t) _
         (kept b (within (λ k. in_parameters k a g) inner_params t) (function_params_keep (inner nested_item) (below_stmt nested_item) inner_params below_params a g b t k)) (λ ps u j.
         meets_then _ (function_body (inner nested_item) inner_params a g u) _
         (kept b (function_body (inner nested_item) inner_params a g u) (function_body_keep (inner nested_item) (below_stmt nested_item) inner_params below_params a g b u j)) (λ x v h.
-        meets_then _ (misdirected (parameters ps) x v) _ (told_errs _ v) (λ _ w z. inr (v.at, refl, (h.read, h.tokens, h.last), z))))
+        meets_then _ (misdirected (parameters ps) x v) _ (told_errs _ v) (λ _ w z. inr (v.at, refl, (h.0.read, h.0.tokens, h.0.last), z))))
 
     function_ends : (s : State) → Meets (Ends s.at) (function_decl (inner nested_item) inner_params s)
     unfolding function_decl
@@ -376,6 +376,7 @@ module _ (inner : Position → Reader Tree) (inner_expr : Class → Reader Tree)
     by_ends at kind.Class s e = class_stmt_ends at s e
     by_ends at kind.Ident s e = async_or_other_ends at s
     by_ends at kind.Import s e = import_ends s
+    by_ends at kind.Export s e = import_ends s
     by_ends at _ s e = other_ends at s
 
 stmt_ends : (n : ℕ) (at : Position) (s : State) → Meets (Ends s.at) (stmt n at s)
@@ -403,7 +404,7 @@ stands s x t (inl e) h l = record { end = t.at; takes = takes_all s.at t.at h.re
 stands s x t (inr (e, k, p, z)) h l = let g : 1 ≤ length s.at.left = omega arith in record { end = e; takes = takes_after s.at e g p; span = k; behind = z }
 
 stands_by : (s : State) (o : Outcome Tree) → Meets (Ends s.at) o → Answers (Kept s) (Lost s) o → Falls 1 (length s.at.left) o → Meets (λ x t. StandsAt x s.at t.at) o
-stands_by s (Ok p) h g l = stands s p.0 p.1 h g l
+stands_by s (Ok p) h g l = stands s p.0 p.1 h g.0 l
 stands_by s (Err e) h g l = tt
 
 stmt_stands : (n : ℕ) (at : Position) (s : State) → Meets (λ x t. StandsAt x s.at t.at) (stmt n at s)

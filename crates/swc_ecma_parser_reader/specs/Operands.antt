@@ -79,7 +79,7 @@ abbrev pub key_or : Option Tree → Reader Tree
 key_or (Some (tree.str span value raw)) = pure (tree.str span value raw)
 key_or (Some (tree.num span raw)) = pure (tree.num span raw)
 key_or (Some (tree.big_int span raw)) = pure (tree.big_int span raw)
-key_or _ = wanted faults.Unexpected
+key_or _ = wanted faults.ExpectedIdent
 
 unfoldable pub literal_key : Reader Tree
 literal_key = literal >>= key_or

@@ -565,6 +565,7 @@ module _ (stmt : Position → Reader Tree) (expr : Class → Reader Tree) (pat :
   stmt_by at kind.Class = class_stmt (expr left_side) member at
   stmt_by at kind.Ident = async_or_other at
   stmt_by at kind.Import = import_stmt_at (expr expression)
+  stmt_by at kind.Export = import_stmt_at (expr expression)
   stmt_by at _ = other_stmt stmt (expr expression) at
 
   unfoldable pub stmt_level : Position → Reader Tree

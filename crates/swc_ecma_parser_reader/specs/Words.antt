@@ -23,10 +23,10 @@ use Rattle.swc_ecma_parser_reader.specs.State.{State, Outcome, Reader, ◌>>=◌
 -- a word, reserved or not
 abbrev pub word_by : State → Token → Span → Outcome Ident
 word_by s (token.Word w) span = Ok (record { span = span; sym = word_text w }, moved s)
-word_by s _ span = wanted faults.Unexpected s
+word_by s _ span = wanted faults.ExpectedIdent s
 
 abbrev pub word_in : State → List TokenAndSpan → Outcome Ident
-word_in s [] = wanted faults.Unexpected s
+word_in s [] = wanted faults.ExpectedIdent s
 word_in s (t ∷ ts) = word_by s t.token t.span
 
 unfoldable pub any_word : Reader Ident
@@ -34,7 +34,7 @@ any_word = λ s. word_in s s.at.left
 
 -- a word that begins where the token before it ends
 unfoldable pub touching_word : Reader Ident
-touching_word = λ s. if nat_eq s.at.last.hi.0 (span_at s.at).lo.0 then any_word s else wanted faults.Unexpected s
+touching_word = λ s. if nat_eq s.at.last.hi.0 (span_at s.at).lo.0 then any_word s else wanted faults.ExpectedIdent s
 
 -- `#` and its word
 unfoldable pub private_name : Reader Tree

@@ -12,7 +12,7 @@ use swc_ecma_parser_token::Token;
 /// What a rule wants.
 #[derive(Clone, Copy, Debug, PartialEq, Eq)]
 pub enum Wanted {
-    /// A name.
+    /// A name, or the key of a property or a member.
     Name,
     /// An expression, or whatever goes on in a way that no rule takes.
     Expression,

@@ -1,8 +1,9 @@
 -- Setting a context leaves the tokens, and is what is set.
-use Rattle.std.proofs.Common.{◌≡◌, Bool, true, false, cond, List, [], ◌∷◌, ◌++◌, refl, sym, ap, ◌∙◌, append-nil}
+use Rattle.std.proofs.Common.{◌≡◌, Bool, true, false, cond, List, [], ◌∷◌, ◌++◌, map, refl, sym, ap, ◌∙◌, append-nil}
 use Rattle.std.proofs.lemmas.List.{map-append}
 use Rattle.swc_ecma_parser_error.specs.declared.error.Error.{Error}
-use Rattle.swc_ecma_parser_error.specs.Kind.{fault_of, faults_of}
+use Rattle.swc_ecma_parser_error.specs.Kind.{Fault, fault_of, faults_of}
+use Rattle.swc_ecma_parser_grammar.specs.Notes.{as_note}
 use Rattle.swc_ecma_parser_input.specs.declared.context.Context.{Context}
 use Rattle.swc_ecma_parser_input.specs.TokenSource as source
 use Rattle.swc_ecma_parser_input.specs.TokenSource.{TokenSource}
@@ -35,18 +36,11 @@ recorded_stay c s = recorded_of c.«module» c s
 
 -- ---- where module code begins
 
-nothing_held : (hs : List Error) → held_of hs ≡ [] → hs ≡ []
-nothing_held [] e = refl
-nothing_held (h ∷ hs) e = cc
+notes_of_held : (hs : List Error) → map as_note (faults_of hs) ≡ held_of hs
+notes_of_held [] = refl
+notes_of_held (h ∷ hs) = ap (λ z. as_note (fault_of h) ∷ z) (notes_of_held hs)
 
 module _ {c : Context} (b d : Buffered) (e : d ≡ record (buffered.released b) { context = c }) where
   -- what was held back is recorded
-  pub recorded_later : IsLater (faults_of b.recorded) (faults_of d.recorded)
-  recorded_later = (faults_of b.held_back, ap (λ z. faults_of z.recorded) e ∙ map-append fault_of b.recorded b.held_back)
-
-  -- where nothing was, the context alone is another
-  pub nothing_released : held_of b.held_back ≡ [] → d ≡ record b { context = c }
-  nothing_released h = e ∙ same b.held_back (nothing_held b.held_back h)
-    where
-      same : (hs : List Error) → hs ≡ [] → record b { recorded = b.recorded ++ hs; held_back = []; context = c } ≡ record b { held_back = hs; context = c }
-      same hs g = rw (g, append-nil b.recorded) refl
+  pub released_faults : (fs : List Fault) × (faults_of d.recorded ≡ faults_of b.recorded ++ fs) × (map as_note fs ≡ held_of b.held_back)
+  released_faults = (faults_of b.held_back, ap (λ z. faults_of z.recorded) e ∙ map-append fault_of b.recorded b.held_back, notes_of_held b.held_back)

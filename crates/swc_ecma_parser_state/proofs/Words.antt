@@ -11,15 +11,15 @@ use Rattle.swc_ecma_parser_input.specs.Place.{first}
 use Rattle.swc_ecma_parser_reader.specs.State.{State, moved, wanted}
 use Rattle.swc_ecma_parser_reader.specs.Expressions.{any_word, word_in, word_by, token_is_word, first_is_word, is_word_at}
 
-none_by : (s : State) (t : Token) (span : Span) → token_is_word t ≡ false → word_by s t span ≡ wanted faults.Unexpected s
+none_by : (s : State) (t : Token) (span : Span) → token_is_word t ≡ false → word_by s t span ≡ wanted faults.ExpectedIdent s
 none_by s (token.Word w) span h = cc
 none_by s _ span h = refl
 
-none_in : (s : State) (ts : List TokenAndSpan) → first_is_word ts ≡ false → word_in s ts ≡ wanted faults.Unexpected s
+none_in : (s : State) (ts : List TokenAndSpan) → first_is_word ts ≡ false → word_in s ts ≡ wanted faults.ExpectedIdent s
 none_in s [] h = refl
 none_in s (t ∷ ts) h = none_by s t.token t.span h
 
-pub word_none : (s : State) → is_word_at s.at ≡ false → any_word s ≡ wanted faults.Unexpected s
+pub word_none : (s : State) → is_word_at s.at ≡ false → any_word s ≡ wanted faults.ExpectedIdent s
 unfolding any_word is_word_at
 word_none s h = none_in s s.at.left h
 

@@ -1,9 +1,10 @@
 //! How a state is made, given back and set right again.
 
-ghost use Rattle.std.specs.Prelude.{◌≡◌, ◌||◌, false, [], None, length, drop, IfOk, IfErr};
-ghost use Rattle.swc_ecma_parser_error.specs.Kind.{faults_of, IsOutOfMemory};
+ghost use Rattle.std.specs.Prelude.{◌≡◌, ◌||◌, ◌++◌, false, List, [], None, length, drop, map, IfOk, IfErr};
+ghost use Rattle.swc_ecma_parser_error.specs.Kind.{Fault, faults_of, IsOutOfMemory};
 ghost use Rattle.swc_ecma_parser_grammar.specs.Entries.{script_code};
-ghost use Rattle.swc_ecma_parser_grammar.specs.language.Programs.{entry_code, «module»};
+ghost use Rattle.swc_ecma_parser_grammar.specs.Notes.{as_note};
+ghost use Rattle.swc_ecma_parser_grammar.specs.language.Programs.{entry_code, «module», program};
 ghost use Rattle.swc_ecma_parser_input.specs.Place as place;
 ghost use Rattle.swc_ecma_parser_reader.specs.Notes.{held_of};
 ghost use Rattle.swc_ecma_parser_reader.specs.Entry.{unmarked, IsLater};
@@ -127,8 +128,7 @@ impl<I: Tokens> State<I> {
         ensures at { self.new.at ≡ self.old.at }
         ensures scope { self.new.scope ≡ self.old.scope }
         ensures found { self.new.notes ≡ record self.old.notes { held_back = [] } }
-        ensures faults { IsLater self.old.faults self.new.faults }
-        ensures settled { self.old.notes.held_back ≡ [] → self.new.faults ≡ self.old.faults }
+        ensures faults { (recorded : List Fault) × (self.new.faults ≡ self.old.faults ++ recorded) × (map as_note recorded ≡ self.old.notes.held_back) }
     {
         let flags = self.buffer.ctx();
         self.buffer.set_ctx(Context {
@@ -137,6 +137,24 @@ impl<I: Tokens> State<I> {
             strict: true,
             ..flags
         });
+    }
+
+    /// Begins code that can become a module's.
+    pub fn enter_program(&mut self)
+        ensures { self.new ≡ reader.coded (entry_code program self.old.code) self.old }
+    {
+        let outer = self.buffer.ctx();
+        self.buffer.set_ctx(Context {
+            can_be_module: true,
+            ..outer
+        });
+    }
+
+    /// Sets a context of the same goal, script or module.
+    pub fn leave_program(&mut self, outer: Context)
+        ensures { outer.module ≡ self.old.code.flags.module → self.new ≡ reader.coded (record self.old.code { flags = outer }) self.old }
+    {
+        self.buffer.set_ctx(outer);
     }
 
     /// Sets a context of code that is no module's.

@@ -364,7 +364,7 @@ impl<I: Tokens> State<I> {
         ensures { Gives (exprs.any_word self.old) result self.new }
     {
         if !self.is_word_here() {
-            return Err(self.wanted(Wanted::Expression));
+            return Err(self.wanted(Wanted::Name));
         }
         let Some(taken) = self.take()? else {
             return Err(self.out_of_memory());

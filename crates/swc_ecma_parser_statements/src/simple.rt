@@ -147,7 +147,7 @@ fn begins_import_expression<P: Source>(p: &P) -> bool
     p.sees(TokenKind::Import) && (p.next_sees(TokenKind::LParen) || p.next_sees(TokenKind::Dot))
 }
 
-/// An expression statement, where `import` begins one; it begins no other statement.
+/// An expression statement, where `import` begins one. Neither `import` nor `export` begins any other statement.
 #[tactic(auto, unfolding(swc_ecma_parser_reader::specs::Reader::import_stmt_at))]
 pub fn import_stmt_at<
     P: Source,

@@ -90,10 +90,10 @@ method_words_falls s = falls_if 0 (length s.at.left) (modifies (codes "get") s.a
 
 word_taken : (s : State) (t : TokenAndSpan) (ts : List TokenAndSpan) (u : Token) (span : Span) → s.at.left ≡ t ∷ ts → Falls 1 (length s.at.left) (word_by s u span)
 word_taken s t ts (token.Word w) span e = takes_one s.at t ts e
-word_taken s t ts _ span e = wanted_falls Ident 1 (length s.at.left) faults.Unexpected s
+word_taken s t ts _ span e = wanted_falls Ident 1 (length s.at.left) faults.ExpectedIdent s
 
 word_from : (s : State) (ts : List TokenAndSpan) → s.at.left ≡ ts → Falls 1 (length s.at.left) (word_in s ts)
-word_from s [] e = wanted_falls Ident 1 (length s.at.left) faults.Unexpected s
+word_from s [] e = wanted_falls Ident 1 (length s.at.left) faults.ExpectedIdent s
 word_from s (t ∷ ts) e = word_taken s t ts t.token t.span e
 
 pub any_word_falls : (s : State) → Falls 1 (length s.at.left) (any_word s)
@@ -102,7 +102,7 @@ any_word_falls s = word_from s s.at.left refl
 
 touching_falls : (s : State) → Falls 1 (length s.at.left) (touching_word s)
 unfolding touching_word
-touching_falls s = falls_if 1 (length s.at.left) _ _ _ (any_word_falls s) (wanted_falls Ident 1 (length s.at.left) faults.Unexpected s)
+touching_falls s = falls_if 1 (length s.at.left) _ _ _ (any_word_falls s) (wanted_falls Ident 1 (length s.at.left) faults.ExpectedIdent s)
 
 pub private_falls : (s : State) → Falls 1 (length s.at.left) (private_name s)
 unfolding private_name
@@ -158,11 +158,11 @@ literal_takes s [] x e h = cc
 literal_takes s (t ∷ ts) x e h = takes_one s.at t ts e
 
 key_or_falls : (s : State) (o : Option Tree) → literal_in s.at.left ≡ o → Falls 1 (length s.at.left) (and_then (taken o s) key_or)
-key_or_falls s None e = wanted_falls Tree 1 (length s.at.left) faults.Unexpected s
+key_or_falls s None e = wanted_falls Tree 1 (length s.at.left) faults.ExpectedIdent s
 key_or_falls s (Some (tree.str span value raw)) e = literal_takes s s.at.left (tree.str span value raw) refl e
 key_or_falls s (Some (tree.num span raw)) e = literal_takes s s.at.left (tree.num span raw) refl e
 key_or_falls s (Some (tree.big_int span raw)) e = literal_takes s s.at.left (tree.big_int span raw) refl e
-key_or_falls s (Some _) e = falls_moved 1 s _ (wanted_falls Tree 1 (length (after s.at).left) faults.Unexpected (moved s))
+key_or_falls s (Some _) e = falls_moved 1 s _ (wanted_falls Tree 1 (length (after s.at).left) faults.ExpectedIdent (moved s))
 
 pub literal_key_falls : (s : State) → Falls 1 (length s.at.left) (literal_key s)
 unfolding literal_key literal

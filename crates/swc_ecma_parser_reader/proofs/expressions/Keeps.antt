@@ -40,8 +40,7 @@ use Rattle.swc_ecma_parser_reader.specs.Yields.{begins_yield, bare_yield, yielde
 use Rattle.swc_ecma_parser_reader.specs.Heads.{sequenced, head_expr}
 use Rattle.swc_ecma_parser_reader.proofs.Meets.{Answers, answers_then, answers_if, saw}
 use Rattle.swc_ecma_parser_reader.proofs.expressions.Awaits.{await_fault, await_either}
-use Rattle.swc_ecma_parser_reader.proofs.Behind.{Kept, Lost, Passes, behind_after, behind_noted, fault_keeps, wanted_keeps, refuse_keeps, reject_keeps, expect_keeps, name_keeps, loop_keeps}
-use Rattle.swc_ecma_parser_reader.specs.Entry.{IsBehind}
+use Rattle.swc_ecma_parser_reader.proofs.Behind.{NothingLost, Kept, Lost, Passes, behind_after, behind_noted, fault_keeps, wanted_keeps, refuse_keeps, reject_keeps, expect_keeps, name_keeps, loop_keeps}
 
 -- ---- what is known of the first token
 
@@ -56,7 +55,7 @@ no_end_by f k x n h = λ e. let g : Some x ≡ None = sym h ∙ ap f e ∙ n in 
 
 -- ---- steps that read nothing further in
 
-module _ (b : State) (s : State) (f : IsBehind b s) where
+module _ (b : State) (s : State) (f : NothingLost b s) where
   pub unexpected_keeps : {A : Type 0} (P : A → State → Type 0) → Answers P (Lost b) (wanted faults.Unexpected s)
   unexpected_keeps P = wanted_keeps P faults.Unexpected b s f
 
@@ -70,10 +69,10 @@ module _ (b : State) (s : State) (f : IsBehind b s) where
 
   word_by_keeps : (v : Token) (span : Span) → Answers (Kept b) (Lost b) (word_by s v span)
   word_by_keeps (token.Word w) span = behind_after b s f
-  word_by_keeps _ span = unexpected_keeps _
+  word_by_keeps _ span = wanted_keeps _ faults.ExpectedIdent b s f
 
   word_in_keeps : (ts : List TokenAndSpan) → Answers (Kept b) (Lost b) (word_in s ts)
-  word_in_keeps [] = unexpected_keeps _
+  word_in_keeps [] = wanted_keeps _ faults.ExpectedIdent b s f
   word_in_keeps (u ∷ ts) = word_by_keeps u.token u.span
 
   any_word_keeps : Answers (Kept b) (Lost b) (any_word s)
@@ -82,7 +81,7 @@ module _ (b : State) (s : State) (f : IsBehind b s) where
 
   touching_keeps : Answers (Kept b) (Lost b) (touching_word s)
   unfolding touching_word
-  touching_keeps = answers_if _ _ (nat_eq s.at.last.hi.0 (span_at s.at).lo.0) _ _ (λ _. any_word_keeps) (λ _. unexpected_keeps _)
+  touching_keeps = answers_if _ _ (nat_eq s.at.last.hi.0 (span_at s.at).lo.0) _ _ (λ _. any_word_keeps) (λ _. wanted_keeps _ faults.ExpectedIdent b s f)
 
   ident_keeps : Answers (Kept b) (Lost b) (ident_expr s)
   unfolding ident_expr
@@ -146,73 +145,73 @@ module _ (b : State) (s : State) (f : IsBehind b s) where
 
 -- ---- what is told, and what stands in parentheses as an expression and as parameters
 
-pub told_keeps : (b : State) (fs : List Fault) (s : State) → IsBehind b s → Answers (Kept b) (Lost b) (told fs s)
+pub told_keeps : (b : State) (fs : List Fault) (s : State) → NothingLost b s → Answers (Kept b) (Lost b) (told fs s)
 told_keeps b [] s g = g
 told_keeps b (f ∷ fs) s g = answers_then (Kept b) _ (fault f s) _ (fault_keeps b s g f) (λ _ t k. told_keeps b fs t k)
 
-closed_parts_keep : (b : State) (vs : List Cover) (s : State) → IsBehind b s → Answers (Kept b) (Lost b) (closed_parts vs s)
+closed_parts_keep : (b : State) (vs : List Cover) (s : State) → NothingLost b s → Answers (Kept b) (Lost b) (closed_parts vs s)
 closed_parts_keep b [] s f = f
 closed_parts_keep b (v ∷ vs) s f = answers_then _ _ (close v s) _ (close_keeps b s f v) (λ x t g. answers_then _ _ (closed_parts vs t) _ (closed_parts_keep b vs t g) (λ xs u k. k))
 
-closed_group_keeps : (b : State) (start : Span) (g : Group) (s : State) → IsBehind b s → Answers (Kept b) (Lost b) (closed_group start g s)
+closed_group_keeps : (b : State) (start : Span) (g : Group) (s : State) → NothingLost b s → Answers (Kept b) (Lost b) (closed_group start g s)
 unfolding closed_group
 closed_group_keeps b start g s f = answers_if _ _ (may_stand_alone g) _ _ (λ _. answers_then _ _ (closed_parts g.parts s) _ (closed_parts_keep b g.parts s f) (λ xs t k. k))
     (λ _. unexpected_keeps b s f _)
 
-parameter_or_keeps : (b : State) (x : Tree) (o : Option Tree) (s : State) → IsBehind b s → Answers (Kept b) (Lost b) (parameter_or x o s)
+parameter_or_keeps : (b : State) (x : Tree) (o : Option Tree) (s : State) → NothingLost b s → Answers (Kept b) (Lost b) (parameter_or x o s)
 parameter_or_keeps b x (Some p) s f = f
 parameter_or_keeps b x None s f = reject_keeps _ faults.InvalidPat (span_of x) b s f
 
-parameter_keeps : (b : State) (v : Cover) (s : State) → IsBehind b s → Answers (Kept b) (Lost b) (parameter v s)
+parameter_keeps : (b : State) (v : Cover) (s : State) → NothingLost b s → Answers (Kept b) (Lost b) (parameter v s)
 unfolding parameter
 parameter_keeps b v s f = parameter_or_keeps b v.x (cond v.comma None (as_parameter v.x)) s f
 
-parameters_of_keep : (b : State) (vs : List Cover) (rest : Option Tree) (s : State) → IsBehind b s → Answers (Kept b) (Lost b) (parameters_of vs rest s)
+parameters_of_keep : (b : State) (vs : List Cover) (rest : Option Tree) (s : State) → NothingLost b s → Answers (Kept b) (Lost b) (parameters_of vs rest s)
 parameters_of_keep b [] rest s f = f
 parameters_of_keep b (v ∷ vs) rest s f = answers_then _ _ (parameter v s) _ (parameter_keeps b v s f) (λ p t g.
     answers_then _ _ (parameters_of vs rest t) _ (parameters_of_keep b vs rest t g) (λ ps u k. k))
 
-behind_part_keeps : (b : State) (found : List Cover) (s : State) → IsBehind b s → Answers (Kept b) (Lost b) (behind_part found s)
+behind_part_keeps : (b : State) (found : List Cover) (s : State) → NothingLost b s → Answers (Kept b) (Lost b) (behind_part found s)
 behind_part_keeps b found s f = answers_if _ _ (sees kind.RParen s.at) _ _ (λ _. f) (λ _. answers_then _ _ (expect kind.Comma s) _ (expect_keeps b s f kind.Comma) (λ _ t g.
     answers_if _ _ (sees kind.RParen t.at) _ _ (λ _. g) (λ _. g)))
 
-closed_arguments_keep : (b : State) (found : List Argument) (s : State) → IsBehind b s → Answers (Kept b) (Lost b) (closed_arguments found s)
+closed_arguments_keep : (b : State) (found : List Argument) (s : State) → NothingLost b s → Answers (Kept b) (Lost b) (closed_arguments found s)
 closed_arguments_keep b [] s f = f
 closed_arguments_keep b (a ∷ rest) s f = answers_then _ _ (closed_argument a s) _ (answers_then _ _ (close a.cover s) _ (close_keeps b s f a.cover) (λ x t g. g)) (λ x t g.
     answers_then _ _ (closed_arguments rest t) _ (closed_arguments_keep b rest t g) (λ xs u k. k))
 
-argument_parameter_keeps : (b : State) (a : Argument) (s : State) → IsBehind b s → Answers (Kept b) (Lost b) (argument_parameter a s)
+argument_parameter_keeps : (b : State) (a : Argument) (s : State) → NothingLost b s → Answers (Kept b) (Lost b) (argument_parameter a s)
 unfolding argument_parameter
 argument_parameter_keeps b a s f = parameter_or_keeps b a.cover.x (cond a.cover.comma None (argument_pattern a.dots a.cover.x)) s f
 
-argument_parameters_keep : (b : State) (found : List Argument) (s : State) → IsBehind b s → Answers (Kept b) (Lost b) (argument_parameters found s)
+argument_parameters_keep : (b : State) (found : List Argument) (s : State) → NothingLost b s → Answers (Kept b) (Lost b) (argument_parameters found s)
 argument_parameters_keep b [] s f = f
 argument_parameters_keep b (a ∷ rest) s f = answers_then _ _ (argument_parameter a s) _ (argument_parameter_keeps b a s f) (λ p t g.
     answers_then _ _ (argument_parameters rest t) _ (argument_parameters_keep b rest t g) (λ ps u k. k))
 
-literal_key_keeps : (b : State) (s : State) → IsBehind b s → Answers (Kept b) (Lost b) (literal_key s)
+literal_key_keeps : (b : State) (s : State) → NothingLost b s → Answers (Kept b) (Lost b) (literal_key s)
 unfolding literal_key
 literal_key_keeps b s f = answers_then _ _ (literal s) _ (literal_keeps b s f) by_key
   where
-    by_key : (o : Option Tree) (t : State) → IsBehind b t → Answers (Kept b) (Lost b) (key_or o t)
+    by_key : (o : Option Tree) (t : State) → NothingLost b t → Answers (Kept b) (Lost b) (key_or o t)
     by_key (Some (tree.str span value raw)) t g = g
     by_key (Some (tree.num span raw)) t g = g
     by_key (Some (tree.big_int span raw)) t g = g
-    by_key _ t g = unexpected_keeps b t g _
+    by_key _ t g = wanted_keeps _ faults.ExpectedIdent b t g
 
-pub private_keeps : (b : State) (s : State) → IsBehind b s → Answers (Kept b) (Lost b) (private_name s)
+pub private_keeps : (b : State) (s : State) → NothingLost b s → Answers (Kept b) (Lost b) (private_name s)
 unfolding private_name
 private_keeps b s f = answers_then _ _ (touching_word (moved s)) _ (touching_keeps b (moved s) (behind_after b s f)) (λ i t g. g)
 
-dotted_keeps : (b : State) (s : State) → IsBehind b s → Answers (Kept b) (Lost b) (dotted s)
+dotted_keeps : (b : State) (s : State) → NothingLost b s → Answers (Kept b) (Lost b) (dotted s)
 unfolding dotted word_property
 dotted_keeps b s f = answers_if _ _ (sees kind.Hash s.at) _ _ (λ _. private_keeps b s f) (λ _. answers_then _ _ (any_word s) _ (any_word_keeps b s f) (λ i t g. g))
 
-update_behind_keeps : (b : State) (start : Span) (x : Tree) (op : UpdateOp) (s : State) → IsBehind b s → Answers (Kept b) (Lost b) (update_behind start x op s)
+update_behind_keeps : (b : State) (start : Span) (x : Tree) (op : UpdateOp) (s : State) → NothingLost b s → Answers (Kept b) (Lost b) (update_behind start x op s)
 unfolding update_behind
 update_behind_keeps b start x op s f = answers_then _ _ (simple x s) _ (simple_keeps b s f x) (λ _ t g. behind_after b t g)
 
-behind_operand_keeps : (b : State) (start : Span) (x : Tree) (o : Option UpdateOp) (s : State) → IsBehind b s → Answers (Kept b) (Lost b) (behind_operand start x o s)
+behind_operand_keeps : (b : State) (start : Span) (x : Tree) (o : Option UpdateOp) (s : State) → NothingLost b s → Answers (Kept b) (Lost b) (behind_operand start x o s)
 behind_operand_keeps b start x None s f = f
 behind_operand_keeps b start x (Some op) s f = update_behind_keeps b start x op s f
 
@@ -236,17 +235,17 @@ method_words_keeps b s f = answers_if _ _ (modifies (codes "get") s.at) _ _ (λ 
 -- ---- what is read one level further in
 
 module _ (inner : Class → Reader Tree) (cover : Reader Cover) (below : (class : Class) → Passes (inner class)) (below_cover : Passes cover) where
-  pub inside_keeps : (class : Class) (b : State) (s : State) → IsBehind b s → Answers (Kept b) (Lost b) (inside inner cover class s)
+  pub inside_keeps : (class : Class) (b : State) (s : State) → NothingLost b s → Answers (Kept b) (Lost b) (inside inner cover class s)
   unfolding inside
   inside_keeps class b s f = answers_then (Kept b) _ (inner class (coded (with_in s.code) s)) _ (below class b (coded (with_in s.code) s) f) (λ x t k. k)
 
-  element_keeps : (b : State) (s : State) → IsBehind b s → Answers (Kept b) (Lost b) (element inner cover s)
+  element_keeps : (b : State) (s : State) → NothingLost b s → Answers (Kept b) (Lost b) (element inner cover s)
   unfolding element spread_element plain_element
   element_keeps b s f = answers_if _ _ (sees kind.DotDotDot s.at) _ _
       (λ _. answers_then _ _ (inside inner cover assignment (moved s)) _ (inside_keeps assignment b (moved s) (behind_after b s f)) (λ x t k. k))
       (λ _. answers_then _ _ (inside inner cover assignment s) _ (inside_keeps assignment b s f) (λ x t k. k))
 
-  many_arguments_keeps : (commas : Bool) (b : State) (s : State) → IsBehind b s → Answers (Kept b) (Lost b) (loop (arguments_turn inner cover commas) [] s)
+  many_arguments_keeps : (commas : Bool) (b : State) (s : State) → NothingLost b s → Answers (Kept b) (Lost b) (loop (arguments_turn inner cover commas) [] s)
   unfolding arguments_turn
   many_arguments_keeps commas b s f = loop_keeps (arguments_turn inner cover commas) b
       (λ xs t g. answers_if _ _ (sees kind.RParen t.at) _ _ (λ _. behind_after b t g) (λ _.
@@ -255,17 +254,17 @@ module _ (inner : Class → Reader Tree) (cover : Reader Cover) (below : (class 
       answers_if _ _ (not commas && sees kind.RParen v.at) _ _
       (λ _. answers_then _ _ (fault (fault_at v.at.last faults.TrailingCommaInsideImport) v) _ (fault_keeps b v j _) (λ _ w l. l)) (λ _. j)))))) [] s f
 
-  covered_keeps : (b : State) (s : State) → IsBehind b s → Answers (Kept b) (Lost b) (covered inner cover s)
+  covered_keeps : (b : State) (s : State) → NothingLost b s → Answers (Kept b) (Lost b) (covered inner cover s)
   unfolding covered
   covered_keeps b s f = answers_then (Kept b) _ (cover (coded (with_in s.code) s)) _ (below_cover b (coded (with_in s.code) s) f) (λ v t k. k)
 
-  item_keeps : (b : State) (s : State) → IsBehind b s → Answers (Kept b) (Lost b) (item inner cover s)
+  item_keeps : (b : State) (s : State) → NothingLost b s → Answers (Kept b) (Lost b) (item inner cover s)
   unfolding item spread_item plain_item
   item_keeps b s f = answers_if _ _ (sees kind.DotDotDot s.at) _ _
       (λ _. answers_then _ _ (covered inner cover (moved s)) _ (covered_keeps b (moved s) (behind_after b s f)) (λ v t k. k))
       (λ _. answers_then _ _ (covered inner cover s) _ (covered_keeps b s f) (λ v t k. k))
 
-  many_elements_keeps : (b : State) (s : State) → IsBehind b s → Answers (Kept b) (Lost b) (loop (array_turn inner cover) no_covers s)
+  many_elements_keeps : (b : State) (s : State) → NothingLost b s → Answers (Kept b) (Lost b) (loop (array_turn inner cover) no_covers s)
   unfolding array_turn
   many_elements_keeps b s f = loop_keeps (array_turn inner cover) b
       (λ found t g. answers_if _ _ (sees kind.RBracket t.at) _ _ (λ _. behind_after b t g) (λ _.
@@ -273,13 +272,13 @@ module _ (inner : Class → Reader Tree) (cover : Reader Cover) (below : (class 
       answers_then _ _ (item inner cover t) _ (item_keeps b t g) (λ v u k.
       answers_if _ _ (sees kind.RBracket u.at) _ _ (λ _. k) (λ _. answers_then _ _ (expect kind.Comma u) _ (expect_keeps b u k kind.Comma) (λ _ w j. j)))))) no_covers s f
 
-  argument_keeps : (b : State) (s : State) → IsBehind b s → Answers (Kept b) (Lost b) (argument inner cover s)
+  argument_keeps : (b : State) (s : State) → NothingLost b s → Answers (Kept b) (Lost b) (argument inner cover s)
   unfolding argument spread_argument plain_argument
   argument_keeps b s f = answers_if _ _ (sees kind.DotDotDot s.at) _ _
       (λ _. answers_then _ _ (covered inner cover (moved s)) _ (covered_keeps b (moved s) (behind_after b s f)) (λ v t k. k))
       (λ _. answers_then _ _ (covered inner cover s) _ (covered_keeps b s f) (λ v t k. k))
 
-  either_arguments_keep : (b : State) (s : State) → IsBehind b s → Answers (Kept b) (Lost b) (either_arguments inner cover s)
+  either_arguments_keep : (b : State) (s : State) → NothingLost b s → Answers (Kept b) (Lost b) (either_arguments inner cover s)
   unfolding either_arguments either_turn
   either_arguments_keep b s f = loop_keeps (either_turn inner cover) b
       (λ found t g. answers_if _ _ (sees kind.RParen t.at) _ _ (λ _. behind_after b t g) (λ _.
@@ -288,27 +287,27 @@ module _ (inner : Class → Reader Tree) (cover : Reader Cover) (below : (class 
 
   -- ---- properties
 
-  computed_key_keeps : (b : State) (s : State) → IsBehind b s → Answers (Kept b) (Lost b) (computed_key inner cover s)
+  computed_key_keeps : (b : State) (s : State) → NothingLost b s → Answers (Kept b) (Lost b) (computed_key inner cover s)
   unfolding computed_key
   computed_key_keeps b s f = answers_then _ _ (inside inner cover assignment (moved s)) _ (inside_keeps assignment b (moved s) (behind_after b s f)) (λ x t k.
       answers_then _ _ (expect kind.RBracket t) _ (expect_keeps b t k kind.RBracket) (λ _ u j. j))
 
-  pub key_keeps : (b : State) (s : State) → IsBehind b s → Answers (Kept b) (Lost b) (key inner cover s)
+  pub key_keeps : (b : State) (s : State) → NothingLost b s → Answers (Kept b) (Lost b) (key inner cover s)
   unfolding key word_property
   key_keeps b s f = answers_if _ _ (is_word_at s.at) _ _ (λ _. answers_then _ _ (any_word s) _ (any_word_keeps b s f) (λ x t k. k))
       (λ _. answers_if _ _ (sees kind.LBracket s.at) _ _ (λ _. computed_key_keeps b s f) (λ _. literal_key_keeps b s f))
 
-  initialized_keeps : (b : State) (start : Span) (x : Tree) (s : State) → IsBehind b s → Answers (Kept b) (Lost b) (initialized inner cover start x s)
+  initialized_keeps : (b : State) (start : Span) (x : Tree) (s : State) → NothingLost b s → Answers (Kept b) (Lost b) (initialized inner cover start x s)
   unfolding initialized
   initialized_keeps b start x s f = answers_then _ _ (inside inner cover assignment (moved s)) _ (inside_keeps assignment b (moved s) (behind_after b s f)) (λ y t k. k)
 
-  initialized_key_keeps : (b : State) (start : Span) (x : Tree) (s : State) → IsBehind b s → Answers (Kept b) (Lost b) (initialized_key inner cover start x s)
+  initialized_key_keeps : (b : State) (start : Span) (x : Tree) (s : State) → NothingLost b s → Answers (Kept b) (Lost b) (initialized_key inner cover start x s)
   unfolding initialized_name
   initialized_key_keeps b start (tree.ident span text) s f = answers_if _ _ (is_name s.code.flags text) _ _ (λ _. initialized_keeps b start (tree.ident span text) s f)
       (λ _. reject_keeps _ faults.ExpectedIdent span b s f)
   initialized_key_keeps b start _ s f = unexpected_keeps b s f _
 
-  behind_key_keeps : (b : State) (start : Span) (x : Tree) (s : State) → IsBehind b s → Answers (Kept b) (Lost b) (behind_key inner cover start x s)
+  behind_key_keeps : (b : State) (start : Span) (x : Tree) (s : State) → NothingLost b s → Answers (Kept b) (Lost b) (behind_key inner cover start x s)
   unfolding behind_key key_value bare_key
   behind_key_keeps b start x s f = answers_if _ _ (sees kind.Colon s.at) _ _
       (λ _. answers_then _ _ (covered inner cover (moved s)) _ (covered_keeps b (moved s) (behind_after b s f)) (λ v t k. k))
@@ -325,14 +324,14 @@ module _ (inner : Class → Reader Tree) (cover : Reader Cover) (below : (class 
     behind_words_keeps form start x b s f = answers_if _ _ (is_bare form && not (sees kind.LParen s.at)) _ _ (λ _. behind_key_keeps b start x s f)
         (λ _. method_keeps form start x b s f)
 
-    property_keeps : (b : State) (s : State) → IsBehind b s → Answers (Kept b) (Lost b) (property inner cover function s)
+    property_keeps : (b : State) (s : State) → NothingLost b s → Answers (Kept b) (Lost b) (property inner cover function s)
     unfolding property spread_property keyed_property
     property_keeps b s f = answers_if _ _ (sees kind.DotDotDot s.at) _ _
         (λ _. answers_then _ _ (covered inner cover (moved s)) _ (covered_keeps b (moved s) (behind_after b s f)) (λ v t k. k))
         (λ _. answers_then _ _ (method_words s) _ (method_words_keeps b s f) (λ form t g.
         answers_then _ _ (key inner cover t) _ (key_keeps b t g) (λ x u k. behind_words_keeps form (span_at s.at) x b u k)))
 
-    many_properties_keeps : (b : State) (s : State) → IsBehind b s → Answers (Kept b) (Lost b) (loop (object_turn inner cover function) no_covers s)
+    many_properties_keeps : (b : State) (s : State) → NothingLost b s → Answers (Kept b) (Lost b) (loop (object_turn inner cover function) no_covers s)
     unfolding object_turn
     many_properties_keeps b s f = loop_keeps (object_turn inner cover function) b
         (λ found t g. answers_if _ _ (sees kind.RBrace t.at) _ _ (λ _. behind_after b t g) (λ _.
@@ -342,52 +341,52 @@ module _ (inner : Class → Reader Tree) (cover : Reader Cover) (below : (class 
   -- ---- left-hand sides and what stands in brackets
 
   module _ (b : State) where
-    brackets_keeps : (s : State) → kind_at s.at ≡ kind.LBracket → IsBehind b s → Answers (Kept b) (Lost b) (brackets inner cover s)
+    brackets_keeps : (s : State) → kind_at s.at ≡ kind.LBracket → NothingLost b s → Answers (Kept b) (Lost b) (brackets inner cover s)
     unfolding brackets
     brackets_keeps s e f =
         let g = behind_after b s f in
         answers_then _ _ (inside inner cover expression (moved s)) _ (inside_keeps expression b (moved s) g) (λ x t k.
         answers_then _ _ (expect kind.RBracket t) _ (expect_keeps b t k kind.RBracket) (λ _ u j. j))
 
-    access_keeps : (s : State) → (sees kind.Dot s.at || sees kind.LBracket s.at) ≡ true → IsBehind b s → Answers (Kept b) (Lost b) (access inner cover s)
+    access_keeps : (s : State) → (sees kind.Dot s.at || sees kind.LBracket s.at) ≡ true → NothingLost b s → Answers (Kept b) (Lost b) (access inner cover s)
     unfolding access
     access_keeps s h f = answers_if _ _ (sees kind.Dot s.at) _ _ (λ _. dotted_keeps b (moved s) (behind_after b s f))
         (λ e. brackets_keeps s (saw s.at kind.LBracket (other_test (sees kind.Dot s.at) (sees kind.LBracket s.at) h e)) f)
 
-    super_property_keeps : (s : State) → (sees kind.Dot s.at || sees kind.LBracket s.at) ≡ true → IsBehind b s → Answers (Kept b) (Lost b) (super_property inner cover s)
+    super_property_keeps : (s : State) → (sees kind.Dot s.at || sees kind.LBracket s.at) ≡ true → NothingLost b s → Answers (Kept b) (Lost b) (super_property inner cover s)
     unfolding super_property word_property
     super_property_keeps s h f = answers_if _ _ (sees kind.Dot s.at) _ _
         (λ _. answers_then _ _ (any_word (moved s)) _ (any_word_keeps b (moved s) (behind_after b s f)) (λ i t g. g))
         (λ e. brackets_keeps s (saw s.at kind.LBracket (other_test (sees kind.Dot s.at) (sees kind.LBracket s.at) h e)) f)
 
-    arguments_keeps : (commas : Bool) (s : State) → kind_at s.at ≡ kind.LParen → IsBehind b s → Answers (Kept b) (Lost b) (arguments inner cover commas s)
+    arguments_keeps : (commas : Bool) (s : State) → kind_at s.at ≡ kind.LParen → NothingLost b s → Answers (Kept b) (Lost b) (arguments inner cover commas s)
     unfolding arguments
     arguments_keeps commas s e f =
         let g = behind_after b s f in
         (many_arguments_keeps commas b (moved s) g)
 
-    elements_keeps : (s : State) → kind_at s.at ≡ kind.LBracket → IsBehind b s → Answers (Kept b) (Lost b) (elements inner cover s)
+    elements_keeps : (s : State) → kind_at s.at ≡ kind.LBracket → NothingLost b s → Answers (Kept b) (Lost b) (elements inner cover s)
     unfolding elements
     elements_keeps s e f =
         let g = behind_after b s f in
         (many_elements_keeps b (moved s) g)
 
-    array_keeps : (s : State) → kind_at s.at ≡ kind.LBracket → IsBehind b s → Answers (Kept b) (Lost b) (array inner cover s)
+    array_keeps : (s : State) → kind_at s.at ≡ kind.LBracket → NothingLost b s → Answers (Kept b) (Lost b) (array inner cover s)
     unfolding array
     array_keeps s e f = answers_then _ _ (elements inner cover s) _ (elements_keeps s e f) (λ xs t g. g)
 
     module _ (function : FunctionForm → Reader Tree) (below_function : (form : FunctionForm) → Passes (function form)) where
-      properties_keeps : (s : State) → kind_at s.at ≡ kind.LBrace → IsBehind b s → Answers (Kept b) (Lost b) (properties inner cover function s)
+      properties_keeps : (s : State) → kind_at s.at ≡ kind.LBrace → NothingLost b s → Answers (Kept b) (Lost b) (properties inner cover function s)
       unfolding properties
       properties_keeps s e f =
           let g = behind_after b s f in
           (many_properties_keeps function below_function b (moved s) g)
 
-      object_keeps : (s : State) → kind_at s.at ≡ kind.LBrace → IsBehind b s → Answers (Kept b) (Lost b) (object inner cover function s)
+      object_keeps : (s : State) → kind_at s.at ≡ kind.LBrace → NothingLost b s → Answers (Kept b) (Lost b) (object inner cover function s)
       unfolding object
       object_keeps s e f = answers_then _ _ (properties inner cover function s) _ (properties_keeps s e f) (λ xs t g. g)
 
-    paren_keeps : (s : State) → kind_at s.at ≡ kind.LParen → IsBehind b s → Answers (Kept b) (Lost b) (paren inner cover s)
+    paren_keeps : (s : State) → kind_at s.at ≡ kind.LParen → NothingLost b s → Answers (Kept b) (Lost b) (paren inner cover s)
     unfolding paren
     paren_keeps s e f =
         let g = behind_after b s f in
@@ -396,15 +395,15 @@ module _ (inner : Class → Reader Tree) (cover : Reader Cover) (below : (class 
 
     -- ---- left-hand sides
 
-    accessed_keeps : (start : Span) (x : Tree) (s : State) → (sees kind.Dot s.at || sees kind.LBracket s.at) ≡ true → IsBehind b s → Answers (Kept b) (Lost b) (accessed inner cover start x s)
+    accessed_keeps : (start : Span) (x : Tree) (s : State) → (sees kind.Dot s.at || sees kind.LBracket s.at) ≡ true → NothingLost b s → Answers (Kept b) (Lost b) (accessed inner cover start x s)
     unfolding accessed
     accessed_keeps start x s h f = answers_then _ _ (access inner cover s) _ (access_keeps s h f) (λ y t g. g)
 
-    called_keeps : (start : Span) (x : Tree) (s : State) → kind_at s.at ≡ kind.LParen → IsBehind b s → Answers (Kept b) (Lost b) (called inner cover start x s)
+    called_keeps : (start : Span) (x : Tree) (s : State) → kind_at s.at ≡ kind.LParen → NothingLost b s → Answers (Kept b) (Lost b) (called inner cover start x s)
     unfolding called
     called_keeps start x s e f = answers_then _ _ (arguments inner cover true s) _ (arguments_keeps true s e f) (λ xs t g. g)
 
-    left_from_keeps : (calls : Bool) (start : Span) (x : Tree) (s : State) → IsBehind b s → Answers (Kept b) (Lost b) (left_from inner cover calls start x s)
+    left_from_keeps : (calls : Bool) (start : Span) (x : Tree) (s : State) → NothingLost b s → Answers (Kept b) (Lost b) (left_from inner cover calls start x s)
     unfolding left_from left_turn
     left_from_keeps calls start x s f = loop_keeps (left_turn inner cover calls start) b
         (λ y t g. answers_if _ _ (sees kind.Dot t.at || sees kind.LBracket t.at) _ _
@@ -412,67 +411,67 @@ module _ (inner : Class → Reader Tree) (cover : Reader Cover) (below : (class 
         (λ _. answers_if _ _ (calls && sees kind.LParen t.at) _ _
         (λ h. answers_then _ _ (called inner cover start y t) _ (called_keeps start y t (saw t.at kind.LParen (and_parts calls (sees kind.LParen t.at) h).1) g) (λ z u k. k)) (λ _. g))) x s f
 
-    behind_super_keeps : (calls : Bool) (start : Span) (s : State) → IsBehind b s → Answers (Kept b) (Lost b) (behind_super inner cover calls start s)
+    behind_super_keeps : (calls : Bool) (start : Span) (s : State) → NothingLost b s → Answers (Kept b) (Lost b) (behind_super inner cover calls start s)
     unfolding behind_super super_call super_access
     behind_super_keeps calls start s f = answers_if _ _ (calls && sees kind.LParen s.at) _ _
         (λ h. answers_then _ _ (arguments inner cover true s) _ (arguments_keeps true s (saw s.at kind.LParen (and_parts calls (sees kind.LParen s.at) h).1) f) (λ xs t g. g))
         (λ _. answers_if _ _ (sees kind.Dot s.at || sees kind.LBracket s.at) _ _
         (λ h. answers_then _ _ (super_property inner cover s) _ (super_property_keeps s h f) (λ x t g. g)) (λ _. reject_keeps _ faults.InvalidSuper start b s f))
 
-    super_keeps : (calls : Bool) (s : State) → IsBehind b s → Answers (Kept b) (Lost b) (super_head inner cover calls s)
+    super_keeps : (calls : Bool) (s : State) → NothingLost b s → Answers (Kept b) (Lost b) (super_head inner cover calls s)
     unfolding super_head
     super_keeps calls s f = behind_super_keeps calls (span_at s.at) (moved s) (behind_after b s f)
 
-    constructed_keeps : (start : Span) (x : Tree) (s : State) → kind_at s.at ≡ kind.LParen → IsBehind b s → Answers (Kept b) (Lost b) (constructed inner cover start x s)
+    constructed_keeps : (start : Span) (x : Tree) (s : State) → kind_at s.at ≡ kind.LParen → NothingLost b s → Answers (Kept b) (Lost b) (constructed inner cover start x s)
     unfolding constructed
     constructed_keeps start x s e f = answers_then _ _ (arguments inner cover true s) _ (arguments_keeps true s e f) (λ xs t g. g)
 
-    new_keeps : (s : State) → kind_at s.at ≡ kind.New → IsBehind b s → Answers (Kept b) (Lost b) (new_head inner cover s)
+    new_keeps : (s : State) → kind_at s.at ≡ kind.New → NothingLost b s → Answers (Kept b) (Lost b) (new_head inner cover s)
     unfolding new_head bare_new
     new_keeps s e f =
         let g = behind_after b s f in
         answers_then _ _ (inner callee (moved s)) _ (below callee b (moved s) g) (λ x t k.
-        let j : IsBehind b t = k in
+        let j : NothingLost b t = k in
         answers_if _ _ (sees kind.LParen t.at) _ _ (λ o. constructed_keeps (span_at s.at) x t (saw t.at kind.LParen o) j) (λ _. j))
 
-    import_call_keeps : (start : Span) (s : State) → kind_at s.at ≡ kind.LParen → IsBehind b s → Answers (Kept b) (Lost b) (import_call inner cover start s)
+    import_call_keeps : (start : Span) (s : State) → kind_at s.at ≡ kind.LParen → NothingLost b s → Answers (Kept b) (Lost b) (import_call inner cover start s)
     unfolding import_call
     import_call_keeps start s e f =
         answers_then _ _ (arguments inner cover s.code.setting.import_attributes s) _ (arguments_keeps s.code.setting.import_attributes s e f) (λ xs t g. g)
 
-    meta_fault_keeps : (span : Span) (s : State) → IsBehind b s → Answers (Kept b) (Lost b) (meta_fault span s)
+    meta_fault_keeps : (span : Span) (s : State) → NothingLost b s → Answers (Kept b) (Lost b) (meta_fault span s)
     unfolding meta_fault
     meta_fault_keeps span s f = answers_if _ _ s.code.flags.can_be_module _ _ (λ _. f) (λ _. fault_keeps b s f _)
 
-    import_meta_keeps : (start : Span) (s : State) → IsBehind b s → Answers (Kept b) (Lost b) (import_meta start s)
+    import_meta_keeps : (start : Span) (s : State) → NothingLost b s → Answers (Kept b) (Lost b) (import_meta start s)
     unfolding import_meta
     import_meta_keeps start s f = answers_if _ _ (word_at (codes "meta") s.at) _ _
         (λ _. answers_then _ _ (meta_fault _ (module_found (moved s))) _ (meta_fault_keeps _ (module_found (moved s)) (behind_after b s f)) (λ _ t g. g)) (λ _. unexpected_keeps b s f _)
 
-    import_keeps : (s : State) → IsBehind b s → Answers (Kept b) (Lost b) (import_head inner cover s)
+    import_keeps : (s : State) → NothingLost b s → Answers (Kept b) (Lost b) (import_head inner cover s)
     unfolding import_head
     import_keeps s f =
-        let g : IsBehind b (moved s) = behind_after b s f in
+        let g : NothingLost b (moved s) = behind_after b s f in
         answers_if _ _ (sees kind.LParen (after s.at)) _ _ (λ o. import_call_keeps (span_at s.at) (moved s) (saw (after s.at) kind.LParen o) g)
         (λ _. answers_if _ _ (sees kind.Dot (after s.at)) _ _ (λ _. import_meta_keeps (span_at s.at) (moved (moved s)) (behind_after b (moved s) g))
         (λ _. unexpected_keeps b (moved s) g _))
 
     -- ---- operators before and behind an operand
 
-    prefixed_keeps : (op : UnaryOp) (s : State) → kind_at s.at ≢ kind.End → IsBehind b s → Answers (Kept b) (Lost b) (prefixed inner cover op s)
+    prefixed_keeps : (op : UnaryOp) (s : State) → kind_at s.at ≢ kind.End → NothingLost b s → Answers (Kept b) (Lost b) (prefixed inner cover op s)
     unfolding prefixed
     prefixed_keeps op s e f =
         let g = behind_after b s f in
         answers_then _ _ (inner unary (moved s)) _ (below unary b (moved s) g) (λ x t k. k)
 
-    await_keeps : (s : State) → awaits s.code.flags s.at ≡ true → IsBehind b s → Answers (Kept b) (Lost b) (await_expr inner cover s)
+    await_keeps : (s : State) → awaits s.code.flags s.at ≡ true → NothingLost b s → Answers (Kept b) (Lost b) (await_expr inner cover s)
     unfolding await_expr
     await_keeps s e f = await_either (Answers (Kept b) (Lost b)) _ s e (λ _. operand_keeps s f) (λ _. operand_keeps (noted (await_fault s) s) (behind_noted b (await_fault s) s f))
       where
-        operand_keeps : (t : State) → IsBehind b t → Answers (Kept b) (Lost b) (and_then (inner unary (moved t)) (λ x u. Ok (tree.await (record { lo = (span_at s.at).lo; hi = u.at.last.hi }) x, u)))
+        operand_keeps : (t : State) → NothingLost b t → Answers (Kept b) (Lost b) (and_then (inner unary (moved t)) (λ x u. Ok (tree.await (record { lo = (span_at s.at).lo; hi = u.at.last.hi }) x, u)))
         operand_keeps t g = answers_then _ _ (inner unary (moved t)) _ (below unary b (moved t) (behind_after b t g)) (λ x u k. k)
 
-    update_before_keeps : (op : UpdateOp) (s : State) → kind_at s.at ≢ kind.End → IsBehind b s → Answers (Kept b) (Lost b) (update_before inner cover op s)
+    update_before_keeps : (op : UpdateOp) (s : State) → kind_at s.at ≢ kind.End → NothingLost b s → Answers (Kept b) (Lost b) (update_before inner cover op s)
     unfolding update_before
     update_before_keeps op s e f =
         let g = behind_after b s f in
@@ -482,32 +481,32 @@ module _ (inner : Class → Reader Tree) (cover : Reader Cover) (below : (class 
     -- ---- operators between two operands
 
     -- behind an operand that may stand there
-    right_keeps : (start : Span) (x : Tree) (op : BinaryOp) (s : State) → kind_at s.at ≢ kind.End → IsBehind b s
+    right_keeps : (start : Span) (x : Tree) (op : BinaryOp) (s : State) → kind_at s.at ≢ kind.End → NothingLost b s
         → Answers (Kept b) (Lost b) (((λ t. inner (right_class op) (moved t)) >>= unmixed start op x) s)
     right_keeps start x op s e f =
         let g = behind_after b s f in
         answers_then _ _ (inner (right_class op) (moved s)) _ (below (right_class op) b (moved s) g) (λ y t k.
         (unmixed_keeps b t k start op x y))
 
-    operated_keeps : (start : Span) (x : Tree) (op : BinaryOp) (s : State) → kind_at s.at ≢ kind.End → IsBehind b s → Answers (Kept b) (Lost b) (operated inner cover start x op s)
+    operated_keeps : (start : Span) (x : Tree) (op : BinaryOp) (s : State) → kind_at s.at ≢ kind.End → NothingLost b s → Answers (Kept b) (Lost b) (operated inner cover start x op s)
     unfolding operated
     operated_keeps start x op s e f = answers_then _ _ (left_operand op x s) _ (left_operand_keeps b s f op x) (λ _ t g. right_keeps start x op t (rw g e) (rw g f))
 
-    binary_by_keeps : (least : ℕ) (start : Span) (x : Tree) (o : Option BinaryOp) (s : State) → operator_at least s ≡ o → IsBehind b s
+    binary_by_keeps : (least : ℕ) (start : Span) (x : Tree) (o : Option BinaryOp) (s : State) → operator_at least s ≡ o → NothingLost b s
         → Answers (Kept b) (Lost b) (binary_by inner cover start x o s)
     unfolding operator_at
     binary_by_keeps least start x None s e f = f
     binary_by_keeps least start x (Some op) s e f = answers_then _ _ (operated inner cover start x op s) _
         (operated_keeps start x op s (no_end_by (λ k. read_operator least s.code (binary_operator k)) (kind_at s.at) op refl e) f) (λ y t g. g)
 
-    binary_from_keeps : (least : ℕ) (start : Span) (x : Tree) (s : State) → IsBehind b s → Answers (Kept b) (Lost b) (binary_from inner cover least start x s)
+    binary_from_keeps : (least : ℕ) (start : Span) (x : Tree) (s : State) → NothingLost b s → Answers (Kept b) (Lost b) (binary_from inner cover least start x s)
     unfolding binary_from binary_turn
     binary_from_keeps least start x s f = loop_keeps (binary_turn inner cover least start) b
         (λ y u k. binary_by_keeps least start y (operator_at least u) u refl k) x s f
 
     -- ---- conditionals, assignments and sequences
 
-    conditional_keeps : (start : Span) (x : Tree) (s : State) → kind_at s.at ≡ kind.QuestionMark → IsBehind b s → Answers (Kept b) (Lost b) (conditional inner cover start x s)
+    conditional_keeps : (start : Span) (x : Tree) (s : State) → kind_at s.at ≡ kind.QuestionMark → NothingLost b s → Answers (Kept b) (Lost b) (conditional inner cover start x s)
     unfolding conditional
     conditional_keeps start x s e f =
         let g = behind_after b s f in
@@ -515,56 +514,56 @@ module _ (inner : Class → Reader Tree) (cover : Reader Cover) (below : (class 
         answers_then _ _ (expect kind.Colon t) _ (expect_keeps b t k kind.Colon) (λ _ u j.
         answers_then _ _ (inner assignment u) _ (below assignment b u j) (λ z v l. (unassigned_keeps b v l _))))
 
-    assigned_to_keeps : (start : Span) (x : Tree) (op : AssignOp) (s : State) → kind_at s.at ≢ kind.End → IsBehind b s → Answers (Kept b) (Lost b) (assigned_to inner cover start x op s)
+    assigned_to_keeps : (start : Span) (x : Tree) (op : AssignOp) (s : State) → kind_at s.at ≢ kind.End → NothingLost b s → Answers (Kept b) (Lost b) (assigned_to inner cover start x op s)
     unfolding assigned_to
     assigned_to_keeps start x op s e f =
         let g = behind_after b s f in
         answers_then _ _ (inner assignment (moved s)) _ (below assignment b (moved s) g) (λ y t k. k)
 
-    assigned_keeps : (start : Span) (x : Tree) (op : AssignOp) (s : State) → kind_at s.at ≢ kind.End → IsBehind b s → Answers (Kept b) (Lost b) (assigned inner cover start x op s)
+    assigned_keeps : (start : Span) (x : Tree) (op : AssignOp) (s : State) → kind_at s.at ≢ kind.End → NothingLost b s → Answers (Kept b) (Lost b) (assigned inner cover start x op s)
     unfolding assigned
     assigned_keeps start x op s e f = answers_if _ _ (is_simple_target x) _ _ (λ _. assigned_to_keeps start x op s e f)
         (λ _. reject_keeps _ (unassignable op) (span_of x) b s f)
 
-    assigned_or_keeps : (is_async : Bool) (start : Span) (x : Tree) (o : Option AssignOp) (s : State) → assign_operator (kind_at s.at) ≡ o → IsBehind b s
+    assigned_or_keeps : (is_async : Bool) (start : Span) (x : Tree) (o : Option AssignOp) (s : State) → assign_operator (kind_at s.at) ≡ o → NothingLost b s
         → Answers (Kept b) (Lost b) (assigned_or inner cover is_async start x o s)
     assigned_or_keeps is_async start x (Some op) s e f = assigned_keeps start x op s (no_end_by assign_operator (kind_at s.at) op refl e) f
     assigned_or_keeps is_async start x None s e f = unheaded_keeps b s f is_async x
 
-    behind_operators_keeps : (is_async : Bool) (start : Span) (x : Tree) (s : State) → IsBehind b s → Answers (Kept b) (Lost b) (behind_operators inner cover is_async start x s)
+    behind_operators_keeps : (is_async : Bool) (start : Span) (x : Tree) (s : State) → NothingLost b s → Answers (Kept b) (Lost b) (behind_operators inner cover is_async start x s)
     unfolding behind_operators
     behind_operators_keeps is_async start x s f = answers_if _ _ (sees kind.QuestionMark s.at) _ _ (λ e. conditional_keeps start x s (saw s.at kind.QuestionMark e) f)
         (λ _. assigned_or_keeps is_async start x (assign_operator (kind_at s.at)) s refl f)
 
     -- ---- what may still become a pattern
 
-    continued_keeps : (start : Span) (x : Tree) (s : State) → IsBehind b s → Answers (Kept b) (Lost b) (continued inner cover start x s)
+    continued_keeps : (start : Span) (x : Tree) (s : State) → NothingLost b s → Answers (Kept b) (Lost b) (continued inner cover start x s)
     unfolding continued postfixed
     continued_keeps start x s f = answers_then _ _ (left_from inner cover true start x s) _ (left_from_keeps true start x s f) (λ y t g.
         answers_then _ _ (behind_operand start y (postfix_at t.at) t) _ (behind_operand_keeps b start y (postfix_at t.at) t g) (λ z u k.
         answers_then _ _ (binary_from inner cover 1 start z u) _ (binary_from_keeps 1 start z u k) (λ w v j. behind_operators_keeps false start w v j)))
 
-    closed_literal_keeps : (start : Span) (v : Cover) (s : State) → IsBehind b s → Answers (Kept b) (Lost b) (closed inner cover start v s)
+    closed_literal_keeps : (start : Span) (v : Cover) (s : State) → NothingLost b s → Answers (Kept b) (Lost b) (closed inner cover start v s)
     unfolding closed
     closed_literal_keeps start v s f = answers_then _ _ (close v s) _ (close_keeps b s f v) (λ x t g.
         answers_then _ _ (continued inner cover start x t) _ (continued_keeps start x t g) (λ y u k. k))
 
-    assigned_pattern_keeps : (start : Span) (v : Cover) (s : State) → kind_at s.at ≢ kind.End → IsBehind b s → Answers (Kept b) (Lost b) (assigned_pattern inner cover start v s)
+    assigned_pattern_keeps : (start : Span) (v : Cover) (s : State) → kind_at s.at ≢ kind.End → NothingLost b s → Answers (Kept b) (Lost b) (assigned_pattern inner cover start v s)
     unfolding assigned_pattern
     assigned_pattern_keeps start v s e f = answers_then _ _ (target v s) _ (target_keeps b s f v) (λ p t g.
         answers_then _ _ (assigned_to inner cover start p assign.Assign t) _ (assigned_to_keeps start p assign.Assign t (rw g e) (rw g f)) (λ y u k. k))
 
-    behind_literal_keeps : (start : Span) (v : Cover) (s : State) → IsBehind b s → Answers (Kept b) (Lost b) (behind_literal inner cover start v s)
+    behind_literal_keeps : (start : Span) (v : Cover) (s : State) → NothingLost b s → Answers (Kept b) (Lost b) (behind_literal inner cover start v s)
     unfolding behind_literal
     behind_literal_keeps start v s f = answers_if _ _ (sees kind.Assign s.at) _ _
         (λ e. assigned_pattern_keeps start v s (λ z. let k = sym z ∙ saw s.at kind.Assign e in cc) f)
         (λ _. answers_if _ _ (goes_on s) _ _ (λ _. closed_literal_keeps start v s f) (λ _. f))
 
-    yielded_keeps : (delegate : Bool) (start : Span) (s : State) → IsBehind b s → Answers (Kept b) (Lost b) (yielded inner delegate start s)
+    yielded_keeps : (delegate : Bool) (start : Span) (s : State) → NothingLost b s → Answers (Kept b) (Lost b) (yielded inner delegate start s)
     unfolding yielded
     yielded_keeps delegate start s f = answers_then _ _ (inner assignment s) _ (below assignment b s f) (λ x t g. g)
 
-    yield_keeps : (s : State) → IsBehind b s → Answers (Kept b) (Lost b) (yield_expr inner s)
+    yield_keeps : (s : State) → NothingLost b s → Answers (Kept b) (Lost b) (yield_expr inner s)
     unfolding yield_expr behind_yield bare_yield
     yield_keeps s f =
         let g = behind_after b s f in
@@ -574,14 +573,14 @@ module _ (inner : Class → Reader Tree) (cover : Reader Cover) (below : (class 
 
     -- what a function may begin
     module _ (function : FunctionForm → Reader Tree) (below_function : (form : FunctionForm) → Passes (function form)) where
-      open_literal_keeps : (s : State) → (sees kind.LBracket s.at || sees kind.LBrace s.at) ≡ true → IsBehind b s → Answers (Kept b) (Lost b) (open_literal inner cover function s)
+      open_literal_keeps : (s : State) → (sees kind.LBracket s.at || sees kind.LBrace s.at) ≡ true → NothingLost b s → Answers (Kept b) (Lost b) (open_literal inner cover function s)
       unfolding open_literal
       open_literal_keeps s h f = answers_then _ _ (cond (sees kind.LBracket s.at) (array inner cover s) (object inner cover function s)) _
           (answers_if _ _ (sees kind.LBracket s.at) _ _ (λ e. array_keeps s (saw s.at kind.LBracket e) f)
           (λ e. object_keeps function below_function s (saw s.at kind.LBrace (other_test (sees kind.LBracket s.at) (sees kind.LBrace s.at) h e)) f))
           (λ v t g. behind_literal_keeps (span_at s.at) v t g)
 
-      marked_keeps : (s : State) → IsBehind b s → Answers (Kept b) (Lost b) (marked_primary inner cover function s)
+      marked_keeps : (s : State) → NothingLost b s → Answers (Kept b) (Lost b) (marked_primary inner cover function s)
       unfolding marked_primary
       marked_keeps s f = answers_if _ _ (sees kind.LParen s.at) _ _ (λ e. paren_keeps s (saw s.at kind.LParen e) f)
           (λ _. answers_if _ _ (sees kind.LBracket s.at) _ _ (λ e. answers_then _ _ (array inner cover s) _ (array_keeps s (saw s.at kind.LBracket e) f) (λ v t g. close_keeps b t g v))
@@ -590,120 +589,120 @@ module _ (inner : Class → Reader Tree) (cover : Reader Cover) (below : (class 
           (λ _. answers_if _ _ (sees kind.Function s.at) _ _ (λ _. below_function expression_form b s f)
           (λ _. answers_if _ _ (sees kind.Class s.at) _ _ (λ _. below_function class_form b s f) (λ _. unexpected_keeps b s f _))))))
 
-      literal_or_keeps : (o : Option Tree) (s : State) → IsBehind b s → Answers (Kept b) (Lost b) (literal_or inner cover function o s)
+      literal_or_keeps : (o : Option Tree) (s : State) → NothingLost b s → Answers (Kept b) (Lost b) (literal_or inner cover function o s)
       literal_or_keeps (Some x) s f = f
       literal_or_keeps None s f = marked_keeps s f
 
-      named_keeps : (s : State) → IsBehind b s → Answers (Kept b) (Lost b) (named_expr inner cover function s)
+      named_keeps : (s : State) → NothingLost b s → Answers (Kept b) (Lost b) (named_expr inner cover function s)
       unfolding named_expr
       named_keeps s f = answers_if _ _ (is_async_function s.at) _ _ (λ _. below_function expression_form b s f) (λ _. ident_keeps b s f)
 
-      primary_keeps : (s : State) → IsBehind b s → Answers (Kept b) (Lost b) (primary inner cover function s)
+      primary_keeps : (s : State) → NothingLost b s → Answers (Kept b) (Lost b) (primary inner cover function s)
       unfolding primary
       primary_keeps s f = answers_if _ _ (name_at s.code.flags s.at) _ _ (λ _. named_keeps s f) (λ _. answers_then _ _ (literal s) _ (literal_keeps b s f) literal_or_keeps)
 
-      left_head_keeps : (calls : Bool) (s : State) → IsBehind b s → Answers (Kept b) (Lost b) (left_head inner cover function calls s)
+      left_head_keeps : (calls : Bool) (s : State) → NothingLost b s → Answers (Kept b) (Lost b) (left_head inner cover function calls s)
       unfolding left_head
       left_head_keeps calls s f = answers_if _ _ (sees kind.Super s.at) _ _ (λ _. super_keeps calls s f)
           (λ _. answers_if _ _ (sees kind.New s.at) _ _ (λ e. new_keeps s (saw s.at kind.New e) f)
           (λ _. answers_if _ _ (calls && sees kind.Import s.at) _ _ (λ _. import_keeps s f) (λ _. primary_keeps s f)))
 
-      left_keeps : (calls : Bool) (s : State) → IsBehind b s → Answers (Kept b) (Lost b) (left inner cover function calls s)
+      left_keeps : (calls : Bool) (s : State) → NothingLost b s → Answers (Kept b) (Lost b) (left inner cover function calls s)
       unfolding left
       left_keeps calls s f = answers_then _ _ (left_head inner cover function calls s) _ (left_head_keeps calls s f) (λ x t g. left_from_keeps calls (span_at s.at) x t g)
 
-      left_expr_keeps : (s : State) → IsBehind b s → Answers (Kept b) (Lost b) (left_expr inner cover function s)
+      left_expr_keeps : (s : State) → NothingLost b s → Answers (Kept b) (Lost b) (left_expr inner cover function s)
       unfolding left_expr
       left_expr_keeps s f = answers_then _ _ (left inner cover function true s) _ (left_keeps true s f) (λ x t g. closed_keeps b t g x)
 
-      postfix_keeps : (s : State) → IsBehind b s → Answers (Kept b) (Lost b) (postfix inner cover function s)
+      postfix_keeps : (s : State) → NothingLost b s → Answers (Kept b) (Lost b) (postfix inner cover function s)
       unfolding postfix
       postfix_keeps s f = answers_then _ _ (left inner cover function true s) _ (left_keeps true s f) (λ x t g. behind_operand_keeps b (span_at s.at) x (postfix_at t.at) t g)
 
-      updated_keeps : (o : Option UpdateOp) (s : State) → update_operator (kind_at s.at) ≡ o → IsBehind b s → Answers (Kept b) (Lost b) (updated inner cover function o s)
+      updated_keeps : (o : Option UpdateOp) (s : State) → update_operator (kind_at s.at) ≡ o → NothingLost b s → Answers (Kept b) (Lost b) (updated inner cover function o s)
       updated_keeps (Some op) s e f = update_before_keeps op s (no_end_by update_operator (kind_at s.at) op refl e) f
       updated_keeps None s e f = postfix_keeps s f
 
-      unary_by_keeps : (o : Option UnaryOp) (s : State) → unary_operator (kind_at s.at) ≡ o → IsBehind b s → Answers (Kept b) (Lost b) (unary_by inner cover function o s)
+      unary_by_keeps : (o : Option UnaryOp) (s : State) → unary_operator (kind_at s.at) ≡ o → NothingLost b s → Answers (Kept b) (Lost b) (unary_by inner cover function o s)
       unary_by_keeps (Some op) s e f = prefixed_keeps op s (no_end_by unary_operator (kind_at s.at) op refl e) f
       unary_by_keeps None s e f = answers_if _ _ (awaits s.code.flags s.at) _ _ (λ a. await_keeps s a f) (λ _. updated_keeps (update_operator (kind_at s.at)) s refl f)
 
-      unary_keeps : (s : State) → IsBehind b s → Answers (Kept b) (Lost b) (unary_expr inner cover function s)
+      unary_keeps : (s : State) → NothingLost b s → Answers (Kept b) (Lost b) (unary_expr inner cover function s)
       unfolding unary_expr
       unary_keeps s f = unary_by_keeps (unary_operator (kind_at s.at)) s refl f
 
-      binary_keeps : (least : ℕ) (s : State) → IsBehind b s → Answers (Kept b) (Lost b) (binary_expr inner cover function least s)
+      binary_keeps : (least : ℕ) (s : State) → NothingLost b s → Answers (Kept b) (Lost b) (binary_expr inner cover function least s)
       unfolding binary_expr
       binary_keeps least s f = answers_then _ _ (unary_expr inner cover function s) _ (unary_keeps s f) (λ x t g. binary_from_keeps least (span_at s.at) x t g)
 
-      operators_keeps : (s : State) → IsBehind b s → Answers (Kept b) (Lost b) (operators_expr inner cover function s)
+      operators_keeps : (s : State) → NothingLost b s → Answers (Kept b) (Lost b) (operators_expr inner cover function s)
       unfolding operators_expr
       operators_keeps s f = answers_then _ _ (binary_expr inner cover function 1 s) _ (binary_keeps 1 s f) (λ x t g. behind_operators_keeps (begins_async_call s.at) (span_at s.at) x t g)
 
       -- ---- arrow functions, and what stands in parentheses where one may begin
 
-      arrow_body_keeps : (is_async : Bool) (s : State) → IsBehind b s → Answers (Kept b) (Lost b) (arrow_body inner function is_async s)
+      arrow_body_keeps : (is_async : Bool) (s : State) → NothingLost b s → Answers (Kept b) (Lost b) (arrow_body inner function is_async s)
       unfolding arrow_body
       arrow_body_keeps is_async s f = let t = coded (in_arrow s.code is_async) s in answers_if _ _ (sees kind.LBrace s.at) _ _ (λ _. below_function (block_form is_async) b s f)
           (λ _. answers_then (Kept b) _ (enclosed (inner assignment) t) _ (answers_then (Kept b) _ (inner assignment (unlabelled t)) _ (below assignment b (unlabelled t) f) (λ x u k. k)) (λ x u k. k))
 
-      arrow_from_keeps : (is_async : Bool) (start : Span) (ps : List Tree) (s : State) → IsBehind b s → Answers (Kept b) (Lost b) (arrow_from inner function is_async start ps s)
+      arrow_from_keeps : (is_async : Bool) (start : Span) (ps : List Tree) (s : State) → NothingLost b s → Answers (Kept b) (Lost b) (arrow_from inner function is_async start ps s)
       unfolding arrow_from
       arrow_from_keeps is_async start ps s f = answers_if _ _ (breaks_at s.at) _ _ (λ _. refuse_keeps _ faults.LineBreakBeforeArrow b s f)
           (λ _. answers_then _ _ (arrow_body inner function is_async (moved s)) _ (arrow_body_keeps is_async (moved s) (behind_after b s f)) (λ body t g.
           answers_then _ _ (told (misplaced_directive (has_plain_params (listed ps)) body) t) _ (told_keeps b (misplaced_directive (has_plain_params (listed ps)) body) t g) (λ _ u k. k)))
 
-      named_arrow_keeps : (s : State) → IsBehind b s → Answers (Kept b) (Lost b) (named_arrow inner function s)
+      named_arrow_keeps : (s : State) → NothingLost b s → Answers (Kept b) (Lost b) (named_arrow inner function s)
       unfolding named_arrow
       named_arrow_keeps s f = answers_then _ _ (function parameter_form s) _ (below_function parameter_form b s f) (λ p t g. arrow_from_keeps false (span_at s.at) (p ∷ []) t g)
 
-      rest_part_keeps : (found : List Cover) (s : State) → IsBehind b s → Answers (Kept b) (Lost b) (rest_part inner function found s)
+      rest_part_keeps : (found : List Cover) (s : State) → NothingLost b s → Answers (Kept b) (Lost b) (rest_part inner function found s)
       unfolding rest_part
       rest_part_keeps found s f = let t = coded (with_in s.code) (moved s) in answers_then (Kept b) _ (within with_in (function parameter_form) (moved s)) _
           (answers_then (Kept b) _ (function parameter_form t) _ (below_function parameter_form b t (behind_after b s f)) (λ p u k. k)) (λ p u k. k)
 
-      part_turn_keeps : (found : List Cover) (s : State) → IsBehind b s → Answers (Kept b) (Lost b) (part_turn inner function cover found s)
+      part_turn_keeps : (found : List Cover) (s : State) → NothingLost b s → Answers (Kept b) (Lost b) (part_turn inner function cover found s)
       unfolding part_turn
       part_turn_keeps found s f = answers_if _ _ (sees kind.DotDotDot s.at) _ _ (λ _. answers_then _ _ (rest_part inner function found s) _ (rest_part_keeps found s f) (λ g t k. k))
           (λ _. answers_then _ _ (covered inner cover s) _ (covered_keeps b s f) (λ v t k. behind_part_keeps b (found ++ v ∷ []) t k))
 
-      group_parts_keep : (s : State) → IsBehind b s → Answers (Kept b) (Lost b) (group_parts inner function cover s)
+      group_parts_keep : (s : State) → NothingLost b s → Answers (Kept b) (Lost b) (group_parts inner function cover s)
       unfolding group_parts
       group_parts_keep s f = answers_if _ _ (sees kind.RParen s.at) _ _ (λ _. f) (λ _. loop_keeps (part_turn inner function cover) b part_turn_keeps [] s f)
 
-      group_keeps : (s : State) → IsBehind b s → Answers (Kept b) (Lost b) (group inner function cover s)
+      group_keeps : (s : State) → NothingLost b s → Answers (Kept b) (Lost b) (group inner function cover s)
       unfolding group
       group_keeps s f = answers_then _ _ (group_parts inner function cover (moved s)) _ (group_parts_keep (moved s) (behind_after b s f)) (λ g t k.
           answers_then _ _ (expect kind.RParen t) _ (expect_keeps b t k kind.RParen) (λ _ u j. j))
 
-      behind_group_keeps : (start : Span) (g : Group) (s : State) → IsBehind b s → Answers (Kept b) (Lost b) (behind_group inner function cover start g s)
+      behind_group_keeps : (start : Span) (g : Group) (s : State) → NothingLost b s → Answers (Kept b) (Lost b) (behind_group inner function cover start g s)
       behind_group_keeps start g s f = answers_if _ _ (sees kind.Arrow s.at) _ _
           (λ _. answers_then _ _ (parameters_of g.parts g.rest s) _ (parameters_of_keep b g.parts g.rest s f) (λ ps t k. arrow_from_keeps false start ps t k))
           (λ _. answers_then _ _ (closed_group start g s) _ (closed_group_keeps b start g s f) (λ e t k. continued_keeps start e t k))
 
-      grouped_keeps : (s : State) → IsBehind b s → Answers (Kept b) (Lost b) (grouped inner function cover s)
+      grouped_keeps : (s : State) → NothingLost b s → Answers (Kept b) (Lost b) (grouped inner function cover s)
       unfolding grouped
       grouped_keeps s f = answers_then _ _ (group inner function cover s) _ (group_keeps s f) (λ g t k. behind_group_keeps (span_at s.at) g t k)
 
       -- the same behind `async`
-      async_named_keeps : (s : State) → IsBehind b s → Answers (Kept b) (Lost b) (async_named_arrow inner function s)
+      async_named_keeps : (s : State) → NothingLost b s → Answers (Kept b) (Lost b) (async_named_arrow inner function s)
       unfolding async_named_arrow
       async_named_keeps s f = answers_then _ _ (function parameter_form (moved s)) _ (below_function parameter_form b (moved s) (behind_after b s f)) (λ p t g.
           answers_if _ _ (sees kind.Arrow t.at) _ _ (λ _. arrow_from_keeps true (span_at s.at) (p ∷ []) t g) (λ _. unexpected_keeps b t g _))
 
-      behind_async_keeps : (start : Span) (x : Tree) (found : List Argument) (s : State) → IsBehind b s → Answers (Kept b) (Lost b) (behind_async inner function cover start x found s)
+      behind_async_keeps : (start : Span) (x : Tree) (found : List Argument) (s : State) → NothingLost b s → Answers (Kept b) (Lost b) (behind_async inner function cover start x found s)
       unfolding async_called
       behind_async_keeps start x found s f = answers_if _ _ (sees kind.Arrow s.at) _ _
           (λ _. answers_then _ _ (argument_parameters found s) _ (argument_parameters_keep b found s f) (λ ps t k. arrow_from_keeps true start ps t k))
           (λ _. answers_then _ _ (async_called start x found s) _ (answers_then _ _ (closed_arguments found s) _ (closed_arguments_keep b found s f) (λ xs t k. k))
           (λ e t k. continued_keeps start e t k))
 
-      async_grouped_keeps : (s : State) → IsBehind b s → Answers (Kept b) (Lost b) (async_grouped inner function cover s)
+      async_grouped_keeps : (s : State) → NothingLost b s → Answers (Kept b) (Lost b) (async_grouped inner function cover s)
       unfolding async_grouped
       async_grouped_keeps s f = answers_then _ _ (ident_expr s) _ (ident_keeps b s f) (λ x t g.
           answers_then _ _ (either_arguments inner cover t) _ (either_arguments_keep b t g) (λ found u k. behind_async_keeps (span_at s.at) x found u k))
 
-      plain_keeps : (s : State) → IsBehind b s → Answers (Kept b) (Lost b) (plain_expr inner cover function s)
+      plain_keeps : (s : State) → NothingLost b s → Answers (Kept b) (Lost b) (plain_expr inner cover function s)
       unfolding plain_expr
       plain_keeps s f = answers_if _ _ (begins_yield s.code.flags s.at) _ _ (λ _. yield_keeps s f)
           (λ _. answers_if _ _ (begins_named_arrow s.code.flags s.at) _ _ (λ _. named_arrow_keeps s f)
@@ -711,34 +710,34 @@ module _ (inner : Class → Reader Tree) (cover : Reader Cover) (below : (class 
           (λ _. answers_if _ _ (begins_async_arrow s.code.flags s.at) _ _ (λ _. async_named_keeps s f)
           (λ _. answers_if _ _ (begins_async_call s.at) _ _ (λ _. async_grouped_keeps s f) (λ _. operators_keeps s f)))))
 
-      pub cover_expr_keeps : (s : State) → IsBehind b s → Answers (Kept b) (Lost b) (cover_expr inner cover function s)
+      pub cover_expr_keeps : (s : State) → NothingLost b s → Answers (Kept b) (Lost b) (cover_expr inner cover function s)
       unfolding cover_expr done_expr
       cover_expr_keeps s f = answers_if _ _ (sees kind.LBracket s.at || sees kind.LBrace s.at) _ _ (λ h. open_literal_keeps s h f)
           (λ _. answers_then _ _ (plain_expr inner cover function s) _ (plain_keeps s f) (λ x t g. g))
 
-      assignment_keeps : (s : State) → IsBehind b s → Answers (Kept b) (Lost b) (assignment_expr inner cover function s)
+      assignment_keeps : (s : State) → NothingLost b s → Answers (Kept b) (Lost b) (assignment_expr inner cover function s)
       unfolding assignment_expr
       assignment_keeps s f = answers_then _ _ (cover_expr inner cover function s) _ (cover_expr_keeps s f) (λ v t g. close_keeps b t g v)
 
       -- the parts of a sequence
-      sequence_keeps : (start : Span) (x : Tree) (s : State) → IsBehind b s → Answers (Kept b) (Lost b) (sequence_from inner cover function start x s)
+      sequence_keeps : (start : Span) (x : Tree) (s : State) → NothingLost b s → Answers (Kept b) (Lost b) (sequence_from inner cover function start x s)
       unfolding sequence_from sequence_turn
       sequence_keeps start x s f = answers_then _ _ (loop (sequence_turn inner cover function) (x ∷ []) s) _ (loop_keeps (sequence_turn inner cover function) b
           (λ xs t g. answers_then _ _ (assignment_expr inner cover function (moved t)) _ (assignment_keeps (moved t) (behind_after b t g)) (λ y u k.
           answers_if _ _ (sees kind.Comma u.at) _ _ (λ _. k) (λ _. k))) (x ∷ []) s f) (λ xs t g. g)
 
-      expression_keeps : (s : State) → IsBehind b s → Answers (Kept b) (Lost b) (expression_expr inner cover function s)
+      expression_keeps : (s : State) → NothingLost b s → Answers (Kept b) (Lost b) (expression_expr inner cover function s)
       unfolding expression_expr
       expression_keeps s f = answers_then _ _ (assignment_expr inner cover function s) _ (assignment_keeps s f) (λ x t g.
           answers_if _ _ (sees kind.Comma t.at) _ _ (λ _. sequence_keeps (span_at s.at) x t g) (λ _. g))
 
-      pub head_expr_keeps : (s : State) → IsBehind b s → Answers (Kept b) (Lost b) (head_expr inner cover function s)
+      pub head_expr_keeps : (s : State) → NothingLost b s → Answers (Kept b) (Lost b) (head_expr inner cover function s)
       unfolding head_expr sequenced
       head_expr_keeps s f = answers_then _ _ (cover_expr inner cover function s) _ (cover_expr_keeps s f) (λ v t g. answers_if _ _ (sees kind.Comma t.at) _ _
           (λ _. answers_then _ _ (close v t) _ (close_keeps b t g v) (λ x u k. answers_then _ _ (sequence_from inner cover function (span_at s.at) x u) _ (sequence_keeps (span_at s.at) x u k) (λ y w j. j)))
           (λ _. g))
 
-      pub level_keeps : (class : Class) (s : State) → IsBehind b s → Answers (Kept b) (Lost b) (expr_level inner cover function class s)
+      pub level_keeps : (class : Class) (s : State) → NothingLost b s → Answers (Kept b) (Lost b) (expr_level inner cover function class s)
       unfolding expr_level
       level_keeps expression s f = expression_keeps s f
       level_keeps assignment s f = assignment_keeps s f

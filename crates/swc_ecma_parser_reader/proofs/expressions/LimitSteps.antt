@@ -84,10 +84,10 @@ module _ (m : ℕ) (s : State) (f : Fine m s.at.left) where
 
   pub word_by_shallow : (v : Token) (span : Span) → Answers (Kept m) Shallow (word_by s v span)
   word_by_shallow (token.Word w) span = fine_after m s.at f
-  word_by_shallow _ span = unexpected_shallow _
+  word_by_shallow _ span = wanted_shallow _ faults.ExpectedIdent (λ e. cc) m s f
 
   pub word_in_shallow : (ts : List TokenAndSpan) → Answers (Kept m) Shallow (word_in s ts)
-  word_in_shallow [] = unexpected_shallow _
+  word_in_shallow [] = wanted_shallow _ faults.ExpectedIdent (λ e. cc) m s f
   word_in_shallow (u ∷ ts) = word_by_shallow u.token u.span
 
   pub any_word_shallow : Answers (Kept m) Shallow (any_word s)
@@ -96,7 +96,7 @@ module _ (m : ℕ) (s : State) (f : Fine m s.at.left) where
 
   pub touching_shallow : Answers (Kept m) Shallow (touching_word s)
   unfolding touching_word
-  touching_shallow = answers_if _ _ (nat_eq s.at.last.hi.0 (span_at s.at).lo.0) _ _ (λ _. any_word_shallow) (λ _. unexpected_shallow _)
+  touching_shallow = answers_if _ _ (nat_eq s.at.last.hi.0 (span_at s.at).lo.0) _ _ (λ _. any_word_shallow) (λ _. wanted_shallow _ faults.ExpectedIdent (λ e. cc) m s f)
 
   pub ident_shallow : Answers (Kept m) Shallow (ident_expr s)
   unfolding ident_expr
@@ -213,7 +213,7 @@ literal_key_shallow m s f = answers_then _ _ (literal s) _ (literal_shallow m s 
     by_key (Some (tree.str span value raw)) t g = g
     by_key (Some (tree.num span raw)) t g = g
     by_key (Some (tree.big_int span raw)) t g = g
-    by_key _ t g = unexpected_shallow m t g _
+    by_key _ t g = wanted_shallow _ faults.ExpectedIdent (λ e. cc) m t g
 
 pub private_shallow : (m : ℕ) (s : State) → Fine m s.at.left → Answers (Kept m) Shallow (private_name s)
 unfolding private_name

@@ -448,7 +448,7 @@ module _ (n : ℕ) (inner : Class → Reader Tree) (cover : Reader Cover) (sound
   key_or_sound s (Some (tree.str span value raw)) t p = p
   key_or_sound s (Some (tree.num span raw)) t p = p
   key_or_sound s (Some (tree.big_int span raw)) t p = p
-  key_or_sound s _ t p = wanted_meets _ faults.Unexpected t
+  key_or_sound s _ t p = wanted_meets _ faults.ExpectedIdent t
 
   literal_key_sound : (s : State) → is_word_at s.at ≡ false → Meets (SoundKey s) (literal_key s)
   unfolding literal_key literal is_word_at

@@ -233,10 +233,10 @@ module _ (s : State) where
       → Meets (λ i t. SoundStep (λ k. ReadsWord i.sym i.span) s t) (word_by s v u.span)
   word_by_sound u ts (token.Word w) e h =
       sound_moved s (kind_here s.at u ts (token.Word w) e h) (word_is_none w) (record { word = w; reads_word = stands s.at u ts (token.Word w) e h; is_text = refl })
-  word_by_sound u ts _ e h = wanted_meets _ faults.Unexpected s
+  word_by_sound u ts _ e h = wanted_meets _ faults.ExpectedIdent s
 
   word_in_sound : (ts : List TokenAndSpan) → s.at.left ≡ ts → Meets (λ i t. SoundStep (λ k. ReadsWord i.sym i.span) s t) (word_in s ts)
-  word_in_sound [] e = wanted_meets _ faults.Unexpected s
+  word_in_sound [] e = wanted_meets _ faults.ExpectedIdent s
   word_in_sound (u ∷ ts) e = word_by_sound u ts u.token e refl
 
   pub any_word_sound : Meets (λ i t. SoundStep (λ k. ReadsWord i.sym i.span) s t) (any_word s)
@@ -258,7 +258,7 @@ pub touching_sound : (s : State) → Meets (λ i t. SoundStep (λ k. Touching i)
 unfolding touching_word
 touching_sound s = meets_if _ (nat_eq s.at.last.hi.0 (span_at s.at).lo.0) _ _ (λ e. meets_as (any_word s) (any_word_sound s) (λ i t p.
     sound_as s t refl refl refl (λ r. (r, same_position s.at.last.hi (span_at s.at).lo e ∙ ap (λ z. z.lo) (word_span i.sym i.span s.at t.at r))) p))
-    (λ _. wanted_meets _ faults.Unexpected s)
+    (λ _. wanted_meets _ faults.ExpectedIdent s)
 
 -- behind a token its span is the last
 last_of : (c : Place) (ts : List TokenAndSpan) → (past c ts).last ≡ first_span c.last ts

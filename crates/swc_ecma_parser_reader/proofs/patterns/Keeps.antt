@@ -14,11 +14,10 @@ use Rattle.swc_ecma_parser_reader.specs.State.{State, Reader, moved, coded, with
 use Rattle.swc_ecma_parser_reader.specs.Expressions.{Cover, inside, key}
 use Rattle.swc_ecma_parser_reader.specs.Patterns.{binding, rest, array_turn, elements, parameters_turn, parameter_list, array, rest_name, rest_property, key_value, initialized_name, bare_name, named, bare_key, behind_key, property, object_turn, properties, object, pattern_level, initialized, element_level}
 use Rattle.swc_ecma_parser_reader.proofs.Meets.{Answers, answers_then, answers_if, saw}
-use Rattle.swc_ecma_parser_reader.proofs.Behind.{Kept, Lost, Passes, behind_after, wanted_keeps, reject_keeps, expect_keeps, name_keeps, loop_keeps}
-use Rattle.swc_ecma_parser_reader.specs.Entry.{IsBehind}
+use Rattle.swc_ecma_parser_reader.proofs.Behind.{NothingLost, Kept, Lost, Passes, behind_after, wanted_keeps, reject_keeps, expect_keeps, name_keeps, loop_keeps}
 use Rattle.swc_ecma_parser_reader.proofs.expressions.Keeps.{unexpected_keeps, inside_keeps, key_keeps}
 
-binding_keeps : (b : State) (s : State) → IsBehind b s → Answers (Kept b) (Lost b) (binding s)
+binding_keeps : (b : State) (s : State) → NothingLost b s → Answers (Kept b) (Lost b) (binding s)
 unfolding binding
 binding_keeps b s f = answers_then _ _ (name faults.ExpectedIdent s) _ (name_keeps b s f faults.ExpectedIdent) (λ i t g. g)
 
@@ -27,20 +26,20 @@ module _ (inner : Class → Reader Tree) (cover : Reader Cover) (pattern element
   -- ---- what is read one level further in
 
   module _ (b : State) where
-    within_pattern_keeps : (s : State) → IsBehind b s → Answers (Kept b) (Lost b) (within with_in pattern s)
+    within_pattern_keeps : (s : State) → NothingLost b s → Answers (Kept b) (Lost b) (within with_in pattern s)
     within_pattern_keeps s f = answers_then (Kept b) _ (pattern (coded (with_in s.code) s)) _ (below_pattern b (coded (with_in s.code) s) f) (λ p t k. k)
 
-    within_element_keeps : (s : State) → IsBehind b s → Answers (Kept b) (Lost b) (within with_in element s)
+    within_element_keeps : (s : State) → NothingLost b s → Answers (Kept b) (Lost b) (within with_in element s)
     within_element_keeps s f = answers_then (Kept b) _ (element (coded (with_in s.code) s)) _ (below_element b (coded (with_in s.code) s) f) (λ p t k. k)
 
-    value_keeps : (s : State) → IsBehind b s → Answers (Kept b) (Lost b) (inside inner cover assignment s)
+    value_keeps : (s : State) → NothingLost b s → Answers (Kept b) (Lost b) (inside inner cover assignment s)
     value_keeps s f = inside_keeps inner cover below below_cover assignment b s f
 
-    rest_keeps : (s : State) → IsBehind b s → Answers (Kept b) (Lost b) (rest inner cover pattern element s)
+    rest_keeps : (s : State) → NothingLost b s → Answers (Kept b) (Lost b) (rest inner cover pattern element s)
     unfolding rest
     rest_keeps s f = answers_then _ _ (within with_in pattern (moved s)) _ (within_pattern_keeps (moved s) (behind_after b s f)) (λ p t g. g)
 
-    many_elements_keeps : (s : State) → IsBehind b s → Answers (Kept b) (Lost b) (loop (array_turn inner cover pattern element) [] s)
+    many_elements_keeps : (s : State) → NothingLost b s → Answers (Kept b) (Lost b) (loop (array_turn inner cover pattern element) [] s)
     unfolding array_turn
     many_elements_keeps s f = loop_keeps (array_turn inner cover pattern element) b
         (λ found t g. answers_if _ _ (sees kind.RBracket t.at) _ _ (λ _. behind_after b t g) (λ _.
@@ -51,7 +50,7 @@ module _ (inner : Class → Reader Tree) (cover : Reader Cover) (pattern element
         (λ _. answers_then _ _ (within with_in element t) _ (within_element_keeps t g) (λ x u k.
         answers_if _ _ (sees kind.RBracket u.at) _ _ (λ _. k) (λ _. answers_then _ _ (expect kind.Comma u) _ (expect_keeps b u k kind.Comma) (λ _ v j. j))))))) [] s f
 
-    many_parameters_keeps : (s : State) → IsBehind b s → Answers (Kept b) (Lost b) (loop (parameters_turn inner cover pattern element) [] s)
+    many_parameters_keeps : (s : State) → NothingLost b s → Answers (Kept b) (Lost b) (loop (parameters_turn inner cover pattern element) [] s)
     unfolding parameters_turn
     many_parameters_keeps s f = loop_keeps (parameters_turn inner cover pattern element) b
         (λ found t g. answers_if _ _ (sees kind.RParen t.at) _ _ (λ _. behind_after b t g) (λ _.
@@ -63,36 +62,36 @@ module _ (inner : Class → Reader Tree) (cover : Reader Cover) (pattern element
 
     -- ---- properties
 
-    rest_name_keeps : (s : State) → IsBehind b s → Answers (Kept b) (Lost b) (rest_name inner cover pattern element s)
+    rest_name_keeps : (s : State) → NothingLost b s → Answers (Kept b) (Lost b) (rest_name inner cover pattern element s)
     unfolding rest_name
     rest_name_keeps s f = answers_if _ _ (sees kind.LBracket s.at || sees kind.LBrace s.at) _ _ (λ _. wanted_keeps _ faults.ExpectedIdent b s f)
         (λ _. within_pattern_keeps s f)
 
-    rest_property_keeps : (s : State) → IsBehind b s → Answers (Kept b) (Lost b) (rest_property inner cover pattern element s)
+    rest_property_keeps : (s : State) → NothingLost b s → Answers (Kept b) (Lost b) (rest_property inner cover pattern element s)
     unfolding rest_property
     rest_property_keeps s f = answers_then _ _ (rest_name inner cover pattern element (moved s)) _ (rest_name_keeps (moved s) (behind_after b s f)) (λ p t g. g)
 
-    named_keeps : (start at : Span) (text : Text) (s : State) → IsBehind b s → Answers (Kept b) (Lost b) (named inner cover pattern element start at text s)
+    named_keeps : (start at : Span) (text : Text) (s : State) → NothingLost b s → Answers (Kept b) (Lost b) (named inner cover pattern element start at text s)
     unfolding named initialized_name bare_name
     named_keeps start at text s f = answers_if _ _ (is_name s.code.flags text) _ _
         (λ _. answers_if _ _ (sees kind.Assign s.at) _ _
         (λ _. answers_then _ _ (inside inner cover assignment (moved s)) _ (value_keeps (moved s) (behind_after b s f)) (λ e t g. g)) (λ _. f))
         (λ _. reject_keeps _ faults.ExpectedIdent at b s f)
 
-    bare_key_keeps : (start : Span) (x : Tree) (s : State) → IsBehind b s → Answers (Kept b) (Lost b) (bare_key inner cover pattern element start x s)
+    bare_key_keeps : (start : Span) (x : Tree) (s : State) → NothingLost b s → Answers (Kept b) (Lost b) (bare_key inner cover pattern element start x s)
     bare_key_keeps start (tree.ident at text) s f = named_keeps start at text s f
     bare_key_keeps start _ s f = unexpected_keeps b s f _
 
-    behind_key_keeps : (start : Span) (x : Tree) (s : State) → IsBehind b s → Answers (Kept b) (Lost b) (behind_key inner cover pattern element start x s)
+    behind_key_keeps : (start : Span) (x : Tree) (s : State) → NothingLost b s → Answers (Kept b) (Lost b) (behind_key inner cover pattern element start x s)
     unfolding behind_key key_value
     behind_key_keeps start x s f = answers_if _ _ (sees kind.Colon s.at) _ _
         (λ _. answers_then _ _ (within with_in element (moved s)) _ (within_element_keeps (moved s) (behind_after b s f)) (λ p t g. g)) (λ _. bare_key_keeps start x s f)
 
-    property_keeps : (s : State) → IsBehind b s → Answers (Kept b) (Lost b) (property inner cover pattern element s)
+    property_keeps : (s : State) → NothingLost b s → Answers (Kept b) (Lost b) (property inner cover pattern element s)
     unfolding property
     property_keeps s f = answers_then _ _ (key inner cover s) _ (key_keeps inner cover below below_cover b s f) (λ x t g. behind_key_keeps (span_at s.at) x t g)
 
-    many_properties_keeps : (s : State) → IsBehind b s → Answers (Kept b) (Lost b) (loop (object_turn inner cover pattern element) [] s)
+    many_properties_keeps : (s : State) → NothingLost b s → Answers (Kept b) (Lost b) (loop (object_turn inner cover pattern element) [] s)
     unfolding object_turn
     many_properties_keeps s f = loop_keeps (object_turn inner cover pattern element) b
         (λ found t g. answers_if _ _ (sees kind.RBrace t.at) _ _ (λ _. behind_after b t g) (λ _.
@@ -105,43 +104,43 @@ module _ (inner : Class → Reader Tree) (cover : Reader Cover) (pattern element
   -- ---- arrays, parameters, objects and defaults
 
   module _ (b : State) where
-    elements_keeps : (s : State) → kind_at s.at ≡ kind.LBracket → IsBehind b s → Answers (Kept b) (Lost b) (elements inner cover pattern element s)
+    elements_keeps : (s : State) → kind_at s.at ≡ kind.LBracket → NothingLost b s → Answers (Kept b) (Lost b) (elements inner cover pattern element s)
     unfolding elements
     elements_keeps s e f =
         let g = behind_after b s f in
         many_elements_keeps b (moved s) g
 
-    array_keeps : (s : State) → kind_at s.at ≡ kind.LBracket → IsBehind b s → Answers (Kept b) (Lost b) (array inner cover pattern element s)
+    array_keeps : (s : State) → kind_at s.at ≡ kind.LBracket → NothingLost b s → Answers (Kept b) (Lost b) (array inner cover pattern element s)
     unfolding array
     array_keeps s e f = answers_then _ _ (elements inner cover pattern element s) _ (elements_keeps s e f) (λ xs t g. g)
 
-    pub parameter_list_keeps : (s : State) → IsBehind b s → Answers (Kept b) (Lost b) (parameter_list inner cover pattern element s)
+    pub parameter_list_keeps : (s : State) → NothingLost b s → Answers (Kept b) (Lost b) (parameter_list inner cover pattern element s)
     unfolding parameter_list
     parameter_list_keeps s f = answers_then _ _ (expect kind.LParen s) _ (expect_keeps b s f kind.LParen) (λ _ t g. many_parameters_keeps b t g)
 
-    properties_keeps : (s : State) → kind_at s.at ≡ kind.LBrace → IsBehind b s → Answers (Kept b) (Lost b) (properties inner cover pattern element s)
+    properties_keeps : (s : State) → kind_at s.at ≡ kind.LBrace → NothingLost b s → Answers (Kept b) (Lost b) (properties inner cover pattern element s)
     unfolding properties
     properties_keeps s e f =
         let g = behind_after b s f in
         many_properties_keeps b (moved s) g
 
-    object_keeps : (s : State) → kind_at s.at ≡ kind.LBrace → IsBehind b s → Answers (Kept b) (Lost b) (object inner cover pattern element s)
+    object_keeps : (s : State) → kind_at s.at ≡ kind.LBrace → NothingLost b s → Answers (Kept b) (Lost b) (object inner cover pattern element s)
     unfolding object
     object_keeps s e f = answers_then _ _ (properties inner cover pattern element s) _ (properties_keeps s e f) (λ xs t g. g)
 
-    pub pattern_level_keeps : (s : State) → IsBehind b s → Answers (Kept b) (Lost b) (pattern_level inner cover pattern element s)
+    pub pattern_level_keeps : (s : State) → NothingLost b s → Answers (Kept b) (Lost b) (pattern_level inner cover pattern element s)
     unfolding pattern_level
     pattern_level_keeps s f = answers_if _ _ (sees kind.LBracket s.at) _ _ (λ e. array_keeps s (saw s.at kind.LBracket e) f) (λ _.
         answers_if _ _ (sees kind.LBrace s.at) _ _ (λ e. object_keeps s (saw s.at kind.LBrace e) f) (λ _. binding_keeps b s f))
 
     -- a default stands behind `=`
-    initialized_keeps : (start : Span) (p : Tree) (s : State) → kind_at s.at ≡ kind.Assign → IsBehind b s → Answers (Kept b) (Lost b) (initialized inner cover pattern element start p s)
+    initialized_keeps : (start : Span) (p : Tree) (s : State) → kind_at s.at ≡ kind.Assign → NothingLost b s → Answers (Kept b) (Lost b) (initialized inner cover pattern element start p s)
     unfolding initialized
     initialized_keeps start p s e f =
         let g = behind_after b s f in
         answers_then _ _ (inside inner cover assignment (moved s)) _ (value_keeps b (moved s) g) (λ x t k. k)
 
-    pub element_level_keeps : (s : State) → IsBehind b s → Answers (Kept b) (Lost b) (element_level inner cover pattern element s)
+    pub element_level_keeps : (s : State) → NothingLost b s → Answers (Kept b) (Lost b) (element_level inner cover pattern element s)
     unfolding element_level
     element_level_keeps s f = answers_then _ _ (pattern_level inner cover pattern element s) _ (pattern_level_keeps s f) (λ p t g.
         answers_if _ _ (sees kind.Assign t.at) _ _ (λ e. initialized_keeps (span_at s.at) p t (saw t.at kind.Assign e) g) (λ _. g))

@@ -12,8 +12,9 @@ returns-in-Ok-clause-answers g c =
       at = c.enter_module.ensures.at;
       scope = c.enter_module.ensures.scope;
       notes = c.enter_module.ensures.found;
-      faults = c.enter_module.ensures.faults;
-      settled = c.enter_module.ensures.settled;
+      recorded = c.enter_module.ensures.faults.0;
+      faults = c.enter_module.ensures.faults.1;
+      recorded_as = c.enter_module.ensures.faults.2;
     }) in
     (u, i, module_answered (unmarked c.args.state.now) u i c.args.limit _ _ c.in-Ok.ensures.gives)
 
@@ -25,8 +26,9 @@ returns-in-Err-clause-answers g c =
       at = c.enter_module.ensures.at;
       scope = c.enter_module.ensures.scope;
       notes = c.enter_module.ensures.found;
-      faults = c.enter_module.ensures.faults;
-      settled = c.enter_module.ensures.settled;
+      recorded = c.enter_module.ensures.faults.0;
+      faults = c.enter_module.ensures.faults.1;
+      recorded_as = c.enter_module.ensures.faults.2;
     }) in (
       u,
       i,

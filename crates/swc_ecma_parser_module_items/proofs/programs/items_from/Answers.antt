@@ -1,0 +1,6 @@
+use Rattle.swc_ecma_parser_module_reader.proofs.EmptyPrograms.{nothing_behind, none_mapped}
+use Rattle.swc_ecma_parser_module_items.proofs.programs.items_from.Goals as goal
+
+pub returns-clause-outright : goal.returns-clause-outright
+returns-clause-outright g c = λ e _. c.joined.ensures.outright
+    (none_mapped g.T.BuildsItem.item_of c.in_ok-behind.behind.items (nothing_behind c.args.limit (g.P.Source.seen c.args.p.now) e _ _ c.in_ok-behind.ensures.gives))
