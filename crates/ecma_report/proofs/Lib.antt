@@ -1,4 +1,3 @@
-mod ItemLines
 pub mod Joined
 mod ModuleReports
 mod ProgramReports

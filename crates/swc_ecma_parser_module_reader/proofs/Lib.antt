@@ -41,7 +41,3 @@ pub mod ItemLists
 pub mod ProgramItems
 pub mod SoundPrograms
 pub mod Programs
-pub mod ItemCases
-pub mod SoundItems
-pub mod CompleteItems
-pub mod ItemEntries
