@@ -10,8 +10,6 @@ mod parse;
 mod report;
 mod run;
 mod shape;
-#[cfg(test)]
-mod tests;
 
 use std::process::ExitCode;
 use std::rt::Env;

@@ -1,3 +1,4 @@
+mod ItemLines
 pub mod Joined
 mod ModuleReports
 mod ProgramReports

@@ -60,11 +60,11 @@ abbrev pub item_lines : Trees → List ℕ
 item_lines tree.none = []
 item_lines (tree.also item items) = item_line item ++ item_lines items
 
--- the lines of a script or a module: its own, and then those of its items
+-- the lines of a script or a module: its own, and then those of its items; of one item by itself, its own
 abbrev pub whole_lines : Tree → List ℕ
 whole_lines (tree.script span (tree.list items) shebang) = node_line (codes "Script") span ++ item_lines items
 whole_lines (tree.module_program span (tree.list items) shebang) = node_line (codes "Module") span ++ item_lines items
-whole_lines _ = []
+whole_lines item = item_line item
 
 -- a tree's lines and then its faults, or the faults and then why there is no tree
 abbrev pub answer_lines : Result Tree Fault → List Fault → List ℕ

@@ -2,6 +2,7 @@
 #![tactic(auto)]
 
 mod answer;
+mod items;
 mod lines;
 mod modules;
 mod programs;
@@ -9,6 +10,7 @@ mod statements;
 mod texts;
 
 pub use answer::{Goal, Report, Verdict, parse};
+pub use items::show_item;
 pub use modules::show_module;
 pub use programs::show_program;
 pub use statements::show_statement;

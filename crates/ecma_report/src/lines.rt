@@ -98,11 +98,11 @@ fn write_faults(out: &mut String, faults: &[Error]) -> Result<(), AllocError>
     Ok(())
 }
 
-/// A script or a module.
+/// A script, a module, or one item by itself.
 pub(crate) trait Whole: Drop {
     ghost view_of: { Self → Tree };
 
-    /// Writes the lines of the tree: its own, and those of its items.
+    /// Writes the lines of the tree: its own, and those of its items if it has any.
     fn write(&self, out: &mut String) -> Result<(), AllocError>
         ensures { OnOk result (string_bytes out.new ≡ string_bytes out.old ++ whole_lines (view_of self.now)) };
 }

@@ -45,7 +45,7 @@ fn item_kind(item: &ModuleItem) -> &'static str
 }
 
 /// Writes an item's line.
-fn write_item(out: &mut String, item: &ModuleItem) -> Result<(), AllocError>
+pub(crate) fn write_item(out: &mut String, item: &ModuleItem) -> Result<(), AllocError>
     ensures { OnOk result (string_bytes out.new ≡ string_bytes out.old ++ item_line (view_module_item item.now)) }
 {
     out.push_str("  ")?;

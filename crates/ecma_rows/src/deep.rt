@@ -99,11 +99,13 @@ const CLASSES: [(&str, &str, usize, &str, &str); 10] = [
     ("class A{static{", "}}", 499, "0..8484", "7500..7505"),
 ];
 
-/// What stands before an argument of a call, plain or spread, and behind it; how many calls stand in one another within the default
-/// limit; how long the script of these is; and where the argument stands of one call more.
-const CALLS: [(&str, &str, usize, &str, &str); 2] = [
+/// What stands before an argument of a call, plain or spread, of `new` or of `import(..)`, and behind it; how many of these stand in
+/// one another within the default limit; how long the script of them is; and where the argument of one more stands, or what it makes.
+const CALLS: [(&str, &str, usize, &str, &str); 4] = [
     ("f(", ")", 998, "0..2995", "1998..1999"),
     ("f(...", ")", 998, "0..5989", "4995..4996"),
+    ("new a(", ")", 998, "0..6987", "5992..5993"),
+    ("import(", ")", 998, "0..7985", "6993..6994"),
 ];
 
 /// The lines of a script that is one item.

@@ -1,12 +1,10 @@
 //! Whole trees.
 
-use crate::parts::{Turns, part};
 use std::alloc::{AllocError, Global};
-use std::process::Abort;
 use std::test::Fail;
 use swc_ecma_parser_ast::{
-    Atom, BytePos, Expr, ExprBox, ExprStmt, Lit, ParenExpr, PatBox, Span, Spanned, Stmt, StmtBox,
-    StmtList, Str, eq_ignore_span,
+    Atom, BytePos, EmptyStmt, Expr, ExprBox, ExprStmt, Invalid, Lit, ParenExpr, Pat, PatBox, Span,
+    Spanned, Stmt, StmtBox, StmtList, Str, ThisExpr, eq_ignore_span,
 };
 
 fn span(low: u32, high: u32) -> Span {
@@ -91,24 +89,31 @@ fn unboxed_stmt(boxed: StmtBox) -> Option<Span> {
 }
 
 #[test]
-fn nodes_come_out_of_their_boxes(rt: HostRuntime) {
-    let mut turns = Turns::new(&rt, rt.alloc());
-    let wanted = Some(span(1, 2));
-    assert!(rt; unboxed_expr(part(&mut turns)) == wanted);
-    assert!(rt; unboxed_pat(part(&mut turns)) == wanted);
-    assert!(rt; unboxed_stmt(part(&mut turns)) == wanted);
+fn nodes_come_out_of_their_boxes(rt: HostRuntime) -> Result<(), Fail> {
+    let alloc = rt.alloc();
+    let span = span(1, 2);
+    let wanted = Some(span);
+    let expr = ExprBox::new(alloc, Expr::Invalid(Invalid { span }))?;
+    assert!(rt; unboxed_expr(expr) == wanted);
+    let pat = PatBox::new(alloc, Pat::Invalid(Invalid { span }))?;
+    assert!(rt; unboxed_pat(pat) == wanted);
+    let stmt = StmtBox::new(alloc, Stmt::Empty(EmptyStmt { span }))?;
+    assert!(rt; unboxed_stmt(stmt) == wanted);
+    Ok(())
 }
 
-/// How many statements are seen in a list, and how many come out of it.
-fn unlisted<R: Abort>(turns: &mut Turns<R>) -> Result<(usize, usize), Fail> {
-    let list: StmtList = part(turns);
+/// How many statements are seen in a list of one, and how many come out of it.
+fn unlisted(alloc: Global) -> Result<(usize, usize), Fail> {
+    let mut stmts = Vec::new(alloc);
+    stmts.push(Stmt::Empty(EmptyStmt { span: span(1, 2) }))?;
+    let list: StmtList = StmtList::new(stmts);
     let seen = list.get().ok_or("none seen")?.len();
     Ok((seen, list.into_inner().ok_or("none")?.len()))
 }
 
 #[test]
 fn statements_come_out_of_their_list(rt: HostRuntime) -> Result<(), Fail> {
-    let found = unlisted(&mut Turns::new(&rt, rt.alloc()))?;
+    let found = unlisted(rt.alloc())?;
     assert_eq!(rt; found, (1, 1));
     Ok(())
 }
@@ -153,7 +158,7 @@ fn printed(alloc: Global, expr: Expr) -> Result<String, AllocError> {
 
 #[test]
 fn trees_are_printed(rt: HostRuntime) -> Result<(), Fail> {
-    let this = part(&mut Turns::new(&rt, rt.alloc()));
+    let this = Expr::This(ThisExpr { span: span(1, 2) });
     let expr = in_parens(rt.alloc(), this, 1)?;
     let printed = printed(rt.alloc(), expr)?;
     assert_eq!(rt; printed.as_str(), PRINTED);

@@ -1,9 +1,14 @@
 //! What every entry does around its rules: the context is set and set back, and what a call met is answered.
 
-ghost use Rattle.std.specs.Prelude.{◌≡◌, Some, None, [], IfErr, IfOk, OnErr, IsOk};
+ghost use Rattle.std.specs.Prelude.{◌≡◌, ◌++◌, true, List, map, Some, None, [], IfErr, IfOk, OnErr, IsOk};
 ghost use Rattle.swc_ecma_parser_error.specs.Kind.{IsOutOfMemory};
 ghost use Rattle.swc_ecma_parser_module_reader.specs.Entry.{IsEntered, AnswersModule};
+ghost use Rattle.swc_ecma_parser_error.specs.Kind.{Fault};
+ghost use Rattle.swc_ecma_parser_grammar.specs.Notes.{as_note};
+ghost use Rattle.swc_ecma_parser_module_reader.specs.ItemEntry.{AnswersItem};
+ghost use Rattle.swc_ecma_parser_module_reader.specs.Items.{begun_item};
 ghost use Rattle.swc_ecma_parser_module_reader.specs.ProgramEntry.{AnswersProgram};
+ghost use Rattle.swc_ecma_parser_module_reader.specs.Programs.{begins_module};
 ghost use Rattle.swc_ecma_parser_reader.specs.State as reader;
 ghost use Rattle.swc_ecma_parser_reader.specs.Entry.{unmarked, AnswersScript, AnswersStatement, IsRestored};
 
@@ -13,7 +18,8 @@ use swc_ecma_parser_core::script::{script_body, whole_stmt};
 use swc_ecma_parser_error::PResult;
 use swc_ecma_parser_grammar::Position;
 use swc_ecma_parser_input::Tokens;
-use swc_ecma_parser_module_items::items::module_body;
+use swc_ecma_parser_module_items::items::{module_body, module_item};
+use swc_ecma_parser_module_items::programs::begins_module;
 use swc_ecma_parser_state::State;
 use swc_ecma_parser_trees::{
     BuildsExport, BuildsScript, BuildsStatements, BuildsVarDecl, Maker, MakerOf,
@@ -95,6 +101,42 @@ pub fn program<I: Tokens, T: BuildsStatements + BuildsExport + BuildsVarDecl>(
     maker.finish();
     match read {
         Ok(program) => Ok(program),
+        Err(error) => {
+            state.restore(outer, found_module_item);
+            Err(error)
+        }
+    }
+}
+
+/// Makes module code of what begins with an import or an export.
+fn begin_item<I: Tokens>(state: &mut State<I>)
+    ensures { (recorded : List Fault) × (begins_module state.old.at ≡ true → map as_note recorded ≡ state.old.notes.held_back)
+        × (state.new ≡ begun_item recorded state.old) }
+{
+    if !begins_module(state) {
+        return;
+    }
+    state.turn_module();
+}
+
+/// One item of a module, which may nest so many levels deep.
+pub fn item<I: Tokens, T: BuildsStatements + BuildsExport + BuildsVarDecl>(
+    alloc: Global,
+    state: &mut State<I>,
+    limit: usize,
+) -> PResult<T::Item>
+    ensures answers { AnswersItem T.item_of limit (unmarked state.old) result state.new }
+    ensures refused { OnErr result (IsRestored state.old state.new) }
+{
+    let outer = state.flags();
+    let found_module_item = state.found_module_item();
+    state.begin();
+    begin_item(state);
+    let maker: MakerOf<T> = Maker::new(alloc);
+    let read = module_item::<State<I>, T>(&maker, state, limit);
+    maker.finish();
+    match read {
+        Ok(item) => Ok(item),
         Err(error) => {
             state.restore(outer, found_module_item);
             Err(error)

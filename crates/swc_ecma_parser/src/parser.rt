@@ -1,12 +1,13 @@
 //! The parser: a state over a source of tokens, with its entries.
 
 ghost use Rattle.std.specs.Prelude.{◌≡◌, ◌≢◌, ℕ, ◌+◌, ◌*◌, ◌≤◌, ◌||◌, true, false, [], ◌∷◌, length, drop, IfOk, IfErr, OnErr, IsErrAnd, IsOk};
-ghost use Rattle.swc_ecma_parser_ast.specs.View.{view_module, view_program, view_script, view_stmt};
+ghost use Rattle.swc_ecma_parser_ast.specs.View.{view_module, view_module_item, view_program, view_script, view_stmt};
 ghost use Rattle.swc_ecma_parser_error.specs.Kind as kinds;
 ghost use Rattle.swc_ecma_parser_error.specs.Kind.{fault_of, faults_of, kind_of, IsOutOfMemory};
 ghost use Rattle.swc_ecma_parser_error.specs.declared.error.Error.{Error};
 ghost use Rattle.swc_ecma_parser_input.specs.Place as place;
 ghost use Rattle.swc_ecma_parser_module_reader.specs.Entry.{IsEntered, SoundModule, CompleteModule};
+ghost use Rattle.swc_ecma_parser_module_reader.specs.ItemEntry.{SoundItemAlone, CompleteItem};
 ghost use Rattle.swc_ecma_parser_module_reader.specs.ProgramEntry.{SoundProgram, CompleteProgram};
 ghost use Rattle.swc_ecma_parser_reader.specs.Notes.{held_of};
 ghost use Rattle.swc_ecma_parser_reader.specs.State as reader;
@@ -16,10 +17,10 @@ ghost use Rattle.swc_ecma_parser_state.specs.Opened.{opened};
 ghost use Rattle.swc_ecma_parser_token.specs.declared.token.Token.TheVariants as token;
 ghost use Rattle.swc_ecma_parser_token.specs.declared.token.TokenAndSpan.{TokenAndSpan};
 
-use crate::entry::{module, program, script, statement};
+use crate::entry::{item, module, program, script, statement};
 use std::alloc::Global;
 use std::marker::Model;
-use swc_ecma_parser_ast::{Module, Program, Script, Stmt};
+use swc_ecma_parser_ast::{Module, ModuleItem, Program, Script, Stmt};
 use swc_ecma_parser_ast_trees::Ast;
 use swc_ecma_parser_common::Comment;
 use swc_ecma_parser_error::{Error, PResult};
@@ -194,6 +195,43 @@ impl<I: Tokens> Parser<I> {
         let limit = self.limit as usize;
         let state = &mut self.state;
         program::<I, Ast>(alloc, state, limit)
+    }
+
+    /// Reads one item of a module, behind which anything may stand: ECMA-262, section 16.2. An import or an export makes module code
+    /// of what it is and of all that is read later, and what was held back is recorded; a statement is read as one of the top level.
+    /// At the end of the list it is refused with `Eof`.
+    pub fn parse_module_item(&mut self) -> PResult<ModuleItem>
+        ensures limit { self.new.limit ≡ self.old.limit }
+
+        // Of any answer: with no fault recorded but what had been held back the tokens that were taken spell it within the limit, it
+        // is supported, and its walk is empty; where no error token was read and nothing was dropped, its tabled faults are its walk.
+        ensures sound { IfOk result (λ x. SoundItemAlone self.old.limit (unmarked self.old.state) (view_module_item x) self.new.state) }
+
+        // Each supported item within the limit that tokens from here on spell is the answer, and only it, with its walk recorded, and
+        // with what had been held back, if it is an import or an export.
+        ensures complete { CompleteItem view_module_item self.old.limit (unmarked self.old.state) result self.new.state }
+
+        // No token that an answer read is one that memory ran out for.
+        ensures memory { IfOk result (λ x. has_out_of_memory_token self.new.state.at.left ≡ false → has_out_of_memory_token self.old.state.at.left ≡ false) }
+
+        // A limit of twice the tokens and two is never met.
+        ensures fits { 2 * length self.old.state.at.left + 2 ≤ self.old.limit → has_too_deep_token self.old.state.at.left ≡ false
+            → IfErr result (λ e. kind_of e.kind ≢ kinds.TooDeep) }
+
+        // An error token in first place is answered, unless memory ran out; and so is the end of the list.
+        ensures error_token { (t : TokenAndSpan) (ts : _) (d : Error) → self.old.state.at.left ≡ t ∷ ts → t.token ≡ token.Error d
+            → IsErrAnd result (λ e. kind_of e.kind ≢ kinds.OutOfMemory → fault_of e ≡ fault_of d) }
+        ensures at_end { self.old.state.at.left ≡ [] → IsErrAnd result (λ e. kind_of e.kind ≢ kinds.OutOfMemory → kind_of e.kind ≡ kinds.Eof) }
+        ensures refused { OnErr result (IsRestored self.old.state self.new.state) }
+
+        // Whatever comes but want of memory: the tokens that are left are the last of those that were, what was read last is the
+        // token before them, and no recorded fault is lost.
+        ensures stays { Stays self.old.state result self.new.state }
+    {
+        let alloc = self.alloc;
+        let limit = self.limit as usize;
+        let state = &mut self.state;
+        item::<I, Ast>(alloc, state, limit)
     }
 
     /// Reads one statement that is no declaration but one of `var`, behind which anything may stand: ECMA-262, section 14. At the

@@ -140,6 +140,7 @@ fn class_expr<
 
 /// Parentheses, an array, an object, `this`, a function, or a class.
 #[tactic(auto, unfolding(swc_ecma_parser_reader::specs::Expressions::marked_primary))]
+#[inline(never)]
 fn marked_primary<
     P: Source,
     T: BuildsExpr + BuildsCall + BuildsMethod + BuildsOperator + BuildsPattern,
@@ -332,6 +333,7 @@ fn behind_super<
 
 /// `super` and what it stands before.
 #[tactic(auto, unfolding(swc_ecma_parser_reader::specs::Expressions::super_head))]
+#[inline(never)]
 fn super_head<
     P: Source,
     T: BuildsCall,
@@ -380,6 +382,7 @@ fn bare_new<P: Source, T: BuildsCall>(
 
 /// `new`, what it calls, and the arguments, if there are any.
 #[tactic(auto, unfolding(swc_ecma_parser_reader::specs::Expressions::new_head))]
+#[inline(never)]
 fn new_head<
     P: Source,
     T: BuildsCall,
@@ -419,6 +422,7 @@ fn import_call<
 
 /// `import` and its arguments, or `import.meta`.
 #[tactic(auto, unfolding(swc_ecma_parser_reader::specs::Expressions::import_head))]
+#[inline(never)]
 fn import_head<
     P: Source,
     T: BuildsCall + BuildsOperator,

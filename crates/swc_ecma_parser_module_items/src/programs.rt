@@ -17,9 +17,9 @@ use swc_ecma_parser_source::Source;
 use swc_ecma_parser_token::TokenKind;
 use swc_ecma_parser_trees::{BuildsExport, BuildsItem, BuildsStatements, BuildsVarDecl, MakerOf};
 
-/// Whether an import or an export stands here, from which on the code is a module's.
+/// Whether an import or an export begins here, from which on the code is a module's.
 #[tactic(auto, unfolding(swc_ecma_parser_module_reader::specs::Programs::begins_module))]
-fn begins_module<P: Source>(p: &P) -> bool
+pub fn begins_module<P: Source>(p: &P) -> bool
     ensures { result ≡ programs.begins_module (P.seen p.now).at }
 {
     begins_import(p) || p.sees(TokenKind::Export)

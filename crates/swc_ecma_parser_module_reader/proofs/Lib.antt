@@ -41,3 +41,7 @@ pub mod ItemLists
 pub mod ProgramItems
 pub mod SoundPrograms
 pub mod Programs
+pub mod ItemCases
+pub mod SoundItems
+pub mod CompleteItems
+pub mod ItemEntries

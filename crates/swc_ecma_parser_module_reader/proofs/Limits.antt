@@ -321,7 +321,7 @@ unfolding export_in
 export_in_shallow zero m s l e f = absurd (omega arith)
 export_in_shallow (suc n) m s l e f = export_decl_shallow n m s l e f
 
-module_item_shallow : (n m : ℕ) (s : State) → 2 * m + 2 ≤ n → Fine m s.at.left → Answers (Kept m) Shallow (module_item n s)
+pub module_item_shallow : (n m : ℕ) (s : State) → 2 * m + 2 ≤ n → Fine m s.at.left → Answers (Kept m) Shallow (module_item n s)
 unfolding module_item
 module_item_shallow n m s l f = answers_if _ _ (begins_import s.at) _ _ (λ _. import_in_shallow n m s l f)
     (λ _. answers_if _ _ (sees kind.Export s.at) _ _ (λ e. export_in_shallow n m s l e f) (λ _. whole_shallow n top_item m s l f))

@@ -36,7 +36,7 @@ same_refusal : (limit : ℕ) (recorded : List Fault) (s : State) (e f : Fault) (
 same_refusal limit recorded s e f u v h g = ap (refusal_of e) (sym h ∙ g)
 
 -- memory ran out where nothing else can be
-known : (k : faults.Kind) → (k ≢ faults.OutOfMemory → k ≡ faults.OutOfMemory) → k ≡ faults.OutOfMemory
+pub known : (k : faults.Kind) → (k ≢ faults.OutOfMemory → k ≡ faults.OutOfMemory) → k ≡ faults.OutOfMemory
 known faults.OutOfMemory h = refl
 known _ h = h (λ e. cc)
 

@@ -111,7 +111,7 @@ module _ (In : Goal → Type 0) where
   export_around k x c d (exports.export_default_expression_rule y m e g b r i is) h = exports.export_default_expression_rule y m e g b r i is
   export_around k x c d (exports.export_all_rule src attributes m n e g r t i is) h = exports.export_all_rule src attributes m n e g r t i is
 
-declared_around : (n : ℕ) (k : Code) (y : Tree) (c d : Place) → is_module_decl y ≡ true → supported_item y ≡ true → Reads n (item_goal (in_module k) y c d)
+pub declared_around : (n : ℕ) (k : Code) (y : Tree) (c d : Place) → is_module_decl y ≡ true → supported_item y ≡ true → Reads n (item_goal (in_module k) y c d)
     → Reads n (item_goal k y c d)
 declared_around zero k y c d e h r = absurd r
 declared_around (suc n) k y c d e h (statement_rule (b, r)) = absurd (let g : false ≡ true = sym (statement_told (Reads n) (in_module k) top_item y c d r) ∙ e in cc)

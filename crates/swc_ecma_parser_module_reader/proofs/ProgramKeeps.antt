@@ -29,11 +29,11 @@ behind_entered recorded b s f = record {
 }
 
 -- a reader behind which nothing that was recorded is lost
-abbrev Leaves : {A : Type 0} → Reader A → Type 0
+abbrev pub Leaves : {A : Type 0} → Reader A → Type 0
 Leaves p = (b s : State) → IsBehind b s → Answers (Follows b) (Follows b) (p s)
 
 -- whatever was held back before
-since : {A : Type 0} (p : Reader A) → Passes p → Leaves p
+pub since : {A : Type 0} (p : Reader A) → Passes p → Leaves p
 since p k b s f = let c = record b { notes = record b.notes { held_back = s.notes.held_back } } in follows c (p s) (k c s (f, ([], sym (append-nil s.notes.held_back))))
 
 -- from where module code begins on

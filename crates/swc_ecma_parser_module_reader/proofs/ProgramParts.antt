@@ -94,7 +94,7 @@ module _ (In : Goal → Type 0) where
   default_walk env s k ds x y c d (exports.default_class name z r e) is h = class_default_same env x y z name ds _ _ _ _ _ is e r.is h
   default_walk env s k ds x y c d (exports.default_function name z r e) is h = function_default_same env x y z name ds _ _ _ _ _ _ _ is e r.is h
 
-  export_walk : (env : Env) (k : Code) (x : Tree) (c d : Place) → ExportRule In k x c d → supported_item x ≡ true → walk (walks_of.in_module env) x ≡ walk env x
+  pub export_walk : (env : Env) (k : Code) (x : Tree) (c d : Place) → ExportRule In k x c d → supported_item x ≡ true → walk (walks_of.in_module env) x ≡ walk env x
   export_walk env k x c d (exports.export_declaration_rule ds y m n f r is) h =
       exported_walk env _ (in_module k) ds x y n d r is (exported_bare (in_module k) ds y n d r (sym (ap supported_item is) ∙ h))
   export_walk env k x c d (exports.export_from_rule b xs src attributes l m n e r s t g is) h = rw is refl
@@ -104,7 +104,7 @@ module _ (In : Goal → Type 0) where
   export_walk env k x c d (exports.export_default_expression_rule y m e g b r i is) h = rw is refl
   export_walk env k x c d (exports.export_all_rule src attributes m n e g r t i is) h = rw is refl
 
-  export_module : (k : Code) (x : Tree) (c d : Place) → ExportRule In k x c d → supported_item x ≡ true → ExportRule In (in_module k) x c d
+  pub export_module : (k : Code) (x : Tree) (c d : Place) → ExportRule In k x c d → supported_item x ≡ true → ExportRule In (in_module k) x c d
   unfolding may_begin_default
   export_module k x c d (exports.export_declaration_rule ds y m n f r is) h =
       exports.export_declaration_rule ds y m n (front_module k false ds c m n f (exported_bare (in_module k) ds y n d r (sym (ap supported_item is) ∙ h))) r is
@@ -176,11 +176,11 @@ pub record Parts (n : ℕ) (k : Code) (b : Bool) (xs : List Tree) (awaits : Bool
   pub walked : (l : List Text) → walk_items (env_of k l) b (trees xs) ≡ walks (env_of k l) b (trees before) ++ walk_items (env_of (module_code (code_behind k b before)) l) true (trees behind)
 
 -- an import or an export begins there
-word_seen : (m : Place) → begins_import m ≡ true → (begins_module m ≡ true) × (at_end m ≡ false) × (is_error (kind_at m) ≡ false)
+pub word_seen : (m : Place) → begins_import m ≡ true → (begins_module m ≡ true) × (at_end m ≡ false) × (is_error (kind_at m) ≡ false)
 unfolding begins_module begins_import at_end same_kind
 word_seen m e = let w = import_word m e in (ap (λ v. v || sees kind.Export m) e, rw w refl, rw w refl)
 
-export_word_seen : (m : Place) → kind_at m ≡ kind.Export → (begins_module m ≡ true) × (at_end m ≡ false) × (is_error (kind_at m) ≡ false)
+pub export_word_seen : (m : Place) → kind_at m ≡ kind.Export → (begins_module m ≡ true) × (at_end m ≡ false) × (is_error (kind_at m) ≡ false)
 unfolding begins_module begins_import at_end same_kind
 export_word_seen m e = (rw e refl, rw e refl, rw e refl)
 

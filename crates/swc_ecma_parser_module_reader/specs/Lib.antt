@@ -5,3 +5,5 @@ pub mod Supported
 pub mod Entry
 pub mod Programs
 pub mod ProgramEntry
+pub mod Items
+pub mod ItemEntry

@@ -142,6 +142,7 @@ fn behind_literal<
 
 /// An array or object, and what stands behind it.
 #[tactic(auto, unfolding(swc_ecma_parser_reader::specs::Expressions::open_literal))]
+#[inline(never)]
 fn open_literal<
     P: Source,
     T: BuildsCall + BuildsMethod + BuildsOperator + BuildsPattern,

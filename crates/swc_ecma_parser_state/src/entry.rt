@@ -4,6 +4,7 @@ ghost use Rattle.std.specs.Prelude.{◌≡◌, ◌||◌, ◌++◌, false, List, 
 ghost use Rattle.swc_ecma_parser_error.specs.Kind.{Fault, faults_of, IsOutOfMemory};
 ghost use Rattle.swc_ecma_parser_grammar.specs.Entries.{script_code};
 ghost use Rattle.swc_ecma_parser_grammar.specs.Notes.{as_note};
+ghost use Rattle.swc_ecma_parser_grammar.specs.language.Contexts.{in_module};
 ghost use Rattle.swc_ecma_parser_grammar.specs.language.Programs.{entry_code, «module», program};
 ghost use Rattle.swc_ecma_parser_input.specs.Place as place;
 ghost use Rattle.swc_ecma_parser_reader.specs.Notes.{held_of};
@@ -136,6 +137,22 @@ impl<I: Tokens> State<I> {
             can_be_module: true,
             strict: true,
             ..flags
+        });
+    }
+
+    /// Turns the code into a module's, where an import or an export begins: what was held back is recorded.
+    pub fn turn_module(&mut self)
+        ensures code { self.new.code ≡ in_module self.old.code }
+        ensures at { self.new.at ≡ self.old.at }
+        ensures scope { self.new.scope ≡ self.old.scope }
+        ensures found { self.new.notes ≡ record self.old.notes { held_back = [] } }
+        ensures faults { (recorded : List Fault) × (self.new.faults ≡ self.old.faults ++ recorded) × (map as_note recorded ≡ self.old.notes.held_back) }
+    {
+        let before = self.buffer.ctx();
+        self.buffer.set_ctx(Context {
+            module: true,
+            strict: true,
+            ..before
         });
     }
 

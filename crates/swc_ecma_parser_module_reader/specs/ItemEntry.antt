@@ -1,0 +1,75 @@
+-- What the entry for one item of a module gives, by the grammar and the walk alone.
+use Rattle.std.specs.Prelude.{◌≡◌, ◌≢◌, ℕ, ◌≤◌, true, false, ◌||◌, if◌then◌else◌, ◌⊎◌, List, [], ◌++◌, map, Result, Ok, Err}
+use Rattle.swc_ecma_parser_error.specs.declared.error.Error.{Error}
+use Rattle.swc_ecma_parser_error.specs.Kind.{Fault, fault_of, kind_of, OutOfMemory}
+use Rattle.swc_ecma_parser_token.specs.declared.kind.TokenKind.TheVariants as kind
+use Rattle.swc_ecma_parser_input.specs.Place.{Place}
+use Rattle.swc_ecma_parser_model.specs.Kinds.{is_module_decl}
+use Rattle.swc_ecma_parser_model.specs.Tree.{Tree}
+use Rattle.swc_ecma_parser_grammar.specs.Looks.{sees}
+use Rattle.swc_ecma_parser_grammar.specs.Names.{Code}
+use Rattle.swc_ecma_parser_grammar.specs.Notes.{as_note}
+use Rattle.swc_ecma_parser_grammar.specs.language.ModuleItems.{behind_item, begins_with_await}
+use Rattle.swc_ecma_parser_grammar.specs.language.Noted.{has_meta}
+use Rattle.swc_ecma_parser_grammar.specs.language.Programs as programs
+use Rattle.swc_ecma_parser_grammar.specs.language.Programs.{ReadsEntry, Spells}
+use Rattle.swc_ecma_parser_grammar.specs.Walk.{walk, env_of, tabled, drops}
+use Rattle.swc_ecma_parser_reader.specs.Notes.{Notes, notes_with, ◌⊕◌}
+use Rattle.swc_ecma_parser_reader.specs.State.{State}
+use Rattle.swc_ecma_parser_reader.specs.Entry.{error_tokens, IsSetBack}
+use Rattle.swc_ecma_parser_module_reader.specs.Items.{item_whole}
+use Rattle.swc_ecma_parser_module_reader.specs.Programs.{begins_module}
+use Rattle.swc_ecma_parser_module_reader.specs.Supported.{supported_item}
+
+-- the walk of an item where it was read
+abbrev pub item_walk : State → Tree → List Fault
+item_walk s x = walk (env_of s.code s.scope.labels) x
+
+-- what had been held back, of an import or an export
+abbrev pub released : State → Tree → Notes
+released s x = if is_module_decl x then record s.notes { held_back = [] } else s.notes
+
+-- An answer. An import or an export leaves module code behind it and records what had been held back (`recorded`); a statement
+-- leaves the code as it was. Where nothing else was recorded the tokens up to its end spell it as an item of the language, it has
+-- supported forms alone, its walk is empty, and what was noted are its notes; where no error token was read and nothing was
+-- dropped, the faults of the table among those recorded are the walk's; and whatever was recorded, that the code is a module's is
+-- noted where the tree says so and where a statement begins with `await`, and nowhere else.
+pub record SoundItemAlone (limit : ℕ) (s : State) (x : Tree) (t : State) : Type 0 where
+  pub code : t.code ≡ behind_item s.code x
+  pub scope : t.scope ≡ s.scope
+  pub recorded : List Fault
+  pub recorded_as : map as_note recorded ≡ (if is_module_decl x then s.notes.held_back else [])
+  pub added : List Fault
+  pub faults : t.faults ≡ s.faults ++ (recorded ++ added)
+  pub spells : added ≡ [] → Spells limit programs.module_item s.code s.scope.labels x s.at t.at
+  pub is_supported : added ≡ [] → supported_item x ≡ true
+  -- no error token comes to those that are left, and there are as many where none was read
+  pub fewer : error_tokens t.at.left ≤ error_tokens s.at.left
+  pub walked : error_tokens s.at.left ≡ error_tokens t.at.left → drops added ≡ false → tabled added ≡ item_walk s x
+  pub noted : added ≡ [] → t.notes ≡ released s x ⊕ notes_with x (begins_with_await x s.at)
+  pub found : t.notes.found_module_item ≡ (s.notes.found_module_item || (has_meta x || begins_with_await x s.at))
+
+-- an item of the language within a limit, of supported forms alone
+abbrev pub ReadsSupportedItem : ℕ → Code → Tree → Place → Place → Type 0
+ReadsSupportedItem limit k x c d = ReadsEntry limit programs.module_item k x c d × (supported_item x ≡ true)
+
+-- the state after it, where this was recorded of what had been held back
+abbrev pub item_left : State → Tree → Place → (recorded : List Fault) → State
+item_left s x d recorded =
+    record s { at = d; code = behind_item s.code x; faults = s.faults ++ (recorded ++ item_walk s x); notes = released s x ⊕ notes_with x (begins_with_await x s.at) }
+
+-- This item is the answer, with the faults of the walk behind what had been held back, if it is an import or an export.
+abbrev pub GivesItem : {X : Type 0} → (X → Tree) → State → Tree → Place → Result X Error → State → Type 0
+GivesItem view s x d (Ok y) t = (recorded : List Fault) × (map as_note recorded ≡ (if is_module_decl x then s.notes.held_back else [])) × (view y ≡ x) × (t ≡ item_left s x d recorded)
+GivesItem view s x d (Err e) t = kind_of e.kind ≡ OutOfMemory
+
+-- A supported item within the limit that tokens from here on spell is the answer, and they are what is read, unless memory ran out;
+-- where the walk finds faults, no error token may stand right behind them.
+abbrev pub CompleteItem : {X : Type 0} → (X → Tree) → ℕ → State → Result X Error → State → Type 0
+CompleteItem view limit s result t =
+    (x : Tree) (d : Place) → ReadsSupportedItem limit s.code x s.at d → (item_walk s x ≡ []) ⊎ (sees kind.Error d ≡ false) → GivesItem view s x d result t
+
+-- What the reader answers, with what was held back recorded where module code begins, or refuses, with the state set back.
+abbrev pub AnswersItem : {X : Type 0} → (X → Tree) → ℕ → State → Result X Error → State → Type 0
+AnswersItem view limit s (Ok x) t = (recorded : List Fault) × (begins_module s.at ≡ true → map as_note recorded ≡ s.notes.held_back) × (item_whole limit recorded s ≡ Ok (view x, t))
+AnswersItem view limit s (Err e) t = kind_of e.kind ≢ OutOfMemory → (recorded : List Fault) × (u : State) × (item_whole limit recorded s ≡ Err (fault_of e, u)) × IsSetBack u t
