@@ -1,6 +1,6 @@
 //! Fields: FieldDefinition, ECMA-262, section 15.7.
 
-ghost use Rattle.std.specs.Prelude.{◌≡◌, true, false, [], IfOk};
+ghost use Rattle.std.specs.Prelude.{◌≡◌, false, [], IfOk};
 ghost use Rattle.swc_ecma_parser_classes.specs.Keys.{member_key_of};
 ghost use Rattle.swc_ecma_parser_grammar.specs.Ends as ends;
 ghost use Rattle.swc_ecma_parser_grammar.specs.language.Classes.{field_member};
@@ -86,39 +86,8 @@ fn field_value<
     Ok(Some(value))
 }
 
-/// What stands before the key of a field.
-#[derive(Clone, Copy)]
-pub(crate) struct FieldHead {
-    pub(crate) is_static: bool,
-    pub(crate) is_accessor: bool,
-    /// Where the field begins.
-    pub(crate) start: Span,
-}
-
-/// The tree's field with a getter and a setter.
-fn made_accessor<T: BuildsClass>(
-    alloc: Global,
-    span: Span,
-    key: MemberKey<T::Expr>,
-    value: Option<T::Expr>,
-    is_static: bool,
-) -> Result<T::Member, AllocError>
-    ensures { IfOk result (λ x. T.member_of x ≡ field_member span (member_key_of T.expr_of key) (part_of T.expr_of value) is_static true (listed [])) }
-{
-    let decorators = Vec::new(alloc);
-    match key {
-        MemberKey::Private(key) => {
-            T::private_auto_accessor(alloc, span, key, value, is_static, decorators)
-        }
-        MemberKey::Public(key) => {
-            let key = made_key::<T>(alloc, key)?;
-            T::auto_accessor(alloc, span, key, value, is_static, decorators)
-        }
-    }
-}
-
 /// The tree's field.
-fn made_plain<T: BuildsClass>(
+fn made_field<T: BuildsClass>(
     alloc: Global,
     span: Span,
     key: MemberKey<T::Expr>,
@@ -139,22 +108,6 @@ fn made_plain<T: BuildsClass>(
     }
 }
 
-/// The tree's field, of either kind.
-fn made_field<T: BuildsClass>(
-    alloc: Global,
-    span: Span,
-    key: MemberKey<T::Expr>,
-    value: Option<T::Expr>,
-    head: FieldHead,
-) -> Result<T::Member, AllocError>
-    ensures { IfOk result (λ x. T.member_of x ≡ field_member span (member_key_of T.expr_of key) (part_of T.expr_of value) head.is_static head.is_accessor (listed [])) }
-{
-    if head.is_accessor {
-        return made_accessor::<T>(alloc, span, key, value, head.is_static);
-    }
-    made_plain::<T>(alloc, span, key, value, head.is_static)
-}
-
 /// A field that goes on as one.
 #[tactic(auto, unfolding(swc_ecma_parser_reader::specs::Members::field_from))]
 fn field_from<
@@ -167,17 +120,18 @@ fn field_from<
     g: &Grammar<S, E, N>,
     t: &MakerOf<T>,
     p: &mut P,
-    head: FieldHead,
+    is_static: bool,
+    start: Span,
     key: MemberKey<T::Expr>,
 ) -> PResult<T::Member>
     requires { Nests P.seen T.expr_of T.pat_of T.stmt_of g.now.depth (S.pre g.now.stmt) (S.post g.now.stmt) (E.pre g.now.expr) (E.post g.now.expr) (N.pre g.now.pat) (N.post g.now.pat) }
-    ensures { GivesAs T.member_of (members.field_from (rules.expr g.now.depth) (rules.cover g.now.depth) head.is_static head.is_accessor head.start (member_key_of T.expr_of key) (P.seen p.old)) result (P.seen p.new) }
+    ensures { GivesAs T.member_of (members.field_from (rules.expr g.now.depth) (rules.cover g.now.depth) is_static start (member_key_of T.expr_of key) (P.seen p.old)) result (P.seen p.new) }
 {
     field_named::<P, T>(p, &key)?;
     let value = field_value(g, t, p)?;
     field_end(p)?;
-    let span = since(p, head.start);
-    grown(p, made_field::<T>(t.alloc, span, key, value, head))
+    let span = since(p, start);
+    grown(p, made_field::<T>(t.alloc, span, key, value, is_static))
 }
 
 /// A field, from behind its key.
@@ -192,14 +146,15 @@ pub(crate) fn field<
     g: &Grammar<S, E, N>,
     t: &MakerOf<T>,
     p: &mut P,
-    head: FieldHead,
+    is_static: bool,
+    start: Span,
     key: MemberKey<T::Expr>,
 ) -> PResult<T::Member>
     requires { Nests P.seen T.expr_of T.pat_of T.stmt_of g.now.depth (S.pre g.now.stmt) (S.post g.now.stmt) (E.pre g.now.expr) (E.post g.now.expr) (N.pre g.now.pat) (N.post g.now.pat) }
-    ensures { GivesAs T.member_of (members.field (rules.expr g.now.depth) (rules.cover g.now.depth) head.is_static head.is_accessor head.start (member_key_of T.expr_of key) (P.seen p.old)) result (P.seen p.new) }
+    ensures { GivesAs T.member_of (members.field (rules.expr g.now.depth) (rules.cover g.now.depth) is_static start (member_key_of T.expr_of key) (P.seen p.old)) result (P.seen p.new) }
 {
     if p.sees(TokenKind::Assign) || ends_at(p) {
-        return field_from(g, t, p, head, key);
+        return field_from(g, t, p, is_static, start, key);
     }
     Err(p.wanted(Wanted::Member))
 }

@@ -2,10 +2,8 @@
 //! read by the readers that a rule takes as parameters.
 #![tactic(auto)]
 
-pub mod accessors;
 pub mod bodies;
 pub mod class;
-pub mod decorators;
 pub mod fields;
 pub mod keys;
 pub mod member;

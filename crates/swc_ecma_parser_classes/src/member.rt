@@ -1,25 +1,29 @@
 //! Members: ClassElement, ECMA-262, section 15.7.
 
+ghost use Rattle.std.specs.Prelude.{◌≡◌, ◌&&◌, codes};
 ghost use Rattle.swc_ecma_parser_classes.specs.Keys.{member_key_of};
 ghost use Rattle.swc_ecma_parser_functions.specs.Methods.{form_of};
+ghost use Rattle.swc_ecma_parser_grammar.specs.Follows as follows;
+ghost use Rattle.swc_ecma_parser_grammar.specs.Looks as looks;
 ghost use Rattle.swc_ecma_parser_grammar.specs.Reads.{nested_item};
+ghost use Rattle.swc_ecma_parser_input.specs.Place as place;
 ghost use Rattle.swc_ecma_parser_inner.specs.Nests.{Nests};
 ghost use Rattle.swc_ecma_parser_reader.specs.Members as members;
 ghost use Rattle.swc_ecma_parser_reader.specs.Reader as rules;
 ghost use Rattle.swc_ecma_parser_reader.specs.State.{GivesAs};
+ghost use Rattle.swc_ecma_parser_token.specs.declared.kind.TokenKind.TheVariants as kind;
 
-use crate::accessors::accessor_member;
-use crate::fields::{FieldHead, field};
+use crate::fields::field;
 use crate::keys::{MemberKey, member_key};
 use crate::methods::{Head, method, plain_method, second_static, static_block};
-use crate::words::{begins_static_block, is_accessor_word, member_words, static_word};
+use crate::words::{is_accessor_word, member_words, static_word};
 use swc_ecma_parser_common::Span;
 use swc_ecma_parser_error::PResult;
 use swc_ecma_parser_grammar::Position;
 use swc_ecma_parser_inner::cover::{Cover, Reading};
 use swc_ecma_parser_inner::grammar::{Grammar, Part};
 use swc_ecma_parser_inner::steps::{grown, since};
-use swc_ecma_parser_source::Source;
+use swc_ecma_parser_source::{Source, Wanted};
 use swc_ecma_parser_token::TokenKind;
 use swc_ecma_parser_trees::{BuildsClass, BuildsPattern, MakerOf};
 
@@ -47,17 +51,12 @@ fn behind_key<
     if p.sees(TokenKind::LParen) {
         return plain_method(g, t, p, head.is_static, head.start, head.word, key);
     }
-    let head = FieldHead {
-        is_static: head.is_static,
-        is_accessor: false,
-        start: head.start,
-    };
-    field(g, t, p, head, key)
+    field(g, t, p, head.is_static, head.start, key)
 }
 
 /// A member that has a key, from the words before it on.
 #[tactic(auto, unfolding(swc_ecma_parser_reader::specs::Members::keyed_member))]
-pub(crate) fn keyed_member<
+fn keyed_member<
     P: Source,
     T: BuildsClass + BuildsPattern,
     S: Fn(&MakerOf<T>, &mut P, usize, Position) -> PResult<T::Stmt>,
@@ -85,7 +84,14 @@ pub(crate) fn keyed_member<
     behind_key(g, t, p, head, key)
 }
 
-/// A member, from behind `static` if it stands there.
+/// Whether a second `static` and a block stand here.
+fn begins_second_static<P: Source>(p: &P) -> bool
+    ensures { result ≡ (follows.word_at (codes "static") (P.seen p.now).at && looks.sees kind.LBrace (place.after (P.seen p.now).at)) }
+{
+    p.word_at("static") && p.next_sees(TokenKind::LBrace)
+}
+
+/// A member, from behind `static` if it stands there. Fields with a getter and a setter are not read.
 #[tactic(auto, unfolding(swc_ecma_parser_reader::specs::Members::behind_static))]
 fn behind_static<
     P: Source,
@@ -104,12 +110,12 @@ fn behind_static<
     ensures { GivesAs T.member_of (members.behind_static (rules.expr g.now.depth) (rules.cover g.now.depth) (rules.stmt g.now.depth nested_item) (rules.parameters g.now.depth) is_static start (P.seen p.old)) result (P.seen p.new) }
 {
     if is_accessor_word(p) {
-        return accessor_member(g, t, p, is_static, start);
+        return Err(p.wanted(Wanted::Expression));
     }
     if is_static && p.sees(TokenKind::LBrace) {
         return static_block(g, t, p, start);
     }
-    if is_static && begins_static_block(p) {
+    if is_static && begins_second_static(p) {
         return second_static(g, t, p, start);
     }
     keyed_member(g, t, p, is_static, start)

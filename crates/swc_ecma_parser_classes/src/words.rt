@@ -1,15 +1,12 @@
 //! What stands before the key of a member: ECMA-262, section 15.7.
 
-ghost use Rattle.std.specs.Prelude.{◌≡◌, ◌&&◌, codes};
+ghost use Rattle.std.specs.Prelude.{◌≡◌};
 ghost use Rattle.swc_ecma_parser_functions.specs.Methods.{form_of};
 ghost use Rattle.swc_ecma_parser_grammar.specs.Ends as ends;
-ghost use Rattle.swc_ecma_parser_grammar.specs.Follows as follows;
-ghost use Rattle.swc_ecma_parser_grammar.specs.Looks as looks;
 ghost use Rattle.swc_ecma_parser_grammar.specs.language.Classes as classes;
 ghost use Rattle.swc_ecma_parser_input.specs.Place as place;
 ghost use Rattle.swc_ecma_parser_reader.specs.Members as members;
 ghost use Rattle.swc_ecma_parser_reader.specs.State.{Gives, GivesAs};
-ghost use Rattle.swc_ecma_parser_token.specs.declared.kind.TokenKind.TheVariants as kind;
 
 use swc_ecma_parser_error::PResult;
 use swc_ecma_parser_functions::function::{Manner, star};
@@ -78,32 +75,6 @@ fn begins_async_member<P: Source>(p: &P) -> bool
     ensures { result ≡ members.begins_async_member (P.seen p.now).at }
 {
     p.word_at("async") && !is_key(p) && !next_can_end(p)
-}
-
-/// Whether one of these words or `*` stands before a key.
-#[tactic(auto, unfolding(swc_ecma_parser_reader::specs::Members::begins_words))]
-fn begins_words<P: Source>(p: &P) -> bool
-    ensures { result ≡ members.begins_words (P.seen p.now).at }
-{
-    begins_accessor(p, "get")
-        || begins_accessor(p, "set")
-        || begins_async_member(p)
-        || p.sees(TokenKind::Mul)
-}
-
-/// Whether a `static` behind another word and a block stand here.
-pub(crate) fn begins_static_block<P: Source>(p: &P) -> bool
-    ensures { result ≡ (follows.word_at (codes "static") (P.seen p.now).at && looks.sees kind.LBrace (place.after (P.seen p.now).at)) }
-{
-    p.word_at("static") && p.next_sees(TokenKind::LBrace)
-}
-
-/// Whether no field goes on behind `accessor`, before any key.
-#[tactic(auto, unfolding(swc_ecma_parser_reader::specs::Members::begins_no_field))]
-pub(crate) fn begins_no_field<P: Source>(p: &P, is_static: bool) -> bool
-    ensures { result ≡ members.begins_no_field is_static (P.seen p.now).at }
-{
-    (is_static && p.sees(TokenKind::LBrace)) || begins_static_block(p) || begins_words(p)
 }
 
 /// The words before a key, if any stand there.

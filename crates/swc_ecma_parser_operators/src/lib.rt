@@ -4,5 +4,4 @@
 
 mod arrows;
 pub mod assignment;
-pub mod decorator;
 pub mod operator;

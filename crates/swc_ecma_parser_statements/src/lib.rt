@@ -5,5 +5,4 @@
 pub mod jump;
 pub mod leave;
 pub mod simple;
-pub mod using;
 pub mod variables;

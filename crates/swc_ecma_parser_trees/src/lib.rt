@@ -192,5 +192,4 @@ pub trait BuildsStatements: BuildsExpr
     + BuildsTry
     + BuildsLoop
     + BuildsFor
-    + BuildsClassDecl
-    + BuildsVarDecl {}
+    + BuildsClassDecl {}
