@@ -6,8 +6,6 @@ mod arrows;
 #[cfg(test)]
 mod awaits;
 #[cfg(test)]
-mod broken;
-#[cfg(test)]
 mod classes;
 #[cfg(test)]
 mod declarations;
