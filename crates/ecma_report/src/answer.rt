@@ -89,7 +89,12 @@ fn reported<T: Whole>(
 }
 
 /// Drops an answer.
-pub(crate) fn discard<T: Drop>(_: PResult<T>) {}
+pub(crate) fn discard<T: Whole>(answer: PResult<T>) {
+    match answer {
+        Ok(tree) => tree.let_go(),
+        Err(error) => drop(error),
+    }
+}
 
 /// Reports what a parser answered, and the faults that it recorded, which it takes.
 fn finished<I: Tokens, T: Whole>(

@@ -25,6 +25,10 @@ impl Whole for ModuleItem {
     fn write(&self, out: &mut String) -> Result<(), AllocError> {
         write_item(out, self)
     }
+
+    fn let_go(self) {
+        self.discard();
+    }
 }
 
 /// Has a parser read one item of a module, and takes the faults that it recorded. The lines are those of an answer and of the

@@ -99,12 +99,15 @@ fn write_faults(out: &mut String, faults: &[Error]) -> Result<(), AllocError>
 }
 
 /// A script, a module, or one item by itself.
-pub(crate) trait Whole: Drop {
+pub(crate) trait Whole {
     ghost view_of: { Self → Tree };
 
     /// Writes the lines of the tree: its own, and those of its items if it has any.
     fn write(&self, out: &mut String) -> Result<(), AllocError>
         ensures { OnOk result (string_bytes out.new ≡ string_bytes out.old ++ whole_lines (view_of self.now)) };
+
+    /// Drops it. How its type is dropped is proved where it stands, so this crate needs no proof of that.
+    fn let_go(self);
 }
 
 impl Whole for Script {
@@ -113,6 +116,10 @@ impl Whole for Script {
     fn write(&self, out: &mut String) -> Result<(), AllocError> {
         write_node(out, "Script", self.span)?;
         write_items(out, self.body.as_slice())
+    }
+
+    fn let_go(self) {
+        self.discard();
     }
 }
 

@@ -69,6 +69,10 @@ impl Whole for Module {
         write_node(out, "Module", self.span)?;
         write_items(out, self.body.as_slice())
     }
+
+    fn let_go(self) {
+        self.discard();
+    }
 }
 
 /// Has a parser read a module, and takes the faults that it recorded. The lines are those of an answer and of the faults of the

@@ -27,6 +27,10 @@ impl Whole for Program {
             Program::Script(whole) => whole.write(out),
         }
     }
+
+    fn let_go(self) {
+        self.discard();
+    }
 }
 
 /// Has a parser read a program, and takes the faults that it recorded. The lines are those of an answer and of the faults of the

@@ -356,6 +356,64 @@ class {}++ → refused 6..7 ExpectedIdent
 (class 1 {}) → refused 7..8 Expected
 ({ class {} }) → refused 3..8 ExpectedIdent";
 
+const ACCESSORS: &str =
+    "class A { accessor a = 1; } → Script 0..27, Class 0..27 → AutoAccessor 10..25, Ident 19..20 a, Number 23..24 1, is_static: false
+class A { accessor a } → Script 0..22, Class 0..22 → AutoAccessor 10..20, value: None
+class A { static accessor a = b; accessor c } → Script 0..45, Class 0..45 → AutoAccessor 10..32, is_static: true, AutoAccessor 33..43
+class A { accessor #a; static accessor #b = 1 } → Script 0..47, Class 0..47 → AutoAccessor 10..22, PrivateName 19..21, AutoAccessor 23..45, PrivateName 39..41
+class A { accessor 'a' = 1; accessor 2; accessor [b] = c; accessor 3n; accessor if } → Script 0..84, Class 0..84 → AutoAccessor 10..27, AutoAccessor 28..39, AutoAccessor 40..57, ComputedPropName 49..52, AutoAccessor 58..70, AutoAccessor 71..82
+class A { accessor a¶accessor b¶= 1¶c } → Script 0..39, Class 0..39 → AutoAccessor 10..20, AutoAccessor 21..35, ClassProp 36..37
+class A { accessor; accessor() {} accessor = 1; static accessor } → Script 0..65, Class 0..65 → ClassProp 10..19, ClassMethod 20..33, ClassProp 34..47, ClassProp 48..63
+class A { accessor¶a; static accessor¶b; static¶accessor c } → Script 0..60, Class 0..60 → ClassProp 10..18, ClassProp 19..21, ClassProp 22..37, ClassProp 38..40, AutoAccessor 41..58
+class A { accessor accessor; accessor static; accessor get; accessor set = 1; accessor async } → Script 0..94, Class 0..94 → AutoAccessor 10..28, AutoAccessor 29..45, AutoAccessor 46..59, AutoAccessor 60..77, AutoAccessor 78..92
+class A { accessor get¶*a() {} accessor async¶b() {} } → Script 0..54, Class 0..54 → AutoAccessor 10..22, ClassMethod 23..30, AutoAccessor 31..45, ClassMethod 46..52
+class A { accessor a = class { static accessor b } } → Script 0..52, Class 0..52 → AutoAccessor 10..50, AutoAccessor 31..48
+(class { accessor a }) → Script 0..22, Expr 0..22 → ClassExpr 1..21, AutoAccessor 9..19
+for (var a = class { accessor b = c in d }; ;) ; → Script 0..48, For 0..48 → AutoAccessor 21..40, BinExpr 34..40
+function* g() { class A { accessor [yield] = yield } } → Script 0..54, Fn 0..54 → AutoAccessor 26..50, ComputedPropName 35..42, YieldExpr 45..50";
+
+const ACCESSOR_FAULTS: &str =
+    "class A { accessor a = 1; accessor b() {} } → Script 0..43, Class 0..43, fault 26..34 TS1184 → AutoAccessor 10..25, ClassMethod 26..41, Function 26..41
+class A { accessor get a() {} accessor set a(b) {} } → Script 0..52, Class 0..52, fault 10..18 TS1184, fault 30..38 TS1184 → ClassMethod 10..29, kind: Getter, ClassMethod 30..50, kind: Setter
+class A { accessor *a() {} accessor async b() {} } → Script 0..50, Class 0..50, fault 10..18 TS1184, fault 27..35 TS1184 → ClassMethod 10..26, ClassMethod 27..48
+class A { static accessor a() {} } → Script 0..34, Class 0..34, fault 17..25 TS1184 → ClassMethod 10..32, is_static: true
+class A { accessor accessor() {} accessor static() {} accessor get() {} } → Script 0..73, Class 0..73, fault 10..18 TS1184, fault 33..41 TS1184, fault 54..62 TS1184 → ClassMethod 10..32, ClassMethod 33..53, ClassMethod 54..71, kind: Method
+class A { accessor get¶a() {} } → Script 0..31, Class 0..31, fault 10..18 TS1184 → ClassMethod 10..29, kind: Getter
+class A { accessor constructor() {} } → Script 0..37, Class 0..37, fault 10..18 TS1184 → Constructor 10..35
+class A { static accessor constructor() {} } → Script 0..44, Class 0..44, fault 17..25 TS1184, fault 10..16 TS1089 → Constructor 10..42
+class A { constructor() {} accessor constructor() {} } → Script 0..54, Class 0..54, fault 27..35 TS1184, fault 27..52 DuplicateConstructor
+class A { accessor #a() {} } → Script 0..28, Class 0..28, fault 10..18 TS1184 → PrivateMethod 10..26
+class A { accessor #constructor() {} } → Script 0..38, Class 0..38, fault 19..31 PrivateConstructor, fault 10..18 TS1184
+class A { accessor *#constructor() {} } → Script 0..39, Class 0..39, fault 10..18 TS1184, fault 20..32 PrivateConstructor
+class A { accessor #constructor } → Script 0..33, Class 0..33, fault 19..31 PrivateConstructor → AutoAccessor 10..31
+class A { accessor [function () { break }]() {} } → Script 0..49, Class 0..49, fault 34..39 TS1105, fault 10..18 TS1184 → ClassMethod 10..47
+class A { accessor get [function () { break }]() {} } → Script 0..53, Class 0..53, fault 10..18 TS1184, fault 38..43 TS1105
+class A { accessor [function () { break }] } → Script 0..44, Class 0..44, fault 34..39 TS1105 → AutoAccessor 10..42
+class A { accessor a(b = function () { break }) {} } → Script 0..52, Class 0..52, fault 10..18 TS1184, fault 39..44 TS1105
+class A { static accessor {} } → Script 0..30, Class 0..30, fault 17..25 TS1184 → StaticBlock 10..28
+class A { accessor static {} } → Script 0..30, Class 0..30, fault 10..18 TS1184 → StaticBlock 10..28
+class A { static accessor static { break } } → Script 0..44, Class 0..44, fault 17..25 TS1184, fault 10..16 TS1184, fault 35..40 TS1105 → StaticBlock 10..42
+class A { accessor *constructor() {} } → Script 0..38, Class 0..38, fault 10..18 TS1184, fault 10..31 GeneratorConstructor
+class A { accessor get constructor() {} } → Script 0..41, Class 0..41, fault 10..18 TS1184, fault 19..22 ConstructorAccessor
+class A { accessor get a(b) {} } → Script 0..32, Class 0..32, fault 10..18 TS1184, fault 19..22 GetterParam
+class A { accessor a = 1 b } → Script 0..28, Class 0..28, fault 25..26 TS1005 → AutoAccessor 10..24, ClassProp 25..26
+class A { accessor constructor; } → refused 19..30 PropertyNamedConstructor
+class A { static accessor 'constructor' = 1 } → refused 26..39 PropertyNamedConstructor
+class A { accessor async constructor() {} } → fault 10..18 TS1184, refused 25..36 AsyncConstructor
+class A { accessor a b } → refused 21..22 Unexpected
+class A { accessor static b } → refused 26..27 Unexpected
+class A { accessor accessor b } → refused 28..29 Unexpected
+class A { accessor {} } → refused 19..20 ExpectedIdent
+class A { accessor + } → refused 19..20 ExpectedIdent
+class A { accessor get + } → fault 10..18 TS1184, refused 23..24 ExpectedIdent
+class A { accessor * } } → fault 10..18 TS1184, refused 21..22 ExpectedIdent
+class A { accessor a() → fault 10..18 TS1184, refused 21..22 Expected
+class A { accessor * → fault 10..18 TS1184, refused 20..20 Eof
+class A { accessor * \\ → fault 10..18 TS1184, refused 21..22 UnexpectedChar
+class A { accessor \\ → refused 19..20 UnexpectedChar
+class A { accessor a → Script 0..20, Class 0..20, fault 19..20 Expected → AutoAccessor 10..20
+class A { accessor → Script 0..18, Class 0..18, fault 10..18 Expected → ClassProp 10..18";
+
 const MODULES: &str = "class A {} → Module 0..10, Class 0..10 → Ident 6..7 A
 export class A {} → Module 0..17, ExportDecl 0..17 → ExportDecl 0..17, Ident 13..14 A, Class 7..17
 export class A extends B { a = 1; b() {} } → Module 0..42, ExportDecl 0..42 → Class 7..42, ClassProp 27..33, ClassMethod 34..40
@@ -404,6 +462,9 @@ pub const TABLES: [(&str, &str); 14] = [
     (ENDS, "28 rows"),
     (EXPRESSIONS, "31 rows"),
 ];
+
+/// With the setting `auto_accessors`.
+pub const SET_TABLES: [(&str, &str); 2] = [(ACCESSORS, "14 rows"), (ACCESSOR_FAULTS, "40 rows")];
 
 /// The same of modules.
 pub const MODULE_TABLES: [(&str, &str); 1] = [(MODULES, "30 rows")];

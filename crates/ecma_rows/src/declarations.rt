@@ -1,4 +1,5 @@
-//! Rows of `let` and `const`, by hand, from the rules of ECMA-262, section 14.3.1.
+//! Rows of `let` and `const`, by hand, from the rules of ECMA-262, section 14.3.1, and of `using`, from the proposal on explicit
+//! resource management.
 
 const DECLARATIONS: &str =
     "let a → Script 0..5, Var 0..5 → VarDecl 0..5, kind: Let, VarDeclarator 4..5, init: None
@@ -23,13 +24,55 @@ let a b → refused 6..7 Unexpected
 'use strict'; let → refused 14..17 Unexpected
 while (a) const b = 1 → refused 10..15 Unexpected";
 
+const UNSET_USING: &str =
+    "using a = b; → Script 0..12, Using 0..11, Empty 11..12, fault 0..11 UsingDeclNotEnabled → UsingDecl 0..11
+using a, [b] = c; → Script 0..17, Using 0..16, Empty 16..17, fault 0..16 UsingDeclNotEnabled, fault 0..16 InitRequiredForUsingDecl, fault 0..16 InvalidNameInUsingDecl
+using → Script 0..5, Expr 0..5 → Ident 0..5 using
+using¶a → Script 0..7, Expr 0..5, Expr 6..7
+{ await using; } → Script 0..16, Block 0..16 → ExprStmt 2..14, AwaitExpr 2..13
+for (using in a) ; → Script 0..18, ForIn 0..18
+if (a) using b = c → refused 13..14 ExpectedSemiForExprStmt";
+
+const USING: &str =
+    "using a = b; → Script 0..12, Using 0..11, Empty 11..12 → UsingDecl 0..11, is_await: false, VarDeclarator 6..11
+using a = b, c = d → Script 0..18, Using 0..18 → UsingDecl 0..18, VarDeclarator 6..11, VarDeclarator 13..18
+using a = b c → Script 0..13, Using 0..11, Expr 12..13
+using a = b¶c → Script 0..13, Using 0..11, Expr 12..13
+using a = b in c → Script 0..16, Using 0..16 → BinExpr 10..16
+using of = a → Script 0..12, Using 0..12
+{ using a = b } → Script 0..15, Block 0..15 → UsingDecl 2..13
+function f() { using a = b; } → Script 0..29, Fn 0..29 → UsingDecl 15..26, EmptyStmt 26..27
+switch (a) { case b: using c = d } → Script 0..34, Switch 0..34 → UsingDecl 21..32
+using¶a → Script 0..7, Expr 0..5, Expr 6..7
+using → Script 0..5, Expr 0..5 → Ident 0..5 using
+using: a → Script 0..8, Labeled 0..8
+using = a → Script 0..9, Expr 0..9 → AssignExpr 0..9
+using [a] = b → Script 0..13, Expr 0..13 → AssignExpr 0..13
+using in a → Script 0..10, Expr 0..10 → BinExpr 0..10
+using => a → Script 0..10, Expr 0..10 → ArrowExpr 0..10
+using a → Script 0..7, Using 0..7, fault 0..7 InitRequiredForUsingDecl
+using a, [b] = c; → Script 0..17, Using 0..16, Empty 16..17, fault 0..16 InitRequiredForUsingDecl, fault 0..16 InvalidNameInUsingDecl
+using a, [b] → refused 9..12 PatVarWithoutInit
+using a, → refused 8..8 Eof
+using a = → refused 9..9 Eof
+if (a) using b = c → refused 13..14 ExpectedSemiForExprStmt
+a: using b = c → refused 9..10 ExpectedSemiForExprStmt";
+
 /// Each table, and how many rows it has.
-pub const TABLES: [(&str, &str); 1] = [(DECLARATIONS, "21 rows")];
+pub const TABLES: [(&str, &str); 2] = [(DECLARATIONS, "21 rows"), (UNSET_USING, "7 rows")];
+
+/// The same of those for which `explicit_resource_management` is set.
+pub const SET_TABLES: [(&str, &str); 1] = [(USING, "23 rows")];
 
 /// Rows, each within so many levels.
-pub const LIMITS: [(&str, u32); 4] = [
+pub const LIMITS: [(&str, u32); 6] = [
     ("let a → refused 4..5 TooDeep", 1),
     ("let a → Script 0..5, Var 0..5", 2),
     ("const a = b → refused 6..7 TooDeep", 1),
     ("const a = b → Script 0..11, Var 0..11", 2),
+    ("using a = b → refused 6..7 TooDeep", 1),
+    (
+        "using a = b → Script 0..11, Using 0..11, fault 0..11 UsingDeclNotEnabled",
+        2,
+    ),
 ];

@@ -27,6 +27,7 @@ import { → refused 8..8 Eof
 import a from b → refused 14..15 Unexpected
 import a from 'x' b → refused 18..19 Expected
 import a 'x' → refused 9..12 Expected
+import a from 'x' with {} → refused 18..22 Expected
 import → refused 6..6 Eof
 import yield from 'x' → refused 7..12 ExpectedIdent";
 
@@ -92,6 +93,26 @@ var IS_IE11 = !global.ActiveXObject && 'ActiveXObject' in global; → Module 0..
 var public → refused 4..10 ExpectedIdent
 \\ → refused 0..1 UnexpectedChar";
 
+const AWAITS: &str = "let await = 1 → Module 0..13, Var 0..13, fault 4..9 InvalidIdentInAsync
+function foo (x = await) { } → Module 0..28, Fn 0..28, fault 18..23 InvalidIdentInAsync
+async function foo () { function bar(x = await) {} } → Module 0..52, Fn 0..52, fault 41..46 InvalidIdentInAsync
+await → Module 0..5, Expr 0..5, fault 0..5 InvalidIdentInAsync → Ident 0..5 await
+await: a → Module 0..8, Labeled 0..8, fault 0..5 InvalidIdentInAsync
+({ await }) → Module 0..11, Expr 0..11, fault 3..8 InvalidIdentInAsync
+var { await } = a → Module 0..17, Var 0..17, fault 6..11 InvalidIdentInAsync
+[await] = a → Module 0..11, Expr 0..11, fault 1..6 InvalidIdentInAsync
+(await => a) → Module 0..12, Expr 0..12, fault 1..6 InvalidIdentInAsync
+((await) => a) → Module 0..14, Expr 0..14, fault 2..7 InvalidIdentInAsync
+async function f() { await } → refused 21..26 ExpectedIdent
+import await from 'x' → Module 0..21, Import 0..21, fault 7..12 InvalidIdentInAsync
+import { a as await } from 'x' → Module 0..30, Import 0..30, fault 14..19 InvalidIdentInAsync
+import * as await from 'x' → Module 0..26, Import 0..26, fault 12..17 InvalidIdentInAsync
+import { await } from 'x' → refused 9..14 ReservedWordInImport
+import { await as a } from 'x' → Module 0..30, Import 0..30 → Ident 9..14 await, Ident 18..19 a
+export { await } → Module 0..16, ExportNamed 0..16 → Ident 9..14 await
+export { a as await } → Module 0..21, ExportNamed 0..21 → Ident 14..19 await
+export default function await() {} → Module 0..34, ExportDefaultDecl 0..34, fault 24..29 InvalidIdentInAsync";
+
 const FROM_DEFAULTS: &str = "export * as Foo from 'bar'; → Module 0..27, ExportNamed 0..27
 export * as bar, { baz } from 'mod' → Module 0..35, ExportNamed 0..35 → ExportNamespaceSpecifier 7..15, ExportNamedSpecifier 19..22
 export * as bar, { baz } → Module 0..24, ExportNamed 0..24, fault 7..15 ExportExpectFrom → ExportNamespaceSpecifier 7..15, src: None
@@ -119,15 +140,54 @@ export if from 'bar' → refused 7..9 Unexpected
 export yield from 'bar' → refused 7..12 Unexpected
 export await from 'bar' → refused 7..12 Unexpected";
 
+const ATTRIBUTES: &str =
+    "import x from 'y' with { type: 'json' }; → Module 0..40, Import 0..40 → ImportDefaultSpecifier 7..8, Str 14..17 y 'y', ObjectLit 23..39, KeyValueProp 25..37, Str 31..37 json 'json', phase: Evaluation
+import 'y' with {} → Module 0..18, Import 0..18 → specifiers: [], Str 7..10 y 'y', ObjectLit 16..18, phase: Evaluation
+import 'y' assert { a }; b → Module 0..26, Import 0..24, Expr 25..26 → ObjectLit 18..23, Ident 20..21 a
+import defer * as a from 'y' with {} → Module 0..36, Import 0..36 → ImportStarAsSpecifier 13..19, ObjectLit 34..36, phase: Defer
+import 'y' with¶{ a: 'b' } → Module 0..26, Import 0..26 → ObjectLit 16..26
+import 'y' with { a: import.meta }; → Module 0..35, Import 0..35 → MetaPropExpr 21..32
+import 'y' with { a() { break } } → Module 0..33, Import 0..33, fault 24..29 TS1105
+export * from 'y' with { a: 'b' }; → Module 0..34, ExportAll 0..34 → ExportAll 0..34, Str 14..17 y 'y', ObjectLit 23..33, KeyValueProp 25..31
+export { a } from 'y' assert { b: 'c', } → Module 0..40, ExportNamed 0..40 → ExportNamedSpecifier 9..10, ObjectLit 29..40, KeyValueProp 31..37
+export * as a from 'y' with {}; → Module 0..31, ExportNamed 0..31 → ExportNamespaceSpecifier 7..13, ObjectLit 28..30
+import 'y'¶with ({}) b → Module 0..22, Import 0..10, With 11..22, fault 11..15 WithInStrict
+import 'y'¶assert¶{} → Module 0..20, Import 0..10, Expr 11..17, Block 18..20
+import 'y' with { a: 'b' } (c) → refused 27..28 Expected
+import 'y' with {} c → refused 19..20 Expected
+import 'y' with { a = b } → refused 18..23 AssignProperty
+import 'y' with a → refused 16..17 Expected
+import 'y' with [a] → refused 16..17 Expected
+import 'y' with → refused 11..15 Expected
+import 'y' assert { → refused 19..19 Eof";
+
 /// Each table, and how many rows it has.
-pub const TABLES: [(&str, &str); 3] = [
-    (IMPORTS, "28 rows"),
+pub const TABLES: [(&str, &str); 4] = [
+    (IMPORTS, "29 rows"),
     (EXPORTS, "38 rows"),
     (MODULES, "21 rows"),
+    (AWAITS, "19 rows"),
 ];
 
 /// The same with the setting that exports the defaults of other modules.
 pub const SET_TABLES: [(&str, &str); 1] = [(FROM_DEFAULTS, "26 rows")];
+
+/// With the setting `import_attributes`.
+pub const ATTRIBUTE_TABLES: [(&str, &str); 1] = [(ATTRIBUTES, "19 rows")];
+
+/// With that setting, each within so many levels.
+pub const ATTRIBUTE_LIMITS: [(&str, u32); 4] = [
+    ("import 'x' with {} → refused 16..17 TooDeep", 1),
+    ("import 'x' with {} → Module 0..18, Import 0..18", 2),
+    (
+        "export * from 'x' with { a: b } → refused 28..29 TooDeep",
+        2,
+    ),
+    (
+        "export * from 'x' with { a: b } → Module 0..31, ExportAll 0..31",
+        3,
+    ),
+];
 
 /// Rows, each within so many levels.
 pub const LIMITS: [(&str, u32); 7] = [

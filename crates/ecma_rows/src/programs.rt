@@ -30,8 +30,11 @@ class A { static { await a } } → Script 0..30, Class 0..30 → AwaitExpr 19..2
 async function f() { await a } → Script 0..30, Fn 0..30 → AwaitExpr 21..28
 function f() { await a } → Script 0..24, Fn 0..24, fault 15..20 AwaitInFunction
 with (a) await b → Script 0..16, With 0..16, fault 9..14 AwaitInFunction
-await → refused 0..5 Unexpected
-await: a → refused 0..5 Unexpected
+await → Module 0..5, Expr 0..5 → Ident 0..5 await
+await: a → Module 0..8, Labeled 0..8 → Ident 0..5 await
+let await = 1 → Script 0..13, Var 0..13 → Ident 4..9 await
+function foo (x = await) { } → Script 0..28, Fn 0..28
+async function foo () { function bar(x = await) {} } → Script 0..52, Fn 0..52
 'use strict'; await a; var public → refused 27..33 ExpectedIdent";
 
 const METAS: &str = "import.meta a → Module 0..13, Expr 0..11, Expr 12..13 → MetaPropExpr 0..11
@@ -96,6 +99,8 @@ with (a) b; export c → fault 0..4 WithInStrict, refused 19..20 Unexpected
 with (a) b; export var public → fault 0..4 WithInStrict, refused 23..29 ExpectedIdent";
 
 const STRICT: &str = "var public; export {} → Module 0..21, Var 0..11, ExportNamed 12..21
+var await; export {} → Module 0..20, Var 0..10, ExportNamed 11..20
+export {}; var await → Module 0..20, ExportNamed 0..10, Var 11..20, fault 15..20 InvalidIdentInAsync
 let; static; yield; package; export {} → Module 0..38, Expr 0..4, Expr 5..12, Expr 13..19, Expr 20..28, ExportNamed 29..38
 function yield() {} export {} → Module 0..29, Fn 0..19, ExportNamed 20..29
 const a; export {}; const b → Module 0..27, Var 0..8, ExportNamed 9..19, Var 20..27, fault 26..27 ConstDeclarationsRequireInitialization
@@ -117,11 +122,11 @@ export var let → refused 11..14 ExpectedIdent
 /// Each table, and how many rows it has.
 pub const TABLES: [(&str, &str); 6] = [
     (SCRIPTS, "11 rows"),
-    (AWAITS, "21 rows"),
+    (AWAITS, "24 rows"),
     (METAS, "25 rows"),
     (DECLARATIONS, "20 rows"),
     (HELD_BACK, "12 rows"),
-    (STRICT, "18 rows"),
+    (STRICT, "20 rows"),
 ];
 
 /// Rows, each within so many levels.

@@ -34,10 +34,20 @@ fn write_limits(
     limits: &[(&str, u32)],
     goal: Goal,
 ) -> Result<(), Fail> {
+    write_set_limits(alloc, wrong, limits, plainly(goal))
+}
+
+/// The same in these settings.
+fn write_set_limits(
+    alloc: Global,
+    wrong: &mut String,
+    limits: &[(&str, u32)],
+    set: Asked,
+) -> Result<(), Fail> {
     for (row, limit) in limits {
         let asked = Asked {
             limit: *limit,
-            ..plainly(goal)
+            ..set
         };
         let found = report(alloc, row, asked)?;
         if found.as_str() != "1 rows" {
@@ -45,6 +55,17 @@ fn write_limits(
         }
     }
     Ok(())
+}
+
+/// What a goal asks for with the setting `import_attributes`.
+fn with_attributes(goal: Goal) -> Asked {
+    Asked {
+        settings: EsSyntax {
+            import_attributes: true,
+            ..EsSyntax::default()
+        },
+        ..plainly(goal)
+    }
 }
 
 #[test]
@@ -80,14 +101,26 @@ fn rows_hold(rt: HostRuntime) -> Result<(), Fail> {
         ..plainly(Goal::Module)
     };
     write_tables(alloc, &mut wrong, &modules::SET_TABLES, asked)?;
+    let asked = with_attributes(Goal::Script);
+    write_tables(alloc, &mut wrong, &expressions::SET_TABLES, asked)?;
+    let asked = with_attributes(Goal::Module);
+    write_tables(alloc, &mut wrong, &modules::ATTRIBUTE_TABLES, asked)?;
     let asked = Asked {
         settings: EsSyntax {
-            import_attributes: true,
+            auto_accessors: true,
             ..EsSyntax::default()
         },
         ..plainly(Goal::Script)
     };
-    write_tables(alloc, &mut wrong, &expressions::SET_TABLES, asked)?;
+    write_tables(alloc, &mut wrong, &classes::SET_TABLES, asked)?;
+    let asked = Asked {
+        settings: EsSyntax {
+            explicit_resource_management: true,
+            ..EsSyntax::default()
+        },
+        ..plainly(Goal::Script)
+    };
+    write_tables(alloc, &mut wrong, &declarations::SET_TABLES, asked)?;
     write_tables(alloc, &mut wrong, &programs::TABLES, plainly(Goal::Program))?;
     assert_eq!(rt; wrong.as_str(), "");
     Ok(())
@@ -112,6 +145,12 @@ fn rows_hold_within_their_levels(rt: HostRuntime) -> Result<(), Fail> {
         write_limits(alloc, &mut wrong, limits, Goal::Script)?;
     }
     write_limits(alloc, &mut wrong, &modules::LIMITS, Goal::Module)?;
+    write_set_limits(
+        alloc,
+        &mut wrong,
+        &modules::ATTRIBUTE_LIMITS,
+        with_attributes(Goal::Module),
+    )?;
     write_limits(alloc, &mut wrong, &classes::MODULE_LIMITS, Goal::Module)?;
     write_limits(alloc, &mut wrong, &programs::LIMITS, Goal::Program)?;
     assert_eq!(rt; wrong.as_str(), "");

@@ -3,6 +3,7 @@
 
 use crate::expr::Expr;
 use crate::pat::Pat;
+use crate::program::{Module, ModuleItem, Program};
 use crate::script::Script;
 use crate::stmt::Stmt;
 
@@ -22,6 +23,21 @@ impl<N: Drop> Stmt<N> {
 }
 
 impl<N: Drop> Script<N> {
+    /// Drops it.
+    pub fn discard(self) {}
+}
+
+impl<N: Drop> Module<N> {
+    /// Drops it.
+    pub fn discard(self) {}
+}
+
+impl<N: Drop> ModuleItem<N> {
+    /// Drops it.
+    pub fn discard(self) {}
+}
+
+impl<N: Drop> Program<N> {
     /// Drops it.
     pub fn discard(self) {}
 }

@@ -1,13 +1,14 @@
 ghost use Rattle.std.specs.Prelude.{◌≡◌, IfOk, map};
-ghost use Rattle.swc_ecma_parser_ast.specs.View.{view_import_specifier, view_module_export_name, view_module_item, view_object_lit, view_prop_or_spread};
+ghost use Rattle.swc_ecma_parser_ast.specs.View.{view_import_specifier, view_module_export_name, view_module_item, view_object_lit};
 
 use crate::Ast;
 use std::alloc::{AllocError, Global};
 use swc_ecma_parser_ast::{
     Ident, ImportDecl, ImportDefaultSpecifier, ImportNamedSpecifier, ImportPhase, ImportSpecifier,
-    ImportStarAsSpecifier, ModuleDecl, ModuleExportName, ModuleItem, ObjectLit, PropOrSpread, Span,
-    Str,
+    ImportStarAsSpecifier, ModuleDecl, ModuleExportName, ModuleItem, ObjectLit, Span, Str,
 };
+use swc_ecma_parser_ast_parts::made::Made;
+use swc_ecma_parser_ast_parts::objects::as_object;
 use swc_ecma_parser_trees::BuildsImport;
 
 impl BuildsImport for Ast {
@@ -22,14 +23,8 @@ impl BuildsImport for Ast {
 
     ghost attributes_of = { view_object_lit };
 
-    fn attributes(
-        alloc: Global,
-        span: Span,
-        props: Vec<PropOrSpread>,
-    ) -> Result<ObjectLit, AllocError>
-        ensures { IfOk result (λ x. view_object_lit x ≡ tree.object span (tree.listed (map view_prop_or_spread props.items))) }
-    {
-        Ok(ObjectLit { span, props })
+    fn attributes(object: Made) -> Option<ObjectLit> {
+        as_object(object.into_inner())
     }
 
     fn import_named(

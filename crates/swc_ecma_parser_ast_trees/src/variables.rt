@@ -47,6 +47,13 @@ impl BuildsVariables for Ast {
         declarator.name.span()
     }
 
+    fn declares_name(declarator: &VarDeclarator) -> bool {
+        match &declarator.name {
+            Pat::Ident(_) => true,
+            _ => false,
+        }
+    }
+
     fn is_initialized(declarator: &VarDeclarator) -> bool {
         declarator.init.is_some()
     }

@@ -13,13 +13,12 @@ ghost use Rattle.swc_ecma_parser_reader.specs.Reader as rules;
 ghost use Rattle.swc_ecma_parser_reader.specs.State.{Gives, GivesAs};
 ghost use Rattle.swc_ecma_parser_trees.specs.Parts.{part_of};
 
-use crate::told::told_if;
 use std::alloc::Global;
 use swc_ecma_parser_common::Span;
 use swc_ecma_parser_error::{PResult, SyntaxError};
 use swc_ecma_parser_functions::body::close;
 use swc_ecma_parser_grammar::Class;
-use swc_ecma_parser_inner::steps::{grown, pushed, since, with_in};
+use swc_ecma_parser_inner::steps::{grown, pushed, since, told_if, with_in};
 use swc_ecma_parser_input::Context;
 use swc_ecma_parser_model::Ident;
 use swc_ecma_parser_source::{Around, Source, Wanted};

@@ -16,7 +16,7 @@ use Rattle.swc_ecma_parser_grammar.specs.declared.position.Position.{Position}
 use Rattle.swc_ecma_parser_grammar.specs.language.Contexts.{in_breakable}
 use Rattle.swc_ecma_parser_grammar.specs.language.Items.{labelled_item}
 use Rattle.swc_ecma_parser_source.specs.Labels.{LeavesLabel}
-use Rattle.swc_ecma_parser_reader.specs.State.{State, Outcome, Reader, and_then, ◌>>=◌, ◌>>◌, pure, name, expect, since, coded, flagged, below, relabelled}
+use Rattle.swc_ecma_parser_reader.specs.State.{State, Outcome, Reader, and_then, ◌>>=◌, ◌>>◌, pure, reference, expect, since, coded, flagged, below, relabelled}
 use Rattle.swc_ecma_parser_reader.specs.Reader.{told, relabels, labelled_body, labeled_stmt, stmt}
 use Rattle.swc_ecma_parser_reader.proofs.Plain.{relabels_told, told_append, told_alike}
 use Rattle.swc_ecma_parser_reader.proofs.Sound.{stmt_code, stmt_scope}
@@ -61,7 +61,7 @@ told_of_function P is_function is_starred c v x span b s e h =
     (subst (λ z. P (told (cond is_function (fs is_starred z) []) v)) e h))
 
 -- a label and its statement, and what is told of the label
-module _ (n : ℕ) (s t u v : State) (i : Ident) (text : Text) (x : Tree) (named : name faults.ExpectedIdent s ≡ Ok (i, t)) (colon : expect kind.Colon t ≡ Ok (tt, u))
+module _ (n : ℕ) (s t u v : State) (i : Ident) (text : Text) (x : Tree) (named : reference faults.ExpectedIdent s ≡ Ok (i, t)) (colon : expect kind.Colon t ≡ Ok (tt, u))
     (body : labelled_body (stmt n) text u ≡ Ok (x, v)) (same : text ≡ i.sym) where
   abbrev label_of : Tree
   label_of = tree.ident i.span i.sym

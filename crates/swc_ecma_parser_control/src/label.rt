@@ -113,7 +113,7 @@ fn labeled_stmt<
     ensures { GivesAs T.stmt_of (rules.labeled_stmt (rules.stmt g.now.depth) (P.seen p.old)) result (P.seen p.new) }
 {
     let start = p.span();
-    let label = p.name(Wanted::Name)?;
+    let label = p.reference(Wanted::Name)?;
     p.expect(TokenKind::Colon, ":")?;
     let text = grown(p, label.sym.try_clone())?;
     let is_function = p.sees(TokenKind::Function);

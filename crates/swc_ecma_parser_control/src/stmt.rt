@@ -25,18 +25,37 @@ use swc_ecma_parser_source::Source;
 use swc_ecma_parser_statements::jump::{break_stmt, continue_stmt};
 use swc_ecma_parser_statements::leave::{return_stmt, throw};
 use swc_ecma_parser_statements::simple::{debugger, empty, import_stmt_at};
+use swc_ecma_parser_statements::using::using_stmt;
 use swc_ecma_parser_statements::variables::{const_stmt, variables};
 use swc_ecma_parser_token::TokenKind;
 use swc_ecma_parser_trees::{
-    BuildsControl, BuildsDecl, BuildsFor, BuildsLoop, BuildsPattern, BuildsStmt, BuildsSwitch,
-    BuildsTry, MakerOf,
+    BuildsControl, BuildsFor, BuildsLoop, BuildsPattern, BuildsStmt, BuildsSwitch, BuildsTry,
+    BuildsVarDecl, MakerOf,
 };
+
+/// A statement that begins with a name, and is no function: what is declared with `using`, where declarations are read, or another.
+#[tactic(auto, unfolding(swc_ecma_parser_reader::specs::Reader::using_or_other))]
+fn using_or_other<
+    P: Source,
+    T: BuildsPattern + BuildsStmt + BuildsControl + BuildsVarDecl,
+    S: Fn(&MakerOf<T>, &mut P, usize, Position) -> PResult<T::Stmt>,
+    E: Fn(&MakerOf<T>, &mut P, usize, Reading) -> PResult<Cover<T::Expr>>,
+    N: Fn(&MakerOf<T>, &mut P, usize, Part) -> PResult<T::Pat>,
+>(g: &Grammar<S, E, N>, t: &MakerOf<T>, p: &mut P, at: Position) -> PResult<T::Stmt>
+    requires { Nests P.seen T.expr_of T.pat_of T.stmt_of g.now.depth (S.pre g.now.stmt) (S.post g.now.stmt) (E.pre g.now.expr) (E.post g.now.expr) (N.pre g.now.pat) (N.post g.now.pat) }
+    ensures { GivesAs T.stmt_of (rules.using_or_other (rules.stmt g.now.depth) (rules.expr g.now.depth) (rules.pattern g.now.depth) (rules.head_cover g.now.depth) (rules.parameters g.now.depth) (rules.member g.now.depth) at (P.seen p.old)) result (P.seen p.new) }
+{
+    if at.include_decl && p.is_using_declaration() {
+        return using_stmt(g, t, p);
+    }
+    other_stmt(g, t, p, at)
+}
 
 /// A statement that begins with a name: an async function, which may stand in the place of any statement, or another.
 #[tactic(auto, unfolding(swc_ecma_parser_reader::specs::Reader::async_or_other))]
 fn async_or_other<
     P: Source,
-    T: BuildsPattern + BuildsStmt + BuildsControl + BuildsDecl,
+    T: BuildsPattern + BuildsStmt + BuildsControl + BuildsVarDecl,
     S: Fn(&MakerOf<T>, &mut P, usize, Position) -> PResult<T::Stmt>,
     E: Fn(&MakerOf<T>, &mut P, usize, Reading) -> PResult<Cover<T::Expr>>,
     N: Fn(&MakerOf<T>, &mut P, usize, Part) -> PResult<T::Pat>,
@@ -47,7 +66,7 @@ fn async_or_other<
     if p.is_async_function() {
         return function_decl(g, t, p);
     }
-    other_stmt(g, t, p, at)
+    using_or_other(g, t, p, at)
 }
 
 /// A statement, by its first token. A class is read by the caller, so none begins here.
@@ -61,7 +80,7 @@ pub fn level<
         + BuildsTry
         + BuildsLoop
         + BuildsFor
-        + BuildsDecl,
+        + BuildsVarDecl,
     S: Fn(&MakerOf<T>, &mut P, usize, Position) -> PResult<T::Stmt>,
     E: Fn(&MakerOf<T>, &mut P, usize, Reading) -> PResult<Cover<T::Expr>>,
     N: Fn(&MakerOf<T>, &mut P, usize, Part) -> PResult<T::Pat>,

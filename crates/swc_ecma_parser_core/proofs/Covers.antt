@@ -9,6 +9,7 @@ use Rattle.swc_ecma_parser_model.specs.Tree.{Tree}
 use Rattle.swc_ecma_parser_reader.specs.State.{State, Outcome, and_then, pure, too_deep, GivesAs}
 use Rattle.swc_ecma_parser_reader.specs.Expressions as exprs
 use Rattle.swc_ecma_parser_reader.specs.Classes.{class_of}
+use Rattle.swc_ecma_parser_reader.specs.DecoratorLevels.{decorated_in}
 use Rattle.swc_ecma_parser_reader.specs.Members.{class_expr}
 use Rattle.swc_ecma_parser_reader.specs.Reader as rules
 use Rattle.swc_ecma_parser_reader.proofs.expressions.Loops.{cover_lowest, head_lowest}
@@ -28,6 +29,14 @@ module _ (n : ℕ) (s : State) where
   pub read_class : (asked : Reading) (o : Outcome Tree) → asked ≡ reading.Class → class_expr (rules.expr n left_side) (rules.member n) s ≡ o → read n asked s ≡ and_then o (λ x. pure (exprs.done x))
   unfolding rules.function rules.function_by
   read_class asked o e h = ap (λ a. read n a s) e ∙ ap (λ o. and_then o (λ x. pure (exprs.done x))) h
+
+  -- so is what stands behind the `@` of a decorator
+  pub read_decorated : (asked : Reading) (o : Outcome Tree) → asked ≡ reading.Decorated → decorated_in n s ≡ o → read n asked s ≡ and_then o (λ x. pure (exprs.done x))
+  read_decorated asked o e h = ap (λ a. read n a s) e ∙ ap (λ o. and_then o (λ x. pure (exprs.done x))) h
+
+  -- an object alone, as what is read with it
+  pub read_object : (asked : Reading) (o : Outcome Tree) → asked ≡ reading.Object → rules.object_alone n s ≡ o → read n asked s ≡ and_then o (λ x. pure (exprs.done x))
+  read_object asked o e h = ap (λ a. read n a s) e ∙ ap (λ o. and_then o (λ x. pure (exprs.done x))) h
 
   pub read_expr : (asked : Reading) (class : Class) (o : Outcome Tree) → asked ≡ reading.Expr class → rules.expr n (class_of class) s ≡ o → read n asked s ≡ and_then o (λ x. pure (exprs.done x))
   read_expr asked class o e h = ap (λ a. read n a s) e ∙ ap (λ o. and_then o (λ x. pure (exprs.done x))) h

@@ -11,12 +11,12 @@ ghost use Rattle.swc_ecma_parser_token.specs.declared.kind.TokenKind.TheVariants
 ghost use Rattle.swc_ecma_parser_inner.specs.Covers.{cover_of, read};
 ghost use Rattle.swc_ecma_parser_inner.specs.Patterns.{read_pat};
 ghost use Rattle.swc_ecma_parser_reader.specs.Classes.{class_of};
+ghost use Rattle.swc_ecma_parser_reader.specs.DecoratorLevels.{decorated_in};
 ghost use Rattle.swc_ecma_parser_reader.specs.Members as members;
 ghost use Rattle.swc_ecma_parser_reader.specs.Reader as rules;
 ghost use Rattle.swc_ecma_parser_reader.specs.State.{GivesAs};
 
 use swc_ecma_parser_classes::class::{ClassGrammar, NamedClass, class_decl, class_expr};
-use swc_ecma_parser_classes::member::member_level;
 use swc_ecma_parser_common::Span;
 use swc_ecma_parser_control::stmt::level;
 use swc_ecma_parser_error::{PResult, SyntaxError};
@@ -25,8 +25,11 @@ use swc_ecma_parser_grammar::{Class, Position};
 use swc_ecma_parser_inner::cover::{Cover, Reading, done};
 use swc_ecma_parser_inner::grammar::{Grammar, Part};
 use swc_ecma_parser_inner::steps::{grown, since, with_in};
+use swc_ecma_parser_literals::object::object_level;
+use swc_ecma_parser_members::member::member_level;
 use swc_ecma_parser_model::VarDeclKind;
 use swc_ecma_parser_operators::assignment::{cover_expr, head_expr};
+use swc_ecma_parser_operators::decorator::decorated_level;
 use swc_ecma_parser_operators::operator::expr_level;
 use swc_ecma_parser_patterns::pat::{element_level, pattern_level};
 use swc_ecma_parser_source::{Source, Wanted};
@@ -82,6 +85,8 @@ pub fn expr<P: Source, T: BuildsStatements>(
         Reading::Cover => cover::<P, T>(t, p, depth),
         Reading::Head => head::<P, T>(t, p, depth),
         Reading::Class => Ok(done(class_expression::<P, T>(t, p, depth)?)),
+        Reading::Decorated => Ok(done(decorated::<P, T>(t, p, depth)?)),
+        Reading::Object => Ok(done(object_alone::<P, T>(t, p, depth)?)),
     }
 }
 
@@ -153,6 +158,52 @@ fn head<P: Source, T: BuildsStatements>(
         pat: pat::<P, T>,
     };
     head_expr(&g, t, p)
+}
+
+/// What stands behind the `@` of a decorator, in so many levels.
+#[cycle(knot)]
+#[tactic(auto, using(swc_ecma_parser_reader::proofs::decorators::Loops::decorated_lowest, swc_ecma_parser_reader::proofs::decorators::Loops::decorated_above))]
+#[inline(never)]
+fn decorated<P: Source, T: BuildsStatements>(
+    t: &MakerOf<T>,
+    p: &mut P,
+    depth: usize,
+) -> PResult<T::Expr>
+    ensures { GivesAs T.expr_of (decorated_in depth (P.seen p.old)) result (P.seen p.new) }
+{
+    if depth == 0 {
+        return Err(p.too_deep());
+    }
+    let g = Grammar {
+        depth: depth - 1,
+        stmt: stmt::<P, T>,
+        expr: expr::<P, T>,
+        pat: pat::<P, T>,
+    };
+    decorated_level(&g, t, p)
+}
+
+/// An object alone, whatever stands behind it, in so many levels: what the attributes of an import are.
+#[cycle(knot)]
+#[tactic(auto, using(swc_ecma_parser_reader::proofs::Objects::object_lowest, swc_ecma_parser_reader::proofs::Objects::object_above))]
+#[inline(never)]
+pub fn object_alone<P: Source, T: BuildsStatements>(
+    t: &MakerOf<T>,
+    p: &mut P,
+    depth: usize,
+) -> PResult<T::Expr>
+    ensures { GivesAs T.expr_of (rules.object_alone depth (P.seen p.old)) result (P.seen p.new) }
+{
+    if depth == 0 {
+        return Err(p.too_deep());
+    }
+    let g = Grammar {
+        depth: depth - 1,
+        stmt: stmt::<P, T>,
+        expr: expr::<P, T>,
+        pat: pat::<P, T>,
+    };
+    object_level(&g, t, p)
 }
 
 /// A member of a class, in so many levels.

@@ -26,7 +26,7 @@ use Rattle.swc_ecma_parser_grammar.specs.language.Begins.{begins_expression, awa
 use Rattle.swc_ecma_parser_grammar.specs.language.Continues.{continues_conditional}
 use Rattle.swc_ecma_parser_grammar.specs.language.Goals.{Class, expression, assignment, unary, callee, left_side}
 use Rattle.swc_ecma_parser_grammar.specs.language.Operators.{unary_operator, update_operator, assign_operator, mixes}
-use Rattle.swc_ecma_parser_reader.specs.State.{State, Reader, and_then, moved, coded, module_found, expect, name}
+use Rattle.swc_ecma_parser_reader.specs.State.{State, Reader, and_then, moved, coded, module_found, expect, reference}
 use Rattle.swc_ecma_parser_reader.specs.Methods.{FunctionForm, expression_form, class_form, parameter_form, star}
 use Rattle.swc_ecma_parser_reader.specs.Members.{class_name, class_parts, unnamed_class, class_expr}
 use Rattle.swc_ecma_parser_reader.specs.Jumps.{told}
@@ -208,7 +208,7 @@ module _ (inner : Class → Reader Tree) (covers : Reader Cover) where
     primary_no_block : (s : State) → Meets NoBlock (primary inner covers function s)
     unfolding primary named_expr ident_expr literal
     primary_no_block s = meets_if NoBlock (name_at s.code.flags s.at) _ _
-        (λ _. meets_if NoBlock (is_async_function s.at) _ _ (λ _. functions s) (λ _. always NoBlock (name faults.Unexpected s) _ (λ i t b. refl)))
+        (λ _. meets_if NoBlock (is_async_function s.at) _ _ (λ _. functions s) (λ _. always NoBlock (reference faults.Unexpected s) _ (λ i t b. refl)))
         (λ _. literal_or_no_block (literal_in s.at.left) s (literal_first s.at.left))
 
     head_no_block : (calls : Bool) (s : State) → Meets NoBlock (left_head inner covers function calls s)

@@ -24,7 +24,7 @@ use Rattle.swc_ecma_parser_grammar.specs.language.LeftSides as sides
 use Rattle.swc_ecma_parser_grammar.specs.language.Parts as parts
 use Rattle.swc_ecma_parser_grammar.specs.language.Reads.{Reads}
 use Rattle.swc_ecma_parser_grammar.proofs.Tests.{and_yes, and_both}
-use Rattle.swc_ecma_parser_grammar.proofs.Naming.{name_is_clean, name_is_supported, name_is_name}
+use Rattle.swc_ecma_parser_grammar.proofs.Naming.{name_is_clean, name_is_name}
 use Rattle.swc_ecma_parser_grammar.proofs.SupportedBegins.{supported_as}
 use Rattle.swc_ecma_parser_grammar.proofs.Unnoted.{joined, clean_is}
 use Rattle.swc_ecma_parser_grammar.proofs.Widens.{stmt_supported, stmt_widens, braced_supported, braced_widens, parameters_same}
@@ -43,13 +43,13 @@ own_name_widens {k = k} {w = a} {g = g} (own_name_rule w s r i e) =
 
 own_name_supported : {k : Code} {w g : Bool} {x : Tree} {c d : Place} (m : Bool) → OwnNameRule k w g x c d → supported_in m x ≡ true
 own_name_supported m (no_own_name_rule p n e) = ap (supported_in m) e
-own_name_supported {k = k} {w = a} {g = g} m (own_name_rule w s r i e) = ap (supported_in m) e ∙ name_is_supported (named_by k a g).flags (word_text w) i
+own_name_supported {k = k} {w = a} {g = g} m (own_name_rule w s r i e) = ap (supported_in m) e ∙ refl
 
 -- where none stands the parameters begin
 own_name_narrows : {k : Code} {w g : Bool} {x : Tree} {c d : Place} (m : Bool) → kind_at d ≡ kind.LParen → parts.OptionalName (named_by k w g) x c d → supported_in m x ≡ true → OwnNameRule k w g x c d
 own_name_narrows m p (parts.no_name n e) h = no_own_name_rule (ap kind_at (sym n) ∙ p) n e
 own_name_narrows {k = k} {w = a} {g = g} {x = x} {c = c} {d = d} m p (parts.a_name text s r e) h =
-    own_name_rule r.word s r.reads_word (name_is_name (named_by k a g) text s c d r (supported_as _ x (tree.ident s text) e h)) (e ∙ ap (tree.ident s) r.is_text)
+    own_name_rule r.word s r.reads_word (name_is_name (named_by k a g) text s c d r) (e ∙ ap (tree.ident s) r.is_text)
 
 -- ---- the whole
 

@@ -2,6 +2,8 @@ pub mod Tests
 pub mod Naming
 pub mod SupportedIn
 pub mod SupportedBegins
+pub mod Ended
+pub mod UsingParts
 pub mod Marks
 pub mod Widens
 pub mod Unnoted
@@ -32,5 +34,6 @@ mod SpelledItems
 mod ReadWithFaults
 pub mod ExpressionBegins
 pub mod StatementBegins
+pub mod Using
 mod UnspelledStatements
 mod UnspelledItems

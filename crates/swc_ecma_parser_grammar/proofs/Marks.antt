@@ -27,8 +27,8 @@ use Rattle.swc_ecma_parser_grammar.specs.language.Continues.{continues_unary, co
 use Rattle.swc_ecma_parser_grammar.specs.language.Goals.{expression}
 use Rattle.swc_ecma_parser_grammar.specs.language.LeftSides.{primary_rule, name_rule}
 use Rattle.swc_ecma_parser_grammar.specs.language.Expressions.{operand_rule, single_rule, operators_rule, assignment_rule}
-use Rattle.swc_ecma_parser_grammar.proofs.Naming.{name_is_clean, name_is_supported}
-use Rattle.swc_ecma_parser_grammar.proofs.SupportedBegins.{name_begins}
+use Rattle.swc_ecma_parser_grammar.proofs.Naming.{name_is_clean}
+use Rattle.swc_ecma_parser_grammar.proofs.Ended.{ends_name, ended_awaits}
 
 abbrev pub is_mark : TokenKind → Bool
 is_mark kind.Comma = true
@@ -105,8 +105,8 @@ name_before_colon n k w s c d r f h = (
   assignment_rule
       (operators_rule (single_rule (operand_rule (
         primary_rule (name_rule (word_text w) s (record { word = w; reads_word = r; is_text = refl; is_name = name_is_clean k.flags (word_text w) f }) (function_apart c d r.next h) refl),
-        awaits_apart k.flags c (name_begins k.flags w s c d r f).0,
+        ended_awaits k.flags c d r.next (ap ends_name h),
       ))) (alone k (word_text w) s c d h))
       (ap (λ j. same_kind j kind.Comma) h),
-  name_is_supported k.flags (word_text w) f,
+  refl,
 )

@@ -4,25 +4,26 @@ use Rattle.swc_ecma_parser_grammar.proofs.StatementBegins.{word_place}
 use Rattle.swc_ecma_parser_model.specs.Forms.{is_absent}
 use Rattle.swc_ecma_parser_common.specs.declared.span.Span.{Span}
 use Rattle.swc_ecma_parser_grammar.specs.Parameters.{parameters}
-use Rattle.std.proofs.Common.{◌≡◌, ℕ, zero, suc, Bool, true, false, cond, List, [], ◌∷◌, ◌++◌, Option, refl, true≢false, sym, ◌∙◌, ap, subst, codes, bytes_eq}
+use Rattle.std.proofs.Common.{◌≡◌, ℕ, zero, suc, Bool, true, false, cond, List, [], ◌∷◌, ◌++◌, Option, refl, true≢false, sym, ◌∙◌, ap, subst, codes}
 use Rattle.std.specs.Prelude.{not, ◌&&◌, ◌||◌, if◌then◌else◌}
 use Rattle.std.specs.List.{list_any}
 use Rattle.swc_ecma_parser_error.specs.Kind.{Fault}
 use Rattle.swc_ecma_parser_token.specs.declared.kind.TokenKind.TheVariants as kind
-use Rattle.swc_ecma_parser_grammar.specs.Follows.{is_async_of, is_bare_async, is_async_function, word_at, Star, AsyncWord}
+use Rattle.swc_ecma_parser_grammar.specs.Follows.{is_async_of, is_bare_async, is_async_function, word_at, Star, AsyncWord, AwaitWord, no_await, await_word}
 use Rattle.swc_ecma_parser_input.specs.Place.{Place, after}
 use Rattle.swc_ecma_parser_model.specs.declared.leaves.VarDeclKind.{VarDeclKind}
+use Rattle.swc_ecma_parser_model.specs.declared.leaves.VarDeclKind.TheVariants as decl
 use Rattle.swc_ecma_parser_model.specs.Tree as tree
 use Rattle.swc_ecma_parser_model.specs.Tree.{Tree, Text, trees, listed, absent}
 use Rattle.swc_ecma_parser_model.specs.Directive.{is_use_strict}
 use Rattle.swc_ecma_parser_grammar.specs.declared.position.Position.{Position}
 use Rattle.swc_ecma_parser_grammar.specs.Looks.{kind_at, sees, same_kind, spanned, breaks_at}
 use Rattle.swc_ecma_parser_grammar.specs.Names.{Code}
-use Rattle.swc_ecma_parser_grammar.specs.Reads.{with_in, directed, directs_on, nested_item, top_item, DeclaratorRule, plain_rule, initialized_rule, ReadsSeparated, ReadsItems, StmtRule, block_rule, empty_rule, debugger_rule, variables_rule, if_statement_rule, TargetRule, no_target_rule, target_rule, OperandRule, no_operand_rule, operand_rule, break_rule, continue_rule, return_rule, case_clause_rule, default_clause_rule, ReadsCases, switch_rule, throw_rule, try_rule, with_rule, while_rule, do_while_rule, expr_rule, import_rule, ReadsBlock, CatchRule, no_catch_rule, catch_rule, catch_parameter_rule, FinallyRule, no_finally_rule, finally_rule, ReadsHead, IfRule, if_rule, ElseRule, no_else_rule, else_rule, else_if_rule, ReadsBraced, class_rule, function_rule}
-use Rattle.swc_ecma_parser_grammar.specs.Reads.{labeled_rule, head_code, HeadVariables, InitRule, no_init_rule, init_variables_rule, init_expression_rule, LeftRule, declared_rule, left_target_rule, for_in_rule, for_of_rule, PartRule, no_part_rule, part_rule, for_rule}
+use Rattle.swc_ecma_parser_grammar.specs.Reads.{with_in, directed, directs_on, nested_item, top_item, DeclaratorRule, plain_rule, initialized_rule, ReadsSeparated, ReadsItems, StmtRule, block_rule, empty_rule, debugger_rule, variables_rule, using_rule, if_statement_rule, TargetRule, no_target_rule, target_rule, OperandRule, no_operand_rule, operand_rule, break_rule, continue_rule, return_rule, case_clause_rule, default_clause_rule, ReadsCases, switch_rule, throw_rule, try_rule, with_rule, while_rule, do_while_rule, expr_rule, import_rule, ReadsBlock, CatchRule, no_catch_rule, catch_rule, catch_parameter_rule, FinallyRule, no_finally_rule, finally_rule, ReadsHead, IfRule, if_rule, ElseRule, no_else_rule, else_rule, else_if_rule, ReadsBraced, class_rule, function_rule, labeled_rule, head_code, HeadVariables, InitRule, no_init_rule, init_variables_rule, init_expression_rule, LeftRule, declared_rule, left_target_rule, for_in_rule, for_of_rule, PartRule, no_part_rule, part_rule, for_rule}
 use Rattle.swc_ecma_parser_grammar.specs.Entries.{ReadsScript, ReadsShebang, some_shebang, no_shebang, script_code, items_await, script_awaits}
+use Rattle.swc_ecma_parser_grammar.specs.Using.{misused, each_misused}
 use Rattle.swc_ecma_parser_grammar.specs.Notes.{notes, all_notes, statement_note, with_note}
-use Rattle.swc_ecma_parser_grammar.specs.Supported.{supported, supported_in, all_supported_in, has_none}
+use Rattle.swc_ecma_parser_grammar.specs.Supported.{supported, supported_in, all_supported_in, are_initialized, has_none}
 use Rattle.swc_ecma_parser_grammar.specs.ReadsSupported.{ReadsClass, ReadsPat, ReadsTarget, ReadsStmt, ReadsTop, ReadsParams, ReadsNamedClass}
 use Rattle.swc_ecma_parser_grammar.specs.language.Goals.{assignment, stmt_goal}
 use Rattle.swc_ecma_parser_grammar.specs.language.Contexts.{in_loop, in_breakable, in_with}
@@ -43,7 +44,8 @@ use Rattle.swc_ecma_parser_grammar.proofs.SupportedIn.{strict_module, head_modul
 use Rattle.swc_ecma_parser_grammar.proofs.SupportedBegins.{refuted, supported_as}
 use Rattle.swc_ecma_parser_grammar.proofs.Unnoted.{Quiet, quiet_first, quiet_last, quiet_as}
 use Rattle.swc_ecma_parser_grammar.proofs.Naming.{name_is_name}
-use Rattle.swc_ecma_parser_grammar.proofs.Widens.{saw, stands_there, parameters_same}
+use Rattle.swc_ecma_parser_grammar.proofs.UsingParts.{undeclared, so_set, bound}
+use Rattle.swc_ecma_parser_grammar.proofs.Widens.{saw, stands_there, value_stands, parameters_same}
 use Rattle.swc_ecma_parser_grammar.proofs.language.Asked.{or_left, or_right}
 
 -- ---- declarators
@@ -73,11 +75,49 @@ declarators_narrow n k loop word =
 target_narrows : {k : Code} {x : Tree} {c d : Place} → statements.TargetRule k x c d → supported_in k.flags.module x ≡ true → TargetRule k x c d
 target_narrows (statements.no_target_rule i g e) h = no_target_rule i g e
 target_narrows {k = k} {x = x} {c = c} {d = d} (statements.target_rule text s i r e) h =
-    target_rule r.word s i r.reads_word (name_is_name k text s c d r (supported_as _ x (tree.ident s text) e h)) (e ∙ ap (tree.ident s) r.is_text)
+    target_rule r.word s i r.reads_word (name_is_name k text s c d r) (e ∙ ap (tree.ident s) r.is_text)
 
 operand_narrows : (n : ℕ) {k : Code} {x : Tree} {c d : Place} → statements.OperandRule (Reads n) k x c d → supported_in k.flags.module x ≡ true → OperandRule (ReadsClass n) k x c d
 operand_narrows n (statements.no_operand_rule i g e) h = no_operand_rule i g e
 operand_narrows n (statements.operand_rule i r) h = operand_rule i (r, h)
+
+-- ---- what is declared with `using`
+
+module _ (n : ℕ) (k : Code) where
+  using_declarator_narrows : (x : Tree) (c d : Place) → declarations.UsingDeclaratorRule (Reads n) k x c d → supported_in k.flags.module x ≡ true
+      → DeclaratorRule (ReadsClass n assignment) (ReadsPat n) (with_in k) false decl.Var x c d
+  using_declarator_narrows x c d r h =
+      let g = and_yes (supported_in k.flags.module r.name) _ (supported_as _ x (tree.declarator (spanned c d) r.name r.init) r.is h) in
+      initialized_rule r.name r.init r.equals (bound n k r.name c r.equals r.is_name r.reads_name, g.0) r.assigns (r.reads_init, g.1) r.is
+
+  declarator_used : (s : Span) (x : Tree) (c d : Place) → declarations.UsingDeclaratorRule (Reads n) k x c d → misused s x ≡ []
+  declarator_used s x c d r = undeclared s x r.name r.init r.is r.is_name (value_stands n (with_in k) r.init (after r.equals) d r.reads_init)
+
+  declarators_used : (s : Span) (xs : List Tree) (c d : Place) → ReadsSeparated (declarations.UsingDeclaratorRule (Reads n) k) xs c d → each_misused s xs ≡ []
+  declarators_used s [] c d r = absurd r
+  declarators_used s (x ∷ []) c d (r, e) = ap (λ fs. fs ++ []) (declarator_used s x c d r)
+  declarators_used s (x ∷ y ∷ ys) c d (m, r, e, rs) = ap (λ fs. fs ++ each_misused s (y ∷ ys)) (declarator_used s x c m r) ∙ declarators_used s (y ∷ ys) (after m) d rs
+
+  using_narrows : (at : Position) (x : Tree) (c d word : Place) (r : declarations.UsingRule (Reads n) k at x c d) → supported_in k.flags.module x ≡ true → AwaitWord r.is_await c word → word ≡ r.word
+      → StmtRule (ReadsStmt n) (ReadsClass n) (ReadsPat n) (ReadsTarget n) (ReadsParams n) (ReadsNamedClass n) k at x c d
+  using_narrows at x c d word r h (await_word e i g) w = absurd (true≢false (sym (and_yes (not r.is_await) _ (supported_as _ x (tree.using (spanned c d) r.is_await (listed r.declarators)) r.is h)).0 ∙ ap not e))
+  using_narrows at x c d word r h (no_await e g) w =
+      let f = and_yes (not r.is_await) _ (supported_as _ x (tree.using (spanned c d) r.is_await (listed r.declarators)) r.is h) in
+      let i = and_yes (are_initialized (listed r.declarators)) _ f.1 in
+      let p : c ≡ r.word = sym g ∙ w in
+      using_rule r.declarators (placed at r.is_await e r.has_place) (rw p r.begins)
+      (separated_narrow k.flags.module (declarations.UsingDeclaratorRule (Reads n) k) (DeclaratorRule (ReadsClass n assignment) (ReadsPat n) (with_in k) false decl.Var) using_declarator_narrows r.declarators
+      (after c) d (subst (λ z. ReadsSeparated (declarations.UsingDeclaratorRule (Reads n) k) r.declarators (after z) d) (sym p) r.reads) i.1)
+      (so_set k.setting.explicit_resource_management (spanned c d) r.declarators r.is_read (declarators_used (spanned c d) r.declarators (after r.word) d r.reads))
+      (r.is ∙ ap (λ b. tree.using (spanned c d) b (listed r.declarators)) e)
+    where
+      placed : (at : Position) (b : Bool) → b ≡ false → at.include_decl || (b && at.top_level) ≡ true → at.include_decl ≡ true
+      placed at true e f = cc
+      placed at false e f = plain at.include_decl f
+        where
+          plain : (a : Bool) → a || false ≡ true → a ≡ true
+          plain true f = refl
+          plain false f = cc
 
 -- ---- the head of a `for`
 
@@ -100,11 +140,18 @@ left_narrows : (n : ℕ) {k : Code} {x : Tree} {c d : Place} → heads.LeftRule 
 left_narrows n (heads.declared_rule r) h = declared_rule (head_variables_narrow n r h)
 left_narrows n (heads.target_rule i r) h = left_target_rule i (r, h)
 
--- `using` is not supported_in k.flags.module before `of`
+-- `using` is not supported before `of`, where nothing has an initializer
+head_using_unsupported : (m b : Bool) {s t : Span} (x y name : Tree) → x ≡ tree.using s b (listed (y ∷ [])) → y ≡ tree.declarator t name tree.absent → supported_in m x ≡ false
+head_using_unsupported m b {s = s} x y name e f = ap (supported_in m) (e ∙ ap (λ z. tree.using s b (listed (z ∷ []))) f) ∙ no_and_false (not b)
+  where
+    no_and_false : (c : Bool) → c && false ≡ false
+    no_and_false true = refl
+    no_and_false false = refl
+
 of_left_narrows : (n : ℕ) (is_await : Bool) {k : Code} {x : Tree} {c d : Place} → heads.OfLeftRule (Reads n) k is_await x c d → supported_in k.flags.module x ≡ true
     → LeftRule (ReadsClass n) (ReadsPat n) (ReadsTarget n) k x c d × (is_async_of is_await x d ≡ false)
 of_left_narrows n is_await (heads.of_left_rule r i) h = (left_narrows n r h, i)
-of_left_narrows n is_await {k = k} {x = x} (heads.of_using_rule i (heads.using_head_rule y r e)) h = refuted _ x (ap (supported_in k.flags.module) e) h
+of_left_narrows n is_await {k = k} {x = x} (heads.of_using_rule i (heads.using_head_rule y r e)) h = refuted _ x (head_using_unsupported k.flags.module false x y r.name e r.is) h
 of_left_narrows n is_await {k = k} {x = x} (heads.of_using_rule i (heads.await_using_head_rule y a b r e)) h = refuted _ x (ap (supported_in k.flags.module) e) h
 
 -- nor is `async` alone behind `for await`, so `async of` is none there either
@@ -261,11 +308,11 @@ module _ (n : ℕ) (narrow : (k : Code) (at : Position) (x : Tree) (c d : Place)
   -- a function behind no decorators
   plain_function : (k : Code) (at : Position) (x : Tree) (c m d : Place) (w g : Bool) (text : Text) (sp : Span) (ps : List Tree) (body : Tree) (word behind_word behind_name : Place) → m ≡ c
       → AsyncWord w m word → kind_at word ≡ kind.Function → Star g (after word) behind_word → (r : ReadsName k text sp behind_word behind_name)
-      → functions.FunctionParts (Reads n) k w g ps body behind_name d → at.include_decl || is_async_function m ≡ true → not (bytes_eq text (codes "await")) ≡ true
+      → functions.FunctionParts (Reads n) k w g ps body behind_name d → at.include_decl || is_async_function m ≡ true
       → supported_in k.flags.module (parameters ps) && supported_in k.flags.module body ≡ true → Quiet k (notes body)
       → x ≡ tree.fn_decl (tree.ident sp text) (tree.function (spanned m d) (listed []) (parameters ps) body w g)
       → StmtRule (ReadsStmt n) (ReadsClass n) (ReadsPat n) (ReadsTarget n) (ReadsParams n) (ReadsNamedClass n) k at x c d
-  plain_function k at x c m d w g text sp ps body word bw bn o a f s r p i t h q e =
+  plain_function k at x c m d w g text sp ps body word bw bn o a f s r p i h q e =
       let u = and_yes (supported_in k.flags.module (parameters ps)) _ h in
       function_rule (subst (λ b. at.include_decl || is_async_function b ≡ true) o i) (record {
         is_async = w;
@@ -282,7 +329,7 @@ module _ (n : ℕ) (narrow : (k : Code) (at : Position) (x : Tree) (c d : Place)
         is_function = f;
         reads_star = s;
         reads_name = r.reads_word;
-        is_named = name_is_name k text sp bw bn r t;
+        is_named = name_is_name k text sp bw bn r;
         reads_parameters = (p.reads_parameters, sym (parameters_same k.flags.module ps) ∙ u.0);
         reads_body = braced_narrows true q p.reads_body u.1;
         is = e ∙ ap (λ b. tree.fn_decl (tree.ident sp text) (tree.function (spanned b d) (listed []) (parameters ps) body w g)) o
@@ -300,7 +347,7 @@ module _ (n : ℕ) (narrow : (k : Code) (at : Position) (x : Tree) (c d : Place)
   function_narrows k at a name x y c m d o (classes.no_decorators g l) i s (parts.a_name text sp r u) b h t e =
       let v : y ≡ tree.function (spanned m d) (listed []) (parameters s.patterns) s.body s.is_async s.is_generator = s.is ∙ ap (λ z. tree.function (spanned m d) z (parameters s.patterns) s.body s.is_async s.is_generator) l in
       plain_function k at x c m d s.is_async s.is_generator text sp s.patterns s.body s.word s.behind_word s.behind_name g s.reads_async s.is_function s.reads_star r s.reads_parts i
-      (supported_as _ name (tree.ident sp text) u h) (supported_as _ y (tree.function (spanned m d) (listed []) (parameters s.patterns) s.body s.is_async s.is_generator) v t)
+      (supported_as _ y (tree.function (spanned m d) (listed []) (parameters s.patterns) s.body s.is_async s.is_generator) v t)
       (quiet_last k (notes (parameters s.patterns)) (notes s.body) (quiet_as k y (tree.function (spanned m d) (listed []) (parameters s.patterns) s.body s.is_async s.is_generator) v o))
       (e ∙ ap (λ z. tree.fn_decl z y) u ∙ ap (tree.fn_decl (tree.ident sp text)) v)
 
@@ -324,7 +371,7 @@ module _ (n : ℕ) (narrow : (k : Code) (at : Position) (x : Tree) (c d : Place)
       function_narrows k at a name x y c m d q r i s s.reads_name b g.0 g.1 e
   form_narrows k at x c d o (statements.variables_rule word xs m i (b, r) g e) h =
       variables_rule word xs m i b (declarators_narrow n (with_in k) false word xs (after c) m r (supported_as _ x (tree.var (spanned c d) word (listed xs)) e h)) g e
-  form_narrows k at x c d o (statements.using_rule r) h = refuted _ x (ap (supported_in k.flags.module) r.is) h
+  form_narrows k at x c d o (statements.using_rule r) h = using_narrows n k at x c d r.word r h r.reads_await refl
   form_narrows k at x c d o (statements.block_rule r) h = block_rule (block_narrows o r h)
   form_narrows k at x c d o (statements.empty_rule i n e) h = empty_rule i n e
   form_narrows k at x c d o (statements.debugger_rule i g e) h = debugger_rule i g e
@@ -335,7 +382,7 @@ module _ (n : ℕ) (narrow : (k : Code) (at : Position) (x : Tree) (c d : Place)
   form_narrows k at x c d o (statements.return_rule y m i r g e) h = return_rule y m i (operand_narrows n r (supported_as _ x (tree.return (spanned c d) y) e h)) g e
   form_narrows k at x c d o (statements.labeled_rule text s y m r i t e) h =
       let g = and_yes (supported_in k.flags.module (tree.ident s text)) _ (supported_as _ x (tree.labeled (spanned c d) (tree.ident s text) y) e h) in
-      labeled_rule r.word s y m r.reads_word (name_is_name k text s c m r g.0) i (narrow (in_breakable k) (labelled_item (after m)) y (after m) d (quiet_as k x (tree.labeled (spanned c d) (tree.ident s text) y) e o) t g.1)
+      labeled_rule r.word s y m r.reads_word (name_is_name k text s c m r) i (narrow (in_breakable k) (labelled_item (after m)) y (after m) d (quiet_as k x (tree.labeled (spanned c d) (tree.ident s text) y) e o) t g.1)
       (e ∙ ap (λ v. tree.labeled (spanned c d) (tree.ident s v) y) r.is_text)
   form_narrows k at x c d o (statements.break_rule y m i r g e) h = break_rule y m i (target_narrows r (supported_as _ x (tree.break (spanned c d) y) e h)) g e
   form_narrows k at x c d o (statements.continue_rule y m i r g e) h = continue_rule y m i (target_narrows r (supported_as _ x (tree.continue (spanned c d) y) e h)) g e

@@ -2,7 +2,6 @@
 -- no `await`.
 use Rattle.std.proofs.Common.{◌≡◌, ◌⊎◌, inl, inr, ℕ, zero, suc, Bool, true, false, true≢false, List, [], ◌∷◌, Some, refl, sym, ◌∙◌, ap}
 use Rattle.std.specs.Prelude.{not, ◌&&◌, codes}
-use Rattle.std.specs.Str.{bytes_eq}
 use Rattle.swc_ecma_parser_common.specs.declared.span.Span.{Span}
 use Rattle.swc_ecma_parser_token.specs.declared.kind.TokenKind.{TokenKind}
 use Rattle.swc_ecma_parser_token.specs.declared.kind.TokenKind.TheVariants as kind
@@ -23,7 +22,7 @@ use Rattle.swc_ecma_parser_model.specs.Tree.{Tree, Text, listed}
 use Rattle.swc_ecma_parser_model.specs.Forms.{is_pattern_target, is_binding_name}
 use Rattle.swc_ecma_parser_grammar.specs.Follows as follows
 use Rattle.swc_ecma_parser_grammar.specs.Looks.{kind_at, sees, spanned, same_kind}
-use Rattle.swc_ecma_parser_grammar.specs.Names.{Code, is_reserved, is_name, is_identifier, is_clean_name}
+use Rattle.swc_ecma_parser_grammar.specs.Names.{Code, is_reserved, is_name, is_identifier}
 use Rattle.swc_ecma_parser_grammar.specs.Reads.{ReadsToken}
 use Rattle.swc_ecma_parser_grammar.specs.Supported.{supported_in}
 use Rattle.swc_ecma_parser_grammar.specs.ReadsSupported.{ReadsClass}
@@ -38,6 +37,7 @@ use Rattle.swc_ecma_parser_grammar.specs.language.Expressions as expressions
 use Rattle.swc_ecma_parser_grammar.specs.language.Expressions.{BinaryRule, single_rule, left_rule, power_rule}
 use Rattle.swc_ecma_parser_grammar.specs.language.Reads.{Reads}
 use Rattle.swc_ecma_parser_grammar.proofs.Tests.{and_yes, and_both}
+use Rattle.swc_ecma_parser_grammar.proofs.Naming.{name_is_free, name_is_name}
 use Rattle.swc_ecma_parser_grammar.proofs.ExpressionBegins.{await_stands}
 use Rattle.swc_ecma_parser_grammar.proofs.StatementBegins.{word_place}
 
@@ -78,8 +78,8 @@ opens kind.RBrace = false
 opens kind.End = false
 opens _ = true
 
-word_opens : (f : Context) (w : Word) → is_name f (word_text w) ≡ true → opens (word_kind w) ≡ true
-unfolding is_name is_reserved
+word_opens : (f : Context) (w : Word) → is_identifier f (word_text w) ≡ true → opens (word_kind w) ≡ true
+unfolding is_identifier is_reserved
 word_opens f (word.Keyword keyword.Debugger) h = cc
 word_opens f (word.Keyword keyword.Export) h = cc
 word_opens f (word.Keyword keyword.Var) h = cc
@@ -105,14 +105,12 @@ token_opens : (t : Token) (s : Span) (c d : Place) → ReadsToken t s c d → op
 unfolding kind_at
 token_opens t s c d r e = rw r.is e
 
-name_opens : (k : Code) (text : Text) (s : Span) (c d : Place) → ReadsName k text s c d → not (bytes_eq text (codes "await")) ≡ true → opens (kind_at c) ≡ true
-unfolding is_name is_clean_name is_identifier
-name_opens k text s c d r h =
-    token_opens (token.Word r.word) s c d r.reads_word (word_opens k.flags r.word (rw (← r.is_text) (and_both _ _ (and_yes (not (is_reserved k.flags text)) _ r.is_name).0 h)))
+name_opens : (k : Code) (text : Text) (s : Span) (c d : Place) → ReadsName k text s c d → opens (kind_at c) ≡ true
+name_opens k text s c d r = token_opens (token.Word r.word) s c d r.reads_word (word_opens k.flags r.word (name_is_free k.flags (word_text r.word) (name_is_name k text s c d r)))
 
 -- a name begins an expression, as far as its kind decides
 pub word_begins : (f : Context) (w : Word) (s : Span) (c d : Place) → ReadsToken (token.Word w) s c d → is_name f (word_text w) ≡ true → opens (kind_at c) ≡ true
-word_begins f w s c d r h = token_opens (token.Word w) s c d r (word_opens f w h)
+word_begins f w s c d r h = token_opens (token.Word w) s c d r (word_opens f w (name_is_free f (word_text w) h))
 
 unary_opens : (j : TokenKind) (op : UnaryOp) → unary_operator j ≡ Some op → opens j ≡ true
 unary_opens kind.Semi op h = cc
@@ -177,7 +175,7 @@ module _ (In : Goal → Type 0) (k : Code) where
   function_opens c r = elim (function_begins c r) [ inl e ↦ kind_opens c kind.Function e refl | inr e ↦ kind_opens c kind.Ident e refl ]
 
   primary_opens : (x : Tree) (c d : Place) → sides.PrimaryRule In k x c d → supported_in k.flags.module x ≡ true → opens (kind_at c) ≡ true
-  primary_opens x c d (sides.name_rule text s r f e) h = name_opens k text s c d r (supported_as _ x (tree.ident s text) e h)
+  primary_opens x c d (sides.name_rule text s r f e) h = name_opens k text s c d r
   primary_opens x c d (sides.string_rule value raw s r e) h = token_opens (token.Str value raw) s c d r refl
   primary_opens x c d (sides.true_rule s r e) h = token_opens (token.Word word.True) s c d r refl
   primary_opens x c d (sides.false_rule s r e) h = token_opens (token.Word word.False) s c d r refl
@@ -260,7 +258,7 @@ module _ (In : Goal → Type 0) (k : Code) (small : NameOpens In k) where
 -- a pattern that is a name
 name_pattern_opens : (In : Goal → Type 0) (k : Code) (x : Tree) (c d : Place) → patterns.PatternRule In binding k x c d → is_binding_name x ≡ true
     → supported_in k.flags.module x ≡ true → opens (kind_at c) ≡ true
-name_pattern_opens In k x c d (patterns.binding_name_rule text s p r e) i h = name_opens k text s c d r (supported_as _ x (tree.ident_pat s text) e h)
+name_pattern_opens In k x c d (patterns.binding_name_rule text s p r e) i h = name_opens k text s c d r
 name_pattern_opens In k x c d (patterns.target_name_rule text s p a r e) i h = cc
 name_pattern_opens In k x c d (patterns.target_rule y p r t j e) i h = cc
 name_pattern_opens In k x c d (patterns.array_rule xs m j r l n e) i h = absurd (true≢false (sym i ∙ ap is_binding_name e))
@@ -274,14 +272,9 @@ pub expr_opens : (n : ℕ) (k : Code) (x : Tree) (c d : Place) → ReadsClass n 
 expr_opens zero k x c d r = absurd r.0
 expr_opens (suc n) k x c d r = expression_opens (Reads n) k (names_open n k) x c d r.0 r.1
 
--- a name is neither `await` nor `import`
-word_no_await : (f : Context) (w : Word) → is_name f (word_text w) ≡ true → same_kind (word_kind w) kind.Await ≡ false
-unfolding is_name is_reserved same_kind
-word_no_await f (word.Keyword keyword.Await) h = let g = (and_yes (not (is_reserved f (codes "await"))) _ h).1 in cc
-word_no_await f _ h = refl
-
-word_no_import : (f : Context) (w : Word) → is_name f (word_text w) ≡ true → same_kind (word_kind w) kind.Import ≡ false
-unfolding is_name is_reserved same_kind
+-- a name is not `import`
+word_no_import : (f : Context) (w : Word) → is_identifier f (word_text w) ≡ true → same_kind (word_kind w) kind.Import ≡ false
+unfolding is_identifier is_reserved same_kind
 word_no_import f (word.Keyword keyword.Import) h = cc
 word_no_import f _ h = refl
 
@@ -289,9 +282,5 @@ token_is_none : (t : Token) (s : Span) (c d : Place) (j : TokenKind) → ReadsTo
 unfolding kind_at
 token_is_none t s c d j r e = rw r.is e
 
-pub name_begins : (f : Context) (w : Word) (s : Span) (c d : Place) → ReadsToken (token.Word w) s c d → is_name f (word_text w) ≡ true
-    → (sees kind.Await c ≡ false) × (sees kind.Import c ≡ false)
-name_begins f w s c d r h = (
-  token_is_none (token.Word w) s c d kind.Await r (word_no_await f w h),
-  token_is_none (token.Word w) s c d kind.Import r (word_no_import f w h),
-)
+pub name_begins : (f : Context) (w : Word) (s : Span) (c d : Place) → ReadsToken (token.Word w) s c d → is_name f (word_text w) ≡ true → sees kind.Import c ≡ false
+name_begins f w s c d r h = token_is_none (token.Word w) s c d kind.Import r (word_no_import f w (name_is_free f (word_text w) h))

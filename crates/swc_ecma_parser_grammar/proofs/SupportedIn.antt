@@ -1,6 +1,6 @@
 -- What is supported in module code and elsewhere: it is the same, but for what has notes.
 use Rattle.std.proofs.Common.{◌≡◌, Bool, true, false, true≢false, cond, List, [], ◌∷◌, ◌++◌, refl, sym, ◌∙◌, ap}
-use Rattle.std.specs.Prelude.{not, ◌&&◌}
+use Rattle.std.specs.Prelude.{not, ◌&&◌, ◌||◌}
 use Rattle.swc_ecma_parser_error.specs.Kind.{Fault}
 use Rattle.swc_ecma_parser_model.specs.Tree as tree
 use Rattle.swc_ecma_parser_model.specs.Tree.{Tree, Trees, none, also}
@@ -12,11 +12,12 @@ use Rattle.swc_ecma_parser_grammar.specs.Notes.{notes, method_notes, all_notes, 
 use Rattle.swc_ecma_parser_grammar.specs.Reads.{in_strict, with_in, head_code}
 use Rattle.swc_ecma_parser_grammar.specs.Variables.{is_var}
 use Rattle.swc_ecma_parser_grammar.specs.language.Contexts.{without_in}
-use Rattle.swc_ecma_parser_grammar.specs.Supported.{supported, supported_in, all_supported, all_supported_in, is_supported_key_in, is_supported_property_in, has_none, is_clean, is_rightly_directed, is_rightly_set, is_rightly_headed}
+use Rattle.swc_ecma_parser_grammar.specs.language.Parts.{is_private}
+use Rattle.swc_ecma_parser_grammar.specs.Supported.{supported, supported_in, all_supported, all_supported_in, is_supported_key_in, is_supported_property_in, has_none, is_clean, is_rightly_directed, is_rightly_set, is_rightly_headed, are_initialized}
 use Rattle.swc_ecma_parser_grammar.proofs.Tests.{and_yes, and_both}
 
 -- two lists are empty where they are together
-parted : (fs gs : List Fault) → fs ++ gs ≡ [] → (fs ≡ []) × (gs ≡ [])
+pub parted : (fs gs : List Fault) → fs ++ gs ≡ [] → (fs ≡ []) × (gs ≡ [])
 parted [] gs e = (refl, e)
 parted (f ∷ fs) gs e = (cc, cc)
 
@@ -28,6 +29,12 @@ method_parted key (tree.function s decorators params body is_async is_generator)
     let i = parted (notes decorators) key l.0 in
     (i.1, ap (λ z. z ++ notes params ++ notes body) i.0 ∙ ap (λ z. z ++ notes body) l.1 ∙ n.1)
 method_parted key _ f o = absurd (true≢false (sym f))
+
+-- one of two, where the first follows from another
+either_by : (a b c : Bool) → (a ≡ true → b ≡ true) → (a || c) ≡ true → (b || c) ≡ true
+either_by true b c f h = ap (λ z. z || c) (f refl)
+either_by false true c f h = refl
+either_by false false c f h = h
 
 mutual
   -- what is supported in module code is supported elsewhere
@@ -76,6 +83,7 @@ mutual
   lower m (tree.expr_pat e) h = lower m e h
   lower m (tree.var s word ds) h = lower m ds h
   lower m (tree.declarator s name init) h = let g = and_yes (supported_in m name) _ h in and_both _ _ (lower m name g.0) (lower m init g.1)
+  lower m (tree.using s is_await ds) h = let g = and_yes (not is_await) _ h in let i = and_yes (are_initialized ds) _ g.1 in and_both _ _ g.0 (and_both _ _ i.0 (lower m ds i.1))
   lower m (tree.block s stmts) h = lower m stmts h
   lower m (tree.empty s) h = refl
   lower m (tree.debugger s) h = refl
@@ -101,6 +109,7 @@ mutual
   lower m (tree.param s decorators p) h = let g = and_yes (has_none decorators) _ h in and_both _ _ g.0 (lower m p g.1)
   lower m (tree.fn_expr s name fn) h = let g = and_yes (supported_in m name) _ h in and_both _ _ (lower m name g.0) (let h = and_yes (supported_in m fn) _ g.1 in and_both _ _ (lower m fn h.0) (let i = and_yes (is_rightly_directed fn) _ h.1 in and_both _ _ i.0 refl))
   lower m (tree.arrow s params body is_async) h = let i = and_yes (supported_in m params && supported_in m body) _ h in let j = and_yes (supported_in m params) _ i.0 in and_both _ _ (and_both _ _ (lower m params j.0) (lower m body j.1)) (let l = and_yes (is_rightly_headed params body) _ i.1 in and_both _ _ l.0 refl)
+  lower m (tree.decorator s e) h = lower m e h
   lower m (tree.class_expr s name body) h = let g = and_yes (supported_in m name) _ h in and_both _ _ (lower m name g.0) (lower m body g.1)
   lower m (tree.class_decl name body) h = let g = and_yes (supported_in m name) _ h in and_both _ _ (lower m name g.0) (lower m body g.1)
   lower m (tree.class s decorators body super_class) h = let g = and_yes (has_none decorators) _ h in and_both _ _ g.0 (let i = and_yes (supported_in m super_class) _ g.1 in and_both _ _ (lower m super_class i.0) (lower m body i.1))
@@ -109,6 +118,7 @@ mutual
   lower m (tree.private_method s key fn kind is_static) h = let g = and_yes (is_supported_property_in m key) _ h in and_both _ _ (lower_property m key g.0) (let i = and_yes (is_function fn) _ g.1 in and_both _ _ i.0 (and_both _ _ (lower m fn (and_yes (supported_in m fn) _ i.1).0) refl))
   lower m (tree.class_prop s key value is_static decorators) h = let g = and_yes (has_none decorators) _ h in and_both _ _ g.0 (let i = and_yes (is_supported_key_in m key) _ g.1 in and_both _ _ (lower_key m key i.0) (lower m value i.1))
   lower m (tree.private_prop s key value is_static decorators) h = let g = and_yes (has_none decorators) _ h in and_both _ _ g.0 (let i = and_yes (is_supported_property_in m key) _ g.1 in and_both _ _ (lower_property m key i.0) (lower m value i.1))
+  lower m (tree.auto_accessor s key value is_static decorators) h = let g = and_yes (has_none decorators) _ h in and_both _ _ g.0 (let i = and_yes (is_supported_key_in m key || is_private key) _ g.1 in and_both _ _ (either_by (is_supported_key_in m key) (is_supported_key_in false key) (is_private key) (λ e. lower_key m key e) i.0) (lower m value i.1))
   lower m (tree.static_block s body) h = and_both _ _ (lower m body (and_yes (supported_in m body) _ h).0) refl
   lower m (tree.empty_member s) h = refl
   lower m (tree.script s body shebang) h = lower m body h
@@ -179,6 +189,7 @@ mutual
   lift (tree.expr_pat e) h o = lift e h o
   lift (tree.var s word ds) h o = lift ds h o
   lift (tree.declarator s name init) h o = let g = and_yes (supported_in false name) _ h in and_both _ _ (lift name g.0 ((parted (notes name) (notes init) o).0)) (lift init g.1 ((parted (notes name) (notes init) o).1))
+  lift (tree.using s is_await ds) h o = let g = and_yes (not is_await) _ h in let i = and_yes (are_initialized ds) _ g.1 in and_both _ _ g.0 (and_both _ _ i.0 (lift ds i.1 o))
   lift (tree.block s stmts) h o = lift stmts h o
   lift (tree.empty s) h o = refl
   lift (tree.debugger s) h o = refl
@@ -204,6 +215,7 @@ mutual
   lift (tree.param s decorators p) h o = let g = and_yes (has_none decorators) _ h in and_both _ _ g.0 (lift p g.1 ((parted (notes decorators) (notes p) o).1))
   lift (tree.fn_expr s name fn) h o = let g = and_yes (supported_in false name) _ h in and_both _ _ (lift name g.0 ((parted (notes name) (notes fn) o).0)) (let h = and_yes (supported_in false fn) _ g.1 in and_both _ _ (lift fn h.0 ((parted (notes name) (notes fn) o).1)) (let i = and_yes (is_rightly_directed fn) _ h.1 in and_both _ _ i.0 (ap is_clean ((parted (notes name) (notes fn) o).1))))
   lift (tree.arrow s params body is_async) h o = let n = parted (notes params) (notes body) o in let i = and_yes (supported_in false params && supported_in false body) _ h in let j = and_yes (supported_in false params) _ i.0 in and_both _ _ (and_both _ _ (lift params j.0 n.0) (lift body j.1 n.1)) (let l = and_yes (is_rightly_headed params body) _ i.1 in and_both _ _ l.0 (ap is_clean n.1))
+  lift (tree.decorator s e) h o = lift e h o
   lift (tree.class_expr s name body) h o = let g = and_yes (supported_in false name) _ h in let n = parted (notes name) (notes body) o in and_both _ _ (lift name g.0 n.0) (lift body g.1 n.1)
   lift (tree.class_decl name body) h o = let g = and_yes (supported_in false name) _ h in let n = parted (notes name) (notes body) o in and_both _ _ (lift name g.0 n.0) (lift body g.1 n.1)
   lift (tree.class s decorators body super_class) h o = let g = and_yes (has_none decorators) _ h in let n = parted (notes decorators ++ notes super_class) (notes body) o in and_both _ _ g.0 (let i = and_yes (supported_in false super_class) _ g.1 in and_both _ _ (lift super_class i.0 ((parted (notes decorators) (notes super_class) n.0).1)) (lift body i.1 n.1))
@@ -212,6 +224,7 @@ mutual
   lift (tree.private_method s key fn kind is_static) h o = let g = and_yes (is_supported_property_in false key) _ h in let i = and_yes (is_function fn) _ g.1 in let n = method_parted (notes key) fn i.0 o in and_both _ _ (lift_property key g.0 n.0) (and_both _ _ i.0 (and_both _ _ (lift fn (and_yes (supported_in false fn) _ i.1).0 n.1) (ap is_clean n.1)))
   lift (tree.class_prop s key value is_static decorators) h o = let g = and_yes (has_none decorators) _ h in let n = parted (notes decorators ++ notes key) (notes value) o in and_both _ _ g.0 (let i = and_yes (is_supported_key_in false key) _ g.1 in and_both _ _ (lift_key key i.0 ((parted (notes decorators) (notes key) n.0).1)) (lift value i.1 n.1))
   lift (tree.private_prop s key value is_static decorators) h o = let g = and_yes (has_none decorators) _ h in let n = parted (notes decorators ++ notes key) (notes value) o in and_both _ _ g.0 (let i = and_yes (is_supported_property_in false key) _ g.1 in and_both _ _ (lift_property key i.0 ((parted (notes decorators) (notes key) n.0).1)) (lift value i.1 n.1))
+  lift (tree.auto_accessor s key value is_static decorators) h o = let g = and_yes (has_none decorators) _ h in let n = parted (notes decorators ++ notes key) (notes value) o in and_both _ _ g.0 (let i = and_yes (is_supported_key_in false key || is_private key) _ g.1 in and_both _ _ (either_by (is_supported_key_in false key) (is_supported_key_in true key) (is_private key) (λ e. lift_key key e ((parted (notes decorators) (notes key) n.0).1)) i.0) (lift value i.1 n.1))
   lift (tree.static_block s body) h o = and_both _ _ (lift body (and_yes (supported_in false body) _ h).0 o) (ap is_clean o)
   lift (tree.empty_member s) h o = refl
   lift (tree.script s body shebang) h o = lift body h o

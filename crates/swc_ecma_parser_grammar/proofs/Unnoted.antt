@@ -1,7 +1,7 @@
 -- Notes are of statements alone: no supported expression and no supported pattern has any, and none that begins with `import` is a
 -- bare name.
 use Rattle.std.proofs.Common.{◌≡◌, ℕ, zero, suc, Bool, true, false, true≢false, List, [], ◌∷◌, ◌++◌, refl, sym, ◌∙◌, ap, subst}
-use Rattle.std.specs.Prelude.{◌&&◌, if◌then◌else◌, None, Some}
+use Rattle.std.specs.Prelude.{◌&&◌, ◌||◌, if◌then◌else◌, None, Some}
 use Rattle.swc_ecma_parser_common.specs.declared.span.Span.{Span}
 use Rattle.swc_ecma_parser_error.specs.Kind.{Fault}
 use Rattle.swc_ecma_parser_token.specs.declared.kind.TokenKind.TheVariants as kind
@@ -29,11 +29,13 @@ use Rattle.swc_ecma_parser_grammar.specs.language.Functions as functions
 use Rattle.swc_ecma_parser_grammar.specs.language.Functions.{PatternItemRule}
 use Rattle.swc_ecma_parser_grammar.specs.language.Contexts.{in_class}
 use Rattle.swc_ecma_parser_grammar.specs.language.Classes as classes
-use Rattle.swc_ecma_parser_grammar.specs.language.Classes.{MemberKeyRule, method_member, field_member, FieldValueRule, CoreRule, MemberRule, HeritageRule, ClassRule}
+use Rattle.swc_ecma_parser_grammar.specs.language.Classes.{DecoratorRule, DecoratorsRule, MemberKeyRule, method_member, field_member, FieldValueRule, CoreRule, MemberRule, HeritageRule, ClassRule}
 use Rattle.swc_ecma_parser_grammar.specs.language.Objects as objects
 use Rattle.swc_ecma_parser_grammar.specs.language.Objects.{PropertyRule}
 use Rattle.swc_ecma_parser_grammar.specs.language.Patterns as patterns
 use Rattle.swc_ecma_parser_grammar.specs.language.Patterns.{PatternPropertyRule, PatternRule, PatternElementRule}
+use Rattle.swc_ecma_parser_grammar.specs.language.Decorators as decorators
+use Rattle.swc_ecma_parser_grammar.specs.language.Decorators.{ChainRule, DecoratedRule}
 use Rattle.swc_ecma_parser_grammar.specs.language.LeftSides as sides
 use Rattle.swc_ecma_parser_grammar.specs.language.LeftSides.{PrimaryRule, LeftSideRule}
 use Rattle.swc_ecma_parser_grammar.specs.language.Expressions as expressions
@@ -88,7 +90,7 @@ SilentGoal (pattern_goal p k x c d) = Silent x
 SilentGoal (element_goal p k x c d) = Silent x
 SilentGoal (stmt_goal k at x c d) = Unit {0}
 SilentGoal (member_goal k x c d) = Silent x
-SilentGoal (decorator_goal k x c d) = Unit {0}
+SilentGoal (decorator_goal k x c d) = Silent x
 SilentGoal (using_goal k x c d) = Unit {0}
 SilentGoal (attributes_goal k x c d) = Unit {0}
 SilentGoal (item_goal k x c d) = Unit {0}
@@ -313,6 +315,10 @@ module _ (In : Goal → Type 0) (small : (g : Goal) → In g → SilentGoal g) w
       silent_as _ (tree.private_method s key fn form st) (ap (λ b. if b then tree.private_method s key fn form st else tree.method s key fn form st) (ap is_private e))
       (method_is_silent key fn (is_supported_property_in true key) (λ _. ap notes e))
 
+  sole : (a b : Bool) → b ≡ false → (a || b) ≡ true → a ≡ true
+  sole true b e h = refl
+  sole false b e h = sym e ∙ h
+
   field_is_silent : (ds key value : Tree) (b : Bool) → (b ≡ true → notes key ≡ []) → Silent value → has_none ds && (b && supported_in true value) ≡ true → notes ds ++ notes key ++ notes value ≡ []
   field_is_silent ds key value b q v h =
       let g = and_yes (has_none ds) _ h in
@@ -320,7 +326,10 @@ module _ (In : Goal → Type 0) (small : (g : Goal) → In g → SilentGoal g) w
       joined (notes ds ++ notes key) (notes value) (joined (notes ds) (notes key) (none_unnoted ds g.0) (q i.0)) (v i.1)
 
   field_silent : {k : Code} (s : Span) (key value : Tree) (st accessor : Bool) (ds : Tree) {c d : Place} → MemberKeyRule In k key c d → Silent value → Silent (field_member s key value st accessor ds)
-  field_silent s key value st true ds r v h = absurd (true≢false (sym h))
+  field_silent s key value st true ds (classes.member_key r) v h =
+      field_is_silent ds key value (is_supported_key_in true key || is_private key) (λ i. key_silent r (sole (is_supported_key_in true key) (is_private key) (key_is_public r) i)) v h
+  field_silent s key value st true ds (classes.private_key t word text r e i) v h =
+      field_is_silent ds key value (is_supported_key_in true key || is_private key) (λ _. ap notes e) v h
   field_silent s key value st false ds (classes.member_key r) v h =
       silent_as _ (tree.class_prop s key value st ds) (ap (λ b. if b then tree.private_prop s key value st ds else tree.class_prop s key value st ds) (key_is_public r))
       (field_is_silent ds key value (is_supported_key_in true key) (key_silent r) v) h
@@ -368,6 +377,32 @@ module _ (In : Goal → Type 0) (small : (g : Goal) → In g → SilentGoal g) w
   expression_silent k x c d (expressions.sequence_rule y z zs rs e) =
       silent_as x (tree.seq (spanned c d) (listed (y ∷ z ∷ zs))) e (separated_silent (AssignmentRule In k) (assignment_silent k) (y ∷ z ∷ zs) c d rs)
 
+  -- ---- decorators
+
+  chain_silent : {k : Code} {x : Tree} {c d : Place} → ChainRule In k x c d → Silent x
+  chain_silent (decorators.name_rule text s r e) = λ h. ap notes e
+  chain_silent {x = x} {c = c} {d = d} (decorators.member_rule y p m r a i e) = silent_as x (tree.member (spanned c d) y p) e (λ h.
+      let g = and_yes (supported_in true y) _ h in joined (notes y) (notes p) (chain_silent r g.0) (access_silent a g.1))
+  chain_silent {x = x} {c = c} {d = d} (decorators.call_rule y z m r a e) = silent_as x (tree.call (spanned c d) y z) e (both_silent y z (chain_silent r) (arguments_silent a))
+
+  decorated_silent : {k : Code} {x : Tree} {c d : Place} → DecoratedRule In k x c d → Silent x
+  decorated_silent {k = k} {x = x} {c = c} (decorators.group_rule r i) = expression_silent (with_in k) x (after c) r.close r.reads_expression
+  decorated_silent {k = k} {x = x} {c = c} {d = d} (decorators.group_call_rule y z m r a e) =
+      silent_as x (tree.call (spanned (after c) d) y z) e (both_silent y z (expression_silent (with_in k) y (after c) r.close r.reads_expression) (arguments_silent a))
+  decorated_silent (decorators.chain_rule r i j) = chain_silent r
+
+  decorator_silent : (k : Code) (x : Tree) (c d : Place) → DecoratorRule In k x c d → Silent x
+  decorator_silent k x c d (classes.decorator_rule y i r e) = silent_as x (tree.decorator (spanned c d) y) e (small (decorator_goal k y (after c) d) r)
+
+  each_decorator_silent : (k : Code) (xs : List Tree) (c d : Place) → ReadsEach (DecoratorRule In k) xs c d → AllSilent xs
+  each_decorator_silent k [] c d r h = refl
+  each_decorator_silent k (x ∷ xs) c d (m, r, rs) h =
+      let g = and_yes (supported_in true x) _ h in joined (notes x) _ (decorator_silent k x c m r g.0) (each_decorator_silent k xs m d rs g.1)
+
+  decorators_silent : {k : Code} {x : Tree} {c d : Place} → DecoratorsRule In k x c d → Silent x
+  decorators_silent (classes.no_decorators n e) = λ h. ap notes e
+  decorators_silent {k = k} {x = x} {c = c} {d = d} (classes.some_decorators y ys s r e) = silent_as x (listed (y ∷ ys)) e (each_decorator_silent k (y ∷ ys) c d r)
+
   class_silent : (class : Class) (k : Code) (x : Tree) (c d : Place) → ExprRule In class k x c d → Silent x
   class_silent expression k x c d r = expression_silent k x c d r
   class_silent assignment k x c d r = assignment_silent k x c d r
@@ -384,7 +419,7 @@ silent (suc n) (pattern_goal p k x c d) r = pattern_silent (Reads n) (silent n) 
 silent (suc n) (element_goal p k x c d) r = pattern_element_silent (Reads n) (silent n) r
 silent (suc n) (stmt_goal k at x c d) r = tt
 silent (suc n) (member_goal k x c d) r = member_silent (Reads n) (silent n) k x c d r
-silent (suc n) (decorator_goal k x c d) r = tt
+silent (suc n) (decorator_goal k x c d) r = decorated_silent (Reads n) (silent n) r
 silent (suc n) (using_goal k x c d) r = tt
 silent (suc n) (attributes_goal k x c d) r = tt
 silent (suc n) (item_goal k x c d) r = tt
@@ -402,17 +437,26 @@ pub parameter_unnoted : (n : ℕ) (k : Code) (x : Tree) (c d : Place) → k.flag
 parameter_unnoted n k x c d o (functions.element_rule r) h = silent n (element_goal binding k x c d) r (in_module x o h)
 parameter_unnoted n k x c d o (functions.rest_rule y i r e) h = ap notes e ∙ silent n (pattern_goal binding k y (after c) d) r (supported_as _ x (tree.rest_pat (spanned c d) y) e (in_module x o h))
 
+-- an object that stands as the attributes of an import
+pub attributes_unnoted : (n : ℕ) (k : Code) (x : Tree) (c d : Place) → k.flags.module ≡ true → Reads n (attributes_goal k x c d) → supported_in k.flags.module x ≡ true → notes x ≡ []
+attributes_unnoted zero k x c d o r h = absurd r
+attributes_unnoted (suc n) k x c d o r h = primary_silent (Reads n) (silent n) k x c d r.0 (in_module x o h)
+
 -- a class, with its name
 pub class_unnoted : (n : ℕ) (k : Code) (name x : Tree) (c d : Place) → k.flags.module ≡ true → ClassRule (Reads n) k c (listed []) name x c d → supported_in k.flags.module (tree.class_decl name x) ≡ true
     → notes name ++ notes x ≡ []
 class_unnoted n k name x c d o r h = named_class_silent (Reads n) (silent n) r (in_module (tree.class_decl name x) o h)
+
+-- decorators
+pub decorators_unnoted : (n : ℕ) (k : Code) (x : Tree) (c d : Place) → k.flags.module ≡ true → DecoratorsRule (Reads n) k x c d → supported_in k.flags.module x ≡ true → notes x ≡ []
+decorators_unnoted n k x c d o r h = decorators_silent (Reads n) (silent n) r (in_module x o h)
 
 -- ---- an expression that begins with `import`
 
 module _ (In : Goal → Type 0) where
   left_unnamed : {k : Code} {x : Tree} {c d : Place} → LeftSideRule In k x c d → supported_in k.flags.module x ≡ true → sees kind.Import c ≡ true → is_ident x ≡ false
   left_unnamed {k = k} {x = x} {c = c} {d = d} (sides.primary_rule (sides.name_rule text s r j e)) h i =
-      absurd (true≢false (sym i ∙ (name_begins k.flags r.word s c d r.reads_word (name_is_name k text s c d r (supported_as _ x (tree.ident s text) e h))).1))
+      absurd (true≢false (sym i ∙ name_begins k.flags r.word s c d r.reads_word (name_is_name k text s c d r)))
   left_unnamed (sides.primary_rule (sides.string_rule value raw s r e)) h i = ap is_ident e
   left_unnamed (sides.primary_rule (sides.true_rule s r e)) h i = ap is_ident e
   left_unnamed (sides.primary_rule (sides.false_rule s r e)) h i = ap is_ident e

@@ -4,21 +4,25 @@ use Rattle.std.proofs.Common.{◌≡◌, ℕ, zero, suc, Bool, true, false, rule
 use Rattle.std.specs.List.{list_any}
 use Rattle.std.specs.Prelude.{not, ◌&&◌, ◌||◌}
 use denote.Enum.Bare.{true_same, same_true}
+use Rattle.swc_ecma_parser_common.specs.declared.span.Span.{Span}
 use Rattle.swc_ecma_parser_token.specs.contracts.kind.TokenKind.{the_type}
 use Rattle.swc_ecma_parser_token.specs.declared.kind.TokenKind.{TokenKind}
 use Rattle.swc_ecma_parser_token.specs.declared.kind.TokenKind.TheVariants as kind
 use Rattle.swc_ecma_parser_input.specs.Place.{Place, after}
 use Rattle.swc_ecma_parser_model.specs.declared.leaves.VarDeclKind.{VarDeclKind}
+use Rattle.swc_ecma_parser_model.specs.declared.leaves.VarDeclKind.TheVariants as decl
+use Rattle.swc_ecma_parser_model.specs.Tree as tree
 use Rattle.swc_ecma_parser_model.specs.Tree.{Tree, Text, trees, listed}
 use Rattle.swc_ecma_parser_model.specs.Forms.{is_absent}
 use Rattle.swc_ecma_parser_model.specs.Directive.{is_use_strict}
 use Rattle.swc_ecma_parser_grammar.specs.declared.position.Position.{Position}
-use Rattle.swc_ecma_parser_grammar.specs.Looks.{kind_at, sees, same_kind}
+use Rattle.swc_ecma_parser_grammar.specs.Looks.{kind_at, sees, same_kind, spanned}
 use Rattle.swc_ecma_parser_grammar.specs.Names.{Code}
-use Rattle.swc_ecma_parser_grammar.specs.Follows.{is_async_of, is_bare_async}
-use Rattle.swc_ecma_parser_grammar.specs.Reads.{with_in, directed, directs_on, nested_item, top_item, DeclaratorRule, plain_rule, initialized_rule, ReadsSeparated, ReadsItems, StmtRule, block_rule, empty_rule, debugger_rule, variables_rule, if_statement_rule, TargetRule, no_target_rule, target_rule, OperandRule, no_operand_rule, operand_rule, break_rule, continue_rule, return_rule, labeled_rule, HeadVariables, InitRule, no_init_rule, init_variables_rule, init_expression_rule, LeftRule, declared_rule, left_target_rule, for_in_rule, for_of_rule, head_code, PartRule, no_part_rule, part_rule, for_rule, CaseRule, case_clause_rule, default_clause_rule, ReadsCases, switch_rule, throw_rule, try_rule, with_rule, while_rule, do_while_rule, expr_rule, import_rule, ReadsBlock, CatchRule, no_catch_rule, catch_rule, catch_parameter_rule, FinallyRule, no_finally_rule, finally_rule, ReadsHead, IfRule, if_rule, ElseRule, no_else_rule, else_rule, else_if_rule, ReadsBraced, class_rule, function_rule}
+use Rattle.swc_ecma_parser_grammar.specs.Follows.{is_async_of, is_bare_async, no_await}
+use Rattle.swc_ecma_parser_grammar.specs.Using.{is_using_declaration, misused, each_misused, using_faults}
+use Rattle.swc_ecma_parser_grammar.specs.Reads.{with_in, directed, directs_on, nested_item, top_item, DeclaratorRule, plain_rule, initialized_rule, ReadsSeparated, ReadsItems, StmtRule, block_rule, empty_rule, debugger_rule, variables_rule, using_rule, if_statement_rule, TargetRule, no_target_rule, target_rule, OperandRule, no_operand_rule, operand_rule, break_rule, continue_rule, return_rule, labeled_rule, HeadVariables, InitRule, no_init_rule, init_variables_rule, init_expression_rule, LeftRule, declared_rule, left_target_rule, for_in_rule, for_of_rule, head_code, PartRule, no_part_rule, part_rule, for_rule, CaseRule, case_clause_rule, default_clause_rule, ReadsCases, switch_rule, throw_rule, try_rule, with_rule, while_rule, do_while_rule, expr_rule, import_rule, ReadsBlock, CatchRule, no_catch_rule, catch_rule, catch_parameter_rule, FinallyRule, no_finally_rule, finally_rule, ReadsHead, IfRule, if_rule, ElseRule, no_else_rule, else_rule, else_if_rule, ReadsBraced, class_rule, function_rule}
 use Rattle.swc_ecma_parser_grammar.specs.Entries.{ReadsScript, ReadsShebang, some_shebang, no_shebang, script_code, items_await, script_awaits}
-use Rattle.swc_ecma_parser_grammar.specs.Supported.{supported, supported_in, all_supported_in}
+use Rattle.swc_ecma_parser_grammar.specs.Supported.{supported, supported_in, all_supported_in, are_initialized}
 use Rattle.swc_ecma_parser_grammar.specs.ReadsSupported.{ReadsClass, ReadsPat, ReadsTarget, ReadsStmt, ReadsTop, ReadsParams, ReadsNamedClass}
 use Rattle.swc_ecma_parser_grammar.specs.language.Goals.{expression, assignment, expr_goal, stmt_goal}
 use Rattle.swc_ecma_parser_grammar.specs.language.Contexts.{in_loop, in_breakable, in_with}
@@ -35,8 +39,9 @@ use Rattle.swc_ecma_parser_grammar.specs.language.Programs as programs
 use Rattle.swc_ecma_parser_grammar.specs.language.Programs.{ReadsEntry}
 use Rattle.swc_ecma_parser_token.specs.Text.{word_text}
 use Rattle.swc_ecma_parser_grammar.proofs.Tests.{and_both}
-use Rattle.swc_ecma_parser_grammar.proofs.Naming.{name_is_clean, name_is_supported}
-use Rattle.swc_ecma_parser_grammar.proofs.SupportedIn.{strict_module, head_module}
+use Rattle.swc_ecma_parser_grammar.proofs.Naming.{name_is_clean}
+use Rattle.swc_ecma_parser_grammar.proofs.SupportedIn.{strict_module, head_module, parted}
+use Rattle.swc_ecma_parser_grammar.proofs.UsingParts.{declared, each_initialized, set_so, unbound}
 use Rattle.swc_ecma_parser_grammar.proofs.language.Shapes.{expr_stands}
 
 -- ---- declarators
@@ -80,7 +85,7 @@ saw c j e = same_true the_type (search rules) (kind_at c) j e
 
 target_supported : {k : Code} {x : Tree} {c d : Place} → TargetRule k x c d → supported_in k.flags.module x ≡ true
 target_supported {k = k} (no_target_rule h g e) = ap (supported_in k.flags.module) e
-target_supported {k = k} (target_rule w s h r f e) = ap (supported_in k.flags.module) e ∙ name_is_supported k.flags (word_text w) f
+target_supported {k = k} (target_rule w s h r f e) = ap (supported_in k.flags.module) e ∙ refl
 
 operand_supported : (n : ℕ) {k : Code} {x : Tree} {c d : Place} → OperandRule (ReadsClass n) k x c d → supported_in k.flags.module x ≡ true
 operand_supported n {k = k} (no_operand_rule h g e) = ap (supported_in k.flags.module) e
@@ -103,6 +108,49 @@ declarators_widen : (n : ℕ) (k : Code) (loop : Bool) (word : VarDeclKind) (xs 
     → ReadsSeparated (DeclaratorRule (ReadsClass n assignment) (ReadsPat n) k loop word) xs c d → ReadsSeparated (declarations.DeclaratorRule (Reads n) k loop word) xs c d
 declarators_widen n k loop word =
     separated_widen (DeclaratorRule (ReadsClass n assignment) (ReadsPat n) k loop word) (declarations.DeclaratorRule (Reads n) k loop word) (declarator_widens n k loop word)
+
+-- ---- what is declared with `using`
+
+module _ (n : ℕ) (k : Code) where
+  using_declarator_widens : (s : Span) (x : Tree) (c d : Place) → DeclaratorRule (ReadsClass n assignment) (ReadsPat n) (with_in k) false decl.Var x c d → misused s x ≡ []
+      → declarations.UsingDeclaratorRule (Reads n) k x c d
+  using_declarator_widens s x c d (plain_rule p r h b e) f = let g = declared s x p tree.absent e f in cc
+  using_declarator_widens s x c d (initialized_rule p y m r h q e) f = let g = declared s x p y e f in record {
+    name = p;
+    init = y;
+    equals = m;
+    reads_name = unbound n k p c m g.0 r.0;
+    is_name = g.0;
+    assigns = h;
+    reads_init = q.0;
+    is = e;
+  }
+
+  using_declarators_widen : (s : Span) (xs : List Tree) (c d : Place) → ReadsSeparated (DeclaratorRule (ReadsClass n assignment) (ReadsPat n) (with_in k) false decl.Var) xs c d → each_misused s xs ≡ []
+      → ReadsSeparated (declarations.UsingDeclaratorRule (Reads n) k) xs c d
+  using_declarators_widen s [] c d r f = r
+  using_declarators_widen s (x ∷ []) c d (r, e) f = (using_declarator_widens s x c d r (parted (misused s x) [] f).0, e)
+  using_declarators_widen s (x ∷ y ∷ ys) c d (m, r, e, rs) f =
+      let g = parted (misused s x) _ f in (m, using_declarator_widens s x c m r g.0, e, using_declarators_widen s (y ∷ ys) (after m) d rs g.1)
+
+  using_widens : (at : Position) (x : Tree) (c d : Place) (xs : List Tree) → at.include_decl ≡ true → is_using_declaration k c ≡ true
+      → ReadsSeparated (DeclaratorRule (ReadsClass n assignment) (ReadsPat n) (with_in k) false decl.Var) xs (after c) d
+      → using_faults k.setting.explicit_resource_management (spanned c d) xs ≡ [] → x ≡ tree.using (spanned c d) false (listed xs) → declarations.UsingRule (Reads n) k at x c d
+  using_widens at x c d xs a b r f e = let g = set_so k.setting.explicit_resource_management (spanned c d) xs f in record {
+    is_await = false;
+    word = c;
+    declarators = xs;
+    is_read = g.0;
+    has_place = rw a refl;
+    reads_await = no_await refl refl;
+    begins = b;
+    reads = using_declarators_widen (spanned c d) xs (after c) d r g.1;
+    is = e;
+  }
+
+  declared_supported : (s : Span) (xs : List Tree) (c d : Place) → ReadsSeparated (DeclaratorRule (ReadsClass n assignment) (ReadsPat n) (with_in k) false decl.Var) xs c d
+      → using_faults k.setting.explicit_resource_management s xs ≡ [] → are_initialized (listed xs) && all_supported_in k.flags.module (trees xs) ≡ true
+  declared_supported s xs c d r f = and_both _ _ (each_initialized s xs (set_so k.setting.explicit_resource_management s xs f).1) (declarators_supported n (with_in k) false decl.Var xs c d r)
 
 -- ---- heads
 
@@ -194,16 +242,17 @@ module _ (n : ℕ) (small : (k : Code) (at : Position) (x : Tree) (c d : Place) 
   rule_supported : (k : Code) (at : Position) (x : Tree) (c d : Place) → StmtRule (ReadsStmt n) (ReadsClass n) (ReadsPat n) (ReadsTarget n) (ReadsParams n) (ReadsNamedClass n) k at x c d → supported_in k.flags.module x ≡ true
   rule_supported k at x c d (class_rule name y a r b e) = ap (supported_in k.flags.module) e ∙ r.1
   rule_supported k at x c d (function_rule a r) =
-      ap (supported_in k.flags.module) r.is ∙ and_both _ _ (name_is_supported k.flags (word_text r.name) r.is_named)
+      ap (supported_in k.flags.module) r.is ∙ and_both _ _ refl
       (and_both (supported_in k.flags.module (parameters r.patterns)) _ (parameters_same k.flags.module r.patterns ∙ r.reads_parameters.1) (braced_supported true r.reads_body))
   rule_supported k at x c d (block_rule r) = block_supported r
   rule_supported k at x c d (empty_rule h g e) = ap (supported_in k.flags.module) e
   rule_supported k at x c d (debugger_rule h g e) = ap (supported_in k.flags.module) e
   rule_supported k at x c d (variables_rule word xs m a h r g e) = ap (supported_in k.flags.module) e ∙ declarators_supported n (with_in k) false word xs (after c) m r
+  rule_supported k at x c d (using_rule xs a b r f e) = ap (supported_in k.flags.module) e ∙ declared_supported n k (spanned c d) xs (after c) d r f
   rule_supported k at x c d (if_statement_rule r) = if_supported r
   rule_supported k at x c d (switch_rule y xs m i h r j s g t e) = ap (supported_in k.flags.module) e ∙ and_both (supported_in k.flags.module y) _ r.reads.1 (cases_supported (in_breakable k) false xs (after m) i s)
   rule_supported k at x c d (labeled_rule w s y m r f h t e) =
-      ap (supported_in k.flags.module) e ∙ and_both _ _ (name_is_supported k.flags (word_text w) f) (small (in_breakable k) (labelled_item (after m)) y (after m) d t)
+      ap (supported_in k.flags.module) e ∙ and_both _ _ refl (small (in_breakable k) (labelled_item (after m)) y (after m) d t)
   rule_supported k at x c d (break_rule y m h r g e) = ap (supported_in k.flags.module) e ∙ target_supported r
   rule_supported k at x c d (continue_rule y m h r g e) = ap (supported_in k.flags.module) e ∙ target_supported r
   rule_supported k at x c d (return_rule y m h r g e) = ap (supported_in k.flags.module) e ∙ operand_supported n r
@@ -230,6 +279,10 @@ stmt_supported (suc n) k at x c d h = rule_supported n (stmt_supported n) k at x
 pub stands_there : (n : ℕ) (k : Code) (x : Tree) (c d : Place) → Reads n (expr_goal expression k x c d) → is_absent x ≡ false
 stands_there zero k x c d h = absurd h
 stands_there (suc n) k x c d h = expr_stands (Reads n) expression k x c d h
+
+pub value_stands : (n : ℕ) (k : Code) (x : Tree) (c d : Place) → Reads n (expr_goal assignment k x c d) → is_absent x ≡ false
+value_stands zero k x c d h = absurd h
+value_stands (suc n) k x c d h = expr_stands (Reads n) assignment k x c d h
 
 either_no : (a b : Bool) → a ≡ false → b ≡ false → (a || b) ≡ false
 either_no true b h g = cc
@@ -339,6 +392,7 @@ module _ (n : ℕ) (widen : (k : Code) (at : Position) (x : Tree) (c d : Place) 
   form_widens k at x c d (empty_rule h g e) = statements.empty_rule h g e
   form_widens k at x c d (debugger_rule h g e) = statements.debugger_rule h g e
   form_widens k at x c d (variables_rule word xs m a h r g e) = statements.variables_rule word xs m a (h, declarators_widen n (with_in k) false word xs (after c) m r) g e
+  form_widens k at x c d (using_rule xs a b r f e) = statements.using_rule (using_widens n k at x c d xs a b r f e)
   form_widens k at x c d (if_statement_rule r) = statements.if_statement_rule (if_widens r)
   form_widens k at x c d (switch_rule y xs m i h r j s g t e) =
       statements.switch_rule y xs m i h (head_widens r) j (cases_widen (in_breakable k) false xs (after m) i s) (one_at_most (in_breakable k) xs (after m) i s) g t e

@@ -9,6 +9,7 @@ pub mod Entries
 pub mod Depth
 pub mod Notes
 pub mod Own
+pub mod Using
 pub mod Walk
 pub mod Levels
 pub mod Supported

@@ -35,22 +35,6 @@ strict_words =
 unfoldable pub is_reserved : Context → Text → Bool
 is_reserved c text = is_one_of reserved_words text || ((c.strict && is_one_of strict_words text) || (c.in_generator && bytes_eq text (codes "yield")))
 
--- A name. `await` is no name yet: as one it is read nowhere.
-unfoldable pub is_name : Context → Text → Bool
-is_name c text = not (is_reserved c text) && not (bytes_eq text (codes "await"))
-
--- whether a name stands first
-abbrev pub token_is_name : Context → Token → Bool
-token_is_name c (token.Word w) = is_name c (word_text w)
-token_is_name c _ = false
-
-abbrev pub first_is_name : Context → List TokenAndSpan → Bool
-first_is_name c [] = false
-first_is_name c (t ∷ ts) = token_is_name c t.token
-
-unfoldable pub name_at : Context → Place → Bool
-name_at f c = first_is_name f c.left
-
 -- A word that is not reserved here: what stands where a name is asked for, and what begins an expression.
 unfoldable pub is_identifier : Context → Text → Bool
 is_identifier c text = not (is_reserved c text)
@@ -58,6 +42,18 @@ is_identifier c text = not (is_reserved c text)
 -- A name that is no fault: `await` is none in module code, in async code and in static blocks.
 unfoldable pub is_clean_name : Context → Text → Bool
 is_clean_name c text = is_identifier c text && not (bytes_eq text (codes "await") && (c.module || (c.in_async || c.in_static_block)))
+
+-- the same where a name is asked for
+unfoldable pub is_name : Context → Text → Bool
+is_name c text = is_clean_name c text
+
+-- Where `await` is a name and not a clean one it is a fault that is recorded, or it is refused: what is bound is refused in static
+-- blocks, and what is referred to in async code too.
+unfoldable pub may_bind_await : Context → Bool
+may_bind_await c = not c.in_static_block
+
+unfoldable pub may_refer_to_await : Context → Bool
+may_refer_to_await c = not (c.in_async || c.in_static_block)
 
 -- whether a word that is not reserved stands first
 abbrev pub token_is_identifier : Context → Token → Bool
@@ -70,3 +66,7 @@ first_is_identifier c (t ∷ ts) = token_is_identifier c t.token
 
 unfoldable pub identifier_at : Context → Place → Bool
 identifier_at f c = first_is_identifier f c.left
+
+-- where a name is asked for this is what stands there, clean or not
+abbrev pub name_at : Context → Place → Bool
+name_at f c = identifier_at f c

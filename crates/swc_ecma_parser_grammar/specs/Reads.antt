@@ -9,6 +9,7 @@ use Rattle.swc_ecma_parser_token.specs.declared.token.Word.{Word}
 use Rattle.swc_ecma_parser_token.specs.Text.{word_text}
 use Rattle.swc_ecma_parser_input.specs.Place.{Place, after}
 use Rattle.swc_ecma_parser_model.specs.declared.leaves.VarDeclKind.{VarDeclKind}
+use Rattle.swc_ecma_parser_model.specs.declared.leaves.VarDeclKind.TheVariants as decl
 use Rattle.swc_ecma_parser_model.specs.Tree as tree
 use Rattle.swc_ecma_parser_model.specs.Tree.{Tree, Text, listed}
 use Rattle.swc_ecma_parser_model.specs.Directive.{is_use_strict}
@@ -22,6 +23,7 @@ use Rattle.swc_ecma_parser_grammar.specs.Variables.{begins_variables, is_var, ne
 use Rattle.swc_ecma_parser_grammar.specs.language.Goals.{Class, expression, assignment}
 use Rattle.swc_ecma_parser_grammar.specs.language.Contexts.{named_by, in_parameters, in_body, in_loop, in_breakable, in_with, without_in}
 use Rattle.swc_ecma_parser_grammar.specs.Own.{misplaced_directive}
+use Rattle.swc_ecma_parser_grammar.specs.Using.{is_using_declaration, using_faults}
 use Rattle.swc_ecma_parser_grammar.specs.Parameters.{parameters}
 use Rattle.swc_ecma_parser_grammar.specs.language.Items.{sub_statement, labelled_item}
 
@@ -243,6 +245,9 @@ pub data StmtRule (Stmt : Code → Position → Tree → Place → Place → Typ
   variables_rule : (word : VarDeclKind) (xs : List Tree) (m : Place) → at.include_decl || is_var word ≡ true → begins_variables word c ≡ true
       → ReadsSeparated (DeclaratorRule (Expr assignment) Pat (with_in k) false word) xs (after c) m → Ends m d → x ≡ tree.var (spanned c d) word (listed xs)
       → StmtRule Stmt Expr Pat Target Params Named k at x c d
+  -- the proposal on explicit resource management: where declarations are read and the setting says so. As in the crate it has no end.
+  using_rule : (xs : List Tree) → at.include_decl ≡ true → is_using_declaration k c ≡ true → ReadsSeparated (DeclaratorRule (Expr assignment) Pat (with_in k) false decl.Var) xs (after c) d
+      → using_faults k.setting.explicit_resource_management (spanned c d) xs ≡ [] → x ≡ tree.using (spanned c d) false (listed xs) → StmtRule Stmt Expr Pat Target Params Named k at x c d
   if_statement_rule : IfRule Stmt Expr k x c d → StmtRule Stmt Expr Pat Target Params Named k at x c d
   -- section 14.11; in module code it is a fault, in strict code it is none
   with_rule : (e y : Tree) (m : Place) → kind_at c ≡ kind.With → k.flags.module ≡ false → ReadsHead Expr k e (after c) m → Stmt (in_with k) sub_statement y m d

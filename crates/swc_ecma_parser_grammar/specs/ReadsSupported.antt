@@ -9,9 +9,9 @@ use Rattle.swc_ecma_parser_grammar.specs.Looks.{sees}
 use Rattle.swc_ecma_parser_grammar.specs.Names.{Code}
 use Rattle.swc_ecma_parser_grammar.specs.Reads.{StmtRule}
 use Rattle.swc_ecma_parser_grammar.specs.Supported.{supported_in, all_supported_in}
-use Rattle.swc_ecma_parser_grammar.specs.language.Goals.{Class, callee, binding, assigning, expr_goal, callee_goal, pattern_goal, element_goal, member_goal}
+use Rattle.swc_ecma_parser_grammar.specs.language.Goals.{Class, callee, binding, assigning, expr_goal, callee_goal, pattern_goal, element_goal, member_goal, decorator_goal}
 use Rattle.swc_ecma_parser_grammar.specs.language.Functions.{ParametersRule}
-use Rattle.swc_ecma_parser_grammar.specs.language.Classes.{ClassRule}
+use Rattle.swc_ecma_parser_grammar.specs.language.Classes.{DecoratorsRule, ClassRule}
 use Rattle.swc_ecma_parser_grammar.specs.language.Statements.{may_begin_at_top}
 use Rattle.swc_ecma_parser_grammar.specs.language.Reads.{Reads}
 
@@ -34,6 +34,14 @@ ReadsTarget n k x c d = Reads n (pattern_goal assigning k x c d) × (supported_i
 -- the parameters of a function
 abbrev pub ReadsParams : ℕ → Code → List Tree → Place → Place → Type 0
 ReadsParams n k ps c d = ParametersRule (Reads n) k ps c d × (all_supported_in k.flags.module (trees ps) ≡ true)
+
+-- what stands behind the `@` of a decorator
+abbrev pub ReadsDecorated : ℕ → Code → Tree → Place → Place → Type 0
+ReadsDecorated n k x c d = Reads n (decorator_goal k x c d) × (supported_in k.flags.module x ≡ true)
+
+-- decorators one behind another, or none
+abbrev pub ReadsDecorators : ℕ → Code → List Tree → Place → Place → Type 0
+ReadsDecorators n k ds c d = DecoratorsRule (Reads n) k (listed ds) c d × (all_supported_in k.flags.module (trees ds) ≡ true)
 
 -- a member of a class within so many levels
 abbrev pub ReadsMember : ℕ → Code → Tree → Place → Place → Type 0

@@ -1,14 +1,15 @@
 -- The part of the language that the parser reads so far.
-use Rattle.std.specs.Prelude.{Bool, true, false, not, ◌&&◌, ◌||◌, List, [], ◌∷◌, codes}
-use Rattle.std.specs.Str.{bytes_eq}
+use Rattle.std.specs.Prelude.{Bool, true, false, not, ◌&&◌, ◌||◌, List, [], ◌∷◌}
 use Rattle.swc_ecma_parser_error.specs.Kind.{Fault}
 use Rattle.swc_ecma_parser_model.specs.Tree as tree
 use Rattle.swc_ecma_parser_model.specs.Tree.{Tree, Trees, none, also}
 use Rattle.swc_ecma_parser_model.specs.Forms.{has_plain_params, is_plain_param}
 use Rattle.swc_ecma_parser_model.specs.Kinds.{is_function}
+use Rattle.swc_ecma_parser_model.specs.Within.{is_initialized}
 use Rattle.swc_ecma_parser_grammar.specs.Follows.{is_bare_async}
 use Rattle.swc_ecma_parser_grammar.specs.Notes.{notes}
 use Rattle.swc_ecma_parser_grammar.specs.Own.{misplaced_directive}
+use Rattle.swc_ecma_parser_grammar.specs.language.Parts.{is_private}
 
 -- no decorator
 abbrev pub has_none : Tree → Bool
@@ -18,6 +19,15 @@ has_none _ = false
 abbrev pub is_clean : List Fault → Bool
 is_clean [] = true
 is_clean (f ∷ fs) = false
+
+-- each variable has an initializer
+abbrev pub all_initialized : Trees → Bool
+all_initialized none = true
+all_initialized (also x xs) = is_initialized x && all_initialized xs
+
+abbrev pub are_initialized : Tree → Bool
+are_initialized (tree.list xs) = all_initialized xs
+are_initialized _ = false
 
 -- no fault of module code alone is in it
 abbrev pub has_no_note : Tree → Bool
@@ -40,8 +50,8 @@ is_rightly_headed params body = is_clean (misplaced_directive (has_plain_params 
 abbrev mutual
   pub supported_in : (in_module : Bool) → Tree → Bool
   supported_in m (tree.list ts) = all_supported_in m ts
-  -- names but `await`, literals, arrays, objects and parentheses: ECMA-262, section 13.2
-  supported_in m (tree.ident s text) = not (bytes_eq text (codes "await"))
+  -- names, literals, arrays, objects and parentheses: ECMA-262, section 13.2
+  supported_in m (tree.ident s text) = true
   supported_in m (tree.str s value raw) = true
   supported_in m (tree.bool s b) = true
   supported_in m (tree.null s) = true
@@ -50,7 +60,7 @@ abbrev mutual
   supported_in m (tree.array s elems) = supported_in m elems
   supported_in m (tree.object s props) = supported_in m props
   supported_in m (tree.spread_prop dots e) = supported_in m e
-  supported_in m (tree.shorthand_prop s text) = not (bytes_eq text (codes "await"))
+  supported_in m (tree.shorthand_prop s text) = true
   supported_in m (tree.key_value_prop s key value) = is_supported_key_in m key && supported_in m value
   -- Methods and accessors, with what is said of functions as expressions: section 15.4
   supported_in m (tree.getter_prop s key body) = is_supported_key_in m key && (supported_in m body && (not m || has_no_note body))
@@ -80,7 +90,7 @@ abbrev mutual
   -- `await`: section 15.8
   supported_in m (tree.await s arg) = supported_in m arg
   -- what `=` assigns to, and what `var` binds: sections 13.15.5 and 14.3.3
-  supported_in m (tree.ident_pat s text) = not (bytes_eq text (codes "await"))
+  supported_in m (tree.ident_pat s text) = true
   supported_in m (tree.array_pat s elems) = supported_in m elems
   supported_in m (tree.object_pat s props) = supported_in m props
   supported_in m (tree.rest_pat s arg) = supported_in m arg
@@ -91,6 +101,8 @@ abbrev mutual
   -- `var`, `let` and `const`, with initializers or without: sections 14.3.2 and 14.3.1
   supported_in m (tree.var s word ds) = supported_in m ds
   supported_in m (tree.declarator s name init) = supported_in m name && supported_in m init
+  -- `using`, but in the head of a loop, and not behind `await`: the proposal on explicit resource management
+  supported_in m (tree.using s is_await ds) = not is_await && (are_initialized ds && supported_in m ds)
   -- blocks, empty statements, `debugger` and expression statements: sections 14.2, 14.4, 14.16 and 14.5
   supported_in m (tree.block s stmts) = supported_in m stmts
   supported_in m (tree.empty s) = true
@@ -126,6 +138,8 @@ abbrev mutual
   supported_in m (tree.fn_expr s name fn) = supported_in m name && (supported_in m fn && (is_rightly_directed fn && (not m || has_no_note fn)))
   -- Arrow functions, with what is said of functions as expressions: sections 15.3 and 15.9
   supported_in m (tree.arrow s params body is_async) = (supported_in m params && supported_in m body) && (is_rightly_headed params body && (not m || has_no_note body))
+  -- one decorator: the proposal of decorators
+  supported_in m (tree.decorator s e) = supported_in m e
   -- Classes without decorators, declared or as expressions: section 15.7. In module code nothing in the functions and static blocks
   -- of their members is a fault of it.
   supported_in m (tree.class_expr s name body) = supported_in m name && supported_in m body
@@ -136,6 +150,8 @@ abbrev mutual
   supported_in m (tree.private_method s key fn kind is_static) = is_supported_property_in m key && (is_function fn && (supported_in m fn && (not m || has_no_note fn)))
   supported_in m (tree.class_prop s key value is_static decorators) = has_none decorators && (is_supported_key_in m key && supported_in m value)
   supported_in m (tree.private_prop s key value is_static decorators) = has_none decorators && (is_supported_property_in m key && supported_in m value)
+  -- fields with a getter and a setter, private or not: the proposal of auto-accessors
+  supported_in m (tree.auto_accessor s key value is_static decorators) = has_none decorators && ((is_supported_key_in m key || is_private key) && supported_in m value)
   supported_in m (tree.static_block s body) = supported_in m body && (not m || has_no_note body)
   supported_in m (tree.empty_member s) = true
   -- section 16.1

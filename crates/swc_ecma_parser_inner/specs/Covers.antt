@@ -2,6 +2,7 @@
 use Rattle.std.specs.Prelude.{ℕ, map}
 use Rattle.swc_ecma_parser_model.specs.Tree.{Tree}
 use Rattle.swc_ecma_parser_reader.specs.Classes.{class_of}
+use Rattle.swc_ecma_parser_reader.specs.DecoratorLevels.{decorated_in}
 use Rattle.swc_ecma_parser_reader.specs.Methods.{class_form}
 use Rattle.swc_ecma_parser_reader.specs.State.{Reader, ◌>>=◌, pure}
 use Rattle.swc_ecma_parser_reader.specs.Expressions as exprs
@@ -23,6 +24,8 @@ read n (reading.Expr class) = rules.expr n (class_of class) >>= λ x. pure (expr
 read n reading.Cover = rules.cover n
 read n reading.Head = rules.head_cover n
 read n reading.Class = rules.function n class_form >>= λ x. pure (exprs.done x)
+read n reading.Decorated = decorated_in n >>= λ x. pure (exprs.done x)
+read n reading.Object = rules.object_alone n >>= λ x. pure (exprs.done x)
 
 -- a key by itself, whatever reads what stands further in
 abbrev pub bare : Tree → Reader exprs.Cover

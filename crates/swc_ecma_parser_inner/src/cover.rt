@@ -1,7 +1,9 @@
 //! What may still become a pattern: ECMA-262, sections 13.2.4, 13.2.5 and 13.15.5.
 
-ghost use Rattle.std.specs.Prelude.{◌≡◌, true, false, None, IfOk, IfErr, OnOk};
-ghost use Rattle.swc_ecma_parser_error.specs.Kind.{IsOutOfMemory};
+ghost use Rattle.std.specs.Prelude.{◌≡◌, ◌≢◌, true, false, None, Err, IfOk, IfErr, OnOk};
+ghost use Rattle.swc_ecma_parser_error.specs.Kind as kinds;
+ghost use Rattle.swc_ecma_parser_error.specs.Kind.{IsOutOfMemory, fault_of, kind_of};
+ghost use Rattle.swc_ecma_parser_grammar.specs.Looks as looks;
 ghost use Rattle.swc_ecma_parser_inner.specs.Covers.{cover_of, covers_of};
 ghost use Rattle.swc_ecma_parser_inner.specs.Nests.{Nests};
 ghost use Rattle.swc_ecma_parser_model.specs.Forms.{is_pattern_target};
@@ -10,14 +12,17 @@ ghost use Rattle.swc_ecma_parser_reader.specs.Classes.{class_of};
 ghost use Rattle.swc_ecma_parser_reader.specs.Expressions as exprs;
 ghost use Rattle.swc_ecma_parser_reader.specs.Expressions.{is_literal};
 ghost use Rattle.swc_ecma_parser_reader.specs.Reader as rules;
+ghost use Rattle.swc_ecma_parser_reader.specs.State as reader;
 ghost use Rattle.swc_ecma_parser_reader.specs.State.{GivesAs};
+ghost use Rattle.swc_ecma_parser_token.specs.declared.kind.TokenKind.TheVariants as kind;
 
 use crate::grammar::{Grammar, Part};
 use crate::steps::{grown, pushed, with_in};
 use swc_ecma_parser_common::Span;
-use swc_ecma_parser_error::{PResult, SyntaxError};
+use swc_ecma_parser_error::{Error, PResult, SyntaxError};
 use swc_ecma_parser_grammar::{Class, Position};
-use swc_ecma_parser_source::Source;
+use swc_ecma_parser_source::{Source, Wanted};
+use swc_ecma_parser_token::TokenKind;
 use swc_ecma_parser_trees::{BuildsPattern, MakerOf, Trees};
 
 /// An expression, or an array or object that may still become a pattern; or a part of one.
@@ -49,6 +54,10 @@ pub enum Reading {
     Head,
     /// A class that is an expression, whose heritage and members stand in so many levels.
     Class,
+    /// What stands behind the `@` of a decorator.
+    Decorated,
+    /// An object alone, whatever stands behind it.
+    Object,
 }
 
 /// An expression, which stays one.
@@ -99,6 +108,19 @@ pub fn close<P: Source, T: Trees>(p: &mut P, v: Cover<T::Expr>) -> PResult<T::Ex
     match v.mark {
         Some(mark) => Err(p.reject(SyntaxError::AssignProperty, mark)),
         None => Ok(v.tree),
+    }
+}
+
+/// The refusal of what stands where the `{` of an object must.
+#[tactic(auto, using(swc_ecma_parser_reader::proofs::Objects::brace_refused))]
+pub fn no_brace<P: Source>(p: &mut P) -> Error
+    requires { looks.sees kind.LBrace (P.seen p.old).at ≡ false }
+    ensures { kind_of result.kind ≢ kinds.OutOfMemory
+        → reader.refuse {A = Tree} kinds.Expected (P.seen p.old) ≡ Err (fault_of result, P.seen p.new) }
+{
+    match p.expect(TokenKind::LBrace, "{") {
+        Ok(()) => p.wanted(Wanted::Expression),
+        Err(e) => e,
     }
 }
 

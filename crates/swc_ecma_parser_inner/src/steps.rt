@@ -1,13 +1,18 @@
 //! Steps that rules share.
 
 ghost use Rattle.std.specs.Prelude.{◌≡◌, true, [], ◌∷◌, ◌++◌, Ok, IfOk, IfErr, OnOk};
-ghost use Rattle.swc_ecma_parser_error.specs.Kind.{IsOutOfMemory};
+ghost use Rattle.swc_ecma_parser_error.specs.Kind.{IsOutOfMemory, kind_of};
+ghost use Rattle.swc_ecma_parser_grammar.specs.Own.{only};
+ghost use Rattle.swc_ecma_parser_reader.specs.Jumps.{told};
+ghost use Rattle.swc_ecma_parser_reader.specs.State as reader;
+ghost use Rattle.swc_ecma_parser_reader.specs.State.{Gives};
 
 use std::alloc::AllocError;
 use swc_ecma_parser_common::Span;
-use swc_ecma_parser_error::PResult;
+use swc_ecma_parser_error::{PResult, SyntaxError};
 use swc_ecma_parser_input::Context;
-use swc_ecma_parser_source::Source;
+use swc_ecma_parser_model::Ident;
+use swc_ecma_parser_source::{Source, is_identifier, is_name};
 
 /// From the start of a place to the end of what was read last.
 pub fn since<P: Source>(p: &P, start: Span) -> Span
@@ -29,6 +34,31 @@ pub fn grown<P: Source, A>(p: &mut P, made: Result<A, AllocError>) -> PResult<A>
         Ok(a) => Ok(a),
         Err(_) => Err(p.out_of_memory()),
     }
+}
+
+/// A word that was read before is a name. `await` where it is no clean one is a fault that is recorded, if it may be; any other
+/// word is refused.
+#[tactic(auto, unfolding(swc_ecma_parser_reader::specs::State::as_name))]
+pub fn as_name<P: Source>(p: &mut P, may_await: bool, name: &Ident) -> PResult<()>
+    ensures { Gives (reader.as_name (λ flags. may_await) name.now.span name.now.sym (P.seen p.old)) result (P.seen p.new) }
+{
+    if is_name(p.flags(), name.sym.as_str()) {
+        return Ok(());
+    }
+    if may_await && is_identifier(p.flags(), name.sym.as_str()) {
+        return p.fault(SyntaxError::InvalidIdentInAsync, name.span);
+    }
+    Err(p.reject(SyntaxError::ExpectedIdent, name.span))
+}
+
+/// Records a fault, where it is one.
+pub fn told_if<P: Source>(p: &mut P, is_fault: bool, kind: SyntaxError, span: Span) -> PResult<()>
+    ensures { Gives (told (only is_fault (kind_of kind) span) (P.seen p.old)) result (P.seen p.new) }
+{
+    if !is_fault {
+        return Ok(());
+    }
+    p.fault(kind, span)
 }
 
 /// The context with the operator `in`.

@@ -36,7 +36,7 @@ use swc_ecma_parser_trees::{
 pub fn ident_expr<P: Source, T: BuildsExpr>(alloc: Global, p: &mut P) -> PResult<T::Expr>
     ensures { GivesAs T.expr_of (exprs.ident_expr (P.seen p.old)) result (P.seen p.new) }
 {
-    let name = p.name(Wanted::Expression)?;
+    let name = p.reference(Wanted::Expression)?;
     grown(p, T::ident(alloc, name))
 }
 
@@ -200,7 +200,7 @@ fn primary<
 
 /// An access of what was read from a place on.
 #[tactic(auto, unfolding(swc_ecma_parser_reader::specs::Expressions::accessed))]
-fn accessed<
+pub fn accessed<
     P: Source,
     T: BuildsCall,
     S: Fn(&MakerOf<T>, &mut P, usize, Position) -> PResult<T::Stmt>,
@@ -217,7 +217,7 @@ fn accessed<
 
 /// A call of what was read from a place on.
 #[tactic(auto, unfolding(swc_ecma_parser_reader::specs::Expressions::called))]
-fn called<
+pub fn called<
     P: Source,
     T: BuildsCall,
     S: Fn(&MakerOf<T>, &mut P, usize, Position) -> PResult<T::Stmt>,

@@ -12,22 +12,22 @@ ghost use Rattle.swc_ecma_parser_reader.specs.State.{GivesAs};
 
 use std::alloc::Global;
 use swc_ecma_parser_common::Span;
-use swc_ecma_parser_error::{PResult, SyntaxError};
+use swc_ecma_parser_error::PResult;
 use swc_ecma_parser_functions::methods::{MethodForm, method, method_words};
 use swc_ecma_parser_grammar::{Class, Position};
 use swc_ecma_parser_inner::cover::{
-    Cover, Covers, Reading, behind_comma, covered, done, inside, joined,
+    Cover, Covers, Reading, behind_comma, close, covered, done, inside, joined, no_brace,
 };
 use swc_ecma_parser_inner::grammar::{Grammar, Part};
 use swc_ecma_parser_inner::keys::{Key, made_key, property_key};
-use swc_ecma_parser_inner::steps::{grown, since};
+use swc_ecma_parser_inner::steps::{as_name, grown, since};
 use swc_ecma_parser_model::Ident;
-use swc_ecma_parser_source::{Source, Wanted, is_name};
+use swc_ecma_parser_source::{Source, Wanted, may_refer_to_await};
 use swc_ecma_parser_token::TokenKind;
 use swc_ecma_parser_trees::{BuildsMethod, BuildsObject, BuildsPattern, MakerOf};
 
 /// A key with nothing behind it: a name.
-#[tactic(auto, unfolding(swc_ecma_parser_reader::specs::Expressions::shorthand_name))]
+#[tactic(auto, unfolding(swc_ecma_parser_reader::specs::Expressions::shorthand_name, swc_ecma_parser_reader::specs::State::as_name))]
 fn shorthand_name<P: Source, T: BuildsObject>(
     alloc: Global,
     p: &mut P,
@@ -35,10 +35,9 @@ fn shorthand_name<P: Source, T: BuildsObject>(
 ) -> PResult<T::Prop>
     ensures { GivesAs T.prop_of (exprs.shorthand_name name.span name.sym (P.seen p.old)) result (P.seen p.new) }
 {
-    if is_name(p.flags(), name.sym.as_str()) {
-        return grown(p, T::shorthand_prop(alloc, name));
-    }
-    Err(p.reject(SyntaxError::ExpectedIdent, name.span))
+    let may_await = may_refer_to_await(p.flags());
+    as_name(p, may_await, &name)?;
+    grown(p, T::shorthand_prop(alloc, name))
 }
 
 /// A key and its value, from `:` on.
@@ -97,7 +96,7 @@ fn initialized<
 }
 
 /// The same where it is a name.
-#[tactic(auto, unfolding(swc_ecma_parser_reader::specs::Expressions::initialized_name), using(crate::proofs::Refusals::reject_cover))]
+#[tactic(auto, unfolding(swc_ecma_parser_reader::specs::Expressions::initialized_name, swc_ecma_parser_reader::specs::State::as_name))]
 fn initialized_name<
     P: Source,
     T: BuildsObject,
@@ -114,9 +113,8 @@ fn initialized_name<
     requires { Nests P.seen T.expr_of T.pat_of T.stmt_of g.now.depth (S.pre g.now.stmt) (S.post g.now.stmt) (E.pre g.now.expr) (E.post g.now.expr) (N.pre g.now.pat) (N.post g.now.pat) }
     ensures { GivesAs (cover_of T.prop_of) (exprs.initialized_name (rules.expr g.now.depth) (rules.cover g.now.depth) start name.span name.sym (P.seen p.old)) result (P.seen p.new) }
 {
-    if !is_name(p.flags(), name.sym.as_str()) {
-        return Err(p.reject(SyntaxError::ExpectedIdent, name.span));
-    }
+    let may_await = may_refer_to_await(p.flags());
+    as_name(p, may_await, &name)?;
     initialized(g, t, p, start, name)
 }
 
@@ -316,4 +314,23 @@ pub fn object<
     let span = since(p, start);
     let tree = grown(p, T::object(t.alloc, span, parts))?;
     Ok(Cover { tree, mark, comma })
+}
+
+/// An object alone, whatever goes on behind it.
+#[tactic(auto, unfolding(swc_ecma_parser_reader::specs::Expressions::object_level))]
+pub fn object_level<
+    P: Source,
+    T: BuildsMethod + BuildsPattern,
+    S: Fn(&MakerOf<T>, &mut P, usize, Position) -> PResult<T::Stmt>,
+    E: Fn(&MakerOf<T>, &mut P, usize, Reading) -> PResult<Cover<T::Expr>>,
+    N: Fn(&MakerOf<T>, &mut P, usize, Part) -> PResult<T::Pat>,
+>(g: &Grammar<S, E, N>, t: &MakerOf<T>, p: &mut P) -> PResult<T::Expr>
+    requires { Nests P.seen T.expr_of T.pat_of T.stmt_of g.now.depth (S.pre g.now.stmt) (S.post g.now.stmt) (E.pre g.now.expr) (E.post g.now.expr) (N.pre g.now.pat) (N.post g.now.pat) }
+    ensures { GivesAs T.expr_of (exprs.object_level (rules.expr g.now.depth) (rules.cover g.now.depth) (rules.function g.now.depth) (P.seen p.old)) result (P.seen p.new) }
+{
+    if !p.sees(TokenKind::LBrace) {
+        return Err(no_brace(p));
+    }
+    let found = object(g, t, p)?;
+    close::<P, T>(p, found)
 }

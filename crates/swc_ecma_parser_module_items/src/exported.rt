@@ -137,7 +137,7 @@ fn export_default<P: Source, T: BuildsStatements + BuildsExport>(
     start: Span,
     first: Span,
 ) -> PResult<T::Item>
-    ensures { GivesAs T.item_of (exports.export_default (rules.stmt depth nested_item) (rules.expr depth) (rules.pattern depth) (rules.parameters depth) (rules.member depth) start first (P.seen p.old)) result (P.seen p.new) }
+    ensures { GivesAs T.item_of (exports.export_default (rules.stmt depth nested_item) (rules.expr depth) (rules.pattern depth) (rules.parameters depth) (rules.member depth) (rules.object_alone depth) start first (P.seen p.old)) result (P.seen p.new) }
 {
     if p.sees(TokenKind::Class) {
         return exported_class::<P, T>(t, p, depth, start);
@@ -146,7 +146,7 @@ fn export_default<P: Source, T: BuildsStatements + BuildsExport>(
         return exported_function::<P, T>(t, p, depth, start);
     }
     if is_default_from(p) {
-        return default_from::<P, T>(t, p, start, first);
+        return default_from::<P, T>(t, p, depth, start, first);
     }
     default_expr::<P, T>(t, p, depth, start)
 }
@@ -212,15 +212,15 @@ pub fn export_decl<P: Source, T: BuildsStatements + BuildsExport + BuildsVarDecl
     p: &mut P,
     depth: usize,
 ) -> PResult<T::Item>
-    ensures { GivesAs T.item_of (exports.export_decl (rules.stmt depth nested_item) (rules.expr depth) (rules.pattern depth) (rules.parameters depth) (rules.member depth) (P.seen p.old)) result (P.seen p.new) }
+    ensures { GivesAs T.item_of (exports.export_decl (rules.stmt depth nested_item) (rules.expr depth) (rules.pattern depth) (rules.parameters depth) (rules.member depth) (rules.object_alone depth) (P.seen p.old)) result (P.seen p.new) }
 {
     let start = p.span();
     p.skip()?;
     if p.sees(TokenKind::LBrace) {
-        return export_names::<P, T>(t, p, start);
+        return export_names::<P, T>(t, p, depth, start);
     }
     if p.sees(TokenKind::Mul) {
-        return export_star::<P, T>(t, p, start);
+        return export_star::<P, T>(t, p, depth, start);
     }
     if p.sees(TokenKind::Default) {
         let first = p.span();
@@ -243,7 +243,7 @@ pub fn export_decl<P: Source, T: BuildsStatements + BuildsExport + BuildsVarDecl
         return exported_decl::<P, T>(t, p, depth, start);
     }
     if is_name_from(p) {
-        return name_from::<P, T>(t, p, start);
+        return name_from::<P, T>(t, p, depth, start);
     }
     Err(p.wanted(Wanted::Expression))
 }

@@ -34,7 +34,7 @@ pub(crate) fn begins_import<P: Source>(p: &P) -> bool
 
 /// An import, in so many levels.
 #[tactic(auto, using(swc_ecma_parser_module_reader::proofs::Levels::import_lowest, swc_ecma_parser_module_reader::proofs::Levels::import_above))]
-fn import_in<P: Source, T: BuildsExport>(
+fn import_in<P: Source, T: BuildsStatements + BuildsExport>(
     t: &MakerOf<T>,
     p: &mut P,
     limit: usize,
@@ -44,7 +44,7 @@ fn import_in<P: Source, T: BuildsExport>(
     if limit == 0 {
         return Err(p.too_deep());
     }
-    import_decl::<P, T>(t, p)
+    import_decl::<P, T>(t, p, limit - 1)
 }
 
 /// An export, in so many levels.

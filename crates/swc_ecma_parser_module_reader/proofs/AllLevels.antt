@@ -2,11 +2,11 @@
 use Rattle.swc_ecma_parser_reader.proofs.Words.{plain_function, async_stands}
 use Rattle.swc_ecma_parser_reader.proofs.SoundFunctions.{parameters_walk, parameters_notes}
 use Rattle.swc_ecma_parser_grammar.specs.Parameters.{parameters as parameter_trees}
-use Rattle.swc_ecma_parser_grammar.specs.Walk.{in_body as walks_in_body, in_params, walk_body}
+use Rattle.swc_ecma_parser_grammar.specs.Walk.{in_body as walks_in_body, in_params, walk_body, Env, env_of, walk, walks}
 use Rattle.swc_ecma_parser_grammar.proofs.Tests.{and_yes, and_both}
 use Rattle.swc_ecma_parser_grammar.specs.Own.{misplaced_directive}
-use Rattle.swc_ecma_parser_grammar.specs.Reads.{ReadsFunctionExpr, ReadsParts, OwnNameRule, no_own_name_rule, own_name_rule, ReadsBraced}
-use Rattle.swc_ecma_parser_reader.specs.Reader.{misdirected, function_body, function_parts, function_word}
+use Rattle.swc_ecma_parser_grammar.specs.Reads.{ReadsFunctionExpr, ReadsParts, OwnNameRule, no_own_name_rule, own_name_rule, ReadsBraced, with_in, nested_item, ReadsBlock}
+use Rattle.swc_ecma_parser_reader.specs.Reader.{misdirected, function_body, function_parts, function_word, getter, setter, plain_method, arrow_block, named, own_name, function_expr, expr, cover, head_cover, pattern, element, parameters, function, function_by, closes, block_from, block, braced, stmt}
 use Rattle.swc_ecma_parser_grammar.specs.Follows.{Star, no_star, star as starred, AsyncWord, not_async, async_word}
 use Rattle.std.proofs.Common.{◌≡◌, ℕ, zero, suc, Bool, true, false, List, [], ◌∷◌, ◌++◌, length, Ok, refl, sym, ◌∙◌, ap, append_assoc, append-nil, not}
 use Rattle.std.specs.Prelude.{◌&&◌, ◌||◌}
@@ -20,26 +20,21 @@ use Rattle.swc_ecma_parser_model.specs.Tree.{Tree, listed, trees}
 use Rattle.swc_ecma_parser_model.specs.Forms.{is_rest, is_binding_name, is_plain_param, has_plain_params}
 use Rattle.swc_ecma_parser_grammar.specs.Looks.{kind_at, sees, same_kind, spanned}
 use Rattle.swc_ecma_parser_grammar.specs.Names.{Code}
-use Rattle.swc_ecma_parser_grammar.specs.Reads.{with_in, nested_item, ReadsBlock}
 use Rattle.swc_ecma_parser_grammar.specs.ReadsSupported.{ReadsClass, ReadsTarget, ReadsStmt, ReadsParams}
 use Rattle.swc_ecma_parser_grammar.specs.language.Contexts.{named_by, in_parameters, in_body, in_arrow}
 use Rattle.swc_ecma_parser_grammar.specs.language.Goals.{Goal, Purpose, binding, expression, pattern_goal}
 use Rattle.swc_ecma_parser_grammar.specs.Notes.{notes}
 use Rattle.swc_ecma_parser_grammar.specs.language.Noted.{has_meta}
-use Rattle.swc_ecma_parser_grammar.specs.Walk.{Env, env_of, walk, walks}
 use Rattle.swc_ecma_parser_reader.specs.Notes.{Notes, ◌⊕◌, notes_of, all_notes_of}
 use Rattle.swc_ecma_parser_reader.specs.State.{Scope}
 use Rattle.swc_ecma_parser_reader.specs.Methods.{getter_form, setter_form, method_form, expression_form, parameter_form, block_form, star}
-use Rattle.swc_ecma_parser_reader.specs.Reader.{getter, setter, plain_method, arrow_block, named, own_name, function_expr, expr, cover, head_cover, pattern, element, parameters, function, function_by}
-use Rattle.swc_ecma_parser_reader.specs.Reader.{closes, block_from, block, braced, stmt}
 use Rattle.swc_ecma_parser_reader.proofs.Notes.{or_nil, or_assoc}
 use Rattle.swc_ecma_parser_reader.proofs.Answered.{st, Reads, ReadsAs}
 use Rattle.swc_ecma_parser_reader.proofs.Errors.{is_error}
 use Rattle.swc_ecma_parser_reader.proofs.Between.{nil-split}
-use Rattle.swc_ecma_parser_reader.proofs.expressions.CompleteParts.{name_reads}
+use Rattle.swc_ecma_parser_reader.proofs.expressions.CompleteParts.{name_reads, AsExpr, ReadsEnclosed, MethodIsRead, IsFunctionRead}
 use Rattle.swc_ecma_parser_reader.proofs.expressions.CompleteKinds.{seen}
 use Rattle.swc_ecma_parser_reader.proofs.expressions.CompleteKinds as kinds
-use Rattle.swc_ecma_parser_reader.proofs.expressions.CompleteParts.{AsExpr, ReadsEnclosed, MethodIsRead, IsFunctionRead}
 use Rattle.swc_ecma_parser_reader.proofs.expressions.Groups as groups
 use Rattle.swc_ecma_parser_reader.proofs.expressions.GroupLevels.{tied_at, begins_at}
 use Rattle.swc_ecma_parser_reader.proofs.expressions.Loops.{shorter_by}
@@ -118,7 +113,7 @@ module _ (n : ℕ) (below : Below n) where
   unfolding own_name named
   own_name_reads a v i k c d w f h (no_own_name_rule l e g) = rw ((kinds.paren_here (named_by k a v).flags c l).0, e, g) refl
   own_name_reads a v i k c d w f h (own_name_rule u sp r o g) =
-      rw (kinds.named (token.Word u) sp c d (named_by k a v) true r o, name_reads faults.ExpectedIdent u sp c d (named_by k a v) w f h r o, g) refl
+      rw (kinds.named_word u sp c d (named_by k a v) r o, name_reads faults.ExpectedIdent u sp c d (named_by k a v) w f h r o, g) refl
 
   -- no `*` stands where it or the parameters begin
   own_name_no_star : {k : Code} {a v : Bool} {i : Tree} {c d : Place} → OwnNameRule k a v i c d → sees kind.Mul c ≡ false

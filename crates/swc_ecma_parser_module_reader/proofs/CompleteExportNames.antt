@@ -1,6 +1,6 @@
 -- Names that are exported are read: in braces, as a namespace, as a default, and all of another module.
 use Rattle.std.proofs.Common.{◌≡◌, ◌⊎◌, inl, inr, ℕ, ◌<◌, Bool, true, false, true≢false, List, [], ◌∷◌, ◌++◌, length, Ok, refl, sym, ◌∙◌, ap, subst, append-nil, codes}
-use Rattle.std.specs.Prelude.{if◌then◌else◌}
+use Rattle.std.specs.Prelude.{if◌then◌else◌, not, ◌&&◌, ◌||◌}
 use Rattle.std.specs.Str.{bytes_eq}
 use Rattle.std.proofs.lemmas.Slice.Eq.{bytes_eq-Decides}
 use Rattle.swc_ecma_parser_common.specs.declared.span.Span.{Span}
@@ -22,11 +22,12 @@ use Rattle.swc_ecma_parser_input.specs.Place.{Place, after}
 use Rattle.swc_ecma_parser_model.specs.Tree as tree
 use Rattle.swc_ecma_parser_model.specs.Tree.{Tree, Text, listed, trees}
 use Rattle.swc_ecma_parser_grammar.specs.Looks.{kind_at, sees, same_kind, span_at, spanned}
-use Rattle.swc_ecma_parser_grammar.specs.Names.{Code, is_name, is_reserved}
+use Rattle.swc_ecma_parser_grammar.specs.Names.{Code, is_name, is_reserved, is_identifier, is_clean_name}
 use Rattle.swc_ecma_parser_grammar.specs.Ends.{Ends, OptionalEnds, by_a_semicolon, by_nothing}
 use Rattle.swc_ecma_parser_grammar.specs.Follows.{word_at, first_is, token_is, is_let_declaration, is_async_function}
 use Rattle.swc_ecma_parser_grammar.specs.Notes.{notes, all_notes}
 use Rattle.swc_ecma_parser_grammar.specs.Own.{export_faults}
+use Rattle.swc_ecma_parser_grammar.specs.Walk as walks_of
 use Rattle.swc_ecma_parser_grammar.specs.Walk.{Env, env_of, walk, walks}
 use Rattle.swc_ecma_parser_grammar.specs.language.Exports.{ExportSpecifierRule, same_name_rule, other_name_rule, NamespaceExportRule, DefaultExportRule, under_name_rule, as_default_rule, NamesRule, braces_rule, namespace_rule, namespace_and_braces_rule, ExportClauseRule, names_rule, default_alone_rule, default_and_names_rule}
 use Rattle.swc_ecma_parser_grammar.specs.language.Lists.{ReadsListed}
@@ -34,25 +35,26 @@ use Rattle.swc_ecma_parser_grammar.specs.language.ModuleParts.{BracedRule, Strin
 use Rattle.swc_ecma_parser_grammar.specs.language.Noted.{has_meta, any_has_meta}
 use Rattle.swc_ecma_parser_grammar.specs.language.Reads as language
 use Rattle.swc_ecma_parser_grammar.proofs.StatementBegins.{word_place}
-use Rattle.swc_ecma_parser_grammar.proofs.Tests.{and_both, and_no, no_and}
+use Rattle.swc_ecma_parser_grammar.proofs.Tests.{and_both, and_no, no_and, and_yes}
 use Rattle.swc_ecma_parser_grammar.proofs.Unnoted.{joined}
 use Rattle.swc_ecma_parser_reader.specs.Notes.{Notes, no_notes, ◌⊕◌, notes_of}
-use Rattle.swc_ecma_parser_reader.specs.Reader.{expr, pattern, member, parameters, stmt}
-use Rattle.swc_ecma_parser_grammar.specs.Reads.{nested_item}
+use Rattle.swc_ecma_parser_reader.specs.Reader.{expr, pattern, member, parameters, object_alone, stmt}
+use Rattle.swc_ecma_parser_grammar.specs.Reads.{nested_item, ReadsToken}
 use Rattle.swc_ecma_parser_reader.specs.State.{Scope, State, Outcome, Reader, moved}
 use Rattle.swc_ecma_parser_reader.proofs.Answered.{st, ReadsCalm}
 use Rattle.swc_ecma_parser_reader.proofs.CompleteParts.{calm_same, ends_read, optional_end_reads, told_reads}
 use Rattle.swc_ecma_parser_reader.proofs.Errors.{is_error}
 use Rattle.swc_ecma_parser_reader.proofs.Notes.{or_nil}
 use Rattle.swc_ecma_parser_reader.proofs.Words.{async_kind, or_later}
-use Rattle.swc_ecma_parser_reader.proofs.expressions.CompleteKinds.{seen, token_first, named, no_async_function}
+use Rattle.swc_ecma_parser_reader.proofs.expressions.CompleteKinds.{seen, token_first, named, no_async_function, named_word}
 use Rattle.swc_ecma_parser_reader.proofs.expressions.SoundSteps.{word_span}
-use Rattle.swc_ecma_parser_module_reader.specs.Imports.{specifiers}
+use Rattle.swc_ecma_parser_module_reader.specs.Imports.{attributes, specifiers}
 use Rattle.swc_ecma_parser_module_reader.specs.Exports.{renamed_export, plain_export, export_specifier, export_namespace, names_from, own_names, export_names, more_names, namespace_names, export_all, export_star, is_namespace_next, behind_default, is_name_from, name_from, is_default_from, default_from, begins_default_function, export_default, export_decl}
-use Rattle.swc_ecma_parser_module_reader.proofs.ModuleCode.{IsModule}
+use Rattle.swc_ecma_parser_module_reader.proofs.ModuleCode.{IsModule, module_env}
 use Rattle.swc_ecma_parser_module_reader.proofs.Falls.{export_specifier_shorter}
 use Rattle.swc_ecma_parser_module_reader.proofs.CompleteImports.{module_name_goes}
-use Rattle.swc_ecma_parser_module_reader.proofs.CompleteShared.{expect_word_reads, source_reads, module_name_reads, clean_name, name_reads, no_attributes_read, attributes_absent, specifiers_read}
+use Rattle.swc_ecma_parser_module_reader.proofs.CompleteShared.{expect_word_reads, source_reads, module_name_reads, name_reads, IsGiven, attributes_read, specifiers_read}
+use Rattle.swc_ecma_parser_grammar.proofs.Naming.{name_is_name, name_is_free}
 
 -- ---- trees that the walk finds nothing in
 
@@ -150,25 +152,24 @@ from_no_comma c e = rw (word_place (codes "from") c e) refl
 -- ---- names of another module and of this one
 
 module _ (n : ℕ) (k : Code) where
-  names_from_read : (xs : List Tree) (src attributes x : Tree) (c l m i d : Place) (w : Scope) (f : List Fault) (h : Notes) → AllSilent xs → FromRule src l m
-      → AttributesRule (language.Reads n) k attributes m i → attributes ≡ tree.absent → Ends i d → x ≡ tree.export_named (spanned c d) (listed xs) src attributes
-      → names_from (span_at c) xs (st l k w f h) ≡ Ok (x, st d k w (f ++ walk (env_of k w.labels) x) (h ⊕ notes_of x))
+  names_from_read : IsModule k → (xs : List Tree) (src attributes x : Tree) (c l m i d : Place) (w : Scope) (f : List Fault) (h : Notes) → AllSilent xs → FromRule src l m
+      → AttributesRule (language.Reads n) k attributes m i → IsGiven attributes → Ends i d → x ≡ tree.export_named (spanned c d) (listed xs) src attributes
+      → names_from (object_alone n) (span_at c) xs (st l k w f h) ≡ Ok (x, st d k w (f ++ walk (env_of k w.labels) x) (h ⊕ notes_of x))
   unfolding names_from spanned
-  names_from_read xs src attributes x c l m i d w f h q r a e g j =
-      let b = attributes_absent n k attributes m i a e in
+  names_from_read o xs src attributes x c l m i d w f h q r a e g j =
+      let env = env_of k w.labels in
+      let inner = walk (walks_of.in_module env) attributes in
+      let v : walk env x ≡ walk env attributes = rw (j, r.1.is, q.walked) (append-nil inner ∙ ap (λ z. walk z attributes) (module_env k w.labels o)) in
+      let y : notes x ≡ notes attributes = rw (j, r.1.is, q.noted) refl in
+      let z : has_meta x ≡ has_meta attributes = rw (j, r.1.is, q.unmet) refl in
       rw (
         source_reads src l m k w f h r,
-        no_attributes_read m k w f h b.1,
-        ends_read faults.Expected m d k w f h (subst (λ z. Ends z d) b.0 g),
+        attributes_read n k attributes m i a e w f h,
+        ends_read faults.Expected i d k w (f ++ walk env attributes) (h ⊕ notes_of attributes) g,
+        v,
+        y,
+        z,
         j,
-        e,
-        r.1.is,
-        q.walked,
-        q.noted,
-        q.unmet,
-        append-nil f,
-        append-nil h.held_back,
-        or_nil h.found_module_item,
       ) refl
 
   -- where a `;` stands no error token does
@@ -203,10 +204,10 @@ module _ (n : ℕ) (k : Code) where
 
   -- from another module or of this one
   abbrev from_or_own : Span → List Tree → State → Outcome Tree
-  from_or_own start xs s = if word_at (codes "from") s.at then names_from start xs s else own_names start xs s
+  from_or_own start xs s = if word_at (codes "from") s.at then names_from (object_alone n) start xs s else own_names start xs s
 
   export_names_read : (before xs : List Tree) (start : Span) (b l : Place) (w : Scope) (f : List Fault) (h : Notes) → BracedRule ExportSpecifierRule xs b l
-      → export_names start before (st b k w f h) ≡ from_or_own start (before ++ xs) (st l k w f h)
+      → export_names (object_alone n) start before (st b k w f h) ≡ from_or_own start (before ++ xs) (st l k w f h)
   unfolding export_names
   export_names_read before xs start b l w f h r = rw (braces_read xs b l w f h r) refl
 
@@ -217,29 +218,29 @@ module _ (n : ℕ) (k : Code) where
 
   -- a namespace that the whole begins with
   star_reads : (start : Span) (c d : Place) (y : Tree) (w : Scope) (f : List Fault) (h : Notes) → NamespaceExportRule c y c d
-      → export_star start (st c k w f h) ≡ more_names start (y ∷ []) (st d k w f h)
+      → export_star (object_alone n) start (st c k w f h) ≡ more_names (object_alone n) start (y ∷ []) (st d k w f h)
   unfolding export_star namespace_names
   star_reads start c d y w f h r = rw (r.is_named, namespace_reads c c d y w f h r) refl
 
   from_alone : (start : Span) (xs : List Tree) (l : Place) (w : Scope) (f : List Fault) (h : Notes) → word_at (codes "from") l ≡ true
-      → more_names start xs (st l k w f h) ≡ names_from start xs (st l k w f h)
+      → more_names (object_alone n) start xs (st l k w f h) ≡ names_from (object_alone n) start xs (st l k w f h)
   unfolding more_names
   from_alone start xs l w f h e = rw (and_no k.setting.export_default_from (sees kind.Comma l) (from_no_comma l e)) refl
 
   braces_behind : (start : Span) (xs : List Tree) (m : Place) (w : Scope) (f : List Fault) (h : Notes) → k.setting.export_default_from ≡ true → kind_at m ≡ kind.Comma
-      → more_names start xs (st m k w f h) ≡ export_names start xs (st (after m) k w f h)
+      → more_names (object_alone n) start xs (st m k w f h) ≡ export_names (object_alone n) start xs (st (after m) k w f h)
   unfolding more_names
   braces_behind start xs m w f h o e = rw (o, seen m kind.Comma e) refl
 
   -- ---- what stands behind a default, which begins at `c`
 
   namespace_behind : (start : Span) (c m d : Place) (x y : Tree) (w : Scope) (f : List Fault) (h : Notes) → kind_at m ≡ kind.Comma → NamespaceExportRule c y (after m) d
-      → behind_default start (span_at c) x (st m k w f h) ≡ more_names start (x ∷ y ∷ []) (st d k w f h)
+      → behind_default (object_alone n) start (span_at c) x (st m k w f h) ≡ more_names (object_alone n) start (x ∷ y ∷ []) (st d k w f h)
   unfolding behind_default is_namespace_next namespace_names
   namespace_behind start c m d x y w f h e r = rw (seen m kind.Comma e, seen (after m) kind.Mul r.star, namespace_reads c (after m) d y w f h r) refl
 
   no_namespace : (start first : Span) (x : Tree) (m : Place) (w : Scope) (f : List Fault) (h : Notes) → is_namespace_next m ≡ false
-      → behind_default start first x (st m k w f h) ≡ more_names start (x ∷ []) (st m k w f h)
+      → behind_default (object_alone n) start first x (st m k w f h) ≡ more_names (object_alone n) start (x ∷ []) (st m k w f h)
   unfolding behind_default
   no_namespace start first x m w f h e = rw e refl
 
@@ -252,11 +253,11 @@ module _ (n : ℕ) (k : Code) where
   from_next m e = no_and (sees kind.Comma m) (sees kind.Mul (after m)) (from_no_comma m e)
 
   default_alone : (start first : Span) (x : Tree) (l : Place) (w : Scope) (f : List Fault) (h : Notes) → word_at (codes "from") l ≡ true
-      → behind_default start first x (st l k w f h) ≡ names_from start (x ∷ []) (st l k w f h)
+      → behind_default (object_alone n) start first x (st l k w f h) ≡ names_from (object_alone n) start (x ∷ []) (st l k w f h)
   default_alone start first x l w f h e = no_namespace start first x l w f h (from_next l e) ∙ from_alone start (x ∷ []) l w f h e
 
   default_and_braces : (start : Span) (c m l : Place) (x : Tree) (xs : List Tree) (w : Scope) (f : List Fault) (h : Notes) → k.setting.export_default_from ≡ true → kind_at m ≡ kind.Comma
-      → NamesRule k c true xs (after m) l → behind_default start (span_at c) x (st m k w f h) ≡ from_or_own start (x ∷ xs) (st l k w f h)
+      → NamesRule k c true xs (after m) l → behind_default (object_alone n) start (span_at c) x (st m k w f h) ≡ from_or_own start (x ∷ xs) (st l k w f h)
   default_and_braces start c m l x xs w f h o e (braces_rule b r) =
       no_namespace start (span_at c) x m w f h (brace_next m r.opens) ∙ braces_behind start (x ∷ []) m w f h o e ∙ export_names_read (x ∷ []) xs start (after m) l w f h r
   default_and_braces start c m l x xs w f h o e (namespace_rule y b r g) = absurd (true≢false b)
@@ -265,10 +266,10 @@ module _ (n : ℕ) (k : Code) where
       ∙ ap (λ z. from_or_own start (x ∷ z) (st l k w f h)) (sym g)
 
   default_and_namespace : (start : Span) (c m l : Place) (x : Tree) (xs : List Tree) (w : Scope) (f : List Fault) (h : Notes) → kind_at m ≡ kind.Comma → NamesRule k c false xs (after m) l
-      → word_at (codes "from") l ≡ true → behind_default start (span_at c) x (st m k w f h) ≡ names_from start (x ∷ xs) (st l k w f h)
+      → word_at (codes "from") l ≡ true → behind_default (object_alone n) start (span_at c) x (st m k w f h) ≡ names_from (object_alone n) start (x ∷ xs) (st l k w f h)
   default_and_namespace start c m l x xs w f h e (braces_rule b r) a = absurd (true≢false (sym b))
   default_and_namespace start c m l x xs w f h e (namespace_rule y b r g) a =
-      namespace_behind start c m l x y w f h e r ∙ from_alone start (x ∷ y ∷ []) l w f h a ∙ ap (λ z. names_from start (x ∷ z) (st l k w f h)) (sym g)
+      namespace_behind start c m l x y w f h e r ∙ from_alone start (x ∷ y ∷ []) l w f h a ∙ ap (λ z. names_from (object_alone n) start (x ∷ z) (st l k w f h)) (sym g)
   default_and_namespace start c m l x xs w f h e (namespace_and_braces_rule y ys i b o r j s g) a = absurd (true≢false (sym b))
 
 -- ---- where a default stands
@@ -278,12 +279,12 @@ abbrev NameKind : TokenKind → Type 0
 NameKind j = (same_kind j kind.LBrace ≡ false) × (same_kind j kind.Mul ≡ false) × (same_kind j kind.Default ≡ false) × (same_kind j kind.Var ≡ false) × (same_kind j kind.Const ≡ false)
     × (same_kind j kind.Let ≡ false) × (same_kind j kind.Class ≡ false) × (same_kind j kind.Function ≡ false)
 
-let_no_name : (f : Context) → f.strict ≡ true → is_name f (codes "let") ≡ false
-unfolding is_name is_reserved
+let_no_name : (f : Context) → f.strict ≡ true → is_identifier f (codes "let") ≡ false
+unfolding is_identifier is_reserved
 let_no_name f o = rw o refl
 
-keyword_named : (f : Context) (v : Keyword) → f.strict ≡ true → is_name f (word_text (word.Keyword v)) ≡ true → NameKind (keyword_kind v)
-unfolding is_name is_reserved same_kind
+keyword_named : (f : Context) (v : Keyword) → f.strict ≡ true → is_identifier f (word_text (word.Keyword v)) ≡ true → NameKind (keyword_kind v)
+unfolding is_identifier is_reserved same_kind
 keyword_named f keyword.Let o e = absurd (true≢false (sym e ∙ let_no_name f o))
 keyword_named f keyword.Default o e = cc
 keyword_named f keyword.Var o e = cc
@@ -292,10 +293,21 @@ keyword_named f keyword.Class o e = cc
 keyword_named f keyword.Function o e = cc
 keyword_named f _ o e = (refl, refl, refl, refl, refl, refl, refl, refl)
 
-word_is_named : (f : Context) (v : Word) → f.strict ≡ true → is_name f (word_text v) ≡ true → NameKind (word_kind v)
+word_is_named : (f : Context) (v : Word) → f.strict ≡ true → is_identifier f (word_text v) ≡ true → NameKind (word_kind v)
 unfolding same_kind
 word_is_named f (word.Keyword v) o e = keyword_named f v o e
 word_is_named f _ o e = (refl, refl, refl, refl, refl, refl, refl, refl)
+
+-- in module code no clean name is `await`
+word_no_await : (f : Context) (v : Word) → f.module ≡ true → is_name f (word_text v) ≡ true → same_kind (word_kind v) kind.Await ≡ false
+unfolding is_name is_clean_name same_kind
+word_no_await f (word.Keyword keyword.Await) o e =
+    let g : not (true && (f.module || (f.in_async || f.in_static_block))) ≡ true = (and_yes (is_identifier f (codes "await")) _ e).1 in
+    let h : not (true && (true || (f.in_async || f.in_static_block))) ≡ true = subst (λ m. not (true && (m || (f.in_async || f.in_static_block))) ≡ true) o g in cc
+word_no_await f _ o e = refl
+
+name_no_await : (f : Context) (v : Word) (s : Span) (c d : Place) → ReadsToken (token.Word v) s c d → f.module ≡ true → is_name f (word_text v) ≡ true → sees kind.Await c ≡ false
+name_no_await f v s c d r o e = ap (λ z. same_kind z kind.Await) (token_first (token.Word v) s c d r) ∙ word_no_await f v o e
 
 -- what follows a default: `from`, or a comma before a namespace or braces
 abbrev Follows : Place → Type 0
@@ -345,34 +357,34 @@ clause_silent (default_and_names_rule y ys m o r e s g) = subst AllSilent (sym g
 
 module _ (n : ℕ) (k : Code) (o : IsModule k) where
   abbrev reader : Reader Tree
-  reader = export_decl (stmt n nested_item) (expr n) (pattern n) (parameters n) (member n)
+  reader = export_decl (stmt n nested_item) (expr n) (pattern n) (parameters n) (member n) (object_alone n)
 
-  at_brace : (s : State) → kind_at (after s.at) ≡ kind.LBrace → reader s ≡ export_names (span_at s.at) [] (moved s)
+  at_brace : (s : State) → kind_at (after s.at) ≡ kind.LBrace → reader s ≡ export_names (object_alone n) (span_at s.at) [] (moved s)
   unfolding export_decl same_kind
   at_brace s e = rw e refl
 
-  at_star : (s : State) → kind_at (after s.at) ≡ kind.Mul → reader s ≡ export_star (span_at s.at) (moved s)
+  at_star : (s : State) → kind_at (after s.at) ≡ kind.Mul → reader s ≡ export_star (object_alone n) (span_at s.at) (moved s)
   unfolding export_decl same_kind
   at_star s e = rw e refl
 
-  at_name : (s : State) → NameKind (kind_at (after s.at)) → is_async_function (after s.at) ≡ false → is_name_from s.code (after s.at) ≡ true → reader s ≡ name_from (span_at s.at) (moved s)
+  at_name : (s : State) → NameKind (kind_at (after s.at)) → is_async_function (after s.at) ≡ false → is_name_from s.code (after s.at) ≡ true → reader s ≡ name_from (object_alone n) (span_at s.at) (moved s)
   unfolding export_decl is_let_declaration begins_default_function
   at_name s t a e = rw (t.0, t.1, t.2, t.3, t.4, t.5, t.6, t.7, a, e) refl
 
   at_default : (s : State) → kind_at (after s.at) ≡ kind.Default → Follows (after (after s.at)) → s.code.setting.export_default_from ≡ true
-      → reader s ≡ default_from (span_at s.at) (span_at (after s.at)) (moved (moved s))
+      → reader s ≡ default_from (object_alone n) (span_at s.at) (span_at (after s.at)) (moved (moved s))
   unfolding export_decl export_default begins_default_function same_kind
   at_default s e g b = rw (e, no_class (after (after s.at)) g, no_function (after (after s.at)) g, no_async (after (after s.at)) g, from_follows s.code (after (after s.at)) b g) refl
 
   -- a default, up to what follows it
   default_reads : (y : Tree) (c m : Place) (w : Scope) (f : List Fault) (h : Notes) → k.setting.export_default_from ≡ true → DefaultExportRule k y (after c) m → Follows m
-      → reader (st c k w f h) ≡ behind_default (span_at c) (span_at (after c)) y (st m k w f h)
+      → reader (st c k w f h) ≡ behind_default (object_alone n) (span_at c) (span_at (after c)) y (st m k w f h)
   unfolding name_from default_from is_name_from
   default_reads y c m w f h b (under_name_rule text s r e) g =
-      let i : is_name k.flags (word_text r.word) ≡ true = ap (is_name k.flags) (sym r.is_text) ∙ clean_name k.flags text o.0 r.is_name in
-      let t : NameKind (kind_at (after c)) = subst NameKind (sym (token_first (token.Word r.word) s (after c) m r.reads_word)) (word_is_named k.flags r.word o.1 i) in
-      at_name (st c k w f h) t (no_async_function (after c) m r.reads_word.next (no_function m g)) (and_both _ _ b (named (token.Word r.word) s (after c) m k true r.reads_word i))
-      ∙ rw (name_reads faults.ExpectedIdent text s (after c) m k w f h o.0 r, e) refl
+      let i : is_name k.flags (word_text r.word) ≡ true = name_is_name k text s (after c) m r in
+      let t : NameKind (kind_at (after c)) = subst NameKind (sym (token_first (token.Word r.word) s (after c) m r.reads_word)) (word_is_named k.flags r.word o.1 (name_is_free k.flags (word_text r.word) i)) in
+      at_name (st c k w f h) t (no_async_function (after c) m r.reads_word.next (no_function m g)) (and_both _ _ b (and_both _ _ (named_word r.word s (after c) m k r.reads_word i) (ap not (name_no_await k.flags r.word s (after c) m r.reads_word o.0 i))))
+      ∙ rw (name_reads faults.ExpectedIdent text s (after c) m k w f h r, e) refl
   default_reads y c m w f h b (as_default_rule s a r e) g =
       at_default (st c k w f h) a (subst Follows r.reads_word.next g) b ∙ rw (e, r.reads_word.next, word_span (codes "default") s (after c) m r) refl
 
@@ -390,47 +402,48 @@ module _ (n : ℕ) (k : Code) (o : IsModule k) where
 
   -- and what does not end in braces
   open_clause : (xs : List Tree) (c l : Place) (w : Scope) (f : List Fault) (h : Notes) → ExportClauseRule k false xs (after c) l → word_at (codes "from") l ≡ true
-      → reader (st c k w f h) ≡ names_from (span_at c) xs (st l k w f h)
+      → reader (st c k w f h) ≡ names_from (object_alone n) (span_at c) xs (st l k w f h)
   open_clause xs c l w f h (names_rule (braces_rule e r)) a = absurd (true≢false (sym e))
   open_clause xs c l w f h (names_rule (namespace_rule y e r g)) a =
       at_star (st c k w f h) r.star ∙ star_reads n k (span_at c) (after c) l y w f h r ∙ from_alone n k (span_at c) (y ∷ []) l w f h a
-      ∙ ap (λ z. names_from (span_at c) z (st l k w f h)) (sym g)
+      ∙ ap (λ z. names_from (object_alone n) (span_at c) z (st l k w f h)) (sym g)
   open_clause xs c l w f h (names_rule (namespace_and_braces_rule y ys m e b r i s g)) a = absurd (true≢false (sym e))
   open_clause xs c l w f h (default_alone_rule y e b r g) a =
-      default_reads y c l w f h b r (inl a) ∙ default_alone n k (span_at c) (span_at (after c)) y l w f h a ∙ ap (λ z. names_from (span_at c) z (st l k w f h)) (sym g)
+      default_reads y c l w f h b r (inl a) ∙ default_alone n k (span_at c) (span_at (after c)) y l w f h a ∙ ap (λ z. names_from (object_alone n) (span_at c) z (st l k w f h)) (sym g)
   open_clause xs c l w f h (default_and_names_rule y ys m b r e s g) a =
-      default_reads y c m w f h b r (names_follow m e s) ∙ default_and_namespace n k (span_at c) (after c) m l y ys w f h e s a ∙ ap (λ z. names_from (span_at c) z (st l k w f h)) (sym g)
+      default_reads y c m w f h b r (names_follow m e s) ∙ default_and_namespace n k (span_at c) (after c) m l y ys w f h e s a ∙ ap (λ z. names_from (object_alone n) (span_at c) z (st l k w f h)) (sym g)
 
   -- names up to a place where `from` stands
   clause_from : (b : Bool) (xs : List Tree) (c l : Place) (w : Scope) (f : List Fault) (h : Notes) → ExportClauseRule k b xs (after c) l → word_at (codes "from") l ≡ true
-      → reader (st c k w f h) ≡ names_from (span_at c) xs (st l k w f h)
+      → reader (st c k w f h) ≡ names_from (object_alone n) (span_at c) xs (st l k w f h)
   clause_from true xs c l w f h r a = braces_clause xs c l w f h r ∙ rw a refl
   clause_from false xs c l w f h r a = open_clause xs c l w f h r a
 
   pub export_from_read : (b : Bool) (xs : List Tree) (src attributes x : Tree) (c l m i d : Place) → ExportClauseRule k b xs (after c) l → FromRule src l m
-      → AttributesRule (language.Reads n) k attributes m i → attributes ≡ tree.absent → Ends i d → x ≡ tree.export_named (spanned c d) (listed xs) src attributes
-      → ReadsCalm (export_decl (stmt n nested_item) (expr n) (pattern n) (parameters n) (member n)) k x c d
+      → AttributesRule (language.Reads n) k attributes m i → IsGiven attributes → Ends i d → x ≡ tree.export_named (spanned c d) (listed xs) src attributes
+      → ReadsCalm (export_decl (stmt n nested_item) (expr n) (pattern n) (parameters n) (member n) (object_alone n)) k x c d
   export_from_read b xs src attributes x c l m i d r s a e g j w f h calm =
-      clause_from b xs c l w f h r s.0 ∙ names_from_read n k xs src attributes x c l m i d w f h (clause_silent r) s a e g j
+      clause_from b xs c l w f h r s.0 ∙ names_from_read n k o xs src attributes x c l m i d w f h (clause_silent r) s a e g j
 
   pub export_own_read : (xs : List Tree) (x : Tree) (c m d : Place) → ExportClauseRule k true xs (after c) m → word_at (codes "from") m ≡ false → OptionalEnds m d
-      → x ≡ tree.export_named (spanned c d) (listed xs) tree.absent tree.absent → ReadsCalm (export_decl (stmt n nested_item) (expr n) (pattern n) (parameters n) (member n)) k x c d
+      → x ≡ tree.export_named (spanned c d) (listed xs) tree.absent tree.absent → ReadsCalm (export_decl (stmt n nested_item) (expr n) (pattern n) (parameters n) (member n) (object_alone n)) k x c d
   export_own_read xs x c m d r a g e w f h calm = braces_clause xs c m w f h r ∙ rw a refl ∙ own_names_read n k xs x c m d (clause_silent r) g e w f h calm
 
   pub export_all_read : (src attributes x : Tree) (c m i d : Place) → kind_at (after c) ≡ kind.Mul → FromRule src (after (after c)) m → AttributesRule (language.Reads n) k attributes m i
-      → attributes ≡ tree.absent → Ends i d → x ≡ tree.export_all (spanned c d) src attributes → ReadsCalm (export_decl (stmt n nested_item) (expr n) (pattern n) (parameters n) (member n)) k x c d
+      → IsGiven attributes → Ends i d → x ≡ tree.export_all (spanned c d) src attributes → ReadsCalm (export_decl (stmt n nested_item) (expr n) (pattern n) (parameters n) (member n) (object_alone n)) k x c d
   unfolding export_star export_all spanned
-  export_all_read src attributes x c m i d o r a e g j w f h calm =
-      let b = attributes_absent n k attributes m i a e in
-      at_star (st c k w f h) o ∙ rw (
+  export_all_read src attributes x c m i d b r a e g j w f h calm =
+      let env = env_of k w.labels in
+      let v : walk env x ≡ walk env attributes = rw (j, r.1.is) (ap (λ z. walk z attributes) (module_env k w.labels o)) in
+      let y : notes x ≡ notes attributes = rw (j, r.1.is) refl in
+      let z : has_meta x ≡ has_meta attributes = rw (j, r.1.is) refl in
+      at_star (st c k w f h) b ∙ rw (
         from_other (codes "as") (after (after c)) refl r.0,
         source_reads src (after (after c)) m k w f h r,
-        no_attributes_read m k w f h b.1,
-        ends_read faults.Expected m d k w f h (subst (λ z. Ends z d) b.0 g),
+        attributes_read n k attributes m i a e w f h,
+        ends_read faults.Expected i d k w (f ++ walk env attributes) (h ⊕ notes_of attributes) g,
+        v,
+        y,
+        z,
         j,
-        e,
-        r.1.is,
-        append-nil f,
-        append-nil h.held_back,
-        or_nil h.found_module_item,
       ) refl

@@ -42,7 +42,7 @@ use Rattle.swc_ecma_parser_grammar.proofs.SupportedIn.{lift_in}
 use Rattle.swc_ecma_parser_grammar.proofs.Tests.{and_yes}
 use Rattle.swc_ecma_parser_reader.specs.Members.{class_decl}
 use Rattle.swc_ecma_parser_reader.specs.Notes.{Notes, ◌⊕◌, notes_of, all_notes_of}
-use Rattle.swc_ecma_parser_reader.specs.Reader.{expr, pattern, member, parameters, stmt, stmt_level, const_stmt, let_stmt, function_stmt, async_or_other, variables, function_decl, function_parts, misdirected, named}
+use Rattle.swc_ecma_parser_reader.specs.Reader.{expr, pattern, member, parameters, object_alone, stmt, stmt_level, const_stmt, let_stmt, function_stmt, async_or_other, variables, function_decl, function_parts, misdirected, named}
 use Rattle.swc_ecma_parser_reader.specs.State.{Scope, State, Reader, moved}
 use Rattle.swc_ecma_parser_reader.proofs.Answered.{st, Calm, ReadsCalm}
 use Rattle.swc_ecma_parser_reader.proofs.Below.{expr_reads, parameters_reads}
@@ -58,11 +58,11 @@ use Rattle.swc_ecma_parser_reader.proofs.expressions.CompleteKinds as kinds
 use Rattle.swc_ecma_parser_reader.proofs.expressions.CompleteKinds.{seen}
 use Rattle.swc_ecma_parser_module_reader.specs.Exports.{begins_default_function, is_default_from, default_name, default_function, default_expr, exported_function, exported_class, export_default, exported, export_decl}
 use Rattle.swc_ecma_parser_module_reader.specs.Supported.{supported_item}
-use Rattle.swc_ecma_parser_module_reader.proofs.CompleteImports.{absent_is}
 use Rattle.swc_ecma_parser_module_reader.proofs.ModuleCode.{IsModule, in_module_same, module_env}
-use Rattle.swc_ecma_parser_module_reader.proofs.CompleteShared.{clean_name, name_reads}
+use Rattle.swc_ecma_parser_module_reader.proofs.CompleteShared.{name_reads}
 use Rattle.swc_ecma_parser_module_reader.proofs.CompleteExportNames.{export_from_read, export_own_read, export_all_read}
 use Rattle.swc_ecma_parser_module_reader.proofs.AllLevels.{below, function_body_reads, word_reads, star_reads}
+use Rattle.swc_ecma_parser_grammar.proofs.Naming.{name_is_name}
 
 -- ---- words and decorators
 
@@ -102,7 +102,7 @@ module _ (n : ℕ) where
 
   -- so does what stands behind `export`
   export_variables : (word : VarDeclKind) (s : State) → begins_variables word (after s.at) ≡ true
-      → export_decl inner_stmt (expr n) (pattern n) (parameters n) (member n) s
+      → export_decl inner_stmt (expr n) (pattern n) (parameters n) (member n) (object_alone n) s
       ≡ exported inner_stmt (expr n) (pattern n) (parameters n) (member n) (span_at s.at) (variables (expr n) (pattern n) word) (moved s)
   unfolding export_decl same_kind
   export_variables decl.Var s e = rw (saw (after s.at) kind.Var e) refl
@@ -110,14 +110,14 @@ module _ (n : ℕ) where
   export_variables decl.Let s e = rw (let_stands (after s.at) e, e) refl
 
   export_function : {b : Bool} (s : State) (m : Place) → AsyncWord b (after s.at) m → kind_at m ≡ kind.Function
-      → export_decl inner_stmt (expr n) (pattern n) (parameters n) (member n) s
+      → export_decl inner_stmt (expr n) (pattern n) (parameters n) (member n) (object_alone n) s
       ≡ exported inner_stmt (expr n) (pattern n) (parameters n) (member n) (span_at s.at) (function_decl inner_stmt (parameters n)) (moved s)
   unfolding export_decl same_kind is_let_declaration begins_default_function
   export_function s m (not_async i j) e = rw (ap kind_at (sym j) ∙ e) refl
   export_function s m (async_word i j l o) e = let v = async_stands (after s.at) m j l o e in rw (async_kind (after s.at) v, v) refl
 
   export_class : (s : State) → kind_at (after s.at) ≡ kind.Class
-      → export_decl inner_stmt (expr n) (pattern n) (parameters n) (member n) s
+      → export_decl inner_stmt (expr n) (pattern n) (parameters n) (member n) (object_alone n) s
       ≡ exported inner_stmt (expr n) (pattern n) (parameters n) (member n) (span_at s.at) (class_decl (expr n left_side) (member n)) (moved s)
   unfolding export_decl same_kind is_let_declaration
   export_class s e = rw e refl
@@ -188,7 +188,7 @@ module _ (n : ℕ) (k : Code) (o : IsModule k) where
 
   variables_read : (word : VarDeclKind) (xs : List Tree) (x y : Tree) (c m d : Place) → VariablesRule (language.Reads n) (with_in k) false word xs (after c) m → Ends m d
       → y ≡ tree.var (spanned (after c) d) word (listed xs) → x ≡ tree.export_decl (spanned c d) y → supported y ≡ true → notes y ≡ []
-      → ReadsCalm (export_decl (inner_stmt n) (expr n) (pattern n) (parameters n) (member n)) k x c d
+      → ReadsCalm (export_decl (inner_stmt n) (expr n) (pattern n) (parameters n) (member n) (object_alone n)) k x c d
   variables_read word xs x y c m d r g i e s q w f h calm =
       let v = variables_walk x y (spanned c d) (spanned (after c) d) word xs w.labels e i in
       let b = declared_reads y (after c) d (variables_rule word xs m refl r g i) s q w f h (calm_same d (walk (env_of k w.labels) x) (walk (env_of k w.labels) y) v calm) in
@@ -197,7 +197,7 @@ module _ (n : ℕ) (k : Code) (o : IsModule k) where
 
   function_read : (a name x y z : Tree) (c d : Place) → FunctionRule (language.Reads n) false k a name z (after c) d → a ≡ listed [] → is_absent name ≡ false
       → y ≡ tree.fn_decl name z → x ≡ tree.export_decl (spanned c d) y → supported y ≡ true → notes y ≡ []
-      → ReadsCalm (export_decl (inner_stmt n) (expr n) (pattern n) (parameters n) (member n)) k x c d
+      → ReadsCalm (export_decl (inner_stmt n) (expr n) (pattern n) (parameters n) (member n) (object_alone n)) k x c d
   function_read a name x y z c d r u t i e s q w f h calm =
       let j = r.is ∙ ap (λ v. tree.function (spanned (after c) d) v (parameter_trees r.patterns) r.body r.is_async r.is_generator) u in
       let v = function_walk x y name z (spanned c d) (spanned (after c) d) (parameter_trees r.patterns) r.body r.is_async r.is_generator w.labels e i j (name_walk (env_of k w.labels) r.reads_name) in
@@ -215,7 +215,7 @@ module _ (n : ℕ) (k : Code) (o : IsModule k) where
 
   class_read : (a name x y z : Tree) (c d : Place) → ClassRule (language.Reads n) k (after c) a name z (after c) d → a ≡ listed [] → is_absent name ≡ false
       → y ≡ tree.class_decl name z → x ≡ tree.export_decl (spanned c d) y → supported y ≡ true → notes y ≡ []
-      → ReadsCalm (export_decl (inner_stmt n) (expr n) (pattern n) (parameters n) (member n)) k x c d
+      → ReadsCalm (export_decl (inner_stmt n) (expr n) (pattern n) (parameters n) (member n) (object_alone n)) k x c d
   class_read a name x y z c d r u t i e s q w f h calm =
       let p = plain_class a name z (after c) d r u in
       let v = class_walk x y name z (spanned c d) (spanned (after c) d) (listed p.members) p.heritage w.labels e i p.is (name_walk (env_of k w.labels) p.reads_name) in
@@ -229,8 +229,7 @@ module _ (n : ℕ) (k : Code) (o : IsModule k) where
   unfolding default_name named
   default_name_reads x c d w f h (no_name e g) p = rw ((kinds.paren_here k.flags c (ap kind_at (sym e) ∙ p)).0, e, g) refl
   default_name_reads x c d w f h (a_name text s r e) p =
-      let i : is_name k.flags (word_text r.word) ≡ true = ap (is_name k.flags) (sym r.is_text) ∙ clean_name k.flags text o.0 r.is_name in
-      rw (kinds.named (token.Word r.word) s c d k true r.reads_word i, name_reads faults.ExpectedIdent text s c d k w f h o.0 r, e) refl
+      rw (kinds.named_word r.word s c d k r.reads_word (name_is_name k text s c d r), name_reads faults.ExpectedIdent text s c d k w f h r, e) refl
 
   -- no `*` stands where it or the parameters begin
   name_no_star : {x : Tree} {c d : Place} → OptionalName k x c d → kind_at d ≡ kind.LParen → sees kind.Mul c ≡ false
@@ -278,7 +277,7 @@ module _ (n : ℕ) (k : Code) (o : IsModule k) where
 
   default_function_read : (a name x y z : Tree) (c d : Place) → kind_at (after c) ≡ kind.Default → FunctionRule (language.Reads n) false k a name z (after (after c)) d → a ≡ listed []
       → y ≡ tree.fn_expr (spanned (after (after c)) d) name z → x ≡ tree.export_default_decl (spanned c d) y → supported z ≡ true → notes z ≡ []
-      → ReadsCalm (export_decl (inner_stmt n) (expr n) (pattern n) (parameters n) (member n)) k x c d
+      → ReadsCalm (export_decl (inner_stmt n) (expr n) (pattern n) (parameters n) (member n) (object_alone n)) k x c d
   unfolding export_decl export_default exported_function same_kind spanned
   default_function_read a name x y z c d b r u i e s q w f h calm =
       let j = r.is ∙ ap (λ v. tree.function (spanned (after (after c)) d) v (parameter_trees r.patterns) r.body r.is_async r.is_generator) u in
@@ -299,7 +298,7 @@ module _ (n : ℕ) (k : Code) (o : IsModule k) where
 
   default_class_read : (a name x y z : Tree) (c d : Place) → kind_at (after c) ≡ kind.Default → ClassRule (language.Reads n) k (after (after c)) a name z (after (after c)) d → a ≡ listed []
       → y ≡ tree.class_expr (spanned (after (after c)) d) name z → x ≡ tree.export_default_decl (spanned c d) y → supported y ≡ true → notes y ≡ []
-      → ReadsCalm (export_decl (inner_stmt n) (expr n) (pattern n) (parameters n) (member n)) k x c d
+      → ReadsCalm (export_decl (inner_stmt n) (expr n) (pattern n) (parameters n) (member n) (object_alone n)) k x c d
   unfolding export_decl export_default exported_class same_kind spanned
   default_class_read a name x y z c d b r u i e s q w f h calm =
       let p = plain_class a name z (after (after c)) d r u in
@@ -315,7 +314,7 @@ module _ (n : ℕ) (k : Code) (o : IsModule k) where
 
   default_expr_read : (e x : Tree) (c m d : Place) → kind_at (after c) ≡ kind.Default → may_begin_default k (after (after c)) ≡ true
       → language.Reads n (expr_goal assignment (with_in k) e (after (after c)) m) → Ends m d → x ≡ tree.export_default_expr (spanned c d) e → supported e ≡ true → notes e ≡ []
-      → ReadsCalm (export_decl (inner_stmt n) (expr n) (pattern n) (parameters n) (member n)) k x c d
+      → ReadsCalm (export_decl (inner_stmt n) (expr n) (pattern n) (parameters n) (member n) (object_alone n)) k x c d
   unfolding export_decl export_default default_expr same_kind spanned
   default_expr_read e x c m d b a r g i s q w f h calm =
       let v = lift_in k.flags.module e s (λ v. q) in
@@ -344,7 +343,7 @@ exported_plain {a = a} (exported_function_rule name z r b g) s =
 exported_plain (exported_variables word xs m b r g i) s = ap has_none b
 
 declaration_read : (n : ℕ) (k : Code) (a x y : Tree) (c d : Place) → IsModule k → ExportedRule (language.Reads n) k a y (after c) d → a ≡ listed []
-    → x ≡ tree.export_decl (spanned c d) y → supported y ≡ true → notes y ≡ [] → ReadsCalm (export_decl (inner_stmt n) (expr n) (pattern n) (parameters n) (member n)) k x c d
+    → x ≡ tree.export_decl (spanned c d) y → supported y ≡ true → notes y ≡ [] → ReadsCalm (export_decl (inner_stmt n) (expr n) (pattern n) (parameters n) (member n) (object_alone n)) k x c d
 declaration_read n k a x y c d o (exported_class_rule name z r b g) p e s q = class_read n k o a name x y z c d r p b g e s q
 declaration_read n k a x y c d o (exported_function_rule name z r b g) p e s q = function_read n k o a name x y z c d r p b g e s q
 declaration_read n k a x y c d o (exported_variables word xs m b r g i) p e s q = variables_read n k o word xs x y c m d r g i e s q
@@ -356,7 +355,7 @@ class_default_parts : (x y name z : Tree) (s t : Span) → x ≡ tree.export_def
 class_default_parts x y name z s t e g h = item_as x (tree.export_default_decl s (tree.class_expr t name z)) (e ∙ ap (tree.export_default_decl s) g) h
 
 default_read : (n : ℕ) (k : Code) (a x y : Tree) (c m i d : Place) → IsModule k → ExportFrontRule (language.Reads n) k true a c m i → DefaultRule (language.Reads n) k a y i d
-    → x ≡ tree.export_default_decl (spanned m d) y → supported_item x ≡ true → notes x ≡ [] → ReadsCalm (export_decl (inner_stmt n) (expr n) (pattern n) (parameters n) (member n)) k x c d
+    → x ≡ tree.export_default_decl (spanned m d) y → supported_item x ≡ true → notes x ≡ [] → ReadsCalm (export_decl (inner_stmt n) (expr n) (pattern n) (parameters n) (member n) (object_alone n)) k x c d
 default_read n k a x y c m i d o v (default_class_rule name z r g) e s q =
     let t = class_default_parts x y name z (spanned m d) (spanned i d) e g s in
     let u = front_plain v (and_yes (has_none a) _ (sym (ap supported r.is) ∙ (and_yes (supported name) (supported z) t).1)).0 in
@@ -373,7 +372,7 @@ default_read n k a x y c m i d o v (default_function_rule name z r g) e s q =
 
 pub export_reads : (n : ℕ) (k : Code) (x : Tree) (c d : Place) → IsModule k → ExportRule (language.Reads n) k x c d → supported_item x ≡ true → notes x ≡ []
     → (w : Scope) (f : List Fault) (h : Notes) → Calm k w.labels x d
-    → export_decl (stmt n nested_item) (expr n) (pattern n) (parameters n) (member n) (st c k w f h) ≡ Ok (x, st d k w (f ++ walk (env_of k w.labels) x) (h ⊕ notes_of x))
+    → export_decl (stmt n nested_item) (expr n) (pattern n) (parameters n) (member n) (object_alone n) (st c k w f h) ≡ Ok (x, st d k w (f ++ walk (env_of k w.labels) x) (h ⊕ notes_of x))
 export_reads n k x c d o (export_declaration_rule a y m i v r e) s q =
     let t = item_as x (tree.export_decl (spanned m d) y) e s in
     let u = front_plain v (exported_plain r t) in
@@ -383,7 +382,7 @@ export_reads n k x c d o (export_declaration_rule a y m i v r e) s q =
 export_reads n k x c d o (export_from_rule b xs src attributes l m i v r a t g e) s q =
     export_from_read n k o b xs src attributes x c l m i d (subst (λ j. ExportClauseRule j b xs (after c) l) (in_module_same k o) r) a
     (subst (λ j. AttributesRule (language.Reads n) j attributes m i) (in_module_same k o) t)
-    (absent_is attributes (item_as x (tree.export_named (spanned c d) (listed xs) src attributes) e s)) g e
+    (item_as x (tree.export_named (spanned c d) (listed xs) src attributes) e s, (nil-split (notes (listed xs) ++ notes src) (notes attributes) (sym (ap notes e) ∙ q)).1) g e
 export_reads n k x c d o (export_names_rule xs m v r a g e) s q = export_own_read n k o xs x c m d (subst (λ j. ExportClauseRule j true xs (after c) m) (in_module_same k o) r) a g e
 export_reads n k x c d o (export_default_declaration_rule a y m i v r e) s q =
     default_read n k a x y c m i d o v (subst (λ j. DefaultRule (language.Reads n) j a y i d) (in_module_same k o) r) e s q
@@ -392,4 +391,4 @@ export_reads n k x c d o (export_default_expression_rule e m v a b r g i) s q =
     (item_as x (tree.export_default_expr (spanned c d) e) i s) (sym (ap notes i) ∙ q)
 export_reads n k x c d o (export_all_rule src attributes m i v a r t g e) s q =
     export_all_read n k o src attributes x c m i d a r (subst (λ j. AttributesRule (language.Reads n) j attributes m i) (in_module_same k o) t)
-    (absent_is attributes (item_as x (tree.export_all (spanned c d) src attributes) e s)) g e
+    (item_as x (tree.export_all (spanned c d) src attributes) e s, (nil-split (notes src) (notes attributes) (sym (ap notes e) ∙ q)).1) g e

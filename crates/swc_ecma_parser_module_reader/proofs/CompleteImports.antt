@@ -1,5 +1,5 @@
--- An import of the grammar is read: its walk is empty, and nothing in it is noted.
-use Rattle.std.proofs.Common.{◌≡◌, ℕ, ◌<◌, Bool, true, false, true≢false, List, [], ◌∷◌, length, Ok, refl, sym, ◌∙◌, ap, subst, arith, codes}
+-- An import of the grammar is read: its walk is that of its attributes.
+use Rattle.std.proofs.Common.{◌≡◌, ℕ, ◌<◌, Bool, true, false, true≢false, List, [], ◌∷◌, ◌++◌, length, Ok, refl, sym, ◌∙◌, ap, subst, arith, codes}
 use Rattle.std.proofs.lemmas.Slice.Eq.{bytes_eq-Decides}
 use Rattle.std.specs.Prelude.{◌&&◌, ◌||◌, if◌then◌else◌}
 use Rattle.swc_ecma_parser_common.specs.declared.span.Span.{Span}
@@ -18,7 +18,6 @@ use Rattle.swc_ecma_parser_token.specs.Kind.{word_kind, keyword_kind}
 use Rattle.swc_ecma_parser_input.specs.Place.{Place, after}
 use Rattle.swc_ecma_parser_model.specs.declared.leaves.ImportPhase.{ImportPhase}
 use Rattle.swc_ecma_parser_model.specs.declared.leaves.ImportPhase.TheVariants as phase
-use Rattle.swc_ecma_parser_model.specs.Forms.{is_absent}
 use Rattle.swc_ecma_parser_model.specs.Tree as tree
 use Rattle.swc_ecma_parser_model.specs.Tree.{Tree, Text, listed, trees}
 use Rattle.swc_ecma_parser_grammar.specs.Ends.{Ends}
@@ -27,7 +26,8 @@ use Rattle.swc_ecma_parser_grammar.specs.Looks.{kind_at, sees, same_kind, span_a
 use Rattle.swc_ecma_parser_grammar.specs.Names.{Code}
 use Rattle.swc_ecma_parser_grammar.specs.Notes.{notes, all_notes}
 use Rattle.swc_ecma_parser_grammar.specs.Reads.{ReadsToken}
-use Rattle.swc_ecma_parser_grammar.specs.Walk.{Env, walk, walks}
+use Rattle.swc_ecma_parser_grammar.specs.Walk as walks_of
+use Rattle.swc_ecma_parser_grammar.specs.Walk.{Env, env_of, walk, walks}
 use Rattle.swc_ecma_parser_grammar.specs.language.Contexts.{in_module, outside_functions}
 use Rattle.swc_ecma_parser_grammar.specs.language.Imports.{ImportSpecifierRule, named_rule, renamed_rule, BindingsRule, namespace_rule, named_bindings_rule, MoreBindingsRule, no_more_rule, comma_rule, more_rule, ImportClauseRule, bindings_rule, default_binding_rule, follows_phase, begins_phase, PhaseRule, source_rule, defer_rule, evaluation_rule, ImportRule, bare_import_rule, import_rule}
 use Rattle.swc_ecma_parser_grammar.specs.language.Lists.{ReadsListed}
@@ -37,8 +37,10 @@ use Rattle.swc_ecma_parser_grammar.specs.language.Parts.{ReadsName, ReadsWord}
 use Rattle.swc_ecma_parser_grammar.specs.language.Reads.{Reads}
 use Rattle.swc_ecma_parser_grammar.proofs.StatementBegins.{word_place}
 use Rattle.swc_ecma_parser_grammar.proofs.Tests.{and_yes, or_no}
-use Rattle.swc_ecma_parser_reader.specs.Notes.{Notes}
-use Rattle.swc_ecma_parser_reader.specs.State.{Scope, Reader}
+use Rattle.swc_ecma_parser_reader.specs.Notes.{Notes, ◌⊕◌, notes_of}
+use Rattle.swc_ecma_parser_reader.specs.Reader.{object_alone}
+use Rattle.swc_ecma_parser_reader.specs.State.{Scope, Outcome, Reader}
+use Rattle.swc_ecma_parser_reader.proofs.Answered as answered
 use Rattle.swc_ecma_parser_reader.proofs.Answered.{st}
 use Rattle.swc_ecma_parser_reader.proofs.CompleteParts.{ends_read}
 use Rattle.swc_ecma_parser_reader.proofs.Takes.{moves, takes_one}
@@ -46,8 +48,9 @@ use Rattle.swc_ecma_parser_reader.proofs.expressions.CompleteKinds.{seen, token_
 use Rattle.swc_ecma_parser_module_reader.specs.Imports.{other_name, import_specifier, binding_name, import_namespace, bindings, more_bindings, default_binding, import_clause, imported, import_from, phase_of, import_phased, is_phase_word, import_decl, str, source}
 use Rattle.swc_ecma_parser_module_reader.specs.Modules.{begins_import}
 use Rattle.swc_ecma_parser_module_reader.specs.Supported.{supported_item}
-use Rattle.swc_ecma_parser_module_reader.proofs.CompleteShared.{string_seen, str_reads, expect_word_reads, source_reads, any_word_reads, module_name_reads, clean_name, name_reads, no_attributes_read, attributes_absent, specifiers_read}
-use Rattle.swc_ecma_parser_module_reader.proofs.ModuleCode.{IsModule, in_module_same}
+use Rattle.swc_ecma_parser_module_reader.proofs.CompleteShared.{string_seen, str_reads, expect_word_reads, source_reads, any_word_reads, module_name_reads, name_reads, IsGiven, attributes_read, specifiers_read}
+use Rattle.swc_ecma_parser_module_reader.proofs.ModuleCode.{IsModule, in_module_same, module_env}
+use Rattle.swc_ecma_parser_grammar.proofs.Naming.{clean_is_name}
 
 -- ---- one token
 
@@ -157,9 +160,13 @@ clause_quiet k xs c d (default_binding_rule text s ys m r more e) =
     let x = tree.import_default s (tree.ident s text) in
     all_quiet_as xs (x ∷ ys) e (quiet_also x ys (λ env. refl, refl, refl) (more_quiet k ys m d more))
 
-pub absent_is : (x : Tree) → is_absent x ≡ true → x ≡ tree.absent
-absent_is tree.absent e = refl
-absent_is _ e = cc
+-- an import carries the faults and notes of its attributes
+abbrev Carries : (x given : Tree) → Type 0
+Carries x given = ((env : Env) → walk env x ≡ walk (walks_of.in_module env) given) × (notes x ≡ notes given) × (has_meta x ≡ has_meta given)
+
+import_carries : (x : Tree) (s : Span) (xs : List Tree) (src given : Tree) (p : ImportPhase) → x ≡ tree.import s (listed xs) src given p → QuietAll xs → Quiet src → Carries x given
+import_carries x s xs src given p is q r =
+    (λ env. rw (is, q.0 (walks_of.in_module env) false, r.0 (walks_of.in_module env)) refl, rw (is, q.1, r.1) refl, rw (is, q.2, r.2) refl)
 
 -- ---- what is imported
 
@@ -176,11 +183,11 @@ module _ (k : Code) (o : IsModule k) where
       rw (
         module_name_reads (tree.ident s text) c d k w f h (word_name_rule text s (record { word = r.word; reads_word = r.reads_word; is_text = r.is_text }) refl),
         b,
-        clean_name k.flags text o.0 r.is_name,
+        clean_is_name k.flags text r.is_name,
         e,
       ) refl
   specifier_reads x c d (renamed_rule y text s m r b n e) w f h =
-      rw (module_name_reads y c m k w f h r, b, name_reads faults.ExpectedIdent text s (after m) d k w f h o.0 n, e) refl
+      rw (module_name_reads y c m k w f h r, b, name_reads faults.ExpectedIdent text s (after m) d k w f h n, e) refl
 
   specifier_goes : (x : Tree) (c d : Place) → ImportSpecifierRule k x c d → sees kind.RBrace c ≡ false
   specifier_goes x c d (named_rule text s r b e) = (word_kinds r.reads_word).3
@@ -193,7 +200,7 @@ module _ (k : Code) (o : IsModule k) where
   binding_name_reads : (text : Text) (s : Span) (c d : Place) (w : Scope) (f : List Fault) (h : Notes) → ReadsName (outside_functions k) text s c d
       → binding_name (st c k w f h) ≡ Ok (record { span = s; sym = text }, st d k w f h)
   unfolding binding_name
-  binding_name_reads text s c d w f h r = rw (name_reads faults.ExpectedIdent text s c d (outside_functions k) w f h o.0 r) refl
+  binding_name_reads text s c d w f h r = rw (name_reads faults.ExpectedIdent text s c d (outside_functions k) w f h r) refl
 
   bindings_read : (xs : List Tree) (c d : Place) (w : Scope) (f : List Fault) (h : Notes) → BindingsRule k xs c d → bindings (st c k w f h) ≡ Ok (xs, st d k w f h)
   unfolding bindings import_namespace spanned same_kind
@@ -253,30 +260,29 @@ module _ (k : Code) (o : IsModule k) where
   module _ (n : ℕ) (c : Place) (w : Scope) (f : List Fault) (h : Notes) where
     -- behind its string
     imported_reads : (p : ImportPhase) (xs : List Tree) (from : Reader Tree) (src attributes : Tree) (l m i d : Place) → from (st l k w f h) ≡ Ok (src, st m k w f h)
-        → AttributesRule (Reads n) k attributes m i → attributes ≡ tree.absent → Ends i d
-        → imported (span_at c) p xs from (st l k w f h) ≡ Ok (tree.import (spanned c d) (listed xs) src tree.absent p, st d k w f h)
+        → AttributesRule (Reads n) k attributes m i → IsGiven attributes → Ends i d
+        → imported (object_alone n) (span_at c) p xs from (st l k w f h) ≡ Ok (tree.import (spanned c d) (listed xs) src attributes p, st d k w (f ++ walk (env_of k w.labels) attributes) (h ⊕ notes_of attributes))
     unfolding imported spanned
     imported_reads p xs from src attributes l m i d e r a g =
-        let (j, b) = attributes_absent n k attributes m i r a in
-        rw (e, no_attributes_read m k w f h b, ends_read faults.Expected m d k w f h (rw j at g)) refl
+        rw (e, attributes_read n k attributes m i r a w f h, ends_read faults.Expected i d k w (f ++ walk (env_of k w.labels) attributes) (h ⊕ notes_of attributes) g) refl
 
     from_reads : (p : ImportPhase) (xs : List Tree) (src attributes : Tree) (a l m i d : Place) → ImportClauseRule k xs a l → FromRule src l m → AttributesRule (Reads n) k attributes m i
-        → attributes ≡ tree.absent → Ends i d → import_from (span_at c) p (st a k w f h) ≡ Ok (tree.import (spanned c d) (listed xs) src tree.absent p, st d k w f h)
+        → IsGiven attributes → Ends i d → import_from (object_alone n) (span_at c) p (st a k w f h) ≡ Ok (tree.import (spanned c d) (listed xs) src attributes p, st d k w (f ++ walk (env_of k w.labels) attributes) (h ⊕ notes_of attributes))
     unfolding import_from
     from_reads p xs src attributes a l m i d r s t e g =
         rw (clause_reads xs a l w f h r s.0) (imported_reads p xs source src attributes l m i d (source_reads src l m k w f h s) t e g)
 
     -- the word of a phase, and what follows it
     phase_by : (text : Text) (s : Span) (xs : List Tree) (src attributes : Tree) (a l m i d : Place) → ReadsWord text s a (after a) → follows_phase k (after a) ≡ true
-        → ImportClauseRule k xs (after a) l → FromRule src l m → AttributesRule (Reads n) k attributes m i → attributes ≡ tree.absent → Ends i d
-        → import_phased (span_at c) (st a k w f h) ≡ Ok (tree.import (spanned c d) (listed xs) src tree.absent (phase_of text), st d k w f h)
+        → ImportClauseRule k xs (after a) l → FromRule src l m → AttributesRule (Reads n) k attributes m i → IsGiven attributes → Ends i d
+        → import_phased (object_alone n) (span_at c) (st a k w f h) ≡ Ok (tree.import (spanned c d) (listed xs) src attributes (phase_of text), st d k w (f ++ walk (env_of k w.labels) attributes) (h ⊕ notes_of attributes))
     unfolding import_phased
     phase_by text sp xs src attributes a l m i d v j r s t e g =
         rw (any_word_reads text sp a (after a) k w f h v, j) (from_reads (phase_of text) xs src attributes (after a) l m i d r s t e g)
 
     phase_reads : (text : Text) (xs : List Tree) (src attributes : Tree) (a l m i d : Place) → begins_phase text k a ≡ true → ImportClauseRule k xs (after a) l → FromRule src l m
-        → AttributesRule (Reads n) k attributes m i → attributes ≡ tree.absent → Ends i d
-        → import_phased (span_at c) (st a k w f h) ≡ Ok (tree.import (spanned c d) (listed xs) src tree.absent (phase_of text), st d k w f h)
+        → AttributesRule (Reads n) k attributes m i → IsGiven attributes → Ends i d
+        → import_phased (object_alone n) (span_at c) (st a k w f h) ≡ Ok (tree.import (spanned c d) (listed xs) src attributes (phase_of text), st d k w (f ++ walk (env_of k w.labels) attributes) (h ⊕ notes_of attributes))
     unfolding begins_phase
     phase_reads text xs src attributes a l m i d b r s t e g =
         let (q, j) = and_yes (word_at text a) (follows_phase k (after a)) b in
@@ -285,8 +291,8 @@ module _ (k : Code) (o : IsModule k) where
 
     -- a word that is no phase is the name of the default
     unphased_reads : (xs : List Tree) (src attributes : Tree) (a l m i d : Place) → is_phase_word a ≡ true → begins_phase (codes "source") k a || begins_phase (codes "defer") k a ≡ false
-        → ImportClauseRule k xs a l → FromRule src l m → AttributesRule (Reads n) k attributes m i → attributes ≡ tree.absent → Ends i d
-        → import_phased (span_at c) (st a k w f h) ≡ Ok (tree.import (spanned c d) (listed xs) src tree.absent phase.Evaluation, st d k w f h)
+        → ImportClauseRule k xs a l → FromRule src l m → AttributesRule (Reads n) k attributes m i → IsGiven attributes → Ends i d
+        → import_phased (object_alone n) (span_at c) (st a k w f h) ≡ Ok (tree.import (spanned c d) (listed xs) src attributes phase.Evaluation, st d k w (f ++ walk (env_of k w.labels) attributes) (h ⊕ notes_of attributes))
     unfolding import_phased begins_phase is_phase_word
     unphased_reads xs src attributes a l m i d q b (bindings_rule r) s t e g =
         let no = (bindings_seen xs a l r).2 in
@@ -320,32 +326,45 @@ module _ (k : Code) (o : IsModule k) where
       second false b e = e
 
   evaluated : (n : ℕ) (xs : List Tree) (src attributes : Tree) (c l m i d : Place) → begins_phase (codes "source") k (after c) || begins_phase (codes "defer") k (after c) ≡ false
-      → ImportClauseRule k xs (after c) l → FromRule src l m → AttributesRule (Reads n) k attributes m i → attributes ≡ tree.absent → Ends i d → (w : Scope) (f : List Fault) (h : Notes)
+      → ImportClauseRule k xs (after c) l → FromRule src l m → AttributesRule (Reads n) k attributes m i → IsGiven attributes → Ends i d → (w : Scope) (f : List Fault) (h : Notes)
       → (b : Bool) → is_phase_word (after c) ≡ b
-      → (if b then import_phased (span_at c) (st (after c) k w f h) else import_from (span_at c) phase.Evaluation (st (after c) k w f h))
-      ≡ Ok (tree.import (spanned c d) (listed xs) src tree.absent phase.Evaluation, st d k w f h)
+      → (if b then import_phased (object_alone n) (span_at c) (st (after c) k w f h) else import_from (object_alone n) (span_at c) phase.Evaluation (st (after c) k w f h))
+      ≡ Ok (tree.import (spanned c d) (listed xs) src attributes phase.Evaluation, st d k w (f ++ walk (env_of k w.labels) attributes) (h ⊕ notes_of attributes))
   evaluated n xs src attributes c l m i d b r s t e g w f h true q = unphased_reads n c w f h xs src attributes (after c) l m i d q b r s t e g
   evaluated n xs src attributes c l m i d b r s t e g w f h false q = from_reads n c w f h phase.Evaluation xs src attributes (after c) l m i d r s t e g
 
-  decl_reads : (n : ℕ) (x : Tree) (c d : Place) → ImportRule (Reads n) k x c d → supported_item x ≡ true → (w : Scope) (f : List Fault) (h : Notes)
-      → import_decl (st c k w f h) ≡ Ok (x, st d k w f h)
+  -- what is answered, said of the import
+  answered_as : (d : Place) (w : Scope) (f : List Fault) (h : Notes) (r : Outcome Tree) (x given y : Tree) → Carries x given → x ≡ y
+      → r ≡ Ok (y, st d k w (f ++ walk (env_of k w.labels) given) (h ⊕ notes_of given)) → r ≡ Ok (x, st d k w (f ++ walk (env_of k w.labels) x) (h ⊕ notes_of x))
+  answered_as d w f h r x given y v e g =
+      let a : walk (env_of k w.labels) x ≡ walk (env_of k w.labels) given = v.0 (env_of k w.labels) ∙ ap (λ z. walk z given) (module_env k w.labels o) in
+      g ∙ rw (a, v.1, v.2, e) refl
+
+  decl_reads : (n : ℕ) (x : Tree) (c d : Place) → ImportRule (Reads n) k x c d → supported_item x ≡ true → notes x ≡ [] → answered.Reads (import_decl (object_alone n)) k x c d
   unfolding import_decl
-  decl_reads n x c d (bare_import_rule src attributes m i e r t g is) s w f h =
-      let a = absent_is attributes (sym (ap supported_item is) ∙ s) in
-      rw (seen (after c) kind.Str (string_seen src (after c) m r), is, a)
-      (imported_reads n c w f h phase.Evaluation [] str src attributes (after c) m i d (str_reads src (after c) m k w f h r) t a g)
-  decl_reads n x c d (import_rule p xs src attributes i l m j e (source_rule b q z) r t u g is) s w f h =
-      let a = absent_is attributes (sym (ap supported_item is) ∙ s) in
+  decl_reads n x c d (bare_import_rule src attributes m i e r t g is) s q w f h =
+      let v = import_carries x (spanned c d) [] src attributes phase.Evaluation is no_trees (string_quiet r) in
+      let a : IsGiven attributes = (sym (ap supported_item is) ∙ s, sym v.1 ∙ q) in
+      answered_as d w f h _ x attributes _ v is
+      (rw (seen (after c) kind.Str (string_seen src (after c) m r)) (imported_reads n c w f h phase.Evaluation [] str src attributes (after c) m i d (str_reads src (after c) m k w f h r) t a g))
+  decl_reads n x c d (import_rule p xs src attributes i l m j e (source_rule b q z) r t u g is) s o w f h =
+      let y = import_carries x (spanned c d) xs src attributes p is (clause_quiet k xs i l r) (string_quiet t.1) in
+      let a : IsGiven attributes = (sym (ap supported_item is) ∙ s, sym y.1 ∙ o) in
       let v = phase_seen (codes "source") (after c) b in
-      rw (v.1, either_first (after c) v.0, is, a, z) (phase_reads n c w f h (codes "source") xs src attributes (after c) l m j d b (rw q at r) t u a g)
-  decl_reads n x c d (import_rule p xs src attributes i l m j e (defer_rule b q z) r t u g is) s w f h =
-      let a = absent_is attributes (sym (ap supported_item is) ∙ s) in
+      answered_as d w f h _ x attributes _ y is
+      (rw (v.1, either_first (after c) v.0, z) (phase_reads n c w f h (codes "source") xs src attributes (after c) l m j d b (rw q at r) t u a g))
+  decl_reads n x c d (import_rule p xs src attributes i l m j e (defer_rule b q z) r t u g is) s o w f h =
+      let y = import_carries x (spanned c d) xs src attributes p is (clause_quiet k xs i l r) (string_quiet t.1) in
+      let a : IsGiven attributes = (sym (ap supported_item is) ∙ s, sym y.1 ∙ o) in
       let v = phase_seen (codes "defer") (after c) b in
-      rw (v.1, either_second (after c) v.0, is, a, z) (phase_reads n c w f h (codes "defer") xs src attributes (after c) l m j d b (rw q at r) t u a g)
-  decl_reads n x c d (import_rule p xs src attributes i l m j e (evaluation_rule b q z) r t u g is) s w f h =
-      let a = absent_is attributes (sym (ap supported_item is) ∙ s) in
+      answered_as d w f h _ x attributes _ y is
+      (rw (v.1, either_second (after c) v.0, z) (phase_reads n c w f h (codes "defer") xs src attributes (after c) l m j d b (rw q at r) t u a g))
+  decl_reads n x c d (import_rule p xs src attributes i l m j e (evaluation_rule b q z) r t u g is) s o w f h =
+      let v = import_carries x (spanned c d) xs src attributes p is (clause_quiet k xs i l r) (string_quiet t.1) in
+      let a : IsGiven attributes = (sym (ap supported_item is) ∙ s, sym v.1 ∙ o) in
       let y : ImportClauseRule k xs (after c) l = rw q at r in
-      rw (clause_seen xs (after c) l y, is, a, z) (evaluated n xs src attributes c l m j d b y t u a g w f h (is_phase_word (after c)) refl)
+      answered_as d w f h _ x attributes _ v is
+      (rw (clause_seen xs (after c) l y, z) (evaluated n xs src attributes c l m j d b y t u a g w f h (is_phase_word (after c)) refl))
 
 clause_begins : (k : Code) (xs : List Tree) (c d : Place) → ImportClauseRule k xs c d → (sees kind.LParen c ≡ false) × (sees kind.Dot c ≡ false)
 unfolding same_kind
@@ -362,19 +381,9 @@ behind_word k p xs c i l (evaluation_rule b q z) r = rw (← q) (clause_begins k
 
 -- ---- what it is in a module
 
-pub import_reads : (n : ℕ) (k : Code) (x : Tree) (c d : Place) → IsModule k → ImportRule (Reads n) (in_module k) x c d → supported_item x ≡ true → (w : Scope) (f : List Fault) (h : Notes)
-    → import_decl (st c k w f h) ≡ Ok (x, st d k w f h)
-import_reads n k x c d o r s w f h = decl_reads k o n x c d (subst (λ j. ImportRule (Reads n) j x c d) (in_module_same k o) r) s w f h
-
-import_quiet_by : (x : Tree) (s : Span) (xs : List Tree) (src attributes : Tree) (p : ImportPhase) → x ≡ tree.import s (listed xs) src attributes p → supported_item x ≡ true → QuietAll xs → Quiet src → Quiet x
-import_quiet_by x s xs src attributes p is h q r =
-    let a = absent_is attributes (sym (ap supported_item is) ∙ h) in
-    quiet_as x (tree.import s (listed xs) src tree.absent p) (is ∙ rw a refl) (λ env. rw (q.0 _ false, r.0 _) refl, rw (q.1, r.1) refl, rw (q.2, r.2) refl)
-
--- a supported import has no faults and no notes
-pub import_quiet : (n : ℕ) (k : Code) (x : Tree) (c d : Place) → ImportRule (Reads n) k x c d → supported_item x ≡ true → ((env : Env) → walk env x ≡ []) × (notes x ≡ []) × (has_meta x ≡ false)
-import_quiet n k x c d (bare_import_rule src attributes m i e r t g is) h = import_quiet_by x (spanned c d) [] src attributes phase.Evaluation is h no_trees (string_quiet r)
-import_quiet n k x c d (import_rule p xs src attributes i l m j e q r t u g is) h = import_quiet_by x (spanned c d) xs src attributes p is h (clause_quiet k xs i l r) (string_quiet t.1)
+pub import_reads : (n : ℕ) (k : Code) (x : Tree) (c d : Place) → IsModule k → ImportRule (Reads n) (in_module k) x c d → supported_item x ≡ true → notes x ≡ []
+    → answered.Reads (import_decl (object_alone n)) k x c d
+import_reads n k x c d o r s q w f h = decl_reads k o n x c d (subst (λ j. ImportRule (Reads n) j x c d) (in_module_same k o) r) s q w f h
 
 -- it begins with its word, which begins no expression there
 pub import_seen : (n : ℕ) (k : Code) (x : Tree) (c d : Place) → ImportRule (Reads n) k x c d → begins_import c ≡ true

@@ -1,5 +1,5 @@
 -- An item of the language is read by itself, an import or an export in module code.
-use Rattle.std.proofs.Common.{◌≡◌, ◌⊎◌, inl, inr, ℕ, zero, suc, Bool, true, false, List, [], Ok, refl, sym, ◌∙◌, append_assoc}
+use Rattle.std.proofs.Common.{◌≡◌, ◌⊎◌, inl, inr, ℕ, zero, suc, Bool, true, false, List, [], Ok, refl, ◌∙◌, append_assoc}
 use Rattle.std.specs.Prelude.{if◌then◌else◌}
 use Rattle.swc_ecma_parser_error.specs.Kind.{Fault}
 use Rattle.swc_ecma_parser_token.specs.declared.kind.TokenKind.{TokenKind}
@@ -30,11 +30,11 @@ use Rattle.swc_ecma_parser_module_reader.specs.Supported.{supported_item}
 use Rattle.swc_ecma_parser_module_reader.specs.Items.{turned, item_whole}
 use Rattle.swc_ecma_parser_module_reader.specs.ItemEntry.{item_walk, item_left, ReadsSupportedItem}
 use Rattle.swc_ecma_parser_module_reader.proofs.CompleteExports.{export_reads}
-use Rattle.swc_ecma_parser_module_reader.proofs.CompleteImports.{import_quiet, import_seen}
+use Rattle.swc_ecma_parser_module_reader.proofs.CompleteImports.{import_seen}
 use Rattle.swc_ecma_parser_module_reader.proofs.CompleteModules.{item_reads}
 use Rattle.swc_ecma_parser_module_reader.proofs.ItemCases.{whole_declared, whole_stated}
 use Rattle.swc_ecma_parser_module_reader.proofs.ItemStarts.{NoItemWord, stmt_starts, statement_told, import_told, export_told, supported_plain, export_seen}
-use Rattle.swc_ecma_parser_module_reader.proofs.ProgramParts.{export_walk, export_module, word_seen, export_word_seen}
+use Rattle.swc_ecma_parser_module_reader.proofs.ProgramParts.{import_walk, export_walk, export_module, word_seen, export_word_seen}
 
 -- no error token stands there
 no_error : (j : TokenKind) → same_kind j kind.Error ≡ false → is_error j ≡ false
@@ -97,9 +97,8 @@ item_alone_reads (suc n) recorded s x d ((r, q), h) a = by_rule r
         stated_answers (suc n) recorded s x d h a e (statement_narrows (suc n) s.code top_item x s.at d (r, q) (supported_plain x e h))
     by_rule (import_item_rule r) =
         let e = import_told (Reads n) (in_module s.code) x s.at d r in
-        let i = import_quiet n (in_module s.code) x s.at d r h in
         declared_answers (suc n) recorded s x d h a e (word_seen s.at (import_seen n (in_module s.code) x s.at d r)).0 (import_item_rule r)
-        (λ env. i.0 (walks.in_module env) ∙ sym (i.0 env)) i.1
+        (λ env. import_walk (Reads n) env (in_module s.code) x s.at d r) (declared_unnoted s.code x e q)
     by_rule (export_item_rule r) =
         let e = export_told (Reads n) s.code x s.at d r in
         declared_answers (suc n) recorded s x d h a e (export_word_seen s.at (export_seen (Reads n) s.code x s.at d r h)).0 (export_item_rule (export_module (Reads n) s.code x s.at d r h))

@@ -28,7 +28,7 @@ use Rattle.swc_ecma_parser_grammar.proofs.StatementEntries.{statement_narrows}
 use Rattle.swc_ecma_parser_grammar.proofs.Tests.{and_yes}
 use Rattle.swc_ecma_parser_reader.specs.Notes.{Notes, ◌⊕◌, notes_of, notes_with, all_notes_with}
 use Rattle.swc_ecma_parser_reader.specs.State.{Scope, State, loop}
-use Rattle.swc_ecma_parser_reader.specs.Reader.{expr, pattern, member, stmt, parameters, directs, items_turn, items, at_end}
+use Rattle.swc_ecma_parser_reader.specs.Reader.{expr, pattern, member, stmt, parameters, object_alone, directs, items_turn, items, at_end}
 use Rattle.swc_ecma_parser_reader.proofs.Answered.{st, Calm}
 use Rattle.swc_ecma_parser_reader.proofs.Between.{nil-split}
 use Rattle.swc_ecma_parser_reader.proofs.CompleteParts.{at_end_at, directs_behind, shebang_reads}
@@ -41,7 +41,7 @@ use Rattle.swc_ecma_parser_module_reader.specs.Exports.{export_decl}
 use Rattle.swc_ecma_parser_module_reader.specs.Modules.{begins_import, import_in, export_in, module_item, module_code, module_body, module_whole}
 use Rattle.swc_ecma_parser_module_reader.specs.Supported.{supported_item, all_supported_items, supported_module}
 use Rattle.swc_ecma_parser_module_reader.specs.Entry.{module_left, ReadsSupportedModule}
-use Rattle.swc_ecma_parser_module_reader.proofs.CompleteImports.{import_reads, import_quiet, import_seen}
+use Rattle.swc_ecma_parser_module_reader.proofs.CompleteImports.{import_reads, import_seen}
 use Rattle.swc_ecma_parser_module_reader.proofs.Falls.{item_shorter}
 use Rattle.swc_ecma_parser_module_reader.proofs.ItemLists.{or_shift}
 use Rattle.swc_ecma_parser_module_reader.proofs.ItemStarts.{import_word, stmt_starts, statement_told, import_told, export_told, supported_plain, export_seen}
@@ -81,7 +81,7 @@ shebang_as c d _ (programs.some_shebang text s r) = some_shebang text s r
 shebang_as c d _ (programs.no_shebang e g) = no_shebang e g
 
 module _ (export_reads : (n : ℕ) (k : Code) (x : Tree) (c d : Place) → IsModule k → ExportRule (Reads n) k x c d → supported_item x ≡ true → notes x ≡ [] → (w : Scope) (f : List Fault) (h : Notes)
-    → Calm k w.labels x d → export_decl (stmt n nested_item) (expr n) (pattern n) (parameters n) (member n) (st c k w f h) ≡ Ok (x, st d k w (f ++ walk (env_of k w.labels) x) (h ⊕ notes_of x))) where
+    → Calm k w.labels x d → export_decl (stmt n nested_item) (expr n) (pattern n) (parameters n) (member n) (object_alone n) (st c k w f h) ≡ Ok (x, st d k w (f ++ walk (env_of k w.labels) x) (h ⊕ notes_of x))) where
   -- ---- an item
 
   pub item_reads : (n : ℕ) (k : Code) (x : Tree) (c d : Place) → IsModule k → Reads n (item_goal k x c d) → supported_item x ≡ true → notes x ≡ [] → (w : Scope) (f : List Fault) (h : Notes) → Calm k w.labels x d
@@ -93,18 +93,7 @@ module _ (export_reads : (n : ℕ) (k : Code) (x : Tree) (c d : Place) → IsMod
       let no = stmt_starts (suc n) k top_item x c d t.0 in
       rw (no.0, no.1, awaits_told x c false (statement_told (Reads n) k top_item x c d r.1)) (whole_reads (suc n) top_item k x c d t w f h a)
   item_reads (suc n) k x c d o (import_item_rule r) s q w f h a =
-      let i = import_quiet n (in_module k) x c d r s in
-      rw (
-        import_seen n (in_module k) x c d r,
-        awaits_told x c true (import_told (Reads n) (in_module k) x c d r),
-        import_reads n k x c d o r s w f h,
-        i.0 (env_of k w.labels),
-        i.1,
-        i.2,
-        append-nil f,
-        append-nil h.held_back,
-        or_nil h.found_module_item,
-      ) refl
+      rw (import_seen n (in_module k) x c d r, awaits_told x c true (import_told (Reads n) (in_module k) x c d r), or_nil (has_meta x)) (import_reads n k x c d o r s q w f h)
   item_reads (suc n) k x c d o (export_item_rule r) s q w f h a =
       let e = export_stands c (export_seen (Reads n) k x c d r s) in
       rw (e.0, e.1, awaits_told x c true (export_told (Reads n) k x c d r), or_nil (has_meta x)) (export_reads n k x c d o r s q w f h a)

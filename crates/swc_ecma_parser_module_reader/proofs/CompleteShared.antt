@@ -1,11 +1,12 @@
--- The parts that imports and exports share are read: strings, names, `from`, and specifiers in braces. Nothing is recorded or noted.
-use Rattle.std.proofs.Common.{◌≡◌, ℕ, zero, suc, ◌<◌, Bool, true, false, List, [], ◌∷◌, ◌++◌, length, Ok, refl, sym, ◌∙◌, ap, append_assoc, append-nil, codes}
+-- The parts that imports and exports share are read: strings, names, `from` and specifiers in braces, where nothing is recorded or
+-- noted, and attributes.
+use Rattle.std.proofs.Common.{◌≡◌, ℕ, ◌<◌, Bool, true, false, List, [], ◌∷◌, ◌++◌, length, Ok, refl, sym, ◌∙◌, ap, append_assoc, append-nil, codes}
 use Rattle.swc_ecma_parser_error.specs.Kind.{Kind, Fault}
 use Rattle.std.specs.Prelude.{not, ◌&&◌, ◌||◌}
 use Rattle.std.specs.Str.{bytes_eq}
 use Rattle.swc_ecma_parser_input.specs.declared.context.Context.{Context}
-use Rattle.swc_ecma_parser_grammar.specs.language.Parts.{ReadsName}
-use Rattle.swc_ecma_parser_reader.specs.State.{name}
+use Rattle.swc_ecma_parser_grammar.specs.language.Parts.{ReadsName, ReadsWord}
+use Rattle.swc_ecma_parser_reader.specs.State.{name, Scope, Reader, expect_word, loop}
 use Rattle.swc_ecma_parser_token.specs.declared.keyword.Keyword.{Keyword}
 use Rattle.swc_ecma_parser_token.specs.declared.keyword.Keyword.TheVariants as keyword
 use Rattle.swc_ecma_parser_token.specs.declared.kind.TokenKind.TheVariants as kind
@@ -23,20 +24,24 @@ use Rattle.swc_ecma_parser_model.specs.Tree.{Tree, Text}
 use Rattle.swc_ecma_parser_grammar.specs.Looks.{kind_at, sees, same_kind}
 use Rattle.swc_ecma_parser_grammar.specs.Names.{Code, is_reserved, is_name, is_identifier, is_clean_name}
 use Rattle.swc_ecma_parser_grammar.specs.Follows.{word_at}
-use Rattle.swc_ecma_parser_grammar.specs.language.Goals.{attributes_goal}
 use Rattle.swc_ecma_parser_grammar.specs.language.Lists.{ReadsListed, no_comma, last_comma}
-use Rattle.swc_ecma_parser_grammar.specs.language.ModuleParts.{BracedRule, StringRule, FromRule, ModuleNameRule, word_name_rule, string_name_rule, begins_attributes, AttributesRule, no_attributes_rule, attributes_rule}
-use Rattle.swc_ecma_parser_grammar.specs.language.Parts.{ReadsWord}
+use Rattle.swc_ecma_parser_grammar.specs.language.ModuleParts.{BracedRule, StringRule, FromRule, ModuleNameRule, word_name_rule, string_name_rule, AttributesRule, no_attributes_rule, attributes_rule}
 use Rattle.swc_ecma_parser_grammar.specs.language.Reads.{Reads}
+use Rattle.swc_ecma_parser_grammar.specs.Notes.{notes}
+use Rattle.swc_ecma_parser_grammar.specs.Supported.{supported}
+use Rattle.swc_ecma_parser_grammar.proofs.SupportedIn.{lift_in}
 use Rattle.swc_ecma_parser_reader.specs.Notes.{Notes}
 use Rattle.swc_ecma_parser_reader.specs.Operands.{word_property}
-use Rattle.swc_ecma_parser_reader.specs.State.{Scope, Reader, expect_word, loop}
+use Rattle.swc_ecma_parser_reader.specs.Reader.{object_alone}
+use Rattle.swc_ecma_parser_reader.proofs.Answered as answered
 use Rattle.swc_ecma_parser_reader.proofs.Answered.{st}
+use Rattle.swc_ecma_parser_reader.proofs.Notes.{or_nil}
+use Rattle.swc_ecma_parser_reader.proofs.Objects.{object_alone_reads}
 use Rattle.swc_ecma_parser_reader.proofs.expressions.CompleteKinds.{seen, token_first}
-use Rattle.swc_ecma_parser_reader.proofs.expressions.CompleteParts.{expect_reads, literal_reads}
-use Rattle.swc_ecma_parser_reader.proofs.expressions.CompleteParts.{name_reads as token_name_reads}
-use Rattle.swc_ecma_parser_module_reader.specs.Imports.{str, source, module_name, no_attributes, specifiers_turn, specifiers}
+use Rattle.swc_ecma_parser_reader.proofs.expressions.CompleteParts.{expect_reads, literal_reads, name_reads as token_name_reads}
+use Rattle.swc_ecma_parser_module_reader.specs.Imports.{str, source, module_name, attributes, specifiers_turn, specifiers}
 use Rattle.swc_ecma_parser_module_reader.proofs.Loops.{specifiers_stop, specifiers_more, specifiers_last}
+use Rattle.swc_ecma_parser_grammar.proofs.Naming.{name_is_name}
 
 -- ---- strings and names
 
@@ -85,38 +90,20 @@ unfolding module_name word_property
 module_name_reads x c d k w f h (word_name_rule text s r e) = rw (no_string text s c d r, any_word_reads text s c d k w f h r, e) refl
 module_name_reads x c d k w f h (string_name_rule r) = rw (seen c kind.Str (string_seen x c d r)) (str_reads x c d k w f h r)
 
--- in module code `await` is no name, so one that is no fault is a name
-clean_by : (m a b r w : Bool) → m ≡ true → (not r && not (w && (m || (a || b)))) ≡ true → (not r && not w) ≡ true
-clean_by true a b r true o e = e
-clean_by true a b true false o e = e
-clean_by true a b false false o e = refl
-clean_by false a b r w o e = cc
-
-pub clean_name : (f : Context) (text : Text) → f.module ≡ true → is_clean_name f text ≡ true → is_name f text ≡ true
-unfolding is_name is_identifier is_clean_name
-clean_name f text o e = clean_by f.module f.in_async f.in_static_block (is_reserved f text) (bytes_eq text (codes "await")) o e
-
-pub name_reads : (missing : Kind) (text : Text) (s : Span) (c d : Place) (k : Code) (w : Scope) (f : List Fault) (h : Notes) → k.flags.module ≡ true → ReadsName k text s c d
+pub name_reads : (missing : Kind) (text : Text) (s : Span) (c d : Place) (k : Code) (w : Scope) (f : List Fault) (h : Notes) → ReadsName k text s c d
     → name missing (st c k w f h) ≡ Ok (record { span = s; sym = text }, st d k w f h)
-name_reads missing text s c d k w f h o r =
-    let g : is_name k.flags (word_text r.word) ≡ true = ap (is_name k.flags) (sym r.is_text) ∙ clean_name k.flags text o r.is_name in
-    rw (token_name_reads missing r.word s c d k w f h r.reads_word g, ← r.is_text) refl
+name_reads missing text s c d k w f h r = rw (token_name_reads missing r.word s c d k w f h r.reads_word (name_is_name k text s c d r), ← r.is_text) refl
 
--- ---- attributes that are not there
+-- ---- attributes
 
-pub no_attributes_read : (c : Place) (k : Code) (w : Scope) (f : List Fault) (h : Notes) → begins_attributes k c ≡ false → no_attributes (st c k w f h) ≡ Ok (tt, st c k w f h)
-unfolding no_attributes
-no_attributes_read c k w f h e = rw e refl
+-- what is supported and notes nothing
+abbrev pub IsGiven : Tree → Type 0
+IsGiven x = (supported x ≡ true) × (notes x ≡ [])
 
--- no tree that is absent is an object
-no_absent : (n : ℕ) (k : Code) (c d : Place) → Reads n (attributes_goal k tree.absent c d) → ⊥
-no_absent zero k c d r = r
-no_absent (suc n) k c d r = absurd (let e : false ≡ true = r.1 in cc)
-
--- none are left out
-pub attributes_absent : (n : ℕ) (k : Code) (x : Tree) (c d : Place) → AttributesRule (Reads n) k x c d → x ≡ tree.absent → (d ≡ c) × (begins_attributes k c ≡ false)
-attributes_absent n k x c d (no_attributes_rule e g i) a = (g, e)
-attributes_absent n k x c d (attributes_rule e r) a = absurd (no_absent n k (after c) d (rw (← a) r))
+pub attributes_read : (n : ℕ) (k : Code) (x : Tree) (c d : Place) → AttributesRule (Reads n) k x c d → IsGiven x → answered.Reads (attributes (object_alone n)) k x c d
+unfolding attributes
+attributes_read n k x c d (no_attributes_rule e g i) s w f h = rw (e, g, i, append-nil f, append-nil h.held_back, or_nil h.found_module_item) refl
+attributes_read n k x c d (attributes_rule e r) s w f h = rw e (object_alone_reads n k x (after c) d r (lift_in k.flags.module x s.0 (λ o. s.1)) w f h)
 
 -- ---- specifiers in braces
 

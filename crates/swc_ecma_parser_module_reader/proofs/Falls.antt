@@ -25,17 +25,18 @@ use Rattle.swc_ecma_parser_reader.specs.Jumps.{told}
 use Rattle.swc_ecma_parser_reader.specs.Members.{class_decl, class_expr, class_stmt}
 use Rattle.swc_ecma_parser_reader.specs.Methods.{method_form, star}
 use Rattle.swc_ecma_parser_reader.specs.Operands.{literal, literal_in, taken, word_property}
-use Rattle.swc_ecma_parser_reader.specs.Reader.{variables, const_stmt, let_stmt, function_stmt, function_decl, function_parts, function_word, function_by, function, plain_method, async_or_other, named, optional_end, expr, pattern, member, stmt, stmt_level, parameters}
+use Rattle.swc_ecma_parser_reader.specs.Reader.{variables, const_stmt, let_stmt, function_stmt, function_decl, function_parts, function_word, function_by, function, plain_method, async_or_other, named, optional_end, expr, pattern, member, stmt, stmt_level, parameters, object_alone}
 use Rattle.swc_ecma_parser_reader.specs.State.{State, Outcome, Reader, and_then, moved, coded, within, name, expect, expect_word, end, loop}
 use Rattle.swc_ecma_parser_reader.specs.Words.{any_word}
 use Rattle.swc_ecma_parser_reader.proofs.Falls.{expr_falls, functions_fall, member_falls, stmt_falls, whole_stmt_falls}
 use Rattle.swc_ecma_parser_reader.proofs.classes.Falls as classes
 use Rattle.swc_ecma_parser_reader.proofs.Meets.{saw}
+use Rattle.swc_ecma_parser_reader.proofs.Objects.{object_alone_falls}
 use Rattle.swc_ecma_parser_reader.proofs.Takes.{Falls, falls_then, falls_last, falls_coded, falls_if, less, falls_next, moves, takes_one, falls_past, falls_moved, wanted_falls, too_deep_falls, refuse_falls, name_falls, end_falls, expect_falls, loop_falls}
 use Rattle.swc_ecma_parser_reader.proofs.Words.{async_kind}
 use Rattle.swc_ecma_parser_reader.proofs.expressions.Falls.{reject_falls, falls_when, any_word_falls, star_falls, told_falls, no_end}
 use Rattle.swc_ecma_parser_reader.proofs.expressions.Loops.{shorter_by}
-use Rattle.swc_ecma_parser_module_reader.specs.Imports.{str_or, str, source, module_name, no_attributes, specifiers_turn, specifiers, same_name, other_name, import_specifier, binding_name, import_namespace, bindings, more_bindings, default_binding, import_clause, imported, import_from, phase_of, import_phased, is_phase_word, import_decl}
+use Rattle.swc_ecma_parser_module_reader.specs.Imports.{str_or, str, source, module_name, attributes, specifiers_turn, specifiers, same_name, other_name, import_specifier, binding_name, import_namespace, bindings, more_bindings, default_binding, import_clause, imported, import_from, phase_of, import_phased, is_phase_word, import_decl}
 use Rattle.swc_ecma_parser_module_reader.specs.Exports.{renamed_export, plain_export, export_specifier, export_namespace, names_from, own_names, export_names, more_names, namespace_names, export_all, export_star, is_namespace_next, behind_default, is_name_from, name_from, is_default_from, default_from, default_name, default_function, default_expr, begins_default_function, exported_function, exported_class, export_default, exported, export_decl}
 use Rattle.swc_ecma_parser_module_reader.specs.Modules.{begins_import, import_in, export_in, module_item}
 
@@ -115,9 +116,9 @@ module_name_falls s = falls_if 1 (length s.at.left) (sees kind.Str s.at) _ _ (st
 name_less : (s : State) → Falls 0 (length s.at.left) (module_name s)
 name_less s = less (length s.at.left) (module_name s) (module_name_falls s)
 
-no_attributes_falls : (s : State) → Falls 0 (length s.at.left) (no_attributes s)
-unfolding no_attributes
-no_attributes_falls s = falls_if 0 (length s.at.left) (begins_attributes s.code s.at) _ _ (wanted_falls (Unit {0}) 0 (length s.at.left) faults.Unexpected s) (omega arith)
+attributes_fall : (object : Reader Tree) → ((s : State) → Falls 0 (length s.at.left) (object s)) → (s : State) → Falls 0 (length s.at.left) (attributes object s)
+unfolding attributes
+attributes_fall object h s = falls_if 0 (length s.at.left) (begins_attributes s.code s.at) _ _ (falls_moved 0 s _ (h (moved s))) (omega arith)
 
 module _ (specifier : Reader Tree) (h : (s : State) → Falls 1 (length s.at.left) (specifier s)) where
   specifiers_turn_falls : (found : List Tree) (s : State) → Falls 0 (length s.at.left) (specifiers_turn specifier found s)
@@ -178,28 +179,29 @@ unfolding import_clause
 import_clause_falls s = falls_if 0 (length s.at.left) (sees kind.Mul s.at || sees kind.LBrace s.at) _ _ (bindings_fall s)
     (falls_then 0 0 (length s.at.left) (binding_name s) _ (binding_falls s) (λ i t. default_binding_falls i t))
 
--- from the string on, or from `from` on
-imported_falls : (start : Span) (p : ImportPhase) (xs : List Tree) (from : Reader Tree) → ((s : State) → Falls 0 (length s.at.left) (from s)) → (s : State)
-    → Falls 0 (length s.at.left) (imported start p xs from s)
-unfolding imported
-imported_falls start p xs from h s = falls_then 0 0 (length s.at.left) (from s) _ (h s) (λ src t.
-    falls_then 0 0 (length t.at.left) (no_attributes t) _ (no_attributes_falls t) (λ _ u.
-    falls_last 0 (length u.at.left) (end faults.Expected u) _ (end_falls faults.Expected u)))
+module _ (object : Reader Tree) (takes : (s : State) → Falls 0 (length s.at.left) (object s)) where
+  -- from the string on, or from `from` on
+  imported_falls : (start : Span) (p : ImportPhase) (xs : List Tree) (from : Reader Tree) → ((s : State) → Falls 0 (length s.at.left) (from s)) → (s : State)
+      → Falls 0 (length s.at.left) (imported object start p xs from s)
+  unfolding imported
+  imported_falls start p xs from h s = falls_then 0 0 (length s.at.left) (from s) _ (h s) (λ src t.
+      falls_then 0 0 (length t.at.left) (attributes object t) _ (attributes_fall object takes t) (λ _ u.
+      falls_last 0 (length u.at.left) (end faults.Expected u) _ (end_falls faults.Expected u)))
 
-import_from_falls : (start : Span) (p : ImportPhase) (s : State) → Falls 0 (length s.at.left) (import_from start p s)
-unfolding import_from
-import_from_falls start p s = falls_then 0 0 (length s.at.left) (import_clause s) _ (import_clause_falls s) (λ xs t. imported_falls start p xs source source_falls t)
+  import_from_falls : (start : Span) (p : ImportPhase) (s : State) → Falls 0 (length s.at.left) (import_from object start p s)
+  unfolding import_from
+  import_from_falls start p s = falls_then 0 0 (length s.at.left) (import_clause s) _ (import_clause_falls s) (λ xs t. imported_falls start p xs source source_falls t)
 
-import_phased_falls : (start : Span) (s : State) → Falls 0 (length s.at.left) (import_phased start s)
-unfolding import_phased
-import_phased_falls start s = falls_then 0 0 (length s.at.left) (any_word s) _ (less (length s.at.left) (any_word s) (any_word_falls s)) (λ i t.
-    falls_if 0 (length t.at.left) (follows_phase t.code t.at) _ _ (import_from_falls start (phase_of i.sym) t)
-    (falls_then 0 0 (length t.at.left) (default_binding i t) _ (default_binding_falls i t) (λ xs u. imported_falls start phase.Evaluation xs source source_falls u)))
+  import_phased_falls : (start : Span) (s : State) → Falls 0 (length s.at.left) (import_phased object start s)
+  unfolding import_phased
+  import_phased_falls start s = falls_then 0 0 (length s.at.left) (any_word s) _ (less (length s.at.left) (any_word s) (any_word_falls s)) (λ i t.
+      falls_if 0 (length t.at.left) (follows_phase t.code t.at) _ _ (import_from_falls start (phase_of i.sym) t)
+      (falls_then 0 0 (length t.at.left) (default_binding i t) _ (default_binding_falls i t) (λ xs u. imported_falls start phase.Evaluation xs source source_falls u)))
 
-pub import_decl_falls : (s : State) → kind_at s.at ≢ kind.End → Falls 1 (length s.at.left) (import_decl s)
-unfolding import_decl
-import_decl_falls s e = falls_past s _ e (falls_if 0 (length (after s.at).left) (sees kind.Str (after s.at)) _ _ (imported_falls (span_at s.at) phase.Evaluation [] str str_less (moved s))
-    (falls_if 0 (length (after s.at).left) (is_phase_word (after s.at)) _ _ (import_phased_falls (span_at s.at) (moved s)) (import_from_falls (span_at s.at) phase.Evaluation (moved s))))
+  pub import_decl_falls : (s : State) → kind_at s.at ≢ kind.End → Falls 1 (length s.at.left) (import_decl object s)
+  unfolding import_decl
+  import_decl_falls s e = falls_past s _ e (falls_if 0 (length (after s.at).left) (sees kind.Str (after s.at)) _ _ (imported_falls (span_at s.at) phase.Evaluation [] str str_less (moved s))
+      (falls_if 0 (length (after s.at).left) (is_phase_word (after s.at)) _ _ (import_phased_falls (span_at s.at) (moved s)) (import_from_falls (span_at s.at) phase.Evaluation (moved s))))
 
 -- ---- exports
 
@@ -221,54 +223,55 @@ unfolding export_namespace
 export_namespace_falls start s = falls_then 0 0 (length s.at.left) (expect_word (codes "as") s) _ (expect_word_falls (codes "as") s) (λ _ t.
     falls_last 0 (length t.at.left) (module_name t) _ (name_less t))
 
--- the other module, to its end
-behind_source_falls : {A : Type 0} (g : Tree → State → A) (s : State)
-    → Falls 0 (length s.at.left) (and_then (source s) (λ src t. and_then (no_attributes t) (λ _ u. and_then (end faults.Expected u) (λ _ v. Ok (g src v, v)))))
-behind_source_falls g s = falls_then 0 0 (length s.at.left) (source s) _ (source_falls s) (λ src t.
-    falls_then 0 0 (length t.at.left) (no_attributes t) _ (no_attributes_falls t) (λ _ u.
-    falls_last 0 (length u.at.left) (end faults.Expected u) _ (end_falls faults.Expected u)))
+module _ (object : Reader Tree) (takes : (s : State) → Falls 0 (length s.at.left) (object s)) where
+  -- the other module, to its end
+  behind_source_falls : {A : Type 0} (g : Tree → Tree → State → A) (s : State)
+      → Falls 0 (length s.at.left) (and_then (source s) (λ src t. and_then (attributes object t) (λ x u. and_then (end faults.Expected u) (λ _ v. Ok (g src x v, v)))))
+  behind_source_falls g s = falls_then 0 0 (length s.at.left) (source s) _ (source_falls s) (λ src t.
+      falls_then 0 0 (length t.at.left) (attributes object t) _ (attributes_fall object takes t) (λ _ u.
+      falls_last 0 (length u.at.left) (end faults.Expected u) _ (end_falls faults.Expected u)))
 
-names_from_falls : (start : Span) (xs : List Tree) (s : State) → Falls 0 (length s.at.left) (names_from start xs s)
-unfolding names_from
-names_from_falls start xs s = behind_source_falls _ s
+  names_from_falls : (start : Span) (xs : List Tree) (s : State) → Falls 0 (length s.at.left) (names_from object start xs s)
+  unfolding names_from
+  names_from_falls start xs s = behind_source_falls _ s
 
-optional_end_falls : (s : State) → Falls 0 (length s.at.left) (optional_end s)
-unfolding optional_end
-optional_end_falls s = falls_if 0 (length s.at.left) (sees kind.Semi s.at) _ _ (let m = moves s.at in omega arith) (omega arith)
+  optional_end_falls : (s : State) → Falls 0 (length s.at.left) (optional_end s)
+  unfolding optional_end
+  optional_end_falls s = falls_if 0 (length s.at.left) (sees kind.Semi s.at) _ _ (let m = moves s.at in omega arith) (omega arith)
 
-own_names_fall : (start : Span) (xs : List Tree) (s : State) → Falls 0 (length s.at.left) (own_names start xs s)
-unfolding own_names
-own_names_fall start xs s =
-    let fs = export_faults tree.absent (listed xs) in
-    falls_then 0 0 (length s.at.left) (told fs s) _ (told_falls fs s) (λ _ t. falls_last 0 (length t.at.left) (optional_end t) _ (optional_end_falls t))
+  own_names_fall : (start : Span) (xs : List Tree) (s : State) → Falls 0 (length s.at.left) (own_names start xs s)
+  unfolding own_names
+  own_names_fall start xs s =
+      let fs = export_faults tree.absent (listed xs) in
+      falls_then 0 0 (length s.at.left) (told fs s) _ (told_falls fs s) (λ _ t. falls_last 0 (length t.at.left) (optional_end t) _ (optional_end_falls t))
 
-export_names_fall : (start : Span) (before : List Tree) (s : State) → Falls 0 (length s.at.left) (export_names start before s)
-unfolding export_names
-export_names_fall start before s = falls_then 0 0 (length s.at.left) (specifiers export_specifier s) _ (specifiers_fall export_specifier export_specifier_falls s) (λ xs t.
-    falls_if 0 (length t.at.left) (word_at (codes "from") t.at) _ _ (names_from_falls start (before ++ xs) t) (own_names_fall start (before ++ xs) t))
+  export_names_fall : (start : Span) (before : List Tree) (s : State) → Falls 0 (length s.at.left) (export_names object start before s)
+  unfolding export_names
+  export_names_fall start before s = falls_then 0 0 (length s.at.left) (specifiers export_specifier s) _ (specifiers_fall export_specifier export_specifier_falls s) (λ xs t.
+      falls_if 0 (length t.at.left) (word_at (codes "from") t.at) _ _ (names_from_falls start (before ++ xs) t) (own_names_fall start (before ++ xs) t))
 
-more_names_fall : (start : Span) (before : List Tree) (s : State) → Falls 0 (length s.at.left) (more_names start before s)
-unfolding more_names
-more_names_fall start before s = falls_if 0 (length s.at.left) (s.code.setting.export_default_from && sees kind.Comma s.at) _ _
-    (falls_moved 0 s _ (export_names_fall start before (moved s))) (names_from_falls start before s)
+  more_names_fall : (start : Span) (before : List Tree) (s : State) → Falls 0 (length s.at.left) (more_names object start before s)
+  unfolding more_names
+  more_names_fall start before s = falls_if 0 (length s.at.left) (s.code.setting.export_default_from && sees kind.Comma s.at) _ _
+      (falls_moved 0 s _ (export_names_fall start before (moved s))) (names_from_falls start before s)
 
-namespace_names_fall : (start first : Span) (before : List Tree) (s : State) → Falls 0 (length s.at.left) (namespace_names start first before s)
-unfolding namespace_names
-namespace_names_fall start first before s = falls_then 0 0 (length s.at.left) (export_namespace first s) _ (export_namespace_falls first s) (λ x t. more_names_fall start (before ++ x ∷ []) t)
+  namespace_names_fall : (start first : Span) (before : List Tree) (s : State) → Falls 0 (length s.at.left) (namespace_names object start first before s)
+  unfolding namespace_names
+  namespace_names_fall start first before s = falls_then 0 0 (length s.at.left) (export_namespace first s) _ (export_namespace_falls first s) (λ x t. more_names_fall start (before ++ x ∷ []) t)
 
-export_star_falls : (start : Span) (s : State) → Falls 0 (length s.at.left) (export_star start s)
-unfolding export_star export_all
-export_star_falls start s = falls_moved 0 s _ (falls_if 0 (length (after s.at).left) (word_at (codes "as") (after s.at)) _ _
-    (namespace_names_fall start (span_at s.at) [] (moved s)) (behind_source_falls _ (moved s)))
+  export_star_falls : (start : Span) (s : State) → Falls 0 (length s.at.left) (export_star object start s)
+  unfolding export_star export_all
+  export_star_falls start s = falls_moved 0 s _ (falls_if 0 (length (after s.at).left) (word_at (codes "as") (after s.at)) _ _
+      (namespace_names_fall start (span_at s.at) [] (moved s)) (behind_source_falls _ (moved s)))
 
-behind_default_falls : (start first : Span) (x : Tree) (s : State) → Falls 0 (length s.at.left) (behind_default start first x s)
-unfolding behind_default
-behind_default_falls start first x s = falls_if 0 (length s.at.left) (is_namespace_next s.at) _ _
-    (falls_moved 0 s _ (falls_moved 0 (moved s) _ (namespace_names_fall start first (x ∷ []) (moved (moved s))))) (more_names_fall start (x ∷ []) s)
+  behind_default_falls : (start first : Span) (x : Tree) (s : State) → Falls 0 (length s.at.left) (behind_default object start first x s)
+  unfolding behind_default
+  behind_default_falls start first x s = falls_if 0 (length s.at.left) (is_namespace_next s.at) _ _
+      (falls_moved 0 s _ (falls_moved 0 (moved s) _ (namespace_names_fall start first (x ∷ []) (moved (moved s))))) (more_names_fall start (x ∷ []) s)
 
-name_from_falls : (start : Span) (s : State) → Falls 0 (length s.at.left) (name_from start s)
-unfolding name_from
-name_from_falls start s = falls_then 0 0 (length s.at.left) (name faults.ExpectedIdent s) _ (bound_falls s) (λ i t. behind_default_falls start (span_at s.at) _ t)
+  name_from_falls : (start : Span) (s : State) → Falls 0 (length s.at.left) (name_from object start s)
+  unfolding name_from
+  name_from_falls start s = falls_then 0 0 (length s.at.left) (name faults.ExpectedIdent s) _ (bound_falls s) (λ i t. behind_default_falls start (span_at s.at) _ t)
 
 default_name_falls : (s : State) → Falls 0 (length s.at.left) (default_name s)
 unfolding default_name named
@@ -281,6 +284,10 @@ word_less s = let m = moves s.at in falls_if 0 (length s.at.left) (is_async_func
 -- ---- in so many levels
 
 module _ (n : ℕ) where
+  -- an object alone, as attributes are
+  object_less : (s : State) → Falls 0 (length s.at.left) (object_alone n s)
+  object_less s = less (length s.at.left) (object_alone n s) (object_alone_falls n s)
+
   -- a function from behind its name, which is as much as a method
   parts_fall : (w v : Bool) (start : Span) (s : State) → Falls 0 (length s.at.left) (function_parts (stmt n nested_item) (parameters n) w v start s)
   unfolding function function_by plain_method
@@ -306,13 +313,13 @@ module _ (n : ℕ) where
   default_class_falls s e = less (length s.at.left) (class_expr (expr n left_side) (member n) s)
       (classes.class_expr_falls (expr n left_side) (expr_falls n left_side) (member n) (member_falls n) s (saw s.at kind.Class e))
 
-  export_default_falls : (start first : Span) (s : State) → Falls 0 (length s.at.left) (export_default (stmt n nested_item) (expr n) (pattern n) (parameters n) (member n) start first s)
+  export_default_falls : (start first : Span) (s : State) → Falls 0 (length s.at.left) (export_default (stmt n nested_item) (expr n) (pattern n) (parameters n) (member n) (object_alone n) start first s)
   unfolding export_default exported_function exported_class default_from
   export_default_falls start first s = falls_when 0 (length s.at.left) (sees kind.Class s.at) _ _
       (λ e. falls_last 0 (length s.at.left) (class_expr (expr n left_side) (member n) s) _ (default_class_falls s e)) (λ _.
       falls_if 0 (length s.at.left) (begins_default_function s.at) _ _
       (falls_last 0 (length s.at.left) (default_function (stmt n nested_item) (parameters n) s) _ (default_function_falls s))
-      (falls_if 0 (length s.at.left) (is_default_from s.code s.at) _ _ (behind_default_falls start first _ s) (default_expr_falls start s)))
+      (falls_if 0 (length s.at.left) (is_default_from s.code s.at) _ _ (behind_default_falls (object_alone n) object_less start first _ s) (default_expr_falls start s)))
 
   -- a declaration, which is a statement
   exported_falls : (start : Span) (d : Reader Tree) (s : State) → stmt (suc n) nested_item s ≡ d s
@@ -320,18 +327,18 @@ module _ (n : ℕ) where
   unfolding exported
   exported_falls start d s e = falls_last 0 (length s.at.left) (d s) _ (less (length s.at.left) (d s) (subst (Falls 1 (length s.at.left)) e (stmt_falls (suc n) nested_item s)))
 
-  pub export_decl_falls : (s : State) → kind_at s.at ≢ kind.End → Falls 1 (length s.at.left) (export_decl (stmt n nested_item) (expr n) (pattern n) (parameters n) (member n) s)
+  pub export_decl_falls : (s : State) → kind_at s.at ≢ kind.End → Falls 1 (length s.at.left) (export_decl (stmt n nested_item) (expr n) (pattern n) (parameters n) (member n) (object_alone n) s)
   unfolding export_decl
   export_decl_falls s e = let t = moved s in let m = length (after s.at).left in falls_past s _ e
-      (falls_if 0 m (sees kind.LBrace t.at) _ _ (export_names_fall (span_at s.at) [] t)
-      (falls_if 0 m (sees kind.Mul t.at) _ _ (export_star_falls (span_at s.at) t)
+      (falls_if 0 m (sees kind.LBrace t.at) _ _ (export_names_fall (object_alone n) object_less (span_at s.at) [] t)
+      (falls_if 0 m (sees kind.Mul t.at) _ _ (export_star_falls (object_alone n) object_less (span_at s.at) t)
       (falls_if 0 m (sees kind.Default t.at) _ _ (falls_moved 0 t _ (export_default_falls (span_at s.at) (span_at t.at) (moved t)))
       (falls_when 0 m (sees kind.Var t.at) _ _ (λ h. exported_falls (span_at s.at) (variables (expr n) (pattern n) decl.Var) t (var_is_stmt n t h)) (λ _.
       falls_when 0 m (sees kind.Const t.at) _ _ (λ h. exported_falls (span_at s.at) (variables (expr n) (pattern n) decl.Const) t (const_is_stmt n t h)) (λ _.
       falls_when 0 m (is_let_declaration t.at) _ _ (λ h. exported_falls (span_at s.at) (variables (expr n) (pattern n) decl.Let) t (let_is_stmt n t h)) (λ _.
       falls_when 0 m (sees kind.Class t.at) _ _ (λ h. exported_falls (span_at s.at) (class_decl (expr n left_side) (member n)) t (class_is_stmt n t h)) (λ _.
       falls_when 0 m (begins_default_function t.at) _ _ (λ h. exported_falls (span_at s.at) (function_decl (stmt n nested_item) (parameters n)) t (function_is_stmt n t h)) (λ _.
-      falls_if 0 m (is_name_from t.code t.at) _ _ (name_from_falls (span_at s.at) t) (wanted_falls Tree 0 m faults.Unexpected t))))))))))
+      falls_if 0 m (is_name_from t.code t.at) _ _ (name_from_falls (object_alone n) object_less (span_at s.at) t) (wanted_falls Tree 0 m faults.Unexpected t))))))))))
 
 -- ---- an item
 
@@ -347,7 +354,7 @@ begins_import_kind s e = saw s.at kind.Import (first (sees kind.Import s.at) _ e
 import_in_falls : (n : ℕ) (s : State) → kind_at s.at ≢ kind.End → Falls 1 (length s.at.left) (import_in n s)
 unfolding import_in
 import_in_falls zero s e = too_deep_falls Tree 1 (length s.at.left) s
-import_in_falls (suc n) s e = import_decl_falls s e
+import_in_falls (suc n) s e = import_decl_falls (object_alone n) (object_less n) s e
 
 export_in_falls : (n : ℕ) (s : State) → kind_at s.at ≢ kind.End → Falls 1 (length s.at.left) (export_in n s)
 unfolding export_in

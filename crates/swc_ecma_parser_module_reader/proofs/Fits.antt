@@ -17,7 +17,7 @@ use Rattle.swc_ecma_parser_model.specs.declared.leaves.Ident.{Ident}
 use Rattle.swc_ecma_parser_model.specs.Tree.{Tree}
 use Rattle.swc_ecma_parser_grammar.specs.declared.position.Position.{Position}
 use Rattle.swc_ecma_parser_grammar.specs.Looks.{kind_at, same_kind, breaks_at, span_at}
-use Rattle.swc_ecma_parser_grammar.specs.Names.{Code, is_name, name_at}
+use Rattle.swc_ecma_parser_grammar.specs.Names.{Code, is_name, name_at, identifier_at}
 use Rattle.swc_ecma_parser_grammar.specs.Follows.{word_at, is_async_function}
 use Rattle.swc_ecma_parser_grammar.specs.Reads.{with_in, nested_item}
 use Rattle.swc_ecma_parser_grammar.specs.language.Contexts.{in_class}
@@ -36,7 +36,7 @@ use Rattle.swc_ecma_parser_reader.proofs.classes.Keeps.{class_expr_keeps}
 use Rattle.swc_ecma_parser_reader.proofs.Limits.{whole_fits}
 use Rattle.swc_ecma_parser_reader.proofs.Meets.{Answers, Meets, answers_then, answers_if, meant}
 use Rattle.swc_ecma_parser_reader.proofs.Shallow.{Fine, fine_taken, Shallow, Kept, either_false, name_shallow}
-use Rattle.swc_ecma_parser_reader.proofs.Words.{word_named}
+use Rattle.swc_ecma_parser_reader.proofs.Words.{word_named, unreserved}
 use Rattle.swc_ecma_parser_reader.proofs.expressions.SoundSteps.{FreeWord, name_sound}
 use Rattle.swc_ecma_parser_reader.proofs.Between.{SoundStep}
 use Rattle.swc_ecma_parser_module_reader.proofs.Keeps.{parts_keep}
@@ -123,8 +123,7 @@ in_function w v start s = before s (function_words w v start s.at.last)
 
 -- `async` is a name everywhere
 async_name : (s : State) → is_name s.code.flags (codes "async") ≡ true
-unfolding name_at word_at a_token
-async_name s = word_named s.code.flags (before s (a_token (token.Word (word.Ident (codes "async"))) s.at.last ∷ [])).at refl
+async_name s = unreserved s.code.flags (codes "async") refl
 
 refused_in_function : (k : ℕ) (w v : Bool) (start : Span) (s : State) (p : Fault × State) → function_parts (stmt k nested_item) (parameters k) w v start s ≡ Err p
     → stmt (suc k) nested_item (in_function w v start s) ≡ Err p

@@ -27,13 +27,13 @@ use Rattle.swc_ecma_parser_reader.specs.Jumps.{told}
 use Rattle.swc_ecma_parser_reader.specs.Members.{extended, surplus, members, class_parts, class_name, unnamed_class, class_expr, class_decl}
 use Rattle.swc_ecma_parser_reader.specs.Methods.{star}
 use Rattle.swc_ecma_parser_reader.specs.Reader as reader
-use Rattle.swc_ecma_parser_reader.specs.Reader.{expr, pattern, member, stmt, variables, function_decl, function_parts, function_body, function_word, misdirected, named, optional_end, close}
+use Rattle.swc_ecma_parser_reader.specs.Reader.{expr, pattern, member, stmt, object_alone, variables, function_decl, function_parts, function_body, function_word, misdirected, named, optional_end, close}
 use Rattle.swc_ecma_parser_reader.specs.State.{State, Reader, moved, coded, within, name, expect, end}
 use Rattle.swc_ecma_parser_reader.specs.Words.{any_word}
 use Rattle.swc_ecma_parser_reader.proofs.Meets.{Meets, always, meets_then, meets_if, wanted_meets, too_deep_meets}
 use Rattle.swc_ecma_parser_reader.proofs.expressions.SoundSteps.{meets_as}
 use Rattle.swc_ecma_parser_module_reader.specs.Exports.{export_specifier, export_namespace, names_from, own_names, export_names, more_names, namespace_names, export_all, export_star, is_namespace_next, behind_default, is_name_from, name_from, is_default_from, default_from, default_name, default_function, default_expr, begins_default_function, exported_function, exported_class, export_default, exported, export_decl}
-use Rattle.swc_ecma_parser_module_reader.specs.Imports.{source, str, no_attributes, specifiers, default_binding, import_clause, imported, import_from, phase_of, import_phased, is_phase_word, import_decl}
+use Rattle.swc_ecma_parser_module_reader.specs.Imports.{source, str, attributes, specifiers, default_binding, import_clause, imported, import_from, phase_of, import_phased, is_phase_word, import_decl}
 use Rattle.swc_ecma_parser_module_reader.specs.Modules.{begins_import, import_in, export_in, module_item}
 use Rattle.swc_ecma_parser_module_reader.specs.Programs.{begins_module}
 use Rattle.swc_ecma_parser_module_reader.proofs.SoundExported.{variables_sound, function_sound, class_sound, default_begins}
@@ -47,64 +47,66 @@ Declared x t = IsDeclaration x
 
 -- ---- imports
 
-imported_form : (start : Span) (p : ImportPhase) (xs : List Tree) (from : Reader Tree) (s : State) → Meets Declared (imported start p xs from s)
-unfolding imported
-imported_form start p xs from s = always _ (from s) _ (λ y t. always _ (no_attributes t) _ (λ _ u. always _ (end faults.Expected u) _ (λ _ v. (refl, λ env. refl))))
+module _ (object : Reader Tree) where
+  imported_form : (start : Span) (p : ImportPhase) (xs : List Tree) (from : Reader Tree) (s : State) → Meets Declared (imported object start p xs from s)
+  unfolding imported
+  imported_form start p xs from s = always _ (from s) _ (λ y t. always _ (attributes object t) _ (λ _ u. always _ (end faults.Expected u) _ (λ _ v. (refl, λ env. refl))))
 
-import_from_form : (start : Span) (p : ImportPhase) (s : State) → Meets Declared (import_from start p s)
-unfolding import_from
-import_from_form start p s = always _ (import_clause s) _ (λ xs t. imported_form start p xs source t)
+  import_from_form : (start : Span) (p : ImportPhase) (s : State) → Meets Declared (import_from object start p s)
+  unfolding import_from
+  import_from_form start p s = always _ (import_clause s) _ (λ xs t. imported_form start p xs source t)
 
-import_phased_form : (start : Span) (s : State) → Meets Declared (import_phased start s)
-unfolding import_phased
-import_phased_form start s = always _ (any_word s) _ (λ i t. meets_if _ (follows_phase t.code t.at) _ _ (λ _. import_from_form start (phase_of i.sym) t)
-    (λ _. always _ (default_binding i t) _ (λ xs u. imported_form start phase.Evaluation xs source u)))
+  import_phased_form : (start : Span) (s : State) → Meets Declared (import_phased object start s)
+  unfolding import_phased
+  import_phased_form start s = always _ (any_word s) _ (λ i t. meets_if _ (follows_phase t.code t.at) _ _ (λ _. import_from_form start (phase_of i.sym) t)
+      (λ _. always _ (default_binding i t) _ (λ xs u. imported_form start phase.Evaluation xs source u)))
 
-import_form : (s : State) → Meets Declared (import_decl s)
-unfolding import_decl
-import_form s = meets_if _ (sees kind.Str (after s.at)) _ _ (λ _. imported_form (span_at s.at) phase.Evaluation [] str (moved s))
-    (λ _. meets_if _ (is_phase_word (after s.at)) _ _ (λ _. import_phased_form (span_at s.at) (moved s)) (λ _. import_from_form (span_at s.at) phase.Evaluation (moved s)))
+  import_form : (s : State) → Meets Declared (import_decl object s)
+  unfolding import_decl
+  import_form s = meets_if _ (sees kind.Str (after s.at)) _ _ (λ _. imported_form (span_at s.at) phase.Evaluation [] str (moved s))
+      (λ _. meets_if _ (is_phase_word (after s.at)) _ _ (λ _. import_phased_form (span_at s.at) (moved s)) (λ _. import_from_form (span_at s.at) phase.Evaluation (moved s)))
 
 -- ---- names that are exported
 
-names_from_form : (start : Span) (xs : List Tree) (s : State) → Meets Declared (names_from start xs s)
-unfolding names_from
-names_from_form start xs s = always _ (source s) _ (λ y t. always _ (no_attributes t) _ (λ _ u. always _ (end faults.Expected u) _ (λ _ v. (refl, λ env. refl))))
+module _ (object : Reader Tree) where
+  names_from_form : (start : Span) (xs : List Tree) (s : State) → Meets Declared (names_from object start xs s)
+  unfolding names_from
+  names_from_form start xs s = always _ (source s) _ (λ y t. always _ (attributes object t) _ (λ _ u. always _ (end faults.Expected u) _ (λ _ v. (refl, λ env. refl))))
 
-own_names_form : (start : Span) (xs : List Tree) (s : State) → Meets Declared (own_names start xs s)
-unfolding own_names
-own_names_form start xs s = always _ (told (export_faults tree.absent (listed xs)) s) _ (λ _ t. always _ (optional_end t) _ (λ _ u. (refl, λ env. refl)))
+  own_names_form : (start : Span) (xs : List Tree) (s : State) → Meets Declared (own_names start xs s)
+  unfolding own_names
+  own_names_form start xs s = always _ (told (export_faults tree.absent (listed xs)) s) _ (λ _ t. always _ (optional_end t) _ (λ _ u. (refl, λ env. refl)))
 
-export_names_form : (start : Span) (xs : List Tree) (s : State) → Meets Declared (export_names start xs s)
-unfolding export_names
-export_names_form start xs s = always _ (specifiers export_specifier s) _ (λ ys t. meets_if _ (word_at (codes "from") t.at) _ _ (λ _.
-    names_from_form start (xs ++ ys) t) (λ _. own_names_form start (xs ++ ys) t))
+  export_names_form : (start : Span) (xs : List Tree) (s : State) → Meets Declared (export_names object start xs s)
+  unfolding export_names
+  export_names_form start xs s = always _ (specifiers export_specifier s) _ (λ ys t. meets_if _ (word_at (codes "from") t.at) _ _ (λ _.
+      names_from_form start (xs ++ ys) t) (λ _. own_names_form start (xs ++ ys) t))
 
-more_names_form : (start : Span) (xs : List Tree) (s : State) → Meets Declared (more_names start xs s)
-unfolding more_names
-more_names_form start xs s = meets_if _ (s.code.setting.export_default_from && sees kind.Comma s.at) _ _ (λ _. export_names_form start xs (moved s)) (λ _.
-    names_from_form start xs s)
+  more_names_form : (start : Span) (xs : List Tree) (s : State) → Meets Declared (more_names object start xs s)
+  unfolding more_names
+  more_names_form start xs s = meets_if _ (s.code.setting.export_default_from && sees kind.Comma s.at) _ _ (λ _. export_names_form start xs (moved s)) (λ _.
+      names_from_form start xs s)
 
-namespace_names_form : (start first : Span) (xs : List Tree) (s : State) → Meets Declared (namespace_names start first xs s)
-unfolding namespace_names
-namespace_names_form start first xs s = always _ (export_namespace first s) _ (λ x t. more_names_form start (xs ++ x ∷ []) t)
+  namespace_names_form : (start first : Span) (xs : List Tree) (s : State) → Meets Declared (namespace_names object start first xs s)
+  unfolding namespace_names
+  namespace_names_form start first xs s = always _ (export_namespace first s) _ (λ x t. more_names_form start (xs ++ x ∷ []) t)
 
-export_all_form : (start : Span) (s : State) → Meets Declared (export_all start s)
-unfolding export_all
-export_all_form start s = always _ (source s) _ (λ y t. always _ (no_attributes t) _ (λ _ u. always _ (end faults.Expected u) _ (λ _ v. (refl, λ env. refl))))
+  export_all_form : (start : Span) (s : State) → Meets Declared (export_all object start s)
+  unfolding export_all
+  export_all_form start s = always _ (source s) _ (λ y t. always _ (attributes object t) _ (λ _ u. always _ (end faults.Expected u) _ (λ _ v. (refl, λ env. refl))))
 
-export_star_form : (start : Span) (s : State) → Meets Declared (export_star start s)
-unfolding export_star
-export_star_form start s = meets_if _ (word_at (codes "as") (after s.at)) _ _ (λ _. namespace_names_form start (span_at s.at) [] (moved s)) (λ _. export_all_form start (moved s))
+  export_star_form : (start : Span) (s : State) → Meets Declared (export_star object start s)
+  unfolding export_star
+  export_star_form start s = meets_if _ (word_at (codes "as") (after s.at)) _ _ (λ _. namespace_names_form start (span_at s.at) [] (moved s)) (λ _. export_all_form start (moved s))
 
-behind_default_form : (start first : Span) (x : Tree) (s : State) → Meets Declared (behind_default start first x s)
-unfolding behind_default
-behind_default_form start first x s = meets_if _ (is_namespace_next s.at) _ _ (λ _. namespace_names_form start first (x ∷ []) (moved (moved s))) (λ _.
-    more_names_form start (x ∷ []) s)
+  behind_default_form : (start first : Span) (x : Tree) (s : State) → Meets Declared (behind_default object start first x s)
+  unfolding behind_default
+  behind_default_form start first x s = meets_if _ (is_namespace_next s.at) _ _ (λ _. namespace_names_form start first (x ∷ []) (moved (moved s))) (λ _.
+      more_names_form start (x ∷ []) s)
 
-name_from_form : (start : Span) (s : State) → Meets Declared (name_from start s)
-unfolding name_from
-name_from_form start s = always _ (name faults.ExpectedIdent s) _ (λ i t. behind_default_form start (span_at s.at) (tree.export_default (tree.ident i.span i.sym)) t)
+  name_from_form : (start : Span) (s : State) → Meets Declared (name_from object start s)
+  unfolding name_from
+  name_from_form start s = always _ (name faults.ExpectedIdent s) _ (λ i t. behind_default_form start (span_at s.at) (tree.export_default (tree.ident i.span i.sym)) t)
 
 -- ---- what is exported by default: no decorators stand before it
 
@@ -176,14 +178,14 @@ module _ (n : ℕ) where
   unfolding default_expr
   default_expr_form start s = always _ (within with_in (expr n assignment) s) _ (λ x t. always _ (end faults.Expected t) _ (λ _ u. (refl, λ env. refl)))
 
-  export_default_form : (start first : Span) (s : State) → Meets Declared (export_default inner (expr n) (pattern n) params (member n) start first s)
+  export_default_form : (start first : Span) (s : State) → Meets Declared (export_default inner (expr n) (pattern n) params (member n) (object_alone n) start first s)
   unfolding export_default exported_class exported_function default_from
   export_default_form start first s =
       meets_if _ (sees kind.Class s.at) _ _ (λ _. meets_then {P = λ x t. IsBare x} _ (class_expr (expr n left_side) (member n) s) _ (class_expr_form (expr n left_side) (member n) s)
       (λ x t h. (refl, λ env. bare_stays x h env _)))
       (λ _. meets_if _ (begins_default_function s.at) _ _ (λ _. meets_then {P = λ x t. IsBare x} _ (default_function inner params s) _ (default_function_form inner params s)
       (λ x t h. (refl, λ env. bare_stays x h env _)))
-      (λ _. meets_if _ (is_default_from s.code s.at) _ _ (λ _. behind_default_form start first (tree.export_default (tree.ident first (codes "default"))) s)
+      (λ _. meets_if _ (is_default_from s.code s.at) _ _ (λ _. behind_default_form (object_alone n) start first (tree.export_default (tree.ident first (codes "default"))) s)
       (λ _. default_expr_form start s)))
 
   exported_form : (start : Span) (declaration : Reader Tree) (s : State) → Meets (λ x t. IsBare x) (declaration s)
@@ -191,11 +193,11 @@ module _ (n : ℕ) where
   unfolding exported
   exported_form start declaration s p = meets_then {P = λ x t. IsBare x} _ (declaration s) _ p (λ x t h. (refl, λ env. bare_stays x h env _))
 
-  export_form : (s : State) → Meets Declared (export_decl inner (expr n) (pattern n) params (member n) s)
+  export_form : (s : State) → Meets Declared (export_decl inner (expr n) (pattern n) params (member n) (object_alone n) s)
   unfolding export_decl
   export_form s = let w = span_at s.at in let b = moved s in
-      meets_if _ (sees kind.LBrace b.at) _ _ (λ _. export_names_form w [] b)
-      (λ _. meets_if _ (sees kind.Mul b.at) _ _ (λ _. export_star_form w b)
+      meets_if _ (sees kind.LBrace b.at) _ _ (λ _. export_names_form (object_alone n) w [] b)
+      (λ _. meets_if _ (sees kind.Mul b.at) _ _ (λ _. export_star_form (object_alone n) w b)
       (λ _. meets_if _ (sees kind.Default b.at) _ _ (λ _. export_default_form w (span_at b.at) (moved b))
       (λ _. meets_if _ (sees kind.Var b.at) _ _
       (λ h. exported_form w (variables (expr n) (pattern n) decl.Var) b (meets_as (variables (expr n) (pattern n) decl.Var b) (variables_sound n decl.Var b h) (λ x t p. p.1)))
@@ -208,14 +210,14 @@ module _ (n : ℕ) where
       (λ h. exported_form w (class_decl (expr n left_side) (member n)) b (meets_as (class_decl (expr n left_side) (member n) b) (class_sound n b h) (λ x t p. p.1)))
       (λ _. meets_if _ (begins_default_function b.at) _ _
       (λ h. exported_form w (function_decl inner params) b (meets_as (function_decl inner params b) (function_sound n b (default_begins b.at h)) (λ x t p. p.1)))
-      (λ _. meets_if _ (is_name_from b.code b.at) _ _ (λ _. name_from_form w b) (λ _. wanted_meets _ faults.Unexpected b)))))))))
+      (λ _. meets_if _ (is_name_from b.code b.at) _ _ (λ _. name_from_form (object_alone n) w b) (λ _. wanted_meets _ faults.Unexpected b)))))))))
 
 -- ---- items
 
 import_in_form : (n : ℕ) (s : State) → Meets Declared (import_in n s)
 unfolding import_in
 import_in_form zero s = too_deep_meets _ s
-import_in_form (suc n) s = import_form s
+import_in_form (suc n) s = import_form (object_alone n) s
 
 export_in_form : (n : ℕ) (s : State) → Meets Declared (export_in n s)
 unfolding export_in

@@ -24,7 +24,7 @@ use Rattle.swc_ecma_parser_grammar.specs.declared.position.Position.{Position}
 use Rattle.swc_ecma_parser_grammar.specs.Follows.{begins_import_expression, AsyncWord, not_async, async_word}
 use Rattle.swc_ecma_parser_grammar.specs.Looks.{kind_at, first_kind, sees, same_kind}
 use Rattle.swc_ecma_parser_grammar.specs.Names.{Code, is_reserved, is_name, is_identifier, token_is_identifier, first_is_identifier, identifier_at}
-use Rattle.swc_ecma_parser_grammar.specs.Reads.{ReadsToken, with_in, StmtRule, block_rule, empty_rule, debugger_rule, variables_rule, if_statement_rule, switch_rule, labeled_rule, break_rule, continue_rule, return_rule, throw_rule, try_rule, while_rule, do_while_rule, for_rule, for_in_rule, for_of_rule, expr_rule, import_rule, if_rule, with_rule, function_rule, class_rule}
+use Rattle.swc_ecma_parser_grammar.specs.Reads.{ReadsToken, with_in, StmtRule, block_rule, empty_rule, debugger_rule, variables_rule, using_rule, if_statement_rule, switch_rule, labeled_rule, break_rule, continue_rule, return_rule, throw_rule, try_rule, while_rule, do_while_rule, for_rule, for_in_rule, for_of_rule, expr_rule, import_rule, if_rule, with_rule, function_rule, class_rule}
 use Rattle.swc_ecma_parser_grammar.specs.ReadsSupported.{ReadsClass, ReadsPat, ReadsTarget, ReadsStmt, ReadsParams, ReadsNamedClass}
 use Rattle.swc_ecma_parser_grammar.specs.Supported.{supported, has_none}
 use Rattle.swc_ecma_parser_grammar.specs.Variables.{begins_variables}
@@ -45,6 +45,8 @@ use Rattle.swc_ecma_parser_reader.proofs.Opens.{no_block_or_import, let_stands, 
 use Rattle.swc_ecma_parser_reader.proofs.expressions.CompleteKinds.{token_first}
 use Rattle.swc_ecma_parser_module_reader.specs.Modules.{begins_import}
 use Rattle.swc_ecma_parser_module_reader.specs.Supported.{supported_item}
+use Rattle.swc_ecma_parser_grammar.proofs.Naming.{name_is_free}
+use Rattle.swc_ecma_parser_grammar.proofs.Using.{using_stands}
 
 -- ---- `export` begins no expression
 
@@ -115,19 +117,19 @@ function_starts c m (not_async i j) e = starts_by c kind.Function (ap kind_at (s
 function_starts c m (async_word i j l n) e = starts_by c kind.Ident (word_place (codes "async") c j) refl refl
 
 -- a name is neither word
-keyword_no_item : (f : Context) (v : Keyword) → is_name f (word_text (word.Keyword v)) ≡ true → (same_kind (keyword_kind v) kind.Import ≡ false) × (same_kind (keyword_kind v) kind.Export ≡ false)
-unfolding is_name is_reserved same_kind
+keyword_no_item : (f : Context) (v : Keyword) → is_identifier f (word_text (word.Keyword v)) ≡ true → (same_kind (keyword_kind v) kind.Import ≡ false) × (same_kind (keyword_kind v) kind.Export ≡ false)
+unfolding is_identifier is_reserved same_kind
 keyword_no_item f keyword.Import e = cc
 keyword_no_item f keyword.Export e = cc
 keyword_no_item f _ e = (refl, refl)
 
-word_no_item : (f : Context) (v : Word) → is_name f (word_text v) ≡ true → (same_kind (word_kind v) kind.Import ≡ false) × (same_kind (word_kind v) kind.Export ≡ false)
+word_no_item : (f : Context) (v : Word) → is_identifier f (word_text v) ≡ true → (same_kind (word_kind v) kind.Import ≡ false) × (same_kind (word_kind v) kind.Export ≡ false)
 unfolding same_kind
 word_no_item f (word.Keyword v) e = keyword_no_item f v e
 word_no_item f _ e = (refl, refl)
 
 name_starts : (f : Context) (v : Word) (s : Span) (c d : Place) → ReadsToken (token.Word v) s c d → is_name f (word_text v) ≡ true → NoItemWord c
-name_starts f v s c d r e = let g = word_no_item f v e in starts_by c (word_kind v) (token_first (token.Word v) s c d r) g.0 g.1
+name_starts f v s c d r e = let g = word_no_item f v (name_is_free f (word_text v) e) in starts_by c (word_kind v) (token_first (token.Word v) s c d r) g.0 g.1
 
 rule_starts : (n : ℕ) (k : Code) (at : Position) (x : Tree) (c d : Place) → StmtRule (ReadsStmt n) (ReadsClass n) (ReadsPat n) (ReadsTarget n) (ReadsParams n) (ReadsNamedClass n) k at x c d → NoItemWord c
 unfolding same_kind
@@ -137,6 +139,7 @@ rule_starts n k at x c d (block_rule r) = starts_by c kind.LBrace r.opens refl r
 rule_starts n k at x c d (empty_rule e g i) = starts_by c kind.Semi e refl refl
 rule_starts n k at x c d (debugger_rule e g i) = starts_by c kind.Debugger e refl refl
 rule_starts n k at x c d (variables_rule v xs m a e r g i) = variables_start v c e
+rule_starts n k at x c d (using_rule xs a b r g i) = starts_by c kind.Ident (using_stands k c b) refl refl
 rule_starts n k at x c d (if_statement_rule (if_rule t y z m i e r s o j)) = starts_by c kind.If e refl refl
 rule_starts n k at x c d (switch_rule y xs m l e r i s g j z) = starts_by c kind.Switch e refl refl
 rule_starts n k at x c d (break_rule y m e r g i) = starts_by c kind.Break e refl refl

@@ -31,16 +31,17 @@ use Rattle.swc_ecma_parser_reader.specs.Jumps.{told}
 use Rattle.swc_ecma_parser_reader.specs.Members.{class_decl, class_expr}
 use Rattle.swc_ecma_parser_reader.specs.Methods.{star}
 use Rattle.swc_ecma_parser_reader.specs.Operands.{literal, literal_in, taken, word_property}
-use Rattle.swc_ecma_parser_reader.specs.Reader.{at_end, items, variables, function_decl, function_parts, function_body, misdirected, function_word, named, optional_end, expr, pattern, member, stmt, parameters, shebang}
+use Rattle.swc_ecma_parser_reader.specs.Reader.{at_end, items, variables, function_decl, function_parts, function_body, misdirected, function_word, named, optional_end, expr, pattern, member, stmt, parameters, object_alone, shebang}
 use Rattle.swc_ecma_parser_reader.specs.State.{State, Reader, moved, coded, within, name, expect, expect_word, end, loop}
 use Rattle.swc_ecma_parser_reader.specs.Words.{any_word, word_in, word_by}
 use Rattle.swc_ecma_parser_reader.specs.Entry.{unmarked, Stays}
 use Rattle.swc_ecma_parser_reader.proofs.Behind.{NothingLost, Kept, Lost, Passes, Follows, follows, behind_self, behind_after, too_deep_keeps, wanted_keeps, refuse_keeps, reject_keeps, end_keeps, expect_keeps, name_keeps, shebang_keeps, loop_keeps}
 use Rattle.swc_ecma_parser_reader.proofs.Keeps.{items_keeps, whole_stmt_keeps, outcome_behind, function_params_keep, function_body_keep, stmt_keeps, expr_keeps, parameters_keep, member_keeps}
 use Rattle.swc_ecma_parser_reader.proofs.classes.Keeps as classes
+use Rattle.swc_ecma_parser_reader.proofs.Objects.{object_alone_keeps}
 use Rattle.swc_ecma_parser_reader.proofs.Meets.{Answers, answers_then, answers_if, meant}
 use Rattle.swc_ecma_parser_reader.proofs.expressions.Keeps.{star_keeps, told_keeps}
-use Rattle.swc_ecma_parser_module_reader.specs.Imports.{str_or, str, source, module_name, no_attributes, specifiers_turn, specifiers, same_name, other_name, import_specifier, binding_name, import_namespace, bindings, more_bindings, default_binding, import_clause, imported, import_from, phase_of, import_phased, is_phase_word, import_decl}
+use Rattle.swc_ecma_parser_module_reader.specs.Imports.{str_or, str, source, module_name, attributes, specifiers_turn, specifiers, same_name, other_name, import_specifier, binding_name, import_namespace, bindings, more_bindings, default_binding, import_clause, imported, import_from, phase_of, import_phased, is_phase_word, import_decl}
 use Rattle.swc_ecma_parser_module_reader.specs.Exports.{renamed_export, plain_export, export_specifier, export_namespace, names_from, own_names, export_names, more_names, namespace_names, export_all, export_star, is_namespace_next, behind_default, is_name_from, name_from, is_default_from, default_from, default_name, default_function, default_expr, begins_default_function, exported_function, exported_class, export_default, exported, export_decl}
 use Rattle.swc_ecma_parser_module_reader.specs.Modules.{begins_import, import_in, export_in, module_item, module_code, module_body, module_whole}
 use Rattle.swc_ecma_parser_module_reader.specs.Entry.{AnswersModule}
@@ -88,9 +89,9 @@ unfolding module_name word_property
 module_name_keeps b s f = answers_if _ _ (sees kind.Str s.at) _ _ (λ _. str_keeps b s f)
     (λ _. answers_then (Kept b) _ (any_word s) _ (any_word_keeps b s f) (λ i t g. g))
 
-no_attributes_keeps : Passes no_attributes
-unfolding no_attributes
-no_attributes_keeps b s f = answers_if _ _ (begins_attributes s.code s.at) _ _ (λ _. wanted_keeps _ faults.Unexpected b s f) (λ _. f)
+attributes_keep : (object : Reader Tree) → Passes object → Passes (attributes object)
+unfolding attributes
+attributes_keep object below b s f = answers_if _ _ (begins_attributes s.code s.at) _ _ (λ _. below b (moved s) (behind_after b s f)) (λ _. f)
 
 specifiers_keep : (specifier : Reader Tree) → Passes specifier → Passes (specifiers specifier)
 unfolding specifiers specifiers_turn
@@ -144,27 +145,28 @@ unfolding import_clause
 import_clause_keeps b s f = answers_if _ _ (sees kind.Mul s.at || sees kind.LBrace s.at) _ _ (λ _. bindings_keep b s f)
     (λ _. answers_then (Kept b) _ (binding_name s) _ (binding_keeps b s f) (λ i t g. default_binding_keeps i b t g))
 
-imported_keeps : (start : Span) (p : ImportPhase) (xs : List Tree) (from : Reader Tree) → Passes from → Passes (imported start p xs from)
-unfolding imported
-imported_keeps start p xs from below b s f = answers_then (Kept b) _ (from s) _ (below b s f) (λ src t g.
-    answers_then (Kept b) _ (no_attributes t) _ (no_attributes_keeps b t g) (λ _ u h.
-    answers_then (Kept b) _ (end faults.Expected u) _ (end_keeps b u h faults.Expected) (λ _ v k. k)))
+module _ (object : Reader Tree) (inner : Passes object) where
+  imported_keeps : (start : Span) (p : ImportPhase) (xs : List Tree) (from : Reader Tree) → Passes from → Passes (imported object start p xs from)
+  unfolding imported
+  imported_keeps start p xs from below b s f = answers_then (Kept b) _ (from s) _ (below b s f) (λ src t g.
+      answers_then (Kept b) _ (attributes object t) _ (attributes_keep object inner b t g) (λ _ u h.
+      answers_then (Kept b) _ (end faults.Expected u) _ (end_keeps b u h faults.Expected) (λ _ v k. k)))
 
-import_from_keeps : (start : Span) (p : ImportPhase) → Passes (import_from start p)
-unfolding import_from
-import_from_keeps start p b s f = answers_then (Kept b) _ (import_clause s) _ (import_clause_keeps b s f) (λ xs t g. imported_keeps start p xs source source_keeps b t g)
+  import_from_keeps : (start : Span) (p : ImportPhase) → Passes (import_from object start p)
+  unfolding import_from
+  import_from_keeps start p b s f = answers_then (Kept b) _ (import_clause s) _ (import_clause_keeps b s f) (λ xs t g. imported_keeps start p xs source source_keeps b t g)
 
-import_phased_keeps : (start : Span) → Passes (import_phased start)
-unfolding import_phased
-import_phased_keeps start b s f = answers_then (Kept b) _ (any_word s) _ (any_word_keeps b s f) (λ i t g.
-    answers_if _ _ (follows_phase t.code t.at) _ _ (λ _. import_from_keeps start (phase_of i.sym) b t g)
-    (λ _. answers_then (Kept b) _ (default_binding i t) _ (default_binding_keeps i b t g) (λ xs u h. imported_keeps start phase.Evaluation xs source source_keeps b u h)))
+  import_phased_keeps : (start : Span) → Passes (import_phased object start)
+  unfolding import_phased
+  import_phased_keeps start b s f = answers_then (Kept b) _ (any_word s) _ (any_word_keeps b s f) (λ i t g.
+      answers_if _ _ (follows_phase t.code t.at) _ _ (λ _. import_from_keeps start (phase_of i.sym) b t g)
+      (λ _. answers_then (Kept b) _ (default_binding i t) _ (default_binding_keeps i b t g) (λ xs u h. imported_keeps start phase.Evaluation xs source source_keeps b u h)))
 
-pub import_decl_keeps : Passes import_decl
-unfolding import_decl
-import_decl_keeps b s f = let t = moved s in let g = behind_after b s f in
-    answers_if _ _ (sees kind.Str t.at) _ _ (λ _. imported_keeps (span_at s.at) phase.Evaluation [] str str_keeps b t g)
-    (λ _. answers_if _ _ (is_phase_word t.at) _ _ (λ _. import_phased_keeps (span_at s.at) b t g) (λ _. import_from_keeps (span_at s.at) phase.Evaluation b t g))
+  pub import_decl_keeps : Passes (import_decl object)
+  unfolding import_decl
+  import_decl_keeps b s f = let t = moved s in let g = behind_after b s f in
+      answers_if _ _ (sees kind.Str t.at) _ _ (λ _. imported_keeps (span_at s.at) phase.Evaluation [] str str_keeps b t g)
+      (λ _. answers_if _ _ (is_phase_word t.at) _ _ (λ _. import_phased_keeps (span_at s.at) b t g) (λ _. import_from_keeps (span_at s.at) phase.Evaluation b t g))
 
 -- ---- exports
 
@@ -186,55 +188,56 @@ unfolding export_namespace
 export_namespace_keeps start b s f = answers_then (Kept b) _ (expect_word (codes "as") s) _ (expect_word_keeps (codes "as") b s f) (λ _ t g.
     answers_then (Kept b) _ (module_name t) _ (module_name_keeps b t g) (λ n u h. h))
 
-names_from_keep : (start : Span) (xs : List Tree) → Passes (names_from start xs)
-unfolding names_from
-names_from_keep start xs b s f = answers_then (Kept b) _ (source s) _ (source_keeps b s f) (λ src t g.
-    answers_then (Kept b) _ (no_attributes t) _ (no_attributes_keeps b t g) (λ _ u h.
-    answers_then (Kept b) _ (end faults.Expected u) _ (end_keeps b u h faults.Expected) (λ _ v k. k)))
+module _ (object : Reader Tree) (inner : Passes object) where
+  names_from_keep : (start : Span) (xs : List Tree) → Passes (names_from object start xs)
+  unfolding names_from
+  names_from_keep start xs b s f = answers_then (Kept b) _ (source s) _ (source_keeps b s f) (λ src t g.
+      answers_then (Kept b) _ (attributes object t) _ (attributes_keep object inner b t g) (λ _ u h.
+      answers_then (Kept b) _ (end faults.Expected u) _ (end_keeps b u h faults.Expected) (λ _ v k. k)))
 
-optional_end_keeps : Passes optional_end
-unfolding optional_end
-optional_end_keeps b s f = answers_if _ _ (sees kind.Semi s.at) _ _ (λ _. behind_after b s f) (λ _. f)
+  optional_end_keeps : Passes optional_end
+  unfolding optional_end
+  optional_end_keeps b s f = answers_if _ _ (sees kind.Semi s.at) _ _ (λ _. behind_after b s f) (λ _. f)
 
-own_names_keep : (start : Span) (xs : List Tree) → Passes (own_names start xs)
-unfolding own_names
-own_names_keep start xs b s f =
-    let fs = export_faults tree.absent (listed xs) in
-    answers_then (Kept b) _ (told fs s) _ (told_keeps b fs s f) (λ _ t g. answers_then (Kept b) _ (optional_end t) _ (optional_end_keeps b t g) (λ _ u h. h))
+  own_names_keep : (start : Span) (xs : List Tree) → Passes (own_names start xs)
+  unfolding own_names
+  own_names_keep start xs b s f =
+      let fs = export_faults tree.absent (listed xs) in
+      answers_then (Kept b) _ (told fs s) _ (told_keeps b fs s f) (λ _ t g. answers_then (Kept b) _ (optional_end t) _ (optional_end_keeps b t g) (λ _ u h. h))
 
-export_names_keep : (start : Span) (before : List Tree) → Passes (export_names start before)
-unfolding export_names
-export_names_keep start before b s f = answers_then (Kept b) _ (specifiers export_specifier s) _ (specifiers_keep export_specifier export_specifier_keeps b s f) (λ xs t g.
-    answers_if _ _ (word_at (codes "from") t.at) _ _ (λ _. names_from_keep start (before ++ xs) b t g) (λ _. own_names_keep start (before ++ xs) b t g))
+  export_names_keep : (start : Span) (before : List Tree) → Passes (export_names object start before)
+  unfolding export_names
+  export_names_keep start before b s f = answers_then (Kept b) _ (specifiers export_specifier s) _ (specifiers_keep export_specifier export_specifier_keeps b s f) (λ xs t g.
+      answers_if _ _ (word_at (codes "from") t.at) _ _ (λ _. names_from_keep start (before ++ xs) b t g) (λ _. own_names_keep start (before ++ xs) b t g))
 
-more_names_keep : (start : Span) (before : List Tree) → Passes (more_names start before)
-unfolding more_names
-more_names_keep start before b s f = answers_if _ _ (s.code.setting.export_default_from && sees kind.Comma s.at) _ _
-    (λ _. export_names_keep start before b (moved s) (behind_after b s f)) (λ _. names_from_keep start before b s f)
+  more_names_keep : (start : Span) (before : List Tree) → Passes (more_names object start before)
+  unfolding more_names
+  more_names_keep start before b s f = answers_if _ _ (s.code.setting.export_default_from && sees kind.Comma s.at) _ _
+      (λ _. export_names_keep start before b (moved s) (behind_after b s f)) (λ _. names_from_keep start before b s f)
 
-namespace_names_keep : (start first : Span) (before : List Tree) → Passes (namespace_names start first before)
-unfolding namespace_names
-namespace_names_keep start first before b s f = answers_then (Kept b) _ (export_namespace first s) _ (export_namespace_keeps first b s f) (λ x t g. more_names_keep start (before ++ x ∷ []) b t g)
+  namespace_names_keep : (start first : Span) (before : List Tree) → Passes (namespace_names object start first before)
+  unfolding namespace_names
+  namespace_names_keep start first before b s f = answers_then (Kept b) _ (export_namespace first s) _ (export_namespace_keeps first b s f) (λ x t g. more_names_keep start (before ++ x ∷ []) b t g)
 
-export_all_keeps : (start : Span) → Passes (export_all start)
-unfolding export_all
-export_all_keeps start b s f = answers_then (Kept b) _ (source s) _ (source_keeps b s f) (λ src t g.
-    answers_then (Kept b) _ (no_attributes t) _ (no_attributes_keeps b t g) (λ _ u h.
-    answers_then (Kept b) _ (end faults.Expected u) _ (end_keeps b u h faults.Expected) (λ _ v k. k)))
+  export_all_keeps : (start : Span) → Passes (export_all object start)
+  unfolding export_all
+  export_all_keeps start b s f = answers_then (Kept b) _ (source s) _ (source_keeps b s f) (λ src t g.
+      answers_then (Kept b) _ (attributes object t) _ (attributes_keep object inner b t g) (λ _ u h.
+      answers_then (Kept b) _ (end faults.Expected u) _ (end_keeps b u h faults.Expected) (λ _ v k. k)))
 
-export_star_keeps : (start : Span) → Passes (export_star start)
-unfolding export_star
-export_star_keeps start b s f = let t = moved s in let g = behind_after b s f in answers_if _ _ (word_at (codes "as") t.at) _ _
-    (λ _. namespace_names_keep start (span_at s.at) [] b t g) (λ _. export_all_keeps start b t g)
+  export_star_keeps : (start : Span) → Passes (export_star object start)
+  unfolding export_star
+  export_star_keeps start b s f = let t = moved s in let g = behind_after b s f in answers_if _ _ (word_at (codes "as") t.at) _ _
+      (λ _. namespace_names_keep start (span_at s.at) [] b t g) (λ _. export_all_keeps start b t g)
 
-behind_default_keeps : (start first : Span) (x : Tree) → Passes (behind_default start first x)
-unfolding behind_default
-behind_default_keeps start first x b s f = let g = behind_after b s f in answers_if _ _ (is_namespace_next s.at) _ _
-    (λ _. namespace_names_keep start first (x ∷ []) b (moved (moved s)) (behind_after b (moved s) g)) (λ _. more_names_keep start (x ∷ []) b s f)
+  behind_default_keeps : (start first : Span) (x : Tree) → Passes (behind_default object start first x)
+  unfolding behind_default
+  behind_default_keeps start first x b s f = let g = behind_after b s f in answers_if _ _ (is_namespace_next s.at) _ _
+      (λ _. namespace_names_keep start first (x ∷ []) b (moved (moved s)) (behind_after b (moved s) g)) (λ _. more_names_keep start (x ∷ []) b s f)
 
-name_from_keeps : (start : Span) → Passes (name_from start)
-unfolding name_from
-name_from_keeps start b s f = answers_then (Kept b) _ (name faults.ExpectedIdent s) _ (name_keeps b s f faults.ExpectedIdent) (λ i t g. behind_default_keeps start (span_at s.at) _ b t g)
+  name_from_keeps : (start : Span) → Passes (name_from object start)
+  unfolding name_from
+  name_from_keeps start b s f = answers_then (Kept b) _ (name faults.ExpectedIdent s) _ (name_keeps b s f faults.ExpectedIdent) (λ i t g. behind_default_keeps start (span_at s.at) _ b t g)
 
 default_name_keeps : Passes default_name
 unfolding default_name named
@@ -274,31 +277,31 @@ module _ (n : ℕ) where
   pub default_class_keeps : Passes (class_expr (expr n left_side) (member n))
   default_class_keeps = classes.class_expr_keeps (expr n left_side) (member n) (expr_keeps n left_side) (member_keeps n)
 
-  export_default_keeps : (start first : Span) → Passes (export_default (stmt n nested_item) (expr n) (pattern n) (parameters n) (member n) start first)
+  export_default_keeps : (start first : Span) → Passes (export_default (stmt n nested_item) (expr n) (pattern n) (parameters n) (member n) (object_alone n) start first)
   unfolding export_default exported_function exported_class default_from
   export_default_keeps start first b s f = answers_if _ _ (sees kind.Class s.at) _ _
       (λ _. answers_then (Kept b) _ (class_expr (expr n left_side) (member n) s) _ (default_class_keeps b s f) (λ x t g. g))
       (λ _. answers_if _ _ (begins_default_function s.at) _ _
       (λ _. answers_then (Kept b) _ (default_function (stmt n nested_item) (parameters n) s) _ (default_function_keeps b s f) (λ x t g. g))
-      (λ _. answers_if _ _ (is_default_from s.code s.at) _ _ (λ _. behind_default_keeps start first _ b s f) (λ _. default_expr_keeps start b s f)))
+      (λ _. answers_if _ _ (is_default_from s.code s.at) _ _ (λ _. behind_default_keeps (object_alone n) (object_alone_keeps n) start first _ b s f) (λ _. default_expr_keeps start b s f)))
 
   exported_keeps : (start : Span) (d : Reader Tree) (b s : State) → stmt (suc n) nested_item s ≡ d s → NothingLost b s
       → Answers (Kept b) (Lost b) (exported (stmt n nested_item) (expr n) (pattern n) (parameters n) (member n) start d s)
   unfolding exported
   exported_keeps start d b s e f = answers_then (Kept b) _ (d s) _ (subst (Answers (Kept b) (Lost b)) e (stmt_keeps (suc n) nested_item b s f)) (λ x t g. g)
 
-  pub export_decl_keeps : Passes (export_decl (stmt n nested_item) (expr n) (pattern n) (parameters n) (member n))
+  pub export_decl_keeps : Passes (export_decl (stmt n nested_item) (expr n) (pattern n) (parameters n) (member n) (object_alone n))
   unfolding export_decl
   export_decl_keeps b s f = let t = moved s in let g = behind_after b s f in
-      answers_if _ _ (sees kind.LBrace t.at) _ _ (λ _. export_names_keep (span_at s.at) [] b t g) (λ _.
-      answers_if _ _ (sees kind.Mul t.at) _ _ (λ _. export_star_keeps (span_at s.at) b t g) (λ _.
+      answers_if _ _ (sees kind.LBrace t.at) _ _ (λ _. export_names_keep (object_alone n) (object_alone_keeps n) (span_at s.at) [] b t g) (λ _.
+      answers_if _ _ (sees kind.Mul t.at) _ _ (λ _. export_star_keeps (object_alone n) (object_alone_keeps n) (span_at s.at) b t g) (λ _.
       answers_if _ _ (sees kind.Default t.at) _ _ (λ _. export_default_keeps (span_at s.at) (span_at t.at) b (moved t) (behind_after b t g)) (λ _.
       answers_if _ _ (sees kind.Var t.at) _ _ (λ h. exported_keeps (span_at s.at) (variables (expr n) (pattern n) decl.Var) b t (var_is_stmt n t h) g) (λ _.
       answers_if _ _ (sees kind.Const t.at) _ _ (λ h. exported_keeps (span_at s.at) (variables (expr n) (pattern n) decl.Const) b t (const_is_stmt n t h) g) (λ _.
       answers_if _ _ (is_let_declaration t.at) _ _ (λ h. exported_keeps (span_at s.at) (variables (expr n) (pattern n) decl.Let) b t (let_is_stmt n t h) g) (λ _.
       answers_if _ _ (sees kind.Class t.at) _ _ (λ h. exported_keeps (span_at s.at) (class_decl (expr n left_side) (member n)) b t (class_is_stmt n t h) g) (λ _.
       answers_if _ _ (begins_default_function t.at) _ _ (λ h. exported_keeps (span_at s.at) (function_decl (stmt n nested_item) (parameters n)) b t (function_is_stmt n t h) g) (λ _.
-      answers_if _ _ (is_name_from t.code t.at) _ _ (λ _. name_from_keeps (span_at s.at) b t g) (λ _.
+      answers_if _ _ (is_name_from t.code t.at) _ _ (λ _. name_from_keeps (object_alone n) (object_alone_keeps n) (span_at s.at) b t g) (λ _.
       wanted_keeps _ faults.Unexpected b t g)))))))))
 
 -- ---- an item, and a module
@@ -306,7 +309,7 @@ module _ (n : ℕ) where
 import_in_keeps : (n : ℕ) → Passes (import_in n)
 unfolding import_in
 import_in_keeps zero b s f = too_deep_keeps _ b s f
-import_in_keeps (suc n) b s f = import_decl_keeps b s f
+import_in_keeps (suc n) b s f = import_decl_keeps (object_alone n) (object_alone_keeps n) b s f
 
 export_in_keeps : (n : ℕ) → Passes (export_in n)
 unfolding export_in

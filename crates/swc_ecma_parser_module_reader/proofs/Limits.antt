@@ -25,15 +25,16 @@ use Rattle.swc_ecma_parser_reader.specs.Jumps.{told}
 use Rattle.swc_ecma_parser_reader.specs.Members.{class_decl, class_expr}
 use Rattle.swc_ecma_parser_reader.specs.Methods.{star}
 use Rattle.swc_ecma_parser_reader.specs.Operands.{literal, word_property}
-use Rattle.swc_ecma_parser_reader.specs.Reader.{at_end, items_turn, items, variables, function_decl, function_parts, function_word, named, optional_end, expr, pattern, member, stmt, parameters, shebang}
+use Rattle.swc_ecma_parser_reader.specs.Reader.{at_end, items_turn, items, variables, function_decl, function_parts, function_word, named, optional_end, expr, pattern, member, stmt, parameters, object_alone, shebang}
 use Rattle.swc_ecma_parser_reader.specs.State.{State, Reader, moved, coded, within, name, expect, expect_word, end, loop}
 use Rattle.swc_ecma_parser_reader.specs.Words.{any_word}
 use Rattle.swc_ecma_parser_reader.specs.Limits.{has_too_deep_token}
 use Rattle.swc_ecma_parser_reader.proofs.Meets.{Answers, answers_then, answers_if, loop_answers, meant, saw}
-use Rattle.swc_ecma_parser_reader.proofs.Shallow.{Fine, fine_after, fine_taken, Shallow, Kept, name_shallow, refuse_shallow, end_shallow, expect_shallow, shebang_shallow}
+use Rattle.swc_ecma_parser_reader.proofs.Objects.{object_alone_shallow}
+use Rattle.swc_ecma_parser_reader.proofs.Shallow.{Levels, Fine, fine_after, fine_taken, Shallow, Kept, name_shallow, refuse_shallow, end_shallow, expect_shallow, shebang_shallow}
 use Rattle.swc_ecma_parser_reader.proofs.Words.{async_kind, async_parts}
 use Rattle.swc_ecma_parser_reader.proofs.expressions.LimitSteps.{reject_shallow, told_shallow, literal_shallow, any_word_shallow, unexpected_shallow, kept_more}
-use Rattle.swc_ecma_parser_module_reader.specs.Imports.{str_or, str, source, module_name, no_attributes, specifiers_turn, specifiers, same_name, other_name, import_specifier, binding_name, import_namespace, bindings, more_bindings, default_binding, import_clause, imported, import_from, phase_of, import_phased, is_phase_word, import_decl}
+use Rattle.swc_ecma_parser_module_reader.specs.Imports.{str_or, str, source, module_name, attributes, specifiers_turn, specifiers, same_name, other_name, import_specifier, binding_name, import_namespace, bindings, more_bindings, default_binding, import_clause, imported, import_from, phase_of, import_phased, is_phase_word, import_decl}
 use Rattle.swc_ecma_parser_module_reader.specs.Exports.{renamed_export, plain_export, export_specifier, export_namespace, names_from, own_names, export_names, more_names, namespace_names, export_all, export_star, is_namespace_next, behind_default, is_name_from, name_from, is_default_from, default_from, default_name, default_function, default_expr, begins_default_function, exported_function, exported_class, export_default, exported, export_decl}
 use Rattle.swc_ecma_parser_module_reader.specs.Modules.{begins_import, import_in, export_in, module_item, module_code, module_body, module_whole}
 use Rattle.swc_ecma_parser_module_reader.proofs.Falls.{var_is_stmt, const_is_stmt, let_is_stmt, function_is_stmt, class_is_stmt}
@@ -66,9 +67,10 @@ module_name_flat : Flat module_name
 unfolding module_name word_property
 module_name_flat m s f = answers_if _ _ (sees kind.Str s.at) _ _ (λ _. str_flat m s f) (λ _. answers_then (Kept m) _ (any_word s) _ (any_word_shallow m s f) (λ i t g. g))
 
-no_attributes_flat : Flat no_attributes
-unfolding no_attributes
-no_attributes_flat m s f = answers_if _ _ (begins_attributes s.code s.at) _ _ (λ _. unexpected_shallow m s f _) (λ _. f)
+-- attributes need the levels of their object
+attributes_levels : (object : Reader Tree) (n : ℕ) → Levels n object → Levels n (attributes object)
+unfolding attributes
+attributes_levels object n inner m s l f = answers_if _ _ (begins_attributes s.code s.at) _ _ (λ _. inner m (moved s) l (fine_after m s.at f)) (λ _. f)
 
 a_name_flat : Flat (name faults.ExpectedIdent)
 a_name_flat m s f = name_shallow m s f faults.ExpectedIdent (λ e. cc)
@@ -127,27 +129,28 @@ unfolding import_clause
 import_clause_flat m s f = answers_if _ _ (sees kind.Mul s.at || sees kind.LBrace s.at) _ _ (λ _. bindings_flat m s f)
     (λ _. answers_then (Kept m) _ (binding_name s) _ (binding_flat m s f) (λ i t g. default_binding_flat i m t g))
 
-imported_flat : (start : Span) (p : ImportPhase) (xs : List Tree) (from : Reader Tree) → Flat from → Flat (imported start p xs from)
-unfolding imported
-imported_flat start p xs from below m s f = answers_then (Kept m) _ (from s) _ (below m s f) (λ src t g.
-    answers_then (Kept m) _ (no_attributes t) _ (no_attributes_flat m t g) (λ _ u h.
-    answers_then (Kept m) _ (end faults.Expected u) _ (end_flat m u h) (λ _ v k. k)))
+module _ (object : Reader Tree) (n : ℕ) (inner : Levels n object) where
+  imported_levels : (start : Span) (p : ImportPhase) (xs : List Tree) (from : Reader Tree) → Flat from → Levels n (imported object start p xs from)
+  unfolding imported
+  imported_levels start p xs from below m s l f = answers_then (Kept m) _ (from s) _ (below m s f) (λ src t g.
+      answers_then (Kept m) _ (attributes object t) _ (attributes_levels object n inner m t l g) (λ _ u h.
+      answers_then (Kept m) _ (end faults.Expected u) _ (end_flat m u h) (λ _ v k. k)))
 
-import_from_flat : (start : Span) (p : ImportPhase) → Flat (import_from start p)
-unfolding import_from
-import_from_flat start p m s f = answers_then (Kept m) _ (import_clause s) _ (import_clause_flat m s f) (λ xs t g. imported_flat start p xs source source_flat m t g)
+  import_from_levels : (start : Span) (p : ImportPhase) → Levels n (import_from object start p)
+  unfolding import_from
+  import_from_levels start p m s l f = answers_then (Kept m) _ (import_clause s) _ (import_clause_flat m s f) (λ xs t g. imported_levels start p xs source source_flat m t l g)
 
-import_phased_flat : (start : Span) → Flat (import_phased start)
-unfolding import_phased
-import_phased_flat start m s f = answers_then (Kept m) _ (any_word s) _ (any_word_shallow m s f) (λ i t g.
-    answers_if _ _ (follows_phase t.code t.at) _ _ (λ _. import_from_flat start (phase_of i.sym) m t g)
-    (λ _. answers_then (Kept m) _ (default_binding i t) _ (default_binding_flat i m t g) (λ xs u h. imported_flat start phase.Evaluation xs source source_flat m u h)))
+  import_phased_levels : (start : Span) → Levels n (import_phased object start)
+  unfolding import_phased
+  import_phased_levels start m s l f = answers_then (Kept m) _ (any_word s) _ (any_word_shallow m s f) (λ i t g.
+      answers_if _ _ (follows_phase t.code t.at) _ _ (λ _. import_from_levels start (phase_of i.sym) m t l g)
+      (λ _. answers_then (Kept m) _ (default_binding i t) _ (default_binding_flat i m t g) (λ xs u h. imported_levels start phase.Evaluation xs source source_flat m u l h)))
 
-import_decl_flat : Flat import_decl
-unfolding import_decl
-import_decl_flat m s f = let t = moved s in let g = fine_after m s.at f in
-    answers_if _ _ (sees kind.Str t.at) _ _ (λ _. imported_flat (span_at s.at) phase.Evaluation [] str str_flat m t g)
-    (λ _. answers_if _ _ (is_phase_word t.at) _ _ (λ _. import_phased_flat (span_at s.at) m t g) (λ _. import_from_flat (span_at s.at) phase.Evaluation m t g))
+  import_decl_levels : Levels n (import_decl object)
+  unfolding import_decl
+  import_decl_levels m s l f = let t = moved s in let g = fine_after m s.at f in
+      answers_if _ _ (sees kind.Str t.at) _ _ (λ _. imported_levels (span_at s.at) phase.Evaluation [] str str_flat m t l g)
+      (λ _. answers_if _ _ (is_phase_word t.at) _ _ (λ _. import_phased_levels (span_at s.at) m t l g) (λ _. import_from_levels (span_at s.at) phase.Evaluation m t l g))
 
 -- ---- exports
 
@@ -169,12 +172,6 @@ unfolding export_namespace
 export_namespace_flat start m s f = answers_then (Kept m) _ (expect_word (codes "as") s) _ (expect_word_flat (codes "as") m s f) (λ _ t g.
     answers_then (Kept m) _ (module_name t) _ (module_name_flat m t g) (λ n u h. h))
 
-names_from_flat : (start : Span) (xs : List Tree) → Flat (names_from start xs)
-unfolding names_from
-names_from_flat start xs m s f = answers_then (Kept m) _ (source s) _ (source_flat m s f) (λ src t g.
-    answers_then (Kept m) _ (no_attributes t) _ (no_attributes_flat m t g) (λ _ u h.
-    answers_then (Kept m) _ (end faults.Expected u) _ (end_flat m u h) (λ _ v k. k)))
-
 optional_end_flat : Flat optional_end
 unfolding optional_end
 optional_end_flat m s f = answers_if _ _ (sees kind.Semi s.at) _ _ (λ _. fine_after m s.at f) (λ _. f)
@@ -185,39 +182,47 @@ own_names_flat start xs m s f =
     let fs = export_faults tree.absent (listed xs) in
     answers_then (Kept m) _ (told fs s) _ (told_shallow m fs s f) (λ _ t g. answers_then (Kept m) _ (optional_end t) _ (optional_end_flat m t g) (λ _ u h. h))
 
-export_names_flat : (start : Span) (before : List Tree) → Flat (export_names start before)
-unfolding export_names
-export_names_flat start before m s f = answers_then (Kept m) _ (specifiers export_specifier s) _ (specifiers_flat export_specifier export_specifier_flat m s f) (λ xs t g.
-    answers_if _ _ (word_at (codes "from") t.at) _ _ (λ _. names_from_flat start (before ++ xs) m t g) (λ _. own_names_flat start (before ++ xs) m t g))
+module _ (object : Reader Tree) (n : ℕ) (inner : Levels n object) where
+  names_from_levels : (start : Span) (xs : List Tree) → Levels n (names_from object start xs)
+  unfolding names_from
+  names_from_levels start xs m s l f = answers_then (Kept m) _ (source s) _ (source_flat m s f) (λ src t g.
+      answers_then (Kept m) _ (attributes object t) _ (attributes_levels object n inner m t l g) (λ _ u h.
+      answers_then (Kept m) _ (end faults.Expected u) _ (end_flat m u h) (λ _ v k. k)))
 
-more_names_flat : (start : Span) (before : List Tree) → Flat (more_names start before)
-unfolding more_names
-more_names_flat start before m s f = answers_if _ _ (s.code.setting.export_default_from && sees kind.Comma s.at) _ _
-    (λ _. export_names_flat start before m (moved s) (fine_after m s.at f)) (λ _. names_from_flat start before m s f)
+  export_names_levels : (start : Span) (before : List Tree) → Levels n (export_names object start before)
+  unfolding export_names
+  export_names_levels start before m s l f = answers_then (Kept m) _ (specifiers export_specifier s) _ (specifiers_flat export_specifier export_specifier_flat m s f) (λ xs t g.
+      answers_if _ _ (word_at (codes "from") t.at) _ _ (λ _. names_from_levels start (before ++ xs) m t l g) (λ _. own_names_flat start (before ++ xs) m t g))
 
-namespace_names_flat : (start first : Span) (before : List Tree) → Flat (namespace_names start first before)
-unfolding namespace_names
-namespace_names_flat start first before m s f = answers_then (Kept m) _ (export_namespace first s) _ (export_namespace_flat first m s f) (λ x t g. more_names_flat start (before ++ x ∷ []) m t g)
+  more_names_levels : (start : Span) (before : List Tree) → Levels n (more_names object start before)
+  unfolding more_names
+  more_names_levels start before m s l f = answers_if _ _ (s.code.setting.export_default_from && sees kind.Comma s.at) _ _
+      (λ _. export_names_levels start before m (moved s) l (fine_after m s.at f)) (λ _. names_from_levels start before m s l f)
 
-export_all_flat : (start : Span) → Flat (export_all start)
-unfolding export_all
-export_all_flat start m s f = answers_then (Kept m) _ (source s) _ (source_flat m s f) (λ src t g.
-    answers_then (Kept m) _ (no_attributes t) _ (no_attributes_flat m t g) (λ _ u h.
-    answers_then (Kept m) _ (end faults.Expected u) _ (end_flat m u h) (λ _ v k. k)))
+  namespace_names_levels : (start first : Span) (before : List Tree) → Levels n (namespace_names object start first before)
+  unfolding namespace_names
+  namespace_names_levels start first before m s l f = answers_then (Kept m) _ (export_namespace first s) _ (export_namespace_flat first m s f)
+      (λ x t g. more_names_levels start (before ++ x ∷ []) m t l g)
 
-export_star_flat : (start : Span) → Flat (export_star start)
-unfolding export_star
-export_star_flat start m s f = let t = moved s in let g = fine_after m s.at f in answers_if _ _ (word_at (codes "as") t.at) _ _
-    (λ _. namespace_names_flat start (span_at s.at) [] m t g) (λ _. export_all_flat start m t g)
+  export_all_levels : (start : Span) → Levels n (export_all object start)
+  unfolding export_all
+  export_all_levels start m s l f = answers_then (Kept m) _ (source s) _ (source_flat m s f) (λ src t g.
+      answers_then (Kept m) _ (attributes object t) _ (attributes_levels object n inner m t l g) (λ _ u h.
+      answers_then (Kept m) _ (end faults.Expected u) _ (end_flat m u h) (λ _ v k. k)))
 
-behind_default_flat : (start first : Span) (x : Tree) → Flat (behind_default start first x)
-unfolding behind_default
-behind_default_flat start first x m s f = let g = fine_after m s.at f in answers_if _ _ (is_namespace_next s.at) _ _
-    (λ _. namespace_names_flat start first (x ∷ []) m (moved (moved s)) (fine_after m (after s.at) g)) (λ _. more_names_flat start (x ∷ []) m s f)
+  export_star_levels : (start : Span) → Levels n (export_star object start)
+  unfolding export_star
+  export_star_levels start m s l f = let t = moved s in let g = fine_after m s.at f in answers_if _ _ (word_at (codes "as") t.at) _ _
+      (λ _. namespace_names_levels start (span_at s.at) [] m t l g) (λ _. export_all_levels start m t l g)
 
-name_from_flat : (start : Span) → Flat (name_from start)
-unfolding name_from
-name_from_flat start m s f = answers_then (Kept m) _ (name faults.ExpectedIdent s) _ (a_name_flat m s f) (λ i t g. behind_default_flat start (span_at s.at) _ m t g)
+  behind_default_levels : (start first : Span) (x : Tree) → Levels n (behind_default object start first x)
+  unfolding behind_default
+  behind_default_levels start first x m s l f = let g = fine_after m s.at f in answers_if _ _ (is_namespace_next s.at) _ _
+      (λ _. namespace_names_levels start first (x ∷ []) m (moved (moved s)) l (fine_after m (after s.at) g)) (λ _. more_names_levels start (x ∷ []) m s l f)
+
+  name_from_levels : (start : Span) → Levels n (name_from object start)
+  unfolding name_from
+  name_from_levels start m s l f = answers_then (Kept m) _ (name faults.ExpectedIdent s) _ (a_name_flat m s f) (λ i t g. behind_default_levels start (span_at s.at) _ m t l g)
 
 default_name_flat : Flat default_name
 unfolding default_name named
@@ -267,13 +272,13 @@ module _ (n : ℕ) where
       answers_then (Kept m) _ (end faults.Expected t) _ (end_flat m t g) (λ _ u h. h))
 
   export_default_shallow : (start first : Span) (m : ℕ) (s : State) → 2 * (m + 2) + 2 ≤ suc n → Fine m s.at.left
-      → Answers (Kept m) Shallow (export_default (stmt n nested_item) (expr n) (pattern n) (parameters n) (member n) start first s)
+      → Answers (Kept m) Shallow (export_default (stmt n nested_item) (expr n) (pattern n) (parameters n) (member n) (object_alone n) start first s)
   unfolding export_default exported_function exported_class default_from
   export_default_shallow start first m s l f = answers_if _ _ (sees kind.Class s.at) _ _
       (λ e. answers_then (Kept m) _ (class_expr (expr n left_side) (member n) s) _ (whole_class_shallow n m s (omega arith) (saw s.at kind.Class e) f) (λ x t g. g))
       (λ _. answers_if _ _ (begins_default_function s.at) _ _
       (λ e. answers_then (Kept m) _ (default_function (stmt n nested_item) (parameters n) s) _ (default_function_shallow m s l e f) (λ x t g. g))
-      (λ _. answers_if _ _ (is_default_from s.code s.at) _ _ (λ _. behind_default_flat start first _ m s f) (λ _. default_expr_shallow start m s l f)))
+      (λ _. answers_if _ _ (is_default_from s.code s.at) _ _ (λ _. behind_default_levels (object_alone n) n (object_alone_shallow n) start first _ m s (omega arith) f) (λ _. default_expr_shallow start m s l f)))
 
   -- a declaration, which is a statement
   exported_shallow : (start : Span) (d : Reader Tree) (m : ℕ) (s : State) → stmt (suc n) nested_item s ≡ d s → 2 * m + 2 ≤ suc n → Fine m s.at.left
@@ -283,7 +288,7 @@ module _ (n : ℕ) where
 
   -- from behind `export` on
   module _ (start : Span) (m : ℕ) (t : State) (l : 2 * (m + 1) + 2 ≤ suc n) (g : Fine m t.at.left) where
-    default_shallow : sees kind.Default t.at ≡ true → Answers (Kept m) Shallow (export_default (stmt n nested_item) (expr n) (pattern n) (parameters n) (member n) start (span_at t.at) (moved t))
+    default_shallow : sees kind.Default t.at ≡ true → Answers (Kept m) Shallow (export_default (stmt n nested_item) (expr n) (pattern n) (parameters n) (member n) (object_alone n) start (span_at t.at) (moved t))
     default_shallow h =
         let (i, a, k) = fine_taken m t.at kind.Default (saw t.at kind.Default h) (λ z. cc) g in
         kept_more i m _ (omega arith) (export_default_shallow start (span_at t.at) i (moved t) (omega arith) k)
@@ -292,21 +297,21 @@ module _ (n : ℕ) where
     declared_shallow d e = exported_shallow start d m t e (omega arith) g
 
   export_decl_shallow : (m : ℕ) (s : State) → 2 * m + 2 ≤ suc n → sees kind.Export s.at ≡ true → Fine m s.at.left
-      → Answers (Kept m) Shallow (export_decl (stmt n nested_item) (expr n) (pattern n) (parameters n) (member n) s)
+      → Answers (Kept m) Shallow (export_decl (stmt n nested_item) (expr n) (pattern n) (parameters n) (member n) (object_alone n) s)
   unfolding export_decl
   export_decl_shallow m s l e f =
       let (i, a, g) = fine_taken m s.at kind.Export (saw s.at kind.Export e) (λ z. cc) f in
       let t = moved s in let b = span_at s.at in let le : 2 * (i + 1) + 2 ≤ suc n = omega arith in
       kept_more i m _ (omega arith)
-      (answers_if _ _ (sees kind.LBrace t.at) _ _ (λ _. export_names_flat b [] i t g) (λ _.
-      answers_if _ _ (sees kind.Mul t.at) _ _ (λ _. export_star_flat b i t g) (λ _.
+      (answers_if _ _ (sees kind.LBrace t.at) _ _ (λ _. export_names_levels (object_alone n) n (object_alone_shallow n) b [] i t (omega arith) g) (λ _.
+      answers_if _ _ (sees kind.Mul t.at) _ _ (λ _. export_star_levels (object_alone n) n (object_alone_shallow n) b i t (omega arith) g) (λ _.
       answers_if _ _ (sees kind.Default t.at) _ _ (λ h. default_shallow b i t le g h) (λ _.
       answers_if _ _ (sees kind.Var t.at) _ _ (λ h. declared_shallow b i t le g (variables (expr n) (pattern n) decl.Var) (var_is_stmt n t h)) (λ _.
       answers_if _ _ (sees kind.Const t.at) _ _ (λ h. declared_shallow b i t le g (variables (expr n) (pattern n) decl.Const) (const_is_stmt n t h)) (λ _.
       answers_if _ _ (is_let_declaration t.at) _ _ (λ h. declared_shallow b i t le g (variables (expr n) (pattern n) decl.Let) (let_is_stmt n t h)) (λ _.
       answers_if _ _ (sees kind.Class t.at) _ _ (λ h. declared_shallow b i t le g (class_decl (expr n left_side) (member n)) (class_is_stmt n t h)) (λ _.
       answers_if _ _ (begins_default_function t.at) _ _ (λ h. declared_shallow b i t le g (function_decl (stmt n nested_item) (parameters n)) (function_is_stmt n t h)) (λ _.
-      answers_if _ _ (is_name_from t.code t.at) _ _ (λ _. name_from_flat b i t g) (λ _.
+      answers_if _ _ (is_name_from t.code t.at) _ _ (λ _. name_from_levels (object_alone n) n (object_alone_shallow n) b i t (omega arith) g) (λ _.
       unexpected_shallow i t g _))))))))))
 
 -- ---- an item, and a module
@@ -314,7 +319,7 @@ module _ (n : ℕ) where
 import_in_shallow : (n m : ℕ) (s : State) → 2 * m + 2 ≤ n → Fine m s.at.left → Answers (Kept m) Shallow (import_in n s)
 unfolding import_in
 import_in_shallow zero m s l f = absurd (omega arith)
-import_in_shallow (suc n) m s l f = import_decl_flat m s f
+import_in_shallow (suc n) m s l f = import_decl_levels (object_alone n) n (object_alone_shallow n) m s (omega arith) f
 
 export_in_shallow : (n m : ℕ) (s : State) → 2 * m + 2 ≤ n → sees kind.Export s.at ≡ true → Fine m s.at.left → Answers (Kept m) Shallow (export_in n s)
 unfolding export_in

@@ -24,6 +24,8 @@ use Rattle.swc_ecma_parser_grammar.specs.language.Classes.{DecoratorsRule, no_de
 use Rattle.swc_ecma_parser_grammar.specs.language.Contexts.{in_module}
 use Rattle.swc_ecma_parser_grammar.specs.language.Exports as exports
 use Rattle.swc_ecma_parser_grammar.specs.language.Exports.{may_begin_default, ExportFrontRule, ExportedRule, DefaultRule, ExportRule}
+use Rattle.swc_ecma_parser_grammar.specs.language.Imports as imports
+use Rattle.swc_ecma_parser_grammar.specs.language.Imports.{ImportRule}
 use Rattle.swc_ecma_parser_grammar.specs.language.Goals.{Goal, item_goal}
 use Rattle.swc_ecma_parser_grammar.specs.language.ModuleItems.{statement_rule, import_item_rule, export_item_rule, behind_item, begins_with_await, ModuleItemsRule}
 use Rattle.swc_ecma_parser_grammar.specs.language.Programs.{is_module_program, is_module_code}
@@ -40,7 +42,7 @@ use Rattle.swc_ecma_parser_reader.proofs.Notes.{or_assoc}
 use Rattle.swc_ecma_parser_module_reader.specs.Modules.{begins_import, module_code}
 use Rattle.swc_ecma_parser_module_reader.specs.Programs.{begins_module}
 use Rattle.swc_ecma_parser_module_reader.specs.Supported.{supported_item, all_supported_items}
-use Rattle.swc_ecma_parser_module_reader.proofs.CompleteImports.{import_quiet, import_seen}
+use Rattle.swc_ecma_parser_module_reader.proofs.CompleteImports.{import_seen}
 use Rattle.swc_ecma_parser_module_reader.proofs.ItemStarts.{import_word, statement_told, import_told, export_told, supported_plain, exported_bare, default_bare, export_seen}
 use Rattle.swc_ecma_parser_module_reader.proofs.ModuleCode.{entered_code, directed_may, declared_code, declared_env, stated_code, stated_env}
 
@@ -93,6 +95,11 @@ module _ (In : Goal → Type 0) where
       → walk (walks_of.in_module env) x ≡ walk env x
   default_walk env s k ds x y c d (exports.default_class name z r e) is h = class_default_same env x y z name ds _ _ _ _ _ is e r.is h
   default_walk env s k ds x y c d (exports.default_function name z r e) is h = function_default_same env x y z name ds _ _ _ _ _ _ _ is e r.is h
+
+  -- an import is module code whatever stands around it
+  pub import_walk : (env : Env) (k : Code) (x : Tree) (c d : Place) → ImportRule In k x c d → walk (walks_of.in_module env) x ≡ walk env x
+  import_walk env k x c d (imports.bare_import_rule src attributes m i e r t g is) = rw is refl
+  import_walk env k x c d (imports.import_rule p xs src attributes i l m j e q r t u g is) = rw is refl
 
   pub export_walk : (env : Env) (k : Code) (x : Tree) (c d : Place) → ExportRule In k x c d → supported_item x ≡ true → walk (walks_of.in_module env) x ≡ walk env x
   export_walk env k x c d (exports.export_declaration_rule ds y m n f r is) h =
@@ -254,10 +261,8 @@ parts (suc n) k b (x ∷ xs) awaits c d o (m, others, statement_rule r, rs, z) s
     (parts (suc n) (directed k b x) false xs others m d (directed_may k b x o) (subst (λ j. ModuleItemsRule (Reads (suc n)) j false xs others m d) (stated_code (directed k b x) x e) rs) t.1
     (λ h. (nil-split (notes x) (all_notes (trees xs)) (q (sym (strict_module (b && is_use_strict x) k) ∙ h))).1)) z
 parts (suc n) k b (x ∷ xs) awaits c d o (m, others, import_item_rule r, rs, z) s q =
-    let t = (and_yes (supported_item x) (all_supported_items (trees xs)) s).0 in
-    let i = import_quiet n (in_module k) x c m r t in
     parts_at (suc n) k b x xs others awaits c m d o (import_told (Reads n) (in_module k) x c m r) (word_seen c (import_seen n (in_module k) x c m r)) (import_item_rule r)
-    (λ env. i.0 (walks_of.in_module env) ∙ sym (i.0 env)) rs z
+    (λ env. import_walk (Reads n) env (in_module k) x c m r) rs z
 parts (suc n) k b (x ∷ xs) awaits c d o (m, others, export_item_rule r, rs, z) s q =
     let t = (and_yes (supported_item x) (all_supported_items (trees xs)) s).0 in
     parts_at (suc n) k b x xs others awaits c m d o (export_told (Reads n) k x c m r) (export_word_seen c (export_seen (Reads n) k x c m r t)) (export_item_rule (export_module (Reads n) k x c m r t))

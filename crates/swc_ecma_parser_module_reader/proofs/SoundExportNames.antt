@@ -39,16 +39,16 @@ use Rattle.swc_ecma_parser_reader.specs.Notes.{no_notes, ◌⊕◌, notes_of}
 use Rattle.swc_ecma_parser_reader.specs.Jumps.{told}
 use Rattle.swc_ecma_parser_reader.specs.Operands.{literal}
 use Rattle.swc_ecma_parser_reader.specs.State.{State, moved, fault, name, expect_word, end}
-use Rattle.swc_ecma_parser_reader.specs.Reader.{optional_end}
+use Rattle.swc_ecma_parser_reader.specs.Reader.{optional_end, object_alone}
 use Rattle.swc_ecma_parser_reader.proofs.Meets.{Meets, meets_then, meets_if, wanted_meets, saw}
 use Rattle.swc_ecma_parser_reader.proofs.Between.{Sound, SoundStep, same, sound_then, sound_more, sound_moved, sound_here, sound_as, sound_after}
 use Rattle.swc_ecma_parser_reader.proofs.expressions.SoundSteps.{meets_as, fault_sound, paired, stepped, moved_back, stands, name_sound}
 use Rattle.swc_ecma_parser_reader.proofs.patterns.Sound.{anything}
 use Rattle.swc_ecma_parser_reader.proofs.SoundParts.{end_sound, optional_end_sound, meets_both}
-use Rattle.swc_ecma_parser_module_reader.specs.Imports.{str_or, str, source, module_name, no_attributes, specifiers}
+use Rattle.swc_ecma_parser_module_reader.specs.Imports.{str_or, str, source, module_name, attributes, specifiers}
 use Rattle.swc_ecma_parser_module_reader.specs.Exports.{renamed_export, plain_export, export_specifier, export_namespace, names_from, own_names, export_names, more_names, namespace_names, export_all, export_star, is_namespace_next, behind_default, is_name_from, name_from, default_from}
-use Rattle.swc_ecma_parser_module_reader.proofs.ModuleCode.{IsModule, in_module_same}
-use Rattle.swc_ecma_parser_module_reader.proofs.SoundShared.{IsLeaf, AreLeaves, no_leaves, SoundLeaf, word_name, expect_word_sound, source_sound, module_name_sound, no_attributes_sound, specifiers_sound}
+use Rattle.swc_ecma_parser_module_reader.proofs.ModuleCode.{IsModule, in_module_same, module_env}
+use Rattle.swc_ecma_parser_module_reader.proofs.SoundShared.{IsLeaf, AreLeaves, no_leaves, SoundLeaf, word_name, expect_word_sound, source_sound, module_name_sound, object_sound, attributes_sound, specifiers_sound}
 use Rattle.swc_ecma_parser_module_reader.proofs.SoundExported.{SoundExport}
 
 -- ---- what is told of names without a source
@@ -167,13 +167,15 @@ source_form s = meets_then _ (expect_word (codes "from") s) _ (anything (expect_
 
 -- ---- exports of names, from behind their word
 
--- the notes of an export of names without notes
-named_unnoted : (span : Span) (xs src : Tree) → notes_of xs ≡ no_notes → notes_of src ≡ no_notes → no_notes ≡ notes_of (tree.export_named span xs src tree.absent)
-named_unnoted span xs src h g = sym (ap (λ z. (z ⊕ notes_of src) ⊕ no_notes) h ∙ ap (λ z. (no_notes ⊕ z) ⊕ no_notes) g)
+-- the notes of an export of names without notes, which are those of its attributes
+named_notes : (span : Span) (xs src given : Tree) → notes_of xs ≡ no_notes → notes_of src ≡ no_notes → notes_of given ≡ notes_of (tree.export_named span xs src given)
+named_notes span xs src given h g = sym (ap (λ z. (z ⊕ notes_of src) ⊕ notes_of given) h ∙ ap (λ z. (no_notes ⊕ z) ⊕ notes_of given) g)
 
--- and its faults, which are those of the names
-named_walk : (env : Env) (span : Span) (xs src : Tree) → walk (walks.in_module env) xs ≡ [] → walk (walks.in_module env) src ≡ [] → export_faults src xs ≡ walk env (tree.export_named span xs src tree.absent)
-named_walk env span xs src h g = sym (ap (λ z. ((z ++ walk (walks.in_module env) src) ++ []) ++ export_faults src xs) h ∙ ap (λ z. (z ++ []) ++ export_faults src xs) g)
+-- and its faults, with those of the names behind them
+named_walk : (env : Env) (span : Span) (xs src given : Tree) → walk (walks.in_module env) xs ≡ [] → walk (walks.in_module env) src ≡ []
+    → walk (walks.in_module env) given ++ export_faults src xs ≡ walk env (tree.export_named span xs src given)
+named_walk env span xs src given h g = let inner = walk (walks.in_module env) given in
+    sym (ap (λ z. ((z ++ walk (walks.in_module env) src) ++ inner) ++ export_faults src xs) h ∙ ap (λ z. (z ++ inner) ++ export_faults src xs) g)
 
 -- what stands behind the word
 abbrev Clause : Bool → List Tree → Code → Place → Place → Type 0
@@ -202,19 +204,24 @@ abbrev Precedes : List Tree → Type 0
 Precedes xs = (ys : List Tree) → AreLeaves ys → AreLeaves (xs ++ ys)
 
 module _ (n : ℕ) (s : State) (o : IsModule s.code) (e : kind_at s.at ≡ kind.Export) where
-  names_from_sound : (b : Bool) (xs : List Tree) (m : State) → SoundStep (Clause b xs) (moved s) m → AreLeaves xs → Meets (SoundExport n s) (names_from (span_at s.at) xs m)
+  -- attributes are walked as module code
+  given_walk : (given : Tree) → walk (env_of s.code s.scope.labels) given ≡ walk (walks.in_module (env_of s.code s.scope.labels)) given
+  given_walk given = sym (ap (λ z. walk z given) (module_env s.code s.scope.labels o))
+
+  names_from_sound : (b : Bool) (xs : List Tree) (m : State) → SoundStep (Clause b xs) (moved s) m → AreLeaves xs → Meets (SoundExport n s) (names_from (object_alone n) (span_at s.at) xs m)
   unfolding names_from spanned
   names_from_sound b xs m p l = meets_then _ (source m) _ (meets_both _ _ (source m) (source_sound m) (source_form m)) (λ x u ((q, h), f).
-      meets_then _ (no_attributes u) _ (no_attributes_sound (Reads n) u) (λ _ v r.
+      meets_then _ (attributes (object_alone n) u) _ (attributes_sound (Reads n) (object_alone n) (object_sound n) u) (λ given v r.
       meets_then _ (end faults.Expected v) _ (end_sound faults.Expected v) (λ _ t z.
       let span : Span = record { lo = (span_at s.at).lo; hi = t.at.last.hi } in
       let env : Env = env_of s.code s.scope.labels in (
-        sound_after s t e refl (sym (f (listed xs)) ∙ named_walk env span (listed xs) x (l.empty (walks.in_module env)) (h.empty (walks.in_module env))) (named_unnoted span (listed xs) x l.unnoted h.unnoted)
-            (λ (i, (j, (y, a, c), d), g). (
-              export_from_rule b xs x tree.absent y j i e a c (subst (λ k. AttributesRule (Reads n) k tree.absent j i) (sym (in_module_same s.code o)) d) g refl,
-              refl,
-              joined (notes (listed xs) ++ notes x) [] (joined (notes (listed xs)) (notes x) (ap (λ w. w.held_back) l.unnoted) (ap (λ w. w.held_back) h.unnoted)) refl,
-            )) (sound_more (sound_more (sound_more p q) r) z),
+        sound_after s t e refl (given_walk given ∙ sym (ap (λ w. walk (walks.in_module env) given ++ w) (f (listed xs)) ∙ append-nil (walk (walks.in_module env) given))
+            ∙ named_walk env span (listed xs) x given (l.empty (walks.in_module env)) (h.empty (walks.in_module env))) (named_notes span (listed xs) x given l.unnoted h.unnoted)
+            (λ (i, (j, (y, a, c), (d, w)), g). (
+              export_from_rule b xs x given y j i e a c (subst (λ k. AttributesRule (Reads n) k given j i) (sym (in_module_same s.code o)) d) g refl,
+              w.0,
+              joined (notes (listed xs) ++ notes x) (notes given) (joined (notes (listed xs)) (notes x) (ap (λ w. w.held_back) l.unnoted) (ap (λ w. w.held_back) h.unnoted)) (w.1 o.0),
+            )) (sound_more (sound_then (sound_more p q) r) z),
         refl,
       ))))
 
@@ -225,7 +232,7 @@ module _ (n : ℕ) (s : State) (o : IsModule s.code) (e : kind_at s.at ≡ kind.
       meets_then _ (optional_end u) _ (optional_end_sound u) (λ _ t z.
       let span : Span = record { lo = (span_at s.at).lo; hi = t.at.last.hi } in
       let env : Env = env_of s.code s.scope.labels in (
-        sound_after s t e refl (named_walk env span (listed xs) tree.absent (l.empty (walks.in_module env)) refl) (named_unnoted span (listed xs) tree.absent l.unnoted refl)
+        sound_after s t e refl (named_walk env span (listed xs) tree.absent tree.absent (l.empty (walks.in_module env)) refl) (named_notes span (listed xs) tree.absent tree.absent l.unnoted refl)
             (λ ((a, b), c). (
               export_names_rule xs m.at e a h (subst (λ w. OptionalEnds w t.at) b c) refl,
               refl,
@@ -237,12 +244,12 @@ module _ (n : ℕ) (s : State) (o : IsModule s.code) (e : kind_at s.at ≡ kind.
   -- names in braces, with those before them
   pub export_names_sound : (before : List Tree) (u : State)
       → ((xs : List Tree) (m : State) → SoundStep (λ k. BracedRule ExportSpecifierRule xs) u m → SoundStep (Clause true (before ++ xs)) (moved s) m)
-      → ((xs : List Tree) → AreLeaves xs → AreLeaves (before ++ xs)) → Meets (SoundExport n s) (export_names (span_at s.at) before u)
+      → ((xs : List Tree) → AreLeaves xs → AreLeaves (before ++ xs)) → Meets (SoundExport n s) (export_names (object_alone n) (span_at s.at) before u)
   unfolding export_names
   export_names_sound before u f g = meets_then _ (specifiers export_specifier u) _ (specifiers_sound (λ k. ExportSpecifierRule) export_specifier specifier_sound u) (λ xs m (p, l).
       meets_if _ (word_at (codes "from") m.at) _ _ (λ _. names_from_sound true (before ++ xs) m (f xs m p) (g xs l)) (λ h. own_names_sound (before ++ xs) m (f xs m p) (g xs l) h))
 
-  more_names_sound : (xs : List Tree) (m : State) → SoundStep (Before xs) (moved s) m → Precedes xs → Meets (SoundExport n s) (more_names (span_at s.at) xs m)
+  more_names_sound : (xs : List Tree) (m : State) → SoundStep (Before xs) (moved s) m → Precedes xs → Meets (SoundExport n s) (more_names (object_alone n) (span_at s.at) xs m)
   unfolding more_names
   more_names_sound xs m p f = meets_if _ (m.code.setting.export_default_from && sees kind.Comma m.at) _ _
       (λ h. let (b, c) = and_yes m.code.setting.export_default_from (sees kind.Comma m.at) h in
@@ -254,27 +261,27 @@ module _ (n : ℕ) (s : State) (o : IsModule s.code) (e : kind_at s.at ≡ kind.
   -- from behind a star on
   namespace_names_sound : (before : List Tree) (u : State) → kind_at u.at ≡ kind.Mul
       → ((x : Tree) (t : State) → SoundStep (λ k. NamespaceExportRule (after s.at) x) u t → SoundStep (Before (before ++ x ∷ [])) (moved s) t)
-      → ((x : Tree) → IsLeaf x → Precedes (before ++ x ∷ [])) → Meets (SoundExport n s) (namespace_names (span_at s.at) (span_at (after s.at)) before (moved u))
+      → ((x : Tree) → IsLeaf x → Precedes (before ++ x ∷ [])) → Meets (SoundExport n s) (namespace_names (object_alone n) (span_at s.at) (span_at (after s.at)) before (moved u))
   unfolding namespace_names
   namespace_names_sound before u h f g = meets_then _ (export_namespace (span_at (after s.at)) (moved u)) _ (namespace_sound (after s.at) u h)
       (λ x t (p, l). more_names_sound (before ++ x ∷ []) t (f x t p) (g x l))
 
-  all_sound : kind_at (after s.at) ≡ kind.Mul → Meets (SoundExport n s) (export_all (span_at s.at) (moved (moved s)))
+  all_sound : kind_at (after s.at) ≡ kind.Mul → Meets (SoundExport n s) (export_all (object_alone n) (span_at s.at) (moved (moved s)))
   unfolding export_all spanned
   all_sound f = meets_then _ (source (moved (moved s))) _ (source_sound (moved (moved s))) (λ x u (q, h).
-      meets_then _ (no_attributes u) _ (no_attributes_sound (Reads n) u) (λ _ v r.
+      meets_then _ (attributes (object_alone n) u) _ (attributes_sound (Reads n) (object_alone n) (object_sound n) u) (λ given v r.
       meets_then _ (end faults.Expected v) _ (end_sound faults.Expected v) (λ _ t z.
       let env : Env = env_of s.code s.scope.labels in (
-        sound_after s t e refl (sym (ap (λ w. w ++ []) (h.empty (walks.in_module env)))) (sym (ap (λ w. w ⊕ no_notes) h.unnoted))
-            (λ (i, (j, a, d), g). (
-              export_all_rule x tree.absent j i e f a (subst (λ k. AttributesRule (Reads n) k tree.absent j i) (sym (in_module_same s.code o)) d) g refl,
-              refl,
-              joined (notes x) [] (ap (λ w. w.held_back) h.unnoted) refl,
-            )) (moved_back {s = moved s} f refl (sound_more (sound_more q r) z)),
+        sound_after s t e refl (given_walk given ∙ sym (ap (λ w. w ++ walk (walks.in_module env) given) (h.empty (walks.in_module env)))) (sym (ap (λ w. w ⊕ notes_of given) h.unnoted))
+            (λ (i, (j, a, (d, w)), g). (
+              export_all_rule x given j i e f a (subst (λ k. AttributesRule (Reads n) k given j i) (sym (in_module_same s.code o)) d) g refl,
+              w.0,
+              joined (notes x) (notes given) (ap (λ w. w.held_back) h.unnoted) (w.1 o.0),
+            )) (moved_back {s = moved s} f refl (sound_more (sound_then q r) z)),
         refl,
       ))))
 
-  pub star_sound : kind_at (after s.at) ≡ kind.Mul → Meets (SoundExport n s) (export_star (span_at s.at) (moved s))
+  pub star_sound : kind_at (after s.at) ≡ kind.Mul → Meets (SoundExport n s) (export_star (object_alone n) (span_at s.at) (moved s))
   unfolding export_star
   star_sound f = meets_if _ (word_at (codes "as") (after (after s.at))) _ _
       (λ _. namespace_names_sound [] (moved s) f (λ x t p. sound_as (moved s) t refl refl refl (λ r. namespace_before s.code x (after s.at) t.at r) p) (λ x l ys h. leaves_first x ys l h))
@@ -283,7 +290,7 @@ module _ (n : ℕ) (s : State) (o : IsModule s.code) (e : kind_at s.at ≡ kind.
   -- ---- with the setting, the default of another module
 
   behind_default_sound : (x : Tree) (m : State) → s.code.setting.export_default_from ≡ true → SoundStep (λ k. DefaultExportRule (in_module k) x) (moved s) m → IsLeaf x
-      → Meets (SoundExport n s) (behind_default (span_at s.at) (span_at (after s.at)) x m)
+      → Meets (SoundExport n s) (behind_default (object_alone n) (span_at s.at) (span_at (after s.at)) x m)
   unfolding behind_default is_namespace_next
   behind_default_sound x m b p l = meets_if _ (sees kind.Comma m.at && sees kind.Mul (after m.at)) _ _
       (λ h. let (c, i) = and_yes (sees kind.Comma m.at) (sees kind.Mul (after m.at)) h in
@@ -293,16 +300,16 @@ module _ (n : ℕ) (s : State) (o : IsModule s.code) (e : kind_at s.at ≡ kind.
       (λ y k ys h. leaves_first x (y ∷ ys) l (leaves_first y ys k h)))
       (λ _. more_names_sound (x ∷ []) m (sound_as (moved s) m refl refl refl (λ r. default_before s.code x (after s.at) m.at b r) p) (λ ys h. leaves_first x ys l h))
 
-  pub name_from_sound : is_name_from s.code (after s.at) ≡ true → Meets (SoundExport n s) (name_from (span_at s.at) (moved s))
+  pub name_from_sound : is_name_from s.code (after s.at) ≡ true → Meets (SoundExport n s) (name_from (object_alone n) (span_at s.at) (moved s))
   unfolding name_from is_name_from
   name_from_sound h = meets_then _ (name faults.ExpectedIdent (moved s)) _ (name_sound faults.ExpectedIdent (moved s)) (λ i m p.
-      behind_default_sound (tree.export_default (tree.ident i.span i.sym)) m (and_yes s.code.setting.export_default_from (name_at s.code.flags (after s.at)) h).0
+      behind_default_sound (tree.export_default (tree.ident i.span i.sym)) m (and_yes s.code.setting.export_default_from _ h).0
       (sound_as (moved s) m refl refl refl
       (λ r. under_name_rule i.sym i.span (subst (λ k. ReadsName k i.sym i.span (after s.at) m.at) (sym (in_module_same s.code o)) (word_name i s.code (after s.at) m.at r)) refl) p)
       (record { empty = λ env. refl; unnoted = refl; no_rest = refl }))
 
   pub default_from_sound : s.code.setting.export_default_from ≡ true → kind_at (after s.at) ≡ kind.Default
-      → Meets (SoundExport n s) (default_from (span_at s.at) (span_at (after s.at)) (moved (moved s)))
+      → Meets (SoundExport n s) (default_from (object_alone n) (span_at s.at) (span_at (after s.at)) (moved (moved s)))
   unfolding default_from
   default_from_sound b f =
       behind_default_sound (tree.export_default (tree.ident (span_at (after s.at)) (codes "default"))) (moved (moved s)) b

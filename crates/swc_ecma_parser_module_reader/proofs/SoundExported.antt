@@ -18,7 +18,7 @@ use Rattle.swc_ecma_parser_model.specs.Tree.{Tree, Text, listed, trees}
 use Rattle.swc_ecma_parser_model.specs.Forms.{is_absent, span_of}
 use Rattle.swc_ecma_parser_model.specs.Kinds.{is_module_decl}
 use Rattle.swc_ecma_parser_grammar.specs.Looks.{kind_at, sees, span_at, spanned}
-use Rattle.swc_ecma_parser_grammar.specs.Names.{Code, is_one_of, reserved_words, is_reserved, is_name, token_is_name, first_is_name, name_at}
+use Rattle.swc_ecma_parser_grammar.specs.Names.{Code, is_one_of, reserved_words, is_reserved, is_name, token_is_identifier, first_is_identifier, name_at, identifier_at, is_identifier, is_clean_name, may_bind_await}
 use Rattle.swc_ecma_parser_grammar.specs.Ends.{Ends}
 use Rattle.swc_ecma_parser_grammar.specs.Follows.{word_at, is_async_function}
 use Rattle.swc_ecma_parser_grammar.specs.Variables.{begins_variables}
@@ -51,11 +51,11 @@ use Rattle.swc_ecma_parser_grammar.proofs.FunctionExprs.{function_supported}
 use Rattle.swc_ecma_parser_reader.specs.Notes.{notes_of, all_notes_of}
 use Rattle.swc_ecma_parser_reader.specs.Members.{extended, surplus, members, class_parts, named_class, class_decl, class_name, unnamed_class, class_expr, class_stmt}
 use Rattle.swc_ecma_parser_reader.specs.Methods.{star}
-use Rattle.swc_ecma_parser_reader.specs.State.{State, Outcome, Reader, and_then, moved, coded, flagged, within, name, name_by, name_in, wanted, expect, end}
+use Rattle.swc_ecma_parser_reader.specs.State.{State, Outcome, Reader, and_then, moved, coded, flagged, within, name, name_by, name_in, wanted, expect, end, unclean_name, recorded_in, recorded_at, noted, fault, fault_at}
 use Rattle.swc_ecma_parser_reader.specs.Reader as reader
 use Rattle.swc_ecma_parser_reader.specs.Reader.{expr, pattern, member, stmt, declarators, variables, named, own_name, function_word, function_parts, function_decl, function_expr, misdirected, function_body, close}
 use Rattle.swc_ecma_parser_reader.proofs.Words.{begins_function}
-use Rattle.swc_ecma_parser_reader.proofs.Meets.{Meets, Refuses, meets_then, meets_if, meant, saw}
+use Rattle.swc_ecma_parser_reader.proofs.Meets.{Meets, Refuses, meets_then, meets_if, meant, saw, wanted_meets}
 use Rattle.swc_ecma_parser_reader.proofs.Between.{Sound, same, sound_more, sound_as, sound_after, within_sound}
 use Rattle.swc_ecma_parser_reader.proofs.expressions.SoundSteps.{meets_as, moved_back}
 use Rattle.swc_ecma_parser_reader.proofs.patterns.Sound.{anything}
@@ -65,6 +65,8 @@ use Rattle.swc_ecma_parser_reader.proofs.Sound.{expr_sound, pattern_sound, param
 use Rattle.swc_ecma_parser_module_reader.specs.Exports.{default_name, default_function, default_expr, is_default_from, begins_default_function, exported_function, exported_class, exported}
 use Rattle.swc_ecma_parser_module_reader.specs.Supported.{supported_item}
 use Rattle.swc_ecma_parser_module_reader.proofs.ModuleCode.{IsModule, in_module_same, module_env}
+use Rattle.swc_ecma_parser_error.specs.Kind.{Fault, fault_of}
+use Rattle.swc_ecma_parser_input.specs.TokenSource.{means_out_of_memory}
 
 -- ---- exports in module code
 
@@ -210,50 +212,111 @@ yield_strict false false false true false = refl
 yield_strict false false false false true = refl
 yield_strict false false false false false = refl
 
-name_by_test : (b r l y o w g f : Bool) → b ≡ true → (not (r || ((b && (l || (y || o))) || (g && y))) && w) ≡ (not (r || ((b && (l || (y || o))) || (f && y))) && w)
-name_by_test true r l y o w g f h = ap (λ z. not (r || z) && w) (yield_strict l y o g f)
-name_by_test false r l y o w g f h = cc
+name_by_test : (b r l y o g f : Bool) → b ≡ true → not (r || ((b && (l || (y || o))) || (g && y))) ≡ not (r || ((b && (l || (y || o))) || (f && y)))
+name_by_test true r l y o g f h = ap (λ z. not (r || z)) (yield_strict l y o g f)
+name_by_test false r l y o g f h = cc
 
-pub name_strict : (f : Context) (is_async is_generator : Bool) (text : Text) → f.strict ≡ true → is_name (record f { in_async = is_async; in_generator = is_generator }) text ≡ is_name f text
-unfolding is_name is_reserved
-name_strict f a g text h = name_by_test f.strict (is_one_of reserved_words text) (bytes_eq text (codes "let")) (bytes_eq text (codes "yield"))
-    (is_one_of (codes "implements" ∷ codes "interface" ∷ codes "package" ∷ codes "private" ∷ codes "protected" ∷ codes "public" ∷ []) text) (not (bytes_eq text (codes "await"))) g f.in_generator h
+identifier_strict : (f : Context) (is_async is_generator : Bool) (text : Text) → f.strict ≡ true
+    → is_identifier (record f { in_async = is_async; in_generator = is_generator }) text ≡ is_identifier f text
+unfolding is_identifier is_reserved
+identifier_strict f a g text h = name_by_test f.strict (is_one_of reserved_words text) (bytes_eq text (codes "let")) (bytes_eq text (codes "yield"))
+    (is_one_of (codes "implements" ∷ codes "interface" ∷ codes "package" ∷ codes "private" ∷ codes "protected" ∷ codes "public" ∷ []) text) g f.in_generator h
 
--- a step behind two that are the same
-then_as : {A B : Type 0} {P : A → State → Type 0} (o : Outcome A) (f g : A → Reader B) → Meets P o → ((a : A) (t : State) → P a t → f a t ≡ g a t) → and_then o f ≡ and_then o g
-then_as (Ok p) f g h e = e p.0 p.1 h
-then_as (Err e) f g h i = refl
+-- and `await` is no clean name in either
+clean_by : (i j w m a b s : Bool) → i ≡ j → m ≡ true → (i && not (w && (m || (a || s)))) ≡ (j && not (w && (m || (b || s))))
+clean_by i j w true a b s e h = ap (λ z. z && not (w && true)) e
+clean_by i j w false a b s e h = cc
 
-module _ (a g : Bool) (s : State) (h : s.code.flags.strict ≡ true) where
+pub name_strict : (f : Context) (is_async is_generator : Bool) (text : Text) → f.module ≡ true → f.strict ≡ true
+    → is_name (record f { in_async = is_async; in_generator = is_generator }) text ≡ is_name f text
+unfolding is_name is_clean_name
+name_strict f a g text o h = clean_by (is_identifier (record f { in_async = a; in_generator = g }) text) (is_identifier f text) (bytes_eq text (codes "await")) f.module a f.in_async f.in_static_block
+    (identifier_strict f a g text h) o
+
+-- what answers does so as another does
+abbrev Below : {A : Type 0} → Outcome A → Outcome A → Type 0
+Below (Ok p) o = o ≡ Ok p
+Below (Err e) o = Unit {0}
+
+below_meets : {A : Type 0} (P : A → State → Type 0) (o q : Outcome A) → Below o q → Meets P q → Meets P o
+below_meets P (Ok p) q e h = subst (Meets P) e h
+below_meets P (Err e) q g h = tt
+
+below_none : {A : Type 0} (o q : Outcome A) → Meets (λ _ _. ⊥) o → Below o q
+below_none (Ok p) q h = absurd h
+below_none (Err e) q h = tt
+
+-- a step behind two such
+below_then : {A B : Type 0} {P : A → State → Type 0} (o q : Outcome A) (f g : A → Reader B) → Meets P o → Below o q → ((a : A) (t : State) → P a t → Below (f a t) (g a t)) → Below (and_then o f) (and_then q g)
+below_then (Ok p) q f g h e i = subst (λ z. Below (f p.0 p.1) (and_then z g)) (sym e) (i p.0 p.1 h)
+below_then (Err e) q f g h j i = tt
+
+module _ (a g : Bool) (s : State) (o : s.code.flags.module ≡ true) (h : s.code.flags.strict ≡ true) where
   -- in the function's own code
   abbrev Within : State
   Within = coded (named_by s.code a g) s
 
-  abbrev as_name : Outcome Ident → Outcome Tree
-  as_name o = and_then o (λ i t. Ok (tree.ident i.span i.sym, t))
+  abbrev as_tree : Outcome Ident → Outcome Tree
+  as_tree o = and_then o (λ i t. Ok (tree.ident i.span i.sym, t))
 
-  same_by : (i : Ident) (b e : Bool) → e ≡ b
-      → cond b (as_name (cond b (Ok (i, moved s)) (wanted faults.ExpectedIdent s))) (Ok (tree.absent, s))
-      ≡ cond e (and_then (as_name (cond e (Ok (i, moved Within)) (wanted faults.ExpectedIdent Within))) (λ x t. Ok (x, flagged s.code t))) (Ok (tree.absent, s))
-  same_by i true true o = refl
-  same_by i false false o = refl
-  same_by i true false o = cc
-  same_by i false true o = cc
+  abbrev restored : Outcome Tree → Outcome Tree
+  restored o = and_then o (λ x t. Ok (x, flagged s.code t))
+
+  -- an error token that stands there is recorded before it, or answered
+  abbrev error_taken : (is_last : Bool) (first f : Fault) → State → Outcome (Unit {0})
+  error_taken is_last first f t = cond is_last (Err (first, moved t)) (Ok (tt, noted f (noted first (moved t))))
+
+  -- the fault is recorded in either code
+  recorded_same : (i : Ident) (f : Fault) (ts : List TokenAndSpan)
+      → Below (as_tree (and_then (recorded_in f (moved s) ts) (λ _ t. Ok (i, t)))) (restored (as_tree (and_then (recorded_in f (moved Within) ts) (λ _ t. Ok (i, t)))))
+  recorded_same i f [] = refl
+  recorded_same i f (u ∷ us) = by_token u.token
+    where
+      by_memory : (b : Bool) (d : Fault)
+          → Below (as_tree (and_then (error_taken b d f (moved s)) (λ _ t. Ok (i, t)))) (restored (as_tree (and_then (error_taken b d f (moved Within)) (λ _ t. Ok (i, t)))))
+      by_memory true d = tt
+      by_memory false d = refl
+
+      by_token : (v : Token) → Below (as_tree (and_then (recorded_at f (moved s) v) (λ _ t. Ok (i, t)))) (restored (as_tree (and_then (recorded_at f (moved Within) v) (λ _ t. Ok (i, t)))))
+      by_token (token.Error e) = by_memory (means_out_of_memory e.kind) (fault_of e)
+      by_token _ = refl
+
+  unclean_same : (i : Ident) → Below (as_tree (unclean_name i s)) (restored (as_tree (unclean_name i Within)))
+  unfolding unclean_name may_bind_await fault
+  unclean_same i = by_test s.code.flags.in_static_block
+    where
+      by_test : (b : Bool) → Below (as_tree (cond (not b) (and_then (recorded_in (fault_at i.span faults.InvalidIdentInAsync) (moved s) (after s.at).left) (λ _ t. Ok (i, t))) (wanted faults.ExpectedIdent s)))
+          (restored (as_tree (cond (not b) (and_then (recorded_in (fault_at i.span faults.InvalidIdentInAsync) (moved Within) (after s.at).left) (λ _ t. Ok (i, t))) (wanted faults.ExpectedIdent Within))))
+      by_test true = below_none (as_tree (wanted faults.ExpectedIdent s)) _ (meets_then {P = λ _ _. ⊥} _ (wanted faults.ExpectedIdent s) _ (wanted_meets _ faults.ExpectedIdent s) (λ _ _ z. z))
+      by_test false = recorded_same i (fault_at i.span faults.InvalidIdentInAsync) (after s.at).left
+
+  same_by : (i : Ident) (b e c d : Bool) → e ≡ b → d ≡ c
+      → Below (cond b (as_tree (cond c (Ok (i, moved s)) (cond b (unclean_name i s) (wanted faults.ExpectedIdent s)))) (Ok (tree.absent, s)))
+      (cond e (restored (as_tree (cond d (Ok (i, moved Within)) (cond e (unclean_name i Within) (wanted faults.ExpectedIdent Within))))) (Ok (tree.absent, s)))
+  same_by i true true true true o u = refl
+  same_by i true true false false o u = unclean_same i
+  same_by i false false c d o u = refl
+  same_by i true false c d o u = cc
+  same_by i false true c d o u = cc
+  same_by i true true true false o u = cc
+  same_by i true true false true o u = cc
 
   same_at : (v : Token) (span : Span)
-      → cond (token_is_name s.code.flags v) (as_name (name_by faults.ExpectedIdent s v span)) (Ok (tree.absent, s))
-      ≡ cond (token_is_name (named_by s.code a g).flags v) (and_then (as_name (name_by faults.ExpectedIdent Within v span)) (λ x t. Ok (x, flagged s.code t))) (Ok (tree.absent, s))
-  same_at (token.Word w) span = same_by (record { span = span; sym = word_text w }) (is_name s.code.flags (word_text w)) (is_name (named_by s.code a g).flags (word_text w)) (name_strict s.code.flags a g (word_text w) h)
+      → Below (cond (token_is_identifier s.code.flags v) (as_tree (name_by faults.ExpectedIdent s v span)) (Ok (tree.absent, s)))
+      (cond (token_is_identifier (named_by s.code a g).flags v) (restored (as_tree (name_by faults.ExpectedIdent Within v span))) (Ok (tree.absent, s)))
+  same_at (token.Word w) span = same_by (record { span = span; sym = word_text w }) (is_identifier s.code.flags (word_text w)) (is_identifier (named_by s.code a g).flags (word_text w))
+      (is_name s.code.flags (word_text w)) (is_name (named_by s.code a g).flags (word_text w))
+      (identifier_strict s.code.flags a g (word_text w) h) (name_strict s.code.flags a g (word_text w) o h)
   same_at _ span = refl
 
   same_in : (ts : List TokenAndSpan)
-      → cond (first_is_name s.code.flags ts) (as_name (name_in faults.ExpectedIdent s ts)) (Ok (tree.absent, s))
-      ≡ cond (first_is_name (named_by s.code a g).flags ts) (and_then (as_name (name_in faults.ExpectedIdent Within ts)) (λ x t. Ok (x, flagged s.code t))) (Ok (tree.absent, s))
+      → Below (cond (first_is_identifier s.code.flags ts) (as_tree (name_in faults.ExpectedIdent s ts)) (Ok (tree.absent, s)))
+      (cond (first_is_identifier (named_by s.code a g).flags ts) (restored (as_tree (name_in faults.ExpectedIdent Within ts))) (Ok (tree.absent, s)))
   same_in [] = refl
   same_in (t ∷ ts) = same_at t.token t.span
 
-  pub default_name_same : default_name s ≡ own_name a g s
-  unfolding default_name own_name named name name_at
+  pub default_name_same : Below (default_name s) (own_name a g s)
+  unfolding default_name own_name named name identifier_at
   default_name_same = same_in s.at.left
 
 module _ (inner : Reader Tree) (params : Reader (List Tree)) where
@@ -265,16 +328,22 @@ module _ (inner : Reader Tree) (params : Reader (List Tree)) where
   unfolding star
   star_stays s = meets_if _ (sees kind.Mul s.at) _ _ (λ _. refl) (λ _. refl)
 
-  pub default_function_same : (s : State) → s.code.flags.strict ≡ true → default_function inner params s ≡ function_expr inner params s
+  -- what is below itself
+  below_self : {A : Type 0} (o : Outcome A) → Below o o
+  below_self (Ok p) = refl
+  below_self (Err e) = tt
+
+  pub default_function_same : (s : State) → s.code.flags.module ≡ true → s.code.flags.strict ≡ true → Below (default_function inner params s) (function_expr inner params s)
   unfolding default_function function_expr
-  default_function_same s h = then_as (function_word s) _ _ (word_stays s) (λ a m e. then_as (star m) _ _ (star_stays m) (λ g o f.
-      ap (λ z. and_then z (λ i t. and_then (function_parts inner params a g (span_at s.at) t) (λ x u. Ok (tree.fn_expr (span_of x) i x, u))))
-      (default_name_same a g o (ap (λ k. k.flags.strict) (f ∙ e) ∙ h))))
+  default_function_same s o h = below_then (function_word s) (function_word s) _ _ (word_stays s) (below_self (function_word s)) (λ a m e.
+      below_then (star m) (star m) _ _ (star_stays m) (below_self (star m)) (λ g n f.
+      below_then {P = λ _ _. Unit {0}} (default_name n) (own_name a g n) _ _ (anything (default_name n)) (default_name_same a g n (ap (λ k. k.flags.module) (f ∙ e) ∙ o) (ap (λ k. k.flags.strict) (f ∙ e) ∙ h))
+      (λ i t _. below_self (and_then (function_parts inner params a g (span_at s.at) t) (λ x u. Ok (tree.fn_expr (span_of x) i x, u))))))
 
 own_name_widens : {k : Code} {w g : Bool} {x : Tree} {c d : Place} → IsModule k → OwnNameRule k w g x c d → parts.OptionalName k x c d
 own_name_widens h (no_own_name_rule p n e) = parts.no_name n e
 own_name_widens {k = k} {w = a} {g = g} h (own_name_rule w s r i e) =
-    parts.a_name (word_text w) s (record { word = w; reads_word = r; is_text = refl; is_name = name_is_clean k.flags (word_text w) (sym (name_strict k.flags a g (word_text w) h.1) ∙ i) }) e
+    parts.a_name (word_text w) s (record { word = w; reads_word = r; is_text = refl; is_name = name_is_clean k.flags (word_text w) (sym (name_strict k.flags a g (word_text w) h.0 h.1) ∙ i) }) e
 
 own_name_unnoted : {k : Code} {w g : Bool} {x : Tree} {c d : Place} → OwnNameRule k w g x c d → notes x ≡ []
 own_name_unnoted (no_own_name_rule p n e) = ap notes e
@@ -308,7 +377,7 @@ default_read n k x c d o r =
 default_function_sound : (n : ℕ) (s : State) → IsModule s.code → begins_function s.at ≡ true → Meets (SoundDefault n s) (default_function (stmt n nested_item) (reader.parameters n) s)
 default_function_sound n s o e =
     let p = function_expr (stmt n nested_item) (reader.parameters n) in
-    meant (SoundDefault n s) Refuses (p s) (default_function (stmt n nested_item) (reader.parameters n) s) (sym (default_function_same (stmt n nested_item) (reader.parameters n) s o.1))
+    below_meets (SoundDefault n s) (default_function (stmt n nested_item) (reader.parameters n) s) (p s) (default_function_same (stmt n nested_item) (reader.parameters n) s o.0 o.1)
     (meets_as (p s)
     (meets_both _ _ (p s)
     (function_expr_sound (ReadsStmt n) (ReadsParams n) (stmt n nested_item) (stmt_sound n nested_item) (reader.parameters n) (parameters_sound n) (λ k ps c d r. r.0.opens) s e)

@@ -18,7 +18,7 @@ use Rattle.swc_ecma_parser_reader.specs.Members.{class_decl}
 use Rattle.swc_ecma_parser_reader.specs.Notes.{notes_of}
 use Rattle.swc_ecma_parser_reader.specs.State.{State, moved}
 use Rattle.swc_ecma_parser_reader.specs.Reader as reader
-use Rattle.swc_ecma_parser_reader.specs.Reader.{expr, pattern, member, stmt, variables, function_decl}
+use Rattle.swc_ecma_parser_reader.specs.Reader.{expr, pattern, member, stmt, variables, function_decl, object_alone}
 use Rattle.swc_ecma_parser_reader.proofs.Meets.{Meets, meets_if, wanted_meets, saw}
 use Rattle.swc_ecma_parser_reader.proofs.Between.{Sound, same, sound_as}
 use Rattle.swc_ecma_parser_module_reader.specs.Exports.{begins_default_function, is_default_from, is_name_from, export_default, export_decl}
@@ -29,7 +29,7 @@ use Rattle.swc_ecma_parser_module_reader.proofs.SoundExportNames.{export_names_s
 
 -- behind `export default`
 default_sound : (n : ℕ) (s : State) → IsModule s.code → kind_at s.at ≡ kind.Export → kind_at (after s.at) ≡ kind.Default
-    → Meets (SoundExport n s) (export_default (stmt n nested_item) (expr n) (pattern n) (reader.parameters n) (member n) (span_at s.at) (span_at (after s.at)) (moved (moved s)))
+    → Meets (SoundExport n s) (export_default (stmt n nested_item) (expr n) (pattern n) (reader.parameters n) (member n) (object_alone n) (span_at s.at) (span_at (after s.at)) (moved (moved s)))
 unfolding export_default is_default_from
 default_sound n s o e f = meets_if _ (sees kind.Class (after (after s.at))) _ _ (λ b. exported_class_sound n s o e f b)
     (λ b. meets_if _ (begins_default_function (after (after s.at))) _ _ (λ h. exported_function_sound n s o e f h)
@@ -38,7 +38,7 @@ default_sound n s o e f = meets_if _ (sees kind.Class (after (after s.at))) _ _ 
 
 pub export_sound : (n : ℕ) (s : State) → IsModule s.code → kind_at s.at ≡ kind.Export
     → Meets (λ x t. Sound same (λ k l. walk (env_of k l) x) (notes_of x) (λ k c d. ExportRule (Reads n) k x c d × (supported_item x ≡ true) × (notes x ≡ [])) s t × (is_module_decl x ≡ true))
-    (export_decl (stmt n nested_item) (expr n) (pattern n) (reader.parameters n) (member n) s)
+    (export_decl (stmt n nested_item) (expr n) (pattern n) (reader.parameters n) (member n) (object_alone n) s)
 unfolding export_decl
 export_sound n s o e =
     meets_if _ (sees kind.LBrace (after s.at)) _ _

@@ -1,4 +1,4 @@
--- An import is read soundly in module code: it has no faults and no notes, and is one by the grammar.
+-- An import is read soundly in module code: its faults and notes are those of its attributes, and it is one by the grammar.
 use Rattle.std.proofs.Common.{◌≡◌, Bool, true, false, List, [], ◌++◌, refl, sym, ◌∙◌, ap, subst}
 use Rattle.std.proofs.lemmas.Slice.Eq.{bytes_eq-Decides}
 use Rattle.std.specs.Prelude.{codes, not, ◌&&◌, ◌||◌, if◌then◌else◌, Ok}
@@ -22,8 +22,9 @@ use Rattle.swc_ecma_parser_grammar.specs.Names.{Code, is_name, is_reserved, is_i
 use Rattle.swc_ecma_parser_grammar.specs.Ends.{Ends}
 use Rattle.swc_ecma_parser_grammar.specs.Follows.{token_is, word_at}
 use Rattle.swc_ecma_parser_grammar.specs.Notes.{notes}
+use Rattle.swc_ecma_parser_grammar.specs.Supported.{supported}
 use Rattle.swc_ecma_parser_grammar.specs.Walk as walks
-use Rattle.swc_ecma_parser_grammar.specs.Walk.{walk, env_of}
+use Rattle.swc_ecma_parser_grammar.specs.Walk.{Env, walk, env_of}
 use Rattle.swc_ecma_parser_grammar.specs.language.Contexts.{in_module, outside_functions}
 use Rattle.swc_ecma_parser_grammar.specs.language.Goals.{Goal}
 use Rattle.swc_ecma_parser_grammar.specs.language.Imports.{ImportSpecifierRule, named_rule, renamed_rule, BindingsRule, namespace_rule, named_bindings_rule, MoreBindingsRule, no_more_rule, comma_rule, more_rule, ImportClauseRule, bindings_rule, default_binding_rule, follows_phase, begins_phase, PhaseRule, source_rule, defer_rule, evaluation_rule, ImportRule, bare_import_rule, import_rule}
@@ -34,15 +35,15 @@ use Rattle.swc_ecma_parser_reader.specs.Notes.{no_notes, ◌⊕◌, notes_of}
 use Rattle.swc_ecma_parser_reader.specs.State.{State, Reader, moved, coded, fault_at, within, name, expect_word, end}
 use Rattle.swc_ecma_parser_reader.specs.Words.{any_word}
 use Rattle.swc_ecma_parser_reader.proofs.Meets.{Meets, meets_then, meets_if, wanted_meets, saw}
-use Rattle.swc_ecma_parser_reader.proofs.Between.{Sound, SoundStep, same, sound_then, sound_moved, sound_here, sound_as, sound_after, within_sound}
+use Rattle.swc_ecma_parser_reader.proofs.Between.{Sound, SoundTree, SoundStep, same, sound_then, sound_moved, sound_here, sound_as, sound_after, within_sound}
 use Rattle.swc_ecma_parser_reader.proofs.SoundParts.{end_sound}
-use Rattle.swc_ecma_parser_reader.proofs.expressions.SoundSteps.{meets_as, reject_meets, other, FreeWord, name_sound, any_word_sound}
+use Rattle.swc_ecma_parser_reader.proofs.expressions.SoundSteps.{meets_as, paired, stepped, reject_meets, other, FreeWord, name_sound, any_word_sound}
 use Rattle.swc_ecma_parser_reader.proofs.expressions.SoundLefts.{word_stands}
 use Rattle.swc_ecma_parser_reader.proofs.expressions.SoundCovers.{ident_key, free_name}
-use Rattle.swc_ecma_parser_module_reader.specs.Imports.{same_name, other_name, import_specifier, binding_name, import_namespace, bindings, more_bindings, default_binding, import_clause, imported, import_from, phase_of, import_phased, is_phase_word, import_decl, str, source, module_name, no_attributes, specifiers}
+use Rattle.swc_ecma_parser_module_reader.specs.Imports.{same_name, other_name, import_specifier, binding_name, import_namespace, bindings, more_bindings, default_binding, import_clause, imported, import_from, phase_of, import_phased, is_phase_word, import_decl, str, source, module_name, attributes, specifiers}
 use Rattle.swc_ecma_parser_module_reader.specs.Supported.{supported_item}
-use Rattle.swc_ecma_parser_module_reader.proofs.ModuleCode.{IsModule, in_module_same}
-use Rattle.swc_ecma_parser_module_reader.proofs.SoundShared.{IsLeaf, AreLeaves, no_leaves, SoundLeaf, word_name, expect_word_sound, str_sound, source_sound, module_name_sound, no_attributes_sound, specifiers_sound}
+use Rattle.swc_ecma_parser_module_reader.proofs.ModuleCode.{IsModule, in_module_same, module_env}
+use Rattle.swc_ecma_parser_module_reader.proofs.SoundShared.{IsLeaf, AreLeaves, no_leaves, SoundLeaf, word_name, expect_word_sound, str_sound, source_sound, module_name_sound, IsGiven, ReadsObject, attributes_sound, specifiers_sound}
 
 -- ---- names
 
@@ -203,56 +204,63 @@ no_phase_word k c h = let (a, b) = or_no (word_at (codes "source") c) _ h in eva
 
 -- ---- an import
 
-module _ (In : Goal → Type 0) where
-  -- an import that begins at a span, from the other module on
-  abbrev Imported : (Tree → Place → Place → Type 0) → Span → ImportPhase → List Tree → Code → Tree → Place → Place → Type 0
-  Imported F start p xs k x c d = (src : Tree) × (m : Place) × (n : Place) × F src c m × AttributesRule In k tree.absent m n × Ends n d
-      × (x ≡ tree.import (record { lo = start.lo; hi = d.last.hi }) (listed xs) src tree.absent p)
+module _ (In : Goal → Type 0) (object : Reader Tree) (objects : (s : State) → Meets (λ x t. SoundTree (ReadsObject In) s x t) (object s)) where
+  -- an import that begins at a span, from the other module on, with these attributes
+  abbrev Imported : (Tree → Place → Place → Type 0) → Span → ImportPhase → List Tree → (given : Tree) → Code → Tree → Place → Place → Type 0
+  Imported F start p xs given k x c d = (src : Tree) × (m : Place) × (n : Place) × F src c m × AttributesRule In k given m n × Ends n d
+      × (x ≡ tree.import (record { lo = start.lo; hi = d.last.hi }) (listed xs) src given p) × IsGiven given k
 
-  record IsImport (x : Tree) : Type 0 where
-    leaf : IsLeaf x
-    supports : supported_item x ≡ true
+  -- its faults and notes are those of its attributes
+  record IsImport (given x : Tree) : Type 0 where
+    walked : (env : Env) → walk env x ≡ walk (walks.in_module env) given
+    noted : notes_of x ≡ notes_of given
+    supports : supported_item x ≡ supported given
     is_decl : is_module_decl x ≡ true
 
-  import_leaf : (s : Span) (xs : List Tree) (src : Tree) (p : ImportPhase) → AreLeaves xs → IsLeaf src → IsLeaf (tree.import s (listed xs) src tree.absent p)
-  import_leaf s xs src p l h = record {
-    empty = λ env. ap (λ z. z ++ walk (walks.in_module env) src ++ []) (l.empty (walks.in_module env)) ∙ ap (λ z. z ++ []) (h.empty (walks.in_module env));
-    unnoted = ap (λ z. z ⊕ notes_of src ⊕ no_notes) l.unnoted ∙ ap (λ z. z ⊕ no_notes) h.unnoted;
-    no_rest = refl;
+  import_is : (s : Span) (xs : List Tree) (src given : Tree) (p : ImportPhase) → AreLeaves xs → IsLeaf src → IsImport given (tree.import s (listed xs) src given p)
+  import_is s xs src given p l h = record {
+    walked = λ env. let inner = walk (walks.in_module env) given in
+        ap (λ z. z ++ walk (walks.in_module env) src ++ inner) (l.empty (walks.in_module env)) ∙ ap (λ z. z ++ inner) (h.empty (walks.in_module env));
+    noted = ap (λ z. z ⊕ notes_of src ⊕ notes_of given) l.unnoted ∙ ap (λ z. z ⊕ notes_of given) h.unnoted;
+    supports = refl;
+    is_decl = refl;
   }
 
   module _ (F : Tree → Place → Place → Type 0) (start : Span) (p : ImportPhase) (xs : List Tree) (leaves : AreLeaves xs) (from : Reader Tree)
       (sound : (s : State) → Meets (λ x t. SoundLeaf (λ k. F) s x t) (from s)) where
-    imported_sound : (s : State) → Meets (λ x t. SoundStep (λ k. Imported F start p xs k x) s t × IsImport x) (imported start p xs from s)
+    imported_sound : (s : State)
+        → Meets (λ x t. (given : Tree) × Sound same (λ k l. walk (env_of k l) given) (notes_of given) (λ k. Imported F start p xs given k x) s t × IsImport given x) (imported object start p xs from s)
     unfolding imported
-    imported_sound s = meets_then _ (from s) _ (sound s) (λ src m (q, l). meets_then _ (no_attributes m) _ (no_attributes_sound In m) (λ _ n r.
+    imported_sound s = meets_then _ (from s) _ (sound s) (λ src m (q, l). meets_then _ (attributes object m) _ (attributes_sound In object objects m) (λ given n r.
         meets_then _ (end faults.Expected n) _ (end_sound faults.Expected n) (λ _ t e. (
-          sound_as s t refl refl refl (λ (j, (i, a, b), z). (src, i, j, a, b, z, refl)) (sound_then (sound_then q r) e),
-          record { leaf = import_leaf _ xs src p leaves l; supports = refl; is_decl = refl },
+          given,
+          sound_as s t refl refl refl (λ ((a, (b, h)), z). (src, m.at, n.at, a, b, z, refl, h)) (stepped (paired q r) e),
+          import_is _ xs src given p leaves l,
         ))))
 
   SoundImport : State → Tree → State → Type 0
-  SoundImport s x t = SoundStep (λ k. ImportRule In k x) s t × IsImport x
+  SoundImport s x t = (given : Tree) × Sound same (λ k l. walk (env_of k l) given) (notes_of given) (λ k c d. ImportRule In k x c d × IsGiven given k) s t × IsImport given x
 
   -- behind the word, what is imported and when
   abbrev Clause : ImportPhase → Code → List Tree → Place → Place → Type 0
   Clause p k xs c d = (j : Place) × PhaseRule k p c j × ImportClauseRule k xs j d
 
   module _ (s : State) (begins : kind_at s.at ≡ kind.Import) where
-    clause_sound : (p : ImportPhase) (xs : List Tree) (m : State) → SoundTrees (Clause p) (moved s) xs m → Meets (SoundImport s) (imported (span_at s.at) p xs source m)
+    clause_sound : (p : ImportPhase) (xs : List Tree) (m : State) → SoundTrees (Clause p) (moved s) xs m → Meets (SoundImport s) (imported object (span_at s.at) p xs source m)
     unfolding SoundImport spanned
-    clause_sound p xs m (q, l) = meets_as (imported (span_at s.at) p xs source m) (imported_sound (λ x. FromRule x) (span_at s.at) p xs l source source_sound m) (λ x t (r, h). (
-      sound_after s t begins refl refl refl (λ (j, (n, a, b), (src, y, z, f, g, e, o)). import_rule p xs src tree.absent n j y z begins a b f g e o) (sound_then q r),
+    clause_sound p xs m (q, l) = meets_as (imported object (span_at s.at) p xs source m) (imported_sound (λ x. FromRule x) (span_at s.at) p xs l source source_sound m) (λ x t (given, r, h). (
+      given,
+      sound_after s t begins refl refl refl (λ (j, (n, a, b), (src, y, z, f, g, e, o, i)). (import_rule p xs src given n j y z begins a b f g e o, i)) (sound_then q r),
       h,
     ))
 
     -- in a phase
-    phased_sound : (p : ImportPhase) (i : State) → SoundStep (λ k. PhaseRule k p) (moved s) i → Meets (SoundImport s) (import_from (span_at s.at) p i)
+    phased_sound : (p : ImportPhase) (i : State) → SoundStep (λ k. PhaseRule k p) (moved s) i → Meets (SoundImport s) (import_from object (span_at s.at) p i)
     unfolding import_from
     phased_sound p i word = meets_then _ (import_clause i) _ (import_clause_sound i) (λ xs m (q, l). clause_sound p xs m (sound_then word q, l))
 
     -- from a word that is one, or a name
-    import_phased_sound : is_phase_word (after s.at) ≡ true → Meets (SoundImport s) (import_phased (span_at s.at) (moved s))
+    import_phased_sound : is_phase_word (after s.at) ≡ true → Meets (SoundImport s) (import_phased object (span_at s.at) (moved s))
     unfolding import_phased
     import_phased_sound h = meets_then _ (any_word (moved s)) _ (any_word_sound (moved s)) (λ i m p. meets_if _ (follows_phase m.code m.at) _ _
         (λ f. phased_sound (phase_of i.sym) m
@@ -264,23 +272,25 @@ module _ (In : Goal → Type 0) where
         )) p))
         (λ xs n (q, l). clause_sound phase.Evaluation xs n (sound_as (moved s) n refl refl refl (λ r. (after s.at, r.0, r.1)) q, l))))
 
-    bare_sound : Meets (SoundImport s) (imported (span_at s.at) phase.Evaluation [] str (moved s))
+    bare_sound : Meets (SoundImport s) (imported object (span_at s.at) phase.Evaluation [] str (moved s))
     unfolding SoundImport spanned
-    bare_sound = meets_as (imported (span_at s.at) phase.Evaluation [] str (moved s)) (imported_sound (λ x. StringRule x) (span_at s.at) phase.Evaluation [] no_leaves str str_sound (moved s)) (λ x t (r, h). (
-      sound_after s t begins refl refl refl (λ (src, y, z, f, g, e, o). bare_import_rule src tree.absent y z begins f g e o) r,
+    bare_sound = meets_as (imported object (span_at s.at) phase.Evaluation [] str (moved s)) (imported_sound (λ x. StringRule x) (span_at s.at) phase.Evaluation [] no_leaves str str_sound (moved s)) (λ x t (given, r, h). (
+      given,
+      sound_after s t begins refl refl refl (λ (src, y, z, f, g, e, o, i). (bare_import_rule src given y z begins f g e o, i)) r,
       h,
     ))
 
-    decl_sound : Meets (SoundImport s) (import_decl s)
+    decl_sound : Meets (SoundImport s) (import_decl object s)
     unfolding import_decl
     decl_sound = meets_if _ (sees kind.Str (after s.at)) _ _ (λ _. bare_sound) (λ _. meets_if _ (is_phase_word (after s.at)) _ _ import_phased_sound
         (λ h. phased_sound phase.Evaluation (moved s) (sound_here (moved s) (no_phase_word s.code (after s.at) h))))
 
-pub import_sound : (In : Goal → Type 0) (s : State) → IsModule s.code → kind_at s.at ≡ kind.Import
-    → Meets (λ x t. Sound same (λ k l. walk (env_of k l) x) (notes_of x) (λ k c d. ImportRule In (in_module k) x c d × (supported_item x ≡ true) × (notes x ≡ [])) s t × (is_module_decl x ≡ true)) (import_decl s)
+pub import_sound : (In : Goal → Type 0) (object : Reader Tree) → ((s : State) → Meets (λ x t. SoundTree (ReadsObject In) s x t) (object s)) → (s : State) → IsModule s.code → kind_at s.at ≡ kind.Import
+    → Meets (λ x t. Sound same (λ k l. walk (env_of k l) x) (notes_of x) (λ k c d. ImportRule In (in_module k) x c d × (supported_item x ≡ true) × (notes x ≡ [])) s t × (is_module_decl x ≡ true))
+    (import_decl object s)
 unfolding SoundImport
-import_sound In s k e = meets_as (import_decl s) (decl_sound In s e) (λ x t (p, h). (
-  sound_as s t refl (sym (h.leaf.empty (env_of s.code s.scope.labels))) (sym h.leaf.unnoted)
-      (λ r. (subst (λ j. ImportRule In j x s.at t.at) (sym (in_module_same s.code k)) r, h.supports, ap (λ z. z.held_back) h.leaf.unnoted)) p,
+import_sound In object objects s k e = meets_as (import_decl object s) (decl_sound In object objects s e) (λ x t (given, p, h). (
+  sound_as s t refl (sym (h.walked (env_of s.code s.scope.labels) ∙ ap (λ z. walk z given) (module_env s.code s.scope.labels k))) (sym h.noted)
+      (λ (r, (u, v)). (subst (λ j. ImportRule In j x s.at t.at) (sym (in_module_same s.code k)) r, h.supports ∙ u, ap (λ z. z.held_back) h.noted ∙ v k.0)) p,
   h.is_decl,
 ))

@@ -16,7 +16,7 @@ use Rattle.swc_ecma_parser_grammar.specs.language.Noted.{has_meta}
 use Rattle.swc_ecma_parser_grammar.specs.language.Reads.{Reads}
 use Rattle.swc_ecma_parser_grammar.proofs.Tests.{or_none}
 use Rattle.swc_ecma_parser_reader.specs.Notes.{notes_of}
-use Rattle.swc_ecma_parser_reader.specs.Reader.{expr, pattern, member, stmt, parameters, whole_stmt}
+use Rattle.swc_ecma_parser_reader.specs.Reader.{expr, pattern, member, stmt, parameters, object_alone, whole_stmt}
 use Rattle.swc_ecma_parser_reader.specs.State.{State}
 use Rattle.swc_ecma_parser_reader.specs.Entry.{SoundStatement}
 use Rattle.swc_ecma_parser_reader.specs.Limits.{has_out_of_memory_token}
@@ -40,6 +40,7 @@ use Rattle.swc_ecma_parser_module_reader.proofs.ModuleCode.{IsModule, stated_cod
 use Rattle.swc_ecma_parser_module_reader.proofs.ProgramItems.{declared_around}
 use Rattle.swc_ecma_parser_module_reader.proofs.SoundExports.{export_sound}
 use Rattle.swc_ecma_parser_module_reader.proofs.SoundImports.{import_sound}
+use Rattle.swc_ecma_parser_module_reader.proofs.SoundShared.{object_sound}
 use Rattle.swc_ecma_parser_module_reader.proofs.SoundModules.{stmt_item}
 use Rattle.swc_ecma_parser_module_reader.proofs.StatementForms.{whole_form}
 
@@ -52,12 +53,12 @@ SoundDeclared n s x t =
 import_in_sound : (n : ℕ) (s : State) → IsModule s.code → kind_at s.at ≡ kind.Import → Meets (SoundDeclared n s) (import_in n s)
 unfolding import_in
 import_in_sound zero s m e = too_deep_meets _ s
-import_in_sound (suc n) s m e = meets_as (import_decl s) (import_sound (Reads n) s m e) (λ x t (p, h). sound_as s t refl refl refl (λ (r, a, b). (import_item_rule r, a, b)) p)
+import_in_sound (suc n) s m e = meets_as (import_decl (object_alone n) s) (import_sound (Reads n) (object_alone n) (object_sound n) s m e) (λ x t (p, h). sound_as s t refl refl refl (λ (r, a, b). (import_item_rule r, a, b)) p)
 
 export_in_sound : (n : ℕ) (s : State) → IsModule s.code → kind_at s.at ≡ kind.Export → Meets (SoundDeclared n s) (export_in n s)
 unfolding export_in
 export_in_sound zero s m e = too_deep_meets _ s
-export_in_sound (suc n) s m e = meets_as (export_decl (stmt n nested_item) (expr n) (pattern n) (parameters n) (member n) s) (export_sound n s m e)
+export_in_sound (suc n) s m e = meets_as (export_decl (stmt n nested_item) (expr n) (pattern n) (parameters n) (member n) (object_alone n) s) (export_sound n s m e)
     (λ x t (p, h). sound_as s t refl refl refl (λ (r, a, b). (export_item_rule r, a, b)) p)
 
 declared_sound : (n : ℕ) (s : State) → IsModule s.code → begins_module s.at ≡ true → Meets (SoundDeclared n s) (module_item n s)

@@ -36,7 +36,7 @@ use Rattle.swc_ecma_parser_grammar.proofs.Unnoted.{joined}
 use Rattle.swc_ecma_parser_reader.specs.Entry.{error_tokens}
 use Rattle.swc_ecma_parser_reader.specs.Limits.{has_out_of_memory_token}
 use Rattle.swc_ecma_parser_reader.specs.Notes.{Notes, ◌⊕◌, notes_of, all_notes_of, notes_with, all_notes_with}
-use Rattle.swc_ecma_parser_reader.specs.Reader.{expr, pattern, member, stmt, parameters, directs, items_turn, items, at_end, whole_stmt, shebang_of, shebang_in, shebang_taken, shebang}
+use Rattle.swc_ecma_parser_reader.specs.Reader.{expr, pattern, member, stmt, parameters, object_alone, directs, items_turn, items, at_end, whole_stmt, shebang_of, shebang_in, shebang_taken, shebang}
 use Rattle.swc_ecma_parser_reader.specs.State.{State, coded, flagged}
 use Rattle.swc_ecma_parser_reader.proofs.Notes.{or_nil, or_true, or_assoc}
 use Rattle.swc_ecma_parser_reader.proofs.Meets.{Meets, Refuses, meets_then, meets_if, too_deep_meets, Turned, loop_answers, saw, meant}
@@ -52,6 +52,7 @@ use Rattle.swc_ecma_parser_module_reader.specs.Supported.{supported_item, all_su
 use Rattle.swc_ecma_parser_module_reader.proofs.ItemStarts.{import_word, item_supported, no_module_decl}
 use Rattle.swc_ecma_parser_module_reader.proofs.ModuleCode.{IsModule, directed_same, behind_same, env_same}
 use Rattle.swc_ecma_parser_module_reader.proofs.SoundImports.{import_sound}
+use Rattle.swc_ecma_parser_module_reader.proofs.SoundShared.{object_sound}
 
 -- ---- items, one more
 
@@ -135,7 +136,7 @@ unawaited x = λ i. record { held_back = notes x; found_module_item = sym (or_ni
 import_in_sound : (n : ℕ) (s : State) → IsModule s.code → kind_at s.at ≡ kind.Import → Meets (SoundItem n s) (import_in n s)
 unfolding import_in
 import_in_sound zero s m e = too_deep_meets _ s
-import_in_sound (suc n) s m e = meets_as (import_decl s) (import_sound (Reads n) s m e) (λ x t (p, h). (
+import_in_sound (suc n) s m e = meets_as (import_decl (object_alone n) s) (import_sound (Reads n) (object_alone n) (object_sound n) s m e) (λ x t (p, h). (
   false,
   sound_as s t refl refl (unawaited x) (λ (r, a, b). record { reads = import_item_rule r; supports = a; unnoted = b; awaits = decl_awaits x s.at h }) p,
 ))
@@ -264,11 +265,11 @@ module_is n s x t (b, p, e) = record {
 
 module _ (export_sound : (n : ℕ) (s : State) → IsModule s.code → kind_at s.at ≡ kind.Export
     → Meets (λ x t. Sound same (λ k l. walk (env_of k l) x) (notes_of x) (λ k c d. ExportRule (Reads n) k x c d × (supported_item x ≡ true) × (notes x ≡ [])) s t × (is_module_decl x ≡ true))
-    (export_decl (stmt n nested_item) (expr n) (pattern n) (parameters n) (member n) s)) where
+    (export_decl (stmt n nested_item) (expr n) (pattern n) (parameters n) (member n) (object_alone n) s)) where
   export_in_sound : (n : ℕ) (s : State) → IsModule s.code → kind_at s.at ≡ kind.Export → Meets (SoundItem n s) (export_in n s)
   unfolding export_in
   export_in_sound zero s m e = too_deep_meets _ s
-  export_in_sound (suc n) s m e = meets_as (export_decl (stmt n nested_item) (expr n) (pattern n) (parameters n) (member n) s) (export_sound n s m e) (λ x t (p, h). (
+  export_in_sound (suc n) s m e = meets_as (export_decl (stmt n nested_item) (expr n) (pattern n) (parameters n) (member n) (object_alone n) s) (export_sound n s m e) (λ x t (p, h). (
     false,
     sound_as s t refl refl (unawaited x) (λ (r, a, b). record { reads = export_item_rule r; supports = a; unnoted = b; awaits = decl_awaits x s.at h }) p,
   ))

@@ -1,7 +1,7 @@
 -- What imports and exports share is read soundly: strings, where the other module is, the names of modules and lists of specifiers in
--- braces. They have no faults and no notes.
-use Rattle.std.proofs.Common.{◌≡◌, true, false, List, [], ◌∷◌, ◌++◌, refl, sym, ◌∙◌, ap, subst, append_assoc, append-nil}
-use Rattle.std.specs.Prelude.{codes}
+-- braces, which have no faults and no notes, and attributes.
+use Rattle.std.proofs.Common.{◌≡◌, ℕ, Bool, true, false, List, [], ◌∷◌, ◌++◌, refl, sym, ◌∙◌, ap, subst, append_assoc, append-nil}
+use Rattle.std.specs.Prelude.{codes, not, ◌||◌}
 use Rattle.swc_ecma_parser_error.specs.Kind as faults
 use Rattle.swc_ecma_parser_token.specs.declared.kind.TokenKind.TheVariants as kind
 use Rattle.swc_ecma_parser_token.specs.declared.token.Token.{Token}
@@ -10,29 +10,36 @@ use Rattle.swc_ecma_parser_token.specs.declared.token.Word.TheVariants as word
 use Rattle.swc_ecma_parser_token.specs.declared.token.TokenAndSpan.{TokenAndSpan}
 use Rattle.swc_ecma_parser_input.specs.Place.{Place, after}
 use Rattle.swc_ecma_parser_model.specs.declared.leaves.Ident.{Ident}
-use Rattle.swc_ecma_parser_model.specs.Tree as tree
-use Rattle.swc_ecma_parser_model.specs.Tree.{Tree, Text, listed, trees}
+use Rattle.swc_ecma_parser_model.specs.Tree.{Tree, Text, listed}
 use Rattle.swc_ecma_parser_model.specs.Forms.{is_rest}
-use Rattle.swc_ecma_parser_grammar.specs.Looks.{kind_at, sees}
+use Rattle.swc_ecma_parser_grammar.specs.Looks.{kind_at, breaks_at, sees}
 use Rattle.swc_ecma_parser_grammar.specs.Names.{Code, is_name}
 use Rattle.swc_ecma_parser_grammar.specs.Follows.{word_at}
+use Rattle.swc_ecma_parser_grammar.specs.Notes.{notes}
+use Rattle.swc_ecma_parser_grammar.specs.Supported.{supported}
 use Rattle.swc_ecma_parser_grammar.specs.Walk.{Env, walk}
-use Rattle.swc_ecma_parser_grammar.specs.language.Goals.{Goal}
+use Rattle.swc_ecma_parser_grammar.specs.language.Goals.{Goal, attributes_goal}
 use Rattle.swc_ecma_parser_grammar.specs.language.Lists.{ReadsListed}
-use Rattle.swc_ecma_parser_grammar.specs.language.ModuleParts.{BracedRule, StringRule, FromRule, ModuleNameRule, word_name_rule, string_name_rule, begins_attributes, AttributesRule, no_attributes_rule}
+use Rattle.swc_ecma_parser_grammar.specs.language.ModuleParts.{BracedRule, StringRule, FromRule, ModuleNameRule, word_name_rule, string_name_rule, begins_attributes, AttributesRule, no_attributes_rule, attributes_rule}
 use Rattle.swc_ecma_parser_grammar.specs.language.Parts.{ReadsName}
+use Rattle.swc_ecma_parser_grammar.specs.language.Reads.{Reads}
 use Rattle.swc_ecma_parser_grammar.proofs.Naming.{name_is_clean}
+use Rattle.swc_ecma_parser_grammar.proofs.SupportedIn.{lower}
+use Rattle.swc_ecma_parser_grammar.proofs.Tests.{and_yes}
+use Rattle.swc_ecma_parser_grammar.proofs.Unnoted.{attributes_unnoted}
 use Rattle.swc_ecma_parser_reader.specs.Notes.{no_notes, ◌⊕◌, notes_of}
 use Rattle.swc_ecma_parser_reader.specs.Operands.{literal_of, literal_in, taken, literal, word_property}
 use Rattle.swc_ecma_parser_reader.specs.Words.{any_word}
+use Rattle.swc_ecma_parser_reader.specs.Reader.{object_alone}
 use Rattle.swc_ecma_parser_reader.specs.State.{State, Reader, and_then, moved, expect, expect_word, loop}
 use Rattle.swc_ecma_parser_reader.proofs.Meets.{Meets, Refuses, meets_then, meets_if, wanted_meets, refuse_meets, Turned, loop_answers, saw}
-use Rattle.swc_ecma_parser_reader.proofs.Errors.{kind_here}
-use Rattle.swc_ecma_parser_reader.proofs.Between.{SoundStep, sound_then, sound_moved, sound_here, sound_as}
+use Rattle.swc_ecma_parser_reader.proofs.Errors.{is_error, kind_here}
+use Rattle.swc_ecma_parser_reader.proofs.Between.{SoundTree, SoundStep, sound_then, sound_moved, sound_here, sound_as, sound_after}
+use Rattle.swc_ecma_parser_reader.proofs.Objects.{object_alone_sound}
 use Rattle.swc_ecma_parser_reader.proofs.expressions.SoundSteps.{meets_as, stands, Takes, FreeWord, expect_sound, any_word_sound, walks_push, notes_push}
 use Rattle.swc_ecma_parser_reader.proofs.expressions.SoundLists.{properties_list}
 use Rattle.swc_ecma_parser_reader.proofs.expressions.SoundLefts.{word_stands}
-use Rattle.swc_ecma_parser_module_reader.specs.Imports.{str_or, str, source, module_name, no_attributes, specifiers_turn, specifiers}
+use Rattle.swc_ecma_parser_module_reader.specs.Imports.{str_or, str, source, module_name, attributes, specifiers_turn, specifiers}
 
 -- ---- trees without faults and notes
 
@@ -112,10 +119,37 @@ module_name_sound s = meets_if _ (sees kind.Str s.at) _ _ (λ _. meets_as (str s
       record { empty = λ env. refl; unnoted = refl; no_rest = refl },
     )))
 
--- no attributes
-pub no_attributes_sound : (In : Goal → Type 0) (s : State) → Meets (λ _ t. SoundStep (λ k. AttributesRule In k tree.absent) s t) (no_attributes s)
-unfolding no_attributes
-no_attributes_sound In s = meets_if _ (begins_attributes s.code s.at) _ _ (λ _. wanted_meets _ faults.Unexpected s) (λ e. sound_here s (no_attributes_rule e refl refl))
+-- ---- attributes: in module code nothing is noted in them
+
+abbrev pub IsGiven : Tree → Code → Type 0
+IsGiven x k = (supported x ≡ true) × (k.flags.module ≡ true → notes x ≡ [])
+
+-- the object that they are
+abbrev pub ReadsObject : (Goal → Type 0) → Code → Tree → Place → Place → Type 0
+ReadsObject In k x c d = In (attributes_goal k x c d) × IsGiven x k
+
+abbrev pub ReadsAttributes : (Goal → Type 0) → Code → Tree → Place → Place → Type 0
+ReadsAttributes In k x c d = AttributesRule In k x c d × IsGiven x k
+
+pub object_sound : (n : ℕ) (s : State) → Meets (λ x t. SoundTree (ReadsObject (Reads n)) s x t) (object_alone n s)
+object_sound n s = meets_as (object_alone n s) (object_alone_sound n s) (λ x t p. sound_as s t refl refl refl
+    (λ (r, h). (r, (lower s.code.flags.module x h, λ o. attributes_unnoted n s.code x s.at t.at o r h))) p)
+
+-- the word before it is no error token
+begins_plain : (k : Code) (c : Place) → begins_attributes k c ≡ true → is_error (kind_at c) ≡ false
+unfolding begins_attributes
+begins_plain k c e = by_test (sees kind.With c) refl (and_yes (not (breaks_at c)) _ (and_yes k.setting.import_attributes _ e).1).1
+  where
+    by_test : (b : Bool) → sees kind.With c ≡ b → (b || word_at (codes "assert") c) ≡ true → is_error (kind_at c) ≡ false
+    by_test true h g = ap is_error (saw c kind.With h)
+    by_test false h g = ap is_error (word_stands (codes "assert") c g)
+
+pub attributes_sound : (In : Goal → Type 0) (object : Reader Tree) → ((s : State) → Meets (λ x t. SoundTree (ReadsObject In) s x t) (object s)) → (s : State)
+    → Meets (λ x t. SoundTree (ReadsAttributes In) s x t) (attributes object s)
+unfolding attributes
+attributes_sound In object inner s = meets_if _ (begins_attributes s.code s.at) _ _
+    (λ e. meets_as (object (moved s)) (inner (moved s)) (λ x t p. sound_after s t refl (begins_plain s.code s.at e) refl refl (λ (r, h). (attributes_rule e r, h)) p))
+    (λ e. sound_here s (no_attributes_rule e refl refl, (refl, λ _. refl)))
 
 -- ---- specifiers in braces
 

@@ -17,14 +17,15 @@ use Rattle.swc_ecma_parser_grammar.specs.Reads.{with_in}
 use Rattle.swc_ecma_parser_grammar.specs.language.Contexts.{in_class, in_loop, in_breakable, in_with}
 use Rattle.swc_ecma_parser_grammar.specs.language.Goals.{Class, expression, assignment}
 use Rattle.swc_ecma_parser_reader.specs.Members.{class_parts, named_class, class_decl, class_stmt}
-use Rattle.swc_ecma_parser_reader.specs.State.{State, Reader, moved, coded, within, fault, fault_at, wanted, name, expect, end}
+use Rattle.swc_ecma_parser_reader.specs.State.{State, Reader, moved, coded, within, fault, fault_at, wanted, name, expect, end, reference}
 use Rattle.swc_ecma_parser_reader.specs.Methods.{star}
 use Rattle.swc_ecma_parser_reader.specs.Expressions.{Cover}
 use Rattle.swc_ecma_parser_reader.specs.Reader as reader
-use Rattle.swc_ecma_parser_reader.specs.Reader.{declarators, items, closes, close, no_label, note_statement, optional_end, head, note_with, as_init, as_left, head_part, misdeclared, await_here, opening, link, alternative, target, unbroken, uncontinued, operand, misplaced, clauses, braced, handler, finalizer, handled, labelled_body, relabels, function_word, named, top_await, goes_on, Opening, begins_label, unless_awaited, empty, debugger, variables, block, block_from, expr_stmt, expr_stmt_at, import_stmt, import_stmt_at, thrown, throw, while_stmt, with_stmt, do_while, for_parts, for_in, for_of, for_behind, for_stmt, links, if_stmt, break_stmt, continue_stmt, returned, return_stmt, labeled_stmt, other_stmt, switch_stmt, try_stmt, function_parts, function_decl, function_stmt, const_stmt, let_stmt, async_or_other, stmt_by, stmt_level, stmt, whole_stmt, expr, head_cover, pattern, member}
+use Rattle.swc_ecma_parser_reader.specs.Reader.{declarators, items, closes, close, no_label, note_statement, optional_end, head, note_with, as_init, as_left, head_part, misdeclared, await_here, opening, link, alternative, target, unbroken, uncontinued, operand, misplaced, clauses, braced, handler, finalizer, handled, labelled_body, relabels, function_word, named, top_await, goes_on, Opening, begins_label, unless_awaited, empty, debugger, variables, block, block_from, expr_stmt, expr_stmt_at, import_stmt, import_stmt_at, thrown, throw, while_stmt, with_stmt, do_while, for_parts, for_in, for_of, for_behind, for_stmt, links, if_stmt, break_stmt, continue_stmt, returned, return_stmt, labeled_stmt, other_stmt, switch_stmt, try_stmt, function_parts, function_decl, function_stmt, const_stmt, let_stmt, async_or_other, stmt_by, stmt_level, stmt, whole_stmt, expr, head_cover, pattern, member, misusing, using_from, using_stmt, using_or_other}
 use Rattle.swc_ecma_parser_reader.proofs.Meets.{Meets, always, meets_then, meets_if, wanted_meets, too_deep_meets, refuse_meets}
 use Rattle.swc_ecma_parser_reader.proofs.SoundParts.{after_return_meets}
 use Rattle.swc_ecma_parser_reader.proofs.expressions.SoundSteps.{reject_meets}
+use Rattle.swc_ecma_parser_grammar.specs.Using.{is_using_declaration}
 
 -- neither an import nor an export
 abbrev pub IsStatement : Tree → State → Type 0
@@ -149,7 +150,7 @@ module _ (inner : Position → Reader Tree) (inner_expr : Class → Reader Tree)
 
   labeled_form : (s : State) → Meets IsStatement (labeled_stmt inner s)
   unfolding labeled_stmt
-  labeled_form s = always _ (name faults.ExpectedIdent s) _ (λ i t. always _ (expect kind.Colon t) _ (λ _ u. always _ (labelled_body inner i.sym u) _ (λ x v.
+  labeled_form s = always _ (reference faults.ExpectedIdent s) _ (λ i t. always _ (expect kind.Colon t) _ (λ _ u. always _ (labelled_body inner i.sym u) _ (λ x v.
       always _ (relabels (tree.ident i.span i.sym) x v) _ (λ _ w. refl))))
 
   other_form : (p : Reader Tree) (at : Position) (s : State) → Meets IsStatement (other_stmt inner p at s)
@@ -183,6 +184,14 @@ module _ (inner : Position → Reader Tree) (inner_expr : Class → Reader Tree)
       by_place true = variables_form decl.Const s
       by_place false = wanted_meets _ faults.Unexpected s
 
+  using_form : (s : State) → Meets IsStatement (using_stmt (declarators inner_expr inner_pat false decl.Var) s)
+  unfolding using_stmt using_from misusing
+  using_form s = always _ (within with_in (declarators inner_expr inner_pat false decl.Var) (moved s)) _ (λ xs t. always _ (misusing (record { lo = (span_at s.at).lo; hi = t.at.last.hi }) xs t) _ (λ _ u. refl))
+
+  using_or_other_form : (at : Position) (s : State) → Meets IsStatement (using_or_other inner inner_expr inner_pat inner_head inner_params inner_member at s)
+  unfolding using_or_other
+  using_or_other_form at s = meets_if _ (at.include_decl && is_using_declaration s.code s.at) _ _ (λ _. using_form s) (λ _. other_form _ at s)
+
   by_form : (at : Position) (j : TokenKind) (s : State) → Meets IsStatement (stmt_by inner inner_expr inner_pat inner_head inner_params inner_member at j s)
   unfolding empty if_stmt let_stmt async_or_other
   by_form at kind.LBrace s = block_form _ s
@@ -204,7 +213,7 @@ module _ (inner : Position → Reader Tree) (inner_expr : Class → Reader Tree)
   by_form at kind.For s = for_form _ s
   by_form at kind.Function s = function_stmt_form _ at s
   by_form at kind.Class s = class_stmt_form _ at s
-  by_form at kind.Ident s = meets_if _ (is_async_function s.at) _ _ (λ _. function_form _ s) (λ _. other_form _ at s)
+  by_form at kind.Ident s = meets_if _ (is_async_function s.at) _ _ (λ _. function_form _ s) (λ _. using_or_other_form at s)
   by_form at kind.Import s = import_form _ s
   by_form at kind.Export s = import_form _ s
   by_form at _ s = other_form _ at s

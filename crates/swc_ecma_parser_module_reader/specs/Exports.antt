@@ -1,5 +1,5 @@
 -- The reader of exports: ECMA-262, section 16.2.3, and the proposal of `export name from`.
-use Rattle.std.specs.Prelude.{Bool, ◌&&◌, ◌||◌, if◌then◌else◌, List, [], ◌∷◌, ◌++◌, codes, Ok}
+use Rattle.std.specs.Prelude.{Bool, not, ◌&&◌, ◌||◌, if◌then◌else◌, List, [], ◌∷◌, ◌++◌, codes, Ok}
 use Rattle.swc_ecma_parser_common.specs.declared.span.Span.{Span}
 use Rattle.swc_ecma_parser_error.specs.Kind as faults
 use Rattle.swc_ecma_parser_token.specs.declared.kind.TokenKind.TheVariants as kind
@@ -19,9 +19,9 @@ use Rattle.swc_ecma_parser_reader.specs.Members.{class_decl, class_expr}
 use Rattle.swc_ecma_parser_reader.specs.Methods.{star}
 use Rattle.swc_ecma_parser_reader.specs.Reader.{variables, function_decl, function_parts, function_word, named, optional_end}
 use Rattle.swc_ecma_parser_reader.specs.State.{Reader, ◌>>=◌, ◌>>◌, pure, span_here, since, skip, within, wanted, name, expect_word, end}
-use Rattle.swc_ecma_parser_module_reader.specs.Imports.{source, module_name, no_attributes, specifiers}
+use Rattle.swc_ecma_parser_module_reader.specs.Imports.{source, module_name, attributes, specifiers}
 
--- ---- names that are exported
+-- ---- names that are exported; a reader of their own reads the attributes of another module
 
 unfoldable pub renamed_export : Span → Tree → Reader Tree
 renamed_export start orig = do
@@ -50,13 +50,13 @@ export_namespace start = do
   pure (tree.export_namespace span n)
 
 -- from the word `from` on
-unfoldable pub names_from : Span → List Tree → Reader Tree
-names_from start xs = do
+unfoldable pub names_from : (object : Reader Tree) → Span → List Tree → Reader Tree
+names_from object start xs = do
   src ← source
-  no_attributes
+  given ← attributes object
   end faults.Expected
   span ← since start
-  pure (tree.export_named span (listed xs) src tree.absent)
+  pure (tree.export_named span (listed xs) src given)
 
 -- names of the module itself, whose end nothing demands; what is no such name is told before it
 unfoldable pub own_names : Span → List Tree → Reader Tree
@@ -67,37 +67,37 @@ own_names start xs = do
   pure (tree.export_named span (listed xs) tree.absent tree.absent)
 
 -- names in braces, with those before them
-unfoldable pub export_names : Span → List Tree → Reader Tree
-export_names start before = do
+unfoldable pub export_names : (object : Reader Tree) → Span → List Tree → Reader Tree
+export_names object start before = do
   xs ← specifiers export_specifier
-  λ s. if word_at (codes "from") s.at then names_from start (before ++ xs) s else own_names start (before ++ xs) s
+  λ s. if word_at (codes "from") s.at then names_from object start (before ++ xs) s else own_names start (before ++ xs) s
 
 -- behind a default or a namespace of another module: with the setting names in braces, else the module
-unfoldable pub more_names : Span → List Tree → Reader Tree
-more_names start before = λ s. if s.code.setting.export_default_from && sees kind.Comma s.at then (do
+unfoldable pub more_names : (object : Reader Tree) → Span → List Tree → Reader Tree
+more_names object start before = λ s. if s.code.setting.export_default_from && sees kind.Comma s.at then (do
   skip
-  export_names start before) s else names_from start before s
+  export_names object start before) s else names_from object start before s
 
 -- from the word `as` on, with what stands before the star; the words behind `export` begin at `first`
-unfoldable pub namespace_names : (start first : Span) → List Tree → Reader Tree
-namespace_names start first before = do
+unfoldable pub namespace_names : (object : Reader Tree) → (start first : Span) → List Tree → Reader Tree
+namespace_names object start first before = do
   x ← export_namespace first
-  more_names start (before ++ x ∷ [])
+  more_names object start (before ++ x ∷ [])
 
-unfoldable pub export_all : Span → Reader Tree
-export_all start = do
+unfoldable pub export_all : (object : Reader Tree) → Span → Reader Tree
+export_all object start = do
   src ← source
-  no_attributes
+  given ← attributes object
   end faults.Expected
   span ← since start
-  pure (tree.export_all span src tree.absent)
+  pure (tree.export_all span src given)
 
 -- from `*` on
-unfoldable pub export_star : Span → Reader Tree
-export_star start = do
+unfoldable pub export_star : (object : Reader Tree) → Span → Reader Tree
+export_star object start = do
   at ← span_here
   skip
-  λ s. if word_at (codes "as") s.at then namespace_names start at [] s else export_all start s
+  λ s. if word_at (codes "as") s.at then namespace_names object start at [] s else export_all object start s
 
 -- ---- with the setting, the default of another module
 
@@ -105,28 +105,28 @@ unfoldable pub is_namespace_next : Place → Bool
 is_namespace_next c = sees kind.Comma c && sees kind.Mul (after c)
 
 -- from behind the default on, which begins at `first`
-unfoldable pub behind_default : (start first : Span) → Tree → Reader Tree
-behind_default start first x = λ s. if is_namespace_next s.at then (do
+unfoldable pub behind_default : (object : Reader Tree) → (start first : Span) → Tree → Reader Tree
+behind_default object start first x = λ s. if is_namespace_next s.at then (do
   skip
   skip
-  namespace_names start first (x ∷ [])) s else more_names start (x ∷ []) s
+  namespace_names object start first (x ∷ [])) s else more_names object start (x ∷ []) s
 
--- under a name
+-- under a name, which `await` is not in module code
 unfoldable pub is_name_from : Code → Place → Bool
-is_name_from k c = k.setting.export_default_from && name_at k.flags c
+is_name_from k c = k.setting.export_default_from && (name_at k.flags c && not (sees kind.Await c))
 
-unfoldable pub name_from : Span → Reader Tree
-name_from start = do
+unfoldable pub name_from : (object : Reader Tree) → Span → Reader Tree
+name_from object start = do
   first ← span_here
   i ← name faults.ExpectedIdent
-  behind_default start first (tree.export_default (tree.ident i.span i.sym))
+  behind_default object start first (tree.export_default (tree.ident i.span i.sym))
 
 -- under the word `default`, from behind it on
 unfoldable pub is_default_from : Code → Place → Bool
 is_default_from k c = k.setting.export_default_from && (word_at (codes "from") c || (sees kind.Comma c && (sees kind.Mul (after c) || sees kind.LBrace (after c))))
 
-unfoldable pub default_from : (start first : Span) → Reader Tree
-default_from start first = behind_default start first (tree.export_default (tree.ident first (codes "default")))
+unfoldable pub default_from : (object : Reader Tree) → (start first : Span) → Reader Tree
+default_from object start first = behind_default object start first (tree.export_default (tree.ident first (codes "default")))
 
 -- ---- declarations and defaults
 
@@ -170,11 +170,11 @@ module _ (stmt : Reader Tree) (expr : Class → Reader Tree) (pat : Reader Tree)
     pure (tree.export_default_decl span x)
 
   -- from behind `export default` on; the word `default` stands at `first`
-  unfoldable pub export_default : (start first : Span) → Reader Tree
-  export_default start first = λ s.
+  unfoldable pub export_default : (object : Reader Tree) → (start first : Span) → Reader Tree
+  export_default object start first = λ s.
       if sees kind.Class s.at then exported_class start s
       else if begins_default_function s.at then exported_function start s
-      else if is_default_from s.code s.at then default_from start first s
+      else if is_default_from s.code s.at then default_from object start first s
       else default_expr expr start s
 
   -- a declaration that is exported
@@ -184,18 +184,18 @@ module _ (stmt : Reader Tree) (expr : Class → Reader Tree) (pat : Reader Tree)
     span ← since start
     pure (tree.export_decl span x)
 
-  unfoldable pub export_decl : Reader Tree
-  export_decl = do
+  unfoldable pub export_decl : (object : Reader Tree) → Reader Tree
+  export_decl object = do
     start ← span_here
     skip
     λ s.
-        if sees kind.LBrace s.at then export_names start [] s
-        else if sees kind.Mul s.at then export_star start s
-        else if sees kind.Default s.at then (skip >> export_default start (span_at s.at)) s
+        if sees kind.LBrace s.at then export_names object start [] s
+        else if sees kind.Mul s.at then export_star object start s
+        else if sees kind.Default s.at then (skip >> export_default object start (span_at s.at)) s
         else if sees kind.Var s.at then exported start (variables expr pat decl.Var) s
         else if sees kind.Const s.at then exported start (variables expr pat decl.Const) s
         else if is_let_declaration s.at then exported start (variables expr pat decl.Let) s
         else if sees kind.Class s.at then exported start (class_decl (expr left_side) member) s
         else if begins_default_function s.at then exported start (function_decl stmt params) s
-        else if is_name_from s.code s.at then name_from start s
+        else if is_name_from s.code s.at then name_from object start s
         else wanted faults.Unexpected s

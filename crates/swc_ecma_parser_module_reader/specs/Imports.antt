@@ -40,9 +40,9 @@ source = do
 unfoldable pub module_name : Reader Tree
 module_name = λ s. if sees kind.Str s.at then str s else word_property s
 
--- attributes are not read yet
-unfoldable pub no_attributes : Reader (Unit {0})
-no_attributes = λ s. if begins_attributes s.code s.at then wanted faults.Unexpected s else Ok (tt, s)
+-- attributes, a word and the object behind it, or nothing
+unfoldable pub attributes : (object : Reader Tree) → Reader Tree
+attributes object = λ s. if begins_attributes s.code s.at then object (moved s) else Ok (tree.absent, s)
 
 module _ (specifier : Reader Tree) where
   unfoldable pub specifiers_turn : List Tree → Reader (Step (List Tree) (List Tree))
@@ -114,43 +114,43 @@ default_binding i = do
 unfoldable pub import_clause : Reader (List Tree)
 import_clause = λ s. if sees kind.Mul s.at || sees kind.LBrace s.at then bindings s else (binding_name >>= default_binding) s
 
--- ---- an import
+-- ---- an import, whose attributes a reader of their own reads
 
 -- from the string on
-unfoldable pub imported : Span → ImportPhase → List Tree → Reader Tree → Reader Tree
-imported start p xs from = do
+unfoldable pub imported : (object : Reader Tree) → Span → ImportPhase → List Tree → Reader Tree → Reader Tree
+imported object start p xs from = do
   src ← from
-  no_attributes
+  given ← attributes object
   end faults.Expected
   span ← since start
-  pure (tree.import span (listed xs) src tree.absent p)
+  pure (tree.import span (listed xs) src given p)
 
 -- from what is imported on
-unfoldable pub import_from : Span → ImportPhase → Reader Tree
-import_from start p = do
+unfoldable pub import_from : (object : Reader Tree) → Span → ImportPhase → Reader Tree
+import_from object start p = do
   xs ← import_clause
-  imported start p xs source
+  imported object start p xs source
 
 -- the phase that one of the two words says
 abbrev pub phase_of : Text → ImportPhase
 phase_of text = if bytes_eq text (codes "source") then phase.Source else phase.Defer
 
 -- such a word is a phase, or a name for the default
-unfoldable pub import_phased : Span → Reader Tree
-import_phased start = do
+unfoldable pub import_phased : (object : Reader Tree) → Span → Reader Tree
+import_phased object start = do
   i ← any_word
-  λ s. if follows_phase s.code s.at then import_from start (phase_of i.sym) s else (do
+  λ s. if follows_phase s.code s.at then import_from object start (phase_of i.sym) s else (do
     xs ← default_binding i
-    imported start phase.Evaluation xs source) s
+    imported object start phase.Evaluation xs source) s
 
 unfoldable pub is_phase_word : Place → Bool
 is_phase_word c = word_at (codes "source") c || word_at (codes "defer") c
 
-unfoldable pub import_decl : Reader Tree
-import_decl = do
+unfoldable pub import_decl : (object : Reader Tree) → Reader Tree
+import_decl object = do
   start ← span_here
   skip
   λ s.
-      if sees kind.Str s.at then imported start phase.Evaluation [] str s
-      else if is_phase_word s.at then import_phased start s
-      else import_from start phase.Evaluation s
+      if sees kind.Str s.at then imported object start phase.Evaluation [] str s
+      else if is_phase_word s.at then import_phased object start s
+      else import_from object start phase.Evaluation s

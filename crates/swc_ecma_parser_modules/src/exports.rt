@@ -11,9 +11,10 @@ ghost use Rattle.swc_ecma_parser_module_reader.specs.Exports as exports;
 ghost use Rattle.swc_ecma_parser_module_reader.specs.Imports as imports;
 ghost use Rattle.swc_ecma_parser_modules.specs.Names.{name_of};
 ghost use Rattle.swc_ecma_parser_reader.specs.Jumps as rules;
+ghost use Rattle.swc_ecma_parser_reader.specs.Reader as reader;
 ghost use Rattle.swc_ecma_parser_reader.specs.State.{Gives, GivesAs, loop};
 
-use crate::parts::{made_name, module_name, no_attributes, source};
+use crate::parts::{attributes, made_name, module_name, source};
 use std::alloc::{AllocError, Global};
 use swc_ecma_parser_common::{Atom, Span};
 use swc_ecma_parser_error::{PResult, SyntaxError};
@@ -21,7 +22,7 @@ use swc_ecma_parser_inner::steps::{grown, pushed, since};
 use swc_ecma_parser_model::Ident;
 use swc_ecma_parser_source::{Source, Wanted, is_reserved_word};
 use swc_ecma_parser_token::TokenKind;
-use swc_ecma_parser_trees::{BuildsExport, MakerOf};
+use swc_ecma_parser_trees::{BuildsExport, BuildsStatements, MakerOf};
 
 /// A name in braces, with the one that it is exported by where `as` stands.
 #[tactic(auto, unfolding(swc_ecma_parser_module_reader::specs::Exports::export_specifier, swc_ecma_parser_module_reader::specs::Exports::renamed_export, swc_ecma_parser_module_reader::specs::Exports::plain_export))]
@@ -100,21 +101,22 @@ fn export_namespace<P: Source, T: BuildsExport>(
 
 /// Names of another module, from the word `from` on.
 #[tactic(auto, unfolding(swc_ecma_parser_module_reader::specs::Exports::names_from))]
-fn names_from<P: Source, T: BuildsExport>(
+fn names_from<P: Source, T: BuildsStatements + BuildsExport>(
     t: &MakerOf<T>,
     p: &mut P,
+    depth: usize,
     start: Span,
     specifiers: Vec<T::ExportSpecifier>,
 ) -> PResult<T::Item>
-    ensures { GivesAs T.item_of (exports.names_from start (map T.export_specifier_of specifiers.items) (P.seen p.old)) result (P.seen p.new) }
+    ensures { GivesAs T.item_of (exports.names_from (reader.object_alone depth) start (map T.export_specifier_of specifiers.items) (P.seen p.old)) result (P.seen p.new) }
 {
     let src = source(p)?;
-    no_attributes(p)?;
+    let given = attributes::<P, T>(t, p, depth)?;
     p.end(Wanted::Token(";"))?;
     let span = since(p, start);
     grown(
         p,
-        T::export_named(t.alloc, span, specifiers, Some(src), None),
+        T::export_named(t.alloc, span, specifiers, Some(src), given),
     )
 }
 
@@ -184,33 +186,35 @@ fn own_names<P: Source, T: BuildsExport>(
 }
 
 /// Names of another module or of this one.
-fn named<P: Source, T: BuildsExport>(
+fn named<P: Source, T: BuildsStatements + BuildsExport>(
     t: &MakerOf<T>,
     p: &mut P,
+    depth: usize,
     start: Span,
     specifiers: Vec<T::ExportSpecifier>,
 ) -> PResult<T::Item>
     ensures { GivesAs T.item_of (if word_at (codes "from") (P.seen p.old).at
-        then exports.names_from start (map T.export_specifier_of specifiers.items) (P.seen p.old)
+        then exports.names_from (reader.object_alone depth) start (map T.export_specifier_of specifiers.items) (P.seen p.old)
         else exports.own_names start (map T.export_specifier_of specifiers.items) (P.seen p.old)) result (P.seen p.new) }
 {
     if p.word_at("from") {
-        return names_from::<P, T>(t, p, start, specifiers);
+        return names_from::<P, T>(t, p, depth, start, specifiers);
     }
     own_names::<P, T>(t, p, start, specifiers)
 }
 
 /// An export of names in braces.
 #[tactic(auto, unfolding(swc_ecma_parser_module_reader::specs::Exports::export_names))]
-pub fn export_names<P: Source, T: BuildsExport>(
+pub fn export_names<P: Source, T: BuildsStatements + BuildsExport>(
     t: &MakerOf<T>,
     p: &mut P,
+    depth: usize,
     start: Span,
 ) -> PResult<T::Item>
-    ensures { GivesAs T.item_of (exports.export_names start [] (P.seen p.old)) result (P.seen p.new) }
+    ensures { GivesAs T.item_of (exports.export_names (reader.object_alone depth) start [] (P.seen p.old)) result (P.seen p.new) }
 {
     let found = specifiers::<P, T>(t, p)?;
-    named::<P, T>(t, p, start, found)
+    named::<P, T>(t, p, depth, start, found)
 }
 
 /// Names behind those before them.
@@ -228,71 +232,75 @@ fn joined<T: BuildsExport>(
 
 /// Behind a default or a namespace of another module: with the setting names in braces, else the module.
 #[tactic(auto, unfolding(swc_ecma_parser_module_reader::specs::Exports::more_names, swc_ecma_parser_module_reader::specs::Exports::export_names))]
-fn more_names<P: Source, T: BuildsExport>(
+fn more_names<P: Source, T: BuildsStatements + BuildsExport>(
     t: &MakerOf<T>,
     p: &mut P,
+    depth: usize,
     start: Span,
     before: Vec<T::ExportSpecifier>,
 ) -> PResult<T::Item>
-    ensures { GivesAs T.item_of (exports.more_names start (map T.export_specifier_of before.items) (P.seen p.old)) result (P.seen p.new) }
+    ensures { GivesAs T.item_of (exports.more_names (reader.object_alone depth) start (map T.export_specifier_of before.items) (P.seen p.old)) result (P.seen p.new) }
 {
     if p.export_default_from() && p.sees(TokenKind::Comma) {
         p.skip()?;
         let others = specifiers::<P, T>(t, p)?;
         let all = grown(p, joined::<T>(before, others))?;
-        return named::<P, T>(t, p, start, all);
+        return named::<P, T>(t, p, depth, start, all);
     }
-    names_from::<P, T>(t, p, start, before)
+    names_from::<P, T>(t, p, depth, start, before)
 }
 
 /// A namespace from the word `as` on, with what stands before its star; the words behind `export` begin at `first`.
 #[tactic(auto, unfolding(swc_ecma_parser_module_reader::specs::Exports::namespace_names), using(std::proofs::lemmas::List::map_push))]
-fn namespace_names<P: Source, T: BuildsExport>(
+fn namespace_names<P: Source, T: BuildsStatements + BuildsExport>(
     t: &MakerOf<T>,
     p: &mut P,
+    depth: usize,
     start: Span,
     first: Span,
     before: Vec<T::ExportSpecifier>,
 ) -> PResult<T::Item>
-    ensures { GivesAs T.item_of (exports.namespace_names start first (map T.export_specifier_of before.items) (P.seen p.old)) result (P.seen p.new) }
+    ensures { GivesAs T.item_of (exports.namespace_names (reader.object_alone depth) start first (map T.export_specifier_of before.items) (P.seen p.old)) result (P.seen p.new) }
 {
     let namespace = export_namespace::<P, T>(t, p, first)?;
     let mut all = before;
     pushed(p, &mut all, namespace)?;
-    more_names::<P, T>(t, p, start, all)
+    more_names::<P, T>(t, p, depth, start, all)
 }
 
 /// An export of all names, from the word `from` on.
 #[tactic(auto, unfolding(swc_ecma_parser_module_reader::specs::Exports::export_all))]
-fn export_all<P: Source, T: BuildsExport>(
+fn export_all<P: Source, T: BuildsStatements + BuildsExport>(
     t: &MakerOf<T>,
     p: &mut P,
+    depth: usize,
     start: Span,
 ) -> PResult<T::Item>
-    ensures { GivesAs T.item_of (exports.export_all start (P.seen p.old)) result (P.seen p.new) }
+    ensures { GivesAs T.item_of (exports.export_all (reader.object_alone depth) start (P.seen p.old)) result (P.seen p.new) }
 {
     let src = source(p)?;
-    no_attributes(p)?;
+    let given = attributes::<P, T>(t, p, depth)?;
     p.end(Wanted::Token(";"))?;
     let span = since(p, start);
-    grown(p, T::export_all(t.alloc, span, src, None))
+    grown(p, T::export_all(t.alloc, span, src, given))
 }
 
 /// An export from `*` on.
 #[tactic(auto, unfolding(swc_ecma_parser_module_reader::specs::Exports::export_star))]
-pub fn export_star<P: Source, T: BuildsExport>(
+pub fn export_star<P: Source, T: BuildsStatements + BuildsExport>(
     t: &MakerOf<T>,
     p: &mut P,
+    depth: usize,
     start: Span,
 ) -> PResult<T::Item>
-    ensures { GivesAs T.item_of (exports.export_star start (P.seen p.old)) result (P.seen p.new) }
+    ensures { GivesAs T.item_of (exports.export_star (reader.object_alone depth) start (P.seen p.old)) result (P.seen p.new) }
 {
     let star = p.span();
     p.skip()?;
     if !p.word_at("as") {
-        return export_all::<P, T>(t, p, start);
+        return export_all::<P, T>(t, p, depth, start);
     }
-    namespace_names::<P, T>(t, p, start, star, Vec::new(t.alloc))
+    namespace_names::<P, T>(t, p, depth, start, star, Vec::new(t.alloc))
 }
 
 /// Whether a comma and a namespace stand here.
@@ -305,14 +313,15 @@ fn is_namespace_next<P: Source>(p: &P) -> bool
 
 /// From behind the default of another module on, which begins at `first`.
 #[tactic(auto, unfolding(swc_ecma_parser_module_reader::specs::Exports::behind_default))]
-fn behind_default<P: Source, T: BuildsExport>(
+fn behind_default<P: Source, T: BuildsStatements + BuildsExport>(
     t: &MakerOf<T>,
     p: &mut P,
+    depth: usize,
     start: Span,
     first: Span,
     exported: Ident,
 ) -> PResult<T::Item>
-    ensures { GivesAs T.item_of (exports.behind_default start first (tree.export_default (tree.ident exported.span exported.sym)) (P.seen p.old)) result (P.seen p.new) }
+    ensures { GivesAs T.item_of (exports.behind_default (reader.object_alone depth) start first (tree.export_default (tree.ident exported.span exported.sym)) (P.seen p.old)) result (P.seen p.new) }
 {
     let exported = grown(p, T::export_default(t.alloc, exported))?;
     let mut all = Vec::new(t.alloc);
@@ -320,9 +329,9 @@ fn behind_default<P: Source, T: BuildsExport>(
     if is_namespace_next(p) {
         p.skip()?;
         p.skip()?;
-        return namespace_names::<P, T>(t, p, start, first, all);
+        return namespace_names::<P, T>(t, p, depth, start, first, all);
     }
-    more_names::<P, T>(t, p, start, all)
+    more_names::<P, T>(t, p, depth, start, all)
 }
 
 /// Whether the default of another module stands here under a name.
@@ -330,21 +339,22 @@ fn behind_default<P: Source, T: BuildsExport>(
 pub fn is_name_from<P: Source>(p: &P) -> bool
     ensures { result ≡ exports.is_name_from (P.seen p.now).code (P.seen p.now).at }
 {
-    p.export_default_from() && p.name_at()
+    p.export_default_from() && p.name_at() && !p.sees(TokenKind::Await)
 }
 
 /// An export of the default of another module, from its name on.
 #[tactic(auto, unfolding(swc_ecma_parser_module_reader::specs::Exports::name_from))]
-pub fn name_from<P: Source, T: BuildsExport>(
+pub fn name_from<P: Source, T: BuildsStatements + BuildsExport>(
     t: &MakerOf<T>,
     p: &mut P,
+    depth: usize,
     start: Span,
 ) -> PResult<T::Item>
-    ensures { GivesAs T.item_of (exports.name_from start (P.seen p.old)) result (P.seen p.new) }
+    ensures { GivesAs T.item_of (exports.name_from (reader.object_alone depth) start (P.seen p.old)) result (P.seen p.new) }
 {
     let first = p.span();
     let name = p.name(Wanted::Name)?;
-    behind_default::<P, T>(t, p, start, first, name)
+    behind_default::<P, T>(t, p, depth, start, first, name)
 }
 
 /// Whether the default of another module is exported by default, where this stands behind the word.
@@ -360,14 +370,15 @@ pub fn is_default_from<P: Source>(p: &P) -> bool
 
 /// An export of the default of another module as the default, from behind the word on, which stands at `first`.
 #[tactic(auto, unfolding(swc_ecma_parser_module_reader::specs::Exports::default_from))]
-pub fn default_from<P: Source, T: BuildsExport>(
+pub fn default_from<P: Source, T: BuildsStatements + BuildsExport>(
     t: &MakerOf<T>,
     p: &mut P,
+    depth: usize,
     start: Span,
     first: Span,
 ) -> PResult<T::Item>
-    ensures { GivesAs T.item_of (exports.default_from start first (P.seen p.old)) result (P.seen p.new) }
+    ensures { GivesAs T.item_of (exports.default_from (reader.object_alone depth) start first (P.seen p.old)) result (P.seen p.new) }
 {
     let sym = grown(p, Atom::new(t.alloc, "default"))?;
-    behind_default::<P, T>(t, p, start, first, Ident { span: first, sym })
+    behind_default::<P, T>(t, p, depth, start, first, Ident { span: first, sym })
 }

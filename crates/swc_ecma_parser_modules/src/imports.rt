@@ -4,9 +4,10 @@ ghost use Rattle.std.specs.Prelude.{◌≡◌, false, [], ◌∷◌, map, IfOk};
 ghost use Rattle.swc_ecma_parser_grammar.specs.language.Imports as grammar;
 ghost use Rattle.swc_ecma_parser_module_reader.specs.Imports as imports;
 ghost use Rattle.swc_ecma_parser_modules.specs.Names.{name_of, str_of};
+ghost use Rattle.swc_ecma_parser_reader.specs.Reader as rules;
 ghost use Rattle.swc_ecma_parser_reader.specs.State.{Gives, GivesAs, loop, pure};
 
-use crate::parts::{Name, made_name, module_name, no_attributes, source, string};
+use crate::parts::{Name, attributes, made_name, module_name, source, string};
 use std::alloc::AllocError;
 use swc_ecma_parser_common::Span;
 use swc_ecma_parser_error::{PResult, SyntaxError};
@@ -15,7 +16,7 @@ use swc_ecma_parser_input::Context;
 use swc_ecma_parser_model::{Ident, ImportPhase, Str};
 use swc_ecma_parser_source::{Source, Wanted, is_name};
 use swc_ecma_parser_token::TokenKind;
-use swc_ecma_parser_trees::{BuildsImport, MakerOf};
+use swc_ecma_parser_trees::{BuildsImport, BuildsStatements, MakerOf};
 
 /// A name in braces, with the one that it is exported by where `as` stands.
 #[tactic(auto, unfolding(swc_ecma_parser_module_reader::specs::Imports::import_specifier, swc_ecma_parser_module_reader::specs::Imports::other_name))]
@@ -203,35 +204,37 @@ fn import_clause<P: Source, T: BuildsImport>(
 
 /// An import, from behind the string on.
 #[tactic(auto, unfolding(swc_ecma_parser_module_reader::specs::Imports::imported))]
-fn imported<P: Source, T: BuildsImport>(
+fn imported<P: Source, T: BuildsStatements + BuildsImport>(
     t: &MakerOf<T>,
     p: &mut P,
+    depth: usize,
     start: Span,
     phase: ImportPhase,
     specifiers: Vec<T::ImportSpecifier>,
     src: Str,
 ) -> PResult<T::Item>
-    ensures { GivesAs T.item_of (imports.imported start phase (map T.import_specifier_of specifiers.items) (pure (str_of src)) (P.seen p.old)) result (P.seen p.new) }
+    ensures { GivesAs T.item_of (imports.imported (rules.object_alone depth) start phase (map T.import_specifier_of specifiers.items) (pure (str_of src)) (P.seen p.old)) result (P.seen p.new) }
 {
-    no_attributes(p)?;
+    let given = attributes::<P, T>(t, p, depth)?;
     p.end(Wanted::Token(";"))?;
     let span = since(p, start);
-    grown(p, T::import(t.alloc, span, specifiers, src, None, phase))
+    grown(p, T::import(t.alloc, span, specifiers, src, given, phase))
 }
 
 /// An import, from what is imported on.
 #[tactic(auto, unfolding(swc_ecma_parser_module_reader::specs::Imports::import_from, swc_ecma_parser_module_reader::specs::Imports::imported))]
-fn import_from<P: Source, T: BuildsImport>(
+fn import_from<P: Source, T: BuildsStatements + BuildsImport>(
     t: &MakerOf<T>,
     p: &mut P,
+    depth: usize,
     start: Span,
     phase: ImportPhase,
 ) -> PResult<T::Item>
-    ensures { GivesAs T.item_of (imports.import_from start phase (P.seen p.old)) result (P.seen p.new) }
+    ensures { GivesAs T.item_of (imports.import_from (rules.object_alone depth) start phase (P.seen p.old)) result (P.seen p.new) }
 {
     let specifiers = import_clause::<P, T>(t, p)?;
     let src = source(p)?;
-    imported::<P, T>(t, p, start, phase, specifiers, src)
+    imported::<P, T>(t, p, depth, start, phase, specifiers, src)
 }
 
 /// Whether what stands here makes a phase of the word before it.
@@ -258,20 +261,21 @@ fn phase_of(text: &str) -> ImportPhase
 
 /// An import, from the word `source` or `defer` on: a phase, or a name for the default.
 #[tactic(auto, unfolding(swc_ecma_parser_module_reader::specs::Imports::import_phased, swc_ecma_parser_module_reader::specs::Imports::imported))]
-fn import_phased<P: Source, T: BuildsImport>(
+fn import_phased<P: Source, T: BuildsStatements + BuildsImport>(
     t: &MakerOf<T>,
     p: &mut P,
+    depth: usize,
     start: Span,
 ) -> PResult<T::Item>
-    ensures { GivesAs T.item_of (imports.import_phased start (P.seen p.old)) result (P.seen p.new) }
+    ensures { GivesAs T.item_of (imports.import_phased (rules.object_alone depth) start (P.seen p.old)) result (P.seen p.new) }
 {
     let word = p.any_word()?;
     if follows_phase(p) {
-        return import_from::<P, T>(t, p, start, phase_of(word.sym.as_str()));
+        return import_from::<P, T>(t, p, depth, start, phase_of(word.sym.as_str()));
     }
     let specifiers = default_binding::<P, T>(t, p, word)?;
     let src = source(p)?;
-    imported::<P, T>(t, p, start, ImportPhase::Evaluation, specifiers, src)
+    imported::<P, T>(t, p, depth, start, ImportPhase::Evaluation, specifiers, src)
 }
 
 /// Whether one of these two words stands here.
@@ -282,20 +286,24 @@ fn is_phase_word<P: Source>(p: &P) -> bool
     p.word_at("source") || p.word_at("defer")
 }
 
-/// An import.
+/// An import, whose attributes may take so many levels.
 #[tactic(auto, unfolding(swc_ecma_parser_module_reader::specs::Imports::import_decl, swc_ecma_parser_module_reader::specs::Imports::imported))]
-pub fn import_decl<P: Source, T: BuildsImport>(t: &MakerOf<T>, p: &mut P) -> PResult<T::Item>
-    ensures { GivesAs T.item_of (imports.import_decl (P.seen p.old)) result (P.seen p.new) }
+pub fn import_decl<P: Source, T: BuildsStatements + BuildsImport>(
+    t: &MakerOf<T>,
+    p: &mut P,
+    depth: usize,
+) -> PResult<T::Item>
+    ensures { GivesAs T.item_of (imports.import_decl (rules.object_alone depth) (P.seen p.old)) result (P.seen p.new) }
 {
     let start = p.span();
     p.skip()?;
     if p.sees(TokenKind::Str) {
         let src = string(p)?;
         let specifiers = Vec::new(t.alloc);
-        return imported::<P, T>(t, p, start, ImportPhase::Evaluation, specifiers, src);
+        return imported::<P, T>(t, p, depth, start, ImportPhase::Evaluation, specifiers, src);
     }
     if is_phase_word(p) {
-        return import_phased::<P, T>(t, p, start);
+        return import_phased::<P, T>(t, p, depth, start);
     }
-    import_from::<P, T>(t, p, start, ImportPhase::Evaluation)
+    import_from::<P, T>(t, p, depth, start, ImportPhase::Evaluation)
 }

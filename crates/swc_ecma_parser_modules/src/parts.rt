@@ -1,18 +1,21 @@
 //! What imports and exports share: ECMA-262, section 16.2.
 
-ghost use Rattle.std.specs.Prelude.{◌≡◌, IfOk};
+ghost use Rattle.std.specs.Prelude.{◌≡◌, true, IfOk, Some, is_some};
 ghost use Rattle.swc_ecma_parser_grammar.specs.language.ModuleParts as parts;
 ghost use Rattle.swc_ecma_parser_module_reader.specs.Imports as imports;
 ghost use Rattle.swc_ecma_parser_modules.specs.Names.{name_of, str_of};
-ghost use Rattle.swc_ecma_parser_reader.specs.State.{Gives, GivesAs};
+ghost use Rattle.swc_ecma_parser_reader.specs.Reader as rules;
+ghost use Rattle.swc_ecma_parser_reader.specs.State.{GivesAs};
+ghost use Rattle.swc_ecma_parser_trees.specs.Parts.{part_of};
 
 use std::alloc::{AllocError, Global};
+use swc_ecma_parser_core::grammar::object_alone;
 use swc_ecma_parser_error::PResult;
 use swc_ecma_parser_inner::keys::word_property;
 use swc_ecma_parser_model::{Ident, Str};
 use swc_ecma_parser_source::{Literal, Source, Wanted};
 use swc_ecma_parser_token::TokenKind;
-use swc_ecma_parser_trees::BuildsItem;
+use swc_ecma_parser_trees::{BuildsImport, BuildsItem, BuildsStatements, MakerOf};
 
 /// The name by which a module exports something: ModuleExportName.
 #[derive(Drop)]
@@ -78,13 +81,30 @@ fn begins_attributes<P: Source>(p: &P) -> bool
     p.import_attributes() && !p.had_line_break() && (p.sees(TokenKind::With) || p.word_at("assert"))
 }
 
-/// Attributes are not read yet.
-#[tactic(auto, unfolding(swc_ecma_parser_module_reader::specs::Imports::no_attributes))]
-pub fn no_attributes<P: Source>(p: &mut P) -> PResult<()>
-    ensures { Gives (imports.no_attributes (P.seen p.old)) result (P.seen p.new) }
+/// What was found.
+fn present<A>(found: Option<A>) -> A
+    requires { is_some found ≡ true }
+    ensures { found ≡ Some result }
 {
-    if begins_attributes(p) {
-        return Err(p.wanted(Wanted::Expression));
+    match found {
+        Some(x) => x,
+        None => unreachable!(),
     }
-    Ok(())
+}
+
+/// The attributes of another module, whose object may take so many levels, or none.
+#[tactic(auto, unfolding(swc_ecma_parser_module_reader::specs::Imports::attributes))]
+pub fn attributes<P: Source, T: BuildsStatements + BuildsImport>(
+    t: &MakerOf<T>,
+    p: &mut P,
+    depth: usize,
+) -> PResult<Option<T::Attributes>>
+    ensures { GivesAs (part_of T.attributes_of) (imports.attributes (rules.object_alone depth) (P.seen p.old)) result (P.seen p.new) }
+{
+    if !begins_attributes(p) {
+        return Ok(None);
+    }
+    p.skip()?;
+    let object = object_alone::<P, T>(t, p, depth)?;
+    Ok(Some(present(T::attributes(object))))
 }

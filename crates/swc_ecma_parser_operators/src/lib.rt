@@ -4,4 +4,5 @@
 
 mod arrows;
 pub mod assignment;
+pub mod decorator;
 pub mod operator;

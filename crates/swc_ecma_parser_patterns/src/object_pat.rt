@@ -9,14 +9,14 @@ ghost use Rattle.swc_ecma_parser_reader.specs.State.{GivesAs};
 
 use crate::pat::inner_pat;
 use swc_ecma_parser_common::Span;
-use swc_ecma_parser_error::{PResult, SyntaxError};
+use swc_ecma_parser_error::PResult;
 use swc_ecma_parser_grammar::{Class, Position};
 use swc_ecma_parser_inner::cover::{Cover, Reading, inside};
 use swc_ecma_parser_inner::grammar::{Grammar, Part};
 use swc_ecma_parser_inner::keys::{Key, made_key, property_key};
-use swc_ecma_parser_inner::steps::{grown, pushed, since};
+use swc_ecma_parser_inner::steps::{as_name, grown, pushed, since};
 use swc_ecma_parser_model::Ident;
-use swc_ecma_parser_source::{Source, Wanted, is_name};
+use swc_ecma_parser_source::{Source, Wanted, may_bind_await};
 use swc_ecma_parser_token::TokenKind;
 use swc_ecma_parser_trees::{BuildsObjectPat, MakerOf, Trees};
 
@@ -101,7 +101,7 @@ fn initialized_name<
 }
 
 /// A word that is its own key, with its default if one stands there: a name.
-#[tactic(auto, unfolding(swc_ecma_parser_reader::specs::Patterns::named, swc_ecma_parser_reader::specs::Patterns::bare_name))]
+#[tactic(auto, unfolding(swc_ecma_parser_reader::specs::Patterns::named, swc_ecma_parser_reader::specs::Patterns::bare_name, swc_ecma_parser_reader::specs::State::as_name))]
 fn named<
     P: Source,
     T: BuildsObjectPat,
@@ -112,9 +112,8 @@ fn named<
     requires { Nests P.seen T.expr_of T.pat_of T.stmt_of g.now.depth (S.pre g.now.stmt) (S.post g.now.stmt) (E.pre g.now.expr) (E.post g.now.expr) (N.pre g.now.pat) (N.post g.now.pat) }
     ensures { GivesAs T.pat_prop_of (patterns.named (rules.expr g.now.depth) (rules.cover g.now.depth) (rules.pattern g.now.depth) (rules.element g.now.depth) start name.span name.sym (P.seen p.old)) result (P.seen p.new) }
 {
-    if !is_name(p.flags(), name.sym.as_str()) {
-        return Err(p.reject(SyntaxError::ExpectedIdent, name.span));
-    }
+    let may_await = may_bind_await(p.flags());
+    as_name(p, may_await, &name)?;
     if p.sees(TokenKind::Assign) {
         return initialized_name(g, t, p, start, name);
     }

@@ -1,7 +1,7 @@
 -- What answers and refusals leave alike: the tokens that are left are the last of those that were, what was read last is the token
 -- before them, and the faults that were recorded stand before those that are, as those that were held back do.
-use Rattle.std.proofs.Common.{◌≡◌, ℕ, zero, suc, List, [], ◌∷◌, ◌++◌, Option, Some, None, Ok, Err, sym, ◌∙◌, ap, refl, append-nil, append_assoc, suc, length}
-use Rattle.std.specs.Prelude.{nat_lt}
+use Rattle.std.proofs.Common.{◌≡◌, ℕ, zero, suc, List, [], ◌∷◌, ◌++◌, Option, Some, None, Ok, Err, sym, ◌∙◌, ap, refl, append-nil, append_assoc, suc, length, Bool}
+use Rattle.std.specs.Prelude.{nat_lt, ◌&&◌}
 use Rattle.swc_ecma_parser_common.specs.declared.span.Span.{Span}
 use Rattle.swc_ecma_parser_error.specs.Kind as faults
 use Rattle.swc_ecma_parser_error.specs.Kind.{Kind, Fault, fault_of}
@@ -15,13 +15,15 @@ use Rattle.swc_ecma_parser_input.specs.TokenSource.{means_out_of_memory}
 use Rattle.swc_ecma_parser_input.specs.Place.{after, past}
 use Rattle.swc_ecma_parser_model.specs.Tree.{Text}
 use Rattle.swc_ecma_parser_grammar.specs.Looks.{sees, span_at}
-use Rattle.swc_ecma_parser_grammar.specs.Names.{is_name}
+use Rattle.swc_ecma_parser_grammar.specs.Names.{is_name, is_identifier, may_bind_await}
 use Rattle.swc_ecma_parser_grammar.specs.Ends.{can_end}
 use Rattle.swc_ecma_parser_grammar.specs.Notes.{as_note}
-use Rattle.swc_ecma_parser_reader.specs.State.{State, Outcome, Reader, moved, noted, holding_back, fault, recorded_in, recorded_at, fault_at, expect, end, name, name_in, name_by, wanted, wanted_in, wanted_at, too_deep, too_deep_in, too_deep_at, refuse, refuse_in, refuse_at, reject, reject_in, reject_at, refused, Step, after_turn, loop, next_turn, turns, More, Done}
+use Rattle.swc_ecma_parser_reader.specs.State.{State, Outcome, Reader, moved, noted, holding_back, fault, recorded_in, recorded_at, fault_at, expect, end, name, name_in, name_by, wanted, wanted_in, wanted_at, too_deep, too_deep_in, too_deep_at, refuse, refuse_in, refuse_at, reject, reject_in, reject_at, refused, Step, after_turn, loop, next_turn, turns, More, Done, reference, unclean_name, as_name}
 use Rattle.swc_ecma_parser_reader.specs.Reader.{close, shebang_in, shebang_taken, shebang}
 use Rattle.swc_ecma_parser_reader.specs.Entry.{last_span, Behind, IsBehind, IsLater}
-use Rattle.swc_ecma_parser_reader.proofs.Meets.{Answers, answers_if}
+use Rattle.swc_ecma_parser_reader.proofs.Meets.{Answers, answers_if, answers_then}
+use Rattle.swc_ecma_parser_model.specs.declared.leaves.Ident.{Ident}
+use Rattle.swc_ecma_parser_input.specs.declared.context.Context.{Context}
 
 -- nothing is lost, of what was held back neither
 abbrev pub NothingLost : State → State → Type 0
@@ -166,9 +168,15 @@ module _ (b s : State) (h : NothingLost b s) where
   unfolding close
   close_keeps = answers_if _ _ (sees kind.RBrace s.at) _ _ (λ _. behind_after b s h) (λ _. fault_keeps b s h (fault_at (span_at s.at) faults.Expected))
 
+  unclean_keeps : (i : Ident) → Answers (Kept b) (Lost b) (unclean_name i s)
+  unfolding unclean_name
+  unclean_keeps i = answers_if _ _ (may_bind_await s.code.flags) _ _ (λ _. answers_then _ _ (fault _ (moved s)) _ (fault_keeps b (moved s) (behind_after b s h) _) (λ _ t g. g))
+      (λ _. wanted_keeps _ faults.ExpectedIdent b s h)
+
   module _ (missing : Kind) where
     name_by_keeps : (t : Token) (span : Span) → Answers (Kept b) (Lost b) (name_by missing s t span)
-    name_by_keeps (token.Word w) span = answers_if _ _ (is_name s.code.flags (word_text w)) _ _ (λ _. behind_after b s h) (λ _. wanted_keeps _ missing b s h)
+    name_by_keeps (token.Word w) span = answers_if _ _ (is_name s.code.flags (word_text w)) _ _ (λ _. behind_after b s h)
+        (λ _. answers_if _ _ (is_identifier s.code.flags (word_text w)) _ _ (λ _. unclean_keeps _) (λ _. wanted_keeps _ missing b s h))
     name_by_keeps _ span = wanted_keeps _ missing b s h
 
     name_in_keeps : (ts : List TokenAndSpan) → Answers (Kept b) (Lost b) (name_in missing s ts)
@@ -178,6 +186,15 @@ module _ (b s : State) (h : NothingLost b s) where
     pub name_keeps : Answers (Kept b) (Lost b) (name missing s)
     unfolding name
     name_keeps = name_in_keeps s.at.left
+
+    pub reference_keeps : Answers (Kept b) (Lost b) (reference missing s)
+    unfolding reference
+    reference_keeps = answers_if _ _ (s.code.flags.in_async && sees kind.Await s.at) _ _ (λ _. wanted_keeps _ faults.ExpectedIdent b s h) (λ _. name_keeps)
+
+  pub as_name_keeps : (may_await : Context → Bool) (span : Span) (text : Text) → Answers (Kept b) (Lost b) (as_name may_await span text s)
+  unfolding as_name
+  as_name_keeps may_await span text = answers_if _ _ (is_name s.code.flags text) _ _ (λ _. h)
+      (λ _. answers_if _ _ (may_await s.code.flags && is_identifier s.code.flags text) _ _ (λ _. fault_keeps b s h _) (λ _. reject_keeps _ faults.ExpectedIdent span b s h))
 
   shebang_taken_keeps : (o : Option Text) → Answers (Kept b) (Lost b) (shebang_taken o s)
   shebang_taken_keeps None = h

@@ -2,24 +2,20 @@
 use Rattle.swc_ecma_parser_reader.proofs.Words.{plain_function, async_stands, async_kind, or_earlier}
 use Rattle.swc_ecma_parser_reader.proofs.SoundFunctions.{parameters_walk, parameters_notes}
 use Rattle.swc_ecma_parser_grammar.specs.Parameters.{parameters as parameter_trees}
-use Rattle.swc_ecma_parser_grammar.specs.Walk.{in_body as walks_in_body, in_params, walk_body}
+use Rattle.swc_ecma_parser_grammar.specs.Walk.{in_body as walks_in_body, in_params, walk_body, Env, env_of, walk, walks}
 use Rattle.swc_ecma_parser_token.specs.Text.{word_text}
 use Rattle.swc_ecma_parser_token.specs.declared.token.Word.{Word}
 use Rattle.swc_ecma_parser_grammar.proofs.Tests.{and_yes, and_both, and_no}
-use Rattle.swc_ecma_parser_grammar.proofs.SupportedBegins.{word_begins, name_begins}
-use Rattle.swc_ecma_parser_grammar.specs.Own.{labelled_function, duplicates, misplaced_directive}
-use Rattle.swc_ecma_parser_grammar.specs.Reads.{labeled_rule, with_rule, class_rule, function_rule, ReadsFunction, ReadsFunctionExpr, ReadsParts, OwnNameRule, no_own_name_rule, own_name_rule, ReadsBraced}
-use Rattle.swc_ecma_parser_grammar.specs.Names.{is_name, name_at, first_is_name}
-use Rattle.swc_ecma_parser_grammar.specs.language.Items.{labelled_item}
-use Rattle.swc_ecma_parser_reader.specs.Reader.{begins_label, relabels, labelled_body, labeled_stmt, other_stmt, with_stmt, await_here, misdirected, function_body, function_parts, function_decl, function_stmt, function_word, async_or_other}
-use Rattle.swc_ecma_parser_grammar.proofs.SupportedBegins.{opens}
+use Rattle.swc_ecma_parser_grammar.proofs.SupportedBegins.{word_begins, name_begins, opens, expr_opens}
+use Rattle.swc_ecma_parser_grammar.specs.Own.{labelled_function, duplicates, misplaced_directive, head_faults}
+use Rattle.swc_ecma_parser_grammar.specs.Reads.{labeled_rule, with_rule, class_rule, function_rule, ReadsFunction, ReadsFunctionExpr, ReadsParts, OwnNameRule, no_own_name_rule, own_name_rule, ReadsBraced, InitRule, LeftRule, PartRule, no_part_rule, part_rule, for_rule, for_in_rule, for_of_rule, with_in, nested_item, ReadsToken, ReadsItems, break_rule, continue_rule, return_rule, StmtRule, block_rule, empty_rule, debugger_rule, variables_rule, if_statement_rule, CaseRule, case_clause_rule, default_clause_rule, ReadsCases, switch_rule, throw_rule, try_rule, while_rule, do_while_rule, expr_rule, import_rule, ReadsBlock, CatchRule, no_catch_rule, catch_rule, catch_parameter_rule, FinallyRule, no_finally_rule, finally_rule, ReadsHead, IfRule, if_rule, no_else_rule, else_rule, else_if_rule, using_rule}
+use Rattle.swc_ecma_parser_grammar.specs.Names.{is_name, name_at, first_is_identifier, identifier_at, Code}
+use Rattle.swc_ecma_parser_grammar.specs.language.Items.{labelled_item, sub_statement}
+use Rattle.swc_ecma_parser_reader.specs.Reader.{begins_label, relabels, labelled_body, labeled_stmt, other_stmt, with_stmt, await_here, misdirected, function_body, function_parts, function_decl, function_stmt, function_word, async_or_other, head_part, misdeclared, for_parts, for_in, for_of, for_behind, for_stmt, const_stmt, let_stmt, getter, setter, plain_method, arrow_block, named, own_name, function_expr, expr, cover, head_cover, pattern, element, member, parameters, function, function_by, closes, block_from, block, braced, expr_stmt_at, import_stmt_at, while_stmt, do_while, goes_on, closed_link, alternative, link_from, link, if_stmt, begins_clause, closes_clause, clause_from, default_clause, case_clause, clause, clauses_turn, clauses, switch_stmt, is_handled, handled, bound, parameter, finalizer, caught, handler, try_stmt, stmt_level, stmt, using_or_other}
 use Rattle.swc_ecma_parser_grammar.proofs.Marks.{no_word}
-use Rattle.swc_ecma_parser_reader.proofs.Opens.{unopened, let_stands, let_before_colon}
+use Rattle.swc_ecma_parser_reader.proofs.Opens.{unopened, let_stands, let_before_colon, opened, no_block_or_import, import_stands, stmt_goes}
 use Rattle.swc_ecma_parser_reader.proofs.expressions.SoundLefts.{word_stands}
-use Rattle.swc_ecma_parser_reader.specs.Reader.{head_part, misdeclared, for_parts, for_in, for_of, for_behind, for_stmt, const_stmt, let_stmt}
 use Rattle.swc_ecma_parser_grammar.specs.Follows.{word_at, is_async_of, AwaitWord, is_bare_async, no_await, await_word, Star, no_star, star as starred, AsyncWord, not_async, async_word, is_async_function}
-use Rattle.swc_ecma_parser_grammar.specs.Own.{head_faults}
-use Rattle.swc_ecma_parser_grammar.specs.Reads.{InitRule, LeftRule, PartRule, no_part_rule, part_rule, for_rule, for_in_rule, for_of_rule}
 use Rattle.swc_ecma_parser_model.specs.declared.leaves.VarDeclKind.TheVariants as decl
 use Rattle.std.proofs.Common.{◌≡◌, inl, inr, ℕ, zero, suc, Bool, true, false, List, [], ◌∷◌, ◌++◌, length, Ok, refl, sym, ◌∙◌, ap, subst, append_assoc, append-nil, Option, not, is_some, None, Some}
 use Rattle.std.specs.Prelude.{◌&&◌, ◌||◌, codes}
@@ -35,30 +31,23 @@ use Rattle.swc_ecma_parser_model.specs.Tree.{Tree, Text, listed, trees}
 use Rattle.swc_ecma_parser_model.specs.Forms.{is_absent, is_rest, is_binding_name, is_plain_param, has_plain_params}
 use Rattle.swc_ecma_parser_grammar.specs.declared.position.Position.{Position}
 use Rattle.swc_ecma_parser_grammar.specs.Looks.{kind_at, sees, same_kind, span_at, spanned}
-use Rattle.swc_ecma_parser_grammar.specs.Names.{Code}
 use Rattle.swc_ecma_parser_grammar.specs.Ends.{OptionalEnds}
-use Rattle.swc_ecma_parser_grammar.specs.Reads.{with_in, nested_item, ReadsToken, ReadsItems, break_rule, continue_rule, return_rule, StmtRule, block_rule, empty_rule, debugger_rule, variables_rule, if_statement_rule, CaseRule, case_clause_rule, default_clause_rule, ReadsCases, switch_rule, throw_rule, try_rule, while_rule, do_while_rule, expr_rule, import_rule, ReadsBlock, CatchRule, no_catch_rule, catch_rule, catch_parameter_rule, FinallyRule, no_finally_rule, finally_rule, ReadsHead, IfRule, if_rule, no_else_rule, else_rule, else_if_rule}
 use Rattle.swc_ecma_parser_grammar.specs.ReadsSupported.{ReadsClass, ReadsPat, ReadsTarget, ReadsStmt, ReadsParams, ReadsMember, ReadsNamedClass}
 use Rattle.swc_ecma_parser_grammar.specs.language.Contexts.{in_loop, in_breakable, in_with, named_by, in_parameters, in_body, in_arrow}
 use Rattle.swc_ecma_parser_grammar.specs.language.Goals.{Goal, Purpose, binding, expression, assignment, pattern_goal}
-use Rattle.swc_ecma_parser_grammar.specs.language.Items.{sub_statement}
 use Rattle.swc_ecma_parser_grammar.specs.Notes.{notes, with_note}
 use Rattle.swc_ecma_parser_grammar.specs.language.Noted.{has_meta}
-use Rattle.swc_ecma_parser_grammar.specs.Walk.{Env, env_of, walk, walks}
 use Rattle.swc_ecma_parser_reader.specs.Notes.{Notes, ◌⊕◌, notes_of, all_notes_of, held}
 use Rattle.swc_ecma_parser_reader.specs.State.{Scope, State, Outcome, and_then, loop}
 use Rattle.swc_ecma_parser_reader.specs.Methods.{getter_form, setter_form, method_form, expression_form, parameter_form, block_form, star}
-use Rattle.swc_ecma_parser_reader.specs.Reader.{getter, setter, plain_method, arrow_block, named, own_name, function_expr, expr, cover, head_cover, pattern, element, member, parameters, function, function_by}
-use Rattle.swc_ecma_parser_reader.specs.Reader.{closes, block_from, block, braced, expr_stmt_at, import_stmt_at, while_stmt, do_while, goes_on, closed_link, alternative, link_from, link, if_stmt, begins_clause, closes_clause, clause_from, default_clause, case_clause, clause, clauses_turn, clauses, switch_stmt, is_handled, handled, bound, parameter, finalizer, caught, handler, try_stmt, stmt_level, stmt}
 use Rattle.swc_ecma_parser_reader.proofs.Notes.{or_nil, or_assoc}
 use Rattle.swc_ecma_parser_reader.proofs.Answered.{st, Reads, Calm, ReadsCalm, ReadsAs}
 use Rattle.swc_ecma_parser_reader.proofs.Errors.{is_error}
 use Rattle.swc_ecma_parser_reader.proofs.Between.{nil-split}
 use Rattle.swc_ecma_parser_reader.proofs.Meets.{saw}
-use Rattle.swc_ecma_parser_reader.proofs.expressions.CompleteParts.{name_reads}
+use Rattle.swc_ecma_parser_reader.proofs.expressions.CompleteParts.{name_reads, reference_reads, AsExpr, IsRead, ReadsEnclosed, MethodIsRead, IsFunctionRead}
 use Rattle.swc_ecma_parser_reader.proofs.expressions.CompleteKinds.{seen, expr_no_const, name_no_const}
 use Rattle.swc_ecma_parser_reader.proofs.expressions.CompleteKinds as kinds
-use Rattle.swc_ecma_parser_reader.proofs.expressions.CompleteParts.{AsExpr, ReadsEnclosed, MethodIsRead, IsFunctionRead}
 use Rattle.swc_ecma_parser_reader.proofs.expressions.Groups as groups
 use Rattle.swc_ecma_parser_reader.proofs.expressions.GroupLevels.{tied_at, begins_at}
 use Rattle.swc_ecma_parser_reader.proofs.expressions.Loops.{shorter_by}
@@ -84,10 +73,12 @@ use Rattle.swc_ecma_parser_grammar.specs.language.Patterns as patterns
 use Rattle.swc_ecma_parser_grammar.specs.language.Patterns.{PatternRule, PatternElementRule}
 use Rattle.swc_ecma_parser_grammar.specs.language.Reads as language
 use Rattle.swc_ecma_parser_reader.proofs.Loops.{stmt_shorter, clauses_done, clauses_more}
-use Rattle.swc_ecma_parser_grammar.proofs.SupportedBegins.{expr_opens}
-use Rattle.swc_ecma_parser_reader.proofs.Opens.{opened, no_block_or_import, import_stands, stmt_goes}
 use Rattle.swc_ecma_parser_reader.proofs.Chains.{if_last, if_more}
-use Rattle.swc_ecma_parser_reader.proofs.CompleteParts.{behind_setting, break_reads, calm_first, calm_last, clause_ends, close_reads, closes_at, code_stays, condition_reads, continue_reads, debugger_reads, empty_reads, expect_reads, expr_stmt_reads, head_reads, import_stmt_reads, items_read, name_no_function, name_no_class, no_brace, no_label_here, opening_reads_init, opening_reads_left, optional_end_reads, return_reads, throw_reads, told_reads, variables_reads, note_with_reads, code_behind}
+use Rattle.swc_ecma_parser_reader.proofs.CompleteParts.{behind_setting, break_reads, calm_first, calm_last, clause_ends, close_reads, closes_at, code_stays, condition_reads, continue_reads, debugger_reads, empty_reads, expect_reads, expr_stmt_reads, head_reads, import_stmt_reads, items_read, name_no_function, name_no_class, no_brace, no_label_here, opening_reads_init, opening_reads_left, optional_end_reads, return_reads, throw_reads, told_reads, variables_reads, note_with_reads, code_behind, using_reads}
+use Rattle.swc_ecma_parser_grammar.proofs.Naming.{name_is_free}
+use Rattle.swc_ecma_parser_grammar.specs.Using.{is_using_declaration}
+use Rattle.swc_ecma_parser_grammar.proofs.Using.{using_stands, using_no_function}
+use Rattle.swc_ecma_parser_reader.proofs.Using.{no_using_before, no_using_here}
 
 -- ---- all levels
 
@@ -162,7 +153,7 @@ module _ (n : ℕ) (below : Below n) (reads : (at : Position) (k : Code) (x : Tr
   unfolding own_name named
   own_name_reads a v i k c d w f h (no_own_name_rule l e g) = rw ((kinds.paren_here (named_by k a v).flags c l).0, e, g) refl
   own_name_reads a v i k c d w f h (own_name_rule u sp r o g) =
-      rw (kinds.named (token.Word u) sp c d (named_by k a v) true r o, name_reads faults.ExpectedIdent u sp c d (named_by k a v) w f h r o, g) refl
+      rw (kinds.named_word u sp c d (named_by k a v) r o, name_reads faults.ExpectedIdent u sp c d (named_by k a v) w f h r o, g) refl
 
   -- no `*` stands where it or the parameters begin
   own_name_no_star : {k : Code} {a v : Bool} {i : Tree} {c d : Place} → OwnNameRule k a v i c d → sees kind.Mul c ≡ false
@@ -378,8 +369,8 @@ module _ (n : ℕ) (below : Below n) (reads : (at : Position) (k : Code) (x : Tr
 
   -- a label stands there
   label_begins : (k : Code) (v : Word) (s : Span) (c m : Place) → ReadsToken (token.Word v) s c m → is_name k.flags (word_text v) ≡ true → kind_at m ≡ kind.Colon → begins_label k c ≡ true
-  unfolding begins_label name_at
-  label_begins k v s c m r g e = and_both (first_is_name k.flags c.left) _ (rw r.is g) (rw (← r.next) (seen m kind.Colon e))
+  unfolding begins_label identifier_at
+  label_begins k v s c m r g e = and_both (first_is_identifier k.flags c.left) _ (rw r.is (name_is_free k.flags (word_text v) g)) (rw (← r.next) (seen m kind.Colon e))
 
   labeled_reads : (v : Word) (s : Span) (y : Tree) (m : Place) (k : Code) (x : Tree) (c d : Place) → ReadsToken (token.Word v) s c m → is_name k.flags (word_text v) ≡ true → kind_at m ≡ kind.Colon
       → ReadsStmt n (in_breakable k) (labelled_item (after m)) y (after m) d → x ≡ tree.labeled (spanned c d) (tree.ident s (word_text v)) y → ReadsCalm (labeled_stmt (stmt n)) k x c d
@@ -392,7 +383,7 @@ module _ (n : ℕ) (below : Below n) (reads : (at : Position) (k : Code) (x : Tr
       let l = duplicates w.labels (tree.ident s text) in
       let z = ap (walk (env_of k w.labels)) e in
       rw (
-        name_reads faults.ExpectedIdent v s c m k w f h r o,
+        reference_reads faults.ExpectedIdent v s c m k w f h r o,
         expect_reads kind.Colon m k w f h i,
         reads (labelled_item (after m)) (in_breakable k) y (after m) d t u f h (calm_first d a (b ++ l) (walk (env_of k w.labels) x) (z ∙ append_assoc a b l) q),
         told_reads (b ++ l) d k w (f ++ a) (h ⊕ notes_of y) (calm_last d a (b ++ l) (walk (env_of k w.labels) x) (z ∙ append_assoc a b l) q),
@@ -632,7 +623,7 @@ module _ (n : ℕ) (below : Below n) (reads : (at : Position) (k : Code) (x : Tr
 
   by_rules : (at : Position) (k : Code) (x : Tree) (c d : Place) → StmtRule (ReadsStmt n) (ReadsClass n) (ReadsPat n) (ReadsTarget n) (ReadsParams n) (ReadsNamedClass n) k at x c d
       → ReadsCalm (stmt_level (stmt n) (expr n) (pattern n) (head_cover n) (parameters n) (member n) at) k x c d
-  unfolding stmt_level other_stmt const_stmt let_stmt expr_stmt_at import_stmt_at function_stmt class_stmt
+  unfolding stmt_level other_stmt const_stmt let_stmt expr_stmt_at import_stmt_at function_stmt class_stmt async_or_other using_or_other
   by_rules at k x c d (class_rule name y a r b e) w f h q = rw (r.0.is_class, a) (class_decl_reads n below members k x c d name y r b e w f h)
   by_rules at k x c d (function_rule a r) w f h q = function_statement at k x c d r.word a r.reads_async r.is_function (function_reads k x c d r) w f h q
   by_rules at k x c d (block_rule r) w f h q = rw r.opens (block_reads k x c d r w f h)
@@ -641,6 +632,7 @@ module _ (n : ℕ) (below : Below n) (reads : (at : Position) (k : Code) (x : Tr
   by_rules at k x c d (variables_rule decl.Var xs m a e r g i) w f h q = rw (saw c kind.Var e) (variables_reads n below decl.Var xs m k x c d r g i w f h)
   by_rules at k x c d (variables_rule decl.Const xs m a e r g i) w f h q = rw (saw c kind.Const e, declares at a) (variables_reads n below decl.Const xs m k x c d r g i w f h)
   by_rules at k x c d (variables_rule decl.Let xs m a e r g i) w f h q = rw (let_stands c e, declares at a, e) (variables_reads n below decl.Let xs m k x c d r g i w f h)
+  by_rules at k x c d (using_rule xs a b r e g) w f h q = rw (using_stands k c b, using_no_function k c b, a, b) (using_reads n below xs k x c d r e g w f h)
   by_rules at k x c d (if_statement_rule r) w f h q = rw (if_begins r) (if_reads r w f h q)
   by_rules at k x c d (switch_rule y xs m i e r a s b g j) w f h q = rw e (switch_reads y xs m i k x c d r a s b g j w f h)
   by_rules at k x c d (break_rule y m e r g i) w f h q = rw e (break_reads y m k x c d r g i w f h q)
@@ -651,8 +643,9 @@ module _ (n : ℕ) (below : Below n) (reads : (at : Position) (k : Code) (x : Tr
   by_rules at k x c d (for_of_rule b a g y l m i e v o r s u n' t z j p) w f h q = rw e (for_of_reads b a g y l m i k x c d v o r s u n' t z j p w f h q)
   by_rules at k x c d (labeled_rule v s y m r o i t e) w f h q =
       let b = name_begins k.flags v s c m r o in
-      opened (stmt n) (expr n) (pattern n) (head_cover n) (parameters n) (member n) at (st c k w f h) (kind_at c) (word_begins k.flags v s c m r o) (no_brace v s c m r) b.1 (name_no_const k.flags v s c m r o)
+      opened (stmt n) (expr n) (pattern n) (head_cover n) (parameters n) (member n) at (st c k w f h) (kind_at c) (word_begins k.flags v s c m r o) (no_brace v s c m r) b (name_no_const k.flags v s c m r o)
       (and_no at.include_decl _ (let_before_colon c (seen (after c) kind.Colon (ap kind_at (sym r.next) ∙ i)))) (name_no_function k.flags v s c m r o) (kinds.no_async_function c m r.next (colon_no_function m i)) (name_no_class k.flags v s c m r o)
+      (and_no at.include_decl _ (no_using_before k c (seen (after c) kind.Colon (ap kind_at (sym r.next) ∙ i))))
       ∙ rw (label_begins k v s c m r o i) (labeled_reads v s y m k x c d r o i t e w f h q)
   by_rules at k x c d (throw_rule y m e b r g i) w f h q = rw e (throw_reads n below y m k x c d b r g i w f h)
   by_rules at k x c d (try_rule y z v m i e r s t b g) w f h q = rw e (try_reads y z v m i k x c d r s t b g w f h)
@@ -662,6 +655,7 @@ module _ (n : ℕ) (below : Below n) (reads : (at : Position) (k : Code) (x : Tr
   by_rules at k x c d (expr_rule e m b r l i g j) w f h q =
       let o = no_block_or_import at c b in
       opened (stmt n) (expr n) (pattern n) (head_cover n) (parameters n) (member n) at (st c k w f h) (kind_at c) (expr_opens n (with_in k) e c m r) o.0 o.1 (expr_no_const n (with_in k) e c m r) o.2 o.3 o.4 o.5
+      (and_no at.include_decl _ (no_using_here n k (with_in k) e c m d r.0 g))
       ∙ rw (no_label_here n below k e c m r l, b) (expr_stmt_reads n below e m k x c d r l i g j w f h)
   by_rules at k x c d (import_rule e m b r g j) w f h q = rw (import_stands c b, b) (import_stmt_reads n below e m k x c d b r g j w f h)
 
@@ -770,6 +764,16 @@ whole (suc n) = let b = whole n in record {
   members = member_level_reads n b.parts (function_body_reads n b.parts b.stmts b.members) (braced_reads n b.parts b.stmts b.members);
   stmts = λ at k x c d r w f h q. by_rules n b.parts b.stmts b.members at k x c d r w f h q;
 }
+
+pub parts_read : (n : ℕ) → Below n
+parts_read n = (whole n).parts
+
+-- expressions are read, and what a part of one holds that is none
+pub exprs_read : (n : ℕ) → IsRead (language.Reads n) (expr n) (cover n)
+exprs_read n = (whole n).parts.exprs
+
+pub functions_read : (n : ℕ) → IsFunctionRead (language.Reads n) (function n)
+functions_read n = functions n (whole n)
 
 pub member_reads : (n : ℕ) (k : Code) (x : Tree) (c d : Place) → ReadsMember n k x c d → MemberFollows d → Reads (member n) k x c d
 member_reads n = (whole n).members

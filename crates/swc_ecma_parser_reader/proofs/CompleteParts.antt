@@ -7,14 +7,13 @@ use Rattle.swc_ecma_parser_input.specs.declared.context.Context.{Context}
 use Rattle.swc_ecma_parser_token.specs.Text.{word_text}
 use Rattle.swc_ecma_parser_token.specs.declared.keyword.Keyword.{Keyword}
 use Rattle.swc_ecma_parser_token.specs.declared.token.Word.{Word}
-use Rattle.std.proofs.Common.{Err, true≢false, not}
+use Rattle.std.proofs.Common.{Err, true≢false, not, ◌≡◌, ◌⊎◌, inl, inr, ℕ, zero, suc, ◌<◌, Bool, true, false, cond, List, [], ◌∷◌, ◌++◌, length, Option, Some, None, Ok, refl, sym, ◌∙◌, ap, append_assoc, append-nil}
 use Rattle.swc_ecma_parser_reader.proofs.Meets.{saw}
-use Rattle.swc_ecma_parser_reader.specs.Notes.{no_notes}
+use Rattle.swc_ecma_parser_reader.specs.Notes.{no_notes, Notes, held, ◌⊕◌, notes_of, all_notes_of}
 use Rattle.swc_ecma_parser_grammar.proofs.Tests.{and_yes}
 use Rattle.swc_ecma_parser_grammar.proofs.Marks.{name_before_colon}
-use Rattle.swc_ecma_parser_grammar.specs.Names.{is_name, is_reserved, name_at}
-use Rattle.swc_ecma_parser_reader.specs.Reader.{begins_label, note_with}
-use Rattle.std.proofs.Common.{◌≡◌, ◌⊎◌, inl, inr, ℕ, zero, suc, ◌<◌, Bool, true, false, cond, List, [], ◌∷◌, ◌++◌, length, Option, Some, None, Ok, refl, sym, ◌∙◌, ap, append_assoc, append-nil}
+use Rattle.swc_ecma_parser_grammar.specs.Names.{is_name, is_reserved, name_at, is_clean_name, is_identifier, Code}
+use Rattle.swc_ecma_parser_reader.specs.Reader.{begins_label, note_with, expr, head_cover, pattern, told, target, unbroken, break_stmt, uncontinued, continue_stmt, misplaced, operand, returned, return_stmt, empty, debugger, initialized, declarator, declarators_turn, declarators, variables, Opening, Nothing, Variables, Expression, as_init, as_left, head_variables, head_expression, opening, closes, at_end, close, directs, items_turn, items, note_statement, no_label, expr_stmt, optional_end, import_stmt, thrown, throw, head, condition, begins_clause, closes_clause, shebang_of, shebang_in, shebang, misusing, using_from, using_stmt}
 use Rattle.std.specs.Prelude.{◌&&◌, ◌||◌, codes}
 use Rattle.swc_ecma_parser_common.specs.declared.span.Span.{Span}
 use Rattle.swc_ecma_parser_error.specs.Kind as faults
@@ -33,7 +32,6 @@ use Rattle.swc_ecma_parser_model.specs.Tree.{Tree, Text, listed, trees}
 use Rattle.swc_ecma_parser_model.specs.Directive.{is_use_strict}
 use Rattle.swc_ecma_parser_model.specs.Forms.{is_ident, is_ident_named, span_of}
 use Rattle.swc_ecma_parser_grammar.specs.Looks.{kind_at, breaks_at, sees, same_kind, spanned}
-use Rattle.swc_ecma_parser_grammar.specs.Names.{Code}
 use Rattle.swc_ecma_parser_grammar.specs.Ends.{Ends, by_semicolon, by_insertion, OptionalEnds, by_a_semicolon, by_nothing}
 use Rattle.swc_ecma_parser_grammar.specs.Follows.{begins_import_expression, may_begin_head, is_bare_async}
 use Rattle.swc_ecma_parser_grammar.specs.Variables.{begins_variables}
@@ -46,11 +44,8 @@ use Rattle.swc_ecma_parser_grammar.specs.Notes.{notes, statement_note, as_note, 
 use Rattle.swc_ecma_parser_grammar.specs.language.Noted.{has_meta}
 use Rattle.swc_ecma_parser_grammar.specs.Walk as walks_of
 use Rattle.swc_ecma_parser_grammar.specs.Walk.{Env, env_of, walk, walks}
-use Rattle.swc_ecma_parser_reader.specs.Notes.{Notes, held, ◌⊕◌, notes_of, all_notes_of}
 use Rattle.swc_ecma_parser_reader.specs.State.{Scope, State, Outcome, Reader, noted, holding_back, fault, labelled, expect, end, fault_at, loop}
 use Rattle.swc_ecma_parser_reader.specs.Expressions.{Cover}
-use Rattle.swc_ecma_parser_reader.specs.Reader.{expr, head_cover, pattern}
-use Rattle.swc_ecma_parser_reader.specs.Reader.{told, target, unbroken, break_stmt, uncontinued, continue_stmt, misplaced, operand, returned, return_stmt, empty, debugger, initialized, declarator, declarators_turn, declarators, variables, Opening, Nothing, Variables, Expression, as_init, as_left, head_variables, head_expression, opening, closes, at_end, close, directs, items_turn, items, note_statement, no_label, expr_stmt, optional_end, import_stmt, thrown, throw, head, condition, begins_clause, closes_clause, shebang_of, shebang_in, shebang}
 use Rattle.swc_ecma_parser_reader.proofs.Notes.{or_nil, or_assoc}
 use Rattle.swc_ecma_parser_reader.proofs.Answered.{st, Reads, ReadsCalm, ReadsAs}
 use Rattle.swc_ecma_parser_reader.proofs.Errors.{is_error, fault_here}
@@ -64,6 +59,11 @@ use Rattle.swc_ecma_parser_reader.proofs.expressions.CompleteHeads as heads
 use Rattle.swc_ecma_parser_reader.proofs.Loops.{items_stop, items_more, declarators_done, declarators_more}
 use Rattle.swc_ecma_parser_grammar.proofs.SupportedBegins.{expr_opens}
 use Rattle.swc_ecma_parser_reader.proofs.Opens.{import_unnoted, goes_open, head_begins, let_stands}
+use Rattle.swc_ecma_parser_grammar.proofs.Naming.{name_is_free}
+use Rattle.swc_ecma_parser_reader.proofs.CleanStarts.{Starts, expressions_start}
+use Rattle.swc_ecma_parser_grammar.proofs.Ended.{ends_name, ended_awaits}
+use Rattle.swc_ecma_parser_grammar.specs.language.Begins.{awaits}
+use Rattle.swc_ecma_parser_grammar.specs.Using.{using_faults}
 
 -- ---- fixed tokens and ends
 
@@ -217,6 +217,13 @@ variables_reads n below word xs m k x c d r e g w f h =
       ends_read faults.Unexpected m d k w (f ++ walks (env_of k w.labels) false (trees xs)) (h ⊕ all_notes_of (trees xs)) e,
       g,
     ) refl
+
+pub using_reads : (n : ℕ) (below : Below n) (xs : List Tree) (k : Code) (x : Tree) (c d : Place)
+    → ReadsSeparated (DeclaratorRule (ReadsClass n assignment) (ReadsPat n) (with_in k) false decl.Var) xs (after c) d
+    → using_faults k.setting.explicit_resource_management (spanned c d) xs ≡ [] → x ≡ tree.using (spanned c d) false (listed xs)
+    → Reads (using_stmt (declarators (expr n) (pattern n) false decl.Var)) k x c d
+unfolding using_stmt using_from misusing declarators spanned
+using_reads n below xs k x c d r e g w f h = rw (many_declarators n below false decl.Var xs [] (with_in k) (after c) d w f h r, e, g) refl
 
 -- ---- what the head of a `for` begins with
 
@@ -480,9 +487,14 @@ pub place_of : Place → Outcome Tree → Place
 place_of c (Ok p) = p.1.at
 place_of c (Err e) = c
 
+-- a name that stands first and is no operator is no fault
+starts_clean : (k : Code) (c : Place) (v : Word) (s : Span) → ReadsToken (token.Word v) s c (after c) → is_identifier k.flags (word_text v) ≡ true → Starts k c → awaits k.flags c ≡ false
+    → is_name k.flags (word_text v) ≡ true
+starts_clean k c v s r f h a = elim (h v s r f) [ inl e ↦ absurd (true≢false (sym e ∙ a)) | inr e ↦ e ]
+
 -- what an expression statement begins with is no label: the name would be all of its expression
 pub no_label_here : (n : ℕ) (below : Below n) (k : Code) (e : Tree) (c m : Place) → ReadsClass n expression (with_in k) e c m → is_ident e && sees kind.Colon m ≡ false → begins_label k c ≡ false
-unfolding begins_label is_name is_reserved tree_of place_of
+unfolding begins_label is_name is_clean_name is_identifier is_reserved tree_of place_of
 no_label_here zero below k e c m r l = absurd r.0
 no_label_here (suc n) below k e c m r l = by_test (name_at k.flags c && sees kind.Colon (after c)) refl
   where
@@ -492,8 +504,10 @@ no_label_here (suc n) below k e c m r l = by_test (name_at k.flags c && sees kin
         let g = and_yes (name_at k.flags c) (sees kind.Colon (after c)) h in
         let (v, s, i, f) = named_here k.flags c g.0 in
         let w : Scope = record { labels = []; mark = None } in
+        let colon = saw (after c) kind.Colon g.1 in
+        let clean = starts_clean (with_in k) c v s i f (expressions_start (suc n) expression (with_in k) e c m r.0) (ended_awaits (with_in k).flags c (after c) refl (ap ends_name colon)) in
         let o = sym (expr_reads (suc n) below expression (with_in k) e c m r w [] no_notes)
-        ∙ expr_reads (suc n) below expression (with_in k) (tree.ident s (word_text v)) c (after c) (name_before_colon n (with_in k) v s c (after c) i f (saw (after c) kind.Colon g.1)) w [] no_notes in
+        ∙ expr_reads (suc n) below expression (with_in k) (tree.ident s (word_text v)) c (after c) (name_before_colon n (with_in k) v s c (after c) i clean colon) w [] no_notes in
         absurd (true≢false (sym (ap (λ z. is_ident z && sees kind.Colon m) (ap tree_of o) ∙ ap (sees kind.Colon) (ap (place_of c) o) ∙ g.1) ∙ l))
 
 -- a word is no brace
@@ -511,31 +525,31 @@ unfolding kind_at
 no_brace v s c d r = rw r.is (word_no_brace v)
 
 -- nor is a name the word of a function
-keyword_no_function : (f : Context) (v : Keyword) → is_name f (word_text (word.Keyword v)) ≡ true → same_kind (keyword_kind v) kind.Function ≡ false
-unfolding is_name is_reserved same_kind
+keyword_no_function : (f : Context) (v : Keyword) → is_identifier f (word_text (word.Keyword v)) ≡ true → same_kind (keyword_kind v) kind.Function ≡ false
+unfolding is_identifier is_reserved same_kind
 keyword_no_function f keyword.Function e = cc
 keyword_no_function f _ e = refl
 
-word_no_function : (f : Context) (v : Word) → is_name f (word_text v) ≡ true → same_kind (word_kind v) kind.Function ≡ false
+word_no_function : (f : Context) (v : Word) → is_identifier f (word_text v) ≡ true → same_kind (word_kind v) kind.Function ≡ false
 unfolding same_kind
 word_no_function f (word.Keyword v) e = keyword_no_function f v e
 word_no_function f _ e = refl
 
 pub name_no_function : (f : Context) (v : Word) (s : Span) (c d : Place) → ReadsToken (token.Word v) s c d → is_name f (word_text v) ≡ true → sees kind.Function c ≡ false
 unfolding kind_at
-name_no_function f v s c d r e = rw r.is (word_no_function f v e)
+name_no_function f v s c d r e = rw r.is (word_no_function f v (name_is_free f (word_text v) e))
 
 -- nor is it the word of a class
-keyword_no_class : (f : Context) (v : Keyword) → is_name f (word_text (word.Keyword v)) ≡ true → same_kind (keyword_kind v) kind.Class ≡ false
-unfolding is_name is_reserved same_kind
+keyword_no_class : (f : Context) (v : Keyword) → is_identifier f (word_text (word.Keyword v)) ≡ true → same_kind (keyword_kind v) kind.Class ≡ false
+unfolding is_identifier is_reserved same_kind
 keyword_no_class f keyword.Class e = cc
 keyword_no_class f _ e = refl
 
-word_no_class : (f : Context) (v : Word) → is_name f (word_text v) ≡ true → same_kind (word_kind v) kind.Class ≡ false
+word_no_class : (f : Context) (v : Word) → is_identifier f (word_text v) ≡ true → same_kind (word_kind v) kind.Class ≡ false
 unfolding same_kind
 word_no_class f (word.Keyword v) e = keyword_no_class f v e
 word_no_class f _ e = refl
 
 pub name_no_class : (f : Context) (v : Word) (s : Span) (c d : Place) → ReadsToken (token.Word v) s c d → is_name f (word_text v) ≡ true → sees kind.Class c ≡ false
 unfolding kind_at
-name_no_class f v s c d r e = rw r.is (word_no_class f v e)
+name_no_class f v s c d r e = rw r.is (word_no_class f v (name_is_free f (word_text v) e))

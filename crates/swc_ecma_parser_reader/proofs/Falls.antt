@@ -6,11 +6,10 @@ use Rattle.swc_ecma_parser_reader.proofs.Errors.{is_error, fault_here}
 use Rattle.swc_ecma_parser_reader.proofs.patterns.Falls as patterns
 use Rattle.swc_ecma_parser_reader.specs.Members.{class_expr}
 use Rattle.swc_ecma_parser_reader.proofs.classes.Falls as classes
-use Rattle.swc_ecma_parser_reader.specs.State.{Scope, and_then, below, relabelled, below_label, enclosed, unlabelled, fault_at, noted, module_found}
-use Rattle.swc_ecma_parser_grammar.specs.language.Items.{labelled_item}
-use Rattle.swc_ecma_parser_reader.specs.Reader.{begins_label, relabels, labelled_body, labeled_stmt, other_stmt, note_with, with_stmt, await_here, unless_awaited, function_body, function_decl, function_parts, function_stmt, misdirected, function_word, async_or_other}
-use Rattle.swc_ecma_parser_reader.specs.Reader.{missing_initializer, Opening, Nothing, Variables, Expression, as_init, as_left, head_variables, head_expression, opening, head_part, misdeclared, for_parts, for_in, for_of, for_behind, for_stmt, const_stmt, let_stmt}
-use Rattle.swc_ecma_parser_grammar.specs.language.Contexts.{without_in, named_by, in_body, in_arrow, in_parameters}
+use Rattle.swc_ecma_parser_reader.specs.State.{Scope, and_then, below, relabelled, below_label, enclosed, unlabelled, fault_at, noted, module_found, reference, State, Outcome, Reader, moved, coded, within, fault, labelled, labelled_as, name, expect, end}
+use Rattle.swc_ecma_parser_grammar.specs.language.Items.{labelled_item, sub_statement}
+use Rattle.swc_ecma_parser_reader.specs.Reader.{begins_label, relabels, labelled_body, labeled_stmt, other_stmt, note_with, with_stmt, await_here, unless_awaited, function_body, function_decl, function_parts, function_stmt, misdirected, function_word, async_or_other, missing_initializer, Opening, Nothing, Variables, Expression, as_init, as_left, head_variables, head_expression, opening, head_part, misdeclared, for_parts, for_in, for_of, for_behind, for_stmt, const_stmt, let_stmt, no_parameter, one_parameter, getter, setter, plain_method, arrow_block, function_by, named, own_name, function_expr, expr, cover, head_cover, pattern, element, member, function, empty, debugger, uninitialized, initialized, declarator, declarators_turn, declarators, variables, closes, at_end, close, items_turn, items, block_from, block, braced, note_statement, no_label, expr_stmt, expr_stmt_at, told, target, unbroken, break_stmt, uncontinued, continue_stmt, misplaced, after_return, operand, returned, return_stmt, optional_end, import_stmt, import_stmt_at, thrown, throw, head, while_stmt, do_while, Link, goes_on, condition, alternative, link_from, link, behind_link, links, if_stmt, begins_clause, closes_clause, Clauses, clause_from, default_clause, case_clause, clause, clauses_turn, clauses, switch_stmt, is_handled, handled, bound, parameter, finalizer, caught, handler, try_stmt, stmt_by, stmt_level, stmt, top_await_fault, top_await, whole_stmt, shebang_in, shebang_taken, shebang, script_body, script, misusing, using_from, using_stmt, using_or_other}
+use Rattle.swc_ecma_parser_grammar.specs.language.Contexts.{without_in, named_by, in_body, in_arrow, in_parameters, in_loop, in_breakable, in_with}
 use Rattle.swc_ecma_parser_grammar.specs.Variables.{is_const, needs_no_initializer}
 use Rattle.swc_ecma_parser_model.specs.declared.leaves.VarDeclKind.{VarDeclKind}
 use Rattle.swc_ecma_parser_model.specs.declared.leaves.VarDeclKind.TheVariants as decl
@@ -31,19 +30,17 @@ use Rattle.swc_ecma_parser_grammar.specs.Follows.{word_at, may_begin_expression_
 use Rattle.swc_ecma_parser_grammar.specs.Reads.{with_in, head_code, nested_item, top_item}
 use Rattle.swc_ecma_parser_grammar.specs.Ends.{ends_at}
 use Rattle.swc_ecma_parser_grammar.specs.Entries.{script_code}
-use Rattle.swc_ecma_parser_grammar.specs.language.Contexts.{in_loop, in_breakable, in_with}
 use Rattle.swc_ecma_parser_grammar.specs.language.Goals.{Class, expression, assignment, left_side}
-use Rattle.swc_ecma_parser_grammar.specs.language.Items.{sub_statement}
-use Rattle.swc_ecma_parser_reader.specs.State.{State, Outcome, Reader, moved, coded, within, fault, labelled, labelled_as, name, expect, end}
 use Rattle.swc_ecma_parser_reader.specs.Expressions.{Cover}
 use Rattle.swc_ecma_parser_reader.specs.Reader as reader
 use Rattle.swc_ecma_parser_reader.specs.Methods.{MethodForm, getter_form, setter_form, method_form, property_form, star}
-use Rattle.swc_ecma_parser_reader.specs.Reader.{no_parameter, one_parameter, getter, setter, plain_method, arrow_block, function_by, named, own_name, function_expr, expr, cover, head_cover, pattern, element, member, function}
 use Rattle.swc_ecma_parser_grammar.specs.Names.{name_at}
-use Rattle.swc_ecma_parser_reader.specs.Reader.{empty, debugger, uninitialized, initialized, declarator, declarators_turn, declarators, variables, closes, at_end, close, items_turn, items, block_from, block, braced, note_statement, no_label, expr_stmt, expr_stmt_at, told, target, unbroken, break_stmt, uncontinued, continue_stmt, misplaced, after_return, operand, returned, return_stmt, optional_end, import_stmt, import_stmt_at, thrown, throw, head, while_stmt, do_while, Link, goes_on, condition, alternative, link_from, link, behind_link, links, if_stmt, begins_clause, closes_clause, Clauses, clause_from, default_clause, case_clause, clause, clauses_turn, clauses, switch_stmt, is_handled, handled, bound, parameter, finalizer, caught, handler, try_stmt, stmt_by, stmt_level, stmt, top_await_fault, top_await, whole_stmt, shebang_in, shebang_taken, shebang, script_body, script}
-use Rattle.swc_ecma_parser_reader.proofs.Takes.{Falls, falls_then, falls_last, falls_coded, falls_found, falls_if, less, falls_next, moves, takes, falls_past, falls_moved, wanted_falls, too_deep_falls, refuse_falls, refused_falls, fewer, name_falls, fault_falls, end_falls, close_falls, expect_falls, loop_falls}
+use Rattle.swc_ecma_parser_reader.proofs.Takes.{Falls, falls_then, falls_last, falls_coded, falls_found, falls_if, less, falls_next, moves, takes, falls_past, falls_moved, wanted_falls, too_deep_falls, refuse_falls, refused_falls, fewer, name_falls, fault_falls, end_falls, close_falls, expect_falls, loop_falls, reference_falls}
 use Rattle.swc_ecma_parser_reader.proofs.expressions.Falls as exprs
 use Rattle.swc_ecma_parser_reader.proofs.expressions.Falls.{reject_falls, falls_when, expect_takes, star_falls, told_falls, FunctionsFall}
+use Rattle.swc_ecma_parser_grammar.specs.Using.{is_using_declaration}
+use Rattle.swc_ecma_parser_grammar.proofs.Using.{using_stands}
+use Rattle.swc_ecma_parser_grammar.proofs.Tests.{and_yes}
 
 -- a choice whose test is known
 falls_where : {A : Type 0} (k n : ℕ) (b : Bool) (x y : Outcome A) → (b ≡ true → Falls k n x) → Falls k n y → Falls k n (cond b x y)
@@ -110,6 +107,12 @@ module _ (inner_expr : Class → Reader Tree) (g : (class : Class) (s : State) �
   variables_falls word s e = falls_past s _ e (falls_then 0 0 (length (after s.at).left) (within with_in (declarators inner_expr inner false word) (moved s)) _
       (falls_coded 0 (length (after s.at).left) (declarators inner_expr inner false word (coded (with_in s.code) (moved s))) _ _ (declarators_fall false word (coded (with_in s.code) (moved s))))
       (λ found t. falls_last 0 (length t.at.left) (end faults.Unexpected t) _ (end_falls faults.Unexpected t)))
+
+  using_falls : (s : State) → kind_at s.at ≢ kind.End → Falls 1 (length s.at.left) (using_stmt (declarators inner_expr inner false decl.Var) s)
+  unfolding using_stmt using_from misusing
+  using_falls s e = falls_past s _ e (falls_then 0 0 (length (after s.at).left) (within with_in (declarators inner_expr inner false decl.Var) (moved s)) _
+      (falls_coded 0 (length (after s.at).left) (declarators inner_expr inner false decl.Var (coded (with_in s.code) (moved s))) _ _ (declarators_fall false decl.Var (coded (with_in s.code) (moved s))))
+      (λ found t. falls_last 0 (length t.at.left) (misusing (record { lo = (span_at s.at).lo; hi = t.at.last.hi }) found t) _ (told_falls _ t)))
 
 module _ (inner : Reader Tree) (h : (s : State) → Falls 1 (length s.at.left) (inner s)) where
   items_turn_falls : (stops : Place → Bool) (directives : Bool) (found : List Tree) (s : State) → Falls 0 (length s.at.left) (items_turn inner stops directives found s)
@@ -417,7 +420,7 @@ module _ (inner : Position → Reader Tree) (h : (at : Position) (s : State) →
 
   labeled_falls : (s : State) → Falls 1 (length s.at.left) (labeled_stmt inner s)
   unfolding labeled_stmt relabels
-  labeled_falls s = falls_next (length s.at.left) (name faults.ExpectedIdent s) _ (name_falls faults.ExpectedIdent s) (λ i t.
+  labeled_falls s = falls_next (length s.at.left) (reference faults.ExpectedIdent s) _ (reference_falls faults.ExpectedIdent s) (λ i t.
       falls_then 0 0 (length t.at.left) (expect kind.Colon t) _ (expect_falls kind.Colon t) (λ _ u.
       falls_then 0 0 (length u.at.left) (labelled_body inner i.sym u) _ (labelled_body_falls i.sym u) (λ y v.
       falls_last 0 (length v.at.left) (relabels (tree.ident i.span i.sym) y v) _ (told_falls _ v))))
@@ -609,10 +612,16 @@ module _ (inner : Position → Reader Tree) (h : (at : Position) (s : State) →
   let_falls at s e = falls_if 1 (length s.at.left) (at.include_decl && is_let_declaration s.at) _ _ (variables_falls inner_expr g inner_pat i decl.Let s e)
       (other_falls inner h (inner_expr expression) (g expression) at s)
 
+  using_or_other_falls : (at : Position) (s : State) → Falls 1 (length s.at.left) (using_or_other inner inner_expr inner_pat inner_cover inner_params inner_member at s)
+  unfolding using_or_other
+  using_or_other_falls at s = falls_when 1 (length s.at.left) (at.include_decl && is_using_declaration s.code s.at) _ _
+      (λ e. using_falls inner_expr g inner_pat i s (λ n. let o : kind.Ident ≡ kind.End = sym (using_stands s.code s.at (and_yes at.include_decl _ e).1) ∙ n in cc))
+      (λ _. other_falls inner h (inner_expr expression) (g expression) at s)
+
   async_or_other_falls : (at : Position) (s : State) → Falls 1 (length s.at.left) (async_or_other inner inner_expr inner_pat inner_cover inner_params inner_member at s)
   unfolding async_or_other
   async_or_other_falls at s = falls_when 1 (length s.at.left) (is_async_function s.at) _ _ (λ e. function_falls (inner nested_item) (h nested_item) inner_params l s (async_begins s.at e))
-      (λ _. other_falls inner h (inner_expr expression) (g expression) at s)
+      (λ _. using_or_other_falls at s)
 
   stmt_by_falls : (at : Position) (k : TokenKind) (s : State) → kind_at s.at ≡ k → Falls 1 (length s.at.left) (stmt_by inner inner_expr inner_pat inner_cover inner_params inner_member at k s)
   stmt_by_falls at kind.LBrace s e = block_falls (inner nested_item) (h nested_item) s (λ h. cc)

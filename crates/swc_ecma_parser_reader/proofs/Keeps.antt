@@ -6,25 +6,23 @@ use Rattle.swc_ecma_parser_reader.proofs.expressions.Keeps as expressions
 use Rattle.swc_ecma_parser_reader.specs.Reader as reader
 use Rattle.swc_ecma_parser_reader.proofs.expressions.Keeps.{star_keeps, told_keeps}
 use Rattle.swc_ecma_parser_reader.specs.Methods.{FunctionForm, expression_form, class_form, property_form, getter_form, setter_form, method_form, parameter_form, block_form, star}
-use Rattle.swc_ecma_parser_reader.specs.Reader.{no_parameter, one_parameter, getter, setter, plain_method, arrow_block, function_by, named, own_name, function_expr, expr, cover, head_cover, pattern, element, member, function, function_word, async_or_other}
+use Rattle.swc_ecma_parser_reader.specs.Reader.{no_parameter, one_parameter, getter, setter, plain_method, arrow_block, function_by, named, own_name, function_expr, expr, cover, head_cover, pattern, element, member, function, function_word, async_or_other, begins_label, relabels, labelled_body, labeled_stmt, other_stmt, note_with, with_stmt, await_here, unless_awaited, function_decl, function_stmt, function_parts, function_body, misdirected, missing_initializer, variables, Opening, Nothing, Variables, Expression, as_init, as_left, head_variables, head_expression, opening, head_part, misdeclared, for_parts, for_in, for_of, for_behind, for_stmt, const_stmt, let_stmt, empty, debugger, initialized, declarator, declarators_turn, declarators, closes, at_end, close, items_turn, items, block_from, block, braced, note_statement, no_label, expr_stmt, expr_stmt_at, optional_end, import_stmt, import_stmt_at, told, target, unbroken, break_stmt, uncontinued, continue_stmt, misplaced, after_return, operand, returned, return_stmt, thrown, throw, head, while_stmt, do_while, goes_on, condition, alternative, link_from, link, links, if_stmt, begins_clause, closes_clause, clause_from, default_clause, case_clause, clause, clauses_turn, clauses, switch_stmt, begins_at, is_handled, handled, bound, parameter, finalizer, caught, handler, try_stmt, stmt_by, stmt_level, stmt, top_await_fault, top_await, whole_stmt, shebang, script_body, script, misusing, using_from, using_stmt, using_or_other}
 use Rattle.swc_ecma_parser_grammar.specs.Names.{name_at}
 use Rattle.swc_ecma_parser_error.specs.declared.error.Error.{Error}
 use Rattle.swc_ecma_parser_grammar.specs.language.Programs.{at_top}
-use Rattle.swc_ecma_parser_model.specs.Tree.{Text}
+use Rattle.swc_ecma_parser_model.specs.Tree.{Text, Tree}
 use Rattle.swc_ecma_parser_reader.specs.Members.{class_expr}
 use Rattle.swc_ecma_parser_reader.proofs.classes.Keeps as classes
-use Rattle.swc_ecma_parser_reader.specs.State.{below, below_label, enclosed, unlabelled, module_found}
-use Rattle.swc_ecma_parser_grammar.specs.language.Items.{labelled_item}
-use Rattle.swc_ecma_parser_reader.specs.Reader.{begins_label, relabels, labelled_body, labeled_stmt, other_stmt, note_with, with_stmt, await_here, unless_awaited, function_decl, function_stmt, function_parts, function_body, misdirected}
-use Rattle.swc_ecma_parser_reader.specs.Reader.{missing_initializer, variables, Opening, Nothing, Variables, Expression, as_init, as_left, head_variables, head_expression, opening, head_part, misdeclared, for_parts, for_in, for_of, for_behind, for_stmt, const_stmt, let_stmt}
+use Rattle.swc_ecma_parser_reader.specs.State.{below, below_label, enclosed, unlabelled, module_found, reference, State, Outcome, Reader, moved, coded, within, noted, holding_back, module_fault, fault, fault_at, wanted, refused, labelled, labelled_as, name, expect, end}
+use Rattle.swc_ecma_parser_grammar.specs.language.Items.{labelled_item, sub_statement}
 use Rattle.swc_ecma_parser_reader.specs.Expressions as exprs
 use Rattle.swc_ecma_parser_model.specs.declared.leaves.VarDeclKind.{VarDeclKind}
 use Rattle.swc_ecma_parser_model.specs.declared.leaves.VarDeclKind.TheVariants as decl
 use Rattle.swc_ecma_parser_model.specs.Targets.{as_target}
 use Rattle.swc_ecma_parser_grammar.specs.Variables.{is_const, needs_no_initializer}
 use Rattle.swc_ecma_parser_grammar.specs.Own.{head_faults, misplaced_directive}
-use Rattle.swc_ecma_parser_grammar.specs.language.Contexts.{without_in, named_by, in_parameters, in_body, in_arrow}
-use Rattle.swc_ecma_parser_grammar.specs.Follows.{word_at, is_let_declaration, is_async_function}
+use Rattle.swc_ecma_parser_grammar.specs.language.Contexts.{without_in, named_by, in_parameters, in_body, in_arrow, in_loop, in_breakable, in_with}
+use Rattle.swc_ecma_parser_grammar.specs.Follows.{word_at, is_let_declaration, is_async_function, may_begin_expression_statement, begins_import_expression}
 use Rattle.std.proofs.Common.{◌≡◌, ℕ, zero, suc, Bool, true, false, cond, List, [], ◌∷◌, ◌++◌, length, Option, Some, None, Ok, Err, refl, Result, sym, ◌∙◌, ap, append_assoc}
 use Rattle.std.specs.Prelude.{◌&&◌, ◌||◌, is_some, codes}
 use Rattle.swc_ecma_parser_common.specs.declared.span.Span.{Span}
@@ -34,24 +32,19 @@ use Rattle.swc_ecma_parser_token.specs.declared.kind.TokenKind.{TokenKind}
 use Rattle.swc_ecma_parser_token.specs.declared.kind.TokenKind.TheVariants as kind
 use Rattle.swc_ecma_parser_input.specs.Place.{Place, after}
 use Rattle.swc_ecma_parser_model.specs.Tree as tree
-use Rattle.swc_ecma_parser_model.specs.Tree.{Tree}
 use Rattle.swc_ecma_parser_model.specs.Forms.{is_ident, is_ident_named, is_binding_name, is_rest, span_of}
 use Rattle.swc_ecma_parser_grammar.specs.declared.position.Position.{Position}
 use Rattle.swc_ecma_parser_grammar.specs.Looks.{kind_at, breaks_at, sees, span_at}
-use Rattle.swc_ecma_parser_grammar.specs.Follows.{may_begin_expression_statement, begins_import_expression}
 use Rattle.swc_ecma_parser_grammar.specs.Reads.{with_in, head_code, nested_item, top_item}
 use Rattle.swc_ecma_parser_grammar.specs.Ends.{ends_at}
 use Rattle.swc_ecma_parser_grammar.specs.Entries.{script_code}
-use Rattle.swc_ecma_parser_grammar.specs.language.Contexts.{in_loop, in_breakable, in_with}
 use Rattle.swc_ecma_parser_grammar.specs.language.Goals.{Class, expression, assignment, left_side}
-use Rattle.swc_ecma_parser_grammar.specs.language.Items.{sub_statement}
-use Rattle.swc_ecma_parser_reader.specs.State.{State, Outcome, Reader, moved, coded, within, noted, holding_back, module_fault, fault, fault_at, wanted, refused, labelled, labelled_as, name, expect, end}
 use Rattle.swc_ecma_parser_reader.specs.Expressions.{Cover}
-use Rattle.swc_ecma_parser_reader.specs.Reader.{empty, debugger, initialized, declarator, declarators_turn, declarators, closes, at_end, close, items_turn, items, block_from, block, braced, note_statement, no_label, expr_stmt, expr_stmt_at, optional_end, import_stmt, import_stmt_at, told, target, unbroken, break_stmt, uncontinued, continue_stmt, misplaced, after_return, operand, returned, return_stmt, thrown, throw, head, while_stmt, do_while, goes_on, condition, alternative, link_from, link, links, if_stmt, begins_clause, closes_clause, clause_from, default_clause, case_clause, clause, clauses_turn, clauses, switch_stmt, begins_at, is_handled, handled, bound, parameter, finalizer, caught, handler, try_stmt, stmt_by, stmt_level, stmt, top_await_fault, top_await, whole_stmt, shebang, script_body, script}
 use Rattle.swc_ecma_parser_reader.proofs.Meets.{Answers, answers_then, answers_if, meant}
-use Rattle.swc_ecma_parser_reader.proofs.Behind.{NothingLost, Kept, Lost, Passes, Follows, follows, behind_self, behind_after, behind_noted, behind_held, refused_keeps, too_deep_keeps, fault_keeps, wanted_keeps, refuse_keeps, reject_keeps, end_keeps, expect_keeps, close_keeps, shebang_keeps, name_keeps, loop_keeps}
+use Rattle.swc_ecma_parser_reader.proofs.Behind.{NothingLost, Kept, Lost, Passes, Follows, follows, behind_self, behind_after, behind_noted, behind_held, refused_keeps, too_deep_keeps, fault_keeps, wanted_keeps, refuse_keeps, reject_keeps, end_keeps, expect_keeps, close_keeps, shebang_keeps, name_keeps, loop_keeps, reference_keeps}
 use Rattle.swc_ecma_parser_reader.specs.Entry.{unmarked, IsBehind, IsSetBack, AnswersScript, AnswersStatement, Stays}
 use Rattle.swc_ecma_parser_reader.proofs.Opens.{chain_goes}
+use Rattle.swc_ecma_parser_grammar.specs.Using.{is_using_declaration}
 
 -- ---- statements
 
@@ -73,7 +66,7 @@ module _ (inner_expr : Class → Reader Tree) (inner_pat : Reader Tree) (below_e
       (λ _. missing_keeps b word (record { lo = (span_at s.at).lo; hi = t.at.last.hi }) p t g)))
 
   -- declarators one behind another
-  declarators_keeps : (s : State) → NothingLost b s → Answers (Kept b) (Lost b) (declarators inner_expr inner_pat in_head word s)
+  pub declarators_keeps : (s : State) → NothingLost b s → Answers (Kept b) (Lost b) (declarators inner_expr inner_pat in_head word s)
   unfolding declarators declarators_turn
   declarators_keeps s f = loop_keeps (declarators_turn inner_expr inner_pat in_head word) b
       (λ xs t g. answers_then _ _ (declarator inner_expr inner_pat in_head word t) _ (declarator_keeps t g) (λ x u h. answers_if _ _ (sees kind.Comma u.at) _ _ (λ _. behind_after b u h) (λ _. h))) [] s f
@@ -299,6 +292,13 @@ module _ (inner : Position → Reader Tree) (inner_expr : Class → Reader Tree)
       (declarators_keeps inner_expr inner_pat below_expr below_pat b false word (coded (with_in s.code) (moved s)) (behind_after b s f)) (λ x t k. k)) (λ x t k.
       answers_then _ _ (end faults.Unexpected t) _ (end_keeps b t k faults.Unexpected) (λ _ u j. j))
 
+  using_keeps : Answers (Kept b) (Lost b) (using_stmt (declarators inner_expr inner_pat false decl.Var) s)
+  unfolding using_stmt using_from misusing
+  using_keeps = answers_then _ _ (within with_in (declarators inner_expr inner_pat false decl.Var) (moved s)) _
+      (answers_then (Kept b) _ (declarators inner_expr inner_pat false decl.Var (coded (with_in s.code) (moved s))) _
+      (declarators_keeps inner_expr inner_pat below_expr below_pat b false decl.Var (coded (with_in s.code) (moved s)) (behind_after b s f)) (λ x t k. k)) (λ x t k.
+      answers_then (Kept b) _ (misusing (record { lo = (span_at s.at).lo; hi = t.at.last.hi }) x t) _ (told_keeps b _ t k) (λ _ u j. j))
+
   const_keeps : Answers (Kept b) (Lost b) (const_stmt inner inner_expr inner_pat inner_head inner_params inner_member at s)
   unfolding const_stmt
   const_keeps = where_declared at.include_decl
@@ -346,7 +346,7 @@ module _ (inner : Position → Reader Tree) (inner_expr : Class → Reader Tree)
 
   labeled_keeps : Answers (Kept b) (Lost b) (labeled_stmt inner s)
   unfolding labeled_stmt relabels
-  labeled_keeps = answers_then (Kept b) _ (name faults.ExpectedIdent s) _ (name_keeps b s f faults.ExpectedIdent) (λ x t k.
+  labeled_keeps = answers_then (Kept b) _ (reference faults.ExpectedIdent s) _ (reference_keeps b s f faults.ExpectedIdent) (λ x t k.
       answers_then (Kept b) _ (expect kind.Colon t) _ (expect_keeps b t k kind.Colon) (λ _ u g.
       answers_then (Kept b) _ (labelled_body inner x.sym u) _ (labelled_body_keeps x.sym u g) (λ y v j.
       answers_then (Kept b) _ (relabels (tree.ident x.span x.sym) y v) _ (told_keeps b _ v (j)) (λ _ b a. a))))
@@ -563,9 +563,13 @@ module _ (inner : Position → Reader Tree) (inner_expr : Class → Reader Tree)
   function_stmt_keeps = answers_if _ _ at.include_decl _ _ (λ _. function_keeps s f) (λ _. answers_then (Kept b) _ (fault (fault_at (span_at s.at) faults.DeclNotAllowed) s) _
       (fault_keeps b s f (fault_at (span_at s.at) faults.DeclNotAllowed)) (λ _ t g. function_keeps t g))
 
+  using_or_other_keeps : Answers (Kept b) (Lost b) (using_or_other inner inner_expr inner_pat inner_head inner_params inner_member at s)
+  unfolding using_or_other
+  using_or_other_keeps = answers_if _ _ (at.include_decl && is_using_declaration s.code s.at) _ _ (λ _. using_keeps) (λ _. other_keeps)
+
   async_or_other_keeps : Answers (Kept b) (Lost b) (async_or_other inner inner_expr inner_pat inner_head inner_params inner_member at s)
   unfolding async_or_other
-  async_or_other_keeps = answers_if _ _ (is_async_function s.at) _ _ (λ _. function_keeps s f) (λ _. other_keeps)
+  async_or_other_keeps = answers_if _ _ (is_async_function s.at) _ _ (λ _. function_keeps s f) (λ _. using_or_other_keeps)
 
   by_keeps : (k : TokenKind) → kind_at s.at ≡ k → Answers (Kept b) (Lost b) (stmt_by inner inner_expr inner_pat inner_head inner_params inner_member at k s)
   unfolding empty if_stmt
@@ -646,8 +650,17 @@ stmt_keeps n = (all_passing n).stmts
 pub expr_keeps : (n : ℕ) (class : Class) → Passes (expr n class)
 expr_keeps n = (all_passing n).exprs
 
+pub cover_keeps : (n : ℕ) → Passes (cover n)
+cover_keeps n = (all_passing n).covers
+
+pub functions_keep : (n : ℕ) (form : FunctionForm) → Passes (function n form)
+functions_keep n = function_passing n (all_passing n)
+
 pub parameters_keep : (n : ℕ) → Passes (reader.parameters n)
 parameters_keep n = parameters_passing n (all_passing n)
+
+pub pattern_keeps : (n : ℕ) → Passes (pattern n)
+pattern_keeps n = (all_passing n).patterns
 
 -- a member of a class
 pub member_keeps : (n : ℕ) → Passes (member n)

@@ -2,10 +2,12 @@ pub mod Notes
 pub mod Steps
 pub mod Takes
 pub mod Words
+pub mod CleanStarts
 pub mod Falls
 pub mod expressions
 pub mod patterns
 pub mod classes
+pub mod decorators
 pub mod Loops
 pub mod Meets
 pub mod Behind
@@ -21,6 +23,7 @@ pub mod Opens
 pub mod Chains
 pub mod Answered
 pub mod Below
+pub mod Using
 pub mod CompleteParts
 pub mod Complete
 pub mod CompleteScripts
@@ -29,6 +32,7 @@ pub mod Empty
 pub mod Shallow
 pub mod Limits
 pub mod Keeps
+pub mod Objects
 pub mod Spans
 pub mod Refusals
 pub mod Entries

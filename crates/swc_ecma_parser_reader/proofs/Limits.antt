@@ -7,22 +7,20 @@ use Rattle.swc_ecma_parser_reader.proofs.patterns.Limits as patterns
 use Rattle.swc_ecma_parser_reader.proofs.expressions.Limits as expressions
 use Rattle.swc_ecma_parser_reader.specs.Reader as reader
 use Rattle.swc_ecma_parser_reader.specs.Methods.{MethodForm, getter_form, setter_form, method_form, property_form, star}
-use Rattle.swc_ecma_parser_reader.specs.Reader.{no_parameter, one_parameter, getter, setter, plain_method, arrow_block, function_by, named, own_name, function_expr, expr, cover, head_cover, pattern, element, member, function, function_word, async_or_other}
+use Rattle.swc_ecma_parser_reader.specs.Reader.{no_parameter, one_parameter, getter, setter, plain_method, arrow_block, function_by, named, own_name, function_expr, expr, cover, head_cover, pattern, element, member, function, function_word, async_or_other, begins_label, relabels, labelled_body, labeled_stmt, other_stmt, note_with, with_stmt, await_here, unless_awaited, function_decl, function_stmt, function_parts, function_body, misdirected, missing_initializer, variables, Opening, Nothing, Variables, Expression, as_init, as_left, head_variables, head_expression, opening, head_part, misdeclared, for_parts, for_in, for_of, for_behind, for_stmt, const_stmt, let_stmt, empty, debugger, initialized, declarator, declarators_turn, declarators, closes, at_end, close, items_turn, items, block_from, block, braced, note_statement, no_label, expr_stmt, expr_stmt_at, optional_end, import_stmt, import_stmt_at, told, target, unbroken, break_stmt, uncontinued, continue_stmt, misplaced, after_return, operand, returned, return_stmt, thrown, throw, head, while_stmt, do_while, goes_on, condition, alternative, link_from, link, links, if_stmt, begins_clause, closes_clause, clause_from, default_clause, case_clause, clause, clauses_turn, clauses, switch_stmt, begins_at, is_handled, handled, bound, parameter, finalizer, caught, handler, try_stmt, stmt_by, stmt_level, stmt, top_await_fault, top_await, whole_stmt, shebang, script_body, script, misusing, using_from, using_stmt, using_or_other}
 use Rattle.swc_ecma_parser_grammar.specs.Names.{name_at}
-use Rattle.swc_ecma_parser_reader.proofs.Meets.{saw}
-use Rattle.swc_ecma_parser_model.specs.Tree.{Text}
-use Rattle.swc_ecma_parser_reader.specs.State.{below, below_label, enclosed, unlabelled, module_found}
-use Rattle.swc_ecma_parser_grammar.specs.language.Items.{labelled_item}
-use Rattle.swc_ecma_parser_reader.specs.Reader.{begins_label, relabels, labelled_body, labeled_stmt, other_stmt, note_with, with_stmt, await_here, unless_awaited, function_decl, function_stmt, function_parts, function_body, misdirected}
-use Rattle.swc_ecma_parser_reader.specs.Reader.{missing_initializer, variables, Opening, Nothing, Variables, Expression, as_init, as_left, head_variables, head_expression, opening, head_part, misdeclared, for_parts, for_in, for_of, for_behind, for_stmt, const_stmt, let_stmt}
+use Rattle.swc_ecma_parser_reader.proofs.Meets.{saw, Answers, answers_then, answers_if, loop_answers, meant}
+use Rattle.swc_ecma_parser_model.specs.Tree.{Text, Tree}
+use Rattle.swc_ecma_parser_reader.specs.State.{below, below_label, enclosed, unlabelled, module_found, reference, State, Outcome, Reader, moved, coded, within, noted, holding_back, module_fault, recorded_at, recorded_in, fault, fault_at, wanted, refused, labelled, labelled_as, name, expect, end}
+use Rattle.swc_ecma_parser_grammar.specs.language.Items.{labelled_item, sub_statement}
 use Rattle.swc_ecma_parser_reader.specs.Expressions as exprs
 use Rattle.swc_ecma_parser_model.specs.declared.leaves.VarDeclKind.{VarDeclKind}
 use Rattle.swc_ecma_parser_model.specs.declared.leaves.VarDeclKind.TheVariants as decl
 use Rattle.swc_ecma_parser_model.specs.Targets.{as_target}
 use Rattle.swc_ecma_parser_grammar.specs.Variables.{is_const, needs_no_initializer}
 use Rattle.swc_ecma_parser_grammar.specs.Own.{head_faults, misplaced_directive}
-use Rattle.swc_ecma_parser_grammar.specs.language.Contexts.{without_in, named_by, in_parameters, in_body, in_arrow}
-use Rattle.swc_ecma_parser_grammar.specs.Follows.{word_at, is_let_declaration, is_async_function}
+use Rattle.swc_ecma_parser_grammar.specs.language.Contexts.{without_in, named_by, in_parameters, in_body, in_arrow, in_loop, in_breakable, in_with}
+use Rattle.swc_ecma_parser_grammar.specs.Follows.{word_at, is_let_declaration, is_async_function, may_begin_expression_statement, begins_import_expression}
 use Rattle.std.proofs.Common.{◌≡◌, ◌≢◌, ℕ, zero, suc, ◌+◌, ◌*◌, ◌≤◌, Bool, true, false, cond, List, [], ◌∷◌, length, Option, Some, None, Ok, Err, refl, arith, ap}
 use Rattle.std.specs.Prelude.{◌&&◌, ◌||◌, is_some, codes}
 use Rattle.swc_ecma_parser_common.specs.declared.span.Span.{Span}
@@ -38,28 +36,22 @@ use Rattle.swc_ecma_parser_token.specs.declared.token.TokenAndSpan.{TokenAndSpan
 use Rattle.swc_ecma_parser_input.specs.TokenSource.{means_out_of_memory}
 use Rattle.swc_ecma_parser_input.specs.Place.{Place, after}
 use Rattle.swc_ecma_parser_model.specs.Tree as tree
-use Rattle.swc_ecma_parser_model.specs.Tree.{Tree}
 use Rattle.swc_ecma_parser_model.specs.Forms.{is_ident, is_ident_named, is_binding_name, is_rest, span_of}
 use Rattle.swc_ecma_parser_grammar.specs.declared.position.Position.{Position}
 use Rattle.swc_ecma_parser_grammar.specs.Looks.{kind_at, breaks_at, sees, span_at}
-use Rattle.swc_ecma_parser_grammar.specs.Follows.{may_begin_expression_statement, begins_import_expression}
 use Rattle.swc_ecma_parser_grammar.specs.Reads.{with_in, head_code, nested_item, top_item}
 use Rattle.swc_ecma_parser_grammar.specs.Ends.{ends_at}
 use Rattle.swc_ecma_parser_grammar.specs.Entries.{script_code}
-use Rattle.swc_ecma_parser_grammar.specs.language.Contexts.{in_loop, in_breakable, in_with}
 use Rattle.swc_ecma_parser_grammar.specs.language.Goals.{Class, expression, assignment, left_side}
-use Rattle.swc_ecma_parser_grammar.specs.language.Items.{sub_statement}
-use Rattle.swc_ecma_parser_reader.specs.State.{State, Outcome, Reader, moved, coded, within, noted, holding_back, module_fault, recorded_at, recorded_in, fault, fault_at, wanted, refused, labelled, labelled_as, name, expect, end}
 use Rattle.swc_ecma_parser_reader.specs.Expressions.{Cover}
-use Rattle.swc_ecma_parser_reader.specs.Reader.{empty, debugger, initialized, declarator, declarators_turn, declarators, closes, at_end, close, items_turn, items, block_from, block, braced, note_statement, no_label, expr_stmt, expr_stmt_at, optional_end, import_stmt, import_stmt_at, told, target, unbroken, break_stmt, uncontinued, continue_stmt, misplaced, after_return, operand, returned, return_stmt, thrown, throw, head, while_stmt, do_while, goes_on, condition, alternative, link_from, link, links, if_stmt, begins_clause, closes_clause, clause_from, default_clause, case_clause, clause, clauses_turn, clauses, switch_stmt, begins_at, is_handled, handled, bound, parameter, finalizer, caught, handler, try_stmt, stmt_by, stmt_level, stmt, top_await_fault, top_await, whole_stmt, shebang, script_body, script}
 use Rattle.swc_ecma_parser_reader.specs.Limits.{has_too_deep_token}
-use Rattle.swc_ecma_parser_reader.proofs.Meets.{Answers, answers_then, answers_if, loop_answers, meant}
-use Rattle.swc_ecma_parser_reader.proofs.Shallow.{StmtLevels, Fine, fine_more, fine_after, fine_taken, Shallow, Kept, Taken, too_deep_shallow, name_shallow, fault_shallow, wanted_shallow, refuse_shallow, end_shallow, expect_shallow, close_shallow, shebang_shallow, Levels}
+use Rattle.swc_ecma_parser_reader.proofs.Shallow.{StmtLevels, Fine, fine_more, fine_after, fine_taken, Shallow, Kept, Taken, too_deep_shallow, name_shallow, fault_shallow, wanted_shallow, refuse_shallow, end_shallow, expect_shallow, close_shallow, shebang_shallow, Levels, reference_shallow}
 use Rattle.swc_ecma_parser_reader.proofs.Opens.{chain_goes}
 use Rattle.swc_ecma_parser_reader.proofs.expressions.LimitSteps.{reject_shallow, told_shallow}
 use Rattle.swc_ecma_parser_reader.proofs.expressions.Limits.{star_shallow, FunctionsShallow}
 use Rattle.swc_ecma_parser_reader.proofs.classes.Limits as classes
 use Rattle.swc_ecma_parser_reader.specs.Members.{class_expr}
+use Rattle.swc_ecma_parser_grammar.specs.Using.{is_using_declaration}
 
 -- ---- statements: one level more, for an expression that begins with the same token
 
@@ -343,6 +335,13 @@ module _ (inner : Position → Reader Tree) (inner_expr : Class → Reader Tree)
       (declarators_shallow inner_expr inner_pat n below_expr below_pat m (omega arith) false word (coded (with_in s.code) (moved s)) (fine_after m s.at f)) (λ x t k. k)) (λ x t k.
       answers_then _ _ (end faults.Unexpected t) _ (end_shallow m t k faults.Unexpected (λ e. cc)) (λ _ u j. j))
 
+  using_shallow : Answers (Kept m) Shallow (using_stmt (declarators inner_expr inner_pat false decl.Var) s)
+  unfolding using_stmt using_from misusing
+  using_shallow = answers_then _ _ (within with_in (declarators inner_expr inner_pat false decl.Var) (moved s)) _
+      (answers_then (Kept m) _ (declarators inner_expr inner_pat false decl.Var (coded (with_in s.code) (moved s))) _
+      (declarators_shallow inner_expr inner_pat n below_expr below_pat m (omega arith) false decl.Var (coded (with_in s.code) (moved s)) (fine_after m s.at f)) (λ x t k. k)) (λ x t k.
+      answers_then (Kept m) _ (misusing (record { lo = (span_at s.at).lo; hi = t.at.last.hi }) x t) _ (told_shallow m _ t k) (λ _ u j. j))
+
   const_shallow : Answers (Kept m) Shallow (const_stmt inner inner_expr inner_pat inner_head inner_params inner_member at s)
   unfolding const_stmt
   const_shallow = where_declared at.include_decl
@@ -395,7 +394,7 @@ module _ (inner : Position → Reader Tree) (inner_expr : Class → Reader Tree)
 
   labeled_shallow : Answers (Kept m) Shallow (labeled_stmt inner s)
   unfolding labeled_stmt relabels
-  labeled_shallow = answers_then (Kept m) _ (name faults.ExpectedIdent s) _ (name_shallow m s f faults.ExpectedIdent (λ z. cc)) (λ x t k.
+  labeled_shallow = answers_then (Kept m) _ (reference faults.ExpectedIdent s) _ (reference_shallow m s f faults.ExpectedIdent (λ z. cc)) (λ x t k.
       answers_then (Kept m) _ (expect kind.Colon t) _ (colon_taken t k) (λ _ u (i, h, g).
       answers_then (Kept m) _ (labelled_body inner x.sym u) _ (labelled_body_shallow i (omega arith) x.sym u g) (λ y v j.
       answers_then (Kept m) _ (relabels (tree.ident x.span x.sym) y v) _ (told_shallow m _ v (fine_more i m v.at.left (omega arith) j)) (λ _ b a. a))))
@@ -616,9 +615,13 @@ module _ (inner : Position → Reader Tree) (inner_expr : Class → Reader Tree)
   function_stmt_shallow e = answers_if _ _ at.include_decl _ _ (λ _. function_shallow s (function_begins s.at e) f) (λ _. rw (fault_here s (fault_at (span_at s.at) faults.DeclNotAllowed) (ap is_error e))
       (function_shallow (noted (fault_at (span_at s.at) faults.DeclNotAllowed) s) (function_begins s.at e) f))
 
+  using_or_other_shallow : Answers (Kept m) Shallow (using_or_other inner inner_expr inner_pat inner_head inner_params inner_member at s)
+  unfolding using_or_other
+  using_or_other_shallow = answers_if _ _ (at.include_decl && is_using_declaration s.code s.at) _ _ (λ _. using_shallow) (λ _. other_shallow)
+
   async_or_other_shallow : Answers (Kept m) Shallow (async_or_other inner inner_expr inner_pat inner_head inner_params inner_member at s)
   unfolding async_or_other
-  async_or_other_shallow = answers_if _ _ (is_async_function s.at) _ _ (λ e. function_shallow s (async_begins s.at e) f) (λ _. other_shallow)
+  async_or_other_shallow = answers_if _ _ (is_async_function s.at) _ _ (λ e. function_shallow s (async_begins s.at e) f) (λ _. using_or_other_shallow)
 
   by_shallow : (k : TokenKind) → kind_at s.at ≡ k → Answers (Kept m) Shallow (stmt_by inner inner_expr inner_pat inner_head inner_params inner_member at k s)
   unfolding empty if_stmt
@@ -705,6 +708,16 @@ all_enough (suc n) = let b = all_enough n in record {
       (function_body_shallow (stmt n nested_item) n (b.stmts nested_item) (reader.parameters n) (parameters_enough n b)) (braces_shallow (stmt n nested_item) n (b.stmts nested_item) false);
   stmts = λ at m s h f. level_shallow (stmt n) (expr n) (pattern n) (head_cover n) (reader.parameters n) (member n) n b.stmts b.exprs b.patterns b.heads (parameters_enough n b) b.members at m h s f;
 }
+
+-- an expression of any class, what may still become a pattern, and what a part of an expression holds that is none
+pub expr_shallow : (n : ℕ) (class : Class) → Levels n (expr n class)
+expr_shallow n = (all_enough n).exprs
+
+pub cover_shallow : (n : ℕ) → Levels n (cover n)
+cover_shallow n = (all_enough n).covers
+
+pub functions_shallow : (n : ℕ) → FunctionsShallow n (function n)
+functions_shallow n = function_enough n (all_enough n)
 
 stmt_shallow : (n : ℕ) (at : Position) → StmtLevels n (stmt n at)
 stmt_shallow n = (all_enough n).stmts

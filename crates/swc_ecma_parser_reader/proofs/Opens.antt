@@ -23,7 +23,7 @@ use Rattle.swc_ecma_parser_grammar.specs.Looks.{kind_at, sees, same_kind, first_
 use Rattle.swc_ecma_parser_grammar.specs.Names.{Code}
 use Rattle.swc_ecma_parser_grammar.specs.Follows.{may_begin_expression_statement, begins_import_expression, may_begin_head, token_follows_let, first_follows_let, is_let_declaration, is_async_function, AsyncWord, not_async, async_word}
 use Rattle.swc_ecma_parser_grammar.specs.Variables.{begins_variables}
-use Rattle.swc_ecma_parser_grammar.specs.Reads.{with_in, StmtRule, block_rule, empty_rule, debugger_rule, variables_rule, if_statement_rule, switch_rule, labeled_rule, break_rule, continue_rule, return_rule, throw_rule, try_rule, while_rule, do_while_rule, for_rule, for_in_rule, for_of_rule, expr_rule, import_rule, if_rule, with_rule, class_rule, function_rule}
+use Rattle.swc_ecma_parser_grammar.specs.Reads.{with_in, StmtRule, block_rule, empty_rule, debugger_rule, variables_rule, if_statement_rule, switch_rule, labeled_rule, break_rule, continue_rule, return_rule, throw_rule, try_rule, while_rule, do_while_rule, for_rule, for_in_rule, for_of_rule, expr_rule, import_rule, if_rule, with_rule, class_rule, function_rule, using_rule}
 use Rattle.swc_ecma_parser_grammar.specs.Notes.{statement_note}
 use Rattle.swc_ecma_parser_grammar.specs.ReadsSupported.{ReadsClass, ReadsPat, ReadsTarget, ReadsStmt, ReadsParams, ReadsNamedClass}
 use Rattle.swc_ecma_parser_grammar.specs.language.Goals.{Class, expression}
@@ -31,40 +31,42 @@ use Rattle.swc_ecma_parser_grammar.proofs.Tests.{and_yes, and_no}
 use Rattle.swc_ecma_parser_grammar.proofs.SupportedBegins.{opens, expr_opens, word_begins}
 use Rattle.swc_ecma_parser_reader.specs.State.{State, Reader}
 use Rattle.swc_ecma_parser_reader.specs.Expressions.{Cover}
-use Rattle.swc_ecma_parser_reader.specs.Reader.{closes, at_end, begins_clause, closes_clause, goes_on, other_stmt, let_stmt, stmt_by, async_or_other}
+use Rattle.swc_ecma_parser_reader.specs.Reader.{closes, at_end, begins_clause, closes_clause, goes_on, other_stmt, let_stmt, stmt_by, async_or_other, using_or_other}
 use Rattle.swc_ecma_parser_reader.proofs.Meets.{saw}
 use Rattle.swc_ecma_parser_reader.proofs.Errors.{is_error}
 use Rattle.swc_ecma_parser_reader.proofs.expressions.CompleteKinds.{import_unnamed}
+use Rattle.swc_ecma_parser_grammar.specs.Using.{is_using_declaration}
+use Rattle.swc_ecma_parser_grammar.proofs.Using.{using_stands}
 
 -- ---- an expression statement is read by its first token
 
 pub opened : (stmt : Position → Reader Tree) (expr : Class → Reader Tree) (pat : Reader Tree) (cover : Reader Cover) (params : Reader (List Tree)) (member : Reader Tree) (at : Position) (s : State) (k : TokenKind) → opens k ≡ true
     → same_kind k kind.LBrace ≡ false → same_kind k kind.Import ≡ false → same_kind k kind.Const ≡ false → at.include_decl && is_let_declaration s.at ≡ false → same_kind k kind.Function ≡ false → is_async_function s.at ≡ false → same_kind k kind.Class ≡ false
-    → stmt_by stmt expr pat cover params member at k s ≡ other_stmt stmt (expr expression) at s
-unfolding same_kind let_stmt async_or_other
-opened stmt expr pat cover params member at s kind.LBrace e h g i l j a o = cc
-opened stmt expr pat cover params member at s kind.Semi e h g i l j a o = cc
-opened stmt expr pat cover params member at s kind.Debugger e h g i l j a o = cc
-opened stmt expr pat cover params member at s kind.Var e h g i l j a o = cc
-opened stmt expr pat cover params member at s kind.Const e h g i l j a o = cc
-opened stmt expr pat cover params member at s kind.If e h g i l j a o = cc
-opened stmt expr pat cover params member at s kind.Break e h g i l j a o = cc
-opened stmt expr pat cover params member at s kind.Continue e h g i l j a o = cc
-opened stmt expr pat cover params member at s kind.Return e h g i l j a o = cc
-opened stmt expr pat cover params member at s kind.For e h g i l j a o = cc
-opened stmt expr pat cover params member at s kind.Throw e h g i l j a o = cc
-opened stmt expr pat cover params member at s kind.Switch e h g i l j a o = cc
-opened stmt expr pat cover params member at s kind.Try e h g i l j a o = cc
-opened stmt expr pat cover params member at s kind.With e h g i l j a o = cc
-opened stmt expr pat cover params member at s kind.While e h g i l j a o = cc
-opened stmt expr pat cover params member at s kind.Do e h g i l j a o = cc
-opened stmt expr pat cover params member at s kind.Function e h g i l j a o = cc
-opened stmt expr pat cover params member at s kind.Class e h g i l j a o = cc
-opened stmt expr pat cover params member at s kind.Import e h g i l j a o = cc
-opened stmt expr pat cover params member at s kind.Export e h g i l j a o = cc
-opened stmt expr pat cover params member at s kind.Let e h g i l j a o = rw l refl
-opened stmt expr pat cover params member at s kind.Ident e h g i l j a o = rw a refl
-opened stmt expr pat cover params member at s _ e h g i l j a o = refl
+    → at.include_decl && is_using_declaration s.code s.at ≡ false → stmt_by stmt expr pat cover params member at k s ≡ other_stmt stmt (expr expression) at s
+unfolding same_kind let_stmt async_or_other using_or_other
+opened stmt expr pat cover params member at s kind.LBrace e h g i l j a o u = cc
+opened stmt expr pat cover params member at s kind.Semi e h g i l j a o u = cc
+opened stmt expr pat cover params member at s kind.Debugger e h g i l j a o u = cc
+opened stmt expr pat cover params member at s kind.Var e h g i l j a o u = cc
+opened stmt expr pat cover params member at s kind.Const e h g i l j a o u = cc
+opened stmt expr pat cover params member at s kind.If e h g i l j a o u = cc
+opened stmt expr pat cover params member at s kind.Break e h g i l j a o u = cc
+opened stmt expr pat cover params member at s kind.Continue e h g i l j a o u = cc
+opened stmt expr pat cover params member at s kind.Return e h g i l j a o u = cc
+opened stmt expr pat cover params member at s kind.For e h g i l j a o u = cc
+opened stmt expr pat cover params member at s kind.Throw e h g i l j a o u = cc
+opened stmt expr pat cover params member at s kind.Switch e h g i l j a o u = cc
+opened stmt expr pat cover params member at s kind.Try e h g i l j a o u = cc
+opened stmt expr pat cover params member at s kind.With e h g i l j a o u = cc
+opened stmt expr pat cover params member at s kind.While e h g i l j a o u = cc
+opened stmt expr pat cover params member at s kind.Do e h g i l j a o u = cc
+opened stmt expr pat cover params member at s kind.Function e h g i l j a o u = cc
+opened stmt expr pat cover params member at s kind.Class e h g i l j a o u = cc
+opened stmt expr pat cover params member at s kind.Import e h g i l j a o u = cc
+opened stmt expr pat cover params member at s kind.Export e h g i l j a o u = cc
+opened stmt expr pat cover params member at s kind.Let e h g i l j a o u = rw l refl
+opened stmt expr pat cover params member at s kind.Ident e h g i l j a o u = rw (a, u) refl
+opened stmt expr pat cover params member at s _ e h g i l j a o u = refl
 
 -- where one may begin neither a block does nor `import`, nor a function or another declaration
 neither_by : (block function class import async declares : Bool) → not (block || (function || (class || (import || (async || declares))))) ≡ true
@@ -211,6 +213,7 @@ rule_goes Stmt Expr Pat Target Params Named h named k at x c d (block_rule r) = 
 rule_goes Stmt Expr Pat Target Params Named h named k at x c d (empty_rule e g i) = goes_by c kind.Semi e (refl, refl, refl, refl, refl)
 rule_goes Stmt Expr Pat Target Params Named h named k at x c d (debugger_rule e g i) = goes_by c kind.Debugger e (refl, refl, refl, refl, refl)
 rule_goes Stmt Expr Pat Target Params Named h named k at x c d (variables_rule word xs m a e r g i) = variables_go word c e
+rule_goes Stmt Expr Pat Target Params Named h named k at x c d (using_rule xs a b r g i) = goes_by c kind.Ident (using_stands k c b) (refl, refl, refl, refl, refl)
 rule_goes Stmt Expr Pat Target Params Named h named k at x c d (if_statement_rule (if_rule t y z m n e r s o i)) = goes_by c kind.If e (refl, refl, refl, refl, refl)
 rule_goes Stmt Expr Pat Target Params Named h named k at x c d (switch_rule y xs m n e r i s g j z) = goes_by c kind.Switch e (refl, refl, refl, refl, refl)
 rule_goes Stmt Expr Pat Target Params Named h named k at x c d (break_rule y m e r g i) = goes_by c kind.Break e (refl, refl, refl, refl, refl)

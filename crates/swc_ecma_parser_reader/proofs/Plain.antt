@@ -14,13 +14,13 @@ use Rattle.swc_ecma_parser_reader.proofs.expressions.SoundSteps.{reject_meets, m
 use Rattle.std.proofs.Common.{◌≡◌, ℕ, zero, suc, ◌+◌, ◌-◌, ◌<◌, Bool, true, false, cond, List, [], ◌∷◌, ◌++◌, length, replicate, count_by, Ok, Err, refl, ap, ◌∙◌, arith, Option, is_some, Some, None, sym}
 use Rattle.std.specs.Str.{bytes_eq}
 use Rattle.swc_ecma_parser_error.specs.Kind.{Fault}
-use Rattle.swc_ecma_parser_grammar.specs.Own.{only, duplicates}
-use Rattle.swc_ecma_parser_grammar.specs.language.Items.{labelled_item}
+use Rattle.swc_ecma_parser_grammar.specs.Own.{only, duplicates, labelled_function}
+use Rattle.swc_ecma_parser_grammar.specs.language.Items.{labelled_item, sub_statement}
 use Rattle.swc_ecma_parser_reader.specs.Members.{class_parts, named_class, class_decl, class_stmt}
-use Rattle.swc_ecma_parser_reader.specs.State.{coded, below, below_label, fault, fault_at, recorded_at, recorded_in, noted}
+use Rattle.swc_ecma_parser_reader.specs.State.{coded, below, below_label, fault, fault_at, recorded_at, recorded_in, noted, reference, State, Outcome, Reader, and_then, moved, within, wanted, name, expect, end}
 use Rattle.swc_ecma_parser_reader.specs.Methods.{star}
-use Rattle.swc_ecma_parser_reader.specs.Reader.{told, named, with_stmt, note_with, await_here, unless_awaited, misdirected, function_body, function_parts, function_decl, function_stmt, expr, head_cover, pattern, member, function_word, async_or_other}
-use Rattle.swc_ecma_parser_reader.proofs.Meets.{meets_then}
+use Rattle.swc_ecma_parser_reader.specs.Reader.{told, named, with_stmt, note_with, await_here, unless_awaited, misdirected, function_body, function_parts, function_decl, function_stmt, expr, head_cover, pattern, member, function_word, async_or_other, items, closes, close, declarators, link, alternative, head, clauses, target, unbroken, uncontinued, operand, braced, handler, finalizer, handled, optional_end, Opening, as_init, as_left, opening, head_part, misdeclared, labelled_body, relabels, no_label, note_statement, empty, debugger, variables, block, block_from, expr_stmt, expr_stmt_at, import_stmt, import_stmt_at, thrown, throw, while_stmt, do_while, for_parts, for_in, for_of, for_behind, for_stmt, goes_on, links, if_stmt, break_stmt, continue_stmt, returned, return_stmt, misplaced, begins_label, labeled_stmt, other_stmt, switch_stmt, try_stmt, const_stmt, let_stmt, stmt_by, stmt_level, stmt, misusing, using_from, using_stmt, using_or_other}
+use Rattle.swc_ecma_parser_reader.proofs.Meets.{meets_then, Meets, Refuses, always, meets_if, wanted_meets, too_deep_meets, refuse_meets, meant}
 use Rattle.std.specs.Prelude.{◌&&◌, ◌||◌, codes}
 use Rattle.std.proofs.lemmas.List.Recursion.{is_count_by}
 use Rattle.swc_ecma_parser_common.specs.declared.span.Span.{Span}
@@ -35,16 +35,12 @@ use Rattle.swc_ecma_parser_model.specs.Tree.{Tree, Text}
 use Rattle.swc_ecma_parser_grammar.specs.declared.position.Position.{Position}
 use Rattle.swc_ecma_parser_grammar.specs.Looks.{kind_at, breaks_at, sees, span_at, same_kind}
 use Rattle.swc_ecma_parser_grammar.specs.Follows.{word_at, may_begin_expression_statement, begins_import_expression, is_let_declaration, is_async_function}
-use Rattle.swc_ecma_parser_grammar.specs.Own.{labelled_function}
 use Rattle.swc_ecma_parser_grammar.specs.Reads.{nested_item, with_in}
 use Rattle.swc_ecma_parser_grammar.specs.language.Contexts.{in_class, in_loop, in_breakable, in_with, in_parameters}
 use Rattle.swc_ecma_parser_grammar.specs.language.Goals.{Class, expression, assignment, left_side}
-use Rattle.swc_ecma_parser_grammar.specs.language.Items.{sub_statement}
-use Rattle.swc_ecma_parser_reader.specs.State.{State, Outcome, Reader, and_then, moved, within, wanted, name, expect, end}
 use Rattle.swc_ecma_parser_reader.specs.Expressions.{Cover}
-use Rattle.swc_ecma_parser_reader.specs.Reader.{items, closes, close, declarators, link, alternative, head, clauses, target, unbroken, uncontinued, operand, braced, handler, finalizer, handled, optional_end, Opening, as_init, as_left, opening, head_part, misdeclared, labelled_body, relabels, no_label, note_statement, empty, debugger, variables, block, block_from, expr_stmt, expr_stmt_at, import_stmt, import_stmt_at, thrown, throw, while_stmt, do_while, for_parts, for_in, for_of, for_behind, for_stmt, goes_on, links, if_stmt, break_stmt, continue_stmt, returned, return_stmt, misplaced, begins_label, labeled_stmt, other_stmt, switch_stmt, try_stmt, const_stmt, let_stmt, stmt_by, stmt_level, stmt}
-use Rattle.swc_ecma_parser_reader.proofs.Meets.{Meets, Refuses, always, meets_if, wanted_meets, too_deep_meets, refuse_meets, meant}
 use Rattle.swc_ecma_parser_reader.proofs.SoundParts.{after_return_meets}
+use Rattle.swc_ecma_parser_grammar.specs.Using.{is_using_declaration}
 
 -- no function that a label tells of
 abbrev Plain : Tree → State → Type 0
@@ -80,6 +76,10 @@ module _ (inner : Position → Reader Tree) (inner_expr : Class → Reader Tree)
   variables_plain : (word : VarDeclKind) (s : State) → Meets Plain (variables inner_expr inner_pat word s)
   unfolding variables
   variables_plain word s = always Plain (within with_in (declarators inner_expr inner_pat false word) (moved s)) _ (λ xs t. always Plain (end faults.Unexpected t) _ (λ _ u b. refl))
+
+  using_plain : (s : State) → Meets Plain (using_stmt (declarators inner_expr inner_pat false decl.Var) s)
+  unfolding using_stmt using_from misusing
+  using_plain s = always Plain (within with_in (declarators inner_expr inner_pat false decl.Var) (moved s)) _ (λ xs t. always Plain (misusing (record { lo = (span_at s.at).lo; hi = t.at.last.hi }) xs t) _ (λ _ u b. refl))
 
   const_plain : (at : Position) (s : State) → Meets Plain (const_stmt inner inner_expr inner_pat inner_head inner_params inner_member at s)
   unfolding const_stmt
@@ -185,7 +185,7 @@ module _ (inner : Position → Reader Tree) (inner_expr : Class → Reader Tree)
 
   labeled_plain : (s : State) → Meets Plain (labeled_stmt inner s)
   unfolding labeled_stmt
-  labeled_plain s = always Plain (name faults.ExpectedIdent s) _ (λ i t. always Plain (expect kind.Colon t) _ (λ _ u.
+  labeled_plain s = always Plain (reference faults.ExpectedIdent s) _ (λ i t. always Plain (expect kind.Colon t) _ (λ _ u.
       always Plain (labelled_body inner i.sym u) _ (λ y v. always Plain (relabels (tree.ident i.span i.sym) y v) _ (λ _ o b. refl))))
 
   expr_plain : (at : Position) (s : State) → Meets Plain (expr_stmt_at (inner_expr expression) at s)
@@ -239,9 +239,13 @@ module _ (inner : Position → Reader Tree) (inner_expr : Class → Reader Tree)
   function_stmt_told at s e = meets_if (Told kind.Function (is_starred s)) at.include_decl _ _ (λ _. function_told s (plain_function s.at e))
       (λ _. rw (fault_here s (fault_at (span_at s.at) faults.DeclNotAllowed) (ap is_error e)) (function_told (noted (fault_at (span_at s.at) faults.DeclNotAllowed) s) (plain_function s.at e)))
 
+  using_or_other_plain : (at : Position) (s : State) → Meets Plain (using_or_other inner inner_expr inner_pat inner_head inner_params inner_member at s)
+  unfolding using_or_other
+  using_or_other_plain at s = meets_if Plain (at.include_decl && is_using_declaration s.code s.at) _ _ (λ _. using_plain s) (λ _. other_plain at s)
+
   async_or_other_plain : (at : Position) (s : State) → Meets Plain (async_or_other inner inner_expr inner_pat inner_head inner_params inner_member at s)
   unfolding async_or_other
-  async_or_other_plain at s = meets_if Plain (is_async_function s.at) _ _ (λ e. async_plain s e) (λ _. other_plain at s)
+  async_or_other_plain at s = meets_if Plain (is_async_function s.at) _ _ (λ e. async_plain s e) (λ _. using_or_other_plain at s)
 
   -- nor is a class
   named_class_plain : (s : State) → Meets Plain (named_class (inner_expr left_side) inner_member s)

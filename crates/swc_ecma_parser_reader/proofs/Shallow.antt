@@ -1,6 +1,6 @@
 -- What is never too deep: tokens that say nothing of the kind, and steps over them.
 use Rattle.std.proofs.Common.{◌≡◌, ◌≢◌, ℕ, zero, suc, ◌+◌, ◌*◌, ◌≤◌, Bool, true, false, List, [], ◌∷◌, length, Option, Some, None, Ok, Err, refl, sym, ◌∙◌, ap, subst, arith}
-use Rattle.std.specs.Prelude.{◌||◌}
+use Rattle.std.specs.Prelude.{◌||◌, ◌&&◌}
 use Rattle.swc_ecma_parser_common.specs.declared.span.Span.{Span}
 use Rattle.swc_ecma_parser_error.specs.declared.error.Error.{Error}
 use Rattle.swc_ecma_parser_error.specs.declared.kind.SyntaxError.{SyntaxError}
@@ -17,12 +17,13 @@ use Rattle.swc_ecma_parser_input.specs.TokenSource.{means_out_of_memory}
 use Rattle.swc_ecma_parser_input.specs.Place.{Place, after, past}
 use Rattle.swc_ecma_parser_model.specs.Tree.{Tree, Text}
 use Rattle.swc_ecma_parser_grammar.specs.Looks.{kind_at, sees, span_at}
-use Rattle.swc_ecma_parser_grammar.specs.Names.{is_name}
+use Rattle.swc_ecma_parser_grammar.specs.Names.{is_name, is_identifier, may_bind_await}
 use Rattle.swc_ecma_parser_grammar.specs.Ends.{can_end}
-use Rattle.swc_ecma_parser_reader.specs.State.{State, Outcome, Reader, moved, fault, recorded_in, recorded_at, fault_at, expect, end, name, name_in, name_by, wanted, wanted_in, wanted_at, too_deep, too_deep_in, refuse, refuse_in, refuse_at, refused}
+use Rattle.swc_ecma_parser_reader.specs.State.{State, Outcome, Reader, moved, fault, recorded_in, recorded_at, fault_at, expect, end, name, name_in, name_by, wanted, wanted_in, wanted_at, too_deep, too_deep_in, refuse, refuse_in, refuse_at, refused, reference, unclean_name}
 use Rattle.swc_ecma_parser_reader.specs.Reader.{close, shebang_in, shebang_taken, shebang}
 use Rattle.swc_ecma_parser_reader.specs.Limits.{means_too_deep, is_too_deep, has_too_deep_token}
-use Rattle.swc_ecma_parser_reader.proofs.Meets.{Answers, answers_if}
+use Rattle.swc_ecma_parser_reader.proofs.Meets.{Answers, answers_if, answers_then}
+use Rattle.swc_ecma_parser_model.specs.declared.leaves.Ident.{Ident}
 
 -- ---- tokens that say nothing of the kind
 
@@ -165,9 +166,22 @@ module _ (m : ℕ) (s : State) (f : Fine m s.at.left) where
   unfolding close
   close_shallow = answers_if _ _ (sees kind.RBrace s.at) _ _ (λ _. fine_after m s.at f) (λ _. fault_shallow m s f (fault_at (span_at s.at) faults.Expected))
 
+  unclean_shallow : (i : Ident) → Answers (Kept m) Shallow (unclean_name i s)
+  unfolding unclean_name
+  unclean_shallow i = answers_if _ _ (may_bind_await s.code.flags) _ _ (λ _. answers_then _ _ (fault _ (moved s)) _ (fault_shallow m (moved s) (fine_after m s.at f) _) (λ _ t g. g))
+      (λ _. wanted_shallow _ faults.ExpectedIdent (λ e. cc) m s f)
+
+  -- `await` is a token
+  unclean_takes : (i : Ident) (u : TokenAndSpan) (ts : List TokenAndSpan) → s.at.left ≡ u ∷ ts → Answers (Taken m) Shallow (unclean_name i s)
+  unfolding unclean_name
+  unclean_takes i u ts e = answers_if _ _ (may_bind_await s.code.flags) _ _ (λ _. let (j, h, g) = fine_one m s.at u ts e f in
+      answers_then _ _ (fault _ (moved s)) _ (fault_shallow j (moved s) g _) (λ _ t l. (j, h, l)))
+      (λ _. wanted_shallow _ faults.ExpectedIdent (λ e. cc) m s f)
+
   module _ (missing : Kind) (other : missing ≢ faults.TooDeep) where
     name_by_shallow : (v : Token) (span : Span) → Answers (Kept m) Shallow (name_by missing s v span)
-    name_by_shallow (token.Word w) span = answers_if _ _ (is_name s.code.flags (word_text w)) _ _ (λ _. fine_after m s.at f) (λ _. wanted_shallow _ missing other m s f)
+    name_by_shallow (token.Word w) span = answers_if _ _ (is_name s.code.flags (word_text w)) _ _ (λ _. fine_after m s.at f)
+        (λ _. answers_if _ _ (is_identifier s.code.flags (word_text w)) _ _ (λ _. unclean_shallow _) (λ _. wanted_shallow _ missing other m s f))
     name_by_shallow _ span = wanted_shallow _ missing other m s f
 
     name_in_shallow : (ts : List TokenAndSpan) → Answers (Kept m) Shallow (name_in missing s ts)
@@ -178,10 +192,15 @@ module _ (m : ℕ) (s : State) (f : Fine m s.at.left) where
     unfolding name
     name_shallow = name_in_shallow s.at.left
 
+    pub reference_shallow : Answers (Kept m) Shallow (reference missing s)
+    unfolding reference
+    reference_shallow = answers_if _ _ (s.code.flags.in_async && sees kind.Await s.at) _ _ (λ _. wanted_shallow _ faults.ExpectedIdent (λ e. cc) m s f) (λ _. name_shallow)
+
   -- a name is a token
   module _ (missing : Kind) (other : missing ≢ faults.TooDeep) where
     name_by_takes : (u : TokenAndSpan) (ts : List TokenAndSpan) (v : Token) (span : Span) → s.at.left ≡ u ∷ ts → Answers (Taken m) Shallow (name_by missing s v span)
-    name_by_takes u ts (token.Word w) span e = answers_if _ _ (is_name s.code.flags (word_text w)) _ _ (λ _. fine_one m s.at u ts e f) (λ _. wanted_shallow _ missing other m s f)
+    name_by_takes u ts (token.Word w) span e = answers_if _ _ (is_name s.code.flags (word_text w)) _ _ (λ _. fine_one m s.at u ts e f)
+        (λ _. answers_if _ _ (is_identifier s.code.flags (word_text w)) _ _ (λ _. unclean_takes _ u ts e) (λ _. wanted_shallow _ missing other m s f))
     name_by_takes u ts _ span e = wanted_shallow _ missing other m s f
 
     name_in_takes : (ts : List TokenAndSpan) → s.at.left ≡ ts → Answers (Taken m) Shallow (name_in missing s ts)
@@ -191,6 +210,10 @@ module _ (m : ℕ) (s : State) (f : Fine m s.at.left) where
     pub name_takes : Answers (Taken m) Shallow (name missing s)
     unfolding name
     name_takes = name_in_takes s.at.left refl
+
+    pub reference_takes : Answers (Taken m) Shallow (reference missing s)
+    unfolding reference
+    reference_takes = answers_if _ _ (s.code.flags.in_async && sees kind.Await s.at) _ _ (λ _. wanted_shallow _ faults.ExpectedIdent (λ e. cc) m s f) (λ _. name_takes)
 
   shebang_taken_shallow : (o : Option Text) → Answers (Kept m) Shallow (shebang_taken o s)
   shebang_taken_shallow None = f

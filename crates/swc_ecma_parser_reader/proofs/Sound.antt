@@ -10,20 +10,18 @@ use Rattle.swc_ecma_parser_reader.proofs.patterns.Sound as patterns
 use Rattle.swc_ecma_parser_reader.proofs.patterns.Sound.{SoundParams, Unwrapped}
 use Rattle.swc_ecma_parser_reader.proofs.expressions.Sound as expressions
 use Rattle.swc_ecma_parser_reader.proofs.expressions.SoundLefts.{FunctionRead, FunctionsSound}
-use Rattle.std.proofs.Common.{append_assoc}
-use Rattle.swc_ecma_parser_reader.specs.Notes.{no_notes}
-use Rattle.swc_ecma_parser_reader.proofs.Between.{sound_below, sound_coded}
-use Rattle.swc_ecma_parser_reader.specs.State.{name}
-use Rattle.swc_ecma_parser_grammar.specs.Reads.{labeled_rule, with_rule, class_rule, function_rule}
+use Rattle.std.proofs.Common.{append_assoc, ◌≡◌, ℕ, zero, suc, Bool, true, false, cond, List, [], ◌∷◌, ◌++◌, length, Ok, Err, refl, sym, ◌∙◌, ap, subst, append-nil}
+use Rattle.swc_ecma_parser_reader.specs.Notes.{no_notes, ◌⊕◌, notes_of, all_notes_of}
+use Rattle.swc_ecma_parser_reader.proofs.Between.{sound_below, sound_coded, Sound, SoundTree, SoundStep, no_faults, same, nil-split, sound_then, sound_more, sound_moved, sound_here, sound_as, sound_held, sound_after, within_sound}
+use Rattle.swc_ecma_parser_reader.specs.State.{name, reference, below, below_label, State, Reader, moved, coded, within, fault_at, Outcome, wanted, labelled, labelled_as, expect, end}
+use Rattle.swc_ecma_parser_grammar.specs.Reads.{labeled_rule, with_rule, class_rule, function_rule, with_in, nested_item, ReadsItems, TargetRule, OperandRule, no_operand_rule, operand_rule, break_rule, continue_rule, return_rule, StmtRule, block_rule, empty_rule, debugger_rule, if_statement_rule, CaseRule, case_clause_rule, default_clause_rule, ReadsCases, switch_rule, throw_rule, try_rule, while_rule, do_while_rule, expr_rule, import_rule, ReadsBlock, CatchRule, no_catch_rule, catch_rule, catch_parameter_rule, FinallyRule, no_finally_rule, finally_rule, ReadsHead, IfRule, if_rule, ElseRule, no_else_rule, else_rule, else_if_rule}
 use Rattle.swc_ecma_parser_grammar.specs.Own.{labelled_function, duplicates}
-use Rattle.swc_ecma_parser_reader.proofs.SoundParts.{relabels_sound, SoundWith, note_with_sound}
-use Rattle.swc_ecma_parser_reader.specs.State.{below, below_label}
-use Rattle.swc_ecma_parser_grammar.specs.language.Items.{labelled_item}
-use Rattle.swc_ecma_parser_reader.specs.Reader.{begins_label, relabels, labelled_body, labeled_stmt, other_stmt, with_stmt, note_with, function_stmt, async_or_other, function_decl}
+use Rattle.swc_ecma_parser_reader.proofs.SoundParts.{relabels_sound, SoundWith, note_with_sound, using_sound, end_sound, optional_end_sound, Declarators, declarators_sound, inside_sound, variables_sound, code_stays, items_sound, NoLabel, no_label_sound, NoNote, SoundNote, note_sound, and_false, unbroken_sound, uncontinued_sound, misplaced_sound, target_sound, after_return_meets}
+use Rattle.swc_ecma_parser_grammar.specs.language.Items.{labelled_item, sub_statement}
+use Rattle.swc_ecma_parser_reader.specs.Reader.{begins_label, relabels, labelled_body, labeled_stmt, other_stmt, with_stmt, note_with, function_stmt, async_or_other, function_decl, variables, const_stmt, let_stmt, expr, cover, head_cover, pattern, element, member, function, function_by, getter, setter, plain_method, target, unbroken, break_stmt, uncontinued, continue_stmt, misplaced, operand, returned, return_stmt, empty, debugger, declarators, closes, close, items, block_from, block, braced, note_statement, no_label, expr_stmt, expr_stmt_at, optional_end, import_stmt, import_stmt_at, thrown, throw, head, while_stmt, do_while, Link, goes_on, condition, alternative, link_from, link, links, if_stmt, begins_clause, closes_clause, Clauses, clause_from, default_clause, case_clause, clause, clauses_turn, clauses, switch_stmt, begins_at, is_handled, handled, bound, parameter, finalizer, caught, handler, try_stmt, stmt_by, stmt_level, stmt, using_or_other}
 use Rattle.swc_ecma_parser_model.specs.declared.leaves.VarDeclKind.{VarDeclKind}
 use Rattle.swc_ecma_parser_model.specs.declared.leaves.VarDeclKind.TheVariants as decl
 use Rattle.swc_ecma_parser_grammar.specs.Variables.{begins_variables, is_var}
-use Rattle.swc_ecma_parser_reader.specs.Reader.{variables, const_stmt, let_stmt}
 use Rattle.swc_ecma_parser_reader.proofs.expressions.CompleteKinds.{seen}
 use Rattle.swc_ecma_parser_reader.proofs.expressions.Loops.{cover_shorter}
 use Rattle.swc_ecma_parser_reader.proofs.expressions.Covers.{met}
@@ -31,7 +29,6 @@ use Rattle.swc_ecma_parser_reader.proofs.expressions.Groups.{ReadsParts}
 use Rattle.swc_ecma_parser_reader.proofs.expressions.GroupLevels.{tied_at, begins_at as part_begins}
 use Rattle.swc_ecma_parser_reader.proofs.expressions.Heads.{SoundHead, head_expr_sound}
 use Rattle.swc_ecma_parser_reader.proofs.SoundFor.{SoundAs, looped_sound, for_sound}
-use Rattle.std.proofs.Common.{◌≡◌, ℕ, zero, suc, Bool, true, false, cond, List, [], ◌∷◌, ◌++◌, length, Ok, Err, refl, sym, ◌∙◌, ap, subst, append-nil}
 use Rattle.std.specs.Prelude.{not, ◌&&◌, ◌||◌, is_some}
 use Rattle.swc_ecma_parser_common.specs.declared.span.Span.{Span}
 use Rattle.swc_ecma_parser_error.specs.Kind as faults
@@ -48,8 +45,6 @@ use Rattle.swc_ecma_parser_grammar.specs.Ends.{Ends, ends_at}
 use Rattle.swc_ecma_parser_grammar.specs.Follows.{may_begin_expression_statement, begins_import_expression, is_let_declaration, is_async_function}
 use Rattle.swc_ecma_parser_grammar.specs.language.Contexts.{in_loop, in_breakable, in_with}
 use Rattle.swc_ecma_parser_grammar.specs.language.Goals.{Class, expression, left_side}
-use Rattle.swc_ecma_parser_grammar.specs.language.Items.{sub_statement}
-use Rattle.swc_ecma_parser_grammar.specs.Reads.{with_in, nested_item, ReadsItems, TargetRule, OperandRule, no_operand_rule, operand_rule, break_rule, continue_rule, return_rule, StmtRule, block_rule, empty_rule, debugger_rule, if_statement_rule, CaseRule, case_clause_rule, default_clause_rule, ReadsCases, switch_rule, throw_rule, try_rule, while_rule, do_while_rule, expr_rule, import_rule, ReadsBlock, CatchRule, no_catch_rule, catch_rule, catch_parameter_rule, FinallyRule, no_finally_rule, finally_rule, ReadsHead, IfRule, if_rule, ElseRule, no_else_rule, else_rule, else_if_rule}
 use Rattle.swc_ecma_parser_grammar.specs.ReadsSupported.{ReadsClass, ReadsPat, ReadsElement, ReadsTarget, ReadsStmt, ReadsParams, ReadsMember, ReadsNamedClass}
 use Rattle.swc_ecma_parser_grammar.specs.Walk as walks
 use Rattle.swc_ecma_parser_grammar.specs.Walk.{walk, env_of, tabled, drops}
@@ -67,18 +62,13 @@ use Rattle.swc_ecma_parser_grammar.specs.language.Objects.{getter_rule, setter_r
 use Rattle.swc_ecma_parser_model.specs.Targets.{as_properties}
 use Rattle.swc_ecma_parser_reader.specs.Methods.{MethodForm, getter_form, setter_form, method_form, expression_form, property_form, parameter_form, block_form}
 use Rattle.swc_ecma_parser_grammar.specs.language.LeftSides.{is_callee}
-use Rattle.swc_ecma_parser_reader.specs.Notes.{◌⊕◌, notes_of, all_notes_of}
-use Rattle.swc_ecma_parser_reader.specs.State.{State, Reader, moved, coded, within, fault_at, Outcome, wanted, labelled, labelled_as, expect, end}
 use Rattle.swc_ecma_parser_reader.specs.Expressions.{Cover}
-use Rattle.swc_ecma_parser_reader.specs.Reader.{expr, cover, head_cover, pattern, element, member, function, function_by, getter, setter, plain_method}
-use Rattle.swc_ecma_parser_reader.specs.Reader.{target, unbroken, break_stmt, uncontinued, continue_stmt, misplaced, operand, returned, return_stmt, empty, debugger, declarators, closes, close, items, block_from, block, braced, note_statement, no_label, expr_stmt, expr_stmt_at, optional_end, import_stmt, import_stmt_at, thrown, throw, head, while_stmt, do_while, Link, goes_on, condition, alternative, link_from, link, links, if_stmt, begins_clause, closes_clause, Clauses, clause_from, default_clause, case_clause, clause, clauses_turn, clauses, switch_stmt, begins_at, is_handled, handled, bound, parameter, finalizer, caught, handler, try_stmt, stmt_by, stmt_level, stmt}
 use Rattle.swc_ecma_parser_reader.proofs.expressions.SoundCovers.{SoundCover, HeadRead, Headed, MethodRead}
-use Rattle.swc_ecma_parser_reader.proofs.expressions.SoundSteps.{meets_as, FreeWord, name_sound, Takes, expect_sound, fault_sound, walks_push, notes_push}
+use Rattle.swc_ecma_parser_reader.proofs.expressions.SoundSteps.{meets_as, FreeWord, name_sound, Takes, expect_sound, fault_sound, walks_push, notes_push, reference_sound}
 use Rattle.swc_ecma_parser_reader.proofs.Notes.{or_nil, or_true, notes_nil}
 use Rattle.swc_ecma_parser_reader.proofs.Meets.{Meets, Refuses, meets_then, meets_if, wanted_meets, too_deep_meets, refuse_meets, Turned, loop_answers, saw, meant}
 use Rattle.swc_ecma_parser_reader.proofs.Opens.{import_unnoted, chain_goes, chain_stops}
-use Rattle.swc_ecma_parser_reader.proofs.Between.{Sound, SoundTree, SoundStep, no_faults, same, nil-split, sound_then, sound_more, sound_moved, sound_here, sound_as, sound_held, sound_after, within_sound}
-use Rattle.swc_ecma_parser_reader.proofs.SoundParts.{end_sound, optional_end_sound, Declarators, declarators_sound, inside_sound, variables_sound, code_stays, items_sound, NoLabel, no_label_sound, NoNote, SoundNote, note_sound, and_false, unbroken_sound, uncontinued_sound, misplaced_sound, target_sound, after_return_meets}
+use Rattle.swc_ecma_parser_grammar.specs.Using.{is_using_declaration}
 
 -- ---- statements
 
@@ -466,7 +456,7 @@ module _ (Stmt : Code → Position → Tree → Place → Place → Type 0) (Exp
 
   labeled_sound : (s : State) → Meets (SoundStmt s) (labeled_stmt inner s)
   unfolding labeled_stmt spanned LabelledBody
-  labeled_sound s = meets_then _ (name faults.ExpectedIdent s) _ (name_sound faults.ExpectedIdent s) (λ i m p.
+  labeled_sound s = meets_then _ (reference faults.ExpectedIdent s) _ (reference_sound faults.ExpectedIdent s) (λ i m p.
       meets_then _ (expect kind.Colon m) _ (expect_sound kind.Colon m refl) (λ _ n q.
       meets_then _ (labelled_body inner i.sym n) _ (labelled_body_sound i.sym n) (λ y o r.
       meets_then _ (relabels (tree.ident i.span i.sym) y o) _ (relabels_sound (tree.ident i.span i.sym) y o) (λ _ t u.
@@ -508,6 +498,11 @@ module _ (Stmt : Code → Position → Tree → Place → Place → Type 0) (Exp
   let_stmt_sound s = meets_if _ (at.include_decl && is_let_declaration s.at) _ _
       (λ h. let b = and_yes at.include_decl (is_let_declaration s.at) h in declared_sound decl.Let s (allowed decl.Let b.0) b.1) (λ _. other_sound s)
 
+  using_or_other_sound : (s : State) → Meets (SoundStmt s) (using_or_other inner inner_expr inner_pat inner_head inner_params inner_member at s)
+  unfolding using_or_other
+  using_or_other_sound s = meets_if _ (at.include_decl && is_using_declaration s.code s.at) _ _
+      (λ h. let b = and_yes at.include_decl (is_using_declaration s.code s.at) h in using_sound Expr Pat inner_expr inner_pat sound_expr sound_pat Stmt Target Params Named at s b.0 b.1) (λ _. other_sound s)
+
   -- each kind of token begins its statement
   -- an async function may stand in the place of any statement
   async_or_other_sound : (s : State) → Meets (SoundStmt s) (async_or_other inner inner_expr inner_pat inner_head inner_params inner_member at s)
@@ -515,7 +510,7 @@ module _ (Stmt : Code → Position → Tree → Place → Place → Type 0) (Exp
   async_or_other_sound s = meets_if _ (is_async_function s.at) _ _
       (λ h. meets_as (function_decl (inner nested_item) inner_params s) (function_decl_sound Stmt Params (inner nested_item) (sound nested_item) inner_params sound_params s (async_begins s.at h))
       (λ x t p. sound_as s t refl refl refl (λ r. function_rule (or_later at.include_decl _ h) r) p))
-      (λ _. other_sound s)
+      (λ _. using_or_other_sound s)
 
   by_sound : (j : TokenKind) (s : State) → kind_at s.at ≡ j → Meets (SoundStmt s) (stmt_by inner inner_expr inner_pat inner_head inner_params inner_member at j s)
   by_sound kind.LBrace s e = block_sound s e
@@ -566,7 +561,7 @@ element_unwrapped zero s = too_deep_meets _ s
 element_unwrapped (suc n) s = patterns.element_level_unwrapped (expr n) (cover n) (pattern n) (element n) s
 
 -- a name is a pattern by itself
-names : (n : ℕ) (s : State) → name_at s.code.flags s.at ≡ true → Meets (λ x t. (t ≡ moved s) × (is_binding_name x ≡ true)) (function n parameter_form s)
+names : (n : ℕ) (s : State) → name_at s.code.flags s.at ≡ true → Meets (λ x t. patterns.Moves s x t × (is_binding_name x ≡ true)) (function n parameter_form s)
 unfolding function function_by pattern
 names zero s h = too_deep_meets _ s
 names (suc n) s h = patterns.pattern_level_named (expr n) (cover n) (pattern n) (element n) s h
@@ -704,6 +699,10 @@ parameters_sound n = params n (all_sound n)
 
 pub function_sound : (n : ℕ) (s : State) → begins_function s.at ≡ true → Meets (λ x t. SoundTree (FunctionRead n) s x t) (function n expression_form s)
 function_sound n = (functions n (all_sound n)).expressions
+
+-- what a part of an expression holds that is none
+pub functions_sound : (n : ℕ) → FunctionsSound n (function n)
+functions_sound n = functions n (all_sound n)
 
 -- a statement is in the grammar within as many levels
 pub stmt_sound : (n : ℕ) (at : Position) (s : State) → Meets (λ x t. SoundTree (λ k. ReadsStmt n k at) s x t) (stmt n at s)

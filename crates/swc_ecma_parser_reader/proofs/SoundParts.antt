@@ -1,6 +1,6 @@
 -- The parts of statements, read: ends, declarations, statements one behind another, what is noted and what is told.
 use Rattle.std.proofs.Common.{◌≡◌, Bool, true, false, cond, List, [], ◌∷◌, ◌++◌, Ok, Err, refl, sym, ◌∙◌, ap, subst, append_assoc, append-nil}
-use Rattle.std.specs.Prelude.{◌&&◌, ◌||◌, is_some, codes}
+use Rattle.std.specs.Prelude.{not, ◌&&◌, ◌||◌, is_some, codes}
 use Rattle.swc_ecma_parser_common.specs.declared.span.Span.{Span}
 use Rattle.swc_ecma_parser_error.specs.Kind as faults
 use Rattle.swc_ecma_parser_error.specs.Kind.{Kind, Fault}
@@ -13,7 +13,7 @@ use Rattle.swc_ecma_parser_input.specs.Place.{Place, after}
 use Rattle.swc_ecma_parser_model.specs.declared.leaves.VarDeclKind.{VarDeclKind}
 use Rattle.swc_ecma_parser_model.specs.declared.leaves.VarDeclKind.TheVariants as decl
 use Rattle.swc_ecma_parser_model.specs.Tree as tree
-use Rattle.swc_ecma_parser_model.specs.Tree.{Tree, Trees, Text, none, also, trees}
+use Rattle.swc_ecma_parser_model.specs.Tree.{Tree, Trees, Text, none, also, trees, listed}
 use Rattle.swc_ecma_parser_model.specs.Directive.{is_use_strict, is_string_statement}
 use Rattle.swc_ecma_parser_model.specs.Forms.{is_ident, is_ident_named, is_binding_name, span_of, has_plain_params}
 use Rattle.swc_ecma_parser_grammar.specs.declared.position.Position.{Position}
@@ -21,17 +21,17 @@ use Rattle.swc_ecma_parser_grammar.specs.Looks.{kind_at, sees, span_at, spanned}
 use Rattle.swc_ecma_parser_grammar.specs.Names.{Code}
 use Rattle.swc_ecma_parser_grammar.specs.Follows.{is_let_declaration}
 use Rattle.swc_ecma_parser_grammar.specs.Variables.{begins_variables, is_var, is_const, needs_no_initializer}
-use Rattle.swc_ecma_parser_model.specs.Within.{is_initialized}
+use Rattle.swc_ecma_parser_model.specs.Within.{declared_name, is_initialized}
 use Rattle.swc_ecma_parser_grammar.specs.Own.{only, stands_around, break_faults, continue_faults, return_faults, labelled_function, duplicates, surplus, head_faults, first_use_strict, misplaced_directive}
 use Rattle.swc_ecma_parser_grammar.specs.Ends.{Ends, by_semicolon, by_insertion, OptionalEnds, by_a_semicolon, by_nothing, can_end, ends_at}
 use Rattle.swc_ecma_parser_grammar.specs.language.Goals.{Class, assignment}
-use Rattle.swc_ecma_parser_grammar.specs.Reads.{with_in, in_strict, directed, directs_on, DeclaratorRule, plain_rule, initialized_rule, ReadsSeparated, ReadsItems, TargetRule, no_target_rule, target_rule, StmtRule, variables_rule}
+use Rattle.swc_ecma_parser_grammar.specs.Reads.{with_in, in_strict, directed, directs_on, DeclaratorRule, plain_rule, initialized_rule, ReadsSeparated, ReadsItems, TargetRule, no_target_rule, target_rule, StmtRule, variables_rule, using_rule}
 use Rattle.swc_ecma_parser_grammar.specs.Walk as walks
 use Rattle.swc_ecma_parser_grammar.specs.Walk.{walk, env_of}
 use Rattle.swc_ecma_parser_grammar.specs.Notes.{statement_note, with_note}
 use Rattle.swc_ecma_parser_reader.specs.Notes.{no_notes, held, notes_of, all_notes_of}
 use Rattle.swc_ecma_parser_reader.specs.State.{State, Reader, moved, coded, within, noted, holding_back, module_fault, fault_at, Outcome, and_then, recorded_at, recorded_in, fault, name, end}
-use Rattle.swc_ecma_parser_reader.specs.Reader.{told, target, unbroken, uncontinued, misplaced, misdeclared, after_return, relabels, missing_initializer, initialized, declarator, declarators_turn, declarators, variables, close, directs, items_turn, items, note_statement, no_label, optional_end, note_with, misdirected}
+use Rattle.swc_ecma_parser_reader.specs.Reader.{told, target, unbroken, uncontinued, misplaced, misdeclared, after_return, relabels, missing_initializer, initialized, declarator, declarators_turn, declarators, variables, close, directs, items_turn, items, note_statement, no_label, optional_end, note_with, misdirected, misusing, using_from, using_stmt}
 use Rattle.swc_ecma_parser_reader.proofs.expressions.SoundSteps.{meets_as, reject_meets, refused_meets, name_sound, Takes, noted_sound, fault_sound, walks_push, notes_push}
 use Rattle.swc_ecma_parser_grammar.proofs.Tests.{and_yes}
 use Rattle.swc_ecma_parser_reader.proofs.Notes.{or_nil, notes_nil}
@@ -39,6 +39,37 @@ use Rattle.swc_ecma_parser_reader.specs.Entry.{error_tokens}
 use Rattle.swc_ecma_parser_reader.proofs.Errors.{is_error}
 use Rattle.swc_ecma_parser_reader.proofs.Meets.{Meets, Refuses, meets_then, meets_if, wanted_meets, refuse_meets, Turned, loop_answers, saw}
 use Rattle.swc_ecma_parser_reader.proofs.Between.{Sound, SoundTree, SoundStep, no_faults, same, same-fewer, sound_then, sound_more, sound_moved, sound_here, sound_as, sound_after, sound_coded, within_sound}
+use Rattle.swc_ecma_parser_grammar.specs.Using.{is_using_declaration, misused, each_misused, using_faults}
+use Rattle.swc_ecma_parser_grammar.proofs.Using.{using_stands}
+
+-- ---- faults that are told and are none of the table
+
+abbrev AllUntabled : List Fault → Type 0
+AllUntabled [] = Unit {0}
+AllUntabled (f ∷ fs) = (walks.is_tabled f.kind ≡ false) × AllUntabled fs
+
+only_untabled : (b : Bool) (k : Kind) (s : Span) → walks.is_tabled k ≡ false → AllUntabled (only b k s)
+only_untabled true k s e = (e, tt)
+only_untabled false k s e = tt
+
+both_untabled : (es fs : List Fault) → AllUntabled es → AllUntabled fs → AllUntabled (es ++ fs)
+both_untabled [] fs h g = g
+both_untabled (e ∷ es) fs (i, h) g = (i, both_untabled es fs h g)
+
+misused_untabled : (s : Span) (xs : List Tree) → AllUntabled (each_misused s xs)
+misused_untabled s [] = tt
+misused_untabled s (x ∷ xs) = both_untabled (misused s x) (each_misused s xs)
+    (both_untabled (only (not (is_binding_name (declared_name x))) faults.InvalidNameInUsingDecl s) (only (not (is_initialized x)) faults.InitRequiredForUsingDecl s) (only_untabled _ _ _ refl) (only_untabled _ _ _ refl))
+    (misused_untabled s xs)
+
+using_untabled : (b : Bool) (s : Span) (xs : List Tree) → AllUntabled (using_faults b s xs)
+using_untabled b s xs = both_untabled (only (not b) faults.UsingDeclNotEnabled s) (each_misused s xs) (only_untabled _ _ _ refl) (misused_untabled s xs)
+
+-- where nothing was recorded none was told
+untold_sound : (fs : List Fault) → AllUntabled fs → (s : State) → Meets (λ _ t. Sound same no_faults no_notes (λ k c d. (fs ≡ []) × (d ≡ c)) s t) (told fs s)
+untold_sound [] h s = sound_here s (refl, refl)
+untold_sound (f ∷ fs) (e, h) s = meets_then _ (fault f s) _ (fault_sound {table = []} (λ k c d. ⊥) f s (rw e refl)) (λ _ m p. meets_as (told fs m) (untold_sound fs h m) (λ _ t q.
+    sound_as s t refl refl refl (λ (i, a, b). absurd a) (sound_then p q)))
 
 -- ---- ends
 
@@ -150,6 +181,22 @@ module _ (Expr : Class → Code → Tree → Place → Place → Type 0) (Pat : 
       (declarators expr pat false word) (moved s) (declarators_sound false word (coded (with_in s.code) (moved s)))) (λ xs m p.
       meets_then _ (end faults.Unexpected m) _ (end_sound faults.Unexpected m) (λ _ t q.
       sound_after s t refl (variables_stand word s.at e) refl refl (λ (i, r, z). variables_rule word xs i b e r z refl) (sound_more p q)))
+
+  -- `using`: nothing is said of what stands there
+  pub using_sound : (Stmt : Code → Position → Tree → Place → Place → Type 0) (Target : Code → Tree → Place → Place → Type 0) (Params : Code → List Tree → Place → Place → Type 0)
+      (Named : Code → (name x : Tree) → Place → Place → Type 0) (at : Position) (s : State) → at.include_decl ≡ true → is_using_declaration s.code s.at ≡ true
+      → Meets (λ x t. SoundTree (λ k. StmtRule Stmt Expr Pat Target Params Named k at) s x t) (using_stmt (declarators expr pat false decl.Var) s)
+  unfolding using_stmt using_from misusing spanned
+  using_sound Stmt Target Params Named at s b e = meets_then _ (within with_in (declarators expr pat false decl.Var) (moved s)) _
+      (within_sound (λ xs k l. walks.walks (env_of k l) false (trees xs)) (λ xs. all_notes_of (trees xs)) (λ xs k. ReadsSeparated (Declared false decl.Var k) xs) with_in (λ k. refl)
+      (declarators expr pat false decl.Var) (moved s) (declarators_sound false decl.Var (coded (with_in s.code) (moved s)))) (λ xs m p.
+      let fs = using_faults m.code.setting.explicit_resource_management (spanned s.at m.at) xs in
+      meets_then _ (told fs m) _ (untold_sound fs (using_untabled m.code.setting.explicit_resource_management (spanned s.at m.at) xs) m) (λ _ t q.
+      let a : Sound same (λ k l. walks.walks (env_of k l) false (trees xs)) (all_notes_of (trees xs)) (λ k c d. ReadsSeparated (Declared false decl.Var (with_in k)) xs c d × (d ≡ m.at)) (moved s) m = sound_as (moved s) m refl refl refl (λ r. (r, refl)) p in
+      sound_after s t refl (ap is_error (using_stands s.code s.at e)) refl refl
+      (λ (i, (r, g), (z, y)). using_rule xs b e (subst (λ d. ReadsSeparated (Declared false decl.Var (with_in s.code)) xs (after s.at) d) (sym y) r)
+      (ap (λ d. using_faults s.code.setting.explicit_resource_management (spanned s.at d) xs) (y ∙ g) ∙ ap (λ (k : Code). using_faults k.setting.explicit_resource_management (spanned s.at m.at) xs) (sym p.code) ∙ z)
+      (ap (λ d. tree.using (spanned s.at d) false (listed xs)) (sym (y ∙ g)))) (sound_more a q)))
 
 -- ---- statements one behind another
 

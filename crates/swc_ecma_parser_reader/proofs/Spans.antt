@@ -22,7 +22,7 @@ use Rattle.swc_ecma_parser_model.specs.Tree.{Tree, Text}
 use Rattle.swc_ecma_parser_model.specs.Forms.{span_of}
 use Rattle.swc_ecma_parser_grammar.specs.declared.position.Position.{Position}
 use Rattle.swc_ecma_parser_grammar.specs.Looks.{kind_at, breaks_at, sees, span_at, same_kind, spanned}
-use Rattle.swc_ecma_parser_grammar.specs.Names.{is_name}
+use Rattle.swc_ecma_parser_grammar.specs.Names.{is_name, is_identifier, may_bind_await}
 use Rattle.swc_ecma_parser_grammar.specs.Follows.{word_at, may_begin_expression_statement, begins_import_expression, is_let_declaration, is_async_function}
 use Rattle.swc_ecma_parser_grammar.specs.Parameters.{parameters}
 use Rattle.swc_ecma_parser_grammar.specs.Reads.{nested_item, with_in}
@@ -32,22 +32,23 @@ use Rattle.swc_ecma_parser_grammar.specs.language.Goals.{Class, expression, assi
 use Rattle.swc_ecma_parser_grammar.specs.language.Items.{sub_statement, labelled_item}
 use Rattle.swc_ecma_parser_grammar.proofs.Tests.{and_yes}
 use Rattle.swc_ecma_parser_reader.specs.Members.{extended, surplus, members, class_parts, named_class, class_decl, class_stmt}
-use Rattle.swc_ecma_parser_reader.specs.State.{State, Outcome, Reader, moved, coded, below, below_label, within, noted, module_found, recorded_at, recorded_in, fault, fault_at, wanted, name_by, name_in, name, expect, end}
+use Rattle.swc_ecma_parser_reader.specs.State.{State, Outcome, Reader, moved, coded, below, below_label, within, noted, module_found, recorded_at, recorded_in, fault, fault_at, wanted, name_by, name_in, name, expect, end, reference, unclean_name}
 use Rattle.swc_ecma_parser_reader.specs.Methods.{star}
 use Rattle.swc_ecma_parser_reader.specs.Expressions.{Cover}
 use Rattle.swc_ecma_parser_reader.specs.Reader as reader
-use Rattle.swc_ecma_parser_reader.specs.Reader.{told, named, items, closes, close, declarators, Link, link, link_from, condition, alternative, head, clauses, target, unbroken, uncontinued, operand, braced, handler, finalizer, handled, optional_end, note_with, await_here, unless_awaited, Opening, as_init, as_left, opening, head_part, misdeclared, misdirected, labelled_body, relabels, no_label, note_statement, empty, debugger, variables, block, block_from, expr_stmt, expr_stmt_at, import_stmt, import_stmt_at, thrown, throw, while_stmt, with_stmt, do_while, for_parts, for_in, for_of, for_behind, for_stmt, goes_on, links, if_stmt, break_stmt, continue_stmt, returned, return_stmt, misplaced, begins_label, labeled_stmt, other_stmt, switch_stmt, try_stmt, function_word, function_body, function_parts, function_decl, function_stmt, const_stmt, let_stmt, async_or_other, stmt_by, stmt_level, stmt, top_await_fault, top_await, whole_stmt, expr, head_cover, pattern}
-use Rattle.swc_ecma_parser_reader.specs.Reader.{member}
+use Rattle.swc_ecma_parser_reader.specs.Reader.{told, named, items, closes, close, declarators, Link, link, link_from, condition, alternative, head, clauses, target, unbroken, uncontinued, operand, braced, handler, finalizer, handled, optional_end, note_with, await_here, unless_awaited, Opening, as_init, as_left, opening, head_part, misdeclared, misdirected, labelled_body, relabels, no_label, note_statement, empty, debugger, variables, block, block_from, expr_stmt, expr_stmt_at, import_stmt, import_stmt_at, thrown, throw, while_stmt, with_stmt, do_while, for_parts, for_in, for_of, for_behind, for_stmt, goes_on, links, if_stmt, break_stmt, continue_stmt, returned, return_stmt, misplaced, begins_label, labeled_stmt, other_stmt, switch_stmt, try_stmt, function_word, function_body, function_parts, function_decl, function_stmt, const_stmt, let_stmt, async_or_other, stmt_by, stmt_level, stmt, top_await_fault, top_await, whole_stmt, expr, head_cover, pattern, member, misusing, using_from, using_stmt, using_or_other}
 use Rattle.swc_ecma_parser_reader.specs.Entry.{last_span, are_errors, TakesSome, TakesErrors, StandsAt, IsBehind}
 use Rattle.swc_ecma_parser_reader.proofs.Takes.{Falls}
 use Rattle.swc_ecma_parser_reader.proofs.Falls.{stmt_falls}
 use Rattle.swc_ecma_parser_reader.proofs.Meets.{Answers, Meets, Refuses, answers_then, answers_if, always, meets_then, meets_if, wanted_meets, too_deep_meets, refuse_meets, meant, saw}
 use Rattle.swc_ecma_parser_reader.proofs.Errors.{is_error, fault_here}
-use Rattle.swc_ecma_parser_reader.proofs.Behind.{NothingLost, Kept, Lost, Passes, behind_self, behind_after, end_keeps, expect_keeps, name_keeps}
-use Rattle.swc_ecma_parser_reader.proofs.Keeps.{target_keeps, function_params_keep, function_body_keep, parameters_keep, stmt_keeps, expr_keeps, member_keeps}
+use Rattle.swc_ecma_parser_reader.proofs.Behind.{NothingLost, Kept, Lost, Passes, behind_self, behind_after, end_keeps, expect_keeps, name_keeps, fault_keeps}
+use Rattle.swc_ecma_parser_reader.proofs.Keeps.{target_keeps, function_params_keep, function_body_keep, parameters_keep, stmt_keeps, expr_keeps, member_keeps, declarators_keeps, pattern_keeps}
 use Rattle.swc_ecma_parser_reader.proofs.SoundParts.{after_return_meets}
 use Rattle.swc_ecma_parser_reader.proofs.expressions.SoundSteps.{reject_meets, meets_as}
 use Rattle.swc_ecma_parser_reader.proofs.expressions.Keeps.{star_keeps}
+use Rattle.swc_ecma_parser_model.specs.declared.leaves.Ident.{Ident}
+use Rattle.swc_ecma_parser_grammar.specs.Using.{is_using_declaration}
 
 -- ---- error tokens that are taken
 
@@ -122,8 +123,15 @@ kept b (Err e) h = tt
 
 -- a name is one token
 module _ (k : Kind) (s : State) where
+  unclean_behind : (i : Ident) → Meets (Kept (moved s)) (unclean_name i s)
+  unfolding unclean_name
+  unclean_behind i = meets_if _ (may_bind_await s.code.flags) _ _
+      (λ _. meets_then _ (fault _ (moved s)) _ (kept (moved s) (fault _ (moved s)) (fault_keeps (moved s) (moved s) (behind_self (moved s)) _)) (λ _ t g. g))
+      (λ _. wanted_meets _ faults.ExpectedIdent s)
+
   named_by_behind : (t : Token) (span : Span) → Meets (Kept (moved s)) (name_by k s t span)
-  named_by_behind (token.Word w) span = meets_if _ (is_name s.code.flags (word_text w)) _ _ (λ _. behind_self (moved s)) (λ _. wanted_meets _ k s)
+  named_by_behind (token.Word w) span = meets_if _ (is_name s.code.flags (word_text w)) _ _ (λ _. behind_self (moved s))
+      (λ _. meets_if _ (is_identifier s.code.flags (word_text w)) _ _ (λ _. unclean_behind _) (λ _. wanted_meets _ k s))
   named_by_behind _ span = wanted_meets _ k s
 
   named_in_behind : (ts : List TokenAndSpan) → Meets (Kept (moved s)) (name_in k s ts)
@@ -133,6 +141,10 @@ module _ (k : Kind) (s : State) where
   named_behind : Meets (Kept (moved s)) (name k s)
   unfolding name
   named_behind = named_in_behind s.at.left
+
+  referred_behind : Meets (Kept (moved s)) (reference k s)
+  unfolding reference
+  referred_behind = meets_if _ (s.code.flags.in_async && sees kind.Await s.at) _ _ (λ _. wanted_meets _ faults.ExpectedIdent s) (λ _. named_behind)
 
 -- the words that begin a function are one token at least
 word_behind : (s : State) → Meets (Kept (moved s)) (function_word s)
@@ -280,7 +292,8 @@ module _ (inner : Position → Reader Tree) (inner_expr : Class → Reader Tree)
       meets_then _ (end faults.Expected t) _ (kept b (end faults.Expected t) (end_keeps b t k faults.Expected)) (λ _ u j.
       meets_then _ (uncontinued x (record { lo = (span_at s.at).lo; hi = u.at.last.hi }) u) _ (told_errs _ u) (λ _ v z. inr (u.at, refl, (j.0.read, j.0.tokens, j.0.last), z))))
 
-  module _ (below_stmt : (at : Position) → Passes (inner at)) (below_expr : (class : Class) → Passes (inner_expr class)) (below_params : Passes inner_params) (below_member : Passes inner_member) where
+  module _ (below_stmt : (at : Position) → Passes (inner at)) (below_expr : (class : Class) → Passes (inner_expr class)) (below_params : Passes inner_params) (below_member : Passes inner_member)
+      (below_pat : Passes inner_pat) where
     operand_keeps : (b s : State) → NothingLost b s → Answers (Kept b) (Lost b) (operand (inner_expr expression) s)
     unfolding operand
     operand_keeps b s f = answers_if (Kept b) _ (ends_at s.at) _ _ (λ _. f)
@@ -309,7 +322,7 @@ module _ (inner : Position → Reader Tree) (inner_expr : Class → Reader Tree)
     labeled_ends : (s : State) → Meets (Ends s.at) (labeled_stmt inner s)
     unfolding labeled_stmt relabels spanned
     labeled_ends s = let b = moved s in
-        meets_then _ (name faults.ExpectedIdent s) _ (named_behind faults.ExpectedIdent s) (λ i t k.
+        meets_then _ (reference faults.ExpectedIdent s) _ (referred_behind faults.ExpectedIdent s) (λ i t k.
         meets_then _ (expect kind.Colon t) _ (kept b (expect kind.Colon t) (expect_keeps b t k kind.Colon)) (λ _ u j.
         meets_then _ (labelled_body inner i.sym u) _ (kept b (labelled_body inner i.sym u) (labelled_body_keeps i.sym b u j)) (λ y v h.
         meets_then _ (relabels (tree.ident i.span i.sym) y v) _ (told_errs _ v) (λ _ w z. inr (v.at, refl, (h.0.read, h.0.tokens, h.0.last), z)))))
@@ -344,9 +357,21 @@ module _ (inner : Position → Reader Tree) (inner_expr : Class → Reader Tree)
     function_stmt_ends at s e = meets_if _ at.include_decl _ _ (λ _. function_ends s)
         (λ _. rw (fault_here s (fault_at (span_at s.at) faults.DeclNotAllowed) (ap is_error e)) (function_ends (noted (fault_at (span_at s.at) faults.DeclNotAllowed) s)))
 
+    using_ends : (s : State) → Meets (Ends s.at) (using_stmt (declarators inner_expr inner_pat false decl.Var) s)
+    unfolding using_stmt using_from misusing spanned
+    using_ends s = let b = moved s in
+        meets_then _ (within with_in (declarators inner_expr inner_pat false decl.Var) b) _
+        (kept b (within with_in (declarators inner_expr inner_pat false decl.Var) b) (answers_then (Kept b) _ (declarators inner_expr inner_pat false decl.Var (coded (with_in s.code) b)) _
+        (declarators_keeps inner_expr inner_pat below_expr below_pat b false decl.Var (coded (with_in s.code) b) (behind_self b)) (λ x t k. k))) (λ xs t k.
+        meets_then _ (misusing (record { lo = (span_at s.at).lo; hi = t.at.last.hi }) xs t) _ (told_errs _ t) (λ _ u z. inr (t.at, refl, (k.0.read, k.0.tokens, k.0.last), z)))
+
+    using_or_other_ends : (at : Position) (s : State) → Meets (Ends s.at) (using_or_other inner inner_expr inner_pat inner_head inner_params inner_member at s)
+    unfolding using_or_other
+    using_or_other_ends at s = meets_if _ (at.include_decl && is_using_declaration s.code s.at) _ _ (λ _. using_ends s) (λ _. other_ends at s)
+
     async_or_other_ends : (at : Position) (s : State) → Meets (Ends s.at) (async_or_other inner inner_expr inner_pat inner_head inner_params inner_member at s)
     unfolding async_or_other
-    async_or_other_ends at s = meets_if _ (is_async_function s.at) _ _ (λ _. function_ends s) (λ _. other_ends at s)
+    async_or_other_ends at s = meets_if _ (is_async_function s.at) _ _ (λ _. function_ends s) (λ _. using_or_other_ends at s)
 
     class_stmt_ends : (at : Position) (s : State) → kind_at s.at ≡ kind.Class → Meets (Ends s.at) (class_stmt (inner_expr left_side) inner_member at s)
     unfolding class_stmt
@@ -382,7 +407,7 @@ module _ (inner : Position → Reader Tree) (inner_expr : Class → Reader Tree)
 stmt_ends : (n : ℕ) (at : Position) (s : State) → Meets (Ends s.at) (stmt n at s)
 unfolding stmt stmt_level
 stmt_ends zero at s = too_deep_meets _ s
-stmt_ends (suc n) at s = by_ends (stmt n) (expr n) (pattern n) (head_cover n) (reader.parameters n) (member n) (stmt_keeps n) (expr_keeps n) (parameters_keep n) (member_keeps n) at (kind_at s.at) s refl
+stmt_ends (suc n) at s = by_ends (stmt n) (expr n) (pattern n) (head_cover n) (reader.parameters n) (member n) (stmt_keeps n) (expr_keeps n) (parameters_keep n) (member_keeps n) (pattern_keeps n) at (kind_at s.at) s refl
 
 -- ---- a statement on its tokens
 

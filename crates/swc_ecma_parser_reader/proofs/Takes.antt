@@ -1,6 +1,6 @@
 -- A reader never puts tokens back: its steps, and its loops.
 use Rattle.std.proofs.Common.{◌≡◌, ◌≢◌, ℕ, zero, suc, ◌+◌, ◌≤◌, Bool, true, false, cond, List, [], ◌∷◌, length, Ok, Err, refl, sym, ap, subst, arith}
-use Rattle.std.specs.Prelude.{nat_lt}
+use Rattle.std.specs.Prelude.{nat_lt, ◌&&◌}
 use Rattle.swc_ecma_parser_common.specs.declared.span.Span.{Span}
 use Rattle.swc_ecma_parser_error.specs.Kind as faults
 use Rattle.swc_ecma_parser_error.specs.Kind.{Kind, Fault, fault_of}
@@ -14,9 +14,9 @@ use Rattle.swc_ecma_parser_input.specs.Place.{Place, past, after}
 use Rattle.swc_ecma_parser_model.specs.declared.leaves.Ident.{Ident}
 use Rattle.swc_ecma_parser_token.specs.Text.{word_text}
 use Rattle.swc_ecma_parser_grammar.specs.Looks.{kind_at, sees}
-use Rattle.swc_ecma_parser_grammar.specs.Names.{Code, is_name}
+use Rattle.swc_ecma_parser_grammar.specs.Names.{Code, is_name, is_identifier, may_bind_await}
 use Rattle.swc_ecma_parser_grammar.specs.Ends.{can_end}
-use Rattle.swc_ecma_parser_reader.specs.State.{State, Outcome, Reader, and_then, moved, coded, wanted, wanted_in, wanted_at, too_deep, too_deep_in, too_deep_at, refused, refuse, refuse_in, refuse_at, fault, recorded_in, recorded_at, expect, end, name, name_in, name_by, Step, More, Done, next_turn, after_turn, turns, loop}
+use Rattle.swc_ecma_parser_reader.specs.State.{State, Outcome, Reader, and_then, moved, coded, wanted, wanted_in, wanted_at, too_deep, too_deep_in, too_deep_at, refused, refuse, refuse_in, refuse_at, fault, recorded_in, recorded_at, expect, end, name, name_in, name_by, Step, More, Done, next_turn, after_turn, turns, loop, reference, unclean_name}
 use Rattle.swc_ecma_parser_reader.specs.Reader.{close}
 
 -- an answer leaves at least k tokens fewer than n
@@ -168,9 +168,17 @@ pub expect_falls : (k : TokenKind) (s : State) → Falls 0 (length s.at.left) (e
 unfolding expect
 expect_falls k s = falls_if 0 (length s.at.left) (sees k s.at) _ _ (let m = moves s.at in omega arith) (refuse_falls (Unit {0}) 0 (length s.at.left) faults.Expected s)
 
+-- `await` is a token, and an error token may stand behind it
+unclean_falls : (i : Ident) (s : State) (t : TokenAndSpan) (ts : List TokenAndSpan) → s.at.left ≡ t ∷ ts → Falls 1 (length s.at.left) (unclean_name i s)
+unfolding unclean_name
+unclean_falls i s t ts e = falls_if 1 (length s.at.left) (may_bind_await s.code.flags) _ _
+    (weaker 1 0 (length s.at.left) (length (after s.at).left) _ (takes_one s.at t ts e) (falls_then 0 0 (length (after s.at).left) (fault _ (moved s)) _ (fault_falls _ (moved s)) (λ _ u. omega arith)))
+    (wanted_falls Ident 1 (length s.at.left) faults.ExpectedIdent s)
+
 named_by : (k : Kind) (s : State) (t : TokenAndSpan) (ts : List TokenAndSpan) (u : Token) (span : Span) → s.at.left ≡ t ∷ ts → Falls 1 (length s.at.left) (name_by k s u span)
 named_by k s t ts (token.Word w) span e =
-    falls_if 1 (length s.at.left) (is_name s.code.flags (word_text w)) _ _ (takes_one s.at t ts e) (wanted_falls Ident 1 (length s.at.left) k s)
+    falls_if 1 (length s.at.left) (is_name s.code.flags (word_text w)) _ _ (takes_one s.at t ts e)
+    (falls_if 1 (length s.at.left) (is_identifier s.code.flags (word_text w)) _ _ (unclean_falls _ s t ts e) (wanted_falls Ident 1 (length s.at.left) k s))
 named_by k s t ts _ span e = wanted_falls Ident 1 (length s.at.left) k s
 
 named_from : (k : Kind) (s : State) (ts : List TokenAndSpan) → s.at.left ≡ ts → Falls 1 (length s.at.left) (name_in k s ts)
@@ -180,6 +188,10 @@ named_from k s (t ∷ ts) e = named_by k s t ts t.token t.span e
 pub name_falls : (k : Kind) (s : State) → Falls 1 (length s.at.left) (name k s)
 unfolding name
 name_falls k s = named_from k s s.at.left refl
+
+pub reference_falls : (k : Kind) (s : State) → Falls 1 (length s.at.left) (reference k s)
+unfolding reference
+reference_falls k s = falls_if 1 (length s.at.left) (s.code.flags.in_async && sees kind.Await s.at) _ _ (wanted_falls Ident 1 (length s.at.left) faults.ExpectedIdent s) (name_falls k s)
 
 -- ---- loops
 

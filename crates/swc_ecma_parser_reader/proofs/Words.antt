@@ -9,7 +9,7 @@ use Rattle.swc_ecma_parser_token.specs.declared.token.Word.TheVariants as word
 use Rattle.swc_ecma_parser_token.specs.declared.token.TokenAndSpan.{TokenAndSpan}
 use Rattle.swc_ecma_parser_input.specs.declared.context.Context.{Context}
 use Rattle.swc_ecma_parser_model.specs.Tree.{Text}
-use Rattle.swc_ecma_parser_grammar.specs.Names.{is_name, is_reserved, token_is_name, first_is_name, name_at}
+use Rattle.swc_ecma_parser_grammar.specs.Names.{is_name, is_reserved, token_is_identifier, first_is_identifier, name_at, identifier_at, is_clean_name, is_identifier}
 use Rattle.swc_ecma_parser_token.specs.declared.kind.TokenKind.TheVariants as kind
 use Rattle.swc_ecma_parser_input.specs.Place.{Place, after}
 use Rattle.swc_ecma_parser_grammar.specs.Looks.{kind_at, sees, breaks_at, same_kind}
@@ -17,6 +17,7 @@ use Rattle.swc_ecma_parser_grammar.specs.Follows.{word_at, first_is, token_is, i
 use Rattle.swc_ecma_parser_grammar.proofs.StatementBegins.{word_place}
 use Rattle.swc_ecma_parser_grammar.proofs.Tests.{and_yes, and_both, and_no, or_none}
 use Rattle.swc_ecma_parser_reader.proofs.Meets.{saw}
+use Rattle.swc_ecma_parser_grammar.proofs.Naming.{name_is_free}
 
 -- `function`, or `async` before it on one line
 unfoldable pub begins_function : Place → Bool
@@ -78,21 +79,21 @@ function_no_await c b = by_test (is_async_function c) refl
     by_test false h = rw (function_kind c b h) refl
 
 -- `async` is reserved nowhere
-unreserved : (f : Context) (text : Text) → bytes_eq text (codes "async") ≡ true → is_name f text ≡ true
-unfolding is_name is_reserved
+pub unreserved : (f : Context) (text : Text) → bytes_eq text (codes "async") ≡ true → is_name f text ≡ true
+unfolding is_name is_clean_name is_identifier is_reserved
 unreserved f text e = rw ((bytes_eq-Decides text (codes "async")).0 e) (and_both _ _ (ap not (or_none _ _ (and_no f.strict _ refl) (and_no f.in_generator _ refl))) refl)
 
-named_token : (f : Context) (t : Token) → token_is (codes "async") t ≡ true → token_is_name f t ≡ true
-named_token f (token.Word (word.Ident text)) e = unreserved f text e
+named_token : (f : Context) (t : Token) → token_is (codes "async") t ≡ true → token_is_identifier f t ≡ true
+named_token f (token.Word (word.Ident text)) e = name_is_free f text (unreserved f text e)
 named_token f (token.Word _) e = cc
 named_token f _ e = cc
 
-named_first : (f : Context) (ts : List TokenAndSpan) → first_is (codes "async") ts ≡ true → first_is_name f ts ≡ true
+named_first : (f : Context) (ts : List TokenAndSpan) → first_is (codes "async") ts ≡ true → first_is_identifier f ts ≡ true
 named_first f [] e = cc
 named_first f (t ∷ ts) e = named_token f t.token e
 
 pub word_named : (f : Context) (c : Place) → word_at (codes "async") c ≡ true → name_at f c ≡ true
-unfolding name_at word_at
+unfolding identifier_at word_at
 word_named f c h = named_first f c.left h
 
 pub async_named : (f : Context) (c : Place) → is_async_function c ≡ true → name_at f c ≡ true

@@ -6,13 +6,16 @@ pub mod Methods
 pub mod Words
 pub mod Operands
 pub mod Jumps
+pub mod Using
 pub mod Arrows
 pub mod AsyncArrows
 pub mod Expressions
 pub mod Heads
 pub mod Patterns
 pub mod Bodies
+pub mod Decorators
 pub mod Members
 pub mod Reader
+pub mod DecoratorLevels
 pub mod Entry
 pub mod Limits

@@ -1,5 +1,5 @@
 -- The reader of classes: ECMA-262, section 15.7. What stands in a class is read one level further in, and what stands in a member one
--- more. No decorators are read, nor are auto-accessors where the setting has them.
+-- more. No decorators are read. Auto-accessors are those of their proposal.
 use Rattle.std.specs.Prelude.{Bool, true, false, not, ◌&&◌, ◌||◌, if◌then◌else◌, List, [], ◌∷◌, ◌++◌, codes, Ok}
 use Rattle.swc_ecma_parser_common.specs.declared.span.Span.{Span}
 use Rattle.swc_ecma_parser_error.specs.Kind as faults
@@ -48,6 +48,15 @@ member_words = λ s.
     else if begins_accessor (codes "set") s.at then Ok (setter_form, moved s)
     else if begins_async_member s.at then starred true (moved s)
     else starred false s
+
+-- whether one of these words or `*` stands before a key
+unfoldable pub begins_words : Place → Bool
+begins_words c = begins_accessor (codes "get") c || (begins_accessor (codes "set") c || (begins_async_member c || sees kind.Mul c))
+
+-- Whether no field goes on behind `accessor`, before any key: a static block does, with a `static` of its own or without it, or words or
+-- `*` stand here.
+unfoldable pub begins_no_field : (is_static : Bool) → Place → Bool
+begins_no_field is_static c = (is_static && sees kind.LBrace c) || ((word_at (codes "static") c && sees kind.LBrace (after c)) || begins_words c)
 
 -- as the tree of a member has it
 abbrev pub kind_of_form : MethodForm → MethodKind
@@ -120,16 +129,16 @@ module _ (inner : Class → Reader Tree) (cover : Reader Cover) where
   unfoldable pub field_value : Reader Tree
   field_value = λ s. if sees kind.Assign s.at then inside inner cover assignment (moved s) else Ok (tree.absent, s)
 
-  unfoldable pub field_from : (is_static : Bool) → Span → Tree → Reader Tree
-  field_from is_static start x = do
+  unfoldable pub field_from : (is_static is_accessor : Bool) → Span → Tree → Reader Tree
+  field_from is_static is_accessor start x = do
     field_named x
     value ← field_value
     field_end
     span ← since start
-    pure (field_member span x value is_static false (listed []))
+    pure (field_member span x value is_static is_accessor (listed []))
 
-  unfoldable pub field : (is_static : Bool) → Span → Tree → Reader Tree
-  field is_static start x = λ s. if sees kind.Assign s.at || ends_at s.at then field_from is_static start x s else wanted faults.Unexpected s
+  unfoldable pub field : (is_static is_accessor : Bool) → Span → Tree → Reader Tree
+  field is_static is_accessor start x = λ s. if sees kind.Assign s.at || ends_at s.at then field_from is_static is_accessor start x s else wanted faults.Unexpected s
 
 -- ---- methods and constructors: what is read one level further in are statements and parameters
 
@@ -182,7 +191,7 @@ module _ (inner : Class → Reader Tree) (cover : Reader Cover) (stmt : Reader T
   behind_key is_static form start word x = λ s.
       if not (is_bare form) then method stmt params is_static form start word x s
       else if sees kind.LParen s.at then plain_method stmt params is_static start word x s
-      else field inner cover is_static start x s
+      else field inner cover is_static false start x s
 
   unfoldable pub keyed_member : (is_static : Bool) → Span → Reader Tree
   keyed_member is_static start = do
@@ -191,10 +200,46 @@ module _ (inner : Class → Reader Tree) (cover : Reader Cover) (stmt : Reader T
     x ← member_key inner cover
     behind_key is_static form start word x
 
+  -- ---- behind `accessor`, where it is no key; the word stands at a span
+
+  -- `static` and a block; it is a fault of the `static` before `accessor`, if one stands there
+  unfoldable pub static_behind : (is_static : Bool) → Span → Reader Tree
+  static_behind is_static start = λ s. if is_static then second_static stmt params start s else static_block stmt params start (moved s)
+
+  -- what is no field is read as if `accessor` were not there
+  unfoldable pub unaccessed : (is_static : Bool) → Span → Reader Tree
+  unaccessed is_static start = λ s.
+      if is_static && sees kind.LBrace s.at then static_block stmt params start s
+      else if word_at (codes "static") s.at && sees kind.LBrace (after s.at) then static_behind is_static start s
+      else keyed_member is_static start s
+
+  -- a method or a constructor that its `(` tells is a fault of `accessor` too
+  unfoldable pub behind_accessed_key : (is_static : Bool) → (start accessor word : Span) → Tree → Reader Tree
+  behind_accessed_key is_static start accessor word x = λ s.
+      if sees kind.LParen s.at then (fault (fault_at accessor faults.TS1184) >> plain_method stmt params is_static start word x) s
+      else field inner cover is_static true start x s
+
+  unfoldable pub accessed_key : (is_static : Bool) → (start accessor : Span) → Reader Tree
+  accessed_key is_static start accessor = do
+    word ← span_here
+    x ← member_key inner cover
+    behind_accessed_key is_static start accessor word x
+
+  unfoldable pub accessed : (is_static : Bool) → (start accessor : Span) → Reader Tree
+  accessed is_static start accessor = λ s.
+      if begins_no_field is_static s.at then (fault (fault_at accessor faults.TS1184) >> unaccessed is_static start) s
+      else accessed_key is_static start accessor s
+
+  unfoldable pub accessor_member : (is_static : Bool) → Span → Reader Tree
+  accessor_member is_static start = do
+    accessor ← span_here
+    skip
+    accessed is_static start accessor
+
   -- from behind `static`, if it stands there
   unfoldable pub behind_static : (is_static : Bool) → Span → Reader Tree
   behind_static is_static start = λ s.
-      if is_accessor_word s.code s.at then wanted faults.Unexpected s
+      if is_accessor_word s.code s.at then accessor_member is_static start s
       else if is_static && sees kind.LBrace s.at then static_block stmt params start s
       else if is_static && (word_at (codes "static") s.at && sees kind.LBrace (after s.at)) then second_static stmt params start s
       else keyed_member is_static start s

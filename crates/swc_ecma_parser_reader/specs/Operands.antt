@@ -21,7 +21,7 @@ use Rattle.swc_ecma_parser_model.specs.Tree.{Tree, Text, listed}
 use Rattle.swc_ecma_parser_model.specs.Forms.{is_simple_target, span_of}
 use Rattle.swc_ecma_parser_model.specs.Targets.{as_target}
 use Rattle.swc_ecma_parser_grammar.specs.Looks.{kind_at, breaks_at, sees, span_at}
-use Rattle.swc_ecma_parser_grammar.specs.Names.{Code, is_name}
+use Rattle.swc_ecma_parser_grammar.specs.Names.{Code, may_refer_to_await}
 use Rattle.swc_ecma_parser_grammar.specs.Follows.{word_at, continues_left_side}
 use Rattle.swc_ecma_parser_grammar.specs.Reads.{with_in}
 use Rattle.swc_ecma_parser_grammar.specs.language.Goals.{Class, expression, assignment, operator, unary, callee}
@@ -30,7 +30,7 @@ use Rattle.swc_ecma_parser_grammar.specs.language.Operators.{update_operator, bi
 use Rattle.swc_ecma_parser_grammar.specs.language.Continues.{continues_conditional}
 unfoldable pub use Rattle.swc_ecma_parser_reader.specs.Words.{word_by, word_in, any_word, touching_word, private_name, begins_async_call, is_head, heads_arrow}
 use Rattle.swc_ecma_parser_reader.specs.Methods.{MethodForm, FunctionForm, property_form, method_words, is_bare}
-use Rattle.swc_ecma_parser_reader.specs.State.{State, Reader, ◌>>=◌, ◌>>◌, pure, span_here, since, skip, moved, note_module_item, within, fault, fault_at, wanted, reject, expect, name, Step, More, Done, loop}
+use Rattle.swc_ecma_parser_reader.specs.State.{State, Reader, ◌>>=◌, ◌>>◌, pure, span_here, since, skip, moved, note_module_item, within, fault, fault_at, wanted, reject, expect, reference, as_name, Step, More, Done, loop}
 
 -- ---- literals
 
@@ -86,7 +86,9 @@ literal_key = literal >>= key_or
 
 -- a key with nothing behind it: a name
 unfoldable pub shorthand_name : Span → Text → Reader Tree
-shorthand_name span text = λ s. if is_name s.code.flags text then Ok (tree.shorthand_prop span text, s) else reject (fault_at span faults.ExpectedIdent) s
+shorthand_name span text = do
+  as_name may_refer_to_await span text
+  pure (tree.shorthand_prop span text)
 
 abbrev pub shorthand : Tree → Reader Tree
 shorthand (tree.ident span text) = shorthand_name span text
@@ -98,7 +100,7 @@ dotted = λ s. if sees kind.Hash s.at then private_name s else word_property s
 
 unfoldable pub ident_expr : Reader Tree
 ident_expr = do
-  i ← name faults.Unexpected
+  i ← reference faults.Unexpected
   pure (tree.ident i.span i.sym)
 
 unfoldable pub this : Reader Tree
@@ -396,7 +398,9 @@ module _ (inner : Class → Reader Tree) (cover : Reader Cover) where
     pure (record { x = tree.assign_prop span x value; mark = Some span; comma = false })
 
   unfoldable pub initialized_name : Span → Span → Text → Reader Cover
-  initialized_name start span text = λ s. if is_name s.code.flags text then initialized start (tree.ident span text) s else reject (fault_at span faults.ExpectedIdent) s
+  initialized_name start span text = do
+    as_name may_refer_to_await span text
+    initialized start (tree.ident span text)
 
   abbrev pub initialized_key : Span → Tree → Reader Cover
   initialized_key start (tree.ident span text) = initialized_name start span text

@@ -7,10 +7,10 @@ use Rattle.swc_ecma_parser_token.specs.declared.kind.TokenKind.TheVariants as ki
 use Rattle.swc_ecma_parser_model.specs.Tree as tree
 use Rattle.swc_ecma_parser_model.specs.Tree.{Tree, Text, listed}
 use Rattle.swc_ecma_parser_grammar.specs.Looks.{sees}
-use Rattle.swc_ecma_parser_grammar.specs.Names.{is_name}
+use Rattle.swc_ecma_parser_grammar.specs.Names.{may_bind_await}
 use Rattle.swc_ecma_parser_grammar.specs.Reads.{with_in}
 use Rattle.swc_ecma_parser_grammar.specs.language.Goals.{Class, assignment}
-use Rattle.swc_ecma_parser_reader.specs.State.{Reader, ◌>>=◌, ◌>>◌, pure, span_here, since, skip, moved, within, fault_at, wanted, reject, expect, name, Step, More, Done, loop}
+use Rattle.swc_ecma_parser_reader.specs.State.{Reader, ◌>>=◌, ◌>>◌, pure, span_here, since, skip, moved, within, wanted, expect, name, as_name, Step, More, Done, loop}
 use Rattle.swc_ecma_parser_reader.specs.Expressions.{Cover, inside, key}
 
 -- a name
@@ -130,10 +130,9 @@ module _ (inner : Class → Reader Tree) (cover : Reader Cover) (pattern element
     pure (tree.assign_pat_prop span (tree.ident_pat at text) tree.absent)
 
   unfoldable pub named : Span → Span → Text → Reader Tree
-  named start at text = λ s.
-      if is_name s.code.flags text
-      then (if sees kind.Assign s.at then initialized_name start at text s else bare_name start at text s)
-      else reject (fault_at at faults.ExpectedIdent) s
+  named start at text = do
+    as_name may_bind_await at text
+    λ s. if sees kind.Assign s.at then initialized_name start at text s else bare_name start at text s
 
   abbrev pub bare_key : Span → Tree → Reader Tree
   bare_key start (tree.ident at text) = named start at text

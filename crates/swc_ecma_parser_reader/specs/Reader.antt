@@ -20,6 +20,7 @@ use Rattle.swc_ecma_parser_grammar.specs.Follows.{word_at, may_begin_expression_
 use Rattle.swc_ecma_parser_grammar.specs.Variables.{is_const, needs_no_initializer}
 use Rattle.swc_ecma_parser_grammar.specs.Reads.{with_in, head_code, nested_item, top_item}
 use Rattle.swc_ecma_parser_grammar.specs.Own.{labelled_function, duplicates, head_faults}
+use Rattle.swc_ecma_parser_grammar.specs.Using.{is_using_declaration}
 use Rattle.swc_ecma_parser_grammar.specs.Entries.{script_code}
 use Rattle.swc_ecma_parser_grammar.specs.language.Contexts.{in_loop, in_breakable, in_with, without_in}
 use Rattle.swc_ecma_parser_grammar.specs.language.Goals.{Class, expression, assignment, left_side}
@@ -31,8 +32,9 @@ use Rattle.swc_ecma_parser_reader.specs.Methods.{FunctionForm, expression_form, 
 unfoldable pub use Rattle.swc_ecma_parser_reader.specs.Bodies.{closes, at_end, close, directs, after_item, items_turn, items, block_from, block, braced, misdirected, named, function_word, own_name, no_parameter, one_parameter, function_body, function_parts, function_decl, function_expr, getter, setter, plain_method, arrow_block}
 use Rattle.swc_ecma_parser_reader.specs.Members.{member_level, class_expr, class_stmt}
 unfoldable pub use Rattle.swc_ecma_parser_reader.specs.Jumps.{told, target, unbroken, break_stmt, uncontinued, continue_stmt, misplaced, after_return, operand, returned, return_stmt}
+unfoldable pub use Rattle.swc_ecma_parser_reader.specs.Using.{misusing, using_from, using_stmt}
 use Rattle.swc_ecma_parser_reader.specs.Patterns.{pattern_level, element_level, parameter_list}
-use Rattle.swc_ecma_parser_reader.specs.State.{Reader, ◌>>=◌, ◌>>◌, pure, here, span_here, since, skip, moved, spanned_from, coded, flagged, within, below_label, note_module_item, fault, fault_at, end_of, module_fault, wanted, too_deep, refuse, reject, refused, labelled, name, expect, end, stuck, Step, More, Done, loop}
+use Rattle.swc_ecma_parser_reader.specs.State.{Reader, ◌>>=◌, ◌>>◌, pure, here, span_here, since, skip, moved, spanned_from, coded, flagged, within, below_label, note_module_item, fault, fault_at, end_of, module_fault, wanted, too_deep, refuse, reject, refused, labelled, reference, expect, end, stuck, Step, More, Done, loop}
 
 -- ---- statements
 
@@ -386,7 +388,7 @@ module _ (stmt : Position → Reader Tree) where
   unfoldable pub labeled_stmt : Reader Tree
   labeled_stmt = do
     start ← span_here
-    i ← name faults.ExpectedIdent
+    i ← reference faults.ExpectedIdent
     expect kind.Colon
     body ← labelled_body i.sym
     span ← since start
@@ -539,9 +541,13 @@ module _ (stmt : Position → Reader Tree) (expr : Class → Reader Tree) (pat :
   unfoldable pub let_stmt : Position → Reader Tree
   let_stmt at = λ s. if at.include_decl && is_let_declaration s.at then variables expr pat decl.Let s else other_stmt stmt (expr expression) at s
 
+  -- `using` begins a declaration before a name on its line, where declarations are read; else it is a name
+  unfoldable pub using_or_other : Position → Reader Tree
+  using_or_other at = λ s. if at.include_decl && is_using_declaration s.code s.at then using_stmt (declarators expr pat false decl.Var) s else other_stmt stmt (expr expression) at s
+
   -- an async function may stand in the place of any statement
   unfoldable pub async_or_other : Position → Reader Tree
-  async_or_other at = λ s. if is_async_function s.at then function_decl (stmt nested_item) params s else other_stmt stmt (expr expression) at s
+  async_or_other at = λ s. if is_async_function s.at then function_decl (stmt nested_item) params s else using_or_other at s
 
   abbrev pub stmt_by : Position → TokenKind → Reader Tree
   stmt_by at kind.LBrace = block (stmt nested_item)
@@ -616,6 +622,11 @@ parameters n = parameter_list (expr n) (cover n) (pattern n) (element n)
 -- a function as a part of an expression
 unfoldable pub function : ℕ → FunctionForm → Reader Tree
 function n = function_by (stmt n nested_item) (parameters n) (pattern n) (class_expr (expr n left_side) (member n))
+
+-- an object alone, whatever stands behind it, as the attributes of an import are: ECMA-262, section 16.2.2
+unfoldable pub object_alone : ℕ → Reader Tree
+object_alone zero = too_deep
+object_alone (suc n) = exprs.object_level (expr n) (cover n) (function n)
 
 -- ---- the top level: a statement that begins with `await` makes a program a module
 

@@ -1,5 +1,5 @@
 -- What a reader reads from, and the steps that every rule is made of.
-use Rattle.std.specs.Prelude.{◌≡◌, ◌≢◌, ℕ, zero, suc, true, if◌then◌else◌, nat_lt, List, [], ◌∷◌, ◌++◌, length, Option, Some, is_some, Result, Ok, Err}
+use Rattle.std.specs.Prelude.{◌≡◌, ◌≢◌, ℕ, zero, suc, Bool, true, ◌&&◌, if◌then◌else◌, nat_lt, List, [], ◌∷◌, ◌++◌, length, Option, Some, is_some, Result, Ok, Err}
 use Rattle.swc_ecma_parser_common.specs.declared.span.Span.{Span}
 use Rattle.swc_ecma_parser_error.specs.declared.error.Error.{Error}
 use Rattle.swc_ecma_parser_error.specs.Kind as faults
@@ -11,11 +11,12 @@ use Rattle.swc_ecma_parser_token.specs.declared.token.Token.TheVariants as token
 use Rattle.swc_ecma_parser_token.specs.declared.token.TokenAndSpan.{TokenAndSpan}
 use Rattle.swc_ecma_parser_token.specs.Text.{word_text}
 use Rattle.swc_ecma_parser_input.specs.TokenSource.{means_out_of_memory}
+use Rattle.swc_ecma_parser_input.specs.declared.context.Context.{Context}
 use Rattle.swc_ecma_parser_input.specs.Place.{Place, after}
 use Rattle.swc_ecma_parser_model.specs.declared.leaves.Ident.{Ident}
 use Rattle.swc_ecma_parser_model.specs.Tree.{Text}
 use Rattle.swc_ecma_parser_grammar.specs.Looks.{sees, span_at, spanned}
-use Rattle.swc_ecma_parser_grammar.specs.Names.{Code, is_name}
+use Rattle.swc_ecma_parser_grammar.specs.Names.{Code, is_name, is_identifier, may_bind_await}
 use Rattle.swc_ecma_parser_grammar.specs.Ends.{can_end}
 use Rattle.swc_ecma_parser_grammar.specs.Follows.{word_at}
 use Rattle.swc_ecma_parser_grammar.specs.Notes.{as_note}
@@ -236,8 +237,15 @@ expect_word text = λ s. if word_at text s.at then Ok (tt, moved s) else refuse 
 unfoldable pub end : Kind → Reader (Unit {0})
 end missing = λ s. if sees kind.Semi s.at then Ok (tt, moved s) else (if can_end s.at then Ok (tt, s) else refuse missing s)
 
+-- `await` where it is no clean name: it is refused in a static block, else it is a fault, which is recorded behind it
+unfoldable pub unclean_name : Ident → Reader Ident
+unclean_name i = λ s. if may_bind_await s.code.flags then (skip >> (fault (fault_at i.span faults.InvalidIdentInAsync) >> pure i)) s else wanted faults.ExpectedIdent s
+
 abbrev pub name_by : Kind → State → Token → Span → Outcome Ident
-name_by kind s (token.Word w) span = if is_name s.code.flags (word_text w) then Ok (record { span = span; sym = word_text w }, moved s) else wanted kind s
+name_by kind s (token.Word w) span =
+    if is_name s.code.flags (word_text w) then Ok (record { span = span; sym = word_text w }, moved s)
+    else if is_identifier s.code.flags (word_text w) then unclean_name (record { span = span; sym = word_text w }) s
+    else wanted kind s
 name_by kind s _ span = wanted kind s
 
 abbrev pub name_in : Kind → State → List TokenAndSpan → Outcome Ident
@@ -246,6 +254,18 @@ name_in kind s (t ∷ ts) = name_by kind s t.token t.span
 
 unfoldable pub name : Kind → Reader Ident
 name kind = λ s. name_in kind s s.at.left
+
+-- a name that refers to something: `await` is none in async code either
+unfoldable pub reference : Kind → Reader Ident
+reference missing = λ s. if s.code.flags.in_async && sees kind.Await s.at then wanted faults.ExpectedIdent s else name missing s
+
+-- A word that was read before is a name. `await` where it is no clean one is a fault that is recorded, if it may be; any other word
+-- is refused.
+unfoldable pub as_name : (may_await : Context → Bool) → Span → Text → Reader (Unit {0})
+as_name may_await span text = λ s.
+    if is_name s.code.flags text then Ok (tt, s)
+    else if may_await s.code.flags && is_identifier s.code.flags text then fault (fault_at span faults.InvalidIdentInAsync) s
+    else reject (fault_at span faults.ExpectedIdent) s
 
 -- ---- loops, each turn of which takes a token
 

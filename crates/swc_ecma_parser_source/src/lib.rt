@@ -12,7 +12,10 @@ mod wanted;
 pub use around::Around;
 pub use keys::ends_key;
 pub use literal::Literal;
-pub use names::{count_labels, is_identifier, is_label, is_name, is_reserved_word};
+pub use names::{
+    count_labels, is_identifier, is_label, is_name, is_reserved_word, may_bind_await,
+    may_refer_to_await,
+};
 pub use operators::{
     assign_operator, begins_operand, binary_operator, groups_left, mixes, precedence,
     unary_operator, update_operator,

@@ -100,12 +100,29 @@ fn is_reserved(flags: Context, text: &str) -> bool
         || flags.in_generator && text == "yield"
 }
 
-/// Whether a word can name something here.
-#[tactic(auto, unfolding(swc_ecma_parser_grammar::specs::Names::is_name))]
+/// Whether a word names something here without a fault: `await` does not in module code, in async code and in static blocks.
+#[tactic(auto, unfolding(swc_ecma_parser_grammar::specs::Names::is_name, swc_ecma_parser_grammar::specs::Names::is_clean_name))]
 pub fn is_name(flags: Context, text: &str) -> bool
     ensures { result ≡ names.is_name flags text.now }
 {
-    !is_reserved(flags, text) && text != "await"
+    let is_unclean = flags.module || (flags.in_async || flags.in_static_block);
+    is_identifier(flags, text) && !(text == "await" && is_unclean)
+}
+
+/// Whether `await` that is bound is a fault where it is no clean name, and not refused.
+#[tactic(auto, unfolding(swc_ecma_parser_grammar::specs::Names::may_bind_await))]
+pub fn may_bind_await(flags: Context) -> bool
+    ensures { result ≡ names.may_bind_await flags }
+{
+    !flags.in_static_block
+}
+
+/// The same of `await` that refers to something.
+#[tactic(auto, unfolding(swc_ecma_parser_grammar::specs::Names::may_refer_to_await))]
+pub fn may_refer_to_await(flags: Context) -> bool
+    ensures { result ≡ names.may_refer_to_await flags }
+{
+    !(flags.in_async || flags.in_static_block)
 }
 
 /// Whether a word is not reserved here.

@@ -7,6 +7,7 @@ ghost use Rattle.swc_ecma_parser_error.specs.Kind.{fault_of, kind_of, IsOutOfMem
 ghost use Rattle.swc_ecma_parser_grammar.specs.Follows as follows;
 ghost use Rattle.swc_ecma_parser_grammar.specs.Looks as looks;
 ghost use Rattle.swc_ecma_parser_grammar.specs.Names as names;
+ghost use Rattle.swc_ecma_parser_grammar.specs.Using as resources;
 ghost use Rattle.swc_ecma_parser_grammar.specs.language.Begins as begins;
 ghost use Rattle.swc_ecma_parser_model.specs.Tree.{Tree};
 ghost use Rattle.swc_ecma_parser_model.specs.declared.leaves.Ident.{Ident};
@@ -77,6 +78,18 @@ pub trait Source {
     fn auto_accessors(&self) -> bool
         ensures { result ≡ (seen self.now).code.setting.auto_accessors };
 
+    /// Whether decorators are read.
+    fn decorators(&self) -> bool
+        ensures { result ≡ (seen self.now).code.setting.decorators };
+
+    /// Whether decorators may stand before `export`.
+    fn decorators_before_export(&self) -> bool
+        ensures { result ≡ (seen self.now).code.setting.decorators_before_export };
+
+    /// Whether `using` declares.
+    fn explicit_resource_management(&self) -> bool
+        ensures { result ≡ (seen self.now).code.setting.explicit_resource_management };
+
     /// Whether `return` may stand outside of functions.
     fn allow_return_outside_function(&self) -> bool
         ensures { result ≡ (seen self.now).code.setting.allow_return_outside_function };
@@ -108,7 +121,7 @@ pub trait Source {
     fn leave_body(&mut self, around: Around)
         ensures { seen self.new ≡ left_body around (seen self.old) };
 
-    /// Whether a name stands here.
+    /// Whether a word stands here that can be a name, clean or not.
     fn name_at(&self) -> bool
         ensures { result ≡ names.name_at (seen self.now).code.flags (seen self.now).at };
 
@@ -176,6 +189,10 @@ pub trait Source {
     fn is_let_declaration(&self) -> bool
         ensures { result ≡ follows.is_let_declaration (seen self.now).at };
 
+    /// Whether `using` stands here and begins a declaration.
+    fn is_using_declaration(&self) -> bool
+        ensures { result ≡ resources.is_using_declaration (seen self.now).code (seen self.now).at };
+
     /// Takes the current token.
     fn skip(&mut self) -> PResult<()>
         ensures { Gives (reader.skip (seen self.old)) result (seen self.new) };
@@ -236,9 +253,13 @@ pub trait Source {
     fn end(&mut self, wanted: Wanted) -> PResult<()>
         ensures { Gives (reader.end (wanted_kind wanted) (seen self.old)) result (seen self.new) };
 
-    /// A name.
+    /// A name that is bound: `await` where it is no clean one is refused in a static block, else it is a fault.
     fn name(&mut self, wanted: Wanted) -> PResult<Ident>
         ensures { Gives (reader.name (wanted_kind wanted) (seen self.old)) result (seen self.new) };
+
+    /// A name that refers to something: `await` is none in async code either.
+    fn reference(&mut self, wanted: Wanted) -> PResult<Ident>
+        ensures { Gives (reader.reference (wanted_kind wanted) (seen self.old)) result (seen self.new) };
 
     /// A word, reserved or not.
     fn any_word(&mut self) -> PResult<Ident>

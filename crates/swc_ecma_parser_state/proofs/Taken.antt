@@ -1,6 +1,7 @@
 -- Names, literals and shebangs, by the token that stands first.
 use Rattle.std.proofs.Common.{◌≡◌, Bool, true, false, cond, List, [], ◌∷◌, Option, Some, None, Ok, Err, refl, ap, ◌∙◌, sym}
 use Rattle.swc_ecma_parser_common.specs.declared.span.Span.{Span}
+use Rattle.swc_ecma_parser_error.specs.Kind as faults
 use Rattle.swc_ecma_parser_error.specs.Kind.{Kind}
 use Rattle.swc_ecma_parser_token.specs.declared.token.Token.{Token}
 use Rattle.swc_ecma_parser_token.specs.declared.token.Token.TheVariants as token
@@ -8,40 +9,87 @@ use Rattle.swc_ecma_parser_token.specs.declared.token.Word.{Word}
 use Rattle.swc_ecma_parser_token.specs.declared.token.Word.TheVariants as word
 use Rattle.swc_ecma_parser_token.specs.declared.token.TokenAndSpan.{TokenAndSpan}
 use Rattle.swc_ecma_parser_token.specs.Text.{word_text}
+use Rattle.swc_ecma_parser_input.specs.declared.context.Context.{Context}
 use Rattle.swc_ecma_parser_input.specs.Place.{first}
-use Rattle.swc_ecma_parser_grammar.specs.Names.{name_at, first_is_name, token_is_name, is_name}
+use Rattle.swc_ecma_parser_grammar.specs.Names.{is_name, is_clean_name, is_identifier, token_is_identifier, first_is_identifier, identifier_at, name_at, may_bind_await}
 use Rattle.swc_ecma_parser_model.specs.Tree.{Tree, Text}
-use Rattle.swc_ecma_parser_reader.specs.State.{State, moved, name, name_in, name_by, wanted}
+use Rattle.swc_ecma_parser_model.specs.declared.leaves.Ident.{Ident}
+use Rattle.swc_ecma_parser_reader.specs.State.{State, Outcome, and_then, moved, fault, fault_at, name, name_in, name_by, unclean_name, wanted}
 use Rattle.swc_ecma_parser_reader.specs.Expressions.{literal, literal_in, literal_of, taken}
+use Rattle.swc_ecma_parser_reader.specs.Words.{any_word, word_by, word_in}
 use Rattle.swc_ecma_parser_reader.specs.Reader.{shebang, shebang_in, shebang_of, shebang_taken}
-use Rattle.swc_ecma_parser_state.specs.Taken.{is_literal, literal_first, is_shebang, shebang_first}
+use Rattle.swc_ecma_parser_state.specs.Taken.{token_is_clean, clean_first, is_literal, literal_first, is_shebang, shebang_first}
 
 -- ---- names
 
-none_by : (k : Kind) (s : State) (t : Token) (span : Span) → token_is_name s.code.flags t ≡ false → name_by k s t span ≡ wanted k s
+none_by : (k : Kind) (s : State) (t : Token) (span : Span) → token_is_identifier s.code.flags t ≡ false → name_by k s t span ≡ wanted k s
+unfolding is_name is_clean_name
 none_by k s (token.Word w) span h = rw h refl
 none_by k s _ span h = refl
 
-none_in : (k : Kind) (s : State) (ts : List TokenAndSpan) → first_is_name s.code.flags ts ≡ false → name_in k s ts ≡ wanted k s
+none_in : (k : Kind) (s : State) (ts : List TokenAndSpan) → first_is_identifier s.code.flags ts ≡ false → name_in k s ts ≡ wanted k s
 none_in k s [] h = refl
 none_in k s (t ∷ ts) h = none_by k s t.token t.span h
 
 pub name_none : (k : Kind) (s : State) → name_at s.code.flags s.at ≡ false → name k s ≡ wanted k s
-unfolding name name_at
+unfolding name identifier_at
 name_none k s h = none_in k s s.at.left h
 
-taken_by : (k : Kind) (s : State) (t : TokenAndSpan) (w : Word) → t.token ≡ token.Word w → token_is_name s.code.flags t.token ≡ true → name_by k s t.token t.span ≡ Ok (record { span = t.span; sym = word_text w }, moved s)
-taken_by k s t w e h = let g : is_name s.code.flags (word_text w) ≡ true = ap (token_is_name s.code.flags) (sym e) ∙ h in rw (e, g) refl
+-- a clean name is any word
+clean_by : (k : Kind) (s : State) (t : Token) (span : Span) → token_is_clean s.code.flags t ≡ true → name_by k s t span ≡ word_by s t span
+clean_by k s (token.Word w) span h = rw h refl
+clean_by k s _ span h = cc
 
-taken_in : (k : Kind) (s : State) (ts : List TokenAndSpan) (t : TokenAndSpan) (w : Word) → Some t ≡ first ts → t.token ≡ token.Word w → first_is_name s.code.flags ts ≡ true
-    → name_in k s ts ≡ Ok (record { span = t.span; sym = word_text w }, moved s)
-taken_in k s [] t w f e h = cc
-taken_in k s (u ∷ us) t w f e h = let g : t ≡ u = cc in rw (← g) (taken_by k s t w e (rw g h))
+clean_in : (k : Kind) (s : State) (ts : List TokenAndSpan) → clean_first s.code.flags ts ≡ true → name_in k s ts ≡ word_in s ts
+clean_in k s [] h = cc
+clean_in k s (t ∷ ts) h = clean_by k s t.token t.span h
 
-pub name_taken : (k : Kind) (s : State) (t : TokenAndSpan) (w : Word) → Some t ≡ first s.at.left → t.token ≡ token.Word w → name_at s.code.flags s.at ≡ true
-    → name k s ≡ Ok (record { span = t.span; sym = word_text w }, moved s)
-unfolding name name_at
-name_taken k s t w f e h = taken_in k s s.at.left t w f e h
+pub name_clean : (k : Kind) (s : State) → clean_first s.code.flags s.at.left ≡ true → name k s ≡ any_word s
+unfolding name any_word
+name_clean k s h = clean_in k s s.at.left h
+
+-- `await` where it is no clean name
+
+unclean_by : (k : Kind) (s : State) (t : Token) (span : Span) (w : Word) → t ≡ token.Word w → token_is_identifier s.code.flags t ≡ true → token_is_clean s.code.flags t ≡ false
+    → name_by k s t span ≡ unclean_name (record { span = span; sym = word_text w }) s
+unclean_by k s t span w e h g =
+    let i : is_identifier s.code.flags (word_text w) ≡ true = ap (token_is_identifier s.code.flags) (sym e) ∙ h in
+    let c : is_name s.code.flags (word_text w) ≡ false = ap (token_is_clean s.code.flags) (sym e) ∙ g in rw (e, c, i) refl
+
+-- where it is a fault it is any word too, and the fault is recorded behind it
+abbrev told : Outcome Ident → Outcome Ident
+told o = and_then o (λ i u. and_then (fault (fault_at i.span faults.InvalidIdentInAsync) u) (λ _ v. Ok (i, v)))
+
+told_by : (k : Kind) (s : State) (t : Token) (span : Span) → token_is_identifier s.code.flags t ≡ true → token_is_clean s.code.flags t ≡ false → may_bind_await s.code.flags ≡ true
+    → name_by k s t span ≡ told (word_by s t span)
+unfolding unclean_name
+told_by k s (token.Word w) span h g b = rw (g, h, b) refl
+told_by k s _ span h g b = cc
+
+told_in : (k : Kind) (s : State) (ts : List TokenAndSpan) → first_is_identifier s.code.flags ts ≡ true → clean_first s.code.flags ts ≡ false → may_bind_await s.code.flags ≡ true
+    → name_in k s ts ≡ told (word_in s ts)
+told_in k s [] h g b = cc
+told_in k s (t ∷ ts) h g b = told_by k s t.token t.span h g b
+
+pub name_unclean : (k : Kind) (s : State) → name_at s.code.flags s.at ≡ true → clean_first s.code.flags s.at.left ≡ false → may_bind_await s.code.flags ≡ true
+    → name k s ≡ and_then (any_word s) (λ i u. and_then (fault (fault_at i.span faults.InvalidIdentInAsync) u) (λ _ v. Ok (i, v)))
+unfolding name any_word identifier_at
+name_unclean k s h g b = told_in k s s.at.left h g b
+
+-- an identifier is a word
+is_a_word : (f : Context) (t : Token) → token_is_identifier f t ≡ true → (w : Word) × (t ≡ token.Word w)
+is_a_word f (token.Word w) h = (w, refl)
+is_a_word f _ h = cc
+
+refused_in : (k : Kind) (s : State) (ts : List TokenAndSpan) → first_is_identifier s.code.flags ts ≡ true → clean_first s.code.flags ts ≡ false → may_bind_await s.code.flags ≡ false
+    → name_in k s ts ≡ wanted faults.ExpectedIdent s
+unfolding unclean_name
+refused_in k s [] h g b = cc
+refused_in k s (t ∷ ts) h g b = let (w, e) = is_a_word s.code.flags t.token h in unclean_by k s t.token t.span w e h g ∙ rw b refl
+
+pub name_refused : (k : Kind) (s : State) → name_at s.code.flags s.at ≡ true → clean_first s.code.flags s.at.left ≡ false → may_bind_await s.code.flags ≡ false → name k s ≡ wanted faults.ExpectedIdent s
+unfolding name identifier_at
+name_refused k s h g b = refused_in k s s.at.left h g b
 
 -- ---- literals
 

@@ -1,9 +1,21 @@
--- Which tokens are literals and shebangs.
+-- Which tokens are clean names, literals and shebangs.
 use Rattle.std.specs.Prelude.{Bool, true, false, List, [], ◌∷◌}
 use Rattle.swc_ecma_parser_token.specs.declared.token.Token.{Token}
 use Rattle.swc_ecma_parser_token.specs.declared.token.Token.TheVariants as token
 use Rattle.swc_ecma_parser_token.specs.declared.token.Word.TheVariants as word
 use Rattle.swc_ecma_parser_token.specs.declared.token.TokenAndSpan.{TokenAndSpan}
+use Rattle.swc_ecma_parser_token.specs.Text.{word_text}
+use Rattle.swc_ecma_parser_input.specs.declared.context.Context.{Context}
+use Rattle.swc_ecma_parser_grammar.specs.Names.{is_name}
+
+-- whether a clean name stands first
+abbrev pub token_is_clean : Context → Token → Bool
+token_is_clean f (token.Word w) = is_name f (word_text w)
+token_is_clean f _ = false
+
+abbrev pub clean_first : Context → List TokenAndSpan → Bool
+clean_first f [] = false
+clean_first f (t ∷ ts) = token_is_clean f t.token
 
 abbrev pub is_literal : Token → Bool
 is_literal (token.Str value raw) = true

@@ -5,6 +5,7 @@ ghost use Rattle.swc_ecma_parser_grammar.specs.Ends as ends;
 ghost use Rattle.swc_ecma_parser_grammar.specs.Follows as follows;
 ghost use Rattle.swc_ecma_parser_grammar.specs.Looks as looks;
 ghost use Rattle.swc_ecma_parser_grammar.specs.Names as names;
+ghost use Rattle.swc_ecma_parser_grammar.specs.Using as resources;
 ghost use Rattle.swc_ecma_parser_grammar.specs.language.Begins as begins;
 ghost use Rattle.swc_ecma_parser_input.specs.Place as place;
 ghost use Rattle.swc_ecma_parser_reader.specs.AsyncArrows as async_arrows;
@@ -14,7 +15,7 @@ ghost use Rattle.swc_ecma_parser_reader.specs.Methods as methods;
 use crate::state::State;
 use swc_ecma_parser_grammar::Position;
 use swc_ecma_parser_input::Tokens;
-use swc_ecma_parser_source::{begins_operand, ends_key, is_identifier, is_name, is_reserved_word};
+use swc_ecma_parser_source::{begins_operand, ends_key, is_identifier, is_reserved_word};
 use swc_ecma_parser_token::{Token, TokenAndSpan, TokenKind, Word};
 
 /// Whether it is an operator between two operands that is no word.
@@ -209,8 +210,8 @@ impl<I: Tokens> State<I> {
         self.word_at("async") && self.next_sees(TokenKind::LParen) && !self.next_had_line_break()
     }
 
-    /// Whether a name stands behind the current token.
-    #[tactic(auto, unfolding(swc_ecma_parser_grammar::specs::Names::name_at, swc_ecma_parser_input::specs::Place::after))]
+    /// Whether a word that can be a name stands behind the current token.
+    #[tactic(auto, unfolding(swc_ecma_parser_grammar::specs::Names::identifier_at, swc_ecma_parser_input::specs::Place::after))]
     fn next_is_name(&self) -> bool
         ensures { result ≡ names.name_at self.now.code.flags (place.after self.now.at) }
     {
@@ -220,7 +221,7 @@ impl<I: Tokens> State<I> {
                     token: Token::Word(word),
                     ..
                 },
-            ) => is_name(self.flags(), word.as_str()),
+            ) => is_identifier(self.flags(), word.as_str()),
             _ => false,
         }
     }
@@ -290,6 +291,14 @@ impl<I: Tokens> State<I> {
         ensures { result ≡ follows.is_let_declaration self.now.at }
     {
         self.sees(TokenKind::Let) && self.next_follows_let()
+    }
+
+    /// Whether `using` stands here and begins a declaration: a name stands behind it on its line.
+    #[tactic(auto, unfolding(swc_ecma_parser_grammar::specs::Using::is_using_declaration))]
+    pub fn is_using_declaration(&self) -> bool
+        ensures { result ≡ resources.is_using_declaration self.now.code self.now.at }
+    {
+        self.word_at("using") && self.next_is_identifier() && !self.next_had_line_break()
     }
 
     /// The look-ahead of an expression statement: ECMA-262, section 14.5.

@@ -49,6 +49,18 @@ impl<I: Tokens> Source for State<I> {
         State::auto_accessors(self)
     }
 
+    fn decorators(&self) -> bool {
+        State::decorators(self)
+    }
+
+    fn decorators_before_export(&self) -> bool {
+        State::decorators_before_export(self)
+    }
+
+    fn explicit_resource_management(&self) -> bool {
+        State::explicit_resource_management(self)
+    }
+
     fn allow_return_outside_function(&self) -> bool {
         State::allow_return_outside_function(self)
     }
@@ -145,6 +157,10 @@ impl<I: Tokens> Source for State<I> {
         State::is_let_declaration(self)
     }
 
+    fn is_using_declaration(&self) -> bool {
+        State::is_using_declaration(self)
+    }
+
     fn skip(&mut self) -> PResult<()> {
         State::skip(self)
     }
@@ -199,6 +215,10 @@ impl<I: Tokens> Source for State<I> {
 
     fn name(&mut self, wanted: Wanted) -> PResult<Ident> {
         State::name(self, wanted)
+    }
+
+    fn reference(&mut self, wanted: Wanted) -> PResult<Ident> {
+        State::reference(self, wanted)
     }
 
     fn any_word(&mut self) -> PResult<Ident> {

@@ -5,12 +5,13 @@ ghost use Rattle.std.specs.Str.{bytes_eq};
 ghost use Rattle.swc_ecma_parser_grammar.specs.Looks as looks;
 ghost use Rattle.swc_ecma_parser_grammar.specs.Names as names;
 ghost use Rattle.swc_ecma_parser_input.specs.Place as place;
+ghost use Rattle.swc_ecma_parser_state.specs.Taken as taken;
 
 use std::marker::Model;
 use swc_ecma_parser_common::{Atom, Span};
 use swc_ecma_parser_input::{Buffer, Context, Tokens};
 use swc_ecma_parser_reader::Mark;
-use swc_ecma_parser_source::{count_labels, is_label, is_name};
+use swc_ecma_parser_source::{count_labels, is_identifier, is_label, is_name};
 use swc_ecma_parser_token::{Token, TokenAndSpan, TokenKind};
 
 /// A source of tokens behind its buffer, the labels around the place that it has come to, and what a call has met.
@@ -141,6 +142,27 @@ impl<I: Tokens> State<I> {
         self.buffer.syntax().es().auto_accessors
     }
 
+    /// Whether decorators are read.
+    pub fn decorators(&self) -> bool
+        ensures { result ≡ self.now.code.setting.decorators }
+    {
+        self.buffer.syntax().es().decorators
+    }
+
+    /// Whether decorators may stand before `export`.
+    pub fn decorators_before_export(&self) -> bool
+        ensures { result ≡ self.now.code.setting.decorators_before_export }
+    {
+        self.buffer.syntax().es().decorators_before_export
+    }
+
+    /// Whether `using` declares.
+    pub fn explicit_resource_management(&self) -> bool
+        ensures { result ≡ self.now.code.setting.explicit_resource_management }
+    {
+        self.buffer.syntax().es().explicit_resource_management
+    }
+
     /// Whether `return` may stand outside of functions.
     pub fn allow_return_outside_function(&self) -> bool
         ensures { result ≡ self.now.code.setting.allow_return_outside_function }
@@ -162,10 +184,25 @@ impl<I: Tokens> State<I> {
         count_labels(&self.labels, text)
     }
 
-    /// Whether a name stands here.
-    #[tactic(auto, unfolding(swc_ecma_parser_grammar::specs::Names::name_at))]
+    /// Whether a word stands here that can be a name, clean or not.
+    #[tactic(auto, unfolding(swc_ecma_parser_grammar::specs::Names::identifier_at))]
     pub fn name_at(&self) -> bool
         ensures { result ≡ names.name_at self.now.code.flags self.now.at }
+    {
+        match self.buffer.cur() {
+            Some(
+                TokenAndSpan {
+                    token: Token::Word(word),
+                    ..
+                },
+            ) => is_identifier(self.buffer.ctx(), word.as_str()),
+            _ => false,
+        }
+    }
+
+    /// Whether it is a clean one.
+    pub fn clean_name_at(&self) -> bool
+        ensures { result ≡ taken.clean_first self.now.code.flags self.now.at.left }
     {
         match self.buffer.cur() {
             Some(

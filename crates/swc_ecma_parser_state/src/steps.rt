@@ -28,7 +28,7 @@ use swc_ecma_parser_error::{Error, PResult, SyntaxError};
 use swc_ecma_parser_input::{Context, Tokens};
 use swc_ecma_parser_model::{BigInt, Bool, Ident, Null, Number, Str};
 use swc_ecma_parser_reader::Mark;
-use swc_ecma_parser_source::{Around, Literal, Wanted, missing};
+use swc_ecma_parser_source::{Around, Literal, Wanted, may_bind_await, missing};
 use swc_ecma_parser_token::{Token, TokenAndSpan, TokenKind, Word};
 
 impl<I: Tokens> State<I> {
@@ -337,25 +337,34 @@ impl<I: Tokens> State<I> {
         Err(self.refuse(wanted))
     }
 
-    /// A name.
-    #[tactic(auto, using(crate::proofs::Taken::name_none, crate::proofs::Taken::name_taken))]
+    /// A name that is bound: `await` where it is no clean one is refused in a static block, else it is a fault.
+    #[tactic(auto, using(crate::proofs::Taken::name_none, crate::proofs::Taken::name_clean, crate::proofs::Taken::name_refused, crate::proofs::Taken::name_unclean))]
     pub fn name(&mut self, wanted: Wanted) -> PResult<Ident>
         ensures { Gives (reader.name (wanted_kind wanted) self.old) result self.new }
     {
         if !self.name_at() {
             return Err(self.wanted(wanted));
         }
-        let Some(taken) = self.take()? else {
-            return Err(self.out_of_memory());
-        };
-        let TokenAndSpan { token, span, .. } = taken;
-        let Token::Word(word) = token else {
-            return Err(self.out_of_memory());
-        };
-        match self.word_atom(word) {
-            Ok(sym) => Ok(Ident { span, sym }),
-            Err(error) => Err(error),
+        if self.clean_name_at() {
+            return self.any_word();
         }
+        if !may_bind_await(self.flags()) {
+            return Err(self.wanted(Wanted::Name));
+        }
+        let name = self.any_word()?;
+        self.fault(SyntaxError::InvalidIdentInAsync, name.span)?;
+        Ok(name)
+    }
+
+    /// A name that refers to something: `await` is none in async code either.
+    #[tactic(auto, unfolding(swc_ecma_parser_reader::specs::State::reference))]
+    pub fn reference(&mut self, wanted: Wanted) -> PResult<Ident>
+        ensures { Gives (reader.reference (wanted_kind wanted) self.old) result self.new }
+    {
+        if self.flags().in_async && self.sees(TokenKind::Await) {
+            return Err(self.wanted(Wanted::Name));
+        }
+        self.name(wanted)
     }
 
     /// A word, reserved or not.

@@ -5,4 +5,5 @@
 pub mod jump;
 pub mod leave;
 pub mod simple;
+pub mod using;
 pub mod variables;

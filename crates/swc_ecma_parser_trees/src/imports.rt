@@ -1,6 +1,6 @@
 //! Imports.
 
-ghost use Rattle.std.specs.Prelude.{◌≡◌, IfOk, map};
+ghost use Rattle.std.specs.Prelude.{◌≡◌, IfOk, IfSome, is_some, map};
 
 use crate::item::BuildsItem;
 use crate::object::BuildsObject;
@@ -11,6 +11,7 @@ use swc_ecma_parser_model::{Ident, ImportPhase, Str};
 /// Makes imports and their parts: ECMA-262, section 16.2.2. Each function fails only where memory runs out, and spans are
 /// in byte offsets.
 pub trait BuildsImport: BuildsItem + BuildsObject {
+    ghost use Rattle.swc_ecma_parser_model.specs.Kinds as kinds;
     ghost use Rattle.swc_ecma_parser_model.specs.Tree as tree;
     ghost use Rattle.swc_ecma_parser_model.specs.Tree.{Tree};
     ghost use Rattle.swc_ecma_parser_trees.specs.Parts as parts;
@@ -25,14 +26,10 @@ pub trait BuildsImport: BuildsItem + BuildsObject {
 
     ghost attributes_of: { Self.Attributes → Tree };
 
-    /// The object behind `with`; the span covers its braces.
-    fn attributes(
-        alloc: Global,
-        span: Span,
-        props: Vec<Self::Prop>,
-    ) -> Result<Self::Attributes, AllocError>
-        ensures { IfOk result (λ x. attributes_of x
-            ≡ tree.object span (tree.listed (map Self.prop_of props.items))) };
+    /// An object as what stands behind `with`. None of another expression.
+    fn attributes(object: Self::Expr) -> Option<Self::Attributes>
+        ensures made { IfSome result (λ x. attributes_of x ≡ Self.expr_of object) }
+        ensures found { is_some result ≡ kinds.is_object (Self.expr_of object) };
 
     /// A name in braces, with the one that it is exported by where that is written.
     fn import_named(

@@ -192,4 +192,5 @@ pub trait BuildsStatements: BuildsExpr
     + BuildsTry
     + BuildsLoop
     + BuildsFor
-    + BuildsClassDecl {}
+    + BuildsClassDecl
+    + BuildsVarDecl {}

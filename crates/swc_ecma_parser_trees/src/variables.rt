@@ -49,6 +49,10 @@ pub trait BuildsVariables: Trees {
     fn declared_span(declarator: &Self::Declarator) -> Span
         ensures { result ≡ forms.span_of (within.declared_name (declarator_of declarator.now)) };
 
+    /// Whether a declarator declares a plain name, and no pattern.
+    fn declares_name(declarator: &Self::Declarator) -> bool
+        ensures { result ≡ forms.is_binding_name (within.declared_name (declarator_of declarator.now)) };
+
     /// Whether a declarator has an initializer.
     fn is_initialized(declarator: &Self::Declarator) -> bool
         ensures { result ≡ within.is_initialized (declarator_of declarator.now) };

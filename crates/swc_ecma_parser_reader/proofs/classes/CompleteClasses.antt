@@ -19,7 +19,7 @@ use Rattle.swc_ecma_parser_model.specs.Tree as tree
 use Rattle.swc_ecma_parser_model.specs.Tree.{Tree, listed, trees}
 use Rattle.swc_ecma_parser_model.specs.Forms.{is_absent}
 use Rattle.swc_ecma_parser_grammar.specs.Looks.{kind_at, first_kind, sees, same_kind, span_at, spanned}
-use Rattle.swc_ecma_parser_grammar.specs.Names.{Code, is_name, is_reserved, token_is_name, first_is_name, name_at}
+use Rattle.swc_ecma_parser_grammar.specs.Names.{Code, is_name, is_reserved, token_is_identifier, first_is_identifier, name_at, identifier_at, is_identifier}
 use Rattle.swc_ecma_parser_grammar.specs.Notes.{notes}
 use Rattle.swc_ecma_parser_grammar.specs.Own.{second_constructor}
 use Rattle.swc_ecma_parser_grammar.specs.Reads.{with_in}
@@ -53,25 +53,25 @@ use Rattle.swc_ecma_parser_reader.proofs.classes.Shared.{MemberFollows}
 
 -- ---- the name of a class, or none before `extends` and `{`
 
-extends_keyword : (f : Context) (k : Keyword) → keyword_kind k ≡ kind.Extends → is_name f (word_text (word.Keyword k)) ≡ false
-unfolding is_name is_reserved
+extends_keyword : (f : Context) (k : Keyword) → keyword_kind k ≡ kind.Extends → is_identifier f (word_text (word.Keyword k)) ≡ false
+unfolding is_identifier is_reserved
 extends_keyword f keyword.Extends e = refl
 extends_keyword f _ e = cc
 
-extends_word : (f : Context) (w : Word) → word_kind w ≡ kind.Extends → is_name f (word_text w) ≡ false
+extends_word : (f : Context) (w : Word) → word_kind w ≡ kind.Extends → is_identifier f (word_text w) ≡ false
 extends_word f (word.Keyword k) e = extends_keyword f k e
 extends_word f _ e = cc
 
-extends_token : (f : Context) (t : Token) → token_kind t ≡ kind.Extends → token_is_name f t ≡ false
+extends_token : (f : Context) (t : Token) → token_kind t ≡ kind.Extends → token_is_identifier f t ≡ false
 extends_token f (token.Word w) e = extends_word f w e
 extends_token f _ e = refl
 
-extends_first : (f : Context) (ts : List TokenAndSpan) → first_kind ts ≡ kind.Extends → first_is_name f ts ≡ false
+extends_first : (f : Context) (ts : List TokenAndSpan) → first_kind ts ≡ kind.Extends → first_is_identifier f ts ≡ false
 extends_first f [] e = refl
 extends_first f (t ∷ ts) e = extends_token f t.token e
 
 extends_here : (f : Context) (c : Place) → kind_at c ≡ kind.Extends → name_at f c ≡ false
-unfolding name_at kind_at
+unfolding identifier_at kind_at
 extends_here f c e = extends_first f c.left e
 
 -- no name begins a heritage or, without one, the members
@@ -84,7 +84,7 @@ named_reads : (k : Code) (x : Tree) (c d : Place) → OptionalName k x c d → i
 unfolding named
 named_reads k x c d (no_name i e) a s w f h = let b = sym (ap is_absent e) ∙ a in cc
 named_reads k x c d (a_name text sp r e) a s w f h =
-    let b = name_is_name k text sp c d r (supported_as k.flags.module x _ e s) in
+    let b = name_is_name k text sp c d r in
     rw (name_reads faults.ExpectedIdent r.word sp c d k w f h r.reads_word b, e, r.is_text) refl
 
 name_quiet : {k : Code} {x : Tree} {c d : Place} (labels : List tree.Text) (j : Code) → OptionalName k x c d → (walk (env_of j labels) x ≡ []) × (notes x ≡ []) × (has_meta x ≡ false)
@@ -106,8 +106,8 @@ module _ (n : ℕ) (below : Below n) (reads_member : (k : Code) (x : Tree) (c d 
   unfolding class_name
   name_read k x c d (no_name i e) a s w f h = rw (ap (name_at k.flags) (sym i) ∙ a, i, e) refl
   name_read k x c d (a_name text sp r e) a s w f h =
-      let b = name_is_name k text sp c d r (supported_as k.flags.module x _ e s) in
-      rw (kinds.named (token.Word r.word) sp c d k true r.reads_word b) (named_reads k x c d (a_name text sp r e) (ap is_absent e) s w f h)
+      let b = name_is_name k text sp c d r in
+      rw (kinds.named_word r.word sp c d k r.reads_word b) (named_reads k x c d (a_name text sp r e) (ap is_absent e) s w f h)
 
   extended_reads : (k : Code) (x : Tree) (c d : Place) → HeritageRule (language.Reads n) k x c d → kind_at d ≡ kind.LBrace → supported_in k.flags.module x ≡ true
       → Reads (extended (expr n left_side) (member n)) k x c d

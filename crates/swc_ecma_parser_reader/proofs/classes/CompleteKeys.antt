@@ -37,7 +37,7 @@ use Rattle.swc_ecma_parser_reader.specs.Notes.{Notes}
 use Rattle.swc_ecma_parser_reader.specs.State.{Scope, Outcome, Reader}
 use Rattle.swc_ecma_parser_reader.specs.Expressions.{Cover}
 use Rattle.swc_ecma_parser_reader.specs.Methods.{MethodForm, getter_form, setter_form, method_form, star, starred}
-use Rattle.swc_ecma_parser_reader.specs.Members.{static_word, begins_accessor, begins_async_member, member_words, kind_of_form, form_is_async, form_is_generator, private_key, member_key}
+use Rattle.swc_ecma_parser_reader.specs.Members.{static_word, begins_accessor, begins_async_member, begins_words, member_words, kind_of_form, form_is_async, form_is_generator, private_key, member_key}
 use Rattle.swc_ecma_parser_reader.proofs.Answered.{st, Reads}
 use Rattle.swc_ecma_parser_reader.proofs.expressions.CompleteKinds.{seen, token_first, worded, bracket_here, no_hash}
 use Rattle.swc_ecma_parser_reader.proofs.expressions.CompleteMethods.{apart, unworded, star_unworded}
@@ -184,6 +184,10 @@ module _ {In : Goal → Type 0} {k : Code} {x : Tree} {c d : Place} (r : MemberK
   pub no_async_here : begins_async_member c ≡ false
   unfolding begins_async_member
   no_async_here = unmodified modifies (codes "async") r (λ _. e.no_modifier)
+
+  pub no_words_here : begins_words c ≡ false
+  unfolding begins_words
+  no_words_here = rw (no_getter_here, no_setter_here, no_async_here, (key_begins_member r).1) refl
 
   -- so nothing stands before it
   pub bare_words : (w : Scope) (f : List Fault) (h : Notes) → member_words (st c k w f h) ≡ Ok (method_form false false, st c k w f h)

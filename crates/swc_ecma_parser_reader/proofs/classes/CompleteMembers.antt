@@ -41,7 +41,7 @@ use Rattle.swc_ecma_parser_reader.specs.Notes.{Notes, ◌⊕◌, notes_of, all_n
 use Rattle.swc_ecma_parser_reader.specs.State.{Scope}
 use Rattle.swc_ecma_parser_reader.specs.Methods.{MethodForm, getter_form, setter_form, method_form}
 use Rattle.swc_ecma_parser_reader.specs.Members as members
-use Rattle.swc_ecma_parser_reader.specs.Members.{kind_of_form, form_is_async, form_is_generator, parameter_faults, misnamed, method_parts, method, constructor, plain_method, static_block, behind_key, keyed_member, full_member, empty_member, member_level, field_end, field_named, field_value, field_from, field}
+use Rattle.swc_ecma_parser_reader.specs.Members.{kind_of_form, form_is_async, form_is_generator, parameter_faults, misnamed, method_parts, method, constructor, plain_method, static_block, behind_key, keyed_member, begins_no_field, behind_accessed_key, accessed_key, accessed, accessor_member, full_member, empty_member, member_level, field_end, field_named, field_value, field_from, field}
 use Rattle.swc_ecma_parser_reader.specs.Reader.{expr, cover, stmt, parameters, braced, function_body, misdirected}
 use Rattle.swc_ecma_parser_reader.proofs.Answered.{st, Reads}
 use Rattle.swc_ecma_parser_reader.proofs.Below.{Below, parameters_reads}
@@ -50,8 +50,9 @@ use Rattle.swc_ecma_parser_reader.proofs.CompleteParts.{told_reads}
 use Rattle.swc_ecma_parser_reader.proofs.Errors.{is_error}
 use Rattle.swc_ecma_parser_reader.proofs.Notes.{or_nil, or_true, or_assoc}
 use Rattle.swc_ecma_parser_reader.proofs.SoundFunctions.{parameters_walk, parameters_notes}
-use Rattle.swc_ecma_parser_reader.proofs.classes.CompleteKeys.{static_reads, member_key_reads, Ended, paren_ended, assign_ended, bare_words, by_form, words_read, Keyed, key_keyed, head_keyed}
+use Rattle.swc_ecma_parser_reader.proofs.classes.CompleteKeys.{static_reads, member_key_reads, Ended, paren_ended, assign_ended, bare_words, no_words_here, by_form, words_read, Keyed, key_keyed, head_keyed}
 use Rattle.swc_ecma_parser_reader.proofs.classes.Shared.{MemberFollows}
+use Rattle.swc_ecma_parser_reader.proofs.classes.Words.{auto_accessor_kind}
 use Rattle.swc_ecma_parser_reader.proofs.expressions.CompleteKinds.{seen, supported_as}
 use Rattle.swc_ecma_parser_reader.proofs.expressions.CompleteParts.{inside_reads}
 
@@ -72,15 +73,18 @@ module _ (s : Span) (key fn : Tree) (form : MethodKind) (is_static : Bool) where
   method_meta = either has_meta (is_private key) (tree.private_method s key fn form is_static) (tree.method s key fn form is_static) (has_meta key || has_meta fn) refl refl
 
 module _ (s : Span) (key value : Tree) (is_static : Bool) where
-  field_walk : (env : Env) → walk env (field_member s key value is_static false (listed [])) ≡ walk env key ++ walk env value
-  field_walk env =
+  field_walk : (is_accessor : Bool) (env : Env) → walk env (field_member s key value is_static is_accessor (listed [])) ≡ walk env key ++ walk env value
+  field_walk true env = refl
+  field_walk false env =
       either (walk env) (is_private key) (tree.private_prop s key value is_static (listed [])) (tree.class_prop s key value is_static (listed [])) (walk env key ++ walk env value) refl refl
 
-  field_noted : notes (field_member s key value is_static false (listed [])) ≡ notes key ++ notes value
-  field_noted = either notes (is_private key) (tree.private_prop s key value is_static (listed [])) (tree.class_prop s key value is_static (listed [])) (notes key ++ notes value) refl refl
+  field_noted : (is_accessor : Bool) → notes (field_member s key value is_static is_accessor (listed [])) ≡ notes key ++ notes value
+  field_noted true = refl
+  field_noted false = either notes (is_private key) (tree.private_prop s key value is_static (listed [])) (tree.class_prop s key value is_static (listed [])) (notes key ++ notes value) refl refl
 
-  field_meta : has_meta (field_member s key value is_static false (listed [])) ≡ (has_meta key || has_meta value)
-  field_meta = either has_meta (is_private key) (tree.private_prop s key value is_static (listed [])) (tree.class_prop s key value is_static (listed [])) (has_meta key || has_meta value) refl refl
+  field_meta : (is_accessor : Bool) → has_meta (field_member s key value is_static is_accessor (listed [])) ≡ (has_meta key || has_meta value)
+  field_meta true = refl
+  field_meta false = either has_meta (is_private key) (tree.private_prop s key value is_static (listed [])) (tree.class_prop s key value is_static (listed [])) (has_meta key || has_meta value) refl refl
 
 -- ---- what is supported of them
 
@@ -108,9 +112,13 @@ method_supported m s key fn form is_static h = by_key (is_private key) h
     by_key true i = let l = parts (is_supported_property_in m key) i in (or_true (is_supported_key_in m key), l.1, l.2)
     by_key false i = let l = parts (is_supported_key_in m key) i in (plainly (is_supported_key_in m key) false l.0, l.1, l.2)
 
-field_supported : (m : Bool) (s : Span) (key value : Tree) (is_static : Bool) (ds : Tree) → supported_in m (field_member s key value is_static false ds) ≡ true
+field_supported : (m : Bool) (s : Span) (key value : Tree) (is_static is_accessor : Bool) (ds : Tree) → supported_in m (field_member s key value is_static is_accessor ds) ≡ true
     → (has_none ds ≡ true) × Keyable m key × (supported_in m value ≡ true)
-field_supported m s key value is_static ds h = by_key (is_private key) h
+field_supported m s key value is_static true ds h =
+    let o = and_yes (has_none ds) _ h in
+    let l = and_yes (is_supported_key_in m key || is_private key) _ o.1 in
+    (o.0, l.0, l.1)
+field_supported m s key value is_static false ds h = by_key (is_private key) h
   where
     parts : (b : Bool) → (has_none ds && (b && supported_in m value)) ≡ true → (has_none ds ≡ true) × (b ≡ true) × (supported_in m value ≡ true)
     parts b i = let o = and_yes (has_none ds) _ i in let l = and_yes b _ o.1 in (o.0, l.0, l.1)
@@ -120,26 +128,19 @@ field_supported m s key value is_static ds h = by_key (is_private key) h
     by_key true i = let l = parts (is_supported_property_in m key) i in (l.0, or_true (is_supported_key_in m key), l.2)
     by_key false i = let l = parts (is_supported_key_in m key) i in (l.0, plainly (is_supported_key_in m key) false l.1, l.2)
 
--- no auto-accessor is
-field_unaccessed : (m : Bool) (s : Span) (key value : Tree) (is_static is_accessor : Bool) (ds : Tree) → supported_in m (field_member s key value is_static is_accessor ds) ≡ true → is_accessor ≡ false
-field_unaccessed m s key value is_static true ds h = absurd (true≢false (sym h))
-field_unaccessed m s key value is_static false ds h = refl
-
 none_is : (x : Tree) → x ≡ listed [] → has_none x ≡ true
 none_is x e = ap has_none e
 
--- what is supported of a member: it has no decorators and is no auto-accessor
+-- what is supported of a member: it has no decorators
 core_plain : {In : Goal → Type 0} {k : Code} {is_static is_accessor : Bool} {ds x : Tree} {c m d : Place} → CoreRule In k is_static is_accessor ds x c m d → supported_in k.flags.module x ≡ true
-    → (has_none ds ≡ true) × (is_accessor ≡ false)
-core_plain {ds = ds} (constructor_rule key ps body i j f a e r b p q g) s = (none_is ds e, a)
+    → has_none ds ≡ true
+core_plain {ds = ds} (constructor_rule key ps body i j f a e r b p q g) s = none_is ds e
 core_plain {k = k} {is_static = is_static} {ds = ds} {x = x} {c = c} {d = d} (method_rule form a g key ps body b r i e) s =
     let t = method_supported k.flags.module (spanned c d) key (tree.function (spanned c d) ds (parameter_trees ps) body a g) form is_static (supported_as _ x _ e s) in
-    ((and_yes (has_none ds) _ t.1).0, b)
+    (and_yes (has_none ds) _ t.1).0
 core_plain {k = k} {is_static = is_static} {is_accessor = is_accessor} {ds = ds} {x = x} {c = c} {d = d} (field_rule key value i j r b v g e) s =
-    let h = supported_as _ x (field_member (spanned c d) key value is_static is_accessor ds) e s in
-    let a = field_unaccessed k.flags.module (spanned c d) key value is_static is_accessor ds h in
-    ((field_supported k.flags.module (spanned c d) key value is_static ds (subst (λ z. supported_in k.flags.module (field_member (spanned c d) key value is_static z ds) ≡ true) a h)).0, a)
-core_plain {ds = ds} (static_block_rule body f a e r g) s = (none_is ds e, a)
+    (field_supported k.flags.module (spanned c d) key value is_static is_accessor ds (supported_as _ x (field_member (spanned c d) key value is_static is_accessor ds) e s)).0
+core_plain {ds = ds} (static_block_rule body f a e r g) s = none_is ds e
 
 -- none stand before it
 undecorated : {In : Goal → Type 0} {k : Code} {ds : Tree} {c m : Place} → DecoratorsRule In k ds c m → has_none ds ≡ true → (m ≡ c) × (ds ≡ listed [])
@@ -306,27 +307,54 @@ module _ (n : ℕ) (below : Below n)
   value_reads k key x c d (no_value a p g e i) s w f h = rw (a, i, e, append-nil f, append-nil h.held_back, or_nil h.found_module_item) refl
   value_reads k key x c d (a_value i r) s w f h = rw (seen c kind.Assign i) (inside_reads (language.Reads n) (expr n) (cover n) below.exprs assignment k x (after c) d r s w f h)
 
-  field_reads : (is_static : Bool) (key value x : Tree) (k : Code) (c m i j d : Place) → MemberKeyRule (language.Reads n) k key m i → is_constructor_key key ≡ false
+  -- from behind the key
+  field_reads : (is_static is_accessor : Bool) (key value x : Tree) (k : Code) (c i j d : Place) → is_constructor_key key ≡ false
+      → FieldValueRule (language.Reads n) k key value i j → Ends j d → x ≡ field_member (spanned c d) key value is_static is_accessor (listed []) → supported_in k.flags.module value ≡ true
+      → (w : Scope) (f : List Fault) (h : Notes) → field (expr n) (cover n) is_static is_accessor (span_at c) key (st i k w (f ++ walk (env_of k w.labels) key) (h ⊕ notes_of key))
+      ≡ Ok (x, st d k w (f ++ walk (env_of k w.labels) x) (h ⊕ notes_of x))
+  unfolding field field_from field_named spanned
+  field_reads is_static is_accessor key value x k c i j d o v q e s w f h =
+      let env = env_of k w.labels in
+      rw (
+        (field_goes key value v q).goes,
+        o,
+        value_reads k key value i j v s w (f ++ walk env key) (h ⊕ notes_of key),
+        field_end_reads j d k w (f ++ walk env key ++ walk env value) (h ⊕ notes_of key ⊕ notes_of value) q,
+        ap (walk env) e ∙ field_walk (spanned c d) key value is_static is_accessor env,
+        ap notes e ∙ field_noted (spanned c d) key value is_static is_accessor,
+        ap has_meta e ∙ field_meta (spanned c d) key value is_static is_accessor,
+        e,
+      ) (simp (append_assoc, or_assoc) refl)
+
+  keyed_field_reads : (is_static : Bool) (key value x : Tree) (k : Code) (c m i j d : Place) → MemberKeyRule (language.Reads n) k key m i → is_constructor_key key ≡ false
       → FieldValueRule (language.Reads n) k key value i j → Ends j d → x ≡ field_member (spanned c d) key value is_static false (listed []) → supported_in k.flags.module x ≡ true
       → Reads (keyed_member (expr n) (cover n) (stmt n nested_item) (parameters n) is_static (span_at c)) k x m d
-  unfolding keyed_member behind_key field field_from field_named spanned
-  field_reads is_static key value x k c m i j d r o v q e s w f h =
-      let env = env_of k w.labels in
-      let t = field_supported k.flags.module (spanned c d) key value is_static (listed []) (supported_as _ x (field_member (spanned c d) key value is_static false (listed [])) e s) in
+  unfolding keyed_member behind_key
+  keyed_field_reads is_static key value x k c m i j d r o v q e s w f h =
+      let t = field_supported k.flags.module (spanned c d) key value is_static false (listed []) (supported_as _ x (field_member (spanned c d) key value is_static false (listed [])) e s) in
       let g = field_goes key value v q in
       rw (
         bare_words r g.ended w f h,
         member_key_reads (language.Reads n) (expr n) (cover n) below.exprs k key m i r t.1 w f h,
         g.no_paren,
-        g.goes,
-        o,
-        value_reads k key value i j v t.2 w (f ++ walk env key) (h ⊕ notes_of key),
-        field_end_reads j d k w (f ++ walk env key ++ walk env value) (h ⊕ notes_of key ⊕ notes_of value) q,
-        ap (walk env) e ∙ field_walk (spanned c d) key value is_static env,
-        ap notes e ∙ field_noted (spanned c d) key value is_static,
-        ap has_meta e ∙ field_meta (spanned c d) key value is_static,
-        e,
-      ) (simp (append_assoc, or_assoc) refl)
+      ) (field_reads is_static false key value x k c i j d o v q e t.2 w f h)
+
+  -- behind `accessor`: neither a block nor words stand before its key
+  accessed_reads : (is_static : Bool) (accessor : Span) (key value x : Tree) (k : Code) (c m i j d : Place) → MemberKeyRule (language.Reads n) k key m i → is_constructor_key key ≡ false
+      → FieldValueRule (language.Reads n) k key value i j → Ends j d → x ≡ field_member (spanned c d) key value is_static true (listed []) → supported_in k.flags.module x ≡ true → MemberFollows d
+      → Reads (accessed (expr n) (cover n) (stmt n nested_item) (parameters n) is_static (span_at c) accessor) k x m d
+  unfolding accessed accessed_key behind_accessed_key begins_no_field
+  accessed_reads is_static accessor key value x k c m i j d r o v q e s z w f h =
+      let t = field_supported k.flags.module (spanned c d) key value is_static true (listed []) (supported_as _ x (field_member (spanned c d) key value is_static true (listed [])) e s) in
+      let g = field_goes key value v q in
+      let u : Keyed m = key_keyed r (g.no_brace z.1) in
+      rw (
+        and_no is_static _ u.no_block,
+        u.no_static,
+        no_words_here r g.ended,
+        member_key_reads (language.Reads n) (expr n) (cover n) below.exprs k key m i r t.1 w f h,
+        g.no_paren,
+      ) (field_reads is_static true key value x k c i j d o v q e t.2 w f h)
 
   -- ---- behind `static`, or without it
 
@@ -371,9 +399,25 @@ module _ (n : ℕ) (below : Below n)
       )
   core_reads is_static k x c m d (field_rule key value i j r o v q e) a s z =
       let t : Keyed m = key_keyed r ((field_goes key value v q).no_brace z.1) in
-      (t.no_semicolon, keyed_reads is_static (span_at c) k x m d a t (field_reads is_static key value x k c m i j d r o v q e s))
+      (t.no_semicolon, keyed_reads is_static (span_at c) k x m d a t (keyed_field_reads is_static key value x k c m i j d r o v q e s))
   core_reads is_static k x c m d (static_block_rule body f b g r e) a s z =
       (brace_no_semicolon m r.opens, subst (λ v. Reads (members.behind_static (expr n) (cover n) (stmt n nested_item) (parameters n) v (span_at c)) k x m d) (sym f) (static_block_reads body x k c m d a r e s))
+
+  -- behind `accessor` a field stands alone
+  accessor_reads : (is_static : Bool) (k : Code) (x : Tree) (c m d : Place) → CoreRule (language.Reads n) k is_static true (listed []) x c (after m) d → is_accessor_word k m ≡ true
+      → supported_in k.flags.module x ≡ true → MemberFollows d → Behind is_static k x c m d
+  unfolding Behind members.behind_static accessor_member same_kind
+  accessor_reads is_static k x c m d (constructor_rule key ps body i j f b g r o p q e) a s z = absurd (true≢false b)
+  accessor_reads is_static k x c m d (method_rule form w g key ps body b r i e) a s z = absurd (true≢false b)
+  accessor_reads is_static k x c m d (field_rule key value i j r o v q e) a s z =
+      (rw (auto_accessor_kind k m a) refl, λ w f h. rw a (accessed_reads is_static (span_at m) key value x k c (after m) i j d r o v q e s z w f h))
+  accessor_reads is_static k x c m d (static_block_rule body f b g r e) a s z = absurd (true≢false b)
+
+  -- with `accessor` or without it
+  modified_reads : (is_static : Bool) (k : Code) (x : Tree) (c m d : Place) (a : Bool) → is_accessor_word k m ≡ a → CoreRule (language.Reads n) k is_static a (listed []) x c (behind_modifier a m) d
+      → supported_in k.flags.module x ≡ true → MemberFollows d → Behind is_static k x c m d
+  modified_reads is_static k x c m d true e r s z = accessor_reads is_static k x c m d r e s z
+  modified_reads is_static k x c m d false e r s z = core_reads is_static k x c m d r e s z
 
   -- ---- members
 
@@ -389,11 +433,8 @@ module _ (n : ℕ) (below : Below n)
   pub member_level_reads : (k : Code) (x : Tree) (c d : Place) → ReadsMember (suc n) k x c d → MemberFollows d → Reads (member_level (expr n) (cover n) (stmt n nested_item) (parameters n)) k x c d
   member_level_reads k x c d (empty_rule i g e, s) z w f h = empty_reads k x c d i g e w f h
   member_level_reads k x c d (member_rule ds m r t, s) z w f h =
-      let (plain, no_accessor) = core_plain t s in
-      let (here, none) = undecorated r plain in
+      let (here, none) = undecorated r (core_plain t s) in
       let u : CoreRule (language.Reads n) k (is_static_word c) (has_accessor k c) ds x c (classes.behind_accessor k c) d =
       subst (λ v. CoreRule (language.Reads n) k (is_static_word v) (has_accessor k v) ds x c (classes.behind_accessor k v) d) here t in
-      let a : has_accessor k c ≡ false = ap (has_accessor k) (sym here) ∙ no_accessor in
-      full_reads k x c d (core_reads (is_static_word c) k x c (classes.behind_static c) d
-      (subst (λ v. CoreRule (language.Reads n) k (is_static_word c) v (listed []) x c (behind_modifier v (classes.behind_static c)) d) a
-      (subst (λ v. CoreRule (language.Reads n) k (is_static_word c) (has_accessor k c) v x c (classes.behind_accessor k c) d) none u)) a s z) w f h
+      full_reads k x c d (modified_reads (is_static_word c) k x c (classes.behind_static c) d (has_accessor k c) refl
+      (subst (λ v. CoreRule (language.Reads n) k (is_static_word c) (has_accessor k c) v x c (classes.behind_accessor k c) d) none u) s z) w f h

@@ -22,7 +22,7 @@ use Rattle.swc_ecma_parser_reader.specs.Methods.{MethodForm, getter_form, setter
 use Rattle.swc_ecma_parser_reader.specs.Expressions.{Cover, private_name, key, inside}
 use Rattle.swc_ecma_parser_reader.specs.Jumps.{told}
 use Rattle.swc_ecma_parser_reader.specs.Bodies.{closes, close, braced, named, misdirected, function_body}
-use Rattle.swc_ecma_parser_reader.specs.Members.{static_word, begins_accessor, begins_async_member, member_words, private_faults, parameter_faults, misnamed, misnamed_by, field_end, field_named, private_key, member_key, field_value, field_from, field, method_parts, method, constructor, plain_method, static_block, second_static, behind_key, keyed_member, behind_static, full_member, empty_member, member_level, Members, no_members, dropped, members_turn, members, extended, surplus, class_parts, named_class, class_decl, class_name, unnamed_class, class_expr, class_stmt, form_is_async, form_is_generator}
+use Rattle.swc_ecma_parser_reader.specs.Members.{static_word, begins_accessor, begins_async_member, member_words, private_faults, parameter_faults, misnamed, misnamed_by, field_end, field_named, private_key, member_key, field_value, field_from, field, method_parts, method, constructor, plain_method, static_block, second_static, behind_key, keyed_member, begins_no_field, static_behind, unaccessed, behind_accessed_key, accessed_key, accessed, accessor_member, behind_static, full_member, empty_member, member_level, Members, no_members, dropped, members_turn, members, extended, surplus, class_parts, named_class, class_decl, class_name, unnamed_class, class_expr, class_stmt, form_is_async, form_is_generator}
 use Rattle.swc_ecma_parser_reader.proofs.Errors.{is_error, fault_here}
 use Rattle.swc_ecma_parser_reader.proofs.Takes.{Falls, falls_then, falls_last, falls_coded, falls_found, falls_if, less, falls_next, moves, takes, falls_past, falls_moved, wanted_falls, name_falls, fault_falls, close_falls, expect_falls, loop_falls}
 use Rattle.swc_ecma_parser_reader.proofs.expressions.Falls.{reject_falls, no_end, falls_when, starred_falls, private_falls, told_falls, inside_falls, key_falls}
@@ -77,9 +77,9 @@ module _ (inner : Class → Reader Tree) (below : (class : Class) (s : State) �
   field_value_falls s = falls_if 0 (length s.at.left) (sees kind.Assign s.at) _ _
       (falls_moved 0 s _ (less (length (after s.at).left) (inside inner cover assignment (moved s)) (inside_falls inner cover below below_cover assignment (moved s)))) (omega arith)
 
-  field_falls : (b : Bool) (start : Span) (x : Tree) (s : State) → Falls 0 (length s.at.left) (field inner cover b start x s)
+  field_falls : (b a : Bool) (start : Span) (x : Tree) (s : State) → Falls 0 (length s.at.left) (field inner cover b a start x s)
   unfolding field field_from
-  field_falls b start x s = falls_if 0 (length s.at.left) (sees kind.Assign s.at || ends_at s.at) _ _
+  field_falls b a start x s = falls_if 0 (length s.at.left) (sees kind.Assign s.at || ends_at s.at) _ _
       (falls_then 0 0 (length s.at.left) (field_named x s) _ (field_named_falls x s) (λ _ t.
       falls_then 0 0 (length t.at.left) (field_value inner cover t) _ (field_value_falls t) (λ v u.
       falls_last 0 (length u.at.left) (field_end u) _ (field_end_falls u))))
@@ -126,16 +126,40 @@ module _ (inner : Class → Reader Tree) (below : (class : Class) (s : State) �
   behind_key_falls : (b : Bool) (form : MethodForm) (start word : Span) (x : Tree) (s : State) → Falls 0 (length s.at.left) (behind_key inner cover stmt params b form start word x s)
   unfolding behind_key
   behind_key_falls b form start word x s = falls_if 0 (length s.at.left) (not (is_bare form)) _ _ (method_falls b form start word x s)
-      (falls_if 0 (length s.at.left) (sees kind.LParen s.at) _ _ (plain_method_falls b start word x s) (field_falls b start x s))
+      (falls_if 0 (length s.at.left) (sees kind.LParen s.at) _ _ (plain_method_falls b start word x s) (field_falls b false start x s))
 
   keyed_member_falls : (b : Bool) (start : Span) (s : State) → Falls 1 (length s.at.left) (keyed_member inner cover stmt params b start s)
   unfolding keyed_member
   keyed_member_falls b start s = falls_then 0 1 (length s.at.left) (member_words s) _ (member_words_falls s) (λ form t.
       falls_next (length t.at.left) (member_key inner cover t) _ (member_key_falls t) (λ x u. behind_key_falls b form start (span_at s.at) x u))
 
+  -- behind `accessor`
+  static_behind_falls : (b : Bool) (start : Span) (s : State) → Falls 1 (length s.at.left) (static_behind inner cover stmt params b start s)
+  unfolding static_behind
+  static_behind_falls b start s = falls_if 1 (length s.at.left) b _ _ (second_static_falls start s) (falls_moved 1 s _ (static_block_falls start (moved s)))
+
+  unaccessed_falls : (b : Bool) (start : Span) (s : State) → Falls 1 (length s.at.left) (unaccessed inner cover stmt params b start s)
+  unfolding unaccessed
+  unaccessed_falls b start s = falls_if 1 (length s.at.left) (b && sees kind.LBrace s.at) _ _ (static_block_falls start s)
+      (falls_if 1 (length s.at.left) (word_at (codes "static") s.at && sees kind.LBrace (after s.at)) _ _ (static_behind_falls b start s) (keyed_member_falls b start s))
+
+  behind_accessed_key_falls : (b : Bool) (start accessor word : Span) (x : Tree) (s : State) → Falls 0 (length s.at.left) (behind_accessed_key inner cover stmt params b start accessor word x s)
+  unfolding behind_accessed_key
+  behind_accessed_key_falls b start accessor word x s = falls_if 0 (length s.at.left) (sees kind.LParen s.at) _ _
+      (falls_then 0 0 (length s.at.left) (fault (fault_at accessor faults.TS1184) s) _ (fault_falls _ s) (λ _ t. plain_method_falls b start word x t)) (field_falls b true start x s)
+
+  accessed_key_falls : (b : Bool) (start accessor : Span) (s : State) → Falls 1 (length s.at.left) (accessed_key inner cover stmt params b start accessor s)
+  unfolding accessed_key
+  accessed_key_falls b start accessor s = falls_next (length s.at.left) (member_key inner cover s) _ (member_key_falls s) (λ x t. behind_accessed_key_falls b start accessor (span_at s.at) x t)
+
+  accessor_member_falls : (b : Bool) (start : Span) (s : State) → Falls 1 (length s.at.left) (accessor_member inner cover stmt params b start s)
+  unfolding accessor_member accessed
+  accessor_member_falls b start s = let m = moved s in let l = length m.at.left in falls_moved 1 s _ (falls_if 1 l (begins_no_field b m.at) _ _
+      (falls_then 0 1 l (fault (fault_at (span_at s.at) faults.TS1184) m) _ (fault_falls _ m) (λ _ t. unaccessed_falls b start t)) (accessed_key_falls b start (span_at s.at) m))
+
   behind_static_falls : (b : Bool) (start : Span) (s : State) → Falls 1 (length s.at.left) (behind_static inner cover stmt params b start s)
   unfolding behind_static
-  behind_static_falls b start s = falls_if 1 (length s.at.left) (is_accessor_word s.code s.at) _ _ (wanted_falls Tree 1 (length s.at.left) faults.Unexpected s)
+  behind_static_falls b start s = falls_if 1 (length s.at.left) (is_accessor_word s.code s.at) _ _ (accessor_member_falls b start s)
       (falls_if 1 (length s.at.left) (b && sees kind.LBrace s.at) _ _ (static_block_falls start s)
       (falls_if 1 (length s.at.left) (b && (word_at (codes "static") s.at && sees kind.LBrace (after s.at))) _ _ (second_static_falls start s) (keyed_member_falls b start s)))
 

@@ -22,7 +22,7 @@ use Rattle.swc_ecma_parser_reader.specs.State.{Reader, moved, coded, within, fau
 use Rattle.swc_ecma_parser_reader.specs.Jumps.{told}
 use Rattle.swc_ecma_parser_reader.specs.Methods.{MethodForm, getter_form, setter_form, method_form, is_bare}
 use Rattle.swc_ecma_parser_reader.specs.Expressions.{Cover, private_name}
-use Rattle.swc_ecma_parser_reader.specs.Members.{static_word, begins_accessor, begins_async_member, member_words, form_is_async, form_is_generator, private_faults, parameter_faults, misnamed_by, misnamed, field_end, field_named, private_key, member_key, field_value, field_from, field, method_parts, method, constructor, plain_method, static_block, second_static, behind_key, keyed_member, behind_static, full_member, empty_member, member_level, members_turn, no_members, members, extended, surplus, class_parts, named_class, class_decl, class_name, unnamed_class, class_expr, class_stmt}
+use Rattle.swc_ecma_parser_reader.specs.Members.{static_word, begins_accessor, begins_async_member, member_words, form_is_async, form_is_generator, private_faults, parameter_faults, misnamed_by, misnamed, field_end, field_named, private_key, member_key, field_value, field_from, field, method_parts, method, constructor, plain_method, static_block, second_static, behind_key, keyed_member, begins_no_field, static_behind, unaccessed, behind_accessed_key, accessed_key, accessed, accessor_member, behind_static, full_member, empty_member, member_level, members_turn, no_members, members, extended, surplus, class_parts, named_class, class_decl, class_name, unnamed_class, class_expr, class_stmt}
 use Rattle.swc_ecma_parser_reader.specs.Bodies.{braced, close, closes, misdirected, named, function_body}
 use Rattle.swc_ecma_parser_reader.proofs.Meets.{answers_then, answers_if}
 use Rattle.swc_ecma_parser_reader.proofs.Behind.{Kept, Passes, behind_after, fault_keeps, wanted_keeps, reject_keeps, expect_keeps, close_keeps, name_keeps, loop_keeps}
@@ -76,15 +76,15 @@ module _ (inner : Class → Reader Tree) (cover : Reader Cover) (stmt : Reader T
   unfolding field_value
   field_value_keeps b s f = answers_if _ _ (sees kind.Assign s.at) _ _ (λ _. inside_keeps inner cover below below_cover assignment b (moved s) (behind_after b s f)) (λ _. f)
 
-  field_from_keeps : (is_static : Bool) (start : Span) (x : Tree) → Passes (field_from inner cover is_static start x)
+  field_from_keeps : (is_static is_accessor : Bool) (start : Span) (x : Tree) → Passes (field_from inner cover is_static is_accessor start x)
   unfolding field_from
-  field_from_keeps is_static start x b s f = answers_then _ _ (field_named x s) _ (field_named_keeps x b s f) (λ _ t g.
+  field_from_keeps is_static is_accessor start x b s f = answers_then _ _ (field_named x s) _ (field_named_keeps x b s f) (λ _ t g.
       answers_then _ _ (field_value inner cover t) _ (field_value_keeps b t g) (λ y u k.
       answers_then (Kept b) _ (field_end u) _ (field_end_keeps b u k) (λ _ v j. j)))
 
-  field_keeps : (is_static : Bool) (start : Span) (x : Tree) → Passes (field inner cover is_static start x)
+  field_keeps : (is_static is_accessor : Bool) (start : Span) (x : Tree) → Passes (field inner cover is_static is_accessor start x)
   unfolding field
-  field_keeps is_static start x b s f = answers_if _ _ (sees kind.Assign s.at || ends_at s.at) _ _ (λ _. field_from_keeps is_static start x b s f) (λ _. wanted_keeps _ faults.Unexpected b s f)
+  field_keeps is_static is_accessor start x b s f = answers_if _ _ (sees kind.Assign s.at || ends_at s.at) _ _ (λ _. field_from_keeps is_static is_accessor start x b s f) (λ _. wanted_keeps _ faults.Unexpected b s f)
 
   -- ---- methods, constructors and static blocks
 
@@ -129,16 +129,47 @@ module _ (inner : Class → Reader Tree) (cover : Reader Cover) (stmt : Reader T
   behind_key_keeps : (is_static : Bool) (form : MethodForm) (start word : Span) (x : Tree) → Passes (behind_key inner cover stmt params is_static form start word x)
   unfolding behind_key
   behind_key_keeps is_static form start word x b s f = answers_if _ _ (not (is_bare form)) _ _ (λ _. method_keeps is_static form start word x b s f)
-      (λ _. answers_if _ _ (sees kind.LParen s.at) _ _ (λ _. plain_method_keeps is_static start word x b s f) (λ _. field_keeps is_static start x b s f))
+      (λ _. answers_if _ _ (sees kind.LParen s.at) _ _ (λ _. plain_method_keeps is_static start word x b s f) (λ _. field_keeps is_static false start x b s f))
 
   keyed_member_keeps : (is_static : Bool) (start : Span) → Passes (keyed_member inner cover stmt params is_static start)
   unfolding keyed_member
   keyed_member_keeps is_static start b s f = answers_then _ _ (member_words s) _ (member_words_keeps b s f) (λ form t g.
       answers_then _ _ (member_key inner cover t) _ (member_key_keeps b t g) (λ x u k. behind_key_keeps is_static form start (span_at s.at) x b u k))
 
+  -- behind `accessor`
+  static_behind_keeps : (is_static : Bool) (start : Span) → Passes (static_behind inner cover stmt params is_static start)
+  unfolding static_behind
+  static_behind_keeps is_static start b s f = answers_if _ _ is_static _ _ (λ _. second_static_keeps start b s f) (λ _. static_block_keeps start b (moved s) (behind_after b s f))
+
+  unaccessed_keeps : (is_static : Bool) (start : Span) → Passes (unaccessed inner cover stmt params is_static start)
+  unfolding unaccessed
+  unaccessed_keeps is_static start b s f = answers_if _ _ (is_static && sees kind.LBrace s.at) _ _ (λ _. static_block_keeps start b s f)
+      (λ _. answers_if _ _ (word_at (codes "static") s.at && sees kind.LBrace (after s.at)) _ _ (λ _. static_behind_keeps is_static start b s f) (λ _. keyed_member_keeps is_static start b s f))
+
+  behind_accessed_key_keeps : (is_static : Bool) (start accessor word : Span) (x : Tree) → Passes (behind_accessed_key inner cover stmt params is_static start accessor word x)
+  unfolding behind_accessed_key
+  behind_accessed_key_keeps is_static start accessor word x b s f = answers_if _ _ (sees kind.LParen s.at) _ _
+      (λ _. answers_then _ _ (fault (fault_at accessor faults.TS1184) s) _ (fault_keeps b s f (fault_at accessor faults.TS1184)) (λ _ t g. plain_method_keeps is_static start word x b t g))
+      (λ _. field_keeps is_static true start x b s f)
+
+  accessed_key_keeps : (is_static : Bool) (start accessor : Span) → Passes (accessed_key inner cover stmt params is_static start accessor)
+  unfolding accessed_key
+  accessed_key_keeps is_static start accessor b s f = answers_then _ _ (member_key inner cover s) _ (member_key_keeps b s f) (λ x t g.
+      behind_accessed_key_keeps is_static start accessor (span_at s.at) x b t g)
+
+  accessed_keeps : (is_static : Bool) (start accessor : Span) → Passes (accessed inner cover stmt params is_static start accessor)
+  unfolding accessed
+  accessed_keeps is_static start accessor b s f = answers_if _ _ (begins_no_field is_static s.at) _ _
+      (λ _. answers_then _ _ (fault (fault_at accessor faults.TS1184) s) _ (fault_keeps b s f (fault_at accessor faults.TS1184)) (λ _ t g. unaccessed_keeps is_static start b t g))
+      (λ _. accessed_key_keeps is_static start accessor b s f)
+
+  accessor_member_keeps : (is_static : Bool) (start : Span) → Passes (accessor_member inner cover stmt params is_static start)
+  unfolding accessor_member
+  accessor_member_keeps is_static start b s f = accessed_keeps is_static start (span_at s.at) b (moved s) (behind_after b s f)
+
   behind_static_keeps : (is_static : Bool) (start : Span) → Passes (behind_static inner cover stmt params is_static start)
   unfolding behind_static
-  behind_static_keeps is_static start b s f = answers_if _ _ (is_accessor_word s.code s.at) _ _ (λ _. wanted_keeps _ faults.Unexpected b s f)
+  behind_static_keeps is_static start b s f = answers_if _ _ (is_accessor_word s.code s.at) _ _ (λ _. accessor_member_keeps is_static start b s f)
       (λ _. answers_if _ _ (is_static && sees kind.LBrace s.at) _ _ (λ _. static_block_keeps start b s f)
       (λ _. answers_if _ _ (is_static && (word_at (codes "static") s.at && sees kind.LBrace (after s.at))) _ _ (λ _. second_static_keeps start b s f)
       (λ _. keyed_member_keeps is_static start b s f)))

@@ -24,7 +24,7 @@ use Rattle.swc_ecma_parser_reader.specs.Methods.{MethodForm, getter_form, setter
 use Rattle.swc_ecma_parser_reader.specs.Expressions.{Cover, private_name, key, literal_key, computed_key, word_property, any_word, is_word_at, inside}
 use Rattle.swc_ecma_parser_reader.specs.Jumps.{told}
 use Rattle.swc_ecma_parser_reader.specs.Bodies.{closes, close, braced, named, misdirected, function_body}
-use Rattle.swc_ecma_parser_reader.specs.Members.{static_word, begins_accessor, begins_async_member, member_words, private_faults, parameter_faults, misnamed, misnamed_by, field_end, field_named, private_key, member_key, field_value, field_from, field, method_parts, method, constructor, plain_method, static_block, second_static, behind_key, keyed_member, behind_static, full_member, empty_member, member_level, no_members, members_turn, members, extended, surplus, class_parts, named_class, class_decl, class_name, unnamed_class, class_expr, class_stmt, form_is_async, form_is_generator}
+use Rattle.swc_ecma_parser_reader.specs.Members.{static_word, begins_accessor, begins_async_member, member_words, private_faults, parameter_faults, misnamed, misnamed_by, field_end, field_named, private_key, member_key, field_value, field_from, field, method_parts, method, constructor, plain_method, static_block, second_static, behind_key, keyed_member, begins_no_field, static_behind, unaccessed, behind_accessed_key, accessed_key, accessed, accessor_member, behind_static, full_member, empty_member, member_level, no_members, members_turn, members, extended, surplus, class_parts, named_class, class_decl, class_name, unnamed_class, class_expr, class_stmt, form_is_async, form_is_generator}
 use Rattle.swc_ecma_parser_reader.proofs.Errors.{is_error, fault_here}
 use Rattle.swc_ecma_parser_reader.proofs.Meets.{Answers, answers_then, answers_if, loop_answers, saw}
 use Rattle.swc_ecma_parser_reader.proofs.Takes.{Falls}
@@ -32,7 +32,7 @@ use Rattle.swc_ecma_parser_reader.proofs.Shallow.{Fine, fine_more, fine_after, f
 use Rattle.swc_ecma_parser_reader.proofs.expressions.Falls.{any_word_falls, literal_key_falls, private_falls}
 use Rattle.swc_ecma_parser_reader.proofs.expressions.LimitSteps.{kept_more, reject_shallow, any_word_shallow, told_shallow, literal_key_shallow, private_shallow}
 use Rattle.swc_ecma_parser_reader.proofs.expressions.Limits.{star_shallow, inside_shallow}
-use Rattle.swc_ecma_parser_reader.proofs.classes.Words.{static_kind}
+use Rattle.swc_ecma_parser_reader.proofs.classes.Words.{static_kind, auto_accessor_kind}
 
 -- what takes a token leaves one fewer
 taken_by : {A : Type 0} (m : ℕ) (s : State) (o : Outcome A) → Fine m s.at.left → Falls 1 (length s.at.left) o → Answers (Kept m) Shallow o → Answers (Taken m) Shallow o
@@ -108,9 +108,9 @@ module _ (inner : Class → Reader Tree) (cover : Reader Cover) (stmt : Reader T
 
   -- ---- behind a key
 
-  field_shallow : (b : Bool) (start : Span) (x : Tree) (i : ℕ) (s : State) → 2 * i + 1 ≤ n → Fine i s.at.left → Answers (Kept i) Shallow (field inner cover b start x s)
+  field_shallow : (b a : Bool) (start : Span) (x : Tree) (i : ℕ) (s : State) → 2 * i + 1 ≤ n → Fine i s.at.left → Answers (Kept i) Shallow (field inner cover b a start x s)
   unfolding field field_from field_value
-  field_shallow b start x i s h f = answers_if _ _ (sees kind.Assign s.at || ends_at s.at) _ _
+  field_shallow b a start x i s h f = answers_if _ _ (sees kind.Assign s.at || ends_at s.at) _ _
       (λ _. answers_then _ _ (field_named x s) _ (field_named_shallow i s f x) (λ _ t g.
       answers_then _ _ (field_value inner cover t) _ (answers_if (Kept i) _ (sees kind.Assign t.at) _ _
       (λ _. inside_shallow inner cover n below below_cover assignment i (moved t) (omega arith) (fine_after i t.at g)) (λ _. g)) (λ v u k.
@@ -151,7 +151,7 @@ module _ (inner : Class → Reader Tree) (cover : Reader Cover) (stmt : Reader T
       → Answers (Kept i) Shallow (behind_key inner cover stmt params b form start word x s)
   unfolding behind_key
   behind_key_shallow b form start word x i s h f = answers_if _ _ (not (is_bare form)) _ _ (λ _. method_shallow b form start word x i s h f) (λ _.
-      answers_if _ _ (sees kind.LParen s.at) _ _ (λ _. plain_method_shallow b start word x i s h f) (λ _. field_shallow b start x i s h f))
+      answers_if _ _ (sees kind.LParen s.at) _ _ (λ _. plain_method_shallow b start word x i s h f) (λ _. field_shallow b false start x i s h f))
 
   -- ---- members
 
@@ -170,10 +170,46 @@ module _ (inner : Class → Reader Tree) (cover : Reader Cover) (stmt : Reader T
       answers_then _ _ (member_key inner cover t) _ (member_key_takes m t h g) (λ x u (i, l, k).
       kept_more i m (behind_key inner cover stmt params b form start (span_at s.at) x u) (omega arith) (behind_key_shallow b form start (span_at s.at) x i u (omega arith) k)))
 
+  -- behind `accessor`, which was taken
+  unaccessed_shallow : (b : Bool) (start : Span) (i : ℕ) (s : State) → 2 * i + 1 ≤ n → Fine i s.at.left → Answers (Kept i) Shallow (unaccessed inner cover stmt params b start s)
+  unfolding unaccessed static_behind
+  unaccessed_shallow b start i s h f = answers_if _ _ (b && sees kind.LBrace s.at) _ _ (λ _. static_block_shallow start i s h f) (λ _.
+      answers_if _ _ (word_at (codes "static") s.at && sees kind.LBrace (after s.at)) _ _
+      (λ _. answers_if _ _ b _ _ (λ _. second_static_shallow start i s h f) (λ _. static_block_shallow start i (moved s) h (fine_after i s.at f))) (λ _.
+      keyed_member_shallow b start i s (omega arith) f))
+
+  behind_accessed_key_shallow : (b : Bool) (start accessor word : Span) (x : Tree) (i : ℕ) (s : State) → 2 * i + 1 ≤ n → Fine i s.at.left
+      → Answers (Kept i) Shallow (behind_accessed_key inner cover stmt params b start accessor word x s)
+  unfolding behind_accessed_key
+  behind_accessed_key_shallow b start accessor word x i s h f = answers_if _ _ (sees kind.LParen s.at) _ _
+      (λ _. answers_then _ _ (fault (fault_at accessor faults.TS1184) s) _ (fault_shallow i s f _) (λ _ t g. plain_method_shallow b start word x i t h g))
+      (λ _. field_shallow b true start x i s h f)
+
+  accessed_key_shallow : (b : Bool) (start accessor : Span) (i : ℕ) (s : State) → 2 * i + 1 ≤ n → Fine i s.at.left
+      → Answers (Kept i) Shallow (accessed_key inner cover stmt params b start accessor s)
+  unfolding accessed_key
+  accessed_key_shallow b start accessor i s h f = answers_then _ _ (member_key inner cover s) _ (member_key_takes i s (omega arith) f) (λ x t (j, l, g).
+      kept_more j i (behind_accessed_key inner cover stmt params b start accessor (span_at s.at) x t) (omega arith)
+      (behind_accessed_key_shallow b start accessor (span_at s.at) x j t (omega arith) g))
+
+  accessed_shallow : (b : Bool) (start accessor : Span) (i : ℕ) (s : State) → 2 * i + 1 ≤ n → Fine i s.at.left
+      → Answers (Kept i) Shallow (accessed inner cover stmt params b start accessor s)
+  unfolding accessed
+  accessed_shallow b start accessor i s h f = answers_if _ _ (begins_no_field b s.at) _ _
+      (λ _. answers_then _ _ (fault (fault_at accessor faults.TS1184) s) _ (fault_shallow i s f _) (λ _ t g. unaccessed_shallow b start i t h g))
+      (λ _. accessed_key_shallow b start accessor i s h f)
+
+  accessor_member_shallow : (b : Bool) (start : Span) (m : ℕ) (s : State) → 2 * m ≤ suc n → is_accessor_word s.code s.at ≡ true → Fine m s.at.left
+      → Answers (Kept m) Shallow (accessor_member inner cover stmt params b start s)
+  unfolding accessor_member
+  accessor_member_shallow b start m s h e f =
+      let (i, l, g) = fine_taken m s.at kind.Ident (auto_accessor_kind s.code s.at e) (λ z. cc) f in
+      kept_more i m (accessed inner cover stmt params b start (span_at s.at) (moved s)) (omega arith) (accessed_shallow b start (span_at s.at) i (moved s) (omega arith) g)
+
   behind_static_shallow : (b : Bool) (start : Span) (m : ℕ) (s : State) → 2 * m ≤ suc n → Fine m s.at.left → (b ≡ true → (i : ℕ) × (m ≡ suc i) × Fine i s.at.left)
       → Answers (Kept m) Shallow (behind_static inner cover stmt params b start s)
   unfolding behind_static
-  behind_static_shallow b start m s h f taken = answers_if _ _ (is_accessor_word s.code s.at) _ _ (λ _. wanted_shallow _ faults.Unexpected (λ z. cc) m s f) (λ _.
+  behind_static_shallow b start m s h f taken = answers_if _ _ (is_accessor_word s.code s.at) _ _ (λ e. accessor_member_shallow b start m s h e f) (λ _.
       answers_if _ _ (b && sees kind.LBrace s.at) _ _
       (λ e. let (i, l, g) = taken (and_yes b _ e).0 in kept_more i m (static_block stmt params start s) (omega arith) (static_block_shallow start i s (omega arith) g)) (λ _.
       answers_if _ _ (b && (word_at (codes "static") s.at && sees kind.LBrace (after s.at))) _ _

@@ -33,7 +33,7 @@ use Rattle.swc_ecma_parser_grammar.specs.language.LeftSides.{is_callee}
 use Rattle.swc_ecma_parser_grammar.specs.language.Lists.{ReadsEach}
 use Rattle.swc_ecma_parser_grammar.specs.language.Parts.{OptionalName, no_name, a_name}
 use Rattle.swc_ecma_parser_grammar.specs.language.Reads.{Reads}
-use Rattle.swc_ecma_parser_grammar.proofs.Naming.{name_is_clean, name_is_supported}
+use Rattle.swc_ecma_parser_grammar.proofs.Naming.{name_is_clean}
 use Rattle.swc_ecma_parser_grammar.proofs.Tests.{and_both}
 use Rattle.swc_ecma_parser_reader.specs.Jumps.{told}
 use Rattle.swc_ecma_parser_reader.specs.Notes.{Notes, no_notes, ◌⊕◌, notes_of, all_notes_of}
@@ -53,7 +53,7 @@ use Rattle.swc_ecma_parser_reader.proofs.classes.Shared.{Declared}
 -- ---- a fault that says something was dropped
 
 -- what was recorded says so
-abbrev Drops : State → State → Type 0
+abbrev pub Drops : State → State → Type 0
 Drops s t = (added : List Fault) × (t.faults ≡ s.faults ++ added) × (drops added ≡ true)
 
 module _ (f : Fault) (s : State) (h : is_dropping f.kind ≡ true) where
@@ -76,7 +76,7 @@ module _ (f : Fault) (s : State) (h : is_dropping f.kind ≡ true) where
   recorded_in_drops [] = (f ∷ [], refl, noted_drops)
   recorded_in_drops (t ∷ ts) = recorded_at_drops t.token
 
-  fault_drops : Meets (λ _ u. Drops s u) (fault f s)
+  pub fault_drops : Meets (λ _ u. Drops s u) (fault f s)
   unfolding fault
   fault_drops = recorded_in_drops s.at.left
 
@@ -136,7 +136,7 @@ NameRead k x c d = OptionalName k x c d × (supported_in k.flags.module x ≡ tr
 free_name : (k : Code) (c d : Place) (i : Ident) → FreeWord i k c d → NameRead k (tree.ident i.span i.sym) c d
 free_name k c d i r = (
   a_name (word_text r.word) i.span (record { word = r.word; reads_word = r.token; is_text = refl; is_name = name_is_clean k.flags (word_text r.word) r.free }) (ap (tree.ident i.span) r.text),
-  ap (λ z. supported_in k.flags.module (tree.ident i.span z)) r.text ∙ name_is_supported k.flags (word_text r.word) r.free,
+  ap (λ z. supported_in k.flags.module (tree.ident i.span z)) r.text ∙ refl,
 )
 
 -- the walk finds the same in strict code

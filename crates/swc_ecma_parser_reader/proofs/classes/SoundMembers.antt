@@ -32,7 +32,7 @@ use Rattle.swc_ecma_parser_grammar.specs.language.Reads.{Reads}
 use Rattle.swc_ecma_parser_grammar.proofs.StatementBegins.{word_place}
 use Rattle.swc_ecma_parser_grammar.proofs.StatementEntries.{stmt_unnoted, braced_unnoted, params_unnoted}
 use Rattle.swc_ecma_parser_grammar.proofs.MethodParts.{parts_widen, params_supported, body_supported, parameters_unnoted, body_unnoted}
-use Rattle.swc_ecma_parser_grammar.proofs.Tests.{and_yes, and_both}
+use Rattle.swc_ecma_parser_grammar.proofs.Tests.{or_no, and_yes, and_both}
 use Rattle.swc_ecma_parser_grammar.proofs.Unnoted.{joined}
 use Rattle.swc_ecma_parser_grammar.proofs.Widens.{stmt_supported, stmt_widens, braced_supported, braced_widens, parameters_same}
 use Rattle.swc_ecma_parser_reader.specs.Notes.{Notes, no_notes, ◌⊕◌, notes_of, all_notes_of}
@@ -41,7 +41,7 @@ use Rattle.swc_ecma_parser_reader.specs.Jumps.{told}
 use Rattle.swc_ecma_parser_reader.specs.Methods.{MethodForm, getter_form, setter_form, method_form, is_bare}
 use Rattle.swc_ecma_parser_reader.specs.Expressions.{Cover, inside}
 use Rattle.swc_ecma_parser_reader.specs.Bodies.{braced, misdirected, function_body}
-use Rattle.swc_ecma_parser_reader.specs.Members.{kind_of_form, form_is_async, form_is_generator, parameter_faults, static_word, member_words, member_key, misnamed, field_end, field_named, field_value, field_from, field, method_parts, method, constructor, plain_method, static_block, second_static, behind_key, keyed_member, behind_static, full_member, empty_member, member_level}
+use Rattle.swc_ecma_parser_reader.specs.Members.{kind_of_form, form_is_async, form_is_generator, parameter_faults, begins_accessor, static_word, member_words, member_key, misnamed, field_end, field_named, field_value, field_from, field, method_parts, method, constructor, plain_method, static_block, second_static, behind_key, keyed_member, begins_words, begins_no_field, static_behind, unaccessed, behind_accessed_key, accessed_key, accessed, accessor_member, behind_static, full_member, empty_member, member_level}
 use Rattle.swc_ecma_parser_reader.proofs.Notes.{or_nil, notes_nil}
 use Rattle.swc_ecma_parser_reader.proofs.Errors.{is_error, fault_here}
 use Rattle.swc_ecma_parser_reader.proofs.Meets.{Meets, meets_then, meets_if, wanted_meets, saw}
@@ -52,6 +52,7 @@ use Rattle.swc_ecma_parser_reader.proofs.patterns.Sound.{SoundParams}
 use Rattle.swc_ecma_parser_reader.proofs.SoundParts.{misdirected_sound, code_stays}
 use Rattle.swc_ecma_parser_reader.proofs.SoundFunctions.{braces_sound, in_braces, parameters_walk, parameters_notes, function_notes, function_body_sound}
 use Rattle.swc_ecma_parser_reader.proofs.classes.Shared.{WordsRead, MemberKeyRead, PartsRead}
+use Rattle.swc_ecma_parser_reader.proofs.classes.Words.{auto_accessor_kind}
 use Rattle.swc_ecma_parser_reader.proofs.classes.SoundKeys.{static_word_sound, member_words_sound, no_accessor_key, told_only_sound, member_key_sound, named_key, named_is_public, misnamed_sound, parameter_faults_sound}
 
 -- ---- the trees of members
@@ -99,15 +100,17 @@ method_noted s key fn kind is_static form (f, ps, body, e) = ap (λ z. notes_of 
     by_key false = refl
 
 -- so is a field
-field_walk : (env : Env) (s : Span) (key value : Tree) (is_static : Bool) → walk env key ++ walk env value ≡ walk env (field_member s key value is_static false (listed []))
-field_walk env s key value is_static = by_key (is_private key)
+field_walk : (env : Env) (s : Span) (key value : Tree) (is_static is_accessor : Bool) → walk env key ++ walk env value ≡ walk env (field_member s key value is_static is_accessor (listed []))
+field_walk env s key value is_static true = refl
+field_walk env s key value is_static false = by_key (is_private key)
   where
     by_key : (b : Bool) → walk env key ++ walk env value ≡ walk env (cond b (tree.private_prop s key value is_static (listed [])) (tree.class_prop s key value is_static (listed [])))
     by_key true = refl
     by_key false = refl
 
-field_noted : (s : Span) (key value : Tree) (is_static : Bool) → notes_of key ⊕ notes_of value ≡ notes_of (field_member s key value is_static false (listed []))
-field_noted s key value is_static = by_key (is_private key)
+field_noted : (s : Span) (key value : Tree) (is_static is_accessor : Bool) → notes_of key ⊕ notes_of value ≡ notes_of (field_member s key value is_static is_accessor (listed []))
+field_noted s key value is_static true = refl
+field_noted s key value is_static false = by_key (is_private key)
   where
     by_key : (b : Bool) → notes_of key ⊕ notes_of value ≡ notes_of (cond b (tree.private_prop s key value is_static (listed [])) (tree.class_prop s key value is_static (listed [])))
     by_key true = refl
@@ -143,8 +146,9 @@ module _ (m : Bool) (s : Span) (key : Tree) (h : is_supported_key_in m key || is
       by_key true e = and_both (is_supported_property_in m key) _ (private_supported m key e) function
       by_key false e = and_both (is_supported_key_in m key) _ (public_supported m key e h) function
 
-  field_supported : (value : Tree) (is_static : Bool) → supported_in m value ≡ true → supported_in m (field_member s key value is_static false (listed [])) ≡ true
-  field_supported value is_static j = by_key (is_private key) refl
+  field_supported : (value : Tree) (is_static is_accessor : Bool) → supported_in m value ≡ true → supported_in m (field_member s key value is_static is_accessor (listed [])) ≡ true
+  field_supported value is_static true j = and_both (is_supported_key_in m key || is_private key) _ h j
+  field_supported value is_static false j = by_key (is_private key) refl
     where
       by_key : (b : Bool) → is_private key ≡ b
           → supported_in m (cond b (tree.private_prop s key value is_static (listed [])) (tree.class_prop s key value is_static (listed []))) ≡ true
@@ -158,6 +162,21 @@ bare_is setter_form h = absurd (true≢false (sym h))
 bare_is (method_form true g) h = absurd (true≢false (sym h))
 bare_is (method_form false true) h = absurd (true≢false (sym h))
 bare_is (method_form false false) h = refl
+
+-- behind `accessor` no accessor of another kind begins where a field may go on
+no_words : (c : Place) → begins_words c ≡ false → (begins_accessor (codes "get") c ≡ false) × (begins_accessor (codes "set") c ≡ false)
+unfolding begins_words
+no_words c h = let a = or_no (begins_accessor (codes "get") c) _ h in (a.0, (or_no (begins_accessor (codes "set") c) _ a.1).0)
+
+field_words : (is_static : Bool) (c : Place) → begins_no_field is_static c ≡ false → begins_words c ≡ false
+unfolding begins_no_field
+field_words is_static c h = (or_no (word_at (codes "static") c && sees kind.LBrace (after c)) _ (or_no (is_static && sees kind.LBrace c) _ h).1).1
+
+-- behind a recorded fault of no table nothing is said of the grammar
+faulty_sound : (P Q : Code → Tree → Place → Place → Type 0) (f : Fault) (p : Reader Tree) (s : State) → walks.is_tabled f.kind ≡ false → ((t : State) → Meets (SoundTree Q t) (p t))
+    → Meets (SoundTree P s) (and_then (fault f s) (λ _. p))
+faulty_sound P Q f p s e h = meets_then _ (fault f s) _ (fault_sound {table = []} (λ k c d. ⊥) f s (rw e refl)) (λ _ m q.
+    meets_as (p m) (h m) (λ x t r. sound_as s t refl refl refl (λ (i, a, b). absurd a) (sound_then q r)))
 
 not_no : (b : Bool) → not b ≡ false → b ≡ true
 not_no true h = refl
@@ -240,10 +259,14 @@ module _ (n : ℕ) (inner : Class → Reader Tree) (cover : Reader Cover) (stmt 
   abbrev HeadRead : MethodForm → Tree → Code → Place → Place → Type 0
   HeadRead form key k c d = (j : Place) × WordsRead form c j × MemberKeyRead n k key j d
 
-  module _ (is_static : Bool) (first : Place) where
-    -- from behind `static`; the member begins at the first place
+  -- the key was read, and no accessor goes on behind it
+  abbrev FieldKeyRead : Tree → Code → Place → Place → Type 0
+  FieldKeyRead key k c d = MemberKeyRead n k key c d × (is_accessor_key key d ≡ false)
+
+  module _ (is_static is_accessor : Bool) (first : Place) where
+    -- from behind `static` and `accessor`; the member begins at the first place
     abbrev CoreRead : Code → Tree → Place → Place → Type 0
-    CoreRead k x c d = CoreRule (Reads n) k is_static false (listed []) x first c d × (supported_in k.flags.module x ≡ true)
+    CoreRead k x c d = CoreRule (Reads n) k is_static is_accessor (listed []) x first c d × (supported_in k.flags.module x ≡ true)
 
     abbrev SoundCore : State → Tree → State → Type 0
     SoundCore s x t = SoundTree CoreRead s x t
@@ -251,15 +274,16 @@ module _ (n : ℕ) (inner : Class → Reader Tree) (cover : Reader Cover) (stmt 
     abbrev start : Span
     start = span_at first
 
-    module _ (form : MethodForm) (key : Tree) (s m : State) (p : Sound same (λ k l. walk (env_of k l) key) (notes_of key) (HeadRead form key) s m) where
+    -- no method and no constructor stands behind `accessor`
+    module _ (form : MethodForm) (key : Tree) (s m : State) (p : Sound same (λ k l. walk (env_of k l) key) (notes_of key) (λ k c d. HeadRead form key k c d × (is_accessor ≡ false)) s m) where
       method_sound : (word : Span) → Meets (SoundCore s) (method stmt params is_static form start word key m)
       unfolding method
       method_sound word = meets_then _ (misnamed form start word key m) _ (misnamed_sound form start word key m) (λ _ u q.
           meets_then _ (method_parts stmt params form start word u) _ (method_parts_sound form start word first u refl) (λ fn t (r, i).
           sound_as s t refl (method_walk (env_of s.code s.scope.labels) (span_of fn) key fn (kind_of_form form) is_static form i)
           (method_noted (span_of fn) key fn (kind_of_form form) is_static form i)
-          (λ (((j, w, b), (h, g)), r). (
-            method_rule (kind_of_form form) (form_is_async form) (form_is_generator form) key r.patterns r.body refl (record {
+          (λ ((((j, w, b), plain), (h, g)), r). (
+            method_rule (kind_of_form form) (form_is_async form) (form_is_generator form) key r.patterns r.body plain (record {
               behind_head = j;
               behind_key = u.at;
               reads_head = w.0;
@@ -294,10 +318,10 @@ module _ (n : ℕ) (inner : Class → Reader Tree) (cover : Reader Cover) (stmt 
           sound_as s t refl
           (ap (λ y. ((walk (env_of s.code s.scope.labels) key ++ y) ++ of_body) ++ late) (sym (parameters_walk (env_of s.code s.scope.labels) ps)))
           (constructor_noted here ps x)
-          (λ ((((a, c), e), w), (g, y)).
+          (λ (((((a, plain), c), e), w), (g, y)).
           let f : t.at ≡ u.at = y ∙ w in
           let k : ReadsBraced (ReadsStmt n) true (in_body s.code false false) x i.at t.at = subst (ReadsBraced (ReadsStmt n) true (in_body s.code false false) x i.at) (sym f) e in (
-            constructor_rule key ps x m.at i.at g refl refl (read_from a.0 a.1 a.2) h c.0 (braced_widens n (stmt_widens n) true k)
+            constructor_rule key ps x m.at i.at g plain refl (read_from a.0 a.1 a.2) h c.0 (braced_widens n (stmt_widens n) true k)
                 (ap (λ d. tree.constructor (record { lo = start.lo; hi = d.last.hi }) key (parameters ps) x) (sym f)),
             and_both (is_supported_key_in s.code.flags.module key) _ (public_supported s.code.flags.module key (named_is_public key h) a.2.1)
                 (and_both (supported_in s.code.flags.module (parameters ps) && supported_in s.code.flags.module x) _
@@ -324,47 +348,65 @@ module _ (n : ℕ) (inner : Class → Reader Tree) (cover : Reader Cover) (stmt 
       plain_method_sound word b = meets_if _ (is_constructor_key key) _ _ (λ h. constructor_sound b h)
           (λ _. subst (λ f. Meets (SoundCore s) (method stmt params is_static f start word key m)) (bare_is form b) (method_sound word))
 
-      -- a field has no words, and no parameters behind its key
-      field_sound : is_bare form ≡ true → sees kind.LParen m.at ≡ false → Meets (SoundCore s) (field inner cover is_static start key m)
+    -- no parameters stand behind the key of a field
+    module _ (key : Tree) (s m : State) (p : Sound same (λ k l. walk (env_of k l) key) (notes_of key) (FieldKeyRead key) s m) where
+      field_sound : sees kind.LParen m.at ≡ false → Meets (SoundCore s) (field inner cover is_static is_accessor start key m)
       unfolding field field_from field_named spanned
-      field_sound b l = meets_if _ (sees kind.Assign m.at || ends_at m.at) _ _ (λ _. by_key (is_constructor_key key) refl) (λ _. wanted_meets _ faults.Unexpected m)
+      field_sound l = meets_if _ (sees kind.Assign m.at || ends_at m.at) _ _ (λ _. by_key (is_constructor_key key) refl) (λ _. wanted_meets _ faults.Unexpected m)
         where
           from : is_constructor_key key ≡ false → Meets (SoundCore s) (and_then (field_value inner cover m) (λ value u. and_then (field_end u) (λ _ t.
-              Ok (field_member (record { lo = start.lo; hi = t.at.last.hi }) key value is_static false (listed []), t))))
+              Ok (field_member (record { lo = start.lo; hi = t.at.last.hi }) key value is_static is_accessor (listed []), t))))
           from h = meets_then _ (field_value inner cover m) _ (field_value_sound m) (λ value u q.
               meets_then _ (field_end u) _ (field_end_sound u) (λ _ t r.
               let here : Span = record { lo = start.lo; hi = t.at.last.hi } in
-              sound_as s t refl (field_walk (env_of s.code s.scope.labels) here key value is_static) (field_noted here key value is_static)
-              (λ (((j, w, k), v), e).
-              let (i, g, y) = w.1 b in
-              let c : MemberKeyRule (Reads n) s.code key s.at m.at = subst (λ z. MemberKeyRule (Reads n) s.code key z m.at) i k.0 in
-              let a : is_accessor_key key m.at ≡ false = no_accessor_key (Reads n) c g y in (
-                field_rule key value m.at u.at c h (value_rule key value l a v) e refl,
-                field_supported s.code.flags.module here key k.1 value is_static (value_supported value v),
+              sound_as s t refl (field_walk (env_of s.code s.scope.labels) here key value is_static is_accessor) (field_noted here key value is_static is_accessor)
+              (λ (((k, a), v), e). (
+                field_rule key value m.at u.at k.0 h (value_rule key value l a v) e refl,
+                field_supported s.code.flags.module here key k.1 value is_static is_accessor (value_supported value v),
               ))
               (stepped (paired p q) r)))
 
           by_key : (x : Bool) → is_constructor_key key ≡ x → Meets (SoundCore s) (and_then (cond x (reject (fault_at (span_of key) faults.PropertyNamedConstructor) m) (Ok (tt {0}, m))) (λ _ v.
               and_then (field_value inner cover v) (λ value u. and_then (field_end u) (λ _ t.
-              Ok (field_member (record { lo = start.lo; hi = t.at.last.hi }) key value is_static false (listed []), t)))))
+              Ok (field_member (record { lo = start.lo; hi = t.at.last.hi }) key value is_static is_accessor (listed []), t)))))
           by_key true h = meets_then {P = λ _ _. ⊥} _ (reject (fault_at (span_of key) faults.PropertyNamedConstructor) m) _ (reject_meets (λ _ _. ⊥) _ m) (λ _ _ z. absurd z)
           by_key false h = from h
 
+  -- ---- a member behind `static`
+
+  module _ (is_static : Bool) (first : Place) where
+    -- where `accessor` does not stand before it
+    abbrev SoundPlain : State → Tree → State → Type 0
+    SoundPlain s x t = SoundCore is_static false first s x t
+
+    abbrev begin : Span
+    begin = span_at first
+
+    module _ (form : MethodForm) (key : Tree) (s m : State) (p : Sound same (λ k l. walk (env_of k l) key) (notes_of key) (HeadRead form key) s m) where
+      headed : Sound same (λ k l. walk (env_of k l) key) (notes_of key) (λ k c d. HeadRead form key k c d × (false ≡ false)) s m
+      headed = sound_as s m refl refl refl (λ r. (r, refl)) p
+
+      -- a field has no words
+      bare : is_bare form ≡ true → Sound same (λ k l. walk (env_of k l) key) (notes_of key) (FieldKeyRead key) s m
+      bare b = sound_as s m refl refl refl (λ (j, w, k).
+          let (i, g, y) = w.1 b in
+          let c : MemberKeyRule (Reads n) s.code key s.at m.at = subst (λ z. MemberKeyRule (Reads n) s.code key z m.at) i k.0 in
+          ((c, k.1), no_accessor_key (Reads n) c g y)) p
+
       -- from behind its key
-      behind_key_sound : (word : Span) → Meets (SoundCore s) (behind_key inner cover stmt params is_static form start word key m)
+      behind_key_sound : (word : Span) → Meets (SoundPlain s) (behind_key inner cover stmt params is_static form begin word key m)
       unfolding behind_key
-      behind_key_sound word = meets_if _ (not (is_bare form)) _ _ (λ _. method_sound word)
-          (λ h. meets_if _ (sees kind.LParen m.at) _ _ (λ _. plain_method_sound word (not_no (is_bare form) h)) (λ l. field_sound (not_no (is_bare form) h) l))
+      behind_key_sound word = meets_if _ (not (is_bare form)) _ _ (λ _. method_sound is_static false first form key s m headed word)
+          (λ h. let b = not_no (is_bare form) h in meets_if _ (sees kind.LParen m.at) _ _ (λ _. plain_method_sound is_static false first form key s m headed word b)
+          (λ l. field_sound is_static false first key s m (bare b) l))
 
-    -- ---- a member behind `static`
-
-    keyed_member_sound : (s : State) → Meets (SoundCore s) (keyed_member inner cover stmt params is_static start s)
+    keyed_member_sound : (s : State) → Meets (SoundPlain s) (keyed_member inner cover stmt params is_static begin s)
     unfolding keyed_member
     keyed_member_sound s = meets_then _ (member_words s) _ (member_words_sound s) (λ form i p.
         meets_then _ (member_key inner cover i) _ (member_key_sound n inner cover sound sound_cover i) (λ key m q.
         behind_key_sound form key s m (sound_as s m refl refl refl (λ r. r) (sound_then p q)) (span_at s.at)))
 
-    static_block_sound : (s : State) → is_static ≡ true → Meets (SoundCore s) (static_block stmt params start s)
+    static_block_sound : (s : State) → is_static ≡ true → Meets (SoundPlain s) (static_block stmt params begin s)
     unfolding static_block spanned
     static_block_sound s e = meets_then _ (within in_static_block (braced stmt false) s) _
         (within_sound (λ x k l. walk (env_of k l) x) notes_of (λ x k. ReadsBlock (ReadsStmt n) k x) in_static_block (λ k. refl) (braced stmt false) s (braced_sound (coded (in_static_block s.code) s))) (λ x t p.
@@ -375,29 +417,87 @@ module _ (n : ℕ) (inner : Class → Reader Tree) (cover : Reader Cover) (stmt 
         )) p)
 
     -- a second word is a fault
-    second_static_sound : (s : State) → is_static ≡ true → word_at (codes "static") s.at ≡ true → Meets (SoundCore s) (second_static stmt params start s)
+    second_static_sound : (s : State) → is_static ≡ true → word_at (codes "static") s.at ≡ true → Meets (SoundPlain s) (second_static stmt params begin s)
     unfolding second_static
     second_static_sound s e h =
-        let g : Fault = fault_at start faults.TS1184 in
+        let g : Fault = fault_at begin faults.TS1184 in
         let w = word_place (codes "static") s.at h in
-        rw (fault_here s g (ap is_error w)) (meets_as (static_block stmt params start (moved (noted g s))) (static_block_sound (moved (noted g s)) e) (λ x t p.
-        sound_noted s t g refl (sound_after {Q = λ k c d. CoreRead k x (after c) d} (noted g s) t w refl refl refl (λ r. r) p)))
+        rw (fault_here s g (ap is_error w)) (meets_as (static_block stmt params begin (moved (noted g s))) (static_block_sound (moved (noted g s)) e) (λ x t p.
+        sound_noted s t g refl (sound_after {Q = λ k c d. CoreRead is_static false first k x (after c) d} (noted g s) t w refl refl refl (λ r. r) p)))
 
-    -- where `accessor` is no word of its own
+  -- ---- a member behind `accessor`
+
+  module _ (is_static : Bool) (first : Place) where
+    abbrev opening : Span
+    opening = span_at first
+
+    -- whatever the grammar has
+    abbrev Whatever : Code → Tree → Place → Place → Type 0
+    Whatever k x c d = Unit {0}
+
+    whatever : (P : Code → Tree → Place → Place → Type 0) (s : State) (o : Outcome Tree) → Meets (SoundTree P s) o → Meets (SoundTree Whatever s) o
+    whatever P s o h = meets_as o h (λ x t p. sound_as s t refl refl refl (λ _. tt) p)
+
+    block_sound : (s : State) → Meets (SoundTree Whatever s) (static_block stmt params opening s)
+    block_sound s = whatever (CoreRead true false first) s (static_block stmt params opening s) (static_block_sound true first s refl)
+
+    static_behind_sound : (s : State) → word_at (codes "static") s.at ≡ true → Meets (SoundTree Whatever s) (static_behind inner cover stmt params is_static opening s)
+    unfolding static_behind
+    static_behind_sound s h = meets_if _ is_static _ _ (λ _. whatever (CoreRead true false first) s (second_static stmt params opening s) (second_static_sound true first s refl h)) (λ _.
+        meets_as (static_block stmt params opening (moved s)) (block_sound (moved s)) (λ x t p. sound_after s t (word_place (codes "static") s.at h) refl refl refl (λ r. r) p))
+
+    unaccessed_sound : (s : State) → Meets (SoundTree Whatever s) (unaccessed inner cover stmt params is_static opening s)
+    unfolding unaccessed
+    unaccessed_sound s = meets_if _ (is_static && sees kind.LBrace s.at) _ _ (λ _. block_sound s) (λ _.
+        meets_if _ (word_at (codes "static") s.at && sees kind.LBrace (after s.at)) _ _ (λ h. static_behind_sound s (and_yes (word_at (codes "static") s.at) _ h).0)
+        (λ _. whatever (CoreRead is_static false first) s (keyed_member inner cover stmt params is_static opening s) (keyed_member_sound is_static first s)))
+
+    abbrev SoundAccessor : State → Tree → State → Type 0
+    SoundAccessor s x t = SoundCore is_static true first s x t
+
+    -- behind a fault the key says nothing of the grammar either
+    faulty_key : (key : Tree) (s m u : State) → SoundTree (MemberKeyRead n) s key m → SoundStep (λ k c d. ⊥) m u
+        → Sound same (λ k l. walk (env_of k l) key) (notes_of key) (λ k c d. HeadRead (method_form false false) key k c d × (true ≡ false)) s u
+    faulty_key key s m u p q = sound_as s u refl refl refl (λ (r, f). absurd f) (stepped p q)
+
+    accessed_key_sound : (accessor : Span) (s : State) → begins_words s.at ≡ false → Meets (SoundAccessor s) (accessed_key inner cover stmt params is_static opening accessor s)
+    unfolding accessed_key behind_accessed_key
+    accessed_key_sound accessor s a = meets_then _ (member_key inner cover s) _ (member_key_sound n inner cover sound sound_cover s) (λ key m p.
+        meets_if _ (sees kind.LParen m.at) _ _
+        (λ _. meets_then _ (fault (fault_at accessor faults.TS1184) m) _ (fault_sound {table = []} (λ k c d. ⊥) (fault_at accessor faults.TS1184) m refl) (λ _ u q.
+        plain_method_sound is_static true first (method_form false false) key s u (faulty_key key s m u p q) (span_at s.at) refl))
+        (λ l. let (g, y) = no_words s.at a in field_sound is_static true first key s m (sound_as s m refl refl refl (λ r. (r, no_accessor_key (Reads n) r.0 g y)) p) l))
+
+    accessed_sound : (accessor : Span) (s : State) → Meets (SoundAccessor s) (accessed inner cover stmt params is_static opening accessor s)
+    unfolding accessed
+    accessed_sound accessor s = meets_if _ (begins_no_field is_static s.at) _ _
+        (λ _. faulty_sound (CoreRead is_static true first) Whatever (fault_at accessor faults.TS1184) (unaccessed inner cover stmt params is_static opening) s refl unaccessed_sound)
+        (λ h. accessed_key_sound accessor s (field_words is_static s.at h))
+
+    -- ---- with `accessor`, where it is a word of its own, or without it
+
+    abbrev Modified : Code → Tree → Place → Place → Bool → Type 0
+    Modified k x c d z = CoreRule (Reads n) k is_static z (listed []) x first (behind_modifier z c) d
+
     abbrev SoundBehind : State → Tree → State → Type 0
-    SoundBehind s x t = SoundTree (λ k y c d. CoreRead k y c d × (is_accessor_word k c ≡ false)) s x t
+    SoundBehind s x t = SoundTree (λ k y c d. Modified k y c d (is_accessor_word k c) × (supported_in k.flags.module y ≡ true)) s x t
 
-    accessorless : (s : State) (o : Outcome Tree) → is_accessor_word s.code s.at ≡ false → Meets (SoundCore s) o → Meets (SoundBehind s) o
-    accessorless s o a h = meets_as o h (λ x t p. sound_as s t refl refl refl (λ r. (r, a)) p)
+    accessor_member_sound : (s : State) → is_accessor_word s.code s.at ≡ true → Meets (SoundBehind s) (accessor_member inner cover stmt params is_static opening s)
+    unfolding accessor_member
+    accessor_member_sound s a = meets_as (accessed inner cover stmt params is_static opening (span_at s.at) (moved s)) (accessed_sound (span_at s.at) (moved s)) (λ x t p.
+        sound_after s t (auto_accessor_kind s.code s.at a) refl refl refl (λ r. (subst (Modified s.code x s.at t.at) (sym a) r.0, r.1)) p)
 
-    behind_static_sound : (s : State) → Meets (SoundBehind s) (behind_static inner cover stmt params is_static start s)
+    accessorless : (s : State) (o : Outcome Tree) → is_accessor_word s.code s.at ≡ false → Meets (SoundPlain is_static first s) o → Meets (SoundBehind s) o
+    accessorless s o a h = meets_as o h (λ x t p. sound_as s t refl refl refl (λ r. (subst (Modified s.code x s.at t.at) (sym a) r.0, r.1)) p)
+
+    behind_static_sound : (s : State) → Meets (SoundBehind s) (behind_static inner cover stmt params is_static opening s)
     unfolding behind_static
-    behind_static_sound s = meets_if _ (is_accessor_word s.code s.at) _ _ (λ _. wanted_meets _ faults.Unexpected s) (λ a.
-        meets_if _ (is_static && sees kind.LBrace s.at) _ _ (λ h. accessorless s (static_block stmt params start s) a (static_block_sound s (and_yes is_static _ h).0))
+    behind_static_sound s = meets_if _ (is_accessor_word s.code s.at) _ _ (λ a. accessor_member_sound s a) (λ a.
+        meets_if _ (is_static && sees kind.LBrace s.at) _ _ (λ h. accessorless s (static_block stmt params opening s) a (static_block_sound is_static first s (and_yes is_static _ h).0))
         (λ _. meets_if _ (is_static && (word_at (codes "static") s.at && sees kind.LBrace (after s.at))) _ _
         (λ h. let e = and_yes is_static _ h in
-        accessorless s (second_static stmt params start s) a (second_static_sound s e.0 (and_yes (word_at (codes "static") s.at) _ e.1).0))
-        (λ _. accessorless s (keyed_member inner cover stmt params is_static start s) a (keyed_member_sound s))))
+        accessorless s (second_static stmt params opening s) a (second_static_sound is_static first s e.0 (and_yes (word_at (codes "static") s.at) _ e.1).0))
+        (λ _. accessorless s (keyed_member inner cover stmt params is_static opening s) a (keyed_member_sound is_static first s))))
 
   -- ---- members
 
@@ -405,16 +505,14 @@ module _ (n : ℕ) (inner : Class → Reader Tree) (cover : Reader Cover) (stmt 
   unfolding full_member
   full_member_sound s = meets_then _ (static_word s) _ (static_word_sound s) (λ b m (e, p).
       meets_as (behind_static inner cover stmt params b (span_at s.at) m) (behind_static_sound b s.at m) (λ x t q.
-      sound_as s t refl refl refl (λ (i, r). (member_of b x s.code s.at m.at t.at e i r.0.0 r.1, r.0.1)) (paired p q)))
+      sound_as s t refl refl refl (λ (i, r). (member_of b x s.code s.at m.at t.at e i r.0, r.1)) (paired p q)))
     where
-      member_of : (b : Bool) (x : Tree) (k : Code) (c m d : Place) → b ≡ is_static_word c → m ≡ behind_modifier b c → CoreRule (Reads n) k b false (listed []) x c m d → is_accessor_word k m ≡ false
-          → MemberRule (Reads n) k x c d
-      member_of b x k c m d e i r a =
+      member_of : (b : Bool) (x : Tree) (k : Code) (c m d : Place) → b ≡ is_static_word c → m ≡ behind_modifier b c
+          → CoreRule (Reads n) k b (is_accessor_word k m) (listed []) x c (behind_modifier (is_accessor_word k m) m) d → MemberRule (Reads n) k x c d
+      member_of b x k c m d e i r =
           let j : m ≡ behind_static_word c = i ∙ ap (λ z. behind_modifier z c) e in
-          let l : has_accessor k c ≡ false = ap (is_accessor_word k) (sym j) ∙ a in
-          let o : m ≡ behind_accessor k c = j ∙ ap (λ z. behind_modifier z (behind_static_word c)) (sym l) in
           member_rule (listed []) c (no_decorators refl refl) (subst (λ z. CoreRule (Reads n) k z (has_accessor k c) (listed []) x c (behind_accessor k c) d) e
-          (subst (λ z. CoreRule (Reads n) k b z (listed []) x c (behind_accessor k c) d) (sym l) (subst (λ z. CoreRule (Reads n) k b false (listed []) x c z d) o r)))
+          (subst (λ z. CoreRule (Reads n) k b (is_accessor_word k z) (listed []) x c (behind_modifier (is_accessor_word k z) z) d) j r))
 
   pub member_level_sound : (s : State) → Meets (λ x t. SoundTree (ReadsMember (suc n)) s x t) (member_level inner cover stmt params s)
   unfolding member_level empty_member spanned

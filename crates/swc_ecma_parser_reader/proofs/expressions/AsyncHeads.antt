@@ -20,20 +20,20 @@ use Rattle.swc_ecma_parser_input.specs.Place.{Place, after}
 use Rattle.swc_ecma_parser_model.specs.Tree as tree
 use Rattle.swc_ecma_parser_model.specs.Tree.{Tree, Text}
 use Rattle.swc_ecma_parser_grammar.specs.Looks.{kind_at, breaks_at, sees, same_kind, span_at}
-use Rattle.swc_ecma_parser_grammar.specs.Names.{is_reserved, is_name, token_is_name, first_is_name, name_at, is_identifier, identifier_at}
+use Rattle.swc_ecma_parser_grammar.specs.Names.{is_reserved, is_name, token_is_identifier, first_is_identifier, name_at, is_identifier, identifier_at}
 use Rattle.swc_ecma_parser_grammar.specs.Follows.{token_is, first_is, word_at}
 use Rattle.swc_ecma_parser_grammar.specs.language.Begins.{awaits}
 use Rattle.swc_ecma_parser_grammar.specs.language.Goals.{Class}
 use Rattle.swc_ecma_parser_grammar.specs.language.Operators.{unary_operator, update_operator, binary_operator, assign_operator}
 use Rattle.swc_ecma_parser_grammar.proofs.StatementBegins.{word_place}
 use Rattle.swc_ecma_parser_grammar.proofs.Tests.{and_yes, and_no}
-use Rattle.swc_ecma_parser_reader.specs.State.{State, Reader, and_then, moved, name}
+use Rattle.swc_ecma_parser_reader.specs.State.{State, Reader, and_then, moved, name, reference}
 use Rattle.swc_ecma_parser_reader.specs.Methods.{FunctionForm}
 use Rattle.swc_ecma_parser_reader.specs.Yields.{begins_yield}
 use Rattle.swc_ecma_parser_reader.specs.Arrows.{begins_named_arrow}
 use Rattle.swc_ecma_parser_reader.specs.AsyncArrows.{begins_async_arrow, async_named_arrow, async_grouped}
 use Rattle.swc_ecma_parser_reader.specs.Expressions.{Cover, begins_async_call, heads_arrow, operator_at, unheaded, ident_expr, named_expr, primary, left_turn, left_from, left_head, left, postfix, postfixed, unary_expr, binary_turn, binary_from, binary_expr, behind_operators, operators_expr, plain_expr}
-use Rattle.swc_ecma_parser_reader.proofs.Words.{word_named}
+use Rattle.swc_ecma_parser_reader.proofs.Words.{word_named, unreserved}
 use Rattle.swc_ecma_parser_reader.proofs.Steps.{loop_done}
 use Rattle.swc_ecma_parser_reader.proofs.Meets.{Meets, wanted_meets, saw}
 use Rattle.swc_ecma_parser_reader.proofs.expressions.Awaits.{other_awaits}
@@ -77,30 +77,21 @@ abbrev Passes : TokenKind → Type 0
 Passes k =
     Quiet k × (same_kind k kind.Arrow ≡ false) × (same_kind k kind.QuestionMark ≡ false) × (same_kind k kind.Function ≡ false) × (assign_operator k ≡ None) × (binary_operator k ≡ None)
 
-keyword_passes : (f : Context) (k : Keyword) → is_name f (word_text (word.Keyword k)) ≡ true → Passes (keyword_kind k)
-unfolding is_name is_reserved same_kind
+keyword_passes : (f : Context) (k : Keyword) → is_identifier f (word_text (word.Keyword k)) ≡ true → Passes (keyword_kind k)
+unfolding is_identifier is_reserved same_kind
 keyword_passes f keyword.In e = cc
 keyword_passes f keyword.InstanceOf e = cc
 keyword_passes f keyword.Function e = cc
 keyword_passes f keyword.Await e = ((refl, refl, refl, refl, refl), refl, refl, refl, refl, refl)
 keyword_passes f _ e = ((refl, refl, refl, refl, refl), refl, refl, refl, refl, refl)
 
-word_passes : (f : Context) (w : Word) → is_name f (word_text w) ≡ true → Passes (word_kind w)
+word_passes : (f : Context) (w : Word) → is_identifier f (word_text w) ≡ true → Passes (word_kind w)
 unfolding same_kind
 word_passes f (word.Keyword k) e = keyword_passes f k e
 word_passes f _ e = ((refl, refl, refl, refl, refl), refl, refl, refl, refl, refl)
 
 name_passes : (f : Context) (c : Place) → name_at f c ≡ true → Passes (kind_at c)
 name_passes f c n = let (v, s, r, i) = named_here f c n in subst Passes (sym (token_first (token.Word v) s c (after c) r)) (word_passes f v i)
-
--- it is an identifier
-word_is_identifier : (f : Context) (w : Word) → is_name f (word_text w) ≡ true → is_identifier f (word_text w) ≡ true
-unfolding is_name is_identifier
-word_is_identifier f w h = (and_yes (not (is_reserved f (word_text w))) _ h).0
-
-name_is_identifier : (f : Context) (c : Place) → name_at f c ≡ true → identifier_at f c ≡ true
-unfolding identifier_at
-name_is_identifier f c n = let (v, s, r, i) = named_here f c n in rw r.is (word_is_identifier f v i)
 
 -- `async` is no `yield`, no `(`, and before these two no name before `=>`
 pub word_apart : (f : Context) (c : Place) → word_at (codes "async") c ≡ true → (begins_yield f c ≡ false) × (sees kind.LParen c ≡ false)
@@ -136,19 +127,19 @@ pub record AsyncName (s : State) : Type 0 where
   pub reads : ident_expr s ≡ Ok (tree.ident span text, moved s)
   pub is_async : bytes_eq text (codes "async") ≡ true
 
-async_in : (s : State) (ts : List TokenAndSpan) → s.at.left ≡ ts → first_is (codes "async") ts ≡ true → first_is_name s.code.flags ts ≡ true → AsyncName s
-unfolding ident_expr name
+async_in : (s : State) (ts : List TokenAndSpan) → s.at.left ≡ ts → first_is (codes "async") ts ≡ true → sees kind.Await s.at ≡ false → AsyncName s
+unfolding ident_expr reference name
 async_in s [] e h n = cc
-async_in s (t ∷ ts) e h n = by_token t.token refl h n
+async_in s (t ∷ ts) e h n = by_token t.token refl h
   where
-    by_token : (u : Token) → t.token ≡ u → token_is (codes "async") u ≡ true → token_is_name s.code.flags u ≡ true → AsyncName s
-    by_token (token.Word (word.Ident text)) g i m = record { text = text; span = t.span; reads = rw (e, g, m) refl; is_async = i }
-    by_token (token.Word _) g i m = cc
-    by_token _ g i m = cc
+    by_token : (u : Token) → t.token ≡ u → token_is (codes "async") u ≡ true → AsyncName s
+    by_token (token.Word (word.Ident text)) g i = record { text = text; span = t.span; reads = rw (n, and_no s.code.flags.in_async false refl, e, g, unreserved s.code.flags text i) refl; is_async = i }
+    by_token (token.Word _) g i = cc
+    by_token _ g i = cc
 
 pub async_name : (s : State) → word_at (codes "async") s.at ≡ true → AsyncName s
-unfolding word_at name_at
-async_name s w = async_in s s.at.left refl w (word_named s.code.flags s.at w)
+unfolding word_at same_kind
+async_name s w = async_in s s.at.left refl w (ap (λ z. same_kind z kind.Await) (word_place (codes "async") s.at w))
 
 -- ---- as an operand
 
@@ -179,7 +170,7 @@ module _ (inner : Class → Reader Tree) (cover : Reader Cover) (function : Func
     unfolding behind_operators unheaded heads_arrow
     behind_none is_async start span text e =
         let p = name_passes s.code.flags (after s.at) named in
-        rw (p.2, p.4, p.1, e, line, name_is_identifier s.code.flags (after s.at) named) (wanted_meets (λ _ _. ⊥) faults.Unexpected (moved s))
+        rw (p.2, p.4, p.1, e, line, named) (wanted_meets (λ _ _. ⊥) faults.Unexpected (moved s))
 
     operators_none : Meets (λ _ _. ⊥) (operators_expr inner cover function s)
     unfolding operators_expr binary_expr unary_expr postfix left left_head left_from left_turn binary_from binary_turn operator_at

@@ -52,11 +52,10 @@ use Rattle.swc_ecma_parser_reader.specs.Expressions.{Cover, done, goes_on, begin
 use Rattle.swc_ecma_parser_reader.specs.Yields.{begins_yield, bare_yield, yielded, behind_yield, yield_expr}
 use Rattle.swc_ecma_parser_reader.proofs.Notes.{or_nil, or_assoc}
 use Rattle.swc_ecma_parser_reader.proofs.Answered.{st, Reads, Gets, gets_also, ReadsAs}
-use Rattle.swc_ecma_parser_reader.proofs.Takes.{moves}
+use Rattle.swc_ecma_parser_reader.proofs.Takes.{moves, Falls}
 use Rattle.swc_ecma_parser_reader.proofs.Steps.{loop_more, loop_done}
 use Rattle.swc_ecma_parser_reader.proofs.Meets.{saw}
 use Rattle.swc_ecma_parser_reader.proofs.expressions.Falls.{operated_falls, assignment_falls, cover_expr_falls, level_falls}
-use Rattle.swc_ecma_parser_reader.proofs.Takes.{Falls}
 use Rattle.swc_ecma_parser_reader.proofs.expressions.Targets.{leaf_supported, left_target, left_leaf, pattern_alike}
 use Rattle.swc_ecma_parser_reader.proofs.expressions.Covers as covers
 use Rattle.swc_ecma_parser_reader.proofs.expressions.Covers.{met, begins_literal, opened, opened_literal, Assigns, Becomes, cover_is, open_cover, assigns_cover, plain_cover, plain_operators, plain_grouped}
@@ -688,8 +687,8 @@ module _ (n : ℕ) (inner : Class → Reader Tree) (cover : Reader Cover) (given
     tied = tied;
     parts = parts;
     names = names_stand (suc n);
-    parameter = λ k x c d r s. parameter_down (suc n) k.flags.module k x c d r s;
-    assigned = λ k x c d r s. item_down (suc n) k.flags.module k x c d r s;
+    parameter = λ k x c d r s e. parameter_down (suc n) k.flags.module k x c d r s e;
+    assigned = λ k x c d r s e. item_down (suc n) k.flags.module k x c d r s e;
   }
 
 -- within no level nothing is
@@ -709,8 +708,8 @@ read_nowhere inner cover falls cover_falls tied parts = record {
   tied = tied;
   parts = parts;
   names = names_stand zero;
-  parameter = λ k x c d r s. parameter_down zero k.flags.module k x c d r s;
-  assigned = λ k x c d r s. item_down zero k.flags.module k x c d r s;
+  parameter = λ k x c d r s e. parameter_down zero k.flags.module k x c d r s e;
+  assigned = λ k x c d r s e. item_down zero k.flags.module k x c d r s e;
 }
 
 -- an expression of a class is

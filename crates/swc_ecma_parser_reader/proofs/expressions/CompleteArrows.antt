@@ -21,7 +21,7 @@ use Rattle.swc_ecma_parser_grammar.specs.language.Goals.{Goal, Class, assignment
 use Rattle.swc_ecma_parser_grammar.specs.language.Lists.{ReadsListed, LastComma}
 use Rattle.swc_ecma_parser_grammar.specs.language.Noted.{has_meta}
 use Rattle.swc_ecma_parser_grammar.proofs.Arrows.{SupportedArrow}
-use Rattle.swc_ecma_parser_grammar.proofs.Binding.{ArrowPartRule, part_rule, rest_rule, is_bound}
+use Rattle.swc_ecma_parser_grammar.proofs.Binding.{ArrowPartRule, part_rule, rest_rule, is_bound, last_ends}
 use Rattle.swc_ecma_parser_grammar.proofs.Tests.{and_yes, and_both}
 use Rattle.swc_ecma_parser_reader.specs.Notes.{Notes, ◌⊕◌, notes_of, all_notes_of}
 use Rattle.swc_ecma_parser_reader.specs.State.{Scope, State, Reader, loop}
@@ -39,6 +39,7 @@ use Rattle.swc_ecma_parser_reader.proofs.expressions.Covers.{plain_named, plain_
 use Rattle.swc_ecma_parser_reader.proofs.expressions.NamedArrows.{name_no_yield}
 use Rattle.swc_ecma_parser_reader.proofs.expressions.CompleteParts.{expect_reads, AsElement, IsRead, IsFunctionRead, ReadsEnclosed, Behind, behind_last}
 use Rattle.swc_ecma_parser_reader.proofs.expressions.CompleteCovers.{rest_ends, covered_reads}
+use Rattle.swc_ecma_parser_grammar.proofs.Ended.{ends_name}
 
 -- ---- as parameters
 
@@ -200,18 +201,18 @@ module _ (In : Goal → Type 0) (inner : Class → Reader Tree) (cover : Reader 
       }
 
   -- each as what could be assigned to, or a rest
-  parts_down : (k : Code) (ps : List Tree) (c d : Place) → ReadsListed true (PatternItemRule In binding k) ps c d → all_supported_in k.flags.module (trees ps) ≡ true
+  parts_down : (k : Code) (ps : List Tree) (c d : Place) → ReadsListed true (PatternItemRule In binding k) ps c d → all_supported_in k.flags.module (trees ps) ≡ true → kind_at d ≡ kind.RParen
       → ReadsListed true (ArrowPartRule In k) ps c d
-  parts_down k [] c d r s = r
-  parts_down k (p ∷ []) c d (m, r, l) s = (m, given.parameter k p c m r (and_yes (supported_in k.flags.module p) _ s).0, l)
-  parts_down k (p ∷ q ∷ qs) c d (m, r, a, i, more) s =
-      let g = and_yes (supported_in k.flags.module p) _ s in (m, given.parameter k p c m r g.0, a, i, parts_down k (q ∷ qs) (after m) d more g.1)
+  parts_down k [] c d r s t = r
+  parts_down k (p ∷ []) c d (m, r, l) s t = (m, given.parameter k p c m r (and_yes (supported_in k.flags.module p) _ s).0 (last_ends true p m d l (ap ends_name t)), l)
+  parts_down k (p ∷ q ∷ qs) c d (m, r, a, i, more) s t =
+      let g = and_yes (supported_in k.flags.module p) _ s in (m, given.parameter k p c m r g.0 (ap ends_name i), a, i, parts_down k (q ∷ qs) (after m) d more g.1 t)
 
   grouped_reads : (ps : List Tree) (y : Tree) (j : Place) (k : Code) (x : Tree) (c d : Place) → ParametersRule In (with_in k) ps c j → kind_at j ≡ kind.Arrow → breaks_at j ≡ false
       → ArrowBodyRule In k false y (after j) d → SupportedArrow k.flags.module (listed ps) y → x ≡ tree.arrow (spanned c d) (listed ps) y false → Reads (plain_expr inner cover function) k x c d
   unfolding grouped spanned
   grouped_reads ps y j k x c d r t b u s e w f h =
-      let g = group_reads ps r.close k c j (parts_down (with_in k) ps (after c) r.close r.reads_patterns s.supports_params) s.supports_params r.closes r.next w f h in
+      let g = group_reads ps r.close k c j (parts_down (with_in k) ps (after c) r.close r.reads_patterns s.supports_params r.closes) s.supports_params r.closes r.next w f h in
       let f' = f ++ walks (env_of k w.labels) false (trees ps) in
       let h' = h ⊕ all_notes_of (trees ps) in
       plain_grouped inner cover function (st c k w f h) r.opens

@@ -24,7 +24,7 @@ use Rattle.swc_ecma_parser_grammar.specs.language.Goals.{Goal, Class, assigning,
 use Rattle.swc_ecma_parser_grammar.specs.language.Lists.{ReadsListed, no_comma, last_comma}
 use Rattle.swc_ecma_parser_grammar.specs.language.Noted.{has_meta}
 use Rattle.swc_ecma_parser_grammar.proofs.Arrows.{SupportedArrow, arrow_parts}
-use Rattle.swc_ecma_parser_grammar.proofs.Binding.{is_bound}
+use Rattle.swc_ecma_parser_grammar.proofs.Binding.{is_bound, last_ends}
 use Rattle.swc_ecma_parser_grammar.proofs.Tests.{and_yes, or_none}
 use Rattle.swc_ecma_parser_reader.specs.Notes.{Notes, ◌⊕◌, notes_of, all_notes_of}
 use Rattle.swc_ecma_parser_reader.specs.State.{Scope, State, Reader, loop}
@@ -42,6 +42,7 @@ use Rattle.swc_ecma_parser_reader.proofs.expressions.AsyncHeads.{async_arrow_beg
 use Rattle.swc_ecma_parser_reader.proofs.expressions.CompleteParts.{expect_reads, AsElement, AsTarget, IsRead, IsFunctionRead}
 use Rattle.swc_ecma_parser_reader.proofs.expressions.CompleteCovers.{covered_reads}
 use Rattle.swc_ecma_parser_reader.proofs.expressions.CompleteArrows.{from_reads, arrow_by}
+use Rattle.swc_ecma_parser_grammar.proofs.Ended.{ends_name}
 
 -- ---- as parameters
 
@@ -219,12 +220,12 @@ module _ (In : Goal → Type 0) (inner : Class → Reader Tree) (cover : Reader 
       record { value = o.value; holds = λ z. ap (λ v. argument_parameters v z) e ∙ g z; is = rw n o.is }
 
   -- each as what could be assigned to
-  items_down : (k : Code) (ps : List Tree) (c d : Place) → ReadsListed true (PatternItemRule In binding (with_in k)) ps c d → all_supported_in k.flags.module (trees ps) ≡ true
+  items_down : (k : Code) (ps : List Tree) (c d : Place) → ReadsListed true (PatternItemRule In binding (with_in k)) ps c d → all_supported_in k.flags.module (trees ps) ≡ true → kind_at d ≡ kind.RParen
       → ReadsListed true (Assigned k) ps c d
-  items_down k [] c d r s = r
-  items_down k (p ∷ []) c d (m, r, l) s = (m, given.assigned (with_in k) p c m r (and_yes (supported_in k.flags.module p) _ s).0, l)
-  items_down k (p ∷ q ∷ qs) c d (m, r, a, i, more) s =
-      let g = and_yes (supported_in k.flags.module p) _ s in (m, given.assigned (with_in k) p c m r g.0, a, i, items_down k (q ∷ qs) (after m) d more g.1)
+  items_down k [] c d r s t = r
+  items_down k (p ∷ []) c d (m, r, l) s t = (m, given.assigned (with_in k) p c m r (and_yes (supported_in k.flags.module p) _ s).0 (last_ends true p m d l (ap ends_name t)), l)
+  items_down k (p ∷ q ∷ qs) c d (m, r, a, i, more) s t =
+      let g = and_yes (supported_in k.flags.module p) _ s in (m, given.assigned (with_in k) p c m r g.0 (ap ends_name i), a, i, items_down k (q ∷ qs) (after m) d more g.1 t)
 
   async_grouped_reads : (ps : List Tree) (y : Tree) (j : Place) (k : Code) (x : Tree) (c d : Place) → word_at (codes "async") c ≡ true → breaks_at (after c) ≡ false → ParametersRule In (with_in k) ps (after c) j
       → kind_at j ≡ kind.Arrow → breaks_at j ≡ false → ArrowBodyRule In k true y (after j) d → SupportedArrow k.flags.module (listed ps) y → x ≡ tree.arrow (spanned c d) (listed ps) y true
@@ -232,7 +233,7 @@ module _ (In : Goal → Type 0) (inner : Class → Reader Tree) (cover : Reader 
   unfolding async_grouped spanned
   async_grouped_reads ps y j k x c d v l r t b u s e w f h =
       let n = async_name (st c k w f h) v in
-      let g = either_reads ps r.close k (after c) j (items_down k ps (after (after c)) r.close r.reads_patterns s.supports_params) s.supports_params r.closes r.next w f h in
+      let g = either_reads ps r.close k (after c) j (items_down k ps (after (after c)) r.close r.reads_patterns s.supports_params r.closes) s.supports_params r.closes r.next w f h in
       let f' = f ++ walks (env_of k w.labels) false (trees ps) in
       let h' = h ⊕ all_notes_of (trees ps) in
       plain_async_grouped inner cover function (st c k w f h) (async_call_begins c v l r.opens)

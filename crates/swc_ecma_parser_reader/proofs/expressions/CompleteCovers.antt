@@ -13,7 +13,7 @@ use Rattle.swc_ecma_parser_model.specs.Tree.{Tree, Trees, none, also, Text, list
 use Rattle.swc_ecma_parser_model.specs.Forms.{is_pattern_target, is_rest, span_of}
 use Rattle.swc_ecma_parser_model.specs.Targets.{simple_target, array_of, object_of, rest_of, alone, as_target, as_element, as_elements, as_properties}
 use Rattle.swc_ecma_parser_grammar.specs.Looks.{kind_at, sees, same_kind, span_at, spanned}
-use Rattle.swc_ecma_parser_grammar.specs.Names.{Code, is_name, is_reserved}
+use Rattle.swc_ecma_parser_grammar.specs.Names.{Code, is_name, is_reserved, is_clean_name, is_identifier}
 use Rattle.swc_ecma_parser_grammar.specs.Follows.{word_at, AsyncWord, Star}
 use Rattle.swc_ecma_parser_grammar.specs.Parameters.{parameters}
 use Rattle.swc_ecma_parser_grammar.specs.Reads.{with_in}
@@ -34,7 +34,7 @@ use Rattle.swc_ecma_parser_grammar.specs.language.Patterns.{PatternPropertyRule}
 use Rattle.swc_ecma_parser_grammar.proofs.Tests.{or_none, and_yes, and_no}
 use Rattle.swc_ecma_parser_grammar.proofs.language.spans.Expressions.{name_span}
 use Rattle.swc_ecma_parser_reader.specs.Notes.{Notes, ◌⊕◌, notes_of, all_notes_of}
-use Rattle.swc_ecma_parser_reader.specs.State.{Scope, Reader, loop}
+use Rattle.swc_ecma_parser_reader.specs.State.{Scope, Reader, loop, as_name}
 use Rattle.swc_ecma_parser_reader.specs.Methods.{MethodForm, getter_form, setter_form, method_form, FunctionForm, ends_key, method_words, is_bare}
 use Rattle.swc_ecma_parser_reader.specs.Expressions.{Cover, Covers, first_mark, no_covers, with_cover, with_comma, done, part_as, whole_of, covered, spread_item, plain_item, item, array_turn, elements, array, key_value, initialized, initialized_name, bare_key, behind_key, method, behind_words, keyed_property, spread_property, property, object_turn, properties, object}
 use Rattle.swc_ecma_parser_reader.proofs.Notes.{or_nil, or_assoc}
@@ -137,7 +137,7 @@ plain_target _ p e h = e
 
 -- where `in` is an operator a name is the same
 name_inside : (k : Code) (text : Text) → is_name (with_in k).flags text ≡ is_name k.flags text
-unfolding is_name is_reserved
+unfolding is_name is_clean_name is_identifier is_reserved
 name_inside k text = refl
 
 -- what stands behind dots ends where they do
@@ -427,7 +427,7 @@ module _ (In : Goal → Type 0) (inner : Class → Reader Tree) (cover : Reader 
 
   -- a name that stands there
   pub name_there : (k : Code) (text : Text) (sp : Span) (c d : Place) → ReadsName (with_in k) text sp c d → supported_in k.flags.module (tree.ident sp text) ≡ true → is_name k.flags text ≡ true
-  name_there k text sp c d r s = sym (name_inside k text) ∙ ap (is_name (with_in k).flags) r.is_text ∙ name_is_name (with_in k) text sp c d r s
+  name_there k text sp c d r s = sym (name_inside k text) ∙ ap (is_name (with_in k).flags) r.is_text ∙ name_is_name (with_in k) text sp c d r
 
   pub part_begins : {purpose : Purpose} (k : Code) (p : Tree) (c d : Place) → PatternPropertyRule In purpose k p c d → is_rest p ≡ false
       → (sees kind.RBrace c ≡ false) × (sees kind.DotDotDot c ≡ false)
@@ -546,7 +546,7 @@ module _ (In : Goal → Type 0) (inner : Class → Reader Tree) (cover : Reader 
     property_reads : (k : Code) (x : Tree) (c d : Place) → PropertyRule In k x c d → supported_in k.flags.module x ≡ true → ends_property (kind_at d) ≡ true → ReadsAs (AsExpr x) (property inner cover function) k x c d
     property_reads k x c d (objects.spread_rule e o r g) s q w f h = rw g (spread_property_reads e k c d o r (supported_as _ x (tree.spread_prop (span_at c) e) g s) w f h)
     property_reads k x c d (objects.shorthand_rule text sp r g) s q w f h =
-        let n : is_name k.flags text ≡ true = ap (is_name k.flags) r.is_text ∙ name_is_name k text sp c d r (supported_as _ x (tree.shorthand_prop sp text) g s) in
+        let n : is_name k.flags text ≡ true = ap (is_name k.flags) r.is_text ∙ name_is_name k text sp c d r in
         rw g (record {
           value = done (tree.shorthand_prop sp text);
           holds = (refl, refl);
@@ -661,7 +661,7 @@ module _ (In : Goal → Type 0) (inner : Class → Reader Tree) (cover : Reader 
     initialized_part : (text : Text) (sp : Span) (z : Tree) (m : Place) (k : Code) (c d : Place) → ReadsWord text sp c m → is_name k.flags text ≡ true → kind_at m ≡ kind.Assign
         → In (expr_goal assignment (with_in k) z (after m) d) → supported_in k.flags.module z ≡ true
         → ReadsAs (AsPart as_properties (tree.assign_pat_prop (spanned c d) (tree.ident_pat sp text) z)) (property inner cover function) k (tree.assign_pat_prop (spanned c d) (tree.ident_pat sp text) z) c d
-    unfolding property keyed_property behind_words behind_key initialized_name initialized spanned same_kind
+    unfolding property keyed_property behind_words behind_key initialized_name initialized as_name spanned same_kind
     initialized_part text sp z m k c d r n i g t w f h = record {
       value = record { x = tree.assign_prop (spanned c d) (tree.ident sp text) z; mark = Some (spanned c d); comma = false };
       holds = (λ zs qs e. rw e refl, refl);

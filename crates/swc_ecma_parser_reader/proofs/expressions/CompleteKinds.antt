@@ -26,7 +26,7 @@ use Rattle.swc_ecma_parser_model.specs.Tree as tree
 use Rattle.swc_ecma_parser_model.specs.Tree.{Tree, Text, listed}
 use Rattle.swc_ecma_parser_model.specs.Forms.{is_ident, is_binding_name}
 use Rattle.swc_ecma_parser_grammar.specs.Looks.{kind_at, first_kind, breaks_at, span_at, first_span, sees, same_kind, spanned}
-use Rattle.swc_ecma_parser_grammar.specs.Names.{Code, is_reserved, is_name, token_is_name, first_is_name, name_at, token_is_identifier, first_is_identifier, identifier_at}
+use Rattle.swc_ecma_parser_grammar.specs.Names.{Code, is_reserved, is_name, token_is_identifier, first_is_identifier, name_at, identifier_at, is_identifier}
 use Rattle.swc_ecma_parser_grammar.specs.Follows as follows
 use Rattle.swc_ecma_parser_grammar.specs.Follows.{continues_left_side, word_at, is_async_function}
 use Rattle.swc_ecma_parser_grammar.specs.Reads.{ReadsToken}
@@ -51,7 +51,7 @@ use Rattle.swc_ecma_parser_grammar.specs.language.Expressions.{UnaryRule, Binary
 use Rattle.swc_ecma_parser_grammar.specs.language.Reads as language
 use Rattle.swc_ecma_parser_grammar.proofs.Tests.{or_no, or_none, and_yes, and_no}
 use Rattle.swc_ecma_parser_grammar.proofs.Arrows.{arrow_parts}
-use Rattle.swc_ecma_parser_grammar.proofs.Naming.{name_is_name}
+use Rattle.swc_ecma_parser_grammar.proofs.Naming.{name_is_name, name_is_free}
 use Rattle.swc_ecma_parser_grammar.proofs.Unnoted as unnoted
 use Rattle.swc_ecma_parser_reader.specs.Methods.{ends_key}
 use Rattle.swc_ecma_parser_reader.specs.Expressions.{literal_of, literal_in, token_is_word, first_is_word, is_word_at, postfix_at}
@@ -125,20 +125,23 @@ no_hash text s c d r = rw (token_first (token.Word r.word) s c d r.reads_word) (
 -- ---- names and word literals
 
 -- a token stands first that is a name, or none
-pub named : (u : Token) (sp : Span) (c d : Place) (k : Code) (b : Bool) → ReadsToken u sp c d → token_is_name k.flags u ≡ b → name_at k.flags c ≡ b
-unfolding name_at
+pub named : (u : Token) (sp : Span) (c d : Place) (k : Code) (b : Bool) → ReadsToken u sp c d → token_is_identifier k.flags u ≡ b → name_at k.flags c ≡ b
+unfolding identifier_at
 named u sp c d k b r e = rw r.is e
 
-pub null_unnamed : (f : Context) → token_is_name f (token.Word word.Null) ≡ false
-unfolding is_name is_reserved
+pub named_word : (w : Word) (sp : Span) (c d : Place) (k : Code) → ReadsToken (token.Word w) sp c d → is_name k.flags (word_text w) ≡ true → name_at k.flags c ≡ true
+named_word w sp c d k r e = named (token.Word w) sp c d k true r (name_is_free k.flags (word_text w) e)
+
+pub null_unnamed : (f : Context) → token_is_identifier f (token.Word word.Null) ≡ false
+unfolding is_identifier is_reserved
 null_unnamed f = refl
 
-pub true_unnamed : (f : Context) → token_is_name f (token.Word word.True) ≡ false
-unfolding is_name is_reserved
+pub true_unnamed : (f : Context) → token_is_identifier f (token.Word word.True) ≡ false
+unfolding is_identifier is_reserved
 true_unnamed f = refl
 
-pub false_unnamed : (f : Context) → token_is_name f (token.Word word.False) ≡ false
-unfolding is_name is_reserved
+pub false_unnamed : (f : Context) → token_is_identifier f (token.Word word.False) ≡ false
+unfolding is_identifier is_reserved
 false_unnamed f = refl
 
 -- `(`, `[`, `{`, `this`, `function` and `class` are no name and no literal, nor are `)` and `...`
@@ -153,33 +156,33 @@ is_marked kind.RParen = true
 is_marked kind.DotDotDot = true
 is_marked _ = false
 
-marked_keyword : (f : Context) (k : Keyword) → is_marked (keyword_kind k) ≡ true → is_name f (word_text (word.Keyword k)) ≡ false
-unfolding is_name is_reserved
+marked_keyword : (f : Context) (k : Keyword) → is_marked (keyword_kind k) ≡ true → is_identifier f (word_text (word.Keyword k)) ≡ false
+unfolding is_identifier is_reserved
 marked_keyword f keyword.This e = refl
 marked_keyword f keyword.Function e = refl
 marked_keyword f keyword.Class e = refl
 marked_keyword f _ e = cc
 
-marked_word : (f : Context) (w : Word) (s : Span) → is_marked (word_kind w) ≡ true → (token_is_name f (token.Word w) ≡ false) × (literal_of s (token.Word w) ≡ None)
+marked_word : (f : Context) (w : Word) (s : Span) → is_marked (word_kind w) ≡ true → (token_is_identifier f (token.Word w) ≡ false) × (literal_of s (token.Word w) ≡ None)
 marked_word f word.Null s e = cc
 marked_word f word.True s e = cc
 marked_word f word.False s e = cc
 marked_word f (word.Ident text) s e = cc
 marked_word f (word.Keyword k) s e = (marked_keyword f k e, refl)
 
-marked_token : (f : Context) (t : Token) (s : Span) → is_marked (token_kind t) ≡ true → (token_is_name f t ≡ false) × (literal_of s t ≡ None)
+marked_token : (f : Context) (t : Token) (s : Span) → is_marked (token_kind t) ≡ true → (token_is_identifier f t ≡ false) × (literal_of s t ≡ None)
 marked_token f (token.Word w) s e = marked_word f w s e
 marked_token f (token.Str value raw) s e = cc
 marked_token f (token.Num raw) s e = cc
 marked_token f (token.BigInt raw) s e = cc
 marked_token f _ s e = (refl, refl)
 
-marked_first : (f : Context) (ts : List TokenAndSpan) → is_marked (first_kind ts) ≡ true → (first_is_name f ts ≡ false) × (literal_in ts ≡ None)
+marked_first : (f : Context) (ts : List TokenAndSpan) → is_marked (first_kind ts) ≡ true → (first_is_identifier f ts ≡ false) × (literal_in ts ≡ None)
 marked_first f [] h = (refl, refl)
 marked_first f (t ∷ ts) h = marked_token f t.token t.span h
 
 marked_here : (f : Context) (c : Place) → is_marked (kind_at c) ≡ true → (name_at f c ≡ false) × (literal_in c.left ≡ None)
-unfolding name_at kind_at
+unfolding identifier_at kind_at
 marked_here f c h = marked_first f c.left h
 
 pub paren_here : (f : Context) (c : Place) → kind_at c ≡ kind.LParen → (name_at f c ≡ false) × (literal_in c.left ≡ None)
@@ -375,8 +378,8 @@ pub update_plain : (k : TokenKind) (op : UpdateOp) → update_operator k ≡ Som
 update_plain kind.PlusPlus op e = refl
 update_plain _ op e = cc
 
-keyword_primary : (f : Context) (k : Keyword) → is_name f (word_text (word.Keyword k)) ≡ true → primary_kind (keyword_kind k) ≡ true
-unfolding is_name is_reserved
+keyword_primary : (f : Context) (k : Keyword) → is_identifier f (word_text (word.Keyword k)) ≡ true → primary_kind (keyword_kind k) ≡ true
+unfolding is_identifier is_reserved
 keyword_primary f keyword.Super e = cc
 keyword_primary f keyword.New e = cc
 keyword_primary f keyword.Import e = cc
@@ -386,22 +389,22 @@ keyword_primary f keyword.TypeOf e = cc
 keyword_primary f keyword.Const e = cc
 keyword_primary f _ e = refl
 
-word_primary : (f : Context) (w : Word) → is_name f (word_text w) ≡ true → primary_kind (word_kind w) ≡ true
+word_primary : (f : Context) (w : Word) → is_identifier f (word_text w) ≡ true → primary_kind (word_kind w) ≡ true
 word_primary f (word.Keyword k) e = keyword_primary f k e
 word_primary f _ e = refl
 
 -- a name stands there
-named_in : (f : Context) (c : Place) (ts : List TokenAndSpan) → c.left ≡ ts → first_is_name f ts ≡ true
-    → (v : Word) × (s : Span) × ReadsToken (token.Word v) s c (after c) × (is_name f (word_text v) ≡ true)
+named_in : (f : Context) (c : Place) (ts : List TokenAndSpan) → c.left ≡ ts → first_is_identifier f ts ≡ true
+    → (v : Word) × (s : Span) × ReadsToken (token.Word v) s c (after c) × (is_identifier f (word_text v) ≡ true)
 named_in f c [] e h = cc
 named_in f c (t ∷ ts) e h = by_token t.token refl h
   where
-    by_token : (u : Token) → t.token ≡ u → token_is_name f u ≡ true → (v : Word) × (s : Span) × ReadsToken (token.Word v) s c (after c) × (is_name f (word_text v) ≡ true)
+    by_token : (u : Token) → t.token ≡ u → token_is_identifier f u ≡ true → (v : Word) × (s : Span) × ReadsToken (token.Word v) s c (after c) × (is_identifier f (word_text v) ≡ true)
     by_token (token.Word v) g i = (v, t.span, record { had_line_break = t.had_line_break; rest = ts; is = e ∙ rw (← g) refl; next = refl }, i)
     by_token _ g i = cc
 
-pub named_here : (f : Context) (c : Place) → name_at f c ≡ true → (v : Word) × (s : Span) × ReadsToken (token.Word v) s c (after c) × (is_name f (word_text v) ≡ true)
-unfolding name_at
+pub named_here : (f : Context) (c : Place) → name_at f c ≡ true → (v : Word) × (s : Span) × ReadsToken (token.Word v) s c (after c) × (is_identifier f (word_text v) ≡ true)
+unfolding identifier_at
 named_here f c h = named_in f c c.left refl h
 
 token_primary : (t : Token) (s : Span) (c d : Place) → ReadsToken t s c d → primary_kind (token_kind t) ≡ true → primary_kind (kind_at c) ≡ true
@@ -418,7 +421,7 @@ NamesStand In = (k : Code) (p : Tree) (c d : Place) → In (pattern_goal binding
 name_stands : (In : Goal → Type 0) (k : Code) (p : Tree) (c d : Place) → PatternRule In binding k p c d → is_binding_name p ≡ true → supported_in k.flags.module p ≡ true
     → (name_at k.flags c ≡ true) × (d ≡ after c)
 name_stands In k p c d (patterns.binding_name_rule text s b r e) n h =
-    (named (token.Word r.word) s c d k true r.reads_word (name_is_name k text s c d r (supported_as _ p (tree.ident_pat s text) e h)), r.reads_word.next)
+    (named_word r.word s c d k r.reads_word (name_is_name k text s c d r), r.reads_word.next)
 name_stands In k p c d (patterns.target_name_rule text s b a r e) n h = cc
 name_stands In k p c d (patterns.target_rule y b r t i e) n h = absurd (let g : is_binding_name p ≡ false = ap is_binding_name e in cc)
 name_stands In k p c d (patterns.array_rule xs m i r j q e) n h = absurd (let g : is_binding_name p ≡ false = ap is_binding_name e in cc)
@@ -435,7 +438,7 @@ module _ (In : Goal → Type 0) where
 
   pub primary_first : (k : Code) (x : Tree) (c d : Place) → PrimaryRule In k x c d → supported_in k.flags.module x ≡ true → primary_kind (kind_at c) ≡ true
   primary_first k x c d (sides.name_rule text s r f e) h =
-      token_primary (token.Word r.word) s c d r.reads_word (word_primary k.flags r.word (name_is_name k text s c d r (supported_as _ x (tree.ident s text) e h)))
+      token_primary (token.Word r.word) s c d r.reads_word (word_primary k.flags r.word (name_is_free k.flags (word_text r.word) (name_is_name k text s c d r)))
   primary_first k x c d (sides.string_rule value raw s r e) h = token_primary (token.Str value raw) s c d r refl
   primary_first k x c d (sides.true_rule s r e) h = token_primary (token.Word word.True) s c d r refl
   primary_first k x c d (sides.false_rule s r e) h = token_primary (token.Word word.False) s c d r refl
@@ -475,8 +478,8 @@ module _ (In : Goal → Type 0) where
   -- a name that is bound or assigned to begins as an operand does
   name_first : (k : Code) (x : Tree) (text : Text) (s : Span) (c d : Place) → ReadsName k text s c d → x ≡ tree.ident_pat s text → supported_in k.flags.module x ≡ true → begin_kind (kind_at c) ≡ true
   name_first k x text s c d r e h =
-      let n = name_is_name k text s c d r (supported_as _ x (tree.ident_pat s text) e h) in
-      operand_begins (kind_at c) (primary_operand (kind_at c) (token_primary (token.Word r.word) s c d r.reads_word (word_primary k.flags r.word n)))
+      let n = name_is_name k text s c d r in
+      operand_begins (kind_at c) (primary_operand (kind_at c) (token_primary (token.Word r.word) s c d r.reads_word (word_primary k.flags r.word (name_is_free k.flags (word_text r.word) n))))
 
   -- a pattern begins as an operand does, or with its bracket or brace
   pattern_first : {purpose : Purpose} (k : Code) (x : Tree) (c d : Place) → PatternRule In purpose k x c d → supported_in k.flags.module x ≡ true → begin_kind (kind_at c) ≡ true
@@ -531,7 +534,7 @@ expr_no_const zero k x c d r = absurd r.0
 expr_no_const (suc n) k x c d r = begin_no_const (kind_at c) (expression_first (language.Reads n) (names_stand n) k x c d r.0 r.1)
 
 pub name_no_const : (f : Context) (w : Word) (s : Span) (c d : Place) → ReadsToken (token.Word w) s c d → is_name f (word_text w) ≡ true → sees kind.Const c ≡ false
-name_no_const f w s c d r h = begin_no_const (kind_at c) (operand_begins (kind_at c) (primary_operand (kind_at c) (token_primary (token.Word w) s c d r (word_primary f w h))))
+name_no_const f w s c d r h = begin_no_const (kind_at c) (operand_begins (kind_at c) (primary_operand (kind_at c) (token_primary (token.Word w) s c d r (word_primary f w (name_is_free f (word_text w) h)))))
 
 -- no expression that begins with `import` is a bare name
 pub import_unnamed : (n : ℕ) (k : Code) (x : Tree) (c d : Place) → ReadsClass n expression k x c d → kind_at c ≡ kind.Import → is_ident x ≡ false

@@ -16,7 +16,7 @@ use Rattle.swc_ecma_parser_model.specs.declared.leaves.MetaPropKind.TheVariants 
 use Rattle.swc_ecma_parser_model.specs.Tree as tree
 use Rattle.swc_ecma_parser_model.specs.Tree.{Tree, Text, listed}
 use Rattle.swc_ecma_parser_grammar.specs.Looks.{kind_at, sees, same_kind, span_at, spanned}
-use Rattle.swc_ecma_parser_grammar.specs.Names.{Code, is_name, token_is_name}
+use Rattle.swc_ecma_parser_grammar.specs.Names.{Code, is_name, token_is_identifier}
 use Rattle.swc_ecma_parser_grammar.specs.Follows.{word_at, is_async_function, AsyncWord, not_async, async_word}
 use Rattle.swc_ecma_parser_grammar.specs.Reads.{with_in, ReadsToken}
 use Rattle.swc_ecma_parser_grammar.specs.Notes.{notes}
@@ -37,16 +37,16 @@ use Rattle.swc_ecma_parser_reader.proofs.Answered.{st, Reads, ReadsAs}
 use Rattle.swc_ecma_parser_reader.proofs.Steps.{loop_more, loop_done}
 use Rattle.swc_ecma_parser_reader.proofs.expressions.Falls.{access_falls, arguments_fall}
 use Rattle.swc_ecma_parser_reader.proofs.expressions.Loops.{shorter_by}
-use Rattle.swc_ecma_parser_reader.proofs.expressions.CompleteParts.{expect_reads, name_reads, literal_reads, AsExpr, IsRead, IsFunctionRead, inside_reads, access_reads, access_seen, super_property_reads, arguments_read}
+use Rattle.swc_ecma_parser_reader.proofs.expressions.CompleteParts.{expect_reads, reference_reads, literal_reads, AsExpr, IsRead, IsFunctionRead, inside_reads, access_reads, access_seen, super_property_reads, arguments_read}
 use Rattle.swc_ecma_parser_reader.proofs.expressions.CompleteCovers.{array_reads, object_reads}
-use Rattle.swc_ecma_parser_reader.proofs.expressions.CompleteKinds.{refuted, supported_as, seen, named, null_unnamed, true_unnamed, false_unnamed, paren_here, array_here, object_here, this_here, function_here, class_here, primary_first, primary_seen}
+use Rattle.swc_ecma_parser_reader.proofs.expressions.CompleteKinds.{refuted, supported_as, seen, named, null_unnamed, true_unnamed, false_unnamed, paren_here, array_here, object_here, this_here, function_here, class_here, primary_first, primary_seen, named_word}
 use Rattle.swc_ecma_parser_grammar.proofs.Naming.{name_is_name}
 
 module _ (In : Goal → Type 0) (inner : Class → Reader Tree) (cover : Reader Cover) (given : IsRead In inner cover) (function : FunctionForm → Reader Tree) (functions : IsFunctionRead In function) where
   -- ---- primary expressions
 
   -- a literal as an expression
-  literal_primary : (u : Token) (sp : Span) (x y : Tree) (c d : Place) (k : Code) → ReadsToken u sp c d → token_is_name k.flags u ≡ false
+  literal_primary : (u : Token) (sp : Span) (x y : Tree) (c d : Place) (k : Code) → ReadsToken u sp c d → token_is_identifier k.flags u ≡ false
       → literal_of sp u ≡ Some y → x ≡ y → ((env : Env) → walk env y ≡ []) → notes y ≡ [] → has_meta y ≡ false → Reads (primary inner cover function) k x c d
   unfolding primary
   literal_primary u sp x y c d k r n e g z o m w f h =
@@ -57,7 +57,7 @@ module _ (In : Goal → Type 0) (inner : Class → Reader Tree) (cover : Reader 
   this_reads k x c d e i j w f h = rw ((this_here k.flags c e).0, (this_here k.flags c e).1, e, j, i, append-nil f, append-nil h.held_back, or_nil h.found_module_item) refl
 
   -- an array or object that is an expression, closed
-  closed_reads : (reader : Reader Cover) (k : Code) (x : Tree) (c d : Place) → ReadsAs (AsExpr x) reader k x c d → Reads (reader >>= close) k x c d
+  pub closed_reads : (reader : Reader Cover) (k : Code) (x : Tree) (c d : Place) → ReadsAs (AsExpr x) reader k x c d → Reads (reader >>= close) k x c d
   unfolding close
   closed_reads reader k x c d reads w f h = let v = reads w f h in ap (λ o. and_then o close) v.is ∙ rw (v.holds.1, v.holds.0) refl
 
@@ -105,8 +105,8 @@ module _ (In : Goal → Type 0) (inner : Class → Reader Tree) (cover : Reader 
   unfolding primary named_expr ident_expr
   name_primary text sp k x c d r n a g w f h =
       rw (
-        named (token.Word r.word) sp c d k true r.reads_word n,
-        name_reads faults.Unexpected r.word sp c d k w f h r.reads_word n,
+        named_word r.word sp c d k r.reads_word n,
+        reference_reads faults.Unexpected r.word sp c d k w f h r.reads_word n,
         a,
         g,
         ← r.is_text,
@@ -116,7 +116,7 @@ module _ (In : Goal → Type 0) (inner : Class → Reader Tree) (cover : Reader 
       ) refl
 
   primary_reads : (k : Code) (x : Tree) (c d : Place) → PrimaryRule In k x c d → supported_in k.flags.module x ≡ true → Reads (primary inner cover function) k x c d
-  primary_reads k x c d (sides.name_rule text sp r a g) s w f h = name_primary text sp k x c d r (name_is_name k text sp c d r (supported_as _ x (tree.ident sp text) g s)) a g w f h
+  primary_reads k x c d (sides.name_rule text sp r a g) s w f h = name_primary text sp k x c d r (name_is_name k text sp c d r) a g w f h
   primary_reads k x c d (sides.string_rule value raw sp r g) s w f h = literal_primary (token.Str value raw) sp x (tree.str sp value raw) c d k r refl refl g (λ env. refl) refl refl w f h
   primary_reads k x c d (sides.true_rule sp r g) s w f h =
       literal_primary (token.Word word.True) sp x (tree.bool sp true) c d k r (true_unnamed k.flags) refl g (λ env. refl) refl refl w f h

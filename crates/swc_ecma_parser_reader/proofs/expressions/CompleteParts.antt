@@ -1,7 +1,7 @@
 -- The parts of the language that expressions share are read, with the faults of the walk and the notes held back, and no others:
 -- tokens, accesses, arguments and keys.
 use Rattle.std.proofs.Common.{◌≡◌, ◌<◌, ◌⊎◌, inl, inr, Bool, true, false, List, [], ◌∷◌, ◌++◌, length, Some, None, Ok, refl, sym, ◌∙◌, ap, subst, arith, append_assoc, append-nil}
-use Rattle.std.specs.Prelude.{not, ◌&&◌, ◌||◌}
+use Rattle.std.specs.Prelude.{not, ◌&&◌, ◌||◌, codes}
 use Rattle.swc_ecma_parser_common.specs.declared.span.Span.{Span}
 use Rattle.swc_ecma_parser_error.specs.Kind.{Kind, Fault}
 use Rattle.swc_ecma_parser_token.specs.declared.kind.TokenKind.{TokenKind}
@@ -9,7 +9,7 @@ use Rattle.swc_ecma_parser_token.specs.declared.kind.TokenKind.TheVariants as ki
 use Rattle.swc_ecma_parser_token.specs.declared.token.Token.{Token}
 use Rattle.swc_ecma_parser_token.specs.declared.token.Token.TheVariants as token
 use Rattle.swc_ecma_parser_token.specs.declared.token.Word.{Word}
-use Rattle.swc_ecma_parser_token.specs.Kind.{token_kind}
+use Rattle.swc_ecma_parser_token.specs.Kind.{token_kind, word_kind}
 use Rattle.swc_ecma_parser_token.specs.Text.{word_text}
 use Rattle.swc_ecma_parser_input.specs.Place.{Place, after}
 use Rattle.swc_ecma_parser_model.specs.Tree as tree
@@ -17,7 +17,7 @@ use Rattle.swc_ecma_parser_model.specs.Tree.{Tree, Text, listed, trees}
 use Rattle.swc_ecma_parser_model.specs.Forms.{span_of, is_rest}
 use Rattle.swc_ecma_parser_model.specs.Targets.{as_target, as_element, binds}
 use Rattle.swc_ecma_parser_grammar.specs.Looks.{kind_at, sees, same_kind, span_at, spanned}
-use Rattle.swc_ecma_parser_grammar.specs.Names.{Code, is_name}
+use Rattle.swc_ecma_parser_grammar.specs.Names.{Code, is_name, is_clean_name, is_identifier, may_refer_to_await}
 use Rattle.swc_ecma_parser_grammar.specs.Reads.{with_in, ReadsToken}
 use Rattle.swc_ecma_parser_grammar.specs.Notes.{notes}
 use Rattle.swc_ecma_parser_grammar.specs.language.Noted.{has_meta}
@@ -35,7 +35,7 @@ use Rattle.swc_ecma_parser_grammar.specs.language.Parts.{ReadsWord, PrivateRule,
 use Rattle.swc_ecma_parser_grammar.proofs.Binding.{ArrowPartRule}
 use Rattle.swc_ecma_parser_grammar.proofs.Tests.{and_yes, and_no}
 use Rattle.swc_ecma_parser_reader.specs.Notes.{Notes, no_notes, ◌⊕◌, notes_of, all_notes_of}
-use Rattle.swc_ecma_parser_reader.specs.State.{and_then, Scope, State, Reader, expect, name, loop}
+use Rattle.swc_ecma_parser_reader.specs.State.{and_then, Scope, State, Reader, expect, name, loop, reference, as_name}
 use Rattle.swc_ecma_parser_reader.specs.Methods.{MethodForm, getter_form, setter_form, method_form, FunctionForm, expression_form, class_form, property_form, parameter_form, block_form}
 use Rattle.swc_ecma_parser_reader.specs.Expressions.{Cover, literal_of, literal_in, literal, any_word, touching_word, private_name, word_property, token_is_word, literal_key, shorthand_name, shorthand, dotted, super_property, inside, brackets, access, spread_element, plain_element, element, arguments_turn, arguments, computed_key, key, key_or}
 use Rattle.swc_ecma_parser_reader.proofs.Notes.{or_nil, or_assoc}
@@ -46,6 +46,10 @@ use Rattle.swc_ecma_parser_reader.proofs.expressions.Falls.{element_falls, Funct
 use Rattle.swc_ecma_parser_reader.proofs.expressions.Loops.{shorter_by}
 use Rattle.swc_ecma_parser_reader.proofs.expressions.Groups.{IsTied, ReadsParts}
 use Rattle.swc_ecma_parser_reader.proofs.expressions.CompleteKinds.{NamesStand, supported_as, seen, token_first, touching, no_hash, worded, bracket_here, begin_kind, begin_seen, ends_part}
+use Rattle.swc_ecma_parser_input.specs.declared.context.Context.{Context}
+use Rattle.swc_ecma_parser_grammar.proofs.Ended.{ends_name}
+use Rattle.swc_ecma_parser_token.specs.declared.keyword.Keyword.TheVariants as keyword
+use Rattle.swc_ecma_parser_token.specs.declared.token.Word.TheVariants as word
 
 -- ---- fixed tokens, names and words
 
@@ -57,6 +61,31 @@ pub name_reads : (missing : Kind) (v : Word) (sp : Span) (c d : Place) (k : Code
     → name missing (st c k w f h) ≡ Ok (record { span = sp; sym = word_text v }, st d k w f h)
 unfolding name
 name_reads missing v sp c d k w f h r e = rw (r.is, e, r.next) refl
+
+-- in async code `await` is no name
+clean_async : (m a s : Bool) → not (true && (m || (a || s))) ≡ true → a ≡ false
+clean_async true a s h = cc
+clean_async false true s h = cc
+clean_async false false s h = refl
+
+word_no_async : (f : Context) (v : Word) → is_name f (word_text v) ≡ true → (f.in_async && same_kind (word_kind v) kind.Await) ≡ false
+unfolding is_name is_clean_name same_kind
+word_no_async f (word.Keyword keyword.Await) e = ap (λ z. z && true) (clean_async f.module f.in_async f.in_static_block (and_yes (is_identifier f (codes "await")) _ e).1)
+word_no_async f _ e = and_no f.in_async false refl
+
+pub name_no_async : (f : Context) (v : Word) (sp : Span) (c d : Place) → ReadsToken (token.Word v) sp c d → is_name f (word_text v) ≡ true → (f.in_async && sees kind.Await c) ≡ false
+unfolding kind_at
+name_no_async f v sp c d r e = rw r.is (word_no_async f v e)
+
+pub reference_reads : (missing : Kind) (v : Word) (sp : Span) (c d : Place) (k : Code) (w : Scope) (f : List Fault) (h : Notes) → ReadsToken (token.Word v) sp c d → is_name k.flags (word_text v) ≡ true
+    → reference missing (st c k w f h) ≡ Ok (record { span = sp; sym = word_text v }, st d k w f h)
+unfolding reference
+reference_reads missing v sp c d k w f h r e = rw (name_no_async k.flags v sp c d r e) (name_reads missing v sp c d k w f h r e)
+
+-- a word that is a clean name stands for one
+pub as_name_reads : (may_await : Context → Bool) (sp : Span) (text : Text) (s : State) → is_name s.code.flags text ≡ true → as_name may_await sp text s ≡ Ok (tt, s)
+unfolding as_name
+as_name_reads may_await sp text s e = rw e refl
 
 any_word_by : (v : Word) (sp : Span) (c d : Place) (k : Code) (w : Scope) (f : List Fault) (h : Notes) → ReadsToken (token.Word v) sp c d
     → any_word (st c k w f h) ≡ Ok (record { span = sp; sym = word_text v }, st d k w f h)
@@ -100,7 +129,7 @@ literal_key_reads u sp x y c d k r e g b z o m w f h =
 pub shorthand_reads : (text : Text) (sp : Span) (x : Tree) (d : Place) (k : Code) (w : Scope) (f : List Fault) (h : Notes) → is_name k.flags text ≡ true → x ≡ tree.shorthand_prop sp text
     → shorthand (tree.ident sp text) (st d k w f h) ≡ Ok (x, st d k w f h)
 unfolding shorthand_name
-shorthand_reads text sp x d k w f h n e = rw (n, e) refl
+shorthand_reads text sp x d k w f h n e = rw (as_name_reads may_refer_to_await sp text (st d k w f h) n, e) refl
 
 -- ---- what is read one level further in
 
@@ -136,9 +165,10 @@ pub record IsRead (In : Goal → Type 0) (inner : Class → Reader Tree) (cover 
   pub parts : ReadsParts cover
   -- a name before `=>` is that name alone, and a parameter in parentheses is what could be assigned to, or a rest
   pub names : NamesStand In
-  pub parameter : (k : Code) (x : Tree) (c d : Place) → PatternItemRule In binding k x c d → supported_in k.flags.module x ≡ true → ArrowPartRule In k x c d
+  pub parameter : (k : Code) (x : Tree) (c d : Place) → PatternItemRule In binding k x c d → supported_in k.flags.module x ≡ true → ends_name (kind_at d) ≡ true → ArrowPartRule In k x c d
   -- and each is what could be assigned to, and binds
-  pub assigned : (k : Code) (x : Tree) (c d : Place) → PatternItemRule In binding k x c d → supported_in k.flags.module x ≡ true → PatternItemRule In assigning k x c d × (binds x ≡ true)
+  pub assigned : (k : Code) (x : Tree) (c d : Place) → PatternItemRule In binding k x c d → supported_in k.flags.module x ≡ true → ends_name (kind_at d) ≡ true
+      → PatternItemRule In assigning k x c d × (binds x ≡ true)
 
 -- what the body of an arrow function is read as: no label stands around it, and nothing in it makes a program a module
 abbrev pub ReadsEnclosed : Reader Tree → Code → Tree → Place → Place → Type 0

@@ -26,13 +26,13 @@ use Rattle.swc_ecma_parser_model.specs.Tree.{Tree, Text}
 use Rattle.swc_ecma_parser_model.specs.Forms.{is_simple_target}
 use Rattle.swc_ecma_parser_model.specs.Targets.{as_target, as_parameter}
 use Rattle.swc_ecma_parser_grammar.specs.Looks.{kind_at, sees, span_at, breaks_at}
-use Rattle.swc_ecma_parser_grammar.specs.Names.{is_name, name_at}
+use Rattle.swc_ecma_parser_grammar.specs.Names.{is_name, name_at, is_identifier, may_refer_to_await}
 use Rattle.swc_ecma_parser_grammar.specs.Follows.{word_at, is_async_function, continues_left_side}
 use Rattle.swc_ecma_parser_grammar.specs.Reads.{with_in}
 use Rattle.swc_ecma_parser_grammar.specs.language.Goals.{Class, expression, assignment, operator, unary, left_side, callee}
 use Rattle.swc_ecma_parser_grammar.specs.language.Operators.{unary_operator, update_operator, assign_operator, groups_left, mixes, is_unary}
 use Rattle.swc_ecma_parser_grammar.specs.language.Continues.{continues_conditional}
-use Rattle.swc_ecma_parser_reader.specs.State.{State, Outcome, Reader, and_then, moved, module_found, coded, within, enclosed, unlabelled, reject, reject_in, reject_at, fault, fault_at, expect, name, loop}
+use Rattle.swc_ecma_parser_reader.specs.State.{State, Outcome, Reader, and_then, moved, module_found, coded, within, enclosed, unlabelled, reject, reject_in, reject_at, fault, fault_at, expect, name, loop, as_name, reference}
 use Rattle.swc_ecma_parser_reader.specs.Methods.{MethodForm, FunctionForm, expression_form, class_form, property_form, parameter_form, block_form, modifies, begins_async_method, star, starred, method_words, is_bare}
 use Rattle.swc_ecma_parser_reader.specs.Expressions.{Cover, Covers, no_covers, with_cover, unmarked, close, target_or, target, goes_on, literal, literal_in, taken, any_word, word_in, word_by, touching_word, private_name, word_property, is_word_at, key_or, literal_key, shorthand_name, shorthand, dotted, ident_expr, this, bare_new, closed_left, simple, update_behind, behind_operand, postfix_at, right_class, operator_at, left_operand, unmixed, unassigned, unheaded, heads_arrow, begins_async_call, inside, brackets, access, spread_element, plain_element, element, behind_comma, behind_argument, arguments_turn, arguments, covered, spread_item, plain_item, item, behind_item, array_turn, elements, array, computed_key, key, key_value, initialized, initialized_name, initialized_key, bare_key, behind_key, method, behind_words, keyed_property, spread_property, property, behind_property, object_turn, properties, object, paren, marked_primary, literal_or, primary, accessed, called, left_turn, left_from, super_call, super_property, super_access, behind_super, super_head, constructed, new_head, import_call, meta_fault, import_meta, import_head, left_head, left, left_expr, prefixed, update_before, await_allowed, await_expr, postfix, updated, unary_by, unary_expr, operated, binary_by, binary_turn, binary_from, binary_expr, conditional, assigned_to, assigned, assigned_or, behind_operators, operators_expr, plain_expr, postfixed, continued, closed, assigned_pattern, behind_literal, open_literal, done_expr, cover_expr, assignment_expr, sequence_turn, sequence_from, expression_expr, expr_level, named_expr}
 use Rattle.swc_ecma_parser_reader.specs.Jumps.{told}
@@ -40,8 +40,9 @@ use Rattle.swc_ecma_parser_reader.specs.Arrows.{begins_named_arrow, Group, behin
 use Rattle.swc_ecma_parser_reader.specs.AsyncArrows.{Argument, closed_arguments, closed_argument, argument_pattern, argument_parameter, argument_parameters, async_called, spread_argument, plain_argument, argument, either_turn, either_arguments, begins_async_arrow, async_named_arrow, behind_async, async_grouped}
 use Rattle.swc_ecma_parser_reader.specs.Yields.{begins_yield, bare_yield, yielded, behind_yield, yield_expr}
 use Rattle.swc_ecma_parser_reader.specs.Heads.{sequenced, head_expr}
-use Rattle.swc_ecma_parser_reader.proofs.Takes.{Falls, falls_then, falls_last, falls_coded, falls_found, falls_if, less, falls_next, moves, takes, takes_one, falls_past, falls_moved, wanted_falls, refuse_falls, refused_falls, fault_falls, expect_falls, name_falls, loop_falls}
+use Rattle.swc_ecma_parser_reader.proofs.Takes.{Falls, falls_then, falls_last, falls_coded, falls_found, falls_if, less, falls_next, moves, takes, takes_one, falls_past, falls_moved, wanted_falls, refuse_falls, refused_falls, fault_falls, expect_falls, name_falls, loop_falls, reference_falls}
 use Rattle.swc_ecma_parser_reader.proofs.Meets.{saw}
+use Rattle.swc_ecma_parser_input.specs.declared.context.Context.{Context}
 
 -- ---- refusals of what was read answer nothing
 
@@ -56,6 +57,11 @@ reject_from A j n f s (t ∷ ts) = reject_by A j n f s t.token
 pub reject_falls : (A : Type 0) (j n : ℕ) (f : Fault) (s : State) → Falls j n (reject {A = A} f s)
 unfolding reject
 reject_falls A j n f s = reject_from A j n f s s.at.left
+
+pub as_name_falls : (may_await : Context → Bool) (span : Span) (text : Text) (s : State) → Falls 0 (length s.at.left) (as_name may_await span text s)
+unfolding as_name
+as_name_falls may_await span text s = falls_if 0 (length s.at.left) (is_name s.code.flags text) _ _ (omega arith)
+    (falls_if 0 (length s.at.left) (may_await s.code.flags && is_identifier s.code.flags text) _ _ (fault_falls _ s) (reject_falls (Unit {0}) 0 (length s.at.left) _ s))
 
 -- ---- a token of a known kind is taken
 
@@ -116,7 +122,7 @@ dotted_falls s = falls_if 1 (length s.at.left) (sees kind.Hash s.at) _ _ (privat
 
 pub ident_falls : (s : State) → Falls 1 (length s.at.left) (ident_expr s)
 unfolding ident_expr
-ident_falls s = falls_last 1 (length s.at.left) (name faults.Unexpected s) _ (name_falls faults.Unexpected s)
+ident_falls s = falls_last 1 (length s.at.left) (reference faults.Unexpected s) _ (reference_falls faults.Unexpected s)
 
 this_falls : (s : State) → kind_at s.at ≢ kind.End → Falls 1 (length s.at.left) (this s)
 unfolding this
@@ -170,7 +176,7 @@ literal_key_falls s = key_or_falls s (literal_in s.at.left) refl
 
 shorthand_name_falls : (span : Span) (text : Text) (s : State) → Falls 0 (length s.at.left) (shorthand_name span text s)
 unfolding shorthand_name
-shorthand_name_falls span text s = falls_if 0 (length s.at.left) (is_name s.code.flags text) _ _ (omega arith) (reject_falls Tree 0 (length s.at.left) _ s)
+shorthand_name_falls span text s = falls_last 0 (length s.at.left) (as_name may_refer_to_await span text s) _ (as_name_falls may_refer_to_await span text s)
 
 shorthand_falls : (x : Tree) (s : State) → Falls 0 (length s.at.left) (shorthand x s)
 shorthand_falls (tree.ident span text) s = shorthand_name_falls span text s
@@ -359,7 +365,8 @@ module _ (inner : Class → Reader Tree) (cover : Reader Cover) (h : (class : Cl
 
   initialized_name_falls : (start span : Span) (text : Text) (s : State) → Falls 0 (length s.at.left) (initialized_name inner cover start span text s)
   unfolding initialized_name
-  initialized_name_falls start span text s = falls_if 0 (length s.at.left) (is_name s.code.flags text) _ _ (initialized_falls start (tree.ident span text) s) (reject_falls Cover 0 (length s.at.left) _ s)
+  initialized_name_falls start span text s = falls_then 0 0 (length s.at.left) (as_name may_refer_to_await span text s) _ (as_name_falls may_refer_to_await span text s)
+      (λ _ t. initialized_falls start (tree.ident span text) t)
 
   initialized_key_falls : (start : Span) (x : Tree) (s : State) → Falls 0 (length s.at.left) (initialized_key inner cover start x s)
   initialized_key_falls start (tree.ident span text) s = initialized_name_falls start span text s
@@ -394,7 +401,7 @@ module _ (inner : Class → Reader Tree) (cover : Reader Cover) (h : (class : Cl
         (falls_then 0 0 (length s.at.left) (property inner cover function s) _ (less (length s.at.left) (property inner cover function s) (property_falls s)) (λ v t.
         behind_property_falls (sees kind.DotDotDot s.at) (with_cover found v) t))
 
-    object_falls : (s : State) → kind_at s.at ≢ kind.End → Falls 1 (length s.at.left) (object inner cover function s)
+    pub object_falls : (s : State) → kind_at s.at ≢ kind.End → Falls 1 (length s.at.left) (object inner cover function s)
     unfolding object properties
     object_falls s e = falls_last 1 (length s.at.left) (properties inner cover function s) _ (falls_past s _ e (loop_falls (object_turn inner cover function) object_turn_falls no_covers (moved s)))
 

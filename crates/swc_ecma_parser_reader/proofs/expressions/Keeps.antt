@@ -23,14 +23,14 @@ use Rattle.swc_ecma_parser_model.specs.Tree.{Tree, Text, listed}
 use Rattle.swc_ecma_parser_model.specs.Forms.{is_simple_target, span_of, has_plain_params}
 use Rattle.swc_ecma_parser_model.specs.Targets.{as_target, as_parameter}
 use Rattle.swc_ecma_parser_grammar.specs.Looks.{kind_at, sees, span_at, breaks_at}
-use Rattle.swc_ecma_parser_grammar.specs.Names.{is_name, name_at}
+use Rattle.swc_ecma_parser_grammar.specs.Names.{is_name, name_at, may_refer_to_await}
 use Rattle.swc_ecma_parser_grammar.specs.Follows.{word_at, is_async_function, continues_left_side}
 use Rattle.swc_ecma_parser_grammar.specs.Own.{misplaced_directive}
 use Rattle.swc_ecma_parser_grammar.specs.Reads.{with_in}
 use Rattle.swc_ecma_parser_grammar.specs.language.Goals.{Class, expression, assignment, operator, unary, left_side, callee}
 use Rattle.swc_ecma_parser_grammar.specs.language.Operators.{unary_operator, update_operator, binary_operator, assign_operator, groups_left, mixes, is_unary}
 use Rattle.swc_ecma_parser_grammar.specs.language.Continues.{continues_conditional}
-use Rattle.swc_ecma_parser_reader.specs.State.{State, Reader, and_then, ◌>>=◌, moved, noted, module_found, coded, within, enclosed, unlabelled, wanted, fault_at, fault, expect, name, loop}
+use Rattle.swc_ecma_parser_reader.specs.State.{State, Reader, and_then, ◌>>=◌, moved, noted, module_found, coded, within, enclosed, unlabelled, wanted, fault_at, fault, expect, name, loop, as_name, reference}
 use Rattle.swc_ecma_parser_reader.specs.Methods.{MethodForm, FunctionForm, expression_form, class_form, property_form, parameter_form, block_form, modifies, begins_async_method, star, starred, method_words, is_bare}
 use Rattle.swc_ecma_parser_reader.specs.Expressions.{Cover, no_covers, unmarked, close, target_or, target, goes_on, literal, literal_in, taken, any_word, word_in, word_by, touching_word, private_name, word_property, is_word_at, key_or, literal_key, shorthand_name, shorthand, dotted, ident_expr, this, bare_new, closed_left, simple, update_behind, behind_operand, postfix_at, right_class, read_operator, operator_at, left_operand, unmixed, unassigned, unassignable, unheaded, heads_arrow, begins_async_call, inside, brackets, access, spread_element, plain_element, element, arguments_turn, arguments, covered, spread_item, plain_item, item, array_turn, elements, array, computed_key, key, key_value, initialized, initialized_name, initialized_key, bare_key, behind_key, method, behind_words, keyed_property, spread_property, property, object_turn, properties, object, paren, marked_primary, literal_or, primary, accessed, called, left_turn, left_from, super_call, super_property, super_access, behind_super, super_head, constructed, new_head, import_call, meta_fault, import_meta, import_head, left_head, left, left_expr, prefixed, update_before, await_expr, postfix, updated, unary_by, unary_expr, operated, binary_by, binary_turn, binary_from, binary_expr, conditional, assigned_to, assigned, assigned_or, behind_operators, operators_expr, plain_expr, postfixed, continued, closed, assigned_pattern, behind_literal, open_literal, done_expr, cover_expr, assignment_expr, sequence_turn, sequence_from, expression_expr, expr_level, named_expr}
 use Rattle.swc_ecma_parser_reader.specs.Jumps.{told}
@@ -40,7 +40,7 @@ use Rattle.swc_ecma_parser_reader.specs.Yields.{begins_yield, bare_yield, yielde
 use Rattle.swc_ecma_parser_reader.specs.Heads.{sequenced, head_expr}
 use Rattle.swc_ecma_parser_reader.proofs.Meets.{Answers, answers_then, answers_if, saw}
 use Rattle.swc_ecma_parser_reader.proofs.expressions.Awaits.{await_fault, await_either}
-use Rattle.swc_ecma_parser_reader.proofs.Behind.{NothingLost, Kept, Lost, Passes, behind_after, behind_noted, fault_keeps, wanted_keeps, refuse_keeps, reject_keeps, expect_keeps, name_keeps, loop_keeps}
+use Rattle.swc_ecma_parser_reader.proofs.Behind.{NothingLost, Kept, Lost, Passes, behind_after, behind_noted, fault_keeps, wanted_keeps, refuse_keeps, reject_keeps, expect_keeps, name_keeps, loop_keeps, reference_keeps, as_name_keeps}
 
 -- ---- what is known of the first token
 
@@ -85,7 +85,7 @@ module _ (b : State) (s : State) (f : NothingLost b s) where
 
   ident_keeps : Answers (Kept b) (Lost b) (ident_expr s)
   unfolding ident_expr
-  ident_keeps = answers_then _ _ (name faults.Unexpected s) _ (name_keeps b s f faults.Unexpected) (λ i t g. g)
+  ident_keeps = answers_then _ _ (reference faults.Unexpected s) _ (reference_keeps b s f faults.Unexpected) (λ i t g. g)
 
   this_keeps : Answers (Kept b) (Lost b) (this s)
   unfolding this
@@ -113,7 +113,7 @@ module _ (b : State) (s : State) (f : NothingLost b s) where
 
   shorthand_name_keeps : (span : Span) (text : Text) → Answers (Kept b) (Lost b) (shorthand_name span text s)
   unfolding shorthand_name
-  shorthand_name_keeps span text = answers_if _ _ (is_name s.code.flags text) _ _ (λ _. f) (λ _. reject_keeps _ faults.ExpectedIdent span b s f)
+  shorthand_name_keeps span text = answers_then _ _ (as_name may_refer_to_await span text s) _ (as_name_keeps b s f may_refer_to_await span text) (λ _ t g. g)
 
   shorthand_keeps : (x : Tree) → Answers (Kept b) (Lost b) (shorthand x s)
   shorthand_keeps (tree.ident span text) = shorthand_name_keeps span text
@@ -130,7 +130,7 @@ module _ (b : State) (s : State) (f : NothingLost b s) where
   unmarked_keeps x None = f
   unmarked_keeps x (Some k) = reject_keeps _ faults.AssignProperty k b s f
 
-  close_keeps : (v : Cover) → Answers (Kept b) (Lost b) (close v s)
+  pub close_keeps : (v : Cover) → Answers (Kept b) (Lost b) (close v s)
   unfolding close
   close_keeps v = unmarked_keeps v.x v.mark
 
@@ -303,8 +303,8 @@ module _ (inner : Class → Reader Tree) (cover : Reader Cover) (below : (class 
 
   initialized_key_keeps : (b : State) (start : Span) (x : Tree) (s : State) → NothingLost b s → Answers (Kept b) (Lost b) (initialized_key inner cover start x s)
   unfolding initialized_name
-  initialized_key_keeps b start (tree.ident span text) s f = answers_if _ _ (is_name s.code.flags text) _ _ (λ _. initialized_keeps b start (tree.ident span text) s f)
-      (λ _. reject_keeps _ faults.ExpectedIdent span b s f)
+  initialized_key_keeps b start (tree.ident span text) s f = answers_then _ _ (as_name may_refer_to_await span text s) _ (as_name_keeps b s f may_refer_to_await span text)
+      (λ _ t g. initialized_keeps b start (tree.ident span text) t g)
   initialized_key_keeps b start _ s f = unexpected_keeps b s f _
 
   behind_key_keeps : (b : State) (start : Span) (x : Tree) (s : State) → NothingLost b s → Answers (Kept b) (Lost b) (behind_key inner cover start x s)
@@ -382,7 +382,7 @@ module _ (inner : Class → Reader Tree) (cover : Reader Cover) (below : (class 
           let g = behind_after b s f in
           (many_properties_keeps function below_function b (moved s) g)
 
-      object_keeps : (s : State) → kind_at s.at ≡ kind.LBrace → NothingLost b s → Answers (Kept b) (Lost b) (object inner cover function s)
+      pub object_keeps : (s : State) → kind_at s.at ≡ kind.LBrace → NothingLost b s → Answers (Kept b) (Lost b) (object inner cover function s)
       unfolding object
       object_keeps s e f = answers_then _ _ (properties inner cover function s) _ (properties_keeps s e f) (λ xs t g. g)
 
@@ -395,11 +395,11 @@ module _ (inner : Class → Reader Tree) (cover : Reader Cover) (below : (class 
 
     -- ---- left-hand sides
 
-    accessed_keeps : (start : Span) (x : Tree) (s : State) → (sees kind.Dot s.at || sees kind.LBracket s.at) ≡ true → NothingLost b s → Answers (Kept b) (Lost b) (accessed inner cover start x s)
+    pub accessed_keeps : (start : Span) (x : Tree) (s : State) → (sees kind.Dot s.at || sees kind.LBracket s.at) ≡ true → NothingLost b s → Answers (Kept b) (Lost b) (accessed inner cover start x s)
     unfolding accessed
     accessed_keeps start x s h f = answers_then _ _ (access inner cover s) _ (access_keeps s h f) (λ y t g. g)
 
-    called_keeps : (start : Span) (x : Tree) (s : State) → kind_at s.at ≡ kind.LParen → NothingLost b s → Answers (Kept b) (Lost b) (called inner cover start x s)
+    pub called_keeps : (start : Span) (x : Tree) (s : State) → kind_at s.at ≡ kind.LParen → NothingLost b s → Answers (Kept b) (Lost b) (called inner cover start x s)
     unfolding called
     called_keeps start x s e f = answers_then _ _ (arguments inner cover true s) _ (arguments_keeps true s e f) (λ xs t g. g)
 

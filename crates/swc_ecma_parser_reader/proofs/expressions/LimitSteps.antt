@@ -19,17 +19,18 @@ use Rattle.swc_ecma_parser_model.specs.Tree.{Tree, Text}
 use Rattle.swc_ecma_parser_model.specs.Forms.{is_simple_target, span_of}
 use Rattle.swc_ecma_parser_model.specs.Targets.{as_target, as_parameter}
 use Rattle.swc_ecma_parser_grammar.specs.Looks.{sees, span_at}
-use Rattle.swc_ecma_parser_grammar.specs.Names.{is_name}
+use Rattle.swc_ecma_parser_grammar.specs.Names.{is_name, is_identifier, may_refer_to_await}
 use Rattle.swc_ecma_parser_grammar.specs.Follows.{continues_left_side}
 use Rattle.swc_ecma_parser_grammar.specs.language.Operators.{groups_left, mixes, is_unary}
 use Rattle.swc_ecma_parser_grammar.specs.language.Continues.{continues_conditional}
-use Rattle.swc_ecma_parser_reader.specs.State.{State, Outcome, moved, wanted, reject, reject_in, reject_at, fault_at, fault, name}
+use Rattle.swc_ecma_parser_reader.specs.State.{State, Outcome, moved, wanted, reject, reject_in, reject_at, fault_at, fault, name, as_name, reference}
 use Rattle.swc_ecma_parser_reader.specs.Expressions.{Cover, unmarked, close, target_or, target, literal, literal_in, taken, any_word, word_in, word_by, touching_word, private_name, word_property, key_or, literal_key, shorthand_name, shorthand, dotted, ident_expr, this, closed_left, simple, update_behind, behind_operand, left_operand, unmixed, unassigned, unassignable, unheaded, heads_arrow}
 use Rattle.swc_ecma_parser_reader.specs.Jumps.{told}
 use Rattle.swc_ecma_parser_reader.specs.AsyncArrows.{Argument, closed_arguments, closed_argument, argument_pattern, argument_parameter, argument_parameters}
 use Rattle.swc_ecma_parser_reader.specs.Arrows.{Group, closed_parts, may_stand_alone, closed_group, parameter, parameter_or, parameters_of}
 use Rattle.swc_ecma_parser_reader.proofs.Meets.{Answers, answers_then, answers_if}
-use Rattle.swc_ecma_parser_reader.proofs.Shallow.{Fine, fine_more, fine_after, Shallow, Kept, Taken, error_shallow, fault_shallow, refused_shallow, wanted_shallow, name_shallow, name_takes}
+use Rattle.swc_ecma_parser_reader.proofs.Shallow.{Fine, fine_more, fine_after, Shallow, Kept, Taken, error_shallow, fault_shallow, refused_shallow, wanted_shallow, name_shallow, name_takes, reference_shallow, reference_takes}
+use Rattle.swc_ecma_parser_input.specs.declared.context.Context.{Context}
 
 -- ---- what is known of the first token
 
@@ -100,12 +101,12 @@ module _ (m : ℕ) (s : State) (f : Fine m s.at.left) where
 
   pub ident_shallow : Answers (Kept m) Shallow (ident_expr s)
   unfolding ident_expr
-  ident_shallow = answers_then _ _ (name faults.Unexpected s) _ (name_shallow m s f faults.Unexpected (λ e. cc)) (λ i t g. g)
+  ident_shallow = answers_then _ _ (reference faults.Unexpected s) _ (reference_shallow m s f faults.Unexpected (λ e. cc)) (λ i t g. g)
 
   -- the name is taken
   pub ident_taken : Answers (Taken m) Shallow (ident_expr s)
   unfolding ident_expr
-  ident_taken = answers_then _ _ (name faults.Unexpected s) _ (name_takes m s f faults.Unexpected (λ e. cc)) (λ i t g. g)
+  ident_taken = answers_then _ _ (reference faults.Unexpected s) _ (reference_takes m s f faults.Unexpected (λ e. cc)) (λ i t g. g)
 
   pub this_shallow : Answers (Kept m) Shallow (this s)
   unfolding this
@@ -131,9 +132,14 @@ module _ (m : ℕ) (s : State) (f : Fine m s.at.left) where
   unfolding unheaded
   unheaded_shallow is_async x = answers_if _ _ (heads_arrow is_async x s) _ _ (λ _. unexpected_shallow _) (λ _. f)
 
+  pub as_name_shallow : (may_await : Context → Bool) (span : Span) (text : Text) → Answers (Kept m) Shallow (as_name may_await span text s)
+  unfolding as_name
+  as_name_shallow may_await span text = answers_if _ _ (is_name s.code.flags text) _ _ (λ _. f)
+      (λ _. answers_if _ _ (may_await s.code.flags && is_identifier s.code.flags text) _ _ (λ _. fault_shallow m s f _) (λ _. reject_shallow _ faults.ExpectedIdent span (λ e. cc) m s f))
+
   pub shorthand_name_shallow : (span : Span) (text : Text) → Answers (Kept m) Shallow (shorthand_name span text s)
   unfolding shorthand_name
-  shorthand_name_shallow span text = answers_if _ _ (is_name s.code.flags text) _ _ (λ _. f) (λ _. reject_shallow _ faults.ExpectedIdent span (λ e. cc) m s f)
+  shorthand_name_shallow span text = answers_then _ _ (as_name may_refer_to_await span text s) _ (as_name_shallow may_refer_to_await span text) (λ _ t g. g)
 
   pub shorthand_shallow : (x : Tree) → Answers (Kept m) Shallow (shorthand x s)
   shorthand_shallow (tree.ident span text) = shorthand_name_shallow span text

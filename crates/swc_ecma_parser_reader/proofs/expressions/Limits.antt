@@ -18,13 +18,13 @@ use Rattle.swc_ecma_parser_model.specs.Tree as tree
 use Rattle.swc_ecma_parser_model.specs.Tree.{Tree, listed}
 use Rattle.swc_ecma_parser_model.specs.Forms.{is_simple_target, span_of, has_plain_params}
 use Rattle.swc_ecma_parser_grammar.specs.Looks.{kind_at, sees, span_at, breaks_at}
-use Rattle.swc_ecma_parser_grammar.specs.Names.{is_name, name_at}
+use Rattle.swc_ecma_parser_grammar.specs.Names.{is_name, name_at, may_refer_to_await}
 use Rattle.swc_ecma_parser_grammar.specs.Follows.{word_at, is_async_function}
 use Rattle.swc_ecma_parser_grammar.specs.Own.{misplaced_directive}
 use Rattle.swc_ecma_parser_grammar.specs.Reads.{with_in}
 use Rattle.swc_ecma_parser_grammar.specs.language.Goals.{Class, expression, assignment, operator, unary, left_side, callee}
 use Rattle.swc_ecma_parser_grammar.specs.language.Operators.{unary_operator, update_operator, binary_operator, assign_operator}
-use Rattle.swc_ecma_parser_reader.specs.State.{State, Reader, and_then, ◌>>=◌, moved, noted, module_found, coded, within, enclosed, unlabelled, fault_at, fault, expect, loop}
+use Rattle.swc_ecma_parser_reader.specs.State.{State, Reader, and_then, ◌>>=◌, moved, noted, module_found, coded, within, enclosed, unlabelled, fault_at, fault, expect, loop, as_name}
 use Rattle.swc_ecma_parser_reader.specs.Methods.{MethodForm, FunctionForm, expression_form, class_form, property_form, parameter_form, block_form, modifies, begins_async_method, star, starred, method_words, is_bare}
 use Rattle.swc_ecma_parser_reader.specs.Expressions.{Cover, no_covers, close, target, goes_on, literal, any_word, word_property, is_word_at, shorthand, ident_expr, bare_new, simple, behind_operand, postfix_at, right_class, read_operator, operator_at, left_operand, unmixed, unassigned, unassignable, begins_async_call, inside, brackets, access, spread_element, plain_element, element, arguments_turn, arguments, covered, spread_item, plain_item, item, array_turn, elements, array, computed_key, key, key_value, initialized, initialized_name, initialized_key, bare_key, behind_key, method, behind_words, keyed_property, spread_property, property, object_turn, properties, object, paren, marked_primary, literal_or, primary, accessed, called, left_turn, left_from, super_call, super_property, super_access, behind_super, super_head, constructed, new_head, import_call, meta_fault, import_meta, import_head, left_head, left, left_expr, prefixed, update_before, await_expr, postfix, updated, unary_by, unary_expr, operated, binary_by, binary_turn, binary_from, binary_expr, conditional, assigned_to, assigned, assigned_or, behind_operators, operators_expr, plain_expr, postfixed, continued, closed, assigned_pattern, behind_literal, open_literal, done_expr, cover_expr, assignment_expr, sequence_turn, sequence_from, expression_expr, expr_level, named_expr}
 use Rattle.swc_ecma_parser_reader.specs.Jumps.{told}
@@ -36,7 +36,7 @@ use Rattle.swc_ecma_parser_reader.proofs.Meets.{Answers, answers_then, answers_i
 use Rattle.swc_ecma_parser_grammar.proofs.ExpressionBegins.{await_stands}
 use Rattle.swc_ecma_parser_reader.proofs.expressions.Awaits.{await_fault, await_either}
 use Rattle.swc_ecma_parser_reader.proofs.Shallow.{Fine, fine_more, fine_after, fine_taken, Shallow, Kept, Taken, fault_shallow, refuse_shallow, expect_shallow, Levels}
-use Rattle.swc_ecma_parser_reader.proofs.expressions.LimitSteps.{other_test, no_end_by, kept_more, reject_shallow, unassignable_shallow, unexpected_shallow, literal_shallow, any_word_shallow, ident_shallow, ident_taken, this_shallow, simple_shallow, closed_shallow, unmixed_shallow, unassigned_shallow, unheaded_shallow, shorthand_shallow, left_operand_shallow, close_shallow, target_shallow, told_shallow, closed_group_shallow, parameters_of_shallow, closed_arguments_shallow, argument_parameters_shallow, literal_key_shallow, dotted_shallow, behind_operand_shallow}
+use Rattle.swc_ecma_parser_reader.proofs.expressions.LimitSteps.{other_test, no_end_by, kept_more, reject_shallow, unassignable_shallow, unexpected_shallow, literal_shallow, any_word_shallow, ident_shallow, ident_taken, this_shallow, simple_shallow, closed_shallow, unmixed_shallow, unassigned_shallow, unheaded_shallow, shorthand_shallow, left_operand_shallow, close_shallow, target_shallow, told_shallow, closed_group_shallow, parameters_of_shallow, closed_arguments_shallow, argument_parameters_shallow, literal_key_shallow, dotted_shallow, behind_operand_shallow, as_name_shallow}
 
 -- ---- functions, and the words before the key of a method
 
@@ -139,8 +139,8 @@ module _ (inner : Class → Reader Tree) (cover : Reader Cover) (n : ℕ) (below
 
   initialized_key_shallow : (i : ℕ) (start : Span) (x : Tree) (s : State) → 2 * i ≤ n → Fine i s.at.left → Answers (Kept i) Shallow (initialized_key inner cover start x s)
   unfolding initialized_name
-  initialized_key_shallow i start (tree.ident span text) s h f = answers_if _ _ (is_name s.code.flags text) _ _ (λ _. initialized_shallow i start (tree.ident span text) s h f)
-      (λ _. reject_shallow _ faults.ExpectedIdent span (λ e. cc) i s f)
+  initialized_key_shallow i start (tree.ident span text) s h f = answers_then _ _ (as_name may_refer_to_await span text s) _ (as_name_shallow i s f may_refer_to_await span text)
+      (λ _ t g. initialized_shallow i start (tree.ident span text) t h g)
   initialized_key_shallow i start _ s h f = unexpected_shallow i s f _
 
   behind_key_shallow : (i : ℕ) (start : Span) (x : Tree) (s : State) → 2 * i ≤ n → Fine i s.at.left → Answers (Kept i) Shallow (behind_key inner cover start x s)
@@ -248,7 +248,7 @@ module _ (inner : Class → Reader Tree) (cover : Reader Cover) (n : ℕ) (below
           let (i, h, g) = fine_taken m s.at kind.LBrace e (λ z. cc) f in
           kept_more i m (loop (object_turn inner cover function) no_covers (moved s)) (omega arith) (many_properties_shallow function below_function i (moved s) (omega arith) g)
 
-      object_shallow : (s : State) → kind_at s.at ≡ kind.LBrace → Fine m s.at.left → Answers (Kept m) Shallow (object inner cover function s)
+      pub object_shallow : (s : State) → kind_at s.at ≡ kind.LBrace → Fine m s.at.left → Answers (Kept m) Shallow (object inner cover function s)
       unfolding object
       object_shallow s e f = answers_then _ _ (properties inner cover function s) _ (properties_shallow s e f) (λ xs t g. g)
 
@@ -261,11 +261,11 @@ module _ (inner : Class → Reader Tree) (cover : Reader Cover) (n : ℕ) (below
 
     -- ---- left-hand sides
 
-    accessed_shallow : (start : Span) (x : Tree) (s : State) → (sees kind.Dot s.at || sees kind.LBracket s.at) ≡ true → Fine m s.at.left → Answers (Kept m) Shallow (accessed inner cover start x s)
+    pub accessed_shallow : (start : Span) (x : Tree) (s : State) → (sees kind.Dot s.at || sees kind.LBracket s.at) ≡ true → Fine m s.at.left → Answers (Kept m) Shallow (accessed inner cover start x s)
     unfolding accessed
     accessed_shallow start x s h f = answers_then _ _ (access inner cover s) _ (access_shallow s h f) (λ y t g. g)
 
-    called_shallow : (start : Span) (x : Tree) (s : State) → kind_at s.at ≡ kind.LParen → Fine m s.at.left → Answers (Kept m) Shallow (called inner cover start x s)
+    pub called_shallow : (start : Span) (x : Tree) (s : State) → kind_at s.at ≡ kind.LParen → Fine m s.at.left → Answers (Kept m) Shallow (called inner cover start x s)
     unfolding called
     called_shallow start x s e f = answers_then _ _ (arguments inner cover true s) _ (arguments_shallow true s e f) (λ xs t g. g)
 

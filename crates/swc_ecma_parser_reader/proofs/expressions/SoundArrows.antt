@@ -36,6 +36,7 @@ use Rattle.swc_ecma_parser_grammar.proofs.StatementBegins.{word_place}
 use Rattle.swc_ecma_parser_reader.proofs.expressions.AsyncHeads.{async_arrow_parts}
 use Rattle.swc_ecma_parser_reader.proofs.expressions.SoundSteps.{paired, moved_back}
 use Rattle.swc_ecma_parser_reader.proofs.expressions.SoundLefts.{FunctionsSound, BodyRead, SoundBody}
+use Rattle.swc_ecma_parser_reader.proofs.Errors.{is_error}
 
 -- `async`, if it stands there, and the parameters of an arrow function, up to `=>`
 abbrev pub ArrowHeadRead : ℕ → Bool → List Tree → Code → Place → Place → Type 0
@@ -100,7 +101,7 @@ module _ (n : ℕ) (inner : Class → Reader Tree) (sound : (class : Class) (s :
       meets_then _ (function parameter_form s) _ (meets_both _ _ (function parameter_form s) (functions.parameters s) (functions.names s i)) (λ p t (q, (b, f)).
       arrow_from_sound false s (p ∷ []) t
       (sound_as s t refl (sym (append-nil (walk (env_of s.code s.scope.labels) p))) (sym (notes_nil (notes_of p))) (λ r. (s.at, not_async refl refl, name_head p r.0 f refl, and_both _ true r.1 refl)) q)
-      (ap (λ z. kind_at z.at) b ∙ saw (after s.at) kind.Arrow a))
+      (ap kind_at (b (ap is_error (saw (after s.at) kind.Arrow a))) ∙ saw (after s.at) kind.Arrow a))
 
   -- ---- from `async` and a name on
 

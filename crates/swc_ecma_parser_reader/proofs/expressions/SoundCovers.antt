@@ -17,7 +17,7 @@ use Rattle.swc_ecma_parser_model.specs.Forms.{is_rest, is_pattern_target, span_o
 use Rattle.swc_ecma_parser_model.specs.Targets.{rest_span, simple_target, as_pattern, as_elements, as_properties}
 use Rattle.swc_ecma_parser_grammar.specs.Looks.{kind_at, breaks_at, sees, span_at, spanned}
 use Rattle.swc_ecma_parser_grammar.specs.Follows.{word_at, Star, no_star, star as a_star, not_async, async_word}
-use Rattle.swc_ecma_parser_grammar.specs.Names.{Code, is_name, is_reserved, is_identifier, is_clean_name}
+use Rattle.swc_ecma_parser_grammar.specs.Names.{Code, is_name, is_reserved, is_identifier, is_clean_name, may_refer_to_await}
 use Rattle.swc_ecma_parser_grammar.specs.Reads.{with_in}
 use Rattle.swc_ecma_parser_grammar.specs.Supported.{supported_in, is_supported_key_in, all_supported_in}
 use Rattle.swc_ecma_parser_grammar.specs.ReadsSupported.{ReadsClass}
@@ -36,16 +36,17 @@ use Rattle.swc_ecma_parser_grammar.specs.Walk.{walk, env_of}
 use Rattle.swc_ecma_parser_grammar.proofs.StatementBegins.{word_place}
 use Rattle.swc_ecma_parser_grammar.proofs.Tests.{or_no, and_yes, and_both}
 use Rattle.swc_ecma_parser_reader.specs.Notes.{notes_of, all_notes_of}
-use Rattle.swc_ecma_parser_reader.specs.State.{State, Reader, moved, coded, expect, loop}
+use Rattle.swc_ecma_parser_reader.specs.State.{State, Reader, moved, coded, expect, loop, as_name}
 use Rattle.swc_ecma_parser_reader.specs.Methods.{MethodForm, getter_form, setter_form, method_form, FunctionForm, property_form, modifies, begins_async_method, star, starred, method_words, is_bare}
 use Rattle.swc_ecma_parser_reader.specs.Expressions.{Cover, Covers, no_covers, with_cover, with_comma, done, literal_of, literal_in, taken, literal, any_word, word_property, token_is_word, first_is_word, is_word_at, key_or, literal_key, shorthand_name, shorthand, inside, covered, spread_item, plain_item, item, behind_item, array_turn, elements, array, computed_key, key, key_value, initialized, initialized_name, initialized_key, bare_key, behind_key, method, behind_words, keyed_property, spread_property, property, behind_property, object_turn, properties, object, is_literal}
 use Rattle.swc_ecma_parser_reader.proofs.Meets.{Meets, Refuses, meets_then, meets_if, wanted_meets, Turned, loop_answers, saw}
-use Rattle.swc_ecma_parser_reader.proofs.Errors.{kind_here}
+use Rattle.swc_ecma_parser_reader.proofs.Errors.{kind_here, is_error}
 use Rattle.swc_ecma_parser_reader.proofs.Between.{SoundTree, SoundStep, Sound, same, sound_then, sound_moved, sound_here, sound_as, sound_after, within_sound}
 use Rattle.swc_ecma_parser_reader.proofs.expressions.Targets.{some_array, some_object, some_key_value, some_before, some_alone, some_rest, simple_is, simple_as, leaf_no_pattern, pattern_no_rest}
-use Rattle.swc_ecma_parser_reader.proofs.expressions.SoundSteps.{paired, stepped, moved_back, meets_as, reject_meets, clash, Takes, expect_sound, stands, any_word_sound, word_span, last_span, walks_push, notes_push}
-use Rattle.swc_ecma_parser_grammar.proofs.Naming.{name_is_clean, name_is_supported}
+use Rattle.swc_ecma_parser_reader.proofs.expressions.SoundSteps.{paired, stepped, moved_back, meets_as, reject_meets, clash, Takes, expect_sound, stands, any_word_sound, word_span, last_span, walks_push, notes_push, as_name_sound, as_name_stays}
+use Rattle.swc_ecma_parser_grammar.proofs.Naming.{name_is_clean}
 use Rattle.swc_ecma_parser_reader.proofs.expressions.SoundLists.{elements_list, properties_list, begun_next, at_more, Plain, Pattern, Target, Part, PartRead, no_marks, SoFar, AllRead, all_read, push_last, push_next}
+use Rattle.swc_ecma_parser_reader.proofs.SoundParts.{meets_both}
 
 -- ---- what is read
 
@@ -269,7 +270,7 @@ module _ (n : ℕ) (k : Code) (text : Text) (span : Span) where
         b,
         u,
         target_as k.flags.module NamedRule _ q c d i (patterns.shorthand_rule text span (name_inside k text span c d (free_name k text span c d r e)) h
-            (i ∙ ap (λ z. tree.assign_pat_prop z (tree.ident_pat span text) tree.absent) (word_spanned text span c d r))) (and_both _ true (name_is_supported k.flags text e) refl),
+            (i ∙ ap (λ z. tree.assign_pat_prop z (tree.ident_pat span text) tree.absent) (word_spanned text span c d r))) (and_both _ true refl refl),
         ap is_rest i,
       )
 
@@ -283,7 +284,7 @@ module _ (n : ℕ) (k : Code) (text : Text) (span : Span) where
         b,
         u,
         target_as k.flags.module NamedRule _ q c d i (patterns.default_rule text span value m (name_inside k text span c m (free_name k text span c m r e)) h w.0 i)
-            (and_both _ _ (name_is_supported k.flags text e) w.1),
+            (and_both _ _ refl w.1),
         ap is_rest i,
       )
 
@@ -481,13 +482,12 @@ module _ (n : ℕ) (inner : Class → Reader Tree) (cover : Reader Cover) (sound
     shorthand_name_sound : (span : Span) (text : Text) (t : State) → SoundKey s (tree.ident span text) t → sees kind.Assign t.at ≡ false
         → Meets (λ y u. SoundProperty s (done y) u) (shorthand_name span text t)
     unfolding shorthand_name
-    shorthand_name_sound span text t p h = meets_if _ (is_name t.code.flags text) _ _
-        (λ e. let free : is_name s.code.flags text ≡ true = sym (ap (λ z. is_name z.flags text) p.code) ∙ e in
-        sound_as s t refl refl refl (λ (a, _). let r = ident_key (Reads n) s.code span text s.at t.at a in record {
-          plain = λ _. (record { rule = shorthand_rule text span (free_name s.code text span s.at t.at r free) refl; supports = name_is_supported s.code.flags text free }, refl);
-          pattern = λ _. any_part s.code.flags.module as_properties no_properties_left (NamedRule n s.code text span) is_spread _ s.at t.at (name_follows n s.code text span s.at t.at r free h);
-        }) p)
-        (λ _. reject_meets _ _ t)
+    shorthand_name_sound span text t p h = meets_then _ (as_name may_refer_to_await span text t) _ (as_name_sound may_refer_to_await span text t) (λ _ u q.
+        sound_as s u refl refl refl (λ ((a, _), (free, e)). let r = subst (ReadsWord text span s.at) (sym e) (ident_key (Reads n) s.code span text s.at t.at a) in
+        let i : sees kind.Assign u.at ≡ false = ap (sees kind.Assign) e ∙ h in record {
+          plain = λ _. (record { rule = shorthand_rule text span (free_name s.code text span s.at u.at r free) refl; supports = refl }, refl);
+          pattern = λ _. any_part s.code.flags.module as_properties no_properties_left (NamedRule n s.code text span) is_spread _ s.at u.at (name_follows n s.code text span s.at u.at r free i);
+        }) (stepped p q))
 
     shorthand_sound : (x : Tree) (t : State) → SoundKey s x t → sees kind.Assign t.at ≡ false → Meets (λ y u. SoundProperty s (done y) u) (shorthand x t)
     shorthand_sound (tree.ident span text) t p h = shorthand_name_sound span text t p h
@@ -500,15 +500,15 @@ module _ (n : ℕ) (inner : Class → Reader Tree) (cover : Reader Cover) (sound
     initialized_name_sound : (span : Span) (text : Text) (m : State) → SoundKey s (tree.ident span text) m → kind_at m.at ≡ kind.Assign
         → Meets (SoundProperty s) (initialized_name inner cover (span_at s.at) span text m)
     unfolding initialized_name initialized spanned
-    initialized_name_sound span text m p h = meets_if _ (is_name m.code.flags text) _ _
-        (λ e. let free : is_name s.code.flags text ≡ true = sym (ap (λ z. is_name z.flags text) p.code) ∙ e in
-        meets_then _ (inside inner cover assignment (moved m)) _ (inside_sound assignment (moved m)) (λ y t q.
-        sound_as s t refl refl refl (λ (a, b). record {
-          plain = λ i. cc;
+    initialized_name_sound span text m p h = meets_then _ (as_name may_refer_to_await span text m) _
+        (meets_both _ _ (as_name may_refer_to_await span text m) (as_name_sound may_refer_to_await span text m) (as_name_stays may_refer_to_await span text m (ap is_error h))) (λ _ u (i, g).
+        let k : kind_at u.at ≡ kind.Assign = ap kind_at g ∙ h in
+        meets_then _ (inside inner cover assignment (moved u)) _ (inside_sound assignment (moved u)) (λ y t q.
+        sound_as s t refl refl refl (λ ((a, (free, e)), b). record {
+          plain = λ z. cc;
           pattern = λ _. any_part s.code.flags.module as_properties no_properties_left (NamedRule n s.code text span) is_spread _ s.at t.at
-              (default_follows n s.code text span y s.at m.at t.at (ident_key (Reads n) s.code span text s.at m.at a.0) free h b);
-        }) (paired p (moved_back h refl q))))
-        (λ _. reject_meets _ _ m)
+              (default_follows n s.code text span y s.at u.at t.at (subst (ReadsWord text span s.at) (sym e) (ident_key (Reads n) s.code span text s.at m.at a.0)) free k b);
+        }) (paired (stepped p i) (moved_back k refl q))))
 
     initialized_key_sound : (x : Tree) (m : State) → SoundKey s x m → kind_at m.at ≡ kind.Assign → Meets (SoundProperty s) (initialized_key inner cover (span_at s.at) x m)
     initialized_key_sound (tree.ident span text) m p h = initialized_name_sound span text m p h

@@ -37,17 +37,17 @@ use Rattle.swc_ecma_parser_grammar.specs.Walk as walks
 use Rattle.swc_ecma_parser_grammar.specs.Walk.{walk, env_of}
 use Rattle.swc_ecma_parser_grammar.proofs.Tests.{or_no, or_none, and_yes, and_both}
 use Rattle.swc_ecma_parser_reader.specs.Notes.{notes_of, all_notes_of}
-use Rattle.swc_ecma_parser_reader.specs.State.{State, Outcome, Reader, and_then, moved, module_found, fault, fault_at, expect, name, loop}
+use Rattle.swc_ecma_parser_reader.specs.State.{State, Outcome, Reader, and_then, moved, module_found, fault, fault_at, expect, name, loop, reference}
 use Rattle.swc_ecma_parser_reader.specs.Methods.{MethodForm, FunctionForm, expression_form, class_form, property_form, parameter_form, block_form}
 use Rattle.swc_ecma_parser_reader.specs.Expressions.{Cover, literal_of, literal_in, taken, literal, ident_expr, this, super_property, bare_new, closed_left, unmarked, close, dotted, inside, brackets, access, spread_element, plain_element, element, behind_argument, arguments_turn, arguments, array, object, paren, marked_primary, literal_or, primary, accessed, called, left_turn, left_from, super_call, super_access, behind_super, super_head, constructed, new_head, import_call, meta_fault, import_meta, import_head, left_head, left, left_expr, any_word, word_property, named_expr}
 use Rattle.swc_ecma_parser_reader.proofs.Notes.{or_true, notes_nil}
 use Rattle.swc_ecma_parser_reader.proofs.Meets.{Meets, Refuses, meets_then, meets_if, wanted_meets, Turned, loop_answers, saw}
 use Rattle.swc_ecma_parser_reader.specs.Entry.{error_tokens}
-use Rattle.swc_ecma_parser_reader.proofs.Errors.{kind_here}
+use Rattle.swc_ecma_parser_reader.proofs.Errors.{kind_here, is_error}
 use Rattle.swc_ecma_parser_reader.proofs.Between.{SoundTree, SoundStep, Sound, same, same-fewer, no_faults, sound_moved, sound_here, sound_as, sound_after}
 use Rattle.swc_ecma_parser_reader.proofs.expressions.CompleteKinds.{seen}
-use Rattle.swc_ecma_parser_reader.proofs.expressions.SoundSteps.{paired, stepped, moved_back, meets_as, reject_meets, other, clash, elsewhere, Takes, expect_sound, fault_sound, stands, token_first, FreeWord, name_sound, name_first, Dotted, word_dotted, private_dotted, dotted_sound, walks_push, notes_push, supported_push, any_word_sound}
-use Rattle.swc_ecma_parser_grammar.proofs.Naming.{name_is_clean, name_is_supported}
+use Rattle.swc_ecma_parser_reader.proofs.expressions.SoundSteps.{paired, stepped, moved_back, meets_as, reject_meets, other, clash, elsewhere, Takes, expect_sound, fault_sound, stands, token_first, FreeWord, reference_sound, Dotted, word_dotted, private_dotted, dotted_sound, walks_push, notes_push, supported_push, any_word_sound}
+use Rattle.swc_ecma_parser_grammar.proofs.Naming.{name_is_clean}
 use Rattle.swc_ecma_parser_reader.proofs.expressions.SoundCovers.{SoundCover, SoundLiteral, Headed, MethodRead, inside_sound, array_sound, object_sound}
 
 -- ---- words
@@ -108,7 +108,6 @@ module _ (commas : Bool) (Reads : Tree → Place → Place → Type 0) where
 pub record Left (In : Goal → Type 0) (calls : Bool) (k : Code) (x : Tree) (c d : Place) : Type 0 where
   pub rule : LeftSideRule In k x c d
   pub supports : supported_in k.flags.module x ≡ true
-  pub no_await : sees kind.Await c ≡ false
   pub is_called : calls ≡ false → is_callee x ≡ true
 
 -- a function or a class, from its word on
@@ -129,7 +128,8 @@ pub record FunctionsSound (n : ℕ) (function : FunctionForm → Reader Tree) : 
   pub classes : (s : State) → kind_at s.at ≡ kind.Class → Meets (λ x t. SoundTree (FunctionRead n) s x t) (function class_form s)
   pub methods : (form : MethodForm) (key : Tree) (s m : State) → Headed n form key s m → Meets (λ x t. SoundTree (MethodRead n) s x t) (function (property_form form (span_at s.at) key) m)
   pub parameters : (s : State) → Meets (λ x t. SoundTree (ReadsPat n) s x t) (function parameter_form s)
-  pub names : (s : State) → name_at s.code.flags s.at ≡ true → Meets (λ x t. (t ≡ moved s) × (is_binding_name x ≡ true)) (function parameter_form s)
+  pub names : (s : State) → name_at s.code.flags s.at ≡ true
+      → Meets (λ x t. (is_error (kind_at (after s.at)) ≡ false → t.at ≡ after s.at) × (is_binding_name x ≡ true)) (function parameter_form s)
   pub blocks : (w : Bool) (s : State) → Meets (SoundBody n w s) (function (block_form w) s)
 
 -- nothing is taken, in code that can be a module's
@@ -163,8 +163,7 @@ no_access d h g = let (a, b) = or_no (sees kind.Dot d) (sees kind.LBracket d) h 
 free_left : (In : Goal → Type 0) (calls : Bool) (i : Ident) (k : Code) (c d : Place) → is_async_function c ≡ false → FreeWord i k c d → Left In calls k (tree.ident i.span i.sym) c d
 free_left In calls i k c d e r = let free : is_name k.flags i.sym ≡ true = ap (is_name k.flags) r.text ∙ r.free in record {
   rule = primary_rule (name_rule i.sym i.span (record { word = r.word; reads_word = r.token; is_text = r.text; is_name = name_is_clean k.flags i.sym free }) e refl);
-  supports = name_is_supported k.flags i.sym free;
-  no_await = name_first i k c d r;
+  supports = refl;
   is_called = λ _. refl;
 }
 
@@ -182,7 +181,7 @@ module _ (n : ℕ) (inner : Class → Reader Tree) (cover : Reader Cover) (sound
       meets_then _ (expect kind.RBracket m) _ (expect_sound kind.RBracket m refl) (λ _ t q.
       sound_as s t refl refl refl (λ (a, b). (bracket_access x m.at e a.0 b.0 b.1 refl, a.1)) (stepped (moved_back e refl p) q)))
 
-  access_sound : (s : State) → (sees kind.Dot s.at || sees kind.LBracket s.at) ≡ true → Meets (SoundAccess s) (access inner cover s)
+  pub access_sound : (s : State) → (sees kind.Dot s.at || sees kind.LBracket s.at) ≡ true → Meets (SoundAccess s) (access inner cover s)
   unfolding access
   access_sound s h = meets_if _ (sees kind.Dot s.at) _ _
       (λ e. meets_as (dotted (moved s)) (dotted_sound (moved s))
@@ -256,7 +255,7 @@ module _ (n : ℕ) (inner : Class → Reader Tree) (cover : Reader Cover) (sound
     abbrev Arguments : List Tree → Code → Place → Place → Type 0
     Arguments xs k c d = ArgumentsRule (Reads n) k commas (listed xs) c d × (all_supported_in k.flags.module (trees xs) ≡ true)
 
-    arguments_sound : (s : State) → kind_at s.at ≡ kind.LParen
+    pub arguments_sound : (s : State) → kind_at s.at ≡ kind.LParen
         → Meets (λ xs t. Sound same (λ k l. walk (env_of k l) (listed xs)) (notes_of (listed xs)) (Arguments xs) s t) (arguments inner cover commas s)
     unfolding arguments
     arguments_sound s e = meets_as (loop (arguments_turn inner cover commas) [] (moved s))
@@ -271,7 +270,7 @@ module _ (n : ℕ) (inner : Class → Reader Tree) (cover : Reader Cover) (sound
 
   ident_sound : (calls : Bool) (s : State) → is_async_function s.at ≡ false → Meets (SoundLeft calls s) (ident_expr s)
   unfolding ident_expr
-  ident_sound calls s e = meets_then _ (name faults.Unexpected s) _ (name_sound faults.Unexpected s) (λ i t p.
+  ident_sound calls s e = meets_then _ (reference faults.Unexpected s) _ (reference_sound faults.Unexpected s) (λ i t p.
       sound_as s t refl refl refl (λ r. free_left (Reads n) calls i s.code s.at t.at e r) p)
 
   -- a literal was read, or nothing
@@ -282,23 +281,23 @@ module _ (n : ℕ) (inner : Class → Reader Tree) (cover : Reader Cover) (sound
   module _ (calls : Bool) (s : State) where
     -- a token by itself
     one_token : (v : Token) (span : Span) (x : Tree) → ReadsToken v span s.at (after s.at) → PrimaryRule (Reads n) s.code x s.at (after s.at) → supported_in s.code.flags.module x ≡ true → is_callee x ≡ true
-        → same_kind (token_kind v) kind.Await ≡ false → Left (Reads n) calls s.code x s.at (after s.at)
-    one_token v span x r p a b e = record { rule = primary_rule p; supports = a; no_await = token_first v kind.Await span s.at (after s.at) r e; is_called = λ _. b }
+        → Left (Reads n) calls s.code x s.at (after s.at)
+    one_token v span x r p a b = record { rule = primary_rule p; supports = a; is_called = λ _. b }
 
     literal_of_sound : (u : TokenAndSpan) (ts : List TokenAndSpan) (v : Token) → s.at.left ≡ u ∷ ts → u.token ≡ v → Meets (Literal calls s) (taken (literal_of u.span v) s)
     unfolding same_kind
     literal_of_sound u ts (token.Str value raw) e h = let r = stands s.at u ts (token.Str value raw) e h in
-        sound_moved s (kind_here s.at u ts (token.Str value raw) e h) refl (one_token (token.Str value raw) u.span _ r (string_rule value raw u.span r refl) refl refl refl)
+        sound_moved s (kind_here s.at u ts (token.Str value raw) e h) refl (one_token (token.Str value raw) u.span _ r (string_rule value raw u.span r refl) refl refl)
     literal_of_sound u ts (token.Num raw) e h = let r = stands s.at u ts (token.Num raw) e h in
-        sound_moved s (kind_here s.at u ts (token.Num raw) e h) refl (one_token (token.Num raw) u.span _ r (number_rule raw u.span r refl) refl refl refl)
+        sound_moved s (kind_here s.at u ts (token.Num raw) e h) refl (one_token (token.Num raw) u.span _ r (number_rule raw u.span r refl) refl refl)
     literal_of_sound u ts (token.BigInt raw) e h = let r = stands s.at u ts (token.BigInt raw) e h in
-        sound_moved s (kind_here s.at u ts (token.BigInt raw) e h) refl (one_token (token.BigInt raw) u.span _ r (big_int_rule raw u.span r refl) refl refl refl)
+        sound_moved s (kind_here s.at u ts (token.BigInt raw) e h) refl (one_token (token.BigInt raw) u.span _ r (big_int_rule raw u.span r refl) refl refl)
     literal_of_sound u ts (token.Word word.Null) e h = let r = stands s.at u ts (token.Word word.Null) e h in
-        sound_moved s (kind_here s.at u ts (token.Word word.Null) e h) refl (one_token (token.Word word.Null) u.span _ r (null_rule u.span r refl) refl refl refl)
+        sound_moved s (kind_here s.at u ts (token.Word word.Null) e h) refl (one_token (token.Word word.Null) u.span _ r (null_rule u.span r refl) refl refl)
     literal_of_sound u ts (token.Word word.True) e h = let r = stands s.at u ts (token.Word word.True) e h in
-        sound_moved s (kind_here s.at u ts (token.Word word.True) e h) refl (one_token (token.Word word.True) u.span _ r (true_rule u.span r refl) refl refl refl)
+        sound_moved s (kind_here s.at u ts (token.Word word.True) e h) refl (one_token (token.Word word.True) u.span _ r (true_rule u.span r refl) refl refl)
     literal_of_sound u ts (token.Word word.False) e h = let r = stands s.at u ts (token.Word word.False) e h in
-        sound_moved s (kind_here s.at u ts (token.Word word.False) e h) refl (one_token (token.Word word.False) u.span _ r (false_rule u.span r refl) refl refl refl)
+        sound_moved s (kind_here s.at u ts (token.Word word.False) e h) refl (one_token (token.Word word.False) u.span _ r (false_rule u.span r refl) refl refl)
     literal_of_sound u ts _ e h = refl
 
     literal_in_sound : (ts : List TokenAndSpan) → s.at.left ≡ ts → Meets (Literal calls s) (taken (literal_in ts) s)
@@ -312,29 +311,28 @@ module _ (n : ℕ) (inner : Class → Reader Tree) (cover : Reader Cover) (sound
     this_sound : kind_at s.at ≡ kind.This → Meets (SoundLeft calls s) (this s)
     unfolding this spanned same_kind
     this_sound e =
-        sound_moved s e refl (record { rule = primary_rule (this_rule e refl refl); supports = refl; no_await = elsewhere s.at kind.This kind.Await e refl; is_called = λ _. refl })
+        sound_moved s e refl (record { rule = primary_rule (this_rule e refl refl); supports = refl; is_called = λ _. refl })
 
     -- an array or object that is closed
-    closed_by : (v : Cover) (t : State) (o : Option Span) → v.mark ≡ o → SoundLiteral n s v t → sees kind.Await s.at ≡ false → Meets (SoundLeft calls s) (unmarked v.x o t)
-    closed_by v t None e p h = sound_as s t refl refl refl (λ r. let w = r.plain e in record {
+    closed_by : (v : Cover) (t : State) (o : Option Span) → v.mark ≡ o → SoundLiteral n s v t → Meets (SoundLeft calls s) (unmarked v.x o t)
+    closed_by v t None e p = sound_as s t refl refl refl (λ r. let w = r.plain e in record {
       rule = primary_rule w.0;
       supports = w.1;
-      no_await = h;
       is_called = λ _. r.called;
     }) p
-    closed_by v t (Some m) e p h = reject_meets _ _ t
+    closed_by v t (Some m) e p = reject_meets _ _ t
 
-    literal_left : (o : Outcome Cover) → Meets (SoundLiteral n s) o → sees kind.Await s.at ≡ false → Meets (SoundLeft calls s) (and_then o close)
+    literal_left : (o : Outcome Cover) → Meets (SoundLiteral n s) o → Meets (SoundLeft calls s) (and_then o close)
     unfolding close
-    literal_left o p h = meets_then _ o _ p (λ v t q. closed_by v t v.mark refl q h)
+    literal_left o p = meets_then _ o _ p (λ v t q. closed_by v t v.mark refl q)
 
     array_left : kind_at s.at ≡ kind.LBracket → Meets (SoundLeft calls s) (and_then (array inner cover s) close)
     unfolding same_kind
-    array_left e = literal_left (array inner cover s) (array_sound n inner cover sound covers s e) (elsewhere s.at kind.LBracket kind.Await e refl)
+    array_left e = literal_left (array inner cover s) (array_sound n inner cover sound covers s e)
 
     object_left : kind_at s.at ≡ kind.LBrace → Meets (SoundLeft calls s) (and_then (object inner cover function s) close)
     unfolding same_kind
-    object_left e = literal_left (object inner cover function s) (object_sound n inner cover sound covers function functions.methods s e) (elsewhere s.at kind.LBrace kind.Await e refl)
+    object_left e = literal_left (object inner cover function s) (object_sound n inner cover sound covers function functions.methods s e)
 
     paren_sound : kind_at s.at ≡ kind.LParen → Meets (SoundLeft calls s) (paren inner cover s)
     unfolding paren spanned same_kind
@@ -343,7 +341,6 @@ module _ (n : ℕ) (inner : Class → Reader Tree) (cover : Reader Cover) (sound
         sound_as s t refl refl refl (λ (a, b). record {
           rule = primary_rule (paren_rule x m.at e a.0 b.0 b.1 refl);
           supports = a.1;
-          no_await = elsewhere s.at kind.LParen kind.Await e refl;
           is_called = λ _. refl;
         }) (stepped (moved_back e refl p) q)))
 
@@ -351,7 +348,6 @@ module _ (n : ℕ) (inner : Class → Reader Tree) (cover : Reader Cover) (sound
     function_left e = meets_as (function expression_form s) (functions.expressions s e) (λ x t p. sound_as s t refl refl refl (λ r. record {
       rule = primary_rule r.0;
       supports = r.1;
-      no_await = function_no_await s.at e;
       is_called = λ _. r.2;
     }) p)
 
@@ -360,7 +356,6 @@ module _ (n : ℕ) (inner : Class → Reader Tree) (cover : Reader Cover) (sound
     class_left e = meets_as (function class_form s) (functions.classes s e) (λ x t p. sound_as s t refl refl refl (λ r. record {
       rule = primary_rule r.0;
       supports = r.1;
-      no_await = elsewhere s.at kind.Class kind.Await e refl;
       is_called = λ _. r.2;
     }) p)
 
@@ -394,7 +389,6 @@ module _ (n : ℕ) (inner : Class → Reader Tree) (cover : Reader Cover) (sound
     accessed_sound x t p e = meets_then _ (access inner cover t) _ (access_sound t e) (λ y u q. sound_as s u refl refl refl (λ (a, b). record {
       rule = member_rule x y t.at a.rule b.0 refl;
       supports = and_both _ _ a.supports b.1;
-      no_await = a.no_await;
       is_called = a.is_called;
     }) (paired p q))
 
@@ -404,7 +398,6 @@ module _ (n : ℕ) (inner : Class → Reader Tree) (cover : Reader Cover) (sound
         meets_then _ (arguments inner cover true t) _ (arguments_sound true t (saw t.at kind.LParen h.1)) (λ xs u q. sound_as s u refl refl refl (λ (a, b). record {
           rule = call_rule x (listed xs) t.at a.rule b.0 refl;
           supports = and_both _ _ a.supports b.1;
-          no_await = a.no_await;
           is_called = λ g. clash calls h.0 g;
         }) (paired p q))
 
@@ -430,38 +423,34 @@ module _ (n : ℕ) (inner : Class → Reader Tree) (cover : Reader Cover) (sound
 
     super_sound : kind_at s.at ≡ kind.Super → Meets (SoundLeft calls s) (super_head inner cover calls s)
     unfolding super_head behind_super super_call super_access spanned same_kind
-    super_sound e = let w : sees kind.Await s.at ≡ false = elsewhere s.at kind.Super kind.Await e refl in
+    super_sound e =
         meets_if _ (calls && sees kind.LParen (after s.at)) _ _
         (λ h. let g = and_yes calls (sees kind.LParen (after s.at)) h in
         meets_then _ (arguments inner cover true (moved s)) _ (arguments_sound true (moved s) (saw (after s.at) kind.LParen g.1)) (λ xs t p. sound_after s t e refl refl refl (λ r. record {
           rule = super_call_rule (listed xs) e r.0 refl;
           supports = r.1;
-          no_await = w;
           is_called = λ z. clash calls g.0 z;
         }) p))
         (λ _. meets_if _ (sees kind.Dot (after s.at) || sees kind.LBracket (after s.at)) _ _
         (λ g. meets_then _ (super_property inner cover (moved s)) _ (super_property_sound (moved s) g) (λ x t p. sound_after s t e refl refl refl (λ r. record {
           rule = super_property_rule x e r.0.0 r.1 refl;
           supports = r.0.1;
-          no_await = w;
           is_called = λ _. refl;
         }) p))
         (λ _. reject_meets _ _ (moved s)))
 
     new_sound : kind_at s.at ≡ kind.New → Meets (SoundLeft calls s) (new_head inner cover s)
     unfolding new_head constructed bare_new spanned same_kind
-    new_sound e = let w : sees kind.Await s.at ≡ false = elsewhere s.at kind.New kind.Await e refl in
+    new_sound e =
         meets_then _ (inner callee (moved s)) _ (sound callee (moved s)) (λ x m p. meets_if _ (sees kind.LParen m.at) _ _
         (λ h. meets_then _ (arguments inner cover true m) _ (arguments_sound true m (saw m.at kind.LParen h)) (λ xs t q. sound_as s t refl refl refl (λ (a, b). record {
           rule = new_rule x (listed xs) m.at e a.0 b.0 refl;
           supports = and_both _ _ a.2 b.1;
-          no_await = w;
           is_called = λ _. refl;
         }) (paired (moved_back e refl p) q)))
         (λ h. sound_after s m e refl (sym (append-nil (walk (env_of s.code s.scope.labels) x))) (sym (notes_nil (notes_of x))) (λ r. record {
           rule = bare_new_rule x e (bare_called n s.code x (after s.at) m.at r.0 (no_access m.at r.1 h)) refl;
           supports = and_both _ true r.2 refl;
-          no_await = w;
           is_called = λ _. refl;
         }) p))
 
@@ -507,7 +496,6 @@ module _ (n : ℕ) (inner : Class → Reader Tree) (cover : Reader Cover) (sound
         sound_after {w = no_faults} {P = λ k i j. AsModule k (after c) j} s t e refl refl refl (λ (m, q). record {
           rule = import_meta_rule e h g q m (sym (ap (λ z. tree.meta_prop (record { lo = (span_at s.at).lo; hi = z.last.hi }) meta.ImportMeta) q));
           supports = refl;
-          no_await = elsewhere s.at kind.Import kind.Await e refl;
           is_called = λ y. clash calls z y;
         }) (sound_after {w = no_faults} {P = λ k i j. AsModule k (after c) j} (moved s) t h refl refl refl (λ r. r)
         (sound_after {w = no_faults} {P = AsModule} (moved (moved s)) t (word_stands (codes "meta") c g) refl refl refl (λ r. r) p))))
@@ -526,7 +514,6 @@ module _ (n : ℕ) (inner : Class → Reader Tree) (cover : Reader Cover) (sound
         sound_after s t e refl refl refl (λ r. record {
           rule = import_call_rule (listed xs) e r.0 refl;
           supports = r.1;
-          no_await = elsewhere s.at kind.Import kind.Await e refl;
           is_called = λ z. clash calls g z;
         }) p))
         (λ _. meets_if _ (sees kind.Dot (after s.at)) _ _ (λ h. import_meta_sound g e (saw (after s.at) kind.Dot h)) (λ _. wanted_meets _ faults.Unexpected (moved s)))

@@ -233,38 +233,34 @@ module _ (n : ℕ) (inner : Class → Reader Tree) (cover : Reader Cover) (sound
       (λ _. meets_then _ (inner unary (moved (noted (await_fault s) s))) _ (sound unary (moved (noted (await_fault s) s))) (λ x t p.
       sound_noted {P = λ k c d. Unit {0}} s t (await_fault s) (await_fault_untabled s) (sound_after (noted (await_fault s) s) t (await_stands s.code.flags s.at e) refl refl refl (λ _. tt) p)))
 
-  -- no `await` stands first
-  no_awaits : (k : Code) (c : Place) → sees kind.Await c ≡ false → awaits k.flags c ≡ false
-  unfolding awaits
-  no_awaits k c h = no_and _ _ h
-
-  behind_operand_sound : (s : State) (x : Tree) (t : State) (o : Option UpdateOp) → postfix_at t.at ≡ o
+  -- where it stands, `await` is no operator
+  behind_operand_sound : (s : State) (x : Tree) (t : State) (o : Option UpdateOp) → awaits s.code.flags s.at ≡ false → postfix_at t.at ≡ o
       → SoundTree (λ k x c d. Left (Reads n) true k x c d × ((sees kind.Dot d || sees kind.LBracket d) ≡ false) × (sees kind.LParen d ≡ false)) s x t
       → Meets (SoundUnary s) (behind_operand (span_at s.at) x o t)
   unfolding update_behind simple spanned
-  behind_operand_sound s x t None e p = sound_as s t refl refl refl (λ r. record {
-    rule = operand_rule (r.0.rule, no_awaits s.code s.at r.0.no_await);
+  behind_operand_sound s x t None a e p = sound_as s t refl refl refl (λ r. record {
+    rule = operand_rule (r.0.rule, a);
     supports = r.0.supports;
     ends = operand_ends x t.at r.1 r.2 e;
   }) p
-  behind_operand_sound s x t (Some op) e p = let (b, f) = postfix_there t.at op e in when_true (SoundUnary s) _ tt _ t (is_simple_target x) (λ h.
+  behind_operand_sound s x t (Some op) a e p = let (b, f) = postfix_there t.at op e in when_true (SoundUnary s) _ tt _ t (is_simple_target x) (λ h.
       sound_as s (moved t) refl refl refl (λ (r, z). record {
-        rule = postfix_rule op x t.at (r.0.rule, no_awaits s.code s.at r.0.no_await) h b f refl refl;
+        rule = postfix_rule op x t.at (r.0.rule, a) h b f refl refl;
         supports = r.0.supports;
         ends = operation_ends _ (after t.at) refl;
       }) (stepped p (sound_moved {P = λ k c d. Unit {0}} t refl (update_is_none (kind_at t.at) op f) tt)))
 
-  postfix_sound : (s : State) → Meets (SoundUnary s) (postfix inner cover function s)
+  postfix_sound : (s : State) → awaits s.code.flags s.at ≡ false → Meets (SoundUnary s) (postfix inner cover function s)
   unfolding postfix
-  postfix_sound s = meets_then _ (left inner cover function true s) _ (left_sound n inner cover sound covers function functions true s) (λ x t p. behind_operand_sound s x t (postfix_at t.at) refl p)
+  postfix_sound s a = meets_then _ (left inner cover function true s) _ (left_sound n inner cover sound covers function functions true s) (λ x t p. behind_operand_sound s x t (postfix_at t.at) a refl p)
 
-  updated_sound : (s : State) (o : Option UpdateOp) → update_operator (kind_at s.at) ≡ o → Meets (SoundUnary s) (updated inner cover function o s)
-  updated_sound s (Some op) e = update_before_sound op s e
-  updated_sound s None e = postfix_sound s
+  updated_sound : (s : State) (o : Option UpdateOp) → awaits s.code.flags s.at ≡ false → update_operator (kind_at s.at) ≡ o → Meets (SoundUnary s) (updated inner cover function o s)
+  updated_sound s (Some op) a e = update_before_sound op s e
+  updated_sound s None a e = postfix_sound s a
 
   unary_by_sound : (s : State) (o : Option UnaryOp) → unary_operator (kind_at s.at) ≡ o → Meets (SoundUnary s) (unary_by inner cover function o s)
   unary_by_sound s (Some op) e = prefixed_sound op s e
-  unary_by_sound s None e = meets_if _ (awaits s.code.flags s.at) _ _ (λ a. await_sound s a) (λ _. updated_sound s (update_operator (kind_at s.at)) refl)
+  unary_by_sound s None e = meets_if _ (awaits s.code.flags s.at) _ _ (λ a. await_sound s a) (λ a. updated_sound s (update_operator (kind_at s.at)) a refl)
 
   unary_expr_sound : (s : State) → Meets (SoundUnary s) (unary_expr inner cover function s)
   unfolding unary_expr

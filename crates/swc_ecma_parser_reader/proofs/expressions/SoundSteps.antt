@@ -1,7 +1,7 @@
 -- The steps of a sound reader of expressions: how parts are joined, fixed tokens, recorded faults, words and names, and lists of
 -- trees.
 use Rattle.std.proofs.Common.{◌≡◌, ℕ, suc, ◌≤◌, arith, Bool, true, false, cond, List, [], ◌∷◌, ◌++◌, Ok, Err, refl, sym, ◌∙◌, ap, subst, append_assoc, append-nil, true≢false, eqb-true}
-use Rattle.std.specs.Prelude.{nat_eq, ◌||◌}
+use Rattle.std.specs.Prelude.{nat_eq, ◌||◌, ◌&&◌}
 use Rattle.swc_ecma_parser_common.specs.declared.span.BytePos.{BytePos}
 use Rattle.swc_ecma_parser_common.specs.declared.span.Span.{Span}
 use Rattle.swc_ecma_parser_error.specs.declared.error.Error.{Error}
@@ -13,7 +13,7 @@ use Rattle.swc_ecma_parser_token.specs.declared.token.Token.{Token}
 use Rattle.swc_ecma_parser_token.specs.declared.token.Token.TheVariants as token
 use Rattle.swc_ecma_parser_token.specs.declared.token.TokenAndSpan.{TokenAndSpan}
 use Rattle.swc_ecma_parser_token.specs.declared.token.Word.{Word}
-use Rattle.swc_ecma_parser_token.specs.Kind.{token_kind}
+use Rattle.swc_ecma_parser_token.specs.Kind.{token_kind, word_kind}
 use Rattle.swc_ecma_parser_token.specs.Text.{word_text}
 use Rattle.swc_ecma_parser_input.specs.TokenSource.{means_out_of_memory}
 use Rattle.swc_ecma_parser_input.specs.Place.{Place, after, past}
@@ -21,22 +21,22 @@ use Rattle.swc_ecma_parser_model.specs.declared.leaves.Ident.{Ident}
 use Rattle.swc_ecma_parser_model.specs.Tree as tree
 use Rattle.swc_ecma_parser_model.specs.Tree.{Tree, Text, trees}
 use Rattle.swc_ecma_parser_grammar.specs.Looks.{kind_at, sees, same_kind, span_at, first_span, spanned}
-use Rattle.swc_ecma_parser_grammar.specs.Names.{Code, is_name}
+use Rattle.swc_ecma_parser_grammar.specs.Names.{Code, is_name, is_identifier, may_bind_await}
 use Rattle.swc_ecma_parser_grammar.specs.Reads.{ReadsToken}
 use Rattle.swc_ecma_parser_grammar.specs.Supported.{supported_in, all_supported_in}
 use Rattle.swc_ecma_parser_grammar.specs.language.Parts.{ReadsWord, PrivateRule}
 use Rattle.swc_ecma_parser_grammar.specs.Walk as walks
 use Rattle.swc_ecma_parser_grammar.specs.Walk.{walk, tabled}
 use Rattle.swc_ecma_parser_grammar.proofs.Tests.{and_yes, and_both}
-use Rattle.swc_ecma_parser_grammar.proofs.SupportedBegins.{name_begins}
 use Rattle.swc_ecma_parser_reader.specs.Notes.{Notes, no_notes, held, ◌⊕◌, notes_of, all_notes_of}
-use Rattle.swc_ecma_parser_reader.specs.State.{State, Outcome, Reader, and_then, moved, noted, recorded_in, recorded_at, fault, refused, reject, reject_in, reject_at, expect, name, name_in, name_by}
+use Rattle.swc_ecma_parser_reader.specs.State.{State, Outcome, Reader, and_then, moved, noted, recorded_in, recorded_at, fault, refused, reject, reject_in, reject_at, expect, name, name_in, name_by, reference, unclean_name, as_name, fault_at}
 use Rattle.swc_ecma_parser_reader.specs.Entry.{error_tokens}
 use Rattle.swc_ecma_parser_reader.specs.Expressions.{any_word, word_in, word_by, touching_word, private_name, word_property, dotted}
 use Rattle.swc_ecma_parser_reader.proofs.Notes.{or_nil, or_assoc, notes_nil, notes_assoc}
 use Rattle.swc_ecma_parser_reader.proofs.Meets.{Meets, meets_then, meets_if, wanted_meets, refuse_meets, saw}
-use Rattle.swc_ecma_parser_reader.proofs.Between.{SoundTree, SoundStep, Sound, Walk, no_faults, same, tabled-append, drops-split, nil-split, fewer-then, same-fewer, same-between, some_fault, sound_moved, sound_as, sound_after}
-use Rattle.swc_ecma_parser_reader.proofs.Errors.{is_error, word_is_none, kind_here, after_remembers}
+use Rattle.swc_ecma_parser_reader.proofs.Between.{SoundTree, SoundStep, Sound, Walk, no_faults, same, tabled-append, drops-split, nil-split, fewer-then, same-fewer, same-between, some_fault, sound_moved, sound_as, sound_after, sound_here}
+use Rattle.swc_ecma_parser_reader.proofs.Errors.{is_error, word_is_none, kind_here, after_remembers, fault_here}
+use Rattle.swc_ecma_parser_input.specs.declared.context.Context.{Context}
 
 -- ---- parts one behind another; what was read is said of the places that are known
 
@@ -198,6 +198,10 @@ module _ {table : List Fault} (P : Code → Place → Place → Type 0) (f : Fau
   unfolding fault
   fault_sound = recorded_in_sound s.at.left refl
 
+-- where no error token stands none is taken
+pub fault_stays : (f : Fault) (s : State) → is_error (kind_at s.at) ≡ false → Meets (λ _ t. t.at ≡ s.at) (fault f s)
+fault_stays f s e = subst (Meets (λ _ t. t.at ≡ s.at)) (sym (fault_here s f e)) refl
+
 -- ---- names
 
 -- a word that is free
@@ -208,10 +212,18 @@ pub record FreeWord (i : Ident) (k : Code) (c d : Place) : Type 0 where
   pub text : i.sym ≡ word_text word
 
 module _ (missing : faults.Kind) (s : State) where
+  -- what is claimed of it is claimed where no fault was recorded
+  unclean_sound : (i : Ident) (j : TokenKind) → kind_at s.at ≡ j → is_error j ≡ false → Meets (λ l t. SoundStep (FreeWord l) s t) (unclean_name i s)
+  unfolding unclean_name
+  unclean_sound i j e h = meets_if _ (may_bind_await s.code.flags) _ _
+      (λ _. meets_then _ (fault (fault_at i.span faults.InvalidIdentInAsync) (moved s)) _ (fault_sound (λ k c d. FreeWord i k s.at d) (fault_at i.span faults.InvalidIdentInAsync) (moved s) refl)
+      (λ _ t p. sound_after s t e h refl refl (λ r. r) p)) (λ _. wanted_meets _ faults.ExpectedIdent s)
+
   name_by_sound : (u : TokenAndSpan) (ts : List TokenAndSpan) (v : Token) → s.at.left ≡ u ∷ ts → u.token ≡ v → Meets (λ i t. SoundStep (FreeWord i) s t) (name_by missing s v u.span)
   name_by_sound u ts (token.Word w) e h = meets_if _ (is_name s.code.flags (word_text w)) _ _
       (λ g. sound_moved s (kind_here s.at u ts (token.Word w) e h) (word_is_none w)
-      (record { word = w; token = stands s.at u ts (token.Word w) e h; free = g; text = refl })) (λ _. wanted_meets _ missing s)
+      (record { word = w; token = stands s.at u ts (token.Word w) e h; free = g; text = refl }))
+      (λ _. meets_if _ (is_identifier s.code.flags (word_text w)) _ _ (λ _. unclean_sound _ (word_kind w) (kind_here s.at u ts (token.Word w) e h) (word_is_none w)) (λ _. wanted_meets _ missing s))
   name_by_sound u ts _ e h = wanted_meets _ missing s
 
   name_in_sound : (ts : List TokenAndSpan) → s.at.left ≡ ts → Meets (λ i t. SoundStep (FreeWord i) s t) (name_in missing s ts)
@@ -222,9 +234,23 @@ pub name_sound : (missing : faults.Kind) (s : State) → Meets (λ i t. SoundSte
 unfolding name
 name_sound missing s = name_in_sound missing s s.at.left refl
 
--- a name is not `await`
-pub name_first : (i : Ident) (k : Code) (c d : Place) → FreeWord i k c d → sees kind.Await c ≡ false
-name_first i k c d r = (name_begins k.flags r.word i.span c d r.token r.free).0
+pub reference_sound : (missing : faults.Kind) (s : State) → Meets (λ i t. SoundStep (FreeWord i) s t) (reference missing s)
+unfolding reference
+reference_sound missing s = meets_if _ (s.code.flags.in_async && sees kind.Await s.at) _ _ (λ _. wanted_meets _ faults.ExpectedIdent s) (λ _. name_sound missing s)
+
+-- a word that stands for a name, behind it
+abbrev pub Clean : Text → Code → Place → Place → Type 0
+Clean text k c d = (is_name k.flags text ≡ true) × (d ≡ c)
+
+pub as_name_sound : (may_await : Context → Bool) (span : Span) (text : Text) (s : State) → Meets (λ _ t. SoundStep (Clean text) s t) (as_name may_await span text s)
+unfolding as_name
+as_name_sound may_await span text s = meets_if _ (is_name s.code.flags text) _ _ (λ h. sound_here s (h, refl))
+    (λ _. meets_if _ (may_await s.code.flags && is_identifier s.code.flags text) _ _ (λ _. fault_sound (Clean text) (fault_at span faults.InvalidIdentInAsync) s refl) (λ _. reject_meets _ _ s))
+
+pub as_name_stays : (may_await : Context → Bool) (span : Span) (text : Text) (s : State) → is_error (kind_at s.at) ≡ false → Meets (λ _ t. t.at ≡ s.at) (as_name may_await span text s)
+unfolding as_name
+as_name_stays may_await span text s e = meets_if _ (is_name s.code.flags text) _ _ (λ h. refl)
+    (λ _. meets_if _ (may_await s.code.flags && is_identifier s.code.flags text) _ _ (λ _. fault_stays _ s e) (λ _. reject_meets _ _ s))
 
 -- ---- words, reserved or not, and private names
 

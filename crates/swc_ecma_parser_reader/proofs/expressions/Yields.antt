@@ -17,7 +17,7 @@ use Rattle.swc_ecma_parser_input.specs.declared.context.Context.{Context}
 use Rattle.swc_ecma_parser_input.specs.Place.{Place}
 use Rattle.swc_ecma_parser_model.specs.Tree.{Tree}
 use Rattle.swc_ecma_parser_grammar.specs.Looks.{kind_at, sees, same_kind, first_kind}
-use Rattle.swc_ecma_parser_grammar.specs.Names.{is_name, is_reserved, is_one_of, reserved_words, strict_words, token_is_name, first_is_name, name_at, token_is_identifier, first_is_identifier, identifier_at}
+use Rattle.swc_ecma_parser_grammar.specs.Names.{is_name, is_reserved, is_one_of, reserved_words, strict_words, token_is_identifier, first_is_identifier, name_at, identifier_at, is_identifier}
 use Rattle.swc_ecma_parser_reader.proofs.expressions.Awaits.{other_awaits}
 use Rattle.swc_ecma_parser_grammar.specs.language.Begins.{begins_operand, begins_unary, begins_expression}
 use Rattle.swc_ecma_parser_grammar.specs.language.Goals.{Class}
@@ -36,35 +36,35 @@ or_second false b h = h
 
 -- ---- it is reserved, and no literal
 
-yield_reserved : (f : Context) → f.in_generator ≡ true → is_reserved f (codes "yield") ≡ true
+pub yield_reserved : (f : Context) → f.in_generator ≡ true → is_reserved f (codes "yield") ≡ true
 unfolding is_reserved
 yield_reserved f g = or_second (is_one_of reserved_words (codes "yield")) _ (or_second (f.strict && is_one_of strict_words (codes "yield")) _ (and_both _ _ g refl))
 
-yield_keyword : (f : Context) (k : Keyword) → f.in_generator ≡ true → keyword_kind k ≡ kind.Yield → is_name f (word_text (word.Keyword k)) ≡ false
-unfolding is_name
+yield_keyword : (f : Context) (k : Keyword) → f.in_generator ≡ true → keyword_kind k ≡ kind.Yield → is_identifier f (word_text (word.Keyword k)) ≡ false
+unfolding is_identifier
 yield_keyword f keyword.Yield g e = rw (yield_reserved f g) refl
 yield_keyword f _ g e = cc
 
-yield_word : (f : Context) (w : Word) (s : Span) → f.in_generator ≡ true → word_kind w ≡ kind.Yield → (token_is_name f (token.Word w) ≡ false) × (literal_of s (token.Word w) ≡ None)
+yield_word : (f : Context) (w : Word) (s : Span) → f.in_generator ≡ true → word_kind w ≡ kind.Yield → (token_is_identifier f (token.Word w) ≡ false) × (literal_of s (token.Word w) ≡ None)
 yield_word f word.Null s g e = cc
 yield_word f word.True s g e = cc
 yield_word f word.False s g e = cc
 yield_word f (word.Ident text) s g e = cc
 yield_word f (word.Keyword k) s g e = (yield_keyword f k g e, refl)
 
-yield_token : (f : Context) (t : Token) (s : Span) → f.in_generator ≡ true → token_kind t ≡ kind.Yield → (token_is_name f t ≡ false) × (literal_of s t ≡ None)
+yield_token : (f : Context) (t : Token) (s : Span) → f.in_generator ≡ true → token_kind t ≡ kind.Yield → (token_is_identifier f t ≡ false) × (literal_of s t ≡ None)
 yield_token f (token.Word w) s g e = yield_word f w s g e
 yield_token f (token.Str value raw) s g e = cc
 yield_token f (token.Num raw) s g e = cc
 yield_token f (token.BigInt raw) s g e = cc
 yield_token f _ s g e = (refl, refl)
 
-yield_first : (f : Context) (ts : List TokenAndSpan) → f.in_generator ≡ true → first_kind ts ≡ kind.Yield → (first_is_name f ts ≡ false) × (literal_in ts ≡ None)
+yield_first : (f : Context) (ts : List TokenAndSpan) → f.in_generator ≡ true → first_kind ts ≡ kind.Yield → (first_is_identifier f ts ≡ false) × (literal_in ts ≡ None)
 yield_first f [] g e = (refl, refl)
 yield_first f (t ∷ ts) g e = yield_token f t.token t.span g e
 
 pub yield_here : (f : Context) (c : Place) → f.in_generator ≡ true → kind_at c ≡ kind.Yield → (name_at f c ≡ false) × (literal_in c.left ≡ None)
-unfolding name_at kind_at
+unfolding identifier_at kind_at
 yield_here f c g e = yield_first f c.left g e
 
 -- ---- no operand begins with it

@@ -28,7 +28,7 @@ use Rattle.swc_ecma_parser_grammar.specs.language.Patterns.{PatternRule, Pattern
 use Rattle.swc_ecma_parser_grammar.specs.language.Reads as language
 use Rattle.swc_ecma_parser_grammar.proofs.Tests.{or_no, and_yes}
 use Rattle.swc_ecma_parser_reader.specs.Notes.{Notes, no_notes, ◌⊕◌, notes_of, all_notes_of}
-use Rattle.swc_ecma_parser_reader.specs.State.{Scope, State, Reader, loop}
+use Rattle.swc_ecma_parser_reader.specs.State.{Scope, State, Reader, loop, as_name}
 use Rattle.swc_ecma_parser_reader.specs.Expressions.{Cover}
 use Rattle.swc_ecma_parser_reader.specs.Patterns as reader
 use Rattle.swc_ecma_parser_reader.specs.Patterns.{rest, array_turn, elements, parameters_turn, parameter_list, array, rest_name, rest_property, key_value, initialized_name, bare_name, named, behind_key, property, object_turn, properties, object, pattern_level, initialized, element_level}
@@ -61,7 +61,7 @@ unopened_by f c false e h = refl
 
 unopened : (k : Code) (text : Text) (s : Span) (c d : Place) → ReadsName k text s c d → supported_in k.flags.module (tree.ident_pat s text) ≡ true → begins_literal c ≡ false
 unopened k text s c d r h =
-    unopened_by k.flags c (begins_literal c) refl (kinds.named (token.Word r.word) s c d k true r.reads_word (name_is_name k text s c d r h))
+    unopened_by k.flags c (begins_literal c) refl (kinds.named_word r.word s c d k r.reads_word (name_is_name k text s c d r))
 
 -- what is no pattern in brackets or braces is a name
 plain_first : (In : Goal → Type 0) (k : Code) (x : Tree) (c d : Place) → PatternRule In binding k x c d → is_pattern_target x ≡ false → supported_in k.flags.module x ≡ true → begins_literal c ≡ false
@@ -267,7 +267,7 @@ module _ (In : Goal → Type 0) (inner : Class → Reader Tree) (cover : Reader 
   -- a name that is its own key, and one with a default
   shorthand_reads : (text : Text) (sp : Span) (k : Code) (x : Tree) (c d : Place) → ReadsName (with_in k) text sp c d → supported_in k.flags.module (tree.ident_pat sp text) ≡ true
       → ends_part (kind_at d) ≡ true → x ≡ tree.assign_pat_prop (spanned c d) (tree.ident_pat sp text) tree.absent → Reads (property inner cover pattern element) k x c d
-  unfolding property behind_key named bare_name spanned
+  unfolding property behind_key named bare_name as_name spanned
   shorthand_reads text sp k x c d r s g e w f h =
       let t = ended_at d g in
       rw (
@@ -284,12 +284,13 @@ module _ (In : Goal → Type 0) (inner : Class → Reader Tree) (cover : Reader 
   initialized_reads : (text : Text) (sp : Span) (z : Tree) (m : Place) (k : Code) (x : Tree) (c d : Place) → ReadsName (with_in k) text sp c m → supported_in k.flags.module (tree.ident_pat sp text) ≡ true
       → kind_at m ≡ kind.Assign → In (expr_goal assignment (with_in k) z (after m) d) → supported_in k.flags.module z ≡ true → x ≡ tree.assign_pat_prop (spanned c d) (tree.ident_pat sp text) z
       → Reads (property inner cover pattern element) k x c d
-  unfolding property behind_key named initialized_name spanned same_kind
+  unfolding property behind_key named initialized_name as_name spanned same_kind
   initialized_reads text sp z m k x c d r s i g t e w f h =
       rw (
         key_reads In inner cover given k (tree.ident sp text) c m (parts.word_key text sp (word_of In inner cover given (with_in k) text sp c m r) refl) refl w f h,
         i,
         name_there In inner cover given k text sp c m r s,
+        seen m kind.Assign i,
         append-nil f,
         append-nil h.held_back,
         or_nil h.found_module_item,
@@ -401,7 +402,7 @@ module _ (In : Goal → Type 0) (inner : Class → Reader Tree) (cover : Reader 
       rw (
         bracket,
         brace,
-        name_reads faults.ExpectedIdent r.word sp c d k w f h r.reads_word (name_is_name k text sp c d r s),
+        name_reads faults.ExpectedIdent r.word sp c d k w f h r.reads_word (name_is_name k text sp c d r),
         e ∙ ap (tree.ident_pat sp) r.is_text,
         append-nil f,
         append-nil h.held_back,

@@ -8,14 +8,14 @@ use Rattle.swc_ecma_parser_input.specs.Place.{after}
 use Rattle.swc_ecma_parser_model.specs.Tree as tree
 use Rattle.swc_ecma_parser_model.specs.Tree.{Tree, Text}
 use Rattle.swc_ecma_parser_grammar.specs.Looks.{kind_at, sees, span_at}
-use Rattle.swc_ecma_parser_grammar.specs.Names.{is_name}
+use Rattle.swc_ecma_parser_grammar.specs.Names.{is_name, may_bind_await}
 use Rattle.swc_ecma_parser_grammar.specs.Reads.{with_in}
 use Rattle.swc_ecma_parser_grammar.specs.language.Goals.{Class, assignment}
-use Rattle.swc_ecma_parser_reader.specs.State.{State, Reader, moved, coded, within, expect, name}
+use Rattle.swc_ecma_parser_reader.specs.State.{State, Reader, moved, coded, within, expect, name, as_name}
 use Rattle.swc_ecma_parser_reader.specs.Expressions.{Cover, inside, key}
 use Rattle.swc_ecma_parser_reader.specs.Patterns.{binding, rest, behind_element, behind_rest, array_turn, elements, behind_parameter, behind_rest_parameter, parameters_turn, parameter_list, array, rest_name, rest_property, key_value, initialized_name, bare_name, named, bare_key, behind_key, property, behind_property, behind_rest_property, object_turn, properties, object, pattern_level, initialized, element_level}
 use Rattle.swc_ecma_parser_reader.proofs.Takes.{Falls, falls_then, falls_last, falls_coded, falls_if, less, falls_next, moves, falls_past, falls_moved, wanted_falls, expect_falls, name_falls, loop_falls}
-use Rattle.swc_ecma_parser_reader.proofs.expressions.Falls.{reject_falls, no_end, falls_when, expect_takes, inside_falls, key_falls}
+use Rattle.swc_ecma_parser_reader.proofs.expressions.Falls.{reject_falls, no_end, falls_when, expect_takes, inside_falls, key_falls, as_name_falls}
 
 binding_falls : (s : State) → Falls 1 (length s.at.left) (binding s)
 unfolding binding
@@ -113,8 +113,8 @@ module _ (inner : Class → Reader Tree) (falls : (class : Class) (s : State) �
 
   named_falls : (start at : Span) (text : Text) (s : State) → Falls 0 (length s.at.left) (named inner cover pattern element start at text s)
   unfolding named bare_name
-  named_falls start at text s = falls_if 0 (length s.at.left) (is_name s.code.flags text) _ _
-      (falls_if 0 (length s.at.left) (sees kind.Assign s.at) _ _ (initialized_name_falls start at text s) (omega arith)) (reject_falls Tree 0 (length s.at.left) _ s)
+  named_falls start at text s = falls_then 0 0 (length s.at.left) (as_name may_bind_await at text s) _ (as_name_falls may_bind_await at text s) (λ _ t.
+      falls_if 0 (length t.at.left) (sees kind.Assign t.at) _ _ (initialized_name_falls start at text t) (omega arith))
 
   bare_key_falls : (start : Span) (x : Tree) (s : State) → Falls 0 (length s.at.left) (bare_key inner cover pattern element start x s)
   bare_key_falls start (tree.ident at text) s = named_falls start at text s

@@ -7,14 +7,14 @@ use Rattle.swc_ecma_parser_token.specs.declared.kind.TokenKind.TheVariants as ki
 use Rattle.swc_ecma_parser_model.specs.Tree as tree
 use Rattle.swc_ecma_parser_model.specs.Tree.{Tree, Text}
 use Rattle.swc_ecma_parser_grammar.specs.Looks.{kind_at, sees, span_at}
-use Rattle.swc_ecma_parser_grammar.specs.Names.{is_name}
+use Rattle.swc_ecma_parser_grammar.specs.Names.{is_name, may_bind_await}
 use Rattle.swc_ecma_parser_grammar.specs.Reads.{with_in}
 use Rattle.swc_ecma_parser_grammar.specs.language.Goals.{Class, assignment}
-use Rattle.swc_ecma_parser_reader.specs.State.{State, Reader, moved, coded, within, expect, name, loop}
+use Rattle.swc_ecma_parser_reader.specs.State.{State, Reader, moved, coded, within, expect, name, loop, as_name}
 use Rattle.swc_ecma_parser_reader.specs.Expressions.{Cover, inside, key}
 use Rattle.swc_ecma_parser_reader.specs.Patterns.{binding, rest, array_turn, elements, parameters_turn, parameter_list, array, rest_name, rest_property, key_value, initialized_name, bare_name, named, bare_key, behind_key, property, object_turn, properties, object, pattern_level, initialized, element_level}
 use Rattle.swc_ecma_parser_reader.proofs.Meets.{Answers, answers_then, answers_if, saw}
-use Rattle.swc_ecma_parser_reader.proofs.Behind.{NothingLost, Kept, Lost, Passes, behind_after, wanted_keeps, reject_keeps, expect_keeps, name_keeps, loop_keeps}
+use Rattle.swc_ecma_parser_reader.proofs.Behind.{NothingLost, Kept, Lost, Passes, behind_after, wanted_keeps, reject_keeps, expect_keeps, name_keeps, loop_keeps, as_name_keeps}
 use Rattle.swc_ecma_parser_reader.proofs.expressions.Keeps.{unexpected_keeps, inside_keeps, key_keeps}
 
 binding_keeps : (b : State) (s : State) → NothingLost b s → Answers (Kept b) (Lost b) (binding s)
@@ -73,10 +73,9 @@ module _ (inner : Class → Reader Tree) (cover : Reader Cover) (pattern element
 
     named_keeps : (start at : Span) (text : Text) (s : State) → NothingLost b s → Answers (Kept b) (Lost b) (named inner cover pattern element start at text s)
     unfolding named initialized_name bare_name
-    named_keeps start at text s f = answers_if _ _ (is_name s.code.flags text) _ _
-        (λ _. answers_if _ _ (sees kind.Assign s.at) _ _
-        (λ _. answers_then _ _ (inside inner cover assignment (moved s)) _ (value_keeps (moved s) (behind_after b s f)) (λ e t g. g)) (λ _. f))
-        (λ _. reject_keeps _ faults.ExpectedIdent at b s f)
+    named_keeps start at text s f = answers_then _ _ (as_name may_bind_await at text s) _ (as_name_keeps b s f may_bind_await at text) (λ _ t g.
+        answers_if _ _ (sees kind.Assign t.at) _ _
+        (λ _. answers_then _ _ (inside inner cover assignment (moved t)) _ (value_keeps (moved t) (behind_after b t g)) (λ e u l. l)) (λ _. g))
 
     bare_key_keeps : (start : Span) (x : Tree) (s : State) → NothingLost b s → Answers (Kept b) (Lost b) (bare_key inner cover pattern element start x s)
     bare_key_keeps start (tree.ident at text) s f = named_keeps start at text s f

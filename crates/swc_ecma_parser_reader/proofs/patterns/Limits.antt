@@ -7,16 +7,16 @@ use Rattle.swc_ecma_parser_token.specs.declared.kind.TokenKind.TheVariants as ki
 use Rattle.swc_ecma_parser_model.specs.Tree as tree
 use Rattle.swc_ecma_parser_model.specs.Tree.{Tree, Text}
 use Rattle.swc_ecma_parser_grammar.specs.Looks.{kind_at, sees, span_at}
-use Rattle.swc_ecma_parser_grammar.specs.Names.{is_name, name_at}
+use Rattle.swc_ecma_parser_grammar.specs.Names.{is_name, name_at, may_bind_await}
 use Rattle.swc_ecma_parser_grammar.specs.Reads.{with_in}
 use Rattle.swc_ecma_parser_grammar.specs.language.Goals.{Class, assignment}
-use Rattle.swc_ecma_parser_reader.specs.State.{State, Reader, moved, coded, within, expect, name, loop}
+use Rattle.swc_ecma_parser_reader.specs.State.{State, Reader, moved, coded, within, expect, name, loop, as_name}
 use Rattle.swc_ecma_parser_reader.specs.Expressions.{Cover, inside, key}
 use Rattle.swc_ecma_parser_reader.specs.Patterns.{binding, rest, array_turn, elements, parameters_turn, parameter_list, array, rest_name, rest_property, key_value, initialized_name, bare_name, named, bare_key, behind_key, property, object_turn, properties, object, pattern_level, initialized, element_level}
 use Rattle.swc_ecma_parser_reader.proofs.Meets.{Answers, answers_then, answers_if, loop_answers, saw}
 use Rattle.swc_ecma_parser_reader.proofs.Shallow.{Fine, fine_more, fine_after, fine_taken, Shallow, Kept, Taken, wanted_shallow, refuse_shallow, expect_shallow, name_shallow, name_takes, Levels}
 use Rattle.swc_ecma_parser_reader.proofs.expressions.CompleteKinds.{array_here, object_here}
-use Rattle.swc_ecma_parser_reader.proofs.expressions.LimitSteps.{kept_more, reject_shallow, unexpected_shallow}
+use Rattle.swc_ecma_parser_reader.proofs.expressions.LimitSteps.{kept_more, reject_shallow, unexpected_shallow, as_name_shallow}
 use Rattle.swc_ecma_parser_reader.proofs.expressions.Limits.{inside_shallow, key_shallow}
 
 binding_shallow : (m : ℕ) (s : State) → Fine m s.at.left → Answers (Kept m) Shallow (binding s)
@@ -95,10 +95,9 @@ module _ (inner : Class → Reader Tree) (cover : Reader Cover) (pattern element
 
     named_shallow : (start at : Span) (text : Text) (s : State) → Fine i s.at.left → Answers (Kept i) Shallow (named inner cover pattern element start at text s)
     unfolding named initialized_name bare_name
-    named_shallow start at text s f = answers_if _ _ (is_name s.code.flags text) _ _
-        (λ _. answers_if _ _ (sees kind.Assign s.at) _ _
-        (λ _. answers_then _ _ (inside inner cover assignment (moved s)) _ (value_shallow (moved s) (fine_after i s.at f)) (λ e t g. g)) (λ _. f))
-        (λ _. reject_shallow _ faults.ExpectedIdent at (λ e. cc) i s f)
+    named_shallow start at text s f = answers_then _ _ (as_name may_bind_await at text s) _ (as_name_shallow i s f may_bind_await at text) (λ _ t g.
+        answers_if _ _ (sees kind.Assign t.at) _ _
+        (λ _. answers_then _ _ (inside inner cover assignment (moved t)) _ (value_shallow (moved t) (fine_after i t.at g)) (λ e u l. l)) (λ _. g))
 
     bare_key_shallow : (start : Span) (x : Tree) (s : State) → Fine i s.at.left → Answers (Kept i) Shallow (bare_key inner cover pattern element start x s)
     bare_key_shallow start (tree.ident at text) s f = named_shallow start at text s f

@@ -1,6 +1,6 @@
 -- The reader of binding patterns is sound: what it reads is in the relation of the whole language, and supported, where nothing was
 -- recorded, and its faults of the table are the walk's.
-use Rattle.std.proofs.Common.{◌≡◌, ℕ, zero, suc, true, false, cond, List, [], ◌∷◌, ◌++◌, Ok, Err, refl, sym, ◌∙◌, ap, subst}
+use Rattle.std.proofs.Common.{◌≡◌, ℕ, zero, suc, true, false, cond, List, [], ◌∷◌, ◌++◌, Ok, Err, refl, sym, ◌∙◌, ap, subst, Bool, true≢false}
 use Rattle.std.specs.Prelude.{◌||◌}
 use Rattle.swc_ecma_parser_common.specs.declared.span.Span.{Span}
 use Rattle.swc_ecma_parser_error.specs.Kind as faults
@@ -16,12 +16,12 @@ use Rattle.swc_ecma_parser_model.specs.Tree as tree
 use Rattle.swc_ecma_parser_model.specs.Tree.{Tree, Text, listed, trees}
 use Rattle.swc_ecma_parser_model.specs.Forms.{is_rest, is_pattern_target, is_plain_param, is_binding_name}
 use Rattle.swc_ecma_parser_grammar.specs.Looks.{kind_at, sees, same_kind, span_at, spanned}
-use Rattle.swc_ecma_parser_grammar.specs.Names.{Code, is_name, name_at}
+use Rattle.swc_ecma_parser_grammar.specs.Names.{Code, is_name, name_at, is_identifier, may_bind_await}
 use Rattle.swc_ecma_parser_grammar.specs.Reads.{with_in}
 use Rattle.swc_ecma_parser_grammar.specs.ReadsSupported.{ReadsClass, ReadsPat, ReadsElement, ReadsParams}
 use Rattle.swc_ecma_parser_grammar.specs.language.Goals.{Goal, Class, Purpose, assignment, binding}
 use Rattle.swc_ecma_parser_grammar.specs.language.Lists.{ReadsListed, Elements, hole}
-use Rattle.swc_ecma_parser_grammar.specs.language.Parts.{ReadsName}
+use Rattle.swc_ecma_parser_grammar.specs.language.Parts.{ReadsName, ReadsWord}
 use Rattle.swc_ecma_parser_grammar.specs.language.Functions.{PatternItemRule, element_rule, rest_rule}
 use Rattle.swc_ecma_parser_grammar.specs.language.Patterns as patterns
 use Rattle.swc_ecma_parser_grammar.specs.language.Patterns.{PatternRule, PatternPropertyRule, PatternElementRule}
@@ -31,16 +31,16 @@ use Rattle.swc_ecma_parser_grammar.specs.Walk.{walk, env_of}
 use Rattle.swc_ecma_parser_grammar.proofs.Tests.{or_no, and_both}
 use Rattle.swc_ecma_parser_reader.specs.State as state
 use Rattle.swc_ecma_parser_reader.specs.Notes.{notes_of, all_notes_of}
-use Rattle.swc_ecma_parser_reader.specs.State.{State, Outcome, Reader, and_then, moved, coded, within, expect, name, name_in, name_by, Step, More, loop}
+use Rattle.swc_ecma_parser_reader.specs.State.{State, Outcome, Reader, and_then, moved, coded, within, expect, name, name_in, name_by, Step, More, loop, as_name, unclean_name, fault, fault_at}
 use Rattle.swc_ecma_parser_reader.specs.Expressions.{Cover, inside, key}
 use Rattle.swc_ecma_parser_reader.specs.Patterns as reader
 use Rattle.swc_ecma_parser_reader.specs.Patterns.{rest, array_turn, elements, parameters_turn, parameter_list, array, rest_name, rest_property, key_value, initialized_name, bare_name, named, bare_key, behind_key, property, object_turn, properties, object, pattern_level, initialized, element_level}
 use Rattle.swc_ecma_parser_reader.proofs.Meets.{Meets, Refuses, meets_then, meets_if, wanted_meets, Turned, loop_answers, saw}
 use Rattle.swc_ecma_parser_reader.proofs.Errors.{is_error}
-use Rattle.swc_ecma_parser_reader.proofs.Between.{SoundTree, Sound, same, sound_moved, sound_here, sound_as, sound_after, within_sound}
+use Rattle.swc_ecma_parser_reader.proofs.Between.{SoundTree, Sound, same, sound_moved, sound_here, sound_as, sound_after, within_sound, SoundStep}
 use Rattle.swc_ecma_parser_reader.proofs.expressions.CompleteKinds.{array_here, object_here}
-use Rattle.swc_ecma_parser_reader.proofs.expressions.SoundSteps.{paired, stepped, moved_back, meets_as, reject_meets, clash, unseen, Takes, expect_sound, FreeWord, name_sound, walks_push, notes_push}
-use Rattle.swc_ecma_parser_grammar.proofs.Naming.{name_is_clean, name_is_supported}
+use Rattle.swc_ecma_parser_reader.proofs.expressions.SoundSteps.{paired, stepped, moved_back, meets_as, reject_meets, clash, unseen, Takes, expect_sound, FreeWord, name_sound, walks_push, notes_push, as_name_sound, Clean, fault_stays}
+use Rattle.swc_ecma_parser_grammar.proofs.Naming.{name_is_clean}
 use Rattle.swc_ecma_parser_reader.proofs.expressions.SoundLists.{Lists, elements_list, properties_list, Begun, at_more, begun_all, begun_next, begun_last, Plain, Target, nothing_plain, plain_next, plain_last}
 use Rattle.swc_ecma_parser_reader.proofs.expressions.SoundCovers.{SoundCover, SoundKey, key_sound, inside_sound, ident_key, key_inside, free_name, name_inside}
 
@@ -148,7 +148,7 @@ binding_sound n s = meets_then _ (name faults.ExpectedIdent s) _ (name_sound fau
     by_word : (i : Ident) (t : State) → FreeWord i s.code s.at t.at → ReadsPat (suc n) s.code (tree.ident_pat i.span i.sym) s.at t.at
     by_word i t r = let free : is_name s.code.flags i.sym ≡ true = ap (is_name s.code.flags) r.text ∙ r.free in (
       patterns.binding_name_rule i.sym i.span refl (record { word = r.word; reads_word = r.token; is_text = r.text; is_name = name_is_clean s.code.flags i.sym free }) refl,
-      name_is_supported s.code.flags i.sym free,
+      refl,
     )
 
 -- the parameters of a function
@@ -302,37 +302,36 @@ module _ (n : ℕ) (inner : Class → Reader Tree) (cover : Reader Cover) (patte
 
     module _ (span : Span) (text : Text) (m : State) (p : KeyRead s (tree.ident span text) m) where
       -- a key that is free is a name
-      name_read : is_name s.code.flags text ≡ true → SoundTree (λ k y c d. ReadsName (with_in k) text span c d) s (tree.ident span text) m
-      name_read h = sound_as s m refl refl refl (λ r. name_inside s.code text span s.at m.at (free_name s.code text span s.at m.at (ident_key (Reads n) s.code span text s.at m.at r.0) h)) p
+      name_read : (u : State) → SoundStep (Clean text) m u → SoundTree (λ k y c d. ReadsName (with_in k) text span c d) s (tree.ident span text) u
+      name_read u q = sound_as s u refl refl refl (λ (r, (free, e)). name_inside s.code text span s.at u.at
+          (free_name s.code text span s.at u.at (subst (ReadsWord text span s.at) (sym e) (ident_key (Reads n) s.code span text s.at m.at r.0)) free)) (stepped p q)
 
-      module _ (free : is_name s.code.flags text ≡ true) where
-        initialized_name_sound : kind_at m.at ≡ kind.Assign → Meets (SoundProperty s) (initialized_name inner cover pattern element (span_at s.at) span text m)
+      module _ (u : State) (is_read : SoundTree (λ k y c d. ReadsName (with_in k) text span c d) s (tree.ident span text) u) where
+        initialized_name_sound : kind_at u.at ≡ kind.Assign → Meets (SoundProperty s) (initialized_name inner cover pattern element (span_at s.at) span text u)
         unfolding initialized_name spanned
-        initialized_name_sound e = meets_then _ (inside inner cover assignment (moved m)) _ (value_inside (moved m)) (λ y t q.
+        initialized_name_sound e = meets_then _ (inside inner cover assignment (moved u)) _ (value_inside (moved u)) (λ y t q.
             sound_as s t refl refl refl (λ (a, b). (
               record {
-                rule = patterns.default_rule text span y m.at a e b.0 refl;
-                supports = and_both _ _ (name_is_supported s.code.flags text free) b.1;
+                rule = patterns.default_rule text span y u.at a e b.0 refl;
+                supports = and_both _ _ refl b.1;
               },
               refl,
-            )) (paired (name_read free) (moved_back e refl q)))
+            )) (paired is_read (moved_back e refl q)))
 
-        bare_name_sound : sees kind.Assign m.at ≡ false → Meets (SoundProperty s) (bare_name inner cover pattern element (span_at s.at) span text m)
+        bare_name_sound : sees kind.Assign u.at ≡ false → Meets (SoundProperty s) (bare_name inner cover pattern element (span_at s.at) span text u)
         unfolding bare_name spanned
-        bare_name_sound e = sound_as s m refl refl refl (λ a. (
+        bare_name_sound e = sound_as s u refl refl refl (λ a. (
           record {
             rule = patterns.shorthand_rule text span a e refl;
-            supports = and_both _ true (name_is_supported s.code.flags text free) refl;
+            supports = and_both _ true refl refl;
           },
           refl,
-        )) (name_read free)
+        )) is_read
 
       named_sound : Meets (SoundProperty s) (named inner cover pattern element (span_at s.at) span text m)
       unfolding named
-      named_sound = meets_if _ (is_name m.code.flags text) _ _
-          (λ h. let free : is_name s.code.flags text ≡ true = sym (ap (λ z. is_name z.flags text) p.code) ∙ h in
-          meets_if _ (sees kind.Assign m.at) _ _ (λ e. initialized_name_sound free (saw m.at kind.Assign e)) (λ e. bare_name_sound free e))
-          (λ _. reject_meets _ _ m)
+      named_sound = meets_then _ (as_name may_bind_await span text m) _ (as_name_sound may_bind_await span text m) (λ _ u q. let r = name_read u q in
+          meets_if _ (sees kind.Assign u.at) _ _ (λ e. initialized_name_sound u r (saw u.at kind.Assign e)) (λ e. bare_name_sound u r e))
 
     bare_key_sound : (x : Tree) (m : State) → KeyRead s x m → Meets (SoundProperty s) (bare_key inner cover pattern element (span_at s.at) x m)
     bare_key_sound (tree.ident span text) m p = named_sound span text m p
@@ -462,23 +461,39 @@ module _ (inner : Class → Reader Tree) (cover : Reader Cover) (pattern element
     parameter_list_unwrapped s = meets_then _ (expect kind.LParen s) _ (anything (expect kind.LParen s)) (λ _ m _.
         loop_answers (parameters_turn inner cover pattern element) AllUnwrapped AllUnwrapped Refuses parameters_turn_unwrapped (λ _. tt) [] m tt)
 
--- ---- where a name stands, it is read, and nothing else
+-- ---- where a name stands, it is read, and nothing else but an error token
+
+-- it is taken where no error token stands behind it
+abbrev pub Moves : {A : Type 0} → State → A → State → Type 0
+Moves s x t = is_error (kind_at (after s.at)) ≡ false → t.at ≡ after s.at
 
 module _ (missing : faults.Kind) (s : State) where
-  name_by_moves : (v : Token) (span : Span) → Meets (λ _ t. t ≡ moved s) (name_by missing s v span)
-  name_by_moves (token.Word w) span = meets_if _ (is_name s.code.flags (word_text w)) _ _ (λ _. refl) (λ _. wanted_meets _ missing s)
+  unclean_moves : (i : Ident) → Meets (Moves s) (unclean_name i s)
+  unfolding unclean_name
+  unclean_moves i = meets_if _ (may_bind_await s.code.flags) _ _
+      (λ _. meets_then _ (fault (fault_at i.span faults.InvalidIdentInAsync) (moved s)) _ (by_test (is_error (kind_at (after s.at))) refl) (λ _ t g. g))
+      (λ _. wanted_meets _ faults.ExpectedIdent s)
+    where
+      by_test : (b : Bool) → is_error (kind_at (after s.at)) ≡ b → Meets (Moves s) (fault (fault_at i.span faults.InvalidIdentInAsync) (moved s))
+      by_test true e = meets_as (fault (fault_at i.span faults.InvalidIdentInAsync) (moved s)) (anything (fault (fault_at i.span faults.InvalidIdentInAsync) (moved s)))
+          (λ _ t _ h. absurd (true≢false (sym e ∙ h)))
+      by_test false e = meets_as (fault (fault_at i.span faults.InvalidIdentInAsync) (moved s)) (fault_stays _ (moved s) e) (λ _ t g _. g)
+
+  name_by_moves : (v : Token) (span : Span) → Meets (Moves s) (name_by missing s v span)
+  name_by_moves (token.Word w) span = meets_if _ (is_name s.code.flags (word_text w)) _ _ (λ _ _. refl)
+      (λ _. meets_if _ (is_identifier s.code.flags (word_text w)) _ _ (λ _. unclean_moves _) (λ _. wanted_meets _ missing s))
   name_by_moves _ span = wanted_meets _ missing s
 
-  name_in_moves : (ts : List TokenAndSpan) → Meets (λ _ t. t ≡ moved s) (name_in missing s ts)
+  name_in_moves : (ts : List TokenAndSpan) → Meets (Moves s) (name_in missing s ts)
   name_in_moves [] = wanted_meets _ missing s
   name_in_moves (u ∷ ts) = name_by_moves u.token u.span
 
-  name_moves : Meets (λ _ t. t ≡ moved s) (name missing s)
+  name_moves : Meets (Moves s) (name missing s)
   unfolding name
   name_moves = name_in_moves s.at.left
 
 module _ (inner : Class → Reader Tree) (cover : Reader Cover) (pattern element : Reader Tree) where
-  pub pattern_level_named : (s : State) → name_at s.code.flags s.at ≡ true → Meets (λ x t. (t ≡ moved s) × (is_binding_name x ≡ true)) (pattern_level inner cover pattern element s)
+  pub pattern_level_named : (s : State) → name_at s.code.flags s.at ≡ true → Meets (λ x t. Moves s x t × (is_binding_name x ≡ true)) (pattern_level inner cover pattern element s)
   unfolding pattern_level reader.binding
   pattern_level_named s h = meets_if _ (sees kind.LBracket s.at) _ _ (λ e. clash _ h (array_here s.code.flags s.at (saw s.at kind.LBracket e)).0)
       (λ _. meets_if _ (sees kind.LBrace s.at) _ _ (λ e. clash _ h (object_here s.code.flags s.at (saw s.at kind.LBrace e)).0)

@@ -18,7 +18,7 @@ pub returns-in_err-labelled_function : goal.returns-in_err-labelled_function
 returns-in_err-labelled_function g c =
     let p = err_from_is_err_and c.from_residual-in_err-labelled_function.result c.from_residual-in_err-labelled_function.ensures.1 in
     let label = c.in_ok-label.label in
-    let t = g.P.Source.seen c.name.new.self in
+    let t = g.P.Source.seen c.reference.new.self in
     let u = g.P.Source.seen c.grown.new.p in
     let v = g.P.Source.seen c.labelled_body.new.p in
     let x = g.T.Trees.stmt_of c.in_ok-body.body in
@@ -32,7 +32,7 @@ pub returns-in_err-duplicates : goal.returns-in_err-duplicates
 returns-in_err-duplicates g c =
     let p = err_from_is_err_and c.from_residual-in_err-duplicates.result c.from_residual-in_err-duplicates.ensures.1 in
     let label = c.in_ok-label.label in
-    let t = g.P.Source.seen c.name.new.self in
+    let t = g.P.Source.seen c.reference.new.self in
     let u = g.P.Source.seen c.grown.new.p in
     let v = g.P.Source.seen c.labelled_body.new.p in
     let y = g.P.Source.seen c.labelled_function.new.p in
@@ -48,7 +48,7 @@ pub returns : goal.returns
 returns g c =
     let label = c.in_ok-label.label in
     let s = g.P.Source.seen c.args.p.now in
-    let t = g.P.Source.seen c.name.new.self in
+    let t = g.P.Source.seen c.reference.new.self in
     let u = g.P.Source.seen c.grown.new.p in
     let v = g.P.Source.seen c.labelled_body.new.p in
     let y = g.P.Source.seen c.labelled_function.new.p in

@@ -6,7 +6,7 @@ use Rattle.swc_ecma_parser_reader.proofs.Sound.{declarators_code}
 use Rattle.swc_ecma_parser_core.proofs.Declared.{no_class}
 use Rattle.swc_ecma_parser_reader.proofs.patterns.Loops.{pattern_above, element_above}
 use Rattle.swc_ecma_parser_inner.specs.Covers.{cover_of, read}
-use Rattle.swc_ecma_parser_core.proofs.Covers.{cover_refused, head_refused, read_class, read_expr, at_asked, refused_as}
+use Rattle.swc_ecma_parser_core.proofs.Covers.{cover_refused, head_refused, read_class, read_decorated, read_expr, at_asked, refused_as, read_object}
 use Rattle.swc_ecma_parser_patterns.proofs.Patterns.{read_pat_lowest, as_asked}
 use Rattle.swc_ecma_parser_core.proofs.grammar.+knot.Goals as goal
 
@@ -46,6 +46,34 @@ pub expr-returns-in_ok-class_expression-in-Class : goal.expr-returns-in_ok-class
 expr-returns-in_ok-class_expression-in-Class g t c =
     read_class c.args.depth (g.P.Source.seen c.args.p.now) c.args.asked (Ok (_, g.P.Source.seen c.class_expression.new.p)) c.in-Class.is c.in_ok-class_expression-in-Class.ensures
     ∙ ap (λ v. Ok (cover_of g.T.Trees.expr_of v, g.P.Source.seen c.class_expression.new.p)) (sym c.done-in-Class.ensures)
+
+pub expr-returns-in_err-decorated-in-Decorated : goal.expr-returns-in_err-decorated-in-Decorated
+expr-returns-in_err-decorated-in-Decorated g t c =
+    let r = c.from_residual-in_err-decorated-in-Decorated in
+    let p = err_from_is_err_and r.result r.ensures.1 in
+    let s = g.P.Source.seen c.args.p.now in
+    let e : Fault × State = (fault_of c.in_err-decorated-in-Decorated.field-0.0, g.P.Source.seen c.decorated.new.p) in
+    refused_as (cover_of g.T.Trees.expr_of) (read c.args.depth c.args.asked s) r.result p.0 c.in_err-decorated-in-Decorated.field-0.0 (g.P.Source.seen c.decorated.new.p) p.1 p.2
+    (λ h. read_decorated c.args.depth s c.args.asked (Err e) c.in-Decorated.is (c.in_err-decorated-in-Decorated.ensures h))
+
+pub expr-returns-in_ok-decorated-in-Decorated : goal.expr-returns-in_ok-decorated-in-Decorated
+expr-returns-in_ok-decorated-in-Decorated g t c =
+    read_decorated c.args.depth (g.P.Source.seen c.args.p.now) c.args.asked (Ok (_, g.P.Source.seen c.decorated.new.p)) c.in-Decorated.is c.in_ok-decorated-in-Decorated.ensures
+    ∙ ap (λ v. Ok (cover_of g.T.Trees.expr_of v, g.P.Source.seen c.decorated.new.p)) (sym c.done-in-Decorated.ensures)
+
+pub expr-returns-in_err-object_alone-in-Object : goal.expr-returns-in_err-object_alone-in-Object
+expr-returns-in_err-object_alone-in-Object g t c =
+    let r = c.from_residual-in_err-object_alone-in-Object in
+    let p = err_from_is_err_and r.result r.ensures.1 in
+    let s = g.P.Source.seen c.args.p.now in
+    let e : Fault × State = (fault_of c.in_err-object_alone-in-Object.field-0.0, g.P.Source.seen c.object_alone.new.p) in
+    refused_as (cover_of g.T.Trees.expr_of) (read c.args.depth c.args.asked s) r.result p.0 c.in_err-object_alone-in-Object.field-0.0 (g.P.Source.seen c.object_alone.new.p) p.1 p.2
+    (λ h. read_object c.args.depth s c.args.asked (Err e) c.in-Object.is (c.in_err-object_alone-in-Object.ensures h))
+
+pub expr-returns-in_ok-object_alone-in-Object : goal.expr-returns-in_ok-object_alone-in-Object
+expr-returns-in_ok-object_alone-in-Object g t c =
+    read_object c.args.depth (g.P.Source.seen c.args.p.now) c.args.asked (Ok (_, g.P.Source.seen c.object_alone.new.p)) c.in-Object.is c.in_ok-object_alone-in-Object.ensures
+    ∙ ap (λ v. Ok (cover_of g.T.Trees.expr_of v, g.P.Source.seen c.object_alone.new.p)) (sym c.done-in-Object.ensures)
 
 pub cover-returns-then-depth-eq0 : goal.cover-returns-then-depth-eq0
 cover-returns-then-depth-eq0 g t c = λ h. cover_refused c.args.depth (g.P.Source.seen c.args.p.now) _ c.if-depth-eq0.true (c.too_deep.ensures h)

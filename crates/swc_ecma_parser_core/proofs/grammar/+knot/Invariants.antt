@@ -11,6 +11,12 @@ decreases-cover g l = 8 * l.depth
 abbrev pub decreases-head : goal.decreases-head
 decreases-head g l = 8 * l.depth
 
+abbrev pub decreases-decorated : goal.decreases-decorated
+decreases-decorated g l = 8 * l.depth
+
+abbrev pub decreases-object_alone : goal.decreases-object_alone
+decreases-object_alone g l = 8 * l.depth
+
 abbrev pub decreases-member : goal.decreases-member
 decreases-member g l = 8 * l.depth
 

@@ -1,0 +1,29 @@
+-- What is declared with `using`: the proposal on explicit resource management, which adds it to ECMA-262, section 14.3.
+use Rattle.std.specs.Prelude.{Bool, not, ◌&&◌, List, [], ◌∷◌, ◌++◌, codes}
+use Rattle.swc_ecma_parser_common.specs.declared.span.Span.{Span}
+use Rattle.swc_ecma_parser_error.specs.Kind as kind
+use Rattle.swc_ecma_parser_error.specs.Kind.{Fault}
+use Rattle.swc_ecma_parser_input.specs.Place.{Place, after}
+use Rattle.swc_ecma_parser_model.specs.Tree.{Tree}
+use Rattle.swc_ecma_parser_model.specs.Forms.{is_binding_name}
+use Rattle.swc_ecma_parser_model.specs.Within.{declared_name, is_initialized}
+use Rattle.swc_ecma_parser_grammar.specs.Looks.{breaks_at}
+use Rattle.swc_ecma_parser_grammar.specs.Names.{Code, identifier_at}
+use Rattle.swc_ecma_parser_grammar.specs.Follows.{word_at}
+use Rattle.swc_ecma_parser_grammar.specs.Own.{only}
+
+-- `using` begins a declaration before a name on its line
+unfoldable pub is_using_declaration : Code → Place → Bool
+is_using_declaration k c = word_at (codes "using") c && (identifier_at k.flags (after c) && not (breaks_at (after c)))
+
+-- A variable of such a declaration is a plain name, and it has an initializer. What is not so is said of the whole declaration.
+abbrev pub misused : Span → Tree → List Fault
+misused s x = only (not (is_binding_name (declared_name x))) kind.InvalidNameInUsingDecl s ++ only (not (is_initialized x)) kind.InitRequiredForUsingDecl s
+
+abbrev pub each_misused : Span → List Tree → List Fault
+each_misused s [] = []
+each_misused s (x ∷ xs) = misused s x ++ each_misused s xs
+
+-- the faults of a declaration, which is none but with the setting
+abbrev pub using_faults : (is_read : Bool) → Span → List Tree → List Fault
+using_faults is_read s xs = only (not is_read) kind.UsingDeclNotEnabled s ++ each_misused s xs

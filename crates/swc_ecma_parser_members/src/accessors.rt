@@ -1,0 +1,190 @@
+//! Members behind the word `accessor`: the proposal of auto-accessors. A field stands there alone; behind the fault of anything else the
+//! member goes on as if the word were not there.
+
+ghost use Rattle.swc_ecma_parser_members.specs.Keys.{member_key_of};
+ghost use Rattle.swc_ecma_parser_error.specs.Kind as kinds;
+ghost use Rattle.swc_ecma_parser_grammar.specs.Reads.{nested_item};
+ghost use Rattle.swc_ecma_parser_inner.specs.Nests.{Nests};
+ghost use Rattle.swc_ecma_parser_reader.specs.Members as members;
+ghost use Rattle.swc_ecma_parser_reader.specs.Reader as rules;
+ghost use Rattle.swc_ecma_parser_reader.specs.State.{Gives, GivesAs, fault, fault_at};
+
+use crate::fields::{FieldHead, field};
+use crate::keys::{MemberKey, member_key};
+use crate::member::keyed_member;
+use crate::methods::{plain_method, second_static, static_block};
+use crate::words::{begins_no_field, begins_static_block};
+use swc_ecma_parser_common::Span;
+use swc_ecma_parser_error::{PResult, SyntaxError};
+use swc_ecma_parser_grammar::Position;
+use swc_ecma_parser_inner::cover::{Cover, Reading};
+use swc_ecma_parser_inner::grammar::{Grammar, Part};
+use swc_ecma_parser_source::Source;
+use swc_ecma_parser_token::TokenKind;
+use swc_ecma_parser_trees::{BuildsClass, BuildsPattern, MakerOf};
+
+/// Records `accessor` before what is no field.
+fn misplaced<P: Source>(p: &mut P, accessor: Span) -> PResult<()>
+    ensures { Gives (fault (fault_at accessor kinds.TS1184) (P.seen p.old)) result (P.seen p.new) }
+{
+    p.fault(SyntaxError::TS1184, accessor)
+}
+
+/// `static` and a block, which is a fault of the `static` before `accessor` too, if one stands there.
+#[tactic(auto, unfolding(swc_ecma_parser_reader::specs::Members::static_behind))]
+fn static_behind<
+    P: Source,
+    T: BuildsClass + BuildsPattern,
+    S: Fn(&MakerOf<T>, &mut P, usize, Position) -> PResult<T::Stmt>,
+    E: Fn(&MakerOf<T>, &mut P, usize, Reading) -> PResult<Cover<T::Expr>>,
+    N: Fn(&MakerOf<T>, &mut P, usize, Part) -> PResult<T::Pat>,
+>(
+    g: &Grammar<S, E, N>,
+    t: &MakerOf<T>,
+    p: &mut P,
+    is_static: bool,
+    start: Span,
+) -> PResult<T::Member>
+    requires { Nests P.seen T.expr_of T.pat_of T.stmt_of g.now.depth (S.pre g.now.stmt) (S.post g.now.stmt) (E.pre g.now.expr) (E.post g.now.expr) (N.pre g.now.pat) (N.post g.now.pat) }
+    ensures { GivesAs T.member_of (members.static_behind (rules.expr g.now.depth) (rules.cover g.now.depth) (rules.stmt g.now.depth nested_item) (rules.parameters g.now.depth) is_static start (P.seen p.old)) result (P.seen p.new) }
+{
+    if is_static {
+        return second_static(g, t, p, start);
+    }
+    p.skip()?;
+    static_block(g, t, p, start)
+}
+
+/// What is no field, as if `accessor` were not there.
+#[tactic(auto, unfolding(swc_ecma_parser_reader::specs::Members::unaccessed))]
+fn unaccessed<
+    P: Source,
+    T: BuildsClass + BuildsPattern,
+    S: Fn(&MakerOf<T>, &mut P, usize, Position) -> PResult<T::Stmt>,
+    E: Fn(&MakerOf<T>, &mut P, usize, Reading) -> PResult<Cover<T::Expr>>,
+    N: Fn(&MakerOf<T>, &mut P, usize, Part) -> PResult<T::Pat>,
+>(
+    g: &Grammar<S, E, N>,
+    t: &MakerOf<T>,
+    p: &mut P,
+    is_static: bool,
+    start: Span,
+) -> PResult<T::Member>
+    requires { Nests P.seen T.expr_of T.pat_of T.stmt_of g.now.depth (S.pre g.now.stmt) (S.post g.now.stmt) (E.pre g.now.expr) (E.post g.now.expr) (N.pre g.now.pat) (N.post g.now.pat) }
+    ensures { GivesAs T.member_of (members.unaccessed (rules.expr g.now.depth) (rules.cover g.now.depth) (rules.stmt g.now.depth nested_item) (rules.parameters g.now.depth) is_static start (P.seen p.old)) result (P.seen p.new) }
+{
+    if is_static && p.sees(TokenKind::LBrace) {
+        return static_block(g, t, p, start);
+    }
+    if begins_static_block(p) {
+        return static_behind(g, t, p, is_static, start);
+    }
+    keyed_member(g, t, p, is_static, start)
+}
+
+/// What stands behind a key without words: a method is a fault of `accessor`.
+#[tactic(auto, unfolding(swc_ecma_parser_reader::specs::Members::behind_accessed_key))]
+fn behind_accessed_key<
+    P: Source,
+    T: BuildsClass + BuildsPattern,
+    S: Fn(&MakerOf<T>, &mut P, usize, Position) -> PResult<T::Stmt>,
+    E: Fn(&MakerOf<T>, &mut P, usize, Reading) -> PResult<Cover<T::Expr>>,
+    N: Fn(&MakerOf<T>, &mut P, usize, Part) -> PResult<T::Pat>,
+>(
+    g: &Grammar<S, E, N>,
+    t: &MakerOf<T>,
+    p: &mut P,
+    is_static: bool,
+    start: Span,
+    accessor: Span,
+    word: Span,
+    key: MemberKey<T::Expr>,
+) -> PResult<T::Member>
+    requires { Nests P.seen T.expr_of T.pat_of T.stmt_of g.now.depth (S.pre g.now.stmt) (S.post g.now.stmt) (E.pre g.now.expr) (E.post g.now.expr) (N.pre g.now.pat) (N.post g.now.pat) }
+    ensures { GivesAs T.member_of (members.behind_accessed_key (rules.expr g.now.depth) (rules.cover g.now.depth) (rules.stmt g.now.depth nested_item) (rules.parameters g.now.depth) is_static start accessor word (member_key_of T.expr_of key) (P.seen p.old)) result (P.seen p.new) }
+{
+    if p.sees(TokenKind::LParen) {
+        misplaced(p, accessor)?;
+        return plain_method(g, t, p, is_static, start, word, key);
+    }
+    let head = FieldHead {
+        is_static,
+        is_accessor: true,
+        start,
+    };
+    field(g, t, p, head, key)
+}
+
+/// What begins with a key, and may be a field.
+#[tactic(auto, unfolding(swc_ecma_parser_reader::specs::Members::accessed_key))]
+fn accessed_key<
+    P: Source,
+    T: BuildsClass + BuildsPattern,
+    S: Fn(&MakerOf<T>, &mut P, usize, Position) -> PResult<T::Stmt>,
+    E: Fn(&MakerOf<T>, &mut P, usize, Reading) -> PResult<Cover<T::Expr>>,
+    N: Fn(&MakerOf<T>, &mut P, usize, Part) -> PResult<T::Pat>,
+>(
+    g: &Grammar<S, E, N>,
+    t: &MakerOf<T>,
+    p: &mut P,
+    is_static: bool,
+    start: Span,
+    accessor: Span,
+) -> PResult<T::Member>
+    requires { Nests P.seen T.expr_of T.pat_of T.stmt_of g.now.depth (S.pre g.now.stmt) (S.post g.now.stmt) (E.pre g.now.expr) (E.post g.now.expr) (N.pre g.now.pat) (N.post g.now.pat) }
+    ensures { GivesAs T.member_of (members.accessed_key (rules.expr g.now.depth) (rules.cover g.now.depth) (rules.stmt g.now.depth nested_item) (rules.parameters g.now.depth) is_static start accessor (P.seen p.old)) result (P.seen p.new) }
+{
+    let word = p.span();
+    let key = member_key(g, t, p)?;
+    behind_accessed_key(g, t, p, is_static, start, accessor, word, key)
+}
+
+/// What stands behind `accessor`.
+#[tactic(auto, unfolding(swc_ecma_parser_reader::specs::Members::accessed))]
+fn accessed<
+    P: Source,
+    T: BuildsClass + BuildsPattern,
+    S: Fn(&MakerOf<T>, &mut P, usize, Position) -> PResult<T::Stmt>,
+    E: Fn(&MakerOf<T>, &mut P, usize, Reading) -> PResult<Cover<T::Expr>>,
+    N: Fn(&MakerOf<T>, &mut P, usize, Part) -> PResult<T::Pat>,
+>(
+    g: &Grammar<S, E, N>,
+    t: &MakerOf<T>,
+    p: &mut P,
+    is_static: bool,
+    start: Span,
+    accessor: Span,
+) -> PResult<T::Member>
+    requires { Nests P.seen T.expr_of T.pat_of T.stmt_of g.now.depth (S.pre g.now.stmt) (S.post g.now.stmt) (E.pre g.now.expr) (E.post g.now.expr) (N.pre g.now.pat) (N.post g.now.pat) }
+    ensures { GivesAs T.member_of (members.accessed (rules.expr g.now.depth) (rules.cover g.now.depth) (rules.stmt g.now.depth nested_item) (rules.parameters g.now.depth) is_static start accessor (P.seen p.old)) result (P.seen p.new) }
+{
+    if begins_no_field(p, is_static) {
+        misplaced(p, accessor)?;
+        return unaccessed(g, t, p, is_static, start);
+    }
+    accessed_key(g, t, p, is_static, start, accessor)
+}
+
+/// A member with the word `accessor`, from that word on.
+#[tactic(auto, unfolding(swc_ecma_parser_reader::specs::Members::accessor_member))]
+#[inline(never)]
+pub(crate) fn accessor_member<
+    P: Source,
+    T: BuildsClass + BuildsPattern,
+    S: Fn(&MakerOf<T>, &mut P, usize, Position) -> PResult<T::Stmt>,
+    E: Fn(&MakerOf<T>, &mut P, usize, Reading) -> PResult<Cover<T::Expr>>,
+    N: Fn(&MakerOf<T>, &mut P, usize, Part) -> PResult<T::Pat>,
+>(
+    g: &Grammar<S, E, N>,
+    t: &MakerOf<T>,
+    p: &mut P,
+    is_static: bool,
+    start: Span,
+) -> PResult<T::Member>
+    requires { Nests P.seen T.expr_of T.pat_of T.stmt_of g.now.depth (S.pre g.now.stmt) (S.post g.now.stmt) (E.pre g.now.expr) (E.post g.now.expr) (N.pre g.now.pat) (N.post g.now.pat) }
+    ensures { GivesAs T.member_of (members.accessor_member (rules.expr g.now.depth) (rules.cover g.now.depth) (rules.stmt g.now.depth nested_item) (rules.parameters g.now.depth) is_static start (P.seen p.old)) result (P.seen p.new) }
+{
+    let accessor = p.span();
+    p.skip()?;
+    accessed(g, t, p, is_static, start, accessor)
+}

@@ -1,0 +1,205 @@
+//! Fields: FieldDefinition, ECMA-262, section 15.7.
+
+ghost use Rattle.std.specs.Prelude.{◌≡◌, true, false, [], IfOk};
+ghost use Rattle.swc_ecma_parser_members.specs.Keys.{member_key_of};
+ghost use Rattle.swc_ecma_parser_grammar.specs.Ends as ends;
+ghost use Rattle.swc_ecma_parser_grammar.specs.language.Classes.{field_member};
+ghost use Rattle.swc_ecma_parser_inner.specs.Nests.{Nests};
+ghost use Rattle.swc_ecma_parser_model.specs.Tree.{listed};
+ghost use Rattle.swc_ecma_parser_reader.specs.Members as members;
+ghost use Rattle.swc_ecma_parser_reader.specs.Reader as rules;
+ghost use Rattle.swc_ecma_parser_reader.specs.State.{Gives, GivesAs};
+ghost use Rattle.swc_ecma_parser_trees.specs.Parts.{part_of};
+
+use crate::keys::{MemberKey, is_constructor_key, key_span};
+use std::alloc::{AllocError, Global};
+use swc_ecma_parser_common::Span;
+use swc_ecma_parser_error::{PResult, SyntaxError};
+use swc_ecma_parser_grammar::{Class, Position};
+use swc_ecma_parser_inner::cover::{Cover, Reading, inside};
+use swc_ecma_parser_inner::grammar::{Grammar, Part};
+use swc_ecma_parser_inner::keys::made_key;
+use swc_ecma_parser_inner::steps::{grown, since};
+use swc_ecma_parser_source::{Source, Wanted};
+use swc_ecma_parser_token::TokenKind;
+use swc_ecma_parser_trees::{BuildsClass, MakerOf, Trees};
+
+/// Whether a field may end here without `;`: section 12.10.
+#[tactic(auto, unfolding(swc_ecma_parser_grammar::specs::Ends::can_end))]
+fn can_end<P: Source>(p: &P) -> bool
+    ensures { result ≡ ends.can_end (P.seen p.now).at }
+{
+    p.sees(TokenKind::End) || p.sees(TokenKind::RBrace) || p.had_line_break()
+}
+
+/// Whether nothing more of a field stands here.
+#[tactic(auto, unfolding(swc_ecma_parser_grammar::specs::Ends::ends_at))]
+fn ends_at<P: Source>(p: &P) -> bool
+    ensures { result ≡ ends.ends_at (P.seen p.now).at }
+{
+    p.sees(TokenKind::Semi) || can_end(p)
+}
+
+/// The end of a field, which is recorded where it is missing.
+#[tactic(auto, unfolding(swc_ecma_parser_reader::specs::Members::field_end))]
+fn field_end<P: Source>(p: &mut P) -> PResult<()>
+    ensures { Gives (members.field_end (P.seen p.old)) result (P.seen p.new) }
+{
+    if p.sees(TokenKind::Semi) {
+        return p.skip();
+    }
+    if can_end(p) {
+        return Ok(());
+    }
+    let span = p.span();
+    p.fault(SyntaxError::TS1005, span)
+}
+
+/// A field is not named `constructor`.
+#[tactic(auto, unfolding(swc_ecma_parser_reader::specs::Members::field_named))]
+fn field_named<P: Source, T: Trees>(p: &mut P, key: &MemberKey<T::Expr>) -> PResult<()>
+    ensures { Gives (members.field_named (member_key_of T.expr_of key.now) (P.seen p.old)) result (P.seen p.new) }
+{
+    if is_constructor_key::<T>(key) {
+        return Err(p.reject(SyntaxError::PropertyNamedConstructor, key_span::<T>(key)));
+    }
+    Ok(())
+}
+
+/// `=` and what stands behind it, if it stands here.
+#[tactic(auto, unfolding(swc_ecma_parser_reader::specs::Members::field_value))]
+fn field_value<
+    P: Source,
+    T: BuildsClass,
+    S: Fn(&MakerOf<T>, &mut P, usize, Position) -> PResult<T::Stmt>,
+    E: Fn(&MakerOf<T>, &mut P, usize, Reading) -> PResult<Cover<T::Expr>>,
+    N: Fn(&MakerOf<T>, &mut P, usize, Part) -> PResult<T::Pat>,
+>(g: &Grammar<S, E, N>, t: &MakerOf<T>, p: &mut P) -> PResult<Option<T::Expr>>
+    requires { Nests P.seen T.expr_of T.pat_of T.stmt_of g.now.depth (S.pre g.now.stmt) (S.post g.now.stmt) (E.pre g.now.expr) (E.post g.now.expr) (N.pre g.now.pat) (N.post g.now.pat) }
+    ensures { GivesAs (part_of T.expr_of) (members.field_value (rules.expr g.now.depth) (rules.cover g.now.depth) (P.seen p.old)) result (P.seen p.new) }
+{
+    if !p.sees(TokenKind::Assign) {
+        return Ok(None);
+    }
+    p.skip()?;
+    let value = inside(g, t, p, Class::Assignment)?;
+    Ok(Some(value))
+}
+
+/// What stands before the key of a field.
+#[derive(Clone, Copy)]
+pub(crate) struct FieldHead {
+    pub(crate) is_static: bool,
+    pub(crate) is_accessor: bool,
+    /// Where the field begins.
+    pub(crate) start: Span,
+}
+
+/// The tree's field with a getter and a setter.
+fn made_accessor<T: BuildsClass>(
+    alloc: Global,
+    span: Span,
+    key: MemberKey<T::Expr>,
+    value: Option<T::Expr>,
+    is_static: bool,
+) -> Result<T::Member, AllocError>
+    ensures { IfOk result (λ x. T.member_of x ≡ field_member span (member_key_of T.expr_of key) (part_of T.expr_of value) is_static true (listed [])) }
+{
+    let decorators = Vec::new(alloc);
+    match key {
+        MemberKey::Private(key) => {
+            T::private_auto_accessor(alloc, span, key, value, is_static, decorators)
+        }
+        MemberKey::Public(key) => {
+            let key = made_key::<T>(alloc, key)?;
+            T::auto_accessor(alloc, span, key, value, is_static, decorators)
+        }
+    }
+}
+
+/// The tree's field.
+fn made_plain<T: BuildsClass>(
+    alloc: Global,
+    span: Span,
+    key: MemberKey<T::Expr>,
+    value: Option<T::Expr>,
+    is_static: bool,
+) -> Result<T::Member, AllocError>
+    ensures { IfOk result (λ x. T.member_of x ≡ field_member span (member_key_of T.expr_of key) (part_of T.expr_of value) is_static false (listed [])) }
+{
+    let decorators = Vec::new(alloc);
+    match key {
+        MemberKey::Private(key) => {
+            T::private_prop(alloc, span, key, value, is_static, decorators)
+        }
+        MemberKey::Public(key) => {
+            let key = made_key::<T>(alloc, key)?;
+            T::class_prop(alloc, span, key, value, is_static, decorators)
+        }
+    }
+}
+
+/// The tree's field, of either kind.
+fn made_field<T: BuildsClass>(
+    alloc: Global,
+    span: Span,
+    key: MemberKey<T::Expr>,
+    value: Option<T::Expr>,
+    head: FieldHead,
+) -> Result<T::Member, AllocError>
+    ensures { IfOk result (λ x. T.member_of x ≡ field_member span (member_key_of T.expr_of key) (part_of T.expr_of value) head.is_static head.is_accessor (listed [])) }
+{
+    if head.is_accessor {
+        return made_accessor::<T>(alloc, span, key, value, head.is_static);
+    }
+    made_plain::<T>(alloc, span, key, value, head.is_static)
+}
+
+/// A field that goes on as one.
+#[tactic(auto, unfolding(swc_ecma_parser_reader::specs::Members::field_from))]
+fn field_from<
+    P: Source,
+    T: BuildsClass,
+    S: Fn(&MakerOf<T>, &mut P, usize, Position) -> PResult<T::Stmt>,
+    E: Fn(&MakerOf<T>, &mut P, usize, Reading) -> PResult<Cover<T::Expr>>,
+    N: Fn(&MakerOf<T>, &mut P, usize, Part) -> PResult<T::Pat>,
+>(
+    g: &Grammar<S, E, N>,
+    t: &MakerOf<T>,
+    p: &mut P,
+    head: FieldHead,
+    key: MemberKey<T::Expr>,
+) -> PResult<T::Member>
+    requires { Nests P.seen T.expr_of T.pat_of T.stmt_of g.now.depth (S.pre g.now.stmt) (S.post g.now.stmt) (E.pre g.now.expr) (E.post g.now.expr) (N.pre g.now.pat) (N.post g.now.pat) }
+    ensures { GivesAs T.member_of (members.field_from (rules.expr g.now.depth) (rules.cover g.now.depth) head.is_static head.is_accessor head.start (member_key_of T.expr_of key) (P.seen p.old)) result (P.seen p.new) }
+{
+    field_named::<P, T>(p, &key)?;
+    let value = field_value(g, t, p)?;
+    field_end(p)?;
+    let span = since(p, head.start);
+    grown(p, made_field::<T>(t.alloc, span, key, value, head))
+}
+
+/// A field, from behind its key.
+#[tactic(auto, unfolding(swc_ecma_parser_reader::specs::Members::field))]
+pub(crate) fn field<
+    P: Source,
+    T: BuildsClass,
+    S: Fn(&MakerOf<T>, &mut P, usize, Position) -> PResult<T::Stmt>,
+    E: Fn(&MakerOf<T>, &mut P, usize, Reading) -> PResult<Cover<T::Expr>>,
+    N: Fn(&MakerOf<T>, &mut P, usize, Part) -> PResult<T::Pat>,
+>(
+    g: &Grammar<S, E, N>,
+    t: &MakerOf<T>,
+    p: &mut P,
+    head: FieldHead,
+    key: MemberKey<T::Expr>,
+) -> PResult<T::Member>
+    requires { Nests P.seen T.expr_of T.pat_of T.stmt_of g.now.depth (S.pre g.now.stmt) (S.post g.now.stmt) (E.pre g.now.expr) (E.post g.now.expr) (N.pre g.now.pat) (N.post g.now.pat) }
+    ensures { GivesAs T.member_of (members.field (rules.expr g.now.depth) (rules.cover g.now.depth) head.is_static head.is_accessor head.start (member_key_of T.expr_of key) (P.seen p.old)) result (P.seen p.new) }
+{
+    if p.sees(TokenKind::Assign) || ends_at(p) {
+        return field_from(g, t, p, head, key);
+    }
+    Err(p.wanted(Wanted::Member))
+}

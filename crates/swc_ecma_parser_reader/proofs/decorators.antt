@@ -1,0 +1,9 @@
+pub mod Falls
+pub mod Keeps
+pub mod Limits
+pub mod Shared
+pub mod Sound
+pub mod Complete
+pub mod Levels
+pub mod Loops
+pub mod Leading

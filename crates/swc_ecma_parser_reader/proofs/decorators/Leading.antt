@@ -1,0 +1,121 @@
+-- Decorators that are read before it is known whose they are, and those that nothing takes, which are dropped with a fault.
+use Rattle.std.proofs.Common.{◌≡◌, ℕ, suc, true, false, List, [], ◌∷◌, ◌++◌, length, Ok, refl, sym, ◌∙◌, ap, subst, append_assoc, arith}
+use Rattle.std.proofs.lemmas.List.{append_cancel_left}
+use Rattle.swc_ecma_parser_error.specs.Kind as faults
+use Rattle.swc_ecma_parser_error.specs.Kind.{Fault}
+use Rattle.swc_ecma_parser_input.specs.Place.{Place}
+use Rattle.swc_ecma_parser_model.specs.Tree.{Tree, listed}
+use Rattle.swc_ecma_parser_grammar.specs.Looks.{spanned}
+use Rattle.swc_ecma_parser_grammar.specs.Names.{Code}
+use Rattle.swc_ecma_parser_grammar.specs.ReadsSupported.{ReadsDecorated}
+use Rattle.swc_ecma_parser_grammar.specs.Supported.{supported_in}
+use Rattle.swc_ecma_parser_grammar.specs.Walk.{env_of, walk, drops}
+use Rattle.swc_ecma_parser_grammar.specs.language.Classes.{DecoratorsRule}
+use Rattle.swc_ecma_parser_grammar.specs.language.Goals.{Goal, decorator_goal}
+use Rattle.swc_ecma_parser_reader.specs.Notes.{Notes, ◌⊕◌, notes_of}
+use Rattle.swc_ecma_parser_reader.specs.State.{State, Scope, Reader, fault, fault_at}
+use Rattle.swc_ecma_parser_reader.specs.Entry.{error_tokens}
+use Rattle.swc_ecma_parser_reader.specs.Decorators.{Leading, found_before, decorators, leading, has_any, misplaced}
+use Rattle.swc_ecma_parser_reader.proofs.Meets.{Meets, Answers, answers_then, answers_if, meets_then, meets_if}
+use Rattle.swc_ecma_parser_reader.proofs.Notes.{or_nil}
+use Rattle.swc_ecma_parser_reader.proofs.Takes.{Falls, falls_last, falls_if, fault_falls}
+use Rattle.swc_ecma_parser_reader.proofs.Behind.{Kept, Passes, fault_keeps}
+use Rattle.swc_ecma_parser_reader.proofs.Between.{Walk, Sound, SoundTree, SoundStep, same, nil-split, drops-split, fewer-then, sound_as}
+use Rattle.swc_ecma_parser_reader.proofs.SoundParts.{meets_both}
+use Rattle.swc_ecma_parser_reader.proofs.Shallow.{Fine, Shallow, Levels, fault_shallow}
+use Rattle.swc_ecma_parser_reader.proofs.Shallow as shallow
+use Rattle.swc_ecma_parser_reader.proofs.Answered.{st, Reads}
+use Rattle.swc_ecma_parser_reader.proofs.expressions.SoundSteps.{stepped, meets_as, clash, fault_sound}
+use Rattle.swc_ecma_parser_reader.proofs.classes.SoundClasses.{Drops, fault_drops}
+use Rattle.swc_ecma_parser_reader.proofs.decorators.Falls.{decorators_fall}
+use Rattle.swc_ecma_parser_reader.proofs.decorators.Keeps.{decorators_keep}
+use Rattle.swc_ecma_parser_reader.proofs.decorators.Limits.{decorators_shallow}
+use Rattle.swc_ecma_parser_reader.proofs.decorators.Shared.{NoneFollows, DecoratorsRead}
+use Rattle.swc_ecma_parser_reader.proofs.decorators.Sound.{decorators_sound}
+use Rattle.swc_ecma_parser_reader.proofs.decorators.Complete.{decorators_read}
+
+-- ---- the list and its place
+
+module _ (further : Reader Tree) where
+  pub leading_falls : ((s : State) → Falls 1 (length s.at.left) (further s)) → (s : State) → Falls 0 (length s.at.left) (leading further s)
+  unfolding leading
+  leading_falls below s = falls_last 0 (length s.at.left) (decorators further s) _ (decorators_fall further below s)
+
+  pub leading_keeps : Passes further → Passes (leading further)
+  unfolding leading
+  leading_keeps below b s f = answers_then (Kept b) _ (decorators further s) _ (decorators_keep further below b s f) (λ xs t g. g)
+
+  pub leading_shallow : (n : ℕ) → Levels n further → Levels (suc n) (leading further)
+  unfolding leading
+  leading_shallow n below m s h f = answers_then (shallow.Kept m) _ (decorators further s) _ (decorators_shallow further n below m s h f) (λ xs t g. g)
+
+-- what is read, and what is known of it behind it
+pub record SoundLeading (n : ℕ) (s : State) (v : Leading) (t : State) : Type 0 where
+  pub reads : Sound same (λ k l. walk (env_of k l) (listed v.found)) (notes_of (listed v.found)) (DecoratorsRead n v.found) s t
+  pub stands : v.place ≡ spanned s.at t.at
+  pub before : v.module_found ≡ s.notes.found_module_item
+
+pub leading_sound : (n : ℕ) (further : Reader Tree) (sound : (s : State) → Meets (λ x t. SoundTree (ReadsDecorated n) s x t) (further s)) (s : State) → Meets (λ v t. SoundLeading n s v t) (leading further s)
+unfolding leading spanned
+leading_sound n further sound s = meets_then _ (decorators further s) _ (decorators_sound n further sound s) (λ xs t p. record { reads = p; stands = refl; before = refl })
+
+pub leading_reads : (In : Goal → Type 0) (further : Reader Tree) (reads : (k : Code) (x : Tree) (c d : Place) → In (decorator_goal k x c d) → supported_in k.flags.module x ≡ true → Reads further k x c d)
+    (falls : (s : State) → Falls 1 (length s.at.left) (further s)) (k : Code) (x : Tree) (c d : Place) → DecoratorsRule In k x c d → NoneFollows k d → supported_in k.flags.module x ≡ true
+    → (w : Scope) (f : List Fault) (h : Notes) → (ds : List Tree) × (x ≡ listed ds) × (leading further (st c k w f h)
+    ≡ Ok (record { found = ds; place = spanned c d; module_found = h.found_module_item }, st d k w (f ++ walk (env_of k w.labels) x) (h ⊕ notes_of x)))
+unfolding leading spanned
+leading_reads In further reads falls k x c d r g s w f h =
+    let (ds, e, o) = decorators_read In further reads falls k x c d r g s w f h in
+    (ds, e, rw o refl)
+
+-- ---- a list that nothing takes
+
+pub misplaced_falls : (v : Leading) (s : State) → Falls 0 (length s.at.left) (misplaced v s)
+unfolding misplaced
+misplaced_falls v s = falls_if 0 (length s.at.left) (has_any v.found) _ _ (fault_falls _ (found_before v s)) (omega arith)
+
+pub misplaced_keeps : (v : Leading) → Passes (misplaced v)
+unfolding misplaced
+misplaced_keeps v b s f = answers_if _ _ (has_any v.found) _ _ (λ _. fault_keeps b (found_before v s) f (fault_at v.place faults.InvalidLeadingDecorator)) (λ _. f)
+
+pub misplaced_shallow : (v : Leading) (m : ℕ) (s : State) → Fine m s.at.left → Answers (shallow.Kept m) Shallow (misplaced v s)
+unfolding misplaced
+misplaced_shallow v m s f = answers_if _ _ (has_any v.found) _ _ (λ _. fault_shallow m (found_before v s) f _) (λ _. f)
+
+-- of no list nothing is said
+pub misplaced_none : (v : Leading) (s : State) → v.found ≡ [] → misplaced v s ≡ Ok (tt, s)
+unfolding misplaced
+misplaced_none v s e = rw e refl
+
+none_of : (xs : List Tree) → has_any xs ≡ false → xs ≡ []
+none_of [] h = refl
+none_of (x ∷ xs) h = cc
+
+module _ {w : Walk} {ns : Notes} {P Q : Code → Place → Place → Type 0} {s m i : State} (v : Leading) (p : Sound same w ns P s m) (q : SoundStep Q m i) (before : v.module_found ≡ s.notes.found_module_item) where
+  -- what was recorded behind it says that something was dropped, so the walk says nothing of the list, and no rule has it
+  dropping_before : {R : Code → Place → Place → Type 0} (t : State) → SoundStep (λ k c d. ⊥) (found_before v i) t → Drops (found_before v i) t → SoundStep R s t
+  dropping_before t r (es, g, h) = record {
+    code = r.code ∙ q.code ∙ p.code;
+    scope = r.scope ∙ q.scope ∙ p.scope;
+    added = (p.added ++ q.added) ++ r.added;
+    faults = r.faults ∙ ap (λ z. z ++ r.added) (q.faults ∙ ap (λ z. z ++ q.added) p.faults ∙ append_assoc s.faults p.added q.added) ∙ append_assoc s.faults (p.added ++ q.added) r.added;
+    notes = λ e. absurd (r.reads (nil-split (p.added ++ q.added) r.added e).1);
+    found = r.found ∙ or_nil v.module_found ∙ before ∙ sym (or_nil s.notes.found_module_item);
+    walked = λ o d. clash (drops r.added) (ap drops (append_cancel_left i.faults r.added es (sym r.faults ∙ g)) ∙ h) (drops-split (p.added ++ q.added) r.added d).1;
+    clean = λ e. refl;
+    fewer = fewer-then (error_tokens s.at.left) (error_tokens m.at.left) (error_tokens t.at.left) p.fewer
+        (fewer-then (error_tokens m.at.left) (error_tokens i.at.left) (error_tokens t.at.left) q.fewer r.fewer);
+    remembers = λ o. p.remembers (q.remembers (r.remembers o));
+    reads = λ e. absurd (r.reads (nil-split (p.added ++ q.added) r.added e).1);
+  }
+
+-- where it is said behind some words, the list was none or is no part of what is read
+pub misplaced_sound : (n : ℕ) {Q : Code → Place → Place → Type 0} (s m i : State) (v : Leading) → SoundLeading n s v m → SoundStep Q m i
+    → Meets (λ _ t. SoundStep (λ k c d. (v.found ≡ []) × DecoratorsRead n [] k s.at m.at × Q k m.at i.at) s t) (misplaced v i)
+unfolding misplaced
+misplaced_sound n {Q = Q} s m i v p q = let f = fault_at v.place faults.InvalidLeadingDecorator in meets_if _ (has_any v.found) _ _
+    (λ _. let u = found_before v i in
+    meets_as (fault f u) (meets_both _ _ (fault f u) (fault_sound {table = []} (λ k c d. ⊥) f u refl) (fault_drops f u refl)) (λ _ t (r, h). dropping_before v p.reads q p.before t r h))
+    (λ h. let e = none_of v.found h in
+    sound_as s i refl (ap (λ xs. walk (env_of s.code s.scope.labels) (listed xs)) e) (ap (λ xs. notes_of (listed xs)) e)
+    (λ (a, b). (e, subst (λ xs. DecoratorsRead n xs s.code s.at m.at) e a, b)) (stepped p.reads q))

@@ -1,0 +1,104 @@
+//! What is declared with `using`: the proposal on explicit resource management, beside ECMA-262, section 14.3.
+
+ghost use Rattle.std.specs.Prelude.{◌≡◌, false, map};
+ghost use Rattle.swc_ecma_parser_grammar.specs.Using as resources;
+ghost use Rattle.swc_ecma_parser_inner.specs.Nests.{Nests};
+ghost use Rattle.swc_ecma_parser_model.specs.declared.leaves.VarDeclKind.TheVariants as decl;
+ghost use Rattle.swc_ecma_parser_reader.specs.Reader as rules;
+ghost use Rattle.swc_ecma_parser_reader.specs.State.{Gives, GivesAs};
+
+use crate::variables::declarators;
+use swc_ecma_parser_common::Span;
+use swc_ecma_parser_error::{PResult, SyntaxError};
+use swc_ecma_parser_grammar::Position;
+use swc_ecma_parser_inner::cover::{Cover, Reading};
+use swc_ecma_parser_inner::grammar::{Grammar, Part};
+use swc_ecma_parser_inner::steps::{grown, since, with_in};
+use swc_ecma_parser_model::VarDeclKind;
+use swc_ecma_parser_source::Source;
+use swc_ecma_parser_trees::{BuildsPattern, BuildsVarDecl, BuildsVariables, MakerOf};
+
+/// Records what is said of one of the variables: it is no plain name, or it is given nothing.
+fn misused<P: Source, T: BuildsVariables>(
+    p: &mut P,
+    span: Span,
+    declarator: &T::Declarator,
+) -> PResult<()>
+    ensures { Gives (rules.told (resources.misused span (T.declarator_of declarator.now)) (P.seen p.old)) result (P.seen p.new) }
+{
+    if !T::declares_name(declarator) {
+        p.fault(SyntaxError::InvalidNameInUsingDecl, span)?;
+    }
+    if !T::is_initialized(declarator) {
+        p.fault(SyntaxError::InitRequiredForUsingDecl, span)?;
+    }
+    Ok(())
+}
+
+/// The same of each of them.
+fn each_misused<P: Source, T: BuildsVariables>(
+    p: &mut P,
+    span: Span,
+    found: &[T::Declarator],
+) -> PResult<()>
+    ensures { Gives (rules.told (resources.each_misused span (map T.declarator_of found.now)) (P.seen p.old)) result (P.seen p.new) }
+{
+    'found: for declarator in found {
+        misused::<P, T>(p, span, declarator)?;
+    }
+    Ok(())
+}
+
+/// Records what is said of a declaration: the setting does not allow it, and what is said of its variables.
+#[tactic(auto, unfolding(swc_ecma_parser_reader::specs::Reader::misusing))]
+fn misusing<P: Source, T: BuildsVariables>(
+    p: &mut P,
+    span: Span,
+    found: &[T::Declarator],
+) -> PResult<()>
+    ensures { Gives (rules.misusing span (map T.declarator_of found.now) (P.seen p.old)) result (P.seen p.new) }
+{
+    if !p.explicit_resource_management() {
+        p.fault(SyntaxError::UsingDeclNotEnabled, span)?;
+    }
+    each_misused::<P, T>(p, span, found)
+}
+
+/// A declaration from the word on, where it declares. It reads no end.
+#[tactic(auto, unfolding(swc_ecma_parser_reader::specs::Reader::using_from))]
+fn using_from<
+    P: Source,
+    T: BuildsPattern + BuildsVarDecl,
+    S: Fn(&MakerOf<T>, &mut P, usize, Position) -> PResult<T::Stmt>,
+    E: Fn(&MakerOf<T>, &mut P, usize, Reading) -> PResult<Cover<T::Expr>>,
+    N: Fn(&MakerOf<T>, &mut P, usize, Part) -> PResult<T::Pat>,
+>(g: &Grammar<S, E, N>, t: &MakerOf<T>, p: &mut P, is_await: bool, start: Span) -> PResult<T::Stmt>
+    requires { Nests P.seen T.expr_of T.pat_of T.stmt_of g.now.depth (S.pre g.now.stmt) (S.post g.now.stmt) (E.pre g.now.expr) (E.post g.now.expr) (N.pre g.now.pat) (N.post g.now.pat) }
+    ensures { GivesAs T.stmt_of (rules.using_from (rules.declarators (rules.expr g.now.depth) (rules.pattern g.now.depth) false decl.Var) is_await start (P.seen p.old)) result (P.seen p.new) }
+{
+    p.skip()?;
+    let outer = p.flags();
+    p.set_flags(with_in(outer));
+    let found = declarators(g, t, p, false, VarDeclKind::Var)?;
+    p.set_flags(outer);
+    let span = since(p, start);
+    misusing::<P, T>(p, span, found.as_slice())?;
+    let declaration = grown(p, T::using_decl(t.alloc, span, is_await, found))?;
+    grown(p, T::decl_stmt(t.alloc, declaration))
+}
+
+/// A statement that begins with `using`, where it declares.
+#[tactic(auto, unfolding(swc_ecma_parser_reader::specs::Reader::using_stmt))]
+pub fn using_stmt<
+    P: Source,
+    T: BuildsPattern + BuildsVarDecl,
+    S: Fn(&MakerOf<T>, &mut P, usize, Position) -> PResult<T::Stmt>,
+    E: Fn(&MakerOf<T>, &mut P, usize, Reading) -> PResult<Cover<T::Expr>>,
+    N: Fn(&MakerOf<T>, &mut P, usize, Part) -> PResult<T::Pat>,
+>(g: &Grammar<S, E, N>, t: &MakerOf<T>, p: &mut P) -> PResult<T::Stmt>
+    requires { Nests P.seen T.expr_of T.pat_of T.stmt_of g.now.depth (S.pre g.now.stmt) (S.post g.now.stmt) (E.pre g.now.expr) (E.post g.now.expr) (N.pre g.now.pat) (N.post g.now.pat) }
+    ensures { GivesAs T.stmt_of (rules.using_stmt (rules.declarators (rules.expr g.now.depth) (rules.pattern g.now.depth) false decl.Var) (P.seen p.old)) result (P.seen p.new) }
+{
+    let start = p.span();
+    using_from(g, t, p, false, start)
+}
