@@ -121,6 +121,7 @@ fn rows_hold(rt: HostRuntime) -> Result<(), Fail> {
         ..plainly(Goal::Script)
     };
     write_tables(alloc, &mut wrong, &declarations::SET_TABLES, asked)?;
+    write_tables(alloc, &mut wrong, &heads::SET_TABLES, asked)?;
     write_tables(alloc, &mut wrong, &programs::TABLES, plainly(Goal::Program))?;
     assert_eq!(rt; wrong.as_str(), "");
     Ok(())

@@ -28,7 +28,7 @@ use swc_ecma_parser_inner::steps::{grown, since, with_in};
 use swc_ecma_parser_literals::object::object_level;
 use swc_ecma_parser_members::member::member_level;
 use swc_ecma_parser_model::VarDeclKind;
-use swc_ecma_parser_operators::assignment::{cover_expr, head_expr};
+use swc_ecma_parser_operators::assignment::{cover_expr, head_behind_async, head_expr};
 use swc_ecma_parser_operators::decorator::decorated_level;
 use swc_ecma_parser_operators::operator::expr_level;
 use swc_ecma_parser_patterns::pat::{element_level, pattern_level};
@@ -87,6 +87,7 @@ pub fn expr<P: Source, T: BuildsStatements>(
         Reading::Class => Ok(done(class_expression::<P, T>(t, p, depth)?)),
         Reading::Decorated => Ok(done(decorated::<P, T>(t, p, depth)?)),
         Reading::Object => Ok(done(object_alone::<P, T>(t, p, depth)?)),
+        Reading::Behind(start) => behind::<P, T>(t, p, depth, start),
     }
 }
 
@@ -158,6 +159,30 @@ fn head<P: Source, T: BuildsStatements>(
         pat: pat::<P, T>,
     };
     head_expr(&g, t, p)
+}
+
+/// What the head of a loop begins with, from behind `async` on, in so many levels.
+#[cycle(knot)]
+#[tactic(auto, using(swc_ecma_parser_reader::proofs::expressions::Loops::behind_above))]
+#[inline(never)]
+fn behind<P: Source, T: BuildsStatements>(
+    t: &MakerOf<T>,
+    p: &mut P,
+    depth: usize,
+    start: Span,
+) -> PResult<Cover<T::Expr>>
+    ensures { GivesAs (cover_of T.expr_of) (rules.head_behind depth start (P.seen p.old)) result (P.seen p.new) }
+{
+    if depth == 0 {
+        return Err(p.too_deep());
+    }
+    let g = Grammar {
+        depth: depth - 1,
+        stmt: stmt::<P, T>,
+        expr: expr::<P, T>,
+        pat: pat::<P, T>,
+    };
+    head_behind_async(&g, t, p, start)
 }
 
 /// What stands behind the `@` of a decorator, in so many levels.

@@ -9,7 +9,7 @@ use Rattle.std.specs.Prelude.{not, ◌&&◌, ◌||◌, if◌then◌else◌}
 use Rattle.std.specs.List.{list_any}
 use Rattle.swc_ecma_parser_error.specs.Kind.{Fault}
 use Rattle.swc_ecma_parser_token.specs.declared.kind.TokenKind.TheVariants as kind
-use Rattle.swc_ecma_parser_grammar.specs.Follows.{is_async_of, is_bare_async, is_async_function, word_at, Star, AsyncWord, AwaitWord, no_await, await_word}
+use Rattle.swc_ecma_parser_grammar.specs.Follows.{is_async_function, word_at, Star, AsyncWord, AwaitWord, no_await, await_word}
 use Rattle.swc_ecma_parser_input.specs.Place.{Place, after}
 use Rattle.swc_ecma_parser_model.specs.declared.leaves.VarDeclKind.{VarDeclKind}
 use Rattle.swc_ecma_parser_model.specs.declared.leaves.VarDeclKind.TheVariants as decl
@@ -19,11 +19,11 @@ use Rattle.swc_ecma_parser_model.specs.Directive.{is_use_strict}
 use Rattle.swc_ecma_parser_grammar.specs.declared.position.Position.{Position}
 use Rattle.swc_ecma_parser_grammar.specs.Looks.{kind_at, sees, same_kind, spanned, breaks_at}
 use Rattle.swc_ecma_parser_grammar.specs.Names.{Code}
-use Rattle.swc_ecma_parser_grammar.specs.Reads.{with_in, directed, directs_on, nested_item, top_item, DeclaratorRule, plain_rule, initialized_rule, ReadsSeparated, ReadsItems, StmtRule, block_rule, empty_rule, debugger_rule, variables_rule, using_rule, if_statement_rule, TargetRule, no_target_rule, target_rule, OperandRule, no_operand_rule, operand_rule, break_rule, continue_rule, return_rule, case_clause_rule, default_clause_rule, ReadsCases, switch_rule, throw_rule, try_rule, with_rule, while_rule, do_while_rule, expr_rule, import_rule, ReadsBlock, CatchRule, no_catch_rule, catch_rule, catch_parameter_rule, FinallyRule, no_finally_rule, finally_rule, ReadsHead, IfRule, if_rule, ElseRule, no_else_rule, else_rule, else_if_rule, ReadsBraced, class_rule, function_rule, labeled_rule, head_code, HeadVariables, InitRule, no_init_rule, init_variables_rule, init_expression_rule, LeftRule, declared_rule, left_target_rule, for_in_rule, for_of_rule, PartRule, no_part_rule, part_rule, for_rule}
+use Rattle.swc_ecma_parser_grammar.specs.Reads.{with_in, directed, directs_on, nested_item, top_item, DeclaratorRule, plain_rule, initialized_rule, ReadsSeparated, ReadsItems, StmtRule, block_rule, empty_rule, debugger_rule, variables_rule, using_rule, if_statement_rule, TargetRule, no_target_rule, target_rule, OperandRule, no_operand_rule, operand_rule, break_rule, continue_rule, return_rule, case_clause_rule, default_clause_rule, ReadsCases, switch_rule, throw_rule, try_rule, with_rule, while_rule, do_while_rule, expr_rule, import_rule, ReadsBlock, CatchRule, no_catch_rule, catch_rule, catch_parameter_rule, FinallyRule, no_finally_rule, finally_rule, ReadsHead, IfRule, if_rule, ElseRule, no_else_rule, else_rule, else_if_rule, ReadsBraced, class_rule, function_rule, labeled_rule, head_code, HeadVariables, InitRule, no_init_rule, init_variables_rule, init_expression_rule, LeftRule, declared_rule, left_target_rule, OfLeftRule, of_left_rule, of_using_rule, for_in_rule, for_of_rule, PartRule, no_part_rule, part_rule, for_rule}
 use Rattle.swc_ecma_parser_grammar.specs.Entries.{ReadsScript, ReadsShebang, some_shebang, no_shebang, script_code, items_await, script_awaits}
 use Rattle.swc_ecma_parser_grammar.specs.Using.{misused, each_misused}
 use Rattle.swc_ecma_parser_grammar.specs.Notes.{notes, all_notes, statement_note, with_note}
-use Rattle.swc_ecma_parser_grammar.specs.Supported.{supported, supported_in, all_supported_in, are_initialized, has_none}
+use Rattle.swc_ecma_parser_grammar.specs.Supported.{supported, supported_in, all_supported_in, has_none}
 use Rattle.swc_ecma_parser_grammar.specs.ReadsSupported.{ReadsClass, ReadsPat, ReadsTarget, ReadsStmt, ReadsTop, ReadsParams, ReadsNamedClass}
 use Rattle.swc_ecma_parser_grammar.specs.language.Goals.{assignment, stmt_goal}
 use Rattle.swc_ecma_parser_grammar.specs.language.Contexts.{in_loop, in_breakable, in_with}
@@ -44,7 +44,7 @@ use Rattle.swc_ecma_parser_grammar.proofs.SupportedIn.{strict_module, head_modul
 use Rattle.swc_ecma_parser_grammar.proofs.SupportedBegins.{refuted, supported_as}
 use Rattle.swc_ecma_parser_grammar.proofs.Unnoted.{Quiet, quiet_first, quiet_last, quiet_as}
 use Rattle.swc_ecma_parser_grammar.proofs.Naming.{name_is_name}
-use Rattle.swc_ecma_parser_grammar.proofs.UsingParts.{undeclared, so_set, bound}
+use Rattle.swc_ecma_parser_grammar.proofs.UsingParts.{undeclared, so_set, bound, bound_stands, in_head_declares}
 use Rattle.swc_ecma_parser_grammar.proofs.Widens.{saw, stands_there, value_stands, parameters_same}
 use Rattle.swc_ecma_parser_grammar.proofs.language.Asked.{or_left, or_right}
 
@@ -103,11 +103,10 @@ module _ (n : ℕ) (k : Code) where
   using_narrows at x c d word r h (await_word e i g) w = absurd (true≢false (sym (and_yes (not r.is_await) _ (supported_as _ x (tree.using (spanned c d) r.is_await (listed r.declarators)) r.is h)).0 ∙ ap not e))
   using_narrows at x c d word r h (no_await e g) w =
       let f = and_yes (not r.is_await) _ (supported_as _ x (tree.using (spanned c d) r.is_await (listed r.declarators)) r.is h) in
-      let i = and_yes (are_initialized (listed r.declarators)) _ f.1 in
       let p : c ≡ r.word = sym g ∙ w in
       using_rule r.declarators (placed at r.is_await e r.has_place) (rw p r.begins)
       (separated_narrow k.flags.module (declarations.UsingDeclaratorRule (Reads n) k) (DeclaratorRule (ReadsClass n assignment) (ReadsPat n) (with_in k) false decl.Var) using_declarator_narrows r.declarators
-      (after c) d (subst (λ z. ReadsSeparated (declarations.UsingDeclaratorRule (Reads n) k) r.declarators (after z) d) (sym p) r.reads) i.1)
+      (after c) d (subst (λ z. ReadsSeparated (declarations.UsingDeclaratorRule (Reads n) k) r.declarators (after z) d) (sym p) r.reads) f.1)
       (so_set k.setting.explicit_resource_management (spanned c d) r.declarators r.is_read (declarators_used (spanned c d) r.declarators (after r.word) d r.reads))
       (r.is ∙ ap (λ b. tree.using (spanned c d) b (listed r.declarators)) e)
     where
@@ -140,29 +139,14 @@ left_narrows : (n : ℕ) {k : Code} {x : Tree} {c d : Place} → heads.LeftRule 
 left_narrows n (heads.declared_rule r) h = declared_rule (head_variables_narrow n r h)
 left_narrows n (heads.target_rule i r) h = left_target_rule i (r, h)
 
--- `using` is not supported before `of`, where nothing has an initializer
-head_using_unsupported : (m b : Bool) {s t : Span} (x y name : Tree) → x ≡ tree.using s b (listed (y ∷ [])) → y ≡ tree.declarator t name tree.absent → supported_in m x ≡ false
-head_using_unsupported m b {s = s} x y name e f = ap (supported_in m) (e ∙ ap (λ z. tree.using s b (listed (z ∷ []))) f) ∙ no_and_false (not b)
-  where
-    no_and_false : (c : Bool) → c && false ≡ false
-    no_and_false true = refl
-    no_and_false false = refl
-
 of_left_narrows : (n : ℕ) (is_await : Bool) {k : Code} {x : Tree} {c d : Place} → heads.OfLeftRule (Reads n) k is_await x c d → supported_in k.flags.module x ≡ true
-    → LeftRule (ReadsClass n) (ReadsPat n) (ReadsTarget n) k x c d × (is_async_of is_await x d ≡ false)
-of_left_narrows n is_await (heads.of_left_rule r i) h = (left_narrows n r h, i)
-of_left_narrows n is_await {k = k} {x = x} (heads.of_using_rule i (heads.using_head_rule y r e)) h = refuted _ x (head_using_unsupported k.flags.module false x y r.name e r.is) h
+    → OfLeftRule (ReadsClass n) (ReadsPat n) (ReadsTarget n) k is_await x c d
+of_left_narrows n is_await (heads.of_left_rule r i) h = of_left_rule (left_narrows n r h) i
+of_left_narrows n is_await {k = k} {x = x} {c = c} {d = d} (heads.of_using_rule i (heads.using_head_rule y r e)) h =
+    let f = e ∙ ap (λ z. tree.using (spanned c d) false (listed (z ∷ []))) r.is in
+    let g = and_yes (supported_in k.flags.module (tree.declarator (spanned (after c) d) r.name tree.absent)) true (supported_as _ x (tree.using (spanned c d) false (listed (tree.declarator (spanned (after c) d) r.name tree.absent ∷ []))) f h) in
+    of_using_rule r.name (in_head_declares k c i r.begins (bound_stands n k r.name (after c) d r.is_name r.reads_name) r.no_of) (r.reads_name, (and_yes (supported_in k.flags.module r.name) true g.0).0) r.is_name f
 of_left_narrows n is_await {k = k} {x = x} (heads.of_using_rule i (heads.await_using_head_rule y a b r e)) h = refuted _ x (ap (supported_in k.flags.module) e) h
-
--- nor is `async` alone behind `for await`, so `async of` is none there either
-other_async : (w b n : Bool) → not (w && b) ≡ true → (not w && (b && n)) ≡ false → (not false && (b && n)) ≡ false
-other_async true true n h g = cc
-other_async true false n h g = refl
-other_async false b n h g = g
-
-no_async_of : (w : Bool) (x : Tree) (d : Place) → not (w && is_bare_async x) ≡ true → is_async_of w x d ≡ false → is_async_of false x d ≡ false
-unfolding is_async_of
-no_async_of w x d h g = other_async w (is_bare_async x) _ h g
 
 part_narrows : (n : ℕ) {k : Code} {x : Tree} {c d : Place} → heads.PartRule (Reads n) k x c d → supported_in k.flags.module x ≡ true → PartRule (ReadsClass n) k x c d
 part_narrows n (heads.no_part_rule g e) h = no_part_rule g e
@@ -416,11 +400,9 @@ module _ (n : ℕ) (narrow : (k : Code) (at : Position) (x : Tree) (c d : Place)
       let o' = quiet_last k (notes a ++ notes b) (notes y) (quiet_as k x (tree.for_in (spanned c d) a b y) e o) in
       for_in_rule a b y l m i j (left_narrows n r g.0) q (s, f.0) t (narrow (in_loop k) sub_statement y (after m) d o' u f.1) e
   form_narrows k at x c d o (statements.for_of_rule w a b y l m p i j q r t s u v e) h =
-      let g = and_yes (not (w && is_bare_async a)) _ (supported_as _ x (tree.for_of (spanned c d) w a b y) e h) in
-      let f = and_yes (supported_in k.flags.module a) _ g.1 in
+      let f = and_yes (supported_in k.flags.module a) _ (supported_as _ x (tree.for_of (spanned c d) w a b y) e h) in
       let f' = and_yes (supported_in k.flags.module b) _ f.1 in
-      let z = of_left_narrows n w r f.0 in
-      for_of_rule w a b y l m p i j q z.0 t (no_async_of w a m g.0 z.1) g.0 (s, f'.0) u
+      for_of_rule w a b y l m p i j q (of_left_narrows n w r f.0) t (s, f'.0) u
       (narrow (in_loop k) sub_statement y (after p) d (quiet_last k (notes a ++ notes b) (notes y) (quiet_as k x (tree.for_of (spanned c d) w a b y) e o)) v f'.1) e
   form_narrows k at x c d o (statements.expr_rule y m i r l g e) h =
       let q = quiet_last k (notes y) (statement_note y) (quiet_as k x (tree.expr_stmt (spanned c d) y) e o) in

@@ -17,7 +17,7 @@ use Rattle.swc_ecma_parser_grammar.specs.declared.position.Position.{Position}
 use Rattle.swc_ecma_parser_grammar.specs.Looks.{sees}
 use Rattle.swc_ecma_parser_grammar.specs.Names.{Code}
 use Rattle.swc_ecma_parser_grammar.specs.Notes.{notes, all_notes, statement_note}
-use Rattle.swc_ecma_parser_grammar.specs.Reads.{with_in, directed, directs_on, nested_item, DeclaratorRule, plain_rule, initialized_rule, ReadsSeparated, ReadsItems, StmtRule, block_rule, empty_rule, debugger_rule, variables_rule, using_rule, if_statement_rule, TargetRule, no_target_rule, target_rule, OperandRule, no_operand_rule, operand_rule, break_rule, continue_rule, return_rule, labeled_rule, HeadVariables, InitRule, no_init_rule, init_variables_rule, init_expression_rule, LeftRule, declared_rule, left_target_rule, for_in_rule, for_of_rule, head_code, PartRule, no_part_rule, part_rule, for_rule, CaseRule, case_clause_rule, default_clause_rule, ReadsCases, switch_rule, throw_rule, try_rule, with_rule, while_rule, do_while_rule, expr_rule, import_rule, ReadsBlock, CatchRule, no_catch_rule, catch_rule, catch_parameter_rule, FinallyRule, no_finally_rule, finally_rule, ReadsHead, IfRule, if_rule, ElseRule, no_else_rule, else_rule, else_if_rule, ReadsBraced, class_rule, function_rule}
+use Rattle.swc_ecma_parser_grammar.specs.Reads.{with_in, directed, directs_on, nested_item, DeclaratorRule, plain_rule, initialized_rule, ReadsSeparated, ReadsItems, StmtRule, block_rule, empty_rule, debugger_rule, variables_rule, using_rule, if_statement_rule, TargetRule, no_target_rule, target_rule, OperandRule, no_operand_rule, operand_rule, break_rule, continue_rule, return_rule, labeled_rule, HeadVariables, InitRule, no_init_rule, init_variables_rule, init_expression_rule, LeftRule, declared_rule, left_target_rule, OfLeftRule, of_left_rule, of_using_rule, for_in_rule, for_of_rule, head_code, PartRule, no_part_rule, part_rule, for_rule, CaseRule, case_clause_rule, default_clause_rule, ReadsCases, switch_rule, throw_rule, try_rule, with_rule, while_rule, do_while_rule, expr_rule, import_rule, ReadsBlock, CatchRule, no_catch_rule, catch_rule, catch_parameter_rule, FinallyRule, no_finally_rule, finally_rule, ReadsHead, IfRule, if_rule, ElseRule, no_else_rule, else_rule, else_if_rule, ReadsBraced, class_rule, function_rule}
 use Rattle.swc_ecma_parser_grammar.specs.Supported.{supported, supported_in, all_supported_in}
 use Rattle.swc_ecma_parser_grammar.specs.ReadsSupported.{ReadsClass, ReadsPat, ReadsTarget, ReadsStmt, ReadsTop, ReadsParams, ReadsNamedClass}
 use Rattle.swc_ecma_parser_grammar.specs.language.Goals.{binding, assigning, expression, assignment, stmt_goal}
@@ -63,6 +63,10 @@ init_unnoted n {x = x} {c = c} {d = d} o (init_expression_rule h r) = expr_unnot
 left_unnoted : (n : ℕ) {k : Code} {x : Tree} {c d : Place} → k.flags.module ≡ true → LeftRule (ReadsClass n) (ReadsPat n) (ReadsTarget n) k x c d → notes x ≡ []
 left_unnoted n o (declared_rule r) = head_variables_unnoted n o r
 left_unnoted n {x = x} {c = c} {d = d} o (left_target_rule h r) = pattern_unnoted n assigning _ x c d o r.0 r.1
+
+of_left_unnoted : (n : ℕ) {w : Bool} {k : Code} {x : Tree} {c d : Place} → k.flags.module ≡ true → OfLeftRule (ReadsClass n) (ReadsPat n) (ReadsTarget n) k w x c d → notes x ≡ []
+of_left_unnoted n o (of_left_rule r i) = left_unnoted n o r
+of_left_unnoted n {k = k} {c = c} {d = d} o (of_using_rule name h r i e) = ap notes e ∙ rw (pattern_unnoted n binding k name (after c) d o r.0 r.1) refl
 
 part_unnoted : (n : ℕ) {k : Code} {x : Tree} {c d : Place} → k.flags.module ≡ true → PartRule (ReadsClass n) k x c d → notes x ≡ []
 part_unnoted n o (no_part_rule g e) = ap notes e
@@ -151,8 +155,8 @@ module _ (n : ℕ) (small : (k : Code) (at : Position) (x : Tree) (c d : Place) 
   rule_unnoted k at x c d o (for_in_rule a b y m i h g r j s p t e) =
       ap notes e ∙ joined (notes a ++ notes b) (notes y) (joined (notes a) (notes b) (left_unnoted n o r) (expr_unnoted n expression (with_in k) b (after m) i o s.0 s.1))
       (small (in_loop k) sub_statement y (after i) d o t)
-  rule_unnoted k at x c d o (for_of_rule w a b y l m i h v g r j z q s p t e) =
-      ap notes e ∙ joined (notes a ++ notes b) (notes y) (joined (notes a) (notes b) (left_unnoted n o r) (expr_unnoted n assignment (with_in k) b (after m) i o s.0 s.1))
+  rule_unnoted k at x c d o (for_of_rule w a b y l m i h v g r j s p t e) =
+      ap notes e ∙ joined (notes a ++ notes b) (notes y) (joined (notes a) (notes b) (of_left_unnoted n o r) (expr_unnoted n assignment (with_in k) b (after m) i o s.0 s.1))
       (small (in_loop k) sub_statement y (after i) d o t)
   rule_unnoted k at x c d o (throw_rule y m h b r g e) = ap notes e ∙ expr_unnoted n expression (with_in k) y (after c) m o r.0 r.1
   rule_unnoted k at x c d o (try_rule y z w m i h r s t a e) =

@@ -87,12 +87,12 @@ module _ (inner : Position → Reader Tree) (inner_expr : Class → Reader Tree)
 
   for_in_form : (p : Reader Tree) (start : Span) (o : Opening) (s : State) → Meets IsStatement (for_in p inner_expr start o s)
   unfolding for_in
-  for_in_form p start o s = always _ (as_left false o s) _ (λ a t. always _ (misdeclared t.code.flags.strict a t) _ (λ _ u.
+  for_in_form p start o s = always _ (as_left o s) _ (λ a t. always _ (misdeclared t.code.flags.strict a t) _ (λ _ u.
       always _ (within with_in (inner_expr expression) (moved u)) _ (λ b v. always _ (expect kind.RParen v) _ (λ _ w. always _ (within in_loop p w) _ (λ g z. refl)))))
 
   for_of_form : (p : Reader Tree) (w : Bool) (start : Span) (o : Opening) (s : State) → Meets IsStatement (for_of p inner_expr w start o s)
   unfolding for_of
-  for_of_form p w start o s = always _ (as_left w o s) _ (λ a t. always _ (misdeclared true a t) _ (λ _ u.
+  for_of_form p w start o s = always _ (as_left o s) _ (λ a t. always _ (misdeclared true a t) _ (λ _ u.
       always _ (within with_in (inner_expr assignment) (moved u)) _ (λ b v. always _ (expect kind.RParen v) _ (λ _ x. always _ (within in_loop p x) _ (λ g z. refl)))))
 
   unless_form : (word : Option Span) (p : Reader Tree) (s : State) → Meets IsStatement (p s) → Meets IsStatement (unless_awaited word p s)
@@ -107,7 +107,7 @@ module _ (inner : Position → Reader Tree) (inner_expr : Class → Reader Tree)
 
   for_form : (p : Reader Tree) (s : State) → Meets IsStatement (for_stmt p inner_expr inner_pat inner_head s)
   unfolding for_stmt
-  for_form p s = always _ (await_here (moved s)) _ (λ word t. always _ (expect kind.LParen t) _ (λ _ u. always _ (opening inner_expr inner_pat inner_head u) _ (λ o v.
+  for_form p s = always _ (await_here (moved s)) _ (λ word t. always _ (expect kind.LParen t) _ (λ _ u. always _ (opening inner_expr inner_pat inner_head (is_some word) u) _ (λ o v.
       for_behind_form p (span_at s.at) word o v)))
 
   -- ---- `if`

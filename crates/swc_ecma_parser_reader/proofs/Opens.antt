@@ -221,7 +221,7 @@ rule_goes Stmt Expr Pat Target Params Named h named k at x c d (continue_rule y 
 rule_goes Stmt Expr Pat Target Params Named h named k at x c d (return_rule y m e r g i) = goes_by c kind.Return e (refl, refl, refl, refl, refl)
 rule_goes Stmt Expr Pat Target Params Named h named k at x c d (for_rule a b f y l m n e i r j s o t p u z) = goes_by c kind.For e (refl, refl, refl, refl, refl)
 rule_goes Stmt Expr Pat Target Params Named h named k at x c d (for_in_rule a b y m n e i r j s o t z) = goes_by c kind.For e (refl, refl, refl, refl, refl)
-rule_goes Stmt Expr Pat Target Params Named h named k at x c d (for_of_rule w a b y l m n e v i r j z q s o t g) = goes_by c kind.For e (refl, refl, refl, refl, refl)
+rule_goes Stmt Expr Pat Target Params Named h named k at x c d (for_of_rule w a b y l m n e v i r j s o t g) = goes_by c kind.For e (refl, refl, refl, refl, refl)
 rule_goes Stmt Expr Pat Target Params Named h named k at x c d (labeled_rule w s y m r f e t i) = goes_by c (kind_at c) refl (goes_open (kind_at c) (word_begins k.flags w s c m r f))
 rule_goes Stmt Expr Pat Target Params Named h named k at x c d (throw_rule y m e b r g i) = goes_by c kind.Throw e (refl, refl, refl, refl, refl)
 rule_goes Stmt Expr Pat Target Params Named h named k at x c d (try_rule y z w m n e r s o a i) = goes_by c kind.Try e (refl, refl, refl, refl, refl)

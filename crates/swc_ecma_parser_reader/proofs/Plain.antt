@@ -152,13 +152,13 @@ module _ (inner : Position → Reader Tree) (inner_expr : Class → Reader Tree)
 
   for_in_plain : (start : Span) (o : Opening) (s : State) → Meets Plain (for_in (inner sub_statement) inner_expr start o s)
   unfolding for_in
-  for_in_plain start o s = always Plain (as_left false o s) _ (λ x t. always Plain (misdeclared t.code.flags.strict x t) _ (λ _ u.
+  for_in_plain start o s = always Plain (as_left o s) _ (λ x t. always Plain (misdeclared t.code.flags.strict x t) _ (λ _ u.
       always Plain (within with_in (inner_expr expression) (moved u)) _ (λ y v. always Plain (expect kind.RParen v) _ (λ _ w.
       always Plain (within in_loop (inner sub_statement) w) _ (λ f r b. refl)))))
 
   for_of_plain : (w : Bool) (start : Span) (o : Opening) (s : State) → Meets Plain (for_of (inner sub_statement) inner_expr w start o s)
   unfolding for_of
-  for_of_plain w start o s = always Plain (as_left w o s) _ (λ x t. always Plain (misdeclared true x t) _ (λ _ u.
+  for_of_plain w start o s = always Plain (as_left o s) _ (λ x t. always Plain (misdeclared true x t) _ (λ _ u.
       always Plain (within with_in (inner_expr assignment) (moved u)) _ (λ y v. always Plain (expect kind.RParen v) _ (λ _ w.
       always Plain (within in_loop (inner sub_statement) w) _ (λ f r b. refl)))))
 
@@ -176,7 +176,7 @@ module _ (inner : Position → Reader Tree) (inner_expr : Class → Reader Tree)
   for_plain : (s : State) → Meets Plain (for_stmt (inner sub_statement) inner_expr inner_pat inner_head s)
   unfolding for_stmt
   for_plain s = always Plain (await_here (moved s)) _ (λ word v. always Plain (expect kind.LParen v) _ (λ _ t.
-      always Plain (opening inner_expr inner_pat inner_head t) _ (λ o u. for_behind_plain (span_at s.at) word o u)))
+      always Plain (opening inner_expr inner_pat inner_head (is_some word) t) _ (λ o u. for_behind_plain (span_at s.at) word o u)))
 
   import_plain : (s : State) → Meets Plain (import_stmt_at (inner_expr expression) s)
   unfolding import_stmt_at import_stmt

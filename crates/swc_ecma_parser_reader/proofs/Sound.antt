@@ -28,7 +28,8 @@ use Rattle.swc_ecma_parser_reader.proofs.expressions.Covers.{met}
 use Rattle.swc_ecma_parser_reader.proofs.expressions.Groups.{ReadsParts}
 use Rattle.swc_ecma_parser_reader.proofs.expressions.GroupLevels.{tied_at, begins_at as part_begins}
 use Rattle.swc_ecma_parser_reader.proofs.expressions.Heads.{SoundHead, head_expr_sound}
-use Rattle.swc_ecma_parser_reader.proofs.SoundFor.{SoundAs, looped_sound, for_sound}
+use Rattle.swc_ecma_parser_reader.proofs.SoundFor.{HeadSound, looped_sound, for_sound}
+use Rattle.swc_ecma_parser_grammar.proofs.UsingParts.{bound_target}
 use Rattle.std.specs.Prelude.{not, ◌&&◌, ◌||◌, is_some}
 use Rattle.swc_ecma_parser_common.specs.declared.span.Span.{Span}
 use Rattle.swc_ecma_parser_error.specs.Kind as faults
@@ -78,7 +79,7 @@ module _ (Stmt : Code → Position → Tree → Place → Place → Type 0) (Exp
     (sound : (at : Position) (s : State) → Meets (λ x t. SoundTree (λ k. Stmt k at) s x t) (inner at s))
     (sound_expr : (class : Class) (s : State) → Meets (λ x t. SoundTree (Expr class) s x t) (inner_expr class s))
     (sound_pat : (s : State) → Meets (λ x t. SoundTree Pat s x t) (inner_pat s))
-    (sound_head : (s : State) → Meets (λ v t. SoundAs Expr Target s v t) (inner_head s))
+    (sound_head : HeadSound Expr Pat Target inner_pat inner_head)
     (sound_params : (s : State) → Meets (λ ps t. Sound same (λ k l. walks.walks (env_of k l) false (trees ps)) (all_notes_of (trees ps)) (λ k. Params k ps) s t) (inner_params s))
     (sound_class : (at : Position) (s : State) → kind_at s.at ≡ kind.Class → Meets (λ x t. SoundTree (Declared Named at) s x t) (class_stmt (inner_expr left_side) inner_member at s))
     (unnoted : (k : Code) (x : Tree) (c d : Place) → begins_import_expression c ≡ true → Expr expression k x c d → statement_note x ≡ []) (at : Position) where
@@ -606,8 +607,13 @@ module _ (n : ℕ) (k : Code) (x : Tree) (c d : Place) (key : Tree) where
 
 module _ (n : ℕ) (b : Sounds n) where
   -- what the head of a loop begins with, as an expression and as a target
-  openings : (s : State) → Meets (λ v t. SoundAs (ReadsClass n) (ReadsTarget n) s v t) (head_cover n s)
-  openings s = meets_as (head_cover n s) (b.heads s) (λ v t p. sound_as s t refl refl refl (λ r. record { plain = r.plain; target = r.target }) p)
+  openings : HeadSound (ReadsClass n) (ReadsPat n) (ReadsTarget n) (pattern n) (head_cover n)
+  unfolding function function_by
+  openings = record {
+    covers = λ s. meets_as (head_cover n s) (b.heads s) (λ v t p. sound_as s t refl refl refl (λ r. record { plain = r.plain; target = r.target }) p);
+    names = names n;
+    targets = λ k x c d e h r. (bound_target n k x c d e h r.0, r.1);
+  }
 
   params : (s : State) → Meets (λ ps t. SoundParams n s ps t) (reader.parameters n s)
   params = patterns.parameter_list_sound n (expr n) (cover n) (pattern n) (element n) b.exprs b.covers b.patterns b.elements
@@ -683,7 +689,7 @@ cover_sound n = (all_sound n).covers
 pub head_cover_sound : (n : ℕ) (s : State) → Meets (λ v t. SoundHead n s v t) (head_cover n s)
 head_cover_sound n = (all_sound n).heads
 
-opens_sound : (n : ℕ) (s : State) → Meets (λ v t. SoundAs (ReadsClass n) (ReadsTarget n) s v t) (head_cover n s)
+opens_sound : (n : ℕ) → HeadSound (ReadsClass n) (ReadsPat n) (ReadsTarget n) (pattern n) (head_cover n)
 opens_sound n = openings n (all_sound n)
 
 -- so is a binding pattern, and one with its default, if one stands there

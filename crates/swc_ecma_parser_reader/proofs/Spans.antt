@@ -225,13 +225,13 @@ module _ (inner : Position → Reader Tree) (inner_expr : Class → Reader Tree)
 
     for_in_ends : (o : Opening) (s : State) → Meets (Ends c) (for_in (inner sub_statement) inner_expr (span_at c) o s)
     unfolding for_in spanned
-    for_in_ends o s = always _ (as_left false o s) _ (λ x t. always _ (misdeclared t.code.flags.strict x t) _ (λ _ u.
+    for_in_ends o s = always _ (as_left o s) _ (λ x t. always _ (misdeclared t.code.flags.strict x t) _ (λ _ u.
         always _ (within with_in (inner_expr expression) (moved u)) _ (λ y v. always _ (expect kind.RParen v) _ (λ _ w.
         always _ (within in_loop (inner sub_statement) w) _ (λ f r. inl refl)))))
 
     for_of_ends : (w : Bool) (o : Opening) (s : State) → Meets (Ends c) (for_of (inner sub_statement) inner_expr w (span_at c) o s)
     unfolding for_of spanned
-    for_of_ends w o s = always _ (as_left w o s) _ (λ x t. always _ (misdeclared true x t) _ (λ _ u.
+    for_of_ends w o s = always _ (as_left o s) _ (λ x t. always _ (misdeclared true x t) _ (λ _ u.
         always _ (within with_in (inner_expr assignment) (moved u)) _ (λ y v. always _ (expect kind.RParen v) _ (λ _ w.
         always _ (within in_loop (inner sub_statement) w) _ (λ f r. inl refl)))))
 
@@ -249,7 +249,7 @@ module _ (inner : Position → Reader Tree) (inner_expr : Class → Reader Tree)
   for_ends : (s : State) → Meets (Ends s.at) (for_stmt (inner sub_statement) inner_expr inner_pat inner_head s)
   unfolding for_stmt
   for_ends s = always _ (await_here (moved s)) _ (λ word v. always _ (expect kind.LParen v) _ (λ _ t.
-      always _ (opening inner_expr inner_pat inner_head t) _ (λ o u. for_behind_ends s.at word o u)))
+      always _ (opening inner_expr inner_pat inner_head (is_some word) t) _ (λ o u. for_behind_ends s.at word o u)))
 
   import_ends : (s : State) → Meets (Ends s.at) (import_stmt_at (inner_expr expression) s)
   unfolding import_stmt_at import_stmt
