@@ -35,5 +35,6 @@ mod ReadWithFaults
 pub mod ExpressionBegins
 pub mod StatementBegins
 pub mod Using
+pub mod AwaitUsing
 mod UnspelledStatements
 mod UnspelledItems

@@ -23,7 +23,7 @@ use Rattle.swc_ecma_parser_grammar.specs.Reads.{with_in, directed, directs_on, n
 use Rattle.swc_ecma_parser_grammar.specs.Entries.{ReadsScript, ReadsShebang, some_shebang, no_shebang, script_code, items_await, script_awaits}
 use Rattle.swc_ecma_parser_grammar.specs.Using.{misused, each_misused}
 use Rattle.swc_ecma_parser_grammar.specs.Notes.{notes, all_notes, statement_note, with_note}
-use Rattle.swc_ecma_parser_grammar.specs.Supported.{supported, supported_in, all_supported_in, has_none}
+use Rattle.swc_ecma_parser_grammar.specs.Supported.{supported, supported_in, all_supported_in, has_none, is_await_using}
 use Rattle.swc_ecma_parser_grammar.specs.ReadsSupported.{ReadsClass, ReadsPat, ReadsTarget, ReadsStmt, ReadsTop, ReadsParams, ReadsNamedClass}
 use Rattle.swc_ecma_parser_grammar.specs.language.Goals.{assignment, stmt_goal}
 use Rattle.swc_ecma_parser_grammar.specs.language.Contexts.{in_loop, in_breakable, in_with}
@@ -98,25 +98,13 @@ module _ (n : ℕ) (k : Code) where
   declarators_used s (x ∷ []) c d (r, e) = ap (λ fs. fs ++ []) (declarator_used s x c d r)
   declarators_used s (x ∷ y ∷ ys) c d (m, r, e, rs) = ap (λ fs. fs ++ each_misused s (y ∷ ys)) (declarator_used s x c m r) ∙ declarators_used s (y ∷ ys) (after m) d rs
 
-  using_narrows : (at : Position) (x : Tree) (c d word : Place) (r : declarations.UsingRule (Reads n) k at x c d) → supported_in k.flags.module x ≡ true → AwaitWord r.is_await c word → word ≡ r.word
+  using_narrows : (at : Position) (x : Tree) (c d : Place) → declarations.UsingRule (Reads n) k at x c d → supported_in k.flags.module x ≡ true
       → StmtRule (ReadsStmt n) (ReadsClass n) (ReadsPat n) (ReadsTarget n) (ReadsParams n) (ReadsNamedClass n) k at x c d
-  using_narrows at x c d word r h (await_word e i g) w = absurd (true≢false (sym (and_yes (not r.is_await) _ (supported_as _ x (tree.using (spanned c d) r.is_await (listed r.declarators)) r.is h)).0 ∙ ap not e))
-  using_narrows at x c d word r h (no_await e g) w =
-      let f = and_yes (not r.is_await) _ (supported_as _ x (tree.using (spanned c d) r.is_await (listed r.declarators)) r.is h) in
-      let p : c ≡ r.word = sym g ∙ w in
-      using_rule r.declarators (placed at r.is_await e r.has_place) (rw p r.begins)
-      (separated_narrow k.flags.module (declarations.UsingDeclaratorRule (Reads n) k) (DeclaratorRule (ReadsClass n assignment) (ReadsPat n) (with_in k) false decl.Var) using_declarator_narrows r.declarators
-      (after c) d (subst (λ z. ReadsSeparated (declarations.UsingDeclaratorRule (Reads n) k) r.declarators (after z) d) (sym p) r.reads) f.1)
-      (so_set k.setting.explicit_resource_management (spanned c d) r.declarators r.is_read (declarators_used (spanned c d) r.declarators (after r.word) d r.reads))
-      (r.is ∙ ap (λ b. tree.using (spanned c d) b (listed r.declarators)) e)
-    where
-      placed : (at : Position) (b : Bool) → b ≡ false → at.include_decl || (b && at.top_level) ≡ true → at.include_decl ≡ true
-      placed at true e f = cc
-      placed at false e f = plain at.include_decl f
-        where
-          plain : (a : Bool) → a || false ≡ true → a ≡ true
-          plain true f = refl
-          plain false f = cc
+  using_narrows at x c d r h =
+      let f = supported_as _ x (tree.using (spanned c d) r.is_await (listed r.declarators)) r.is h in
+      using_rule r.is_await r.declarators r.word r.has_place r.reads_await r.begins
+      (separated_narrow k.flags.module (declarations.UsingDeclaratorRule (Reads n) k) (DeclaratorRule (ReadsClass n assignment) (ReadsPat n) (with_in k) false decl.Var) using_declarator_narrows r.declarators (after r.word) d r.reads f)
+      (so_set k.setting.explicit_resource_management (spanned c d) r.declarators r.is_read (declarators_used (spanned c d) r.declarators (after r.word) d r.reads)) r.is
 
 -- ---- the head of a `for`
 
@@ -139,14 +127,14 @@ left_narrows : (n : ℕ) {k : Code} {x : Tree} {c d : Place} → heads.LeftRule 
 left_narrows n (heads.declared_rule r) h = declared_rule (head_variables_narrow n r h)
 left_narrows n (heads.target_rule i r) h = left_target_rule i (r, h)
 
-of_left_narrows : (n : ℕ) (is_await : Bool) {k : Code} {x : Tree} {c d : Place} → heads.OfLeftRule (Reads n) k is_await x c d → supported_in k.flags.module x ≡ true
+of_left_narrows : (n : ℕ) (is_await : Bool) {k : Code} {x : Tree} {c d : Place} → heads.OfLeftRule (Reads n) k is_await x c d → not (is_await_using x) ≡ true → supported_in k.flags.module x ≡ true
     → OfLeftRule (ReadsClass n) (ReadsPat n) (ReadsTarget n) k is_await x c d
-of_left_narrows n is_await (heads.of_left_rule r i) h = of_left_rule (left_narrows n r h) i
-of_left_narrows n is_await {k = k} {x = x} {c = c} {d = d} (heads.of_using_rule i (heads.using_head_rule y r e)) h =
+of_left_narrows n is_await (heads.of_left_rule r i) o h = of_left_rule (left_narrows n r h) i
+of_left_narrows n is_await {k = k} {x = x} {c = c} {d = d} (heads.of_using_rule i (heads.using_head_rule y r e)) o h =
     let f = e ∙ ap (λ z. tree.using (spanned c d) false (listed (z ∷ []))) r.is in
     let g = and_yes (supported_in k.flags.module (tree.declarator (spanned (after c) d) r.name tree.absent)) true (supported_as _ x (tree.using (spanned c d) false (listed (tree.declarator (spanned (after c) d) r.name tree.absent ∷ []))) f h) in
     of_using_rule r.name (in_head_declares k c i r.begins (bound_stands n k r.name (after c) d r.is_name r.reads_name) r.no_of) (r.reads_name, (and_yes (supported_in k.flags.module r.name) true g.0).0) r.is_name f
-of_left_narrows n is_await {k = k} {x = x} (heads.of_using_rule i (heads.await_using_head_rule y a b r e)) h = refuted _ x (ap (supported_in k.flags.module) e) h
+of_left_narrows n is_await (heads.of_using_rule i (heads.await_using_head_rule y a b r e)) o h = absurd (true≢false (sym o ∙ ap (λ z. not (is_await_using z)) e))
 
 part_narrows : (n : ℕ) {k : Code} {x : Tree} {c d : Place} → heads.PartRule (Reads n) k x c d → supported_in k.flags.module x ≡ true → PartRule (ReadsClass n) k x c d
 part_narrows n (heads.no_part_rule g e) h = no_part_rule g e
@@ -355,7 +343,7 @@ module _ (n : ℕ) (narrow : (k : Code) (at : Position) (x : Tree) (c d : Place)
       function_narrows k at a name x y c m d q r i s s.reads_name b g.0 g.1 e
   form_narrows k at x c d o (statements.variables_rule word xs m i (b, r) g e) h =
       variables_rule word xs m i b (declarators_narrow n (with_in k) false word xs (after c) m r (supported_as _ x (tree.var (spanned c d) word (listed xs)) e h)) g e
-  form_narrows k at x c d o (statements.using_rule r) h = using_narrows n k at x c d r.word r h r.reads_await refl
+  form_narrows k at x c d o (statements.using_rule r) h = using_narrows n k at x c d r h
   form_narrows k at x c d o (statements.block_rule r) h = block_rule (block_narrows o r h)
   form_narrows k at x c d o (statements.empty_rule i n e) h = empty_rule i n e
   form_narrows k at x c d o (statements.debugger_rule i g e) h = debugger_rule i g e
@@ -400,9 +388,10 @@ module _ (n : ℕ) (narrow : (k : Code) (at : Position) (x : Tree) (c d : Place)
       let o' = quiet_last k (notes a ++ notes b) (notes y) (quiet_as k x (tree.for_in (spanned c d) a b y) e o) in
       for_in_rule a b y l m i j (left_narrows n r g.0) q (s, f.0) t (narrow (in_loop k) sub_statement y (after m) d o' u f.1) e
   form_narrows k at x c d o (statements.for_of_rule w a b y l m p i j q r t s u v e) h =
-      let f = and_yes (supported_in k.flags.module a) _ (supported_as _ x (tree.for_of (spanned c d) w a b y) e h) in
+      let g = and_yes (not (is_await_using a)) _ (supported_as _ x (tree.for_of (spanned c d) w a b y) e h) in
+      let f = and_yes (supported_in k.flags.module a) _ g.1 in
       let f' = and_yes (supported_in k.flags.module b) _ f.1 in
-      for_of_rule w a b y l m p i j q (of_left_narrows n w r f.0) t (s, f'.0) u
+      for_of_rule w a b y l m p i j q (of_left_narrows n w r g.0 f.0) t (s, f'.0) u
       (narrow (in_loop k) sub_statement y (after p) d (quiet_last k (notes a ++ notes b) (notes y) (quiet_as k x (tree.for_of (spanned c d) w a b y) e o)) v f'.1) e
   form_narrows k at x c d o (statements.expr_rule y m i r l g e) h =
       let q = quiet_last k (notes y) (statement_note y) (quiet_as k x (tree.expr_stmt (spanned c d) y) e o) in

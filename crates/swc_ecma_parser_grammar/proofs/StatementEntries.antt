@@ -142,7 +142,7 @@ module _ (n : ℕ) (small : (k : Code) (at : Position) (x : Tree) (c d : Place) 
   rule_unnoted k at x c d o (empty_rule h g e) = ap notes e
   rule_unnoted k at x c d o (debugger_rule h g e) = ap notes e
   rule_unnoted k at x c d o (variables_rule word xs m a h r g e) = ap notes e ∙ declarators_unnoted n (with_in k) false word xs (after c) m o r
-  rule_unnoted k at x c d o (using_rule xs a b r f e) = ap notes e ∙ declarators_unnoted n (with_in k) false _ xs (after c) d o r
+  rule_unnoted k at x c d o (using_rule v xs m a w b r f e) = ap notes e ∙ declarators_unnoted n (with_in k) false _ xs (after m) d o r
   rule_unnoted k at x c d o (if_statement_rule r) = if_unnoted o r
   rule_unnoted k at x c d o (switch_rule y xs m i h r j s g t e) = ap notes e ∙ joined (notes y) _ (head_unnoted n o r) (cases_unnoted (in_breakable k) false xs (after m) i o s)
   rule_unnoted k at x c d o (labeled_rule w s y m r f h t e) = ap notes e ∙ small (in_breakable k) (labelled_item (after m)) y (after m) d o t

@@ -12,7 +12,7 @@ use Rattle.swc_ecma_parser_grammar.specs.Reads.{in_strict, with_in, head_code}
 use Rattle.swc_ecma_parser_grammar.specs.Variables.{is_var}
 use Rattle.swc_ecma_parser_grammar.specs.language.Contexts.{without_in}
 use Rattle.swc_ecma_parser_grammar.specs.language.Parts.{is_private}
-use Rattle.swc_ecma_parser_grammar.specs.Supported.{supported, supported_in, all_supported, all_supported_in, is_supported_key_in, is_supported_property_in, has_none, is_clean, is_rightly_directed, is_rightly_set, is_rightly_headed}
+use Rattle.swc_ecma_parser_grammar.specs.Supported.{supported, supported_in, all_supported, all_supported_in, is_supported_key_in, is_supported_property_in, has_none, is_clean, is_rightly_directed, is_rightly_set, is_rightly_headed, is_await_using}
 use Rattle.swc_ecma_parser_grammar.proofs.Tests.{and_yes, and_both}
 
 -- two lists are empty where they are together
@@ -82,14 +82,14 @@ mutual
   lower m (tree.expr_pat e) h = lower m e h
   lower m (tree.var s word ds) h = lower m ds h
   lower m (tree.declarator s name init) h = let g = and_yes (supported_in m name) _ h in and_both _ _ (lower m name g.0) (lower m init g.1)
-  lower m (tree.using s is_await ds) h = let g = and_yes (not is_await) _ h in and_both _ _ g.0 (lower m ds g.1)
+  lower m (tree.using s is_await ds) h = lower m ds h
   lower m (tree.block s stmts) h = lower m stmts h
   lower m (tree.empty s) h = refl
   lower m (tree.debugger s) h = refl
   lower m (tree.expr_stmt s e) h = lower m e h
   lower m (tree.for s init test next body) h = let g = and_yes (supported_in m init) _ h in and_both _ _ (lower m init g.0) (let h = and_yes (supported_in m test) _ g.1 in and_both _ _ (lower m test h.0) (let i = and_yes (supported_in m next) _ h.1 in and_both _ _ (lower m next i.0) (lower m body i.1)))
   lower m (tree.for_in s left right body) h = let g = and_yes (supported_in m left) _ h in and_both _ _ (lower m left g.0) (let h = and_yes (supported_in m right) _ g.1 in and_both _ _ (lower m right h.0) (lower m body h.1))
-  lower m (tree.for_of s is_await left right body) h = let g = and_yes (supported_in m left) _ h in and_both _ _ (lower m left g.0) (let h = and_yes (supported_in m right) _ g.1 in and_both _ _ (lower m right h.0) (lower m body h.1))
+  lower m (tree.for_of s is_await left right body) h = let g = and_yes (not (is_await_using left)) _ h in and_both _ _ g.0 (let h = and_yes (supported_in m left) _ g.1 in and_both _ _ (lower m left h.0) (let i = and_yes (supported_in m right) _ h.1 in and_both _ _ (lower m right i.0) (lower m body i.1)))
   lower m (tree.if_stmt s test cons alt) h = let g = and_yes (supported_in m test) _ h in and_both _ _ (lower m test g.0) (let h = and_yes (supported_in m cons) _ g.1 in and_both _ _ (lower m cons h.0) (lower m alt h.1))
   lower m (tree.switch s discriminant cases) h = let g = and_yes (supported_in m discriminant) _ h in and_both _ _ (lower m discriminant g.0) (lower m cases g.1)
   lower m (tree.case s test cons) h = let g = and_yes (supported_in m test) _ h in and_both _ _ (lower m test g.0) (lower m cons g.1)
@@ -188,14 +188,14 @@ mutual
   lift (tree.expr_pat e) h o = lift e h o
   lift (tree.var s word ds) h o = lift ds h o
   lift (tree.declarator s name init) h o = let g = and_yes (supported_in false name) _ h in and_both _ _ (lift name g.0 ((parted (notes name) (notes init) o).0)) (lift init g.1 ((parted (notes name) (notes init) o).1))
-  lift (tree.using s is_await ds) h o = let g = and_yes (not is_await) _ h in and_both _ _ g.0 (lift ds g.1 o)
+  lift (tree.using s is_await ds) h o = lift ds h o
   lift (tree.block s stmts) h o = lift stmts h o
   lift (tree.empty s) h o = refl
   lift (tree.debugger s) h o = refl
   lift (tree.expr_stmt s e) h o = lift e h ((parted (notes e) (statement_note e) o).0)
   lift (tree.for s init test next body) h o = let g = and_yes (supported_in false init) _ h in and_both _ _ (lift init g.0 ((parted (notes init) (notes test) (parted (notes init ++ notes test) (notes next) (parted (notes init ++ notes test ++ notes next) (notes body) o).0).0).0)) (let h = and_yes (supported_in false test) _ g.1 in and_both _ _ (lift test h.0 ((parted (notes init) (notes test) (parted (notes init ++ notes test) (notes next) (parted (notes init ++ notes test ++ notes next) (notes body) o).0).0).1)) (let i = and_yes (supported_in false next) _ h.1 in and_both _ _ (lift next i.0 ((parted (notes init ++ notes test) (notes next) (parted (notes init ++ notes test ++ notes next) (notes body) o).0).1)) (lift body i.1 ((parted (notes init ++ notes test ++ notes next) (notes body) o).1))))
   lift (tree.for_in s left right body) h o = let g = and_yes (supported_in false left) _ h in and_both _ _ (lift left g.0 ((parted (notes left) (notes right) (parted (notes left ++ notes right) (notes body) o).0).0)) (let h = and_yes (supported_in false right) _ g.1 in and_both _ _ (lift right h.0 ((parted (notes left) (notes right) (parted (notes left ++ notes right) (notes body) o).0).1)) (lift body h.1 ((parted (notes left ++ notes right) (notes body) o).1)))
-  lift (tree.for_of s is_await left right body) h o = let g = and_yes (supported_in false left) _ h in and_both _ _ (lift left g.0 ((parted (notes left) (notes right) (parted (notes left ++ notes right) (notes body) o).0).0)) (let h = and_yes (supported_in false right) _ g.1 in and_both _ _ (lift right h.0 ((parted (notes left) (notes right) (parted (notes left ++ notes right) (notes body) o).0).1)) (lift body h.1 ((parted (notes left ++ notes right) (notes body) o).1)))
+  lift (tree.for_of s is_await left right body) h o = let g = and_yes (not (is_await_using left)) _ h in and_both _ _ g.0 (let h = and_yes (supported_in false left) _ g.1 in and_both _ _ (lift left h.0 ((parted (notes left) (notes right) (parted (notes left ++ notes right) (notes body) o).0).0)) (let i = and_yes (supported_in false right) _ h.1 in and_both _ _ (lift right i.0 ((parted (notes left) (notes right) (parted (notes left ++ notes right) (notes body) o).0).1)) (lift body i.1 ((parted (notes left ++ notes right) (notes body) o).1))))
   lift (tree.if_stmt s test cons alt) h o = let g = and_yes (supported_in false test) _ h in and_both _ _ (lift test g.0 ((parted (notes test) (notes cons) (parted (notes test ++ notes cons) (notes alt) o).0).0)) (let h = and_yes (supported_in false cons) _ g.1 in and_both _ _ (lift cons h.0 ((parted (notes test) (notes cons) (parted (notes test ++ notes cons) (notes alt) o).0).1)) (lift alt h.1 ((parted (notes test ++ notes cons) (notes alt) o).1)))
   lift (tree.switch s discriminant cases) h o = let g = and_yes (supported_in false discriminant) _ h in and_both _ _ (lift discriminant g.0 ((parted (notes discriminant) (notes cases) o).0)) (lift cases g.1 ((parted (notes discriminant) (notes cases) o).1))
   lift (tree.case s test cons) h o = let g = and_yes (supported_in false test) _ h in and_both _ _ (lift test g.0 ((parted (notes test) (notes cons) o).0)) (lift cons g.1 ((parted (notes test) (notes cons) o).1))

@@ -21,7 +21,7 @@ use Rattle.swc_ecma_parser_model.specs.Kinds.{is_module_decl}
 use Rattle.swc_ecma_parser_model.specs.Tree as tree
 use Rattle.swc_ecma_parser_model.specs.Tree.{Tree}
 use Rattle.swc_ecma_parser_grammar.specs.declared.position.Position.{Position}
-use Rattle.swc_ecma_parser_grammar.specs.Follows.{begins_import_expression, AsyncWord, not_async, async_word}
+use Rattle.swc_ecma_parser_grammar.specs.Follows.{begins_import_expression, AsyncWord, not_async, async_word, no_await, await_word}
 use Rattle.swc_ecma_parser_grammar.specs.Looks.{kind_at, first_kind, sees, same_kind}
 use Rattle.swc_ecma_parser_grammar.specs.Names.{Code, is_reserved, is_name, is_identifier, token_is_identifier, first_is_identifier, identifier_at}
 use Rattle.swc_ecma_parser_grammar.specs.Reads.{ReadsToken, with_in, StmtRule, block_rule, empty_rule, debugger_rule, variables_rule, using_rule, if_statement_rule, switch_rule, labeled_rule, break_rule, continue_rule, return_rule, throw_rule, try_rule, while_rule, do_while_rule, for_rule, for_in_rule, for_of_rule, expr_rule, import_rule, if_rule, with_rule, function_rule, class_rule}
@@ -139,7 +139,8 @@ rule_starts n k at x c d (block_rule r) = starts_by c kind.LBrace r.opens refl r
 rule_starts n k at x c d (empty_rule e g i) = starts_by c kind.Semi e refl refl
 rule_starts n k at x c d (debugger_rule e g i) = starts_by c kind.Debugger e refl refl
 rule_starts n k at x c d (variables_rule v xs m a e r g i) = variables_start v c e
-rule_starts n k at x c d (using_rule xs a b r g i) = starts_by c kind.Ident (using_stands k c b) refl refl
+rule_starts n k at x c d (using_rule v xs m a (no_await e h) b r g i) = starts_by c kind.Ident (sym (ap kind_at h) ∙ using_stands k m b) refl refl
+rule_starts n k at x c d (using_rule v xs m a (await_word e h l) b r g i) = starts_by c kind.Await h refl refl
 rule_starts n k at x c d (if_statement_rule (if_rule t y z m i e r s o j)) = starts_by c kind.If e refl refl
 rule_starts n k at x c d (switch_rule y xs m l e r i s g j z) = starts_by c kind.Switch e refl refl
 rule_starts n k at x c d (break_rule y m e r g i) = starts_by c kind.Break e refl refl

@@ -21,11 +21,11 @@ use Rattle.swc_ecma_parser_reader.specs.State.{State, Reader, moved, coded, with
 use Rattle.swc_ecma_parser_reader.specs.Methods.{star}
 use Rattle.swc_ecma_parser_reader.specs.Expressions.{Cover}
 use Rattle.swc_ecma_parser_reader.specs.Reader as reader
-use Rattle.swc_ecma_parser_reader.specs.Reader.{declarators, items, closes, close, no_label, note_statement, optional_end, head, note_with, as_init, as_left, head_part, misdeclared, await_here, opening, link, alternative, target, unbroken, uncontinued, operand, misplaced, clauses, braced, handler, finalizer, handled, labelled_body, relabels, function_word, named, top_await, goes_on, Opening, begins_label, unless_awaited, empty, debugger, variables, block, block_from, expr_stmt, expr_stmt_at, import_stmt, import_stmt_at, thrown, throw, while_stmt, with_stmt, do_while, for_parts, for_in, for_of, for_behind, for_stmt, links, if_stmt, break_stmt, continue_stmt, returned, return_stmt, labeled_stmt, other_stmt, switch_stmt, try_stmt, function_parts, function_decl, function_stmt, const_stmt, let_stmt, async_or_other, stmt_by, stmt_level, stmt, whole_stmt, expr, head_cover, pattern, member, misusing, using_from, using_stmt, using_or_other}
+use Rattle.swc_ecma_parser_reader.specs.Reader.{declarators, items, closes, close, no_label, note_statement, optional_end, head, note_with, as_init, as_left, head_part, misdeclared, await_here, opening, link, alternative, target, unbroken, uncontinued, operand, misplaced, clauses, braced, handler, finalizer, handled, labelled_body, relabels, function_word, named, top_await, goes_on, Opening, begins_label, unless_awaited, empty, debugger, variables, block, block_from, expr_stmt, expr_stmt_at, import_stmt, import_stmt_at, thrown, throw, while_stmt, with_stmt, do_while, for_parts, for_in, for_of, for_behind, for_stmt, links, if_stmt, break_stmt, continue_stmt, returned, return_stmt, labeled_stmt, other_stmt, switch_stmt, try_stmt, function_parts, function_decl, function_stmt, const_stmt, let_stmt, async_or_other, stmt_by, stmt_level, stmt, whole_stmt, expr, head_cover, pattern, member, misusing, using_from, using_stmt, await_using_stmt, stmt_first, using_or_other}
 use Rattle.swc_ecma_parser_reader.proofs.Meets.{Meets, always, meets_then, meets_if, wanted_meets, too_deep_meets, refuse_meets}
 use Rattle.swc_ecma_parser_reader.proofs.SoundParts.{after_return_meets}
 use Rattle.swc_ecma_parser_reader.proofs.expressions.SoundSteps.{reject_meets}
-use Rattle.swc_ecma_parser_grammar.specs.Using.{is_using_declaration}
+use Rattle.swc_ecma_parser_grammar.specs.Using.{is_using_declaration, is_await_using_declaration}
 
 -- neither an import nor an export
 abbrev pub IsStatement : Tree → State → Type 0
@@ -218,10 +218,20 @@ module _ (inner : Position → Reader Tree) (inner_expr : Class → Reader Tree)
   by_form at kind.Export s = import_form _ s
   by_form at _ s = other_form _ at s
 
+  await_using_form : (s : State) → Meets IsStatement (await_using_stmt (declarators inner_expr inner_pat false decl.Var) s)
+  unfolding await_using_stmt using_from misusing
+  await_using_form s = always _ (within with_in (declarators inner_expr inner_pat false decl.Var) (moved (moved s))) _ (λ xs t. always _ (misusing (record { lo = (span_at s.at).lo; hi = t.at.last.hi }) xs t) _ (λ _ u. refl))
+
+  -- `await using` before anything else
+  first_form : (v : Bool) (at : Position) (j : TokenKind) (s : State) → Meets IsStatement (stmt_level inner inner_expr inner_pat inner_head inner_params inner_member at s)
+      → Meets IsStatement (stmt_first v (declarators inner_expr inner_pat false decl.Var) at j (stmt_level inner inner_expr inner_pat inner_head inner_params inner_member at) s)
+  first_form v at kind.Await s r = meets_if _ (v && is_await_using_declaration at s.code s.at) _ _ (λ _. await_using_form s) (λ _. r)
+  first_form v at _ s r = r
+
 stmt_form : (n : ℕ) (at : Position) (s : State) → Meets IsStatement (stmt n at s)
 unfolding stmt stmt_level
 stmt_form zero at s = too_deep_meets _ s
-stmt_form (suc n) at s = by_form (stmt n) (expr n) (pattern n) (head_cover n) (reader.parameters n) (member n) at (kind_at s.at) s
+stmt_form (suc n) at s = first_form (stmt n) (expr n) (pattern n) (head_cover n) (reader.parameters n) (member n) (reader.nests n) at (kind_at s.at) s (by_form (stmt n) (expr n) (pattern n) (head_cover n) (reader.parameters n) (member n) at (kind_at s.at) s)
 
 pub whole_form : (n : ℕ) (at : Position) (s : State) → Meets IsStatement (whole_stmt n at s)
 unfolding whole_stmt

@@ -4,6 +4,7 @@ use Rattle.swc_ecma_parser_grammar.specs.Parameters.{parameters}
 use Rattle.swc_ecma_parser_reader.proofs.patterns.Keeps as patterns
 use Rattle.swc_ecma_parser_reader.proofs.expressions.Keeps as expressions
 use Rattle.swc_ecma_parser_reader.specs.Reader as reader
+use Rattle.swc_ecma_parser_reader.proofs.First.{first_keeps}
 use Rattle.swc_ecma_parser_reader.proofs.expressions.Keeps.{star_keeps, told_keeps}
 use Rattle.swc_ecma_parser_reader.specs.Methods.{FunctionForm, expression_form, class_form, property_form, getter_form, setter_form, method_form, parameter_form, block_form, star}
 use Rattle.swc_ecma_parser_reader.specs.Reader.{no_parameter, one_parameter, getter, setter, plain_method, arrow_block, function_by, named, own_name, function_expr, expr, cover, head_cover, pattern, element, member, function, function_word, async_or_other, begins_label, relabels, labelled_body, labeled_stmt, other_stmt, note_with, with_stmt, await_here, unless_awaited, function_decl, function_stmt, function_parts, function_body, misdirected, missing_initializer, variables, Opening, Nothing, Variables, Resource, Named, Expression, unfollowed, undeclared, as_init, as_left, head_variables, using_head, named_head, async_head, head_expression, async_or_expression, head_target, opening, head_part, misdeclared, for_parts, for_in, for_of, for_behind, for_stmt, const_stmt, let_stmt, empty, debugger, initialized, declarator, declarators_turn, declarators, closes, at_end, close, items_turn, items, block_from, block, braced, note_statement, no_label, expr_stmt, expr_stmt_at, optional_end, import_stmt, import_stmt_at, told, target, unbroken, break_stmt, uncontinued, continue_stmt, misplaced, after_return, operand, returned, return_stmt, thrown, throw, head, while_stmt, do_while, goes_on, condition, alternative, link_from, link, links, if_stmt, begins_clause, closes_clause, clause_from, default_clause, case_clause, clause, clauses_turn, clauses, switch_stmt, begins_at, is_handled, handled, bound, parameter, finalizer, caught, handler, try_stmt, stmt_by, stmt_level, stmt, top_await_fault, top_await, whole_stmt, shebang, script_body, script, misusing, using_from, using_stmt, using_or_other}
@@ -634,6 +635,9 @@ module _ (inner : Position → Reader Tree) (inner_expr : Class → Reader Tree)
 
 -- ---- all levels
 
+declarators_keeps_all : (inner_expr : Class → Reader Tree) (inner_pat : Reader Tree) → ((class : Class) → Passes (inner_expr class)) → Passes inner_pat → Passes (declarators inner_expr inner_pat false decl.Var)
+declarators_keeps_all inner_expr inner_pat e p b s f = declarators_keeps inner_expr inner_pat e p b false decl.Var s f
+
 record Passing (n : ℕ) : Type 0 where
   exprs : (class : Class) → Passes (expr n class)
   covers : Passes (cover n)
@@ -671,7 +675,7 @@ all_passing (suc n) = let a = all_passing n in record {
   elements = λ b s f. patterns.element_level_keeps (expr n) (cover n) (pattern n) (element n) a.exprs a.covers a.patterns a.elements b s f;
   members = classes.member_level_keeps (expr n) (cover n) (stmt n nested_item) (reader.parameters n) a.exprs a.covers (parameters_passing n a)
       (function_body_keep (stmt n nested_item) (a.stmts nested_item) (reader.parameters n) (parameters_passing n a)) (braces_keep (stmt n nested_item) (a.stmts nested_item) false);
-  stmts = λ at b s f. level_keeps (stmt n) (expr n) (pattern n) (head_cover n) (reader.parameters n) (member n) a.stmts a.exprs a.patterns a.heads (parameters_passing n a) a.members at b s f;
+  stmts = λ at b s f. first_keeps (declarators (expr n) (pattern n) false decl.Var) (reader.nests n) at _ (declarators_keeps_all (expr n) (pattern n) a.exprs a.patterns) b s f (kind_at s.at) (level_keeps (stmt n) (expr n) (pattern n) (head_cover n) (reader.parameters n) (member n) a.stmts a.exprs a.patterns a.heads (parameters_passing n a) a.members at b s f);
 }
 
 -- a statement, and what it is made of

@@ -47,6 +47,7 @@ use Rattle.swc_ecma_parser_reader.specs.Expressions.{Cover}
 use Rattle.swc_ecma_parser_reader.specs.Limits.{has_too_deep_token}
 use Rattle.swc_ecma_parser_reader.proofs.Shallow.{StmtLevels, Fine, fine_more, fine_after, fine_taken, Shallow, Kept, Taken, too_deep_shallow, name_shallow, fault_shallow, wanted_shallow, refuse_shallow, end_shallow, expect_shallow, close_shallow, shebang_shallow, Levels, reference_shallow}
 use Rattle.swc_ecma_parser_reader.proofs.Opens.{chain_goes}
+use Rattle.swc_ecma_parser_reader.proofs.First.{first_shallow}
 use Rattle.swc_ecma_parser_reader.proofs.expressions.LimitSteps.{reject_shallow, told_shallow}
 use Rattle.swc_ecma_parser_reader.proofs.expressions.Limits.{star_shallow, FunctionsShallow}
 use Rattle.swc_ecma_parser_reader.proofs.classes.Limits as classes
@@ -737,7 +738,7 @@ all_enough (suc n) = let b = all_enough n in record {
   elements = λ m s h f. patterns.element_level_shallow (expr n) (cover n) (pattern n) (element n) n b.exprs b.covers b.patterns b.elements m h s f;
   members = classes.member_level_shallow (expr n) (cover n) (stmt n nested_item) (reader.parameters n) n b.exprs b.covers (parameters_enough n b)
       (function_body_shallow (stmt n nested_item) n (b.stmts nested_item) (reader.parameters n) (parameters_enough n b)) (braces_shallow (stmt n nested_item) n (b.stmts nested_item) false);
-  stmts = λ at m s h f. level_shallow (stmt n) (expr n) (pattern n) (head_cover n) (reader.parameters n) (member n) n b.stmts b.exprs b.patterns b.heads (parameters_enough n b) b.members at m h s f;
+  stmts = λ at m s h f. first_shallow (declarators (expr n) (pattern n) false decl.Var) (reader.nests n) at _ m (λ t g. declarators_shallow (expr n) (pattern n) n b.exprs b.patterns m (omega arith) false decl.Var t g) s f (kind_at s.at) (level_shallow (stmt n) (expr n) (pattern n) (head_cover n) (reader.parameters n) (member n) n b.stmts b.exprs b.patterns b.heads (parameters_enough n b) b.members at m h s f);
 }
 
 -- an expression of any class, what may still become a pattern, and what a part of an expression holds that is none

@@ -19,7 +19,7 @@ use Rattle.swc_ecma_parser_grammar.specs.language.Items.{labelled_item, sub_stat
 use Rattle.swc_ecma_parser_reader.specs.Members.{class_parts, named_class, class_decl, class_stmt}
 use Rattle.swc_ecma_parser_reader.specs.State.{coded, below, below_label, fault, fault_at, recorded_at, recorded_in, noted, reference, State, Outcome, Reader, and_then, moved, within, wanted, name, expect, end}
 use Rattle.swc_ecma_parser_reader.specs.Methods.{star}
-use Rattle.swc_ecma_parser_reader.specs.Reader.{told, named, with_stmt, note_with, await_here, unless_awaited, misdirected, function_body, function_parts, function_decl, function_stmt, expr, head_cover, pattern, member, function_word, async_or_other, items, closes, close, declarators, link, alternative, head, clauses, target, unbroken, uncontinued, operand, braced, handler, finalizer, handled, optional_end, Opening, as_init, as_left, opening, head_part, misdeclared, labelled_body, relabels, no_label, note_statement, empty, debugger, variables, block, block_from, expr_stmt, expr_stmt_at, import_stmt, import_stmt_at, thrown, throw, while_stmt, do_while, for_parts, for_in, for_of, for_behind, for_stmt, goes_on, links, if_stmt, break_stmt, continue_stmt, returned, return_stmt, misplaced, begins_label, labeled_stmt, other_stmt, switch_stmt, try_stmt, const_stmt, let_stmt, stmt_by, stmt_level, stmt, misusing, using_from, using_stmt, using_or_other}
+use Rattle.swc_ecma_parser_reader.specs.Reader.{told, named, with_stmt, note_with, await_here, unless_awaited, misdirected, function_body, function_parts, function_decl, function_stmt, expr, head_cover, pattern, member, function_word, async_or_other, items, closes, close, declarators, link, alternative, head, clauses, target, unbroken, uncontinued, operand, braced, handler, finalizer, handled, optional_end, Opening, as_init, as_left, opening, head_part, misdeclared, labelled_body, relabels, no_label, note_statement, empty, debugger, variables, block, block_from, expr_stmt, expr_stmt_at, import_stmt, import_stmt_at, thrown, throw, while_stmt, do_while, for_parts, for_in, for_of, for_behind, for_stmt, goes_on, links, if_stmt, break_stmt, continue_stmt, returned, return_stmt, misplaced, begins_label, labeled_stmt, other_stmt, switch_stmt, try_stmt, const_stmt, let_stmt, stmt_by, stmt_level, stmt, stmt_first, misusing, using_from, using_stmt, await_using_stmt, using_or_other}
 use Rattle.swc_ecma_parser_reader.proofs.Meets.{meets_then, Meets, Refuses, always, meets_if, wanted_meets, too_deep_meets, refuse_meets, meant}
 use Rattle.std.specs.Prelude.{◌&&◌, ◌||◌, codes}
 use Rattle.std.proofs.lemmas.List.Recursion.{is_count_by}
@@ -40,7 +40,7 @@ use Rattle.swc_ecma_parser_grammar.specs.language.Contexts.{in_class, in_loop, i
 use Rattle.swc_ecma_parser_grammar.specs.language.Goals.{Class, expression, assignment, left_side}
 use Rattle.swc_ecma_parser_reader.specs.Expressions.{Cover}
 use Rattle.swc_ecma_parser_reader.proofs.SoundParts.{after_return_meets}
-use Rattle.swc_ecma_parser_grammar.specs.Using.{is_using_declaration}
+use Rattle.swc_ecma_parser_grammar.specs.Using.{is_using_declaration, is_await_using_declaration}
 
 -- no function that a label tells of
 abbrev Plain : Tree → State → Type 0
@@ -287,10 +287,21 @@ module _ (inner : Position → Reader Tree) (inner_expr : Class → Reader Tree)
   by_told at kind.Export s e = import_plain s
   by_told at _ s e = other_plain at s
 
+  await_using_plain : (s : State) → Meets Plain (await_using_stmt (declarators inner_expr inner_pat false decl.Var) s)
+  unfolding await_using_stmt using_from misusing
+  await_using_plain s = always Plain (within with_in (declarators inner_expr inner_pat false decl.Var) (moved (moved s))) _ (λ xs t. always Plain (misusing (record { lo = (span_at s.at).lo; hi = t.at.last.hi }) xs t) _ (λ _ u b. refl))
+
+  -- `await using` before anything else
+  first_told : (v : Bool) (at : Position) (j : TokenKind) (s : State) → Meets (Told j (is_starred s)) (stmt_level inner inner_expr inner_pat inner_head inner_params inner_member at s)
+      → Meets (Told j (is_starred s)) (stmt_first v (declarators inner_expr inner_pat false decl.Var) at j (stmt_level inner inner_expr inner_pat inner_head inner_params inner_member at) s)
+  unfolding same_kind
+  first_told v at kind.Await s r = meets_if (Told kind.Await (is_starred s)) (v && is_await_using_declaration at s.code s.at) _ _ (λ _. await_using_plain s) (λ _. r)
+  first_told v at _ s r = r
+
 stmt_meets_told : (n : ℕ) (at : Position) (s : State) → Meets (Told (kind_at s.at) (is_starred s)) (stmt n at s)
 unfolding stmt stmt_level
 stmt_meets_told zero at s = too_deep_meets (Told (kind_at s.at) (is_starred s)) s
-stmt_meets_told (suc n) at s = by_told (stmt n) (expr n) (pattern n) (head_cover n) (reader.parameters n) (member n) at (kind_at s.at) s refl
+stmt_meets_told (suc n) at s = first_told (stmt n) (expr n) (pattern n) (head_cover n) (reader.parameters n) (member n) (reader.nests n) at (kind_at s.at) s (by_told (stmt n) (expr n) (pattern n) (head_cover n) (reader.parameters n) (member n) at (kind_at s.at) s refl)
 
 -- ---- the faults of a label
 
