@@ -5,6 +5,7 @@ pub mod SupportedBegins
 pub mod Ended
 pub mod UsingParts
 pub mod Marks
+pub mod Decorated
 pub mod Widens
 pub mod Unnoted
 pub mod Narrows
@@ -35,6 +36,5 @@ mod ReadWithFaults
 pub mod ExpressionBegins
 pub mod StatementBegins
 pub mod Using
-pub mod AwaitUsing
 mod UnspelledStatements
 mod UnspelledItems

@@ -10,22 +10,24 @@ use Rattle.swc_ecma_parser_token.specs.declared.kind.TokenKind.TheVariants as ki
 use Rattle.swc_ecma_parser_input.specs.Place.{Place, after}
 use Rattle.swc_ecma_parser_model.specs.declared.leaves.VarDeclKind.{VarDeclKind}
 use Rattle.swc_ecma_parser_model.specs.Tree as tree
-use Rattle.swc_ecma_parser_model.specs.Tree.{Tree, trees}
+use Rattle.swc_ecma_parser_model.specs.Tree.{Tree, trees, listed}
 use Rattle.swc_ecma_parser_model.specs.Directive.{is_use_strict}
 use Rattle.swc_ecma_parser_model.specs.Kinds.{is_module_decl}
 use Rattle.swc_ecma_parser_grammar.specs.declared.position.Position.{Position}
-use Rattle.swc_ecma_parser_grammar.specs.Looks.{sees}
+use Rattle.swc_ecma_parser_grammar.specs.Looks.{sees, span_at}
 use Rattle.swc_ecma_parser_grammar.specs.Names.{Code}
 use Rattle.swc_ecma_parser_grammar.specs.Notes.{notes, all_notes, statement_note}
-use Rattle.swc_ecma_parser_grammar.specs.Reads.{with_in, directed, directs_on, nested_item, DeclaratorRule, plain_rule, initialized_rule, ReadsSeparated, ReadsItems, StmtRule, block_rule, empty_rule, debugger_rule, variables_rule, using_rule, if_statement_rule, TargetRule, no_target_rule, target_rule, OperandRule, no_operand_rule, operand_rule, break_rule, continue_rule, return_rule, labeled_rule, HeadVariables, InitRule, no_init_rule, init_variables_rule, init_expression_rule, LeftRule, declared_rule, left_target_rule, OfLeftRule, of_left_rule, of_using_rule, for_in_rule, for_of_rule, head_code, PartRule, no_part_rule, part_rule, for_rule, CaseRule, case_clause_rule, default_clause_rule, ReadsCases, switch_rule, throw_rule, try_rule, with_rule, while_rule, do_while_rule, expr_rule, import_rule, ReadsBlock, CatchRule, no_catch_rule, catch_rule, catch_parameter_rule, FinallyRule, no_finally_rule, finally_rule, ReadsHead, IfRule, if_rule, ElseRule, no_else_rule, else_rule, else_if_rule, ReadsBraced, class_rule, function_rule}
+use Rattle.swc_ecma_parser_grammar.specs.Reads.{with_in, directed, directs_on, nested_item, DeclaratorRule, plain_rule, initialized_rule, ReadsSeparated, ReadsItems, StmtRule, block_rule, empty_rule, debugger_rule, variables_rule, using_rule, if_statement_rule, TargetRule, no_target_rule, target_rule, OperandRule, no_operand_rule, operand_rule, break_rule, continue_rule, return_rule, labeled_rule, HeadVariables, InitRule, no_init_rule, init_variables_rule, init_expression_rule, LeftRule, declared_rule, left_target_rule, for_in_rule, for_of_rule, head_code, PartRule, no_part_rule, part_rule, for_rule, CaseRule, case_clause_rule, default_clause_rule, ReadsCases, switch_rule, throw_rule, try_rule, with_rule, while_rule, do_while_rule, expr_rule, import_rule, ReadsBlock, CatchRule, no_catch_rule, catch_rule, catch_parameter_rule, FinallyRule, no_finally_rule, finally_rule, ReadsHead, IfRule, if_rule, ElseRule, no_else_rule, else_rule, else_if_rule, ReadsBraced, ReadsFunction, class_rule, function_rule, OfLeftRule, of_left_rule, of_using_rule}
+use Rattle.swc_ecma_parser_grammar.specs.Decorated.{declared_class, declared_function, DecoratedRule, EitherRule, plain_statement, decorated_statement}
 use Rattle.swc_ecma_parser_grammar.specs.Supported.{supported, supported_in, all_supported_in}
-use Rattle.swc_ecma_parser_grammar.specs.ReadsSupported.{ReadsClass, ReadsPat, ReadsTarget, ReadsStmt, ReadsTop, ReadsParams, ReadsNamedClass}
+use Rattle.swc_ecma_parser_grammar.specs.ReadsSupported.{ReadsClass, ReadsPat, ReadsTarget, ReadsStmt, ReadsTop, ReadsParams, ReadsNamedClass, ReadsDecorators, ReadsDeclared}
 use Rattle.swc_ecma_parser_grammar.specs.language.Goals.{binding, assigning, expression, assignment, stmt_goal}
 use Rattle.swc_ecma_parser_grammar.specs.language.Contexts.{in_module, in_loop, in_breakable}
 use Rattle.swc_ecma_parser_grammar.specs.language.Items.{sub_statement, labelled_item}
 use Rattle.swc_ecma_parser_grammar.specs.language.Reads.{Reads}
 use Rattle.swc_ecma_parser_grammar.specs.language.Programs.{is_module_program, is_module_code}
-use Rattle.swc_ecma_parser_grammar.proofs.Unnoted.{joined, expr_unnoted, pattern_unnoted, import_unnoted, parameter_unnoted, class_unnoted}
+use Rattle.swc_ecma_parser_grammar.proofs.Unnoted.{joined, expr_unnoted, pattern_unnoted, import_unnoted, parameter_unnoted, class_unnoted, decorators_unnoted}
+use Rattle.swc_ecma_parser_grammar.proofs.Decorated.{decorated_unnoted}
 use Rattle.swc_ecma_parser_grammar.proofs.Widens.{top_widens, stmt_supported}
 use Rattle.swc_ecma_parser_grammar.proofs.SupportedIn.{strict_module, head_module, lower, lift_in}
 use Rattle.swc_ecma_parser_grammar.proofs.Narrows.{top_narrows}
@@ -134,15 +136,17 @@ module _ (n : ℕ) (small : (k : Code) (at : Position) (x : Tree) (c d : Place) 
     else_unnoted {k = k} {x = x} {c = c} {d = d} o (else_rule h i s) = small k sub_statement x (after c) d o s
     else_unnoted o (else_if_rule h r) = if_unnoted o r
 
+  function_unnoted : {k : Code} {x : Tree} {c d : Place} → k.flags.module ≡ true → ReadsFunction (ReadsStmt n) (ReadsParams n) k x c d → notes x ≡ []
+  function_unnoted o r = ap notes r.is ∙ joined (notes (parameters r.patterns)) (notes r.body) (params_unnoted n r.patterns o r.reads_parameters) (braced_unnoted true o r.reads_body)
+
   rule_unnoted : (k : Code) (at : Position) (x : Tree) (c d : Place) → k.flags.module ≡ true → StmtRule (ReadsStmt n) (ReadsClass n) (ReadsPat n) (ReadsTarget n) (ReadsParams n) (ReadsNamedClass n) k at x c d → notes x ≡ []
   rule_unnoted k at x c d o (class_rule name y a r b e) = ap notes e ∙ class_unnoted n k name y c d o r.0 r.1
-  rule_unnoted k at x c d o (function_rule a r) =
-      ap notes r.is ∙ joined (notes (parameters r.patterns)) (notes r.body) (params_unnoted n r.patterns o r.reads_parameters) (braced_unnoted true o r.reads_body)
+  rule_unnoted k at x c d o (function_rule a r) = function_unnoted o r
   rule_unnoted k at x c d o (block_rule r) = block_unnoted o r
   rule_unnoted k at x c d o (empty_rule h g e) = ap notes e
   rule_unnoted k at x c d o (debugger_rule h g e) = ap notes e
   rule_unnoted k at x c d o (variables_rule word xs m a h r g e) = ap notes e ∙ declarators_unnoted n (with_in k) false word xs (after c) m o r
-  rule_unnoted k at x c d o (using_rule v xs m a w b r f e) = ap notes e ∙ declarators_unnoted n (with_in k) false _ xs (after m) d o r
+  rule_unnoted k at x c d o (using_rule xs a b r f e) = ap notes e ∙ declarators_unnoted n (with_in k) false _ xs (after c) d o r
   rule_unnoted k at x c d o (if_statement_rule r) = if_unnoted o r
   rule_unnoted k at x c d o (switch_rule y xs m i h r j s g t e) = ap notes e ∙ joined (notes y) _ (head_unnoted n o r) (cases_unnoted (in_breakable k) false xs (after m) i o s)
   rule_unnoted k at x c d o (labeled_rule w s y m r f h t e) = ap notes e ∙ small (in_breakable k) (labelled_item (after m)) y (after m) d o t
@@ -169,9 +173,20 @@ module _ (n : ℕ) (small : (k : Code) (at : Position) (x : Tree) (c d : Place) 
   rule_unnoted k at x c d o (import_rule y m h r g e) =
       ap notes e ∙ joined (notes y) (statement_note y) (expr_unnoted n expression (with_in k) y c m o r.0 r.1) (import_unnoted n (with_in k) y c m r h)
 
+  declared_unnoted : (k : Code) (at : Position) (x : Tree) (c d : Place) → k.flags.module ≡ true → ReadsDeclared n k at x c d → notes x ≡ []
+  declared_unnoted k at x c d o (declared_class name y a r b e) = ap notes e ∙ class_unnoted n k name y c d o r.0 r.1
+  declared_unnoted k at x c d o (declared_function a r) = function_unnoted o r
+
+  -- behind decorators
+  either_unnoted : (k : Code) (at : Position) (x : Tree) (c d : Place) → k.flags.module ≡ true → EitherRule (StmtRule (ReadsStmt n) (ReadsClass n) (ReadsPat n) (ReadsTarget n) (ReadsParams n) (ReadsNamedClass n) k at x c d)
+      (DecoratedRule (ReadsDecorators n) (ReadsDeclared n) k at x c d) → notes x ≡ []
+  either_unnoted k at x c d o (plain_statement r) = rule_unnoted k at x c d o r
+  either_unnoted k at x c d o (decorated_statement r) = ap notes r.is ∙ decorated_unnoted (span_at c) (r.first ∷ r.others) r.bare
+      (decorators_unnoted n k (listed (r.first ∷ r.others)) c r.middle o r.reads_decorators.0 r.reads_decorators.1) (declared_unnoted k at r.bare r.middle d o r.reads_bare)
+
 pub stmt_unnoted : (n : ℕ) (k : Code) (at : Position) (x : Tree) (c d : Place) → k.flags.module ≡ true → ReadsStmt n k at x c d → notes x ≡ []
 stmt_unnoted zero k at x c d o r = absurd r
-stmt_unnoted (suc n) k at x c d o r = rule_unnoted n (stmt_unnoted n) k at x c d o r
+stmt_unnoted (suc n) k at x c d o r = either_unnoted n (stmt_unnoted n) k at x c d o r
 
 -- ---- what a statement is part of
 

@@ -129,12 +129,15 @@ using_word k c h = by_first c.left refl h
     by_first (t ∷ ts) e g = by_token t.token refl g
       where
         by_token : (u : Token) → t.token ≡ u → token_is (codes "using") u ≡ true → (s : Span) × ReadsName k (codes "using") s c (after c)
-        by_token (tokens.Word (word.Ident text)) i j = (t.span, record {
-          word = word.Ident text;
-          reads_word = record { had_line_break = t.had_line_break; rest = ts; is = e ∙ rw (← i) refl; next = refl };
-          is_text = sym ((bytes_eq-Decides text (codes "using")).0 j);
-          is_name = and_both _ _ (ap not (or_none _ _ (and_no k.flags.strict _ refl) (and_no k.flags.in_generator _ refl))) refl;
-        })
+        by_token (tokens.Word (word.Ident text)) i j = (
+          t.span,
+          record {
+            word = word.Ident text;
+            reads_word = record { had_line_break = t.had_line_break; rest = ts; is = e ∙ rw (← i) refl; next = refl };
+            is_text = sym ((bytes_eq-Decides text (codes "using")).0 j);
+            is_name = and_both _ _ (ap not (or_none _ _ (and_no k.flags.strict _ refl) (and_no k.flags.in_generator _ refl))) refl;
+          },
+        )
         by_token _ i j = cc
 
 pub using_read : (n : ℕ) (k : Code) (c : Place) → word_at (codes "using") c ≡ true → (i j : Place) (p : Tree) → Reads n (pattern_goal binding k p i j)

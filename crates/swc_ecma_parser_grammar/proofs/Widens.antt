@@ -16,19 +16,20 @@ use Rattle.swc_ecma_parser_model.specs.Tree.{Tree, Text, trees, listed}
 use Rattle.swc_ecma_parser_model.specs.Forms.{is_absent}
 use Rattle.swc_ecma_parser_model.specs.Directive.{is_use_strict}
 use Rattle.swc_ecma_parser_grammar.specs.declared.position.Position.{Position}
-use Rattle.swc_ecma_parser_grammar.specs.Looks.{kind_at, sees, same_kind, spanned}
+use Rattle.swc_ecma_parser_grammar.specs.Looks.{kind_at, sees, same_kind, span_at, spanned}
 use Rattle.swc_ecma_parser_grammar.specs.Names.{Code}
-use Rattle.swc_ecma_parser_grammar.specs.Follows.{AwaitWord}
+use Rattle.swc_ecma_parser_grammar.specs.Follows.{no_await}
 use Rattle.swc_ecma_parser_grammar.specs.Using.{is_using_declaration, misused, each_misused, using_faults}
-use Rattle.swc_ecma_parser_grammar.specs.Reads.{with_in, directed, directs_on, nested_item, top_item, DeclaratorRule, plain_rule, initialized_rule, ReadsSeparated, ReadsItems, StmtRule, block_rule, empty_rule, debugger_rule, variables_rule, using_rule, if_statement_rule, TargetRule, no_target_rule, target_rule, OperandRule, no_operand_rule, operand_rule, break_rule, continue_rule, return_rule, labeled_rule, HeadVariables, InitRule, no_init_rule, init_variables_rule, init_expression_rule, LeftRule, declared_rule, left_target_rule, OfLeftRule, of_left_rule, of_using_rule, for_in_rule, for_of_rule, head_code, PartRule, no_part_rule, part_rule, for_rule, CaseRule, case_clause_rule, default_clause_rule, ReadsCases, switch_rule, throw_rule, try_rule, with_rule, while_rule, do_while_rule, expr_rule, import_rule, ReadsBlock, CatchRule, no_catch_rule, catch_rule, catch_parameter_rule, FinallyRule, no_finally_rule, finally_rule, ReadsHead, IfRule, if_rule, ElseRule, no_else_rule, else_rule, else_if_rule, ReadsBraced, class_rule, function_rule}
+use Rattle.swc_ecma_parser_grammar.specs.Reads.{with_in, directed, directs_on, nested_item, top_item, DeclaratorRule, plain_rule, initialized_rule, ReadsSeparated, ReadsItems, StmtRule, block_rule, empty_rule, debugger_rule, variables_rule, using_rule, if_statement_rule, TargetRule, no_target_rule, target_rule, OperandRule, no_operand_rule, operand_rule, break_rule, continue_rule, return_rule, labeled_rule, HeadVariables, InitRule, no_init_rule, init_variables_rule, init_expression_rule, LeftRule, declared_rule, left_target_rule, for_in_rule, for_of_rule, head_code, PartRule, no_part_rule, part_rule, for_rule, CaseRule, case_clause_rule, default_clause_rule, ReadsCases, switch_rule, throw_rule, try_rule, with_rule, while_rule, do_while_rule, expr_rule, import_rule, ReadsBlock, CatchRule, no_catch_rule, catch_rule, catch_parameter_rule, FinallyRule, no_finally_rule, finally_rule, ReadsHead, IfRule, if_rule, ElseRule, no_else_rule, else_rule, else_if_rule, ReadsBraced, ReadsFunction, class_rule, function_rule, OfLeftRule, of_left_rule, of_using_rule}
 use Rattle.swc_ecma_parser_grammar.specs.Entries.{ReadsScript, ReadsShebang, some_shebang, no_shebang, script_code, items_await, script_awaits}
-use Rattle.swc_ecma_parser_grammar.specs.Supported.{supported, supported_in, all_supported_in, is_await_using}
-use Rattle.swc_ecma_parser_grammar.specs.ReadsSupported.{ReadsClass, ReadsPat, ReadsTarget, ReadsStmt, ReadsTop, ReadsParams, ReadsNamedClass}
-use Rattle.swc_ecma_parser_grammar.specs.language.Goals.{expression, assignment, assigning, expr_goal, pattern_goal, stmt_goal}
-use Rattle.swc_ecma_parser_grammar.specs.language.Contexts.{in_loop, in_breakable, in_with, without_in}
-use Rattle.swc_ecma_parser_grammar.specs.language.Patterns as patterns
+use Rattle.swc_ecma_parser_grammar.specs.Decorated.{decorated_by, DeclaredRule, declared_class, declared_function, DecoratedRule, EitherRule, plain_statement, decorated_statement}
+use Rattle.swc_ecma_parser_grammar.specs.Supported.{supported, supported_in, all_supported_in}
+use Rattle.swc_ecma_parser_grammar.specs.ReadsSupported.{ReadsClass, ReadsPat, ReadsTarget, ReadsStmt, ReadsTop, ReadsParams, ReadsNamedClass, ReadsDecorators, ReadsDeclared}
+use Rattle.swc_ecma_parser_grammar.specs.language.Goals.{expression, assignment, expr_goal, stmt_goal}
+use Rattle.swc_ecma_parser_grammar.specs.language.Contexts.{in_loop, in_breakable, in_with}
 use Rattle.swc_ecma_parser_grammar.specs.language.ForHeads as heads
 use Rattle.swc_ecma_parser_grammar.specs.language.Classes as classes
+use Rattle.swc_ecma_parser_grammar.specs.language.Functions as functions
 use Rattle.swc_ecma_parser_grammar.specs.language.Parts as parts
 use Rattle.swc_ecma_parser_grammar.specs.language.Declarations as declarations
 use Rattle.swc_ecma_parser_grammar.specs.language.Items.{sub_statement, labelled_item, ItemsRule, BlockRule}
@@ -40,6 +41,7 @@ use Rattle.swc_ecma_parser_grammar.specs.language.Programs as programs
 use Rattle.swc_ecma_parser_grammar.specs.language.Programs.{ReadsEntry}
 use Rattle.swc_ecma_parser_token.specs.Text.{word_text}
 use Rattle.swc_ecma_parser_grammar.proofs.Tests.{and_both}
+use Rattle.swc_ecma_parser_grammar.proofs.Decorated.{decorated_supported}
 use Rattle.swc_ecma_parser_grammar.proofs.Naming.{name_is_clean}
 use Rattle.swc_ecma_parser_grammar.proofs.SupportedIn.{strict_module, head_module, parted}
 use Rattle.swc_ecma_parser_grammar.proofs.UsingParts.{declared, set_so, unbound, declares_in_head}
@@ -134,18 +136,18 @@ module _ (n : ℕ) (k : Code) where
   using_declarators_widen s (x ∷ y ∷ ys) c d (m, r, e, rs) f =
       let g = parted (misused s x) _ f in (m, using_declarator_widens s x c m r g.0, e, using_declarators_widen s (y ∷ ys) (after m) d rs g.1)
 
-  using_widens : (at : Position) (x : Tree) (c d : Place) (is_await : Bool) (xs : List Tree) (m : Place) → at.include_decl || (is_await && at.top_level) ≡ true → AwaitWord is_await c m → is_using_declaration k m ≡ true
-      → ReadsSeparated (DeclaratorRule (ReadsClass n assignment) (ReadsPat n) (with_in k) false decl.Var) xs (after m) d
-      → using_faults k.setting.explicit_resource_management (spanned c d) xs ≡ [] → x ≡ tree.using (spanned c d) is_await (listed xs) → declarations.UsingRule (Reads n) k at x c d
-  using_widens at x c d v xs m a w b r f e = let g = set_so k.setting.explicit_resource_management (spanned c d) xs f in record {
-    is_await = v;
-    word = m;
+  using_widens : (at : Position) (x : Tree) (c d : Place) (xs : List Tree) → at.include_decl ≡ true → is_using_declaration k c ≡ true
+      → ReadsSeparated (DeclaratorRule (ReadsClass n assignment) (ReadsPat n) (with_in k) false decl.Var) xs (after c) d
+      → using_faults k.setting.explicit_resource_management (spanned c d) xs ≡ [] → x ≡ tree.using (spanned c d) false (listed xs) → declarations.UsingRule (Reads n) k at x c d
+  using_widens at x c d xs a b r f e = let g = set_so k.setting.explicit_resource_management (spanned c d) xs f in record {
+    is_await = false;
+    word = c;
     declarators = xs;
     is_read = g.0;
-    has_place = a;
-    reads_await = w;
+    has_place = rw a refl;
+    reads_await = no_await refl refl;
     begins = b;
-    reads = using_declarators_widen (spanned c d) xs (after m) d r g.1;
+    reads = using_declarators_widen (spanned c d) xs (after c) d r g.1;
     is = e;
   }
 
@@ -192,20 +194,6 @@ init_widens n (init_expression_rule h r) = heads.init_expression_rule h r.0
 left_widens : (n : ℕ) {k : Code} {x : Tree} {c d : Place} → LeftRule (ReadsClass n) (ReadsPat n) (ReadsTarget n) k x c d → heads.LeftRule (Reads n) k x c d
 left_widens n (declared_rule r) = heads.declared_rule (head_variables_widen n r)
 left_widens n (left_target_rule h r) = heads.target_rule h r.0
-
--- nothing before `of` is an `await using`
-target_plain : (n : ℕ) (k : Code) (x : Tree) (c d : Place) → Reads n (pattern_goal assigning k x c d) → is_await_using x ≡ false
-target_plain zero k x c d r = absurd r
-target_plain (suc n) k x c d (patterns.binding_name_rule text s i r e) = ap is_await_using e
-target_plain (suc n) k x c d (patterns.target_name_rule text s i a r e) = ap is_await_using e
-target_plain (suc n) k x c d (patterns.target_rule y i r t u e) = ap is_await_using e
-target_plain (suc n) k x c d (patterns.array_rule xs m i r j g e) = ap is_await_using e
-target_plain (suc n) k x c d (patterns.object_rule xs m i r j g e) = ap is_await_using e
-
-of_left_plain : (n : ℕ) {w : Bool} {k : Code} {x : Tree} {c d : Place} → OfLeftRule (ReadsClass n) (ReadsPat n) (ReadsTarget n) k w x c d → is_await_using x ≡ false
-of_left_plain n (of_left_rule (declared_rule r) i) = ap is_await_using r.is
-of_left_plain n {k = k} {x = x} {c = c} {d = d} (of_left_rule (left_target_rule h r) i) = target_plain n (without_in k) x c d r.0
-of_left_plain n (of_using_rule name h r i e) = ap is_await_using e
 
 of_left_widens : (n : ℕ) {w : Bool} {k : Code} {x : Tree} {c d : Place} → OfLeftRule (ReadsClass n) (ReadsPat n) (ReadsTarget n) k w x c d → heads.OfLeftRule (Reads n) k w x c d
 of_left_widens n (of_left_rule r i) = heads.of_left_rule (left_widens n r) i
@@ -264,16 +252,19 @@ module _ (n : ℕ) (small : (k : Code) (at : Position) (x : Tree) (c d : Place) 
     else_supported {k = k} {x = x} {c = c} {d = d} (else_rule h i s) = small k sub_statement x (after c) d s
     else_supported (else_if_rule h r) = if_supported r
 
-  rule_supported : (k : Code) (at : Position) (x : Tree) (c d : Place) → StmtRule (ReadsStmt n) (ReadsClass n) (ReadsPat n) (ReadsTarget n) (ReadsParams n) (ReadsNamedClass n) k at x c d → supported_in k.flags.module x ≡ true
-  rule_supported k at x c d (class_rule name y a r b e) = ap (supported_in k.flags.module) e ∙ r.1
-  rule_supported k at x c d (function_rule a r) =
+  function_supported : {k : Code} {x : Tree} {c d : Place} → ReadsFunction (ReadsStmt n) (ReadsParams n) k x c d → supported_in k.flags.module x ≡ true
+  function_supported {k = k} r =
       ap (supported_in k.flags.module) r.is ∙ and_both _ _ refl
       (and_both (supported_in k.flags.module (parameters r.patterns)) _ (parameters_same k.flags.module r.patterns ∙ r.reads_parameters.1) (braced_supported true r.reads_body))
+
+  rule_supported : (k : Code) (at : Position) (x : Tree) (c d : Place) → StmtRule (ReadsStmt n) (ReadsClass n) (ReadsPat n) (ReadsTarget n) (ReadsParams n) (ReadsNamedClass n) k at x c d → supported_in k.flags.module x ≡ true
+  rule_supported k at x c d (class_rule name y a r b e) = ap (supported_in k.flags.module) e ∙ r.1
+  rule_supported k at x c d (function_rule a r) = function_supported r
   rule_supported k at x c d (block_rule r) = block_supported r
   rule_supported k at x c d (empty_rule h g e) = ap (supported_in k.flags.module) e
   rule_supported k at x c d (debugger_rule h g e) = ap (supported_in k.flags.module) e
   rule_supported k at x c d (variables_rule word xs m a h r g e) = ap (supported_in k.flags.module) e ∙ declarators_supported n (with_in k) false word xs (after c) m r
-  rule_supported k at x c d (using_rule v xs m a w b r f e) = ap (supported_in k.flags.module) e ∙ declared_supported n k (spanned c d) xs (after m) d r
+  rule_supported k at x c d (using_rule xs a b r f e) = ap (supported_in k.flags.module) e ∙ declared_supported n k (spanned c d) xs (after c) d r
   rule_supported k at x c d (if_statement_rule r) = if_supported r
   rule_supported k at x c d (switch_rule y xs m i h r j s g t e) = ap (supported_in k.flags.module) e ∙ and_both (supported_in k.flags.module y) _ r.reads.1 (cases_supported (in_breakable k) false xs (after m) i s)
   rule_supported k at x c d (labeled_rule w s y m r f h t e) =
@@ -286,7 +277,7 @@ module _ (n : ℕ) (small : (k : Code) (at : Position) (x : Tree) (c d : Place) 
   rule_supported k at x c d (for_in_rule a b y m i h g r j s o t e) =
       ap (supported_in k.flags.module) e ∙ and_both (supported_in k.flags.module a) _ (left_supported n r) (and_both (supported_in k.flags.module b) _ s.1 (small (in_loop k) sub_statement y (after i) d t))
   rule_supported k at x c d (for_of_rule w a b y l m i h v g r j s o t e) =
-      ap (supported_in k.flags.module) e ∙ and_both (not (is_await_using a)) _ (ap not (of_left_plain n r)) (and_both (supported_in k.flags.module a) _ (of_left_supported n r) (and_both (supported_in k.flags.module b) _ s.1 (small (in_loop k) sub_statement y (after i) d t)))
+      ap (supported_in k.flags.module) e ∙ and_both (supported_in k.flags.module a) _ (of_left_supported n r) (and_both (supported_in k.flags.module b) _ s.1 (small (in_loop k) sub_statement y (after i) d t))
   rule_supported k at x c d (throw_rule y m h b r g e) = ap (supported_in k.flags.module) e ∙ r.1
   rule_supported k at x c d (try_rule y z w m i h r s t a e) = ap (supported_in k.flags.module) e ∙ and_both (supported_in k.flags.module y) _ (block_supported r) (and_both (supported_in k.flags.module z) _ (catch_supported s) (finally_supported t))
   rule_supported k at x c d (with_rule y z m h o r s e) = ap (supported_in k.flags.module) e ∙ and_both (supported_in k.flags.module y) _ r.reads.1 (small (in_with k) sub_statement z m d s)
@@ -295,9 +286,19 @@ module _ (n : ℕ) (small : (k : Code) (at : Position) (x : Tree) (c d : Place) 
   rule_supported k at x c d (expr_rule y m h r a b g e) = ap (supported_in k.flags.module) e ∙ r.1
   rule_supported k at x c d (import_rule y m h r g e) = ap (supported_in k.flags.module) e ∙ r.1
 
+  declared_supported_by : (k : Code) (at : Position) (x : Tree) (c d : Place) → DeclaredRule (ReadsStmt n) (ReadsParams n) (ReadsNamedClass n) k at x c d → supported_in k.flags.module x ≡ true
+  declared_supported_by k at x c d (declared_class name y a r b e) = ap (supported_in k.flags.module) e ∙ r.1
+  declared_supported_by k at x c d (declared_function a r) = function_supported r
+
+  statement_supported : (k : Code) (at : Position) (x : Tree) (c d : Place) → EitherRule (StmtRule (ReadsStmt n) (ReadsClass n) (ReadsPat n) (ReadsTarget n) (ReadsParams n) (ReadsNamedClass n) k at x c d)
+      (DecoratedRule (ReadsDecorators n) (ReadsDeclared n) k at x c d) → supported_in k.flags.module x ≡ true
+  statement_supported k at x c d (plain_statement r) = rule_supported k at x c d r
+  statement_supported k at x c d (decorated_statement r) = ap (supported_in k.flags.module) r.is
+      ∙ decorated_supported k.flags.module (span_at c) (r.first ∷ r.others) r.bare r.reads_decorators.1 (declared_supported_by k at r.bare r.middle d r.reads_bare)
+
 pub stmt_supported : (n : ℕ) (k : Code) (at : Position) (x : Tree) (c d : Place) → ReadsStmt n k at x c d → supported_in k.flags.module x ≡ true
 stmt_supported zero k at x c d h = absurd h
-stmt_supported (suc n) k at x c d h = rule_supported n (stmt_supported n) k at x c d h
+stmt_supported (suc n) k at x c d h = statement_supported n (stmt_supported n) k at x c d h
 
 -- what an expression is stands there
 pub stands_there : (n : ℕ) (k : Code) (x : Tree) (c d : Place) → Reads n (expr_goal expression k x c d) → is_absent x ≡ false
@@ -389,9 +390,10 @@ module _ (n : ℕ) (widen : (k : Code) (at : Position) (x : Tree) (c d : Place) 
     else_widens {k = k} {x = x} {c = c} {d = d} (else_rule h i s) = statements.else_rule h i (inner k sub_statement x (after c) d refl s)
     else_widens (else_if_rule h r) = statements.else_if_rule h (if_widens r)
 
-  form_widens : (k : Code) (at : Position) (x : Tree) (c d : Place) → StmtRule (ReadsStmt n) (ReadsClass n) (ReadsPat n) (ReadsTarget n) (ReadsParams n) (ReadsNamedClass n) k at x c d → statements.FormRule (Reads n) k at x c d
-  form_widens k at x c d (class_rule name y a r b e) = statements.class_rule (listed []) name y c a (classes.no_decorators refl refl) r.0 b e
-  form_widens k at x c d (function_rule a r) = statements.function_rule (listed []) _ _ c (classes.no_decorators refl refl) a (record {
+  -- a function, with whatever decorators stand before it
+  function_widens : (k : Code) (ds x : Tree) (c d : Place) (r : ReadsFunction (ReadsStmt n) (ReadsParams n) k x c d)
+      → functions.FunctionRule (Reads n) false k ds (tree.ident r.name_span (word_text r.name)) (tree.function (spanned c d) ds (parameters r.patterns) r.body r.is_async r.is_generator) c d
+  function_widens k ds x c d r = record {
     is_async = r.is_async;
     is_generator = r.is_generator;
     patterns = r.patterns;
@@ -405,12 +407,16 @@ module _ (n : ℕ) (widen : (k : Code) (at : Position) (x : Tree) (c d : Place) 
     reads_name = parts.a_name (word_text r.name) r.name_span (record { word = r.name; reads_word = r.reads_name; is_text = refl; is_name = name_is_clean k.flags (word_text r.name) r.is_named }) refl;
     reads_parts = record { middle = r.middle; reads_parameters = r.reads_parameters.0; reads_body = braced_widens true r.reads_body };
     is = refl;
-  }) refl r.is
+  }
+
+  form_widens : (k : Code) (at : Position) (x : Tree) (c d : Place) → StmtRule (ReadsStmt n) (ReadsClass n) (ReadsPat n) (ReadsTarget n) (ReadsParams n) (ReadsNamedClass n) k at x c d → statements.FormRule (Reads n) k at x c d
+  form_widens k at x c d (class_rule name y a r b e) = statements.class_rule (listed []) name y c a (classes.no_decorators refl refl) r.0 b e
+  form_widens k at x c d (function_rule a r) = statements.function_rule (listed []) _ _ c (classes.no_decorators refl refl) a (function_widens k (listed []) x c d r) refl r.is
   form_widens k at x c d (block_rule r) = statements.block_rule (block_widens r)
   form_widens k at x c d (empty_rule h g e) = statements.empty_rule h g e
   form_widens k at x c d (debugger_rule h g e) = statements.debugger_rule h g e
   form_widens k at x c d (variables_rule word xs m a h r g e) = statements.variables_rule word xs m a (h, declarators_widen n (with_in k) false word xs (after c) m r) g e
-  form_widens k at x c d (using_rule v xs m a w b r f e) = statements.using_rule (using_widens n k at x c d v xs m a w b r f e)
+  form_widens k at x c d (using_rule xs a b r f e) = statements.using_rule (using_widens n k at x c d xs a b r f e)
   form_widens k at x c d (if_statement_rule r) = statements.if_statement_rule (if_widens r)
   form_widens k at x c d (switch_rule y xs m i h r j s g t e) =
       statements.switch_rule y xs m i h (head_widens r) j (cases_widen (in_breakable k) false xs (after m) i s) (one_at_most (in_breakable k) xs (after m) i s) g t e
@@ -434,9 +440,41 @@ module _ (n : ℕ) (widen : (k : Code) (at : Position) (x : Tree) (c d : Place) 
   form_widens k at x c d (expr_rule y m h r a b g e) = statements.expr_rule y m h r.0 a g e
   form_widens k at x c d (import_rule y m h r g e) = statements.import_expr_rule y m h r.0 g e
 
+  -- a class or a function behind decorators
+  decorated_widens : (k : Code) (at : Position) (x : Tree) (c d : Place) → DecoratedRule (ReadsDecorators n) (ReadsDeclared n) k at x c d → statements.FormRule (Reads n) k at x c d
+  unfolding spanned
+  decorated_widens k at x c d r = by_kind r.bare r.reads_bare r.is
+    where
+      ds : List Tree
+      ds = r.first ∷ r.others
+
+      by_kind : (y : Tree) → ReadsDeclared n k at y r.middle d → x ≡ decorated_by (span_at c) ds y → statements.FormRule (Reads n) k at x c d
+      by_kind y (declared_class name z a (q, h) b e) i = statements.class_rule (listed ds) name (tree.class (spanned c d) (listed ds) (listed q.members) q.heritage) r.middle a r.reads_decorators.0 (record {
+        heritage = q.heritage;
+        members = q.members;
+        behind_name = q.behind_name;
+        opening = q.opening;
+        close = q.close;
+        is_class = q.is_class;
+        reads_name = q.reads_name;
+        reads_heritage = q.reads_heritage;
+        opens = q.opens;
+        reads_members = q.reads_members;
+        closes = q.closes;
+        next = q.next;
+        is = refl;
+      }) b (i ∙ ap (decorated_by (span_at c) ds) (e ∙ ap (tree.class_decl name) q.is))
+      by_kind y (declared_function a q) i = statements.function_rule (listed ds) _ _ r.middle r.reads_decorators.0 a (function_widens k (listed ds) y r.middle d q) refl
+          (i ∙ ap (decorated_by (span_at c) ds) q.is)
+
+  either_widens : (k : Code) (at : Position) (x : Tree) (c d : Place) → EitherRule (StmtRule (ReadsStmt n) (ReadsClass n) (ReadsPat n) (ReadsTarget n) (ReadsParams n) (ReadsNamedClass n) k at x c d)
+      (DecoratedRule (ReadsDecorators n) (ReadsDeclared n) k at x c d) → statements.FormRule (Reads n) k at x c d
+  either_widens k at x c d (plain_statement r) = form_widens k at x c d r
+  either_widens k at x c d (decorated_statement r) = decorated_widens k at x c d r
+
 pub stmt_widens : (n : ℕ) (k : Code) (at : Position) (x : Tree) (c d : Place) → may_begin_at_top k at c ≡ true → ReadsStmt n k at x c d → Reads n (stmt_goal k at x c d)
 stmt_widens zero k at x c d b h = absurd h
-stmt_widens (suc n) k at x c d b h = (b, form_widens n (stmt_widens n) k at x c d h)
+stmt_widens (suc n) k at x c d b h = (b, either_widens n (stmt_widens n) k at x c d h)
 
 -- one that stands in no other
 pub top_widens : (n : ℕ) (k : Code) (at : Position) (x : Tree) (c d : Place) → ReadsTop n k at x c d → Reads n (stmt_goal k at x c d)

@@ -252,11 +252,9 @@ pub data StmtRule (Stmt : Code → Position → Tree → Place → Place → Typ
   variables_rule : (word : VarDeclKind) (xs : List Tree) (m : Place) → at.include_decl || is_var word ≡ true → begins_variables word c ≡ true
       → ReadsSeparated (DeclaratorRule (Expr assignment) Pat (with_in k) false word) xs (after c) m → Ends m d → x ≡ tree.var (spanned c d) word (listed xs)
       → StmtRule Stmt Expr Pat Target Params Named k at x c d
-  -- the proposal on explicit resource management: where declarations are read, behind `await` at the top level too, and the setting
-  -- says so. As in the crate it has no end.
-  using_rule : (is_await : Bool) (xs : List Tree) (m : Place) → at.include_decl || (is_await && at.top_level) ≡ true → AwaitWord is_await c m → is_using_declaration k m ≡ true
-      → ReadsSeparated (DeclaratorRule (Expr assignment) Pat (with_in k) false decl.Var) xs (after m) d → using_faults k.setting.explicit_resource_management (spanned c d) xs ≡ []
-      → x ≡ tree.using (spanned c d) is_await (listed xs) → StmtRule Stmt Expr Pat Target Params Named k at x c d
+  -- the proposal on explicit resource management: where declarations are read and the setting says so. As in the crate it has no end.
+  using_rule : (xs : List Tree) → at.include_decl ≡ true → is_using_declaration k c ≡ true → ReadsSeparated (DeclaratorRule (Expr assignment) Pat (with_in k) false decl.Var) xs (after c) d
+      → using_faults k.setting.explicit_resource_management (spanned c d) xs ≡ [] → x ≡ tree.using (spanned c d) false (listed xs) → StmtRule Stmt Expr Pat Target Params Named k at x c d
   if_statement_rule : IfRule Stmt Expr k x c d → StmtRule Stmt Expr Pat Target Params Named k at x c d
   -- section 14.11; in module code it is a fault, in strict code it is none
   with_rule : (e y : Tree) (m : Place) → kind_at c ≡ kind.With → k.flags.module ≡ false → ReadsHead Expr k e (after c) m → Stmt (in_with k) sub_statement y m d

@@ -8,7 +8,6 @@ use Rattle.swc_ecma_parser_input.specs.Place.{Place, after}
 use Rattle.swc_ecma_parser_model.specs.Tree.{Tree}
 use Rattle.swc_ecma_parser_model.specs.Forms.{is_binding_name}
 use Rattle.swc_ecma_parser_model.specs.Within.{declared_name, is_initialized}
-use Rattle.swc_ecma_parser_grammar.specs.declared.position.Position.{Position}
 use Rattle.swc_ecma_parser_grammar.specs.Looks.{sees, breaks_at}
 use Rattle.swc_ecma_parser_grammar.specs.Names.{Code, identifier_at}
 use Rattle.swc_ecma_parser_grammar.specs.Follows.{word_at}
@@ -17,10 +16,6 @@ use Rattle.swc_ecma_parser_grammar.specs.Own.{only}
 -- `using` begins a declaration before a name on its line
 unfoldable pub is_using_declaration : Code → Place → Bool
 is_using_declaration k c = word_at (codes "using") c && (identifier_at k.flags (after c) && not (breaks_at (after c)))
-
--- behind `await`, at the top level too
-unfoldable pub is_await_using_declaration : Position → Code → Place → Bool
-is_await_using_declaration at k c = (at.include_decl || at.top_level) && (sees token.Await c && is_using_declaration k (after c))
 
 -- In the head of a loop it may begin one before a name on any line, which is not `of`, with the setting; and it does where `in` or `of`
 -- stands behind the name.

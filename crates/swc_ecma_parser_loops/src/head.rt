@@ -1,6 +1,6 @@
 //! What the head of a `for` begins with: ECMA-262, sections 14.7.4 and 14.7.5.
 
-ghost use Rattle.std.specs.Prelude.{◌≡◌, ◌&&◌, true, false, map, codes, IfOk, IfErr};
+ghost use Rattle.std.specs.Prelude.{◌≡◌, ◌&&◌, Bool, true, false, [], map, codes, IfOk, IfErr};
 ghost use Rattle.swc_ecma_parser_error.specs.Kind as kinds;
 ghost use Rattle.swc_ecma_parser_error.specs.Kind.{IsOutOfMemory};
 ghost use Rattle.swc_ecma_parser_grammar.specs.Follows as follows;
@@ -13,6 +13,7 @@ ghost use Rattle.swc_ecma_parser_loops.specs.Openings.{declared_of, opening_of, 
 ghost use Rattle.swc_ecma_parser_model.specs.Forms as forms;
 ghost use Rattle.swc_ecma_parser_model.specs.Tree.{trees};
 ghost use Rattle.swc_ecma_parser_model.specs.Within as within;
+ghost use Rattle.swc_ecma_parser_reader.specs.HeadWords as words;
 ghost use Rattle.swc_ecma_parser_reader.specs.Reader as rules;
 ghost use Rattle.swc_ecma_parser_reader.specs.State.{Gives, GivesAs};
 ghost use Rattle.swc_ecma_parser_trees.specs.Parts.{part_of};
@@ -203,8 +204,35 @@ fn named_head<
     Ok(Opening::Named(name))
 }
 
+/// Behind `async`, which was read as a name: it is one, unless `=>` stands behind `of`.
+#[tactic(auto, unfolding(swc_ecma_parser_reader::specs::HeadWords::behind_async))]
+fn behind_async<
+    P: Source,
+    T: BuildsPattern + BuildsVariables,
+    S: Fn(&MakerOf<T>, &mut P, usize, Position) -> PResult<T::Stmt>,
+    E: Fn(&MakerOf<T>, &mut P, usize, Reading) -> PResult<Cover<T::Expr>>,
+    N: Fn(&MakerOf<T>, &mut P, usize, Part) -> PResult<T::Pat>,
+>(
+    g: &Grammar<S, E, N>,
+    t: &MakerOf<T>,
+    p: &mut P,
+    start: Span,
+    name: T::Pat,
+) -> PResult<Opening<T::Declarator, T::Expr, T::Pat>>
+    requires readers { Nests P.seen T.expr_of T.pat_of T.stmt_of g.now.depth (S.pre g.now.stmt) (S.post g.now.stmt) (E.pre g.now.expr) (E.post g.now.expr) (N.pre g.now.pat) (N.post g.now.pat) }
+    requires bare { (refused : Bool) → own.head_faults refused (T.pat_of name) ≡ [] }
+    ensures gives { GivesAs (opening_of T.declarator_of T.expr_of T.pat_of) (words.behind_async g.now.depth start (T.pat_of name) (P.seen p.old)) result (P.seen p.new) }
+    ensures bare { IfOk result (λ o. IsBare T.pat_of o) }
+{
+    if p.next_sees(TokenKind::Arrow) {
+        let v = (g.expr)(t, p, g.depth, Reading::Behind(start))?;
+        return Ok(Opening::Expression(v));
+    }
+    Ok(Opening::Named(name))
+}
+
 /// `async` before `of` on its line: the name alone, or an arrow function whose parameter is `of`.
-#[tactic(auto, using(swc_ecma_parser_reader::proofs::HeadWords::async_refused, swc_ecma_parser_reader::proofs::HeadWords::async_named, swc_ecma_parser_reader::proofs::HeadWords::async_arrow, swc_ecma_parser_reader::proofs::HeadWords::async_arrow_refused, swc_ecma_parser_reader::proofs::HeadWords::pattern_declares))]
+#[tactic(auto, using(swc_ecma_parser_reader::proofs::HeadWords::async_refused, swc_ecma_parser_reader::proofs::HeadWords::async_reads, swc_ecma_parser_reader::proofs::HeadWords::async_refused_behind, swc_ecma_parser_reader::proofs::HeadWords::pattern_declares))]
 fn async_head<
     P: Source,
     T: BuildsPattern + BuildsVariables,
@@ -227,13 +255,9 @@ fn async_head<
     let outer = p.flags();
     p.set_flags(without_in(outer));
     let name = (g.pat)(t, p, g.depth, Part::Pattern)?;
-    if p.next_sees(TokenKind::Arrow) {
-        let v = (g.expr)(t, p, g.depth, Reading::Behind(start))?;
-        p.set_flags(outer);
-        return Ok(Opening::Expression(v));
-    }
+    let opening = behind_async(g, t, p, start, name)?;
     p.set_flags(outer);
-    Ok(Opening::Named(name))
+    Ok(opening)
 }
 
 /// An expression that may still become a target, or `async` alone.

@@ -16,16 +16,19 @@ use Rattle.swc_ecma_parser_grammar.specs.Follows.{word_at, may_begin_expression_
 use Rattle.swc_ecma_parser_grammar.specs.Reads.{with_in}
 use Rattle.swc_ecma_parser_grammar.specs.language.Contexts.{in_class, in_loop, in_breakable, in_with}
 use Rattle.swc_ecma_parser_grammar.specs.language.Goals.{Class, expression, assignment}
+use Rattle.swc_ecma_parser_grammar.specs.Decorated.{decorated_by}
+use Rattle.swc_ecma_parser_reader.specs.Decorators.{Leading, leading, misplaced as misplaced_list}
+use Rattle.swc_ecma_parser_reader.specs.DecoratedStatements.{begins_declared, declared_behind, exported_behind, other_behind, stmt_behind, decorated_stmt, either_stmt}
 use Rattle.swc_ecma_parser_reader.specs.Members.{class_parts, named_class, class_decl, class_stmt}
 use Rattle.swc_ecma_parser_reader.specs.State.{State, Reader, moved, coded, within, fault, fault_at, wanted, name, expect, end, reference}
 use Rattle.swc_ecma_parser_reader.specs.Methods.{star}
 use Rattle.swc_ecma_parser_reader.specs.Expressions.{Cover}
 use Rattle.swc_ecma_parser_reader.specs.Reader as reader
-use Rattle.swc_ecma_parser_reader.specs.Reader.{declarators, items, closes, close, no_label, note_statement, optional_end, head, note_with, as_init, as_left, head_part, misdeclared, await_here, opening, link, alternative, target, unbroken, uncontinued, operand, misplaced, clauses, braced, handler, finalizer, handled, labelled_body, relabels, function_word, named, top_await, goes_on, Opening, begins_label, unless_awaited, empty, debugger, variables, block, block_from, expr_stmt, expr_stmt_at, import_stmt, import_stmt_at, thrown, throw, while_stmt, with_stmt, do_while, for_parts, for_in, for_of, for_behind, for_stmt, links, if_stmt, break_stmt, continue_stmt, returned, return_stmt, labeled_stmt, other_stmt, switch_stmt, try_stmt, function_parts, function_decl, function_stmt, const_stmt, let_stmt, async_or_other, stmt_by, stmt_level, stmt, whole_stmt, expr, head_cover, pattern, member, misusing, using_from, using_stmt, await_using_stmt, stmt_first, using_or_other}
+use Rattle.swc_ecma_parser_reader.specs.Reader.{decorated_in, declarators, items, closes, close, no_label, note_statement, optional_end, head, note_with, as_init, as_left, head_part, misdeclared, await_here, opening, link, alternative, target, unbroken, uncontinued, operand, misplaced, clauses, braced, handler, finalizer, handled, labelled_body, relabels, function_word, named, top_await, goes_on, Opening, begins_label, unless_awaited, empty, debugger, variables, block, block_from, expr_stmt, expr_stmt_at, import_stmt, import_stmt_at, thrown, throw, while_stmt, with_stmt, do_while, for_parts, for_in, for_of, for_behind, for_stmt, links, if_stmt, break_stmt, continue_stmt, returned, return_stmt, labeled_stmt, other_stmt, switch_stmt, try_stmt, function_parts, function_decl, function_stmt, const_stmt, let_stmt, async_or_other, stmt_by, stmt_level, stmt, whole_stmt, expr, head_cover, pattern, member, misusing, using_from, using_stmt, using_or_other}
 use Rattle.swc_ecma_parser_reader.proofs.Meets.{Meets, always, meets_then, meets_if, wanted_meets, too_deep_meets, refuse_meets}
 use Rattle.swc_ecma_parser_reader.proofs.SoundParts.{after_return_meets}
 use Rattle.swc_ecma_parser_reader.proofs.expressions.SoundSteps.{reject_meets}
-use Rattle.swc_ecma_parser_grammar.specs.Using.{is_using_declaration, is_await_using_declaration}
+use Rattle.swc_ecma_parser_grammar.specs.Using.{is_using_declaration}
 
 -- neither an import nor an export
 abbrev pub IsStatement : Tree → State → Type 0
@@ -218,20 +221,29 @@ module _ (inner : Position → Reader Tree) (inner_expr : Class → Reader Tree)
   by_form at kind.Export s = import_form _ s
   by_form at _ s = other_form _ at s
 
-  await_using_form : (s : State) → Meets IsStatement (await_using_stmt (declarators inner_expr inner_pat false decl.Var) s)
-  unfolding await_using_stmt using_from misusing
-  await_using_form s = always _ (within with_in (declarators inner_expr inner_pat false decl.Var) (moved (moved s))) _ (λ xs t. always _ (misusing (record { lo = (span_at s.at).lo; hi = t.at.last.hi }) xs t) _ (λ _ u. refl))
+-- a class and a function with decorators are statements too
+decorated_form : (start : Span) (ds : List Tree) (x : Tree) (t : State) → IsStatement x t → IsStatement (decorated_by start ds x) t
+decorated_form start ds (tree.class_decl name (tree.class s decorators body base)) t h = refl
+decorated_form start ds (tree.fn_decl name (tree.function s decorators params body w g)) t h = refl
+decorated_form start ds _ t h = h
 
-  -- `await using` before anything else
-  first_form : (v : Bool) (at : Position) (j : TokenKind) (s : State) → Meets IsStatement (stmt_level inner inner_expr inner_pat inner_head inner_params inner_member at s)
-      → Meets IsStatement (stmt_first v (declarators inner_expr inner_pat false decl.Var) at j (stmt_level inner inner_expr inner_pat inner_head inner_params inner_member at) s)
-  first_form v at kind.Await s r = meets_if _ (v && is_await_using_declaration at s.code s.at) _ _ (λ _. await_using_form s) (λ _. r)
-  first_form v at _ s r = r
+module _ (plain : Position → Reader Tree) (at : Position) (form : (s : State) → Meets IsStatement (plain at s)) where
+  behind_form : (v : Leading) (s : State) → Meets IsStatement (stmt_behind plain at v s)
+  unfolding stmt_behind declared_behind exported_behind other_behind
+  behind_form v s = meets_if _ (begins_declared s.at) _ _ (λ _. meets_then _ (plain at s) _ (form s) (λ x t h. decorated_form v.place v.found x t h))
+      (λ _. meets_if _ (sees kind.Export s.at) _ _
+      (λ _. meets_if _ ((s.code.flags.in_class || s.code.flags.in_function) || s.code.setting.decorators_before_export) _ _ (λ _. form s) (λ _. reject_meets _ _ s))
+      (λ _. meets_if _ (sees kind.Error s.at) _ _ (λ _. wanted_meets _ faults.Unexpected s) (λ _. always _ (misplaced_list v s) _ (λ _ t. form t))))
+
+  either_form : (further : Reader Tree) (s : State) → Meets IsStatement (either_stmt plain further at s)
+  unfolding either_stmt decorated_stmt
+  either_form further s = meets_if _ (sees kind.At s.at && s.code.setting.decorators) _ _ (λ _. always _ (leading further s) _ (λ v t. behind_form v t)) (λ _. form s)
 
 stmt_form : (n : ℕ) (at : Position) (s : State) → Meets IsStatement (stmt n at s)
 unfolding stmt stmt_level
 stmt_form zero at s = too_deep_meets _ s
-stmt_form (suc n) at s = first_form (stmt n) (expr n) (pattern n) (head_cover n) (reader.parameters n) (member n) (reader.nests n) at (kind_at s.at) s (by_form (stmt n) (expr n) (pattern n) (head_cover n) (reader.parameters n) (member n) at (kind_at s.at) s)
+stmt_form (suc n) at s = either_form (stmt_level (stmt n) (expr n) (pattern n) (head_cover n) (reader.parameters n) (member n)) at
+    (λ t. by_form (stmt n) (expr n) (pattern n) (head_cover n) (reader.parameters n) (member n) at (kind_at t.at) t) (decorated_in n) s
 
 pub whole_form : (n : ℕ) (at : Position) (s : State) → Meets IsStatement (whole_stmt n at s)
 unfolding whole_stmt

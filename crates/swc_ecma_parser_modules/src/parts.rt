@@ -1,8 +1,7 @@
 //! What imports and exports share: ECMA-262, section 16.2.
 
-ghost use Rattle.std.specs.Prelude.{◌≡◌, true, IfOk};
+ghost use Rattle.std.specs.Prelude.{◌≡◌, true, IfOk, Some, is_some};
 ghost use Rattle.swc_ecma_parser_grammar.specs.language.ModuleParts as parts;
-ghost use Rattle.swc_ecma_parser_model.specs.Kinds.{is_object};
 ghost use Rattle.swc_ecma_parser_module_reader.specs.Imports as imports;
 ghost use Rattle.swc_ecma_parser_modules.specs.Names.{name_of, str_of};
 ghost use Rattle.swc_ecma_parser_reader.specs.Reader as rules;
@@ -82,19 +81,19 @@ fn begins_attributes<P: Source>(p: &P) -> bool
     p.import_attributes() && !p.had_line_break() && (p.sees(TokenKind::With) || p.word_at("assert"))
 }
 
-/// An object as the attributes of another module.
-fn as_attributes<T: BuildsImport>(object: T::Expr) -> T::Attributes
-    requires { is_object (T.expr_of object) ≡ true }
-    ensures { T.attributes_of result ≡ T.expr_of object }
+/// What was found.
+fn present<A>(found: Option<A>) -> A
+    requires { is_some found ≡ true }
+    ensures { found ≡ Some result }
 {
-    match T::attributes(object) {
-        Some(attributes) => attributes,
+    match found {
+        Some(x) => x,
         None => unreachable!(),
     }
 }
 
 /// The attributes of another module, whose object may take so many levels, or none.
-#[tactic(auto, unfolding(swc_ecma_parser_module_reader::specs::Imports::attributes), using(swc_ecma_parser_reader::proofs::Objects::object_alone_is))]
+#[tactic(auto, unfolding(swc_ecma_parser_module_reader::specs::Imports::attributes))]
 pub fn attributes<P: Source, T: BuildsStatements + BuildsImport>(
     t: &MakerOf<T>,
     p: &mut P,
@@ -107,5 +106,5 @@ pub fn attributes<P: Source, T: BuildsStatements + BuildsImport>(
     }
     p.skip()?;
     let object = object_alone::<P, T>(t, p, depth)?;
-    Ok(Some(as_attributes::<T>(object)))
+    Ok(Some(present(T::attributes(object))))
 }

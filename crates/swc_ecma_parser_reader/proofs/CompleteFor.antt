@@ -261,6 +261,7 @@ module _ (n : ℕ) (below : Below n) where
     where
       u : may_declare_using k c ≡ false
       u = no_using_target k x c d r (λ _. o)
+
       by_test : (t : Bool) → (v && begins_async_of c) ≡ t → Gets (AsLeftSide x) (opening (expr n) (pattern n) (head_cover n) v (st c k w f h)) (st d k w (f ++ walk (env_of k w.labels) x) (h ⊕ notes_of x))
       by_test true e = let g = and_yes v (begins_async_of c) e in async_reads v k x c d b r u g.0 g.1 w f h
       by_test false e = target_reads v k x c d b r u e (inr (o, elsewhere n v (without_in k) x c d r.0 o a i e)) w f h

@@ -6,9 +6,11 @@ use Rattle.swc_ecma_parser_reader.proofs.Errors.{is_error, fault_here}
 use Rattle.swc_ecma_parser_reader.proofs.patterns.Falls as patterns
 use Rattle.swc_ecma_parser_reader.specs.Members.{class_expr}
 use Rattle.swc_ecma_parser_reader.proofs.classes.Falls as classes
+use Rattle.swc_ecma_parser_reader.proofs.decorators.Falls.{decorated_falls}
+use Rattle.swc_ecma_parser_reader.proofs.decorators.Taking.{either_falls}
 use Rattle.swc_ecma_parser_reader.specs.State.{Scope, and_then, below, relabelled, below_label, enclosed, unlabelled, fault_at, noted, module_found, reference, State, Outcome, Reader, moved, coded, within, fault, labelled, labelled_as, name, expect, end}
 use Rattle.swc_ecma_parser_grammar.specs.language.Items.{labelled_item, sub_statement}
-use Rattle.swc_ecma_parser_reader.specs.Reader.{begins_label, relabels, labelled_body, labeled_stmt, other_stmt, note_with, with_stmt, await_here, unless_awaited, function_body, function_decl, function_parts, function_stmt, misdirected, function_word, async_or_other, missing_initializer, Opening, Nothing, Variables, Resource, Named, Expression, unfollowed, undeclared, as_init, as_left, head_variables, using_head, named_head, async_head, head_expression, async_or_expression, head_target, opening, head_part, misdeclared, for_parts, for_in, for_of, for_behind, for_stmt, const_stmt, let_stmt, no_parameter, one_parameter, getter, setter, plain_method, arrow_block, function_by, named, own_name, function_expr, expr, cover, head_cover, pattern, element, member, function, empty, debugger, uninitialized, initialized, declarator, declarators_turn, declarators, variables, closes, at_end, close, items_turn, items, block_from, block, braced, note_statement, no_label, expr_stmt, expr_stmt_at, told, target, unbroken, break_stmt, uncontinued, continue_stmt, misplaced, after_return, operand, returned, return_stmt, optional_end, import_stmt, import_stmt_at, thrown, throw, head, while_stmt, do_while, Link, goes_on, condition, alternative, link_from, link, behind_link, links, if_stmt, begins_clause, closes_clause, Clauses, clause_from, default_clause, case_clause, clause, clauses_turn, clauses, switch_stmt, is_handled, handled, bound, parameter, finalizer, caught, handler, try_stmt, stmt_by, stmt_level, stmt, top_await_fault, top_await, whole_stmt, shebang_in, shebang_taken, shebang, script_body, script, misusing, using_from, using_stmt, using_or_other}
+use Rattle.swc_ecma_parser_reader.specs.Reader.{begins_label, relabels, labelled_body, labeled_stmt, other_stmt, note_with, with_stmt, await_here, unless_awaited, function_body, function_decl, function_parts, function_stmt, misdirected, function_word, async_or_other, missing_initializer, Opening, Nothing, Variables, Expression, as_init, as_left, head_variables, head_expression, opening, head_part, misdeclared, for_parts, for_in, for_of, for_behind, for_stmt, const_stmt, let_stmt, no_parameter, one_parameter, getter, setter, plain_method, arrow_block, function_by, named, own_name, function_expr, expr, cover, head_cover, pattern, element, decorated_in, member, function, empty, debugger, uninitialized, initialized, declarator, declarators_turn, declarators, variables, closes, at_end, close, items_turn, items, block_from, block, braced, note_statement, no_label, expr_stmt, expr_stmt_at, told, target, unbroken, break_stmt, uncontinued, continue_stmt, misplaced, after_return, operand, returned, return_stmt, optional_end, import_stmt, import_stmt_at, thrown, throw, head, while_stmt, do_while, Link, goes_on, condition, alternative, link_from, link, behind_link, links, if_stmt, begins_clause, closes_clause, Clauses, clause_from, default_clause, case_clause, clause, clauses_turn, clauses, switch_stmt, is_handled, handled, bound, parameter, finalizer, caught, handler, try_stmt, stmt_by, stmt_level, stmt, top_await_fault, top_await, whole_stmt, shebang_in, shebang_taken, shebang, script_body, script, misusing, using_from, using_stmt, using_or_other, Resource, Named, undeclared, using_head, named_head, async_head, unfollowed, async_or_expression, head_target}
 use Rattle.swc_ecma_parser_grammar.specs.language.Contexts.{without_in, named_by, in_body, in_arrow, in_parameters, in_loop, in_breakable, in_with}
 use Rattle.swc_ecma_parser_grammar.specs.Variables.{is_const, needs_no_initializer}
 use Rattle.swc_ecma_parser_model.specs.declared.leaves.VarDeclKind.{VarDeclKind}
@@ -35,7 +37,6 @@ use Rattle.swc_ecma_parser_reader.specs.Expressions.{Cover}
 use Rattle.swc_ecma_parser_reader.specs.Reader as reader
 use Rattle.swc_ecma_parser_reader.specs.Methods.{MethodForm, getter_form, setter_form, method_form, property_form, star}
 use Rattle.swc_ecma_parser_grammar.specs.Names.{name_at}
-use Rattle.swc_ecma_parser_reader.proofs.First.{first_falls}
 use Rattle.swc_ecma_parser_reader.proofs.Takes.{Falls, falls_then, falls_last, falls_coded, falls_found, falls_if, less, falls_next, moves, takes, falls_past, falls_moved, wanted_falls, too_deep_falls, refuse_falls, refused_falls, fewer, name_falls, fault_falls, end_falls, close_falls, expect_falls, loop_falls, reference_falls}
 use Rattle.swc_ecma_parser_reader.proofs.expressions.Falls as exprs
 use Rattle.swc_ecma_parser_reader.proofs.expressions.Falls.{reject_falls, falls_when, expect_takes, star_falls, told_falls, FunctionsFall}
@@ -676,7 +677,7 @@ module _ (inner : Position → Reader Tree) (h : (at : Position) (s : State) →
   stmt_by_falls at kind.Export s e = import_stmt_at_falls (inner_expr expression) (g expression) s
   stmt_by_falls at _ s e = other_falls inner h (inner_expr expression) (g expression) at s
 
-  stmt_level_falls : (at : Position) (s : State) → Falls 1 (length s.at.left) (stmt_level inner inner_expr inner_pat inner_cover inner_params inner_member at s)
+  pub stmt_level_falls : (at : Position) (s : State) → Falls 1 (length s.at.left) (stmt_level inner inner_expr inner_pat inner_cover inner_params inner_member at s)
   unfolding stmt_level
   stmt_level_falls at s = stmt_by_falls at (kind_at s.at) s refl
 
@@ -699,6 +700,7 @@ record Taken (n : ℕ) : Type 0 where
   heads : (s : State) → Falls 1 (length s.at.left) (head_cover n s)
   patterns : (s : State) → Falls 1 (length s.at.left) (pattern n s)
   elements : (s : State) → Falls 1 (length s.at.left) (element n s)
+  decorateds : (s : State) → Falls 1 (length s.at.left) (decorated_in n s)
   members : (s : State) → Falls 1 (length s.at.left) (member n s)
   stmts : (at : Position) (s : State) → Falls 1 (length s.at.left) (stmt n at s)
 
@@ -717,27 +719,34 @@ module _ (n : ℕ) (b : Taken n) where
     blocks = arrow_block_falls (stmt n nested_item) (b.stmts nested_item) (reader.parameters n) parameters_taken;
   }
 
+  exprs_taken : (class : Class) (s : State) → Falls 1 (length s.at.left) (expr (suc n) class s)
+  unfolding function expr
+  exprs_taken = exprs.level_falls (expr n) (cover n) b.exprs b.covers (function n) function_taken
+
 all_taken : (n : ℕ) → Taken n
-unfolding function expr cover head_cover pattern element member stmt
+unfolding function expr cover head_cover pattern element decorated_in member stmt
 all_taken zero = record {
   exprs = λ class s. too_deep_falls Tree 1 (length s.at.left) s;
   covers = λ s. too_deep_falls Cover 1 (length s.at.left) s;
   heads = λ s. too_deep_falls Cover 1 (length s.at.left) s;
   patterns = λ s. too_deep_falls Tree 1 (length s.at.left) s;
   elements = λ s. too_deep_falls Tree 1 (length s.at.left) s;
+  decorateds = λ s. too_deep_falls Tree 1 (length s.at.left) s;
   members = λ s. too_deep_falls Tree 1 (length s.at.left) s;
   stmts = λ at s. too_deep_falls Tree 1 (length s.at.left) s;
 }
 all_taken (suc n) = let b = all_taken n in record {
-  exprs = exprs.level_falls (expr n) (cover n) b.exprs b.covers (function n) (function_taken n b);
+  exprs = exprs_taken n b;
   covers = exprs.cover_expr_falls (expr n) (cover n) b.exprs b.covers (function n) (function_taken n b);
   heads = exprs.head_expr_falls (expr n) (cover n) b.exprs b.covers (function n) (function_taken n b);
   patterns = patterns.pattern_level_falls (expr n) b.exprs (cover n) b.covers (pattern n) b.patterns (element n) b.elements;
   elements = patterns.element_level_falls (expr n) b.exprs (cover n) b.covers (pattern n) b.patterns (element n) b.elements;
+  decorateds = decorated_falls (expr n) b.exprs (cover n) b.covers (expr (suc n) expression) (exprs_taken n b expression);
   members = classes.member_level_falls (expr n) b.exprs (cover n) b.covers (stmt n nested_item) (reader.parameters n) (parameters_taken n b)
-      (function_body_falls (stmt n nested_item) (b.stmts nested_item) (reader.parameters n) (parameters_taken n b)) (braced_takes (stmt n nested_item) (b.stmts nested_item) false);
-  stmts = λ at s. first_falls (declarators (expr n) (pattern n) false decl.Var) (reader.nests n) at _ (declarators_fall (expr n) b.exprs (pattern n) b.patterns false decl.Var) (kind_at s.at) s refl
-      (stmt_level_falls (stmt n) b.stmts (expr n) b.exprs (pattern n) b.patterns (head_cover n) b.heads (reader.parameters n) (parameters_taken n b) (member n) b.members at s);
+      (function_body_falls (stmt n nested_item) (b.stmts nested_item) (reader.parameters n) (parameters_taken n b)) (braced_takes (stmt n nested_item) (b.stmts nested_item) false)
+      (decorated_in n) b.decorateds;
+  stmts = λ at. either_falls (stmt_level (stmt n) (expr n) (pattern n) (head_cover n) (reader.parameters n) (member n)) at
+      (stmt_level_falls (stmt n) b.stmts (expr n) b.exprs (pattern n) b.patterns (head_cover n) b.heads (reader.parameters n) (parameters_taken n b) (member n) b.members at) (decorated_in n) b.decorateds;
 }
 
 -- an expression of any class takes a token, and so does what may still become a pattern
@@ -764,6 +773,10 @@ parameters_fall n = parameters_taken n (all_taken n)
 
 pub functions_fall : (n : ℕ) → FunctionsFall (function n)
 functions_fall n = function_taken n (all_taken n)
+
+-- what stands behind the `@` of a decorator
+pub decorated_in_falls : (n : ℕ) (s : State) → Falls 1 (length s.at.left) (decorated_in n s)
+decorated_in_falls n = (all_taken n).decorateds
 
 -- a member of a class
 pub member_falls : (n : ℕ) (s : State) → Falls 1 (length s.at.left) (member n s)

@@ -1,5 +1,5 @@
 -- `async` at the beginning of the head of a loop, as it is read: the word first, before it is known whether an arrow function begins.
-use Rattle.std.proofs.Common.{◌≡◌, ℕ, zero, suc, Bool, true, false, List, [], ◌∷◌, Ok, Err, refl, sym, ◌∙◌, ap, codes}
+use Rattle.std.proofs.Common.{◌≡◌, ℕ, zero, suc, Bool, true, false, cond, List, [], ◌∷◌, Ok, Err, refl, sym, ◌∙◌, ap, codes}
 use Rattle.std.specs.Prelude.{not, ◌&&◌, ◌||◌, if◌then◌else◌}
 use Rattle.swc_ecma_parser_common.specs.declared.span.Span.{Span}
 use Rattle.swc_ecma_parser_error.specs.Kind.{Fault}
@@ -26,7 +26,9 @@ use Rattle.swc_ecma_parser_reader.specs.Expressions.{Cover, done, cover_expr, do
 use Rattle.swc_ecma_parser_reader.specs.Heads.{sequenced, head_expr, async_arrow_from, head_behind_async}
 use Rattle.swc_ecma_parser_reader.specs.Patterns.{elements as elements_of, array, properties, object, binding, pattern_level}
 use Rattle.swc_ecma_parser_reader.specs.Reader.{Opening, Named, Expression, async_head, head_expression, async_or_expression, head_target, expr, cover, head_cover, head_behind, pattern, element, function, function_by}
+use Rattle.swc_ecma_parser_reader.specs.HeadWords.{behind_async}
 use Rattle.swc_ecma_parser_reader.proofs.Meets.{Meets, Refuses, meant, always, meets_if, too_deep_meets}
+use Rattle.swc_ecma_parser_reader.proofs.Sound.{head_code_stays, pattern_code}
 use Rattle.swc_ecma_parser_reader.proofs.Words.{unreserved}
 use Rattle.swc_ecma_parser_reader.proofs.expressions.AsyncHeads.{async_arrow_begins, plain_async_named}
 use Rattle.swc_ecma_parser_reader.proofs.expressions.HeadEnds.{of_named}
@@ -125,7 +127,7 @@ module _ (n : ℕ) (s : State) (w : word_at (codes "async") s.at ≡ true) (o : 
     undeep g = meant (λ _ _. ⊥) Refuses (too_deep inside) (Ok (p, t)) g (too_deep_meets (λ _ _. ⊥) inside)
 
     -- no `=>` follows `of`
-    pub async_named : sees kind.Arrow (after t.at) ≡ false → read ≡ Ok (Named p, flagged s.code t)
+    async_named : sees kind.Arrow (after t.at) ≡ false → read ≡ Ok (Named p, flagged s.code t)
     unfolding async_or_expression async_head pattern
     async_named i = by_level n h
       where
@@ -147,11 +149,57 @@ module _ (n : ℕ) (s : State) (w : word_at (codes "async") s.at ≡ true) (o : 
               let k = answered (pattern (suc m) inside) p (async_pattern m inside w).0 t (moved inside) g (async_pattern m inside w).1 in
               rw (begins_so s.at true w o b (ap (λ (u : State). sees kind.Arrow (after u.at)) (sym k) ∙ i), arrow_goes (expr m) (cover m) (function m) inside w o b, k) (put_back (head_behind_async (expr m) (cover m) (function m) (span_at s.at) (moved inside)) s.code (λ v. Expression v))
 
-      pub async_arrow : (v : Cover) (u : State) → head_behind n (span_at s.at) t ≡ Ok (v, u) → read ≡ Ok (Expression v, flagged s.code u)
-      async_arrow v u g = arrow_reads ∙ rw g refl
+      -- what is read behind the word leaves the code as it is
+      pub arrow_code : (v : Cover) (u : State) → head_behind n (span_at s.at) t ≡ Ok (v, u) → u.code ≡ inside.code
+      unfolding head_cover head_behind function function_by pattern
+      arrow_code v u g = by_level n h g
+        where
+          by_level : (m : ℕ) → pattern m inside ≡ Ok (p, t) → head_behind m (span_at s.at) t ≡ Ok (v, u) → u.code ≡ inside.code
+          by_level zero g e = absurd (undeep g)
+          by_level (suc m) g e =
+              let k = answered (pattern (suc m) inside) p (async_pattern m inside w).0 t (moved inside) g (async_pattern m inside w).1 in
+              head_code_stays (suc m) inside v u (arrow_goes (expr m) (cover m) (function m) inside w o b ∙ ap (head_behind_async (expr m) (cover m) (function m) (span_at s.at)) (sym k) ∙ e)
 
-      pub async_arrow_refused : (e : Fault × State) → head_behind n (span_at s.at) t ≡ Err e → read ≡ Err e
-      async_arrow_refused e g = arrow_reads ∙ rw g refl
+    -- either way what follows the word tells, and leaves the code as it is
+    module _ (x : Opening) (u : State) where
+      pub async_reads : behind_async n (span_at s.at) p t ≡ Ok (x, u) → read ≡ Ok (x, flagged s.code u)
+      unfolding behind_async
+      async_reads g = by_test (sees kind.Arrow (after t.at)) refl g
+        where
+          by_test : (v : Bool) → sees kind.Arrow (after t.at) ≡ v → cond v (and_then (head_behind n (span_at s.at) t) (λ y z. Ok (Expression y, z))) (Ok (Named p, t)) ≡ Ok (x, u) → read ≡ Ok (x, flagged s.code u)
+          by_test true i e = arrow_reads i ∙ through (head_behind n (span_at s.at) t) e
+            where
+              through : (r : Outcome Cover) → and_then r (λ y z. Ok (Expression y, z)) ≡ Ok (x, u) → and_then r (λ y z. Ok (Expression y, flagged s.code z)) ≡ Ok (x, flagged s.code u)
+              through (Ok q) e = ap (λ r. and_then r (λ y z. Ok (y, flagged s.code z))) e
+              through (Err f) e = cc
+          by_test false i e = async_named i ∙ ap (λ r. and_then r (λ y z. Ok (y, flagged s.code z))) e
+
+      pub async_code : behind_async n (span_at s.at) p t ≡ Ok (x, u) → u.code ≡ inside.code
+      unfolding behind_async
+      async_code g = by_test (sees kind.Arrow (after t.at)) refl g
+        where
+          by_test : (v : Bool) → sees kind.Arrow (after t.at) ≡ v → cond v (and_then (head_behind n (span_at s.at) t) (λ y z. Ok (Expression y, z))) (Ok (Named p, t)) ≡ Ok (x, u) → u.code ≡ inside.code
+          by_test true i e = through (head_behind n (span_at s.at) t) refl e
+            where
+              through : (r : Outcome Cover) → head_behind n (span_at s.at) t ≡ r → and_then r (λ y z. Ok (Expression y, z)) ≡ Ok (x, u) → u.code ≡ inside.code
+              through (Ok q) k e = ap (λ (z : State). z.code) (sym (answered_as q.1 e)) ∙ arrow_code i q.0 q.1 k
+                where
+                  answered_as : (z : State) → ◌≡◌ {A = Outcome Opening} (Ok (Expression q.0, z)) (Ok (x, u)) → z ≡ u
+                  answered_as z f = answered (Ok (x, u)) (Expression q.0) x z u (sym f) refl
+              through (Err f) k e = cc
+          by_test false i e = ap (λ (z : State). z.code) (sym (answered (Ok (x, u)) (Named p) x t u (sym e) refl)) ∙ pattern_code n inside p t h
+
+    pub async_refused_behind : (e : Fault × State) → behind_async n (span_at s.at) p t ≡ Err e → read ≡ Err e
+    unfolding behind_async
+    async_refused_behind e g = by_test (sees kind.Arrow (after t.at)) refl g
+      where
+        by_test : (v : Bool) → sees kind.Arrow (after t.at) ≡ v → cond v (and_then (head_behind n (span_at s.at) t) (λ y z. Ok (Expression y, z))) (Ok (Named p, t)) ≡ Err e → read ≡ Err e
+        by_test true i f = arrow_reads i ∙ through (head_behind n (span_at s.at) t) f
+          where
+            through : (r : Outcome Cover) → and_then r (λ y z. Ok (Expression y, z)) ≡ Err e → and_then r (λ y z. Ok (Expression y, flagged s.code z)) ≡ Err e
+            through (Ok q) f = cc
+            through (Err q) f = ap (λ r. and_then r (λ y z. Ok (y, flagged s.code z))) f
+        by_test false i f = cc
 
 -- ---- a pattern declares no variables
 

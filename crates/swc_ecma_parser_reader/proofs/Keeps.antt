@@ -4,16 +4,17 @@ use Rattle.swc_ecma_parser_grammar.specs.Parameters.{parameters}
 use Rattle.swc_ecma_parser_reader.proofs.patterns.Keeps as patterns
 use Rattle.swc_ecma_parser_reader.proofs.expressions.Keeps as expressions
 use Rattle.swc_ecma_parser_reader.specs.Reader as reader
-use Rattle.swc_ecma_parser_reader.proofs.First.{first_keeps}
 use Rattle.swc_ecma_parser_reader.proofs.expressions.Keeps.{star_keeps, told_keeps}
 use Rattle.swc_ecma_parser_reader.specs.Methods.{FunctionForm, expression_form, class_form, property_form, getter_form, setter_form, method_form, parameter_form, block_form, star}
-use Rattle.swc_ecma_parser_reader.specs.Reader.{no_parameter, one_parameter, getter, setter, plain_method, arrow_block, function_by, named, own_name, function_expr, expr, cover, head_cover, pattern, element, member, function, function_word, async_or_other, begins_label, relabels, labelled_body, labeled_stmt, other_stmt, note_with, with_stmt, await_here, unless_awaited, function_decl, function_stmt, function_parts, function_body, misdirected, missing_initializer, variables, Opening, Nothing, Variables, Resource, Named, Expression, unfollowed, undeclared, as_init, as_left, head_variables, using_head, named_head, async_head, head_expression, async_or_expression, head_target, opening, head_part, misdeclared, for_parts, for_in, for_of, for_behind, for_stmt, const_stmt, let_stmt, empty, debugger, initialized, declarator, declarators_turn, declarators, closes, at_end, close, items_turn, items, block_from, block, braced, note_statement, no_label, expr_stmt, expr_stmt_at, optional_end, import_stmt, import_stmt_at, told, target, unbroken, break_stmt, uncontinued, continue_stmt, misplaced, after_return, operand, returned, return_stmt, thrown, throw, head, while_stmt, do_while, goes_on, condition, alternative, link_from, link, links, if_stmt, begins_clause, closes_clause, clause_from, default_clause, case_clause, clause, clauses_turn, clauses, switch_stmt, begins_at, is_handled, handled, bound, parameter, finalizer, caught, handler, try_stmt, stmt_by, stmt_level, stmt, top_await_fault, top_await, whole_stmt, shebang, script_body, script, misusing, using_from, using_stmt, using_or_other}
+use Rattle.swc_ecma_parser_reader.specs.Reader.{no_parameter, one_parameter, getter, setter, plain_method, arrow_block, function_by, named, own_name, function_expr, expr, cover, head_cover, pattern, element, decorated_in, member, function, function_word, async_or_other, begins_label, relabels, labelled_body, labeled_stmt, other_stmt, note_with, with_stmt, await_here, unless_awaited, function_decl, function_stmt, function_parts, function_body, misdirected, missing_initializer, variables, Opening, Nothing, Variables, Expression, as_init, as_left, head_variables, head_expression, opening, head_part, misdeclared, for_parts, for_in, for_of, for_behind, for_stmt, const_stmt, let_stmt, empty, debugger, initialized, declarator, declarators_turn, declarators, closes, at_end, close, items_turn, items, block_from, block, braced, note_statement, no_label, expr_stmt, expr_stmt_at, optional_end, import_stmt, import_stmt_at, told, target, unbroken, break_stmt, uncontinued, continue_stmt, misplaced, after_return, operand, returned, return_stmt, thrown, throw, head, while_stmt, do_while, goes_on, condition, alternative, link_from, link, links, if_stmt, begins_clause, closes_clause, clause_from, default_clause, case_clause, clause, clauses_turn, clauses, switch_stmt, begins_at, is_handled, handled, bound, parameter, finalizer, caught, handler, try_stmt, stmt_by, stmt_level, stmt, top_await_fault, top_await, whole_stmt, shebang, script_body, script, misusing, using_from, using_stmt, using_or_other, Resource, Named, undeclared, using_head, named_head, async_head, unfollowed, async_or_expression, head_target}
 use Rattle.swc_ecma_parser_grammar.specs.Names.{name_at}
 use Rattle.swc_ecma_parser_error.specs.declared.error.Error.{Error}
 use Rattle.swc_ecma_parser_grammar.specs.language.Programs.{at_top}
 use Rattle.swc_ecma_parser_model.specs.Tree.{Text, Tree}
 use Rattle.swc_ecma_parser_reader.specs.Members.{class_expr}
 use Rattle.swc_ecma_parser_reader.proofs.classes.Keeps as classes
+use Rattle.swc_ecma_parser_reader.proofs.decorators.Keeps.{decorated_keeps}
+use Rattle.swc_ecma_parser_reader.proofs.decorators.Taking.{either_keeps}
 use Rattle.swc_ecma_parser_reader.specs.State.{below, below_label, enclosed, unlabelled, module_found, reference, State, Outcome, Reader, moved, coded, within, noted, holding_back, module_fault, fault, fault_at, wanted, refused, labelled, labelled_as, name, expect, end}
 use Rattle.swc_ecma_parser_grammar.specs.language.Items.{labelled_item, sub_statement}
 use Rattle.swc_ecma_parser_reader.specs.Expressions as exprs
@@ -629,14 +630,11 @@ module _ (inner : Position → Reader Tree) (inner_expr : Class → Reader Tree)
   by_keeps kind.Export e = import_stmt_at_keeps
   by_keeps _ e = other_keeps
 
-  level_keeps : Answers (Kept b) (Lost b) (stmt_level inner inner_expr inner_pat inner_head inner_params inner_member at s)
+  pub level_keeps : Answers (Kept b) (Lost b) (stmt_level inner inner_expr inner_pat inner_head inner_params inner_member at s)
   unfolding stmt_level
   level_keeps = by_keeps (kind_at s.at) refl
 
 -- ---- all levels
-
-declarators_keeps_all : (inner_expr : Class → Reader Tree) (inner_pat : Reader Tree) → ((class : Class) → Passes (inner_expr class)) → Passes inner_pat → Passes (declarators inner_expr inner_pat false decl.Var)
-declarators_keeps_all inner_expr inner_pat e p b s f = declarators_keeps inner_expr inner_pat e p b false decl.Var s f
 
 record Passing (n : ℕ) : Type 0 where
   exprs : (class : Class) → Passes (expr n class)
@@ -644,6 +642,7 @@ record Passing (n : ℕ) : Type 0 where
   heads : Passes (head_cover n)
   patterns : Passes (pattern n)
   elements : Passes (element n)
+  decorateds : Passes (decorated_in n)
   members : Passes (member n)
   stmts : (at : Position) → Passes (stmt n at)
 
@@ -656,26 +655,34 @@ module _ (n : ℕ) (b : Passing n) where
   function_passing = function_by_keeps (stmt n nested_item) (b.stmts nested_item) (reader.parameters n) parameters_passing (pattern n) (class_expr (expr n left_side) (member n)) b.patterns
       (classes.class_expr_keeps (expr n left_side) (member n) (b.exprs left_side) b.members)
 
+  exprs_passing : (class : Class) → Passes (expr (suc n) class)
+  unfolding function expr
+  exprs_passing class c s f = expressions.level_keeps (expr n) (cover n) b.exprs b.covers c (function n) function_passing class s f
+
 all_passing : (n : ℕ) → Passing n
-unfolding function expr cover head_cover pattern element member stmt
+unfolding function expr cover head_cover pattern element decorated_in member stmt
 all_passing zero = record {
   exprs = λ class b s f. too_deep_keeps _ b s f;
   covers = λ b s f. too_deep_keeps _ b s f;
   heads = λ b s f. too_deep_keeps _ b s f;
   patterns = λ b s f. too_deep_keeps _ b s f;
   elements = λ b s f. too_deep_keeps _ b s f;
+  decorateds = λ b s f. too_deep_keeps _ b s f;
   members = λ b s f. too_deep_keeps _ b s f;
   stmts = λ at b s f. too_deep_keeps _ b s f;
 }
 all_passing (suc n) = let a = all_passing n in record {
-  exprs = λ class b s f. expressions.level_keeps (expr n) (cover n) a.exprs a.covers b (function n) (function_passing n a) class s f;
+  exprs = exprs_passing n a;
   covers = λ b s f. expressions.cover_expr_keeps (expr n) (cover n) a.exprs a.covers b (function n) (function_passing n a) s f;
   heads = λ b s f. expressions.head_expr_keeps (expr n) (cover n) a.exprs a.covers b (function n) (function_passing n a) s f;
   patterns = λ b s f. patterns.pattern_level_keeps (expr n) (cover n) (pattern n) (element n) a.exprs a.covers a.patterns a.elements b s f;
   elements = λ b s f. patterns.element_level_keeps (expr n) (cover n) (pattern n) (element n) a.exprs a.covers a.patterns a.elements b s f;
+  decorateds = decorated_keeps (expr n) (cover n) a.exprs a.covers (expr (suc n) expression) (exprs_passing n a expression);
   members = classes.member_level_keeps (expr n) (cover n) (stmt n nested_item) (reader.parameters n) a.exprs a.covers (parameters_passing n a)
-      (function_body_keep (stmt n nested_item) (a.stmts nested_item) (reader.parameters n) (parameters_passing n a)) (braces_keep (stmt n nested_item) (a.stmts nested_item) false);
-  stmts = λ at b s f. first_keeps (declarators (expr n) (pattern n) false decl.Var) (reader.nests n) at _ (declarators_keeps_all (expr n) (pattern n) a.exprs a.patterns) b s f (kind_at s.at) (level_keeps (stmt n) (expr n) (pattern n) (head_cover n) (reader.parameters n) (member n) a.stmts a.exprs a.patterns a.heads (parameters_passing n a) a.members at b s f);
+      (function_body_keep (stmt n nested_item) (a.stmts nested_item) (reader.parameters n) (parameters_passing n a)) (braces_keep (stmt n nested_item) (a.stmts nested_item) false)
+      (decorated_in n) a.decorateds;
+  stmts = λ at. either_keeps (stmt_level (stmt n) (expr n) (pattern n) (head_cover n) (reader.parameters n) (member n)) at
+      (λ b s f. level_keeps (stmt n) (expr n) (pattern n) (head_cover n) (reader.parameters n) (member n) a.stmts a.exprs a.patterns a.heads (parameters_passing n a) a.members at b s f) (decorated_in n) a.decorateds;
 }
 
 -- a statement, and what it is made of
@@ -688,6 +695,9 @@ expr_keeps n = (all_passing n).exprs
 pub cover_keeps : (n : ℕ) → Passes (cover n)
 cover_keeps n = (all_passing n).covers
 
+pub head_cover_keeps : (n : ℕ) → Passes (head_cover n)
+head_cover_keeps n = (all_passing n).heads
+
 pub functions_keep : (n : ℕ) (form : FunctionForm) → Passes (function n form)
 functions_keep n = function_passing n (all_passing n)
 
@@ -696,6 +706,10 @@ parameters_keep n = parameters_passing n (all_passing n)
 
 pub pattern_keeps : (n : ℕ) → Passes (pattern n)
 pattern_keeps n = (all_passing n).patterns
+
+-- what stands behind the `@` of a decorator
+pub decorated_in_keeps : (n : ℕ) → Passes (decorated_in n)
+decorated_in_keeps n = (all_passing n).decorateds
 
 -- a member of a class
 pub member_keeps : (n : ℕ) → Passes (member n)

@@ -27,8 +27,6 @@ pub mod Using
 pub mod HeadWords
 pub mod CompleteParts
 mod CompleteFor
-mod CompleteFirst
-pub mod First
 pub mod Complete
 pub mod CompleteScripts
 pub mod Unique

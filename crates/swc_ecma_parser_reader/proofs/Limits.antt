@@ -5,9 +5,11 @@ use Rattle.swc_ecma_parser_grammar.specs.Parameters.{parameters}
 use Rattle.swc_ecma_parser_reader.proofs.Errors.{is_error, fault_here}
 use Rattle.swc_ecma_parser_reader.proofs.patterns.Limits as patterns
 use Rattle.swc_ecma_parser_reader.proofs.expressions.Limits as expressions
+use Rattle.swc_ecma_parser_reader.proofs.decorators.Limits.{decorated_shallow}
+use Rattle.swc_ecma_parser_reader.proofs.decorators.Taking.{either_shallow}
 use Rattle.swc_ecma_parser_reader.specs.Reader as reader
 use Rattle.swc_ecma_parser_reader.specs.Methods.{MethodForm, getter_form, setter_form, method_form, property_form, star}
-use Rattle.swc_ecma_parser_reader.specs.Reader.{no_parameter, one_parameter, getter, setter, plain_method, arrow_block, function_by, named, own_name, function_expr, expr, cover, head_cover, pattern, element, member, function, function_word, async_or_other, begins_label, relabels, labelled_body, labeled_stmt, other_stmt, note_with, with_stmt, await_here, unless_awaited, function_decl, function_stmt, function_parts, function_body, misdirected, missing_initializer, variables, Opening, Nothing, Variables, Resource, Named, Expression, unfollowed, undeclared, as_init, as_left, head_variables, using_head, named_head, async_head, head_expression, async_or_expression, head_target, opening, head_part, misdeclared, for_parts, for_in, for_of, for_behind, for_stmt, const_stmt, let_stmt, empty, debugger, initialized, declarator, declarators_turn, declarators, closes, at_end, close, items_turn, items, block_from, block, braced, note_statement, no_label, expr_stmt, expr_stmt_at, optional_end, import_stmt, import_stmt_at, told, target, unbroken, break_stmt, uncontinued, continue_stmt, misplaced, after_return, operand, returned, return_stmt, thrown, throw, head, while_stmt, do_while, goes_on, condition, alternative, link_from, link, links, if_stmt, begins_clause, closes_clause, clause_from, default_clause, case_clause, clause, clauses_turn, clauses, switch_stmt, begins_at, is_handled, handled, bound, parameter, finalizer, caught, handler, try_stmt, stmt_by, stmt_level, stmt, top_await_fault, top_await, whole_stmt, shebang, script_body, script, misusing, using_from, using_stmt, using_or_other}
+use Rattle.swc_ecma_parser_reader.specs.Reader.{no_parameter, one_parameter, getter, setter, plain_method, arrow_block, function_by, named, own_name, function_expr, expr, cover, head_cover, pattern, element, decorated_in, member, function, function_word, async_or_other, begins_label, relabels, labelled_body, labeled_stmt, other_stmt, note_with, with_stmt, await_here, unless_awaited, function_decl, function_stmt, function_parts, function_body, misdirected, missing_initializer, variables, Opening, Nothing, Variables, Expression, as_init, as_left, head_variables, head_expression, opening, head_part, misdeclared, for_parts, for_in, for_of, for_behind, for_stmt, const_stmt, let_stmt, empty, debugger, initialized, declarator, declarators_turn, declarators, closes, at_end, close, items_turn, items, block_from, block, braced, note_statement, no_label, expr_stmt, expr_stmt_at, optional_end, import_stmt, import_stmt_at, told, target, unbroken, break_stmt, uncontinued, continue_stmt, misplaced, after_return, operand, returned, return_stmt, thrown, throw, head, while_stmt, do_while, goes_on, condition, alternative, link_from, link, links, if_stmt, begins_clause, closes_clause, clause_from, default_clause, case_clause, clause, clauses_turn, clauses, switch_stmt, begins_at, is_handled, handled, bound, parameter, finalizer, caught, handler, try_stmt, stmt_by, stmt_level, stmt, top_await_fault, top_await, whole_stmt, shebang, script_body, script, misusing, using_from, using_stmt, using_or_other, Resource, Named, undeclared, using_head, named_head, async_head, unfollowed, async_or_expression, head_target}
 use Rattle.swc_ecma_parser_grammar.specs.Names.{name_at}
 use Rattle.swc_ecma_parser_reader.proofs.Meets.{saw, Answers, answers_then, answers_if, loop_answers, meant}
 use Rattle.swc_ecma_parser_model.specs.Tree.{Text, Tree}
@@ -47,7 +49,6 @@ use Rattle.swc_ecma_parser_reader.specs.Expressions.{Cover}
 use Rattle.swc_ecma_parser_reader.specs.Limits.{has_too_deep_token}
 use Rattle.swc_ecma_parser_reader.proofs.Shallow.{StmtLevels, Fine, fine_more, fine_after, fine_taken, Shallow, Kept, Taken, too_deep_shallow, name_shallow, fault_shallow, wanted_shallow, refuse_shallow, end_shallow, expect_shallow, close_shallow, shebang_shallow, Levels, reference_shallow}
 use Rattle.swc_ecma_parser_reader.proofs.Opens.{chain_goes}
-use Rattle.swc_ecma_parser_reader.proofs.First.{first_shallow}
 use Rattle.swc_ecma_parser_reader.proofs.expressions.LimitSteps.{reject_shallow, told_shallow}
 use Rattle.swc_ecma_parser_reader.proofs.expressions.Limits.{star_shallow, FunctionsShallow}
 use Rattle.swc_ecma_parser_reader.proofs.classes.Limits as classes
@@ -695,6 +696,7 @@ record Enough (n : ℕ) : Type 0 where
   heads : Levels n (head_cover n)
   patterns : Levels n (pattern n)
   elements : Levels n (element n)
+  decorateds : Levels n (decorated_in n)
   members : Levels n (member n)
   stmts : (at : Position) → StmtLevels n (stmt n at)
 
@@ -719,26 +721,34 @@ module _ (n : ℕ) (b : Enough n) where
     blocks = arrow_block_shallow (stmt n nested_item) n (b.stmts nested_item) (reader.parameters n) parameters_enough;
   }
 
+  exprs_enough : (class : Class) → Levels (suc n) (expr (suc n) class)
+  unfolding function expr
+  exprs_enough class m s h f = expressions.level_shallow (expr n) (cover n) n b.exprs b.covers m h (function n) function_enough class s f
+
 all_enough : (n : ℕ) → Enough n
-unfolding function expr cover head_cover pattern element member stmt
+unfolding function expr cover head_cover pattern element decorated_in member stmt
 all_enough zero = record {
   exprs = λ class m s h f. too_deep_shallow _ s (omega arith);
   covers = λ m s h f. too_deep_shallow _ s (omega arith);
   heads = λ m s h f. too_deep_shallow _ s (omega arith);
   patterns = λ m s h f. too_deep_shallow _ s (omega arith);
   elements = λ m s h f. too_deep_shallow _ s (omega arith);
+  decorateds = λ m s h f. too_deep_shallow _ s (omega arith);
   members = λ m s h f. too_deep_shallow _ s (omega arith);
   stmts = λ at m s h f. absurd (omega arith);
 }
 all_enough (suc n) = let b = all_enough n in record {
-  exprs = λ class m s h f. expressions.level_shallow (expr n) (cover n) n b.exprs b.covers m h (function n) (function_enough n b) class s f;
+  exprs = exprs_enough n b;
   covers = λ m s h f. expressions.cover_expr_shallow (expr n) (cover n) n b.exprs b.covers m h (function n) (function_enough n b) s f;
   heads = λ m s h f. expressions.head_expr_shallow (expr n) (cover n) n b.exprs b.covers m h (function n) (function_enough n b) s f;
   patterns = λ m s h f. patterns.pattern_level_shallow (expr n) (cover n) (pattern n) (element n) n b.exprs b.covers b.patterns b.elements m h s f;
   elements = λ m s h f. patterns.element_level_shallow (expr n) (cover n) (pattern n) (element n) n b.exprs b.covers b.patterns b.elements m h s f;
+  decorateds = decorated_shallow (expr n) (cover n) n b.exprs b.covers (expr (suc n) expression) (exprs_enough n b expression);
   members = classes.member_level_shallow (expr n) (cover n) (stmt n nested_item) (reader.parameters n) n b.exprs b.covers (parameters_enough n b)
-      (function_body_shallow (stmt n nested_item) n (b.stmts nested_item) (reader.parameters n) (parameters_enough n b)) (braces_shallow (stmt n nested_item) n (b.stmts nested_item) false);
-  stmts = λ at m s h f. first_shallow (declarators (expr n) (pattern n) false decl.Var) (reader.nests n) at _ m (λ t g. declarators_shallow (expr n) (pattern n) n b.exprs b.patterns m (omega arith) false decl.Var t g) s f (kind_at s.at) (level_shallow (stmt n) (expr n) (pattern n) (head_cover n) (reader.parameters n) (member n) n b.stmts b.exprs b.patterns b.heads (parameters_enough n b) b.members at m h s f);
+      (function_body_shallow (stmt n nested_item) n (b.stmts nested_item) (reader.parameters n) (parameters_enough n b)) (braces_shallow (stmt n nested_item) n (b.stmts nested_item) false)
+      (decorated_in n) b.decorateds;
+  stmts = λ at. either_shallow (stmt_level (stmt n) (expr n) (pattern n) (head_cover n) (reader.parameters n) (member n)) at n
+      (λ m s h f. level_shallow (stmt n) (expr n) (pattern n) (head_cover n) (reader.parameters n) (member n) n b.stmts b.exprs b.patterns b.heads (parameters_enough n b) b.members at m h s f) (decorated_in n) b.decorateds;
 }
 
 -- an expression of any class, what may still become a pattern, and what a part of an expression holds that is none
@@ -750,6 +760,10 @@ cover_shallow n = (all_enough n).covers
 
 pub functions_shallow : (n : ℕ) → FunctionsShallow n (function n)
 functions_shallow n = function_enough n (all_enough n)
+
+-- and what stands behind the `@` of a decorator
+pub decorated_in_shallow : (n : ℕ) → Levels n (decorated_in n)
+decorated_in_shallow n = (all_enough n).decorateds
 
 stmt_shallow : (n : ℕ) (at : Position) → StmtLevels n (stmt n at)
 stmt_shallow n = (all_enough n).stmts

@@ -11,7 +11,7 @@ use Rattle.swc_ecma_parser_reader.specs.Reader as reader
 use Rattle.swc_ecma_parser_model.specs.declared.leaves.Ident.{Ident}
 use Rattle.swc_ecma_parser_grammar.specs.Parameters.{parameters}
 use Rattle.swc_ecma_parser_reader.proofs.expressions.SoundSteps.{reject_meets, meets_as}
-use Rattle.std.proofs.Common.{◌≡◌, ℕ, zero, suc, ◌+◌, ◌-◌, ◌<◌, Bool, true, false, cond, List, [], ◌∷◌, ◌++◌, length, replicate, count_by, Ok, Err, refl, ap, ◌∙◌, arith, Option, is_some, Some, None, sym}
+use Rattle.std.proofs.Common.{◌≡◌, ℕ, zero, suc, ◌+◌, ◌-◌, ◌<◌, Bool, true, false, cond, List, [], ◌∷◌, ◌++◌, length, replicate, count_by, Ok, Err, refl, ap, ◌∙◌, arith, Option, is_some, Some, None, sym, subst}
 use Rattle.std.specs.Str.{bytes_eq}
 use Rattle.swc_ecma_parser_error.specs.Kind.{Fault}
 use Rattle.swc_ecma_parser_grammar.specs.Own.{only, duplicates, labelled_function}
@@ -19,8 +19,12 @@ use Rattle.swc_ecma_parser_grammar.specs.language.Items.{labelled_item, sub_stat
 use Rattle.swc_ecma_parser_reader.specs.Members.{class_parts, named_class, class_decl, class_stmt}
 use Rattle.swc_ecma_parser_reader.specs.State.{coded, below, below_label, fault, fault_at, recorded_at, recorded_in, noted, reference, State, Outcome, Reader, and_then, moved, within, wanted, name, expect, end}
 use Rattle.swc_ecma_parser_reader.specs.Methods.{star}
-use Rattle.swc_ecma_parser_reader.specs.Reader.{told, named, with_stmt, note_with, await_here, unless_awaited, misdirected, function_body, function_parts, function_decl, function_stmt, expr, head_cover, pattern, member, function_word, async_or_other, items, closes, close, declarators, link, alternative, head, clauses, target, unbroken, uncontinued, operand, braced, handler, finalizer, handled, optional_end, Opening, as_init, as_left, opening, head_part, misdeclared, labelled_body, relabels, no_label, note_statement, empty, debugger, variables, block, block_from, expr_stmt, expr_stmt_at, import_stmt, import_stmt_at, thrown, throw, while_stmt, do_while, for_parts, for_in, for_of, for_behind, for_stmt, goes_on, links, if_stmt, break_stmt, continue_stmt, returned, return_stmt, misplaced, begins_label, labeled_stmt, other_stmt, switch_stmt, try_stmt, const_stmt, let_stmt, stmt_by, stmt_level, stmt, stmt_first, misusing, using_from, using_stmt, await_using_stmt, using_or_other}
-use Rattle.swc_ecma_parser_reader.proofs.Meets.{meets_then, Meets, Refuses, always, meets_if, wanted_meets, too_deep_meets, refuse_meets, meant}
+use Rattle.swc_ecma_parser_reader.specs.DecoratedStatements.{either_stmt}
+use Rattle.swc_ecma_parser_reader.proofs.decorators.Declared.{declared_is_bare}
+use Rattle.swc_ecma_parser_reader.proofs.decorators.Either.{either_at}
+use Rattle.swc_ecma_parser_reader.proofs.decorators.Labels.{either_unlabelled}
+use Rattle.swc_ecma_parser_reader.specs.Reader.{decorated_in, told, named, with_stmt, note_with, await_here, unless_awaited, misdirected, function_body, function_parts, function_decl, function_stmt, expr, head_cover, pattern, member, function_word, async_or_other, items, closes, close, declarators, link, alternative, head, clauses, target, unbroken, uncontinued, operand, braced, handler, finalizer, handled, optional_end, Opening, as_init, as_left, opening, head_part, misdeclared, labelled_body, relabels, no_label, note_statement, empty, debugger, variables, block, block_from, expr_stmt, expr_stmt_at, import_stmt, import_stmt_at, thrown, throw, while_stmt, do_while, for_parts, for_in, for_of, for_behind, for_stmt, goes_on, links, if_stmt, break_stmt, continue_stmt, returned, return_stmt, misplaced, begins_label, labeled_stmt, other_stmt, switch_stmt, try_stmt, const_stmt, let_stmt, stmt_by, stmt_level, stmt, misusing, using_from, using_stmt, using_or_other}
+use Rattle.swc_ecma_parser_reader.proofs.Meets.{meets_then, Meets, Refuses, always, meets_if, wanted_meets, too_deep_meets, refuse_meets, meant, saw}
 use Rattle.std.specs.Prelude.{◌&&◌, ◌||◌, codes}
 use Rattle.std.proofs.lemmas.List.Recursion.{is_count_by}
 use Rattle.swc_ecma_parser_common.specs.declared.span.Span.{Span}
@@ -40,7 +44,7 @@ use Rattle.swc_ecma_parser_grammar.specs.language.Contexts.{in_class, in_loop, i
 use Rattle.swc_ecma_parser_grammar.specs.language.Goals.{Class, expression, assignment, left_side}
 use Rattle.swc_ecma_parser_reader.specs.Expressions.{Cover}
 use Rattle.swc_ecma_parser_reader.proofs.SoundParts.{after_return_meets}
-use Rattle.swc_ecma_parser_grammar.specs.Using.{is_using_declaration, is_await_using_declaration}
+use Rattle.swc_ecma_parser_grammar.specs.Using.{is_using_declaration}
 
 -- no function that a label tells of
 abbrev Plain : Tree → State → Type 0
@@ -287,21 +291,36 @@ module _ (inner : Position → Reader Tree) (inner_expr : Class → Reader Tree)
   by_told at kind.Export s e = import_plain s
   by_told at _ s e = other_plain at s
 
-  await_using_plain : (s : State) → Meets Plain (await_using_stmt (declarators inner_expr inner_pat false decl.Var) s)
-  unfolding await_using_stmt using_from misusing
-  await_using_plain s = always Plain (within with_in (declarators inner_expr inner_pat false decl.Var) (moved (moved s))) _ (λ xs t. always Plain (misusing (record { lo = (span_at s.at).lo; hi = t.at.last.hi }) xs t) _ (λ _ u b. refl))
+-- of what is no function a label tells nothing
+untold : (j : TokenKind) (b : Bool) (o : Outcome Tree) → same_kind j kind.Function ≡ false → Meets (Told j b) o → Meets Plain o
+untold j b o e h = meets_as o h (λ x t g strict. g strict ∙ ap (λ z. cond z (only strict faults.LabelledFunctionInStrict (span_of x) ++ only b faults.LabelledGeneratorOrAsync (span_of x)) []) e)
 
-  -- `await using` before anything else
-  first_told : (v : Bool) (at : Position) (j : TokenKind) (s : State) → Meets (Told j (is_starred s)) (stmt_level inner inner_expr inner_pat inner_head inner_params inner_member at s)
-      → Meets (Told j (is_starred s)) (stmt_first v (declarators inner_expr inner_pat false decl.Var) at j (stmt_level inner inner_expr inner_pat inner_head inner_params inner_member at) s)
+unseen_told : (j : TokenKind) (b : Bool) (o : Outcome Tree) → same_kind j kind.Function ≡ false → Meets Plain o → Meets (Told j b) o
+unseen_told j b o e h = meets_as o h (λ x t g strict. g strict ∙ sym (ap (λ z. cond z (only strict faults.LabelledFunctionInStrict (span_of x) ++ only b faults.LabelledGeneratorOrAsync (span_of x)) []) e))
+
+module _ (n : ℕ) (at : Position) where
+  abbrev plain : Position → Reader Tree
+  plain = stmt_level (stmt n) (expr n) (pattern n) (head_cover n) (reader.parameters n) (member n)
+
+  level_told : (s : State) → Meets (Told (kind_at s.at) (is_starred s)) (plain at s)
+  unfolding stmt_level
+  level_told s = by_told (stmt n) (expr n) (pattern n) (head_cover n) (reader.parameters n) (member n) at (kind_at s.at) s refl
+
+  -- behind decorators none is told of
+  either_told : (s : State) → Meets (Told (kind_at s.at) (is_starred s)) (either_stmt plain (decorated_in n) at s)
   unfolding same_kind
-  first_told v at kind.Await s r = meets_if (Told kind.Await (is_starred s)) (v && is_await_using_declaration at s.code s.at) _ _ (λ _. await_using_plain s) (λ _. r)
-  first_told v at _ s r = r
+  either_told s = by_first (sees kind.Function s.at) refl
+    where
+      by_first : (b : Bool) → sees kind.Function s.at ≡ b → Meets (Told (kind_at s.at) (is_starred s)) (either_stmt plain (decorated_in n) at s)
+      by_first true e = subst (Meets (Told (kind_at s.at) (is_starred s))) (sym (either_at plain (decorated_in n) at s kind.Function (saw s.at kind.Function e) refl)) (level_told s)
+      by_first false e = unseen_told (kind_at s.at) (is_starred s) (either_stmt plain (decorated_in n) at s) e
+          (either_unlabelled plain at (λ t f. untold (kind_at t.at) (is_starred t) (plain at t) f (level_told t))
+          (λ t. declared_is_bare (stmt n) (expr n) (pattern n) (head_cover n) (reader.parameters n) (member n) at t) (decorated_in n) s e)
 
 stmt_meets_told : (n : ℕ) (at : Position) (s : State) → Meets (Told (kind_at s.at) (is_starred s)) (stmt n at s)
-unfolding stmt stmt_level
+unfolding stmt
 stmt_meets_told zero at s = too_deep_meets (Told (kind_at s.at) (is_starred s)) s
-stmt_meets_told (suc n) at s = first_told (stmt n) (expr n) (pattern n) (head_cover n) (reader.parameters n) (member n) (reader.nests n) at (kind_at s.at) s (by_told (stmt n) (expr n) (pattern n) (head_cover n) (reader.parameters n) (member n) at (kind_at s.at) s refl)
+stmt_meets_told (suc n) at s = either_told n at s
 
 -- ---- the faults of a label
 

@@ -6,6 +6,9 @@ use Rattle.swc_ecma_parser_reader.specs.Members.{class_expr, class_stmt}
 use Rattle.swc_ecma_parser_reader.proofs.classes.Shared.{Declared}
 use Rattle.swc_ecma_parser_reader.proofs.classes.SoundMembers.{member_level_sound}
 use Rattle.swc_ecma_parser_reader.proofs.classes.SoundClasses.{class_expr_sound, class_stmt_sound}
+use Rattle.swc_ecma_parser_reader.proofs.decorators.Sound.{decorated_sound}
+use Rattle.swc_ecma_parser_reader.proofs.decorators.Declared.{level_declares, export_meets}
+use Rattle.swc_ecma_parser_reader.proofs.decorators.SoundStatements.{either_sound}
 use Rattle.swc_ecma_parser_reader.proofs.patterns.Sound as patterns
 use Rattle.swc_ecma_parser_reader.proofs.patterns.Sound.{SoundParams, Unwrapped}
 use Rattle.swc_ecma_parser_reader.proofs.expressions.Sound as expressions
@@ -16,9 +19,9 @@ use Rattle.swc_ecma_parser_reader.proofs.Between.{sound_below, sound_coded, Soun
 use Rattle.swc_ecma_parser_reader.specs.State.{name, reference, below, below_label, State, Reader, moved, coded, within, fault_at, Outcome, wanted, labelled, labelled_as, expect, end}
 use Rattle.swc_ecma_parser_grammar.specs.Reads.{labeled_rule, with_rule, class_rule, function_rule, with_in, nested_item, ReadsItems, TargetRule, OperandRule, no_operand_rule, operand_rule, break_rule, continue_rule, return_rule, StmtRule, block_rule, empty_rule, debugger_rule, if_statement_rule, CaseRule, case_clause_rule, default_clause_rule, ReadsCases, switch_rule, throw_rule, try_rule, while_rule, do_while_rule, expr_rule, import_rule, ReadsBlock, CatchRule, no_catch_rule, catch_rule, catch_parameter_rule, FinallyRule, no_finally_rule, finally_rule, ReadsHead, IfRule, if_rule, ElseRule, no_else_rule, else_rule, else_if_rule}
 use Rattle.swc_ecma_parser_grammar.specs.Own.{labelled_function, duplicates}
-use Rattle.swc_ecma_parser_reader.proofs.SoundParts.{relabels_sound, SoundWith, note_with_sound, using_sound, await_using_sound, end_sound, optional_end_sound, Declarators, declarators_sound, inside_sound, variables_sound, code_stays, items_sound, NoLabel, no_label_sound, NoNote, SoundNote, note_sound, and_false, unbroken_sound, uncontinued_sound, misplaced_sound, target_sound, after_return_meets}
+use Rattle.swc_ecma_parser_reader.proofs.SoundParts.{relabels_sound, SoundWith, note_with_sound, using_sound, end_sound, optional_end_sound, Declarators, declarators_sound, inside_sound, variables_sound, code_stays, items_sound, NoLabel, no_label_sound, NoNote, SoundNote, note_sound, and_false, unbroken_sound, uncontinued_sound, misplaced_sound, target_sound, after_return_meets}
 use Rattle.swc_ecma_parser_grammar.specs.language.Items.{labelled_item, sub_statement}
-use Rattle.swc_ecma_parser_reader.specs.Reader.{begins_label, relabels, labelled_body, labeled_stmt, other_stmt, with_stmt, note_with, function_stmt, async_or_other, function_decl, variables, const_stmt, let_stmt, expr, cover, head_cover, pattern, element, member, function, function_by, getter, setter, plain_method, target, unbroken, break_stmt, uncontinued, continue_stmt, misplaced, operand, returned, return_stmt, empty, debugger, declarators, closes, close, items, block_from, block, braced, note_statement, no_label, expr_stmt, expr_stmt_at, optional_end, import_stmt, import_stmt_at, thrown, throw, head, while_stmt, do_while, Link, goes_on, condition, alternative, link_from, link, links, if_stmt, begins_clause, closes_clause, Clauses, clause_from, default_clause, case_clause, clause, clauses_turn, clauses, switch_stmt, begins_at, is_handled, handled, bound, parameter, finalizer, caught, handler, try_stmt, stmt_by, stmt_level, stmt, stmt_first, using_or_other}
+use Rattle.swc_ecma_parser_reader.specs.Reader.{begins_label, relabels, labelled_body, labeled_stmt, other_stmt, with_stmt, note_with, function_stmt, async_or_other, function_decl, variables, const_stmt, let_stmt, expr, cover, head_cover, pattern, element, decorated_in, member, function, function_by, getter, setter, plain_method, target, unbroken, break_stmt, uncontinued, continue_stmt, misplaced, operand, returned, return_stmt, empty, debugger, declarators, closes, close, items, block_from, block, braced, note_statement, no_label, expr_stmt, expr_stmt_at, optional_end, import_stmt, import_stmt_at, thrown, throw, head, while_stmt, do_while, Link, goes_on, condition, alternative, link_from, link, links, if_stmt, begins_clause, closes_clause, Clauses, clause_from, default_clause, case_clause, clause, clauses_turn, clauses, switch_stmt, begins_at, is_handled, handled, bound, parameter, finalizer, caught, handler, try_stmt, stmt_by, stmt_level, stmt, using_or_other}
 use Rattle.swc_ecma_parser_model.specs.declared.leaves.VarDeclKind.{VarDeclKind}
 use Rattle.swc_ecma_parser_model.specs.declared.leaves.VarDeclKind.TheVariants as decl
 use Rattle.swc_ecma_parser_grammar.specs.Variables.{begins_variables, is_var}
@@ -46,7 +49,7 @@ use Rattle.swc_ecma_parser_grammar.specs.Ends.{Ends, ends_at}
 use Rattle.swc_ecma_parser_grammar.specs.Follows.{may_begin_expression_statement, begins_import_expression, is_let_declaration, is_async_function}
 use Rattle.swc_ecma_parser_grammar.specs.language.Contexts.{in_loop, in_breakable, in_with}
 use Rattle.swc_ecma_parser_grammar.specs.language.Goals.{Class, expression, left_side}
-use Rattle.swc_ecma_parser_grammar.specs.ReadsSupported.{ReadsClass, ReadsPat, ReadsElement, ReadsTarget, ReadsStmt, ReadsParams, ReadsMember, ReadsNamedClass}
+use Rattle.swc_ecma_parser_grammar.specs.ReadsSupported.{ReadsClass, ReadsPat, ReadsElement, ReadsTarget, ReadsStmt, ReadsParams, ReadsDecorated, ReadsMember, ReadsNamedClass}
 use Rattle.swc_ecma_parser_grammar.specs.Walk as walks
 use Rattle.swc_ecma_parser_grammar.specs.Walk.{walk, env_of, tabled, drops}
 use Rattle.swc_ecma_parser_grammar.specs.Notes.{notes, statement_note}
@@ -69,8 +72,7 @@ use Rattle.swc_ecma_parser_reader.proofs.expressions.SoundSteps.{meets_as, FreeW
 use Rattle.swc_ecma_parser_reader.proofs.Notes.{or_nil, or_true, notes_nil}
 use Rattle.swc_ecma_parser_reader.proofs.Meets.{Meets, Refuses, meets_then, meets_if, wanted_meets, too_deep_meets, refuse_meets, Turned, loop_answers, saw, meant}
 use Rattle.swc_ecma_parser_reader.proofs.Opens.{import_unnoted, chain_goes, chain_stops}
-use Rattle.swc_ecma_parser_grammar.specs.Using.{is_using_declaration, is_await_using_declaration}
-use Rattle.swc_ecma_parser_grammar.proofs.AwaitUsing.{declares_behind_await}
+use Rattle.swc_ecma_parser_grammar.specs.Using.{is_using_declaration}
 
 -- ---- statements
 
@@ -544,17 +546,6 @@ module _ (Stmt : Code → Position → Tree → Place → Place → Type 0) (Exp
   unfolding stmt_level
   level_sound s = by_sound (kind_at s.at) s refl
 
-  -- `await using` before anything else
-  first_sound : (v : Bool) (s : State) → Meets (SoundStmt s)
-      (stmt_first v (reader.declarators inner_expr inner_pat false decl.Var) at (kind_at s.at) (stmt_level inner inner_expr inner_pat inner_head inner_params inner_member at) s)
-  first_sound v s = by_first (kind_at s.at)
-    where
-      by_first : (j : TokenKind) → Meets (SoundStmt s) (stmt_first v (reader.declarators inner_expr inner_pat false decl.Var) at j (stmt_level inner inner_expr inner_pat inner_head inner_params inner_member at) s)
-      by_first kind.Await = meets_if _ (v && is_await_using_declaration at s.code s.at) _ _
-          (λ h. let (b, e, i) = declares_behind_await at s.code s.at (and_yes v (is_await_using_declaration at s.code s.at) h).1 in
-          await_using_sound Expr Pat inner_expr inner_pat sound_expr sound_pat Stmt Target Params Named at s b e i) (λ _. level_sound s)
-      by_first _ = level_sound s
-
 -- ---- all levels
 
 record Sounds (n : ℕ) : Type 0 where
@@ -563,6 +554,7 @@ record Sounds (n : ℕ) : Type 0 where
   heads : (s : State) → Meets (λ v t. SoundHead n s v t) (head_cover n s)
   patterns : (s : State) → Meets (λ x t. SoundTree (ReadsPat n) s x t) (pattern n s)
   elements : (s : State) → Meets (λ x t. SoundTree (ReadsElement n) s x t) (element n s)
+  decorateds : (s : State) → Meets (λ x t. SoundTree (ReadsDecorated n) s x t) (decorated_in n s)
   members : (s : State) → Meets (λ x t. SoundTree (ReadsMember n) s x t) (member n s)
   stmts : (at : Position) (s : State) → Meets (λ x t. SoundTree (λ k. ReadsStmt n k at) s x t) (stmt n at s)
 
@@ -667,27 +659,37 @@ module _ (n : ℕ) (b : Sounds n) where
           (method_sound (ReadsStmt n) (ReadsParams n) (stmt n nested_item) (b.stmts nested_item) (reader.parameters n) params (HeadRead n (method_form w g) key) key s m p w g)
           (λ x t q. sound_as s t refl refl refl (λ r. method_read n s.code x s.at t.at key w g r) q)
 
+module _ (n : ℕ) (b : Sounds n) where
+  exprs_sound : (class : Class) (s : State) → Meets (λ x t. SoundTree (ReadsClass (suc n) class) s x t) (expr (suc n) class s)
+  unfolding function expr
+  exprs_sound = expressions.level_sound n (expr n) (cover n) b.exprs b.covers (function n) (functions n b) (tied_at n) (parts n b)
+
 all_sound : (n : ℕ) → Sounds n
-unfolding function expr cover head_cover pattern element member stmt
+unfolding function expr cover head_cover pattern element decorated_in member stmt
 all_sound zero = record {
   exprs = λ class s. too_deep_meets _ s;
   covers = λ s. too_deep_meets _ s;
   heads = λ s. too_deep_meets _ s;
   patterns = λ s. too_deep_meets _ s;
   elements = λ s. too_deep_meets _ s;
+  decorateds = λ s. too_deep_meets _ s;
   members = λ s. too_deep_meets _ s;
   stmts = λ at s. too_deep_meets _ s;
 }
 all_sound (suc n) = let b = all_sound n in record {
-  exprs = expressions.level_sound n (expr n) (cover n) b.exprs b.covers (function n) (functions n b) (tied_at n) (parts n b);
+  exprs = exprs_sound n b;
   covers = expressions.cover_expr_sound n (expr n) (cover n) b.exprs b.covers (function n) (functions n b) (tied_at n) (parts n b);
   heads = head_expr_sound n (expr n) (cover n) b.exprs b.covers (function n) (functions n b) (tied_at n) (parts n b);
   patterns = patterns.pattern_level_sound n (expr n) (cover n) (pattern n) (element n) b.exprs b.covers b.patterns b.elements;
   elements = patterns.element_level_sound n (expr n) (cover n) (pattern n) (element n) b.exprs b.covers b.patterns b.elements;
-  members = member_level_sound n (expr n) (cover n) (stmt n nested_item) (reader.parameters n) b.exprs b.covers (b.stmts nested_item) (params n b);
-  stmts = λ at s. first_sound (ReadsStmt n) (ReadsClass n) (ReadsPat n) (ReadsTarget n) (ReadsParams n) (ReadsNamedClass n) (stmt n) (expr n) (pattern n) (head_cover n) (reader.parameters n) (member n)
-      b.stmts b.exprs b.patterns (openings n b) (params n b) (class_stmt_sound n (expr n left_side) (member n) (b.exprs left_side) b.members)
-      (λ k x c d h r. import_unnoted n k x c d r h) at (reader.nests n) s;
+  decorateds = decorated_sound n (expr n) (cover n) b.exprs b.covers (function n) (functions n b) (expr (suc n) expression) (exprs_sound n b expression);
+  members = member_level_sound n (expr n) (cover n) (stmt n nested_item) (reader.parameters n) b.exprs b.covers (b.stmts nested_item) (params n b) (decorated_in n) b.decorateds;
+  stmts = λ at. either_sound n (stmt_level (stmt n) (expr n) (pattern n) (head_cover n) (reader.parameters n) (member n)) at
+      (level_sound (ReadsStmt n) (ReadsClass n) (ReadsPat n) (ReadsTarget n) (ReadsParams n) (ReadsNamedClass n) (stmt n) (expr n) (pattern n) (head_cover n) (reader.parameters n) (member n)
+      b.stmts b.exprs b.patterns (openings n b) (params n b) (class_stmt_sound n (expr n left_side) (member n) (b.exprs left_side) b.members) (λ k x c d h r. import_unnoted n k x c d r h) at)
+      (λ s. level_declares (stmt n) (expr n) (pattern n) (head_cover n) (reader.parameters n) (member n) at s n (b.stmts nested_item) (params n b)
+      (class_stmt_sound n (expr n left_side) (member n) (b.exprs left_side) b.members))
+      (λ s. export_meets (stmt n) (expr n) (pattern n) (head_cover n) (reader.parameters n) (member n) at s (λ x t. ⊥)) (decorated_in n) b.decorateds;
 }
 
 -- an expression of a class is in the relation of the whole language within as many levels
@@ -725,6 +727,10 @@ functions_sound n = functions n (all_sound n)
 -- a statement is in the grammar within as many levels
 pub stmt_sound : (n : ℕ) (at : Position) (s : State) → Meets (λ x t. SoundTree (λ k. ReadsStmt n k at) s x t) (stmt n at s)
 stmt_sound n = (all_sound n).stmts
+
+-- so is what stands behind the `@` of a decorator
+pub decorated_in_sound : (n : ℕ) (s : State) → Meets (λ x t. SoundTree (ReadsDecorated n) s x t) (decorated_in n s)
+decorated_in_sound n = (all_sound n).decorateds
 
 -- so are a member of a class, and a class that is declared or is an expression
 pub member_sound : (n : ℕ) (s : State) → Meets (λ x t. SoundTree (ReadsMember n) s x t) (member n s)

@@ -117,12 +117,11 @@ plain_notes (tree.ident_pat s text) h = refl
 plain_notes _ h = cc
 
 using_walk : (x : Tree) (s t : Span) (k : Code) (l : List Text) → is_binding_name x ≡ true → walk (env_of k l) x ≡ walk (env_of k l) (tree.using s false (listed (tree.declarator t x tree.absent ∷ [])))
-using_walk (tree.ident_pat v text) s t k l h = refl
-using_walk _ s t k l h = cc
+using_walk x s t k l h = let e = plain_walk x k l h in e ∙ sym (ap (λ fs. (fs ++ []) ++ []) e)
 
 using_notes : (x : Tree) (s t : Span) → is_binding_name x ≡ true → no_notes ⊕ notes_of x ≡ notes_of (tree.using s false (listed (tree.declarator t x tree.absent ∷ [])))
 using_notes (tree.ident_pat v text) s t h = refl
-using_notes _ s t h = cc
+using_notes _ s t h = absurd (true≢false (sym h))
 
 -- what no first part of three follows is refused
 unfollowed_meets : (P : Tree → State → Type 0) (s : State) → Meets P (unfollowed s)
@@ -209,11 +208,12 @@ module _ (Stmt : Code → Position → Tree → Place → Place → Type 0) (Exp
       let y : Sound same (λ k l. walk (env_of k l) name) (notes_of name) (λ k c d. Pat k name c d × (d ≡ t.at)) m t = sound_as m t refl refl refl (λ x. (x, refl)) v in
       sound_as s u refl (using_walk name span (record { lo = (span_at m.at).lo; hi = t.at.last.hi }) s.code s.scope.labels z) (using_notes name span (record { lo = (span_at m.at).lo; hi = t.at.last.hi }) z)
       (λ (d1, (d0, e0, (w0, y0)), (fe, de)).
-      let l : u.at ≡ t.at = de ∙ y0 in
-      (of_using_rule name h (subst (λ c. Pat s.code name c u.at) (e0 ∙ i) (subst (λ d. Pat s.code name d0 d) (sym de) w0)) z
-      (ap (λ d. tree.using (spanned s.at d) false (listed (tree.declarator (spanned m.at d) name tree.absent ∷ []))) (sym l)
-      ∙ ap (λ c. tree.using (spanned s.at u.at) false (listed (tree.declarator (spanned c u.at) name tree.absent ∷ []))) i),
-      ap (sees kind.In) l ∙ unsaid (sees kind.In t.at) _ _ fe))
+      let l : u.at ≡ t.at = de ∙ y0 in (
+        of_using_rule name h (subst (λ c. Pat s.code name c u.at) (e0 ∙ i) (subst (λ d. Pat s.code name d0 d) (sym de) w0)) z
+            (ap (λ d. tree.using (spanned s.at d) false (listed (tree.declarator (spanned m.at d) name tree.absent ∷ []))) (sym l)
+            ∙ ap (λ c. tree.using (spanned s.at u.at) false (listed (tree.declarator (spanned c u.at) name tree.absent ∷ []))) i),
+        ap (sees kind.In) l ∙ unsaid (sees kind.In t.at) _ _ fe,
+      ))
       (sound_more (sound_then a y) q)))
 
   named_head_sound : (w : Bool) (s : State) → may_declare_using s.code s.at ≡ true → Meets (SoundOpening w s) (named_head inner_expr inner_pat s)
@@ -374,3 +374,5 @@ module _ (Stmt : Code → Position → Tree → Place → Place → Type 0) (Exp
     for_sound s e = meets_then _ (await_here (moved s)) _ (await_here_sound (moved s)) (λ word r v.
         meets_then _ (expect kind.LParen r) _ (expect_sound kind.LParen r refl) (λ _ i a.
         meets_then _ (opening inner_expr inner_pat inner_head (is_some word) i) _ (opening_sound (is_some word) i) (λ o m q. for_behind_sound s i m word o e (sound_more v a) q)))
+
+-- x

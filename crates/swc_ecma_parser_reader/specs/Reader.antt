@@ -20,7 +20,7 @@ use Rattle.swc_ecma_parser_grammar.specs.Follows.{word_at, may_begin_expression_
 use Rattle.swc_ecma_parser_grammar.specs.Variables.{is_const, needs_no_initializer}
 use Rattle.swc_ecma_parser_grammar.specs.Reads.{with_in, head_code, nested_item, top_item}
 use Rattle.swc_ecma_parser_grammar.specs.Own.{only, labelled_function, duplicates, head_faults}
-use Rattle.swc_ecma_parser_grammar.specs.Using.{is_using_declaration, is_await_using_declaration, may_declare_using, stands_in_head}
+use Rattle.swc_ecma_parser_grammar.specs.Using.{is_using_declaration, may_declare_using, stands_in_head}
 use Rattle.swc_ecma_parser_grammar.specs.Entries.{script_code}
 use Rattle.swc_ecma_parser_grammar.specs.language.Contexts.{in_loop, in_breakable, in_with, without_in}
 use Rattle.swc_ecma_parser_grammar.specs.language.Goals.{Class, expression, assignment, left_side}
@@ -30,9 +30,11 @@ use Rattle.swc_ecma_parser_reader.specs.Expressions.{Cover}
 use Rattle.swc_ecma_parser_reader.specs.Heads.{head_expr, head_behind_async}
 use Rattle.swc_ecma_parser_reader.specs.Methods.{FunctionForm, expression_form, class_form, property_form, getter_form, setter_form, method_form, parameter_form, block_form}
 unfoldable pub use Rattle.swc_ecma_parser_reader.specs.Bodies.{closes, at_end, close, directs, after_item, items_turn, items, block_from, block, braced, misdirected, named, function_word, own_name, no_parameter, one_parameter, function_body, function_parts, function_decl, function_expr, getter, setter, plain_method, arrow_block}
+use Rattle.swc_ecma_parser_reader.specs.Decorators.{decorated}
+use Rattle.swc_ecma_parser_reader.specs.DecoratedStatements.{either_stmt}
 use Rattle.swc_ecma_parser_reader.specs.Members.{member_level, class_expr, class_stmt}
 unfoldable pub use Rattle.swc_ecma_parser_reader.specs.Jumps.{told, target, unbroken, break_stmt, uncontinued, continue_stmt, misplaced, after_return, operand, returned, return_stmt}
-unfoldable pub use Rattle.swc_ecma_parser_reader.specs.Using.{misusing, using_from, using_stmt, await_using_stmt}
+unfoldable pub use Rattle.swc_ecma_parser_reader.specs.Using.{misusing, using_from, using_stmt}
 use Rattle.swc_ecma_parser_reader.specs.Patterns.{pattern_level, element_level, parameter_list}
 use Rattle.swc_ecma_parser_reader.specs.State.{Reader, ◌>>=◌, ◌>>◌, pure, here, span_here, since, skip, moved, spanned_from, coded, flagged, within, below_label, note_module_item, fault, fault_at, end_of, module_fault, wanted, too_deep, refuse, reject, refused, labelled, reference, expect, end, stuck, Step, More, Done, loop}
 
@@ -621,18 +623,9 @@ module _ (stmt : Position → Reader Tree) (expr : Class → Reader Tree) (pat :
   stmt_by at kind.Export = import_stmt_at (expr expression)
   stmt_by at _ = other_stmt stmt (expr expression) at
 
+  -- without decorators
   unfoldable pub stmt_level : Position → Reader Tree
   stmt_level at = λ s. stmt_by at (kind_at s.at) s
-
--- whether a part of what stands in so many levels can be read
-abbrev pub nests : ℕ → Bool
-nests zero = false
-nests (suc n) = true
-
--- `await using` declares before anything else is read, where its parts can be
-abbrev pub stmt_first : (nests : Bool) → Reader (List Tree) → Position → TokenKind → Reader Tree → Reader Tree
-stmt_first nests found at kind.Await rest = λ s. if nests && is_await_using_declaration at s.code s.at then await_using_stmt found s else rest s
-stmt_first nests found at _ rest = rest
 
 -- ---- in so many levels: the body of a function that is an expression stands at the level of the expressions in what it is part of
 
@@ -662,17 +655,20 @@ unfoldable mutual
   element zero = too_deep
   element (suc n) = element_level (expr n) (cover n) (pattern n) (element n)
 
+  -- what stands behind the `@` of a decorator; an expression in parentheses stands at the level of what it is the whole of
+  pub decorated_in : ℕ → Reader Tree
+  decorated_in zero = too_deep
+  decorated_in (suc n) = decorated (expr n) (cover n) (exprs.expr_level (expr n) (cover n) (function_by (stmt n nested_item) (parameter_list (expr n) (cover n) (pattern n) (element n)) (pattern n) (class_expr (expr n left_side) (member n))) expression)
+
   -- a member of a class
   pub member : ℕ → Reader Tree
   member zero = too_deep
-  member (suc n) = member_level (expr n) (cover n) (stmt n nested_item) (parameter_list (expr n) (cover n) (pattern n) (element n))
+  member (suc n) = member_level (expr n) (cover n) (stmt n nested_item) (parameter_list (expr n) (cover n) (pattern n) (element n)) (decorated_in n)
 
   -- a statement
   pub stmt : ℕ → Position → Reader Tree
   stmt zero at = too_deep
-  stmt (suc n) at = λ s.
-      stmt_first (nests n) (declarators (expr n) (pattern n) false decl.Var) at (kind_at s.at)
-      (stmt_level (stmt n) (expr n) (pattern n) (head_cover n) (parameter_list (expr n) (cover n) (pattern n) (element n)) (member n) at) s
+  stmt (suc n) at = either_stmt (stmt_level (stmt n) (expr n) (pattern n) (head_cover n) (parameter_list (expr n) (cover n) (pattern n) (element n)) (member n)) (decorated_in n) at
 
 -- what the head of a loop begins with, from behind `async`, where a name stands
 unfoldable pub head_behind : ℕ → Span → Reader Cover

@@ -1,5 +1,5 @@
 -- The reader of what is declared with `using`: the proposal on explicit resource management, beside ECMA-262, section 14.3.
-use Rattle.std.specs.Prelude.{Bool, true, false, List, Ok}
+use Rattle.std.specs.Prelude.{Bool, false, List, Ok}
 use Rattle.swc_ecma_parser_common.specs.declared.span.Span.{Span}
 use Rattle.swc_ecma_parser_model.specs.Tree as tree
 use Rattle.swc_ecma_parser_model.specs.Tree.{Tree, listed}
@@ -26,10 +26,3 @@ module _ (declarators : Reader (List Tree)) where
   using_stmt = do
     start ← span_here
     using_from false start
-
-  -- behind `await`, of which nothing is said
-  unfoldable pub await_using_stmt : Reader Tree
-  await_using_stmt = do
-    start ← span_here
-    skip
-    using_from true start
