@@ -10,13 +10,8 @@ mod classes;
 #[cfg(test)]
 mod declarations;
 #[cfg(test)]
-mod decorated;
-#[cfg(test)]
-mod decorators;
-#[cfg(test)]
 mod deep;
 #[cfg(test)]
-mod exports;
 mod expressions;
 #[cfg(test)]
 mod functions;

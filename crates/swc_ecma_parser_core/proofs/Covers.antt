@@ -1,6 +1,5 @@
 -- What is asked of a reader of expressions, in so many levels.
 use Rattle.std.proofs.Common.{◌≡◌, ◌≢◌, ℕ, Result, Err, sym, ap, subst, ◌∙◌}
-use Rattle.swc_ecma_parser_common.specs.declared.span.Span.{Span}
 use Rattle.swc_ecma_parser_error.specs.declared.error.Error.{Error}
 use Rattle.swc_ecma_parser_error.specs.Kind as faults
 use Rattle.swc_ecma_parser_error.specs.Kind.{Fault, fault_of, kind_of}
@@ -13,7 +12,7 @@ use Rattle.swc_ecma_parser_reader.specs.Classes.{class_of}
 use Rattle.swc_ecma_parser_reader.specs.DecoratorLevels.{decorated_in}
 use Rattle.swc_ecma_parser_reader.specs.Members.{class_expr}
 use Rattle.swc_ecma_parser_reader.specs.Reader as rules
-use Rattle.swc_ecma_parser_reader.proofs.expressions.Loops.{cover_lowest, head_lowest, behind_lowest}
+use Rattle.swc_ecma_parser_reader.proofs.expressions.Loops.{cover_lowest, head_lowest}
 use Rattle.swc_ecma_parser_inner.specs.declared.cover.Reading.{Reading}
 use Rattle.swc_ecma_parser_inner.specs.declared.cover.Reading.TheVariants as reading
 use Rattle.swc_ecma_parser_inner.specs.Covers.{read}
@@ -25,9 +24,6 @@ module _ (n : ℕ) (s : State) where
 
   pub head_refused : (e : Fault × State) → n ≡ 0 → ◌≡◌ {A = Outcome Tree} (too_deep s) (Err e) → rules.head_cover n s ≡ Err e
   head_refused e h k = head_lowest n s h ∙ too_deep_as {A = Tree} {B = exprs.Cover} s e k
-
-  pub behind_refused : (start : Span) (e : Fault × State) → n ≡ 0 → ◌≡◌ {A = Outcome Tree} (too_deep s) (Err e) → rules.head_behind n start s ≡ Err e
-  behind_refused start e h k = behind_lowest n start s h ∙ too_deep_as {A = Tree} {B = exprs.Cover} s e k
 
   -- a class that is an expression, as what is read with it
   pub read_class : (asked : Reading) (o : Outcome Tree) → asked ≡ reading.Class → class_expr (rules.expr n left_side) (rules.member n) s ≡ o → read n asked s ≡ and_then o (λ x. pure (exprs.done x))

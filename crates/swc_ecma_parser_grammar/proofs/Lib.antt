@@ -5,7 +5,6 @@ pub mod SupportedBegins
 pub mod Ended
 pub mod UsingParts
 pub mod Marks
-pub mod Decorated
 pub mod Widens
 pub mod Unnoted
 pub mod Narrows

@@ -76,7 +76,6 @@ opens kind.For = false
 opens kind.RParen = false
 opens kind.RBrace = false
 opens kind.End = false
-opens kind.At = false
 opens _ = true
 
 word_opens : (f : Context) (w : Word) → is_identifier f (word_text w) ≡ true → opens (word_kind w) ≡ true
@@ -135,7 +134,6 @@ unary_opens kind.For op h = cc
 unary_opens kind.RParen op h = cc
 unary_opens kind.RBrace op h = cc
 unary_opens kind.End op h = cc
-unary_opens kind.At op h = cc
 unary_opens _ op h = refl
 
 update_opens : (j : TokenKind) (op : UpdateOp) → update_operator j ≡ Some op → opens j ≡ true
@@ -160,7 +158,6 @@ update_opens kind.For op h = cc
 update_opens kind.RParen op h = cc
 update_opens kind.RBrace op h = cc
 update_opens kind.End op h = cc
-update_opens kind.At op h = cc
 update_opens _ op h = refl
 
 -- ---- expressions

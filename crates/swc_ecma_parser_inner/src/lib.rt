@@ -3,7 +3,6 @@
 #![tactic(auto)]
 
 pub mod cover;
-pub mod found;
 pub mod grammar;
 pub mod keys;
 pub mod steps;

@@ -1,4 +1,3 @@
-pub mod AsyncHead
 mod Awaited
 mod Flags
 mod Misdeclared

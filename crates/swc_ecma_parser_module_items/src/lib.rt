@@ -2,7 +2,6 @@
 //! ECMA-262, section 16.2.
 #![tactic(auto)]
 
-pub mod decorated;
 pub mod exported;
 mod inner;
 pub mod items;

@@ -1,7 +1,4 @@
 pub mod ModuleCode
-pub mod DecoratedForms
-pub mod Dressed
-pub mod NoDecorators
 pub mod Falls
 pub mod Loops
 pub mod Levels
@@ -18,7 +15,6 @@ pub mod AllLevels
 pub mod CompleteExportNames
 pub mod CompleteExports
 pub mod ItemStarts
-pub mod CompleteDecorated
 pub mod CompleteModules
 pub mod ProgramParts
 pub mod CompletePrograms
@@ -27,7 +23,6 @@ pub mod EmptyPrograms
 pub mod Unique
 pub mod Empty
 pub mod Keeps
-pub mod SoundLeadings
 pub mod Fits
 pub mod Limits
 pub mod Refusals

@@ -225,6 +225,73 @@ pub using_reads : (n : ℕ) (below : Below n) (xs : List Tree) (k : Code) (x : T
 unfolding using_stmt using_from misusing declarators spanned
 using_reads n below xs k x c d r e g w f h = rw (many_declarators n below false decl.Var xs [] (with_in k) (after c) d w f h r, e, g) refl
 
+-- ---- what the head of a `for` begins with
+
+-- what gives this tree as the first part of three, and what gives it as what takes each value
+abbrev pub AsInit : Tree → Opening → Type 0
+AsInit x o = (s : State) → as_init o s ≡ Ok (x, s)
+
+abbrev pub AsLeftSide : (is_await : Bool) → Tree → Opening → Type 0
+AsLeftSide is_await x o = (s : State) → as_left is_await o s ≡ Ok (x, s)
+
+-- `async` alone is none behind `for await`
+unnamed_async : (w a b : Bool) → a ≡ b → not (w && a) ≡ true → (w && b) ≡ false
+unnamed_async true true b e h = cc
+unnamed_async true false b e h = sym e
+unnamed_async false a b e h = refl
+
+module _ (inner_expr : Class → Reader Tree) (inner_pat : Reader Tree) (inner_cover : Reader Cover) where
+  -- the word of a declaration tells that variables are declared
+  opening_declares : (word : VarDeclKind) (s : State) → begins_variables word s.at ≡ true → opening inner_expr inner_pat inner_cover s ≡ head_variables inner_expr inner_pat word s
+  unfolding opening same_kind
+  opening_declares decl.Var s e = rw (saw s.at kind.Var e) refl
+  opening_declares decl.Const s e = rw (saw s.at kind.Const e) refl
+  opening_declares decl.Let s e = rw (let_stands s.at e, e) refl
+
+  opening_starts : (s : State) → may_begin_head s.at ≡ true → opening inner_expr inner_pat inner_cover s ≡ head_expression inner_expr inner_pat inner_cover s
+  unfolding opening
+  opening_starts s e = let b = head_begins s.at e in rw (b.0, b.1, b.2, b.3) refl
+
+module _ (n : ℕ) (below : Below n) where
+  declared_reads : (word : VarDeclKind) (xs : List Tree) (k : Code) (x : Tree) (c d : Place) (w : Scope) (f : List Fault) (h : Notes)
+      → ReadsSeparated (DeclaratorRule (ReadsClass n assignment) (ReadsPat n) (head_code word k) true word) xs (after c) d → x ≡ tree.var (spanned c d) word (listed xs)
+      → head_variables (expr n) (pattern n) word (st c k w f h) ≡ Ok (Variables x, st d k w (f ++ walk (env_of k w.labels) x) (h ⊕ notes_of x))
+  unfolding head_variables declarators spanned
+  declared_reads decl.Var xs k x c d w f h r e = rw (many_declarators n below true decl.Var xs [] (without_in k) (after c) d w f h r, e) refl
+  declared_reads decl.Const xs k x c d w f h r e = rw (many_declarators n below true decl.Const xs [] (with_in k) (after c) d w f h r, e) refl
+  declared_reads decl.Let xs k x c d w f h r e = rw (many_declarators n below true decl.Let xs [] (with_in k) (after c) d w f h r, e) refl
+
+  head_variables_read : (k : Code) (x : Tree) (c d : Place) (w : Scope) (f : List Fault) (h : Notes) → HeadVariables (ReadsClass n) (ReadsPat n) k x c d
+      → opening (expr n) (pattern n) (head_cover n) (st c k w f h) ≡ Ok (Variables x, st d k w (f ++ walk (env_of k w.labels) x) (h ⊕ notes_of x))
+  head_variables_read k x c d w f h r =
+      opening_declares (expr n) (pattern n) (head_cover n) r.word (st c k w f h) r.begins ∙ declared_reads r.word r.declarators k x c d w f h r.reads r.is
+
+  pub opening_reads_init : (k : Code) (x : Tree) (c d : Place) → InitRule (ReadsClass n) (ReadsPat n) k x c d → ReadsAs (AsInit x) (opening (expr n) (pattern n) (head_cover n)) k x c d
+  unfolding opening head_expression
+  opening_reads_init k x c d (no_init_rule a b e) w f h =
+      record { value = Nothing; holds = λ s. rw e refl; is = rw (seen c kind.Semi a, e, b, append-nil f, append-nil h.held_back, or_nil h.found_module_item) refl }
+  opening_reads_init k x c d (init_variables_rule r) w f h = record { value = Variables x; holds = λ s. refl; is = head_variables_read k x c d w f h r }
+  opening_reads_init k x c d (init_expression_rule a r) w f h =
+      let g = below.heads (without_in k) x c d r w f h in
+      record {
+        value = Expression g.value;
+        holds = λ s. covers.close_reads g.value s g.holds.1 ∙ rw g.holds.0 refl;
+        is = opening_starts (expr n) (pattern n) (head_cover n) (st c k w f h) a ∙ rw g.is refl;
+      }
+
+  -- behind it `in` stands, or `of`
+  pub opening_reads_left : (is_await : Bool) (k : Code) (x : Tree) (c d : Place) → LeftRule (ReadsClass n) (ReadsPat n) (ReadsTarget n) k x c d → heads.Heads (without_in k) x d
+      → not (is_await && is_bare_async x) ≡ true → ReadsAs (AsLeftSide is_await x) (opening (expr n) (pattern n) (head_cover n)) k x c d
+  unfolding head_expression
+  opening_reads_left b k x c d (declared_rule r) e o w f h = record { value = Variables x; holds = λ s. refl; is = head_variables_read k x c d w f h r }
+  opening_reads_left b k x c d (left_target_rule a r) e o w f h =
+      let g = below.targets (without_in k) x c d r e w f h in
+      record {
+        value = Expression g.value;
+        holds = λ s. rw (unnamed_async b _ _ (target_async g.value.x x g.holds.0) o) (covers.target_reads g.value s x g.holds.1 g.holds.0);
+        is = opening_starts (expr n) (pattern n) (head_cover n) (st c k w f h) a ∙ rw g.is refl;
+      }
+
 -- ---- statements one behind another
 
 -- the code behind statements: a directive may have turned it strict

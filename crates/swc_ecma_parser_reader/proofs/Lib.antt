@@ -24,9 +24,7 @@ pub mod Chains
 pub mod Answered
 pub mod Below
 pub mod Using
-pub mod HeadWords
 pub mod CompleteParts
-mod CompleteFor
 pub mod Complete
 pub mod CompleteScripts
 pub mod Unique

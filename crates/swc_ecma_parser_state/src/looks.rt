@@ -301,17 +301,6 @@ impl<I: Tokens> State<I> {
         self.word_at("using") && self.next_is_identifier() && !self.next_had_line_break()
     }
 
-    /// Whether `using` stands here and may begin a declaration in the head of a loop: a name that is not `of` stands behind it.
-    #[tactic(auto, unfolding(swc_ecma_parser_grammar::specs::Using::may_declare_using))]
-    pub fn may_declare_using(&self) -> bool
-        ensures { result ≡ resources.may_declare_using self.now.code self.now.at }
-    {
-        self.explicit_resource_management()
-            && self.word_at("using")
-            && self.next_is_identifier()
-            && !self.next_word_at("of")
-    }
-
     /// The look-ahead of an expression statement: ECMA-262, section 14.5.
     #[tactic(auto, unfolding(swc_ecma_parser_grammar::specs::Follows::may_begin_expression_statement))]
     pub fn may_begin_expression_statement(&self, at: Position) -> bool

@@ -6,7 +6,7 @@ use Rattle.swc_ecma_parser_reader.proofs.Sound.{declarators_code}
 use Rattle.swc_ecma_parser_core.proofs.Declared.{no_class}
 use Rattle.swc_ecma_parser_reader.proofs.patterns.Loops.{pattern_above, element_above}
 use Rattle.swc_ecma_parser_inner.specs.Covers.{cover_of, read}
-use Rattle.swc_ecma_parser_core.proofs.Covers.{cover_refused, head_refused, behind_refused, read_class, read_decorated, read_expr, at_asked, refused_as, read_object}
+use Rattle.swc_ecma_parser_core.proofs.Covers.{cover_refused, head_refused, read_class, read_decorated, read_expr, at_asked, refused_as, read_object}
 use Rattle.swc_ecma_parser_patterns.proofs.Patterns.{read_pat_lowest, as_asked}
 use Rattle.swc_ecma_parser_core.proofs.grammar.+knot.Goals as goal
 
@@ -32,11 +32,6 @@ pub expr-returns-in-Head : goal.expr-returns-in-Head
 expr-returns-in-Head g t c =
     subst (λ o. GivesAs (cover_of g.T.Trees.expr_of) o c.head.result (g.P.Source.seen c.head.new.p))
     (sym (at_asked c.args.depth (g.P.Source.seen c.args.p.now) c.args.asked _ _ c.in-Head.is refl)) c.head.ensures
-
-pub expr-returns-in-Behind : goal.expr-returns-in-Behind
-expr-returns-in-Behind g t c =
-    subst (λ o. GivesAs (cover_of g.T.Trees.expr_of) o c.behind.result (g.P.Source.seen c.behind.new.p))
-    (sym (at_asked c.args.depth (g.P.Source.seen c.args.p.now) c.args.asked _ _ c.in-Behind.is refl)) c.behind.ensures
 
 pub expr-returns-in_err-class_expression-in-Class : goal.expr-returns-in_err-class_expression-in-Class
 expr-returns-in_err-class_expression-in-Class g t c =
@@ -85,9 +80,6 @@ cover-returns-then-depth-eq0 g t c = λ h. cover_refused c.args.depth (g.P.Sourc
 
 pub head-returns-then-depth-eq0 : goal.head-returns-then-depth-eq0
 head-returns-then-depth-eq0 g t c = λ h. head_refused c.args.depth (g.P.Source.seen c.args.p.now) _ c.if-depth-eq0.true (c.too_deep.ensures h)
-
-pub behind-returns-then-depth-eq0 : goal.behind-returns-then-depth-eq0
-behind-returns-then-depth-eq0 g t c = λ h. behind_refused c.args.depth (g.P.Source.seen c.args.p.now) c.args.start _ c.if-depth-eq0.true (c.too_deep.ensures h)
 
 -- a class was read before
 pub stmt-level-requires-clause-no_class : goal.stmt-level-requires-clause-no_class

@@ -11,9 +11,6 @@ decreases-cover g l = 8 * l.depth
 abbrev pub decreases-head : goal.decreases-head
 decreases-head g l = 8 * l.depth
 
-abbrev pub decreases-behind : goal.decreases-behind
-decreases-behind g l = 8 * l.depth
-
 abbrev pub decreases-decorated : goal.decreases-decorated
 decreases-decorated g l = 8 * l.depth
 
