@@ -25,7 +25,8 @@ for (;a) b → refused 7..8 Expected
 for (;;a b → refused 9..10 Expected
 for a → refused 4..5 Expected
 for (;;) → refused 8..8 Eof
-for (using a of b) c → refused 11..12 Expected";
+for (using a of b) c → refused 11..12 Expected
+for (using a in b) c → refused 11..12 Expected";
 
 const FOR_INS: &str =
     "for (a in b) c → Script 0..14, ForIn 0..14 → ForInStmt 0..14, Ident 5..6 a, ExprStmt 13..14
@@ -81,20 +82,46 @@ for await (a in b) { → fault 19..20 Expected, refused 4..9 AwaitForStmt
 for await (a in b → refused 16..17 Expected
 for await (a of b, c) ; → refused 17..18 Expected
 for await (let of a) b → refused 18..19 Expected
-for await (async of a) b → refused 20..21 Unexpected
-for await (async¶of a) b → refused 17..19 Unexpected
+for await (async of a) b → Script 0..24, ForOf 0..24 → is_await: true, Ident 11..16 async, Ident 20..21 a
+for await (async¶of a) b → Script 0..24, ForOf 0..24 → is_await: true, Ident 11..16 async
+for await (async of => {}; a; b) c → refused 4..9 AwaitForStmt
+for await (async of => a, b;;) c → refused 4..9 AwaitForStmt
+for await (async of => {} of a) b → refused 11..25 InvalidPat
+for await (async of) a → refused 19..20 Unexpected
 for await a → refused 10..11 Expected";
+
+const USING_HEADS: &str =
+    "for (using a of b) c → Script 0..20, ForOf 0..20 → UsingDecl 5..12, is_await: false, VarDeclarator 11..12, Ident 11..12 a
+for (using¶a of b) c → Script 0..20, ForOf 0..20 → UsingDecl 5..12
+for await (using a of b) c → Script 0..26, ForOf 0..26 → is_await: true, UsingDecl 11..18, VarDeclarator 17..18
+for (using await of a) b → Script 0..24, ForOf 0..24 → UsingDecl 5..16, VarDeclarator 11..16
+for (using a in b) ; → Script 0..20, ForIn 0..20, fault 5..12 UsingDeclNotAllowedForForInLoop → UsingDecl 5..12, VarDeclarator 11..12
+for (using of a) b → Script 0..18, ForOf 0..18 → Ident 5..10 using
+for (using of of) b → Script 0..19, ForOf 0..19 → Ident 5..10 using, Ident 14..16 of
+for (using in a) ; → Script 0..18, ForIn 0..18 → Ident 5..10 using
+for (using in of) ; → Script 0..19, ForIn 0..19 → Ident 14..16 of
+for (using [a] of b) ; → Script 0..22, ForOf 0..22 → MemberExpr 5..14
+for (using;;) ; → Script 0..15, For 0..15 → Ident 5..10 using
+for (using of of a) b → refused 17..18 Expected
+for (using a of b, c) d → refused 17..18 Expected
+for (using a;;) ; → refused 11..12 Expected
+for (using a, b of c) ; → refused 11..12 Expected
+for (using a = b of c) ; → refused 11..12 Expected
+'use strict'; for (using let of a) b → refused 25..28 Expected";
+
+/// The same of those for which `explicit_resource_management` is set.
+pub const SET_TABLES: [(&str, &str); 1] = [(USING_HEADS, "17 rows")];
 
 /// Each table, and how many rows it has.
 pub const TABLES: [(&str, &str); 4] = [
-    (FORS, "25 rows"),
+    (FORS, "26 rows"),
     (FOR_INS, "16 rows"),
     (FOR_OFS, "20 rows"),
-    (FOR_AWAITS, "16 rows"),
+    (FOR_AWAITS, "20 rows"),
 ];
 
 /// Rows, each within so many levels.
-pub const LIMITS: [(&str, u32); 12] = [
+pub const LIMITS: [(&str, u32); 14] = [
     ("for (;;) a → refused 9..10 TooDeep", 2),
     ("for (;;) ; → Script 0..10, For 0..10", 2),
     ("for (a;;) ; → refused 5..6 TooDeep", 1),
@@ -107,4 +134,6 @@ pub const LIMITS: [(&str, u32); 12] = [
     ("for ([a] of b) ; → Script 0..16, ForOf 0..16", 3),
     ("for await (a of b) ; → refused 11..12 TooDeep", 1),
     ("for await (a of b) ; → Script 0..20, ForOf 0..20", 2),
+    ("for await (async of a) ; → refused 11..16 TooDeep", 1),
+    ("for await (async of a) ; → Script 0..24, ForOf 0..24", 2),
 ];

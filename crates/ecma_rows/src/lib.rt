@@ -10,8 +10,13 @@ mod classes;
 #[cfg(test)]
 mod declarations;
 #[cfg(test)]
+mod decorated;
+#[cfg(test)]
+mod decorators;
+#[cfg(test)]
 mod deep;
 #[cfg(test)]
+mod exports;
 mod expressions;
 #[cfg(test)]
 mod functions;

@@ -2,8 +2,8 @@
 
 use crate::report::report;
 use crate::{
-    arrows, awaits, classes, declarations, expressions, functions, heads, methods, modules,
-    programs, rows, statements,
+    arrows, awaits, classes, declarations, decorated, decorators, exports, expressions, functions,
+    heads, methods, modules, programs, rows, statements,
 };
 use ecma_report::Goal;
 use ecma_texts::{Asked, plainly};
@@ -68,6 +68,68 @@ fn with_attributes(goal: Goal) -> Asked {
     }
 }
 
+/// What a goal asks for with the setting `decorators`, and with `auto_accessors` or without it.
+fn with_decorators(goal: Goal, auto_accessors: bool) -> Asked {
+    Asked {
+        settings: EsSyntax {
+            decorators: true,
+            auto_accessors,
+            ..EsSyntax::default()
+        },
+        ..plainly(goal)
+    }
+}
+
+/// Writes the tables of decorators that do not hold.
+fn write_decorators(alloc: Global, wrong: &mut String) -> Result<(), Fail> {
+    let asked = with_decorators(Goal::Script, false);
+    write_tables(alloc, wrong, &decorators::TABLES, asked)?;
+    let asked = with_decorators(Goal::Script, true);
+    write_tables(alloc, wrong, &decorators::ACCESSOR_TABLES, asked)?;
+    let asked = with_decorators(Goal::Program, false);
+    write_tables(alloc, wrong, &decorators::PROGRAM_TABLES, asked)?;
+    let asked = plainly(Goal::Script);
+    write_tables(alloc, wrong, &decorators::UNSET_TABLES, asked)?;
+    write_exports(alloc, wrong)
+}
+
+/// The same of exports.
+fn write_exports(alloc: Global, wrong: &mut String) -> Result<(), Fail> {
+    let asked = with_decorators(Goal::Module, false);
+    write_tables(alloc, wrong, &exports::TABLES, asked)?;
+    let asked = with_decorators(Goal::Program, false);
+    write_tables(alloc, wrong, &exports::PROGRAM_TABLES, asked)?;
+    let asked = plainly(Goal::Module);
+    write_tables(alloc, wrong, &exports::UNSET_TABLES, asked)?;
+    let asked = Asked {
+        settings: EsSyntax {
+            decorators: true,
+            decorators_before_export: true,
+            ..EsSyntax::default()
+        },
+        ..plainly(Goal::Module)
+    };
+    write_tables(alloc, wrong, &exports::BOTH_TABLES, asked)
+}
+
+/// Writes the tables of statements behind decorators that do not hold.
+fn write_decorated(alloc: Global, wrong: &mut String) -> Result<(), Fail> {
+    let asked = with_decorators(Goal::Script, false);
+    write_tables(alloc, wrong, &decorated::TABLES, asked)?;
+    let before = Asked {
+        settings: EsSyntax {
+            decorators_before_export: true,
+            ..asked.settings
+        },
+        ..asked
+    };
+    write_tables(alloc, wrong, &decorated::BEFORE_TABLES, before)?;
+    let asked = with_decorators(Goal::Program, false);
+    write_tables(alloc, wrong, &decorated::PROGRAM_TABLES, asked)?;
+    let asked = plainly(Goal::Script);
+    write_tables(alloc, wrong, &decorated::UNSET_TABLES, asked)
+}
+
 #[test]
 fn rows_hold(rt: HostRuntime) -> Result<(), Fail> {
     let alloc = rt.alloc();
@@ -121,7 +183,10 @@ fn rows_hold(rt: HostRuntime) -> Result<(), Fail> {
         ..plainly(Goal::Script)
     };
     write_tables(alloc, &mut wrong, &declarations::SET_TABLES, asked)?;
+    write_tables(alloc, &mut wrong, &heads::SET_TABLES, asked)?;
     write_tables(alloc, &mut wrong, &programs::TABLES, plainly(Goal::Program))?;
+    write_decorators(alloc, &mut wrong)?;
+    write_decorated(alloc, &mut wrong)?;
     assert_eq!(rt; wrong.as_str(), "");
     Ok(())
 }
@@ -153,6 +218,24 @@ fn rows_hold_within_their_levels(rt: HostRuntime) -> Result<(), Fail> {
     )?;
     write_limits(alloc, &mut wrong, &classes::MODULE_LIMITS, Goal::Module)?;
     write_limits(alloc, &mut wrong, &programs::LIMITS, Goal::Program)?;
+    write_set_limits(
+        alloc,
+        &mut wrong,
+        &decorators::LIMITS,
+        with_decorators(Goal::Script, false),
+    )?;
+    write_set_limits(
+        alloc,
+        &mut wrong,
+        &decorated::LIMITS,
+        with_decorators(Goal::Script, false),
+    )?;
+    write_set_limits(
+        alloc,
+        &mut wrong,
+        &exports::LIMITS,
+        with_decorators(Goal::Module, false),
+    )?;
     assert_eq!(rt; wrong.as_str(), "");
     Ok(())
 }

@@ -1,5 +1,6 @@
 -- The turns of the members of a class, where one fails; and classes with their names leave the code as it was.
-use Rattle.std.proofs.Common.{◌≡◌, ℕ, ◌+◌, ◌<◌, ◌≤◌, false, List, length, Ok, Err, refl, ◌∙◌, subst, arith}
+use Rattle.std.proofs.Common.{◌≡◌, ℕ, ◌<◌, false, List, length, Ok, Err, refl, ◌∙◌, arith}
+use Rattle.swc_ecma_parser_common.specs.declared.span.Span.{Span}
 use Rattle.swc_ecma_parser_error.specs.Kind as faults
 use Rattle.swc_ecma_parser_error.specs.Kind.{Fault}
 use Rattle.swc_ecma_parser_model.specs.Tree.{Tree}
@@ -9,7 +10,8 @@ use Rattle.swc_ecma_parser_grammar.specs.Own.{second_constructor}
 use Rattle.swc_ecma_parser_grammar.specs.language.Goals.{left_side}
 use Rattle.swc_ecma_parser_reader.specs.State.{State, Outcome, moved, name, loop}
 use Rattle.swc_ecma_parser_reader.specs.Jumps.{told}
-use Rattle.swc_ecma_parser_reader.specs.Members.{Members, members_turn, named_class, class_name, unnamed_class, class_parts}
+use Rattle.swc_ecma_parser_reader.specs.Dressed.{class_parts_with, named_class_with, unnamed_class_with}
+use Rattle.swc_ecma_parser_reader.specs.Members.{Members, members_turn, class_name, class_parts}
 use Rattle.swc_ecma_parser_reader.specs.Reader.{closes, named, expr, member}
 use Rattle.swc_ecma_parser_reader.proofs.Falls.{member_falls}
 use Rattle.swc_ecma_parser_reader.proofs.Meets.{Meets, Refuses, meets_then, meets_if, meant}
@@ -50,25 +52,27 @@ unfolding named
 named_same s = meets_then _ (name faults.ExpectedIdent s) _ (meets_as (name faults.ExpectedIdent s) (name_sound faults.ExpectedIdent s) (λ i t p. p.code)) (λ i t e. e)
 
 module _ (n : ℕ) where
-  parts_same : (s t : State) → t.code ≡ s.code → Meets (Same s) (class_parts (expr n left_side) (member n) (span_at s.at) t)
-  parts_same s t e = met (Same s) (class_parts (expr n left_side) (member n) (span_at s.at) t) (λ x u h. class_parts_code n (span_at s.at) t x u h ∙ e)
-
-  named_class_same : (s : State) → Meets (Same s) (named_class (expr n left_side) (member n) s)
-  unfolding named_class
-  named_class_same s = meets_then _ (named (moved s)) _ (named_same (moved s)) (λ i t e.
-      meets_then _ (class_parts (expr n left_side) (member n) (span_at s.at) t) _ (parts_same s t e) (λ x u f. f))
-
   class_name_same : (s : State) → Meets (Same s) (class_name (expr n left_side) (member n) s)
   unfolding class_name
   class_name_same s = meets_if _ (name_at s.code.flags s.at) _ _ (λ _. named_same s) (λ _. refl)
 
-  unnamed_class_same : (s : State) → Meets (Same s) (unnamed_class (expr n left_side) (member n) s)
-  unfolding unnamed_class
-  unnamed_class_same s = meets_then _ (class_name (expr n left_side) (member n) (moved s)) _ (class_name_same (moved s)) (λ i t e.
-      meets_then _ (class_parts (expr n left_side) (member n) (span_at s.at) t) _ (parts_same s t e) (λ x u f. f))
+  parts_same : (ds : List Tree) (start : Span) (s t : State) → t.code ≡ s.code → Meets (Same s) (class_parts_with (expr n left_side) (member n) ds start t)
+  unfolding class_parts_with
+  parts_same ds start s t e = meets_then _ (class_parts (expr n left_side) (member n) start t) _
+      (met (Same s) (class_parts (expr n left_side) (member n) start t) (λ x u h. class_parts_code n start t x u h ∙ e)) (λ x u f. f)
 
-  pub named_class_code : (s : State) (x : Tree) (t : State) → named_class (expr n left_side) (member n) s ≡ Ok (x, t) → t.code ≡ s.code
-  named_class_code s x t e = meant (Same s) Refuses (named_class (expr n left_side) (member n) s) (Ok (x, t)) e (named_class_same s)
+  named_class_same : (ds : List Tree) (start : Span) (s : State) → Meets (Same s) (named_class_with (expr n left_side) (member n) ds start s)
+  unfolding named_class_with
+  named_class_same ds start s = meets_then _ (named (moved s)) _ (named_same (moved s)) (λ i t e.
+      meets_then {P = Same s} _ (class_parts_with (expr n left_side) (member n) ds start t) _ (parts_same ds start s t e) (λ x u f. f))
 
-  pub unnamed_class_code : (s : State) (x : Tree) (t : State) → unnamed_class (expr n left_side) (member n) s ≡ Ok (x, t) → t.code ≡ s.code
-  unnamed_class_code s x t e = meant (Same s) Refuses (unnamed_class (expr n left_side) (member n) s) (Ok (x, t)) e (unnamed_class_same s)
+  unnamed_class_same : (ds : List Tree) (s : State) → Meets (Same s) (unnamed_class_with (expr n left_side) (member n) ds s)
+  unfolding unnamed_class_with
+  unnamed_class_same ds s = meets_then _ (class_name (expr n left_side) (member n) (moved s)) _ (class_name_same (moved s)) (λ i t e.
+      meets_then {P = Same s} _ (class_parts_with (expr n left_side) (member n) ds (span_at s.at) t) _ (parts_same ds (span_at s.at) s t e) (λ x u f. f))
+
+  pub named_class_code : (ds : List Tree) (start : Span) (s : State) (x : Tree) (t : State) → named_class_with (expr n left_side) (member n) ds start s ≡ Ok (x, t) → t.code ≡ s.code
+  named_class_code ds start s x t e = meant (Same s) Refuses (named_class_with (expr n left_side) (member n) ds start s) (Ok (x, t)) e (named_class_same ds start s)
+
+  pub unnamed_class_code : (ds : List Tree) (s : State) (x : Tree) (t : State) → unnamed_class_with (expr n left_side) (member n) ds s ≡ Ok (x, t) → t.code ≡ s.code
+  unnamed_class_code ds s x t e = meant (Same s) Refuses (unnamed_class_with (expr n left_side) (member n) ds s) (Ok (x, t)) e (unnamed_class_same ds s)

@@ -5,7 +5,7 @@ use Rattle.swc_ecma_parser_error.specs.Kind.{Fault}
 use Rattle.swc_ecma_parser_token.specs.declared.kind.TokenKind.TheVariants as kind
 use Rattle.swc_ecma_parser_model.specs.Tree.{Tree}
 use Rattle.swc_ecma_parser_grammar.specs.Looks.{sees, span_at}
-use Rattle.swc_ecma_parser_reader.specs.State.{State, Reader, Outcome, and_then, ◌>>=◌, ◌>>◌, moved, skip, fault, fault_at}
+use Rattle.swc_ecma_parser_reader.specs.State.{State, Reader, and_then, ◌>>=◌, ◌>>◌, moved, skip, fault, fault_at}
 use Rattle.swc_ecma_parser_reader.specs.Members.{dropped, surplus}
 use Rattle.swc_ecma_parser_reader.proofs.Meets.{Refuses, meant}
 

@@ -7,21 +7,22 @@ ghost use Rattle.swc_ecma_parser_grammar.specs.Own as own;
 ghost use Rattle.swc_ecma_parser_grammar.specs.language.Goals.{left_side};
 ghost use Rattle.swc_ecma_parser_inner.specs.Keys.{word_of};
 ghost use Rattle.swc_ecma_parser_model.specs.Forms as forms;
+ghost use Rattle.swc_ecma_parser_reader.specs.Dressed as dressed;
 ghost use Rattle.swc_ecma_parser_reader.specs.Jumps.{told};
 ghost use Rattle.swc_ecma_parser_reader.specs.Members as members;
 ghost use Rattle.swc_ecma_parser_reader.specs.Reader as rules;
 ghost use Rattle.swc_ecma_parser_reader.specs.State.{Gives, GivesAs};
 ghost use Rattle.swc_ecma_parser_trees.specs.Parts.{part_of};
 
-use std::alloc::Global;
 use swc_ecma_parser_common::Span;
 use swc_ecma_parser_error::{PResult, SyntaxError};
 use swc_ecma_parser_functions::body::close;
 use swc_ecma_parser_grammar::Class;
+use swc_ecma_parser_inner::found::{found_module_item, set_found_module_item};
 use swc_ecma_parser_inner::steps::{grown, pushed, since, told_if, with_in};
 use swc_ecma_parser_input::Context;
 use swc_ecma_parser_model::Ident;
-use swc_ecma_parser_source::{Around, Source, Wanted};
+use swc_ecma_parser_source::{Source, Wanted};
 use swc_ecma_parser_token::TokenKind;
 use swc_ecma_parser_trees::{BuildsClass, BuildsClassDecl, MakerOf};
 
@@ -119,31 +120,6 @@ fn extended<
     Ok(Some(found))
 }
 
-/// Whether something was read that makes a program a module.
-fn found_module_item<P: Source>(alloc: Global, p: &mut P) -> bool
-    ensures found { result ≡ (P.seen p.old).notes.found_module_item }
-    ensures state { P.seen p.new ≡ P.seen p.old }
-{
-    let around = p.enter_body(alloc);
-    let found = around.found_module_item;
-    p.leave_body(around);
-    found
-}
-
-/// Sets whether something was read that makes a program a module.
-fn set_found_module_item<P: Source>(alloc: Global, p: &mut P, found: bool)
-    ensures { P.seen p.new ≡ record (P.seen p.old) { notes = record (P.seen p.old).notes { found_module_item = found } } }
-{
-    let Around {
-        labels,
-        found_module_item: _,
-    } = p.enter_body(alloc);
-    p.leave_body(Around {
-        labels,
-        found_module_item: found,
-    });
-}
-
 /// What a class extends, dropped, with what in it makes a program a module.
 #[inline(never)]
 fn dropped<
@@ -182,16 +158,22 @@ fn surplus<
     dropped(c, t, p)
 }
 
-/// A class, from behind its name.
-#[tactic(auto, unfolding(swc_ecma_parser_reader::specs::Members::class_parts))]
-pub fn class_parts<
+/// A class that begins at `start`, from behind its name, with the decorators before it.
+#[tactic(auto, unfolding(swc_ecma_parser_reader::specs::Dressed::class_parts_with, swc_ecma_parser_reader::specs::Members::class_parts))]
+pub fn class_parts_with<
     P: Source,
     T: BuildsClass,
     E: Fn(&MakerOf<T>, &mut P, usize, Class) -> PResult<T::Expr>,
     M: Fn(&MakerOf<T>, &mut P, usize, &[T::Member]) -> PResult<T::Member>,
->(c: &ClassGrammar<E, M>, t: &MakerOf<T>, p: &mut P, start: Span) -> PResult<T::Class>
+>(
+    c: &ClassGrammar<E, M>,
+    t: &MakerOf<T>,
+    p: &mut P,
+    start: Span,
+    decorators: Vec<T::Decorator>,
+) -> PResult<T::Class>
     requires { ReadsClass P.seen T.expr_of T.member_of c.now.depth (E.pre c.now.expr) (E.post c.now.expr) (M.pre c.now.member) (M.post c.now.member) }
-    ensures { GivesAs T.class_of (members.class_parts (rules.expr c.now.depth left_side) (rules.member c.now.depth) start (P.seen p.old)) result (P.seen p.new) }
+    ensures { GivesAs T.class_of (dressed.class_parts_with (rules.expr c.now.depth left_side) (rules.member c.now.depth) (map T.decorator_of decorators.items) start (P.seen p.old)) result (P.seen p.new) }
 {
     let super_class = extended(c, t, p)?;
     surplus(c, t, p)?;
@@ -202,8 +184,21 @@ pub fn class_parts<
     p.set_flags(outer);
     close(t.alloc, p)?;
     let span = since(p, start);
-    let decorators = Vec::new(t.alloc);
     grown(p, T::class(t.alloc, span, decorators, found, super_class))
+}
+
+/// A class without decorators, from behind its name.
+#[tactic(auto, using(swc_ecma_parser_reader::proofs::decorators::Dressed::class_parts_plain))]
+pub fn class_parts<
+    P: Source,
+    T: BuildsClass,
+    E: Fn(&MakerOf<T>, &mut P, usize, Class) -> PResult<T::Expr>,
+    M: Fn(&MakerOf<T>, &mut P, usize, &[T::Member]) -> PResult<T::Member>,
+>(c: &ClassGrammar<E, M>, t: &MakerOf<T>, p: &mut P, start: Span) -> PResult<T::Class>
+    requires { ReadsClass P.seen T.expr_of T.member_of c.now.depth (E.pre c.now.expr) (E.post c.now.expr) (M.pre c.now.member) (M.post c.now.member) }
+    ensures { GivesAs T.class_of (members.class_parts (rules.expr c.now.depth left_side) (rules.member c.now.depth) start (P.seen p.old)) result (P.seen p.new) }
+{
+    class_parts_with(c, t, p, start, Vec::new(t.alloc))
 }
 
 /// What stands around a class, from its name on.
@@ -217,26 +212,55 @@ fn in_class(flags: Context) -> Context
     }
 }
 
-/// A class that is declared, in what stands around it.
-#[tactic(auto, unfolding(swc_ecma_parser_reader::specs::Members::named_class, swc_ecma_parser_reader::specs::Reader::named))]
+/// A class that is declared and begins at `start`, in what stands around it.
+#[tactic(auto, unfolding(swc_ecma_parser_reader::specs::Dressed::named_class_with, swc_ecma_parser_reader::specs::Reader::named))]
 fn named_class<
     P: Source,
     T: BuildsClassDecl,
     E: Fn(&MakerOf<T>, &mut P, usize, Class) -> PResult<T::Expr>,
     M: Fn(&MakerOf<T>, &mut P, usize, &[T::Member]) -> PResult<T::Member>,
->(c: &ClassGrammar<E, M>, t: &MakerOf<T>, p: &mut P) -> PResult<T::Decl>
+>(
+    c: &ClassGrammar<E, M>,
+    t: &MakerOf<T>,
+    p: &mut P,
+    start: Span,
+    decorators: Vec<T::Decorator>,
+) -> PResult<T::Decl>
     requires { ReadsClass P.seen T.expr_of T.member_of c.now.depth (E.pre c.now.expr) (E.post c.now.expr) (M.pre c.now.member) (M.post c.now.member) }
-    ensures { GivesAs T.decl_of (members.named_class (rules.expr c.now.depth left_side) (rules.member c.now.depth) (P.seen p.old)) result (P.seen p.new) }
+    ensures { GivesAs T.decl_of (dressed.named_class_with (rules.expr c.now.depth left_side) (rules.member c.now.depth) (map T.decorator_of decorators.items) start (P.seen p.old)) result (P.seen p.new) }
 {
-    let start = p.span();
     p.skip()?;
     let name = p.name(Wanted::Name)?;
-    let class = class_parts(c, t, p, start)?;
+    let class = class_parts_with(c, t, p, start, decorators)?;
     grown(p, T::class_decl(t.alloc, name, class))
 }
 
-/// A class that is declared.
-#[tactic(auto, unfolding(swc_ecma_parser_reader::specs::Members::class_decl))]
+/// A class that is declared and begins at `start`, with the decorators before it.
+#[tactic(auto, unfolding(swc_ecma_parser_reader::specs::Dressed::class_decl_with))]
+pub fn class_decl_with<
+    P: Source,
+    T: BuildsClassDecl,
+    E: Fn(&MakerOf<T>, &mut P, usize, Class) -> PResult<T::Expr>,
+    M: Fn(&MakerOf<T>, &mut P, usize, &[T::Member]) -> PResult<T::Member>,
+>(
+    c: &ClassGrammar<E, M>,
+    t: &MakerOf<T>,
+    p: &mut P,
+    start: Span,
+    decorators: Vec<T::Decorator>,
+) -> PResult<T::Decl>
+    requires { ReadsClass P.seen T.expr_of T.member_of c.now.depth (E.pre c.now.expr) (E.post c.now.expr) (M.pre c.now.member) (M.post c.now.member) }
+    ensures { GivesAs T.decl_of (dressed.class_decl_with (rules.expr c.now.depth left_side) (rules.member c.now.depth) (map T.decorator_of decorators.items) start (P.seen p.old)) result (P.seen p.new) }
+{
+    let outer = p.flags();
+    p.set_flags(in_class(outer));
+    let decl = named_class(c, t, p, start, decorators)?;
+    p.set_flags(outer);
+    Ok(decl)
+}
+
+/// A class that is declared, without decorators.
+#[tactic(auto, using(swc_ecma_parser_reader::proofs::decorators::Dressed::class_decl_plain))]
 pub fn class_decl<
     P: Source,
     T: BuildsClassDecl,
@@ -246,11 +270,8 @@ pub fn class_decl<
     requires { ReadsClass P.seen T.expr_of T.member_of c.now.depth (E.pre c.now.expr) (E.post c.now.expr) (M.pre c.now.member) (M.post c.now.member) }
     ensures { GivesAs T.decl_of (members.class_decl (rules.expr c.now.depth left_side) (rules.member c.now.depth) (P.seen p.old)) result (P.seen p.new) }
 {
-    let outer = p.flags();
-    p.set_flags(in_class(outer));
-    let decl = named_class(c, t, p)?;
-    p.set_flags(outer);
-    Ok(decl)
+    let start = p.span();
+    class_decl_with(c, t, p, start, Vec::new(t.alloc))
 }
 
 /// The name of a class that is an expression, if it has one.
@@ -278,38 +299,48 @@ pub struct NamedClass<C> {
     pub class: C,
 }
 
-/// A class that is an expression, in what stands around it.
-#[tactic(auto, unfolding(swc_ecma_parser_reader::specs::Members::unnamed_class))]
+/// A class that is an expression, in what stands around it, with the decorators before it.
+#[tactic(auto, unfolding(swc_ecma_parser_reader::specs::Dressed::unnamed_class_with))]
 fn unnamed_class<
     P: Source,
     T: BuildsClass,
     E: Fn(&MakerOf<T>, &mut P, usize, Class) -> PResult<T::Expr>,
     M: Fn(&MakerOf<T>, &mut P, usize, &[T::Member]) -> PResult<T::Member>,
->(c: &ClassGrammar<E, M>, t: &MakerOf<T>, p: &mut P) -> PResult<NamedClass<T::Class>>
+>(
+    c: &ClassGrammar<E, M>,
+    t: &MakerOf<T>,
+    p: &mut P,
+    decorators: Vec<T::Decorator>,
+) -> PResult<NamedClass<T::Class>>
     requires { ReadsClass P.seen T.expr_of T.member_of c.now.depth (E.pre c.now.expr) (E.post c.now.expr) (M.pre c.now.member) (M.post c.now.member) }
-    ensures { GivesAs (class_expr_of T.class_of) (members.unnamed_class (rules.expr c.now.depth left_side) (rules.member c.now.depth) (P.seen p.old)) result (P.seen p.new) }
+    ensures { GivesAs (class_expr_of T.class_of) (dressed.unnamed_class_with (rules.expr c.now.depth left_side) (rules.member c.now.depth) (map T.decorator_of decorators.items) (P.seen p.old)) result (P.seen p.new) }
 {
     let start = p.span();
     p.skip()?;
     let name = class_name(c, t, p)?;
-    let class = class_parts(c, t, p, start)?;
+    let class = class_parts_with(c, t, p, start, decorators)?;
     Ok(NamedClass { name, class })
 }
 
-/// A class that is an expression, as its parts.
-#[tactic(auto, unfolding(swc_ecma_parser_reader::specs::Members::class_expr))]
-pub fn class_expr<
+/// A class that is an expression, as its parts, with the decorators before it.
+#[tactic(auto, unfolding(swc_ecma_parser_reader::specs::Dressed::class_expr_with))]
+pub fn class_expr_with<
     P: Source,
     T: BuildsClass,
     E: Fn(&MakerOf<T>, &mut P, usize, Class) -> PResult<T::Expr>,
     M: Fn(&MakerOf<T>, &mut P, usize, &[T::Member]) -> PResult<T::Member>,
->(c: &ClassGrammar<E, M>, t: &MakerOf<T>, p: &mut P) -> PResult<NamedClass<T::Class>>
+>(
+    c: &ClassGrammar<E, M>,
+    t: &MakerOf<T>,
+    p: &mut P,
+    decorators: Vec<T::Decorator>,
+) -> PResult<NamedClass<T::Class>>
     requires { ReadsClass P.seen T.expr_of T.member_of c.now.depth (E.pre c.now.expr) (E.post c.now.expr) (M.pre c.now.member) (M.post c.now.member) }
-    ensures { GivesAs (class_expr_of T.class_of) (members.class_expr (rules.expr c.now.depth left_side) (rules.member c.now.depth) (P.seen p.old)) result (P.seen p.new) }
+    ensures { GivesAs (class_expr_of T.class_of) (dressed.class_expr_with (rules.expr c.now.depth left_side) (rules.member c.now.depth) (map T.decorator_of decorators.items) (P.seen p.old)) result (P.seen p.new) }
 {
     let outer = p.flags();
     p.set_flags(in_class(outer));
-    let class = unnamed_class(c, t, p)?;
+    let class = unnamed_class(c, t, p, decorators)?;
     p.set_flags(outer);
     Ok(class)
 }

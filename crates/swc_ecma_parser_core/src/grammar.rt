@@ -1,7 +1,8 @@
 //! The functions that tie together the rules and the readers that they take, level by level.
 
-ghost use Rattle.std.specs.Prelude.{◌≡◌, ◌||◌, map, false};
+ghost use Rattle.std.specs.Prelude.{◌≡◌, ◌&&◌, ◌||◌, map, false, true};
 ghost use Rattle.swc_ecma_parser_classes.specs.Named.{class_expr_of};
+ghost use Rattle.swc_ecma_parser_core.specs.Covering as covering;
 ghost use Rattle.swc_ecma_parser_grammar.specs.Follows as follows;
 ghost use Rattle.swc_ecma_parser_grammar.specs.Looks as looks;
 ghost use Rattle.swc_ecma_parser_grammar.specs.Reads.{nested_item};
@@ -11,24 +12,30 @@ ghost use Rattle.swc_ecma_parser_token.specs.declared.kind.TokenKind.TheVariants
 ghost use Rattle.swc_ecma_parser_inner.specs.Covers.{cover_of, read};
 ghost use Rattle.swc_ecma_parser_inner.specs.Patterns.{read_pat};
 ghost use Rattle.swc_ecma_parser_reader.specs.Classes.{class_of};
+ghost use Rattle.swc_ecma_parser_members.specs.Leading.{leading_of};
+ghost use Rattle.swc_ecma_parser_reader.specs.DecoratedStatements as behind;
 ghost use Rattle.swc_ecma_parser_reader.specs.DecoratorLevels.{decorated_in};
+ghost use Rattle.swc_ecma_parser_reader.specs.Decorators as decorators;
+ghost use Rattle.swc_ecma_parser_reader.specs.Dressed as dressed;
 ghost use Rattle.swc_ecma_parser_reader.specs.Members as members;
 ghost use Rattle.swc_ecma_parser_reader.specs.Reader as rules;
 ghost use Rattle.swc_ecma_parser_reader.specs.State.{GivesAs};
 
-use swc_ecma_parser_classes::class::{ClassGrammar, NamedClass, class_decl, class_expr};
+use crate::covering::Covering;
+use swc_ecma_parser_classes::class::{ClassGrammar, NamedClass, class_decl_with, class_expr_with};
 use swc_ecma_parser_common::Span;
 use swc_ecma_parser_control::stmt::level;
 use swc_ecma_parser_error::{PResult, SyntaxError};
-use swc_ecma_parser_functions::function::{Manner, function_parts, function_word, star};
+use swc_ecma_parser_functions::function::{Manner, function_parts_with, function_word, star};
 use swc_ecma_parser_grammar::{Class, Position};
 use swc_ecma_parser_inner::cover::{Cover, Reading, done};
 use swc_ecma_parser_inner::grammar::{Grammar, Part};
 use swc_ecma_parser_inner::steps::{grown, since, with_in};
 use swc_ecma_parser_literals::object::object_level;
+use swc_ecma_parser_members::decorators::{Leading, leading_decorators, misplaced};
 use swc_ecma_parser_members::member::member_level;
 use swc_ecma_parser_model::VarDeclKind;
-use swc_ecma_parser_operators::assignment::{cover_expr, head_expr};
+use swc_ecma_parser_operators::assignment::{cover_expr, head_behind_async, head_expr};
 use swc_ecma_parser_operators::decorator::decorated_level;
 use swc_ecma_parser_operators::operator::expr_level;
 use swc_ecma_parser_patterns::pat::{element_level, pattern_level};
@@ -39,7 +46,7 @@ use swc_ecma_parser_trees::{BuildsStatements, MakerOf};
 
 /// A statement in so many levels.
 #[cycle(knot)]
-#[tactic(auto, using(swc_ecma_parser_reader::proofs::Loops::stmt_lowest, swc_ecma_parser_reader::proofs::Loops::stmt_above, crate::proofs::Declared::function_is_stmt, crate::proofs::Declared::var_is_stmt, crate::proofs::Declared::class_is_stmt))]
+#[tactic(auto, using(swc_ecma_parser_reader::proofs::Loops::stmt_lowest, crate::proofs::Declared::decorated_is_stmt, crate::proofs::Declared::plain_is_stmt))]
 pub fn stmt<P: Source, T: BuildsStatements>(
     t: &MakerOf<T>,
     p: &mut P,
@@ -51,23 +58,174 @@ pub fn stmt<P: Source, T: BuildsStatements>(
     if depth == 0 {
         return Err(p.too_deep());
     }
+    if begins_decorators(p) {
+        return decorated_stmt::<P, T>(t, p, depth - 1, at);
+    }
+    plain_stmt::<P, T>(t, p, depth - 1, at)
+}
+
+/// A statement without decorators, with what stands in it in so many levels.
+#[cycle(knot)]
+#[tactic(auto, using(crate::proofs::Declared::function_is_stmt, crate::proofs::Declared::var_is_stmt, crate::proofs::Declared::class_is_stmt))]
+pub fn plain_stmt<P: Source, T: BuildsStatements>(
+    t: &MakerOf<T>,
+    p: &mut P,
+    depth: usize,
+    at: Position,
+) -> PResult<T::Stmt>
+    ensures { GivesAs T.stmt_of (dressed.plain_stmt depth at (P.seen p.old)) result (P.seen p.new) }
+{
     if at.include_decl && begins_function(p) {
-        let decl = declared_function::<P, T>(t, p, depth - 1)?;
+        let decl = declared_function::<P, T>(t, p, depth)?;
         return grown(p, T::decl_stmt(t.alloc, decl));
     }
     if p.sees(TokenKind::Var) {
-        return declared_variables::<P, T>(t, p, depth - 1);
+        return declared_variables::<P, T>(t, p, depth);
     }
     if p.sees(TokenKind::Class) {
-        return class_statement::<P, T>(t, p, depth - 1, at);
+        return class_statement::<P, T>(t, p, depth, at);
     }
     let g = Grammar {
-        depth: depth - 1,
+        depth,
         stmt: stmt::<P, T>,
         expr: expr::<P, T>,
         pat: pat::<P, T>,
     };
     level(&g, t, p, at)
+}
+
+/// Whether decorators begin here.
+fn begins_decorators<P: Source>(p: &P) -> bool
+    ensures { result ≡ (looks.sees kind.At (P.seen p.now).at && (P.seen p.now).code.setting.decorators) }
+{
+    p.sees(TokenKind::At) && p.decorators()
+}
+
+/// Whether a class or a function begins here.
+#[tactic(auto, unfolding(swc_ecma_parser_reader::specs::DecoratedStatements::begins_declared))]
+fn begins_declared<P: Source>(p: &P) -> bool
+    ensures { result ≡ behind.begins_declared (P.seen p.now).at }
+{
+    p.sees(TokenKind::Class) || begins_function(p)
+}
+
+/// The decorators that stand here, with what stands in them in so many levels.
+#[cycle(knot)]
+#[inline(never)]
+pub fn leading<P: Source, T: BuildsStatements>(
+    t: &MakerOf<T>,
+    p: &mut P,
+    depth: usize,
+) -> PResult<Leading<T::Decorator>>
+    ensures { GivesAs (leading_of T.decorator_of) (decorators.leading (decorated_in depth) (P.seen p.old)) result (P.seen p.new) }
+{
+    let g = Grammar {
+        depth,
+        stmt: stmt::<P, T>,
+        expr: expr::<P, T>,
+        pat: pat::<P, T>,
+    };
+    leading_decorators(&g, t, p)
+}
+
+/// A statement that begins with decorators.
+#[cycle(knot)]
+#[tactic(auto, unfolding(swc_ecma_parser_reader::specs::DecoratedStatements::decorated_stmt))]
+#[inline(never)]
+fn decorated_stmt<P: Source, T: BuildsStatements>(
+    t: &MakerOf<T>,
+    p: &mut P,
+    depth: usize,
+    at: Position,
+) -> PResult<T::Stmt>
+    ensures { GivesAs T.stmt_of (behind.decorated_stmt (dressed.plain_stmt depth) (decorated_in depth) at (P.seen p.old)) result (P.seen p.new) }
+{
+    let list = leading::<P, T>(t, p, depth)?;
+    stmt_behind::<P, T>(t, p, depth, at, list)
+}
+
+/// A statement behind decorators: a class and a function take them, an export is refused or they are, and nothing else has any.
+#[cycle(knot)]
+#[tactic(auto, unfolding(swc_ecma_parser_reader::specs::DecoratedStatements::stmt_behind))]
+#[inline(never)]
+pub fn stmt_behind<P: Source, T: BuildsStatements>(
+    t: &MakerOf<T>,
+    p: &mut P,
+    depth: usize,
+    at: Position,
+    list: Leading<T::Decorator>,
+) -> PResult<T::Stmt>
+    ensures { GivesAs T.stmt_of (behind.stmt_behind (dressed.plain_stmt depth) at (leading_of T.decorator_of list) (P.seen p.old)) result (P.seen p.new) }
+{
+    if begins_declared(p) {
+        return declared_behind::<P, T>(t, p, depth, at, list);
+    }
+    if p.sees(TokenKind::Export) {
+        return exported_behind::<P, T>(t, p, depth, at, &list);
+    }
+    other_behind::<P, T>(t, p, depth, at, &list)
+}
+
+/// A class or a function, with the decorators before it.
+#[cycle(knot)]
+#[tactic(auto, using(crate::proofs::Declared::class_takes, crate::proofs::Declared::function_takes, crate::proofs::Declared::async_takes))]
+fn declared_behind<P: Source, T: BuildsStatements>(
+    t: &MakerOf<T>,
+    p: &mut P,
+    depth: usize,
+    at: Position,
+    list: Leading<T::Decorator>,
+) -> PResult<T::Stmt>
+    requires { behind.begins_declared (P.seen p.now).at ≡ true }
+    ensures { GivesAs T.stmt_of (behind.declared_behind (dressed.plain_stmt depth) at (leading_of T.decorator_of list) (P.seen p.old)) result (P.seen p.new) }
+{
+    if p.sees(TokenKind::Class) {
+        return class_statement_with::<P, T>(t, p, depth, at, list);
+    }
+    if p.sees(TokenKind::Function) {
+        return function_statement_with::<P, T>(t, p, depth, at, list);
+    }
+    let decl = declared_function_with::<P, T>(t, p, depth, list.found)?;
+    grown(p, T::decl_stmt(t.alloc, decl))
+}
+
+/// An export behind decorators, which is no statement. Outside classes and functions they are refused unless the setting has them
+/// there.
+#[cycle(knot)]
+#[tactic(auto, unfolding(swc_ecma_parser_reader::specs::DecoratedStatements::exported_behind))]
+fn exported_behind<P: Source, T: BuildsStatements>(
+    t: &MakerOf<T>,
+    p: &mut P,
+    depth: usize,
+    at: Position,
+    list: &Leading<T::Decorator>,
+) -> PResult<T::Stmt>
+    ensures { GivesAs T.stmt_of (behind.exported_behind (dressed.plain_stmt depth) at (leading_of T.decorator_of list.now) (P.seen p.old)) result (P.seen p.new) }
+{
+    let flags = p.flags();
+    if (flags.in_class || flags.in_function) || p.decorators_before_export() {
+        return plain_stmt::<P, T>(t, p, depth, at);
+    }
+    Err(p.reject(SyntaxError::DecoratorOnExport, list.place))
+}
+
+/// Any other statement, before which decorators are dropped.
+#[cycle(knot)]
+#[tactic(auto, unfolding(swc_ecma_parser_reader::specs::DecoratedStatements::other_behind))]
+fn other_behind<P: Source, T: BuildsStatements>(
+    t: &MakerOf<T>,
+    p: &mut P,
+    depth: usize,
+    at: Position,
+    list: &Leading<T::Decorator>,
+) -> PResult<T::Stmt>
+    ensures { GivesAs T.stmt_of (behind.other_behind (dressed.plain_stmt depth) at (leading_of T.decorator_of list.now) (P.seen p.old)) result (P.seen p.new) }
+{
+    if p.sees(TokenKind::Error) {
+        return Err(p.wanted(Wanted::Expression));
+    }
+    misplaced::<P, T>(t.alloc, p, list)?;
+    plain_stmt::<P, T>(t, p, depth, at)
 }
 
 /// What is asked for, in so many levels.
@@ -82,11 +240,12 @@ pub fn expr<P: Source, T: BuildsStatements>(
 {
     match asked {
         Reading::Expr(class) => Ok(done(expression::<P, T>(t, p, depth, class)?)),
-        Reading::Cover => cover::<P, T>(t, p, depth),
-        Reading::Head => head::<P, T>(t, p, depth),
+        Reading::Cover => covered::<P, T>(t, p, depth, Covering::Whole),
+        Reading::Head => covered::<P, T>(t, p, depth, Covering::Head),
         Reading::Class => Ok(done(class_expression::<P, T>(t, p, depth)?)),
         Reading::Decorated => Ok(done(decorated::<P, T>(t, p, depth)?)),
         Reading::Object => Ok(done(object_alone::<P, T>(t, p, depth)?)),
+        Reading::Behind(start) => covered::<P, T>(t, p, depth, Covering::Behind(start)),
     }
 }
 
@@ -114,16 +273,16 @@ pub fn expression<P: Source, T: BuildsStatements>(
     expr_level(&g, t, p, class)
 }
 
-/// An expression that may still become a pattern, in so many levels.
+/// What may still become a pattern, in so many levels.
 #[cycle(knot)]
-#[tactic(auto, using(swc_ecma_parser_reader::proofs::expressions::Loops::cover_above))]
 #[inline(never)]
-fn cover<P: Source, T: BuildsStatements>(
+fn covered<P: Source, T: BuildsStatements>(
     t: &MakerOf<T>,
     p: &mut P,
     depth: usize,
+    place: Covering,
 ) -> PResult<Cover<T::Expr>>
-    ensures { GivesAs (cover_of T.expr_of) (rules.cover depth (P.seen p.old)) result (P.seen p.new) }
+    ensures { GivesAs (cover_of T.expr_of) (covering.covered depth place (P.seen p.old)) result (P.seen p.new) }
 {
     if depth == 0 {
         return Err(p.too_deep());
@@ -134,30 +293,11 @@ fn cover<P: Source, T: BuildsStatements>(
         expr: expr::<P, T>,
         pat: pat::<P, T>,
     };
-    cover_expr(&g, t, p)
-}
-
-/// What the head of a loop begins with, in so many levels.
-#[cycle(knot)]
-#[tactic(auto, using(swc_ecma_parser_reader::proofs::expressions::Loops::head_above))]
-#[inline(never)]
-fn head<P: Source, T: BuildsStatements>(
-    t: &MakerOf<T>,
-    p: &mut P,
-    depth: usize,
-) -> PResult<Cover<T::Expr>>
-    ensures { GivesAs (cover_of T.expr_of) (rules.head_cover depth (P.seen p.old)) result (P.seen p.new) }
-{
-    if depth == 0 {
-        return Err(p.too_deep());
+    match place {
+        Covering::Whole => cover_expr(&g, t, p),
+        Covering::Head => head_expr(&g, t, p),
+        Covering::Behind(start) => head_behind_async(&g, t, p, start),
     }
-    let g = Grammar {
-        depth: depth - 1,
-        stmt: stmt::<P, T>,
-        expr: expr::<P, T>,
-        pat: pat::<P, T>,
-    };
-    head_expr(&g, t, p)
 }
 
 /// What stands behind the `@` of a decorator, in so many levels.
@@ -231,6 +371,7 @@ fn member<P: Source, T: BuildsStatements>(
 
 /// A class as its parts, with what stands in it in so many levels.
 #[cycle(knot)]
+#[tactic(auto, using(swc_ecma_parser_reader::proofs::decorators::Dressed::class_expr_plain))]
 pub fn inner_class<P: Source, T: BuildsStatements>(
     t: &MakerOf<T>,
     p: &mut P,
@@ -238,16 +379,30 @@ pub fn inner_class<P: Source, T: BuildsStatements>(
 ) -> PResult<NamedClass<T::Class>>
     ensures { GivesAs (class_expr_of T.class_of) (members.class_expr (rules.expr depth left_side) (rules.member depth) (P.seen p.old)) result (P.seen p.new) }
 {
+    inner_class_with::<P, T>(t, p, depth, Vec::new(t.alloc))
+}
+
+/// The same, with the decorators before it.
+#[cycle(knot)]
+pub fn inner_class_with<P: Source, T: BuildsStatements>(
+    t: &MakerOf<T>,
+    p: &mut P,
+    depth: usize,
+    decorators: Vec<T::Decorator>,
+) -> PResult<NamedClass<T::Class>>
+    ensures { GivesAs (class_expr_of T.class_of) (dressed.class_expr_with (rules.expr depth left_side) (rules.member depth) (map T.decorator_of decorators.items) (P.seen p.old)) result (P.seen p.new) }
+{
     let c = ClassGrammar {
         depth,
         expr: expression::<P, T>,
         member: member::<P, T>,
     };
-    class_expr(&c, t, p)
+    class_expr_with(&c, t, p, decorators)
 }
 
 /// A class that is declared, with what stands in it in so many levels.
 #[cycle(knot)]
+#[tactic(auto, using(swc_ecma_parser_reader::proofs::decorators::Dressed::class_decl_plain))]
 pub fn declared_class<P: Source, T: BuildsStatements>(
     t: &MakerOf<T>,
     p: &mut P,
@@ -255,12 +410,47 @@ pub fn declared_class<P: Source, T: BuildsStatements>(
 ) -> PResult<T::Decl>
     ensures { GivesAs T.decl_of (members.class_decl (rules.expr depth left_side) (rules.member depth) (P.seen p.old)) result (P.seen p.new) }
 {
+    let start = p.span();
+    declared_class_with::<P, T>(t, p, depth, start, Vec::new(t.alloc))
+}
+
+/// A class that is declared and begins at `start`, with the decorators before it, and with what stands in it in so many levels.
+#[cycle(knot)]
+pub fn declared_class_with<P: Source, T: BuildsStatements>(
+    t: &MakerOf<T>,
+    p: &mut P,
+    depth: usize,
+    start: Span,
+    decorators: Vec<T::Decorator>,
+) -> PResult<T::Decl>
+    ensures { GivesAs T.decl_of (dressed.class_decl_with (rules.expr depth left_side) (rules.member depth) (map T.decorator_of decorators.items) start (P.seen p.old)) result (P.seen p.new) }
+{
     let c = ClassGrammar {
         depth,
         expr: expression::<P, T>,
         member: member::<P, T>,
     };
-    class_decl(&c, t, p)
+    class_decl_with(&c, t, p, start, decorators)
+}
+
+/// A class as a statement behind decorators, where declarations are read or with a fault of its word.
+#[cycle(knot)]
+#[tactic(auto, unfolding(swc_ecma_parser_reader::specs::Dressed::class_stmt_with))]
+fn class_statement_with<P: Source, T: BuildsStatements>(
+    t: &MakerOf<T>,
+    p: &mut P,
+    depth: usize,
+    at: Position,
+    list: Leading<T::Decorator>,
+) -> PResult<T::Stmt>
+    ensures { GivesAs T.stmt_of (dressed.class_stmt_with (rules.expr depth left_side) (rules.member depth) at (leading_of T.decorator_of list) (P.seen p.old)) result (P.seen p.new) }
+{
+    if !at.include_decl {
+        let word = p.span();
+        p.fault(SyntaxError::DeclNotAllowed, word)?;
+    }
+    let decl = declared_class_with::<P, T>(t, p, depth, list.place, list.found)?;
+    grown(p, T::decl_stmt(t.alloc, decl))
 }
 
 /// A class that is an expression, with what stands in it in so many levels.
@@ -350,6 +540,7 @@ pub fn inner_declarators<P: Source, T: BuildsStatements>(
 
 /// A function from behind its name, in so many levels.
 #[cycle(knot)]
+#[tactic(auto, using(crate::proofs::Declared::function_undecorated))]
 pub fn inner_function<P: Source, T: BuildsStatements>(
     t: &MakerOf<T>,
     p: &mut P,
@@ -359,13 +550,71 @@ pub fn inner_function<P: Source, T: BuildsStatements>(
 ) -> PResult<T::Function>
     ensures { GivesAs T.function_of (rules.function_parts (rules.stmt depth nested_item) (rules.parameters depth) manner.is_async manner.is_generator start (P.seen p.old)) result (P.seen p.new) }
 {
+    inner_function_with::<P, T>(t, p, depth, manner, start, Vec::new(t.alloc))
+}
+
+/// The same, with the decorators before it.
+#[cycle(knot)]
+pub fn inner_function_with<P: Source, T: BuildsStatements>(
+    t: &MakerOf<T>,
+    p: &mut P,
+    depth: usize,
+    manner: Manner,
+    start: Span,
+    decorators: Vec<T::Decorator>,
+) -> PResult<T::Function>
+    ensures { GivesAs T.function_of (dressed.function_parts_with (rules.stmt depth nested_item) (rules.parameters depth) (map T.decorator_of decorators.items) manner.is_async manner.is_generator start (P.seen p.old)) result (P.seen p.new) }
+{
     let g = Grammar {
         depth,
         stmt: stmt::<P, T>,
         expr: expr::<P, T>,
         pat: pat::<P, T>,
     };
-    function_parts(&g, t, p, manner, start)
+    function_parts_with(&g, t, p, manner, start, decorators)
+}
+
+/// A function that is declared, with the decorators before it, in so many levels.
+#[cycle(knot)]
+#[tactic(auto, unfolding(swc_ecma_parser_reader::specs::Dressed::function_decl_with))]
+pub fn declared_function_with<P: Source, T: BuildsStatements>(
+    t: &MakerOf<T>,
+    p: &mut P,
+    depth: usize,
+    decorators: Vec<T::Decorator>,
+) -> PResult<T::Decl>
+    ensures { GivesAs T.decl_of (dressed.function_decl_with (rules.stmt depth nested_item) (rules.parameters depth) (map T.decorator_of decorators.items) (P.seen p.old)) result (P.seen p.new) }
+{
+    let start = p.span();
+    let is_async = function_word(p)?;
+    let is_generator = star(p)?;
+    let manner = Manner {
+        is_async,
+        is_generator,
+    };
+    let name = p.name(Wanted::Name)?;
+    let function = inner_function_with::<P, T>(t, p, depth, manner, start, decorators)?;
+    grown(p, T::fn_decl(t.alloc, name, function))
+}
+
+/// A function as a statement behind decorators, where declarations are read or with a fault of its word.
+#[cycle(knot)]
+#[tactic(auto, unfolding(swc_ecma_parser_reader::specs::Dressed::function_stmt_with))]
+fn function_statement_with<P: Source, T: BuildsStatements>(
+    t: &MakerOf<T>,
+    p: &mut P,
+    depth: usize,
+    at: Position,
+    list: Leading<T::Decorator>,
+) -> PResult<T::Stmt>
+    ensures { GivesAs T.stmt_of (dressed.function_stmt_with (rules.stmt depth nested_item) (rules.parameters depth) at (leading_of T.decorator_of list) (P.seen p.old)) result (P.seen p.new) }
+{
+    if !at.include_decl {
+        let word = p.span();
+        p.fault(SyntaxError::DeclNotAllowed, word)?;
+    }
+    let decl = declared_function_with::<P, T>(t, p, depth, list.found)?;
+    grown(p, T::decl_stmt(t.alloc, decl))
 }
 
 /// A function that is declared, in so many levels.

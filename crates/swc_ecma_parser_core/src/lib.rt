@@ -2,5 +2,6 @@
 //! scripts, over any source of tokens and any tree: ECMA-262, section 16.1.
 #![tactic(auto)]
 
+pub mod covering;
 pub mod grammar;
 pub mod script;

@@ -7,10 +7,12 @@ use Rattle.swc_ecma_parser_error.specs.Kind.{Fault, IsOutOfMemory}
 use Rattle.swc_ecma_parser_model.specs.Tree as tree
 use Rattle.swc_ecma_parser_model.specs.Tree.{Tree, listed}
 use Rattle.swc_ecma_parser_model.specs.Forms.{has_plain_params}
+use Rattle.swc_ecma_parser_grammar.specs.Decorated.{function_behind}
 use Rattle.swc_ecma_parser_grammar.specs.Own.{misplaced_directive}
 use Rattle.swc_ecma_parser_grammar.specs.Parameters.{parameters}
 use Rattle.swc_ecma_parser_grammar.specs.Reads.{nested_item}
 use Rattle.swc_ecma_parser_grammar.specs.language.Contexts.{in_parameters}
+use Rattle.swc_ecma_parser_reader.specs.Dressed.{function_parts_with}
 use Rattle.swc_ecma_parser_reader.specs.Reader as rules
 use Rattle.swc_ecma_parser_reader.specs.State.{State, Outcome, Reader, and_then, ◌>>=◌, ◌>>◌, pure, since, within, GivesAs}
 use Rattle.swc_ecma_parser_reader.specs.Reader.{told, stmt, misdirected, function_body, function_parts}
@@ -51,3 +53,13 @@ pub made_gives : {E X : Type 0} (view : X → Tree) (o : Outcome Tree) (z : Tree
     → IfOk made (λ x. view x ≡ z) → IfOk r (λ x. made ≡ Ok x) → IfOk r (λ x. v ≡ u) → IfErr r IsOutOfMemory → GivesAs view o r v
 made_gives view o z u v (Ok x) made h k m n i = let e : view x ≡ z = subst (λ q. IfOk q (λ y. view y ≡ z)) m k in rw (n, e) h
 made_gives view o z u v (Err x) made h k m n i = λ j. absurd (j i)
+
+-- with the decorators that were read before it
+module _ (stmt : Reader Tree) (params : Reader (List Tree)) (ds : List Tree) (a g : Bool) (start : Span) (s : State) where
+  pub behind_err : (e : Fault × State) → function_parts stmt params a g start s ≡ Err e → function_parts_with stmt params ds a g start s ≡ Err e
+  unfolding function_parts_with
+  behind_err e h = ap (λ o. and_then o (λ x. pure (function_behind ds x))) h
+
+  pub behind_found : (x : Tree) (v : State) → function_parts stmt params a g start s ≡ Ok (x, v) → function_parts_with stmt params ds a g start s ≡ Ok (function_behind ds x, v)
+  unfolding function_parts_with
+  behind_found x v h = ap (λ o. and_then o (λ y. pure (function_behind ds y))) h

@@ -189,7 +189,7 @@ pub fn arrow_from<
 
 /// The only parameter of an arrow function, a name with no parentheses.
 #[tactic(auto, unfolding(swc_ecma_parser_reader::specs::Reader::function, swc_ecma_parser_reader::specs::Reader::function_by))]
-fn only_parameter<
+pub fn only_parameter<
     P: Source,
     T: Trees,
     S: Fn(&MakerOf<T>, &mut P, usize, Position) -> PResult<T::Stmt>,
@@ -203,7 +203,7 @@ fn only_parameter<
 }
 
 /// An arrow function with one parameter, from its `=>` on.
-fn arrow_of_one<
+pub fn arrow_of_one<
     P: Source,
     T: BuildsFunction + BuildsPattern,
     S: Fn(&MakerOf<T>, &mut P, usize, Position) -> PResult<T::Stmt>,

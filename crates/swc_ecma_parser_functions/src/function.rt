@@ -11,6 +11,7 @@ ghost use Rattle.swc_ecma_parser_inner.specs.Keys.{word_of};
 ghost use Rattle.swc_ecma_parser_inner.specs.Nests.{Nests};
 ghost use Rattle.swc_ecma_parser_model.specs.Forms as forms;
 ghost use Rattle.swc_ecma_parser_model.specs.Tree as tree;
+ghost use Rattle.swc_ecma_parser_reader.specs.Dressed as dressed;
 ghost use Rattle.swc_ecma_parser_reader.specs.Methods as methods;
 ghost use Rattle.swc_ecma_parser_reader.specs.Methods.{expression_form};
 ghost use Rattle.swc_ecma_parser_reader.specs.Reader as rules;
@@ -262,8 +263,47 @@ pub fn star<P: Source>(p: &mut P) -> PResult<bool>
     Ok(true)
 }
 
-/// A function, from behind its name.
-#[tactic(auto, unfolding(swc_ecma_parser_reader::specs::Reader::function_parts, swc_ecma_parser_reader::specs::Reader::misdirected))]
+/// A function, from behind its name, with the decorators before it.
+#[tactic(auto, unfolding(swc_ecma_parser_reader::specs::Dressed::function_parts_with, swc_ecma_parser_reader::specs::Reader::function_parts, swc_ecma_parser_reader::specs::Reader::misdirected))]
+pub fn function_parts_with<
+    P: Source,
+    T: BuildsFunction + BuildsPattern,
+    S: Fn(&MakerOf<T>, &mut P, usize, Position) -> PResult<T::Stmt>,
+    E: Fn(&MakerOf<T>, &mut P, usize, Reading) -> PResult<Cover<T::Expr>>,
+    N: Fn(&MakerOf<T>, &mut P, usize, Part) -> PResult<T::Pat>,
+>(
+    g: &Grammar<S, E, N>,
+    t: &MakerOf<T>,
+    p: &mut P,
+    manner: Manner,
+    start: Span,
+    decorators: Vec<T::Decorator>,
+) -> PResult<T::Function>
+    requires { Nests P.seen T.expr_of T.pat_of T.stmt_of g.now.depth (S.pre g.now.stmt) (S.post g.now.stmt) (E.pre g.now.expr) (E.post g.now.expr) (N.pre g.now.pat) (N.post g.now.pat) }
+    ensures { GivesAs T.function_of (dressed.function_parts_with (rules.stmt g.now.depth nested_item) (rules.parameters g.now.depth) (map T.decorator_of decorators.items) manner.is_async manner.is_generator start (P.seen p.old)) result (P.seen p.new) }
+{
+    let pats = parameters_inside(g, t, p, manner)?;
+    let FunctionBody {
+        block,
+        strict_directive,
+    } = function_body(g, t, p, manner)?;
+    let span = since(p, start);
+    let params = as_params::<P, T>(t, p, pats)?;
+    misdirected(p, are_plain::<T>(&params), strict_directive)?;
+    let function = T::function(
+        t.alloc,
+        span,
+        decorators,
+        params,
+        block,
+        manner.is_async,
+        manner.is_generator,
+    );
+    grown(p, function)
+}
+
+/// A function without decorators, from behind its name.
+#[tactic(auto, using(swc_ecma_parser_reader::proofs::decorators::Dressed::function_parts_plain))]
 pub fn function_parts<
     P: Source,
     T: BuildsFunction + BuildsPattern,
@@ -280,24 +320,7 @@ pub fn function_parts<
     requires { Nests P.seen T.expr_of T.pat_of T.stmt_of g.now.depth (S.pre g.now.stmt) (S.post g.now.stmt) (E.pre g.now.expr) (E.post g.now.expr) (N.pre g.now.pat) (N.post g.now.pat) }
     ensures { GivesAs T.function_of (rules.function_parts (rules.stmt g.now.depth nested_item) (rules.parameters g.now.depth) manner.is_async manner.is_generator start (P.seen p.old)) result (P.seen p.new) }
 {
-    let pats = parameters_inside(g, t, p, manner)?;
-    let FunctionBody {
-        block,
-        strict_directive,
-    } = function_body(g, t, p, manner)?;
-    let span = since(p, start);
-    let params = as_params::<P, T>(t, p, pats)?;
-    misdirected(p, are_plain::<T>(&params), strict_directive)?;
-    let function = T::function(
-        t.alloc,
-        span,
-        Vec::new(t.alloc),
-        params,
-        block,
-        manner.is_async,
-        manner.is_generator,
-    );
-    grown(p, function)
+    function_parts_with(g, t, p, manner, start, Vec::new(t.alloc))
 }
 
 /// A function that is declared.

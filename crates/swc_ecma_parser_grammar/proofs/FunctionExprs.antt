@@ -1,13 +1,12 @@
 -- A function that is an expression: the rule of the whole language is one whose statements are those of the small relation.
-use Rattle.std.proofs.Common.{◌≡◌, ℕ, Bool, true, false, List, [], ◌∷◌, ◌++◌, refl, sym, ◌∙◌, ap, subst, codes}
+use Rattle.std.proofs.Common.{◌≡◌, ℕ, Bool, true, false, List, [], ◌∷◌, ◌++◌, refl, sym, ◌∙◌, ap}
 use Rattle.std.specs.Prelude.{not, ◌&&◌, ◌||◌}
 use Rattle.swc_ecma_parser_error.specs.Kind.{Fault}
 use Rattle.swc_ecma_parser_token.specs.declared.kind.TokenKind.TheVariants as kind
-use Rattle.swc_ecma_parser_token.specs.declared.token.Token.TheVariants as token
 use Rattle.swc_ecma_parser_token.specs.Text.{word_text}
 use Rattle.swc_ecma_parser_input.specs.Place.{Place, after}
 use Rattle.swc_ecma_parser_model.specs.Tree as tree
-use Rattle.swc_ecma_parser_model.specs.Tree.{Tree, listed, trees}
+use Rattle.swc_ecma_parser_model.specs.Tree.{Tree, listed}
 use Rattle.swc_ecma_parser_model.specs.Forms.{has_plain_params}
 use Rattle.swc_ecma_parser_grammar.specs.Follows.{Star, AsyncWord}
 use Rattle.swc_ecma_parser_grammar.specs.Looks.{kind_at, spanned}
@@ -15,10 +14,10 @@ use Rattle.swc_ecma_parser_grammar.specs.Names.{Code}
 use Rattle.swc_ecma_parser_grammar.specs.Notes.{notes}
 use Rattle.swc_ecma_parser_grammar.specs.Own.{misplaced_directive}
 use Rattle.swc_ecma_parser_grammar.specs.Parameters.{parameters}
-use Rattle.swc_ecma_parser_grammar.specs.Reads.{ReadsToken, ReadsFunctionExpr, OwnNameRule, no_own_name_rule, own_name_rule}
+use Rattle.swc_ecma_parser_grammar.specs.Reads.{ReadsFunctionExpr, OwnNameRule, no_own_name_rule, own_name_rule}
 use Rattle.swc_ecma_parser_grammar.specs.ReadsSupported.{ReadsStmt, ReadsParams}
-use Rattle.swc_ecma_parser_grammar.specs.Supported.{supported_in, all_supported_in, is_rightly_directed, has_no_note, has_none, is_clean}
-use Rattle.swc_ecma_parser_grammar.specs.language.Contexts.{named_by, in_body}
+use Rattle.swc_ecma_parser_grammar.specs.Supported.{supported_in, is_rightly_directed, has_no_note, is_clean}
+use Rattle.swc_ecma_parser_grammar.specs.language.Contexts.{named_by}
 use Rattle.swc_ecma_parser_grammar.specs.language.Functions as functions
 use Rattle.swc_ecma_parser_grammar.specs.language.LeftSides as sides
 use Rattle.swc_ecma_parser_grammar.specs.language.Parts as parts

@@ -5,6 +5,7 @@ pub mod SupportedBegins
 pub mod Ended
 pub mod UsingParts
 pub mod Marks
+pub mod Decorated
 pub mod Widens
 pub mod Unnoted
 pub mod Narrows

@@ -9,7 +9,7 @@ use Rattle.std.specs.Prelude.{not, ◌&&◌, ◌||◌, if◌then◌else◌}
 use Rattle.std.specs.List.{list_any}
 use Rattle.swc_ecma_parser_error.specs.Kind.{Fault}
 use Rattle.swc_ecma_parser_token.specs.declared.kind.TokenKind.TheVariants as kind
-use Rattle.swc_ecma_parser_grammar.specs.Follows.{is_async_of, is_bare_async, is_async_function, word_at, Star, AsyncWord, AwaitWord, no_await, await_word}
+use Rattle.swc_ecma_parser_grammar.specs.Follows.{is_async_function, word_at, Star, AsyncWord, AwaitWord, no_await, await_word}
 use Rattle.swc_ecma_parser_input.specs.Place.{Place, after}
 use Rattle.swc_ecma_parser_model.specs.declared.leaves.VarDeclKind.{VarDeclKind}
 use Rattle.swc_ecma_parser_model.specs.declared.leaves.VarDeclKind.TheVariants as decl
@@ -19,12 +19,13 @@ use Rattle.swc_ecma_parser_model.specs.Directive.{is_use_strict}
 use Rattle.swc_ecma_parser_grammar.specs.declared.position.Position.{Position}
 use Rattle.swc_ecma_parser_grammar.specs.Looks.{kind_at, sees, same_kind, spanned, breaks_at}
 use Rattle.swc_ecma_parser_grammar.specs.Names.{Code}
-use Rattle.swc_ecma_parser_grammar.specs.Reads.{with_in, directed, directs_on, nested_item, top_item, DeclaratorRule, plain_rule, initialized_rule, ReadsSeparated, ReadsItems, StmtRule, block_rule, empty_rule, debugger_rule, variables_rule, using_rule, if_statement_rule, TargetRule, no_target_rule, target_rule, OperandRule, no_operand_rule, operand_rule, break_rule, continue_rule, return_rule, case_clause_rule, default_clause_rule, ReadsCases, switch_rule, throw_rule, try_rule, with_rule, while_rule, do_while_rule, expr_rule, import_rule, ReadsBlock, CatchRule, no_catch_rule, catch_rule, catch_parameter_rule, FinallyRule, no_finally_rule, finally_rule, ReadsHead, IfRule, if_rule, ElseRule, no_else_rule, else_rule, else_if_rule, ReadsBraced, class_rule, function_rule, labeled_rule, head_code, HeadVariables, InitRule, no_init_rule, init_variables_rule, init_expression_rule, LeftRule, declared_rule, left_target_rule, for_in_rule, for_of_rule, PartRule, no_part_rule, part_rule, for_rule}
+use Rattle.swc_ecma_parser_grammar.specs.Reads.{with_in, directed, directs_on, nested_item, top_item, DeclaratorRule, plain_rule, initialized_rule, ReadsSeparated, ReadsItems, StmtRule, block_rule, empty_rule, debugger_rule, variables_rule, using_rule, if_statement_rule, TargetRule, no_target_rule, target_rule, OperandRule, no_operand_rule, operand_rule, break_rule, continue_rule, return_rule, case_clause_rule, default_clause_rule, ReadsCases, switch_rule, throw_rule, try_rule, with_rule, while_rule, do_while_rule, expr_rule, import_rule, ReadsBlock, CatchRule, no_catch_rule, catch_rule, catch_parameter_rule, FinallyRule, no_finally_rule, finally_rule, ReadsHead, IfRule, if_rule, ElseRule, no_else_rule, else_rule, else_if_rule, ReadsBraced, ReadsFunction, class_rule, function_rule, labeled_rule, head_code, HeadVariables, InitRule, no_init_rule, init_variables_rule, init_expression_rule, LeftRule, declared_rule, left_target_rule, for_in_rule, for_of_rule, PartRule, no_part_rule, part_rule, for_rule, OfLeftRule, of_left_rule, of_using_rule}
 use Rattle.swc_ecma_parser_grammar.specs.Entries.{ReadsScript, ReadsShebang, some_shebang, no_shebang, script_code, items_await, script_awaits}
 use Rattle.swc_ecma_parser_grammar.specs.Using.{misused, each_misused}
 use Rattle.swc_ecma_parser_grammar.specs.Notes.{notes, all_notes, statement_note, with_note}
-use Rattle.swc_ecma_parser_grammar.specs.Supported.{supported, supported_in, all_supported_in, are_initialized, has_none}
-use Rattle.swc_ecma_parser_grammar.specs.ReadsSupported.{ReadsClass, ReadsPat, ReadsTarget, ReadsStmt, ReadsTop, ReadsParams, ReadsNamedClass}
+use Rattle.swc_ecma_parser_grammar.specs.Decorated.{declared_class, declared_function, DecoratedRule, EitherRule, plain_statement, decorated_statement}
+use Rattle.swc_ecma_parser_grammar.specs.Supported.{supported, supported_in, all_supported_in}
+use Rattle.swc_ecma_parser_grammar.specs.ReadsSupported.{ReadsClass, ReadsPat, ReadsTarget, ReadsStmt, ReadsTop, ReadsParams, ReadsNamedClass, ReadsDecorators, ReadsDeclared}
 use Rattle.swc_ecma_parser_grammar.specs.language.Goals.{assignment, stmt_goal}
 use Rattle.swc_ecma_parser_grammar.specs.language.Contexts.{in_loop, in_breakable, in_with}
 use Rattle.swc_ecma_parser_grammar.specs.language.ForHeads as heads
@@ -44,7 +45,7 @@ use Rattle.swc_ecma_parser_grammar.proofs.SupportedIn.{strict_module, head_modul
 use Rattle.swc_ecma_parser_grammar.proofs.SupportedBegins.{refuted, supported_as}
 use Rattle.swc_ecma_parser_grammar.proofs.Unnoted.{Quiet, quiet_first, quiet_last, quiet_as}
 use Rattle.swc_ecma_parser_grammar.proofs.Naming.{name_is_name}
-use Rattle.swc_ecma_parser_grammar.proofs.UsingParts.{undeclared, so_set, bound}
+use Rattle.swc_ecma_parser_grammar.proofs.UsingParts.{undeclared, so_set, bound, bound_stands, in_head_declares}
 use Rattle.swc_ecma_parser_grammar.proofs.Widens.{saw, stands_there, value_stands, parameters_same}
 use Rattle.swc_ecma_parser_grammar.proofs.language.Asked.{or_left, or_right}
 
@@ -103,11 +104,10 @@ module _ (n : ℕ) (k : Code) where
   using_narrows at x c d word r h (await_word e i g) w = absurd (true≢false (sym (and_yes (not r.is_await) _ (supported_as _ x (tree.using (spanned c d) r.is_await (listed r.declarators)) r.is h)).0 ∙ ap not e))
   using_narrows at x c d word r h (no_await e g) w =
       let f = and_yes (not r.is_await) _ (supported_as _ x (tree.using (spanned c d) r.is_await (listed r.declarators)) r.is h) in
-      let i = and_yes (are_initialized (listed r.declarators)) _ f.1 in
       let p : c ≡ r.word = sym g ∙ w in
       using_rule r.declarators (placed at r.is_await e r.has_place) (rw p r.begins)
       (separated_narrow k.flags.module (declarations.UsingDeclaratorRule (Reads n) k) (DeclaratorRule (ReadsClass n assignment) (ReadsPat n) (with_in k) false decl.Var) using_declarator_narrows r.declarators
-      (after c) d (subst (λ z. ReadsSeparated (declarations.UsingDeclaratorRule (Reads n) k) r.declarators (after z) d) (sym p) r.reads) i.1)
+      (after c) d (subst (λ z. ReadsSeparated (declarations.UsingDeclaratorRule (Reads n) k) r.declarators (after z) d) (sym p) r.reads) f.1)
       (so_set k.setting.explicit_resource_management (spanned c d) r.declarators r.is_read (declarators_used (spanned c d) r.declarators (after r.word) d r.reads))
       (r.is ∙ ap (λ b. tree.using (spanned c d) b (listed r.declarators)) e)
     where
@@ -140,29 +140,14 @@ left_narrows : (n : ℕ) {k : Code} {x : Tree} {c d : Place} → heads.LeftRule 
 left_narrows n (heads.declared_rule r) h = declared_rule (head_variables_narrow n r h)
 left_narrows n (heads.target_rule i r) h = left_target_rule i (r, h)
 
--- `using` is not supported before `of`, where nothing has an initializer
-head_using_unsupported : (m b : Bool) {s t : Span} (x y name : Tree) → x ≡ tree.using s b (listed (y ∷ [])) → y ≡ tree.declarator t name tree.absent → supported_in m x ≡ false
-head_using_unsupported m b {s = s} x y name e f = ap (supported_in m) (e ∙ ap (λ z. tree.using s b (listed (z ∷ []))) f) ∙ no_and_false (not b)
-  where
-    no_and_false : (c : Bool) → c && false ≡ false
-    no_and_false true = refl
-    no_and_false false = refl
-
 of_left_narrows : (n : ℕ) (is_await : Bool) {k : Code} {x : Tree} {c d : Place} → heads.OfLeftRule (Reads n) k is_await x c d → supported_in k.flags.module x ≡ true
-    → LeftRule (ReadsClass n) (ReadsPat n) (ReadsTarget n) k x c d × (is_async_of is_await x d ≡ false)
-of_left_narrows n is_await (heads.of_left_rule r i) h = (left_narrows n r h, i)
-of_left_narrows n is_await {k = k} {x = x} (heads.of_using_rule i (heads.using_head_rule y r e)) h = refuted _ x (head_using_unsupported k.flags.module false x y r.name e r.is) h
+    → OfLeftRule (ReadsClass n) (ReadsPat n) (ReadsTarget n) k is_await x c d
+of_left_narrows n is_await (heads.of_left_rule r i) h = of_left_rule (left_narrows n r h) i
+of_left_narrows n is_await {k = k} {x = x} {c = c} {d = d} (heads.of_using_rule i (heads.using_head_rule y r e)) h =
+    let f = e ∙ ap (λ z. tree.using (spanned c d) false (listed (z ∷ []))) r.is in
+    let g = and_yes (supported_in k.flags.module (tree.declarator (spanned (after c) d) r.name tree.absent)) true (supported_as _ x (tree.using (spanned c d) false (listed (tree.declarator (spanned (after c) d) r.name tree.absent ∷ []))) f h) in
+    of_using_rule r.name (in_head_declares k c i r.begins (bound_stands n k r.name (after c) d r.is_name r.reads_name) r.no_of) (r.reads_name, (and_yes (supported_in k.flags.module r.name) true g.0).0) r.is_name f
 of_left_narrows n is_await {k = k} {x = x} (heads.of_using_rule i (heads.await_using_head_rule y a b r e)) h = refuted _ x (ap (supported_in k.flags.module) e) h
-
--- nor is `async` alone behind `for await`, so `async of` is none there either
-other_async : (w b n : Bool) → not (w && b) ≡ true → (not w && (b && n)) ≡ false → (not false && (b && n)) ≡ false
-other_async true true n h g = cc
-other_async true false n h g = refl
-other_async false b n h g = g
-
-no_async_of : (w : Bool) (x : Tree) (d : Place) → not (w && is_bare_async x) ≡ true → is_async_of w x d ≡ false → is_async_of false x d ≡ false
-unfolding is_async_of
-no_async_of w x d h g = other_async w (is_bare_async x) _ h g
 
 part_narrows : (n : ℕ) {k : Code} {x : Tree} {c d : Place} → heads.PartRule (Reads n) k x c d → supported_in k.flags.module x ≡ true → PartRule (ReadsClass n) k x c d
 part_narrows n (heads.no_part_rule g e) h = no_part_rule g e
@@ -305,16 +290,13 @@ module _ (n : ℕ) (narrow : (k : Code) (at : Position) (x : Tree) (c d : Place)
     else_narrows {k = k} {x = x} {c = c} {d = d} o (statements.else_rule i j s) h = else_rule i j (narrow k sub_statement x (after c) d o s h)
     else_narrows o (statements.else_if_rule i r) h = else_if_rule i (if_narrows o r h)
 
-  -- a function behind no decorators
-  plain_function : (k : Code) (at : Position) (x : Tree) (c m d : Place) (w g : Bool) (text : Text) (sp : Span) (ps : List Tree) (body : Tree) (word behind_word behind_name : Place) → m ≡ c
-      → AsyncWord w m word → kind_at word ≡ kind.Function → Star g (after word) behind_word → (r : ReadsName k text sp behind_word behind_name)
-      → functions.FunctionParts (Reads n) k w g ps body behind_name d → at.include_decl || is_async_function m ≡ true
-      → supported_in k.flags.module (parameters ps) && supported_in k.flags.module body ≡ true → Quiet k (notes body)
-      → x ≡ tree.fn_decl (tree.ident sp text) (tree.function (spanned m d) (listed []) (parameters ps) body w g)
-      → StmtRule (ReadsStmt n) (ReadsClass n) (ReadsPat n) (ReadsTarget n) (ReadsParams n) (ReadsNamedClass n) k at x c d
-  plain_function k at x c m d w g text sp ps body word bw bn o a f s r p i h q e =
-      let u = and_yes (supported_in k.flags.module (parameters ps)) _ h in
-      function_rule (subst (λ b. at.include_decl || is_async_function b ≡ true) o i) (record {
+  -- a function without its decorators
+  bare_function : (k : Code) (x : Tree) (c d : Place) (w g : Bool) (text : Text) (sp : Span) (ps : List Tree) (body : Tree) (word behind_word behind_name : Place)
+      → AsyncWord w c word → kind_at word ≡ kind.Function → Star g (after word) behind_word → (r : ReadsName k text sp behind_word behind_name)
+      → functions.FunctionParts (Reads n) k w g ps body behind_name d → supported_in k.flags.module (parameters ps) && supported_in k.flags.module body ≡ true → Quiet k (notes body)
+      → x ≡ tree.fn_decl (tree.ident sp text) (tree.function (spanned c d) (listed []) (parameters ps) body w g) → ReadsFunction (ReadsStmt n) (ReadsParams n) k x c d
+  bare_function k x c d w g text sp ps body word bw bn a f s r p h q e =
+      let u = and_yes (supported_in k.flags.module (parameters ps)) _ h in record {
         is_async = w;
         is_generator = g;
         name = r.word;
@@ -325,50 +307,107 @@ module _ (n : ℕ) (narrow : (k : Code) (at : Position) (x : Tree) (c d : Place)
         behind_word = bw;
         behind_name = bn;
         middle = p.middle;
-        reads_async = subst (λ b. AsyncWord w b word) o a;
+        reads_async = a;
         is_function = f;
         reads_star = s;
         reads_name = r.reads_word;
         is_named = name_is_name k text sp bw bn r;
         reads_parameters = (p.reads_parameters, sym (parameters_same k.flags.module ps) ∙ u.0);
         reads_body = braced_narrows true q p.reads_body u.1;
-        is = e ∙ ap (λ b. tree.fn_decl (tree.ident sp text) (tree.function (spanned b d) (listed []) (parameters ps) body w g)) o
-            ∙ ap (λ b. tree.fn_decl (tree.ident sp b) (tree.function (spanned c d) (listed []) (parameters ps) body w g)) r.is_text;
+        is = e ∙ ap (λ b. tree.fn_decl (tree.ident sp b) (tree.function (spanned c d) (listed []) (parameters ps) body w g)) r.is_text;
+      }
+
+  abbrev Narrowed : Code → Position → Tree → Place → Place → Type 0
+  Narrowed k at x c d = EitherRule (StmtRule (ReadsStmt n) (ReadsClass n) (ReadsPat n) (ReadsTarget n) (ReadsParams n) (ReadsNamedClass n) k at x c d)
+      (DecoratedRule (ReadsDecorators n) (ReadsDeclared n) k at x c d)
+
+  -- with a name, and behind decorators or none
+  function_narrows : (k : Code) (at : Position) (a name x y : Tree) (c m d : Place) → Quiet k (notes y) → classes.DecoratorsRule (Reads n) k a c m → at.include_decl || is_async_function m ≡ true
+      → (s : functions.FunctionRule (Reads n) false k a name y m d) → parts.OptionalName k name s.behind_word s.behind_name → is_absent name ≡ false → supported_in k.flags.module y ≡ true
+      → x ≡ tree.fn_decl name y → Narrowed k at x c d
+  function_narrows k at a name x y c m d o v i s (parts.no_name j u) b t e = absurd (true≢false (sym (ap is_absent u) ∙ b))
+  function_narrows k at a name x y c m d o v i s (parts.a_name text sp r u) b t e =
+      let g = and_yes (supported_in k.flags.module a) _ (supported_as _ y (tree.function (spanned m d) a (parameters s.patterns) s.body s.is_async s.is_generator) s.is t) in
+      let bare = tree.fn_decl (tree.ident sp text) (tree.function (spanned m d) (listed []) (parameters s.patterns) s.body s.is_async s.is_generator) in
+      let q = quiet_last k (notes a ++ notes (parameters s.patterns)) (notes s.body) (quiet_as k y (tree.function (spanned m d) a (parameters s.patterns) s.body s.is_async s.is_generator) s.is o) in
+      behind v g.0 (bare_function k bare m d s.is_async s.is_generator text sp s.patterns s.body s.word s.behind_word s.behind_name s.reads_async s.is_function s.reads_star r s.reads_parts g.1 q refl)
+      (e ∙ ap (λ z. tree.fn_decl z y) u ∙ ap (tree.fn_decl (tree.ident sp text)) s.is)
+    where
+      behind : classes.DecoratorsRule (Reads n) k a c m → supported_in k.flags.module a ≡ true
+          → ReadsFunction (ReadsStmt n) (ReadsParams n) k (tree.fn_decl (tree.ident sp text) (tree.function (spanned m d) (listed []) (parameters s.patterns) s.body s.is_async s.is_generator)) m d
+          → x ≡ tree.fn_decl (tree.ident sp text) (tree.function (spanned m d) a (parameters s.patterns) s.body s.is_async s.is_generator) → Narrowed k at x c d
+      behind (classes.no_decorators g l) h f j = plain_statement (function_rule (subst (λ z. at.include_decl || is_async_function z ≡ true) g i)
+          (subst (λ z. ReadsFunction (ReadsStmt n) (ReadsParams n) k x z d) g
+          (subst (λ z. ReadsFunction (ReadsStmt n) (ReadsParams n) k z m d)
+          (sym (j ∙ ap (λ z. tree.fn_decl (tree.ident sp text) (tree.function (spanned m d) z (parameters s.patterns) s.body s.is_async s.is_generator)) l)) f)))
+      behind (classes.some_decorators z zs w q l) h f j = decorated_statement (record {
+        first = z;
+        others = zs;
+        bare = tree.fn_decl (tree.ident sp text) (tree.function (spanned m d) (listed []) (parameters s.patterns) s.body s.is_async s.is_generator);
+        middle = m;
+        reads_decorators = (classes.some_decorators z zs w q refl, sym (ap (supported_in k.flags.module) l) ∙ h);
+        reads_bare = declared_function i f;
+        is = j ∙ ap (λ z. tree.fn_decl (tree.ident sp text) (tree.function (spanned m d) z (parameters s.patterns) s.body s.is_async s.is_generator)) l;
       })
 
-  -- with a name, and behind no decorators
-  function_narrows : (k : Code) (at : Position) (a name x y : Tree) (c m d : Place) → Quiet k (notes y) → classes.DecoratorsRule (Reads n) k a c m → at.include_decl || is_async_function m ≡ true
-      → (s : functions.FunctionRule (Reads n) false k a name y m d) → parts.OptionalName k name s.behind_word s.behind_name → is_absent name ≡ false → supported_in k.flags.module name ≡ true → supported_in k.flags.module y ≡ true
-      → x ≡ tree.fn_decl name y → StmtRule (ReadsStmt n) (ReadsClass n) (ReadsPat n) (ReadsTarget n) (ReadsParams n) (ReadsNamedClass n) k at x c d
-  function_narrows k at a name x y c m d o (classes.some_decorators z zs v r l) i s u b h t e =
-      let f = supported_as _ y (tree.function (spanned m d) a (parameters s.patterns) s.body s.is_async s.is_generator) s.is t in
-      absurd (true≢false (sym (and_yes (has_none a) _ f).0 ∙ ap has_none l))
-  function_narrows k at a name x y c m d o (classes.no_decorators g l) i s (parts.no_name j u) b h t e = absurd (true≢false (sym (ap is_absent u) ∙ b))
-  function_narrows k at a name x y c m d o (classes.no_decorators g l) i s (parts.a_name text sp r u) b h t e =
-      let v : y ≡ tree.function (spanned m d) (listed []) (parameters s.patterns) s.body s.is_async s.is_generator = s.is ∙ ap (λ z. tree.function (spanned m d) z (parameters s.patterns) s.body s.is_async s.is_generator) l in
-      plain_function k at x c m d s.is_async s.is_generator text sp s.patterns s.body s.word s.behind_word s.behind_name g s.reads_async s.is_function s.reads_star r s.reads_parts i
-      (supported_as _ y (tree.function (spanned m d) (listed []) (parameters s.patterns) s.body s.is_async s.is_generator) v t)
-      (quiet_last k (notes (parameters s.patterns)) (notes s.body) (quiet_as k y (tree.function (spanned m d) (listed []) (parameters s.patterns) s.body s.is_async s.is_generator) v o))
-      (e ∙ ap (λ z. tree.fn_decl z y) u ∙ ap (tree.fn_decl (tree.ident sp text)) v)
+  -- of four, the second apart from the others
+  second_apart : (a b c d : Bool) → a && (b && (c && d)) ≡ true → (b ≡ true) × (a && (c && d) ≡ true)
+  second_apart true true c d h = (refl, h)
+  second_apart true false c d h = cc
+  second_apart false b c d h = cc
 
-  -- a class behind no decorators
+  -- a class behind decorators or none
   class_narrows : (k : Code) (at : Position) (a name x y : Tree) (c m d : Place) → classes.DecoratorsRule (Reads n) k a c m → at.include_decl ≡ true → classes.ClassRule (Reads n) k c a name y m d
-      → is_absent name ≡ false → x ≡ tree.class_decl name y → supported_in k.flags.module x ≡ true
-      → StmtRule (ReadsStmt n) (ReadsClass n) (ReadsPat n) (ReadsTarget n) (ReadsParams n) (ReadsNamedClass n) k at x c d
+      → is_absent name ≡ false → x ≡ tree.class_decl name y → supported_in k.flags.module x ≡ true → Narrowed k at x c d
+  unfolding spanned
   class_narrows k at a name x y c m d (classes.some_decorators z zs v r l) i s b e h =
-      let g = and_yes (supported_in k.flags.module name) _ (supported_as _ x (tree.class_decl name y) e h) in
-      let f = supported_as _ y (tree.class (spanned c d) a (listed s.members) s.heritage) s.is g.1 in
-      absurd (true≢false (sym (and_yes (has_none a) _ f).0 ∙ ap has_none l))
-  class_narrows k at a name x y c m d (classes.no_decorators g l) i s b e h =
-      class_rule name y i (subst (λ p. classes.ClassRule (Reads n) k c (listed []) name y p d) g (subst (λ z. classes.ClassRule (Reads n) k c z name y m d) l s), supported_as _ x (tree.class_decl name y) e h) b e
+      let whole = tree.class (spanned c d) a (listed s.members) s.heritage in
+      let bare = tree.class (spanned m d) (listed []) (listed s.members) s.heritage in
+      let e' : x ≡ tree.class_decl name whole = e ∙ ap (tree.class_decl name) s.is in
+      let g = second_apart (supported_in k.flags.module name) (supported_in k.flags.module a) (supported_in k.flags.module s.heritage) (all_supported_in k.flags.module (trees s.members))
+      (supported_as k.flags.module x (tree.class_decl name whole) e' h) in
+      decorated_statement (record {
+        first = z;
+        others = zs;
+        bare = tree.class_decl name bare;
+        middle = m;
+        reads_decorators = (classes.some_decorators z zs v r refl, sym (ap (supported_in k.flags.module) l) ∙ g.0);
+        reads_bare = declared_class name bare i (
+          record {
+            heritage = s.heritage;
+            members = s.members;
+            behind_name = s.behind_name;
+            opening = s.opening;
+            close = s.close;
+            is_class = s.is_class;
+            reads_name = s.reads_name;
+            reads_heritage = s.reads_heritage;
+            opens = s.opens;
+            reads_members = s.reads_members;
+            closes = s.closes;
+            next = s.next;
+            is = refl;
+          },
+          g.1,
+        ) b refl;
+        is = e' ∙ ap (λ z. tree.class_decl name (tree.class (spanned c d) z (listed s.members) s.heritage)) l;
+      })
+  class_narrows k at a name x y c m d (classes.no_decorators g l) i s b e h = plain_statement (class_rule name y i
+      (subst (λ p. classes.ClassRule (Reads n) k c (listed []) name y p d) g (subst (λ z. classes.ClassRule (Reads n) k c z name y m d) l s), supported_as _ x (tree.class_decl name y) e h) b e)
 
-  form_narrows : (k : Code) (at : Position) (x : Tree) (c d : Place) → Quiet k (notes x) → statements.FormRule (Reads n) k at x c d → supported_in k.flags.module x ≡ true
-      → StmtRule (ReadsStmt n) (ReadsClass n) (ReadsPat n) (ReadsTarget n) (ReadsParams n) (ReadsNamedClass n) k at x c d
+  -- what a form narrows to: a class or a function has decorators or none
+  abbrev FormNarrowed : (k : Code) (at : Position) (x : Tree) (c d : Place) → statements.FormRule (Reads n) k at x c d → Type 0
+  FormNarrowed k at x c d (statements.class_rule a name y m i r s b e) = Narrowed k at x c d
+  FormNarrowed k at x c d (statements.function_rule a name y m r i s b e) = Narrowed k at x c d
+  FormNarrowed k at x c d _ = StmtRule (ReadsStmt n) (ReadsClass n) (ReadsPat n) (ReadsTarget n) (ReadsParams n) (ReadsNamedClass n) k at x c d
+
+  form_narrows : (k : Code) (at : Position) (x : Tree) (c d : Place) → Quiet k (notes x) → (r : statements.FormRule (Reads n) k at x c d) → supported_in k.flags.module x ≡ true
+      → FormNarrowed k at x c d r
   form_narrows k at x c d o (statements.class_rule a name y m i r s b e) h = class_narrows k at a name x y c m d r i s b e h
   form_narrows k at x c d o (statements.function_rule a name y m r i s b e) h =
       let g = and_yes (supported_in k.flags.module name) _ (supported_as _ x (tree.fn_decl name y) e h) in
       let q = quiet_last k (notes name) (notes y) (quiet_as k x (tree.fn_decl name y) e o) in
-      function_narrows k at a name x y c m d q r i s s.reads_name b g.0 g.1 e
+      function_narrows k at a name x y c m d q r i s s.reads_name b g.1 e
   form_narrows k at x c d o (statements.variables_rule word xs m i (b, r) g e) h =
       variables_rule word xs m i b (declarators_narrow n (with_in k) false word xs (after c) m r (supported_as _ x (tree.var (spanned c d) word (listed xs)) e h)) g e
   form_narrows k at x c d o (statements.using_rule r) h = using_narrows n k at x c d r.word r h r.reads_await refl
@@ -416,21 +455,25 @@ module _ (n : ℕ) (narrow : (k : Code) (at : Position) (x : Tree) (c d : Place)
       let o' = quiet_last k (notes a ++ notes b) (notes y) (quiet_as k x (tree.for_in (spanned c d) a b y) e o) in
       for_in_rule a b y l m i j (left_narrows n r g.0) q (s, f.0) t (narrow (in_loop k) sub_statement y (after m) d o' u f.1) e
   form_narrows k at x c d o (statements.for_of_rule w a b y l m p i j q r t s u v e) h =
-      let g = and_yes (not (w && is_bare_async a)) _ (supported_as _ x (tree.for_of (spanned c d) w a b y) e h) in
-      let f = and_yes (supported_in k.flags.module a) _ g.1 in
+      let f = and_yes (supported_in k.flags.module a) _ (supported_as _ x (tree.for_of (spanned c d) w a b y) e h) in
       let f' = and_yes (supported_in k.flags.module b) _ f.1 in
-      let z = of_left_narrows n w r f.0 in
-      for_of_rule w a b y l m p i j q z.0 t (no_async_of w a m g.0 z.1) g.0 (s, f'.0) u
+      for_of_rule w a b y l m p i j q (of_left_narrows n w r f.0) t (s, f'.0) u
       (narrow (in_loop k) sub_statement y (after p) d (quiet_last k (notes a ++ notes b) (notes y) (quiet_as k x (tree.for_of (spanned c d) w a b y) e o)) v f'.1) e
   form_narrows k at x c d o (statements.expr_rule y m i r l g e) h =
       let q = quiet_last k (notes y) (statement_note y) (quiet_as k x (tree.expr_stmt (spanned c d) y) e o) in
       expr_rule y m i (r, supported_as _ x (tree.expr_stmt (spanned c d) y) e h) l (unnamed k.flags.module _ _ q) g e
   form_narrows k at x c d o (statements.import_expr_rule y m i r g e) h = import_rule y m i (r, supported_as _ x (tree.expr_stmt (spanned c d) y) e h) g e
 
+  -- with decorators before a class or a function, or without
+  either_narrows : (k : Code) (at : Position) (x : Tree) (c d : Place) → Quiet k (notes x) → statements.FormRule (Reads n) k at x c d → supported_in k.flags.module x ≡ true → Narrowed k at x c d
+  either_narrows k at x c d o (statements.class_rule a name y m i r s b e) h = form_narrows k at x c d o (statements.class_rule a name y m i r s b e) h
+  either_narrows k at x c d o (statements.function_rule a name y m r i s b e) h = form_narrows k at x c d o (statements.function_rule a name y m r i s b e) h
+  either_narrows k at x c d o r h = plain_statement (form_narrows k at x c d o r h)
+
 -- a statement that has no notes where the code is a module's
 pub stmt_narrows : (n : ℕ) (k : Code) (at : Position) (x : Tree) (c d : Place) → Quiet k (notes x) → Reads n (stmt_goal k at x c d) → supported_in k.flags.module x ≡ true → ReadsStmt n k at x c d
 stmt_narrows zero k at x c d o r h = absurd r
-stmt_narrows (suc n) k at x c d o r h = form_narrows n (stmt_narrows n) k at x c d o r.1 h
+stmt_narrows (suc n) k at x c d o r h = either_narrows n (stmt_narrows n) k at x c d o r.1 h
 
 -- one that stands in no other
 pub top_narrows : (n : ℕ) (k : Code) (at : Position) (x : Tree) (c d : Place) → Quiet k (notes x) → Reads n (stmt_goal k at x c d) → supported_in k.flags.module x ≡ true → ReadsTop n k at x c d

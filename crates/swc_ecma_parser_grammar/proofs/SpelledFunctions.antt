@@ -7,7 +7,7 @@ use Rattle.swc_ecma_parser_token.specs.declared.token.Token.TheVariants as token
 use Rattle.swc_ecma_parser_input.specs.Place.{Place}
 use Rattle.swc_ecma_parser_model.specs.declared.leaves.MethodKind.TheVariants as form
 use Rattle.swc_ecma_parser_model.specs.Tree as tree
-use Rattle.swc_ecma_parser_model.specs.Tree.{Tree, Text, listed}
+use Rattle.swc_ecma_parser_model.specs.Tree.{Tree, listed}
 use Rattle.swc_ecma_parser_grammar.specs.Names.{Code}
 use Rattle.swc_ecma_parser_grammar.specs.Ends.{by_semicolon, by_insertion, ends_at}
 use Rattle.swc_ecma_parser_grammar.specs.Follows.{is_let_declaration, may_begin_expression_statement, no_star, star, not_async, async_word}

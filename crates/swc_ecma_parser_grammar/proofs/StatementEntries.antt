@@ -10,22 +10,24 @@ use Rattle.swc_ecma_parser_token.specs.declared.kind.TokenKind.TheVariants as ki
 use Rattle.swc_ecma_parser_input.specs.Place.{Place, after}
 use Rattle.swc_ecma_parser_model.specs.declared.leaves.VarDeclKind.{VarDeclKind}
 use Rattle.swc_ecma_parser_model.specs.Tree as tree
-use Rattle.swc_ecma_parser_model.specs.Tree.{Tree, trees}
+use Rattle.swc_ecma_parser_model.specs.Tree.{Tree, trees, listed}
 use Rattle.swc_ecma_parser_model.specs.Directive.{is_use_strict}
 use Rattle.swc_ecma_parser_model.specs.Kinds.{is_module_decl}
 use Rattle.swc_ecma_parser_grammar.specs.declared.position.Position.{Position}
-use Rattle.swc_ecma_parser_grammar.specs.Looks.{sees}
+use Rattle.swc_ecma_parser_grammar.specs.Looks.{sees, span_at}
 use Rattle.swc_ecma_parser_grammar.specs.Names.{Code}
 use Rattle.swc_ecma_parser_grammar.specs.Notes.{notes, all_notes, statement_note}
-use Rattle.swc_ecma_parser_grammar.specs.Reads.{with_in, directed, directs_on, nested_item, DeclaratorRule, plain_rule, initialized_rule, ReadsSeparated, ReadsItems, StmtRule, block_rule, empty_rule, debugger_rule, variables_rule, using_rule, if_statement_rule, TargetRule, no_target_rule, target_rule, OperandRule, no_operand_rule, operand_rule, break_rule, continue_rule, return_rule, labeled_rule, HeadVariables, InitRule, no_init_rule, init_variables_rule, init_expression_rule, LeftRule, declared_rule, left_target_rule, for_in_rule, for_of_rule, head_code, PartRule, no_part_rule, part_rule, for_rule, CaseRule, case_clause_rule, default_clause_rule, ReadsCases, switch_rule, throw_rule, try_rule, with_rule, while_rule, do_while_rule, expr_rule, import_rule, ReadsBlock, CatchRule, no_catch_rule, catch_rule, catch_parameter_rule, FinallyRule, no_finally_rule, finally_rule, ReadsHead, IfRule, if_rule, ElseRule, no_else_rule, else_rule, else_if_rule, ReadsBraced, class_rule, function_rule}
+use Rattle.swc_ecma_parser_grammar.specs.Reads.{with_in, directed, directs_on, nested_item, DeclaratorRule, plain_rule, initialized_rule, ReadsSeparated, ReadsItems, StmtRule, block_rule, empty_rule, debugger_rule, variables_rule, using_rule, if_statement_rule, TargetRule, no_target_rule, target_rule, OperandRule, no_operand_rule, operand_rule, break_rule, continue_rule, return_rule, labeled_rule, HeadVariables, InitRule, no_init_rule, init_variables_rule, init_expression_rule, LeftRule, declared_rule, left_target_rule, for_in_rule, for_of_rule, head_code, PartRule, no_part_rule, part_rule, for_rule, CaseRule, case_clause_rule, default_clause_rule, ReadsCases, switch_rule, throw_rule, try_rule, with_rule, while_rule, do_while_rule, expr_rule, import_rule, ReadsBlock, CatchRule, no_catch_rule, catch_rule, catch_parameter_rule, FinallyRule, no_finally_rule, finally_rule, ReadsHead, IfRule, if_rule, ElseRule, no_else_rule, else_rule, else_if_rule, ReadsBraced, ReadsFunction, class_rule, function_rule, OfLeftRule, of_left_rule, of_using_rule}
+use Rattle.swc_ecma_parser_grammar.specs.Decorated.{declared_class, declared_function, DecoratedRule, EitherRule, plain_statement, decorated_statement}
 use Rattle.swc_ecma_parser_grammar.specs.Supported.{supported, supported_in, all_supported_in}
-use Rattle.swc_ecma_parser_grammar.specs.ReadsSupported.{ReadsClass, ReadsPat, ReadsTarget, ReadsStmt, ReadsTop, ReadsParams, ReadsNamedClass}
+use Rattle.swc_ecma_parser_grammar.specs.ReadsSupported.{ReadsClass, ReadsPat, ReadsTarget, ReadsStmt, ReadsTop, ReadsParams, ReadsNamedClass, ReadsDecorators, ReadsDeclared}
 use Rattle.swc_ecma_parser_grammar.specs.language.Goals.{binding, assigning, expression, assignment, stmt_goal}
 use Rattle.swc_ecma_parser_grammar.specs.language.Contexts.{in_module, in_loop, in_breakable}
 use Rattle.swc_ecma_parser_grammar.specs.language.Items.{sub_statement, labelled_item}
 use Rattle.swc_ecma_parser_grammar.specs.language.Reads.{Reads}
 use Rattle.swc_ecma_parser_grammar.specs.language.Programs.{is_module_program, is_module_code}
-use Rattle.swc_ecma_parser_grammar.proofs.Unnoted.{joined, expr_unnoted, pattern_unnoted, import_unnoted, parameter_unnoted, class_unnoted}
+use Rattle.swc_ecma_parser_grammar.proofs.Unnoted.{joined, expr_unnoted, pattern_unnoted, import_unnoted, parameter_unnoted, class_unnoted, decorators_unnoted}
+use Rattle.swc_ecma_parser_grammar.proofs.Decorated.{decorated_unnoted}
 use Rattle.swc_ecma_parser_grammar.proofs.Widens.{top_widens, stmt_supported}
 use Rattle.swc_ecma_parser_grammar.proofs.SupportedIn.{strict_module, head_module, lower, lift_in}
 use Rattle.swc_ecma_parser_grammar.proofs.Narrows.{top_narrows}
@@ -63,6 +65,10 @@ init_unnoted n {x = x} {c = c} {d = d} o (init_expression_rule h r) = expr_unnot
 left_unnoted : (n : ℕ) {k : Code} {x : Tree} {c d : Place} → k.flags.module ≡ true → LeftRule (ReadsClass n) (ReadsPat n) (ReadsTarget n) k x c d → notes x ≡ []
 left_unnoted n o (declared_rule r) = head_variables_unnoted n o r
 left_unnoted n {x = x} {c = c} {d = d} o (left_target_rule h r) = pattern_unnoted n assigning _ x c d o r.0 r.1
+
+of_left_unnoted : (n : ℕ) {w : Bool} {k : Code} {x : Tree} {c d : Place} → k.flags.module ≡ true → OfLeftRule (ReadsClass n) (ReadsPat n) (ReadsTarget n) k w x c d → notes x ≡ []
+of_left_unnoted n o (of_left_rule r i) = left_unnoted n o r
+of_left_unnoted n {k = k} {c = c} {d = d} o (of_using_rule name h r i e) = ap notes e ∙ rw (pattern_unnoted n binding k name (after c) d o r.0 r.1) refl
 
 part_unnoted : (n : ℕ) {k : Code} {x : Tree} {c d : Place} → k.flags.module ≡ true → PartRule (ReadsClass n) k x c d → notes x ≡ []
 part_unnoted n o (no_part_rule g e) = ap notes e
@@ -130,10 +136,12 @@ module _ (n : ℕ) (small : (k : Code) (at : Position) (x : Tree) (c d : Place) 
     else_unnoted {k = k} {x = x} {c = c} {d = d} o (else_rule h i s) = small k sub_statement x (after c) d o s
     else_unnoted o (else_if_rule h r) = if_unnoted o r
 
+  function_unnoted : {k : Code} {x : Tree} {c d : Place} → k.flags.module ≡ true → ReadsFunction (ReadsStmt n) (ReadsParams n) k x c d → notes x ≡ []
+  function_unnoted o r = ap notes r.is ∙ joined (notes (parameters r.patterns)) (notes r.body) (params_unnoted n r.patterns o r.reads_parameters) (braced_unnoted true o r.reads_body)
+
   rule_unnoted : (k : Code) (at : Position) (x : Tree) (c d : Place) → k.flags.module ≡ true → StmtRule (ReadsStmt n) (ReadsClass n) (ReadsPat n) (ReadsTarget n) (ReadsParams n) (ReadsNamedClass n) k at x c d → notes x ≡ []
   rule_unnoted k at x c d o (class_rule name y a r b e) = ap notes e ∙ class_unnoted n k name y c d o r.0 r.1
-  rule_unnoted k at x c d o (function_rule a r) =
-      ap notes r.is ∙ joined (notes (parameters r.patterns)) (notes r.body) (params_unnoted n r.patterns o r.reads_parameters) (braced_unnoted true o r.reads_body)
+  rule_unnoted k at x c d o (function_rule a r) = function_unnoted o r
   rule_unnoted k at x c d o (block_rule r) = block_unnoted o r
   rule_unnoted k at x c d o (empty_rule h g e) = ap notes e
   rule_unnoted k at x c d o (debugger_rule h g e) = ap notes e
@@ -151,8 +159,8 @@ module _ (n : ℕ) (small : (k : Code) (at : Position) (x : Tree) (c d : Place) 
   rule_unnoted k at x c d o (for_in_rule a b y m i h g r j s p t e) =
       ap notes e ∙ joined (notes a ++ notes b) (notes y) (joined (notes a) (notes b) (left_unnoted n o r) (expr_unnoted n expression (with_in k) b (after m) i o s.0 s.1))
       (small (in_loop k) sub_statement y (after i) d o t)
-  rule_unnoted k at x c d o (for_of_rule w a b y l m i h v g r j z q s p t e) =
-      ap notes e ∙ joined (notes a ++ notes b) (notes y) (joined (notes a) (notes b) (left_unnoted n o r) (expr_unnoted n assignment (with_in k) b (after m) i o s.0 s.1))
+  rule_unnoted k at x c d o (for_of_rule w a b y l m i h v g r j s p t e) =
+      ap notes e ∙ joined (notes a ++ notes b) (notes y) (joined (notes a) (notes b) (of_left_unnoted n o r) (expr_unnoted n assignment (with_in k) b (after m) i o s.0 s.1))
       (small (in_loop k) sub_statement y (after i) d o t)
   rule_unnoted k at x c d o (throw_rule y m h b r g e) = ap notes e ∙ expr_unnoted n expression (with_in k) y (after c) m o r.0 r.1
   rule_unnoted k at x c d o (try_rule y z w m i h r s t a e) =
@@ -165,9 +173,20 @@ module _ (n : ℕ) (small : (k : Code) (at : Position) (x : Tree) (c d : Place) 
   rule_unnoted k at x c d o (import_rule y m h r g e) =
       ap notes e ∙ joined (notes y) (statement_note y) (expr_unnoted n expression (with_in k) y c m o r.0 r.1) (import_unnoted n (with_in k) y c m r h)
 
+  declared_unnoted : (k : Code) (at : Position) (x : Tree) (c d : Place) → k.flags.module ≡ true → ReadsDeclared n k at x c d → notes x ≡ []
+  declared_unnoted k at x c d o (declared_class name y a r b e) = ap notes e ∙ class_unnoted n k name y c d o r.0 r.1
+  declared_unnoted k at x c d o (declared_function a r) = function_unnoted o r
+
+  -- behind decorators
+  either_unnoted : (k : Code) (at : Position) (x : Tree) (c d : Place) → k.flags.module ≡ true → EitherRule (StmtRule (ReadsStmt n) (ReadsClass n) (ReadsPat n) (ReadsTarget n) (ReadsParams n) (ReadsNamedClass n) k at x c d)
+      (DecoratedRule (ReadsDecorators n) (ReadsDeclared n) k at x c d) → notes x ≡ []
+  either_unnoted k at x c d o (plain_statement r) = rule_unnoted k at x c d o r
+  either_unnoted k at x c d o (decorated_statement r) = ap notes r.is ∙ decorated_unnoted (span_at c) (r.first ∷ r.others) r.bare
+      (decorators_unnoted n k (listed (r.first ∷ r.others)) c r.middle o r.reads_decorators.0 r.reads_decorators.1) (declared_unnoted k at r.bare r.middle d o r.reads_bare)
+
 pub stmt_unnoted : (n : ℕ) (k : Code) (at : Position) (x : Tree) (c d : Place) → k.flags.module ≡ true → ReadsStmt n k at x c d → notes x ≡ []
 stmt_unnoted zero k at x c d o r = absurd r
-stmt_unnoted (suc n) k at x c d o r = rule_unnoted n (stmt_unnoted n) k at x c d o r
+stmt_unnoted (suc n) k at x c d o r = either_unnoted n (stmt_unnoted n) k at x c d o r
 
 -- ---- what a statement is part of
 

@@ -1,7 +1,7 @@
 -- With which tokens a supported expression begins: but for `{` and `import` with none that begins or ends a statement. A name is
 -- no `await`.
 use Rattle.std.proofs.Common.{◌≡◌, ◌⊎◌, inl, inr, ℕ, zero, suc, Bool, true, false, true≢false, List, [], ◌∷◌, Some, refl, sym, ◌∙◌, ap}
-use Rattle.std.specs.Prelude.{not, ◌&&◌, codes}
+use Rattle.std.specs.Prelude.{◌&&◌, codes}
 use Rattle.swc_ecma_parser_common.specs.declared.span.Span.{Span}
 use Rattle.swc_ecma_parser_token.specs.declared.kind.TokenKind.{TokenKind}
 use Rattle.swc_ecma_parser_token.specs.declared.kind.TokenKind.TheVariants as kind
@@ -36,7 +36,7 @@ use Rattle.swc_ecma_parser_grammar.specs.language.LeftSides.{LeftSideRule, prima
 use Rattle.swc_ecma_parser_grammar.specs.language.Expressions as expressions
 use Rattle.swc_ecma_parser_grammar.specs.language.Expressions.{BinaryRule, single_rule, left_rule, power_rule}
 use Rattle.swc_ecma_parser_grammar.specs.language.Reads.{Reads}
-use Rattle.swc_ecma_parser_grammar.proofs.Tests.{and_yes, and_both}
+use Rattle.swc_ecma_parser_grammar.proofs.Tests.{and_yes}
 use Rattle.swc_ecma_parser_grammar.proofs.Naming.{name_is_free, name_is_name}
 use Rattle.swc_ecma_parser_grammar.proofs.ExpressionBegins.{await_stands}
 use Rattle.swc_ecma_parser_grammar.proofs.StatementBegins.{word_place}
@@ -76,6 +76,7 @@ opens kind.For = false
 opens kind.RParen = false
 opens kind.RBrace = false
 opens kind.End = false
+opens kind.At = false
 opens _ = true
 
 word_opens : (f : Context) (w : Word) → is_identifier f (word_text w) ≡ true → opens (word_kind w) ≡ true
@@ -134,6 +135,7 @@ unary_opens kind.For op h = cc
 unary_opens kind.RParen op h = cc
 unary_opens kind.RBrace op h = cc
 unary_opens kind.End op h = cc
+unary_opens kind.At op h = cc
 unary_opens _ op h = refl
 
 update_opens : (j : TokenKind) (op : UpdateOp) → update_operator j ≡ Some op → opens j ≡ true
@@ -158,6 +160,7 @@ update_opens kind.For op h = cc
 update_opens kind.RParen op h = cc
 update_opens kind.RBrace op h = cc
 update_opens kind.End op h = cc
+update_opens kind.At op h = cc
 update_opens _ op h = refl
 
 -- ---- expressions

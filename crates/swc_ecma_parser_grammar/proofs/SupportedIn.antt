@@ -6,14 +6,13 @@ use Rattle.swc_ecma_parser_model.specs.Tree as tree
 use Rattle.swc_ecma_parser_model.specs.Tree.{Tree, Trees, none, also}
 use Rattle.swc_ecma_parser_model.specs.Kinds.{is_function}
 use Rattle.swc_ecma_parser_model.specs.declared.leaves.VarDeclKind.{VarDeclKind}
-use Rattle.swc_ecma_parser_grammar.specs.Follows.{is_bare_async}
 use Rattle.swc_ecma_parser_grammar.specs.Names.{Code}
 use Rattle.swc_ecma_parser_grammar.specs.Notes.{notes, method_notes, all_notes, statement_note}
 use Rattle.swc_ecma_parser_grammar.specs.Reads.{in_strict, with_in, head_code}
 use Rattle.swc_ecma_parser_grammar.specs.Variables.{is_var}
 use Rattle.swc_ecma_parser_grammar.specs.language.Contexts.{without_in}
 use Rattle.swc_ecma_parser_grammar.specs.language.Parts.{is_private}
-use Rattle.swc_ecma_parser_grammar.specs.Supported.{supported, supported_in, all_supported, all_supported_in, is_supported_key_in, is_supported_property_in, has_none, is_clean, is_rightly_directed, is_rightly_set, is_rightly_headed, are_initialized}
+use Rattle.swc_ecma_parser_grammar.specs.Supported.{supported, supported_in, all_supported, all_supported_in, is_supported_key_in, is_supported_property_in, has_none, is_clean, is_rightly_directed, is_rightly_set, is_rightly_headed, is_supported_method_in}
 use Rattle.swc_ecma_parser_grammar.proofs.Tests.{and_yes, and_both}
 
 -- two lists are empty where they are together
@@ -29,6 +28,11 @@ method_parted key (tree.function s decorators params body is_async is_generator)
     let i = parted (notes decorators) key l.0 in
     (i.1, ap (λ z. z ++ notes params ++ notes body) i.0 ∙ ap (λ z. z ++ notes body) l.1 ∙ n.1)
 method_parted key _ f o = absurd (true≢false (sym f))
+
+-- what is supported of a method is a function
+pub method_is_function : (m : Bool) (fn : Tree) → is_supported_method_in m fn ≡ true → is_function fn ≡ true
+method_is_function m (tree.function s decorators params body is_async is_generator) h = refl
+method_is_function m _ h = absurd (true≢false (sym h))
 
 -- one of two, where the first follows from another
 either_by : (a b c : Bool) → (a ≡ true → b ≡ true) → (a || c) ≡ true → (b || c) ≡ true
@@ -83,14 +87,14 @@ mutual
   lower m (tree.expr_pat e) h = lower m e h
   lower m (tree.var s word ds) h = lower m ds h
   lower m (tree.declarator s name init) h = let g = and_yes (supported_in m name) _ h in and_both _ _ (lower m name g.0) (lower m init g.1)
-  lower m (tree.using s is_await ds) h = let g = and_yes (not is_await) _ h in let i = and_yes (are_initialized ds) _ g.1 in and_both _ _ g.0 (and_both _ _ i.0 (lower m ds i.1))
+  lower m (tree.using s is_await ds) h = let g = and_yes (not is_await) _ h in and_both _ _ g.0 (lower m ds g.1)
   lower m (tree.block s stmts) h = lower m stmts h
   lower m (tree.empty s) h = refl
   lower m (tree.debugger s) h = refl
   lower m (tree.expr_stmt s e) h = lower m e h
   lower m (tree.for s init test next body) h = let g = and_yes (supported_in m init) _ h in and_both _ _ (lower m init g.0) (let h = and_yes (supported_in m test) _ g.1 in and_both _ _ (lower m test h.0) (let i = and_yes (supported_in m next) _ h.1 in and_both _ _ (lower m next i.0) (lower m body i.1)))
   lower m (tree.for_in s left right body) h = let g = and_yes (supported_in m left) _ h in and_both _ _ (lower m left g.0) (let h = and_yes (supported_in m right) _ g.1 in and_both _ _ (lower m right h.0) (lower m body h.1))
-  lower m (tree.for_of s is_await left right body) h = let g = and_yes (not (is_await && is_bare_async left)) _ h in and_both _ _ g.0 (let h = and_yes (supported_in m left) _ g.1 in and_both _ _ (lower m left h.0) (let i = and_yes (supported_in m right) _ h.1 in and_both _ _ (lower m right i.0) (lower m body i.1)))
+  lower m (tree.for_of s is_await left right body) h = let g = and_yes (supported_in m left) _ h in and_both _ _ (lower m left g.0) (let h = and_yes (supported_in m right) _ g.1 in and_both _ _ (lower m right h.0) (lower m body h.1))
   lower m (tree.if_stmt s test cons alt) h = let g = and_yes (supported_in m test) _ h in and_both _ _ (lower m test g.0) (let h = and_yes (supported_in m cons) _ g.1 in and_both _ _ (lower m cons h.0) (lower m alt h.1))
   lower m (tree.switch s discriminant cases) h = let g = and_yes (supported_in m discriminant) _ h in and_both _ _ (lower m discriminant g.0) (lower m cases g.1)
   lower m (tree.case s test cons) h = let g = and_yes (supported_in m test) _ h in and_both _ _ (lower m test g.0) (lower m cons g.1)
@@ -105,24 +109,28 @@ mutual
   lower m (tree.continue s label) h = lower m label h
   lower m (tree.return s arg) h = lower m arg h
   lower m (tree.fn_decl name fn) h = let g = and_yes (supported_in m name) _ h in and_both _ _ (lower m name g.0) (lower m fn g.1)
-  lower m (tree.function s decorators params body is_async is_generator) h = let i = and_yes (has_none decorators) _ h in and_both _ _ i.0 (let j = and_yes (supported_in m params) _ i.1 in and_both _ _ (lower m params j.0) (lower m body j.1))
+  lower m (tree.function s decorators params body is_async is_generator) h = let i = and_yes (supported_in m decorators) _ h in and_both _ _ (lower m decorators i.0) (let j = and_yes (supported_in m params) _ i.1 in and_both _ _ (lower m params j.0) (lower m body j.1))
   lower m (tree.param s decorators p) h = let g = and_yes (has_none decorators) _ h in and_both _ _ g.0 (lower m p g.1)
   lower m (tree.fn_expr s name fn) h = let g = and_yes (supported_in m name) _ h in and_both _ _ (lower m name g.0) (let h = and_yes (supported_in m fn) _ g.1 in and_both _ _ (lower m fn h.0) (let i = and_yes (is_rightly_directed fn) _ h.1 in and_both _ _ i.0 refl))
   lower m (tree.arrow s params body is_async) h = let i = and_yes (supported_in m params && supported_in m body) _ h in let j = and_yes (supported_in m params) _ i.0 in and_both _ _ (and_both _ _ (lower m params j.0) (lower m body j.1)) (let l = and_yes (is_rightly_headed params body) _ i.1 in and_both _ _ l.0 refl)
   lower m (tree.decorator s e) h = lower m e h
   lower m (tree.class_expr s name body) h = let g = and_yes (supported_in m name) _ h in and_both _ _ (lower m name g.0) (lower m body g.1)
   lower m (tree.class_decl name body) h = let g = and_yes (supported_in m name) _ h in and_both _ _ (lower m name g.0) (lower m body g.1)
-  lower m (tree.class s decorators body super_class) h = let g = and_yes (has_none decorators) _ h in and_both _ _ g.0 (let i = and_yes (supported_in m super_class) _ g.1 in and_both _ _ (lower m super_class i.0) (lower m body i.1))
+  lower m (tree.class s decorators body super_class) h = let g = and_yes (supported_in m decorators) _ h in and_both _ _ (lower m decorators g.0) (let i = and_yes (supported_in m super_class) _ g.1 in and_both _ _ (lower m super_class i.0) (lower m body i.1))
   lower m (tree.constructor s key params body) h = let g = and_yes (is_supported_key_in m key) _ h in and_both _ _ (lower_key m key g.0) (let i = and_yes (supported_in m params && supported_in m body) _ g.1 in let j = and_yes (supported_in m params) _ i.0 in and_both _ _ (and_both _ _ (lower m params j.0) (lower m body j.1)) refl)
-  lower m (tree.method s key fn kind is_static) h = let g = and_yes (is_supported_key_in m key) _ h in and_both _ _ (lower_key m key g.0) (let i = and_yes (is_function fn) _ g.1 in and_both _ _ i.0 (and_both _ _ (lower m fn (and_yes (supported_in m fn) _ i.1).0) refl))
-  lower m (tree.private_method s key fn kind is_static) h = let g = and_yes (is_supported_property_in m key) _ h in and_both _ _ (lower_property m key g.0) (let i = and_yes (is_function fn) _ g.1 in and_both _ _ i.0 (and_both _ _ (lower m fn (and_yes (supported_in m fn) _ i.1).0) refl))
-  lower m (tree.class_prop s key value is_static decorators) h = let g = and_yes (has_none decorators) _ h in and_both _ _ g.0 (let i = and_yes (is_supported_key_in m key) _ g.1 in and_both _ _ (lower_key m key i.0) (lower m value i.1))
-  lower m (tree.private_prop s key value is_static decorators) h = let g = and_yes (has_none decorators) _ h in and_both _ _ g.0 (let i = and_yes (is_supported_property_in m key) _ g.1 in and_both _ _ (lower_property m key i.0) (lower m value i.1))
-  lower m (tree.auto_accessor s key value is_static decorators) h = let g = and_yes (has_none decorators) _ h in and_both _ _ g.0 (let i = and_yes (is_supported_key_in m key || is_private key) _ g.1 in and_both _ _ (either_by (is_supported_key_in m key) (is_supported_key_in false key) (is_private key) (λ e. lower_key m key e) i.0) (lower m value i.1))
+  lower m (tree.method s key fn kind is_static) h = let g = and_yes (is_supported_key_in m key) _ h in and_both _ _ (lower_key m key g.0) (and_both _ _ (lower_method m fn (and_yes (is_supported_method_in m fn) _ g.1).0) refl)
+  lower m (tree.private_method s key fn kind is_static) h = let g = and_yes (is_supported_property_in m key) _ h in and_both _ _ (lower_property m key g.0) (and_both _ _ (lower_method m fn (and_yes (is_supported_method_in m fn) _ g.1).0) refl)
+  lower m (tree.class_prop s key value is_static decorators) h = let g = and_yes (supported_in m decorators) _ h in and_both _ _ (lower m decorators g.0) (let i = and_yes (is_supported_key_in m key) _ g.1 in and_both _ _ (lower_key m key i.0) (lower m value i.1))
+  lower m (tree.private_prop s key value is_static decorators) h = let g = and_yes (supported_in m decorators) _ h in and_both _ _ (lower m decorators g.0) (let i = and_yes (is_supported_property_in m key) _ g.1 in and_both _ _ (lower_property m key i.0) (lower m value i.1))
+  lower m (tree.auto_accessor s key value is_static decorators) h = let g = and_yes (supported_in m decorators) _ h in and_both _ _ (lower m decorators g.0) (let i = and_yes (is_supported_key_in m key || is_private key) _ g.1 in and_both _ _ (either_by (is_supported_key_in m key) (is_supported_key_in false key) (is_private key) (λ e. lower_key m key e) i.0) (lower m value i.1))
   lower m (tree.static_block s body) h = and_both _ _ (lower m body (and_yes (supported_in m body) _ h).0) refl
   lower m (tree.empty_member s) h = refl
   lower m (tree.script s body shebang) h = lower m body h
   lower m _ h = h
+
+  pub lower_method : (m : Bool) (fn : Tree) → is_supported_method_in m fn ≡ true → is_supported_method_in false fn ≡ true
+  lower_method m (tree.function s decorators params body is_async is_generator) h = let i = and_yes (supported_in m decorators) _ h in and_both _ _ (lower m decorators i.0) (let j = and_yes (supported_in m params) _ i.1 in and_both _ _ (lower m params j.0) (lower m body j.1))
+  lower_method m _ h = h
 
   pub lower_property : (m : Bool) (x : Tree) → is_supported_property_in m x ≡ true → is_supported_property_in false x ≡ true
   lower_property m (tree.ident s text) h = refl
@@ -189,14 +197,14 @@ mutual
   lift (tree.expr_pat e) h o = lift e h o
   lift (tree.var s word ds) h o = lift ds h o
   lift (tree.declarator s name init) h o = let g = and_yes (supported_in false name) _ h in and_both _ _ (lift name g.0 ((parted (notes name) (notes init) o).0)) (lift init g.1 ((parted (notes name) (notes init) o).1))
-  lift (tree.using s is_await ds) h o = let g = and_yes (not is_await) _ h in let i = and_yes (are_initialized ds) _ g.1 in and_both _ _ g.0 (and_both _ _ i.0 (lift ds i.1 o))
+  lift (tree.using s is_await ds) h o = let g = and_yes (not is_await) _ h in and_both _ _ g.0 (lift ds g.1 o)
   lift (tree.block s stmts) h o = lift stmts h o
   lift (tree.empty s) h o = refl
   lift (tree.debugger s) h o = refl
   lift (tree.expr_stmt s e) h o = lift e h ((parted (notes e) (statement_note e) o).0)
   lift (tree.for s init test next body) h o = let g = and_yes (supported_in false init) _ h in and_both _ _ (lift init g.0 ((parted (notes init) (notes test) (parted (notes init ++ notes test) (notes next) (parted (notes init ++ notes test ++ notes next) (notes body) o).0).0).0)) (let h = and_yes (supported_in false test) _ g.1 in and_both _ _ (lift test h.0 ((parted (notes init) (notes test) (parted (notes init ++ notes test) (notes next) (parted (notes init ++ notes test ++ notes next) (notes body) o).0).0).1)) (let i = and_yes (supported_in false next) _ h.1 in and_both _ _ (lift next i.0 ((parted (notes init ++ notes test) (notes next) (parted (notes init ++ notes test ++ notes next) (notes body) o).0).1)) (lift body i.1 ((parted (notes init ++ notes test ++ notes next) (notes body) o).1))))
   lift (tree.for_in s left right body) h o = let g = and_yes (supported_in false left) _ h in and_both _ _ (lift left g.0 ((parted (notes left) (notes right) (parted (notes left ++ notes right) (notes body) o).0).0)) (let h = and_yes (supported_in false right) _ g.1 in and_both _ _ (lift right h.0 ((parted (notes left) (notes right) (parted (notes left ++ notes right) (notes body) o).0).1)) (lift body h.1 ((parted (notes left ++ notes right) (notes body) o).1)))
-  lift (tree.for_of s is_await left right body) h o = let g = and_yes (not (is_await && is_bare_async left)) _ h in and_both _ _ g.0 (let h = and_yes (supported_in false left) _ g.1 in and_both _ _ (lift left h.0 ((parted (notes left) (notes right) (parted (notes left ++ notes right) (notes body) o).0).0)) (let i = and_yes (supported_in false right) _ h.1 in and_both _ _ (lift right i.0 ((parted (notes left) (notes right) (parted (notes left ++ notes right) (notes body) o).0).1)) (lift body i.1 ((parted (notes left ++ notes right) (notes body) o).1))))
+  lift (tree.for_of s is_await left right body) h o = let g = and_yes (supported_in false left) _ h in and_both _ _ (lift left g.0 ((parted (notes left) (notes right) (parted (notes left ++ notes right) (notes body) o).0).0)) (let h = and_yes (supported_in false right) _ g.1 in and_both _ _ (lift right h.0 ((parted (notes left) (notes right) (parted (notes left ++ notes right) (notes body) o).0).1)) (lift body h.1 ((parted (notes left ++ notes right) (notes body) o).1)))
   lift (tree.if_stmt s test cons alt) h o = let g = and_yes (supported_in false test) _ h in and_both _ _ (lift test g.0 ((parted (notes test) (notes cons) (parted (notes test ++ notes cons) (notes alt) o).0).0)) (let h = and_yes (supported_in false cons) _ g.1 in and_both _ _ (lift cons h.0 ((parted (notes test) (notes cons) (parted (notes test ++ notes cons) (notes alt) o).0).1)) (lift alt h.1 ((parted (notes test ++ notes cons) (notes alt) o).1)))
   lift (tree.switch s discriminant cases) h o = let g = and_yes (supported_in false discriminant) _ h in and_both _ _ (lift discriminant g.0 ((parted (notes discriminant) (notes cases) o).0)) (lift cases g.1 ((parted (notes discriminant) (notes cases) o).1))
   lift (tree.case s test cons) h o = let g = and_yes (supported_in false test) _ h in and_both _ _ (lift test g.0 ((parted (notes test) (notes cons) o).0)) (lift cons g.1 ((parted (notes test) (notes cons) o).1))
@@ -211,24 +219,28 @@ mutual
   lift (tree.continue s label) h o = lift label h o
   lift (tree.return s arg) h o = lift arg h o
   lift (tree.fn_decl name fn) h o = let g = and_yes (supported_in false name) _ h in and_both _ _ (lift name g.0 ((parted (notes name) (notes fn) o).0)) (lift fn g.1 ((parted (notes name) (notes fn) o).1))
-  lift (tree.function s decorators params body is_async is_generator) h o = let i = and_yes (has_none decorators) _ h in and_both _ _ i.0 (let j = and_yes (supported_in false params) _ i.1 in and_both _ _ (lift params j.0 ((parted (notes decorators) (notes params) (parted (notes decorators ++ notes params) (notes body) o).0).1)) (lift body j.1 ((parted (notes decorators ++ notes params) (notes body) o).1)))
+  lift (tree.function s decorators params body is_async is_generator) h o = let i = and_yes (supported_in false decorators) _ h in and_both _ _ (lift decorators i.0 ((parted (notes decorators) (notes params) (parted (notes decorators ++ notes params) (notes body) o).0).0)) (let j = and_yes (supported_in false params) _ i.1 in and_both _ _ (lift params j.0 ((parted (notes decorators) (notes params) (parted (notes decorators ++ notes params) (notes body) o).0).1)) (lift body j.1 ((parted (notes decorators ++ notes params) (notes body) o).1)))
   lift (tree.param s decorators p) h o = let g = and_yes (has_none decorators) _ h in and_both _ _ g.0 (lift p g.1 ((parted (notes decorators) (notes p) o).1))
   lift (tree.fn_expr s name fn) h o = let g = and_yes (supported_in false name) _ h in and_both _ _ (lift name g.0 ((parted (notes name) (notes fn) o).0)) (let h = and_yes (supported_in false fn) _ g.1 in and_both _ _ (lift fn h.0 ((parted (notes name) (notes fn) o).1)) (let i = and_yes (is_rightly_directed fn) _ h.1 in and_both _ _ i.0 (ap is_clean ((parted (notes name) (notes fn) o).1))))
   lift (tree.arrow s params body is_async) h o = let n = parted (notes params) (notes body) o in let i = and_yes (supported_in false params && supported_in false body) _ h in let j = and_yes (supported_in false params) _ i.0 in and_both _ _ (and_both _ _ (lift params j.0 n.0) (lift body j.1 n.1)) (let l = and_yes (is_rightly_headed params body) _ i.1 in and_both _ _ l.0 (ap is_clean n.1))
   lift (tree.decorator s e) h o = lift e h o
   lift (tree.class_expr s name body) h o = let g = and_yes (supported_in false name) _ h in let n = parted (notes name) (notes body) o in and_both _ _ (lift name g.0 n.0) (lift body g.1 n.1)
   lift (tree.class_decl name body) h o = let g = and_yes (supported_in false name) _ h in let n = parted (notes name) (notes body) o in and_both _ _ (lift name g.0 n.0) (lift body g.1 n.1)
-  lift (tree.class s decorators body super_class) h o = let g = and_yes (has_none decorators) _ h in let n = parted (notes decorators ++ notes super_class) (notes body) o in and_both _ _ g.0 (let i = and_yes (supported_in false super_class) _ g.1 in and_both _ _ (lift super_class i.0 ((parted (notes decorators) (notes super_class) n.0).1)) (lift body i.1 n.1))
+  lift (tree.class s decorators body super_class) h o = let g = and_yes (supported_in false decorators) _ h in let n = parted (notes decorators ++ notes super_class) (notes body) o in and_both _ _ (lift decorators g.0 ((parted (notes decorators) (notes super_class) n.0).0)) (let i = and_yes (supported_in false super_class) _ g.1 in and_both _ _ (lift super_class i.0 ((parted (notes decorators) (notes super_class) n.0).1)) (lift body i.1 n.1))
   lift (tree.constructor s key params body) h o = let g = and_yes (is_supported_key_in false key) _ h in let n = parted (notes key ++ notes params) (notes body) o in let l = parted (notes key) (notes params) n.0 in and_both _ _ (lift_key key g.0 l.0) (let i = and_yes (supported_in false params && supported_in false body) _ g.1 in let j = and_yes (supported_in false params) _ i.0 in and_both _ _ (and_both _ _ (lift params j.0 l.1) (lift body j.1 n.1)) (and_both _ _ (ap is_clean l.1) (ap is_clean n.1)))
-  lift (tree.method s key fn kind is_static) h o = let g = and_yes (is_supported_key_in false key) _ h in let i = and_yes (is_function fn) _ g.1 in let n = method_parted (notes key) fn i.0 o in and_both _ _ (lift_key key g.0 n.0) (and_both _ _ i.0 (and_both _ _ (lift fn (and_yes (supported_in false fn) _ i.1).0 n.1) (ap is_clean n.1)))
-  lift (tree.private_method s key fn kind is_static) h o = let g = and_yes (is_supported_property_in false key) _ h in let i = and_yes (is_function fn) _ g.1 in let n = method_parted (notes key) fn i.0 o in and_both _ _ (lift_property key g.0 n.0) (and_both _ _ i.0 (and_both _ _ (lift fn (and_yes (supported_in false fn) _ i.1).0 n.1) (ap is_clean n.1)))
-  lift (tree.class_prop s key value is_static decorators) h o = let g = and_yes (has_none decorators) _ h in let n = parted (notes decorators ++ notes key) (notes value) o in and_both _ _ g.0 (let i = and_yes (is_supported_key_in false key) _ g.1 in and_both _ _ (lift_key key i.0 ((parted (notes decorators) (notes key) n.0).1)) (lift value i.1 n.1))
-  lift (tree.private_prop s key value is_static decorators) h o = let g = and_yes (has_none decorators) _ h in let n = parted (notes decorators ++ notes key) (notes value) o in and_both _ _ g.0 (let i = and_yes (is_supported_property_in false key) _ g.1 in and_both _ _ (lift_property key i.0 ((parted (notes decorators) (notes key) n.0).1)) (lift value i.1 n.1))
-  lift (tree.auto_accessor s key value is_static decorators) h o = let g = and_yes (has_none decorators) _ h in let n = parted (notes decorators ++ notes key) (notes value) o in and_both _ _ g.0 (let i = and_yes (is_supported_key_in false key || is_private key) _ g.1 in and_both _ _ (either_by (is_supported_key_in false key) (is_supported_key_in true key) (is_private key) (λ e. lift_key key e ((parted (notes decorators) (notes key) n.0).1)) i.0) (lift value i.1 n.1))
+  lift (tree.method s key fn kind is_static) h o = let g = and_yes (is_supported_key_in false key) _ h in let i = and_yes (is_supported_method_in false fn) _ g.1 in let n = method_parted (notes key) fn (method_is_function false fn i.0) o in and_both _ _ (lift_key key g.0 n.0) (and_both _ _ (lift_method fn i.0 n.1) (ap is_clean n.1))
+  lift (tree.private_method s key fn kind is_static) h o = let g = and_yes (is_supported_property_in false key) _ h in let i = and_yes (is_supported_method_in false fn) _ g.1 in let n = method_parted (notes key) fn (method_is_function false fn i.0) o in and_both _ _ (lift_property key g.0 n.0) (and_both _ _ (lift_method fn i.0 n.1) (ap is_clean n.1))
+  lift (tree.class_prop s key value is_static decorators) h o = let g = and_yes (supported_in false decorators) _ h in let n = parted (notes decorators ++ notes key) (notes value) o in and_both _ _ (lift decorators g.0 ((parted (notes decorators) (notes key) n.0).0)) (let i = and_yes (is_supported_key_in false key) _ g.1 in and_both _ _ (lift_key key i.0 ((parted (notes decorators) (notes key) n.0).1)) (lift value i.1 n.1))
+  lift (tree.private_prop s key value is_static decorators) h o = let g = and_yes (supported_in false decorators) _ h in let n = parted (notes decorators ++ notes key) (notes value) o in and_both _ _ (lift decorators g.0 ((parted (notes decorators) (notes key) n.0).0)) (let i = and_yes (is_supported_property_in false key) _ g.1 in and_both _ _ (lift_property key i.0 ((parted (notes decorators) (notes key) n.0).1)) (lift value i.1 n.1))
+  lift (tree.auto_accessor s key value is_static decorators) h o = let g = and_yes (supported_in false decorators) _ h in let n = parted (notes decorators ++ notes key) (notes value) o in and_both _ _ (lift decorators g.0 ((parted (notes decorators) (notes key) n.0).0)) (let i = and_yes (is_supported_key_in false key || is_private key) _ g.1 in and_both _ _ (either_by (is_supported_key_in false key) (is_supported_key_in true key) (is_private key) (λ e. lift_key key e ((parted (notes decorators) (notes key) n.0).1)) i.0) (lift value i.1 n.1))
   lift (tree.static_block s body) h o = and_both _ _ (lift body (and_yes (supported_in false body) _ h).0 o) (ap is_clean o)
   lift (tree.empty_member s) h o = refl
   lift (tree.script s body shebang) h o = lift body h o
   lift _ h o = h
+
+  pub lift_method : (fn : Tree) → is_supported_method_in false fn ≡ true → notes fn ≡ [] → is_supported_method_in true fn ≡ true
+  lift_method (tree.function s decorators params body is_async is_generator) h o = let i = and_yes (supported_in false decorators) _ h in let n = parted (notes decorators ++ notes params) (notes body) o in let l = parted (notes decorators) (notes params) n.0 in and_both _ _ (lift decorators i.0 l.0) (let j = and_yes (supported_in false params) _ i.1 in and_both _ _ (lift params j.0 l.1) (lift body j.1 n.1))
+  lift_method _ h o = h
 
   pub lift_property : (x : Tree) → is_supported_property_in false x ≡ true → notes x ≡ [] → is_supported_property_in true x ≡ true
   lift_property (tree.ident s text) h o = refl

@@ -10,7 +10,7 @@ use Rattle.swc_ecma_parser_model.specs.declared.operators.AssignOp.TheVariants a
 use Rattle.swc_ecma_parser_model.specs.declared.operators.BinaryOp.TheVariants as binary
 use Rattle.swc_ecma_parser_model.specs.Tree as tree
 use Rattle.swc_ecma_parser_model.specs.declared.leaves.MethodKind.{MethodKind}
-use Rattle.swc_ecma_parser_model.specs.Tree.{Tree, trees, listed, none}
+use Rattle.swc_ecma_parser_model.specs.Tree.{Tree, trees, listed}
 use Rattle.swc_ecma_parser_model.specs.Forms.{is_ident}
 use Rattle.swc_ecma_parser_model.specs.Kinds.{is_function}
 use Rattle.swc_ecma_parser_grammar.specs.Looks.{sees, span_at, spanned}
@@ -19,7 +19,7 @@ use Rattle.swc_ecma_parser_grammar.specs.Parameters.{parameters}
 use Rattle.swc_ecma_parser_grammar.specs.Follows.{begins_import_expression}
 use Rattle.swc_ecma_parser_grammar.specs.Notes.{notes, method_notes, all_notes, statement_note}
 use Rattle.swc_ecma_parser_grammar.specs.Reads.{with_in, ReadsSeparated}
-use Rattle.swc_ecma_parser_grammar.specs.Supported.{supported_in, all_supported_in, is_supported_key_in, is_supported_property_in, has_no_note, is_rightly_directed, is_rightly_set, is_rightly_headed, is_clean, has_none}
+use Rattle.swc_ecma_parser_grammar.specs.Supported.{supported_in, all_supported_in, is_supported_key_in, is_supported_property_in, has_no_note, is_rightly_directed, is_rightly_set, is_rightly_headed, is_clean, is_supported_method_in}
 use Rattle.swc_ecma_parser_grammar.specs.ReadsSupported.{ReadsClass}
 use Rattle.swc_ecma_parser_grammar.specs.language.Goals.{Goal, Class, Purpose, binding, expression, assignment, operator, unary, left_side, callee, expr_goal, callee_goal, pattern_goal, element_goal, stmt_goal, member_goal, decorator_goal, using_goal, attributes_goal, item_goal}
 use Rattle.swc_ecma_parser_grammar.specs.language.Lists.{ReadsEach, ReadsListed, Elements, no_elements, hole, last_element, more_elements}
@@ -44,6 +44,7 @@ use Rattle.swc_ecma_parser_grammar.specs.language.Reads.{Reads}
 use Rattle.swc_ecma_parser_grammar.proofs.Tests.{and_yes}
 use Rattle.swc_ecma_parser_grammar.proofs.Naming.{name_is_name}
 use Rattle.swc_ecma_parser_grammar.proofs.SupportedBegins.{supported_as, name_begins}
+use Rattle.swc_ecma_parser_grammar.proofs.SupportedIn.{method_is_function}
 
 -- ---- notes, joined
 
@@ -94,11 +95,6 @@ SilentGoal (decorator_goal k x c d) = Silent x
 SilentGoal (using_goal k x c d) = Unit {0}
 SilentGoal (attributes_goal k x c d) = Unit {0}
 SilentGoal (item_goal k x c d) = Unit {0}
-
--- no decorators
-none_unnoted : (x : Tree) → has_none x ≡ true → notes x ≡ []
-none_unnoted (tree.list none) h = refl
-none_unnoted _ h = absurd (true≢false (sym h))
 
 method_joined : (key : List Fault) (fn : Tree) → is_function fn ≡ true → key ≡ [] → notes fn ≡ [] → method_notes key fn ≡ []
 method_joined key (tree.function s ds ps body a g) f e o =
@@ -303,9 +299,9 @@ module _ (In : Goal → Type 0) (small : (g : Goal) → In g → SilentGoal g) w
   key_is_public (parts.big_int_key raw s r e) = ap is_private e
   key_is_public (parts.computed_key r) = ap is_private r.is
 
-  method_is_silent : (key fn : Tree) (b : Bool) → (b ≡ true → notes key ≡ []) → b && (is_function fn && (supported_in true fn && has_no_note fn)) ≡ true → method_notes (notes key) fn ≡ []
+  method_is_silent : (key fn : Tree) (b : Bool) → (b ≡ true → notes key ≡ []) → b && (is_supported_method_in true fn && has_no_note fn) ≡ true → method_notes (notes key) fn ≡ []
   method_is_silent key fn b q h =
-      let i = and_yes (is_function fn) _ (and_yes b _ h).1 in method_joined (notes key) fn i.0 (q (and_yes b _ h).0) (clean_is (notes fn) (and_yes (supported_in true fn) _ i.1).1)
+      let i = and_yes (is_supported_method_in true fn) _ (and_yes b _ h).1 in method_joined (notes key) fn (method_is_function true fn i.0) (q (and_yes b _ h).0) (clean_is (notes fn) i.1)
 
   method_silent : {k : Code} (s : Span) (key fn : Tree) (form : MethodKind) (st : Bool) {c d : Place} → MemberKeyRule In k key c d → Silent (method_member s key fn form st)
   method_silent s key fn form st (classes.member_key r) =
@@ -319,42 +315,27 @@ module _ (In : Goal → Type 0) (small : (g : Goal) → In g → SilentGoal g) w
   sole true b e h = refl
   sole false b e h = sym e ∙ h
 
-  field_is_silent : (ds key value : Tree) (b : Bool) → (b ≡ true → notes key ≡ []) → Silent value → has_none ds && (b && supported_in true value) ≡ true → notes ds ++ notes key ++ notes value ≡ []
-  field_is_silent ds key value b q v h =
-      let g = and_yes (has_none ds) _ h in
+  field_is_silent : (ds key value : Tree) (b : Bool) → (b ≡ true → notes key ≡ []) → Silent ds → Silent value → supported_in true ds && (b && supported_in true value) ≡ true → notes ds ++ notes key ++ notes value ≡ []
+  field_is_silent ds key value b q u v h =
+      let g = and_yes (supported_in true ds) _ h in
       let i = and_yes b _ g.1 in
-      joined (notes ds ++ notes key) (notes value) (joined (notes ds) (notes key) (none_unnoted ds g.0) (q i.0)) (v i.1)
+      joined (notes ds ++ notes key) (notes value) (joined (notes ds) (notes key) (u g.0) (q i.0)) (v i.1)
 
-  field_silent : {k : Code} (s : Span) (key value : Tree) (st accessor : Bool) (ds : Tree) {c d : Place} → MemberKeyRule In k key c d → Silent value → Silent (field_member s key value st accessor ds)
-  field_silent s key value st true ds (classes.member_key r) v h =
-      field_is_silent ds key value (is_supported_key_in true key || is_private key) (λ i. key_silent r (sole (is_supported_key_in true key) (is_private key) (key_is_public r) i)) v h
-  field_silent s key value st true ds (classes.private_key t word text r e i) v h =
-      field_is_silent ds key value (is_supported_key_in true key || is_private key) (λ _. ap notes e) v h
-  field_silent s key value st false ds (classes.member_key r) v h =
+  field_silent : {k : Code} (s : Span) (key value : Tree) (st accessor : Bool) (ds : Tree) {c d : Place} → MemberKeyRule In k key c d → Silent ds → Silent value → Silent (field_member s key value st accessor ds)
+  field_silent s key value st true ds (classes.member_key r) u v h =
+      field_is_silent ds key value (is_supported_key_in true key || is_private key) (λ i. key_silent r (sole (is_supported_key_in true key) (is_private key) (key_is_public r) i)) u v h
+  field_silent s key value st true ds (classes.private_key t word text r e i) u v h =
+      field_is_silent ds key value (is_supported_key_in true key || is_private key) (λ _. ap notes e) u v h
+  field_silent s key value st false ds (classes.member_key r) u v h =
       silent_as _ (tree.class_prop s key value st ds) (ap (λ b. if b then tree.private_prop s key value st ds else tree.class_prop s key value st ds) (key_is_public r))
-      (field_is_silent ds key value (is_supported_key_in true key) (key_silent r) v) h
-  field_silent s key value st false ds (classes.private_key t word text r e i) v h =
+      (field_is_silent ds key value (is_supported_key_in true key) (key_silent r) u v) h
+  field_silent s key value st false ds (classes.private_key t word text r e i) u v h =
       silent_as _ (tree.private_prop s key value st ds) (ap (λ b. if b then tree.private_prop s key value st ds else tree.class_prop s key value st ds) (ap is_private e))
-      (field_is_silent ds key value (is_supported_property_in true key) (λ _. ap notes e) v) h
+      (field_is_silent ds key value (is_supported_property_in true key) (λ _. ap notes e) u v) h
 
   value_silent : {k : Code} {key x : Tree} {c d : Place} → FieldValueRule In k key x c d → Silent x
   value_silent (classes.no_value a b i n e) h = ap notes e
   value_silent {k = k} {x = x} {c = c} {d = d} (classes.a_value i r) h = small (expr_goal assignment (with_in k) x (after c) d) r h
-
-  core_silent : {k : Code} {st accessor : Bool} {ds x : Tree} {c m d : Place} → CoreRule In k st accessor ds x c m d → Silent x
-  core_silent {x = x} {c = c} {d = d} (classes.constructor_rule key ps body i j f a n r b p q e) = silent_as x (tree.constructor (spanned c d) key (parameters ps) body) e (λ h.
-      let g = and_yes (is_supported_key_in true key) _ h in
-      let l = and_yes (has_no_note (parameters ps)) (has_no_note body) (and_yes (supported_in true (parameters ps) && supported_in true body) _ g.1).1 in
-      joined (notes key ++ notes (parameters ps)) (notes body) (joined (notes key) (notes (parameters ps)) (key_silent r g.0) (clean_is (notes (parameters ps)) l.0)) (clean_is (notes body) l.1))
-  core_silent {st = st} {ds = ds} {x = x} {c = c} {d = d} (classes.method_rule form a g key ps body b r i e) =
-      silent_as x _ e (method_silent (spanned c d) key (tree.function (spanned c d) ds (parameters ps) body a g) form st r.reads_key)
-  core_silent {st = st} {accessor = accessor} {ds = ds} {x = x} {c = c} {d = d} (classes.field_rule key value i j r b v g e) =
-      silent_as x _ e (field_silent (spanned c d) key value st accessor ds r (value_silent v))
-  core_silent {x = x} {c = c} {d = d} (classes.static_block_rule body f a n r e) = silent_as x (tree.static_block (spanned c d) body) e (λ h. clean_is (notes body) (and_yes (supported_in true body) _ h).1)
-
-  member_silent : (k : Code) (x : Tree) (c d : Place) → MemberRule In k x c d → Silent x
-  member_silent k x c d (classes.empty_rule i n e) h = ap notes e
-  member_silent k x c d (classes.member_rule ds m r s) h = core_silent s h
 
   assignment_silent : (k : Code) (x : Tree) (c d : Place) → AssignmentRule In k x c d → Silent x
   assignment_silent k x c d (expressions.operators_rule r s) = binary_silent r
@@ -402,6 +383,23 @@ module _ (In : Goal → Type 0) (small : (g : Goal) → In g → SilentGoal g) w
   decorators_silent : {k : Code} {x : Tree} {c d : Place} → DecoratorsRule In k x c d → Silent x
   decorators_silent (classes.no_decorators n e) = λ h. ap notes e
   decorators_silent {k = k} {x = x} {c = c} {d = d} (classes.some_decorators y ys s r e) = silent_as x (listed (y ∷ ys)) e (each_decorator_silent k (y ∷ ys) c d r)
+
+  -- ---- members, and the decorators before them
+
+  core_silent : {k : Code} {st accessor : Bool} {ds x : Tree} {c m d : Place} → CoreRule In k st accessor ds x c m d → Silent ds → Silent x
+  core_silent {x = x} {c = c} {d = d} (classes.constructor_rule key ps body i j f a n r b p q e) u = silent_as x (tree.constructor (spanned c d) key (parameters ps) body) e (λ h.
+      let g = and_yes (is_supported_key_in true key) _ h in
+      let l = and_yes (has_no_note (parameters ps)) (has_no_note body) (and_yes (supported_in true (parameters ps) && supported_in true body) _ g.1).1 in
+      joined (notes key ++ notes (parameters ps)) (notes body) (joined (notes key) (notes (parameters ps)) (key_silent r g.0) (clean_is (notes (parameters ps)) l.0)) (clean_is (notes body) l.1))
+  core_silent {st = st} {ds = ds} {x = x} {c = c} {d = d} (classes.method_rule form a g key ps body b r i e) u =
+      silent_as x _ e (method_silent (spanned c d) key (tree.function (spanned c d) ds (parameters ps) body a g) form st r.reads_key)
+  core_silent {st = st} {accessor = accessor} {ds = ds} {x = x} {c = c} {d = d} (classes.field_rule key value i j r b v g e) u =
+      silent_as x _ e (field_silent (spanned c d) key value st accessor ds r u (value_silent v))
+  core_silent {x = x} {c = c} {d = d} (classes.static_block_rule body f a n r e) u = silent_as x (tree.static_block (spanned c d) body) e (λ h. clean_is (notes body) (and_yes (supported_in true body) _ h).1)
+
+  member_silent : (k : Code) (x : Tree) (c d : Place) → MemberRule In k x c d → Silent x
+  member_silent k x c d (classes.empty_rule i n e) h = ap notes e
+  member_silent k x c d (classes.member_rule ds m r s) h = core_silent s (decorators_silent r) h
 
   class_silent : (class : Class) (k : Code) (x : Tree) (c d : Place) → ExprRule In class k x c d → Silent x
   class_silent expression k x c d r = expression_silent k x c d r

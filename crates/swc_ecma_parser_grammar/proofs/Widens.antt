@@ -2,7 +2,7 @@
 use Rattle.swc_ecma_parser_grammar.specs.Parameters.{parameters}
 use Rattle.std.proofs.Common.{◌≡◌, ℕ, zero, suc, Bool, true, false, rules, List, [], ◌∷◌, Option, refl, ◌∙◌, ap, subst}
 use Rattle.std.specs.List.{list_any}
-use Rattle.std.specs.Prelude.{not, ◌&&◌, ◌||◌}
+use Rattle.std.specs.Prelude.{◌&&◌, ◌||◌}
 use denote.Enum.Bare.{true_same, same_true}
 use Rattle.swc_ecma_parser_common.specs.declared.span.Span.{Span}
 use Rattle.swc_ecma_parser_token.specs.contracts.kind.TokenKind.{the_type}
@@ -16,18 +16,20 @@ use Rattle.swc_ecma_parser_model.specs.Tree.{Tree, Text, trees, listed}
 use Rattle.swc_ecma_parser_model.specs.Forms.{is_absent}
 use Rattle.swc_ecma_parser_model.specs.Directive.{is_use_strict}
 use Rattle.swc_ecma_parser_grammar.specs.declared.position.Position.{Position}
-use Rattle.swc_ecma_parser_grammar.specs.Looks.{kind_at, sees, same_kind, spanned}
+use Rattle.swc_ecma_parser_grammar.specs.Looks.{kind_at, sees, same_kind, span_at, spanned}
 use Rattle.swc_ecma_parser_grammar.specs.Names.{Code}
-use Rattle.swc_ecma_parser_grammar.specs.Follows.{is_async_of, is_bare_async, no_await}
+use Rattle.swc_ecma_parser_grammar.specs.Follows.{no_await}
 use Rattle.swc_ecma_parser_grammar.specs.Using.{is_using_declaration, misused, each_misused, using_faults}
-use Rattle.swc_ecma_parser_grammar.specs.Reads.{with_in, directed, directs_on, nested_item, top_item, DeclaratorRule, plain_rule, initialized_rule, ReadsSeparated, ReadsItems, StmtRule, block_rule, empty_rule, debugger_rule, variables_rule, using_rule, if_statement_rule, TargetRule, no_target_rule, target_rule, OperandRule, no_operand_rule, operand_rule, break_rule, continue_rule, return_rule, labeled_rule, HeadVariables, InitRule, no_init_rule, init_variables_rule, init_expression_rule, LeftRule, declared_rule, left_target_rule, for_in_rule, for_of_rule, head_code, PartRule, no_part_rule, part_rule, for_rule, CaseRule, case_clause_rule, default_clause_rule, ReadsCases, switch_rule, throw_rule, try_rule, with_rule, while_rule, do_while_rule, expr_rule, import_rule, ReadsBlock, CatchRule, no_catch_rule, catch_rule, catch_parameter_rule, FinallyRule, no_finally_rule, finally_rule, ReadsHead, IfRule, if_rule, ElseRule, no_else_rule, else_rule, else_if_rule, ReadsBraced, class_rule, function_rule}
+use Rattle.swc_ecma_parser_grammar.specs.Reads.{with_in, directed, directs_on, nested_item, top_item, DeclaratorRule, plain_rule, initialized_rule, ReadsSeparated, ReadsItems, StmtRule, block_rule, empty_rule, debugger_rule, variables_rule, using_rule, if_statement_rule, TargetRule, no_target_rule, target_rule, OperandRule, no_operand_rule, operand_rule, break_rule, continue_rule, return_rule, labeled_rule, HeadVariables, InitRule, no_init_rule, init_variables_rule, init_expression_rule, LeftRule, declared_rule, left_target_rule, for_in_rule, for_of_rule, head_code, PartRule, no_part_rule, part_rule, for_rule, CaseRule, case_clause_rule, default_clause_rule, ReadsCases, switch_rule, throw_rule, try_rule, with_rule, while_rule, do_while_rule, expr_rule, import_rule, ReadsBlock, CatchRule, no_catch_rule, catch_rule, catch_parameter_rule, FinallyRule, no_finally_rule, finally_rule, ReadsHead, IfRule, if_rule, ElseRule, no_else_rule, else_rule, else_if_rule, ReadsBraced, ReadsFunction, class_rule, function_rule, OfLeftRule, of_left_rule, of_using_rule}
 use Rattle.swc_ecma_parser_grammar.specs.Entries.{ReadsScript, ReadsShebang, some_shebang, no_shebang, script_code, items_await, script_awaits}
-use Rattle.swc_ecma_parser_grammar.specs.Supported.{supported, supported_in, all_supported_in, are_initialized}
-use Rattle.swc_ecma_parser_grammar.specs.ReadsSupported.{ReadsClass, ReadsPat, ReadsTarget, ReadsStmt, ReadsTop, ReadsParams, ReadsNamedClass}
+use Rattle.swc_ecma_parser_grammar.specs.Decorated.{decorated_by, DeclaredRule, declared_class, declared_function, DecoratedRule, EitherRule, plain_statement, decorated_statement}
+use Rattle.swc_ecma_parser_grammar.specs.Supported.{supported, supported_in, all_supported_in}
+use Rattle.swc_ecma_parser_grammar.specs.ReadsSupported.{ReadsClass, ReadsPat, ReadsTarget, ReadsStmt, ReadsTop, ReadsParams, ReadsNamedClass, ReadsDecorators, ReadsDeclared}
 use Rattle.swc_ecma_parser_grammar.specs.language.Goals.{expression, assignment, expr_goal, stmt_goal}
 use Rattle.swc_ecma_parser_grammar.specs.language.Contexts.{in_loop, in_breakable, in_with}
 use Rattle.swc_ecma_parser_grammar.specs.language.ForHeads as heads
 use Rattle.swc_ecma_parser_grammar.specs.language.Classes as classes
+use Rattle.swc_ecma_parser_grammar.specs.language.Functions as functions
 use Rattle.swc_ecma_parser_grammar.specs.language.Parts as parts
 use Rattle.swc_ecma_parser_grammar.specs.language.Declarations as declarations
 use Rattle.swc_ecma_parser_grammar.specs.language.Items.{sub_statement, labelled_item, ItemsRule, BlockRule}
@@ -39,9 +41,10 @@ use Rattle.swc_ecma_parser_grammar.specs.language.Programs as programs
 use Rattle.swc_ecma_parser_grammar.specs.language.Programs.{ReadsEntry}
 use Rattle.swc_ecma_parser_token.specs.Text.{word_text}
 use Rattle.swc_ecma_parser_grammar.proofs.Tests.{and_both}
+use Rattle.swc_ecma_parser_grammar.proofs.Decorated.{decorated_supported}
 use Rattle.swc_ecma_parser_grammar.proofs.Naming.{name_is_clean}
 use Rattle.swc_ecma_parser_grammar.proofs.SupportedIn.{strict_module, head_module, parted}
-use Rattle.swc_ecma_parser_grammar.proofs.UsingParts.{declared, each_initialized, set_so, unbound}
+use Rattle.swc_ecma_parser_grammar.proofs.UsingParts.{declared, set_so, unbound, declares_in_head}
 use Rattle.swc_ecma_parser_grammar.proofs.language.Shapes.{expr_stands}
 
 -- ---- declarators
@@ -149,8 +152,8 @@ module _ (n : ℕ) (k : Code) where
   }
 
   declared_supported : (s : Span) (xs : List Tree) (c d : Place) → ReadsSeparated (DeclaratorRule (ReadsClass n assignment) (ReadsPat n) (with_in k) false decl.Var) xs c d
-      → using_faults k.setting.explicit_resource_management s xs ≡ [] → are_initialized (listed xs) && all_supported_in k.flags.module (trees xs) ≡ true
-  declared_supported s xs c d r f = and_both _ _ (each_initialized s xs (set_so k.setting.explicit_resource_management s xs f).1) (declarators_supported n (with_in k) false decl.Var xs c d r)
+      → all_supported_in k.flags.module (trees xs) ≡ true
+  declared_supported s xs c d r = declarators_supported n (with_in k) false decl.Var xs c d r
 
 -- ---- heads
 
@@ -175,6 +178,10 @@ left_supported : (n : ℕ) {k : Code} {x : Tree} {c d : Place} → LeftRule (Rea
 left_supported n (declared_rule r) = head_variables_supported n r
 left_supported n (left_target_rule h r) = r.1
 
+of_left_supported : (n : ℕ) {w : Bool} {k : Code} {x : Tree} {c d : Place} → OfLeftRule (ReadsClass n) (ReadsPat n) (ReadsTarget n) k w x c d → supported_in k.flags.module x ≡ true
+of_left_supported n (of_left_rule r i) = left_supported n r
+of_left_supported n {k = k} (of_using_rule name h r i e) = ap (supported_in k.flags.module) e ∙ rw r.1 refl
+
 part_supported : (n : ℕ) {k : Code} {x : Tree} {c d : Place} → PartRule (ReadsClass n) k x c d → supported_in k.flags.module x ≡ true
 part_supported n {k = k} (no_part_rule g e) = ap (supported_in k.flags.module) e
 part_supported n (part_rule r) = r.1
@@ -187,6 +194,12 @@ init_widens n (init_expression_rule h r) = heads.init_expression_rule h r.0
 left_widens : (n : ℕ) {k : Code} {x : Tree} {c d : Place} → LeftRule (ReadsClass n) (ReadsPat n) (ReadsTarget n) k x c d → heads.LeftRule (Reads n) k x c d
 left_widens n (declared_rule r) = heads.declared_rule (head_variables_widen n r)
 left_widens n (left_target_rule h r) = heads.target_rule h r.0
+
+of_left_widens : (n : ℕ) {w : Bool} {k : Code} {x : Tree} {c d : Place} → OfLeftRule (ReadsClass n) (ReadsPat n) (ReadsTarget n) k w x c d → heads.OfLeftRule (Reads n) k w x c d
+of_left_widens n (of_left_rule r i) = heads.of_left_rule (left_widens n r) i
+of_left_widens n {k = k} {c = c} {d = d} (of_using_rule name h r i e) =
+    let g = declares_in_head k c h in
+    heads.of_using_rule g.0 (heads.using_head_rule (tree.declarator (spanned (after c) d) name tree.absent) (record { name = name; begins = g.1; no_of = g.3; reads_name = r.0; is_name = i; is = refl }) e)
 
 part_widens : (n : ℕ) {k : Code} {x : Tree} {c d : Place} → PartRule (ReadsClass n) k x c d → heads.PartRule (Reads n) k x c d
 part_widens n (no_part_rule g e) = heads.no_part_rule g e
@@ -239,16 +252,19 @@ module _ (n : ℕ) (small : (k : Code) (at : Position) (x : Tree) (c d : Place) 
     else_supported {k = k} {x = x} {c = c} {d = d} (else_rule h i s) = small k sub_statement x (after c) d s
     else_supported (else_if_rule h r) = if_supported r
 
-  rule_supported : (k : Code) (at : Position) (x : Tree) (c d : Place) → StmtRule (ReadsStmt n) (ReadsClass n) (ReadsPat n) (ReadsTarget n) (ReadsParams n) (ReadsNamedClass n) k at x c d → supported_in k.flags.module x ≡ true
-  rule_supported k at x c d (class_rule name y a r b e) = ap (supported_in k.flags.module) e ∙ r.1
-  rule_supported k at x c d (function_rule a r) =
+  function_supported : {k : Code} {x : Tree} {c d : Place} → ReadsFunction (ReadsStmt n) (ReadsParams n) k x c d → supported_in k.flags.module x ≡ true
+  function_supported {k = k} r =
       ap (supported_in k.flags.module) r.is ∙ and_both _ _ refl
       (and_both (supported_in k.flags.module (parameters r.patterns)) _ (parameters_same k.flags.module r.patterns ∙ r.reads_parameters.1) (braced_supported true r.reads_body))
+
+  rule_supported : (k : Code) (at : Position) (x : Tree) (c d : Place) → StmtRule (ReadsStmt n) (ReadsClass n) (ReadsPat n) (ReadsTarget n) (ReadsParams n) (ReadsNamedClass n) k at x c d → supported_in k.flags.module x ≡ true
+  rule_supported k at x c d (class_rule name y a r b e) = ap (supported_in k.flags.module) e ∙ r.1
+  rule_supported k at x c d (function_rule a r) = function_supported r
   rule_supported k at x c d (block_rule r) = block_supported r
   rule_supported k at x c d (empty_rule h g e) = ap (supported_in k.flags.module) e
   rule_supported k at x c d (debugger_rule h g e) = ap (supported_in k.flags.module) e
   rule_supported k at x c d (variables_rule word xs m a h r g e) = ap (supported_in k.flags.module) e ∙ declarators_supported n (with_in k) false word xs (after c) m r
-  rule_supported k at x c d (using_rule xs a b r f e) = ap (supported_in k.flags.module) e ∙ declared_supported n k (spanned c d) xs (after c) d r f
+  rule_supported k at x c d (using_rule xs a b r f e) = ap (supported_in k.flags.module) e ∙ declared_supported n k (spanned c d) xs (after c) d r
   rule_supported k at x c d (if_statement_rule r) = if_supported r
   rule_supported k at x c d (switch_rule y xs m i h r j s g t e) = ap (supported_in k.flags.module) e ∙ and_both (supported_in k.flags.module y) _ r.reads.1 (cases_supported (in_breakable k) false xs (after m) i s)
   rule_supported k at x c d (labeled_rule w s y m r f h t e) =
@@ -260,9 +276,8 @@ module _ (n : ℕ) (small : (k : Code) (at : Position) (x : Tree) (c d : Place) 
       ap (supported_in k.flags.module) e ∙ and_both (supported_in k.flags.module a) _ (init_supported n r) (and_both (supported_in k.flags.module b) _ (part_supported n s) (and_both (supported_in k.flags.module f) _ (part_supported n t) (small (in_loop k) sub_statement y (after i) d u)))
   rule_supported k at x c d (for_in_rule a b y m i h g r j s o t e) =
       ap (supported_in k.flags.module) e ∙ and_both (supported_in k.flags.module a) _ (left_supported n r) (and_both (supported_in k.flags.module b) _ s.1 (small (in_loop k) sub_statement y (after i) d t))
-  rule_supported k at x c d (for_of_rule w a b y l m i h v g r j z q s o t e) =
-      ap (supported_in k.flags.module) e
-      ∙ and_both (not (w && is_bare_async a)) _ q (and_both (supported_in k.flags.module a) _ (left_supported n r) (and_both (supported_in k.flags.module b) _ s.1 (small (in_loop k) sub_statement y (after i) d t)))
+  rule_supported k at x c d (for_of_rule w a b y l m i h v g r j s o t e) =
+      ap (supported_in k.flags.module) e ∙ and_both (supported_in k.flags.module a) _ (of_left_supported n r) (and_both (supported_in k.flags.module b) _ s.1 (small (in_loop k) sub_statement y (after i) d t))
   rule_supported k at x c d (throw_rule y m h b r g e) = ap (supported_in k.flags.module) e ∙ r.1
   rule_supported k at x c d (try_rule y z w m i h r s t a e) = ap (supported_in k.flags.module) e ∙ and_both (supported_in k.flags.module y) _ (block_supported r) (and_both (supported_in k.flags.module z) _ (catch_supported s) (finally_supported t))
   rule_supported k at x c d (with_rule y z m h o r s e) = ap (supported_in k.flags.module) e ∙ and_both (supported_in k.flags.module y) _ r.reads.1 (small (in_with k) sub_statement z m d s)
@@ -271,9 +286,19 @@ module _ (n : ℕ) (small : (k : Code) (at : Position) (x : Tree) (c d : Place) 
   rule_supported k at x c d (expr_rule y m h r a b g e) = ap (supported_in k.flags.module) e ∙ r.1
   rule_supported k at x c d (import_rule y m h r g e) = ap (supported_in k.flags.module) e ∙ r.1
 
+  declared_supported_by : (k : Code) (at : Position) (x : Tree) (c d : Place) → DeclaredRule (ReadsStmt n) (ReadsParams n) (ReadsNamedClass n) k at x c d → supported_in k.flags.module x ≡ true
+  declared_supported_by k at x c d (declared_class name y a r b e) = ap (supported_in k.flags.module) e ∙ r.1
+  declared_supported_by k at x c d (declared_function a r) = function_supported r
+
+  statement_supported : (k : Code) (at : Position) (x : Tree) (c d : Place) → EitherRule (StmtRule (ReadsStmt n) (ReadsClass n) (ReadsPat n) (ReadsTarget n) (ReadsParams n) (ReadsNamedClass n) k at x c d)
+      (DecoratedRule (ReadsDecorators n) (ReadsDeclared n) k at x c d) → supported_in k.flags.module x ≡ true
+  statement_supported k at x c d (plain_statement r) = rule_supported k at x c d r
+  statement_supported k at x c d (decorated_statement r) = ap (supported_in k.flags.module) r.is
+      ∙ decorated_supported k.flags.module (span_at c) (r.first ∷ r.others) r.bare r.reads_decorators.1 (declared_supported_by k at r.bare r.middle d r.reads_bare)
+
 pub stmt_supported : (n : ℕ) (k : Code) (at : Position) (x : Tree) (c d : Place) → ReadsStmt n k at x c d → supported_in k.flags.module x ≡ true
 stmt_supported zero k at x c d h = absurd h
-stmt_supported (suc n) k at x c d h = rule_supported n (stmt_supported n) k at x c d h
+stmt_supported (suc n) k at x c d h = statement_supported n (stmt_supported n) k at x c d h
 
 -- what an expression is stands there
 pub stands_there : (n : ℕ) (k : Code) (x : Tree) (c d : Place) → Reads n (expr_goal expression k x c d) → is_absent x ≡ false
@@ -287,12 +312,6 @@ value_stands (suc n) k x c d h = expr_stands (Reads n) assignment k x c d h
 either_no : (a b : Bool) → a ≡ false → b ≡ false → (a || b) ≡ false
 either_no true b h g = cc
 either_no false b h g = g
-
--- what is no `async of` is none behind `for await`
-of_async : (w : Bool) (x : Tree) (d : Place) → is_async_of false x d ≡ false → is_async_of w x d ≡ false
-unfolding is_async_of
-of_async true x d h = refl
-of_async false x d h = h
 
 module _ (n : ℕ) (at : Position) (Item : Code → Tree → Place → Place → Type 0) (widen : (k : Code) (x : Tree) (c d : Place) → Item k x c d → Reads n (stmt_goal k at x c d)) where
   items_widen : (k : Code) (directives : Bool) (xs : List Tree) (c d : Place) → ReadsItems Item k directives xs c d → ItemsRule (Reads n) k directives at xs c d
@@ -371,9 +390,10 @@ module _ (n : ℕ) (widen : (k : Code) (at : Position) (x : Tree) (c d : Place) 
     else_widens {k = k} {x = x} {c = c} {d = d} (else_rule h i s) = statements.else_rule h i (inner k sub_statement x (after c) d refl s)
     else_widens (else_if_rule h r) = statements.else_if_rule h (if_widens r)
 
-  form_widens : (k : Code) (at : Position) (x : Tree) (c d : Place) → StmtRule (ReadsStmt n) (ReadsClass n) (ReadsPat n) (ReadsTarget n) (ReadsParams n) (ReadsNamedClass n) k at x c d → statements.FormRule (Reads n) k at x c d
-  form_widens k at x c d (class_rule name y a r b e) = statements.class_rule (listed []) name y c a (classes.no_decorators refl refl) r.0 b e
-  form_widens k at x c d (function_rule a r) = statements.function_rule (listed []) _ _ c (classes.no_decorators refl refl) a (record {
+  -- a function, with whatever decorators stand before it
+  function_widens : (k : Code) (ds x : Tree) (c d : Place) (r : ReadsFunction (ReadsStmt n) (ReadsParams n) k x c d)
+      → functions.FunctionRule (Reads n) false k ds (tree.ident r.name_span (word_text r.name)) (tree.function (spanned c d) ds (parameters r.patterns) r.body r.is_async r.is_generator) c d
+  function_widens k ds x c d r = record {
     is_async = r.is_async;
     is_generator = r.is_generator;
     patterns = r.patterns;
@@ -387,7 +407,11 @@ module _ (n : ℕ) (widen : (k : Code) (at : Position) (x : Tree) (c d : Place) 
     reads_name = parts.a_name (word_text r.name) r.name_span (record { word = r.name; reads_word = r.reads_name; is_text = refl; is_name = name_is_clean k.flags (word_text r.name) r.is_named }) refl;
     reads_parts = record { middle = r.middle; reads_parameters = r.reads_parameters.0; reads_body = braced_widens true r.reads_body };
     is = refl;
-  }) refl r.is
+  }
+
+  form_widens : (k : Code) (at : Position) (x : Tree) (c d : Place) → StmtRule (ReadsStmt n) (ReadsClass n) (ReadsPat n) (ReadsTarget n) (ReadsParams n) (ReadsNamedClass n) k at x c d → statements.FormRule (Reads n) k at x c d
+  form_widens k at x c d (class_rule name y a r b e) = statements.class_rule (listed []) name y c a (classes.no_decorators refl refl) r.0 b e
+  form_widens k at x c d (function_rule a r) = statements.function_rule (listed []) _ _ c (classes.no_decorators refl refl) a (function_widens k (listed []) x c d r) refl r.is
   form_widens k at x c d (block_rule r) = statements.block_rule (block_widens r)
   form_widens k at x c d (empty_rule h g e) = statements.empty_rule h g e
   form_widens k at x c d (debugger_rule h g e) = statements.debugger_rule h g e
@@ -406,8 +430,8 @@ module _ (n : ℕ) (widen : (k : Code) (at : Position) (x : Tree) (c d : Place) 
       statements.for_rule a b f y l m i h g (init_widens n r) j (part_widens n s) o (part_widens n t) p (inner (in_loop k) sub_statement y (after i) d refl u) e
   form_widens k at x c d (for_in_rule a b y m i h g r j s o t e) =
       statements.for_in_rule a b y m i h g (left_widens n r) j s.0 o (inner (in_loop k) sub_statement y (after i) d refl t) e
-  form_widens k at x c d (for_of_rule w a b y l m i h v g r j z q s o t e) =
-      statements.for_of_rule w a b y l m i h v g (heads.of_left_rule (left_widens n r) (of_async w a m z)) j s.0 o (inner (in_loop k) sub_statement y (after i) d refl t) e
+  form_widens k at x c d (for_of_rule w a b y l m i h v g r j s o t e) =
+      statements.for_of_rule w a b y l m i h v g (of_left_widens n r) j s.0 o (inner (in_loop k) sub_statement y (after i) d refl t) e
   form_widens k at x c d (throw_rule y m h b r g e) = statements.throw_rule y m h b r.0 g e
   form_widens k at x c d (try_rule y z w m i h r s t a e) = statements.try_rule y z w m i h (block_widens r) (catch_widens s) (finally_widens t) a e
   form_widens k at x c d (with_rule y z m h o r s e) = statements.with_rule y z m h (head_widens r) (inner (in_with k) sub_statement z m d refl s) e
@@ -416,9 +440,41 @@ module _ (n : ℕ) (widen : (k : Code) (at : Position) (x : Tree) (c d : Place) 
   form_widens k at x c d (expr_rule y m h r a b g e) = statements.expr_rule y m h r.0 a g e
   form_widens k at x c d (import_rule y m h r g e) = statements.import_expr_rule y m h r.0 g e
 
+  -- a class or a function behind decorators
+  decorated_widens : (k : Code) (at : Position) (x : Tree) (c d : Place) → DecoratedRule (ReadsDecorators n) (ReadsDeclared n) k at x c d → statements.FormRule (Reads n) k at x c d
+  unfolding spanned
+  decorated_widens k at x c d r = by_kind r.bare r.reads_bare r.is
+    where
+      ds : List Tree
+      ds = r.first ∷ r.others
+
+      by_kind : (y : Tree) → ReadsDeclared n k at y r.middle d → x ≡ decorated_by (span_at c) ds y → statements.FormRule (Reads n) k at x c d
+      by_kind y (declared_class name z a (q, h) b e) i = statements.class_rule (listed ds) name (tree.class (spanned c d) (listed ds) (listed q.members) q.heritage) r.middle a r.reads_decorators.0 (record {
+        heritage = q.heritage;
+        members = q.members;
+        behind_name = q.behind_name;
+        opening = q.opening;
+        close = q.close;
+        is_class = q.is_class;
+        reads_name = q.reads_name;
+        reads_heritage = q.reads_heritage;
+        opens = q.opens;
+        reads_members = q.reads_members;
+        closes = q.closes;
+        next = q.next;
+        is = refl;
+      }) b (i ∙ ap (decorated_by (span_at c) ds) (e ∙ ap (tree.class_decl name) q.is))
+      by_kind y (declared_function a q) i = statements.function_rule (listed ds) _ _ r.middle r.reads_decorators.0 a (function_widens k (listed ds) y r.middle d q) refl
+          (i ∙ ap (decorated_by (span_at c) ds) q.is)
+
+  either_widens : (k : Code) (at : Position) (x : Tree) (c d : Place) → EitherRule (StmtRule (ReadsStmt n) (ReadsClass n) (ReadsPat n) (ReadsTarget n) (ReadsParams n) (ReadsNamedClass n) k at x c d)
+      (DecoratedRule (ReadsDecorators n) (ReadsDeclared n) k at x c d) → statements.FormRule (Reads n) k at x c d
+  either_widens k at x c d (plain_statement r) = form_widens k at x c d r
+  either_widens k at x c d (decorated_statement r) = decorated_widens k at x c d r
+
 pub stmt_widens : (n : ℕ) (k : Code) (at : Position) (x : Tree) (c d : Place) → may_begin_at_top k at c ≡ true → ReadsStmt n k at x c d → Reads n (stmt_goal k at x c d)
 stmt_widens zero k at x c d b h = absurd h
-stmt_widens (suc n) k at x c d b h = (b, form_widens n (stmt_widens n) k at x c d h)
+stmt_widens (suc n) k at x c d b h = (b, either_widens n (stmt_widens n) k at x c d h)
 
 -- one that stands in no other
 pub top_widens : (n : ℕ) (k : Code) (at : Position) (x : Tree) (c d : Place) → ReadsTop n k at x c d → Reads n (stmt_goal k at x c d)

@@ -145,6 +145,10 @@ is_bare_async _ = false
 unfoldable pub is_async_of : (is_await : Bool) → Tree → Place → Bool
 is_async_of is_await left d = not is_await && (is_bare_async left && not (breaks_at d))
 
+-- Behind `for await (` the name `async` stands alone before `of` on its line, where no `=>` follows.
+unfoldable pub begins_async_of : Place → Bool
+begins_async_of c = word_at (codes "async") c && (word_at (codes "of") (after c) && (not (breaks_at (after c)) && not (sees kind.Arrow (after (after c)))))
+
 -- `import(` and `import.` begin an expression, also a statement's
 unfoldable pub begins_import_expression : Place → Bool
 begins_import_expression c = sees kind.Import c && (sees kind.LParen (after c) || sees kind.Dot (after c))

@@ -5,6 +5,7 @@ pub mod Follows
 pub mod Variables
 pub mod Parameters
 pub mod Reads
+pub mod Decorated
 pub mod Entries
 pub mod Depth
 pub mod Notes

@@ -1,5 +1,5 @@
 -- What the rules of the first statements are made of. Their expressions and patterns are those of the whole language.
-use Rattle.std.specs.Prelude.{◌≡◌, Bool, true, false, ◌&&◌, ◌||◌, if◌then◌else◌, List, [], ◌∷◌, codes, not}
+use Rattle.std.specs.Prelude.{◌≡◌, Bool, true, false, ◌&&◌, ◌||◌, if◌then◌else◌, List, [], ◌∷◌, codes}
 use Rattle.swc_ecma_parser_common.specs.declared.span.Span.{Span}
 use Rattle.swc_ecma_parser_token.specs.declared.kind.TokenKind.TheVariants as kind
 use Rattle.swc_ecma_parser_token.specs.declared.token.Token.{Token}
@@ -11,19 +11,19 @@ use Rattle.swc_ecma_parser_input.specs.Place.{Place, after}
 use Rattle.swc_ecma_parser_model.specs.declared.leaves.VarDeclKind.{VarDeclKind}
 use Rattle.swc_ecma_parser_model.specs.declared.leaves.VarDeclKind.TheVariants as decl
 use Rattle.swc_ecma_parser_model.specs.Tree as tree
-use Rattle.swc_ecma_parser_model.specs.Tree.{Tree, Text, listed}
+use Rattle.swc_ecma_parser_model.specs.Tree.{Tree, listed}
 use Rattle.swc_ecma_parser_model.specs.Directive.{is_use_strict}
-use Rattle.swc_ecma_parser_model.specs.Forms.{is_absent, is_ident, is_ident_named, has_plain_params}
+use Rattle.swc_ecma_parser_model.specs.Forms.{is_absent, is_binding_name, is_ident, is_ident_named, has_plain_params}
 use Rattle.swc_ecma_parser_grammar.specs.declared.position.Position.{Position}
 use Rattle.swc_ecma_parser_grammar.specs.Looks.{kind_at, breaks_at, sees, spanned}
 use Rattle.swc_ecma_parser_grammar.specs.Names.{Code, is_name}
 use Rattle.swc_ecma_parser_grammar.specs.Ends.{Ends, OptionalEnds, ends_at}
-use Rattle.swc_ecma_parser_grammar.specs.Follows.{word_at, may_begin_expression_statement, begins_import_expression, may_begin_head, is_bare_async, is_async_of, AwaitWord, AsyncWord, Star, is_async_function}
+use Rattle.swc_ecma_parser_grammar.specs.Follows.{word_at, may_begin_expression_statement, begins_import_expression, may_begin_head, is_async_of, AwaitWord, AsyncWord, Star, is_async_function}
 use Rattle.swc_ecma_parser_grammar.specs.Variables.{begins_variables, is_var, needs_no_initializer}
 use Rattle.swc_ecma_parser_grammar.specs.language.Goals.{Class, expression, assignment}
 use Rattle.swc_ecma_parser_grammar.specs.language.Contexts.{named_by, in_parameters, in_body, in_loop, in_breakable, in_with, without_in}
 use Rattle.swc_ecma_parser_grammar.specs.Own.{misplaced_directive}
-use Rattle.swc_ecma_parser_grammar.specs.Using.{is_using_declaration, using_faults}
+use Rattle.swc_ecma_parser_grammar.specs.Using.{is_using_declaration, may_declare_using, using_faults}
 use Rattle.swc_ecma_parser_grammar.specs.Parameters.{parameters}
 use Rattle.swc_ecma_parser_grammar.specs.language.Items.{sub_statement, labelled_item}
 
@@ -200,6 +200,13 @@ pub data LeftRule (Expr : Class → Code → Tree → Place → Place → Type 0
   declared_rule : HeadVariables Expr Pat k x c d → LeftRule Expr Pat Target k x c d
   left_target_rule : may_begin_head c ≡ true → Target (without_in k) x c d → LeftRule Expr Pat Target k x c d
 
+-- What stands before `of`: such variables or such a target, but not `async` on its line unless behind `for await`; or, with the setting,
+-- `using` and a plain name that is not `of`.
+pub data OfLeftRule (Expr : Class → Code → Tree → Place → Place → Type 0) (Pat Target : Code → Tree → Place → Place → Type 0) (k : Code) (is_await : Bool) (x : Tree) (c d : Place) : Type 0 where
+  of_left_rule : LeftRule Expr Pat Target k x c d → is_async_of is_await x d ≡ false → OfLeftRule Expr Pat Target k is_await x c d
+  of_using_rule : (name : Tree) → may_declare_using k c ≡ true → Pat k name (after c) d → is_binding_name name ≡ true
+      → x ≡ tree.using (spanned c d) false (listed (tree.declarator (spanned (after c) d) name tree.absent ∷ [])) → OfLeftRule Expr Pat Target k is_await x c d
+
 -- the second part and the third
 pub data PartRule (Expr : Class → Code → Tree → Place → Place → Type 0) (k : Code) (x : Tree) (c d : Place) : Type 0 where
   no_part_rule : d ≡ c → x ≡ tree.absent → PartRule Expr k x c d
@@ -285,7 +292,7 @@ pub data StmtRule (Stmt : Code → Position → Tree → Place → Place → Typ
       → Expr expression (with_in k) right (after m) n → kind_at n ≡ kind.RParen → Stmt (in_loop k) sub_statement y (after n) d → x ≡ tree.for_in (spanned c d) left right y
       → StmtRule Stmt Expr Pat Target Params Named k at x c d
   for_of_rule : (is_await : Bool) (left right y : Tree) (l m n : Place) → kind_at c ≡ kind.For → AwaitWord is_await (after c) l → kind_at l ≡ kind.LParen
-      → LeftRule Expr Pat Target k left (after l) m → word_at (codes "of") m ≡ true → is_async_of false left m ≡ false → not (is_await && is_bare_async left) ≡ true
+      → OfLeftRule Expr Pat Target k is_await left (after l) m → word_at (codes "of") m ≡ true
       → Expr assignment (with_in k) right (after m) n → kind_at n ≡ kind.RParen → Stmt (in_loop k) sub_statement y (after n) d
       → x ≡ tree.for_of (spanned c d) is_await left right y → StmtRule Stmt Expr Pat Target Params Named k at x c d
   -- section 14.5. A bare name before `:` is a label; in module code the bare name `interface` is none.

@@ -4,9 +4,6 @@ use Rattle.swc_ecma_parser_error.specs.Kind.{Fault}
 use Rattle.swc_ecma_parser_model.specs.Tree as tree
 use Rattle.swc_ecma_parser_model.specs.Tree.{Tree, Trees, none, also}
 use Rattle.swc_ecma_parser_model.specs.Forms.{has_plain_params, is_plain_param}
-use Rattle.swc_ecma_parser_model.specs.Kinds.{is_function}
-use Rattle.swc_ecma_parser_model.specs.Within.{is_initialized}
-use Rattle.swc_ecma_parser_grammar.specs.Follows.{is_bare_async}
 use Rattle.swc_ecma_parser_grammar.specs.Notes.{notes}
 use Rattle.swc_ecma_parser_grammar.specs.Own.{misplaced_directive}
 use Rattle.swc_ecma_parser_grammar.specs.language.Parts.{is_private}
@@ -19,15 +16,6 @@ has_none _ = false
 abbrev pub is_clean : List Fault → Bool
 is_clean [] = true
 is_clean (f ∷ fs) = false
-
--- each variable has an initializer
-abbrev pub all_initialized : Trees → Bool
-all_initialized none = true
-all_initialized (also x xs) = is_initialized x && all_initialized xs
-
-abbrev pub are_initialized : Tree → Bool
-are_initialized (tree.list xs) = all_initialized xs
-are_initialized _ = false
 
 -- no fault of module code alone is in it
 abbrev pub has_no_note : Tree → Bool
@@ -101,17 +89,17 @@ abbrev mutual
   -- `var`, `let` and `const`, with initializers or without: sections 14.3.2 and 14.3.1
   supported_in m (tree.var s word ds) = supported_in m ds
   supported_in m (tree.declarator s name init) = supported_in m name && supported_in m init
-  -- `using`, but in the head of a loop, and not behind `await`: the proposal on explicit resource management
-  supported_in m (tree.using s is_await ds) = not is_await && (are_initialized ds && supported_in m ds)
+  -- `using`, but not behind `await`: the proposal on explicit resource management
+  supported_in m (tree.using s is_await ds) = not is_await && supported_in m ds
   -- blocks, empty statements, `debugger` and expression statements: sections 14.2, 14.4, 14.16 and 14.5
   supported_in m (tree.block s stmts) = supported_in m stmts
   supported_in m (tree.empty s) = true
   supported_in m (tree.debugger s) = true
   supported_in m (tree.expr_stmt s e) = supported_in m e
-  -- `for` of three parts, with `in` and with `of`, but for `async` alone behind `for await`: sections 14.7.4 and 14.7.5
+  -- `for` of three parts, with `in` and with `of`: sections 14.7.4 and 14.7.5
   supported_in m (tree.for s init test next body) = supported_in m init && (supported_in m test && (supported_in m next && supported_in m body))
   supported_in m (tree.for_in s left right body) = supported_in m left && (supported_in m right && supported_in m body)
-  supported_in m (tree.for_of s is_await left right body) = not (is_await && is_bare_async left) && (supported_in m left && (supported_in m right && supported_in m body))
+  supported_in m (tree.for_of s is_await left right body) = supported_in m left && (supported_in m right && supported_in m body)
   -- `if`, `switch`, `throw`, `try`, `while` and `do`: sections 14.6, 14.12, 14.14, 14.15, 14.7.3 and 14.7.2
   supported_in m (tree.if_stmt s test cons alt) = supported_in m test && (supported_in m cons && supported_in m alt)
   supported_in m (tree.switch s discriminant cases) = supported_in m discriminant && supported_in m cases
@@ -131,7 +119,7 @@ abbrev mutual
   supported_in m (tree.return s arg) = supported_in m arg
   -- functions that are declared: sections 15.2, 15.5, 15.6 and 15.8
   supported_in m (tree.fn_decl name fn) = supported_in m name && supported_in m fn
-  supported_in m (tree.function s decorators params body is_async is_generator) = has_none decorators && (supported_in m params && supported_in m body)
+  supported_in m (tree.function s decorators params body is_async is_generator) = supported_in m decorators && (supported_in m params && supported_in m body)
   supported_in m (tree.param s decorators p) = has_none decorators && supported_in m p
   -- Such functions as expressions, whose body does not turn parameters strict that are not all plain names. In module code nothing
   -- in them is a fault of it: section 15.2
@@ -140,23 +128,28 @@ abbrev mutual
   supported_in m (tree.arrow s params body is_async) = (supported_in m params && supported_in m body) && (is_rightly_headed params body && (not m || has_no_note body))
   -- one decorator: the proposal of decorators
   supported_in m (tree.decorator s e) = supported_in m e
-  -- Classes without decorators, declared or as expressions: section 15.7. In module code nothing in the functions and static blocks
-  -- of their members is a fault of it.
+  -- Classes, declared or as expressions: section 15.7. In module code nothing in the functions and static blocks of their members
+  -- is a fault of it.
   supported_in m (tree.class_expr s name body) = supported_in m name && supported_in m body
   supported_in m (tree.class_decl name body) = supported_in m name && supported_in m body
-  supported_in m (tree.class s decorators body super_class) = has_none decorators && (supported_in m super_class && supported_in m body)
+  supported_in m (tree.class s decorators body super_class) = supported_in m decorators && (supported_in m super_class && supported_in m body)
   supported_in m (tree.constructor s key params body) = is_supported_key_in m key && ((supported_in m params && supported_in m body) && (not m || (has_no_note params && has_no_note body)))
-  supported_in m (tree.method s key fn kind is_static) = is_supported_key_in m key && (is_function fn && (supported_in m fn && (not m || has_no_note fn)))
-  supported_in m (tree.private_method s key fn kind is_static) = is_supported_property_in m key && (is_function fn && (supported_in m fn && (not m || has_no_note fn)))
-  supported_in m (tree.class_prop s key value is_static decorators) = has_none decorators && (is_supported_key_in m key && supported_in m value)
-  supported_in m (tree.private_prop s key value is_static decorators) = has_none decorators && (is_supported_property_in m key && supported_in m value)
+  supported_in m (tree.method s key fn kind is_static) = is_supported_key_in m key && (is_supported_method_in m fn && (not m || has_no_note fn))
+  supported_in m (tree.private_method s key fn kind is_static) = is_supported_property_in m key && (is_supported_method_in m fn && (not m || has_no_note fn))
+  supported_in m (tree.class_prop s key value is_static decorators) = supported_in m decorators && (is_supported_key_in m key && supported_in m value)
+  supported_in m (tree.private_prop s key value is_static decorators) = supported_in m decorators && (is_supported_property_in m key && supported_in m value)
   -- fields with a getter and a setter, private or not: the proposal of auto-accessors
-  supported_in m (tree.auto_accessor s key value is_static decorators) = has_none decorators && ((is_supported_key_in m key || is_private key) && supported_in m value)
+  supported_in m (tree.auto_accessor s key value is_static decorators) = supported_in m decorators && ((is_supported_key_in m key || is_private key) && supported_in m value)
   supported_in m (tree.static_block s body) = supported_in m body && (not m || has_no_note body)
   supported_in m (tree.empty_member s) = true
   -- section 16.1
   supported_in m (tree.script s body shebang) = supported_in m body
   supported_in m _ = false
+
+  -- the function of a method, which has the decorators of the method
+  pub is_supported_method_in : (in_module : Bool) → Tree → Bool
+  is_supported_method_in m (tree.function s decorators params body is_async is_generator) = supported_in m decorators && (supported_in m params && supported_in m body)
+  is_supported_method_in m _ = false
 
   -- any word, a private name, or an expression in brackets
   pub is_supported_property_in : (in_module : Bool) → Tree → Bool

@@ -26,6 +26,7 @@ read n reading.Head = rules.head_cover n
 read n reading.Class = rules.function n class_form >>= λ x. pure (exprs.done x)
 read n reading.Decorated = decorated_in n >>= λ x. pure (exprs.done x)
 read n reading.Object = rules.object_alone n >>= λ x. pure (exprs.done x)
+read n (reading.Behind start) = rules.head_behind n start
 
 -- a key by itself, whatever reads what stands further in
 abbrev pub bare : Tree → Reader exprs.Cover

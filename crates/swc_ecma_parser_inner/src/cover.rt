@@ -58,6 +58,8 @@ pub enum Reading {
     Decorated,
     /// An object alone, whatever stands behind it.
     Object,
+    /// What the head of a loop begins with, from behind `async` on, which begins there, before a name on its line.
+    Behind(Span),
 }
 
 /// An expression, which stays one.

@@ -3,6 +3,7 @@
 #![tactic(auto)]
 
 pub mod cover;
+pub mod found;
 pub mod grammar;
 pub mod keys;
 pub mod steps;

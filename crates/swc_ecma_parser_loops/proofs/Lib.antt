@@ -1,3 +1,4 @@
+pub mod AsyncHead
 mod Awaited
 mod Flags
 mod Misdeclared

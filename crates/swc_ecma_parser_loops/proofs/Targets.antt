@@ -1,6 +1,5 @@
 -- What is assigned to declares nothing.
-use Rattle.std.proofs.Common.{◌≡◌, Bool, List, [], Some, Ok, refl, ap, ◌∙◌}
-use Rattle.swc_ecma_parser_error.specs.Kind.{Fault}
+use Rattle.std.proofs.Common.{◌≡◌, Bool, [], Some, Ok, refl, ap, ◌∙◌}
 use Rattle.swc_ecma_parser_model.specs.Tree as tree
 use Rattle.swc_ecma_parser_model.specs.Tree.{Tree}
 use Rattle.swc_ecma_parser_model.specs.Targets.{leaf, as_target, as_elements, as_properties}

@@ -4,7 +4,7 @@ ghost use Rattle.std.specs.Prelude.{◌≡◌};
 ghost use Rattle.swc_ecma_parser_grammar.specs.language.Goals.{expression};
 ghost use Rattle.swc_ecma_parser_grammar.specs.language.Items.{sub_statement};
 ghost use Rattle.swc_ecma_parser_inner.specs.Nests.{Nests};
-ghost use Rattle.swc_ecma_parser_loops.specs.Openings.{opening_of};
+ghost use Rattle.swc_ecma_parser_loops.specs.Openings.{opening_of, IsBare};
 ghost use Rattle.swc_ecma_parser_reader.specs.Reader as rules;
 ghost use Rattle.swc_ecma_parser_reader.specs.State.{Gives, GivesAs, pure};
 ghost use Rattle.swc_ecma_parser_trees.specs.Parts.{part_of};
@@ -53,10 +53,10 @@ fn for_parts<
     t: &MakerOf<T>,
     p: &mut P,
     start: Span,
-    first: Opening<T::Declarator, T::Expr>,
+    first: Opening<T::Declarator, T::Expr, T::Pat>,
 ) -> PResult<T::Stmt>
     requires { Nests P.seen T.expr_of T.pat_of T.stmt_of g.now.depth (S.pre g.now.stmt) (S.post g.now.stmt) (E.pre g.now.expr) (E.post g.now.expr) (N.pre g.now.pat) (N.post g.now.pat) }
-    ensures { GivesAs T.stmt_of (rules.for_parts (rules.stmt g.now.depth sub_statement) (rules.expr g.now.depth) start (opening_of T.declarator_of T.expr_of first) (P.seen p.old)) result (P.seen p.new) }
+    ensures { GivesAs T.stmt_of (rules.for_parts (rules.stmt g.now.depth sub_statement) (rules.expr g.now.depth) start (opening_of T.declarator_of T.expr_of T.pat_of first) (P.seen p.old)) result (P.seen p.new) }
 {
     let init = as_init(t, p, first)?;
     p.expect(TokenKind::Semi, ";")?;
@@ -82,12 +82,13 @@ fn for_in<
     t: &MakerOf<T>,
     p: &mut P,
     start: Span,
-    first: Opening<T::Declarator, T::Expr>,
+    first: Opening<T::Declarator, T::Expr, T::Pat>,
 ) -> PResult<T::Stmt>
-    requires { Nests P.seen T.expr_of T.pat_of T.stmt_of g.now.depth (S.pre g.now.stmt) (S.post g.now.stmt) (E.pre g.now.expr) (E.post g.now.expr) (N.pre g.now.pat) (N.post g.now.pat) }
-    ensures { GivesAs T.stmt_of (rules.for_in (rules.stmt g.now.depth sub_statement) (rules.expr g.now.depth) start (opening_of T.declarator_of T.expr_of first) (P.seen p.old)) result (P.seen p.new) }
+    requires readers { Nests P.seen T.expr_of T.pat_of T.stmt_of g.now.depth (S.pre g.now.stmt) (S.post g.now.stmt) (E.pre g.now.expr) (E.post g.now.expr) (N.pre g.now.pat) (N.post g.now.pat) }
+    requires bare { IsBare T.pat_of first }
+    ensures { GivesAs T.stmt_of (rules.for_in (rules.stmt g.now.depth sub_statement) (rules.expr g.now.depth) start (opening_of T.declarator_of T.expr_of T.pat_of first) (P.seen p.old)) result (P.seen p.new) }
 {
-    let left = as_left(t, p, false, first)?;
+    let left = as_left(t, p, first)?;
     let refused = p.flags().strict;
     misdeclared::<P, T>(p, refused, &left)?;
     p.skip()?;
@@ -113,12 +114,13 @@ fn for_of<
     p: &mut P,
     is_await: bool,
     start: Span,
-    first: Opening<T::Declarator, T::Expr>,
+    first: Opening<T::Declarator, T::Expr, T::Pat>,
 ) -> PResult<T::Stmt>
-    requires { Nests P.seen T.expr_of T.pat_of T.stmt_of g.now.depth (S.pre g.now.stmt) (S.post g.now.stmt) (E.pre g.now.expr) (E.post g.now.expr) (N.pre g.now.pat) (N.post g.now.pat) }
-    ensures { GivesAs T.stmt_of (rules.for_of (rules.stmt g.now.depth sub_statement) (rules.expr g.now.depth) is_await start (opening_of T.declarator_of T.expr_of first) (P.seen p.old)) result (P.seen p.new) }
+    requires readers { Nests P.seen T.expr_of T.pat_of T.stmt_of g.now.depth (S.pre g.now.stmt) (S.post g.now.stmt) (E.pre g.now.expr) (E.post g.now.expr) (N.pre g.now.pat) (N.post g.now.pat) }
+    requires bare { IsBare T.pat_of first }
+    ensures { GivesAs T.stmt_of (rules.for_of (rules.stmt g.now.depth sub_statement) (rules.expr g.now.depth) is_await start (opening_of T.declarator_of T.expr_of T.pat_of first) (P.seen p.old)) result (P.seen p.new) }
 {
-    let left = as_left(t, p, is_await, first)?;
+    let left = as_left(t, p, first)?;
     misdeclared::<P, T>(p, true, &left)?;
     p.skip()?;
     let right = inside(g, t, p, Class::Assignment)?;
@@ -170,10 +172,11 @@ fn for_behind<
     p: &mut P,
     start: Span,
     word: Option<Span>,
-    first: Opening<T::Declarator, T::Expr>,
+    first: Opening<T::Declarator, T::Expr, T::Pat>,
 ) -> PResult<T::Stmt>
-    requires { Nests P.seen T.expr_of T.pat_of T.stmt_of g.now.depth (S.pre g.now.stmt) (S.post g.now.stmt) (E.pre g.now.expr) (E.post g.now.expr) (N.pre g.now.pat) (N.post g.now.pat) }
-    ensures { GivesAs T.stmt_of (rules.for_behind (rules.stmt g.now.depth sub_statement) (rules.expr g.now.depth) start word (opening_of T.declarator_of T.expr_of first) (P.seen p.old)) result (P.seen p.new) }
+    requires readers { Nests P.seen T.expr_of T.pat_of T.stmt_of g.now.depth (S.pre g.now.stmt) (S.post g.now.stmt) (E.pre g.now.expr) (E.post g.now.expr) (N.pre g.now.pat) (N.post g.now.pat) }
+    requires bare { IsBare T.pat_of first }
+    ensures { GivesAs T.stmt_of (rules.for_behind (rules.stmt g.now.depth sub_statement) (rules.expr g.now.depth) start word (opening_of T.declarator_of T.expr_of T.pat_of first) (P.seen p.old)) result (P.seen p.new) }
 {
     if p.sees(TokenKind::In) {
         let stmt = for_in(g, t, p, start, first)?;
@@ -202,6 +205,6 @@ pub fn for_stmt<
     p.skip()?;
     let word = await_here(p)?;
     p.expect(TokenKind::LParen, "(")?;
-    let first = head_opening(g, t, p)?;
+    let first = head_opening(g, t, p, word.is_some())?;
     for_behind(g, t, p, start, word, first)
 }

@@ -1,15 +1,19 @@
 //! What the head of a `for` begins with: ECMA-262, sections 14.7.4 and 14.7.5.
 
-ghost use Rattle.std.specs.Prelude.{◌≡◌, ◌&&◌, false, map, IfOk, IfErr};
+ghost use Rattle.std.specs.Prelude.{◌≡◌, ◌&&◌, Bool, true, false, [], map, codes, IfOk, IfErr};
 ghost use Rattle.swc_ecma_parser_error.specs.Kind as kinds;
 ghost use Rattle.swc_ecma_parser_error.specs.Kind.{IsOutOfMemory};
+ghost use Rattle.swc_ecma_parser_grammar.specs.Follows as follows;
+ghost use Rattle.swc_ecma_parser_grammar.specs.Looks as looks;
 ghost use Rattle.swc_ecma_parser_grammar.specs.Own as own;
 ghost use Rattle.swc_ecma_parser_inner.specs.Nests.{Nests};
 ghost use Rattle.swc_ecma_parser_loops.specs.Flags as flags_of;
-ghost use Rattle.swc_ecma_parser_loops.specs.Openings.{declared_of, opening_of, left_of, IsTarget};
+ghost use Rattle.swc_ecma_parser_input.specs.Place as place;
+ghost use Rattle.swc_ecma_parser_loops.specs.Openings.{declared_of, opening_of, left_of, IsTarget, IsBare};
 ghost use Rattle.swc_ecma_parser_model.specs.Forms as forms;
 ghost use Rattle.swc_ecma_parser_model.specs.Tree.{trees};
 ghost use Rattle.swc_ecma_parser_model.specs.Within as within;
+ghost use Rattle.swc_ecma_parser_reader.specs.HeadWords as words;
 ghost use Rattle.swc_ecma_parser_reader.specs.Reader as rules;
 ghost use Rattle.swc_ecma_parser_reader.specs.State.{Gives, GivesAs};
 ghost use Rattle.swc_ecma_parser_trees.specs.Parts.{part_of};
@@ -19,7 +23,7 @@ use swc_ecma_parser_error::{PResult, SyntaxError};
 use swc_ecma_parser_grammar::Position;
 use swc_ecma_parser_inner::cover::{Cover, Reading, close, target};
 use swc_ecma_parser_inner::grammar::{Grammar, Part};
-use swc_ecma_parser_inner::steps::{grown, since, with_in};
+use swc_ecma_parser_inner::steps::{grown, pushed, since, with_in};
 use swc_ecma_parser_input::Context;
 use swc_ecma_parser_model::VarDeclKind;
 use swc_ecma_parser_source::{Source, Wanted};
@@ -35,12 +39,22 @@ pub struct Declared<D> {
     pub found: Vec<D>,
 }
 
+/// What a head declares with `using`.
+#[derive(Drop)]
+pub struct Resources<D> {
+    pub span: Span,
+    pub found: Vec<D>,
+}
+
 /// What a head begins with.
 #[derive(Drop)]
-pub enum Opening<D, X> {
+pub enum Opening<D, X, N> {
     /// Nothing: a `;` stands first.
     Nothing,
     Variables(Declared<D>),
+    Resources(Resources<D>),
+    /// A name before another.
+    Named(N),
     /// An expression that may still become a target.
     Expression(Cover<X>),
 }
@@ -49,6 +63,7 @@ pub enum Opening<D, X> {
 #[derive(Drop)]
 pub enum Left<D, N> {
     Variables(Declared<D>),
+    Resources(Resources<D>),
     Pattern(N),
 }
 
@@ -85,9 +100,10 @@ fn head_variables<
     t: &MakerOf<T>,
     p: &mut P,
     word: VarDeclKind,
-) -> PResult<Opening<T::Declarator, T::Expr>>
+) -> PResult<Opening<T::Declarator, T::Expr, T::Pat>>
     requires { Nests P.seen T.expr_of T.pat_of T.stmt_of g.now.depth (S.pre g.now.stmt) (S.post g.now.stmt) (E.pre g.now.expr) (E.post g.now.expr) (N.pre g.now.pat) (N.post g.now.pat) }
-    ensures { GivesAs (opening_of T.declarator_of T.expr_of) (rules.head_variables (rules.expr g.now.depth) (rules.pattern g.now.depth) word (P.seen p.old)) result (P.seen p.new) }
+    ensures gives { GivesAs (opening_of T.declarator_of T.expr_of T.pat_of) (rules.head_variables (rules.expr g.now.depth) (rules.pattern g.now.depth) word (P.seen p.old)) result (P.seen p.new) }
+    ensures bare { IfOk result (λ o. IsBare T.pat_of o) }
 {
     let start = p.span();
     p.skip()?;
@@ -107,15 +123,165 @@ fn head_expression<
     S: Fn(&MakerOf<T>, &mut P, usize, Position) -> PResult<T::Stmt>,
     E: Fn(&MakerOf<T>, &mut P, usize, Reading) -> PResult<Cover<T::Expr>>,
     N: Fn(&MakerOf<T>, &mut P, usize, Part) -> PResult<T::Pat>,
->(g: &Grammar<S, E, N>, t: &MakerOf<T>, p: &mut P) -> PResult<Opening<T::Declarator, T::Expr>>
+>(
+    g: &Grammar<S, E, N>,
+    t: &MakerOf<T>,
+    p: &mut P,
+) -> PResult<Opening<T::Declarator, T::Expr, T::Pat>>
     requires { Nests P.seen T.expr_of T.pat_of T.stmt_of g.now.depth (S.pre g.now.stmt) (S.post g.now.stmt) (E.pre g.now.expr) (E.post g.now.expr) (N.pre g.now.pat) (N.post g.now.pat) }
-    ensures { GivesAs (opening_of T.declarator_of T.expr_of) (rules.head_expression (rules.expr g.now.depth) (rules.pattern g.now.depth) (rules.head_cover g.now.depth) (P.seen p.old)) result (P.seen p.new) }
+    ensures gives { GivesAs (opening_of T.declarator_of T.expr_of T.pat_of) (rules.head_expression (rules.expr g.now.depth) (rules.pattern g.now.depth) (rules.head_cover g.now.depth) (P.seen p.old)) result (P.seen p.new) }
+    ensures bare { IfOk result (λ o. IsBare T.pat_of o) }
 {
     let outer = p.flags();
     p.set_flags(without_in(outer));
     let v = (g.expr)(t, p, g.depth, Reading::Head)?;
     p.set_flags(outer);
     Ok(Opening::Expression(v))
+}
+
+/// Records that `using` declares nothing before `in`.
+#[tactic(auto, unfolding(swc_ecma_parser_reader::specs::Reader::undeclared))]
+fn undeclared<P: Source>(p: &mut P, span: Span) -> PResult<()>
+    ensures { Gives (rules.undeclared span (P.seen p.old)) result (P.seen p.new) }
+{
+    if p.sees(TokenKind::In) {
+        p.fault(SyntaxError::UsingDeclNotAllowedForForInLoop, span)?;
+    }
+    Ok(())
+}
+
+/// What `using` declares, from the name on.
+#[tactic(auto, unfolding(swc_ecma_parser_reader::specs::Reader::using_head))]
+fn using_head<
+    P: Source,
+    T: BuildsPattern + BuildsVariables,
+    S: Fn(&MakerOf<T>, &mut P, usize, Position) -> PResult<T::Stmt>,
+    E: Fn(&MakerOf<T>, &mut P, usize, Reading) -> PResult<Cover<T::Expr>>,
+    N: Fn(&MakerOf<T>, &mut P, usize, Part) -> PResult<T::Pat>,
+>(
+    g: &Grammar<S, E, N>,
+    t: &MakerOf<T>,
+    p: &mut P,
+    start: Span,
+) -> PResult<Opening<T::Declarator, T::Expr, T::Pat>>
+    requires { Nests P.seen T.expr_of T.pat_of T.stmt_of g.now.depth (S.pre g.now.stmt) (S.post g.now.stmt) (E.pre g.now.expr) (E.post g.now.expr) (N.pre g.now.pat) (N.post g.now.pat) }
+    ensures gives { GivesAs (opening_of T.declarator_of T.expr_of T.pat_of) (rules.using_head (rules.expr g.now.depth) (rules.pattern g.now.depth) start (P.seen p.old)) result (P.seen p.new) }
+    ensures bare { IfOk result (λ o. IsBare T.pat_of o) }
+{
+    let first = p.span();
+    let name = (g.pat)(t, p, g.depth, Part::Pattern)?;
+    let own = since(p, first);
+    let span = since(p, start);
+    undeclared(p, span)?;
+    let declarator = grown(p, T::declarator(t.alloc, own, name, None))?;
+    let mut found = Vec::new(t.alloc);
+    pushed(p, &mut found, declarator)?;
+    Ok(Opening::Resources(Resources { span, found }))
+}
+
+/// A name before another: `using` declares where `in` or `of` stands behind that.
+#[tactic(auto, unfolding(swc_ecma_parser_reader::specs::Reader::named_head, swc_ecma_parser_grammar::specs::Using::stands_in_head), using(swc_ecma_parser_reader::proofs::HeadWords::pattern_declares))]
+fn named_head<
+    P: Source,
+    T: BuildsPattern + BuildsVariables,
+    S: Fn(&MakerOf<T>, &mut P, usize, Position) -> PResult<T::Stmt>,
+    E: Fn(&MakerOf<T>, &mut P, usize, Reading) -> PResult<Cover<T::Expr>>,
+    N: Fn(&MakerOf<T>, &mut P, usize, Part) -> PResult<T::Pat>,
+>(
+    g: &Grammar<S, E, N>,
+    t: &MakerOf<T>,
+    p: &mut P,
+) -> PResult<Opening<T::Declarator, T::Expr, T::Pat>>
+    requires { Nests P.seen T.expr_of T.pat_of T.stmt_of g.now.depth (S.pre g.now.stmt) (S.post g.now.stmt) (E.pre g.now.expr) (E.post g.now.expr) (N.pre g.now.pat) (N.post g.now.pat) }
+    ensures gives { GivesAs (opening_of T.declarator_of T.expr_of T.pat_of) (rules.named_head (rules.expr g.now.depth) (rules.pattern g.now.depth) (P.seen p.old)) result (P.seen p.new) }
+    ensures bare { IfOk result (λ o. IsBare T.pat_of o) }
+{
+    let start = p.span();
+    let name = (g.pat)(t, p, g.depth, Part::Pattern)?;
+    if p.next_sees(TokenKind::In) || p.next_word_at("of") {
+        return using_head(g, t, p, start);
+    }
+    Ok(Opening::Named(name))
+}
+
+/// Behind `async`, which was read as a name: it is one, unless `=>` stands behind `of`.
+#[tactic(auto, unfolding(swc_ecma_parser_reader::specs::HeadWords::behind_async))]
+fn behind_async<
+    P: Source,
+    T: BuildsPattern + BuildsVariables,
+    S: Fn(&MakerOf<T>, &mut P, usize, Position) -> PResult<T::Stmt>,
+    E: Fn(&MakerOf<T>, &mut P, usize, Reading) -> PResult<Cover<T::Expr>>,
+    N: Fn(&MakerOf<T>, &mut P, usize, Part) -> PResult<T::Pat>,
+>(
+    g: &Grammar<S, E, N>,
+    t: &MakerOf<T>,
+    p: &mut P,
+    start: Span,
+    name: T::Pat,
+) -> PResult<Opening<T::Declarator, T::Expr, T::Pat>>
+    requires readers { Nests P.seen T.expr_of T.pat_of T.stmt_of g.now.depth (S.pre g.now.stmt) (S.post g.now.stmt) (E.pre g.now.expr) (E.post g.now.expr) (N.pre g.now.pat) (N.post g.now.pat) }
+    requires bare { (refused : Bool) → own.head_faults refused (T.pat_of name) ≡ [] }
+    ensures gives { GivesAs (opening_of T.declarator_of T.expr_of T.pat_of) (words.behind_async g.now.depth start (T.pat_of name) (P.seen p.old)) result (P.seen p.new) }
+    ensures bare { IfOk result (λ o. IsBare T.pat_of o) }
+{
+    if p.next_sees(TokenKind::Arrow) {
+        let v = (g.expr)(t, p, g.depth, Reading::Behind(start))?;
+        return Ok(Opening::Expression(v));
+    }
+    Ok(Opening::Named(name))
+}
+
+/// `async` before `of` on its line: the name alone, or an arrow function whose parameter is `of`.
+#[tactic(auto, using(swc_ecma_parser_reader::proofs::HeadWords::async_refused, swc_ecma_parser_reader::proofs::HeadWords::async_reads, swc_ecma_parser_reader::proofs::HeadWords::async_refused_behind, swc_ecma_parser_reader::proofs::HeadWords::pattern_declares))]
+fn async_head<
+    P: Source,
+    T: BuildsPattern + BuildsVariables,
+    S: Fn(&MakerOf<T>, &mut P, usize, Position) -> PResult<T::Stmt>,
+    E: Fn(&MakerOf<T>, &mut P, usize, Reading) -> PResult<Cover<T::Expr>>,
+    N: Fn(&MakerOf<T>, &mut P, usize, Part) -> PResult<T::Pat>,
+>(
+    g: &Grammar<S, E, N>,
+    t: &MakerOf<T>,
+    p: &mut P,
+) -> PResult<Opening<T::Declarator, T::Expr, T::Pat>>
+    requires readers { Nests P.seen T.expr_of T.pat_of T.stmt_of g.now.depth (S.pre g.now.stmt) (S.post g.now.stmt) (E.pre g.now.expr) (E.post g.now.expr) (N.pre g.now.pat) (N.post g.now.pat) }
+    requires word { follows.word_at (codes "async") (P.seen p.now).at ≡ true }
+    requires of { follows.word_at (codes "of") (place.after (P.seen p.now).at) ≡ true }
+    requires on_line { looks.breaks_at (place.after (P.seen p.now).at) ≡ false }
+    ensures gives { GivesAs (opening_of T.declarator_of T.expr_of T.pat_of) (rules.async_or_expression (rules.expr g.now.depth) (rules.pattern g.now.depth) (rules.head_cover g.now.depth) (P.seen p.old)) result (P.seen p.new) }
+    ensures bare { IfOk result (λ o. IsBare T.pat_of o) }
+{
+    let start = p.span();
+    let outer = p.flags();
+    p.set_flags(without_in(outer));
+    let name = (g.pat)(t, p, g.depth, Part::Pattern)?;
+    let opening = behind_async(g, t, p, start, name)?;
+    p.set_flags(outer);
+    Ok(opening)
+}
+
+/// An expression that may still become a target, or `async` alone.
+#[tactic(auto, using(swc_ecma_parser_reader::proofs::HeadWords::other_target, swc_ecma_parser_reader::proofs::HeadWords::async_target))]
+fn head_target<
+    P: Source,
+    T: BuildsPattern + BuildsVariables,
+    S: Fn(&MakerOf<T>, &mut P, usize, Position) -> PResult<T::Stmt>,
+    E: Fn(&MakerOf<T>, &mut P, usize, Reading) -> PResult<Cover<T::Expr>>,
+    N: Fn(&MakerOf<T>, &mut P, usize, Part) -> PResult<T::Pat>,
+>(
+    g: &Grammar<S, E, N>,
+    t: &MakerOf<T>,
+    p: &mut P,
+    is_await: bool,
+) -> PResult<Opening<T::Declarator, T::Expr, T::Pat>>
+    requires { Nests P.seen T.expr_of T.pat_of T.stmt_of g.now.depth (S.pre g.now.stmt) (S.post g.now.stmt) (E.pre g.now.expr) (E.post g.now.expr) (N.pre g.now.pat) (N.post g.now.pat) }
+    ensures gives { GivesAs (opening_of T.declarator_of T.expr_of T.pat_of) (rules.head_target (rules.expr g.now.depth) (rules.pattern g.now.depth) (rules.head_cover g.now.depth) is_await (P.seen p.old)) result (P.seen p.new) }
+    ensures bare { IfOk result (λ o. IsBare T.pat_of o) }
+{
+    if is_await && p.word_at("async") && p.next_word_at("of") && !p.next_had_line_break() {
+        return async_head(g, t, p);
+    }
+    head_expression(g, t, p)
 }
 
 /// What a head begins with.
@@ -126,9 +292,15 @@ pub(crate) fn head_opening<
     S: Fn(&MakerOf<T>, &mut P, usize, Position) -> PResult<T::Stmt>,
     E: Fn(&MakerOf<T>, &mut P, usize, Reading) -> PResult<Cover<T::Expr>>,
     N: Fn(&MakerOf<T>, &mut P, usize, Part) -> PResult<T::Pat>,
->(g: &Grammar<S, E, N>, t: &MakerOf<T>, p: &mut P) -> PResult<Opening<T::Declarator, T::Expr>>
+>(
+    g: &Grammar<S, E, N>,
+    t: &MakerOf<T>,
+    p: &mut P,
+    is_await: bool,
+) -> PResult<Opening<T::Declarator, T::Expr, T::Pat>>
     requires { Nests P.seen T.expr_of T.pat_of T.stmt_of g.now.depth (S.pre g.now.stmt) (S.post g.now.stmt) (E.pre g.now.expr) (E.post g.now.expr) (N.pre g.now.pat) (N.post g.now.pat) }
-    ensures { GivesAs (opening_of T.declarator_of T.expr_of) (rules.opening (rules.expr g.now.depth) (rules.pattern g.now.depth) (rules.head_cover g.now.depth) (P.seen p.old)) result (P.seen p.new) }
+    ensures gives { GivesAs (opening_of T.declarator_of T.expr_of T.pat_of) (rules.opening (rules.expr g.now.depth) (rules.pattern g.now.depth) (rules.head_cover g.now.depth) is_await (P.seen p.old)) result (P.seen p.new) }
+    ensures bare { IfOk result (λ o. IsBare T.pat_of o) }
 {
     if p.sees(TokenKind::Semi) {
         return Ok(Opening::Nothing);
@@ -142,45 +314,50 @@ pub(crate) fn head_opening<
     if p.is_let_declaration() {
         return head_variables(g, t, p, VarDeclKind::Let);
     }
-    head_expression(g, t, p)
+    if p.may_declare_using() {
+        return named_head(g, t, p);
+    }
+    head_target(g, t, p, is_await)
 }
 
 /// It as the first part of three.
+#[tactic(auto, unfolding(swc_ecma_parser_reader::specs::Reader::unfollowed))]
 pub(crate) fn as_init<P: Source, T: BuildsFor>(
     t: &MakerOf<T>,
     p: &mut P,
-    first: Opening<T::Declarator, T::Expr>,
+    first: Opening<T::Declarator, T::Expr, T::Pat>,
 ) -> PResult<Option<T::ForInit>>
-    ensures { GivesAs (part_of T.init_of) (rules.as_init (opening_of T.declarator_of T.expr_of first) (P.seen p.old)) result (P.seen p.new) }
+    ensures { GivesAs (part_of T.init_of) (rules.as_init (opening_of T.declarator_of T.expr_of T.pat_of first) (P.seen p.old)) result (P.seen p.new) }
 {
     let init = match first {
         Opening::Nothing => return Ok(None),
         Opening::Variables(x) => T::var_init(t.alloc, x.span, x.word, x.found),
+        Opening::Resources(_) | Opening::Named(_) => {
+            p.expect(TokenKind::Semi, ";")?;
+            return Err(p.wanted(Wanted::Expression));
+        }
         Opening::Expression(v) => T::expr_init(t.alloc, close::<P, T>(p, v)?),
     };
     Ok(Some(grown(p, init)?))
 }
 
-/// It as what takes each value. Behind `for await` the name `async` alone is not read yet.
+/// It as what takes each value.
 #[tactic(auto, using(crate::proofs::Targets::read_target))]
 pub(crate) fn as_left<P: Source, T: BuildsPattern + BuildsVariables>(
     t: &MakerOf<T>,
     p: &mut P,
-    is_await: bool,
-    first: Opening<T::Declarator, T::Expr>,
+    first: Opening<T::Declarator, T::Expr, T::Pat>,
 ) -> PResult<Left<T::Declarator, T::Pat>>
-    ensures gives { GivesAs (left_of T.declarator_of T.pat_of) (rules.as_left is_await (opening_of T.declarator_of T.expr_of first) (P.seen p.old)) result (P.seen p.new) }
+    requires { IsBare T.pat_of first }
+    ensures gives { GivesAs (left_of T.declarator_of T.pat_of) (rules.as_left (opening_of T.declarator_of T.expr_of T.pat_of first) (P.seen p.old)) result (P.seen p.new) }
     ensures target { IfOk result (λ left. IsTarget T.pat_of left) }
 {
     match first {
         Opening::Nothing => Err(p.wanted(Wanted::Expression)),
         Opening::Variables(x) => Ok(Left::Variables(x)),
-        Opening::Expression(v) => {
-            if is_await && T::is_ident_named(&v.tree, "async") {
-                return Err(p.wanted(Wanted::Expression));
-            }
-            Ok(Left::Pattern(target(t, p, v)?))
-        }
+        Opening::Resources(x) => Ok(Left::Resources(x)),
+        Opening::Named(name) => Ok(Left::Pattern(name)),
+        Opening::Expression(v) => Ok(Left::Pattern(target(t, p, v)?)),
     }
 }
 
@@ -243,7 +420,7 @@ pub(crate) fn misdeclared<P: Source, T: BuildsVariables>(
 {
     match left {
         Left::Variables(declared) => misdeclared_variables::<P, T>(p, refused, declared),
-        Left::Pattern(_) => Ok(()),
+        Left::Resources(_) | Left::Pattern(_) => Ok(()),
     }
 }
 
@@ -259,6 +436,7 @@ pub(crate) fn head_of<P: Source, T: BuildsFor>(
 {
     let head = match left {
         Left::Variables(x) => T::var_head(t.alloc, x.span, x.word, x.found),
+        Left::Resources(x) => T::using_head(t.alloc, x.span, false, x.found),
         Left::Pattern(pat) => T::pat_head(t.alloc, pat),
     };
     grown(p, head)

@@ -2,6 +2,7 @@
 //! member goes on as if the word were not there.
 
 ghost use Rattle.swc_ecma_parser_members.specs.Keys.{member_key_of};
+ghost use Rattle.swc_ecma_parser_members.specs.Leading.{leading_of};
 ghost use Rattle.swc_ecma_parser_error.specs.Kind as kinds;
 ghost use Rattle.swc_ecma_parser_grammar.specs.Reads.{nested_item};
 ghost use Rattle.swc_ecma_parser_inner.specs.Nests.{Nests};
@@ -9,11 +10,12 @@ ghost use Rattle.swc_ecma_parser_reader.specs.Members as members;
 ghost use Rattle.swc_ecma_parser_reader.specs.Reader as rules;
 ghost use Rattle.swc_ecma_parser_reader.specs.State.{Gives, GivesAs, fault, fault_at};
 
+use crate::decorators::{Leading, misplaced};
 use crate::fields::{FieldHead, field};
 use crate::keys::{MemberKey, member_key};
-use crate::member::keyed_member;
-use crate::methods::{plain_method, second_static, static_block};
-use crate::words::{begins_no_field, begins_static_block};
+use crate::member::{before_constructor, keyed_member};
+use crate::methods::{Begin, plain_method, second_static, static_block};
+use crate::words::{begins_block, begins_words};
 use swc_ecma_parser_common::Span;
 use swc_ecma_parser_error::{PResult, SyntaxError};
 use swc_ecma_parser_grammar::Position;
@@ -24,7 +26,7 @@ use swc_ecma_parser_token::TokenKind;
 use swc_ecma_parser_trees::{BuildsClass, BuildsPattern, MakerOf};
 
 /// Records `accessor` before what is no field.
-fn misplaced<P: Source>(p: &mut P, accessor: Span) -> PResult<()>
+fn accessor_fault<P: Source>(p: &mut P, accessor: Span) -> PResult<()>
     ensures { Gives (fault (fault_at accessor kinds.TS1184) (P.seen p.old)) result (P.seen p.new) }
 {
     p.fault(SyntaxError::TS1184, accessor)
@@ -38,48 +40,33 @@ fn static_behind<
     S: Fn(&MakerOf<T>, &mut P, usize, Position) -> PResult<T::Stmt>,
     E: Fn(&MakerOf<T>, &mut P, usize, Reading) -> PResult<Cover<T::Expr>>,
     N: Fn(&MakerOf<T>, &mut P, usize, Part) -> PResult<T::Pat>,
->(
-    g: &Grammar<S, E, N>,
-    t: &MakerOf<T>,
-    p: &mut P,
-    is_static: bool,
-    start: Span,
-) -> PResult<T::Member>
+>(g: &Grammar<S, E, N>, t: &MakerOf<T>, p: &mut P, begin: Begin) -> PResult<T::Member>
     requires { Nests P.seen T.expr_of T.pat_of T.stmt_of g.now.depth (S.pre g.now.stmt) (S.post g.now.stmt) (E.pre g.now.expr) (E.post g.now.expr) (N.pre g.now.pat) (N.post g.now.pat) }
-    ensures { GivesAs T.member_of (members.static_behind (rules.expr g.now.depth) (rules.cover g.now.depth) (rules.stmt g.now.depth nested_item) (rules.parameters g.now.depth) is_static start (P.seen p.old)) result (P.seen p.new) }
+    ensures { GivesAs T.member_of (members.static_behind (rules.expr g.now.depth) (rules.cover g.now.depth) (rules.stmt g.now.depth nested_item) (rules.parameters g.now.depth) begin.is_static begin.start begin.first (P.seen p.old)) result (P.seen p.new) }
 {
-    if is_static {
-        return second_static(g, t, p, start);
+    if begin.is_static {
+        return second_static(g, t, p, begin);
     }
     p.skip()?;
-    static_block(g, t, p, start)
+    static_block(g, t, p, begin.start)
 }
 
-/// What is no field, as if `accessor` were not there.
-#[tactic(auto, unfolding(swc_ecma_parser_reader::specs::Members::unaccessed))]
-fn unaccessed<
+/// A static block, with a `static` of its own or without it.
+#[tactic(auto, unfolding(swc_ecma_parser_reader::specs::Members::block_behind))]
+fn block_behind<
     P: Source,
     T: BuildsClass + BuildsPattern,
     S: Fn(&MakerOf<T>, &mut P, usize, Position) -> PResult<T::Stmt>,
     E: Fn(&MakerOf<T>, &mut P, usize, Reading) -> PResult<Cover<T::Expr>>,
     N: Fn(&MakerOf<T>, &mut P, usize, Part) -> PResult<T::Pat>,
->(
-    g: &Grammar<S, E, N>,
-    t: &MakerOf<T>,
-    p: &mut P,
-    is_static: bool,
-    start: Span,
-) -> PResult<T::Member>
+>(g: &Grammar<S, E, N>, t: &MakerOf<T>, p: &mut P, begin: Begin) -> PResult<T::Member>
     requires { Nests P.seen T.expr_of T.pat_of T.stmt_of g.now.depth (S.pre g.now.stmt) (S.post g.now.stmt) (E.pre g.now.expr) (E.post g.now.expr) (N.pre g.now.pat) (N.post g.now.pat) }
-    ensures { GivesAs T.member_of (members.unaccessed (rules.expr g.now.depth) (rules.cover g.now.depth) (rules.stmt g.now.depth nested_item) (rules.parameters g.now.depth) is_static start (P.seen p.old)) result (P.seen p.new) }
+    ensures { GivesAs T.member_of (members.block_behind (rules.expr g.now.depth) (rules.cover g.now.depth) (rules.stmt g.now.depth nested_item) (rules.parameters g.now.depth) begin.is_static begin.start begin.first (P.seen p.old)) result (P.seen p.new) }
 {
-    if is_static && p.sees(TokenKind::LBrace) {
-        return static_block(g, t, p, start);
+    if begin.is_static && p.sees(TokenKind::LBrace) {
+        return static_block(g, t, p, begin.start);
     }
-    if begins_static_block(p) {
-        return static_behind(g, t, p, is_static, start);
-    }
-    keyed_member(g, t, p, is_static, start)
+    static_behind(g, t, p, begin)
 }
 
 /// What stands behind a key without words: a method is a fault of `accessor`.
@@ -94,25 +81,26 @@ fn behind_accessed_key<
     g: &Grammar<S, E, N>,
     t: &MakerOf<T>,
     p: &mut P,
-    is_static: bool,
-    start: Span,
+    leading: Leading<T::Decorator>,
+    begin: Begin,
     accessor: Span,
     word: Span,
     key: MemberKey<T::Expr>,
 ) -> PResult<T::Member>
     requires { Nests P.seen T.expr_of T.pat_of T.stmt_of g.now.depth (S.pre g.now.stmt) (S.post g.now.stmt) (E.pre g.now.expr) (E.post g.now.expr) (N.pre g.now.pat) (N.post g.now.pat) }
-    ensures { GivesAs T.member_of (members.behind_accessed_key (rules.expr g.now.depth) (rules.cover g.now.depth) (rules.stmt g.now.depth nested_item) (rules.parameters g.now.depth) is_static start accessor word (member_key_of T.expr_of key) (P.seen p.old)) result (P.seen p.new) }
+    ensures { GivesAs T.member_of (members.behind_accessed_key (rules.expr g.now.depth) (rules.cover g.now.depth) (rules.stmt g.now.depth nested_item) (rules.parameters g.now.depth) (leading_of T.decorator_of leading) begin.is_static begin.start begin.first accessor word (member_key_of T.expr_of key) (P.seen p.old)) result (P.seen p.new) }
 {
     if p.sees(TokenKind::LParen) {
-        misplaced(p, accessor)?;
-        return plain_method(g, t, p, is_static, start, word, key);
+        before_constructor::<P, T>(t.alloc, p, &leading, &key)?;
+        accessor_fault(p, accessor)?;
+        return plain_method(g, t, p, leading.found, begin, word, key);
     }
     let head = FieldHead {
-        is_static,
+        is_static: begin.is_static,
         is_accessor: true,
-        start,
+        start: begin.start,
     };
-    field(g, t, p, head, key)
+    field(g, t, p, head, leading.found, key)
 }
 
 /// What begins with a key, and may be a field.
@@ -127,16 +115,16 @@ fn accessed_key<
     g: &Grammar<S, E, N>,
     t: &MakerOf<T>,
     p: &mut P,
-    is_static: bool,
-    start: Span,
+    leading: Leading<T::Decorator>,
+    begin: Begin,
     accessor: Span,
 ) -> PResult<T::Member>
     requires { Nests P.seen T.expr_of T.pat_of T.stmt_of g.now.depth (S.pre g.now.stmt) (S.post g.now.stmt) (E.pre g.now.expr) (E.post g.now.expr) (N.pre g.now.pat) (N.post g.now.pat) }
-    ensures { GivesAs T.member_of (members.accessed_key (rules.expr g.now.depth) (rules.cover g.now.depth) (rules.stmt g.now.depth nested_item) (rules.parameters g.now.depth) is_static start accessor (P.seen p.old)) result (P.seen p.new) }
+    ensures { GivesAs T.member_of (members.accessed_key (rules.expr g.now.depth) (rules.cover g.now.depth) (rules.stmt g.now.depth nested_item) (rules.parameters g.now.depth) (leading_of T.decorator_of leading) begin.is_static begin.start begin.first accessor (P.seen p.old)) result (P.seen p.new) }
 {
     let word = p.span();
     let key = member_key(g, t, p)?;
-    behind_accessed_key(g, t, p, is_static, start, accessor, word, key)
+    behind_accessed_key(g, t, p, leading, begin, accessor, word, key)
 }
 
 /// What stands behind `accessor`.
@@ -151,18 +139,23 @@ fn accessed<
     g: &Grammar<S, E, N>,
     t: &MakerOf<T>,
     p: &mut P,
-    is_static: bool,
-    start: Span,
+    leading: Leading<T::Decorator>,
+    begin: Begin,
     accessor: Span,
 ) -> PResult<T::Member>
     requires { Nests P.seen T.expr_of T.pat_of T.stmt_of g.now.depth (S.pre g.now.stmt) (S.post g.now.stmt) (E.pre g.now.expr) (E.post g.now.expr) (N.pre g.now.pat) (N.post g.now.pat) }
-    ensures { GivesAs T.member_of (members.accessed (rules.expr g.now.depth) (rules.cover g.now.depth) (rules.stmt g.now.depth nested_item) (rules.parameters g.now.depth) is_static start accessor (P.seen p.old)) result (P.seen p.new) }
+    ensures { GivesAs T.member_of (members.accessed (rules.expr g.now.depth) (rules.cover g.now.depth) (rules.stmt g.now.depth nested_item) (rules.parameters g.now.depth) (leading_of T.decorator_of leading) begin.is_static begin.start begin.first accessor (P.seen p.old)) result (P.seen p.new) }
 {
-    if begins_no_field(p, is_static) {
-        misplaced(p, accessor)?;
-        return unaccessed(g, t, p, is_static, start);
+    if begins_block(p, begin.is_static) {
+        misplaced::<P, T>(t.alloc, p, &leading)?;
+        accessor_fault(p, accessor)?;
+        return block_behind(g, t, p, begin);
     }
-    accessed_key(g, t, p, is_static, start, accessor)
+    if begins_words(p) {
+        accessor_fault(p, accessor)?;
+        return keyed_member(g, t, p, leading, begin);
+    }
+    accessed_key(g, t, p, leading, begin, accessor)
 }
 
 /// A member with the word `accessor`, from that word on.
@@ -178,13 +171,13 @@ pub(crate) fn accessor_member<
     g: &Grammar<S, E, N>,
     t: &MakerOf<T>,
     p: &mut P,
-    is_static: bool,
-    start: Span,
+    leading: Leading<T::Decorator>,
+    begin: Begin,
 ) -> PResult<T::Member>
     requires { Nests P.seen T.expr_of T.pat_of T.stmt_of g.now.depth (S.pre g.now.stmt) (S.post g.now.stmt) (E.pre g.now.expr) (E.post g.now.expr) (N.pre g.now.pat) (N.post g.now.pat) }
-    ensures { GivesAs T.member_of (members.accessor_member (rules.expr g.now.depth) (rules.cover g.now.depth) (rules.stmt g.now.depth nested_item) (rules.parameters g.now.depth) is_static start (P.seen p.old)) result (P.seen p.new) }
+    ensures { GivesAs T.member_of (members.accessor_member (rules.expr g.now.depth) (rules.cover g.now.depth) (rules.stmt g.now.depth nested_item) (rules.parameters g.now.depth) (leading_of T.decorator_of leading) begin.is_static begin.start begin.first (P.seen p.old)) result (P.seen p.new) }
 {
     let accessor = p.span();
     p.skip()?;
-    accessed(g, t, p, is_static, start, accessor)
+    accessed(g, t, p, leading, begin, accessor)
 }

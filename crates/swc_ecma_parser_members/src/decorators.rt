@@ -1,14 +1,18 @@
-//! Decorators, one behind another: the proposal of decorators.
+//! Decorators, one behind another, also before it is known whose they are: the proposal of decorators.
 
 ghost use Rattle.std.specs.Prelude.{◌≡◌, [], map};
 ghost use Rattle.swc_ecma_parser_inner.specs.Nests.{Nests};
+ghost use Rattle.swc_ecma_parser_members.specs.Leading.{leading_of};
 ghost use Rattle.swc_ecma_parser_reader.specs.DecoratorLevels as levels;
 ghost use Rattle.swc_ecma_parser_reader.specs.Decorators as decorators;
-ghost use Rattle.swc_ecma_parser_reader.specs.State.{GivesAs, loop};
+ghost use Rattle.swc_ecma_parser_reader.specs.State.{Gives, GivesAs, loop};
 
-use swc_ecma_parser_error::PResult;
+use std::alloc::Global;
+use swc_ecma_parser_common::Span;
+use swc_ecma_parser_error::{PResult, SyntaxError};
 use swc_ecma_parser_grammar::Position;
 use swc_ecma_parser_inner::cover::{Cover, Reading};
+use swc_ecma_parser_inner::found::{found_module_item, set_found_module_item};
 use swc_ecma_parser_inner::grammar::{Grammar, Part};
 use swc_ecma_parser_inner::steps::{grown, pushed, since};
 use swc_ecma_parser_source::Source;
@@ -86,4 +90,53 @@ pub fn decorators<
         return Ok(Vec::new(t.alloc));
     }
     all_decorators(g, t, p)
+}
+
+/// Decorators that were read before it is known whose they are.
+#[derive(Drop)]
+pub struct Leading<D> {
+    pub found: Vec<D>,
+    /// From the first `@` to the end of the last decorator.
+    pub place: Span,
+    /// Whether what makes a program a module was read before them.
+    pub module_found: bool,
+}
+
+/// The decorators that stand here, with what has to be known of them where nothing takes them.
+#[tactic(auto, unfolding(swc_ecma_parser_reader::specs::Decorators::leading))]
+pub fn leading_decorators<
+    P: Source,
+    T: BuildsFunction,
+    S: Fn(&MakerOf<T>, &mut P, usize, Position) -> PResult<T::Stmt>,
+    E: Fn(&MakerOf<T>, &mut P, usize, Reading) -> PResult<Cover<T::Expr>>,
+    N: Fn(&MakerOf<T>, &mut P, usize, Part) -> PResult<T::Pat>,
+>(g: &Grammar<S, E, N>, t: &MakerOf<T>, p: &mut P) -> PResult<Leading<T::Decorator>>
+    requires { Nests P.seen T.expr_of T.pat_of T.stmt_of g.now.depth (S.pre g.now.stmt) (S.post g.now.stmt) (E.pre g.now.expr) (E.post g.now.expr) (N.pre g.now.pat) (N.post g.now.pat) }
+    ensures { GivesAs (leading_of T.decorator_of) (decorators.leading (levels.decorated_in g.now.depth) (P.seen p.old)) result (P.seen p.new) }
+{
+    let module_found = found_module_item(t.alloc, p);
+    let start = p.span();
+    let found = decorators(g, t, p)?;
+    let place = since(p, start);
+    Ok(Leading {
+        found,
+        place,
+        module_found,
+    })
+}
+
+/// Records decorators that nothing takes; what in them makes a program a module is dropped with them.
+#[tactic(auto, unfolding(swc_ecma_parser_reader::specs::Decorators::misplaced))]
+pub fn misplaced<P: Source, T: BuildsFunction>(
+    alloc: Global,
+    p: &mut P,
+    leading: &Leading<T::Decorator>,
+) -> PResult<()>
+    ensures { Gives (decorators.misplaced (leading_of T.decorator_of leading.now) (P.seen p.old)) result (P.seen p.new) }
+{
+    if leading.found.is_empty() {
+        return Ok(());
+    }
+    set_found_module_item(alloc, p, leading.module_found);
+    p.fault(SyntaxError::InvalidLeadingDecorator, leading.place)
 }

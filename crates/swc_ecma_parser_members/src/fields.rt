@@ -1,6 +1,6 @@
 //! Fields: FieldDefinition, ECMA-262, section 15.7.
 
-ghost use Rattle.std.specs.Prelude.{◌≡◌, true, false, [], IfOk};
+ghost use Rattle.std.specs.Prelude.{◌≡◌, true, false, map, IfOk};
 ghost use Rattle.swc_ecma_parser_members.specs.Keys.{member_key_of};
 ghost use Rattle.swc_ecma_parser_grammar.specs.Ends as ends;
 ghost use Rattle.swc_ecma_parser_grammar.specs.language.Classes.{field_member};
@@ -102,10 +102,10 @@ fn made_accessor<T: BuildsClass>(
     key: MemberKey<T::Expr>,
     value: Option<T::Expr>,
     is_static: bool,
+    decorators: Vec<T::Decorator>,
 ) -> Result<T::Member, AllocError>
-    ensures { IfOk result (λ x. T.member_of x ≡ field_member span (member_key_of T.expr_of key) (part_of T.expr_of value) is_static true (listed [])) }
+    ensures { IfOk result (λ x. T.member_of x ≡ field_member span (member_key_of T.expr_of key) (part_of T.expr_of value) is_static true (listed (map T.decorator_of decorators.items))) }
 {
-    let decorators = Vec::new(alloc);
     match key {
         MemberKey::Private(key) => {
             T::private_auto_accessor(alloc, span, key, value, is_static, decorators)
@@ -124,10 +124,10 @@ fn made_plain<T: BuildsClass>(
     key: MemberKey<T::Expr>,
     value: Option<T::Expr>,
     is_static: bool,
+    decorators: Vec<T::Decorator>,
 ) -> Result<T::Member, AllocError>
-    ensures { IfOk result (λ x. T.member_of x ≡ field_member span (member_key_of T.expr_of key) (part_of T.expr_of value) is_static false (listed [])) }
+    ensures { IfOk result (λ x. T.member_of x ≡ field_member span (member_key_of T.expr_of key) (part_of T.expr_of value) is_static false (listed (map T.decorator_of decorators.items))) }
 {
-    let decorators = Vec::new(alloc);
     match key {
         MemberKey::Private(key) => {
             T::private_prop(alloc, span, key, value, is_static, decorators)
@@ -146,13 +146,14 @@ fn made_field<T: BuildsClass>(
     key: MemberKey<T::Expr>,
     value: Option<T::Expr>,
     head: FieldHead,
+    decorators: Vec<T::Decorator>,
 ) -> Result<T::Member, AllocError>
-    ensures { IfOk result (λ x. T.member_of x ≡ field_member span (member_key_of T.expr_of key) (part_of T.expr_of value) head.is_static head.is_accessor (listed [])) }
+    ensures { IfOk result (λ x. T.member_of x ≡ field_member span (member_key_of T.expr_of key) (part_of T.expr_of value) head.is_static head.is_accessor (listed (map T.decorator_of decorators.items))) }
 {
     if head.is_accessor {
-        return made_accessor::<T>(alloc, span, key, value, head.is_static);
+        return made_accessor::<T>(alloc, span, key, value, head.is_static, decorators);
     }
-    made_plain::<T>(alloc, span, key, value, head.is_static)
+    made_plain::<T>(alloc, span, key, value, head.is_static, decorators)
 }
 
 /// A field that goes on as one.
@@ -168,16 +169,18 @@ fn field_from<
     t: &MakerOf<T>,
     p: &mut P,
     head: FieldHead,
+    decorators: Vec<T::Decorator>,
     key: MemberKey<T::Expr>,
 ) -> PResult<T::Member>
     requires { Nests P.seen T.expr_of T.pat_of T.stmt_of g.now.depth (S.pre g.now.stmt) (S.post g.now.stmt) (E.pre g.now.expr) (E.post g.now.expr) (N.pre g.now.pat) (N.post g.now.pat) }
-    ensures { GivesAs T.member_of (members.field_from (rules.expr g.now.depth) (rules.cover g.now.depth) head.is_static head.is_accessor head.start (member_key_of T.expr_of key) (P.seen p.old)) result (P.seen p.new) }
+    ensures { GivesAs T.member_of (members.field_from (rules.expr g.now.depth) (rules.cover g.now.depth) (map T.decorator_of decorators.items) head.is_static head.is_accessor head.start (member_key_of T.expr_of key) (P.seen p.old)) result (P.seen p.new) }
 {
     field_named::<P, T>(p, &key)?;
     let value = field_value(g, t, p)?;
     field_end(p)?;
     let span = since(p, head.start);
-    grown(p, made_field::<T>(t.alloc, span, key, value, head))
+    let made = made_field::<T>(t.alloc, span, key, value, head, decorators);
+    grown(p, made)
 }
 
 /// A field, from behind its key.
@@ -193,13 +196,14 @@ pub(crate) fn field<
     t: &MakerOf<T>,
     p: &mut P,
     head: FieldHead,
+    decorators: Vec<T::Decorator>,
     key: MemberKey<T::Expr>,
 ) -> PResult<T::Member>
     requires { Nests P.seen T.expr_of T.pat_of T.stmt_of g.now.depth (S.pre g.now.stmt) (S.post g.now.stmt) (E.pre g.now.expr) (E.post g.now.expr) (N.pre g.now.pat) (N.post g.now.pat) }
-    ensures { GivesAs T.member_of (members.field (rules.expr g.now.depth) (rules.cover g.now.depth) head.is_static head.is_accessor head.start (member_key_of T.expr_of key) (P.seen p.old)) result (P.seen p.new) }
+    ensures { GivesAs T.member_of (members.field (rules.expr g.now.depth) (rules.cover g.now.depth) (map T.decorator_of decorators.items) head.is_static head.is_accessor head.start (member_key_of T.expr_of key) (P.seen p.old)) result (P.seen p.new) }
 {
     if p.sees(TokenKind::Assign) || ends_at(p) {
-        return field_from(g, t, p, head, key);
+        return field_from(g, t, p, head, decorators, key);
     }
     Err(p.wanted(Wanted::Member))
 }

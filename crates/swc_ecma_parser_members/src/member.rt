@@ -1,19 +1,22 @@
 //! Members: ClassElement, ECMA-262, section 15.7.
 
 ghost use Rattle.swc_ecma_parser_members.specs.Keys.{member_key_of};
+ghost use Rattle.swc_ecma_parser_members.specs.Leading.{leading_of};
 ghost use Rattle.swc_ecma_parser_functions.specs.Methods.{form_of};
 ghost use Rattle.swc_ecma_parser_grammar.specs.Reads.{nested_item};
 ghost use Rattle.swc_ecma_parser_inner.specs.Nests.{Nests};
+ghost use Rattle.swc_ecma_parser_reader.specs.DecoratorLevels as levels;
 ghost use Rattle.swc_ecma_parser_reader.specs.Members as members;
 ghost use Rattle.swc_ecma_parser_reader.specs.Reader as rules;
-ghost use Rattle.swc_ecma_parser_reader.specs.State.{GivesAs};
+ghost use Rattle.swc_ecma_parser_reader.specs.State.{Gives, GivesAs};
 
 use crate::accessors::accessor_member;
+use crate::decorators::{Leading, leading_decorators, misplaced};
 use crate::fields::{FieldHead, field};
-use crate::keys::{MemberKey, member_key};
-use crate::methods::{Head, method, plain_method, second_static, static_block};
+use crate::keys::{MemberKey, is_constructor_key, member_key};
+use crate::methods::{Begin, Head, method, plain_method, second_static, static_block};
 use crate::words::{begins_static_block, is_accessor_word, member_words, static_word};
-use swc_ecma_parser_common::Span;
+use std::alloc::Global;
 use swc_ecma_parser_error::PResult;
 use swc_ecma_parser_grammar::Position;
 use swc_ecma_parser_inner::cover::{Cover, Reading};
@@ -21,7 +24,23 @@ use swc_ecma_parser_inner::grammar::{Grammar, Part};
 use swc_ecma_parser_inner::steps::{grown, since};
 use swc_ecma_parser_source::Source;
 use swc_ecma_parser_token::TokenKind;
-use swc_ecma_parser_trees::{BuildsClass, BuildsPattern, MakerOf};
+use swc_ecma_parser_trees::{BuildsClass, BuildsFunction, BuildsPattern, MakerOf};
+
+/// A constructor has no decorators.
+#[tactic(auto, unfolding(swc_ecma_parser_reader::specs::Members::before_constructor))]
+pub(crate) fn before_constructor<P: Source, T: BuildsFunction>(
+    alloc: Global,
+    p: &mut P,
+    leading: &Leading<T::Decorator>,
+    key: &MemberKey<T::Expr>,
+) -> PResult<()>
+    ensures { Gives (members.before_constructor (leading_of T.decorator_of leading.now) (member_key_of T.expr_of key.now) (P.seen p.old)) result (P.seen p.new) }
+{
+    if !is_constructor_key::<T>(key) {
+        return Ok(());
+    }
+    misplaced::<P, T>(alloc, p, leading)
+}
 
 /// What stands behind a key.
 #[tactic(auto, unfolding(swc_ecma_parser_reader::specs::Members::behind_key))]
@@ -35,24 +54,31 @@ fn behind_key<
     g: &Grammar<S, E, N>,
     t: &MakerOf<T>,
     p: &mut P,
+    leading: Leading<T::Decorator>,
     head: Head,
     key: MemberKey<T::Expr>,
 ) -> PResult<T::Member>
     requires { Nests P.seen T.expr_of T.pat_of T.stmt_of g.now.depth (S.pre g.now.stmt) (S.post g.now.stmt) (E.pre g.now.expr) (E.post g.now.expr) (N.pre g.now.pat) (N.post g.now.pat) }
-    ensures { GivesAs T.member_of (members.behind_key (rules.expr g.now.depth) (rules.cover g.now.depth) (rules.stmt g.now.depth nested_item) (rules.parameters g.now.depth) head.is_static (form_of head.form) head.start head.word (member_key_of T.expr_of key) (P.seen p.old)) result (P.seen p.new) }
+    ensures { GivesAs T.member_of (members.behind_key (rules.expr g.now.depth) (rules.cover g.now.depth) (rules.stmt g.now.depth nested_item) (rules.parameters g.now.depth) (leading_of T.decorator_of leading) head.is_static (form_of head.form) head.start head.first head.word (member_key_of T.expr_of key) (P.seen p.old)) result (P.seen p.new) }
 {
     if !head.form.is_bare() {
-        return method(g, t, p, head, key);
+        return method(g, t, p, head, leading.found, key);
     }
     if p.sees(TokenKind::LParen) {
-        return plain_method(g, t, p, head.is_static, head.start, head.word, key);
+        before_constructor::<P, T>(t.alloc, p, &leading, &key)?;
+        let begin = Begin {
+            is_static: head.is_static,
+            start: head.start,
+            first: head.first,
+        };
+        return plain_method(g, t, p, leading.found, begin, head.word, key);
     }
     let head = FieldHead {
         is_static: head.is_static,
         is_accessor: false,
         start: head.start,
     };
-    field(g, t, p, head, key)
+    field(g, t, p, head, leading.found, key)
 }
 
 /// A member that has a key, from the words before it on.
@@ -67,22 +93,23 @@ pub(crate) fn keyed_member<
     g: &Grammar<S, E, N>,
     t: &MakerOf<T>,
     p: &mut P,
-    is_static: bool,
-    start: Span,
+    leading: Leading<T::Decorator>,
+    begin: Begin,
 ) -> PResult<T::Member>
     requires { Nests P.seen T.expr_of T.pat_of T.stmt_of g.now.depth (S.pre g.now.stmt) (S.post g.now.stmt) (E.pre g.now.expr) (E.post g.now.expr) (N.pre g.now.pat) (N.post g.now.pat) }
-    ensures { GivesAs T.member_of (members.keyed_member (rules.expr g.now.depth) (rules.cover g.now.depth) (rules.stmt g.now.depth nested_item) (rules.parameters g.now.depth) is_static start (P.seen p.old)) result (P.seen p.new) }
+    ensures { GivesAs T.member_of (members.keyed_member (rules.expr g.now.depth) (rules.cover g.now.depth) (rules.stmt g.now.depth nested_item) (rules.parameters g.now.depth) (leading_of T.decorator_of leading) begin.is_static begin.start begin.first (P.seen p.old)) result (P.seen p.new) }
 {
     let word = p.span();
     let form = member_words(p)?;
     let key = member_key(g, t, p)?;
     let head = Head {
-        is_static,
+        is_static: begin.is_static,
         form,
-        start,
+        start: begin.start,
+        first: begin.first,
         word,
     };
-    behind_key(g, t, p, head, key)
+    behind_key(g, t, p, leading, head, key)
 }
 
 /// A member, from behind `static` if it stands there.
@@ -97,22 +124,24 @@ fn behind_static<
     g: &Grammar<S, E, N>,
     t: &MakerOf<T>,
     p: &mut P,
-    is_static: bool,
-    start: Span,
+    leading: Leading<T::Decorator>,
+    begin: Begin,
 ) -> PResult<T::Member>
     requires { Nests P.seen T.expr_of T.pat_of T.stmt_of g.now.depth (S.pre g.now.stmt) (S.post g.now.stmt) (E.pre g.now.expr) (E.post g.now.expr) (N.pre g.now.pat) (N.post g.now.pat) }
-    ensures { GivesAs T.member_of (members.behind_static (rules.expr g.now.depth) (rules.cover g.now.depth) (rules.stmt g.now.depth nested_item) (rules.parameters g.now.depth) is_static start (P.seen p.old)) result (P.seen p.new) }
+    ensures { GivesAs T.member_of (members.behind_static (rules.expr g.now.depth) (rules.cover g.now.depth) (rules.stmt g.now.depth nested_item) (rules.parameters g.now.depth) (leading_of T.decorator_of leading) begin.is_static begin.start begin.first (P.seen p.old)) result (P.seen p.new) }
 {
     if is_accessor_word(p) {
-        return accessor_member(g, t, p, is_static, start);
+        return accessor_member(g, t, p, leading, begin);
     }
-    if is_static && p.sees(TokenKind::LBrace) {
-        return static_block(g, t, p, start);
+    if begin.is_static && p.sees(TokenKind::LBrace) {
+        misplaced::<P, T>(t.alloc, p, &leading)?;
+        return static_block(g, t, p, begin.start);
     }
-    if is_static && begins_static_block(p) {
-        return second_static(g, t, p, start);
+    if begin.is_static && begins_static_block(p) {
+        misplaced::<P, T>(t.alloc, p, &leading)?;
+        return second_static(g, t, p, begin);
     }
-    keyed_member(g, t, p, is_static, start)
+    keyed_member(g, t, p, leading, begin)
 }
 
 /// A member that is more than a `;`.
@@ -125,11 +154,18 @@ fn full_member<
     N: Fn(&MakerOf<T>, &mut P, usize, Part) -> PResult<T::Pat>,
 >(g: &Grammar<S, E, N>, t: &MakerOf<T>, p: &mut P) -> PResult<T::Member>
     requires { Nests P.seen T.expr_of T.pat_of T.stmt_of g.now.depth (S.pre g.now.stmt) (S.post g.now.stmt) (E.pre g.now.expr) (E.post g.now.expr) (N.pre g.now.pat) (N.post g.now.pat) }
-    ensures { GivesAs T.member_of (members.full_member (rules.expr g.now.depth) (rules.cover g.now.depth) (rules.stmt g.now.depth nested_item) (rules.parameters g.now.depth) (P.seen p.old)) result (P.seen p.new) }
+    ensures { GivesAs T.member_of (members.full_member (rules.expr g.now.depth) (rules.cover g.now.depth) (rules.stmt g.now.depth nested_item) (rules.parameters g.now.depth) (levels.decorated_in g.now.depth) (P.seen p.old)) result (P.seen p.new) }
 {
     let start = p.span();
+    let leading = leading_decorators(g, t, p)?;
+    let first = p.span();
     let is_static = static_word(p)?;
-    behind_static(g, t, p, is_static, start)
+    let begin = Begin {
+        is_static,
+        start,
+        first,
+    };
+    behind_static(g, t, p, leading, begin)
 }
 
 /// `;` by itself.
@@ -160,7 +196,7 @@ pub fn member_level<
     N: Fn(&MakerOf<T>, &mut P, usize, Part) -> PResult<T::Pat>,
 >(g: &Grammar<S, E, N>, t: &MakerOf<T>, p: &mut P) -> PResult<T::Member>
     requires { Nests P.seen T.expr_of T.pat_of T.stmt_of g.now.depth (S.pre g.now.stmt) (S.post g.now.stmt) (E.pre g.now.expr) (E.post g.now.expr) (N.pre g.now.pat) (N.post g.now.pat) }
-    ensures { GivesAs T.member_of (members.member_level (rules.expr g.now.depth) (rules.cover g.now.depth) (rules.stmt g.now.depth nested_item) (rules.parameters g.now.depth) (P.seen p.old)) result (P.seen p.new) }
+    ensures { GivesAs T.member_of (members.member_level (rules.expr g.now.depth) (rules.cover g.now.depth) (rules.stmt g.now.depth nested_item) (rules.parameters g.now.depth) (levels.decorated_in g.now.depth) (P.seen p.old)) result (P.seen p.new) }
 {
     if p.sees(TokenKind::Semi) {
         return empty_member(g, t, p);

@@ -41,6 +41,16 @@ pub(crate) const PLAIN: Manner = Manner {
     is_generator: false,
 };
 
+/// How a member begins.
+#[derive(Clone, Copy)]
+pub(crate) struct Begin {
+    pub(crate) is_static: bool,
+    /// Where it begins, with its decorators.
+    pub(crate) start: Span,
+    /// Where its words begin, behind its decorators.
+    pub(crate) first: Span,
+}
+
 /// What stands before the key of a member.
 #[derive(Clone, Copy)]
 pub(crate) struct Head {
@@ -48,6 +58,8 @@ pub(crate) struct Head {
     pub(crate) form: MethodForm,
     /// Where the member begins.
     pub(crate) start: Span,
+    /// Where its words begin, behind its decorators.
+    pub(crate) first: Span,
     /// Where its words behind `static` begin.
     pub(crate) word: Span,
 }
@@ -142,9 +154,15 @@ fn method_parts<
     S: Fn(&MakerOf<T>, &mut P, usize, Position) -> PResult<T::Stmt>,
     E: Fn(&MakerOf<T>, &mut P, usize, Reading) -> PResult<Cover<T::Expr>>,
     N: Fn(&MakerOf<T>, &mut P, usize, Part) -> PResult<T::Pat>,
->(g: &Grammar<S, E, N>, t: &MakerOf<T>, p: &mut P, head: Head) -> PResult<T::Function>
+>(
+    g: &Grammar<S, E, N>,
+    t: &MakerOf<T>,
+    p: &mut P,
+    head: Head,
+    decorators: Vec<T::Decorator>,
+) -> PResult<T::Function>
     requires { Nests P.seen T.expr_of T.pat_of T.stmt_of g.now.depth (S.pre g.now.stmt) (S.post g.now.stmt) (E.pre g.now.expr) (E.post g.now.expr) (N.pre g.now.pat) (N.post g.now.pat) }
-    ensures { GivesAs T.function_of (members.method_parts (rules.stmt g.now.depth nested_item) (rules.parameters g.now.depth) (form_of head.form) head.start head.word (P.seen p.old)) result (P.seen p.new) }
+    ensures { GivesAs T.function_of (members.method_parts (rules.stmt g.now.depth nested_item) (rules.parameters g.now.depth) (map T.decorator_of decorators.items) (form_of head.form) head.start head.word (P.seen p.old)) result (P.seen p.new) }
 {
     let manner = manner_of(head.form);
     let pats = parameters_inside(g, t, p, manner)?;
@@ -156,7 +174,7 @@ fn method_parts<
     let function = T::function(
         t.alloc,
         span,
-        Vec::new(t.alloc),
+        decorators,
         params,
         body.block,
         manner.is_async,
@@ -227,13 +245,14 @@ pub(crate) fn method<
     t: &MakerOf<T>,
     p: &mut P,
     head: Head,
+    decorators: Vec<T::Decorator>,
     key: MemberKey<T::Expr>,
 ) -> PResult<T::Member>
     requires { Nests P.seen T.expr_of T.pat_of T.stmt_of g.now.depth (S.pre g.now.stmt) (S.post g.now.stmt) (E.pre g.now.expr) (E.post g.now.expr) (N.pre g.now.pat) (N.post g.now.pat) }
-    ensures { GivesAs T.member_of (members.method (rules.stmt g.now.depth nested_item) (rules.parameters g.now.depth) head.is_static (form_of head.form) head.start head.word (member_key_of T.expr_of key) (P.seen p.old)) result (P.seen p.new) }
+    ensures { GivesAs T.member_of (members.method (rules.stmt g.now.depth nested_item) (rules.parameters g.now.depth) (map T.decorator_of decorators.items) head.is_static (form_of head.form) head.start head.word (member_key_of T.expr_of key) (P.seen p.old)) result (P.seen p.new) }
 {
     misnamed::<P, T>(p, head, &key)?;
-    let function = method_parts(g, t, p, head)?;
+    let function = method_parts(g, t, p, head, decorators)?;
     let kind = kind_of_form(head.form);
     grown(
         p,
@@ -252,14 +271,14 @@ fn static_constructor<P: Source>(alloc: Global, p: &mut P) -> PResult<SyntaxErro
 }
 
 /// A constructor is not static.
-fn unstatic<P: Source>(alloc: Global, p: &mut P, is_static: bool, start: Span) -> PResult<()>
-    ensures { Gives (told (only is_static kinds.TS1089 start) (P.seen p.old)) result (P.seen p.new) }
+fn unstatic<P: Source>(alloc: Global, p: &mut P, is_static: bool, first: Span) -> PResult<()>
+    ensures { Gives (told (only is_static kinds.TS1089 first) (P.seen p.old)) result (P.seen p.new) }
 {
     if !is_static {
         return Ok(());
     }
     let kind = static_constructor(alloc, p)?;
-    p.fault(kind, start)
+    p.fault(kind, first)
 }
 
 /// A constructor, from behind its key.
@@ -270,23 +289,16 @@ fn constructor<
     S: Fn(&MakerOf<T>, &mut P, usize, Position) -> PResult<T::Stmt>,
     E: Fn(&MakerOf<T>, &mut P, usize, Reading) -> PResult<Cover<T::Expr>>,
     N: Fn(&MakerOf<T>, &mut P, usize, Part) -> PResult<T::Pat>,
->(
-    g: &Grammar<S, E, N>,
-    t: &MakerOf<T>,
-    p: &mut P,
-    is_static: bool,
-    start: Span,
-    key: T::Key,
-) -> PResult<T::Member>
+>(g: &Grammar<S, E, N>, t: &MakerOf<T>, p: &mut P, begin: Begin, key: T::Key) -> PResult<T::Member>
     requires { Nests P.seen T.expr_of T.pat_of T.stmt_of g.now.depth (S.pre g.now.stmt) (S.post g.now.stmt) (E.pre g.now.expr) (E.post g.now.expr) (N.pre g.now.pat) (N.post g.now.pat) }
-    ensures { GivesAs T.member_of (members.constructor (rules.stmt g.now.depth nested_item) (rules.parameters g.now.depth) is_static start (T.key_of key) (P.seen p.old)) result (P.seen p.new) }
+    ensures { GivesAs T.member_of (members.constructor (rules.stmt g.now.depth nested_item) (rules.parameters g.now.depth) begin.is_static begin.start begin.first (T.key_of key) (P.seen p.old)) result (P.seen p.new) }
 {
     let pats = parameters(g, t, p)?;
     let body = function_body(g, t, p, PLAIN)?;
-    let span = since(p, start);
+    let span = since(p, begin.start);
     let Parameters { params, are_plain } = made_parameters::<P, T>(t, p, pats)?;
     misdirected_body::<P, T>(p, are_plain, &body)?;
-    unstatic(t.alloc, p, is_static, start)?;
+    unstatic(t.alloc, p, begin.is_static, begin.first)?;
     grown(p, T::constructor(t.alloc, span, key, params, body.block))
 }
 
@@ -302,29 +314,32 @@ pub(crate) fn plain_method<
     g: &Grammar<S, E, N>,
     t: &MakerOf<T>,
     p: &mut P,
-    is_static: bool,
-    start: Span,
+    decorators: Vec<T::Decorator>,
+    begin: Begin,
     word: Span,
     key: MemberKey<T::Expr>,
 ) -> PResult<T::Member>
     requires { Nests P.seen T.expr_of T.pat_of T.stmt_of g.now.depth (S.pre g.now.stmt) (S.post g.now.stmt) (E.pre g.now.expr) (E.post g.now.expr) (N.pre g.now.pat) (N.post g.now.pat) }
-    ensures { GivesAs T.member_of (members.plain_method (rules.stmt g.now.depth nested_item) (rules.parameters g.now.depth) is_static start word (member_key_of T.expr_of key) (P.seen p.old)) result (P.seen p.new) }
+    ensures { GivesAs T.member_of (members.plain_method (rules.stmt g.now.depth nested_item) (rules.parameters g.now.depth) (map T.decorator_of decorators.items) begin.is_static begin.start begin.first word (member_key_of T.expr_of key) (P.seen p.old)) result (P.seen p.new) }
 {
     let head = Head {
-        is_static,
+        is_static: begin.is_static,
         form: MethodForm::Method(PLAIN),
-        start,
+        start: begin.start,
+        first: begin.first,
         word,
     };
     let key = match key {
-        MemberKey::Private(name) => return method(g, t, p, head, MemberKey::Private(name)),
+        MemberKey::Private(name) => {
+            return method(g, t, p, head, decorators, MemberKey::Private(name));
+        }
         MemberKey::Public(key) => key,
     };
     if !is_constructor_name::<T>(&key) {
-        return method(g, t, p, head, MemberKey::Public(key));
+        return method(g, t, p, head, decorators, MemberKey::Public(key));
     }
     let key = grown(p, made_key::<T>(t.alloc, key))?;
-    constructor(g, t, p, is_static, start, key)
+    constructor(g, t, p, begin, key)
 }
 
 /// What stands around the statements of a static block.
@@ -365,11 +380,11 @@ pub(crate) fn second_static<
     S: Fn(&MakerOf<T>, &mut P, usize, Position) -> PResult<T::Stmt>,
     E: Fn(&MakerOf<T>, &mut P, usize, Reading) -> PResult<Cover<T::Expr>>,
     N: Fn(&MakerOf<T>, &mut P, usize, Part) -> PResult<T::Pat>,
->(g: &Grammar<S, E, N>, t: &MakerOf<T>, p: &mut P, start: Span) -> PResult<T::Member>
+>(g: &Grammar<S, E, N>, t: &MakerOf<T>, p: &mut P, begin: Begin) -> PResult<T::Member>
     requires { Nests P.seen T.expr_of T.pat_of T.stmt_of g.now.depth (S.pre g.now.stmt) (S.post g.now.stmt) (E.pre g.now.expr) (E.post g.now.expr) (N.pre g.now.pat) (N.post g.now.pat) }
-    ensures { GivesAs T.member_of (members.second_static (rules.stmt g.now.depth nested_item) (rules.parameters g.now.depth) start (P.seen p.old)) result (P.seen p.new) }
+    ensures { GivesAs T.member_of (members.second_static (rules.stmt g.now.depth nested_item) (rules.parameters g.now.depth) begin.start begin.first (P.seen p.old)) result (P.seen p.new) }
 {
-    p.fault(SyntaxError::TS1184, start)?;
+    p.fault(SyntaxError::TS1184, begin.first)?;
     p.skip()?;
-    static_block(g, t, p, start)
+    static_block(g, t, p, begin.start)
 }

@@ -82,7 +82,7 @@ fn begins_async_member<P: Source>(p: &P) -> bool
 
 /// Whether one of these words or `*` stands before a key.
 #[tactic(auto, unfolding(swc_ecma_parser_reader::specs::Members::begins_words))]
-fn begins_words<P: Source>(p: &P) -> bool
+pub(crate) fn begins_words<P: Source>(p: &P) -> bool
     ensures { result ≡ members.begins_words (P.seen p.now).at }
 {
     begins_accessor(p, "get")
@@ -98,12 +98,12 @@ pub(crate) fn begins_static_block<P: Source>(p: &P) -> bool
     p.word_at("static") && p.next_sees(TokenKind::LBrace)
 }
 
-/// Whether no field goes on behind `accessor`, before any key.
-#[tactic(auto, unfolding(swc_ecma_parser_reader::specs::Members::begins_no_field))]
-pub(crate) fn begins_no_field<P: Source>(p: &P, is_static: bool) -> bool
-    ensures { result ≡ members.begins_no_field is_static (P.seen p.now).at }
+/// Whether a static block goes on behind `accessor`, with a `static` of its own or without it.
+#[tactic(auto, unfolding(swc_ecma_parser_reader::specs::Members::begins_block))]
+pub(crate) fn begins_block<P: Source>(p: &P, is_static: bool) -> bool
+    ensures { result ≡ members.begins_block is_static (P.seen p.now).at }
 {
-    (is_static && p.sees(TokenKind::LBrace)) || begins_static_block(p) || begins_words(p)
+    (is_static && p.sees(TokenKind::LBrace)) || begins_static_block(p)
 }
 
 /// The words before a key, if any stand there.

@@ -29,7 +29,7 @@ use swc_ecma_parser_trees::{BuildsExport, BuildsStatements, BuildsVarDecl, Maker
 
 /// The name of a function that is exported by default, which is read in the code around, if there is one.
 #[tactic(auto, unfolding(swc_ecma_parser_module_reader::specs::Exports::default_name, swc_ecma_parser_reader::specs::Reader::named))]
-fn default_name<P: Source>(p: &mut P) -> PResult<Option<Ident>>
+pub(crate) fn default_name<P: Source>(p: &mut P) -> PResult<Option<Ident>>
     ensures { GivesAs (part_of word_of) (exports.default_name (P.seen p.old)) result (P.seen p.new) }
 {
     if !p.name_at() {
@@ -122,15 +122,32 @@ fn default_expr<P: Source, T: BuildsStatements + BuildsExport>(
 
 /// Whether a function begins here.
 #[tactic(auto, unfolding(swc_ecma_parser_module_reader::specs::Exports::begins_default_function))]
-fn begins_function<P: Source>(p: &P) -> bool
+pub(crate) fn begins_function<P: Source>(p: &P) -> bool
     ensures { result ≡ exports.begins_default_function (P.seen p.now).at }
 {
     p.sees(TokenKind::Function) || p.is_async_function()
 }
 
+/// An export of a default that is neither a class nor a function, from behind its words on, the last of which stands at `first`.
+#[tactic(auto, unfolding(swc_ecma_parser_module_reader::specs::Exports::default_rest))]
+pub(crate) fn default_rest<P: Source, T: BuildsStatements + BuildsExport>(
+    t: &MakerOf<T>,
+    p: &mut P,
+    depth: usize,
+    start: Span,
+    first: Span,
+) -> PResult<T::Item>
+    ensures { GivesAs T.item_of (exports.default_rest (rules.stmt depth nested_item) (rules.expr depth) (rules.pattern depth) (rules.parameters depth) (rules.member depth) (rules.object_alone depth) start first (P.seen p.old)) result (P.seen p.new) }
+{
+    if is_default_from(p) {
+        return default_from::<P, T>(t, p, depth, start, first);
+    }
+    default_expr::<P, T>(t, p, depth, start)
+}
+
 /// An export of a default, from behind its words on, the last of which stands at `first`.
 #[tactic(auto, unfolding(swc_ecma_parser_module_reader::specs::Exports::export_default))]
-fn export_default<P: Source, T: BuildsStatements + BuildsExport>(
+pub(crate) fn export_default<P: Source, T: BuildsStatements + BuildsExport>(
     t: &MakerOf<T>,
     p: &mut P,
     depth: usize,
@@ -145,10 +162,7 @@ fn export_default<P: Source, T: BuildsStatements + BuildsExport>(
     if begins_function(p) {
         return exported_function::<P, T>(t, p, depth, start);
     }
-    if is_default_from(p) {
-        return default_from::<P, T>(t, p, depth, start, first);
-    }
-    default_expr::<P, T>(t, p, depth, start)
+    default_rest::<P, T>(t, p, depth, start, first)
 }
 
 /// An export of variables, from their word on.
@@ -205,27 +219,21 @@ fn exported_class_decl<P: Source, T: BuildsStatements + BuildsExport>(
     grown(p, T::export_decl(t.alloc, span, decl))
 }
 
-/// An export.
-#[tactic(auto, unfolding(swc_ecma_parser_module_reader::specs::Exports::export_decl))]
-pub fn export_decl<P: Source, T: BuildsStatements + BuildsExport + BuildsVarDecl>(
+/// An export of what is neither a class nor a function, from behind its word on.
+#[tactic(auto, unfolding(swc_ecma_parser_module_reader::specs::Exports::export_rest))]
+pub(crate) fn export_rest<P: Source, T: BuildsStatements + BuildsExport + BuildsVarDecl>(
     t: &MakerOf<T>,
     p: &mut P,
     depth: usize,
+    start: Span,
 ) -> PResult<T::Item>
-    ensures { GivesAs T.item_of (exports.export_decl (rules.stmt depth nested_item) (rules.expr depth) (rules.pattern depth) (rules.parameters depth) (rules.member depth) (rules.object_alone depth) (P.seen p.old)) result (P.seen p.new) }
+    ensures { GivesAs T.item_of (exports.export_rest (rules.stmt depth nested_item) (rules.expr depth) (rules.pattern depth) (rules.parameters depth) (rules.member depth) (rules.object_alone depth) start (P.seen p.old)) result (P.seen p.new) }
 {
-    let start = p.span();
-    p.skip()?;
     if p.sees(TokenKind::LBrace) {
         return export_names::<P, T>(t, p, depth, start);
     }
     if p.sees(TokenKind::Mul) {
         return export_star::<P, T>(t, p, depth, start);
-    }
-    if p.sees(TokenKind::Default) {
-        let first = p.span();
-        p.skip()?;
-        return export_default::<P, T>(t, p, depth, start, first);
     }
     if p.sees(TokenKind::Var) {
         return exported_variables::<P, T>(t, p, depth, start, VarDeclKind::Var);
@@ -236,14 +244,27 @@ pub fn export_decl<P: Source, T: BuildsStatements + BuildsExport + BuildsVarDecl
     if p.is_let_declaration() {
         return exported_variables::<P, T>(t, p, depth, start, VarDeclKind::Let);
     }
+    if is_name_from(p) {
+        return name_from::<P, T>(t, p, depth, start);
+    }
+    Err(p.wanted(Wanted::Expression))
+}
+
+/// An export that is no default, from behind its word on.
+#[tactic(auto, unfolding(swc_ecma_parser_module_reader::specs::Exports::export_named))]
+pub(crate) fn export_named<P: Source, T: BuildsStatements + BuildsExport + BuildsVarDecl>(
+    t: &MakerOf<T>,
+    p: &mut P,
+    depth: usize,
+    start: Span,
+) -> PResult<T::Item>
+    ensures { GivesAs T.item_of (exports.export_named (rules.stmt depth nested_item) (rules.expr depth) (rules.pattern depth) (rules.parameters depth) (rules.member depth) (rules.object_alone depth) start (P.seen p.old)) result (P.seen p.new) }
+{
     if p.sees(TokenKind::Class) {
         return exported_class_decl::<P, T>(t, p, depth, start);
     }
     if begins_function(p) {
         return exported_decl::<P, T>(t, p, depth, start);
     }
-    if is_name_from(p) {
-        return name_from::<P, T>(t, p, depth, start);
-    }
-    Err(p.wanted(Wanted::Expression))
+    export_rest::<P, T>(t, p, depth, start)
 }

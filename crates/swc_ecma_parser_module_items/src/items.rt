@@ -7,7 +7,7 @@ ghost use Rattle.swc_ecma_parser_reader.specs.Reader as rules;
 ghost use Rattle.swc_ecma_parser_reader.specs.State as reader;
 ghost use Rattle.swc_ecma_parser_reader.specs.State.{GivesAs};
 
-use crate::exported::export_decl;
+use crate::decorated::export_item;
 use swc_ecma_parser_core::script::whole_stmt;
 use swc_ecma_parser_error::PResult;
 use swc_ecma_parser_grammar::Position;
@@ -59,7 +59,7 @@ fn export_in<P: Source, T: BuildsStatements + BuildsExport + BuildsVarDecl>(
     if limit == 0 {
         return Err(p.too_deep());
     }
-    export_decl::<P, T>(t, p, limit - 1)
+    export_item::<P, T>(t, p, limit - 1)
 }
 
 /// An item of a module, in so many levels: an import, an export or a statement.

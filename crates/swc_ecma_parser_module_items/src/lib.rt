@@ -2,6 +2,7 @@
 //! ECMA-262, section 16.2.
 #![tactic(auto)]
 
+pub mod decorated;
 pub mod exported;
 mod inner;
 pub mod items;

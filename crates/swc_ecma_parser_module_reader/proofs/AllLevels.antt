@@ -13,7 +13,6 @@ use Rattle.std.specs.Prelude.{◌&&◌, ◌||◌}
 use Rattle.swc_ecma_parser_error.specs.Kind as faults
 use Rattle.swc_ecma_parser_error.specs.Kind.{Fault}
 use Rattle.swc_ecma_parser_token.specs.declared.kind.TokenKind.TheVariants as kind
-use Rattle.swc_ecma_parser_token.specs.declared.token.Token.TheVariants as token
 use Rattle.swc_ecma_parser_input.specs.Place.{Place, after}
 use Rattle.swc_ecma_parser_model.specs.Tree as tree
 use Rattle.swc_ecma_parser_model.specs.Tree.{Tree, listed, trees}
@@ -43,6 +42,7 @@ use Rattle.swc_ecma_parser_reader.proofs.expressions.Complete.{read_above, read_
 use Rattle.swc_ecma_parser_reader.proofs.expressions.CompleteHeads.{Heads, AsLeft, head_expr_reads, head_target_reads}
 use Rattle.swc_ecma_parser_reader.proofs.patterns.Complete.{pattern_above, pattern_nowhere}
 use Rattle.swc_ecma_parser_reader.proofs.Below.{Below, parameters_reads}
+use Rattle.swc_ecma_parser_reader.proofs.decorators.Levels.{decorated_in_reads}
 use Rattle.swc_ecma_parser_reader.proofs.Falls.{expr_falls, cover_falls, pattern_falls, element_falls, functions_fall}
 use Rattle.swc_ecma_parser_grammar.proofs.FunctionExprs.{function_narrows}
 use Rattle.swc_ecma_parser_grammar.proofs.Arrows.{block_narrows}
@@ -289,10 +289,12 @@ below zero = record {
   patterns = pattern_nowhere (pattern zero) (element zero) (pattern_falls zero) (element_falls zero);
   heads = λ k x c d r w f h. absurd r.0;
   targets = λ k x c d r e w f h. absurd r.0;
+  decorateds = decorated_in_reads zero;
 }
 below (suc n) = let b = below n in record {
   exprs = read_above n (expr n) (cover n) b.exprs (function n) (functions n b) (tied_at (suc n)) (parts_at (suc n));
   patterns = pattern_above n (expr n) (cover n) b.exprs (pattern n) (element n) b.patterns;
   heads = heads_above n b;
   targets = targets_above n b;
+  decorateds = decorated_in_reads (suc n);
 }

@@ -12,7 +12,7 @@ use Rattle.swc_ecma_parser_reader.specs.Entry.{Stays, unmarked}
 use Rattle.swc_ecma_parser_reader.specs.Limits.{has_too_deep_token, has_out_of_memory_token}
 use Rattle.swc_ecma_parser_module_reader.specs.Entry.{IsEntered, SoundModule, CompleteModule, AnswersModule}
 use Rattle.swc_ecma_parser_module_reader.proofs.Sound.{module_is_sound, module_lacks_out_of_memory}
-use Rattle.swc_ecma_parser_module_reader.proofs.CompleteExports.{export_reads}
+use Rattle.swc_ecma_parser_module_reader.proofs.CompleteDecorated.{export_reads}
 use Rattle.swc_ecma_parser_module_reader.proofs.CompleteModules.{module_reads}
 use Rattle.swc_ecma_parser_module_reader.proofs.Entered.{stays_entered}
 use Rattle.swc_ecma_parser_module_reader.proofs.Entries as entries

@@ -46,12 +46,13 @@ use Rattle.swc_ecma_parser_reader.proofs.CompleteParts.{calm_same, ends_read, op
 use Rattle.swc_ecma_parser_reader.proofs.Errors.{is_error}
 use Rattle.swc_ecma_parser_reader.proofs.Notes.{or_nil}
 use Rattle.swc_ecma_parser_reader.proofs.Words.{async_kind, or_later}
-use Rattle.swc_ecma_parser_reader.proofs.expressions.CompleteKinds.{seen, token_first, named, no_async_function, named_word}
+use Rattle.swc_ecma_parser_reader.proofs.expressions.CompleteKinds.{seen, token_first, no_async_function, named_word}
 use Rattle.swc_ecma_parser_reader.proofs.expressions.SoundSteps.{word_span}
 use Rattle.swc_ecma_parser_module_reader.specs.Imports.{attributes, specifiers}
-use Rattle.swc_ecma_parser_module_reader.specs.Exports.{renamed_export, plain_export, export_specifier, export_namespace, names_from, own_names, export_names, more_names, namespace_names, export_all, export_star, is_namespace_next, behind_default, is_name_from, name_from, is_default_from, default_from, begins_default_function, export_default, export_decl}
+use Rattle.swc_ecma_parser_module_reader.specs.Exports.{renamed_export, plain_export, export_specifier, export_namespace, names_from, own_names, export_names, more_names, namespace_names, export_all, export_star, is_namespace_next, behind_default, is_name_from, name_from, is_default_from, default_from, begins_default_function, default_rest, export_default, export_rest, export_named, export_decl}
 use Rattle.swc_ecma_parser_module_reader.proofs.ModuleCode.{IsModule, module_env}
 use Rattle.swc_ecma_parser_module_reader.proofs.Falls.{export_specifier_shorter}
+use Rattle.swc_ecma_parser_module_reader.proofs.NoDecorators.{word_no_at}
 use Rattle.swc_ecma_parser_module_reader.proofs.CompleteImports.{module_name_goes}
 use Rattle.swc_ecma_parser_module_reader.proofs.CompleteShared.{expect_word_reads, source_reads, module_name_reads, name_reads, IsGiven, attributes_read, specifiers_read}
 use Rattle.swc_ecma_parser_grammar.proofs.Naming.{name_is_name, name_is_free}
@@ -355,25 +356,62 @@ clause_silent (names_rule r) = names_silent r
 clause_silent (default_alone_rule y e o r g) = subst AllSilent (sym g) (one_more y [] (default_silent r) none_silent)
 clause_silent (default_and_names_rule y ys m o r e s g) = subst AllSilent (sym g) (one_more y ys (default_silent r) (names_silent s))
 
+-- no function begins with a word of another kind
+pub no_function_at : (c : Place) (j : TokenKind) → kind_at c ≡ j → same_kind j kind.Function ≡ false → same_kind j kind.Ident ≡ false → begins_default_function c ≡ false
+unfolding begins_default_function same_kind
+no_function_at c j e f g = by_async (is_async_function c) refl
+  where
+    by_async : (b : Bool) → is_async_function c ≡ b → (sees kind.Function c || is_async_function c) ≡ false
+    by_async true h = absurd (true≢false (sym (ap (λ i. same_kind i kind.Ident) (async_kind c h)) ∙ ap (λ i. same_kind i kind.Ident) e ∙ g))
+    by_async false h = rw (h, e) (or_nil (same_kind j kind.Function) ∙ f)
+
+-- ---- where no decorators begin
+
+follows_no_at : (m : Place) → Follows m → sees kind.At m ≡ false
+unfolding same_kind
+follows_no_at m (inl e) = rw (word_place (codes "from") m e) refl
+follows_no_at m (inr (e, g)) = rw e refl
+
+default_no_at : {k : Code} {y : Tree} {c m : Place} → DefaultExportRule k y c m → Follows m → (sees kind.At c ≡ false) × (kind_at c ≡ kind.Default → sees kind.At (after c) ≡ false)
+unfolding same_kind
+default_no_at {k = k} {c = c} {m = m} (under_name_rule text s r e) g = let w = token_first (token.Word r.word) s c m r.reads_word in (
+  rw w (word_no_at r.word),
+  λ h. follows_no_at (after c) (subst Follows r.reads_word.next g),
+)
+default_no_at {c = c} {m = m} (as_default_rule s a r e) g = (rw a refl, λ h. follows_no_at (after c) (subst Follows r.reads_word.next g))
+
+names_no_at : {k : Code} {start : Place} {b : Bool} {xs : List Tree} {c d : Place} → NamesRule k start b xs c d → (sees kind.At c ≡ false) × (kind_at c ≡ kind.Default → sees kind.At (after c) ≡ false)
+unfolding same_kind
+names_no_at (braces_rule e r) = (rw r.opens refl, λ h. let g = sym r.opens ∙ h in cc)
+names_no_at (namespace_rule y e r g) = (rw r.star refl, λ h. let i = sym r.star ∙ h in cc)
+names_no_at (namespace_and_braces_rule y ys m e b r i s g) = (rw r.star refl, λ h. let j = sym r.star ∙ h in cc)
+
+pub clause_no_at : {k : Code} {b : Bool} {xs : List Tree} {c l : Place} → ExportClauseRule k b xs c l → (b ≡ true) ⊎ (word_at (codes "from") l ≡ true)
+    → (sees kind.At c ≡ false) × (kind_at c ≡ kind.Default → sees kind.At (after c) ≡ false)
+clause_no_at (names_rule r) f = names_no_at r
+clause_no_at (default_alone_rule y e o r g) (inl h) = absurd (true≢false (sym h ∙ e))
+clause_no_at (default_alone_rule y e o r g) (inr h) = default_no_at r (inl h)
+clause_no_at (default_and_names_rule y ys m o r e s g) f = default_no_at r (names_follow m e s)
+
 module _ (n : ℕ) (k : Code) (o : IsModule k) where
   abbrev reader : Reader Tree
   reader = export_decl (stmt n nested_item) (expr n) (pattern n) (parameters n) (member n) (object_alone n)
 
   at_brace : (s : State) → kind_at (after s.at) ≡ kind.LBrace → reader s ≡ export_names (object_alone n) (span_at s.at) [] (moved s)
-  unfolding export_decl same_kind
-  at_brace s e = rw e refl
+  unfolding export_decl export_named export_rest same_kind
+  at_brace s e = rw (no_function_at (after s.at) kind.LBrace e refl refl, e) refl
 
   at_star : (s : State) → kind_at (after s.at) ≡ kind.Mul → reader s ≡ export_star (object_alone n) (span_at s.at) (moved s)
-  unfolding export_decl same_kind
-  at_star s e = rw e refl
+  unfolding export_decl export_named export_rest same_kind
+  at_star s e = rw (no_function_at (after s.at) kind.Mul e refl refl, e) refl
 
   at_name : (s : State) → NameKind (kind_at (after s.at)) → is_async_function (after s.at) ≡ false → is_name_from s.code (after s.at) ≡ true → reader s ≡ name_from (object_alone n) (span_at s.at) (moved s)
-  unfolding export_decl is_let_declaration begins_default_function
+  unfolding export_decl export_named export_rest is_let_declaration begins_default_function
   at_name s t a e = rw (t.0, t.1, t.2, t.3, t.4, t.5, t.6, t.7, a, e) refl
 
   at_default : (s : State) → kind_at (after s.at) ≡ kind.Default → Follows (after (after s.at)) → s.code.setting.export_default_from ≡ true
       → reader s ≡ default_from (object_alone n) (span_at s.at) (span_at (after s.at)) (moved (moved s))
-  unfolding export_decl export_default begins_default_function same_kind
+  unfolding export_decl export_default default_rest begins_default_function same_kind
   at_default s e g b = rw (e, no_class (after (after s.at)) g, no_function (after (after s.at)) g, no_async (after (after s.at)) g, from_follows s.code (after (after s.at)) b g) refl
 
   -- a default, up to what follows it

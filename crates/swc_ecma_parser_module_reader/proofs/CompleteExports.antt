@@ -1,12 +1,11 @@
--- What the grammar reads as an export and is supported is read, with the faults of the walk and the notes, and no others.
+-- What the grammar reads as an export of a declaration or a default, is supported and has no decorators is read, with the faults of the
+-- walk and the notes, and no others.
 use Rattle.std.proofs.Common.{◌≡◌, ℕ, suc, Bool, true, false, true≢false, List, [], ◌++◌, Ok, refl, sym, ◌∙◌, ap, subst, append_assoc, codes}
 use Rattle.std.specs.Prelude.{not, ◌&&◌, ◌||◌}
 use Rattle.swc_ecma_parser_common.specs.declared.span.Span.{Span}
 use Rattle.swc_ecma_parser_error.specs.Kind as faults
 use Rattle.swc_ecma_parser_error.specs.Kind.{Fault}
 use Rattle.swc_ecma_parser_token.specs.declared.kind.TokenKind.TheVariants as kind
-use Rattle.swc_ecma_parser_token.specs.declared.token.Token.TheVariants as token
-use Rattle.swc_ecma_parser_token.specs.Text.{word_text}
 use Rattle.swc_ecma_parser_input.specs.Place.{Place, after}
 use Rattle.swc_ecma_parser_model.specs.declared.leaves.VarDeclKind.{VarDeclKind}
 use Rattle.swc_ecma_parser_model.specs.declared.leaves.VarDeclKind.TheVariants as decl
@@ -14,9 +13,9 @@ use Rattle.swc_ecma_parser_model.specs.Tree as tree
 use Rattle.swc_ecma_parser_model.specs.Tree.{Tree, Text, listed, trees}
 use Rattle.swc_ecma_parser_model.specs.Forms.{is_absent, has_plain_params}
 use Rattle.swc_ecma_parser_grammar.specs.Looks.{kind_at, sees, same_kind, span_at, spanned}
-use Rattle.swc_ecma_parser_grammar.specs.Names.{Code, is_name}
+use Rattle.swc_ecma_parser_grammar.specs.Names.{Code}
 use Rattle.swc_ecma_parser_grammar.specs.Ends.{Ends}
-use Rattle.swc_ecma_parser_grammar.specs.Follows.{word_at, is_let_declaration, is_async_function, AsyncWord, not_async, async_word}
+use Rattle.swc_ecma_parser_grammar.specs.Follows.{word_at, is_async_function, AsyncWord, not_async, async_word}
 use Rattle.swc_ecma_parser_grammar.specs.Notes.{notes}
 use Rattle.swc_ecma_parser_grammar.specs.language.Noted.{has_meta}
 use Rattle.swc_ecma_parser_grammar.specs.Own.{misplaced_directive}
@@ -27,8 +26,7 @@ use Rattle.swc_ecma_parser_grammar.specs.Variables.{begins_variables}
 use Rattle.swc_ecma_parser_grammar.specs.Walk.{Env, env_of, in_body as walks_in_body, in_params, walk, walks, walk_body}
 use Rattle.swc_ecma_parser_grammar.specs.language.Classes.{DecoratorsRule, no_decorators, some_decorators, ClassRule}
 use Rattle.swc_ecma_parser_grammar.specs.language.Contexts.{in_parameters}
-use Rattle.swc_ecma_parser_grammar.specs.language.Exports.{ExportClauseRule, ExportFrontRule, decorated_before, decorated_behind, ExportWords, export_word, export_default_words, ExportedRule, exported_class as exported_class_rule, exported_function as exported_function_rule, exported_variables, DefaultRule, default_class as default_class_rule, default_function as default_function_rule, may_begin_default, ExportRule, export_declaration_rule, export_from_rule, export_names_rule, export_default_declaration_rule, export_default_expression_rule, export_all_rule}
-use Rattle.swc_ecma_parser_grammar.specs.language.ModuleParts.{AttributesRule}
+use Rattle.swc_ecma_parser_grammar.specs.language.Exports.{ExportFrontRule, decorated_before, decorated_behind, ExportWords, export_word, export_default_words, ExportedRule, exported_class as exported_class_rule, exported_function as exported_function_rule, exported_variables, DefaultRule, default_class as default_class_rule, default_function as default_function_rule, may_begin_default}
 use Rattle.swc_ecma_parser_grammar.specs.language.Functions.{FunctionRule}
 use Rattle.swc_ecma_parser_grammar.specs.language.Declarations.{VariablesRule}
 use Rattle.swc_ecma_parser_grammar.specs.language.Goals.{Goal, expr_goal, assignment, left_side}
@@ -40,11 +38,12 @@ use Rattle.swc_ecma_parser_grammar.proofs.Narrows.{stmt_narrows}
 use Rattle.swc_ecma_parser_grammar.proofs.SupportedBegins.{supported_as}
 use Rattle.swc_ecma_parser_grammar.proofs.SupportedIn.{lift_in}
 use Rattle.swc_ecma_parser_grammar.proofs.Tests.{and_yes}
+use Rattle.swc_ecma_parser_reader.specs.DecoratedStatements.{either_stmt}
 use Rattle.swc_ecma_parser_reader.specs.Members.{class_decl}
 use Rattle.swc_ecma_parser_reader.specs.Notes.{Notes, ◌⊕◌, notes_of, all_notes_of}
 use Rattle.swc_ecma_parser_reader.specs.Reader.{expr, pattern, member, parameters, object_alone, stmt, stmt_level, const_stmt, let_stmt, function_stmt, async_or_other, variables, function_decl, function_parts, misdirected, named}
 use Rattle.swc_ecma_parser_reader.specs.State.{Scope, State, Reader, moved}
-use Rattle.swc_ecma_parser_reader.proofs.Answered.{st, Calm, ReadsCalm}
+use Rattle.swc_ecma_parser_reader.proofs.Answered.{st, ReadsCalm}
 use Rattle.swc_ecma_parser_reader.proofs.Below.{expr_reads, parameters_reads}
 use Rattle.swc_ecma_parser_reader.proofs.Between.{nil-split}
 use Rattle.swc_ecma_parser_reader.proofs.Complete.{member_reads, stmt_reads}
@@ -56,47 +55,47 @@ use Rattle.swc_ecma_parser_reader.proofs.Words.{async_kind, async_stands}
 use Rattle.swc_ecma_parser_reader.proofs.classes.CompleteClasses.{class_decl_reads, class_expr_reads}
 use Rattle.swc_ecma_parser_reader.proofs.expressions.CompleteKinds as kinds
 use Rattle.swc_ecma_parser_reader.proofs.expressions.CompleteKinds.{seen}
-use Rattle.swc_ecma_parser_module_reader.specs.Exports.{begins_default_function, is_default_from, default_name, default_function, default_expr, exported_function, exported_class, export_default, exported, export_decl}
+use Rattle.swc_ecma_parser_module_reader.specs.Exports.{begins_default_function, is_default_from, default_name, default_function, default_expr, exported_function, exported_class, default_rest, export_default, exported, export_rest, export_named, export_decl}
 use Rattle.swc_ecma_parser_module_reader.specs.Supported.{supported_item}
-use Rattle.swc_ecma_parser_module_reader.proofs.ModuleCode.{IsModule, in_module_same, module_env}
+use Rattle.swc_ecma_parser_module_reader.proofs.ModuleCode.{IsModule, module_env}
 use Rattle.swc_ecma_parser_module_reader.proofs.CompleteShared.{name_reads}
-use Rattle.swc_ecma_parser_module_reader.proofs.CompleteExportNames.{export_from_read, export_own_read, export_all_read}
+use Rattle.swc_ecma_parser_module_reader.proofs.CompleteExportNames.{no_function_at}
 use Rattle.swc_ecma_parser_module_reader.proofs.AllLevels.{below, function_body_reads, word_reads, star_reads}
 use Rattle.swc_ecma_parser_grammar.proofs.Naming.{name_is_name}
 
 -- ---- words and decorators
 
-undecorated : {In : Goal → Type 0} {k : Code} {a : Tree} {c d : Place} → DecoratorsRule In k a c d → has_none a ≡ true → (d ≡ c) × (a ≡ listed [])
+pub undecorated : {In : Goal → Type 0} {k : Code} {a : Tree} {c d : Place} → DecoratorsRule In k a c d → has_none a ≡ true → (d ≡ c) × (a ≡ listed [])
 undecorated (no_decorators e g) h = (e, g)
 undecorated (some_decorators y ys o r e) h = absurd (true≢false (sym h ∙ ap has_none e))
 
 -- without decorators the words stand first
-front_plain : {In : Goal → Type 0} {k : Code} {b : Bool} {a : Tree} {c m d : Place} → ExportFrontRule In k b a c m d → has_none a ≡ true → (m ≡ c) × (a ≡ listed []) × ExportWords b c d
+pub front_plain : {In : Goal → Type 0} {k : Code} {b : Bool} {a : Tree} {c m d : Place} → ExportFrontRule In k b a c m d → has_none a ≡ true → (m ≡ c) × (a ≡ listed []) × ExportWords b c d
 front_plain {b = b} {d = d} (decorated_before o r i v) h = let g = undecorated r h in (g.0, g.1, subst (λ z. ExportWords b z d) g.0 v)
 front_plain {b = b} {m = m} {d = d} (decorated_behind n e v r) h = let g = undecorated r h in (e, g.1, subst (λ z. ExportWords b z d) e (subst (λ z. ExportWords b m z) (sym g.0) v))
 
-declared_word : {c d : Place} → ExportWords false c d → (kind_at c ≡ kind.Export) × (d ≡ after c)
+pub declared_word : {c d : Place} → ExportWords false c d → (kind_at c ≡ kind.Export) × (d ≡ after c)
 declared_word (export_word o e g) = (e, g)
 declared_word (export_default_words o e i g) = absurd (true≢false (sym o))
 
-default_words : {c d : Place} → ExportWords true c d → (kind_at (after c) ≡ kind.Default) × (d ≡ after (after c))
+pub default_words : {c d : Place} → ExportWords true c d → (kind_at (after c) ≡ kind.Default) × (d ≡ after (after c))
 default_words (export_word o e g) = absurd (true≢false o)
 default_words (export_default_words o e i g) = (i, g)
 
 -- ---- what begins with a word of variables or functions
 
 module _ (n : ℕ) where
-  abbrev inner_stmt : Reader Tree
+  abbrev pub inner_stmt : Reader Tree
   inner_stmt = stmt n nested_item
 
   stmt_variables : (word : VarDeclKind) (s : State) → begins_variables word s.at ≡ true → stmt (suc n) nested_item s ≡ variables (expr n) (pattern n) word s
-  unfolding stmt stmt_level const_stmt let_stmt
+  unfolding stmt either_stmt same_kind stmt_level const_stmt let_stmt
   stmt_variables decl.Var s e = rw (saw s.at kind.Var e) refl
   stmt_variables decl.Const s e = rw (saw s.at kind.Const e) refl
   stmt_variables decl.Let s e = rw (let_stands s.at e, e) refl
 
-  stmt_function : {b : Bool} (s : State) (m : Place) → AsyncWord b s.at m → kind_at m ≡ kind.Function → stmt (suc n) nested_item s ≡ function_decl inner_stmt (parameters n) s
-  unfolding stmt stmt_level function_stmt async_or_other
+  pub stmt_function : {b : Bool} (s : State) (m : Place) → AsyncWord b s.at m → kind_at m ≡ kind.Function → stmt (suc n) nested_item s ≡ function_decl inner_stmt (parameters n) s
+  unfolding stmt either_stmt same_kind stmt_level function_stmt async_or_other
   stmt_function s m (not_async i j) e = rw (ap kind_at (sym j) ∙ e) refl
   stmt_function s m (async_word i j l o) e = let v = async_stands s.at m j l o e in rw (async_kind s.at v, v) refl
 
@@ -104,41 +103,41 @@ module _ (n : ℕ) where
   export_variables : (word : VarDeclKind) (s : State) → begins_variables word (after s.at) ≡ true
       → export_decl inner_stmt (expr n) (pattern n) (parameters n) (member n) (object_alone n) s
       ≡ exported inner_stmt (expr n) (pattern n) (parameters n) (member n) (span_at s.at) (variables (expr n) (pattern n) word) (moved s)
-  unfolding export_decl same_kind
-  export_variables decl.Var s e = rw (saw (after s.at) kind.Var e) refl
-  export_variables decl.Const s e = rw (saw (after s.at) kind.Const e) refl
-  export_variables decl.Let s e = rw (let_stands (after s.at) e, e) refl
+  unfolding export_decl export_named export_rest same_kind
+  export_variables decl.Var s e = let i = saw (after s.at) kind.Var e in rw (no_function_at (after s.at) kind.Var i refl refl, i) refl
+  export_variables decl.Const s e = let i = saw (after s.at) kind.Const e in rw (no_function_at (after s.at) kind.Const i refl refl, i) refl
+  export_variables decl.Let s e = let i = let_stands (after s.at) e in rw (no_function_at (after s.at) kind.Let i refl refl, i, e) refl
 
   export_function : {b : Bool} (s : State) (m : Place) → AsyncWord b (after s.at) m → kind_at m ≡ kind.Function
       → export_decl inner_stmt (expr n) (pattern n) (parameters n) (member n) (object_alone n) s
       ≡ exported inner_stmt (expr n) (pattern n) (parameters n) (member n) (span_at s.at) (function_decl inner_stmt (parameters n)) (moved s)
-  unfolding export_decl same_kind is_let_declaration begins_default_function
+  unfolding export_decl export_named same_kind begins_default_function
   export_function s m (not_async i j) e = rw (ap kind_at (sym j) ∙ e) refl
   export_function s m (async_word i j l o) e = let v = async_stands (after s.at) m j l o e in rw (async_kind (after s.at) v, v) refl
 
   export_class : (s : State) → kind_at (after s.at) ≡ kind.Class
       → export_decl inner_stmt (expr n) (pattern n) (parameters n) (member n) (object_alone n) s
       ≡ exported inner_stmt (expr n) (pattern n) (parameters n) (member n) (span_at s.at) (class_decl (expr n left_side) (member n)) (moved s)
-  unfolding export_decl same_kind is_let_declaration
+  unfolding export_decl export_named same_kind
   export_class s e = rw e refl
 
   -- no function begins with that word
-  no_class : {b : Bool} (c m : Place) → AsyncWord b c m → kind_at m ≡ kind.Function → sees kind.Class c ≡ false
+  pub no_class : {b : Bool} (c m : Place) → AsyncWord b c m → kind_at m ≡ kind.Function → sees kind.Class c ≡ false
   unfolding same_kind
   no_class c m (not_async i j) e = rw (ap kind_at (sym j) ∙ e) refl
   no_class c m (async_word i j l o) e = rw (async_kind c (async_stands c m j l o e)) refl
 
-  function_begins : {b : Bool} (c m : Place) → AsyncWord b c m → kind_at m ≡ kind.Function → begins_default_function c ≡ true
+  pub function_begins : {b : Bool} (c m : Place) → AsyncWord b c m → kind_at m ≡ kind.Function → begins_default_function c ≡ true
   unfolding begins_default_function same_kind
   function_begins c m (not_async i j) e = rw (ap kind_at (sym j) ∙ e) refl
   function_begins c m (async_word i j l o) e = let v = async_stands c m j l o e in rw (async_kind c v, v) refl
 
 -- the name of a function, or none
-name_walk : {k : Code} {x : Tree} {c d : Place} (env : Env) → OptionalName k x c d → walk env x ≡ []
+pub name_walk : {k : Code} {x : Tree} {c d : Place} (env : Env) → OptionalName k x c d → walk env x ≡ []
 name_walk env (no_name e g) = ap (walk env) g
 name_walk env (a_name text s r e) = ap (walk env) e
 
-name_notes : {k : Code} {x : Tree} {c d : Place} → OptionalName k x c d → (notes x ≡ []) × (has_meta x ≡ false)
+pub name_notes : {k : Code} {x : Tree} {c d : Place} → OptionalName k x c d → (notes x ≡ []) × (has_meta x ≡ false)
 name_notes (no_name e g) = (ap notes g, ap has_meta g)
 name_notes (a_name text s r e) = (ap notes e, ap has_meta e)
 
@@ -166,7 +165,7 @@ module _ (n : ℕ) (k : Code) (o : IsModule k) where
   -- ---- variables, classes and functions
 
   -- what is declared is a statement one level further out
-  declared_reads : (y : Tree) (c d : Place) → FormRule (language.Reads n) k nested_item y c d → supported y ≡ true → notes y ≡ [] → ReadsCalm (stmt (suc n) nested_item) k y c d
+  pub declared_reads : (y : Tree) (c d : Place) → FormRule (language.Reads n) k nested_item y c d → supported y ≡ true → notes y ≡ [] → ReadsCalm (stmt (suc n) nested_item) k y c d
   unfolding may_begin_at_top
   declared_reads y c d r s q = stmt_reads (suc n) nested_item k y c d (stmt_narrows (suc n) k nested_item y c d (λ z. q) (refl, r) (lift_in k.flags.module y s (λ z. q)))
 
@@ -237,7 +236,7 @@ module _ (n : ℕ) (k : Code) (o : IsModule k) where
   name_no_star (no_name e g) p = rw (ap kind_at (sym e) ∙ p) refl
   name_no_star {c = c} {d = d} (a_name text s r e) p = kinds.no_star r.word s c d r.reads_word
 
-  default_function_reads : (a name x z : Tree) (c d : Place) → FunctionRule (language.Reads n) false k a name z c d → a ≡ listed [] → x ≡ tree.fn_expr (spanned c d) name z
+  pub default_function_reads : (a name x z : Tree) (c d : Place) → FunctionRule (language.Reads n) false k a name z c d → a ≡ listed [] → x ≡ tree.fn_expr (spanned c d) name z
       → supported z ≡ true → notes z ≡ [] → ReadsCalm (default_function (inner_stmt n) (parameters n)) k x c d
   unfolding default_function function_parts misdirected spanned
   default_function_reads a name x z c d r u e s q w f h calm =
@@ -312,10 +311,10 @@ module _ (n : ℕ) (k : Code) (o : IsModule k) where
         e,
       ) refl
 
-  default_expr_read : (e x : Tree) (c m d : Place) → kind_at (after c) ≡ kind.Default → may_begin_default k (after (after c)) ≡ true
+  pub default_expr_read : (e x : Tree) (c m d : Place) → kind_at (after c) ≡ kind.Default → may_begin_default k (after (after c)) ≡ true
       → language.Reads n (expr_goal assignment (with_in k) e (after (after c)) m) → Ends m d → x ≡ tree.export_default_expr (spanned c d) e → supported e ≡ true → notes e ≡ []
       → ReadsCalm (export_decl (inner_stmt n) (expr n) (pattern n) (parameters n) (member n) (object_alone n)) k x c d
-  unfolding export_decl export_default default_expr same_kind spanned
+  unfolding export_decl export_default default_rest default_expr same_kind spanned
   default_expr_read e x c m d b a r g i s q w f h calm =
       let v = lift_in k.flags.module e s (λ v. q) in
       let t = begins_expression k (after (after c)) a (kinds.begin_seen (after (after c)) (kinds.begins n (with_in k) e (after (after c)) m r v)).3 in
@@ -329,66 +328,53 @@ module _ (n : ℕ) (k : Code) (o : IsModule k) where
         i,
       ) (ap (λ v. Ok (tree.export_default_expr (spanned c d) e, st d k w (f ++ walk v e) (h ⊕ notes_of e))) (sym (module_env k w.labels o)))
 
--- ---- whole exports
+-- ---- exports without decorators
 
-item_as : (x y : Tree) → x ≡ y → supported_item x ≡ true → supported_item y ≡ true
+pub item_as : (x y : Tree) → x ≡ y → supported_item x ≡ true → supported_item y ≡ true
 item_as x y e h = sym (ap supported_item e) ∙ h
 
--- decorators are not supported
-exported_plain : {In : Goal → Type 0} {k : Code} {a y : Tree} {c d : Place} → ExportedRule In k a y c d → supported y ≡ true → has_none a ≡ true
-exported_plain {a = a} (exported_class_rule name z r b g) s =
-    let t = and_yes (supported name) (supported z) (sym (ap supported g) ∙ s) in (and_yes (has_none a) _ (sym (ap supported r.is) ∙ t.1)).0
-exported_plain {a = a} (exported_function_rule name z r b g) s =
-    let t = and_yes (supported name) (supported z) (sym (ap supported g) ∙ s) in (and_yes (has_none a) _ (sym (ap supported r.is) ∙ t.1)).0
-exported_plain (exported_variables word xs m b r g i) s = ap has_none b
+-- what is exported is supported where its export is
+pub exported_supported : {In : Goal → Type 0} {k : Code} {a y : Tree} {c d : Place} (s : Span) → ExportedRule In k a y c d → a ≡ listed [] → supported_item (tree.export_decl s y) ≡ true → supported y ≡ true
+exported_supported {c = c} {d = d} s (exported_class_rule name z r b g) u h =
+    let e = g ∙ ap (tree.class_decl name) (r.is ∙ ap (λ v. tree.class (spanned c d) v (listed r.members) r.heritage) u) in
+    ap supported e ∙ (sym (ap (λ v. supported_item (tree.export_decl s v)) e) ∙ h)
+exported_supported {c = c} {d = d} s (exported_function_rule name z r b g) u h =
+    let e = g ∙ ap (tree.fn_decl name) (r.is ∙ ap (λ v. tree.function (spanned c d) v (parameter_trees r.patterns) r.body r.is_async r.is_generator) u) in
+    ap supported e ∙ (sym (ap (λ v. supported_item (tree.export_decl s v)) e) ∙ h)
+exported_supported s (exported_variables word xs m b r g i) u h = ap supported i ∙ (sym (ap (λ v. supported_item (tree.export_decl s v)) i) ∙ h)
 
-declaration_read : (n : ℕ) (k : Code) (a x y : Tree) (c d : Place) → IsModule k → ExportedRule (language.Reads n) k a y (after c) d → a ≡ listed []
+class_supported : {In : Goal → Type 0} {k : Code} {a name z y : Tree} {c d : Place} (s : Span) (r : ClassRule In k c a name z c d) → a ≡ listed [] → y ≡ tree.class_expr (spanned c d) name z
+    → supported_item (tree.export_default_decl s y) ≡ true → supported y ≡ true
+class_supported {name = name} {c = c} {d = d} s r u g h =
+    let e = g ∙ ap (tree.class_expr (spanned c d) name) (r.is ∙ ap (λ v. tree.class (spanned c d) v (listed r.members) r.heritage) u) in
+    ap supported e ∙ (sym (ap (λ v. supported_item (tree.export_default_decl s v)) e) ∙ h)
+
+function_supported : {In : Goal → Type 0} {k : Code} {a name z y : Tree} {c d : Place} (s : Span) (r : FunctionRule In false k a name z c d) → a ≡ listed [] → y ≡ tree.fn_expr (spanned c d) name z
+    → supported_item (tree.export_default_decl s y) ≡ true → supported z ≡ true
+function_supported {name = name} {c = c} {d = d} s r u g h =
+    let f = r.is ∙ ap (λ v. tree.function (spanned c d) v (parameter_trees r.patterns) r.body r.is_async r.is_generator) u in
+    let whole = tree.function (spanned c d) (listed []) (parameter_trees r.patterns) r.body r.is_async r.is_generator in
+    let e = g ∙ ap (tree.fn_expr (spanned c d) name) f in
+    ap supported f ∙ (and_yes (supported name) (supported whole) (sym (ap (λ v. supported_item (tree.export_default_decl s v)) e) ∙ h)).1
+
+pub declaration_read : (n : ℕ) (k : Code) (a x y : Tree) (c d : Place) → IsModule k → ExportedRule (language.Reads n) k a y (after c) d → a ≡ listed []
     → x ≡ tree.export_decl (spanned c d) y → supported y ≡ true → notes y ≡ [] → ReadsCalm (export_decl (inner_stmt n) (expr n) (pattern n) (parameters n) (member n) (object_alone n)) k x c d
 declaration_read n k a x y c d o (exported_class_rule name z r b g) p e s q = class_read n k o a name x y z c d r p b g e s q
 declaration_read n k a x y c d o (exported_function_rule name z r b g) p e s q = function_read n k o a name x y z c d r p b g e s q
 declaration_read n k a x y c d o (exported_variables word xs m b r g i) p e s q = variables_read n k o word xs x y c m d r g i e s q
 
-default_parts : (x y name z : Tree) (s t : Span) → x ≡ tree.export_default_decl s y → y ≡ tree.fn_expr t name z → supported_item x ≡ true → (supported name ≡ true) × (supported z ≡ true)
-default_parts x y name z s t e g h = and_yes (supported name) (supported z) (item_as x (tree.export_default_decl s (tree.fn_expr t name z)) (e ∙ ap (tree.export_default_decl s) g) h)
-
-class_default_parts : (x y name z : Tree) (s t : Span) → x ≡ tree.export_default_decl s y → y ≡ tree.class_expr t name z → supported_item x ≡ true → supported (tree.class_expr t name z) ≡ true
-class_default_parts x y name z s t e g h = item_as x (tree.export_default_decl s (tree.class_expr t name z)) (e ∙ ap (tree.export_default_decl s) g) h
-
-default_read : (n : ℕ) (k : Code) (a x y : Tree) (c m i d : Place) → IsModule k → ExportFrontRule (language.Reads n) k true a c m i → DefaultRule (language.Reads n) k a y i d
+pub default_read : (n : ℕ) (k : Code) (a x y : Tree) (c m i d : Place) → IsModule k → ExportFrontRule (language.Reads n) k true a c m i → has_none a ≡ true → DefaultRule (language.Reads n) k a y i d
     → x ≡ tree.export_default_decl (spanned m d) y → supported_item x ≡ true → notes x ≡ [] → ReadsCalm (export_decl (inner_stmt n) (expr n) (pattern n) (parameters n) (member n) (object_alone n)) k x c d
-default_read n k a x y c m i d o v (default_class_rule name z r g) e s q =
-    let t = class_default_parts x y name z (spanned m d) (spanned i d) e g s in
-    let u = front_plain v (and_yes (has_none a) _ (sym (ap supported r.is) ∙ (and_yes (supported name) (supported z) t).1)).0 in
+default_read n k a x y c m i d o v none (default_class_rule name z r g) e s q =
+    let u = front_plain v none in
     let b = default_words u.2 in
+    let t = class_supported (spanned m d) r u.1 g (item_as x (tree.export_default_decl (spanned m d) y) e s) in
     default_class_read n k o a name x y z c d b.0 (subst (λ p. ClassRule (language.Reads n) k p a name z p d) b.1 r) u.1 (g ∙ ap (λ p. tree.class_expr (spanned p d) name z) b.1)
-    (e ∙ ap (λ p. tree.export_default_decl (spanned p d) y) u.0) (ap supported g ∙ t) (sym (ap notes e) ∙ q)
-default_read n k a x y c m i d o v (default_function_rule name z r g) e s q =
-    let t = default_parts x y name z (spanned m d) (spanned i d) e g s in
-    let u = front_plain v (and_yes (has_none a) _ (sym (ap supported r.is) ∙ t.1)).0 in
+    (e ∙ ap (λ p. tree.export_default_decl (spanned p d) y) u.0) t (sym (ap notes e) ∙ q)
+default_read n k a x y c m i d o v none (default_function_rule name z r g) e s q =
+    let u = front_plain v none in
     let b = default_words u.2 in
+    let t = function_supported (spanned m d) r u.1 g (item_as x (tree.export_default_decl (spanned m d) y) e s) in
     let j = nil-split (notes name) (notes z) (sym (ap notes g) ∙ sym (ap notes e) ∙ q) in
     default_function_read n k o a name x y z c d b.0 (subst (λ p. FunctionRule (language.Reads n) false k a name z p d) b.1 r) u.1 (g ∙ ap (λ p. tree.fn_expr (spanned p d) name z) b.1)
-    (e ∙ ap (λ p. tree.export_default_decl (spanned p d) y) u.0) t.1 j.1
-
-pub export_reads : (n : ℕ) (k : Code) (x : Tree) (c d : Place) → IsModule k → ExportRule (language.Reads n) k x c d → supported_item x ≡ true → notes x ≡ []
-    → (w : Scope) (f : List Fault) (h : Notes) → Calm k w.labels x d
-    → export_decl (stmt n nested_item) (expr n) (pattern n) (parameters n) (member n) (object_alone n) (st c k w f h) ≡ Ok (x, st d k w (f ++ walk (env_of k w.labels) x) (h ⊕ notes_of x))
-export_reads n k x c d o (export_declaration_rule a y m i v r e) s q =
-    let t = item_as x (tree.export_decl (spanned m d) y) e s in
-    let u = front_plain v (exported_plain r t) in
-    let b = declared_word u.2 in
-    declaration_read n k a x y c d o (subst (λ p. ExportedRule (language.Reads n) k a y p d) b.1 (subst (λ j. ExportedRule (language.Reads n) j a y i d) (in_module_same k o) r)) u.1
-    (e ∙ ap (λ p. tree.export_decl (spanned p d) y) u.0) t (sym (ap notes e) ∙ q)
-export_reads n k x c d o (export_from_rule b xs src attributes l m i v r a t g e) s q =
-    export_from_read n k o b xs src attributes x c l m i d (subst (λ j. ExportClauseRule j b xs (after c) l) (in_module_same k o) r) a
-    (subst (λ j. AttributesRule (language.Reads n) j attributes m i) (in_module_same k o) t)
-    (item_as x (tree.export_named (spanned c d) (listed xs) src attributes) e s, (nil-split (notes (listed xs) ++ notes src) (notes attributes) (sym (ap notes e) ∙ q)).1) g e
-export_reads n k x c d o (export_names_rule xs m v r a g e) s q = export_own_read n k o xs x c m d (subst (λ j. ExportClauseRule j true xs (after c) m) (in_module_same k o) r) a g e
-export_reads n k x c d o (export_default_declaration_rule a y m i v r e) s q =
-    default_read n k a x y c m i d o v (subst (λ j. DefaultRule (language.Reads n) j a y i d) (in_module_same k o) r) e s q
-export_reads n k x c d o (export_default_expression_rule e m v a b r g i) s q =
-    default_expr_read n k o e x c m d a b (subst (λ j. language.Reads n (expr_goal assignment (with_in j) e (after (after c)) m)) (in_module_same k o) r) g i
-    (item_as x (tree.export_default_expr (spanned c d) e) i s) (sym (ap notes i) ∙ q)
-export_reads n k x c d o (export_all_rule src attributes m i v a r t g e) s q =
-    export_all_read n k o src attributes x c m i d a r (subst (λ j. AttributesRule (language.Reads n) j attributes m i) (in_module_same k o) t)
-    (item_as x (tree.export_all (spanned c d) src attributes) e s, (nil-split (notes src) (notes attributes) (sym (ap notes e) ∙ q)).1) g e
+    (e ∙ ap (λ p. tree.export_default_decl (spanned p d) y) u.0) t j.1

@@ -29,7 +29,7 @@ use Rattle.swc_ecma_parser_module_reader.specs.Programs.{begins_module}
 use Rattle.swc_ecma_parser_module_reader.specs.Supported.{supported_item}
 use Rattle.swc_ecma_parser_module_reader.specs.Items.{turned, item_whole}
 use Rattle.swc_ecma_parser_module_reader.specs.ItemEntry.{item_walk, item_left, ReadsSupportedItem}
-use Rattle.swc_ecma_parser_module_reader.proofs.CompleteExports.{export_reads}
+use Rattle.swc_ecma_parser_module_reader.proofs.CompleteDecorated.{export_reads}
 use Rattle.swc_ecma_parser_module_reader.proofs.CompleteImports.{import_seen}
 use Rattle.swc_ecma_parser_module_reader.proofs.CompleteModules.{item_reads}
 use Rattle.swc_ecma_parser_module_reader.proofs.ItemCases.{whole_declared, whole_stated}

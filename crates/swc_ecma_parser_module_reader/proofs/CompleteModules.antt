@@ -26,6 +26,7 @@ use Rattle.swc_ecma_parser_grammar.specs.language.Reads.{Reads}
 use Rattle.swc_ecma_parser_grammar.specs.language.Statements.{StmtRule}
 use Rattle.swc_ecma_parser_grammar.proofs.StatementEntries.{statement_narrows}
 use Rattle.swc_ecma_parser_grammar.proofs.Tests.{and_yes}
+use Rattle.swc_ecma_parser_reader.specs.DecoratorLevels.{decorated_in}
 use Rattle.swc_ecma_parser_reader.specs.Notes.{Notes, ◌⊕◌, notes_of, notes_with, all_notes_with}
 use Rattle.swc_ecma_parser_reader.specs.State.{Scope, State, loop}
 use Rattle.swc_ecma_parser_reader.specs.Reader.{expr, pattern, member, stmt, parameters, object_alone, directs, items_turn, items, at_end}
@@ -37,7 +38,7 @@ use Rattle.swc_ecma_parser_reader.proofs.Errors.{is_error}
 use Rattle.swc_ecma_parser_reader.proofs.Loops.{items_stop, items_more}
 use Rattle.swc_ecma_parser_reader.proofs.Notes.{or_nil}
 use Rattle.swc_ecma_parser_reader.proofs.Opens.{stmt_goes}
-use Rattle.swc_ecma_parser_module_reader.specs.Exports.{export_decl}
+use Rattle.swc_ecma_parser_module_reader.specs.Decorated.{export_item}
 use Rattle.swc_ecma_parser_module_reader.specs.Modules.{begins_import, import_in, export_in, module_item, module_code, module_body, module_whole}
 use Rattle.swc_ecma_parser_module_reader.specs.Supported.{supported_item, all_supported_items, supported_module}
 use Rattle.swc_ecma_parser_module_reader.specs.Entry.{module_left, ReadsSupportedModule}
@@ -81,7 +82,7 @@ shebang_as c d _ (programs.some_shebang text s r) = some_shebang text s r
 shebang_as c d _ (programs.no_shebang e g) = no_shebang e g
 
 module _ (export_reads : (n : ℕ) (k : Code) (x : Tree) (c d : Place) → IsModule k → ExportRule (Reads n) k x c d → supported_item x ≡ true → notes x ≡ [] → (w : Scope) (f : List Fault) (h : Notes)
-    → Calm k w.labels x d → export_decl (stmt n nested_item) (expr n) (pattern n) (parameters n) (member n) (object_alone n) (st c k w f h) ≡ Ok (x, st d k w (f ++ walk (env_of k w.labels) x) (h ⊕ notes_of x))) where
+    → Calm k w.labels x d → export_item (stmt n nested_item) (expr n) (pattern n) (parameters n) (member n) (object_alone n) (decorated_in n) (st c k w f h) ≡ Ok (x, st d k w (f ++ walk (env_of k w.labels) x) (h ⊕ notes_of x))) where
   -- ---- an item
 
   pub item_reads : (n : ℕ) (k : Code) (x : Tree) (c d : Place) → IsModule k → Reads n (item_goal k x c d) → supported_item x ≡ true → notes x ≡ [] → (w : Scope) (f : List Fault) (h : Notes) → Calm k w.labels x d

@@ -34,7 +34,7 @@ use Rattle.swc_ecma_parser_module_reader.specs.Modules.{module_code}
 use Rattle.swc_ecma_parser_module_reader.specs.ProgramEntry.{ReadsSupportedProgram, program_walk, program_left}
 use Rattle.swc_ecma_parser_module_reader.specs.Programs.{begins_module, before_module, program_code, as_script, as_module, program_body, program_whole}
 use Rattle.swc_ecma_parser_module_reader.specs.Supported.{supported_item, all_supported_items, supported_program}
-use Rattle.swc_ecma_parser_module_reader.proofs.CompleteExports.{export_reads}
+use Rattle.swc_ecma_parser_module_reader.proofs.CompleteDecorated.{export_reads}
 use Rattle.swc_ecma_parser_module_reader.proofs.CompleteModules.{shebang_as, items_read}
 use Rattle.swc_ecma_parser_module_reader.proofs.ItemLists.{notes_joined, meta_joined, meta_listed, or_shift}
 use Rattle.swc_ecma_parser_module_reader.proofs.ItemStarts.{stmt_starts}

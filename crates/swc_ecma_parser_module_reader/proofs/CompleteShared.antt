@@ -1,10 +1,7 @@
 -- The parts that imports and exports share are read: strings, names, `from` and specifiers in braces, where nothing is recorded or
 -- noted, and attributes.
-use Rattle.std.proofs.Common.{◌≡◌, ℕ, ◌<◌, Bool, true, false, List, [], ◌∷◌, ◌++◌, length, Ok, refl, sym, ◌∙◌, ap, append_assoc, append-nil, codes}
+use Rattle.std.proofs.Common.{◌≡◌, ℕ, ◌<◌, true, false, List, [], ◌∷◌, ◌++◌, length, Ok, refl, sym, ◌∙◌, ap, append_assoc, append-nil, codes}
 use Rattle.swc_ecma_parser_error.specs.Kind.{Kind, Fault}
-use Rattle.std.specs.Prelude.{not, ◌&&◌, ◌||◌}
-use Rattle.std.specs.Str.{bytes_eq}
-use Rattle.swc_ecma_parser_input.specs.declared.context.Context.{Context}
 use Rattle.swc_ecma_parser_grammar.specs.language.Parts.{ReadsName, ReadsWord}
 use Rattle.swc_ecma_parser_reader.specs.State.{name, Scope, Reader, expect_word, loop}
 use Rattle.swc_ecma_parser_token.specs.declared.keyword.Keyword.{Keyword}
@@ -22,7 +19,7 @@ use Rattle.swc_ecma_parser_input.specs.Place.{Place, after}
 use Rattle.swc_ecma_parser_model.specs.Tree as tree
 use Rattle.swc_ecma_parser_model.specs.Tree.{Tree, Text}
 use Rattle.swc_ecma_parser_grammar.specs.Looks.{kind_at, sees, same_kind}
-use Rattle.swc_ecma_parser_grammar.specs.Names.{Code, is_reserved, is_name, is_identifier, is_clean_name}
+use Rattle.swc_ecma_parser_grammar.specs.Names.{Code}
 use Rattle.swc_ecma_parser_grammar.specs.Follows.{word_at}
 use Rattle.swc_ecma_parser_grammar.specs.language.Lists.{ReadsListed, no_comma, last_comma}
 use Rattle.swc_ecma_parser_grammar.specs.language.ModuleParts.{BracedRule, StringRule, FromRule, ModuleNameRule, word_name_rule, string_name_rule, AttributesRule, no_attributes_rule, attributes_rule}

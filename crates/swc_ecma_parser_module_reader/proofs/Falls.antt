@@ -11,8 +11,8 @@ use Rattle.swc_ecma_parser_model.specs.declared.leaves.ImportPhase.{ImportPhase}
 use Rattle.swc_ecma_parser_model.specs.declared.leaves.ImportPhase.TheVariants as phase
 use Rattle.swc_ecma_parser_model.specs.declared.leaves.VarDeclKind.TheVariants as decl
 use Rattle.swc_ecma_parser_model.specs.Tree as tree
-use Rattle.swc_ecma_parser_model.specs.Tree.{Tree, Text, listed}
-use Rattle.swc_ecma_parser_grammar.specs.Looks.{kind_at, sees, span_at}
+use Rattle.swc_ecma_parser_model.specs.Tree.{Tree, Text, listed, trees}
+use Rattle.swc_ecma_parser_grammar.specs.Looks.{kind_at, sees, span_at, same_kind}
 use Rattle.swc_ecma_parser_grammar.specs.Names.{is_name, name_at}
 use Rattle.swc_ecma_parser_grammar.specs.Follows.{word_at, is_let_declaration, is_async_function}
 use Rattle.swc_ecma_parser_grammar.specs.Own.{export_faults}
@@ -21,6 +21,9 @@ use Rattle.swc_ecma_parser_grammar.specs.language.Contexts.{outside_functions}
 use Rattle.swc_ecma_parser_grammar.specs.language.Goals.{assignment, left_side}
 use Rattle.swc_ecma_parser_grammar.specs.language.Imports.{follows_phase}
 use Rattle.swc_ecma_parser_grammar.specs.language.ModuleParts.{begins_attributes}
+use Rattle.swc_ecma_parser_reader.specs.DecoratedStatements.{either_stmt}
+use Rattle.swc_ecma_parser_reader.specs.DecoratorLevels.{decorated_in}
+use Rattle.swc_ecma_parser_reader.specs.Decorators.{Leading, leading, has_any, misplaced}
 use Rattle.swc_ecma_parser_reader.specs.Jumps.{told}
 use Rattle.swc_ecma_parser_reader.specs.Members.{class_decl, class_expr, class_stmt}
 use Rattle.swc_ecma_parser_reader.specs.Methods.{method_form, star}
@@ -34,21 +37,24 @@ use Rattle.swc_ecma_parser_reader.proofs.Meets.{saw}
 use Rattle.swc_ecma_parser_reader.proofs.Objects.{object_alone_falls}
 use Rattle.swc_ecma_parser_reader.proofs.Takes.{Falls, falls_then, falls_last, falls_coded, falls_if, less, falls_next, moves, takes_one, falls_past, falls_moved, wanted_falls, too_deep_falls, refuse_falls, name_falls, end_falls, expect_falls, loop_falls}
 use Rattle.swc_ecma_parser_reader.proofs.Words.{async_kind}
+use Rattle.swc_ecma_parser_reader.proofs.decorators.Leading.{leading_falls, misplaced_falls}
+use Rattle.swc_ecma_parser_reader.proofs.Falls.{decorated_in_falls}
 use Rattle.swc_ecma_parser_reader.proofs.expressions.Falls.{reject_falls, falls_when, any_word_falls, star_falls, told_falls, no_end}
 use Rattle.swc_ecma_parser_reader.proofs.expressions.Loops.{shorter_by}
 use Rattle.swc_ecma_parser_module_reader.specs.Imports.{str_or, str, source, module_name, attributes, specifiers_turn, specifiers, same_name, other_name, import_specifier, binding_name, import_namespace, bindings, more_bindings, default_binding, import_clause, imported, import_from, phase_of, import_phased, is_phase_word, import_decl}
-use Rattle.swc_ecma_parser_module_reader.specs.Exports.{renamed_export, plain_export, export_specifier, export_namespace, names_from, own_names, export_names, more_names, namespace_names, export_all, export_star, is_namespace_next, behind_default, is_name_from, name_from, is_default_from, default_from, default_name, default_function, default_expr, begins_default_function, exported_function, exported_class, export_default, exported, export_decl}
+use Rattle.swc_ecma_parser_module_reader.specs.Exports.{renamed_export, plain_export, export_specifier, export_namespace, names_from, own_names, export_names, more_names, namespace_names, export_all, export_star, is_namespace_next, behind_default, is_name_from, name_from, is_default_from, default_from, default_name, default_function, default_expr, begins_default_function, exported_function, exported_class, default_rest, export_default, exported, export_rest, export_named}
+use Rattle.swc_ecma_parser_module_reader.specs.Decorated.{none_before, begins_decorators, no_leading, later_alone, later, decorating, by_default, named_with, default_with, behind_export, behind_default_word, export_from, export_item}
 use Rattle.swc_ecma_parser_module_reader.specs.Modules.{begins_import, import_in, export_in, module_item}
 
 -- ---- a declaration is the statement that it is where it stands
 
 module _ (n : ℕ) (s : State) where
   pub var_is_stmt : sees kind.Var s.at ≡ true → stmt (suc n) nested_item s ≡ variables (expr n) (pattern n) decl.Var s
-  unfolding stmt stmt_level
+  unfolding stmt either_stmt same_kind stmt_level
   var_is_stmt e = rw (saw s.at kind.Var e) refl
 
   pub const_is_stmt : sees kind.Const s.at ≡ true → stmt (suc n) nested_item s ≡ variables (expr n) (pattern n) decl.Const s
-  unfolding stmt stmt_level const_stmt
+  unfolding stmt either_stmt same_kind stmt_level const_stmt
   const_is_stmt e = rw (saw s.at kind.Const e) refl
 
   pub let_kind : is_let_declaration s.at ≡ true → kind_at s.at ≡ kind.Let
@@ -60,11 +66,11 @@ module _ (n : ℕ) (s : State) where
       first false b h = h
 
   pub let_is_stmt : is_let_declaration s.at ≡ true → stmt (suc n) nested_item s ≡ variables (expr n) (pattern n) decl.Let s
-  unfolding stmt stmt_level let_stmt
+  unfolding stmt either_stmt same_kind stmt_level let_stmt
   let_is_stmt e = rw (let_kind e, e) refl
 
   pub function_is_stmt : begins_default_function s.at ≡ true → stmt (suc n) nested_item s ≡ function_decl (stmt n nested_item) (parameters n) s
-  unfolding stmt stmt_level begins_default_function function_stmt async_or_other
+  unfolding stmt either_stmt same_kind stmt_level begins_default_function function_stmt async_or_other
   function_is_stmt e = by_word (sees kind.Function s.at) (is_async_function s.at) refl refl e
     where
       by_word : (a b : Bool) → sees kind.Function s.at ≡ a → is_async_function s.at ≡ b → (a || b) ≡ true → stmt (suc n) nested_item s ≡ function_decl (stmt n nested_item) (parameters n) s
@@ -73,7 +79,7 @@ module _ (n : ℕ) (s : State) where
       by_word false false h g i = cc
 
   pub class_is_stmt : sees kind.Class s.at ≡ true → stmt (suc n) nested_item s ≡ class_decl (expr n left_side) (member n) s
-  unfolding stmt stmt_level class_stmt
+  unfolding stmt either_stmt same_kind stmt_level class_stmt
   class_is_stmt e = rw (saw s.at kind.Class e) refl
 
 -- ---- what imports and exports share
@@ -313,13 +319,16 @@ module _ (n : ℕ) where
   default_class_falls s e = less (length s.at.left) (class_expr (expr n left_side) (member n) s)
       (classes.class_expr_falls (expr n left_side) (expr_falls n left_side) (member n) (member_falls n) s (saw s.at kind.Class e))
 
-  export_default_falls : (start first : Span) (s : State) → Falls 0 (length s.at.left) (export_default (stmt n nested_item) (expr n) (pattern n) (parameters n) (member n) (object_alone n) start first s)
-  unfolding export_default exported_function exported_class default_from
+  pub default_rest_falls : (start first : Span) (s : State) → Falls 0 (length s.at.left) (default_rest (stmt n nested_item) (expr n) (pattern n) (parameters n) (member n) (object_alone n) start first s)
+  unfolding default_rest default_from
+  default_rest_falls start first s = falls_if 0 (length s.at.left) (is_default_from s.code s.at) _ _ (behind_default_falls (object_alone n) object_less start first _ s) (default_expr_falls start s)
+
+  pub export_default_falls : (start first : Span) (s : State) → Falls 0 (length s.at.left) (export_default (stmt n nested_item) (expr n) (pattern n) (parameters n) (member n) (object_alone n) start first s)
+  unfolding export_default exported_function exported_class
   export_default_falls start first s = falls_when 0 (length s.at.left) (sees kind.Class s.at) _ _
       (λ e. falls_last 0 (length s.at.left) (class_expr (expr n left_side) (member n) s) _ (default_class_falls s e)) (λ _.
       falls_if 0 (length s.at.left) (begins_default_function s.at) _ _
-      (falls_last 0 (length s.at.left) (default_function (stmt n nested_item) (parameters n) s) _ (default_function_falls s))
-      (falls_if 0 (length s.at.left) (is_default_from s.code s.at) _ _ (behind_default_falls (object_alone n) object_less start first _ s) (default_expr_falls start s)))
+      (falls_last 0 (length s.at.left) (default_function (stmt n nested_item) (parameters n) s) _ (default_function_falls s)) (default_rest_falls start first s))
 
   -- a declaration, which is a statement
   exported_falls : (start : Span) (d : Reader Tree) (s : State) → stmt (suc n) nested_item s ≡ d s
@@ -327,18 +336,82 @@ module _ (n : ℕ) where
   unfolding exported
   exported_falls start d s e = falls_last 0 (length s.at.left) (d s) _ (less (length s.at.left) (d s) (subst (Falls 1 (length s.at.left)) e (stmt_falls (suc n) nested_item s)))
 
-  pub export_decl_falls : (s : State) → kind_at s.at ≢ kind.End → Falls 1 (length s.at.left) (export_decl (stmt n nested_item) (expr n) (pattern n) (parameters n) (member n) (object_alone n) s)
-  unfolding export_decl
-  export_decl_falls s e = let t = moved s in let m = length (after s.at).left in falls_past s _ e
-      (falls_if 0 m (sees kind.LBrace t.at) _ _ (export_names_fall (object_alone n) object_less (span_at s.at) [] t)
-      (falls_if 0 m (sees kind.Mul t.at) _ _ (export_star_falls (object_alone n) object_less (span_at s.at) t)
-      (falls_if 0 m (sees kind.Default t.at) _ _ (falls_moved 0 t _ (export_default_falls (span_at s.at) (span_at t.at) (moved t)))
-      (falls_when 0 m (sees kind.Var t.at) _ _ (λ h. exported_falls (span_at s.at) (variables (expr n) (pattern n) decl.Var) t (var_is_stmt n t h)) (λ _.
-      falls_when 0 m (sees kind.Const t.at) _ _ (λ h. exported_falls (span_at s.at) (variables (expr n) (pattern n) decl.Const) t (const_is_stmt n t h)) (λ _.
-      falls_when 0 m (is_let_declaration t.at) _ _ (λ h. exported_falls (span_at s.at) (variables (expr n) (pattern n) decl.Let) t (let_is_stmt n t h)) (λ _.
-      falls_when 0 m (sees kind.Class t.at) _ _ (λ h. exported_falls (span_at s.at) (class_decl (expr n left_side) (member n)) t (class_is_stmt n t h)) (λ _.
-      falls_when 0 m (begins_default_function t.at) _ _ (λ h. exported_falls (span_at s.at) (function_decl (stmt n nested_item) (parameters n)) t (function_is_stmt n t h)) (λ _.
-      falls_if 0 m (is_name_from t.code t.at) _ _ (name_from_falls (object_alone n) object_less (span_at s.at) t) (wanted_falls Tree 0 m faults.Unexpected t))))))))))
+  pub export_rest_falls : (start : Span) (t : State) → Falls 0 (length t.at.left) (export_rest (stmt n nested_item) (expr n) (pattern n) (parameters n) (member n) (object_alone n) start t)
+  unfolding export_rest
+  export_rest_falls start t = let m = length t.at.left in
+      falls_if 0 m (sees kind.LBrace t.at) _ _ (export_names_fall (object_alone n) object_less start [] t)
+      (falls_if 0 m (sees kind.Mul t.at) _ _ (export_star_falls (object_alone n) object_less start t)
+      (falls_when 0 m (sees kind.Var t.at) _ _ (λ h. exported_falls start (variables (expr n) (pattern n) decl.Var) t (var_is_stmt n t h)) (λ _.
+      falls_when 0 m (sees kind.Const t.at) _ _ (λ h. exported_falls start (variables (expr n) (pattern n) decl.Const) t (const_is_stmt n t h)) (λ _.
+      falls_when 0 m (is_let_declaration t.at) _ _ (λ h. exported_falls start (variables (expr n) (pattern n) decl.Let) t (let_is_stmt n t h)) (λ _.
+      falls_if 0 m (is_name_from t.code t.at) _ _ (name_from_falls (object_alone n) object_less start t) (wanted_falls Tree 0 m faults.Unexpected t))))))
+
+  pub export_named_falls : (start : Span) (t : State) → Falls 0 (length t.at.left) (export_named (stmt n nested_item) (expr n) (pattern n) (parameters n) (member n) (object_alone n) start t)
+  unfolding export_named
+  export_named_falls start t = let m = length t.at.left in
+      falls_when 0 m (sees kind.Class t.at) _ _ (λ h. exported_falls start (class_decl (expr n left_side) (member n)) t (class_is_stmt n t h)) (λ _.
+      falls_when 0 m (begins_default_function t.at) _ _ (λ h. exported_falls start (function_decl (stmt n nested_item) (parameters n)) t (function_is_stmt n t h)) (λ _.
+      export_rest_falls start t))
+
+  -- ---- with decorators
+
+  -- a class or a function that takes them
+  decorating_falls : (ds : List Tree) (p : Reader Tree) (s : State) → Falls 0 (length s.at.left) (p s) → Falls 0 (length s.at.left) (decorating ds p s)
+  unfolding decorating
+  decorating_falls ds p s h = falls_last 0 (length s.at.left) (p s) _ h
+
+  exported_with_falls : (start : Span) (p : Reader Tree) (s : State) → Falls 0 (length s.at.left) (p s)
+      → Falls 0 (length s.at.left) (exported (stmt n nested_item) (expr n) (pattern n) (parameters n) (member n) start p s)
+  unfolding exported
+  exported_with_falls start p s h = falls_last 0 (length s.at.left) (p s) _ h
+
+  by_default_falls : (start : Span) (p : Reader Tree) (s : State) → Falls 0 (length s.at.left) (p s) → Falls 0 (length s.at.left) (by_default start p s)
+  unfolding by_default
+  by_default_falls start p s h = falls_last 0 (length s.at.left) (p s) _ h
+
+  declared_falls : (d : Reader Tree) (s : State) → stmt (suc n) nested_item s ≡ d s → Falls 0 (length s.at.left) (d s)
+  declared_falls d s e = less (length s.at.left) (d s) (subst (Falls 1 (length s.at.left)) e (stmt_falls (suc n) nested_item s))
+
+  named_with_falls : (start : Span) (v : Leading) (s : State) → Falls 0 (length s.at.left) (named_with (stmt n nested_item) (expr n) (pattern n) (parameters n) (member n) (object_alone n) (decorated_in n) start v s)
+  unfolding named_with
+  named_with_falls start v s = let m = length s.at.left in
+      falls_when 0 m (sees kind.Class s.at) _ _
+      (λ h. let d = class_decl (expr n left_side) (member n) in exported_with_falls start (decorating v.found d) s (decorating_falls v.found d s (declared_falls d s (class_is_stmt n s h)))) (λ _.
+      falls_when 0 m (begins_default_function s.at) _ _
+      (λ h. let d = function_decl (stmt n nested_item) (parameters n) in exported_with_falls start (decorating v.found d) s (decorating_falls v.found d s (declared_falls d s (function_is_stmt n s h)))) (λ _.
+      falls_then 0 0 m (misplaced v s) _ (misplaced_falls v s) (λ _ t. export_rest_falls start t)))
+
+  default_with_falls : (start first : Span) (v : Leading) (s : State) → Falls 0 (length s.at.left) (default_with (stmt n nested_item) (expr n) (pattern n) (parameters n) (member n) (object_alone n) (decorated_in n) start first v s)
+  unfolding default_with
+  default_with_falls start first v s = let m = length s.at.left in
+      falls_when 0 m (sees kind.Class s.at) _ _
+      (λ h. let d = class_expr (expr n left_side) (member n) in by_default_falls start (decorating v.found d) s (decorating_falls v.found d s (default_class_falls s h))) (λ _.
+      falls_if 0 m (begins_default_function s.at) _ _
+      (let d = default_function (stmt n nested_item) (parameters n) in by_default_falls start (decorating v.found d) s (decorating_falls v.found d s (default_function_falls s)))
+      (falls_then 0 0 m (misplaced v s) _ (misplaced_falls v s) (λ _ t. default_rest_falls start first t)))
+
+  later_alone_falls : (start : Span) (v w : Leading) (t : State) → Falls 0 (length t.at.left) (later_alone start v w t)
+  unfolding later_alone
+  later_alone_falls start v w t = let m = length t.at.left in
+      falls_if 0 m (sees kind.Export t.at) _ _ (reject_falls (Unit {0}) 0 m _ t)
+      (falls_if 0 m (has_any v.found) _ _ (reject_falls (Unit {0}) 0 m _ t)
+      (falls_if 0 m (none_before start.lo (trees w.found)) _ _ (omega arith) (reject_falls (Unit {0}) 0 m _ t)))
+
+  later_falls : (start : Span) (v : Leading) (s : State) → Falls 0 (length s.at.left) (later (decorated_in n) start v s)
+  unfolding later
+  later_falls start v s = falls_then 0 0 (length s.at.left) (leading (decorated_in n) s) _ (leading_falls (decorated_in n) (decorated_in_falls n) s) (λ w t. let m = length t.at.left in
+      falls_if 0 m (has_any w.found) _ _ (falls_last 0 m (later_alone start v w t) _ (later_alone_falls start v w t)) (omega arith))
+
+  pub export_from_falls : (v : Leading) (s : State) → kind_at s.at ≢ kind.End → Falls 1 (length s.at.left) (export_from (stmt n nested_item) (expr n) (pattern n) (parameters n) (member n) (object_alone n) (decorated_in n) v s)
+  unfolding export_from behind_export behind_default_word
+  export_from_falls v s e = let t = moved s in let u = moved t in let b = span_at s.at in let m = length (after s.at).left in let k = length (after (after s.at)).left in falls_past s _ e
+      (falls_if 0 m (sees kind.Default t.at) _ _
+      (falls_moved 0 t _ (falls_if 0 k (has_any v.found || begins_decorators u.code u.at) _ _
+      (falls_then 0 0 k (later (decorated_in n) b v u) _ (later_falls b v u) (λ w i. default_with_falls b (span_at t.at) w i))
+      (export_default_falls b (span_at t.at) u)))
+      (falls_if 0 m (has_any v.found || begins_decorators t.code t.at) _ _
+      (falls_then 0 0 m (later (decorated_in n) b v t) _ (later_falls b v t) (λ w i. named_with_falls b w i))
+      (export_named_falls b t)))
 
 -- ---- an item
 
@@ -357,9 +430,9 @@ import_in_falls zero s e = too_deep_falls Tree 1 (length s.at.left) s
 import_in_falls (suc n) s e = import_decl_falls (object_alone n) (object_less n) s e
 
 export_in_falls : (n : ℕ) (s : State) → kind_at s.at ≢ kind.End → Falls 1 (length s.at.left) (export_in n s)
-unfolding export_in
+unfolding export_in export_item
 export_in_falls zero s e = too_deep_falls Tree 1 (length s.at.left) s
-export_in_falls (suc n) s e = export_decl_falls n s e
+export_in_falls (suc n) s e = export_from_falls n (no_leading s) s e
 
 pub module_item_falls : (n : ℕ) (s : State) → Falls 1 (length s.at.left) (module_item n s)
 unfolding module_item

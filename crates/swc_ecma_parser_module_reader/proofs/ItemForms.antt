@@ -1,5 +1,5 @@
 -- Where an import or an export begins one is read, whatever was recorded, and its walk is that of module code.
-use Rattle.std.proofs.Common.{◌≡◌, ℕ, zero, suc, Bool, true, false, List, [], ◌∷◌, ◌++◌, refl, sym, ◌∙◌, ap, codes}
+use Rattle.std.proofs.Common.{◌≡◌, ℕ, zero, suc, Bool, true, false, List, [], ◌∷◌, ◌++◌, refl, sym, ◌∙◌, ap, subst, codes}
 use Rattle.std.specs.Prelude.{◌||◌, ◌&&◌}
 use Rattle.swc_ecma_parser_common.specs.declared.span.Span.{Span}
 use Rattle.swc_ecma_parser_error.specs.Kind as faults
@@ -10,33 +10,35 @@ use Rattle.swc_ecma_parser_model.specs.declared.leaves.ImportPhase.TheVariants a
 use Rattle.swc_ecma_parser_model.specs.declared.leaves.VarDeclKind.TheVariants as decl
 use Rattle.swc_ecma_parser_model.specs.Kinds.{is_module_decl}
 use Rattle.swc_ecma_parser_model.specs.Tree as tree
-use Rattle.swc_ecma_parser_model.specs.Tree.{Tree, listed}
+use Rattle.swc_ecma_parser_model.specs.Tree.{Tree, listed, trees}
 use Rattle.swc_ecma_parser_model.specs.Forms.{span_of}
 use Rattle.swc_ecma_parser_grammar.specs.Looks.{sees, span_at}
 use Rattle.swc_ecma_parser_grammar.specs.Names.{name_at}
 use Rattle.swc_ecma_parser_grammar.specs.Follows.{word_at, is_let_declaration}
 use Rattle.swc_ecma_parser_grammar.specs.Own.{export_faults}
-use Rattle.swc_ecma_parser_grammar.specs.Parameters.{parameters}
 use Rattle.swc_ecma_parser_grammar.specs.Reads.{with_in, nested_item}
 use Rattle.swc_ecma_parser_grammar.specs.Walk as walks
 use Rattle.swc_ecma_parser_grammar.specs.Walk.{Env, walk}
-use Rattle.swc_ecma_parser_grammar.specs.language.Contexts.{in_class, in_parameters}
 use Rattle.swc_ecma_parser_grammar.specs.language.Goals.{assignment, left_side}
 use Rattle.swc_ecma_parser_grammar.specs.language.Imports.{follows_phase}
+use Rattle.swc_ecma_parser_reader.specs.DecoratorLevels.{decorated_in}
+use Rattle.swc_ecma_parser_reader.specs.Decorators.{Leading, leading, has_any, misplaced}
 use Rattle.swc_ecma_parser_reader.specs.Jumps.{told}
-use Rattle.swc_ecma_parser_reader.specs.Members.{extended, surplus, members, class_parts, class_name, unnamed_class, class_expr, class_decl}
+use Rattle.swc_ecma_parser_reader.specs.Members.{class_expr, class_decl}
 use Rattle.swc_ecma_parser_reader.specs.Methods.{star}
 use Rattle.swc_ecma_parser_reader.specs.Reader as reader
-use Rattle.swc_ecma_parser_reader.specs.Reader.{expr, pattern, member, stmt, object_alone, variables, function_decl, function_parts, function_body, function_word, misdirected, named, optional_end, close}
-use Rattle.swc_ecma_parser_reader.specs.State.{State, Reader, moved, coded, within, name, expect, end}
+use Rattle.swc_ecma_parser_reader.specs.Reader.{expr, pattern, member, stmt, object_alone, variables, function_decl, function_parts, function_word, optional_end}
+use Rattle.swc_ecma_parser_reader.specs.State.{State, Reader, moved, within, name, end}
 use Rattle.swc_ecma_parser_reader.specs.Words.{any_word}
 use Rattle.swc_ecma_parser_reader.proofs.Meets.{Meets, always, meets_then, meets_if, wanted_meets, too_deep_meets}
-use Rattle.swc_ecma_parser_reader.proofs.expressions.SoundSteps.{meets_as}
-use Rattle.swc_ecma_parser_module_reader.specs.Exports.{export_specifier, export_namespace, names_from, own_names, export_names, more_names, namespace_names, export_all, export_star, is_namespace_next, behind_default, is_name_from, name_from, is_default_from, default_from, default_name, default_function, default_expr, begins_default_function, exported_function, exported_class, export_default, exported, export_decl}
+use Rattle.swc_ecma_parser_reader.proofs.expressions.SoundSteps.{meets_as, reject_meets}
+use Rattle.swc_ecma_parser_module_reader.specs.Exports.{export_specifier, export_namespace, names_from, own_names, export_names, more_names, namespace_names, export_all, export_star, is_namespace_next, behind_default, is_name_from, name_from, is_default_from, default_from, default_name, default_function, default_expr, begins_default_function, exported_function, exported_class, default_rest, export_default, exported, export_rest, export_named}
+use Rattle.swc_ecma_parser_module_reader.specs.Decorated.{with_decorators, none_before, begins_decorators, no_leading, later_alone, later, decorating, by_default, named_with, default_with, behind_export, behind_default_word, export_from, export_item}
 use Rattle.swc_ecma_parser_module_reader.specs.Imports.{source, str, attributes, specifiers, default_binding, import_clause, imported, import_from, phase_of, import_phased, is_phase_word, import_decl}
 use Rattle.swc_ecma_parser_module_reader.specs.Modules.{begins_import, import_in, export_in, module_item}
 use Rattle.swc_ecma_parser_module_reader.specs.Programs.{begins_module}
-use Rattle.swc_ecma_parser_module_reader.proofs.SoundExported.{variables_sound, function_sound, class_sound, default_begins}
+use Rattle.swc_ecma_parser_module_reader.proofs.DecoratedForms.{IsName, absent_name, Takes, IsFunction, fn_expr_takes, behind_walk}
+use Rattle.swc_ecma_parser_module_reader.proofs.SoundExported.{variables_sound, named_plain, parts_form, decl_takes, declared_takes, as_expression_takes}
 
 -- an import or an export, whose walk is that of module code
 abbrev pub IsDeclaration : Tree → Type 0
@@ -108,7 +110,7 @@ module _ (object : Reader Tree) where
   unfolding name_from
   name_from_form start s = always _ (name faults.ExpectedIdent s) _ (λ i t. behind_default_form start (span_at s.at) (tree.export_default (tree.ident i.span i.sym)) t)
 
--- ---- what is exported by default: no decorators stand before it
+-- ---- what is exported
 
 -- its export walks it as module code
 abbrev IsBare : Tree → Type 0
@@ -118,52 +120,27 @@ bare_stays : (x : Tree) → IsBare x → (env : Env) (s : Span)
     → walks.walk_exported (walks.in_module env) s (walk (walks.in_module env) x) x ≡ walks.walk_exported env s (walk (walks.in_module env) x) x
 bare_stays x h env s = h (walks.in_module env) s ∙ sym (h env s)
 
-abbrev Nameless : Tree → State → Type 0
-Nameless i t = (env : Env) → walk env i ≡ []
+-- and so it does with decorators behind its words
+takes_stays : (x : Tree) → Takes x → (ds : List Tree) (env : Env) (s : Span) → none_before s.lo (trees ds) ≡ true
+    → walks.walk_exported (walks.in_module env) s (walk (walks.in_module env) (with_decorators ds x)) (with_decorators ds x)
+    ≡ walks.walk_exported env s (walk (walks.in_module env) (with_decorators ds x)) (with_decorators ds x)
+takes_stays x f ds env s h =
+    f.walked ds (walks.in_module env) s ∙ ap (λ z. z ++ walk (walks.in_module env) x) (behind_walk (walks.in_module env) s ds h ∙ sym (behind_walk env s ds h)) ∙ sym (f.walked ds env s)
 
-named_form : (s : State) → Meets Nameless (named s)
-unfolding named
-named_form s = always _ (name faults.ExpectedIdent s) _ (λ i t env. refl)
+bare_takes : (x : Tree) → Takes x → (env : Env) (s : Span)
+    → walks.walk_exported (walks.in_module env) s (walk (walks.in_module env) x) x ≡ walks.walk_exported env s (walk (walks.in_module env) x) x
+bare_takes x f env s =
+    subst (λ y. walks.walk_exported (walks.in_module env) s (walk (walks.in_module env) y) y ≡ walks.walk_exported env s (walk (walks.in_module env) y) y) f.bare (takes_stays x f [] env s refl)
 
 module _ (inner : Reader Tree) (params : Reader (List Tree)) where
-  -- whatever its name is
-  abbrev Bare : Tree → State → Type 0
-  Bare x t = (i : Tree) (r : Span) → ((env : Env) → walk env i ≡ []) → IsBare (tree.fn_expr r i x)
-
-  parts_form : (w g : Bool) (start : Span) (s : State) → Meets Bare (function_parts inner params w g start s)
-  unfolding function_parts
-  parts_form w g start s = always _ (within (λ k. in_parameters k w g) params s) _ (λ ps t. always _ (function_body inner params w g t) _ (λ y u.
-      always _ (misdirected (parameters ps) y u) _
-      (λ _ v i r h env span. sym (ap (λ z. z ++ walk (walks.in_module env) (tree.function (record { lo = start.lo; hi = u.at.last.hi }) (listed []) (parameters ps) y w g)) (h (walks.in_module env))))))
-
-  default_name_form : (s : State) → Meets Nameless (default_name s)
+  default_name_form : (s : State) → Meets (λ i t. IsName i) (default_name s)
   unfolding default_name
-  default_name_form s = meets_if _ (name_at s.code.flags s.at) _ _ (λ _. named_form s) (λ _ env. refl)
+  default_name_form s = meets_if _ (name_at s.code.flags s.at) _ _ (λ _. named_plain s) (λ _. absent_name)
 
-  default_function_form : (s : State) → Meets (λ x t. IsBare x) (default_function inner params s)
+  default_function_form : (s : State) → Meets (λ x t. Takes x) (default_function inner params s)
   unfolding default_function
-  default_function_form s = always _ (function_word s) _ (λ w t. always _ (star t) _ (λ g u. meets_then {P = Nameless} _ (default_name u) _ (default_name_form u) (λ i v h.
-      meets_then {P = Bare} _ (function_parts inner params w g (span_at s.at) v) _ (parts_form w g (span_at s.at) v) (λ x z f. f i (span_of x) h))))
-
-module _ (heritage element : Reader Tree) where
-  abbrev BareClass : Tree → State → Type 0
-  BareClass x t = (i : Tree) (r : Span) → ((env : Env) → walk env i ≡ []) → IsBare (tree.class_expr r i x)
-
-  class_parts_form : (start : Span) (s : State) → Meets BareClass (class_parts heritage element start s)
-  unfolding class_parts
-  class_parts_form start s = always _ (extended heritage element s) _ (λ base t. always _ (surplus heritage element t) _ (λ _ u. always _ (expect kind.LBrace u) _ (λ _ v.
-      always _ (within with_in (members heritage element) v) _ (λ xs w. always _ (close w) _ (λ _ z i r h env span.
-      sym (ap (λ l. l ++ walk (walks.in_module env) (tree.class (record { lo = start.lo; hi = z.at.last.hi }) (listed []) (listed xs) base)) (h (walks.in_module env))))))))
-
-  class_name_form : (s : State) → Meets Nameless (class_name heritage element s)
-  unfolding class_name
-  class_name_form s = meets_if _ (name_at s.code.flags s.at) _ _ (λ _. named_form s) (λ _ env. refl)
-
-  class_expr_form : (s : State) → Meets (λ x t. IsBare x) (class_expr heritage element s)
-  unfolding class_expr unnamed_class
-  class_expr_form s = let c = coded (in_class s.code) s in
-      meets_then {P = λ x t. IsBare x} _ (unnamed_class heritage element c) _ (meets_then {P = Nameless} _ (class_name heritage element (moved c)) _ (class_name_form (moved c)) (λ i m h.
-      meets_then {P = BareClass} _ (class_parts heritage element (span_at s.at) m) _ (class_parts_form (span_at s.at) m) (λ x t f. f i (span_of x) h))) (λ x t p. p)
+  default_function_form s = always _ (function_word s) _ (λ w t. always _ (star t) _ (λ g u. meets_then {P = λ i _. IsName i} _ (default_name u) _ (default_name_form u) (λ i v h.
+      meets_then {P = λ x _. IsFunction x} _ (function_parts inner params w g (span_at s.at) v) _ (parts_form inner params w g (span_at s.at) v) (λ x z f. fn_expr_takes (span_of x) i x h f))))
 
 -- ---- exports
 
@@ -178,27 +155,38 @@ module _ (n : ℕ) where
   unfolding default_expr
   default_expr_form start s = always _ (within with_in (expr n assignment) s) _ (λ x t. always _ (end faults.Expected t) _ (λ _ u. (refl, λ env. refl)))
 
+  default_rest_form : (start first : Span) (s : State) → Meets Declared (default_rest inner (expr n) (pattern n) params (member n) (object_alone n) start first s)
+  unfolding default_rest default_from
+  default_rest_form start first s =
+      meets_if _ (is_default_from s.code s.at) _ _ (λ _. behind_default_form (object_alone n) start first (tree.export_default (tree.ident first (codes "default"))) s) (λ _. default_expr_form start s)
+
+  -- a class, and a function
+  class_form : (s : State) → Meets (λ x t. Takes x) (class_expr (expr n left_side) (member n) s)
+  class_form s = let p = class_expr (expr n left_side) (member n) s in meets_as p (as_expression_takes (expr n left_side) (member n) s) (λ x t h. h.0)
+
   export_default_form : (start first : Span) (s : State) → Meets Declared (export_default inner (expr n) (pattern n) params (member n) (object_alone n) start first s)
-  unfolding export_default exported_class exported_function default_from
+  unfolding export_default exported_class exported_function
   export_default_form start first s =
-      meets_if _ (sees kind.Class s.at) _ _ (λ _. meets_then {P = λ x t. IsBare x} _ (class_expr (expr n left_side) (member n) s) _ (class_expr_form (expr n left_side) (member n) s)
-      (λ x t h. (refl, λ env. bare_stays x h env _)))
-      (λ _. meets_if _ (begins_default_function s.at) _ _ (λ _. meets_then {P = λ x t. IsBare x} _ (default_function inner params s) _ (default_function_form inner params s)
-      (λ x t h. (refl, λ env. bare_stays x h env _)))
-      (λ _. meets_if _ (is_default_from s.code s.at) _ _ (λ _. behind_default_form (object_alone n) start first (tree.export_default (tree.ident first (codes "default"))) s)
-      (λ _. default_expr_form start s)))
+      meets_if _ (sees kind.Class s.at) _ _ (λ _. meets_then {P = λ x t. Takes x} _ (class_expr (expr n left_side) (member n) s) _ (class_form s) (λ x t h. (refl, λ env. bare_takes x h env _)))
+      (λ _. meets_if _ (begins_default_function s.at) _ _
+      (λ _. meets_then {P = λ x t. Takes x} _ (default_function inner params s) _ (default_function_form inner params s) (λ x t h. (refl, λ env. bare_takes x h env _)))
+      (λ _. default_rest_form start first s))
 
   exported_form : (start : Span) (declaration : Reader Tree) (s : State) → Meets (λ x t. IsBare x) (declaration s)
       → Meets Declared (exported inner (expr n) (pattern n) params (member n) start declaration s)
   unfolding exported
   exported_form start declaration s p = meets_then {P = λ x t. IsBare x} _ (declaration s) _ p (λ x t h. (refl, λ env. bare_stays x h env _))
 
-  export_form : (s : State) → Meets Declared (export_decl inner (expr n) (pattern n) params (member n) (object_alone n) s)
-  unfolding export_decl
-  export_form s = let w = span_at s.at in let b = moved s in
+  plain_form : (start : Span) (declaration : Reader Tree) (s : State) → Meets (λ x t. Takes x) (declaration s)
+      → Meets Declared (exported inner (expr n) (pattern n) params (member n) start declaration s)
+  unfolding exported
+  plain_form start declaration s p = meets_then {P = λ x t. Takes x} _ (declaration s) _ p (λ x t h. (refl, λ env. bare_takes x h env _))
+
+  export_rest_form : (start : Span) (s : State) → Meets Declared (export_rest inner (expr n) (pattern n) params (member n) (object_alone n) start s)
+  unfolding export_rest
+  export_rest_form w b =
       meets_if _ (sees kind.LBrace b.at) _ _ (λ _. export_names_form (object_alone n) w [] b)
       (λ _. meets_if _ (sees kind.Mul b.at) _ _ (λ _. export_star_form (object_alone n) w b)
-      (λ _. meets_if _ (sees kind.Default b.at) _ _ (λ _. export_default_form w (span_at b.at) (moved b))
       (λ _. meets_if _ (sees kind.Var b.at) _ _
       (λ h. exported_form w (variables (expr n) (pattern n) decl.Var) b (meets_as (variables (expr n) (pattern n) decl.Var b) (variables_sound n decl.Var b h) (λ x t p. p.1)))
       (λ _. meets_if _ (sees kind.Const b.at) _ _
@@ -206,11 +194,69 @@ module _ (n : ℕ) where
       p.1)))
       (λ _. meets_if _ (is_let_declaration b.at) _ _
       (λ h. exported_form w (variables (expr n) (pattern n) decl.Let) b (meets_as (variables (expr n) (pattern n) decl.Let b) (variables_sound n decl.Let b h) (λ x t p. p.1)))
-      (λ _. meets_if _ (sees kind.Class b.at) _ _
-      (λ h. exported_form w (class_decl (expr n left_side) (member n)) b (meets_as (class_decl (expr n left_side) (member n) b) (class_sound n b h) (λ x t p. p.1)))
-      (λ _. meets_if _ (begins_default_function b.at) _ _
-      (λ h. exported_form w (function_decl inner params) b (meets_as (function_decl inner params b) (function_sound n b (default_begins b.at h)) (λ x t p. p.1)))
-      (λ _. meets_if _ (is_name_from b.code b.at) _ _ (λ _. name_from_form (object_alone n) w b) (λ _. wanted_meets _ faults.Unexpected b)))))))))
+      (λ _. meets_if _ (is_name_from b.code b.at) _ _ (λ _. name_from_form (object_alone n) w b) (λ _. wanted_meets _ faults.Unexpected b))))))
+
+  export_named_form : (start : Span) (s : State) → Meets Declared (export_named inner (expr n) (pattern n) params (member n) (object_alone n) start s)
+  unfolding export_named
+  export_named_form w b =
+      meets_if _ (sees kind.Class b.at) _ _ (λ _. plain_form w (class_decl (expr n left_side) (member n)) b (declared_takes (expr n left_side) (member n) b))
+      (λ _. meets_if _ (begins_default_function b.at) _ _ (λ _. plain_form w (function_decl inner params) b (decl_takes inner params b)) (λ _. export_rest_form w b))
+
+  -- ---- with decorators behind the words
+
+  abbrev IsLater : Span → Leading → State → Type 0
+  IsLater start r t = none_before start.lo (trees r.found) ≡ true
+
+  later_alone_form : (start : Span) (v w : Leading) (t : State) → Meets (λ _ u. none_before start.lo (trees w.found) ≡ true) (later_alone start v w t)
+  unfolding later_alone
+  later_alone_form start v w t =
+      meets_if _ (sees kind.Export t.at) _ _ (λ _. reject_meets _ _ t)
+      (λ _. meets_if _ (has_any v.found) _ _ (λ _. reject_meets _ _ t)
+      (λ _. meets_if _ (none_before start.lo (trees w.found)) _ _ (λ h. h) (λ _. reject_meets _ _ t)))
+
+  later_form : (start : Span) (v : Leading) → v.found ≡ [] → (s : State) → Meets (IsLater start) (later (decorated_in n) start v s)
+  unfolding later
+  later_form start v e s = always _ (leading (decorated_in n) s) _ (λ w t. meets_if _ (has_any w.found) _ _
+      (λ _. meets_then _ (later_alone start v w t) _ (later_alone_form start v w t) (λ _ u h. h))
+      (λ _. ap (λ xs. none_before start.lo (trees xs)) e))
+
+  decorated_form : (start : Span) (ds : List Tree) → none_before start.lo (trees ds) ≡ true → (declaration : Reader Tree) (s : State) → Meets (λ x t. Takes x) (declaration s)
+      → Meets Declared (exported inner (expr n) (pattern n) params (member n) start (decorating ds declaration) s)
+  unfolding exported decorating
+  decorated_form start ds h declaration s p = meets_then {P = λ y t. (x : Tree) × (y ≡ with_decorators ds x) × Takes x} _ (decorating ds declaration s) _
+      (meets_then {P = λ x t. Takes x} _ (declaration s) _ p (λ x t f. (x, refl, f)))
+      (λ y t (x, is, f). let span : Span = record { lo = start.lo; hi = t.at.last.hi } in subst (λ v. IsDeclaration (tree.export_decl span v)) (sym is) (refl, λ env. takes_stays x f ds env span h))
+
+  default_decorated_form : (start : Span) (ds : List Tree) → none_before start.lo (trees ds) ≡ true → (declaration : Reader Tree) (s : State) → Meets (λ x t. Takes x) (declaration s)
+      → Meets Declared (by_default start (decorating ds declaration) s)
+  unfolding by_default decorating
+  default_decorated_form start ds h declaration s p = meets_then {P = λ y t. (x : Tree) × (y ≡ with_decorators ds x) × Takes x} _ (decorating ds declaration s) _
+      (meets_then {P = λ x t. Takes x} _ (declaration s) _ p (λ x t f. (x, refl, f)))
+      (λ y t (x, is, f). let span : Span = record { lo = start.lo; hi = t.at.last.hi } in subst (λ v. IsDeclaration (tree.export_default_decl span v)) (sym is) (refl, λ env. takes_stays x f ds env span h))
+
+  named_with_form : (start : Span) (r : Leading) (s : State) → IsLater start r s → Meets Declared (named_with inner (expr n) (pattern n) params (member n) (object_alone n) (decorated_in n) start r s)
+  unfolding named_with
+  named_with_form start r s h =
+      meets_if _ (sees kind.Class s.at) _ _ (λ _. decorated_form start r.found h (class_decl (expr n left_side) (member n)) s (declared_takes (expr n left_side) (member n) s))
+      (λ _. meets_if _ (begins_default_function s.at) _ _ (λ _. decorated_form start r.found h (function_decl inner params) s (decl_takes inner params s))
+      (λ _. always _ (misplaced r s) _ (λ _ t. export_rest_form start t)))
+
+  default_with_form : (start first : Span) (r : Leading) (s : State) → IsLater start r s
+      → Meets Declared (default_with inner (expr n) (pattern n) params (member n) (object_alone n) (decorated_in n) start first r s)
+  unfolding default_with
+  default_with_form start first r s h =
+      meets_if _ (sees kind.Class s.at) _ _ (λ _. default_decorated_form start r.found h (class_expr (expr n left_side) (member n)) s (class_form s))
+      (λ _. meets_if _ (begins_default_function s.at) _ _ (λ _. default_decorated_form start r.found h (default_function inner params) s (default_function_form inner params s))
+      (λ _. always _ (misplaced r s) _ (λ _ t. default_rest_form start first t)))
+
+  export_form : (v : Leading) → v.found ≡ [] → (s : State) → Meets Declared (export_from inner (expr n) (pattern n) params (member n) (object_alone n) (decorated_in n) v s)
+  unfolding export_from behind_export behind_default_word
+  export_form v e s = let w = span_at s.at in let b = moved s in let u = moved b in
+      meets_if _ (sees kind.Default b.at) _ _
+      (λ _. meets_if _ (has_any v.found || begins_decorators u.code u.at) _ _
+      (λ _. meets_then {P = IsLater w} _ (later (decorated_in n) w v u) _ (later_form w v e u) (λ r t h. default_with_form w (span_at b.at) r t h)) (λ _. export_default_form w (span_at b.at) u))
+      (λ _. meets_if _ (has_any v.found || begins_decorators b.code b.at) _ _
+      (λ _. meets_then {P = IsLater w} _ (later (decorated_in n) w v b) _ (later_form w v e b) (λ r t h. named_with_form w r t h)) (λ _. export_named_form w b))
 
 -- ---- items
 
@@ -220,9 +266,9 @@ import_in_form zero s = too_deep_meets _ s
 import_in_form (suc n) s = import_form (object_alone n) s
 
 export_in_form : (n : ℕ) (s : State) → Meets Declared (export_in n s)
-unfolding export_in
+unfolding export_in export_item
 export_in_form zero s = too_deep_meets _ s
-export_in_form (suc n) s = export_form n s
+export_in_form (suc n) s = export_form n (no_leading s) refl s
 
 neither : (a b : Bool) → (a || b) ≡ true → a ≡ false → b ≡ false → ⊥
 neither true b h e g = cc

@@ -5,7 +5,7 @@ use Rattle.std.specs.Prelude.{◌&&◌, ◌||◌, codes}
 use Rattle.swc_ecma_parser_common.specs.declared.span.Span.{Span}
 use Rattle.swc_ecma_parser_error.specs.declared.error.Error.{Error}
 use Rattle.swc_ecma_parser_error.specs.Kind as faults
-use Rattle.swc_ecma_parser_error.specs.Kind.{Fault, fault_of}
+use Rattle.swc_ecma_parser_error.specs.Kind.{fault_of}
 use Rattle.swc_ecma_parser_token.specs.declared.kind.TokenKind.TheVariants as kind
 use Rattle.swc_ecma_parser_token.specs.declared.token.Token.{Token}
 use Rattle.swc_ecma_parser_token.specs.declared.token.Token.TheVariants as token
@@ -16,7 +16,7 @@ use Rattle.swc_ecma_parser_model.specs.declared.leaves.ImportPhase.{ImportPhase}
 use Rattle.swc_ecma_parser_model.specs.declared.leaves.ImportPhase.TheVariants as phase
 use Rattle.swc_ecma_parser_model.specs.declared.leaves.VarDeclKind.TheVariants as decl
 use Rattle.swc_ecma_parser_model.specs.Tree as tree
-use Rattle.swc_ecma_parser_model.specs.Tree.{Tree, Text, listed}
+use Rattle.swc_ecma_parser_model.specs.Tree.{Tree, Text, listed, trees}
 use Rattle.swc_ecma_parser_grammar.specs.Looks.{sees, span_at}
 use Rattle.swc_ecma_parser_grammar.specs.Names.{is_name, name_at}
 use Rattle.swc_ecma_parser_grammar.specs.Follows.{word_at, is_let_declaration, is_async_function}
@@ -27,6 +27,8 @@ use Rattle.swc_ecma_parser_grammar.specs.language.Contexts.{outside_functions, i
 use Rattle.swc_ecma_parser_grammar.specs.language.Goals.{assignment, left_side}
 use Rattle.swc_ecma_parser_grammar.specs.language.Imports.{follows_phase}
 use Rattle.swc_ecma_parser_grammar.specs.language.ModuleParts.{begins_attributes}
+use Rattle.swc_ecma_parser_reader.specs.DecoratorLevels.{decorated_in}
+use Rattle.swc_ecma_parser_reader.specs.Decorators.{Leading, leading, has_any, misplaced}
 use Rattle.swc_ecma_parser_reader.specs.Jumps.{told}
 use Rattle.swc_ecma_parser_reader.specs.Members.{class_decl, class_expr}
 use Rattle.swc_ecma_parser_reader.specs.Methods.{star}
@@ -41,8 +43,11 @@ use Rattle.swc_ecma_parser_reader.proofs.classes.Keeps as classes
 use Rattle.swc_ecma_parser_reader.proofs.Objects.{object_alone_keeps}
 use Rattle.swc_ecma_parser_reader.proofs.Meets.{Answers, answers_then, answers_if, meant}
 use Rattle.swc_ecma_parser_reader.proofs.expressions.Keeps.{star_keeps, told_keeps}
+use Rattle.swc_ecma_parser_reader.proofs.decorators.Leading.{leading_keeps, misplaced_keeps}
+use Rattle.swc_ecma_parser_reader.proofs.Keeps.{decorated_in_keeps}
 use Rattle.swc_ecma_parser_module_reader.specs.Imports.{str_or, str, source, module_name, attributes, specifiers_turn, specifiers, same_name, other_name, import_specifier, binding_name, import_namespace, bindings, more_bindings, default_binding, import_clause, imported, import_from, phase_of, import_phased, is_phase_word, import_decl}
-use Rattle.swc_ecma_parser_module_reader.specs.Exports.{renamed_export, plain_export, export_specifier, export_namespace, names_from, own_names, export_names, more_names, namespace_names, export_all, export_star, is_namespace_next, behind_default, is_name_from, name_from, is_default_from, default_from, default_name, default_function, default_expr, begins_default_function, exported_function, exported_class, export_default, exported, export_decl}
+use Rattle.swc_ecma_parser_module_reader.specs.Exports.{renamed_export, plain_export, export_specifier, export_namespace, names_from, own_names, export_names, more_names, namespace_names, export_all, export_star, is_namespace_next, behind_default, is_name_from, name_from, is_default_from, default_from, default_name, default_function, default_expr, begins_default_function, exported_function, exported_class, default_rest, export_default, exported, export_rest, export_named}
+use Rattle.swc_ecma_parser_module_reader.specs.Decorated.{none_before, begins_decorators, no_leading, later_alone, later, decorating, by_default, named_with, default_with, behind_export, behind_default_word, export_from, export_item}
 use Rattle.swc_ecma_parser_module_reader.specs.Modules.{begins_import, import_in, export_in, module_item, module_code, module_body, module_whole}
 use Rattle.swc_ecma_parser_module_reader.specs.Entry.{AnswersModule}
 use Rattle.swc_ecma_parser_module_reader.proofs.Falls.{var_is_stmt, const_is_stmt, let_is_stmt, function_is_stmt, class_is_stmt}
@@ -277,32 +282,86 @@ module _ (n : ℕ) where
   pub default_class_keeps : Passes (class_expr (expr n left_side) (member n))
   default_class_keeps = classes.class_expr_keeps (expr n left_side) (member n) (expr_keeps n left_side) (member_keeps n)
 
+  pub default_rest_keeps : (start first : Span) → Passes (default_rest (stmt n nested_item) (expr n) (pattern n) (parameters n) (member n) (object_alone n) start first)
+  unfolding default_rest default_from
+  default_rest_keeps start first b s f =
+      answers_if _ _ (is_default_from s.code s.at) _ _ (λ _. behind_default_keeps (object_alone n) (object_alone_keeps n) start first _ b s f) (λ _. default_expr_keeps start b s f)
+
   export_default_keeps : (start first : Span) → Passes (export_default (stmt n nested_item) (expr n) (pattern n) (parameters n) (member n) (object_alone n) start first)
-  unfolding export_default exported_function exported_class default_from
+  unfolding export_default exported_function exported_class
   export_default_keeps start first b s f = answers_if _ _ (sees kind.Class s.at) _ _
       (λ _. answers_then (Kept b) _ (class_expr (expr n left_side) (member n) s) _ (default_class_keeps b s f) (λ x t g. g))
       (λ _. answers_if _ _ (begins_default_function s.at) _ _
       (λ _. answers_then (Kept b) _ (default_function (stmt n nested_item) (parameters n) s) _ (default_function_keeps b s f) (λ x t g. g))
-      (λ _. answers_if _ _ (is_default_from s.code s.at) _ _ (λ _. behind_default_keeps (object_alone n) (object_alone_keeps n) start first _ b s f) (λ _. default_expr_keeps start b s f)))
+      (λ _. default_rest_keeps start first b s f))
 
   exported_keeps : (start : Span) (d : Reader Tree) (b s : State) → stmt (suc n) nested_item s ≡ d s → NothingLost b s
       → Answers (Kept b) (Lost b) (exported (stmt n nested_item) (expr n) (pattern n) (parameters n) (member n) start d s)
   unfolding exported
   exported_keeps start d b s e f = answers_then (Kept b) _ (d s) _ (subst (Answers (Kept b) (Lost b)) e (stmt_keeps (suc n) nested_item b s f)) (λ x t g. g)
 
-  pub export_decl_keeps : Passes (export_decl (stmt n nested_item) (expr n) (pattern n) (parameters n) (member n) (object_alone n))
-  unfolding export_decl
-  export_decl_keeps b s f = let t = moved s in let g = behind_after b s f in
-      answers_if _ _ (sees kind.LBrace t.at) _ _ (λ _. export_names_keep (object_alone n) (object_alone_keeps n) (span_at s.at) [] b t g) (λ _.
-      answers_if _ _ (sees kind.Mul t.at) _ _ (λ _. export_star_keeps (object_alone n) (object_alone_keeps n) (span_at s.at) b t g) (λ _.
-      answers_if _ _ (sees kind.Default t.at) _ _ (λ _. export_default_keeps (span_at s.at) (span_at t.at) b (moved t) (behind_after b t g)) (λ _.
-      answers_if _ _ (sees kind.Var t.at) _ _ (λ h. exported_keeps (span_at s.at) (variables (expr n) (pattern n) decl.Var) b t (var_is_stmt n t h) g) (λ _.
-      answers_if _ _ (sees kind.Const t.at) _ _ (λ h. exported_keeps (span_at s.at) (variables (expr n) (pattern n) decl.Const) b t (const_is_stmt n t h) g) (λ _.
-      answers_if _ _ (is_let_declaration t.at) _ _ (λ h. exported_keeps (span_at s.at) (variables (expr n) (pattern n) decl.Let) b t (let_is_stmt n t h) g) (λ _.
-      answers_if _ _ (sees kind.Class t.at) _ _ (λ h. exported_keeps (span_at s.at) (class_decl (expr n left_side) (member n)) b t (class_is_stmt n t h) g) (λ _.
-      answers_if _ _ (begins_default_function t.at) _ _ (λ h. exported_keeps (span_at s.at) (function_decl (stmt n nested_item) (parameters n)) b t (function_is_stmt n t h) g) (λ _.
-      answers_if _ _ (is_name_from t.code t.at) _ _ (λ _. name_from_keeps (object_alone n) (object_alone_keeps n) (span_at s.at) b t g) (λ _.
-      wanted_keeps _ faults.Unexpected b t g)))))))))
+  pub export_rest_keeps : (start : Span) → Passes (export_rest (stmt n nested_item) (expr n) (pattern n) (parameters n) (member n) (object_alone n) start)
+  unfolding export_rest
+  export_rest_keeps start b t g =
+      answers_if _ _ (sees kind.LBrace t.at) _ _ (λ _. export_names_keep (object_alone n) (object_alone_keeps n) start [] b t g) (λ _.
+      answers_if _ _ (sees kind.Mul t.at) _ _ (λ _. export_star_keeps (object_alone n) (object_alone_keeps n) start b t g) (λ _.
+      answers_if _ _ (sees kind.Var t.at) _ _ (λ h. exported_keeps start (variables (expr n) (pattern n) decl.Var) b t (var_is_stmt n t h) g) (λ _.
+      answers_if _ _ (sees kind.Const t.at) _ _ (λ h. exported_keeps start (variables (expr n) (pattern n) decl.Const) b t (const_is_stmt n t h) g) (λ _.
+      answers_if _ _ (is_let_declaration t.at) _ _ (λ h. exported_keeps start (variables (expr n) (pattern n) decl.Let) b t (let_is_stmt n t h) g) (λ _.
+      answers_if _ _ (is_name_from t.code t.at) _ _ (λ _. name_from_keeps (object_alone n) (object_alone_keeps n) start b t g) (λ _.
+      wanted_keeps _ faults.Unexpected b t g))))))
+
+  export_named_keeps : (start : Span) → Passes (export_named (stmt n nested_item) (expr n) (pattern n) (parameters n) (member n) (object_alone n) start)
+  unfolding export_named
+  export_named_keeps start b t g =
+      answers_if _ _ (sees kind.Class t.at) _ _ (λ h. exported_keeps start (class_decl (expr n left_side) (member n)) b t (class_is_stmt n t h) g) (λ _.
+      answers_if _ _ (begins_default_function t.at) _ _ (λ h. exported_keeps start (function_decl (stmt n nested_item) (parameters n)) b t (function_is_stmt n t h) g) (λ _.
+      export_rest_keeps start b t g))
+
+  -- ---- with decorators
+
+  named_with_keeps : (start : Span) (v : Leading) → Passes (named_with (stmt n nested_item) (expr n) (pattern n) (parameters n) (member n) (object_alone n) (decorated_in n) start v)
+  unfolding named_with exported decorating
+  named_with_keeps start v b s f = answers_if _ _ (sees kind.Class s.at) _ _
+      (λ h. let d = class_decl (expr n left_side) (member n) in answers_then (Kept b) _ (decorating v.found d s) _
+      (answers_then (Kept b) _ (d s) _ (subst (Answers (Kept b) (Lost b)) (class_is_stmt n s h) (stmt_keeps (suc n) nested_item b s f)) (λ x t g. g)) (λ x t g. g)) (λ _.
+      answers_if _ _ (begins_default_function s.at) _ _
+      (λ h. let d = function_decl (stmt n nested_item) (parameters n) in answers_then (Kept b) _ (decorating v.found d s) _
+      (answers_then (Kept b) _ (d s) _ (subst (Answers (Kept b) (Lost b)) (function_is_stmt n s h) (stmt_keeps (suc n) nested_item b s f)) (λ x t g. g)) (λ x t g. g)) (λ _.
+      answers_then (Kept b) _ (misplaced v s) _ (misplaced_keeps v b s f) (λ _ t g. export_rest_keeps start b t g)))
+
+  default_with_keeps : (start first : Span) (v : Leading) → Passes (default_with (stmt n nested_item) (expr n) (pattern n) (parameters n) (member n) (object_alone n) (decorated_in n) start first v)
+  unfolding default_with by_default decorating
+  default_with_keeps start first v b s f = answers_if _ _ (sees kind.Class s.at) _ _
+      (λ _. let d = class_expr (expr n left_side) (member n) in answers_then (Kept b) _ (decorating v.found d s) _
+      (answers_then (Kept b) _ (d s) _ (default_class_keeps b s f) (λ x t g. g)) (λ x t g. g)) (λ _.
+      answers_if _ _ (begins_default_function s.at) _ _
+      (λ _. let d = default_function (stmt n nested_item) (parameters n) in answers_then (Kept b) _ (decorating v.found d s) _
+      (answers_then (Kept b) _ (d s) _ (default_function_keeps b s f) (λ x t g. g)) (λ x t g. g)) (λ _.
+      answers_then (Kept b) _ (misplaced v s) _ (misplaced_keeps v b s f) (λ _ t g. default_rest_keeps start first b t g)))
+
+  later_alone_keeps : (start : Span) (v w : Leading) → Passes (later_alone start v w)
+  unfolding later_alone
+  later_alone_keeps start v w b t g =
+      answers_if _ _ (sees kind.Export t.at) _ _ (λ _. reject_keeps _ faults.ExportNotAllowed (span_at t.at) b t g) (λ _.
+      answers_if _ _ (has_any v.found) _ _ (λ _. reject_keeps _ faults.TS8038 w.place b t g) (λ _.
+      answers_if _ _ (none_before start.lo (trees w.found)) _ _ (λ _. g) (λ _. reject_keeps _ faults.DecoratorOnExport w.place b t g)))
+
+  later_keeps : (start : Span) (v : Leading) → Passes (later (decorated_in n) start v)
+  unfolding later
+  later_keeps start v b s f = answers_then (Kept b) _ (leading (decorated_in n) s) _ (leading_keeps (decorated_in n) (decorated_in_keeps n) b s f) (λ w t g.
+      answers_if _ _ (has_any w.found) _ _ (λ _. answers_then (Kept b) _ (later_alone start v w t) _ (later_alone_keeps start v w b t g) (λ _ u h. h)) (λ _. g))
+
+  pub export_from_keeps : (v : Leading) → Passes (export_from (stmt n nested_item) (expr n) (pattern n) (parameters n) (member n) (object_alone n) (decorated_in n) v)
+  unfolding export_from behind_export behind_default_word
+  export_from_keeps v b s f = let t = moved s in let u = moved t in let w = span_at s.at in let g = behind_after b s f in let h = behind_after b t g in
+      answers_if _ _ (sees kind.Default t.at) _ _
+      (λ _. answers_if _ _ (has_any v.found || begins_decorators u.code u.at) _ _
+      (λ _. answers_then (Kept b) _ (later (decorated_in n) w v u) _ (later_keeps w v b u h) (λ l i k. default_with_keeps w (span_at t.at) l b i k))
+      (λ _. export_default_keeps w (span_at t.at) b u h)) (λ _.
+      answers_if _ _ (has_any v.found || begins_decorators t.code t.at) _ _
+      (λ _. answers_then (Kept b) _ (later (decorated_in n) w v t) _ (later_keeps w v b t g) (λ l i k. named_with_keeps w l b i k))
+      (λ _. export_named_keeps w b t g))
 
 -- ---- an item, and a module
 
@@ -312,9 +371,9 @@ import_in_keeps zero b s f = too_deep_keeps _ b s f
 import_in_keeps (suc n) b s f = import_decl_keeps (object_alone n) (object_alone_keeps n) b s f
 
 export_in_keeps : (n : ℕ) → Passes (export_in n)
-unfolding export_in
+unfolding export_in export_item
 export_in_keeps zero b s f = too_deep_keeps _ b s f
-export_in_keeps (suc n) b s f = export_decl_keeps n b s f
+export_in_keeps (suc n) b s f = export_from_keeps n (no_leading s) b s f
 
 pub module_item_keeps : (n : ℕ) → Passes (module_item n)
 unfolding module_item

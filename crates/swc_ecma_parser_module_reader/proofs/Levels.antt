@@ -3,10 +3,11 @@ use Rattle.std.proofs.Common.{◌≡◌, ℕ, ◌-◌, ◌<◌, refl}
 use Rattle.swc_ecma_parser_model.specs.Tree.{Tree}
 use Rattle.swc_ecma_parser_grammar.specs.Reads.{nested_item}
 use Rattle.swc_ecma_parser_reader.specs.State.{State, Outcome, too_deep}
+use Rattle.swc_ecma_parser_reader.specs.DecoratorLevels.{decorated_in}
 use Rattle.swc_ecma_parser_reader.specs.Reader.{expr, pattern, member, stmt, parameters, object_alone}
 use Rattle.swc_ecma_parser_reader.proofs.expressions.Loops.{deeper}
 use Rattle.swc_ecma_parser_module_reader.specs.Imports.{import_decl}
-use Rattle.swc_ecma_parser_module_reader.specs.Exports.{export_decl}
+use Rattle.swc_ecma_parser_module_reader.specs.Decorated.{export_item}
 use Rattle.swc_ecma_parser_module_reader.specs.Modules.{import_in, export_in}
 
 pub import_lowest : (n : ℕ) (s : State) → n ≡ 0 → ◌≡◌ {A = Outcome Tree} (import_in n s) (too_deep s)
@@ -21,6 +22,6 @@ pub export_lowest : (n : ℕ) (s : State) → n ≡ 0 → ◌≡◌ {A = Outcome
 unfolding export_in
 export_lowest n s e = rw e refl
 
-pub export_above : (n : ℕ) (s : State) → 0 < n → ◌≡◌ {A = Outcome Tree} (export_in n s) (export_decl (stmt (n - 1) nested_item) (expr (n - 1)) (pattern (n - 1)) (parameters (n - 1)) (member (n - 1)) (object_alone (n - 1)) s)
+pub export_above : (n : ℕ) (s : State) → 0 < n → ◌≡◌ {A = Outcome Tree} (export_in n s) (export_item (stmt (n - 1) nested_item) (expr (n - 1)) (pattern (n - 1)) (parameters (n - 1)) (member (n - 1)) (object_alone (n - 1)) (decorated_in (n - 1)) s)
 unfolding export_in
 export_above n s h = deeper (λ k. export_in k s) n h

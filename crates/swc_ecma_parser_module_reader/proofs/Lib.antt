@@ -1,4 +1,7 @@
 pub mod ModuleCode
+pub mod DecoratedForms
+pub mod Dressed
+pub mod NoDecorators
 pub mod Falls
 pub mod Loops
 pub mod Levels
@@ -15,6 +18,7 @@ pub mod AllLevels
 pub mod CompleteExportNames
 pub mod CompleteExports
 pub mod ItemStarts
+pub mod CompleteDecorated
 pub mod CompleteModules
 pub mod ProgramParts
 pub mod CompletePrograms
@@ -23,6 +27,7 @@ pub mod EmptyPrograms
 pub mod Unique
 pub mod Empty
 pub mod Keeps
+pub mod SoundLeadings
 pub mod Fits
 pub mod Limits
 pub mod Refusals

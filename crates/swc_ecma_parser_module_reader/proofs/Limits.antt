@@ -11,7 +11,7 @@ use Rattle.swc_ecma_parser_model.specs.declared.leaves.ImportPhase.{ImportPhase}
 use Rattle.swc_ecma_parser_model.specs.declared.leaves.ImportPhase.TheVariants as phase
 use Rattle.swc_ecma_parser_model.specs.declared.leaves.VarDeclKind.TheVariants as decl
 use Rattle.swc_ecma_parser_model.specs.Tree as tree
-use Rattle.swc_ecma_parser_model.specs.Tree.{Tree, Text, listed}
+use Rattle.swc_ecma_parser_model.specs.Tree.{Tree, Text, listed, trees}
 use Rattle.swc_ecma_parser_grammar.specs.Looks.{kind_at, sees, span_at}
 use Rattle.swc_ecma_parser_grammar.specs.Names.{is_name, name_at}
 use Rattle.swc_ecma_parser_grammar.specs.Follows.{word_at, is_let_declaration, is_async_function}
@@ -21,6 +21,8 @@ use Rattle.swc_ecma_parser_grammar.specs.language.Contexts.{outside_functions}
 use Rattle.swc_ecma_parser_grammar.specs.language.Goals.{assignment, left_side}
 use Rattle.swc_ecma_parser_grammar.specs.language.Imports.{follows_phase}
 use Rattle.swc_ecma_parser_grammar.specs.language.ModuleParts.{begins_attributes}
+use Rattle.swc_ecma_parser_reader.specs.DecoratorLevels.{decorated_in}
+use Rattle.swc_ecma_parser_reader.specs.Decorators.{Leading, leading, has_any, misplaced}
 use Rattle.swc_ecma_parser_reader.specs.Jumps.{told}
 use Rattle.swc_ecma_parser_reader.specs.Members.{class_decl, class_expr}
 use Rattle.swc_ecma_parser_reader.specs.Methods.{star}
@@ -33,9 +35,12 @@ use Rattle.swc_ecma_parser_reader.proofs.Meets.{Answers, answers_then, answers_i
 use Rattle.swc_ecma_parser_reader.proofs.Objects.{object_alone_shallow}
 use Rattle.swc_ecma_parser_reader.proofs.Shallow.{Levels, Fine, fine_after, fine_taken, Shallow, Kept, name_shallow, refuse_shallow, end_shallow, expect_shallow, shebang_shallow}
 use Rattle.swc_ecma_parser_reader.proofs.Words.{async_kind, async_parts}
+use Rattle.swc_ecma_parser_reader.proofs.decorators.Leading.{leading_shallow, misplaced_shallow}
+use Rattle.swc_ecma_parser_reader.proofs.Limits.{decorated_in_shallow}
 use Rattle.swc_ecma_parser_reader.proofs.expressions.LimitSteps.{reject_shallow, told_shallow, literal_shallow, any_word_shallow, unexpected_shallow, kept_more}
 use Rattle.swc_ecma_parser_module_reader.specs.Imports.{str_or, str, source, module_name, attributes, specifiers_turn, specifiers, same_name, other_name, import_specifier, binding_name, import_namespace, bindings, more_bindings, default_binding, import_clause, imported, import_from, phase_of, import_phased, is_phase_word, import_decl}
-use Rattle.swc_ecma_parser_module_reader.specs.Exports.{renamed_export, plain_export, export_specifier, export_namespace, names_from, own_names, export_names, more_names, namespace_names, export_all, export_star, is_namespace_next, behind_default, is_name_from, name_from, is_default_from, default_from, default_name, default_function, default_expr, begins_default_function, exported_function, exported_class, export_default, exported, export_decl}
+use Rattle.swc_ecma_parser_module_reader.specs.Exports.{renamed_export, plain_export, export_specifier, export_namespace, names_from, own_names, export_names, more_names, namespace_names, export_all, export_star, is_namespace_next, behind_default, is_name_from, name_from, is_default_from, default_from, default_name, default_function, default_expr, begins_default_function, exported_function, exported_class, default_rest, export_default, exported, export_rest, export_named}
+use Rattle.swc_ecma_parser_module_reader.specs.Decorated.{none_before, begins_decorators, no_leading, later_alone, later, decorating, by_default, named_with, default_with, behind_export, behind_default_word, export_from, export_item}
 use Rattle.swc_ecma_parser_module_reader.specs.Modules.{begins_import, import_in, export_in, module_item, module_code, module_body, module_whole}
 use Rattle.swc_ecma_parser_module_reader.proofs.Falls.{var_is_stmt, const_is_stmt, let_is_stmt, function_is_stmt, class_is_stmt}
 use Rattle.swc_ecma_parser_module_reader.proofs.Fits.{whole_shallow, stmt_shallow, whole_expr_shallow, cost, parts_shallow, whole_class_shallow}
@@ -271,14 +276,20 @@ module _ (n : ℕ) where
   default_expr_shallow start m s l f = answers_then (Kept m) _ (within with_in (expr n assignment) s) _ (whole_expr_shallow n m s (omega arith) f) (λ x t g.
       answers_then (Kept m) _ (end faults.Expected t) _ (end_flat m t g) (λ _ u h. h))
 
+  default_rest_shallow : (start first : Span) (m : ℕ) (s : State) → 2 * (m + 2) + 2 ≤ suc n → Fine m s.at.left
+      → Answers (Kept m) Shallow (default_rest (stmt n nested_item) (expr n) (pattern n) (parameters n) (member n) (object_alone n) start first s)
+  unfolding default_rest default_from
+  default_rest_shallow start first m s l f =
+      answers_if _ _ (is_default_from s.code s.at) _ _ (λ _. behind_default_levels (object_alone n) n (object_alone_shallow n) start first _ m s (omega arith) f) (λ _. default_expr_shallow start m s l f)
+
   export_default_shallow : (start first : Span) (m : ℕ) (s : State) → 2 * (m + 2) + 2 ≤ suc n → Fine m s.at.left
       → Answers (Kept m) Shallow (export_default (stmt n nested_item) (expr n) (pattern n) (parameters n) (member n) (object_alone n) start first s)
-  unfolding export_default exported_function exported_class default_from
+  unfolding export_default exported_function exported_class
   export_default_shallow start first m s l f = answers_if _ _ (sees kind.Class s.at) _ _
       (λ e. answers_then (Kept m) _ (class_expr (expr n left_side) (member n) s) _ (whole_class_shallow n m s (omega arith) (saw s.at kind.Class e) f) (λ x t g. g))
       (λ _. answers_if _ _ (begins_default_function s.at) _ _
       (λ e. answers_then (Kept m) _ (default_function (stmt n nested_item) (parameters n) s) _ (default_function_shallow m s l e f) (λ x t g. g))
-      (λ _. answers_if _ _ (is_default_from s.code s.at) _ _ (λ _. behind_default_levels (object_alone n) n (object_alone_shallow n) start first _ m s (omega arith) f) (λ _. default_expr_shallow start m s l f)))
+      (λ _. default_rest_shallow start first m s l f))
 
   -- a declaration, which is a statement
   exported_shallow : (start : Span) (d : Reader Tree) (m : ℕ) (s : State) → stmt (suc n) nested_item s ≡ d s → 2 * m + 2 ≤ suc n → Fine m s.at.left
@@ -288,31 +299,84 @@ module _ (n : ℕ) where
 
   -- from behind `export` on
   module _ (start : Span) (m : ℕ) (t : State) (l : 2 * (m + 1) + 2 ≤ suc n) (g : Fine m t.at.left) where
-    default_shallow : sees kind.Default t.at ≡ true → Answers (Kept m) Shallow (export_default (stmt n nested_item) (expr n) (pattern n) (parameters n) (member n) (object_alone n) start (span_at t.at) (moved t))
-    default_shallow h =
-        let (i, a, k) = fine_taken m t.at kind.Default (saw t.at kind.Default h) (λ z. cc) g in
-        kept_more i m _ (omega arith) (export_default_shallow start (span_at t.at) i (moved t) (omega arith) k)
-
     declared_shallow : (d : Reader Tree) → stmt (suc n) nested_item t ≡ d t → Answers (Kept m) Shallow (exported (stmt n nested_item) (expr n) (pattern n) (parameters n) (member n) start d t)
     declared_shallow d e = exported_shallow start d m t e (omega arith) g
 
-  export_decl_shallow : (m : ℕ) (s : State) → 2 * m + 2 ≤ suc n → sees kind.Export s.at ≡ true → Fine m s.at.left
-      → Answers (Kept m) Shallow (export_decl (stmt n nested_item) (expr n) (pattern n) (parameters n) (member n) (object_alone n) s)
-  unfolding export_decl
-  export_decl_shallow m s l e f =
+    export_rest_shallow : Answers (Kept m) Shallow (export_rest (stmt n nested_item) (expr n) (pattern n) (parameters n) (member n) (object_alone n) start t)
+    unfolding export_rest
+    export_rest_shallow =
+        answers_if _ _ (sees kind.LBrace t.at) _ _ (λ _. export_names_levels (object_alone n) n (object_alone_shallow n) start [] m t (omega arith) g) (λ _.
+        answers_if _ _ (sees kind.Mul t.at) _ _ (λ _. export_star_levels (object_alone n) n (object_alone_shallow n) start m t (omega arith) g) (λ _.
+        answers_if _ _ (sees kind.Var t.at) _ _ (λ h. declared_shallow (variables (expr n) (pattern n) decl.Var) (var_is_stmt n t h)) (λ _.
+        answers_if _ _ (sees kind.Const t.at) _ _ (λ h. declared_shallow (variables (expr n) (pattern n) decl.Const) (const_is_stmt n t h)) (λ _.
+        answers_if _ _ (is_let_declaration t.at) _ _ (λ h. declared_shallow (variables (expr n) (pattern n) decl.Let) (let_is_stmt n t h)) (λ _.
+        answers_if _ _ (is_name_from t.code t.at) _ _ (λ _. name_from_levels (object_alone n) n (object_alone_shallow n) start m t (omega arith) g) (λ _.
+        unexpected_shallow m t g _))))))
+
+    export_named_shallow : Answers (Kept m) Shallow (export_named (stmt n nested_item) (expr n) (pattern n) (parameters n) (member n) (object_alone n) start t)
+    unfolding export_named
+    export_named_shallow =
+        answers_if _ _ (sees kind.Class t.at) _ _ (λ h. declared_shallow (class_decl (expr n left_side) (member n)) (class_is_stmt n t h)) (λ _.
+        answers_if _ _ (begins_default_function t.at) _ _ (λ h. declared_shallow (function_decl (stmt n nested_item) (parameters n)) (function_is_stmt n t h)) (λ _.
+        export_rest_shallow))
+
+  -- ---- with decorators
+
+  later_alone_shallow : (start : Span) (v w : Leading) (m : ℕ) (t : State) → Fine m t.at.left → Answers (Kept m) Shallow (later_alone start v w t)
+  unfolding later_alone
+  later_alone_shallow start v w m t g =
+      answers_if _ _ (sees kind.Export t.at) _ _ (λ _. reject_shallow _ faults.ExportNotAllowed (span_at t.at) (λ z. cc) m t g) (λ _.
+      answers_if _ _ (has_any v.found) _ _ (λ _. reject_shallow _ faults.TS8038 w.place (λ z. cc) m t g) (λ _.
+      answers_if _ _ (none_before start.lo (trees w.found)) _ _ (λ _. g) (λ _. reject_shallow _ faults.DecoratorOnExport w.place (λ z. cc) m t g)))
+
+  later_shallow : (start : Span) (v : Leading) (m : ℕ) (s : State) → 2 * (m + 1) + 2 ≤ suc n → Fine m s.at.left → Answers (Kept m) Shallow (later (decorated_in n) start v s)
+  unfolding later
+  later_shallow start v m s l f = answers_then (Kept m) _ (leading (decorated_in n) s) _ (leading_shallow (decorated_in n) n (decorated_in_shallow n) m s (omega arith) f) (λ w t g.
+      answers_if _ _ (has_any w.found) _ _ (λ _. answers_then (Kept m) _ (later_alone start v w t) _ (later_alone_shallow start v w m t g) (λ _ u h. h)) (λ _. g))
+
+  named_with_shallow : (start : Span) (v : Leading) (m : ℕ) (s : State) → 2 * (m + 1) + 2 ≤ suc n → Fine m s.at.left
+      → Answers (Kept m) Shallow (named_with (stmt n nested_item) (expr n) (pattern n) (parameters n) (member n) (object_alone n) (decorated_in n) start v s)
+  unfolding named_with exported decorating
+  named_with_shallow start v m s l f = answers_if _ _ (sees kind.Class s.at) _ _
+      (λ h. let d = class_decl (expr n left_side) (member n) in answers_then (Kept m) _ (decorating v.found d s) _
+      (answers_then (Kept m) _ (d s) _ (subst (Answers (Kept m) Shallow) (class_is_stmt n s h) (stmt_shallow (suc n) m s (omega arith) f)) (λ x t g. g)) (λ x t g. g)) (λ _.
+      answers_if _ _ (begins_default_function s.at) _ _
+      (λ h. let d = function_decl (stmt n nested_item) (parameters n) in answers_then (Kept m) _ (decorating v.found d s) _
+      (answers_then (Kept m) _ (d s) _ (subst (Answers (Kept m) Shallow) (function_is_stmt n s h) (stmt_shallow (suc n) m s (omega arith) f)) (λ x t g. g)) (λ x t g. g)) (λ _.
+      answers_then (Kept m) _ (misplaced v s) _ (misplaced_shallow v m s f) (λ _ t g. export_rest_shallow start m t l g)))
+
+  default_with_shallow : (start first : Span) (v : Leading) (m : ℕ) (s : State) → 2 * (m + 2) + 2 ≤ suc n → Fine m s.at.left
+      → Answers (Kept m) Shallow (default_with (stmt n nested_item) (expr n) (pattern n) (parameters n) (member n) (object_alone n) (decorated_in n) start first v s)
+  unfolding default_with by_default decorating
+  default_with_shallow start first v m s l f = answers_if _ _ (sees kind.Class s.at) _ _
+      (λ e. let d = class_expr (expr n left_side) (member n) in answers_then (Kept m) _ (decorating v.found d s) _
+      (answers_then (Kept m) _ (d s) _ (whole_class_shallow n m s (omega arith) (saw s.at kind.Class e) f) (λ x t g. g)) (λ x t g. g)) (λ _.
+      answers_if _ _ (begins_default_function s.at) _ _
+      (λ e. let d = default_function (stmt n nested_item) (parameters n) in answers_then (Kept m) _ (decorating v.found d s) _
+      (answers_then (Kept m) _ (d s) _ (default_function_shallow m s l e f) (λ x t g. g)) (λ x t g. g)) (λ _.
+      answers_then (Kept m) _ (misplaced v s) _ (misplaced_shallow v m s f) (λ _ t g. default_rest_shallow start first m t l g)))
+
+  behind_words_shallow : (b : Span) (v : Leading) (m : ℕ) (t : State) → 2 * (m + 1) + 2 ≤ suc n → sees kind.Default t.at ≡ true → Fine m t.at.left
+      → Answers (Kept m) Shallow (behind_default_word (stmt n nested_item) (expr n) (pattern n) (parameters n) (member n) (object_alone n) (decorated_in n) b (span_at t.at) v (moved t))
+  unfolding behind_default_word
+  behind_words_shallow b v m t l h g =
+      let (i, a, k) = fine_taken m t.at kind.Default (saw t.at kind.Default h) (λ z. cc) g in
+      let u = moved t in
+      let le : 2 * (i + 2) + 2 ≤ suc n = omega arith in
+      kept_more i m _ (omega arith) (answers_if _ _ (has_any v.found || begins_decorators u.code u.at) _ _
+      (λ _. answers_then (Kept i) _ (later (decorated_in n) b v u) _ (later_shallow b v i u (omega arith) k) (λ w j z. default_with_shallow b (span_at t.at) w i j le z))
+      (λ _. export_default_shallow b (span_at t.at) i u le k))
+
+  export_from_shallow : (v : Leading) (m : ℕ) (s : State) → 2 * m + 2 ≤ suc n → sees kind.Export s.at ≡ true → Fine m s.at.left
+      → Answers (Kept m) Shallow (export_from (stmt n nested_item) (expr n) (pattern n) (parameters n) (member n) (object_alone n) (decorated_in n) v s)
+  unfolding export_from behind_export
+  export_from_shallow v m s l e f =
       let (i, a, g) = fine_taken m s.at kind.Export (saw s.at kind.Export e) (λ z. cc) f in
       let t = moved s in let b = span_at s.at in let le : 2 * (i + 1) + 2 ≤ suc n = omega arith in
-      kept_more i m _ (omega arith)
-      (answers_if _ _ (sees kind.LBrace t.at) _ _ (λ _. export_names_levels (object_alone n) n (object_alone_shallow n) b [] i t (omega arith) g) (λ _.
-      answers_if _ _ (sees kind.Mul t.at) _ _ (λ _. export_star_levels (object_alone n) n (object_alone_shallow n) b i t (omega arith) g) (λ _.
-      answers_if _ _ (sees kind.Default t.at) _ _ (λ h. default_shallow b i t le g h) (λ _.
-      answers_if _ _ (sees kind.Var t.at) _ _ (λ h. declared_shallow b i t le g (variables (expr n) (pattern n) decl.Var) (var_is_stmt n t h)) (λ _.
-      answers_if _ _ (sees kind.Const t.at) _ _ (λ h. declared_shallow b i t le g (variables (expr n) (pattern n) decl.Const) (const_is_stmt n t h)) (λ _.
-      answers_if _ _ (is_let_declaration t.at) _ _ (λ h. declared_shallow b i t le g (variables (expr n) (pattern n) decl.Let) (let_is_stmt n t h)) (λ _.
-      answers_if _ _ (sees kind.Class t.at) _ _ (λ h. declared_shallow b i t le g (class_decl (expr n left_side) (member n)) (class_is_stmt n t h)) (λ _.
-      answers_if _ _ (begins_default_function t.at) _ _ (λ h. declared_shallow b i t le g (function_decl (stmt n nested_item) (parameters n)) (function_is_stmt n t h)) (λ _.
-      answers_if _ _ (is_name_from t.code t.at) _ _ (λ _. name_from_levels (object_alone n) n (object_alone_shallow n) b i t (omega arith) g) (λ _.
-      unexpected_shallow i t g _))))))))))
+      kept_more i m _ (omega arith) (answers_if _ _ (sees kind.Default t.at) _ _ (λ h. behind_words_shallow b v i t le h g) (λ _.
+      answers_if _ _ (has_any v.found || begins_decorators t.code t.at) _ _
+      (λ _. answers_then (Kept i) _ (later (decorated_in n) b v t) _ (later_shallow b v i t le g) (λ w j k. named_with_shallow b w i j le k))
+      (λ _. export_named_shallow b i t le g)))
 
 -- ---- an item, and a module
 
@@ -322,9 +386,9 @@ import_in_shallow zero m s l f = absurd (omega arith)
 import_in_shallow (suc n) m s l f = import_decl_levels (object_alone n) n (object_alone_shallow n) m s (omega arith) f
 
 export_in_shallow : (n m : ℕ) (s : State) → 2 * m + 2 ≤ n → sees kind.Export s.at ≡ true → Fine m s.at.left → Answers (Kept m) Shallow (export_in n s)
-unfolding export_in
+unfolding export_in export_item
 export_in_shallow zero m s l e f = absurd (omega arith)
-export_in_shallow (suc n) m s l e f = export_decl_shallow n m s l e f
+export_in_shallow (suc n) m s l e f = export_from_shallow n (no_leading s) m s l e f
 
 pub module_item_shallow : (n m : ℕ) (s : State) → 2 * m + 2 ≤ n → Fine m s.at.left → Answers (Kept m) Shallow (module_item n s)
 unfolding module_item

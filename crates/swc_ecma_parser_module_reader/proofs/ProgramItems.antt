@@ -6,7 +6,7 @@ use Rattle.swc_ecma_parser_input.specs.Place.{Place}
 use Rattle.swc_ecma_parser_model.specs.Directive.{is_use_strict}
 use Rattle.swc_ecma_parser_model.specs.Kinds.{is_module_decl}
 use Rattle.swc_ecma_parser_model.specs.Tree.{Tree, Text, trees}
-use Rattle.swc_ecma_parser_grammar.specs.Looks.{sees}
+use Rattle.swc_ecma_parser_grammar.specs.Looks.{sees, span_at, spanned}
 use Rattle.swc_ecma_parser_grammar.specs.Names.{Code}
 use Rattle.swc_ecma_parser_grammar.specs.Notes.{notes, all_notes}
 use Rattle.swc_ecma_parser_grammar.specs.Entries.{items_await}
@@ -30,9 +30,9 @@ use Rattle.swc_ecma_parser_reader.proofs.Notes.{or_assoc}
 use Rattle.swc_ecma_parser_reader.proofs.SoundParts.{code_after}
 use Rattle.swc_ecma_parser_module_reader.specs.Modules.{module_code}
 use Rattle.swc_ecma_parser_module_reader.specs.ProgramEntry.{any_module_decl}
-use Rattle.swc_ecma_parser_module_reader.specs.Supported.{supported_item, all_supported_items}
+use Rattle.swc_ecma_parser_module_reader.specs.Supported.{supported_item, all_supported_items, supported_behind}
 use Rattle.swc_ecma_parser_module_reader.proofs.ItemForms.{IsDeclaration}
-use Rattle.swc_ecma_parser_module_reader.proofs.ItemStarts.{statement_told, item_supported, no_module_decl, exported_bare, default_bare}
+use Rattle.swc_ecma_parser_module_reader.proofs.ItemStarts.{statement_told, item_supported, no_module_decl, exported_behind, default_behind, none_in_front}
 use Rattle.swc_ecma_parser_module_reader.proofs.ModuleCode.{entered_code, directed_may, declared_code, declared_env, stated_code, stated_env}
 use Rattle.swc_ecma_parser_module_reader.proofs.SoundModules.{stmt_item}
 
@@ -96,18 +96,19 @@ module _ (In : Goal → Type 0) where
   decorators_around k ds c d (no_decorators e g) h = no_decorators e g
   decorators_around k ds c d (some_decorators y ys s r e) h = absurd (let g : false ≡ true = sym (ap has_none e) ∙ h in cc)
 
-  front_around : (k : Code) (b : Bool) (ds : Tree) (c m n : Place) → ExportFrontRule In (in_module k) b ds c m n → has_none ds ≡ true → ExportFrontRule In k b ds c m n
-  front_around k b ds c m n (exports.decorated_before a r e w) h = exports.decorated_before a (decorators_around k ds c m r h) e w
-  front_around k b ds c m n (exports.decorated_behind i e w r) h = exports.decorated_behind i e w r
+  front_around : (k : Code) (b : Bool) (ds : Tree) (c m n d : Place) → ExportFrontRule In (in_module k) b ds c m n → supported_behind (spanned m d) ds ≡ true → ExportFrontRule In k b ds c m n
+  unfolding spanned
+  front_around k b ds c m n d (exports.decorated_before a r e w) h = exports.decorated_before a (decorators_around k ds c m r (none_in_front (span_at m) d.last.hi ds e h)) e w
+  front_around k b ds c m n d (exports.decorated_behind i e w r) h = exports.decorated_behind i e w r
 
   export_around : (k : Code) (x : Tree) (c d : Place) → ExportRule In (in_module k) x c d → supported_item x ≡ true → ExportRule In k x c d
   unfolding may_begin_default
   export_around k x c d (exports.export_declaration_rule ds y m n f r is) h =
-      exports.export_declaration_rule ds y m n (front_around k false ds c m n f (exported_bare _ ds y n d r (sym (ap supported_item is) ∙ h))) r is
+      exports.export_declaration_rule ds y m n (front_around k false ds c m n d f (exported_behind _ ds x y (spanned m d) n d r is h)) r is
   export_around k x c d (exports.export_from_rule b xs src attributes l m n e r s t g is) h = exports.export_from_rule b xs src attributes l m n e r s t g is
   export_around k x c d (exports.export_names_rule xs m e r b g is) h = exports.export_names_rule xs m e r b g is
   export_around k x c d (exports.export_default_declaration_rule ds y m n f r is) h =
-      exports.export_default_declaration_rule ds y m n (front_around k true ds c m n f (default_bare _ ds x y _ n d r is h)) r is
+      exports.export_default_declaration_rule ds y m n (front_around k true ds c m n d f (default_behind _ ds x y (spanned m d) n d r is h)) r is
   export_around k x c d (exports.export_default_expression_rule y m e g b r i is) h = exports.export_default_expression_rule y m e g b r i is
   export_around k x c d (exports.export_all_rule src attributes m n e g r t i is) h = exports.export_all_rule src attributes m n e g r t i is
 

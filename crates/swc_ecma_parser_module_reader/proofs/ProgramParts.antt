@@ -9,9 +9,9 @@ use Rattle.swc_ecma_parser_model.specs.Directive.{is_use_strict}
 use Rattle.swc_ecma_parser_model.specs.Forms.{has_plain_params}
 use Rattle.swc_ecma_parser_model.specs.Kinds.{is_module_decl}
 use Rattle.swc_ecma_parser_model.specs.Tree as tree
-use Rattle.swc_ecma_parser_model.specs.Tree.{Tree, Text, none, trees}
+use Rattle.swc_ecma_parser_model.specs.Tree.{Tree, Text, trees}
 use Rattle.swc_ecma_parser_grammar.specs.Entries.{items_await}
-use Rattle.swc_ecma_parser_grammar.specs.Looks.{kind_at, sees, same_kind}
+use Rattle.swc_ecma_parser_grammar.specs.Looks.{kind_at, sees, same_kind, span_at, spanned}
 use Rattle.swc_ecma_parser_grammar.specs.Names.{Code}
 use Rattle.swc_ecma_parser_grammar.specs.Notes.{notes, all_notes}
 use Rattle.swc_ecma_parser_grammar.specs.Own.{misplaced_directive}
@@ -19,7 +19,7 @@ use Rattle.swc_ecma_parser_grammar.specs.Reads.{top_item, directed, ReadsItems}
 use Rattle.swc_ecma_parser_grammar.specs.ReadsSupported.{ReadsTop}
 use Rattle.swc_ecma_parser_grammar.specs.Supported.{supported, has_none}
 use Rattle.swc_ecma_parser_grammar.specs.Walk as walks_of
-use Rattle.swc_ecma_parser_grammar.specs.Walk.{Env, env_of, walk, walks, walk_items, walk_body, walk_class_body, walk_decorators}
+use Rattle.swc_ecma_parser_grammar.specs.Walk.{Env, env_of, walk, walks, walk_items, walk_body, walk_class_body}
 use Rattle.swc_ecma_parser_grammar.specs.language.Classes.{DecoratorsRule, no_decorators, some_decorators}
 use Rattle.swc_ecma_parser_grammar.specs.language.Contexts.{in_module}
 use Rattle.swc_ecma_parser_grammar.specs.language.Exports as exports
@@ -41,37 +41,33 @@ use Rattle.swc_ecma_parser_reader.proofs.Errors.{is_error}
 use Rattle.swc_ecma_parser_reader.proofs.Notes.{or_assoc}
 use Rattle.swc_ecma_parser_module_reader.specs.Modules.{begins_import, module_code}
 use Rattle.swc_ecma_parser_module_reader.specs.Programs.{begins_module}
-use Rattle.swc_ecma_parser_module_reader.specs.Supported.{supported_item, all_supported_items}
+use Rattle.swc_ecma_parser_module_reader.specs.Supported.{supported_item, all_supported_items, supported_behind}
 use Rattle.swc_ecma_parser_module_reader.proofs.CompleteImports.{import_seen}
-use Rattle.swc_ecma_parser_module_reader.proofs.ItemStarts.{import_word, statement_told, import_told, export_told, supported_plain, exported_bare, default_bare, export_seen}
+use Rattle.swc_ecma_parser_module_reader.proofs.DecoratedForms.{decorators_same}
+use Rattle.swc_ecma_parser_module_reader.proofs.ItemStarts.{import_word, statement_told, import_told, export_told, supported_plain, exported_behind, default_behind, none_in_front, export_seen}
 use Rattle.swc_ecma_parser_module_reader.proofs.ModuleCode.{entered_code, directed_may, declared_code, declared_env, stated_code, stated_env}
 
 -- ---- an import or an export is the same in module code
 
--- no decorators have no faults
-decorators_same : (env : Env) (s : Span) (ds : Tree) → has_none ds ≡ true → walk_decorators (walks_of.in_module env) s ds ≡ walk_decorators env s ds
-decorators_same env s (tree.list none) h = refl
-decorators_same env s _ h = cc
-
--- nor has the walk any other code for an export in module code
+-- the walk has no other code for an export in module code, nor for the decorators behind its words
 class_same : (env : Env) (x y z name ds body base : Tree) (s t : Span)
-    → x ≡ tree.export_decl s y → y ≡ tree.class_decl name z → z ≡ tree.class t ds body base → has_none ds ≡ true → walk (walks_of.in_module env) x ≡ walk env x
+    → x ≡ tree.export_decl s y → y ≡ tree.class_decl name z → z ≡ tree.class t ds body base → supported_behind s ds ≡ true → walk (walks_of.in_module env) x ≡ walk env x
 class_same env x y z name ds body base s t e i j h =
     rw (e, i, j) (ap (λ v. v ++ walk (walks_of.in_class env) base ++ walk_class_body (walks_of.in_class env) body) (decorators_same env s ds h))
 
 function_same : (env : Env) (x y z name ds params body : Tree) (s t : Span) (a g : Bool)
-    → x ≡ tree.export_decl s y → y ≡ tree.fn_decl name z → z ≡ tree.function t ds params body a g → has_none ds ≡ true → walk (walks_of.in_module env) x ≡ walk env x
+    → x ≡ tree.export_decl s y → y ≡ tree.fn_decl name z → z ≡ tree.function t ds params body a g → supported_behind s ds ≡ true → walk (walks_of.in_module env) x ≡ walk env x
 function_same env x y z name ds params body s t a g e i j h =
     let m = walks_of.in_module env in
     rw (e, i, j) (ap (λ v. v ++ walk (walks_of.in_params m) params ++ walk_body (walks_of.in_body m) body ++ misplaced_directive (has_plain_params params) body) (decorators_same env s ds h))
 
 class_default_same : (env : Env) (x y z name ds body base : Tree) (s r t : Span)
-    → x ≡ tree.export_default_decl s y → y ≡ tree.class_expr r name z → z ≡ tree.class t ds body base → has_none ds ≡ true → walk (walks_of.in_module env) x ≡ walk env x
+    → x ≡ tree.export_default_decl s y → y ≡ tree.class_expr r name z → z ≡ tree.class t ds body base → supported_behind s ds ≡ true → walk (walks_of.in_module env) x ≡ walk env x
 class_default_same env x y z name ds body base s r t e i j h =
     rw (e, i, j) (ap (λ v. v ++ walk (walks_of.in_class env) base ++ walk_class_body (walks_of.in_class env) body) (decorators_same env s ds h))
 
 function_default_same : (env : Env) (x y z name ds params body : Tree) (s r t : Span) (a g : Bool)
-    → x ≡ tree.export_default_decl s y → y ≡ tree.fn_expr r name z → z ≡ tree.function t ds params body a g → has_none ds ≡ true → walk (walks_of.in_module env) x ≡ walk env x
+    → x ≡ tree.export_default_decl s y → y ≡ tree.fn_expr r name z → z ≡ tree.function t ds params body a g → supported_behind s ds ≡ true → walk (walks_of.in_module env) x ≡ walk env x
 function_default_same env x y z name ds params body s r t a g e i j h =
     let m = walks_of.in_module env in
     rw (e, i, j) (ap (λ v. v ++ walk (walks_of.in_params m) params ++ walk_body (walks_of.in_body m) body ++ misplaced_directive (has_plain_params params) body) (decorators_same env s ds h))
@@ -81,17 +77,18 @@ module _ (In : Goal → Type 0) where
   decorators_module k ds c d (no_decorators e g) h = no_decorators e g
   decorators_module k ds c d (some_decorators y ys s r e) h = absurd (let g : false ≡ true = sym (ap has_none e) ∙ h in cc)
 
-  front_module : (k : Code) (b : Bool) (ds : Tree) (c m d : Place) → ExportFrontRule In k b ds c m d → has_none ds ≡ true → ExportFrontRule In (in_module k) b ds c m d
-  front_module k b ds c m d (exports.decorated_before a r e w) h = exports.decorated_before a (decorators_module k ds c m r h) e w
-  front_module k b ds c m d (exports.decorated_behind n e w r) h = exports.decorated_behind n e w r
+  front_module : (k : Code) (b : Bool) (ds : Tree) (c m n d : Place) → ExportFrontRule In k b ds c m n → supported_behind (spanned m d) ds ≡ true → ExportFrontRule In (in_module k) b ds c m n
+  unfolding spanned
+  front_module k b ds c m n d (exports.decorated_before a r e w) h = exports.decorated_before a (decorators_module k ds c m r (none_in_front (span_at m) d.last.hi ds e h)) e w
+  front_module k b ds c m n d (exports.decorated_behind i e w r) h = exports.decorated_behind i e w r
 
-  exported_walk : (env : Env) (s : Span) (k : Code) (ds x y : Tree) (c d : Place) → ExportedRule In k ds y c d → x ≡ tree.export_decl s y → has_none ds ≡ true
+  exported_walk : (env : Env) (s : Span) (k : Code) (ds x y : Tree) (c d : Place) → ExportedRule In k ds y c d → x ≡ tree.export_decl s y → supported_behind s ds ≡ true
       → walk (walks_of.in_module env) x ≡ walk env x
   exported_walk env s k ds x y c d (exports.exported_class name z r a e) is h = class_same env x y z name ds _ _ _ _ is e r.is h
   exported_walk env s k ds x y c d (exports.exported_function name z r a e) is h = function_same env x y z name ds _ _ _ _ _ _ is e r.is h
   exported_walk env s k ds x y c d (exports.exported_variables v xs m e r g i) is h = rw (is, i) refl
 
-  default_walk : (env : Env) (s : Span) (k : Code) (ds x y : Tree) (c d : Place) → DefaultRule In k ds y c d → x ≡ tree.export_default_decl s y → has_none ds ≡ true
+  default_walk : (env : Env) (s : Span) (k : Code) (ds x y : Tree) (c d : Place) → DefaultRule In k ds y c d → x ≡ tree.export_default_decl s y → supported_behind s ds ≡ true
       → walk (walks_of.in_module env) x ≡ walk env x
   default_walk env s k ds x y c d (exports.default_class name z r e) is h = class_default_same env x y z name ds _ _ _ _ _ is e r.is h
   default_walk env s k ds x y c d (exports.default_function name z r e) is h = function_default_same env x y z name ds _ _ _ _ _ _ _ is e r.is h
@@ -103,22 +100,22 @@ module _ (In : Goal → Type 0) where
 
   pub export_walk : (env : Env) (k : Code) (x : Tree) (c d : Place) → ExportRule In k x c d → supported_item x ≡ true → walk (walks_of.in_module env) x ≡ walk env x
   export_walk env k x c d (exports.export_declaration_rule ds y m n f r is) h =
-      exported_walk env _ (in_module k) ds x y n d r is (exported_bare (in_module k) ds y n d r (sym (ap supported_item is) ∙ h))
+      exported_walk env (spanned m d) (in_module k) ds x y n d r is (exported_behind (in_module k) ds x y (spanned m d) n d r is h)
   export_walk env k x c d (exports.export_from_rule b xs src attributes l m n e r s t g is) h = rw is refl
   export_walk env k x c d (exports.export_names_rule xs m e r b g is) h = rw is refl
   export_walk env k x c d (exports.export_default_declaration_rule ds y m n f r is) h =
-      default_walk env _ (in_module k) ds x y n d r is (default_bare (in_module k) ds x y _ n d r is h)
+      default_walk env (spanned m d) (in_module k) ds x y n d r is (default_behind (in_module k) ds x y (spanned m d) n d r is h)
   export_walk env k x c d (exports.export_default_expression_rule y m e g b r i is) h = rw is refl
   export_walk env k x c d (exports.export_all_rule src attributes m n e g r t i is) h = rw is refl
 
   pub export_module : (k : Code) (x : Tree) (c d : Place) → ExportRule In k x c d → supported_item x ≡ true → ExportRule In (in_module k) x c d
   unfolding may_begin_default
   export_module k x c d (exports.export_declaration_rule ds y m n f r is) h =
-      exports.export_declaration_rule ds y m n (front_module k false ds c m n f (exported_bare (in_module k) ds y n d r (sym (ap supported_item is) ∙ h))) r is
+      exports.export_declaration_rule ds y m n (front_module k false ds c m n d f (exported_behind (in_module k) ds x y (spanned m d) n d r is h)) r is
   export_module k x c d (exports.export_from_rule b xs src attributes l m n e r s t g is) h = exports.export_from_rule b xs src attributes l m n e r s t g is
   export_module k x c d (exports.export_names_rule xs m e r b g is) h = exports.export_names_rule xs m e r b g is
   export_module k x c d (exports.export_default_declaration_rule ds y m n f r is) h =
-      exports.export_default_declaration_rule ds y m n (front_module k true ds c m n f (default_bare (in_module k) ds x y _ n d r is h)) r is
+      exports.export_default_declaration_rule ds y m n (front_module k true ds c m n d f (default_behind (in_module k) ds x y (spanned m d) n d r is h)) r is
   export_module k x c d (exports.export_default_expression_rule y m e g b r i is) h = exports.export_default_expression_rule y m e g b r i is
   export_module k x c d (exports.export_all_rule src attributes m n e g r t i is) h = exports.export_all_rule src attributes m n e g r t i is
 

@@ -5,9 +5,10 @@ use Rattle.swc_ecma_parser_error.specs.Kind.{Fault, fault_of}
 use Rattle.swc_ecma_parser_token.specs.declared.token.Token.TheVariants as token
 use Rattle.swc_ecma_parser_token.specs.declared.token.TokenAndSpan.{TokenAndSpan}
 use Rattle.swc_ecma_parser_grammar.specs.Looks.{kind_at, same_kind}
-use Rattle.swc_ecma_parser_grammar.specs.Names.{name_at, identifier_at}
+use Rattle.swc_ecma_parser_grammar.specs.Names.{identifier_at}
 use Rattle.swc_ecma_parser_grammar.specs.Follows.{may_begin_expression_statement, is_async_function, is_let_declaration, word_at}
 use Rattle.swc_ecma_parser_grammar.specs.language.Begins.{awaits}
+use Rattle.swc_ecma_parser_reader.specs.DecoratedStatements.{either_stmt}
 use Rattle.swc_ecma_parser_reader.specs.State.{State, wanted, too_deep, loop}
 use Rattle.swc_ecma_parser_reader.specs.Expressions.{literal, marked_primary, primary, left_head, left, postfix, unary_expr, binary_expr, operators_expr, done_expr, cover_expr, assignment_expr, expression_expr, expr_level, plain_expr}
 use Rattle.swc_ecma_parser_reader.specs.Yields.{begins_yield}
@@ -22,7 +23,7 @@ use Rattle.swc_ecma_parser_module_reader.proofs.Refusals.{before}
 -- nothing but the fault is answered, in however many levels
 refused_in : (n : ℕ) (recorded : List Fault) (s : State) (t : TokenAndSpan) (e : Error) (ts : List TokenAndSpan)
     → (u : State) × (program_whole n recorded (before s t (token.Error e) ts) ≡ Err (fault_of e, u))
-unfolding program_whole program_body before_module begins_module begins_import shebang items items_turn loop at_end whole_stmt top_await stmt stmt_level other_stmt begins_label expr_stmt_at expr_stmt expr expr_level expression_expr assignment_expr cover_expr done_expr plain_expr begins_yield begins_named_arrow begins_async_arrow begins_async_call operators_expr binary_expr unary_expr awaits postfix left left_head primary literal marked_primary wanted too_deep kind_at same_kind identifier_at may_begin_expression_statement is_async_function is_let_declaration word_at
+unfolding program_whole program_body before_module begins_module begins_import shebang items items_turn loop at_end whole_stmt top_await stmt either_stmt stmt_level other_stmt begins_label expr_stmt_at expr_stmt expr expr_level expression_expr assignment_expr cover_expr done_expr plain_expr begins_yield begins_named_arrow begins_async_arrow begins_async_call operators_expr binary_expr unary_expr awaits postfix left left_head primary literal marked_primary wanted too_deep kind_at same_kind identifier_at may_begin_expression_statement is_async_function is_let_declaration word_at
 refused_in zero recorded s t e ts = (_, refl)
 refused_in (suc zero) recorded s t e ts = (_, refl)
 refused_in (suc (suc n)) recorded s t e ts = (_, refl)

@@ -18,9 +18,9 @@ use Rattle.swc_ecma_parser_token.specs.declared.token.Word.TheVariants as word
 use Rattle.swc_ecma_parser_token.specs.Kind.{token_kind, keyword_kind, bin_op_kind, assign_op_kind}
 use Rattle.swc_ecma_parser_input.specs.Place.{Place, after}
 use Rattle.swc_ecma_parser_model.specs.Tree as tree
-use Rattle.swc_ecma_parser_model.specs.Tree.{Tree, Trees, Text, none, also, listed, trees}
+use Rattle.swc_ecma_parser_model.specs.Tree.{Tree, Trees, none, also, listed, trees}
 use Rattle.swc_ecma_parser_grammar.specs.Looks.{kind_at, first_kind, sees, span_at, first_span, spanned}
-use Rattle.swc_ecma_parser_grammar.specs.Names.{Code, is_one_of, reserved_words, name_at}
+use Rattle.swc_ecma_parser_grammar.specs.Names.{Code, is_one_of, reserved_words}
 use Rattle.swc_ecma_parser_grammar.specs.Ends.{OptionalEnds}
 use Rattle.swc_ecma_parser_grammar.specs.Follows.{word_at}
 use Rattle.swc_ecma_parser_grammar.specs.Notes.{notes}
@@ -29,7 +29,7 @@ use Rattle.swc_ecma_parser_grammar.specs.Walk as walks
 use Rattle.swc_ecma_parser_grammar.specs.Walk.{Env, walk, env_of}
 use Rattle.swc_ecma_parser_grammar.specs.language.Contexts.{in_module}
 use Rattle.swc_ecma_parser_grammar.specs.language.Exports.{ExportSpecifierRule, same_name_rule, other_name_rule, NamespaceExportRule, DefaultExportRule, under_name_rule, as_default_rule, ExportClauseRule, names_rule, default_alone_rule, default_and_names_rule, braces_rule, namespace_rule, namespace_and_braces_rule, export_from_rule, export_names_rule, export_all_rule}
-use Rattle.swc_ecma_parser_grammar.specs.language.ModuleParts.{BracedRule, ModuleNameRule, AttributesRule}
+use Rattle.swc_ecma_parser_grammar.specs.language.ModuleParts.{BracedRule, FromRule, ModuleNameRule, AttributesRule}
 use Rattle.swc_ecma_parser_grammar.specs.language.Parts.{ReadsName, ReadsWord}
 use Rattle.swc_ecma_parser_grammar.specs.language.Reads.{Reads}
 use Rattle.swc_ecma_parser_grammar.proofs.StatementBegins.{word_place}
@@ -41,7 +41,7 @@ use Rattle.swc_ecma_parser_reader.specs.Operands.{literal}
 use Rattle.swc_ecma_parser_reader.specs.State.{State, moved, fault, name, expect_word, end}
 use Rattle.swc_ecma_parser_reader.specs.Reader.{optional_end, object_alone}
 use Rattle.swc_ecma_parser_reader.proofs.Meets.{Meets, meets_then, meets_if, wanted_meets, saw}
-use Rattle.swc_ecma_parser_reader.proofs.Between.{Sound, SoundStep, same, sound_then, sound_more, sound_moved, sound_here, sound_as, sound_after}
+use Rattle.swc_ecma_parser_reader.proofs.Between.{Sound, SoundStep, same, sound_then, sound_more, sound_here, sound_as, sound_after}
 use Rattle.swc_ecma_parser_reader.proofs.expressions.SoundSteps.{meets_as, fault_sound, paired, stepped, moved_back, stands, name_sound}
 use Rattle.swc_ecma_parser_reader.proofs.patterns.Sound.{anything}
 use Rattle.swc_ecma_parser_reader.proofs.SoundParts.{end_sound, optional_end_sound, meets_both}
@@ -112,13 +112,23 @@ specifier_sound s = meets_then _ (module_name s) _ (module_name_sound s) (λ y m
       specifier_leaf (spanned s.at m.at) y tree.absent l (record { empty = λ env. refl; unnoted = refl; no_rest = refl }),
     )))
 
--- `* as name`, from its star on, where the words behind `export` begin at `start`
-namespace_sound : (start : Place) (s : State) → kind_at s.at ≡ kind.Mul → Meets (λ x t. SoundLeaf (λ k. NamespaceExportRule start) s x t) (export_namespace (span_at start) (moved s))
+-- a namespace that begins at a span
+abbrev NamespaceFrom : Span → Code → Tree → Place → Place → Type 0
+NamespaceFrom first k x c d = (b : Place) → first ≡ span_at b → NamespaceExportRule b x c d
+
+-- `* as name`, from its star on, where the words behind `export` begin at `first`
+namespace_sound : (first : Span) (s : State) → kind_at s.at ≡ kind.Mul → Meets (λ x t. SoundLeaf (NamespaceFrom first) s x t) (export_namespace first (moved s))
 unfolding export_namespace spanned
-namespace_sound start s e = meets_then _ (expect_word (codes "as") (moved s)) _ (expect_word_sound (codes "as") (moved s)) (λ _ m p.
+namespace_sound first s e = meets_then _ (expect_word (codes "as") (moved s)) _ (expect_word_sound (codes "as") (moved s)) (λ _ m p.
     meets_then _ (module_name m) _ (module_name_sound m) (λ y t (q, l). (
       sound_after s t e refl refl refl
-          (λ (i, (h, g), r). record { name = y; star = e; is_named = h; reads_name = subst (λ z. ModuleNameRule y z t.at) g r; is = refl }) (sound_then p q),
+          (λ (i, (h, g), r) b a. record {
+            name = y;
+            star = e;
+            is_named = h;
+            reads_name = subst (λ z. ModuleNameRule y z t.at) g r;
+            is = ap (λ z. tree.export_namespace (record { lo = z.lo; hi = t.at.last.hi }) y) a;
+          }) (sound_then p q),
       record { empty = l.empty; unnoted = l.unnoted; no_rest = refl },
     )))
 
@@ -203,38 +213,51 @@ both_before k x y c m d b r g h = (
 abbrev Precedes : List Tree → Type 0
 Precedes xs = (ys : List Tree) → AreLeaves ys → AreLeaves (xs ++ ys)
 
-module _ (n : ℕ) (s : State) (o : IsModule s.code) (e : kind_at s.at ≡ kind.Export) where
+-- the word of an export that begins at a span, and its two words, the last of which stands at another
+abbrev pub Words : Span → Code → Place → Place → Type 0
+Words start k c d = (kind_at c ≡ kind.Export) × (start ≡ span_at c) × (d ≡ after c)
+
+abbrev pub DefaultWords : (start first : Span) → Code → Place → Place → Type 0
+DefaultWords start first k c d = (kind_at c ≡ kind.Export) × (start ≡ span_at c) × (kind_at (after c) ≡ kind.Default) × (first ≡ span_at (after c)) × (d ≡ after (after c))
+
+module _ (n : ℕ) (s : State) (o : IsModule s.code) (start : Span) where
+  -- what stands behind the word
+  abbrev From : (Code → Place → Place → Type 0) → Code → Place → Place → Type 0
+  From R k c d = (kind_at c ≡ kind.Export) × (start ≡ span_at c) × R k (after c) d
+
   -- attributes are walked as module code
   given_walk : (given : Tree) → walk (env_of s.code s.scope.labels) given ≡ walk (walks.in_module (env_of s.code s.scope.labels)) given
   given_walk given = sym (ap (λ z. walk z given) (module_env s.code s.scope.labels o))
 
-  names_from_sound : (b : Bool) (xs : List Tree) (m : State) → SoundStep (Clause b xs) (moved s) m → AreLeaves xs → Meets (SoundExport n s) (names_from (object_alone n) (span_at s.at) xs m)
+  names_from_sound : (b : Bool) (xs : List Tree) (m : State) → SoundStep (From (Clause b xs)) s m → AreLeaves xs → Meets (SoundExport n s) (names_from (object_alone n) start xs m)
   unfolding names_from spanned
   names_from_sound b xs m p l = meets_then _ (source m) _ (meets_both _ _ (source m) (source_sound m) (source_form m)) (λ x u ((q, h), f).
       meets_then _ (attributes (object_alone n) u) _ (attributes_sound (Reads n) (object_alone n) (object_sound n) u) (λ given v r.
       meets_then _ (end faults.Expected v) _ (end_sound faults.Expected v) (λ _ t z.
-      let span : Span = record { lo = (span_at s.at).lo; hi = t.at.last.hi } in
+      let span : Span = record { lo = start.lo; hi = t.at.last.hi } in
       let env : Env = env_of s.code s.scope.labels in (
-        sound_after s t e refl (given_walk given ∙ sym (ap (λ w. walk (walks.in_module env) given ++ w) (f (listed xs)) ∙ append-nil (walk (walks.in_module env) given))
+        sound_as s t refl (given_walk given ∙ sym (ap (λ w. walk (walks.in_module env) given ++ w) (f (listed xs)) ∙ append-nil (walk (walks.in_module env) given))
             ∙ named_walk env span (listed xs) x given (l.empty (walks.in_module env)) (h.empty (walks.in_module env))) (named_notes span (listed xs) x given l.unnoted h.unnoted)
             (λ (i, (j, (y, a, c), (d, w)), g). (
-              export_from_rule b xs x given y j i e a c (subst (λ k. AttributesRule (Reads n) k given j i) (sym (in_module_same s.code o)) d) g refl,
+              export_from_rule b xs x given y j i a.0 a.2 c (subst (λ k. AttributesRule (Reads n) k given j i) (sym (in_module_same s.code o)) d) g
+                  (ap (λ k. tree.export_named (record { lo = k.lo; hi = t.at.last.hi }) (listed xs) x given) a.1),
               w.0,
               joined (notes (listed xs) ++ notes x) (notes given) (joined (notes (listed xs)) (notes x) (ap (λ w. w.held_back) l.unnoted) (ap (λ w. w.held_back) h.unnoted)) (w.1 o.0),
             )) (sound_more (sound_then (sound_more p q) r) z),
         refl,
       ))))
 
-  own_names_sound : (xs : List Tree) (m : State) → SoundStep (Clause true xs) (moved s) m → AreLeaves xs → word_at (codes "from") m.at ≡ false
-      → Meets (SoundExport n s) (own_names (span_at s.at) xs m)
+  own_names_sound : (xs : List Tree) (m : State) → SoundStep (From (Clause true xs)) s m → AreLeaves xs → word_at (codes "from") m.at ≡ false
+      → Meets (SoundExport n s) (own_names start xs m)
   unfolding own_names spanned
   own_names_sound xs m p l h = meets_then _ (told (each_specifier (trees xs)) m) _ (told_sound (each_specifier (trees xs)) (each_tabled (trees xs)) m) (λ _ u q.
       meets_then _ (optional_end u) _ (optional_end_sound u) (λ _ t z.
-      let span : Span = record { lo = (span_at s.at).lo; hi = t.at.last.hi } in
+      let span : Span = record { lo = start.lo; hi = t.at.last.hi } in
       let env : Env = env_of s.code s.scope.labels in (
-        sound_after s t e refl (named_walk env span (listed xs) tree.absent tree.absent (l.empty (walks.in_module env)) refl) (named_notes span (listed xs) tree.absent tree.absent l.unnoted refl)
+        sound_as s t refl (named_walk env span (listed xs) tree.absent tree.absent (l.empty (walks.in_module env)) refl) (named_notes span (listed xs) tree.absent tree.absent l.unnoted refl)
             (λ ((a, b), c). (
-              export_names_rule xs m.at e a h (subst (λ w. OptionalEnds w t.at) b c) refl,
+              export_names_rule xs m.at a.0 a.2 h (subst (λ w. OptionalEnds w t.at) b c)
+                  (ap (λ k. tree.export_named (record { lo = k.lo; hi = t.at.last.hi }) (listed xs) tree.absent tree.absent) a.1),
               refl,
               joined (notes (listed xs) ++ []) [] (joined (notes (listed xs)) [] (ap (λ w. w.held_back) l.unnoted) refl) refl,
             )) (stepped (paired p q) z),
@@ -242,75 +265,103 @@ module _ (n : ℕ) (s : State) (o : IsModule s.code) (e : kind_at s.at ≡ kind.
       )))
 
   -- names in braces, with those before them
-  pub export_names_sound : (before : List Tree) (u : State)
-      → ((xs : List Tree) (m : State) → SoundStep (λ k. BracedRule ExportSpecifierRule xs) u m → SoundStep (Clause true (before ++ xs)) (moved s) m)
-      → ((xs : List Tree) → AreLeaves xs → AreLeaves (before ++ xs)) → Meets (SoundExport n s) (export_names (object_alone n) (span_at s.at) before u)
+  export_names_sound : (before : List Tree) (u : State)
+      → ((xs : List Tree) (m : State) → SoundStep (λ k. BracedRule ExportSpecifierRule xs) u m → SoundStep (From (Clause true (before ++ xs))) s m)
+      → ((xs : List Tree) → AreLeaves xs → AreLeaves (before ++ xs)) → Meets (SoundExport n s) (export_names (object_alone n) start before u)
   unfolding export_names
   export_names_sound before u f g = meets_then _ (specifiers export_specifier u) _ (specifiers_sound (λ k. ExportSpecifierRule) export_specifier specifier_sound u) (λ xs m (p, l).
       meets_if _ (word_at (codes "from") m.at) _ _ (λ _. names_from_sound true (before ++ xs) m (f xs m p) (g xs l)) (λ h. own_names_sound (before ++ xs) m (f xs m p) (g xs l) h))
 
-  more_names_sound : (xs : List Tree) (m : State) → SoundStep (Before xs) (moved s) m → Precedes xs → Meets (SoundExport n s) (more_names (object_alone n) (span_at s.at) xs m)
+  pub braced_names_sound : (u : State) → SoundStep (Words start) s u → Meets (SoundExport n s) (export_names (object_alone n) start [] u)
+  braced_names_sound u w = export_names_sound [] u
+      (λ xs m p. sound_as s m refl refl refl (λ (a, r). (a.0, a.1, names_rule (braces_rule refl (subst (λ z. BracedRule ExportSpecifierRule xs z m.at) a.2 r)))) (paired w p)) (λ xs l. l)
+
+  more_names_sound : (xs : List Tree) (m : State) → SoundStep (From (Before xs)) s m → Precedes xs → Meets (SoundExport n s) (more_names (object_alone n) start xs m)
   unfolding more_names
   more_names_sound xs m p f = meets_if _ (m.code.setting.export_default_from && sees kind.Comma m.at) _ _
       (λ h. let (b, c) = and_yes m.code.setting.export_default_from (sees kind.Comma m.at) h in
       export_names_sound xs (moved m)
-      (λ ys t q. sound_as (moved s) t refl refl refl (λ (r, w). r.1 ys t.at (subst (λ k. k.setting.export_default_from ≡ true) p.code b) (saw m.at kind.Comma c) w)
+      (λ ys t q. sound_as s t refl refl refl (λ (r, w). (r.0, r.1, r.2.1 ys t.at (subst (λ k. k.setting.export_default_from ≡ true) p.code b) (saw m.at kind.Comma c) w))
       (paired p (moved_back {s = m} (saw m.at kind.Comma c) refl q))) f)
-      (λ _. names_from_sound false xs m (sound_as (moved s) m refl refl refl (λ r. r.0) p) (subst AreLeaves (append-nil xs) (f [] no_leaves)))
+      (λ _. names_from_sound false xs m (sound_as s m refl refl refl (λ r. (r.0, r.1, r.2.0)) p) (subst AreLeaves (append-nil xs) (f [] no_leaves)))
 
   -- from behind a star on
-  namespace_names_sound : (before : List Tree) (u : State) → kind_at u.at ≡ kind.Mul
-      → ((x : Tree) (t : State) → SoundStep (λ k. NamespaceExportRule (after s.at) x) u t → SoundStep (Before (before ++ x ∷ [])) (moved s) t)
-      → ((x : Tree) → IsLeaf x → Precedes (before ++ x ∷ [])) → Meets (SoundExport n s) (namespace_names (object_alone n) (span_at s.at) (span_at (after s.at)) before (moved u))
+  namespace_names_sound : (before : List Tree) (u : State) (first : Span) → kind_at u.at ≡ kind.Mul
+      → ((x : Tree) (t : State) → SoundStep (λ k. NamespaceFrom first k x) u t → SoundStep (From (Before (before ++ x ∷ []))) s t)
+      → ((x : Tree) → IsLeaf x → Precedes (before ++ x ∷ [])) → Meets (SoundExport n s) (namespace_names (object_alone n) start first before (moved u))
   unfolding namespace_names
-  namespace_names_sound before u h f g = meets_then _ (export_namespace (span_at (after s.at)) (moved u)) _ (namespace_sound (after s.at) u h)
+  namespace_names_sound before u first h f g = meets_then _ (export_namespace first (moved u)) _ (namespace_sound first u h)
       (λ x t (p, l). more_names_sound (before ++ x ∷ []) t (f x t p) (g x l))
 
-  all_sound : kind_at (after s.at) ≡ kind.Mul → Meets (SoundExport n s) (export_all (object_alone n) (span_at s.at) (moved (moved s)))
-  unfolding export_all spanned
-  all_sound f = meets_then _ (source (moved (moved s))) _ (source_sound (moved (moved s))) (λ x u (q, h).
-      meets_then _ (attributes (object_alone n) u) _ (attributes_sound (Reads n) (object_alone n) (object_sound n) u) (λ given v r.
-      meets_then _ (end faults.Expected v) _ (end_sound faults.Expected v) (λ _ t z.
-      let env : Env = env_of s.code s.scope.labels in (
-        sound_after s t e refl (given_walk given ∙ sym (ap (λ w. w ++ walk (walks.in_module env) given) (h.empty (walks.in_module env)))) (sym (ap (λ w. w ⊕ notes_of given) h.unnoted))
-            (λ (i, (j, a, (d, w)), g). (
-              export_all_rule x given j i e f a (subst (λ k. AttributesRule (Reads n) k given j i) (sym (in_module_same s.code o)) d) g refl,
-              w.0,
-              joined (notes x) (notes given) (ap (λ w. w.held_back) h.unnoted) (w.1 o.0),
-            )) (moved_back {s = moved s} f refl (sound_more (sound_then q r) z)),
-        refl,
-      ))))
+  module _ (u : State) (w : SoundStep (Words start) s u) where
+    all_sound : kind_at u.at ≡ kind.Mul → Meets (SoundExport n s) (export_all (object_alone n) start (moved u))
+    unfolding export_all spanned
+    all_sound f = meets_then _ (source (moved u)) _ (source_sound (moved u)) (λ x v (q, h).
+        meets_then _ (attributes (object_alone n) v) _ (attributes_sound (Reads n) (object_alone n) (object_sound n) v) (λ given j r.
+        meets_then _ (end faults.Expected j) _ (end_sound faults.Expected j) (λ _ t z.
+        let env : Env = env_of s.code s.scope.labels in (
+          sound_as s t refl (given_walk given ∙ sym (ap (λ w. w ++ walk (walks.in_module env) given) (h.empty (walks.in_module env)))) (sym (ap (λ w. w ⊕ notes_of given) h.unnoted))
+              (λ (a, (i, (l, b, (d, y)), g)). (
+                export_all_rule x given l i a.0 (subst (λ z. kind_at z ≡ kind.Mul) a.2 f) (subst (λ z. FromRule x (after z) l) a.2 b)
+                    (subst (λ k. AttributesRule (Reads n) k given l i) (sym (in_module_same s.code o)) d) g (ap (λ k. tree.export_all (record { lo = k.lo; hi = t.at.last.hi }) x given) a.1),
+                y.0,
+                joined (notes x) (notes given) (ap (λ w. w.held_back) h.unnoted) (y.1 o.0),
+              )) (paired w (moved_back {s = u} f refl (sound_more (sound_then q r) z))),
+          refl,
+        ))))
 
-  pub star_sound : kind_at (after s.at) ≡ kind.Mul → Meets (SoundExport n s) (export_star (object_alone n) (span_at s.at) (moved s))
-  unfolding export_star
-  star_sound f = meets_if _ (word_at (codes "as") (after (after s.at))) _ _
-      (λ _. namespace_names_sound [] (moved s) f (λ x t p. sound_as (moved s) t refl refl refl (λ r. namespace_before s.code x (after s.at) t.at r) p) (λ x l ys h. leaves_first x ys l h))
-      (λ _. all_sound f)
+    pub star_sound : kind_at u.at ≡ kind.Mul → Meets (SoundExport n s) (export_star (object_alone n) start u)
+    unfolding export_star
+    star_sound f = meets_if _ (word_at (codes "as") (after u.at)) _ _
+        (λ _. namespace_names_sound [] u (span_at u.at) f
+        (λ x t p. sound_as s t refl refl refl (λ (a, r). (a.0, a.1, namespace_before s.code x (after s.at) t.at (subst (λ z. NamespaceExportRule z x z t.at) a.2 (r u.at refl)))) (paired w p))
+        (λ x l ys h. leaves_first x ys l h))
+        (λ _. all_sound f)
 
   -- ---- with the setting, the default of another module
 
-  behind_default_sound : (x : Tree) (m : State) → s.code.setting.export_default_from ≡ true → SoundStep (λ k. DefaultExportRule (in_module k) x) (moved s) m → IsLeaf x
-      → Meets (SoundExport n s) (behind_default (object_alone n) (span_at s.at) (span_at (after s.at)) x m)
+  behind_default_sound : (x : Tree) (first : Span) (m : State) → s.code.setting.export_default_from ≡ true
+      → SoundStep (λ k c d. From (λ j. DefaultExportRule (in_module j) x) k c d × (first ≡ span_at (after c))) s m → IsLeaf x
+      → Meets (SoundExport n s) (behind_default (object_alone n) start first x m)
   unfolding behind_default is_namespace_next
-  behind_default_sound x m b p l = meets_if _ (sees kind.Comma m.at && sees kind.Mul (after m.at)) _ _
+  behind_default_sound x first m b p l = meets_if _ (sees kind.Comma m.at && sees kind.Mul (after m.at)) _ _
       (λ h. let (c, i) = and_yes (sees kind.Comma m.at) (sees kind.Mul (after m.at)) h in
-      namespace_names_sound (x ∷ []) (moved m) (saw (after m.at) kind.Mul i)
-      (λ y t q. sound_as (moved s) t refl refl refl (λ (r, w). both_before s.code x y (after s.at) m.at t.at b r (saw m.at kind.Comma c) w)
+      namespace_names_sound (x ∷ []) (moved m) first (saw (after m.at) kind.Mul i)
+      (λ y t q. sound_as s t refl refl refl
+      (λ (r, w). (r.0.0, r.0.1, both_before s.code x y (after s.at) m.at t.at b r.0.2 (saw m.at kind.Comma c) (w (after s.at) r.1)))
       (paired p (moved_back {s = m} (saw m.at kind.Comma c) refl q)))
       (λ y k ys h. leaves_first x (y ∷ ys) l (leaves_first y ys k h)))
-      (λ _. more_names_sound (x ∷ []) m (sound_as (moved s) m refl refl refl (λ r. default_before s.code x (after s.at) m.at b r) p) (λ ys h. leaves_first x ys l h))
+      (λ _. more_names_sound (x ∷ []) m (sound_as s m refl refl refl (λ r. (r.0.0, r.0.1, default_before s.code x (after s.at) m.at b r.0.2)) p) (λ ys h. leaves_first x ys l h))
 
-  pub name_from_sound : is_name_from s.code (after s.at) ≡ true → Meets (SoundExport n s) (name_from (object_alone n) (span_at s.at) (moved s))
+  pub name_from_sound : (u : State) → SoundStep (Words start) s u → is_name_from u.code u.at ≡ true → Meets (SoundExport n s) (name_from (object_alone n) start u)
   unfolding name_from is_name_from
-  name_from_sound h = meets_then _ (name faults.ExpectedIdent (moved s)) _ (name_sound faults.ExpectedIdent (moved s)) (λ i m p.
-      behind_default_sound (tree.export_default (tree.ident i.span i.sym)) m (and_yes s.code.setting.export_default_from _ h).0
-      (sound_as (moved s) m refl refl refl
-      (λ r. under_name_rule i.sym i.span (subst (λ k. ReadsName k i.sym i.span (after s.at) m.at) (sym (in_module_same s.code o)) (word_name i s.code (after s.at) m.at r)) refl) p)
+  name_from_sound u w h = meets_then _ (name faults.ExpectedIdent u) _ (name_sound faults.ExpectedIdent u) (λ i m p.
+      behind_default_sound (tree.export_default (tree.ident i.span i.sym)) (span_at u.at) m
+      (subst (λ k. k.setting.export_default_from ≡ true) w.code (and_yes u.code.setting.export_default_from _ h).0)
+      (sound_as s m refl refl refl
+      (λ (a, r). (
+        (
+          a.0,
+          a.1,
+          under_name_rule i.sym i.span (subst (λ k. ReadsName k i.sym i.span (after s.at) m.at) (sym (in_module_same s.code o))
+              (subst (λ z. ReadsName s.code i.sym i.span z m.at) a.2 (word_name i s.code u.at m.at r))) refl,
+        ),
+        ap span_at a.2,
+      )) (paired w p))
       (record { empty = λ env. refl; unnoted = refl; no_rest = refl }))
 
-  pub default_from_sound : s.code.setting.export_default_from ≡ true → kind_at (after s.at) ≡ kind.Default
-      → Meets (SoundExport n s) (default_from (object_alone n) (span_at s.at) (span_at (after s.at)) (moved (moved s)))
+  pub default_from_sound : (first : Span) (u : State) → SoundStep (DefaultWords start first) s u → s.code.setting.export_default_from ≡ true
+      → Meets (SoundExport n s) (default_from (object_alone n) start first u)
   unfolding default_from
-  default_from_sound b f =
-      behind_default_sound (tree.export_default (tree.ident (span_at (after s.at)) (codes "default"))) (moved (moved s)) b
-      (sound_moved (moved s) f refl (as_default_rule (span_at (after s.at)) f (default_word (after s.at) f) refl)) (record { empty = λ env. refl; unnoted = refl; no_rest = refl })
+  default_from_sound first u w b =
+      behind_default_sound (tree.export_default (tree.ident first (codes "default"))) first u b
+      (sound_as s u refl refl refl
+      (λ a. (
+        (
+          a.0,
+          a.1,
+          as_default_rule (span_at (after s.at)) a.2 (subst (λ z. ReadsWord (codes "default") (span_at (after s.at)) (after s.at) z) (sym a.4) (default_word (after s.at) a.2))
+              (ap (λ z. tree.export_default (tree.ident z (codes "default"))) a.3),
+        ),
+        a.3,
+      )) w) (record { empty = λ env. refl; unnoted = refl; no_rest = refl })

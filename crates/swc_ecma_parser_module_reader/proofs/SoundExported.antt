@@ -1,5 +1,5 @@
 -- Declarations that are exported, and what is exported by default, are read soundly.
-use Rattle.std.proofs.Common.{◌≡◌, ℕ, suc, Bool, true, false, true≢false, cond, List, [], ◌∷◌, ◌++◌, Ok, Err, refl, sym, ◌∙◌, ap, subst, codes}
+use Rattle.std.proofs.Common.{◌≡◌, ℕ, suc, Bool, true, false, true≢false, cond, List, [], ◌∷◌, Ok, Err, refl, sym, ◌∙◌, ap, subst, codes}
 use Rattle.std.specs.Prelude.{not, ◌&&◌, ◌||◌}
 use Rattle.std.specs.Str.{bytes_eq}
 use Rattle.swc_ecma_parser_common.specs.declared.span.Span.{Span}
@@ -17,34 +17,35 @@ use Rattle.swc_ecma_parser_model.specs.Tree as tree
 use Rattle.swc_ecma_parser_model.specs.Tree.{Tree, Text, listed, trees}
 use Rattle.swc_ecma_parser_model.specs.Forms.{is_absent, span_of}
 use Rattle.swc_ecma_parser_model.specs.Kinds.{is_module_decl}
-use Rattle.swc_ecma_parser_grammar.specs.Looks.{kind_at, sees, span_at, spanned}
+use Rattle.swc_ecma_parser_grammar.specs.Looks.{sees, span_at, spanned}
 use Rattle.swc_ecma_parser_grammar.specs.Names.{Code, is_one_of, reserved_words, is_reserved, is_name, token_is_identifier, first_is_identifier, name_at, identifier_at, is_identifier, is_clean_name, may_bind_await}
 use Rattle.swc_ecma_parser_grammar.specs.Ends.{Ends}
-use Rattle.swc_ecma_parser_grammar.specs.Follows.{word_at, is_async_function}
+use Rattle.swc_ecma_parser_grammar.specs.Follows.{is_async_function}
 use Rattle.swc_ecma_parser_grammar.specs.Variables.{begins_variables}
 use Rattle.swc_ecma_parser_grammar.specs.Notes.{notes}
 use Rattle.swc_ecma_parser_grammar.specs.Parameters.{parameters}
-use Rattle.swc_ecma_parser_grammar.specs.Supported.{supported, supported_in}
+use Rattle.swc_ecma_parser_grammar.specs.Supported.{supported, supported_in, all_supported}
 use Rattle.swc_ecma_parser_grammar.specs.Reads.{with_in, nested_item, DeclaratorRule, plain_rule, initialized_rule, ReadsSeparated, ReadsFunction, ReadsFunctionExpr, OwnNameRule, no_own_name_rule, own_name_rule, variables_rule, function_rule, class_rule}
+use Rattle.swc_ecma_parser_grammar.specs.Decorated.{plain_statement}
 use Rattle.swc_ecma_parser_grammar.specs.ReadsSupported.{ReadsClass, ReadsPat, ReadsStmt, ReadsParams, ReadsNamedClass}
 use Rattle.swc_ecma_parser_grammar.specs.Walk as walks
 use Rattle.swc_ecma_parser_grammar.specs.Walk.{Env, walk, env_of}
-use Rattle.swc_ecma_parser_grammar.specs.language.Goals.{Goal, expr_goal, assignment, left_side}
+use Rattle.swc_ecma_parser_grammar.specs.language.Goals.{Goal, assignment, left_side}
 use Rattle.swc_ecma_parser_grammar.specs.language.Contexts.{named_by, in_parameters, in_class}
-use Rattle.swc_ecma_parser_grammar.specs.language.Classes as classes
 use Rattle.swc_ecma_parser_grammar.specs.language.Classes.{ClassRule}
 use Rattle.swc_ecma_parser_grammar.specs.language.Declarations as declarations
 use Rattle.swc_ecma_parser_grammar.specs.language.Parts as parts
+use Rattle.swc_ecma_parser_grammar.specs.language.Functions.{FunctionRule}
 use Rattle.swc_ecma_parser_grammar.specs.language.Exports as exports
-use Rattle.swc_ecma_parser_grammar.specs.language.Exports.{ExportRule, ExportedRule, DefaultRule, ExportFrontRule, decorated_behind, export_word, export_default_words, may_begin_default}
+use Rattle.swc_ecma_parser_grammar.specs.language.Exports.{ExportRule, ExportedRule, DefaultRule}
 use Rattle.swc_ecma_parser_grammar.specs.language.LeftSides as sides
 use Rattle.swc_ecma_parser_grammar.specs.language.LeftSides.{PrimaryRule}
 use Rattle.swc_ecma_parser_grammar.specs.language.Reads.{Reads}
-use Rattle.swc_ecma_parser_grammar.proofs.Tests.{and_yes, and_both, or_no}
+use Rattle.swc_ecma_parser_grammar.proofs.Tests.{and_yes, and_both}
 use Rattle.swc_ecma_parser_grammar.proofs.Naming.{name_is_clean}
 use Rattle.swc_ecma_parser_grammar.proofs.SupportedIn.{lower}
 use Rattle.swc_ecma_parser_grammar.proofs.SupportedBegins.{supported_as}
-use Rattle.swc_ecma_parser_grammar.proofs.Unnoted.{joined, expr_unnoted, class_unnoted}
+use Rattle.swc_ecma_parser_grammar.proofs.Unnoted.{joined, class_unnoted}
 use Rattle.swc_ecma_parser_grammar.proofs.Widens.{stmt_supported, stmt_widens, braced_widens}
 use Rattle.swc_ecma_parser_grammar.proofs.StatementEntries.{stmt_unnoted, braced_unnoted, params_unnoted}
 use Rattle.swc_ecma_parser_grammar.proofs.FunctionExprs.{function_supported}
@@ -55,16 +56,18 @@ use Rattle.swc_ecma_parser_reader.specs.State.{State, Outcome, Reader, and_then,
 use Rattle.swc_ecma_parser_reader.specs.Reader as reader
 use Rattle.swc_ecma_parser_reader.specs.Reader.{expr, pattern, member, stmt, declarators, variables, named, own_name, function_word, function_parts, function_decl, function_expr, misdirected, function_body, close}
 use Rattle.swc_ecma_parser_reader.proofs.Words.{begins_function}
-use Rattle.swc_ecma_parser_reader.proofs.Meets.{Meets, Refuses, meets_then, meets_if, meant, saw, wanted_meets}
+use Rattle.swc_ecma_parser_reader.proofs.Meets.{Meets, meets_then, meets_if, saw, wanted_meets}
 use Rattle.swc_ecma_parser_reader.proofs.Between.{Sound, same, sound_more, sound_as, sound_after, within_sound}
-use Rattle.swc_ecma_parser_reader.proofs.expressions.SoundSteps.{meets_as, moved_back}
+use Rattle.swc_ecma_parser_reader.proofs.expressions.SoundSteps.{meets_as}
 use Rattle.swc_ecma_parser_reader.proofs.patterns.Sound.{anything}
-use Rattle.swc_ecma_parser_reader.proofs.SoundParts.{end_sound, variables_stand, declarators_sound, inside_sound, meets_both}
+use Rattle.swc_ecma_parser_reader.proofs.SoundParts.{end_sound, variables_stand, declarators_sound, meets_both}
 use Rattle.swc_ecma_parser_reader.proofs.SoundFunctions.{function_decl_sound, function_expr_sound}
 use Rattle.swc_ecma_parser_reader.proofs.Sound.{expr_sound, pattern_sound, parameters_sound, stmt_sound, classes_sound, class_sound as class_expr_sound}
-use Rattle.swc_ecma_parser_module_reader.specs.Exports.{default_name, default_function, default_expr, is_default_from, begins_default_function, exported_function, exported_class, exported}
+use Rattle.swc_ecma_parser_module_reader.specs.Exports.{default_name, default_function, begins_default_function}
+use Rattle.swc_ecma_parser_module_reader.specs.Decorated.{with_decorators, none_before}
 use Rattle.swc_ecma_parser_module_reader.specs.Supported.{supported_item}
-use Rattle.swc_ecma_parser_module_reader.proofs.ModuleCode.{IsModule, in_module_same, module_env}
+use Rattle.swc_ecma_parser_module_reader.proofs.DecoratedForms.{IsName, ident_name, absent_name, Takes, IsFunction, IsClass, fn_decl_takes, fn_expr_takes, class_decl_takes, class_expr_takes}
+use Rattle.swc_ecma_parser_module_reader.proofs.ModuleCode.{IsModule}
 use Rattle.swc_ecma_parser_error.specs.Kind.{Fault, fault_of}
 use Rattle.swc_ecma_parser_input.specs.TokenSource.{means_out_of_memory}
 
@@ -81,18 +84,30 @@ SoundExport n s x t = Sound same (λ k l. walk (env_of k l) x) (notes_of x) (Exp
 abbrev IsPlain : Tree → Type 0
 IsPlain x = (env : Env) (s : Span) → walks.walk_exported env s (walk (walks.in_module env) x) x ≡ walk (walks.in_module env) x
 
--- a declaration that is exported, and a function or a class that is exported by default, in the code of the export
-abbrev ExportedRead : ℕ → Tree → Code → Place → Place → Type 0
-ExportedRead n x k c d = ExportedRule (Reads n) k (listed []) x c d × (supported x ≡ true) × (k.flags.module ≡ true → notes x ≡ [])
+-- variables that are exported, in the code of the export
+abbrev VariablesRead : ℕ → Tree → Code → Place → Place → Type 0
+VariablesRead n x k c d = ExportedRule (Reads n) k (listed []) x c d × ((span : Span) → supported_item (tree.export_decl span x) ≡ true) × (k.flags.module ≡ true → notes x ≡ [])
 
-abbrev DefaultRead : ℕ → Tree → Code → Place → Place → Type 0
-DefaultRead n x k c d = DefaultRule (Reads n) k (listed []) x c d × ((span : Span) → supported_item (tree.export_default_decl span x) ≡ true) × (notes x ≡ [])
+-- A class or a function that is exported, and one that is exported by default, in the code of the export: any decorators may stand
+-- before it, which are supported behind the words.
+pub record ExportedRead (n : ℕ) (x : Tree) (k : Code) (c d : Place) : Type 0 where
+  pub reads : (ds : List Tree) → ExportedRule (Reads n) k (listed ds) (with_decorators ds x) c d
+  pub supports : (ds : List Tree) (span : Span) → all_supported (trees ds) && none_before span.lo (trees ds) ≡ true → supported_item (tree.export_decl span (with_decorators ds x)) ≡ true
+  pub unnoted : k.flags.module ≡ true → notes x ≡ []
+
+pub record DefaultRead (n : ℕ) (x : Tree) (k : Code) (c d : Place) : Type 0 where
+  pub reads : (ds : List Tree) → DefaultRule (Reads n) k (listed ds) (with_decorators ds x) c d
+  pub supports : (ds : List Tree) (span : Span) → all_supported (trees ds) && none_before span.lo (trees ds) ≡ true → supported_item (tree.export_default_decl span (with_decorators ds x)) ≡ true
+  pub unnoted : notes x ≡ []
+
+abbrev pub SoundVariables : ℕ → State → Tree → State → Type 0
+SoundVariables n s x t = Sound same (λ k l. walk (env_of k l) x) (notes_of x) (VariablesRead n x) s t × IsPlain x
 
 abbrev pub SoundExported : ℕ → State → Tree → State → Type 0
-SoundExported n s x t = Sound same (λ k l. walk (env_of k l) x) (notes_of x) (ExportedRead n x) s t × IsPlain x
+SoundExported n s x t = Sound same (λ k l. walk (env_of k l) x) (notes_of x) (ExportedRead n x) s t × Takes x
 
-abbrev SoundDefault : ℕ → State → Tree → State → Type 0
-SoundDefault n s x t = Sound same (λ k l. walk (env_of k l) x) (notes_of x) (DefaultRead n x) s t × IsPlain x
+abbrev pub SoundDefault : ℕ → State → Tree → State → Type 0
+SoundDefault n s x t = Sound same (λ k l. walk (env_of k l) x) (notes_of x) (DefaultRead n x) s t × Takes x
 
 -- ---- variables
 
@@ -108,14 +123,14 @@ declarators_widen n k loop word (x ∷ []) c d (r, e) = (declarator_widens n k l
 declarators_widen n k loop word (x ∷ y ∷ ys) c d (m, r, e, rs) = (m, declarator_widens n k loop word x c m r, e, declarators_widen n k loop word (y ∷ ys) (after m) d rs)
 
 variables_read : (n : ℕ) (word : VarDeclKind) (k : Code) (x : Tree) (xs : List Tree) (c m d : Place) → begins_variables word c ≡ true
-    → ReadsSeparated (DeclaratorRule (ReadsClass n assignment) (ReadsPat n) (with_in k) false word) xs (after c) m → Ends m d → x ≡ tree.var (spanned c d) word (listed xs) → ExportedRead n x k c d
-variables_read n word k x xs c m d b r z e = let small : ReadsStmt (suc n) k nested_item x c d = variables_rule word xs m refl b r z e in (
+    → ReadsSeparated (DeclaratorRule (ReadsClass n assignment) (ReadsPat n) (with_in k) false word) xs (after c) m → Ends m d → x ≡ tree.var (spanned c d) word (listed xs) → VariablesRead n x k c d
+variables_read n word k x xs c m d b r z e = let small : ReadsStmt (suc n) k nested_item x c d = plain_statement (variables_rule word xs m refl b r z e) in (
   exports.exported_variables word xs m refl (b, declarators_widen n (with_in k) false word xs (after c) m r) z e,
-  lower k.flags.module x (stmt_supported (suc n) k nested_item x c d small),
+  λ span. ap (λ v. supported_item (tree.export_decl span v)) e ∙ sym (ap supported e) ∙ lower k.flags.module x (stmt_supported (suc n) k nested_item x c d small),
   λ o. stmt_unnoted (suc n) k nested_item x c d o small,
 )
 
-pub variables_sound : (n : ℕ) (word : VarDeclKind) (s : State) → begins_variables word s.at ≡ true → Meets (SoundExported n s) (variables (expr n) (pattern n) word s)
+pub variables_sound : (n : ℕ) (word : VarDeclKind) (s : State) → begins_variables word s.at ≡ true → Meets (SoundVariables n s) (variables (expr n) (pattern n) word s)
 unfolding variables
 variables_sound n word s e = meets_then _ (within with_in (declarators (expr n) (pattern n) false word) (moved s)) _
     (within_sound (λ xs k l. walks.walks (env_of k l) false (trees xs)) (λ xs. all_notes_of (trees xs))
@@ -128,76 +143,74 @@ variables_sound n word s e = meets_then _ (within with_in (declarators (expr n) 
 
 -- ---- functions
 
+-- a name and what it names, supported, with decorators that are
+decorated_supported : (name y z : Bool) → name && y ≡ true → z ≡ true → name && (z && y) ≡ true
+decorated_supported true true true h e = refl
+decorated_supported true true false h e = cc
+decorated_supported true false z h e = cc
+decorated_supported false y z h e = cc
+
 function_read : (n : ℕ) (k : Code) (x : Tree) (c d : Place) → ReadsFunction (ReadsStmt n) (ReadsParams n) k x c d → ExportedRead n x k c d
-function_read n k x c d r = let small : ReadsStmt (suc n) k nested_item x c d = function_rule refl r in (
-  exports.exported_function (tree.ident r.name_span (word_text r.name)) (tree.function (spanned c d) (listed []) (parameters r.patterns) r.body r.is_async r.is_generator) (record {
-    is_async = r.is_async;
-    is_generator = r.is_generator;
-    patterns = r.patterns;
-    body = r.body;
-    word = r.word;
-    behind_word = r.behind_word;
-    behind_name = r.behind_name;
-    reads_async = r.reads_async;
-    is_function = r.is_function;
-    reads_star = r.reads_star;
-    reads_name = parts.a_name (word_text r.name) r.name_span (record { word = r.name; reads_word = r.reads_name; is_text = refl; is_name = name_is_clean k.flags (word_text r.name) r.is_named }) refl;
-    reads_parts = record { middle = r.middle; reads_parameters = r.reads_parameters.0; reads_body = braced_widens n (stmt_widens n) true r.reads_body };
-    is = refl;
-  }) refl r.is,
-  lower k.flags.module x (stmt_supported (suc n) k nested_item x c d small),
-  λ o. stmt_unnoted (suc n) k nested_item x c d o small,
-)
+function_read n k x c d r =
+    let small : ReadsStmt (suc n) k nested_item x c d = plain_statement (function_rule refl r) in
+    let name = tree.ident r.name_span (word_text r.name) in
+    let bare = tree.function (spanned c d) (listed []) (parameters r.patterns) r.body r.is_async r.is_generator in record {
+      reads = λ ds. exports.exported_function name (tree.function (spanned c d) (listed ds) (parameters r.patterns) r.body r.is_async r.is_generator) (record {
+        is_async = r.is_async;
+        is_generator = r.is_generator;
+        patterns = r.patterns;
+        body = r.body;
+        word = r.word;
+        behind_word = r.behind_word;
+        behind_name = r.behind_name;
+        reads_async = r.reads_async;
+        is_function = r.is_function;
+        reads_star = r.reads_star;
+        reads_name = parts.a_name (word_text r.name) r.name_span (record { word = r.name; reads_word = r.reads_name; is_text = refl; is_name = name_is_clean k.flags (word_text r.name) r.is_named }) refl;
+        reads_parts = record { middle = r.middle; reads_parameters = r.reads_parameters.0; reads_body = braced_widens n (stmt_widens n) true r.reads_body };
+        is = refl;
+      }) refl (ap (with_decorators ds) r.is);
+      supports = λ ds span h. ap (λ z. supported_item (tree.export_decl span (with_decorators ds z))) r.is
+          ∙ decorated_supported (supported name) (supported bare) _ (sym (ap supported r.is) ∙ lower k.flags.module x (stmt_supported (suc n) k nested_item x c d small)) h;
+      unnoted = λ o. stmt_unnoted (suc n) k nested_item x c d o small;
+    }
 
--- a name has no faults
-named_plain : (s : State) → Meets (λ i _. (env : Env) → walk env i ≡ []) (named s)
+-- a name has no faults and no notes
+pub named_plain : (s : State) → Meets (λ i _. IsName i) (named s)
 unfolding named
-named_plain s = meets_then _ (name faults.ExpectedIdent s) _ (anything (name faults.ExpectedIdent s)) (λ i t _ env. refl)
-
--- the form of a function without decorators
-abbrev IsFunction : Tree → Type 0
-IsFunction x = (span : Span) × (ps : List Tree) × (body : Tree) × (w : Bool) × (g : Bool) × (x ≡ tree.function span (listed []) (parameters ps) body w g)
-
--- where its name has no faults the walk of its export is its own
-declaration_plain : (i x : Tree) → ((env : Env) → walk env i ≡ []) → IsFunction x → IsPlain (tree.fn_decl i x)
-declaration_plain i x h (s, ps, body, w, g, e) env span = subst (λ z. walks.walk_exported env span (walk (walks.in_module env) (tree.fn_decl i z)) (tree.fn_decl i z) ≡ walk (walks.in_module env) (tree.fn_decl i z))
-    (sym e) (sym (ap (λ z. z ++ walk (walks.in_module env) (tree.function s (listed []) (parameters ps) body w g)) (h (walks.in_module env))))
-
-expression_plain : (r : Span) (i x : Tree) → ((env : Env) → walk env i ≡ []) → IsFunction x → IsPlain (tree.fn_expr r i x)
-expression_plain r i x h (s, ps, body, w, g, e) env span = subst (λ z. walks.walk_exported env span (walk (walks.in_module env) (tree.fn_expr r i z)) (tree.fn_expr r i z) ≡ walk (walks.in_module env) (tree.fn_expr r i z))
-    (sym e) (sym (ap (λ z. z ++ walk (walks.in_module env) (tree.function s (listed []) (parameters ps) body w g)) (h (walks.in_module env))))
+named_plain s = meets_then _ (name faults.ExpectedIdent s) _ (anything (name faults.ExpectedIdent s)) (λ i t _. ident_name i.span i.sym)
 
 module _ (inner : Reader Tree) (params : Reader (List Tree)) where
-  parts_form : (w g : Bool) (start : Span) (s : State) → Meets (λ x _. IsFunction x) (function_parts inner params w g start s)
+  pub parts_form : (w g : Bool) (start : Span) (s : State) → Meets (λ x _. IsFunction x) (function_parts inner params w g start s)
   unfolding function_parts
   parts_form a g start s = meets_then _ (within (λ k. in_parameters k a g) params s) _ (anything (within (λ k. in_parameters k a g) params s)) (λ ps u _.
       meets_then _ (function_body inner params a g u) _ (anything (function_body inner params a g u)) (λ body v _.
       meets_then _ (misdirected (parameters ps) body v) _ (anything (misdirected (parameters ps) body v)) (λ _ t _. (_, ps, body, a, g, refl))))
 
-  decl_plain : (s : State) → Meets (λ x _. IsPlain x) (function_decl inner params s)
+  pub decl_takes : (s : State) → Meets (λ x _. Takes x) (function_decl inner params s)
   unfolding function_decl
-  decl_plain s = meets_then _ (function_word s) _ (anything (function_word s)) (λ a m _.
+  decl_takes s = meets_then _ (function_word s) _ (anything (function_word s)) (λ a m _.
       meets_then _ (star m) _ (anything (star m)) (λ g o _.
       meets_then _ (name faults.ExpectedIdent o) _ (anything (name faults.ExpectedIdent o)) (λ i v _.
-      meets_then _ (function_parts inner params a g (span_at s.at) v) _ (parts_form a g (span_at s.at) v) (λ x t f. declaration_plain (tree.ident i.span i.sym) x (λ env. refl) f))))
+      meets_then _ (function_parts inner params a g (span_at s.at) v) _ (parts_form a g (span_at s.at) v) (λ x t f. fn_decl_takes (tree.ident i.span i.sym) x (ident_name i.span i.sym) f))))
 
-  own_plain : (a g : Bool) (s : State) → Meets (λ i _. (env : Env) → walk env i ≡ []) (own_name a g s)
+  own_plain : (a g : Bool) (s : State) → Meets (λ i _. IsName i) (own_name a g s)
   unfolding own_name
   own_plain a g s = meets_if _ (name_at (named_by s.code a g).flags s.at) _ _
-      (λ _. meets_then _ (named (coded (named_by s.code a g) s)) _ (named_plain (coded (named_by s.code a g) s)) (λ i t h. h)) (λ _ env. refl)
+      (λ _. meets_then _ (named (coded (named_by s.code a g) s)) _ (named_plain (coded (named_by s.code a g) s)) (λ i t h. h)) (λ _. absent_name)
 
-  expr_plain : (s : State) → Meets (λ x _. IsPlain x) (function_expr inner params s)
+  expr_takes : (s : State) → Meets (λ x _. Takes x) (function_expr inner params s)
   unfolding function_expr
-  expr_plain s = meets_then _ (function_word s) _ (anything (function_word s)) (λ a m _.
+  expr_takes s = meets_then _ (function_word s) _ (anything (function_word s)) (λ a m _.
       meets_then _ (star m) _ (anything (star m)) (λ g o _.
       meets_then _ (own_name a g o) _ (own_plain a g o) (λ i v h.
-      meets_then _ (function_parts inner params a g (span_at s.at) v) _ (parts_form a g (span_at s.at) v) (λ x t f. expression_plain (span_of x) i x h f))))
+      meets_then _ (function_parts inner params a g (span_at s.at) v) _ (parts_form a g (span_at s.at) v) (λ x t f. fn_expr_takes (span_of x) i x h f))))
 
 pub function_sound : (n : ℕ) (s : State) → begins_function s.at ≡ true → Meets (SoundExported n s) (function_decl (stmt n nested_item) (reader.parameters n) s)
 function_sound n s e = meets_as (function_decl (stmt n nested_item) (reader.parameters n) s)
     (meets_both _ _ (function_decl (stmt n nested_item) (reader.parameters n) s)
     (function_decl_sound (ReadsStmt n) (ReadsParams n) (stmt n nested_item) (stmt_sound n nested_item) (reader.parameters n) (parameters_sound n) s e)
-    (decl_plain (stmt n nested_item) (reader.parameters n) s))
+    (decl_takes (stmt n nested_item) (reader.parameters n) s))
     (λ x t (p, f). (sound_as s t refl refl refl (λ r. function_read n s.code x s.at t.at r) p, f))
 
 -- ---- the default function: in module code its name is read as that of a function that is an expression
@@ -353,8 +366,8 @@ default_read : (n : ℕ) (k : Code) (x : Tree) (c d : Place) → IsModule k → 
 default_read n k x c d o r =
     let fn = tree.function (spanned c d) (listed []) (parameters r.patterns) r.body r.is_async r.is_generator in
     let h = and_yes (supported_in k.flags.module r.name) _ (supported_as k.flags.module x (tree.fn_expr (spanned c d) r.name fn) r.is (function_supported n k x c d r)) in
-    let g = and_yes (supported_in k.flags.module fn) _ h.1 in (
-      exports.default_function r.name fn (record {
+    let g = and_yes (supported_in k.flags.module fn) _ h.1 in record {
+      reads = λ ds. exports.default_function r.name (tree.function (spanned c d) (listed ds) (parameters r.patterns) r.body r.is_async r.is_generator) (record {
         is_async = r.is_async;
         is_generator = r.is_generator;
         patterns = r.patterns;
@@ -368,35 +381,24 @@ default_read n k x c d o r =
         reads_name = own_name_widens o r.reads_name;
         reads_parts = record { middle = r.middle; reads_parameters = r.reads_parameters.0; reads_body = braced_widens n (stmt_widens n) true r.reads_body };
         is = refl;
-      }) r.is,
-      λ span. ap (λ z. supported_item (tree.export_default_decl span z)) r.is ∙ and_both (supported r.name) (supported fn) (lower k.flags.module r.name h.0) (lower k.flags.module fn g.0),
-      ap notes r.is ∙ joined (notes r.name) (notes fn) (own_name_unnoted r.reads_name)
-          (joined (notes (parameters r.patterns)) (notes r.body) (params_unnoted n r.patterns o.0 r.reads_parameters) (braced_unnoted n (stmt_unnoted n) true o.0 r.reads_body)),
-    )
+      }) (ap (with_decorators ds) r.is);
+      supports = λ ds span q. ap (λ z. supported_item (tree.export_default_decl span (with_decorators ds z))) r.is
+          ∙ decorated_supported (supported r.name) (supported fn) _ (and_both (supported r.name) (supported fn) (lower k.flags.module r.name h.0) (lower k.flags.module fn g.0)) q;
+      unnoted = ap notes r.is ∙ joined (notes r.name) (notes fn) (own_name_unnoted r.reads_name)
+          (joined (notes (parameters r.patterns)) (notes r.body) (params_unnoted n r.patterns o.0 r.reads_parameters) (braced_unnoted n (stmt_unnoted n) true o.0 r.reads_body));
+    }
 
-default_function_sound : (n : ℕ) (s : State) → IsModule s.code → begins_function s.at ≡ true → Meets (SoundDefault n s) (default_function (stmt n nested_item) (reader.parameters n) s)
+pub default_function_sound : (n : ℕ) (s : State) → IsModule s.code → begins_function s.at ≡ true → Meets (SoundDefault n s) (default_function (stmt n nested_item) (reader.parameters n) s)
 default_function_sound n s o e =
     let p = function_expr (stmt n nested_item) (reader.parameters n) in
     below_meets (SoundDefault n s) (default_function (stmt n nested_item) (reader.parameters n) s) (p s) (default_function_same (stmt n nested_item) (reader.parameters n) s o.0 o.1)
     (meets_as (p s)
     (meets_both _ _ (p s)
     (function_expr_sound (ReadsStmt n) (ReadsParams n) (stmt n nested_item) (stmt_sound n nested_item) (reader.parameters n) (parameters_sound n) (λ k ps c d r. r.0.opens) s e)
-    (expr_plain (stmt n nested_item) (reader.parameters n) s))
+    (expr_takes (stmt n nested_item) (reader.parameters n) s))
     (λ x t (p, f). (sound_as s t refl refl refl (λ r. default_read n s.code x s.at t.at o r) p, f)))
 
 -- ---- classes
-
--- the form of a class without decorators
-abbrev IsClass : Tree → Type 0
-IsClass x = (span : Span) × (xs : List Tree) × (base : Tree) × (x ≡ tree.class span (listed []) (listed xs) base)
-
-class_decl_plain : (i x : Tree) → ((env : Env) → walk env i ≡ []) → IsClass x → IsPlain (tree.class_decl i x)
-class_decl_plain i x h (s, xs, base, e) env span = subst (λ z. walks.walk_exported env span (walk (walks.in_module env) (tree.class_decl i z)) (tree.class_decl i z) ≡ walk (walks.in_module env) (tree.class_decl i z))
-    (sym e) (sym (ap (λ z. z ++ walk (walks.in_module env) (tree.class s (listed []) (listed xs) base)) (h (walks.in_module env))))
-
-class_expr_plain : (r : Span) (i x : Tree) → ((env : Env) → walk env i ≡ []) → IsClass x → IsPlain (tree.class_expr r i x)
-class_expr_plain r i x h (s, xs, base, e) env span = subst (λ z. walks.walk_exported env span (walk (walks.in_module env) (tree.class_expr r i z)) (tree.class_expr r i z) ≡ walk (walks.in_module env) (tree.class_expr r i z))
-    (sym e) (sym (ap (λ z. z ++ walk (walks.in_module env) (tree.class s (listed []) (listed xs) base)) (h (walks.in_module env))))
 
 -- which primary expressions are classes
 abbrev is_class_expr : Tree → Bool
@@ -412,35 +414,76 @@ module _ (heritage element : Reader Tree) where
       meets_then _ (within with_in (members heritage element) v) _ (anything (within with_in (members heritage element) v)) (λ xs w _.
       meets_then _ (close w) _ (anything (close w)) (λ _ t _. (_, xs, base, refl))))))
 
-  declared_plain : (s : State) → Meets (λ x _. IsPlain x) (class_decl heritage element s)
+  pub declared_takes : (s : State) → Meets (λ x _. Takes x) (class_decl heritage element s)
   unfolding class_decl named_class
-  declared_plain s = let c = coded (in_class s.code) s in
+  declared_takes s = let c = coded (in_class s.code) s in
       meets_then _ (named_class heritage element c) _
       (meets_then _ (named (moved c)) _ (named_plain (moved c)) (λ i m h.
-      meets_then _ (class_parts heritage element (span_at s.at) m) _ (class_form (span_at s.at) m) (λ x t f. class_decl_plain i x h f))) (λ x t p. p)
+      meets_then _ (class_parts heritage element (span_at s.at) m) _ (class_form (span_at s.at) m) (λ x t f. class_decl_takes i x h f))) (λ x t p. p)
 
-  own_class_plain : (s : State) → Meets (λ i _. (env : Env) → walk env i ≡ []) (class_name heritage element s)
+  own_class_plain : (s : State) → Meets (λ i _. IsName i) (class_name heritage element s)
   unfolding class_name
-  own_class_plain s = meets_if _ (name_at s.code.flags s.at) _ _ (λ _. named_plain s) (λ _ env. refl)
+  own_class_plain s = meets_if _ (name_at s.code.flags s.at) _ _ (λ _. named_plain s) (λ _. absent_name)
 
-  as_expression_plain : (s : State) → Meets (λ x _. IsPlain x × (is_class_expr x ≡ true)) (class_expr heritage element s)
+  pub as_expression_takes : (s : State) → Meets (λ x _. Takes x × (is_class_expr x ≡ true)) (class_expr heritage element s)
   unfolding class_expr unnamed_class
-  as_expression_plain s = let c = coded (in_class s.code) s in
+  as_expression_takes s = let c = coded (in_class s.code) s in
       meets_then _ (unnamed_class heritage element c) _
       (meets_then _ (class_name heritage element (moved c)) _ (own_class_plain (moved c)) (λ i m h.
-      meets_then _ (class_parts heritage element (span_at s.at) m) _ (class_form (span_at s.at) m) (λ x t f. (class_expr_plain (span_of x) i x h f, refl)))) (λ x t p. p)
+      meets_then _ (class_parts heritage element (span_at s.at) m) _ (class_form (span_at s.at) m) (λ x t f. (class_expr_takes (span_of x) i x h f, refl)))) (λ x t p. p)
+
+-- a class with these decorators in the place of others, and a function
+pub class_with : {In : Goal → Type 0} (k : Code) (b a name y : Tree) (c d : Place) (r : ClassRule In k c a name y c d)
+    → ClassRule In k c b name (tree.class (spanned c d) b (listed r.members) r.heritage) c d
+class_with k b a name y c d r = record {
+  heritage = r.heritage;
+  members = r.members;
+  behind_name = r.behind_name;
+  opening = r.opening;
+  close = r.close;
+  is_class = r.is_class;
+  reads_name = r.reads_name;
+  reads_heritage = r.reads_heritage;
+  opens = r.opens;
+  reads_members = r.reads_members;
+  closes = r.closes;
+  next = r.next;
+  is = refl;
+}
+
+pub function_with : {In : Goal → Type 0} (k : Code) (b a name y : Tree) (c d : Place) (r : FunctionRule In false k a name y c d)
+    → FunctionRule In false k b name (tree.function (spanned c d) b (parameters r.patterns) r.body r.is_async r.is_generator) c d
+function_with k b a name y c d r = record {
+  is_async = r.is_async;
+  is_generator = r.is_generator;
+  patterns = r.patterns;
+  body = r.body;
+  word = r.word;
+  behind_word = r.behind_word;
+  behind_name = r.behind_name;
+  reads_async = r.reads_async;
+  is_function = r.is_function;
+  reads_star = r.reads_star;
+  reads_name = r.reads_name;
+  reads_parts = r.reads_parts;
+  is = refl;
+}
 
 class_read : (n : ℕ) (k : Code) (name y x : Tree) (c d : Place) → ReadsNamedClass n k name y c d → is_absent name ≡ false → x ≡ tree.class_decl name y → ExportedRead n x k c d
-class_read n k name y x c d r a e = let small : ReadsStmt (suc n) k nested_item x c d = class_rule name y refl r a e in (
-  exports.exported_class name y r.0 a e,
-  lower k.flags.module x (stmt_supported (suc n) k nested_item x c d small),
-  λ o. stmt_unnoted (suc n) k nested_item x c d o small,
-)
+class_read n k name y x c d r a e =
+    let small : ReadsStmt (suc n) k nested_item x c d = plain_statement (class_rule name y refl r a e) in
+    let bare = tree.class (spanned c d) (listed []) (listed r.0.members) r.0.heritage in
+    let is : x ≡ tree.class_decl name bare = e ∙ ap (tree.class_decl name) r.0.is in record {
+      reads = λ ds. exports.exported_class name _ (class_with k (listed ds) (listed []) name y c d r.0) a (ap (with_decorators ds) is);
+      supports = λ ds span h. ap (λ z. supported_item (tree.export_decl span (with_decorators ds z))) is
+          ∙ decorated_supported (supported name) (supported bare) _ (sym (ap supported is) ∙ lower k.flags.module x (stmt_supported (suc n) k nested_item x c d small)) h;
+      unnoted = λ o. stmt_unnoted (suc n) k nested_item x c d o small;
+    }
 
 pub class_sound : (n : ℕ) (s : State) → sees kind.Class s.at ≡ true → Meets (SoundExported n s) (class_decl (expr n left_side) (member n) s)
 unfolding class_stmt
 class_sound n s h = let p = class_decl (expr n left_side) (member n) s in
-    meets_as p (meets_both _ _ p (classes_sound n nested_item s (saw s.at kind.Class h)) (declared_plain (expr n left_side) (member n) s))
+    meets_as p (meets_both _ _ p (classes_sound n nested_item s (saw s.at kind.Class h)) (declared_takes (expr n left_side) (member n) s))
     (λ x t (q, f). (sound_as s t refl refl refl (λ (i, name, y, r, a, e). class_read n s.code name y x s.at t.at r a e) q, f))
 
 -- a class that is an expression, with its name or none
@@ -465,15 +508,19 @@ class_found n k x c d (sides.paren_rule y m i r j l e) h = absurd (true≢false 
 default_class_read : (n : ℕ) (k : Code) (x : Tree) (c d : Place) → IsModule k → ClassFound n k x c d → supported_in k.flags.module x ≡ true → DefaultRead n x k c d
 default_class_read n k x c d o (name, y, r, e) s =
     let both : supported_in k.flags.module name && supported_in k.flags.module y ≡ true = supported_as k.flags.module x (tree.class_expr (spanned c d) name y) e s in
-    let g = and_yes (supported_in k.flags.module name) _ both in (
-      exports.default_class name y r e,
-      λ span. ap (λ z. supported_item (tree.export_default_decl span z)) e ∙ and_both (supported name) (supported y) (lower k.flags.module name g.0) (lower k.flags.module y g.1),
-      ap notes e ∙ class_unnoted n k name y c d o.0 r both,
-    )
+    let g = and_yes (supported_in k.flags.module name) _ both in
+    let bare = tree.class (spanned c d) (listed []) (listed r.members) r.heritage in
+    let is : x ≡ tree.class_expr (spanned c d) name bare = e ∙ ap (tree.class_expr (spanned c d) name) r.is in record {
+      reads = λ ds. exports.default_class name _ (class_with k (listed ds) (listed []) name y c d r) (ap (with_decorators ds) is);
+      supports = λ ds span q. ap (λ z. supported_item (tree.export_default_decl span (with_decorators ds z))) is
+          ∙ decorated_supported (supported name) (supported bare) _
+          (and_both (supported name) (supported bare) (lower k.flags.module name g.0) (sym (ap supported r.is) ∙ lower k.flags.module y g.1)) q;
+      unnoted = ap notes e ∙ class_unnoted n k name y c d o.0 r both;
+    }
 
-default_class_sound : (n : ℕ) (s : State) → IsModule s.code → sees kind.Class s.at ≡ true → Meets (SoundDefault n s) (class_expr (expr n left_side) (member n) s)
+pub default_class_sound : (n : ℕ) (s : State) → IsModule s.code → sees kind.Class s.at ≡ true → Meets (SoundDefault n s) (class_expr (expr n left_side) (member n) s)
 default_class_sound n s o h = let p = class_expr (expr n left_side) (member n) s in
-    meets_as p (meets_both _ _ p (class_expr_sound n s (saw s.at kind.Class h)) (as_expression_plain (expr n left_side) (member n) s))
+    meets_as p (meets_both _ _ p (class_expr_sound n s (saw s.at kind.Class h)) (as_expression_takes (expr n left_side) (member n) s))
     (λ x t (q, g). (sound_as s t refl refl refl (λ (r, a, i). default_class_read n s.code x s.at t.at o (class_found n s.code x s.at t.at r g.1) a) q, g.0))
 
 -- ---- exports
@@ -486,79 +533,3 @@ default_begins c h = by_order (sees kind.Function c) (is_async_function c) h
     by_order true true h = refl
     by_order true false h = refl
     by_order false b h = rw h refl
-
--- the words stand where the export begins, with no decorators
-front : {In : Goal → Type 0} {k : Code} (c : Place) → kind_at c ≡ kind.Export → ExportFrontRule In k false (listed []) c c (after c)
-front c e = decorated_behind (after c) refl (export_word refl e refl) (classes.no_decorators refl refl)
-
-default_front : {In : Goal → Type 0} {k : Code} (c : Place) → kind_at c ≡ kind.Export → kind_at (after c) ≡ kind.Default → ExportFrontRule In k true (listed []) c c (after (after c))
-default_front c e f = decorated_behind (after (after c)) refl (export_default_words refl e f refl) (classes.no_decorators refl refl)
-
--- the walk of what is exported, as that of the export
-plain_walk : (k : Code) (labels : List Text) (span : Span) (x : Tree) → IsModule k → IsPlain x → walk (env_of k labels) x ≡ walks.walk_exported (env_of k labels) span (walk (walks.in_module (env_of k labels)) x) x
-plain_walk k labels span x o f = sym (f (env_of k labels) span ∙ ap (λ z. walk z x) (module_env k labels o))
-
-module _ (n : ℕ) (s : State) (o : IsModule s.code) (e : kind_at s.at ≡ kind.Export) where
-  pub exported_sound : (declaration : Reader Tree) → Meets (SoundExported n (moved s)) (declaration (moved s))
-      → Meets (SoundExport n s) (exported (stmt n nested_item) (expr n) (pattern n) (reader.parameters n) (member n) (span_at s.at) declaration (moved s))
-  unfolding exported spanned
-  exported_sound declaration h = meets_then _ (declaration (moved s)) _ h (λ x t (p, f). (
-    sound_after s t e refl (plain_walk s.code s.scope.labels (record { lo = (span_at s.at).lo; hi = t.at.last.hi }) x o f) refl
-        (λ (r, u, q). (exports.export_declaration_rule (listed []) x s.at (after s.at) (front s.at e) (subst (λ k. ExportedRule (Reads n) k (listed []) x (after s.at) t.at) (sym (in_module_same s.code o)) r) refl, u, q o.0)) p,
-    refl,
-  ))
-
-  module _ (f : kind_at (after s.at) ≡ kind.Default) where
-    pub exported_function_sound : begins_default_function (after (after s.at)) ≡ true
-        → Meets (SoundExport n s) (exported_function (stmt n nested_item) (expr n) (pattern n) (reader.parameters n) (member n) (span_at s.at) (moved (moved s)))
-    unfolding exported_function spanned
-    exported_function_sound b = meets_then _ (default_function (stmt n nested_item) (reader.parameters n) (moved (moved s))) _
-        (default_function_sound n (moved (moved s)) o (default_begins (after (after s.at)) b)) (λ x t (p, g). (
-          sound_after s t e refl (plain_walk s.code s.scope.labels (record { lo = (span_at s.at).lo; hi = t.at.last.hi }) x o g) refl
-              (λ (r, u, q). (
-                exports.export_default_declaration_rule (listed []) x s.at (after (after s.at)) (default_front s.at e f)
-                    (subst (λ k. DefaultRule (Reads n) k (listed []) x (after (after s.at)) t.at) (sym (in_module_same s.code o)) r) refl,
-                u (spanned s.at t.at),
-                q,
-              )) (moved_back {s = moved s} f refl p),
-          refl,
-        ))
-
-    pub exported_class_sound : sees kind.Class (after (after s.at)) ≡ true
-        → Meets (SoundExport n s) (exported_class (stmt n nested_item) (expr n) (pattern n) (reader.parameters n) (member n) (span_at s.at) (moved (moved s)))
-    unfolding exported_class spanned
-    exported_class_sound b = meets_then _ (class_expr (expr n left_side) (member n) (moved (moved s))) _ (default_class_sound n (moved (moved s)) o b) (λ x t (p, g). (
-      sound_after s t e refl (plain_walk s.code s.scope.labels (record { lo = (span_at s.at).lo; hi = t.at.last.hi }) x o g) refl
-          (λ (r, u, q). (
-            exports.export_default_declaration_rule (listed []) x s.at (after (after s.at)) (default_front s.at e f)
-                (subst (λ k. DefaultRule (Reads n) k (listed []) x (after (after s.at)) t.at) (sym (in_module_same s.code o)) r) refl,
-            u (spanned s.at t.at),
-            q,
-          )) (moved_back {s = moved s} f refl p),
-      refl,
-    ))
-
-    -- the look-ahead of an expression
-    may_begin : (c : Place) → begins_default_function c ≡ false → is_default_from s.code c ≡ false → sees kind.Class c ≡ false → may_begin_default s.code c ≡ true
-    unfolding begins_default_function is_default_from may_begin_default
-    may_begin c h g i = let (a, b) = or_no (sees kind.Function c) (is_async_function c) h in rw (a, b, i, no_from s.code.setting.export_default_from (word_at (codes "from") c) _ g) refl
-      where
-        no_from : (a b d : Bool) → (a && (b || d)) ≡ false → (a && b) ≡ false
-        no_from true b d h = (or_no b d h).0
-        no_from false b d h = refl
-
-    pub default_expr_sound : sees kind.Class (after (after s.at)) ≡ false → begins_default_function (after (after s.at)) ≡ false → is_default_from s.code (after (after s.at)) ≡ false
-        → Meets (SoundExport n s) (default_expr (expr n) (span_at s.at) (moved (moved s)))
-    unfolding default_expr spanned
-    default_expr_sound b h g = meets_then _ (within with_in (expr n assignment) (moved (moved s))) _
-        (inside_sound (ReadsClass n) (ReadsPat n) (expr n) (pattern n) (expr_sound n) (pattern_sound n) assignment (moved (moved s))) (λ x m p.
-        meets_then _ (end faults.Expected m) _ (end_sound faults.Expected m) (λ _ t q. (
-          sound_after s t e refl (sym (ap (λ z. walk z x) (module_env s.code s.scope.labels o))) refl
-              (λ (i, r, z). (
-                exports.export_default_expression_rule x i e f (may_begin (after (after s.at)) h g b)
-                    (subst (λ k. Reads n (expr_goal assignment (with_in k) x (after (after s.at)) i)) (sym (in_module_same s.code o)) r.0) z refl,
-                lower s.code.flags.module x r.1,
-                expr_unnoted n assignment (with_in s.code) x (after (after s.at)) i o.0 r.0 r.1,
-              )) (moved_back {s = moved s} f refl (sound_more p q)),
-          refl,
-        )))

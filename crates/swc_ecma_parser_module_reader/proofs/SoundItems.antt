@@ -15,6 +15,7 @@ use Rattle.swc_ecma_parser_grammar.specs.language.ModuleItems.{import_item_rule,
 use Rattle.swc_ecma_parser_grammar.specs.language.Noted.{has_meta}
 use Rattle.swc_ecma_parser_grammar.specs.language.Reads.{Reads}
 use Rattle.swc_ecma_parser_grammar.proofs.Tests.{or_none}
+use Rattle.swc_ecma_parser_reader.specs.DecoratorLevels.{decorated_in}
 use Rattle.swc_ecma_parser_reader.specs.Notes.{notes_of}
 use Rattle.swc_ecma_parser_reader.specs.Reader.{expr, pattern, member, stmt, parameters, object_alone, whole_stmt}
 use Rattle.swc_ecma_parser_reader.specs.State.{State}
@@ -26,7 +27,7 @@ use Rattle.swc_ecma_parser_reader.proofs.Notes.{or_nil}
 use Rattle.swc_ecma_parser_reader.proofs.SoundParts.{meets_both}
 use Rattle.swc_ecma_parser_reader.proofs.Statements as statements
 use Rattle.swc_ecma_parser_reader.proofs.expressions.SoundSteps.{meets_as}
-use Rattle.swc_ecma_parser_module_reader.specs.Exports.{export_decl}
+use Rattle.swc_ecma_parser_module_reader.specs.Decorated.{export_item}
 use Rattle.swc_ecma_parser_module_reader.specs.Imports.{import_decl}
 use Rattle.swc_ecma_parser_module_reader.specs.Modules.{begins_import, import_in, export_in, module_item}
 use Rattle.swc_ecma_parser_module_reader.specs.Programs.{begins_module}
@@ -58,7 +59,7 @@ import_in_sound (suc n) s m e = meets_as (import_decl (object_alone n) s) (impor
 export_in_sound : (n : ℕ) (s : State) → IsModule s.code → kind_at s.at ≡ kind.Export → Meets (SoundDeclared n s) (export_in n s)
 unfolding export_in
 export_in_sound zero s m e = too_deep_meets _ s
-export_in_sound (suc n) s m e = meets_as (export_decl (stmt n nested_item) (expr n) (pattern n) (parameters n) (member n) (object_alone n) s) (export_sound n s m e)
+export_in_sound (suc n) s m e = meets_as (export_item (stmt n nested_item) (expr n) (pattern n) (parameters n) (member n) (object_alone n) (decorated_in n) s) (export_sound n s m e)
     (λ x t (p, h). sound_as s t refl refl refl (λ (r, a, b). (export_item_rule r, a, b)) p)
 
 declared_sound : (n : ℕ) (s : State) → IsModule s.code → begins_module s.at ≡ true → Meets (SoundDeclared n s) (module_item n s)

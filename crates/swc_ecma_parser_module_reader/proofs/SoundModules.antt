@@ -33,6 +33,7 @@ use Rattle.swc_ecma_parser_grammar.specs.language.Reads.{Reads}
 use Rattle.swc_ecma_parser_grammar.proofs.StatementEntries.{statement_widens, stmt_unnoted}
 use Rattle.swc_ecma_parser_grammar.proofs.Tests.{and_yes, and_both}
 use Rattle.swc_ecma_parser_grammar.proofs.Unnoted.{joined}
+use Rattle.swc_ecma_parser_reader.specs.DecoratorLevels.{decorated_in}
 use Rattle.swc_ecma_parser_reader.specs.Entry.{error_tokens}
 use Rattle.swc_ecma_parser_reader.specs.Limits.{has_out_of_memory_token}
 use Rattle.swc_ecma_parser_reader.specs.Notes.{Notes, ◌⊕◌, notes_of, all_notes_of, notes_with, all_notes_with}
@@ -45,7 +46,7 @@ use Rattle.swc_ecma_parser_reader.proofs.Between.{Sound, SoundStep, same, sound_
 use Rattle.swc_ecma_parser_reader.proofs.SoundScripts.{whole_sound}
 use Rattle.swc_ecma_parser_reader.proofs.expressions.SoundSteps.{meets_as, stands, notes_push}
 use Rattle.swc_ecma_parser_module_reader.specs.Entry.{SoundModule}
-use Rattle.swc_ecma_parser_module_reader.specs.Exports.{export_decl}
+use Rattle.swc_ecma_parser_module_reader.specs.Decorated.{export_item}
 use Rattle.swc_ecma_parser_module_reader.specs.Imports.{import_decl}
 use Rattle.swc_ecma_parser_module_reader.specs.Modules.{begins_import, import_in, export_in, module_item, module_code, module_body, module_whole}
 use Rattle.swc_ecma_parser_module_reader.specs.Supported.{supported_item, all_supported_items, supported_module}
@@ -265,11 +266,11 @@ module_is n s x t (b, p, e) = record {
 
 module _ (export_sound : (n : ℕ) (s : State) → IsModule s.code → kind_at s.at ≡ kind.Export
     → Meets (λ x t. Sound same (λ k l. walk (env_of k l) x) (notes_of x) (λ k c d. ExportRule (Reads n) k x c d × (supported_item x ≡ true) × (notes x ≡ [])) s t × (is_module_decl x ≡ true))
-    (export_decl (stmt n nested_item) (expr n) (pattern n) (parameters n) (member n) (object_alone n) s)) where
+    (export_item (stmt n nested_item) (expr n) (pattern n) (parameters n) (member n) (object_alone n) (decorated_in n) s)) where
   export_in_sound : (n : ℕ) (s : State) → IsModule s.code → kind_at s.at ≡ kind.Export → Meets (SoundItem n s) (export_in n s)
   unfolding export_in
   export_in_sound zero s m e = too_deep_meets _ s
-  export_in_sound (suc n) s m e = meets_as (export_decl (stmt n nested_item) (expr n) (pattern n) (parameters n) (member n) (object_alone n) s) (export_sound n s m e) (λ x t (p, h). (
+  export_in_sound (suc n) s m e = meets_as (export_item (stmt n nested_item) (expr n) (pattern n) (parameters n) (member n) (object_alone n) (decorated_in n) s) (export_sound n s m e) (λ x t (p, h). (
     false,
     sound_as s t refl refl (unawaited x) (λ (r, a, b). record { reads = export_item_rule r; supports = a; unnoted = b; awaits = decl_awaits x s.at h }) p,
   ))

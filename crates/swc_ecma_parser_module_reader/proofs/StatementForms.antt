@@ -16,12 +16,15 @@ use Rattle.swc_ecma_parser_grammar.specs.Follows.{word_at, may_begin_expression_
 use Rattle.swc_ecma_parser_grammar.specs.Reads.{with_in}
 use Rattle.swc_ecma_parser_grammar.specs.language.Contexts.{in_class, in_loop, in_breakable, in_with}
 use Rattle.swc_ecma_parser_grammar.specs.language.Goals.{Class, expression, assignment}
+use Rattle.swc_ecma_parser_grammar.specs.Decorated.{decorated_by}
+use Rattle.swc_ecma_parser_reader.specs.Decorators.{Leading, leading, misplaced as misplaced_list}
+use Rattle.swc_ecma_parser_reader.specs.DecoratedStatements.{begins_declared, declared_behind, exported_behind, other_behind, stmt_behind, decorated_stmt, either_stmt}
 use Rattle.swc_ecma_parser_reader.specs.Members.{class_parts, named_class, class_decl, class_stmt}
 use Rattle.swc_ecma_parser_reader.specs.State.{State, Reader, moved, coded, within, fault, fault_at, wanted, name, expect, end, reference}
 use Rattle.swc_ecma_parser_reader.specs.Methods.{star}
 use Rattle.swc_ecma_parser_reader.specs.Expressions.{Cover}
 use Rattle.swc_ecma_parser_reader.specs.Reader as reader
-use Rattle.swc_ecma_parser_reader.specs.Reader.{declarators, items, closes, close, no_label, note_statement, optional_end, head, note_with, as_init, as_left, head_part, misdeclared, await_here, opening, link, alternative, target, unbroken, uncontinued, operand, misplaced, clauses, braced, handler, finalizer, handled, labelled_body, relabels, function_word, named, top_await, goes_on, Opening, begins_label, unless_awaited, empty, debugger, variables, block, block_from, expr_stmt, expr_stmt_at, import_stmt, import_stmt_at, thrown, throw, while_stmt, with_stmt, do_while, for_parts, for_in, for_of, for_behind, for_stmt, links, if_stmt, break_stmt, continue_stmt, returned, return_stmt, labeled_stmt, other_stmt, switch_stmt, try_stmt, function_parts, function_decl, function_stmt, const_stmt, let_stmt, async_or_other, stmt_by, stmt_level, stmt, whole_stmt, expr, head_cover, pattern, member, misusing, using_from, using_stmt, using_or_other}
+use Rattle.swc_ecma_parser_reader.specs.Reader.{decorated_in, declarators, items, closes, close, no_label, note_statement, optional_end, head, note_with, as_init, as_left, head_part, misdeclared, await_here, opening, link, alternative, target, unbroken, uncontinued, operand, misplaced, clauses, braced, handler, finalizer, handled, labelled_body, relabels, function_word, named, top_await, goes_on, Opening, begins_label, unless_awaited, empty, debugger, variables, block, block_from, expr_stmt, expr_stmt_at, import_stmt, import_stmt_at, thrown, throw, while_stmt, with_stmt, do_while, for_parts, for_in, for_of, for_behind, for_stmt, links, if_stmt, break_stmt, continue_stmt, returned, return_stmt, labeled_stmt, other_stmt, switch_stmt, try_stmt, function_parts, function_decl, function_stmt, const_stmt, let_stmt, async_or_other, stmt_by, stmt_level, stmt, whole_stmt, expr, head_cover, pattern, member, misusing, using_from, using_stmt, using_or_other}
 use Rattle.swc_ecma_parser_reader.proofs.Meets.{Meets, always, meets_then, meets_if, wanted_meets, too_deep_meets, refuse_meets}
 use Rattle.swc_ecma_parser_reader.proofs.SoundParts.{after_return_meets}
 use Rattle.swc_ecma_parser_reader.proofs.expressions.SoundSteps.{reject_meets}
@@ -87,12 +90,12 @@ module _ (inner : Position → Reader Tree) (inner_expr : Class → Reader Tree)
 
   for_in_form : (p : Reader Tree) (start : Span) (o : Opening) (s : State) → Meets IsStatement (for_in p inner_expr start o s)
   unfolding for_in
-  for_in_form p start o s = always _ (as_left false o s) _ (λ a t. always _ (misdeclared t.code.flags.strict a t) _ (λ _ u.
+  for_in_form p start o s = always _ (as_left o s) _ (λ a t. always _ (misdeclared t.code.flags.strict a t) _ (λ _ u.
       always _ (within with_in (inner_expr expression) (moved u)) _ (λ b v. always _ (expect kind.RParen v) _ (λ _ w. always _ (within in_loop p w) _ (λ g z. refl)))))
 
   for_of_form : (p : Reader Tree) (w : Bool) (start : Span) (o : Opening) (s : State) → Meets IsStatement (for_of p inner_expr w start o s)
   unfolding for_of
-  for_of_form p w start o s = always _ (as_left w o s) _ (λ a t. always _ (misdeclared true a t) _ (λ _ u.
+  for_of_form p w start o s = always _ (as_left o s) _ (λ a t. always _ (misdeclared true a t) _ (λ _ u.
       always _ (within with_in (inner_expr assignment) (moved u)) _ (λ b v. always _ (expect kind.RParen v) _ (λ _ x. always _ (within in_loop p x) _ (λ g z. refl)))))
 
   unless_form : (word : Option Span) (p : Reader Tree) (s : State) → Meets IsStatement (p s) → Meets IsStatement (unless_awaited word p s)
@@ -107,7 +110,7 @@ module _ (inner : Position → Reader Tree) (inner_expr : Class → Reader Tree)
 
   for_form : (p : Reader Tree) (s : State) → Meets IsStatement (for_stmt p inner_expr inner_pat inner_head s)
   unfolding for_stmt
-  for_form p s = always _ (await_here (moved s)) _ (λ word t. always _ (expect kind.LParen t) _ (λ _ u. always _ (opening inner_expr inner_pat inner_head u) _ (λ o v.
+  for_form p s = always _ (await_here (moved s)) _ (λ word t. always _ (expect kind.LParen t) _ (λ _ u. always _ (opening inner_expr inner_pat inner_head (is_some word) u) _ (λ o v.
       for_behind_form p (span_at s.at) word o v)))
 
   -- ---- `if`
@@ -218,10 +221,29 @@ module _ (inner : Position → Reader Tree) (inner_expr : Class → Reader Tree)
   by_form at kind.Export s = import_form _ s
   by_form at _ s = other_form _ at s
 
+-- a class and a function with decorators are statements too
+decorated_form : (start : Span) (ds : List Tree) (x : Tree) (t : State) → IsStatement x t → IsStatement (decorated_by start ds x) t
+decorated_form start ds (tree.class_decl name (tree.class s decorators body base)) t h = refl
+decorated_form start ds (tree.fn_decl name (tree.function s decorators params body w g)) t h = refl
+decorated_form start ds _ t h = h
+
+module _ (plain : Position → Reader Tree) (at : Position) (form : (s : State) → Meets IsStatement (plain at s)) where
+  behind_form : (v : Leading) (s : State) → Meets IsStatement (stmt_behind plain at v s)
+  unfolding stmt_behind declared_behind exported_behind other_behind
+  behind_form v s = meets_if _ (begins_declared s.at) _ _ (λ _. meets_then _ (plain at s) _ (form s) (λ x t h. decorated_form v.place v.found x t h))
+      (λ _. meets_if _ (sees kind.Export s.at) _ _
+      (λ _. meets_if _ ((s.code.flags.in_class || s.code.flags.in_function) || s.code.setting.decorators_before_export) _ _ (λ _. form s) (λ _. reject_meets _ _ s))
+      (λ _. meets_if _ (sees kind.Error s.at) _ _ (λ _. wanted_meets _ faults.Unexpected s) (λ _. always _ (misplaced_list v s) _ (λ _ t. form t))))
+
+  either_form : (further : Reader Tree) (s : State) → Meets IsStatement (either_stmt plain further at s)
+  unfolding either_stmt decorated_stmt
+  either_form further s = meets_if _ (sees kind.At s.at && s.code.setting.decorators) _ _ (λ _. always _ (leading further s) _ (λ v t. behind_form v t)) (λ _. form s)
+
 stmt_form : (n : ℕ) (at : Position) (s : State) → Meets IsStatement (stmt n at s)
 unfolding stmt stmt_level
 stmt_form zero at s = too_deep_meets _ s
-stmt_form (suc n) at s = by_form (stmt n) (expr n) (pattern n) (head_cover n) (reader.parameters n) (member n) at (kind_at s.at) s
+stmt_form (suc n) at s = either_form (stmt_level (stmt n) (expr n) (pattern n) (head_cover n) (reader.parameters n) (member n)) at
+    (λ t. by_form (stmt n) (expr n) (pattern n) (head_cover n) (reader.parameters n) (member n) at (kind_at t.at) t) (decorated_in n) s
 
 pub whole_form : (n : ℕ) (at : Position) (s : State) → Meets IsStatement (whole_stmt n at s)
 unfolding whole_stmt

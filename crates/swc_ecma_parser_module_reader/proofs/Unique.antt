@@ -5,7 +5,7 @@ use Rattle.swc_ecma_parser_reader.specs.State.{State, Scope}
 use Rattle.swc_ecma_parser_reader.proofs.Answered.{st}
 use Rattle.swc_ecma_parser_reader.proofs.expressions.Covers.{same_answer}
 use Rattle.swc_ecma_parser_module_reader.specs.Entry.{IsOneModule}
-use Rattle.swc_ecma_parser_module_reader.proofs.CompleteExports.{export_reads}
+use Rattle.swc_ecma_parser_module_reader.proofs.CompleteDecorated.{export_reads}
 use Rattle.swc_ecma_parser_module_reader.proofs.CompleteModules.{module_reads}
 
 -- no label stands around, and nothing is marked

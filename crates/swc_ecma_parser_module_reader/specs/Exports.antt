@@ -169,13 +169,16 @@ module _ (stmt : Reader Tree) (expr : Class → Reader Tree) (pat : Reader Tree)
     span ← since start
     pure (tree.export_default_decl span x)
 
-  -- from behind `export default` on; the word `default` stands at `first`
+  -- what is neither a class nor a function, from behind `export default` on; the word `default` stands at `first`
+  unfoldable pub default_rest : (object : Reader Tree) → (start first : Span) → Reader Tree
+  default_rest object start first = λ s. if is_default_from s.code s.at then default_from object start first s else default_expr expr start s
+
+  -- from behind `export default` on
   unfoldable pub export_default : (object : Reader Tree) → (start first : Span) → Reader Tree
   export_default object start first = λ s.
       if sees kind.Class s.at then exported_class start s
       else if begins_default_function s.at then exported_function start s
-      else if is_default_from s.code s.at then default_from object start first s
-      else default_expr expr start s
+      else default_rest object start first s
 
   -- a declaration that is exported
   unfoldable pub exported : Span → Reader Tree → Reader Tree
@@ -184,18 +187,27 @@ module _ (stmt : Reader Tree) (expr : Class → Reader Tree) (pat : Reader Tree)
     span ← since start
     pure (tree.export_decl span x)
 
+  -- what is neither a class nor a function, from behind `export` on
+  unfoldable pub export_rest : (object : Reader Tree) → Span → Reader Tree
+  export_rest object start = λ s.
+      if sees kind.LBrace s.at then export_names object start [] s
+      else if sees kind.Mul s.at then export_star object start s
+      else if sees kind.Var s.at then exported start (variables expr pat decl.Var) s
+      else if sees kind.Const s.at then exported start (variables expr pat decl.Const) s
+      else if is_let_declaration s.at then exported start (variables expr pat decl.Let) s
+      else if is_name_from s.code s.at then name_from object start s
+      else wanted faults.Unexpected s
+
+  -- no default, from behind `export` on
+  unfoldable pub export_named : (object : Reader Tree) → Span → Reader Tree
+  export_named object start = λ s.
+      if sees kind.Class s.at then exported start (class_decl (expr left_side) member) s
+      else if begins_default_function s.at then exported start (function_decl stmt params) s
+      else export_rest object start s
+
+  -- an export without decorators
   unfoldable pub export_decl : (object : Reader Tree) → Reader Tree
   export_decl object = do
     start ← span_here
     skip
-    λ s.
-        if sees kind.LBrace s.at then export_names object start [] s
-        else if sees kind.Mul s.at then export_star object start s
-        else if sees kind.Default s.at then (skip >> export_default object start (span_at s.at)) s
-        else if sees kind.Var s.at then exported start (variables expr pat decl.Var) s
-        else if sees kind.Const s.at then exported start (variables expr pat decl.Const) s
-        else if is_let_declaration s.at then exported start (variables expr pat decl.Let) s
-        else if sees kind.Class s.at then exported start (class_decl (expr left_side) member) s
-        else if begins_default_function s.at then exported start (function_decl stmt params) s
-        else if is_name_from s.code s.at then name_from object start s
-        else wanted faults.Unexpected s
+    λ s. if sees kind.Default s.at then (skip >> export_default object start (span_at s.at)) s else export_named object start s

@@ -1,5 +1,6 @@
 pub mod Imports
 pub mod Exports
+pub mod Decorated
 pub mod Modules
 pub mod Supported
 pub mod Entry

@@ -9,10 +9,11 @@ use Rattle.swc_ecma_parser_grammar.specs.Names.{Code}
 use Rattle.swc_ecma_parser_grammar.specs.Follows.{begins_import_expression}
 use Rattle.swc_ecma_parser_grammar.specs.Reads.{nested_item, top_item}
 use Rattle.swc_ecma_parser_grammar.specs.language.Programs.{entry_code, «module»}
+use Rattle.swc_ecma_parser_reader.specs.DecoratorLevels.{decorated_in}
 use Rattle.swc_ecma_parser_reader.specs.Reader.{expr, pattern, member, stmt, parameters, object_alone, items, at_end, whole_stmt, shebang}
 use Rattle.swc_ecma_parser_reader.specs.State.{Reader, ◌>>=◌, pure, here, spanned_from, coded, flagged, too_deep}
 use Rattle.swc_ecma_parser_module_reader.specs.Imports.{import_decl}
-use Rattle.swc_ecma_parser_module_reader.specs.Exports.{export_decl}
+use Rattle.swc_ecma_parser_module_reader.specs.Decorated.{export_item}
 
 -- `import` that begins no expression
 unfoldable pub begins_import : Place → Bool
@@ -24,7 +25,7 @@ import_in (suc n) = import_decl (object_alone n)
 
 unfoldable pub export_in : ℕ → Reader Tree
 export_in zero = too_deep
-export_in (suc n) = export_decl (stmt n nested_item) (expr n) (pattern n) (parameters n) (member n) (object_alone n)
+export_in (suc n) = export_item (stmt n nested_item) (expr n) (pattern n) (parameters n) (member n) (object_alone n) (decorated_in n)
 
 -- an item of a module, in so many levels: an import, an export or a statement
 unfoldable pub module_item : ℕ → Reader Tree

@@ -1,17 +1,33 @@
 -- The part of the language of modules that the parser reads so far.
 use Rattle.std.specs.Prelude.{Bool, true, false, ◌&&◌}
+use Rattle.swc_ecma_parser_common.specs.declared.span.Span.{Span}
 use Rattle.swc_ecma_parser_model.specs.Tree as tree
 use Rattle.swc_ecma_parser_model.specs.Tree.{Tree, Trees, none, also}
-use Rattle.swc_ecma_parser_grammar.specs.Supported.{supported}
+use Rattle.swc_ecma_parser_grammar.specs.Supported.{supported, all_supported}
+use Rattle.swc_ecma_parser_module_reader.specs.Decorated.{none_before}
+
+-- decorators behind the words of an export that begins at a place
+abbrev pub supported_behind : Span → Tree → Bool
+supported_behind s (tree.list ds) = all_supported ds && none_before s.lo ds
+supported_behind s _ = false
+
+-- a class or a function with such decorators
+abbrev pub supported_decorated : Span → Tree → Bool
+supported_decorated s (tree.class t decorators body base) = supported_behind s decorators && supported (tree.class t (tree.list none) body base)
+supported_decorated s (tree.function t decorators params body is_async is_generator) =
+    supported_behind s decorators && supported (tree.function t (tree.list none) params body is_async is_generator)
+supported_decorated s _ = false
 
 -- Imports and exports, with attributes or without, exports of variables, functions and classes, and of expressions, functions and
--- classes by default, and the statements of scripts. No decorators stand before a class or in it.
+-- classes by default, and the statements of scripts. Decorators of a class and of a function stand behind the words of the export.
 abbrev pub supported_item : Tree → Bool
 supported_item (tree.import s specifiers src attributes phase) = supported attributes
+supported_item (tree.export_decl s (tree.class_decl name x)) = supported name && supported_decorated s x
+supported_item (tree.export_decl s (tree.fn_decl name x)) = supported name && supported_decorated s x
 supported_item (tree.export_decl s d) = supported d
 supported_item (tree.export_named s specifiers src attributes) = supported attributes
-supported_item (tree.export_default_decl s (tree.fn_expr t name fn)) = supported name && supported fn
-supported_item (tree.export_default_decl s (tree.class_expr t name body)) = supported name && supported body
+supported_item (tree.export_default_decl s (tree.fn_expr t name x)) = supported name && supported_decorated s x
+supported_item (tree.export_default_decl s (tree.class_expr t name x)) = supported name && supported_decorated s x
 supported_item (tree.export_default_decl s d) = false
 supported_item (tree.export_default_expr s e) = supported e
 supported_item (tree.export_all s src attributes) = supported attributes

@@ -15,6 +15,7 @@ use crate::operator::{
 };
 use swc_ecma_parser_common::Span;
 use swc_ecma_parser_error::PResult;
+use swc_ecma_parser_functions::arrows::{arrow_of_one, only_parameter};
 use swc_ecma_parser_grammar::{Class, Position};
 use swc_ecma_parser_inner::cover::{Cover, Reading, close, done, nested, target};
 use swc_ecma_parser_inner::grammar::{Grammar, Part};
@@ -23,7 +24,7 @@ use swc_ecma_parser_left::left::left_from;
 use swc_ecma_parser_literals::array::array;
 use swc_ecma_parser_literals::object::object;
 use swc_ecma_parser_model::AssignOp;
-use swc_ecma_parser_source::Source;
+use swc_ecma_parser_source::{Source, Wanted};
 use swc_ecma_parser_token::TokenKind;
 use swc_ecma_parser_trees::{
     BuildsCall, BuildsExpr, BuildsMethod, BuildsOperator, BuildsPattern, MakerOf,
@@ -214,5 +215,28 @@ pub fn head_expr<
         return Ok(v);
     }
     let x = close::<P, T>(p, v)?;
+    Ok(done(sequence_from(g, t, p, start, x)?))
+}
+
+/// The same from behind `async` on, before a name on its line: nothing but an arrow function begins so.
+#[tactic(auto, unfolding(swc_ecma_parser_reader::specs::Heads::head_behind_async, swc_ecma_parser_reader::specs::Heads::async_arrow_from, swc_ecma_parser_reader::specs::Heads::sequenced, swc_ecma_parser_reader::specs::Expressions::close))]
+pub fn head_behind_async<
+    P: Source,
+    T: BuildsExpr + BuildsCall + BuildsMethod + BuildsOperator + BuildsPattern,
+    S: Fn(&MakerOf<T>, &mut P, usize, Position) -> PResult<T::Stmt>,
+    E: Fn(&MakerOf<T>, &mut P, usize, Reading) -> PResult<Cover<T::Expr>>,
+    N: Fn(&MakerOf<T>, &mut P, usize, Part) -> PResult<T::Pat>,
+>(g: &Grammar<S, E, N>, t: &MakerOf<T>, p: &mut P, start: Span) -> PResult<Cover<T::Expr>>
+    requires { Nests P.seen T.expr_of T.pat_of T.stmt_of g.now.depth (S.pre g.now.stmt) (S.post g.now.stmt) (E.pre g.now.expr) (E.post g.now.expr) (N.pre g.now.pat) (N.post g.now.pat) }
+    ensures { GivesAs (cover_of T.expr_of) (heads.head_behind_async (rules.expr g.now.depth) (rules.cover g.now.depth) (rules.function g.now.depth) start (P.seen p.old)) result (P.seen p.new) }
+{
+    let param = only_parameter(g, t, p)?;
+    if !p.sees(TokenKind::Arrow) {
+        return Err(p.wanted(Wanted::Expression));
+    }
+    let x = arrow_of_one(g, t, p, true, start, param)?;
+    if !p.sees(TokenKind::Comma) {
+        return Ok(done(x));
+    }
     Ok(done(sequence_from(g, t, p, start, x)?))
 }

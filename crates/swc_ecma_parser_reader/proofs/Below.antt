@@ -3,10 +3,10 @@ use Rattle.std.proofs.Common.{ℕ, List}
 use Rattle.swc_ecma_parser_input.specs.Place.{Place}
 use Rattle.swc_ecma_parser_model.specs.Tree.{Tree}
 use Rattle.swc_ecma_parser_grammar.specs.Names.{Code}
-use Rattle.swc_ecma_parser_grammar.specs.ReadsSupported.{ReadsClass, ReadsPat, ReadsTarget, ReadsParams}
+use Rattle.swc_ecma_parser_grammar.specs.ReadsSupported.{ReadsClass, ReadsPat, ReadsTarget, ReadsParams, ReadsDecorated}
 use Rattle.swc_ecma_parser_grammar.specs.language.Goals.{Class, expression}
 use Rattle.swc_ecma_parser_grammar.specs.language.Reads as language
-use Rattle.swc_ecma_parser_reader.specs.Reader.{expr, cover, head_cover, pattern, element, parameters}
+use Rattle.swc_ecma_parser_reader.specs.Reader.{expr, cover, head_cover, pattern, element, decorated_in, parameters}
 use Rattle.swc_ecma_parser_reader.proofs.Answered.{Reads, ReadsAs}
 use Rattle.swc_ecma_parser_reader.proofs.expressions.CompleteParts.{AsExpr, IsRead}
 use Rattle.swc_ecma_parser_reader.proofs.expressions.Complete.{class_is_read}
@@ -19,6 +19,8 @@ pub record Below (n : ℕ) : Type 0 where
   -- what the head of a loop begins with: each expression is read so, and each target
   pub heads : (k : Code) (x : Tree) (c d : Place) → ReadsClass n expression k x c d → ReadsAs (AsExpr x) (head_cover n) k x c d
   pub targets : (k : Code) (p : Tree) (c d : Place) → ReadsTarget n k p c d → Heads k p d → ReadsAs (AsLeft p) (head_cover n) k p c d
+  -- what stands behind the `@` of a decorator
+  pub decorateds : (k : Code) (x : Tree) (c d : Place) → ReadsDecorated n k x c d → Reads (decorated_in n) k x c d
 
 module _ (n : ℕ) (below : Below n) where
   -- an expression of any class

@@ -8,20 +8,20 @@ use Rattle.swc_ecma_parser_token.specs.declared.token.Word.{Word}
 use Rattle.swc_ecma_parser_grammar.proofs.Tests.{and_yes, and_both, and_no}
 use Rattle.swc_ecma_parser_grammar.proofs.SupportedBegins.{word_begins, name_begins, opens, expr_opens}
 use Rattle.swc_ecma_parser_grammar.specs.Own.{labelled_function, duplicates, misplaced_directive, head_faults}
-use Rattle.swc_ecma_parser_grammar.specs.Reads.{labeled_rule, with_rule, class_rule, function_rule, ReadsFunction, ReadsFunctionExpr, ReadsParts, OwnNameRule, no_own_name_rule, own_name_rule, ReadsBraced, InitRule, LeftRule, PartRule, no_part_rule, part_rule, for_rule, for_in_rule, for_of_rule, with_in, nested_item, ReadsToken, ReadsItems, break_rule, continue_rule, return_rule, StmtRule, block_rule, empty_rule, debugger_rule, variables_rule, if_statement_rule, CaseRule, case_clause_rule, default_clause_rule, ReadsCases, switch_rule, throw_rule, try_rule, while_rule, do_while_rule, expr_rule, import_rule, ReadsBlock, CatchRule, no_catch_rule, catch_rule, catch_parameter_rule, FinallyRule, no_finally_rule, finally_rule, ReadsHead, IfRule, if_rule, no_else_rule, else_rule, else_if_rule, using_rule}
-use Rattle.swc_ecma_parser_grammar.specs.Names.{is_name, name_at, first_is_identifier, identifier_at, Code}
+use Rattle.swc_ecma_parser_grammar.specs.Reads.{labeled_rule, with_rule, class_rule, function_rule, ReadsFunction, ReadsFunctionExpr, ReadsParts, OwnNameRule, no_own_name_rule, own_name_rule, ReadsBraced, InitRule, LeftRule, OfLeftRule, PartRule, no_part_rule, part_rule, for_rule, for_in_rule, for_of_rule, with_in, nested_item, ReadsToken, ReadsItems, break_rule, continue_rule, return_rule, StmtRule, block_rule, empty_rule, debugger_rule, variables_rule, if_statement_rule, CaseRule, case_clause_rule, default_clause_rule, ReadsCases, switch_rule, throw_rule, try_rule, while_rule, do_while_rule, expr_rule, import_rule, ReadsBlock, CatchRule, no_catch_rule, catch_rule, catch_parameter_rule, FinallyRule, no_finally_rule, finally_rule, ReadsHead, IfRule, if_rule, no_else_rule, else_rule, else_if_rule, using_rule}
+use Rattle.swc_ecma_parser_grammar.specs.Names.{is_name, first_is_identifier, identifier_at, Code}
 use Rattle.swc_ecma_parser_grammar.specs.language.Items.{labelled_item, sub_statement}
-use Rattle.swc_ecma_parser_reader.specs.Reader.{begins_label, relabels, labelled_body, labeled_stmt, other_stmt, with_stmt, await_here, misdirected, function_body, function_parts, function_decl, function_stmt, function_word, async_or_other, head_part, misdeclared, for_parts, for_in, for_of, for_behind, for_stmt, const_stmt, let_stmt, getter, setter, plain_method, arrow_block, named, own_name, function_expr, expr, cover, head_cover, pattern, element, member, parameters, function, function_by, closes, block_from, block, braced, expr_stmt_at, import_stmt_at, while_stmt, do_while, goes_on, closed_link, alternative, link_from, link, if_stmt, begins_clause, closes_clause, clause_from, default_clause, case_clause, clause, clauses_turn, clauses, switch_stmt, is_handled, handled, bound, parameter, finalizer, caught, handler, try_stmt, stmt_level, stmt, using_or_other}
+use Rattle.swc_ecma_parser_reader.specs.Reader.{begins_label, relabels, labelled_body, labeled_stmt, other_stmt, with_stmt, await_here, misdirected, function_body, function_parts, function_decl, function_stmt, function_word, async_or_other, head_part, misdeclared, for_parts, for_in, for_of, for_behind, for_stmt, const_stmt, let_stmt, getter, setter, plain_method, arrow_block, named, own_name, function_expr, expr, cover, head_cover, pattern, element, decorated_in, member, parameters, function, function_by, closes, block_from, block, braced, expr_stmt_at, import_stmt_at, while_stmt, do_while, goes_on, closed_link, alternative, link_from, link, if_stmt, begins_clause, closes_clause, clause_from, default_clause, case_clause, clause, clauses_turn, clauses, switch_stmt, is_handled, handled, bound, parameter, finalizer, caught, handler, try_stmt, stmt_level, stmt, using_or_other}
 use Rattle.swc_ecma_parser_grammar.proofs.Marks.{no_word}
 use Rattle.swc_ecma_parser_reader.proofs.Opens.{unopened, let_stands, let_before_colon, opened, no_block_or_import, import_stands, stmt_goes}
 use Rattle.swc_ecma_parser_reader.proofs.expressions.SoundLefts.{word_stands}
-use Rattle.swc_ecma_parser_grammar.specs.Follows.{word_at, is_async_of, AwaitWord, is_bare_async, no_await, await_word, Star, no_star, star as starred, AsyncWord, not_async, async_word, is_async_function}
+use Rattle.swc_ecma_parser_grammar.specs.Follows.{word_at, AwaitWord, no_await, await_word, Star, no_star, star as starred, AsyncWord, not_async, async_word, is_async_function}
 use Rattle.swc_ecma_parser_model.specs.declared.leaves.VarDeclKind.TheVariants as decl
-use Rattle.std.proofs.Common.{◌≡◌, inl, inr, ℕ, zero, suc, Bool, true, false, List, [], ◌∷◌, ◌++◌, length, Ok, refl, sym, ◌∙◌, ap, subst, append_assoc, append-nil, Option, not, is_some, None, Some}
+use Rattle.std.proofs.Common.{◌≡◌, inr, ℕ, zero, suc, Bool, true, false, List, [], ◌∷◌, ◌++◌, length, Ok, refl, sym, ◌∙◌, ap, subst, append_assoc, append-nil, Option, not, is_some, None, Some}
 use Rattle.std.specs.Prelude.{◌&&◌, ◌||◌, codes}
 use Rattle.swc_ecma_parser_common.specs.declared.span.Span.{Span}
 use Rattle.swc_ecma_parser_error.specs.Kind as faults
-use Rattle.swc_ecma_parser_error.specs.Kind.{Kind, Fault}
+use Rattle.swc_ecma_parser_error.specs.Kind.{Fault}
 use Rattle.swc_ecma_parser_token.specs.declared.kind.TokenKind.{TokenKind}
 use Rattle.swc_ecma_parser_token.specs.declared.kind.TokenKind.TheVariants as kind
 use Rattle.swc_ecma_parser_token.specs.declared.token.Token.TheVariants as token
@@ -32,7 +32,7 @@ use Rattle.swc_ecma_parser_model.specs.Forms.{is_absent, is_rest, is_binding_nam
 use Rattle.swc_ecma_parser_grammar.specs.declared.position.Position.{Position}
 use Rattle.swc_ecma_parser_grammar.specs.Looks.{kind_at, sees, same_kind, span_at, spanned}
 use Rattle.swc_ecma_parser_grammar.specs.Ends.{OptionalEnds}
-use Rattle.swc_ecma_parser_grammar.specs.ReadsSupported.{ReadsClass, ReadsPat, ReadsTarget, ReadsStmt, ReadsParams, ReadsMember, ReadsNamedClass}
+use Rattle.swc_ecma_parser_grammar.specs.ReadsSupported.{ReadsClass, ReadsPat, ReadsTarget, ReadsStmt, ReadsParams, ReadsDecorated, ReadsMember, ReadsNamedClass}
 use Rattle.swc_ecma_parser_grammar.specs.language.Contexts.{in_loop, in_breakable, in_with, named_by, in_parameters, in_body, in_arrow}
 use Rattle.swc_ecma_parser_grammar.specs.language.Goals.{Goal, Purpose, binding, expression, assignment, pattern_goal}
 use Rattle.swc_ecma_parser_grammar.specs.Notes.{notes, with_note}
@@ -58,9 +58,11 @@ use Rattle.swc_ecma_parser_reader.proofs.patterns.Complete.{pattern_above, patte
 use Rattle.swc_ecma_parser_reader.proofs.Below.{Below, expr_reads, pattern_reads, parameters_reads}
 use Rattle.swc_ecma_parser_reader.proofs.classes.Shared.{MemberFollows}
 use Rattle.swc_ecma_parser_reader.proofs.classes.CompleteMembers.{member_level_reads}
+use Rattle.swc_ecma_parser_reader.proofs.decorators.Complete.{decorated_reads}
+use Rattle.swc_ecma_parser_reader.proofs.decorators.CompleteStatements.{either_reads}
 use Rattle.swc_ecma_parser_reader.proofs.classes.CompleteClasses.{class_expr_reads, class_decl_reads}
 use Rattle.swc_ecma_parser_reader.specs.Members.{class_stmt}
-use Rattle.swc_ecma_parser_reader.proofs.Falls.{expr_falls, cover_falls, pattern_falls, element_falls, functions_fall}
+use Rattle.swc_ecma_parser_reader.proofs.Falls.{expr_falls, cover_falls, pattern_falls, element_falls, decorated_in_falls, functions_fall}
 use Rattle.swc_ecma_parser_grammar.proofs.FunctionExprs.{function_narrows}
 use Rattle.swc_ecma_parser_grammar.proofs.Arrows.{block_narrows}
 use Rattle.swc_ecma_parser_grammar.proofs.MethodParts.{parts_narrow}
@@ -74,9 +76,10 @@ use Rattle.swc_ecma_parser_grammar.specs.language.Patterns.{PatternRule, Pattern
 use Rattle.swc_ecma_parser_grammar.specs.language.Reads as language
 use Rattle.swc_ecma_parser_reader.proofs.Loops.{stmt_shorter, clauses_done, clauses_more}
 use Rattle.swc_ecma_parser_reader.proofs.Chains.{if_last, if_more}
-use Rattle.swc_ecma_parser_reader.proofs.CompleteParts.{behind_setting, break_reads, calm_first, calm_last, clause_ends, close_reads, closes_at, code_stays, condition_reads, continue_reads, debugger_reads, empty_reads, expect_reads, expr_stmt_reads, head_reads, import_stmt_reads, items_read, name_no_function, name_no_class, no_brace, no_label_here, opening_reads_init, opening_reads_left, optional_end_reads, return_reads, throw_reads, told_reads, variables_reads, note_with_reads, code_behind, using_reads}
+use Rattle.swc_ecma_parser_reader.proofs.CompleteParts.{behind_setting, break_reads, calm_first, calm_last, clause_ends, close_reads, closes_at, code_stays, condition_reads, continue_reads, debugger_reads, empty_reads, expect_reads, expr_stmt_reads, head_reads, import_stmt_reads, items_read, name_no_function, name_no_class, no_brace, no_label_here, optional_end_reads, return_reads, throw_reads, told_reads, variables_reads, note_with_reads, code_behind, using_reads}
 use Rattle.swc_ecma_parser_grammar.proofs.Naming.{name_is_free}
-use Rattle.swc_ecma_parser_grammar.specs.Using.{is_using_declaration}
+use Rattle.swc_ecma_parser_reader.proofs.CompleteFor.{no_arrow, opening_reads_init, opening_reads_in, opening_reads_of}
+use Rattle.swc_ecma_parser_grammar.proofs.ExpressionBegins.{expressions_begin}
 use Rattle.swc_ecma_parser_grammar.proofs.Using.{using_stands, using_no_function}
 use Rattle.swc_ecma_parser_reader.proofs.Using.{no_using_before, no_using_here}
 
@@ -432,7 +435,7 @@ module _ (n : ℕ) (below : Below n) (reads : (at : Position) (k : Code) (x : Tr
       let h1 = h ⊕ notes_of a in
       let h2 = h1 ⊕ notes_of b in
       let h3 = h2 ⊕ notes_of g in
-      let first = opening_reads_init n below k a (after (after c)) l r w f h in
+      let first = opening_reads_init n below k a (after (after c)) l r s w f h in
       rw (
         no_await_here (after c) o,
         expect_reads kind.LParen (after c) k w f h o,
@@ -464,7 +467,7 @@ module _ (n : ℕ) (below : Below n) (reads : (at : Position) (k : Code) (x : Tr
       let f3 = f2 ++ walk env b in
       let h1 = h ⊕ notes_of a in
       let h2 = h1 ⊕ notes_of b in
-      let first = opening_reads_left n below false k a (after (after c)) m r (inl (s, refl)) refl w f h in
+      let first = opening_reads_in n below k a (after (after c)) m r s w f h in
       rw (
         no_await_here (after c) o,
         expect_reads kind.LParen (after c) k w f h o,
@@ -480,11 +483,11 @@ module _ (n : ℕ) (below : Below n) (reads : (at : Position) (k : Code) (x : Tr
       ) (simp (append_assoc, or_assoc) refl)
 
   for_of_reads : (v : Bool) (a b y : Tree) (p m i : Place) (k : Code) (x : Tree) (c d : Place) → AwaitWord v (after c) p → kind_at p ≡ kind.LParen
-      → LeftRule (ReadsClass n) (ReadsPat n) (ReadsTarget n) k a (after p) m → word_at (codes "of") m ≡ true → is_async_of false a m ≡ false → not (v && is_bare_async a) ≡ true
+      → OfLeftRule (ReadsClass n) (ReadsPat n) (ReadsTarget n) k v a (after p) m → word_at (codes "of") m ≡ true
       → ReadsClass n assignment (with_in k) b (after m) i → kind_at i ≡ kind.RParen → ReadsStmt n (in_loop k) sub_statement y (after i) d → x ≡ tree.for_of (spanned c d) v a b y
       → ReadsCalm (for_stmt (stmt n sub_statement) (expr n) (pattern n) (head_cover n)) k x c d
   unfolding for_stmt for_behind for_of misdeclared spanned
-  for_of_reads v a b y p m i k x c d g o r s u n' t z j e w f h q =
+  for_of_reads v a b y p m i k x c d g o r s t z j e w f h q =
       let env = env_of k w.labels in
       let l = head_faults true a in
       let f1 = f ++ walk env a in
@@ -492,11 +495,12 @@ module _ (n : ℕ) (below : Below n) (reads : (at : Position) (k : Code) (x : Tr
       let f3 = f2 ++ walk env b in
       let h1 = h ⊕ notes_of a in
       let h2 = h1 ⊕ notes_of b in
-      let first = opening_reads_left n below v k a (after p) m r (inr (s, u)) n' w f h in
+      let first = opening_reads_of n below v k a (after p) m r s (no_arrow (with_in k).flags (after m) (expressions_begin n assignment (with_in k) b (after m) i t.0)) w f h in
       let begun = await_reads v k (after c) p w f h g o in
       rw (
         begun.1,
         expect_reads kind.LParen p k w f h o,
+        begun.2,
         first.is,
         (of_stands m s).0,
         begun.2,
@@ -640,7 +644,7 @@ module _ (n : ℕ) (below : Below n) (reads : (at : Position) (k : Code) (x : Tr
   by_rules at k x c d (return_rule y m e r g i) w f h q = rw e (return_reads n below y m k x c d r g i w f h q)
   by_rules at k x c d (for_rule a b g y l m i e o r s t u v z j p) w f h q = rw e (for_reads a b g y l m i k x c d o r s t u v z j p w f h q)
   by_rules at k x c d (for_in_rule a b y m i e o r s t z j p) w f h q = rw e (for_in_reads a b y m i k x c d o r s t z j p w f h q)
-  by_rules at k x c d (for_of_rule b a g y l m i e v o r s u n' t z j p) w f h q = rw e (for_of_reads b a g y l m i k x c d v o r s u n' t z j p w f h q)
+  by_rules at k x c d (for_of_rule b a g y l m i e v o r s t z j p) w f h q = rw e (for_of_reads b a g y l m i k x c d v o r s t z j p w f h q)
   by_rules at k x c d (labeled_rule v s y m r o i t e) w f h q =
       let b = name_begins k.flags v s c m r o in
       opened (stmt n) (expr n) (pattern n) (head_cover n) (parameters n) (member n) at (st c k w f h) (kind_at c) (word_begins k.flags v s c m r o) (no_brace v s c m r) b (name_no_const k.flags v s c m r o)
@@ -742,6 +746,15 @@ module _ (n : ℕ) (b : Whole n) where
   unfolding function head_cover
   targets_above k p c d r e w f h = head_target_reads n (expr n) (cover n) b.parts.exprs (function n) functions k p c d r.0 r.1 e w f h
 
+  exprs_above : IsRead (language.Reads (suc n)) (expr (suc n)) (cover (suc n))
+  unfolding function expr cover
+  exprs_above = read_above n (expr n) (cover n) b.parts.exprs (function n) functions (tied_at (suc n)) (parts_at (suc n))
+
+  decorated_above : (k : Code) (x : Tree) (c d : Place) → ReadsDecorated (suc n) k x c d → Reads (decorated_in (suc n)) k x c d
+  unfolding function expr decorated_in
+  decorated_above k x c d r w f h =
+      decorated_reads (language.Reads n) (expr n) (cover n) b.parts.exprs (expr (suc n) expression) (exprs_above.reads expression) k x c d r.0 r.1 w f h
+
 whole : (n : ℕ) → Whole n
 unfolding function expr cover pattern element member stmt
 whole zero = record {
@@ -750,19 +763,21 @@ whole zero = record {
     patterns = pattern_nowhere (pattern zero) (element zero) (pattern_falls zero) (element_falls zero);
     heads = λ k x c d r w f h. absurd r.0;
     targets = λ k p c d r e w f h. absurd r.0;
+    decorateds = λ k x c d r w f h. absurd r.0;
   };
   members = λ k x c d r e w f h. absurd r.0;
   stmts = λ at k x c d r w f h q. absurd r;
 }
 whole (suc n) = let b = whole n in record {
   parts = record {
-    exprs = read_above n (expr n) (cover n) b.parts.exprs (function n) (functions n b) (tied_at (suc n)) (parts_at (suc n));
+    exprs = exprs_above n b;
     patterns = pattern_above n (expr n) (cover n) b.parts.exprs (pattern n) (element n) b.parts.patterns;
     heads = heads_above n b;
     targets = targets_above n b;
+    decorateds = decorated_above n b;
   };
   members = member_level_reads n b.parts (function_body_reads n b.parts b.stmts b.members) (braced_reads n b.parts b.stmts b.members);
-  stmts = λ at k x c d r w f h q. by_rules n b.parts b.stmts b.members at k x c d r w f h q;
+  stmts = λ at. either_reads n (stmt_level (stmt n) (expr n) (pattern n) (head_cover n) (parameters n) (member n)) at (by_rules n b.parts b.stmts b.members at) (decorated_in n) b.parts.decorateds (decorated_in_falls n);
 }
 
 pub parts_read : (n : ℕ) → Below n

@@ -1,19 +1,18 @@
 -- What the grammar allows of the parts of statements is read: ends, declarators, statements one behind another, what is told, and
 -- statements that hold no other.
-use Rattle.swc_ecma_parser_reader.proofs.expressions.Targets.{target_async}
 use Rattle.swc_ecma_parser_token.specs.declared.token.Word.TheVariants as word
 use Rattle.swc_ecma_parser_token.specs.declared.keyword.Keyword.TheVariants as keyword
 use Rattle.swc_ecma_parser_input.specs.declared.context.Context.{Context}
 use Rattle.swc_ecma_parser_token.specs.Text.{word_text}
 use Rattle.swc_ecma_parser_token.specs.declared.keyword.Keyword.{Keyword}
 use Rattle.swc_ecma_parser_token.specs.declared.token.Word.{Word}
-use Rattle.std.proofs.Common.{Err, true≢false, not, ◌≡◌, ◌⊎◌, inl, inr, ℕ, zero, suc, ◌<◌, Bool, true, false, cond, List, [], ◌∷◌, ◌++◌, length, Option, Some, None, Ok, refl, sym, ◌∙◌, ap, append_assoc, append-nil}
+use Rattle.std.proofs.Common.{Err, true≢false, ◌≡◌, ◌⊎◌, inl, inr, ℕ, zero, suc, ◌<◌, Bool, true, false, cond, List, [], ◌∷◌, ◌++◌, length, Option, Some, None, Ok, refl, sym, ◌∙◌, ap, append_assoc, append-nil}
 use Rattle.swc_ecma_parser_reader.proofs.Meets.{saw}
 use Rattle.swc_ecma_parser_reader.specs.Notes.{no_notes, Notes, held, ◌⊕◌, notes_of, all_notes_of}
 use Rattle.swc_ecma_parser_grammar.proofs.Tests.{and_yes}
 use Rattle.swc_ecma_parser_grammar.proofs.Marks.{name_before_colon}
 use Rattle.swc_ecma_parser_grammar.specs.Names.{is_name, is_reserved, name_at, is_clean_name, is_identifier, Code}
-use Rattle.swc_ecma_parser_reader.specs.Reader.{begins_label, note_with, expr, head_cover, pattern, told, target, unbroken, break_stmt, uncontinued, continue_stmt, misplaced, operand, returned, return_stmt, empty, debugger, initialized, declarator, declarators_turn, declarators, variables, Opening, Nothing, Variables, Expression, as_init, as_left, head_variables, head_expression, opening, closes, at_end, close, directs, items_turn, items, note_statement, no_label, expr_stmt, optional_end, import_stmt, thrown, throw, head, condition, begins_clause, closes_clause, shebang_of, shebang_in, shebang, misusing, using_from, using_stmt}
+use Rattle.swc_ecma_parser_reader.specs.Reader.{begins_label, note_with, expr, pattern, told, target, unbroken, break_stmt, uncontinued, continue_stmt, misplaced, operand, returned, return_stmt, empty, debugger, initialized, declarator, declarators_turn, declarators, variables, closes, at_end, close, directs, items_turn, items, note_statement, no_label, expr_stmt, optional_end, import_stmt, thrown, throw, head, condition, begins_clause, closes_clause, shebang_of, shebang_in, shebang, misusing, using_from, using_stmt}
 use Rattle.std.specs.Prelude.{◌&&◌, ◌||◌, codes}
 use Rattle.swc_ecma_parser_common.specs.declared.span.Span.{Span}
 use Rattle.swc_ecma_parser_error.specs.Kind as faults
@@ -33,32 +32,27 @@ use Rattle.swc_ecma_parser_model.specs.Directive.{is_use_strict}
 use Rattle.swc_ecma_parser_model.specs.Forms.{is_ident, is_ident_named, span_of}
 use Rattle.swc_ecma_parser_grammar.specs.Looks.{kind_at, breaks_at, sees, same_kind, spanned}
 use Rattle.swc_ecma_parser_grammar.specs.Ends.{Ends, by_semicolon, by_insertion, OptionalEnds, by_a_semicolon, by_nothing}
-use Rattle.swc_ecma_parser_grammar.specs.Follows.{begins_import_expression, may_begin_head, is_bare_async}
-use Rattle.swc_ecma_parser_grammar.specs.Variables.{begins_variables}
-use Rattle.swc_ecma_parser_grammar.specs.language.Contexts.{without_in}
-use Rattle.swc_ecma_parser_grammar.specs.Reads.{with_in, in_strict, head_code, HeadVariables, InitRule, no_init_rule, init_variables_rule, init_expression_rule, LeftRule, declared_rule, left_target_rule, ReadsToken, DeclaratorRule, plain_rule, initialized_rule, ReadsSeparated, directed, directs_on, ReadsItems, TargetRule, no_target_rule, target_rule, OperandRule, no_operand_rule, operand_rule, ReadsHead}
-use Rattle.swc_ecma_parser_grammar.specs.ReadsSupported.{ReadsClass, ReadsPat, ReadsTarget}
+use Rattle.swc_ecma_parser_grammar.specs.Follows.{begins_import_expression}
+use Rattle.swc_ecma_parser_grammar.specs.Reads.{with_in, in_strict, ReadsToken, DeclaratorRule, plain_rule, initialized_rule, ReadsSeparated, directed, directs_on, ReadsItems, TargetRule, no_target_rule, target_rule, OperandRule, no_operand_rule, operand_rule, ReadsHead}
+use Rattle.swc_ecma_parser_grammar.specs.ReadsSupported.{ReadsClass, ReadsPat}
 use Rattle.swc_ecma_parser_grammar.specs.language.Goals.{Class, expression, assignment}
 use Rattle.swc_ecma_parser_grammar.specs.Entries.{ReadsShebang, some_shebang, no_shebang}
 use Rattle.swc_ecma_parser_grammar.specs.Notes.{notes, statement_note, as_note, with_note}
 use Rattle.swc_ecma_parser_grammar.specs.language.Noted.{has_meta}
 use Rattle.swc_ecma_parser_grammar.specs.Walk as walks_of
-use Rattle.swc_ecma_parser_grammar.specs.Walk.{Env, env_of, walk, walks}
+use Rattle.swc_ecma_parser_grammar.specs.Walk.{env_of, walk, walks}
 use Rattle.swc_ecma_parser_reader.specs.State.{Scope, State, Outcome, Reader, noted, holding_back, fault, labelled, expect, end, fault_at, loop}
-use Rattle.swc_ecma_parser_reader.specs.Expressions.{Cover}
 use Rattle.swc_ecma_parser_reader.proofs.Notes.{or_nil, or_assoc}
-use Rattle.swc_ecma_parser_reader.proofs.Answered.{st, Reads, ReadsCalm, ReadsAs}
+use Rattle.swc_ecma_parser_reader.proofs.Answered.{st, Reads, ReadsCalm}
 use Rattle.swc_ecma_parser_reader.proofs.Errors.{is_error, fault_here}
 use Rattle.swc_ecma_parser_reader.proofs.Between.{nil-split}
 use Rattle.swc_ecma_parser_reader.proofs.expressions.CompleteParts.{name_reads}
 use Rattle.swc_ecma_parser_grammar.specs.Own.{break_faults, continue_faults, return_faults}
 use Rattle.swc_ecma_parser_reader.proofs.expressions.CompleteKinds.{seen, named_here}
 use Rattle.swc_ecma_parser_reader.proofs.Below.{Below, expr_reads, pattern_reads}
-use Rattle.swc_ecma_parser_reader.proofs.expressions.Covers as covers
-use Rattle.swc_ecma_parser_reader.proofs.expressions.CompleteHeads as heads
 use Rattle.swc_ecma_parser_reader.proofs.Loops.{items_stop, items_more, declarators_done, declarators_more}
 use Rattle.swc_ecma_parser_grammar.proofs.SupportedBegins.{expr_opens}
-use Rattle.swc_ecma_parser_reader.proofs.Opens.{import_unnoted, goes_open, head_begins, let_stands}
+use Rattle.swc_ecma_parser_reader.proofs.Opens.{import_unnoted, goes_open}
 use Rattle.swc_ecma_parser_grammar.proofs.Naming.{name_is_free}
 use Rattle.swc_ecma_parser_reader.proofs.CleanStarts.{Starts, expressions_start}
 use Rattle.swc_ecma_parser_grammar.proofs.Ended.{ends_name, ended_awaits}
@@ -224,73 +218,6 @@ pub using_reads : (n : ℕ) (below : Below n) (xs : List Tree) (k : Code) (x : T
     → Reads (using_stmt (declarators (expr n) (pattern n) false decl.Var)) k x c d
 unfolding using_stmt using_from misusing declarators spanned
 using_reads n below xs k x c d r e g w f h = rw (many_declarators n below false decl.Var xs [] (with_in k) (after c) d w f h r, e, g) refl
-
--- ---- what the head of a `for` begins with
-
--- what gives this tree as the first part of three, and what gives it as what takes each value
-abbrev pub AsInit : Tree → Opening → Type 0
-AsInit x o = (s : State) → as_init o s ≡ Ok (x, s)
-
-abbrev pub AsLeftSide : (is_await : Bool) → Tree → Opening → Type 0
-AsLeftSide is_await x o = (s : State) → as_left is_await o s ≡ Ok (x, s)
-
--- `async` alone is none behind `for await`
-unnamed_async : (w a b : Bool) → a ≡ b → not (w && a) ≡ true → (w && b) ≡ false
-unnamed_async true true b e h = cc
-unnamed_async true false b e h = sym e
-unnamed_async false a b e h = refl
-
-module _ (inner_expr : Class → Reader Tree) (inner_pat : Reader Tree) (inner_cover : Reader Cover) where
-  -- the word of a declaration tells that variables are declared
-  opening_declares : (word : VarDeclKind) (s : State) → begins_variables word s.at ≡ true → opening inner_expr inner_pat inner_cover s ≡ head_variables inner_expr inner_pat word s
-  unfolding opening same_kind
-  opening_declares decl.Var s e = rw (saw s.at kind.Var e) refl
-  opening_declares decl.Const s e = rw (saw s.at kind.Const e) refl
-  opening_declares decl.Let s e = rw (let_stands s.at e, e) refl
-
-  opening_starts : (s : State) → may_begin_head s.at ≡ true → opening inner_expr inner_pat inner_cover s ≡ head_expression inner_expr inner_pat inner_cover s
-  unfolding opening
-  opening_starts s e = let b = head_begins s.at e in rw (b.0, b.1, b.2, b.3) refl
-
-module _ (n : ℕ) (below : Below n) where
-  declared_reads : (word : VarDeclKind) (xs : List Tree) (k : Code) (x : Tree) (c d : Place) (w : Scope) (f : List Fault) (h : Notes)
-      → ReadsSeparated (DeclaratorRule (ReadsClass n assignment) (ReadsPat n) (head_code word k) true word) xs (after c) d → x ≡ tree.var (spanned c d) word (listed xs)
-      → head_variables (expr n) (pattern n) word (st c k w f h) ≡ Ok (Variables x, st d k w (f ++ walk (env_of k w.labels) x) (h ⊕ notes_of x))
-  unfolding head_variables declarators spanned
-  declared_reads decl.Var xs k x c d w f h r e = rw (many_declarators n below true decl.Var xs [] (without_in k) (after c) d w f h r, e) refl
-  declared_reads decl.Const xs k x c d w f h r e = rw (many_declarators n below true decl.Const xs [] (with_in k) (after c) d w f h r, e) refl
-  declared_reads decl.Let xs k x c d w f h r e = rw (many_declarators n below true decl.Let xs [] (with_in k) (after c) d w f h r, e) refl
-
-  head_variables_read : (k : Code) (x : Tree) (c d : Place) (w : Scope) (f : List Fault) (h : Notes) → HeadVariables (ReadsClass n) (ReadsPat n) k x c d
-      → opening (expr n) (pattern n) (head_cover n) (st c k w f h) ≡ Ok (Variables x, st d k w (f ++ walk (env_of k w.labels) x) (h ⊕ notes_of x))
-  head_variables_read k x c d w f h r =
-      opening_declares (expr n) (pattern n) (head_cover n) r.word (st c k w f h) r.begins ∙ declared_reads r.word r.declarators k x c d w f h r.reads r.is
-
-  pub opening_reads_init : (k : Code) (x : Tree) (c d : Place) → InitRule (ReadsClass n) (ReadsPat n) k x c d → ReadsAs (AsInit x) (opening (expr n) (pattern n) (head_cover n)) k x c d
-  unfolding opening head_expression
-  opening_reads_init k x c d (no_init_rule a b e) w f h =
-      record { value = Nothing; holds = λ s. rw e refl; is = rw (seen c kind.Semi a, e, b, append-nil f, append-nil h.held_back, or_nil h.found_module_item) refl }
-  opening_reads_init k x c d (init_variables_rule r) w f h = record { value = Variables x; holds = λ s. refl; is = head_variables_read k x c d w f h r }
-  opening_reads_init k x c d (init_expression_rule a r) w f h =
-      let g = below.heads (without_in k) x c d r w f h in
-      record {
-        value = Expression g.value;
-        holds = λ s. covers.close_reads g.value s g.holds.1 ∙ rw g.holds.0 refl;
-        is = opening_starts (expr n) (pattern n) (head_cover n) (st c k w f h) a ∙ rw g.is refl;
-      }
-
-  -- behind it `in` stands, or `of`
-  pub opening_reads_left : (is_await : Bool) (k : Code) (x : Tree) (c d : Place) → LeftRule (ReadsClass n) (ReadsPat n) (ReadsTarget n) k x c d → heads.Heads (without_in k) x d
-      → not (is_await && is_bare_async x) ≡ true → ReadsAs (AsLeftSide is_await x) (opening (expr n) (pattern n) (head_cover n)) k x c d
-  unfolding head_expression
-  opening_reads_left b k x c d (declared_rule r) e o w f h = record { value = Variables x; holds = λ s. refl; is = head_variables_read k x c d w f h r }
-  opening_reads_left b k x c d (left_target_rule a r) e o w f h =
-      let g = below.targets (without_in k) x c d r e w f h in
-      record {
-        value = Expression g.value;
-        holds = λ s. rw (unnamed_async b _ _ (target_async g.value.x x g.holds.0) o) (covers.target_reads g.value s x g.holds.1 g.holds.0);
-        is = opening_starts (expr n) (pattern n) (head_cover n) (st c k w f h) a ∙ rw g.is refl;
-      }
 
 -- ---- statements one behind another
 

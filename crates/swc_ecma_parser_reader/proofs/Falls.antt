@@ -6,9 +6,11 @@ use Rattle.swc_ecma_parser_reader.proofs.Errors.{is_error, fault_here}
 use Rattle.swc_ecma_parser_reader.proofs.patterns.Falls as patterns
 use Rattle.swc_ecma_parser_reader.specs.Members.{class_expr}
 use Rattle.swc_ecma_parser_reader.proofs.classes.Falls as classes
+use Rattle.swc_ecma_parser_reader.proofs.decorators.Falls.{decorated_falls}
+use Rattle.swc_ecma_parser_reader.proofs.decorators.Taking.{either_falls}
 use Rattle.swc_ecma_parser_reader.specs.State.{Scope, and_then, below, relabelled, below_label, enclosed, unlabelled, fault_at, noted, module_found, reference, State, Outcome, Reader, moved, coded, within, fault, labelled, labelled_as, name, expect, end}
 use Rattle.swc_ecma_parser_grammar.specs.language.Items.{labelled_item, sub_statement}
-use Rattle.swc_ecma_parser_reader.specs.Reader.{begins_label, relabels, labelled_body, labeled_stmt, other_stmt, note_with, with_stmt, await_here, unless_awaited, function_body, function_decl, function_parts, function_stmt, misdirected, function_word, async_or_other, missing_initializer, Opening, Nothing, Variables, Expression, as_init, as_left, head_variables, head_expression, opening, head_part, misdeclared, for_parts, for_in, for_of, for_behind, for_stmt, const_stmt, let_stmt, no_parameter, one_parameter, getter, setter, plain_method, arrow_block, function_by, named, own_name, function_expr, expr, cover, head_cover, pattern, element, member, function, empty, debugger, uninitialized, initialized, declarator, declarators_turn, declarators, variables, closes, at_end, close, items_turn, items, block_from, block, braced, note_statement, no_label, expr_stmt, expr_stmt_at, told, target, unbroken, break_stmt, uncontinued, continue_stmt, misplaced, after_return, operand, returned, return_stmt, optional_end, import_stmt, import_stmt_at, thrown, throw, head, while_stmt, do_while, Link, goes_on, condition, alternative, link_from, link, behind_link, links, if_stmt, begins_clause, closes_clause, Clauses, clause_from, default_clause, case_clause, clause, clauses_turn, clauses, switch_stmt, is_handled, handled, bound, parameter, finalizer, caught, handler, try_stmt, stmt_by, stmt_level, stmt, top_await_fault, top_await, whole_stmt, shebang_in, shebang_taken, shebang, script_body, script, misusing, using_from, using_stmt, using_or_other}
+use Rattle.swc_ecma_parser_reader.specs.Reader.{begins_label, relabels, labelled_body, labeled_stmt, other_stmt, note_with, with_stmt, await_here, unless_awaited, function_body, function_decl, function_parts, function_stmt, misdirected, function_word, async_or_other, missing_initializer, Opening, Nothing, Variables, Expression, as_init, as_left, head_variables, head_expression, opening, head_part, misdeclared, for_parts, for_in, for_of, for_behind, for_stmt, const_stmt, let_stmt, no_parameter, one_parameter, getter, setter, plain_method, arrow_block, function_by, named, own_name, function_expr, expr, cover, head_cover, pattern, element, decorated_in, member, function, empty, debugger, uninitialized, initialized, declarator, declarators_turn, declarators, variables, closes, at_end, close, items_turn, items, block_from, block, braced, note_statement, no_label, expr_stmt, expr_stmt_at, told, target, unbroken, break_stmt, uncontinued, continue_stmt, misplaced, after_return, operand, returned, return_stmt, optional_end, import_stmt, import_stmt_at, thrown, throw, head, while_stmt, do_while, Link, goes_on, condition, alternative, link_from, link, behind_link, links, if_stmt, begins_clause, closes_clause, Clauses, clause_from, default_clause, case_clause, clause, clauses_turn, clauses, switch_stmt, is_handled, handled, bound, parameter, finalizer, caught, handler, try_stmt, stmt_by, stmt_level, stmt, top_await_fault, top_await, whole_stmt, shebang_in, shebang_taken, shebang, script_body, script, misusing, using_from, using_stmt, using_or_other, Resource, Named, undeclared, using_head, named_head, async_head, unfollowed, async_or_expression, head_target}
 use Rattle.swc_ecma_parser_grammar.specs.language.Contexts.{without_in, named_by, in_body, in_arrow, in_parameters, in_loop, in_breakable, in_with}
 use Rattle.swc_ecma_parser_grammar.specs.Variables.{is_const, needs_no_initializer}
 use Rattle.swc_ecma_parser_model.specs.declared.leaves.VarDeclKind.{VarDeclKind}
@@ -17,7 +19,6 @@ use Rattle.std.proofs.Common.{◌≡◌, ◌≢◌, ℕ, zero, suc, ◌+◌, ◌
 use Rattle.std.specs.Prelude.{◌&&◌, ◌||◌, is_some, codes}
 use Rattle.swc_ecma_parser_common.specs.declared.span.Span.{Span}
 use Rattle.swc_ecma_parser_error.specs.Kind as faults
-use Rattle.swc_ecma_parser_error.specs.Kind.{Kind, fault_of}
 use Rattle.swc_ecma_parser_token.specs.declared.kind.TokenKind.{TokenKind}
 use Rattle.swc_ecma_parser_token.specs.declared.kind.TokenKind.TheVariants as kind
 use Rattle.swc_ecma_parser_input.specs.Place.{Place, after}
@@ -26,7 +27,7 @@ use Rattle.swc_ecma_parser_model.specs.Tree.{Tree, Text}
 use Rattle.swc_ecma_parser_model.specs.Forms.{is_ident, is_ident_named, is_binding_name, is_rest}
 use Rattle.swc_ecma_parser_grammar.specs.declared.position.Position.{Position}
 use Rattle.swc_ecma_parser_grammar.specs.Looks.{kind_at, breaks_at, sees, same_kind, span_at}
-use Rattle.swc_ecma_parser_grammar.specs.Follows.{word_at, may_begin_expression_statement, begins_import_expression, is_let_declaration, is_async_function}
+use Rattle.swc_ecma_parser_grammar.specs.Follows.{word_at, may_begin_expression_statement, begins_import_expression, is_let_declaration, is_async_function, begins_async_of}
 use Rattle.swc_ecma_parser_grammar.specs.Reads.{with_in, head_code, nested_item, top_item}
 use Rattle.swc_ecma_parser_grammar.specs.Ends.{ends_at}
 use Rattle.swc_ecma_parser_grammar.specs.Entries.{script_code}
@@ -35,22 +36,12 @@ use Rattle.swc_ecma_parser_reader.specs.Expressions.{Cover}
 use Rattle.swc_ecma_parser_reader.specs.Reader as reader
 use Rattle.swc_ecma_parser_reader.specs.Methods.{MethodForm, getter_form, setter_form, method_form, property_form, star}
 use Rattle.swc_ecma_parser_grammar.specs.Names.{name_at}
-use Rattle.swc_ecma_parser_reader.proofs.Takes.{Falls, falls_then, falls_last, falls_coded, falls_found, falls_if, less, falls_next, moves, takes, falls_past, falls_moved, wanted_falls, too_deep_falls, refuse_falls, refused_falls, fewer, name_falls, fault_falls, end_falls, close_falls, expect_falls, loop_falls, reference_falls}
+use Rattle.swc_ecma_parser_reader.proofs.Takes.{Falls, falls_where, falls_choice, labelled_falls, falls_then, falls_last, falls_coded, falls_found, falls_if, less, falls_next, moves, takes, falls_past, falls_moved, wanted_falls, too_deep_falls, refuse_falls, refused_falls, fewer, name_falls, fault_falls, end_falls, close_falls, expect_falls, loop_falls, reference_falls}
 use Rattle.swc_ecma_parser_reader.proofs.expressions.Falls as exprs
 use Rattle.swc_ecma_parser_reader.proofs.expressions.Falls.{reject_falls, falls_when, expect_takes, star_falls, told_falls, FunctionsFall}
-use Rattle.swc_ecma_parser_grammar.specs.Using.{is_using_declaration}
+use Rattle.swc_ecma_parser_grammar.specs.Using.{is_using_declaration, may_declare_using, stands_in_head}
 use Rattle.swc_ecma_parser_grammar.proofs.Using.{using_stands}
 use Rattle.swc_ecma_parser_grammar.proofs.Tests.{and_yes}
-
--- a choice whose test is known
-falls_where : {A : Type 0} (k n : ℕ) (b : Bool) (x y : Outcome A) → (b ≡ true → Falls k n x) → Falls k n y → Falls k n (cond b x y)
-falls_where k n true x y h g = h refl
-falls_where k n false x y h g = g
-
--- and one between readers
-falls_choice : {A : Type 0} (k n : ℕ) (b : Bool) (p q : Reader A) (s : State) → Falls k n (p s) → Falls k n (q s) → Falls k n (cond b p q s)
-falls_choice k n true p q s h g = h
-falls_choice k n false p q s h g = g
 
 -- a clause begins with a token
 clause_stands : (c : Place) → begins_clause c ≡ true → kind_at c ≢ kind.End
@@ -191,11 +182,6 @@ module _ (inner : Reader Tree) (h : (s : State) → Falls 1 (length s.at.left) (
 
 -- ---- `throw`, loops and `if`
 
--- a refusal said otherwise
-labelled_falls : {A : Type 0} (j n : ℕ) (o : Outcome A) → Falls j n o → Falls j n (labelled_as o)
-labelled_falls j n (Ok p) h = h
-labelled_falls j n (Err e) h = falls_if j n (is_some e.1.scope.mark) _ _ tt tt
-
 module _ (inner : Reader Tree) (h : (s : State) → Falls 1 (length s.at.left) (inner s)) where
   thrown_falls : (start : Place) (s : State) → Falls 0 (length s.at.left) (thrown inner start s)
   unfolding thrown
@@ -273,16 +259,23 @@ module _ (inner : Reader Tree) (h : (s : State) → Falls 1 (length s.at.left) (
 
 -- ---- `for`
 
+unfollowed_falls : (s : State) → Falls 0 (length s.at.left) (unfollowed s)
+unfolding unfollowed
+unfollowed_falls s = falls_then 0 0 (length s.at.left) (expect kind.Semi s) _ (expect_falls kind.Semi s) (λ _ t. wanted_falls Tree 0 (length t.at.left) faults.Unexpected t)
+
 as_init_falls : (first : Opening) (s : State) → Falls 0 (length s.at.left) (as_init first s)
 as_init_falls Nothing s = omega arith
 as_init_falls (Variables x) s = omega arith
+as_init_falls (Resource x) s = unfollowed_falls s
+as_init_falls (Named p) s = unfollowed_falls s
 as_init_falls (Expression v) s = exprs.close_falls v s
 
-as_left_falls : (is_await : Bool) (first : Opening) (s : State) → Falls 0 (length s.at.left) (as_left is_await first s)
-as_left_falls is_await Nothing s = wanted_falls Tree 0 (length s.at.left) faults.Unexpected s
-as_left_falls is_await (Variables x) s = omega arith
-as_left_falls is_await (Expression v) s =
-    falls_if 0 (length s.at.left) (is_await && is_ident_named (codes "async") v.x) _ _ (wanted_falls Tree 0 (length s.at.left) faults.Unexpected s) (exprs.target_falls v s)
+as_left_falls : (first : Opening) (s : State) → Falls 0 (length s.at.left) (as_left first s)
+as_left_falls Nothing s = wanted_falls Tree 0 (length s.at.left) faults.Unexpected s
+as_left_falls (Variables x) s = omega arith
+as_left_falls (Resource x) s = omega arith
+as_left_falls (Named p) s = omega arith
+as_left_falls (Expression v) s = exprs.target_falls v s
 
 await_here_falls : (s : State) → Falls 0 (length s.at.left) (await_here s)
 unfolding await_here
@@ -311,12 +304,32 @@ module _ (inner : Reader Tree) (h : (s : State) → Falls 1 (length s.at.left) (
       (falls_coded 0 (length s.at.left) (inner_cover (coded (without_in s.code) s)) _ _
       (less (length s.at.left) (inner_cover (coded (without_in s.code) s)) (j (coded (without_in s.code) s))))
 
-  opening_falls : (s : State) → Falls 0 (length s.at.left) (opening inner_expr inner_pat inner_cover s)
+  using_head_falls : (start : Span) (s : State) → Falls 0 (length s.at.left) (using_head inner_expr inner_pat start s)
+  unfolding using_head undeclared
+  using_head_falls start s = falls_then 0 0 (length s.at.left) (inner_pat s) _ (less (length s.at.left) (inner_pat s) (i s)) (λ name t.
+      falls_last 0 (length t.at.left) (undeclared (record { lo = start.lo; hi = t.at.last.hi }) t) _ (told_falls _ t))
+
+  named_head_falls : (s : State) → Falls 0 (length s.at.left) (named_head inner_expr inner_pat s)
+  unfolding named_head
+  named_head_falls s = falls_then 0 0 (length s.at.left) (inner_pat s) _ (less (length s.at.left) (inner_pat s) (i s)) (λ p t.
+      falls_if 0 (length t.at.left) (stands_in_head (after t.at)) _ _ (using_head_falls (span_at s.at) t) (omega arith))
+
+  async_head_falls : (s : State) → Falls 0 (length s.at.left) (async_head inner_expr inner_pat s)
+  unfolding async_head
+  async_head_falls s = falls_last 0 (length s.at.left) (within without_in inner_pat s) _
+      (falls_coded 0 (length s.at.left) (inner_pat (coded (without_in s.code) s)) _ _ (less (length s.at.left) (inner_pat (coded (without_in s.code) s)) (i (coded (without_in s.code) s))))
+
+  head_target_falls : (w : Bool) (s : State) → Falls 0 (length s.at.left) (head_target inner_expr inner_pat inner_cover w s)
+  unfolding head_target async_or_expression
+  head_target_falls w s = falls_if 0 (length s.at.left) w _ _ (falls_if 0 (length s.at.left) (begins_async_of s.at) _ _ (async_head_falls s) (head_expression_falls s)) (head_expression_falls s)
+
+  opening_falls : (w : Bool) (s : State) → Falls 0 (length s.at.left) (opening inner_expr inner_pat inner_cover w s)
   unfolding opening
-  opening_falls s = falls_if 0 (length s.at.left) (sees kind.Semi s.at) _ _ (omega arith)
+  opening_falls w s = falls_if 0 (length s.at.left) (sees kind.Semi s.at) _ _ (omega arith)
       (falls_if 0 (length s.at.left) (sees kind.Var s.at) _ _ (head_variables_falls decl.Var s)
       (falls_if 0 (length s.at.left) (sees kind.Const s.at) _ _ (head_variables_falls decl.Const s)
-      (falls_if 0 (length s.at.left) (is_let_declaration s.at) _ _ (head_variables_falls decl.Let s) (head_expression_falls s))))
+      (falls_if 0 (length s.at.left) (is_let_declaration s.at) _ _ (head_variables_falls decl.Let s)
+      (falls_if 0 (length s.at.left) (may_declare_using s.code s.at) _ _ (named_head_falls s) (head_target_falls w s)))))
 
   head_part_falls : (behind : TokenKind) (s : State) → Falls 0 (length s.at.left) (head_part behind (inner_expr expression) s)
   unfolding head_part
@@ -343,13 +356,13 @@ module _ (inner : Reader Tree) (h : (s : State) → Falls 1 (length s.at.left) (
 
   for_in_falls : (start : Span) (first : Opening) (s : State) → Falls 0 (length s.at.left) (for_in inner inner_expr start first s)
   unfolding for_in
-  for_in_falls start first s = falls_then 0 0 (length s.at.left) (as_left false first s) _ (as_left_falls false first s) (λ left a.
+  for_in_falls start first s = falls_then 0 0 (length s.at.left) (as_left first s) _ (as_left_falls first s) (λ left a.
       falls_then 0 0 (length a.at.left) (misdeclared a.code.flags.strict left a) _ (misdeclared_falls a.code.flags.strict left a) (λ _ b.
       falls_moved 0 b _ (for_right_falls expression (moved b) _)))
 
   for_of_falls : (is_await : Bool) (start : Span) (first : Opening) (s : State) → Falls 0 (length s.at.left) (for_of inner inner_expr is_await start first s)
   unfolding for_of
-  for_of_falls is_await start first s = falls_then 0 0 (length s.at.left) (as_left is_await first s) _ (as_left_falls is_await first s) (λ left a.
+  for_of_falls is_await start first s = falls_then 0 0 (length s.at.left) (as_left first s) _ (as_left_falls first s) (λ left a.
       falls_then 0 0 (length a.at.left) (misdeclared true left a) _ (misdeclared_falls true left a) (λ _ b.
       falls_moved 0 b _ (for_right_falls assignment (moved b) _)))
 
@@ -364,7 +377,7 @@ module _ (inner : Reader Tree) (h : (s : State) → Falls 1 (length s.at.left) (
   unfolding for_stmt
   for_falls s e = falls_past s _ e (falls_then 0 0 (length (after s.at).left) (await_here (moved s)) _ (await_here_falls (moved s)) (λ word c.
       falls_then 0 0 (length c.at.left) (expect kind.LParen c) _ (expect_falls kind.LParen c) (λ _ a.
-      falls_then 0 0 (length a.at.left) (opening inner_expr inner_pat inner_cover a) _ (opening_falls a) (λ first b. for_behind_falls (span_at s.at) word first b))))
+      falls_then 0 0 (length a.at.left) (opening inner_expr inner_pat inner_cover (is_some word) a) _ (opening_falls (is_some word) a) (λ first b. for_behind_falls (span_at s.at) word first b))))
 
 -- ---- `break`, `continue` and `return`
 
@@ -648,7 +661,7 @@ module _ (inner : Position → Reader Tree) (h : (at : Position) (s : State) →
   stmt_by_falls at kind.Export s e = import_stmt_at_falls (inner_expr expression) (g expression) s
   stmt_by_falls at _ s e = other_falls inner h (inner_expr expression) (g expression) at s
 
-  stmt_level_falls : (at : Position) (s : State) → Falls 1 (length s.at.left) (stmt_level inner inner_expr inner_pat inner_cover inner_params inner_member at s)
+  pub stmt_level_falls : (at : Position) (s : State) → Falls 1 (length s.at.left) (stmt_level inner inner_expr inner_pat inner_cover inner_params inner_member at s)
   unfolding stmt_level
   stmt_level_falls at s = stmt_by_falls at (kind_at s.at) s refl
 
@@ -671,6 +684,7 @@ record Taken (n : ℕ) : Type 0 where
   heads : (s : State) → Falls 1 (length s.at.left) (head_cover n s)
   patterns : (s : State) → Falls 1 (length s.at.left) (pattern n s)
   elements : (s : State) → Falls 1 (length s.at.left) (element n s)
+  decorateds : (s : State) → Falls 1 (length s.at.left) (decorated_in n s)
   members : (s : State) → Falls 1 (length s.at.left) (member n s)
   stmts : (at : Position) (s : State) → Falls 1 (length s.at.left) (stmt n at s)
 
@@ -689,26 +703,34 @@ module _ (n : ℕ) (b : Taken n) where
     blocks = arrow_block_falls (stmt n nested_item) (b.stmts nested_item) (reader.parameters n) parameters_taken;
   }
 
+  exprs_taken : (class : Class) (s : State) → Falls 1 (length s.at.left) (expr (suc n) class s)
+  unfolding function expr
+  exprs_taken = exprs.level_falls (expr n) (cover n) b.exprs b.covers (function n) function_taken
+
 all_taken : (n : ℕ) → Taken n
-unfolding function expr cover head_cover pattern element member stmt
+unfolding function expr cover head_cover pattern element decorated_in member stmt
 all_taken zero = record {
   exprs = λ class s. too_deep_falls Tree 1 (length s.at.left) s;
   covers = λ s. too_deep_falls Cover 1 (length s.at.left) s;
   heads = λ s. too_deep_falls Cover 1 (length s.at.left) s;
   patterns = λ s. too_deep_falls Tree 1 (length s.at.left) s;
   elements = λ s. too_deep_falls Tree 1 (length s.at.left) s;
+  decorateds = λ s. too_deep_falls Tree 1 (length s.at.left) s;
   members = λ s. too_deep_falls Tree 1 (length s.at.left) s;
   stmts = λ at s. too_deep_falls Tree 1 (length s.at.left) s;
 }
 all_taken (suc n) = let b = all_taken n in record {
-  exprs = exprs.level_falls (expr n) (cover n) b.exprs b.covers (function n) (function_taken n b);
+  exprs = exprs_taken n b;
   covers = exprs.cover_expr_falls (expr n) (cover n) b.exprs b.covers (function n) (function_taken n b);
   heads = exprs.head_expr_falls (expr n) (cover n) b.exprs b.covers (function n) (function_taken n b);
   patterns = patterns.pattern_level_falls (expr n) b.exprs (cover n) b.covers (pattern n) b.patterns (element n) b.elements;
   elements = patterns.element_level_falls (expr n) b.exprs (cover n) b.covers (pattern n) b.patterns (element n) b.elements;
+  decorateds = decorated_falls (expr n) b.exprs (cover n) b.covers (expr (suc n) expression) (exprs_taken n b expression);
   members = classes.member_level_falls (expr n) b.exprs (cover n) b.covers (stmt n nested_item) (reader.parameters n) (parameters_taken n b)
-      (function_body_falls (stmt n nested_item) (b.stmts nested_item) (reader.parameters n) (parameters_taken n b)) (braced_takes (stmt n nested_item) (b.stmts nested_item) false);
-  stmts = stmt_level_falls (stmt n) b.stmts (expr n) b.exprs (pattern n) b.patterns (head_cover n) b.heads (reader.parameters n) (parameters_taken n b) (member n) b.members;
+      (function_body_falls (stmt n nested_item) (b.stmts nested_item) (reader.parameters n) (parameters_taken n b)) (braced_takes (stmt n nested_item) (b.stmts nested_item) false)
+      (decorated_in n) b.decorateds;
+  stmts = λ at. either_falls (stmt_level (stmt n) (expr n) (pattern n) (head_cover n) (reader.parameters n) (member n)) at
+      (stmt_level_falls (stmt n) b.stmts (expr n) b.exprs (pattern n) b.patterns (head_cover n) b.heads (reader.parameters n) (parameters_taken n b) (member n) b.members at) (decorated_in n) b.decorateds;
 }
 
 -- an expression of any class takes a token, and so does what may still become a pattern
@@ -735,6 +757,10 @@ parameters_fall n = parameters_taken n (all_taken n)
 
 pub functions_fall : (n : ℕ) → FunctionsFall (function n)
 functions_fall n = function_taken n (all_taken n)
+
+-- what stands behind the `@` of a decorator
+pub decorated_in_falls : (n : ℕ) (s : State) → Falls 1 (length s.at.left) (decorated_in n s)
+decorated_in_falls n = (all_taken n).decorateds
 
 -- a member of a class
 pub member_falls : (n : ℕ) (s : State) → Falls 1 (length s.at.left) (member n s)

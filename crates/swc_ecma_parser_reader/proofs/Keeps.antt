@@ -6,13 +6,15 @@ use Rattle.swc_ecma_parser_reader.proofs.expressions.Keeps as expressions
 use Rattle.swc_ecma_parser_reader.specs.Reader as reader
 use Rattle.swc_ecma_parser_reader.proofs.expressions.Keeps.{star_keeps, told_keeps}
 use Rattle.swc_ecma_parser_reader.specs.Methods.{FunctionForm, expression_form, class_form, property_form, getter_form, setter_form, method_form, parameter_form, block_form, star}
-use Rattle.swc_ecma_parser_reader.specs.Reader.{no_parameter, one_parameter, getter, setter, plain_method, arrow_block, function_by, named, own_name, function_expr, expr, cover, head_cover, pattern, element, member, function, function_word, async_or_other, begins_label, relabels, labelled_body, labeled_stmt, other_stmt, note_with, with_stmt, await_here, unless_awaited, function_decl, function_stmt, function_parts, function_body, misdirected, missing_initializer, variables, Opening, Nothing, Variables, Expression, as_init, as_left, head_variables, head_expression, opening, head_part, misdeclared, for_parts, for_in, for_of, for_behind, for_stmt, const_stmt, let_stmt, empty, debugger, initialized, declarator, declarators_turn, declarators, closes, at_end, close, items_turn, items, block_from, block, braced, note_statement, no_label, expr_stmt, expr_stmt_at, optional_end, import_stmt, import_stmt_at, told, target, unbroken, break_stmt, uncontinued, continue_stmt, misplaced, after_return, operand, returned, return_stmt, thrown, throw, head, while_stmt, do_while, goes_on, condition, alternative, link_from, link, links, if_stmt, begins_clause, closes_clause, clause_from, default_clause, case_clause, clause, clauses_turn, clauses, switch_stmt, begins_at, is_handled, handled, bound, parameter, finalizer, caught, handler, try_stmt, stmt_by, stmt_level, stmt, top_await_fault, top_await, whole_stmt, shebang, script_body, script, misusing, using_from, using_stmt, using_or_other}
+use Rattle.swc_ecma_parser_reader.specs.Reader.{no_parameter, one_parameter, getter, setter, plain_method, arrow_block, function_by, named, own_name, function_expr, expr, cover, head_cover, pattern, element, decorated_in, member, function, function_word, async_or_other, begins_label, relabels, labelled_body, labeled_stmt, other_stmt, note_with, with_stmt, await_here, unless_awaited, function_decl, function_stmt, function_parts, function_body, misdirected, missing_initializer, variables, Opening, Nothing, Variables, Expression, as_init, as_left, head_variables, head_expression, opening, head_part, misdeclared, for_parts, for_in, for_of, for_behind, for_stmt, const_stmt, let_stmt, empty, debugger, initialized, declarator, declarators_turn, declarators, closes, at_end, close, items_turn, items, block_from, block, braced, note_statement, no_label, expr_stmt, expr_stmt_at, optional_end, import_stmt, import_stmt_at, told, target, unbroken, break_stmt, uncontinued, continue_stmt, misplaced, after_return, operand, returned, return_stmt, thrown, throw, head, while_stmt, do_while, goes_on, condition, alternative, link_from, link, links, if_stmt, begins_clause, closes_clause, clause_from, default_clause, case_clause, clause, clauses_turn, clauses, switch_stmt, begins_at, is_handled, handled, bound, parameter, finalizer, caught, handler, try_stmt, stmt_by, stmt_level, stmt, top_await_fault, top_await, whole_stmt, shebang, script_body, script, misusing, using_from, using_stmt, using_or_other, Resource, Named, undeclared, using_head, named_head, async_head, unfollowed, async_or_expression, head_target}
 use Rattle.swc_ecma_parser_grammar.specs.Names.{name_at}
 use Rattle.swc_ecma_parser_error.specs.declared.error.Error.{Error}
 use Rattle.swc_ecma_parser_grammar.specs.language.Programs.{at_top}
 use Rattle.swc_ecma_parser_model.specs.Tree.{Text, Tree}
 use Rattle.swc_ecma_parser_reader.specs.Members.{class_expr}
 use Rattle.swc_ecma_parser_reader.proofs.classes.Keeps as classes
+use Rattle.swc_ecma_parser_reader.proofs.decorators.Keeps.{decorated_keeps}
+use Rattle.swc_ecma_parser_reader.proofs.decorators.Taking.{either_keeps}
 use Rattle.swc_ecma_parser_reader.specs.State.{below, below_label, enclosed, unlabelled, module_found, reference, State, Outcome, Reader, moved, coded, within, noted, holding_back, module_fault, fault, fault_at, wanted, refused, labelled, labelled_as, name, expect, end}
 use Rattle.swc_ecma_parser_grammar.specs.language.Items.{labelled_item, sub_statement}
 use Rattle.swc_ecma_parser_reader.specs.Expressions as exprs
@@ -22,7 +24,7 @@ use Rattle.swc_ecma_parser_model.specs.Targets.{as_target}
 use Rattle.swc_ecma_parser_grammar.specs.Variables.{is_const, needs_no_initializer}
 use Rattle.swc_ecma_parser_grammar.specs.Own.{head_faults, misplaced_directive}
 use Rattle.swc_ecma_parser_grammar.specs.language.Contexts.{without_in, named_by, in_parameters, in_body, in_arrow, in_loop, in_breakable, in_with}
-use Rattle.swc_ecma_parser_grammar.specs.Follows.{word_at, is_let_declaration, is_async_function, may_begin_expression_statement, begins_import_expression}
+use Rattle.swc_ecma_parser_grammar.specs.Follows.{word_at, is_let_declaration, is_async_function, may_begin_expression_statement, begins_import_expression, begins_async_of}
 use Rattle.std.proofs.Common.{◌≡◌, ℕ, zero, suc, Bool, true, false, cond, List, [], ◌∷◌, ◌++◌, length, Option, Some, None, Ok, Err, refl, Result, sym, ◌∙◌, ap, append_assoc}
 use Rattle.std.specs.Prelude.{◌&&◌, ◌||◌, is_some, codes}
 use Rattle.swc_ecma_parser_common.specs.declared.span.Span.{Span}
@@ -44,7 +46,7 @@ use Rattle.swc_ecma_parser_reader.proofs.Meets.{Answers, answers_then, answers_i
 use Rattle.swc_ecma_parser_reader.proofs.Behind.{NothingLost, Kept, Lost, Passes, Follows, follows, behind_self, behind_after, behind_noted, behind_held, refused_keeps, too_deep_keeps, fault_keeps, wanted_keeps, refuse_keeps, reject_keeps, end_keeps, expect_keeps, close_keeps, shebang_keeps, name_keeps, loop_keeps, reference_keeps}
 use Rattle.swc_ecma_parser_reader.specs.Entry.{unmarked, IsBehind, IsSetBack, AnswersScript, AnswersStatement, Stays}
 use Rattle.swc_ecma_parser_reader.proofs.Opens.{chain_goes}
-use Rattle.swc_ecma_parser_grammar.specs.Using.{is_using_declaration}
+use Rattle.swc_ecma_parser_grammar.specs.Using.{is_using_declaration, may_declare_using, stands_in_head}
 
 -- ---- statements
 
@@ -106,22 +108,29 @@ target_keeps b s g = answers_if _ _ (ends_at s.at) _ _ (λ _. g)
 
 -- ---- what the head of a loop begins with, as what it is
 
+unfollowed_keeps : (b : State) (s : State) → NothingLost b s → Answers (Kept b) (Lost b) (unfollowed s)
+unfolding unfollowed
+unfollowed_keeps b s f = answers_then _ _ (expect kind.Semi s) _ (expect_keeps b s f kind.Semi) (λ _ t g. wanted_keeps _ faults.Unexpected b t g)
+
 as_init_keeps : (b : State) (o : Opening) (s : State) → NothingLost b s → Answers (Kept b) (Lost b) (as_init o s)
 unfolding exprs.close
 as_init_keeps b Nothing s f = f
 as_init_keeps b (Variables x) s f = f
+as_init_keeps b (Resource x) s f = unfollowed_keeps b s f
+as_init_keeps b (Named p) s f = unfollowed_keeps b s f
 as_init_keeps b (Expression v) s f = by_mark v.mark
   where
     by_mark : (o : Option Span) → Answers (Kept b) (Lost b) (exprs.unmarked v.x o s)
     by_mark None = f
     by_mark (Some k) = reject_keeps _ faults.AssignProperty k b s f
 
-as_left_keeps : (b : State) (w : Bool) (o : Opening) (s : State) → NothingLost b s → Answers (Kept b) (Lost b) (as_left w o s)
+as_left_keeps : (b : State) (o : Opening) (s : State) → NothingLost b s → Answers (Kept b) (Lost b) (as_left o s)
 unfolding exprs.target
-as_left_keeps b w Nothing s f = wanted_keeps _ faults.Unexpected b s f
-as_left_keeps b w (Variables x) s f = f
-as_left_keeps b w (Expression v) s f =
-    answers_if _ _ (w && is_ident_named (codes "async") v.x) _ _ (λ _. wanted_keeps _ faults.Unexpected b s f) (λ _. by_target (cond v.comma None (as_target v.x)))
+as_left_keeps b Nothing s f = wanted_keeps _ faults.Unexpected b s f
+as_left_keeps b (Variables x) s f = f
+as_left_keeps b (Resource x) s f = f
+as_left_keeps b (Named p) s f = f
+as_left_keeps b (Expression v) s f = by_target (cond v.comma None (as_target v.x))
   where
     by_target : (o : Option Tree) → Answers (Kept b) (Lost b) (exprs.target_or v.x o s)
     by_target (Some p) = f
@@ -425,14 +434,38 @@ module _ (inner : Position → Reader Tree) (inner_expr : Class → Reader Tree)
       (answers_then (Kept b) _ (declarators inner_expr inner_pat true word (coded (head_code word t.code) (moved t))) _
       (declarators_keeps inner_expr inner_pat below_expr below_pat b true word (coded (head_code word t.code) (moved t)) (behind_after b t g)) (λ x u k. k)) (λ x u k. k)
 
-  opening_keeps : (t : State) → NothingLost b t → Answers (Kept b) (Lost b) (opening inner_expr inner_pat inner_head t)
-  unfolding opening head_expression
-  opening_keeps t g = answers_if _ _ (sees kind.Semi t.at) _ _ (λ _. g)
+  using_head_keeps : (start : Span) (t : State) → NothingLost b t → Answers (Kept b) (Lost b) (using_head inner_expr inner_pat start t)
+  unfolding using_head undeclared
+  using_head_keeps start t g = answers_then _ _ (inner_pat t) _ (below_pat b t g) (λ name u k.
+      answers_then (Kept b) _ (undeclared (record { lo = start.lo; hi = u.at.last.hi }) u) _ (told_keeps b _ u k) (λ _ v j. j))
+
+  named_head_keeps : (t : State) → NothingLost b t → Answers (Kept b) (Lost b) (named_head inner_expr inner_pat t)
+  unfolding named_head
+  named_head_keeps t g = answers_then _ _ (inner_pat t) _ (below_pat b t g) (λ p u k.
+      answers_if _ _ (stands_in_head (after u.at)) _ _ (λ _. using_head_keeps (span_at t.at) u k) (λ _. k))
+
+  async_head_keeps : (t : State) → NothingLost b t → Answers (Kept b) (Lost b) (async_head inner_expr inner_pat t)
+  unfolding async_head
+  async_head_keeps t g = answers_then _ _ (within without_in inner_pat t) _
+      (answers_then (Kept b) _ (inner_pat (coded (without_in t.code) t)) _ (below_pat b (coded (without_in t.code) t) g) (λ p u k. k)) (λ p u k. k)
+
+  head_expression_keeps : (t : State) → NothingLost b t → Answers (Kept b) (Lost b) (head_expression inner_expr inner_pat inner_head t)
+  unfolding head_expression
+  head_expression_keeps t g = answers_then _ _ (within without_in inner_head t) _
+      (answers_then (Kept b) _ (inner_head (coded (without_in t.code) t)) _ (below_head b (coded (without_in t.code) t) g) (λ v u k. k)) (λ v u k. k)
+
+  head_target_keeps : (w : Bool) (t : State) → NothingLost b t → Answers (Kept b) (Lost b) (head_target inner_expr inner_pat inner_head w t)
+  unfolding head_target async_or_expression
+  head_target_keeps w t g = answers_if _ _ w _ _ (λ _. answers_if _ _ (begins_async_of t.at) _ _ (λ _. async_head_keeps t g) (λ _. head_expression_keeps t g)) (λ _. head_expression_keeps t g)
+
+  opening_keeps : (w : Bool) (t : State) → NothingLost b t → Answers (Kept b) (Lost b) (opening inner_expr inner_pat inner_head w t)
+  unfolding opening
+  opening_keeps w t g = answers_if _ _ (sees kind.Semi t.at) _ _ (λ _. g)
       (λ _. answers_if _ _ (sees kind.Var t.at) _ _ (λ _. head_variables_keeps decl.Var t g)
       (λ _. answers_if _ _ (sees kind.Const t.at) _ _ (λ _. head_variables_keeps decl.Const t g)
       (λ _. answers_if _ _ (is_let_declaration t.at) _ _ (λ _. head_variables_keeps decl.Let t g)
-      (λ _. answers_then _ _ (within without_in inner_head t) _
-      (answers_then (Kept b) _ (inner_head (coded (without_in t.code) t)) _ (below_head b (coded (without_in t.code) t) g) (λ v u k. k)) (λ v u k. k)))))
+      (λ _. answers_if _ _ (may_declare_using t.code t.at) _ _ (λ _. named_head_keeps t g)
+      (λ _. head_target_keeps w t g)))))
 
   head_part_keeps : (j : TokenKind) (t : State) → NothingLost b t → Answers (Kept b) (Lost b) (head_part j (inner_expr expression) t)
   unfolding head_part
@@ -459,7 +492,7 @@ module _ (inner : Position → Reader Tree) (inner_expr : Class → Reader Tree)
       → Answers (Kept b) (Lost b) (for_in (inner sub_statement) inner_expr start o t)
   unfolding for_in
   for_in_keeps start o t g =
-      answers_then _ _ (as_left false o t) _ (as_left_keeps b false o t g) (λ x u a.
+      answers_then _ _ (as_left o t) _ (as_left_keeps b o t g) (λ x u a.
       answers_then _ _ (misdeclared u.code.flags.strict x u) _ (misdeclared_keeps b u.code.flags.strict x u a) (λ _ v c.
       answers_then _ _ (within with_in (inner_expr expression) (moved v)) _ (behind_keeps expression (moved v) (behind_after b v c)) (λ y w d.
       answers_then _ _ (expect kind.RParen w) _ (expect_keeps b w d kind.RParen) (λ _ r j.
@@ -469,7 +502,7 @@ module _ (inner : Position → Reader Tree) (inner_expr : Class → Reader Tree)
       → Answers (Kept b) (Lost b) (for_of (inner sub_statement) inner_expr w start o t)
   unfolding for_of
   for_of_keeps w start o t g =
-      answers_then _ _ (as_left w o t) _ (as_left_keeps b w o t g) (λ x u a.
+      answers_then _ _ (as_left o t) _ (as_left_keeps b o t g) (λ x u a.
       answers_then _ _ (misdeclared true x u) _ (misdeclared_keeps b true x u a) (λ _ v c.
       answers_then _ _ (within with_in (inner_expr assignment) (moved v)) _ (behind_keeps assignment (moved v) (behind_after b v c)) (λ y w d.
       answers_then _ _ (expect kind.RParen w) _ (expect_keeps b w d kind.RParen) (λ _ r j.
@@ -489,7 +522,7 @@ module _ (inner : Position → Reader Tree) (inner_expr : Class → Reader Tree)
       let g = behind_after b s f in
       answers_then _ _ (await_here (moved s)) _ (await_here_keeps b (moved s) g) (λ word v c.
       answers_then _ _ (expect kind.LParen v) _ (expect_keeps b v c kind.LParen) (λ _ t a.
-      answers_then _ _ (opening inner_expr inner_pat inner_head t) _ (opening_keeps t a) (λ o u k.
+      answers_then _ _ (opening inner_expr inner_pat inner_head (is_some word) t) _ (opening_keeps (is_some word) t a) (λ o u k.
       for_behind_keeps (span_at s.at) word o u k)))
 
   clause_from_keeps : (start : Span) (test : Tree) (t : State) → NothingLost b t → Answers (Kept b) (Lost b) (clause_from (inner nested_item) start test t)
@@ -597,7 +630,7 @@ module _ (inner : Position → Reader Tree) (inner_expr : Class → Reader Tree)
   by_keeps kind.Export e = import_stmt_at_keeps
   by_keeps _ e = other_keeps
 
-  level_keeps : Answers (Kept b) (Lost b) (stmt_level inner inner_expr inner_pat inner_head inner_params inner_member at s)
+  pub level_keeps : Answers (Kept b) (Lost b) (stmt_level inner inner_expr inner_pat inner_head inner_params inner_member at s)
   unfolding stmt_level
   level_keeps = by_keeps (kind_at s.at) refl
 
@@ -609,6 +642,7 @@ record Passing (n : ℕ) : Type 0 where
   heads : Passes (head_cover n)
   patterns : Passes (pattern n)
   elements : Passes (element n)
+  decorateds : Passes (decorated_in n)
   members : Passes (member n)
   stmts : (at : Position) → Passes (stmt n at)
 
@@ -621,26 +655,34 @@ module _ (n : ℕ) (b : Passing n) where
   function_passing = function_by_keeps (stmt n nested_item) (b.stmts nested_item) (reader.parameters n) parameters_passing (pattern n) (class_expr (expr n left_side) (member n)) b.patterns
       (classes.class_expr_keeps (expr n left_side) (member n) (b.exprs left_side) b.members)
 
+  exprs_passing : (class : Class) → Passes (expr (suc n) class)
+  unfolding function expr
+  exprs_passing class c s f = expressions.level_keeps (expr n) (cover n) b.exprs b.covers c (function n) function_passing class s f
+
 all_passing : (n : ℕ) → Passing n
-unfolding function expr cover head_cover pattern element member stmt
+unfolding function expr cover head_cover pattern element decorated_in member stmt
 all_passing zero = record {
   exprs = λ class b s f. too_deep_keeps _ b s f;
   covers = λ b s f. too_deep_keeps _ b s f;
   heads = λ b s f. too_deep_keeps _ b s f;
   patterns = λ b s f. too_deep_keeps _ b s f;
   elements = λ b s f. too_deep_keeps _ b s f;
+  decorateds = λ b s f. too_deep_keeps _ b s f;
   members = λ b s f. too_deep_keeps _ b s f;
   stmts = λ at b s f. too_deep_keeps _ b s f;
 }
 all_passing (suc n) = let a = all_passing n in record {
-  exprs = λ class b s f. expressions.level_keeps (expr n) (cover n) a.exprs a.covers b (function n) (function_passing n a) class s f;
+  exprs = exprs_passing n a;
   covers = λ b s f. expressions.cover_expr_keeps (expr n) (cover n) a.exprs a.covers b (function n) (function_passing n a) s f;
   heads = λ b s f. expressions.head_expr_keeps (expr n) (cover n) a.exprs a.covers b (function n) (function_passing n a) s f;
   patterns = λ b s f. patterns.pattern_level_keeps (expr n) (cover n) (pattern n) (element n) a.exprs a.covers a.patterns a.elements b s f;
   elements = λ b s f. patterns.element_level_keeps (expr n) (cover n) (pattern n) (element n) a.exprs a.covers a.patterns a.elements b s f;
+  decorateds = decorated_keeps (expr n) (cover n) a.exprs a.covers (expr (suc n) expression) (exprs_passing n a expression);
   members = classes.member_level_keeps (expr n) (cover n) (stmt n nested_item) (reader.parameters n) a.exprs a.covers (parameters_passing n a)
-      (function_body_keep (stmt n nested_item) (a.stmts nested_item) (reader.parameters n) (parameters_passing n a)) (braces_keep (stmt n nested_item) (a.stmts nested_item) false);
-  stmts = λ at b s f. level_keeps (stmt n) (expr n) (pattern n) (head_cover n) (reader.parameters n) (member n) a.stmts a.exprs a.patterns a.heads (parameters_passing n a) a.members at b s f;
+      (function_body_keep (stmt n nested_item) (a.stmts nested_item) (reader.parameters n) (parameters_passing n a)) (braces_keep (stmt n nested_item) (a.stmts nested_item) false)
+      (decorated_in n) a.decorateds;
+  stmts = λ at. either_keeps (stmt_level (stmt n) (expr n) (pattern n) (head_cover n) (reader.parameters n) (member n)) at
+      (λ b s f. level_keeps (stmt n) (expr n) (pattern n) (head_cover n) (reader.parameters n) (member n) a.stmts a.exprs a.patterns a.heads (parameters_passing n a) a.members at b s f) (decorated_in n) a.decorateds;
 }
 
 -- a statement, and what it is made of
@@ -653,6 +695,9 @@ expr_keeps n = (all_passing n).exprs
 pub cover_keeps : (n : ℕ) → Passes (cover n)
 cover_keeps n = (all_passing n).covers
 
+pub head_cover_keeps : (n : ℕ) → Passes (head_cover n)
+head_cover_keeps n = (all_passing n).heads
+
 pub functions_keep : (n : ℕ) (form : FunctionForm) → Passes (function n form)
 functions_keep n = function_passing n (all_passing n)
 
@@ -661,6 +706,10 @@ parameters_keep n = parameters_passing n (all_passing n)
 
 pub pattern_keeps : (n : ℕ) → Passes (pattern n)
 pattern_keeps n = (all_passing n).patterns
+
+-- what stands behind the `@` of a decorator
+pub decorated_in_keeps : (n : ℕ) → Passes (decorated_in n)
+decorated_in_keeps n = (all_passing n).decorateds
 
 -- a member of a class
 pub member_keeps : (n : ℕ) → Passes (member n)

@@ -24,7 +24,9 @@ pub mod Chains
 pub mod Answered
 pub mod Below
 pub mod Using
+pub mod HeadWords
 pub mod CompleteParts
+mod CompleteFor
 pub mod Complete
 pub mod CompleteScripts
 pub mod Unique

@@ -5,9 +5,11 @@ use Rattle.swc_ecma_parser_grammar.specs.Parameters.{parameters}
 use Rattle.swc_ecma_parser_reader.proofs.Errors.{is_error, fault_here}
 use Rattle.swc_ecma_parser_reader.proofs.patterns.Limits as patterns
 use Rattle.swc_ecma_parser_reader.proofs.expressions.Limits as expressions
+use Rattle.swc_ecma_parser_reader.proofs.decorators.Limits.{decorated_shallow}
+use Rattle.swc_ecma_parser_reader.proofs.decorators.Taking.{either_shallow}
 use Rattle.swc_ecma_parser_reader.specs.Reader as reader
 use Rattle.swc_ecma_parser_reader.specs.Methods.{MethodForm, getter_form, setter_form, method_form, property_form, star}
-use Rattle.swc_ecma_parser_reader.specs.Reader.{no_parameter, one_parameter, getter, setter, plain_method, arrow_block, function_by, named, own_name, function_expr, expr, cover, head_cover, pattern, element, member, function, function_word, async_or_other, begins_label, relabels, labelled_body, labeled_stmt, other_stmt, note_with, with_stmt, await_here, unless_awaited, function_decl, function_stmt, function_parts, function_body, misdirected, missing_initializer, variables, Opening, Nothing, Variables, Expression, as_init, as_left, head_variables, head_expression, opening, head_part, misdeclared, for_parts, for_in, for_of, for_behind, for_stmt, const_stmt, let_stmt, empty, debugger, initialized, declarator, declarators_turn, declarators, closes, at_end, close, items_turn, items, block_from, block, braced, note_statement, no_label, expr_stmt, expr_stmt_at, optional_end, import_stmt, import_stmt_at, told, target, unbroken, break_stmt, uncontinued, continue_stmt, misplaced, after_return, operand, returned, return_stmt, thrown, throw, head, while_stmt, do_while, goes_on, condition, alternative, link_from, link, links, if_stmt, begins_clause, closes_clause, clause_from, default_clause, case_clause, clause, clauses_turn, clauses, switch_stmt, begins_at, is_handled, handled, bound, parameter, finalizer, caught, handler, try_stmt, stmt_by, stmt_level, stmt, top_await_fault, top_await, whole_stmt, shebang, script_body, script, misusing, using_from, using_stmt, using_or_other}
+use Rattle.swc_ecma_parser_reader.specs.Reader.{no_parameter, one_parameter, getter, setter, plain_method, arrow_block, function_by, named, own_name, function_expr, expr, cover, head_cover, pattern, element, decorated_in, member, function, function_word, async_or_other, begins_label, relabels, labelled_body, labeled_stmt, other_stmt, note_with, with_stmt, await_here, unless_awaited, function_decl, function_stmt, function_parts, function_body, misdirected, missing_initializer, variables, Opening, Nothing, Variables, Expression, as_init, as_left, head_variables, head_expression, opening, head_part, misdeclared, for_parts, for_in, for_of, for_behind, for_stmt, const_stmt, let_stmt, empty, debugger, initialized, declarator, declarators_turn, declarators, closes, at_end, close, items_turn, items, block_from, block, braced, note_statement, no_label, expr_stmt, expr_stmt_at, optional_end, import_stmt, import_stmt_at, told, target, unbroken, break_stmt, uncontinued, continue_stmt, misplaced, after_return, operand, returned, return_stmt, thrown, throw, head, while_stmt, do_while, goes_on, condition, alternative, link_from, link, links, if_stmt, begins_clause, closes_clause, clause_from, default_clause, case_clause, clause, clauses_turn, clauses, switch_stmt, begins_at, is_handled, handled, bound, parameter, finalizer, caught, handler, try_stmt, stmt_by, stmt_level, stmt, top_await_fault, top_await, whole_stmt, shebang, script_body, script, misusing, using_from, using_stmt, using_or_other, Resource, Named, undeclared, using_head, named_head, async_head, unfollowed, async_or_expression, head_target}
 use Rattle.swc_ecma_parser_grammar.specs.Names.{name_at}
 use Rattle.swc_ecma_parser_reader.proofs.Meets.{saw, Answers, answers_then, answers_if, loop_answers, meant}
 use Rattle.swc_ecma_parser_model.specs.Tree.{Text, Tree}
@@ -20,14 +22,14 @@ use Rattle.swc_ecma_parser_model.specs.Targets.{as_target}
 use Rattle.swc_ecma_parser_grammar.specs.Variables.{is_const, needs_no_initializer}
 use Rattle.swc_ecma_parser_grammar.specs.Own.{head_faults, misplaced_directive}
 use Rattle.swc_ecma_parser_grammar.specs.language.Contexts.{without_in, named_by, in_parameters, in_body, in_arrow, in_loop, in_breakable, in_with}
-use Rattle.swc_ecma_parser_grammar.specs.Follows.{word_at, is_let_declaration, is_async_function, may_begin_expression_statement, begins_import_expression}
+use Rattle.swc_ecma_parser_grammar.specs.Follows.{word_at, is_let_declaration, is_async_function, may_begin_expression_statement, begins_import_expression, begins_async_of}
 use Rattle.std.proofs.Common.{◌≡◌, ◌≢◌, ℕ, zero, suc, ◌+◌, ◌*◌, ◌≤◌, Bool, true, false, cond, List, [], ◌∷◌, length, Option, Some, None, Ok, Err, refl, arith, ap}
 use Rattle.std.specs.Prelude.{◌&&◌, ◌||◌, is_some, codes}
 use Rattle.swc_ecma_parser_common.specs.declared.span.Span.{Span}
 use Rattle.swc_ecma_parser_error.specs.declared.kind.SyntaxError.{SyntaxError}
 use Rattle.swc_ecma_parser_error.specs.declared.kind.SyntaxError.TheVariants as says
 use Rattle.swc_ecma_parser_error.specs.Kind as faults
-use Rattle.swc_ecma_parser_error.specs.Kind.{Kind, Fault, fault_of, kind_of}
+use Rattle.swc_ecma_parser_error.specs.Kind.{Fault, kind_of}
 use Rattle.swc_ecma_parser_token.specs.declared.kind.TokenKind.{TokenKind}
 use Rattle.swc_ecma_parser_token.specs.declared.kind.TokenKind.TheVariants as kind
 use Rattle.swc_ecma_parser_token.specs.declared.token.Token.{Token}
@@ -51,7 +53,7 @@ use Rattle.swc_ecma_parser_reader.proofs.expressions.LimitSteps.{reject_shallow,
 use Rattle.swc_ecma_parser_reader.proofs.expressions.Limits.{star_shallow, FunctionsShallow}
 use Rattle.swc_ecma_parser_reader.proofs.classes.Limits as classes
 use Rattle.swc_ecma_parser_reader.specs.Members.{class_expr}
-use Rattle.swc_ecma_parser_grammar.specs.Using.{is_using_declaration}
+use Rattle.swc_ecma_parser_grammar.specs.Using.{is_using_declaration, may_declare_using, stands_in_head}
 
 -- ---- statements: one level more, for an expression that begins with the same token
 
@@ -145,22 +147,29 @@ target_shallow m s g = answers_if _ _ (ends_at s.at) _ _ (λ _. g)
 
 -- ---- what the head of a loop begins with, as what it is
 
+unfollowed_shallow : (m : ℕ) (s : State) → Fine m s.at.left → Answers (Kept m) Shallow (unfollowed s)
+unfolding unfollowed
+unfollowed_shallow m s f = answers_then _ _ (expect kind.Semi s) _ (expect_shallow m s f kind.Semi) (λ _ t g. wanted_shallow _ faults.Unexpected (λ e. cc) m t g)
+
 as_init_shallow : (m : ℕ) (o : Opening) (s : State) → Fine m s.at.left → Answers (Kept m) Shallow (as_init o s)
 unfolding exprs.close
 as_init_shallow m Nothing s f = f
 as_init_shallow m (Variables x) s f = f
+as_init_shallow m (Resource x) s f = unfollowed_shallow m s f
+as_init_shallow m (Named p) s f = unfollowed_shallow m s f
 as_init_shallow m (Expression v) s f = by_mark v.mark
   where
     by_mark : (o : Option Span) → Answers (Kept m) Shallow (exprs.unmarked v.x o s)
     by_mark None = f
     by_mark (Some k) = reject_shallow _ faults.AssignProperty k (λ e. cc) m s f
 
-as_left_shallow : (m : ℕ) (w : Bool) (o : Opening) (s : State) → Fine m s.at.left → Answers (Kept m) Shallow (as_left w o s)
+as_left_shallow : (m : ℕ) (o : Opening) (s : State) → Fine m s.at.left → Answers (Kept m) Shallow (as_left o s)
 unfolding exprs.target
-as_left_shallow m w Nothing s f = wanted_shallow _ faults.Unexpected (λ e. cc) m s f
-as_left_shallow m w (Variables x) s f = f
-as_left_shallow m w (Expression v) s f =
-    answers_if _ _ (w && is_ident_named (codes "async") v.x) _ _ (λ _. wanted_shallow _ faults.Unexpected (λ e. cc) m s f) (λ _. by_target (cond v.comma None (as_target v.x)))
+as_left_shallow m Nothing s f = wanted_shallow _ faults.Unexpected (λ e. cc) m s f
+as_left_shallow m (Variables x) s f = f
+as_left_shallow m (Resource x) s f = f
+as_left_shallow m (Named p) s f = f
+as_left_shallow m (Expression v) s f = by_target (cond v.comma None (as_target v.x))
   where
     by_target : (o : Option Tree) → Answers (Kept m) Shallow (exprs.target_or v.x o s)
     by_target (Some p) = f
@@ -473,14 +482,38 @@ module _ (inner : Position → Reader Tree) (inner_expr : Class → Reader Tree)
       (answers_then (Kept i) _ (declarators inner_expr inner_pat true word (coded (head_code word t.code) (moved t))) _
       (declarators_shallow inner_expr inner_pat n below_expr below_pat i h true word (coded (head_code word t.code) (moved t)) (fine_after i t.at g)) (λ x u k. k)) (λ x u k. k)
 
-  opening_shallow : (i : ℕ) → 2 * i ≤ n → (t : State) → Fine i t.at.left → Answers (Kept i) Shallow (opening inner_expr inner_pat inner_head t)
-  unfolding opening head_expression
-  opening_shallow i h t g = answers_if _ _ (sees kind.Semi t.at) _ _ (λ _. g)
+  using_head_shallow : (i : ℕ) → 2 * i ≤ n → (start : Span) (t : State) → Fine i t.at.left → Answers (Kept i) Shallow (using_head inner_expr inner_pat start t)
+  unfolding using_head undeclared
+  using_head_shallow i h start t g = answers_then _ _ (inner_pat t) _ (below_pat i t h g) (λ name u k.
+      answers_then (Kept i) _ (undeclared (record { lo = start.lo; hi = u.at.last.hi }) u) _ (told_shallow i _ u k) (λ _ v j. j))
+
+  named_head_shallow : (i : ℕ) → 2 * i ≤ n → (t : State) → Fine i t.at.left → Answers (Kept i) Shallow (named_head inner_expr inner_pat t)
+  unfolding named_head
+  named_head_shallow i h t g = answers_then _ _ (inner_pat t) _ (below_pat i t h g) (λ p u k.
+      answers_if _ _ (stands_in_head (after u.at)) _ _ (λ _. using_head_shallow i h (span_at t.at) u k) (λ _. k))
+
+  async_head_shallow : (i : ℕ) → 2 * i ≤ n → (t : State) → Fine i t.at.left → Answers (Kept i) Shallow (async_head inner_expr inner_pat t)
+  unfolding async_head
+  async_head_shallow i h t g = answers_then _ _ (within without_in inner_pat t) _
+      (answers_then (Kept i) _ (inner_pat (coded (without_in t.code) t)) _ (below_pat i (coded (without_in t.code) t) h g) (λ p u k. k)) (λ p u k. k)
+
+  head_expression_shallow : (i : ℕ) → 2 * i ≤ n → (t : State) → Fine i t.at.left → Answers (Kept i) Shallow (head_expression inner_expr inner_pat inner_head t)
+  unfolding head_expression
+  head_expression_shallow i h t g = answers_then _ _ (within without_in inner_head t) _
+      (answers_then (Kept i) _ (inner_head (coded (without_in t.code) t)) _ (below_head i (coded (without_in t.code) t) h g) (λ v u k. k)) (λ v u k. k)
+
+  head_target_shallow : (i : ℕ) → 2 * i ≤ n → (w : Bool) (t : State) → Fine i t.at.left → Answers (Kept i) Shallow (head_target inner_expr inner_pat inner_head w t)
+  unfolding head_target async_or_expression
+  head_target_shallow i h w t g = answers_if _ _ w _ _ (λ _. answers_if _ _ (begins_async_of t.at) _ _ (λ _. async_head_shallow i h t g) (λ _. head_expression_shallow i h t g)) (λ _. head_expression_shallow i h t g)
+
+  opening_shallow : (i : ℕ) → 2 * i ≤ n → (w : Bool) (t : State) → Fine i t.at.left → Answers (Kept i) Shallow (opening inner_expr inner_pat inner_head w t)
+  unfolding opening
+  opening_shallow i h w t g = answers_if _ _ (sees kind.Semi t.at) _ _ (λ _. g)
       (λ _. answers_if _ _ (sees kind.Var t.at) _ _ (λ _. head_variables_shallow i h decl.Var t g)
       (λ _. answers_if _ _ (sees kind.Const t.at) _ _ (λ _. head_variables_shallow i h decl.Const t g)
       (λ _. answers_if _ _ (is_let_declaration t.at) _ _ (λ _. head_variables_shallow i h decl.Let t g)
-      (λ _. answers_then _ _ (within without_in inner_head t) _
-      (answers_then (Kept i) _ (inner_head (coded (without_in t.code) t)) _ (below_head i (coded (without_in t.code) t) h g) (λ v u k. k)) (λ v u k. k)))))
+      (λ _. answers_if _ _ (may_declare_using t.code t.at) _ _ (λ _. named_head_shallow i h t g)
+      (λ _. head_target_shallow i h w t g)))))
 
   head_part_shallow : (i : ℕ) → 2 * i ≤ n → (j : TokenKind) (t : State) → Fine i t.at.left → Answers (Kept i) Shallow (head_part j (inner_expr expression) t)
   unfolding head_part
@@ -507,7 +540,7 @@ module _ (inner : Position → Reader Tree) (inner_expr : Class → Reader Tree)
       → Answers (Kept i) Shallow (for_in (inner sub_statement) inner_expr start o t)
   unfolding for_in
   for_in_shallow i h start o t g =
-      answers_then _ _ (as_left false o t) _ (as_left_shallow i false o t g) (λ x u b.
+      answers_then _ _ (as_left o t) _ (as_left_shallow i o t g) (λ x u b.
       answers_then _ _ (misdeclared u.code.flags.strict x u) _ (misdeclared_shallow i u.code.flags.strict x u b) (λ _ v c.
       answers_then _ _ (within with_in (inner_expr expression) (moved v)) _ (behind_shallow expression i (omega arith) (moved v) (fine_after i v.at c)) (λ y w d.
       answers_then _ _ (expect kind.RParen w) _ (expect_shallow i w d kind.RParen) (λ _ r j.
@@ -517,7 +550,7 @@ module _ (inner : Position → Reader Tree) (inner_expr : Class → Reader Tree)
       → Answers (Kept i) Shallow (for_of (inner sub_statement) inner_expr w start o t)
   unfolding for_of
   for_of_shallow i h w start o t g =
-      answers_then _ _ (as_left w o t) _ (as_left_shallow i w o t g) (λ x u b.
+      answers_then _ _ (as_left o t) _ (as_left_shallow i o t g) (λ x u b.
       answers_then _ _ (misdeclared true x u) _ (misdeclared_shallow i true x u b) (λ _ v c.
       answers_then _ _ (within with_in (inner_expr assignment) (moved v)) _ (behind_shallow assignment i (omega arith) (moved v) (fine_after i v.at c)) (λ y w d.
       answers_then _ _ (expect kind.RParen w) _ (expect_shallow i w d kind.RParen) (λ _ r j.
@@ -537,7 +570,7 @@ module _ (inner : Position → Reader Tree) (inner_expr : Class → Reader Tree)
       let (i, h, g) = fine_taken m s.at kind.For e (λ z. cc) f in
       answers_then _ _ (await_here (moved s)) _ (await_here_shallow i (moved s) g) (λ word v c.
       answers_then _ _ (expect kind.LParen v) _ (expect_shallow i v c kind.LParen) (λ _ t a.
-      answers_then _ _ (opening inner_expr inner_pat inner_head t) _ (opening_shallow i (omega arith) t a) (λ o u b.
+      answers_then _ _ (opening inner_expr inner_pat inner_head (is_some word) t) _ (opening_shallow i (omega arith) (is_some word) t a) (λ o u b.
       kept_more i m (omega arith) (for_behind (inner sub_statement) inner_expr (span_at s.at) word o u) (for_behind_shallow i (omega arith) (span_at s.at) word o u b))))
 
   clause_from_shallow : (i : ℕ) → 2 * i + 1 ≤ n → (start : Span) (test : Tree) (t : State) → Fine i t.at.left → Answers (Kept i) Shallow (clause_from (inner nested_item) start test t)
@@ -663,6 +696,7 @@ record Enough (n : ℕ) : Type 0 where
   heads : Levels n (head_cover n)
   patterns : Levels n (pattern n)
   elements : Levels n (element n)
+  decorateds : Levels n (decorated_in n)
   members : Levels n (member n)
   stmts : (at : Position) → StmtLevels n (stmt n at)
 
@@ -687,26 +721,34 @@ module _ (n : ℕ) (b : Enough n) where
     blocks = arrow_block_shallow (stmt n nested_item) n (b.stmts nested_item) (reader.parameters n) parameters_enough;
   }
 
+  exprs_enough : (class : Class) → Levels (suc n) (expr (suc n) class)
+  unfolding function expr
+  exprs_enough class m s h f = expressions.level_shallow (expr n) (cover n) n b.exprs b.covers m h (function n) function_enough class s f
+
 all_enough : (n : ℕ) → Enough n
-unfolding function expr cover head_cover pattern element member stmt
+unfolding function expr cover head_cover pattern element decorated_in member stmt
 all_enough zero = record {
   exprs = λ class m s h f. too_deep_shallow _ s (omega arith);
   covers = λ m s h f. too_deep_shallow _ s (omega arith);
   heads = λ m s h f. too_deep_shallow _ s (omega arith);
   patterns = λ m s h f. too_deep_shallow _ s (omega arith);
   elements = λ m s h f. too_deep_shallow _ s (omega arith);
+  decorateds = λ m s h f. too_deep_shallow _ s (omega arith);
   members = λ m s h f. too_deep_shallow _ s (omega arith);
   stmts = λ at m s h f. absurd (omega arith);
 }
 all_enough (suc n) = let b = all_enough n in record {
-  exprs = λ class m s h f. expressions.level_shallow (expr n) (cover n) n b.exprs b.covers m h (function n) (function_enough n b) class s f;
+  exprs = exprs_enough n b;
   covers = λ m s h f. expressions.cover_expr_shallow (expr n) (cover n) n b.exprs b.covers m h (function n) (function_enough n b) s f;
   heads = λ m s h f. expressions.head_expr_shallow (expr n) (cover n) n b.exprs b.covers m h (function n) (function_enough n b) s f;
   patterns = λ m s h f. patterns.pattern_level_shallow (expr n) (cover n) (pattern n) (element n) n b.exprs b.covers b.patterns b.elements m h s f;
   elements = λ m s h f. patterns.element_level_shallow (expr n) (cover n) (pattern n) (element n) n b.exprs b.covers b.patterns b.elements m h s f;
+  decorateds = decorated_shallow (expr n) (cover n) n b.exprs b.covers (expr (suc n) expression) (exprs_enough n b expression);
   members = classes.member_level_shallow (expr n) (cover n) (stmt n nested_item) (reader.parameters n) n b.exprs b.covers (parameters_enough n b)
-      (function_body_shallow (stmt n nested_item) n (b.stmts nested_item) (reader.parameters n) (parameters_enough n b)) (braces_shallow (stmt n nested_item) n (b.stmts nested_item) false);
-  stmts = λ at m s h f. level_shallow (stmt n) (expr n) (pattern n) (head_cover n) (reader.parameters n) (member n) n b.stmts b.exprs b.patterns b.heads (parameters_enough n b) b.members at m h s f;
+      (function_body_shallow (stmt n nested_item) n (b.stmts nested_item) (reader.parameters n) (parameters_enough n b)) (braces_shallow (stmt n nested_item) n (b.stmts nested_item) false)
+      (decorated_in n) b.decorateds;
+  stmts = λ at. either_shallow (stmt_level (stmt n) (expr n) (pattern n) (head_cover n) (reader.parameters n) (member n)) at n
+      (λ m s h f. level_shallow (stmt n) (expr n) (pattern n) (head_cover n) (reader.parameters n) (member n) n b.stmts b.exprs b.patterns b.heads (parameters_enough n b) b.members at m h s f) (decorated_in n) b.decorateds;
 }
 
 -- an expression of any class, what may still become a pattern, and what a part of an expression holds that is none
@@ -718,6 +760,10 @@ cover_shallow n = (all_enough n).covers
 
 pub functions_shallow : (n : ℕ) → FunctionsShallow n (function n)
 functions_shallow n = function_enough n (all_enough n)
+
+-- and what stands behind the `@` of a decorator
+pub decorated_in_shallow : (n : ℕ) → Levels n (decorated_in n)
+decorated_in_shallow n = (all_enough n).decorateds
 
 stmt_shallow : (n : ℕ) (at : Position) → StmtLevels n (stmt n at)
 stmt_shallow n = (all_enough n).stmts

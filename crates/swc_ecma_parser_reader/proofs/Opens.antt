@@ -25,7 +25,9 @@ use Rattle.swc_ecma_parser_grammar.specs.Follows.{may_begin_expression_statement
 use Rattle.swc_ecma_parser_grammar.specs.Variables.{begins_variables}
 use Rattle.swc_ecma_parser_grammar.specs.Reads.{with_in, StmtRule, block_rule, empty_rule, debugger_rule, variables_rule, if_statement_rule, switch_rule, labeled_rule, break_rule, continue_rule, return_rule, throw_rule, try_rule, while_rule, do_while_rule, for_rule, for_in_rule, for_of_rule, expr_rule, import_rule, if_rule, with_rule, class_rule, function_rule, using_rule}
 use Rattle.swc_ecma_parser_grammar.specs.Notes.{statement_note}
-use Rattle.swc_ecma_parser_grammar.specs.ReadsSupported.{ReadsClass, ReadsPat, ReadsTarget, ReadsStmt, ReadsParams, ReadsNamedClass}
+use Rattle.swc_ecma_parser_grammar.specs.ReadsSupported.{ReadsClass, ReadsPat, ReadsTarget, ReadsStmt, ReadsParams, ReadsNamedClass, ReadsDecorators, ReadsDeclared}
+use Rattle.swc_ecma_parser_grammar.specs.Decorated.{DecoratedRule, EitherRule, plain_statement, decorated_statement}
+use Rattle.swc_ecma_parser_grammar.specs.language.Classes.{no_decorators, some_decorators, decorator_rule}
 use Rattle.swc_ecma_parser_grammar.specs.language.Goals.{Class, expression}
 use Rattle.swc_ecma_parser_grammar.proofs.Tests.{and_yes, and_no}
 use Rattle.swc_ecma_parser_grammar.proofs.SupportedBegins.{opens, expr_opens, word_begins}
@@ -172,7 +174,7 @@ chain_stops c h e = second_no (sees kind.Else c) (sees kind.If (after c)) h e
 -- ---- no statement begins where a block, a clause or a script ends, nor with an error token
 
 abbrev Going : TokenKind → Type 0
-Going k = (same_kind k kind.RBrace ≡ false) × (same_kind k kind.End ≡ false) × (same_kind k kind.Case ≡ false) × (same_kind k kind.Default ≡ false) × (is_error k ≡ false)
+Going k = (same_kind k kind.RBrace ≡ false) × (same_kind k kind.End ≡ false) × (same_kind k kind.Case ≡ false) × (same_kind k kind.Default ≡ false) × (is_error k ≡ false) × (same_kind k kind.At ≡ false)
 
 pub goes_open : (k : TokenKind) → opens k ≡ true → Going k
 unfolding same_kind
@@ -181,56 +183,80 @@ goes_open kind.End e = cc
 goes_open kind.Case e = cc
 goes_open kind.Default e = cc
 goes_open kind.Error e = cc
-goes_open _ e = (refl, refl, refl, refl, refl)
+goes_open kind.At e = cc
+goes_open _ e = (refl, refl, refl, refl, refl, refl)
 
 abbrev pub Goes : Place → Type 0
 Goes c = (closes c ≡ false) × (at_end c ≡ false) × (closes_clause c ≡ false) × (is_error (kind_at c) ≡ false)
 
-goes_by : (c : Place) (k : TokenKind) → kind_at c ≡ k → Going k → Goes c
+-- a statement begins here, and no decorator
+abbrev pub GoesPlainly : Place → Type 0
+GoesPlainly c = Goes c × (sees kind.At c ≡ false)
+
+goes : (c : Place) (k : TokenKind) → kind_at c ≡ k → (same_kind k kind.RBrace ≡ false) × (same_kind k kind.End ≡ false) × (same_kind k kind.Case ≡ false) × (same_kind k kind.Default ≡ false) × (is_error k ≡ false)
+    → Goes c
 unfolding closes at_end begins_clause closes_clause
-goes_by c k e h = (rw (e, h.0, h.1) refl, rw (e, h.1) refl, rw (e, h.0, h.1, h.2, h.3) refl, ap is_error e ∙ h.4)
+goes c k e h = (rw (e, h.0, h.1) refl, rw (e, h.1) refl, rw (e, h.0, h.1, h.2, h.3) refl, ap is_error e ∙ h.4)
+
+goes_by : (c : Place) (k : TokenKind) → kind_at c ≡ k → Going k → GoesPlainly c
+goes_by c k e h = (goes c k e (h.0, h.1, h.2, h.3, h.4), ap (λ j. same_kind j kind.At) e ∙ h.5)
 
 -- nor with the word of a declaration
-variables_go : (word : VarDeclKind) (c : Place) → begins_variables word c ≡ true → Goes c
+variables_go : (word : VarDeclKind) (c : Place) → begins_variables word c ≡ true → GoesPlainly c
 unfolding same_kind
-variables_go decl.Var c h = goes_by c kind.Var (saw c kind.Var h) (refl, refl, refl, refl, refl)
-variables_go decl.Const c h = goes_by c kind.Const (saw c kind.Const h) (refl, refl, refl, refl, refl)
-variables_go decl.Let c h = goes_by c kind.Let (let_stands c h) (refl, refl, refl, refl, refl)
+variables_go decl.Var c h = goes_by c kind.Var (saw c kind.Var h) (refl, refl, refl, refl, refl, refl)
+variables_go decl.Const c h = goes_by c kind.Const (saw c kind.Const h) (refl, refl, refl, refl, refl, refl)
+variables_go decl.Let c h = goes_by c kind.Let (let_stands c h) (refl, refl, refl, refl, refl, refl)
 
-function_goes : {b : Bool} (c m : Place) → AsyncWord b c m → kind_at m ≡ kind.Function → Goes c
+function_goes : {b : Bool} (c m : Place) → AsyncWord b c m → kind_at m ≡ kind.Function → GoesPlainly c
 unfolding same_kind
-function_goes c m (not_async i j) e = goes_by c kind.Function (ap kind_at (sym j) ∙ e) (refl, refl, refl, refl, refl)
-function_goes c m (async_word i j l n) e = goes_by c kind.Ident (word_place (codes "async") c j) (refl, refl, refl, refl, refl)
+function_goes c m (not_async i j) e = goes_by c kind.Function (ap kind_at (sym j) ∙ e) (refl, refl, refl, refl, refl, refl)
+function_goes c m (async_word i j l n) e = goes_by c kind.Ident (word_place (codes "async") c j) (refl, refl, refl, refl, refl, refl)
 
 rule_goes : (Stmt : Code → Position → Tree → Place → Place → Type 0) (Expr : Class → Code → Tree → Place → Place → Type 0) (Pat Target : Code → Tree → Place → Place → Type 0)
     (Params : Code → List Tree → Place → Place → Type 0) (Named : Code → (name x : Tree) → Place → Place → Type 0) → ((k : Code) (x : Tree) (c d : Place) → Expr expression k x c d → opens (kind_at c) ≡ true)
     → ((k : Code) (name x : Tree) (c d : Place) → Named k name x c d → kind_at c ≡ kind.Class)
-    → (k : Code) (at : Position) (x : Tree) (c d : Place) → StmtRule Stmt Expr Pat Target Params Named k at x c d → Goes c
+    → (k : Code) (at : Position) (x : Tree) (c d : Place) → StmtRule Stmt Expr Pat Target Params Named k at x c d → GoesPlainly c
 unfolding same_kind
-rule_goes Stmt Expr Pat Target Params Named h named k at x c d (class_rule name y a r b e) = goes_by c kind.Class (named k name y c d r) (refl, refl, refl, refl, refl)
+rule_goes Stmt Expr Pat Target Params Named h named k at x c d (class_rule name y a r b e) = goes_by c kind.Class (named k name y c d r) (refl, refl, refl, refl, refl, refl)
 rule_goes Stmt Expr Pat Target Params Named h named k at x c d (function_rule a r) = function_goes c r.word r.reads_async r.is_function
-rule_goes Stmt Expr Pat Target Params Named h named k at x c d (block_rule r) = goes_by c kind.LBrace r.opens (refl, refl, refl, refl, refl)
-rule_goes Stmt Expr Pat Target Params Named h named k at x c d (empty_rule e g i) = goes_by c kind.Semi e (refl, refl, refl, refl, refl)
-rule_goes Stmt Expr Pat Target Params Named h named k at x c d (debugger_rule e g i) = goes_by c kind.Debugger e (refl, refl, refl, refl, refl)
+rule_goes Stmt Expr Pat Target Params Named h named k at x c d (block_rule r) = goes_by c kind.LBrace r.opens (refl, refl, refl, refl, refl, refl)
+rule_goes Stmt Expr Pat Target Params Named h named k at x c d (empty_rule e g i) = goes_by c kind.Semi e (refl, refl, refl, refl, refl, refl)
+rule_goes Stmt Expr Pat Target Params Named h named k at x c d (debugger_rule e g i) = goes_by c kind.Debugger e (refl, refl, refl, refl, refl, refl)
 rule_goes Stmt Expr Pat Target Params Named h named k at x c d (variables_rule word xs m a e r g i) = variables_go word c e
-rule_goes Stmt Expr Pat Target Params Named h named k at x c d (using_rule xs a b r g i) = goes_by c kind.Ident (using_stands k c b) (refl, refl, refl, refl, refl)
-rule_goes Stmt Expr Pat Target Params Named h named k at x c d (if_statement_rule (if_rule t y z m n e r s o i)) = goes_by c kind.If e (refl, refl, refl, refl, refl)
-rule_goes Stmt Expr Pat Target Params Named h named k at x c d (switch_rule y xs m n e r i s g j z) = goes_by c kind.Switch e (refl, refl, refl, refl, refl)
-rule_goes Stmt Expr Pat Target Params Named h named k at x c d (break_rule y m e r g i) = goes_by c kind.Break e (refl, refl, refl, refl, refl)
-rule_goes Stmt Expr Pat Target Params Named h named k at x c d (continue_rule y m e r g i) = goes_by c kind.Continue e (refl, refl, refl, refl, refl)
-rule_goes Stmt Expr Pat Target Params Named h named k at x c d (return_rule y m e r g i) = goes_by c kind.Return e (refl, refl, refl, refl, refl)
-rule_goes Stmt Expr Pat Target Params Named h named k at x c d (for_rule a b f y l m n e i r j s o t p u z) = goes_by c kind.For e (refl, refl, refl, refl, refl)
-rule_goes Stmt Expr Pat Target Params Named h named k at x c d (for_in_rule a b y m n e i r j s o t z) = goes_by c kind.For e (refl, refl, refl, refl, refl)
-rule_goes Stmt Expr Pat Target Params Named h named k at x c d (for_of_rule w a b y l m n e v i r j z q s o t g) = goes_by c kind.For e (refl, refl, refl, refl, refl)
+rule_goes Stmt Expr Pat Target Params Named h named k at x c d (using_rule xs a b r g i) = goes_by c kind.Ident (using_stands k c b) (refl, refl, refl, refl, refl, refl)
+rule_goes Stmt Expr Pat Target Params Named h named k at x c d (if_statement_rule (if_rule t y z m n e r s o i)) = goes_by c kind.If e (refl, refl, refl, refl, refl, refl)
+rule_goes Stmt Expr Pat Target Params Named h named k at x c d (switch_rule y xs m n e r i s g j z) = goes_by c kind.Switch e (refl, refl, refl, refl, refl, refl)
+rule_goes Stmt Expr Pat Target Params Named h named k at x c d (break_rule y m e r g i) = goes_by c kind.Break e (refl, refl, refl, refl, refl, refl)
+rule_goes Stmt Expr Pat Target Params Named h named k at x c d (continue_rule y m e r g i) = goes_by c kind.Continue e (refl, refl, refl, refl, refl, refl)
+rule_goes Stmt Expr Pat Target Params Named h named k at x c d (return_rule y m e r g i) = goes_by c kind.Return e (refl, refl, refl, refl, refl, refl)
+rule_goes Stmt Expr Pat Target Params Named h named k at x c d (for_rule a b f y l m n e i r j s o t p u z) = goes_by c kind.For e (refl, refl, refl, refl, refl, refl)
+rule_goes Stmt Expr Pat Target Params Named h named k at x c d (for_in_rule a b y m n e i r j s o t z) = goes_by c kind.For e (refl, refl, refl, refl, refl, refl)
+rule_goes Stmt Expr Pat Target Params Named h named k at x c d (for_of_rule w a b y l m n e v i r j s o t g) = goes_by c kind.For e (refl, refl, refl, refl, refl, refl)
 rule_goes Stmt Expr Pat Target Params Named h named k at x c d (labeled_rule w s y m r f e t i) = goes_by c (kind_at c) refl (goes_open (kind_at c) (word_begins k.flags w s c m r f))
-rule_goes Stmt Expr Pat Target Params Named h named k at x c d (throw_rule y m e b r g i) = goes_by c kind.Throw e (refl, refl, refl, refl, refl)
-rule_goes Stmt Expr Pat Target Params Named h named k at x c d (try_rule y z w m n e r s o a i) = goes_by c kind.Try e (refl, refl, refl, refl, refl)
-rule_goes Stmt Expr Pat Target Params Named h named k at x c d (with_rule y z m e o r s i) = goes_by c kind.With e (refl, refl, refl, refl, refl)
-rule_goes Stmt Expr Pat Target Params Named h named k at x c d (while_rule y z m e r s i) = goes_by c kind.While e (refl, refl, refl, refl, refl)
-rule_goes Stmt Expr Pat Target Params Named h named k at x c d (do_while_rule y z m n e s j r g i) = goes_by c kind.Do e (refl, refl, refl, refl, refl)
+rule_goes Stmt Expr Pat Target Params Named h named k at x c d (throw_rule y m e b r g i) = goes_by c kind.Throw e (refl, refl, refl, refl, refl, refl)
+rule_goes Stmt Expr Pat Target Params Named h named k at x c d (try_rule y z w m n e r s o a i) = goes_by c kind.Try e (refl, refl, refl, refl, refl, refl)
+rule_goes Stmt Expr Pat Target Params Named h named k at x c d (with_rule y z m e o r s i) = goes_by c kind.With e (refl, refl, refl, refl, refl, refl)
+rule_goes Stmt Expr Pat Target Params Named h named k at x c d (while_rule y z m e r s i) = goes_by c kind.While e (refl, refl, refl, refl, refl, refl)
+rule_goes Stmt Expr Pat Target Params Named h named k at x c d (do_while_rule y z m n e s j r g i) = goes_by c kind.Do e (refl, refl, refl, refl, refl, refl)
 rule_goes Stmt Expr Pat Target Params Named h named k at x c d (expr_rule e m b r l i g j) = goes_by c (kind_at c) refl (goes_open (kind_at c) (h (with_in k) e c m r))
 rule_goes Stmt Expr Pat Target Params Named h named k at x c d (import_rule e m b r g i) = goes_by c (kind_at c) refl (goes_open (kind_at c) (h (with_in k) e c m r))
 
+-- one without decorators
+pub plain_goes : (n : ℕ) (k : Code) (at : Position) (x : Tree) (c d : Place) → StmtRule (ReadsStmt n) (ReadsClass n) (ReadsPat n) (ReadsTarget n) (ReadsParams n) (ReadsNamedClass n) k at x c d → GoesPlainly c
+plain_goes n k at x c d h = rule_goes (ReadsStmt n) (ReadsClass n) (ReadsPat n) (ReadsTarget n) (ReadsParams n) (ReadsNamedClass n) (expr_opens n) (λ j name y a b r. r.0.is_class) k at x c d h
+
+-- a list of decorators begins with `@`
+pub decorators_begin : (n : ℕ) (k : Code) (y : Tree) (ys : List Tree) (c d : Place) → ReadsDecorators n k (y ∷ ys) c d → kind_at c ≡ kind.At
+decorators_begin n k y ys c d (no_decorators i e, h) = cc
+decorators_begin n k y ys c d (some_decorators z zs o (m, decorator_rule w i r f, rs) e, h) = i
+
+either_goes : (n : ℕ) (k : Code) (at : Position) (x : Tree) (c d : Place) → EitherRule (StmtRule (ReadsStmt n) (ReadsClass n) (ReadsPat n) (ReadsTarget n) (ReadsParams n) (ReadsNamedClass n) k at x c d)
+    (DecoratedRule (ReadsDecorators n) (ReadsDeclared n) k at x c d) → Goes c
+unfolding same_kind
+either_goes n k at x c d (plain_statement r) = (plain_goes n k at x c d r).0
+either_goes n k at x c d (decorated_statement r) = goes c kind.At (decorators_begin n k r.first r.others c r.middle r.reads_decorators) (refl, refl, refl, refl, refl)
+
 pub stmt_goes : (n : ℕ) (k : Code) (at : Position) (x : Tree) (c d : Place) → ReadsStmt n k at x c d → Goes c
 stmt_goes zero k at x c d h = absurd h
-stmt_goes (suc n) k at x c d h = rule_goes (ReadsStmt n) (ReadsClass n) (ReadsPat n) (ReadsTarget n) (ReadsParams n) (ReadsNamedClass n) (expr_opens n) (λ j name y a b r. r.0.is_class) k at x c d h
+stmt_goes (suc n) k at x c d h = either_goes n k at x c d h

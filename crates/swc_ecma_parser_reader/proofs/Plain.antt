@@ -11,7 +11,7 @@ use Rattle.swc_ecma_parser_reader.specs.Reader as reader
 use Rattle.swc_ecma_parser_model.specs.declared.leaves.Ident.{Ident}
 use Rattle.swc_ecma_parser_grammar.specs.Parameters.{parameters}
 use Rattle.swc_ecma_parser_reader.proofs.expressions.SoundSteps.{reject_meets, meets_as}
-use Rattle.std.proofs.Common.{◌≡◌, ℕ, zero, suc, ◌+◌, ◌-◌, ◌<◌, Bool, true, false, cond, List, [], ◌∷◌, ◌++◌, length, replicate, count_by, Ok, Err, refl, ap, ◌∙◌, arith, Option, is_some, Some, None, sym}
+use Rattle.std.proofs.Common.{◌≡◌, ℕ, zero, suc, ◌+◌, ◌-◌, ◌<◌, Bool, true, false, cond, List, [], ◌∷◌, ◌++◌, length, replicate, count_by, Ok, Err, refl, ap, ◌∙◌, arith, Option, is_some, Some, None, sym, subst}
 use Rattle.std.specs.Str.{bytes_eq}
 use Rattle.swc_ecma_parser_error.specs.Kind.{Fault}
 use Rattle.swc_ecma_parser_grammar.specs.Own.{only, duplicates, labelled_function}
@@ -19,8 +19,12 @@ use Rattle.swc_ecma_parser_grammar.specs.language.Items.{labelled_item, sub_stat
 use Rattle.swc_ecma_parser_reader.specs.Members.{class_parts, named_class, class_decl, class_stmt}
 use Rattle.swc_ecma_parser_reader.specs.State.{coded, below, below_label, fault, fault_at, recorded_at, recorded_in, noted, reference, State, Outcome, Reader, and_then, moved, within, wanted, name, expect, end}
 use Rattle.swc_ecma_parser_reader.specs.Methods.{star}
-use Rattle.swc_ecma_parser_reader.specs.Reader.{told, named, with_stmt, note_with, await_here, unless_awaited, misdirected, function_body, function_parts, function_decl, function_stmt, expr, head_cover, pattern, member, function_word, async_or_other, items, closes, close, declarators, link, alternative, head, clauses, target, unbroken, uncontinued, operand, braced, handler, finalizer, handled, optional_end, Opening, as_init, as_left, opening, head_part, misdeclared, labelled_body, relabels, no_label, note_statement, empty, debugger, variables, block, block_from, expr_stmt, expr_stmt_at, import_stmt, import_stmt_at, thrown, throw, while_stmt, do_while, for_parts, for_in, for_of, for_behind, for_stmt, goes_on, links, if_stmt, break_stmt, continue_stmt, returned, return_stmt, misplaced, begins_label, labeled_stmt, other_stmt, switch_stmt, try_stmt, const_stmt, let_stmt, stmt_by, stmt_level, stmt, misusing, using_from, using_stmt, using_or_other}
-use Rattle.swc_ecma_parser_reader.proofs.Meets.{meets_then, Meets, Refuses, always, meets_if, wanted_meets, too_deep_meets, refuse_meets, meant}
+use Rattle.swc_ecma_parser_reader.specs.DecoratedStatements.{either_stmt}
+use Rattle.swc_ecma_parser_reader.proofs.decorators.Declared.{declared_is_bare}
+use Rattle.swc_ecma_parser_reader.proofs.decorators.Either.{either_at}
+use Rattle.swc_ecma_parser_reader.proofs.decorators.Labels.{either_unlabelled}
+use Rattle.swc_ecma_parser_reader.specs.Reader.{decorated_in, told, named, with_stmt, note_with, await_here, unless_awaited, misdirected, function_body, function_parts, function_decl, function_stmt, expr, head_cover, pattern, member, function_word, async_or_other, items, closes, close, declarators, link, alternative, head, clauses, target, unbroken, uncontinued, operand, braced, handler, finalizer, handled, optional_end, Opening, as_init, as_left, opening, head_part, misdeclared, labelled_body, relabels, no_label, note_statement, empty, debugger, variables, block, block_from, expr_stmt, expr_stmt_at, import_stmt, import_stmt_at, thrown, throw, while_stmt, do_while, for_parts, for_in, for_of, for_behind, for_stmt, goes_on, links, if_stmt, break_stmt, continue_stmt, returned, return_stmt, misplaced, begins_label, labeled_stmt, other_stmt, switch_stmt, try_stmt, const_stmt, let_stmt, stmt_by, stmt_level, stmt, misusing, using_from, using_stmt, using_or_other}
+use Rattle.swc_ecma_parser_reader.proofs.Meets.{meets_then, Meets, Refuses, always, meets_if, wanted_meets, too_deep_meets, refuse_meets, meant, saw}
 use Rattle.std.specs.Prelude.{◌&&◌, ◌||◌, codes}
 use Rattle.std.proofs.lemmas.List.Recursion.{is_count_by}
 use Rattle.swc_ecma_parser_common.specs.declared.span.Span.{Span}
@@ -152,13 +156,13 @@ module _ (inner : Position → Reader Tree) (inner_expr : Class → Reader Tree)
 
   for_in_plain : (start : Span) (o : Opening) (s : State) → Meets Plain (for_in (inner sub_statement) inner_expr start o s)
   unfolding for_in
-  for_in_plain start o s = always Plain (as_left false o s) _ (λ x t. always Plain (misdeclared t.code.flags.strict x t) _ (λ _ u.
+  for_in_plain start o s = always Plain (as_left o s) _ (λ x t. always Plain (misdeclared t.code.flags.strict x t) _ (λ _ u.
       always Plain (within with_in (inner_expr expression) (moved u)) _ (λ y v. always Plain (expect kind.RParen v) _ (λ _ w.
       always Plain (within in_loop (inner sub_statement) w) _ (λ f r b. refl)))))
 
   for_of_plain : (w : Bool) (start : Span) (o : Opening) (s : State) → Meets Plain (for_of (inner sub_statement) inner_expr w start o s)
   unfolding for_of
-  for_of_plain w start o s = always Plain (as_left w o s) _ (λ x t. always Plain (misdeclared true x t) _ (λ _ u.
+  for_of_plain w start o s = always Plain (as_left o s) _ (λ x t. always Plain (misdeclared true x t) _ (λ _ u.
       always Plain (within with_in (inner_expr assignment) (moved u)) _ (λ y v. always Plain (expect kind.RParen v) _ (λ _ w.
       always Plain (within in_loop (inner sub_statement) w) _ (λ f r b. refl)))))
 
@@ -176,7 +180,7 @@ module _ (inner : Position → Reader Tree) (inner_expr : Class → Reader Tree)
   for_plain : (s : State) → Meets Plain (for_stmt (inner sub_statement) inner_expr inner_pat inner_head s)
   unfolding for_stmt
   for_plain s = always Plain (await_here (moved s)) _ (λ word v. always Plain (expect kind.LParen v) _ (λ _ t.
-      always Plain (opening inner_expr inner_pat inner_head t) _ (λ o u. for_behind_plain (span_at s.at) word o u)))
+      always Plain (opening inner_expr inner_pat inner_head (is_some word) t) _ (λ o u. for_behind_plain (span_at s.at) word o u)))
 
   import_plain : (s : State) → Meets Plain (import_stmt_at (inner_expr expression) s)
   unfolding import_stmt_at import_stmt
@@ -287,10 +291,36 @@ module _ (inner : Position → Reader Tree) (inner_expr : Class → Reader Tree)
   by_told at kind.Export s e = import_plain s
   by_told at _ s e = other_plain at s
 
+-- of what is no function a label tells nothing
+untold : (j : TokenKind) (b : Bool) (o : Outcome Tree) → same_kind j kind.Function ≡ false → Meets (Told j b) o → Meets Plain o
+untold j b o e h = meets_as o h (λ x t g strict. g strict ∙ ap (λ z. cond z (only strict faults.LabelledFunctionInStrict (span_of x) ++ only b faults.LabelledGeneratorOrAsync (span_of x)) []) e)
+
+unseen_told : (j : TokenKind) (b : Bool) (o : Outcome Tree) → same_kind j kind.Function ≡ false → Meets Plain o → Meets (Told j b) o
+unseen_told j b o e h = meets_as o h (λ x t g strict. g strict ∙ sym (ap (λ z. cond z (only strict faults.LabelledFunctionInStrict (span_of x) ++ only b faults.LabelledGeneratorOrAsync (span_of x)) []) e))
+
+module _ (n : ℕ) (at : Position) where
+  abbrev plain : Position → Reader Tree
+  plain = stmt_level (stmt n) (expr n) (pattern n) (head_cover n) (reader.parameters n) (member n)
+
+  level_told : (s : State) → Meets (Told (kind_at s.at) (is_starred s)) (plain at s)
+  unfolding stmt_level
+  level_told s = by_told (stmt n) (expr n) (pattern n) (head_cover n) (reader.parameters n) (member n) at (kind_at s.at) s refl
+
+  -- behind decorators none is told of
+  either_told : (s : State) → Meets (Told (kind_at s.at) (is_starred s)) (either_stmt plain (decorated_in n) at s)
+  unfolding same_kind
+  either_told s = by_first (sees kind.Function s.at) refl
+    where
+      by_first : (b : Bool) → sees kind.Function s.at ≡ b → Meets (Told (kind_at s.at) (is_starred s)) (either_stmt plain (decorated_in n) at s)
+      by_first true e = subst (Meets (Told (kind_at s.at) (is_starred s))) (sym (either_at plain (decorated_in n) at s kind.Function (saw s.at kind.Function e) refl)) (level_told s)
+      by_first false e = unseen_told (kind_at s.at) (is_starred s) (either_stmt plain (decorated_in n) at s) e
+          (either_unlabelled plain at (λ t f. untold (kind_at t.at) (is_starred t) (plain at t) f (level_told t))
+          (λ t. declared_is_bare (stmt n) (expr n) (pattern n) (head_cover n) (reader.parameters n) (member n) at t) (decorated_in n) s e)
+
 stmt_meets_told : (n : ℕ) (at : Position) (s : State) → Meets (Told (kind_at s.at) (is_starred s)) (stmt n at s)
-unfolding stmt stmt_level
+unfolding stmt
 stmt_meets_told zero at s = too_deep_meets (Told (kind_at s.at) (is_starred s)) s
-stmt_meets_told (suc n) at s = by_told (stmt n) (expr n) (pattern n) (head_cover n) (reader.parameters n) (member n) at (kind_at s.at) s refl
+stmt_meets_told (suc n) at s = either_told n at s
 
 -- ---- the faults of a label
 

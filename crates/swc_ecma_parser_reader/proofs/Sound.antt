@@ -1,11 +1,14 @@
 -- What is read is in the grammar where nothing was recorded, and the faults of the table are the walk's.
-use Rattle.swc_ecma_parser_reader.proofs.Words.{async_begins, or_later, begins_function}
+use Rattle.swc_ecma_parser_reader.proofs.Words.{async_begins, or_later, begins_function, tested}
 use Rattle.swc_ecma_parser_reader.proofs.SoundFunctions.{body_from_sound, braces_sound, in_braces, arrow_block_sound, function_expr_sound, function_stmt_sound, function_decl_sound, GetterRead, SetterRead, MethodRead as MethodIs, getter_sound, setter_sound, method_sound, getter_stays, setter_stays, method_stays}
 use Rattle.swc_ecma_parser_reader.specs.Reader as reader
 use Rattle.swc_ecma_parser_reader.specs.Members.{class_expr, class_stmt}
 use Rattle.swc_ecma_parser_reader.proofs.classes.Shared.{Declared}
 use Rattle.swc_ecma_parser_reader.proofs.classes.SoundMembers.{member_level_sound}
 use Rattle.swc_ecma_parser_reader.proofs.classes.SoundClasses.{class_expr_sound, class_stmt_sound}
+use Rattle.swc_ecma_parser_reader.proofs.decorators.Sound.{decorated_sound}
+use Rattle.swc_ecma_parser_reader.proofs.decorators.Declared.{level_declares, export_meets}
+use Rattle.swc_ecma_parser_reader.proofs.decorators.SoundStatements.{either_sound}
 use Rattle.swc_ecma_parser_reader.proofs.patterns.Sound as patterns
 use Rattle.swc_ecma_parser_reader.proofs.patterns.Sound.{SoundParams, Unwrapped}
 use Rattle.swc_ecma_parser_reader.proofs.expressions.Sound as expressions
@@ -18,7 +21,7 @@ use Rattle.swc_ecma_parser_grammar.specs.Reads.{labeled_rule, with_rule, class_r
 use Rattle.swc_ecma_parser_grammar.specs.Own.{labelled_function, duplicates}
 use Rattle.swc_ecma_parser_reader.proofs.SoundParts.{relabels_sound, SoundWith, note_with_sound, using_sound, end_sound, optional_end_sound, Declarators, declarators_sound, inside_sound, variables_sound, code_stays, items_sound, NoLabel, no_label_sound, NoNote, SoundNote, note_sound, and_false, unbroken_sound, uncontinued_sound, misplaced_sound, target_sound, after_return_meets}
 use Rattle.swc_ecma_parser_grammar.specs.language.Items.{labelled_item, sub_statement}
-use Rattle.swc_ecma_parser_reader.specs.Reader.{begins_label, relabels, labelled_body, labeled_stmt, other_stmt, with_stmt, note_with, function_stmt, async_or_other, function_decl, variables, const_stmt, let_stmt, expr, cover, head_cover, pattern, element, member, function, function_by, getter, setter, plain_method, target, unbroken, break_stmt, uncontinued, continue_stmt, misplaced, operand, returned, return_stmt, empty, debugger, declarators, closes, close, items, block_from, block, braced, note_statement, no_label, expr_stmt, expr_stmt_at, optional_end, import_stmt, import_stmt_at, thrown, throw, head, while_stmt, do_while, Link, goes_on, condition, alternative, link_from, link, links, if_stmt, begins_clause, closes_clause, Clauses, clause_from, default_clause, case_clause, clause, clauses_turn, clauses, switch_stmt, begins_at, is_handled, handled, bound, parameter, finalizer, caught, handler, try_stmt, stmt_by, stmt_level, stmt, using_or_other}
+use Rattle.swc_ecma_parser_reader.specs.Reader.{begins_label, relabels, labelled_body, labeled_stmt, other_stmt, with_stmt, note_with, function_stmt, async_or_other, function_decl, variables, const_stmt, let_stmt, expr, cover, head_cover, pattern, element, decorated_in, member, function, function_by, getter, setter, plain_method, target, unbroken, break_stmt, uncontinued, continue_stmt, misplaced, operand, returned, return_stmt, empty, debugger, declarators, closes, close, items, block_from, block, braced, note_statement, no_label, expr_stmt, expr_stmt_at, optional_end, import_stmt, import_stmt_at, thrown, throw, head, while_stmt, do_while, Link, goes_on, condition, alternative, link_from, link, links, if_stmt, begins_clause, closes_clause, Clauses, clause_from, default_clause, case_clause, clause, clauses_turn, clauses, switch_stmt, begins_at, is_handled, handled, bound, parameter, finalizer, caught, handler, try_stmt, stmt_by, stmt_level, stmt, using_or_other}
 use Rattle.swc_ecma_parser_model.specs.declared.leaves.VarDeclKind.{VarDeclKind}
 use Rattle.swc_ecma_parser_model.specs.declared.leaves.VarDeclKind.TheVariants as decl
 use Rattle.swc_ecma_parser_grammar.specs.Variables.{begins_variables, is_var}
@@ -28,7 +31,8 @@ use Rattle.swc_ecma_parser_reader.proofs.expressions.Covers.{met}
 use Rattle.swc_ecma_parser_reader.proofs.expressions.Groups.{ReadsParts}
 use Rattle.swc_ecma_parser_reader.proofs.expressions.GroupLevels.{tied_at, begins_at as part_begins}
 use Rattle.swc_ecma_parser_reader.proofs.expressions.Heads.{SoundHead, head_expr_sound}
-use Rattle.swc_ecma_parser_reader.proofs.SoundFor.{SoundAs, looped_sound, for_sound}
+use Rattle.swc_ecma_parser_reader.proofs.SoundFor.{HeadSound, looped_sound, for_sound}
+use Rattle.swc_ecma_parser_grammar.proofs.UsingParts.{bound_target}
 use Rattle.std.specs.Prelude.{not, ◌&&◌, ◌||◌, is_some}
 use Rattle.swc_ecma_parser_common.specs.declared.span.Span.{Span}
 use Rattle.swc_ecma_parser_error.specs.Kind as faults
@@ -45,9 +49,9 @@ use Rattle.swc_ecma_parser_grammar.specs.Ends.{Ends, ends_at}
 use Rattle.swc_ecma_parser_grammar.specs.Follows.{may_begin_expression_statement, begins_import_expression, is_let_declaration, is_async_function}
 use Rattle.swc_ecma_parser_grammar.specs.language.Contexts.{in_loop, in_breakable, in_with}
 use Rattle.swc_ecma_parser_grammar.specs.language.Goals.{Class, expression, left_side}
-use Rattle.swc_ecma_parser_grammar.specs.ReadsSupported.{ReadsClass, ReadsPat, ReadsElement, ReadsTarget, ReadsStmt, ReadsParams, ReadsMember, ReadsNamedClass}
+use Rattle.swc_ecma_parser_grammar.specs.ReadsSupported.{ReadsClass, ReadsPat, ReadsElement, ReadsTarget, ReadsStmt, ReadsParams, ReadsDecorated, ReadsMember, ReadsNamedClass}
 use Rattle.swc_ecma_parser_grammar.specs.Walk as walks
-use Rattle.swc_ecma_parser_grammar.specs.Walk.{walk, env_of, tabled, drops}
+use Rattle.swc_ecma_parser_grammar.specs.Walk.{walk, env_of}
 use Rattle.swc_ecma_parser_grammar.specs.Notes.{notes, statement_note}
 use Rattle.swc_ecma_parser_grammar.specs.language.Noted.{has_meta}
 use Rattle.swc_ecma_parser_grammar.proofs.Tests.{or_no, and_yes, and_both}
@@ -64,7 +68,7 @@ use Rattle.swc_ecma_parser_reader.specs.Methods.{MethodForm, getter_form, setter
 use Rattle.swc_ecma_parser_grammar.specs.language.LeftSides.{is_callee}
 use Rattle.swc_ecma_parser_reader.specs.Expressions.{Cover}
 use Rattle.swc_ecma_parser_reader.proofs.expressions.SoundCovers.{SoundCover, HeadRead, Headed, MethodRead}
-use Rattle.swc_ecma_parser_reader.proofs.expressions.SoundSteps.{meets_as, FreeWord, name_sound, Takes, expect_sound, fault_sound, walks_push, notes_push, reference_sound}
+use Rattle.swc_ecma_parser_reader.proofs.expressions.SoundSteps.{meets_as, FreeWord, Takes, expect_sound, fault_sound, walks_push, notes_push, reference_sound}
 use Rattle.swc_ecma_parser_reader.proofs.Notes.{or_nil, or_true, notes_nil}
 use Rattle.swc_ecma_parser_reader.proofs.Meets.{Meets, Refuses, meets_then, meets_if, wanted_meets, too_deep_meets, refuse_meets, Turned, loop_answers, saw, meant}
 use Rattle.swc_ecma_parser_reader.proofs.Opens.{import_unnoted, chain_goes, chain_stops}
@@ -78,7 +82,7 @@ module _ (Stmt : Code → Position → Tree → Place → Place → Type 0) (Exp
     (sound : (at : Position) (s : State) → Meets (λ x t. SoundTree (λ k. Stmt k at) s x t) (inner at s))
     (sound_expr : (class : Class) (s : State) → Meets (λ x t. SoundTree (Expr class) s x t) (inner_expr class s))
     (sound_pat : (s : State) → Meets (λ x t. SoundTree Pat s x t) (inner_pat s))
-    (sound_head : (s : State) → Meets (λ v t. SoundAs Expr Target s v t) (inner_head s))
+    (sound_head : HeadSound Expr Pat Target inner_pat inner_head)
     (sound_params : (s : State) → Meets (λ ps t. Sound same (λ k l. walks.walks (env_of k l) false (trees ps)) (all_notes_of (trees ps)) (λ k. Params k ps) s t) (inner_params s))
     (sound_class : (at : Position) (s : State) → kind_at s.at ≡ kind.Class → Meets (λ x t. SoundTree (Declared Named at) s x t) (class_stmt (inner_expr left_side) inner_member at s))
     (unnoted : (k : Code) (x : Tree) (c d : Place) → begins_import_expression c ≡ true → Expr expression k x c d → statement_note x ≡ []) (at : Position) where
@@ -550,6 +554,7 @@ record Sounds (n : ℕ) : Type 0 where
   heads : (s : State) → Meets (λ v t. SoundHead n s v t) (head_cover n s)
   patterns : (s : State) → Meets (λ x t. SoundTree (ReadsPat n) s x t) (pattern n s)
   elements : (s : State) → Meets (λ x t. SoundTree (ReadsElement n) s x t) (element n s)
+  decorateds : (s : State) → Meets (λ x t. SoundTree (ReadsDecorated n) s x t) (decorated_in n s)
   members : (s : State) → Meets (λ x t. SoundTree (ReadsMember n) s x t) (member n s)
   stmts : (at : Position) (s : State) → Meets (λ x t. SoundTree (λ k. ReadsStmt n k at) s x t) (stmt n at s)
 
@@ -565,11 +570,6 @@ names : (n : ℕ) (s : State) → name_at s.code.flags s.at ≡ true → Meets (
 unfolding function function_by pattern
 names zero s h = too_deep_meets _ s
 names (suc n) s h = patterns.pattern_level_named (expr n) (cover n) (pattern n) (element n) s h
-
--- what is tested in module code
-tested : (m : Bool) (b : Bool) → (m ≡ true → b ≡ true) → (not m || b) ≡ true
-tested true b h = h refl
-tested false b h = refl
 
 module _ (n : ℕ) (k : Code) (x : Tree) (c d : Place) (key : Tree) where
   abbrev m : Bool
@@ -606,8 +606,13 @@ module _ (n : ℕ) (k : Code) (x : Tree) (c d : Place) (key : Tree) where
 
 module _ (n : ℕ) (b : Sounds n) where
   -- what the head of a loop begins with, as an expression and as a target
-  openings : (s : State) → Meets (λ v t. SoundAs (ReadsClass n) (ReadsTarget n) s v t) (head_cover n s)
-  openings s = meets_as (head_cover n s) (b.heads s) (λ v t p. sound_as s t refl refl refl (λ r. record { plain = r.plain; target = r.target }) p)
+  openings : HeadSound (ReadsClass n) (ReadsPat n) (ReadsTarget n) (pattern n) (head_cover n)
+  unfolding function function_by
+  openings = record {
+    covers = λ s. meets_as (head_cover n s) (b.heads s) (λ v t p. sound_as s t refl refl refl (λ r. record { plain = r.plain; target = r.target }) p);
+    names = names n;
+    targets = λ k x c d e h r. (bound_target n k x c d e h r.0, r.1);
+  }
 
   params : (s : State) → Meets (λ ps t. SoundParams n s ps t) (reader.parameters n s)
   params = patterns.parameter_list_sound n (expr n) (cover n) (pattern n) (element n) b.exprs b.covers b.patterns b.elements
@@ -649,27 +654,37 @@ module _ (n : ℕ) (b : Sounds n) where
           (method_sound (ReadsStmt n) (ReadsParams n) (stmt n nested_item) (b.stmts nested_item) (reader.parameters n) params (HeadRead n (method_form w g) key) key s m p w g)
           (λ x t q. sound_as s t refl refl refl (λ r. method_read n s.code x s.at t.at key w g r) q)
 
+module _ (n : ℕ) (b : Sounds n) where
+  exprs_sound : (class : Class) (s : State) → Meets (λ x t. SoundTree (ReadsClass (suc n) class) s x t) (expr (suc n) class s)
+  unfolding function expr
+  exprs_sound = expressions.level_sound n (expr n) (cover n) b.exprs b.covers (function n) (functions n b) (tied_at n) (parts n b)
+
 all_sound : (n : ℕ) → Sounds n
-unfolding function expr cover head_cover pattern element member stmt
+unfolding function expr cover head_cover pattern element decorated_in member stmt
 all_sound zero = record {
   exprs = λ class s. too_deep_meets _ s;
   covers = λ s. too_deep_meets _ s;
   heads = λ s. too_deep_meets _ s;
   patterns = λ s. too_deep_meets _ s;
   elements = λ s. too_deep_meets _ s;
+  decorateds = λ s. too_deep_meets _ s;
   members = λ s. too_deep_meets _ s;
   stmts = λ at s. too_deep_meets _ s;
 }
 all_sound (suc n) = let b = all_sound n in record {
-  exprs = expressions.level_sound n (expr n) (cover n) b.exprs b.covers (function n) (functions n b) (tied_at n) (parts n b);
+  exprs = exprs_sound n b;
   covers = expressions.cover_expr_sound n (expr n) (cover n) b.exprs b.covers (function n) (functions n b) (tied_at n) (parts n b);
   heads = head_expr_sound n (expr n) (cover n) b.exprs b.covers (function n) (functions n b) (tied_at n) (parts n b);
   patterns = patterns.pattern_level_sound n (expr n) (cover n) (pattern n) (element n) b.exprs b.covers b.patterns b.elements;
   elements = patterns.element_level_sound n (expr n) (cover n) (pattern n) (element n) b.exprs b.covers b.patterns b.elements;
-  members = member_level_sound n (expr n) (cover n) (stmt n nested_item) (reader.parameters n) b.exprs b.covers (b.stmts nested_item) (params n b);
-  stmts = level_sound (ReadsStmt n) (ReadsClass n) (ReadsPat n) (ReadsTarget n) (ReadsParams n) (ReadsNamedClass n) (stmt n) (expr n) (pattern n) (head_cover n) (reader.parameters n) (member n)
-      b.stmts b.exprs b.patterns (openings n b) (params n b) (class_stmt_sound n (expr n left_side) (member n) (b.exprs left_side) b.members)
-      (λ k x c d h r. import_unnoted n k x c d r h);
+  decorateds = decorated_sound n (expr n) (cover n) b.exprs b.covers (function n) (functions n b) (expr (suc n) expression) (exprs_sound n b expression);
+  members = member_level_sound n (expr n) (cover n) (stmt n nested_item) (reader.parameters n) b.exprs b.covers (b.stmts nested_item) (params n b) (decorated_in n) b.decorateds;
+  stmts = λ at. either_sound n (stmt_level (stmt n) (expr n) (pattern n) (head_cover n) (reader.parameters n) (member n)) at
+      (level_sound (ReadsStmt n) (ReadsClass n) (ReadsPat n) (ReadsTarget n) (ReadsParams n) (ReadsNamedClass n) (stmt n) (expr n) (pattern n) (head_cover n) (reader.parameters n) (member n)
+      b.stmts b.exprs b.patterns (openings n b) (params n b) (class_stmt_sound n (expr n left_side) (member n) (b.exprs left_side) b.members) (λ k x c d h r. import_unnoted n k x c d r h) at)
+      (λ s. level_declares (stmt n) (expr n) (pattern n) (head_cover n) (reader.parameters n) (member n) at s n (b.stmts nested_item) (params n b)
+      (class_stmt_sound n (expr n left_side) (member n) (b.exprs left_side) b.members))
+      (λ s. export_meets (stmt n) (expr n) (pattern n) (head_cover n) (reader.parameters n) (member n) at s (λ x t. ⊥)) (decorated_in n) b.decorateds;
 }
 
 -- an expression of a class is in the relation of the whole language within as many levels
@@ -683,7 +698,7 @@ cover_sound n = (all_sound n).covers
 pub head_cover_sound : (n : ℕ) (s : State) → Meets (λ v t. SoundHead n s v t) (head_cover n s)
 head_cover_sound n = (all_sound n).heads
 
-opens_sound : (n : ℕ) (s : State) → Meets (λ v t. SoundAs (ReadsClass n) (ReadsTarget n) s v t) (head_cover n s)
+opens_sound : (n : ℕ) → HeadSound (ReadsClass n) (ReadsPat n) (ReadsTarget n) (pattern n) (head_cover n)
 opens_sound n = openings n (all_sound n)
 
 -- so is a binding pattern, and one with its default, if one stands there
@@ -707,6 +722,10 @@ functions_sound n = functions n (all_sound n)
 -- a statement is in the grammar within as many levels
 pub stmt_sound : (n : ℕ) (at : Position) (s : State) → Meets (λ x t. SoundTree (λ k. ReadsStmt n k at) s x t) (stmt n at s)
 stmt_sound n = (all_sound n).stmts
+
+-- so is what stands behind the `@` of a decorator
+pub decorated_in_sound : (n : ℕ) (s : State) → Meets (λ x t. SoundTree (ReadsDecorated n) s x t) (decorated_in n s)
+decorated_in_sound n = (all_sound n).decorateds
 
 -- so are a member of a class, and a class that is declared or is an expression
 pub member_sound : (n : ℕ) (s : State) → Meets (λ x t. SoundTree (ReadsMember n) s x t) (member n s)

@@ -48,7 +48,7 @@ abbrev AllUntabled : List Fault → Type 0
 AllUntabled [] = Unit {0}
 AllUntabled (f ∷ fs) = (walks.is_tabled f.kind ≡ false) × AllUntabled fs
 
-only_untabled : (b : Bool) (k : Kind) (s : Span) → walks.is_tabled k ≡ false → AllUntabled (only b k s)
+pub only_untabled : (b : Bool) (k : Kind) (s : Span) → walks.is_tabled k ≡ false → AllUntabled (only b k s)
 only_untabled true k s e = (e, tt)
 only_untabled false k s e = tt
 
@@ -66,7 +66,7 @@ using_untabled : (b : Bool) (s : Span) (xs : List Tree) → AllUntabled (using_f
 using_untabled b s xs = both_untabled (only (not b) faults.UsingDeclNotEnabled s) (each_misused s xs) (only_untabled _ _ _ refl) (misused_untabled s xs)
 
 -- where nothing was recorded none was told
-untold_sound : (fs : List Fault) → AllUntabled fs → (s : State) → Meets (λ _ t. Sound same no_faults no_notes (λ k c d. (fs ≡ []) × (d ≡ c)) s t) (told fs s)
+pub untold_sound : (fs : List Fault) → AllUntabled fs → (s : State) → Meets (λ _ t. Sound same no_faults no_notes (λ k c d. (fs ≡ []) × (d ≡ c)) s t) (told fs s)
 untold_sound [] h s = sound_here s (refl, refl)
 untold_sound (f ∷ fs) (e, h) s = meets_then _ (fault f s) _ (fault_sound {table = []} (λ k c d. ⊥) f s (rw e refl)) (λ _ m p. meets_as (told fs m) (untold_sound fs h m) (λ _ t q.
     sound_as s t refl refl refl (λ (i, a, b). absurd a) (sound_then p q)))

@@ -36,14 +36,16 @@ use Rattle.swc_ecma_parser_reader.specs.State.{State, Outcome, Reader, moved, co
 use Rattle.swc_ecma_parser_reader.specs.Methods.{star}
 use Rattle.swc_ecma_parser_reader.specs.Expressions.{Cover}
 use Rattle.swc_ecma_parser_reader.specs.Reader as reader
-use Rattle.swc_ecma_parser_reader.specs.Reader.{told, named, items, closes, close, declarators, Link, link, link_from, condition, alternative, head, clauses, target, unbroken, uncontinued, operand, braced, handler, finalizer, handled, optional_end, note_with, await_here, unless_awaited, Opening, as_init, as_left, opening, head_part, misdeclared, misdirected, labelled_body, relabels, no_label, note_statement, empty, debugger, variables, block, block_from, expr_stmt, expr_stmt_at, import_stmt, import_stmt_at, thrown, throw, while_stmt, with_stmt, do_while, for_parts, for_in, for_of, for_behind, for_stmt, goes_on, links, if_stmt, break_stmt, continue_stmt, returned, return_stmt, misplaced, begins_label, labeled_stmt, other_stmt, switch_stmt, try_stmt, function_word, function_body, function_parts, function_decl, function_stmt, const_stmt, let_stmt, async_or_other, stmt_by, stmt_level, stmt, top_await_fault, top_await, whole_stmt, expr, head_cover, pattern, member, misusing, using_from, using_stmt, using_or_other}
+use Rattle.swc_ecma_parser_reader.specs.Reader.{decorated_in, told, named, items, closes, close, declarators, link, link_from, condition, alternative, head, clauses, target, unbroken, uncontinued, operand, braced, handler, finalizer, handled, optional_end, note_with, await_here, unless_awaited, Opening, as_init, as_left, opening, head_part, misdeclared, misdirected, labelled_body, relabels, no_label, note_statement, empty, debugger, variables, block, block_from, expr_stmt, expr_stmt_at, import_stmt, import_stmt_at, thrown, throw, while_stmt, with_stmt, do_while, for_parts, for_in, for_of, for_behind, for_stmt, goes_on, links, if_stmt, break_stmt, continue_stmt, returned, return_stmt, misplaced, begins_label, labeled_stmt, other_stmt, switch_stmt, try_stmt, function_word, function_body, function_parts, function_decl, function_stmt, const_stmt, let_stmt, async_or_other, stmt_by, stmt_level, stmt, top_await_fault, top_await, whole_stmt, expr, head_cover, pattern, member, misusing, using_from, using_stmt, using_or_other}
 use Rattle.swc_ecma_parser_reader.specs.Entry.{last_span, are_errors, TakesSome, TakesErrors, StandsAt, IsBehind}
 use Rattle.swc_ecma_parser_reader.proofs.Takes.{Falls}
-use Rattle.swc_ecma_parser_reader.proofs.Falls.{stmt_falls}
+use Rattle.swc_ecma_parser_reader.proofs.Falls.{stmt_falls, stmt_level_falls, expr_falls, pattern_falls, head_cover_falls, parameters_fall, member_falls, decorated_in_falls}
 use Rattle.swc_ecma_parser_reader.proofs.Meets.{Answers, Meets, Refuses, answers_then, answers_if, always, meets_then, meets_if, wanted_meets, too_deep_meets, refuse_meets, meant, saw}
 use Rattle.swc_ecma_parser_reader.proofs.Errors.{is_error, fault_here}
 use Rattle.swc_ecma_parser_reader.proofs.Behind.{NothingLost, Kept, Lost, Passes, behind_self, behind_after, end_keeps, expect_keeps, name_keeps, fault_keeps}
-use Rattle.swc_ecma_parser_reader.proofs.Keeps.{target_keeps, function_params_keep, function_body_keep, parameters_keep, stmt_keeps, expr_keeps, member_keeps, declarators_keeps, pattern_keeps}
+use Rattle.swc_ecma_parser_reader.proofs.Keeps.{target_keeps, function_params_keep, function_body_keep, parameters_keep, stmt_keeps, level_keeps, head_cover_keeps, expr_keeps, member_keeps, declarators_keeps, pattern_keeps, decorated_in_keeps}
+use Rattle.swc_ecma_parser_reader.proofs.decorators.Declared.{declared_is_bare}
+use Rattle.swc_ecma_parser_reader.proofs.decorators.Spans.{StandsPlainly, either_stands}
 use Rattle.swc_ecma_parser_reader.proofs.SoundParts.{after_return_meets}
 use Rattle.swc_ecma_parser_reader.proofs.expressions.SoundSteps.{reject_meets, meets_as}
 use Rattle.swc_ecma_parser_reader.proofs.expressions.Keeps.{star_keeps}
@@ -225,13 +227,13 @@ module _ (inner : Position → Reader Tree) (inner_expr : Class → Reader Tree)
 
     for_in_ends : (o : Opening) (s : State) → Meets (Ends c) (for_in (inner sub_statement) inner_expr (span_at c) o s)
     unfolding for_in spanned
-    for_in_ends o s = always _ (as_left false o s) _ (λ x t. always _ (misdeclared t.code.flags.strict x t) _ (λ _ u.
+    for_in_ends o s = always _ (as_left o s) _ (λ x t. always _ (misdeclared t.code.flags.strict x t) _ (λ _ u.
         always _ (within with_in (inner_expr expression) (moved u)) _ (λ y v. always _ (expect kind.RParen v) _ (λ _ w.
         always _ (within in_loop (inner sub_statement) w) _ (λ f r. inl refl)))))
 
     for_of_ends : (w : Bool) (o : Opening) (s : State) → Meets (Ends c) (for_of (inner sub_statement) inner_expr w (span_at c) o s)
     unfolding for_of spanned
-    for_of_ends w o s = always _ (as_left w o s) _ (λ x t. always _ (misdeclared true x t) _ (λ _ u.
+    for_of_ends w o s = always _ (as_left o s) _ (λ x t. always _ (misdeclared true x t) _ (λ _ u.
         always _ (within with_in (inner_expr assignment) (moved u)) _ (λ y v. always _ (expect kind.RParen v) _ (λ _ w.
         always _ (within in_loop (inner sub_statement) w) _ (λ f r. inl refl)))))
 
@@ -249,7 +251,7 @@ module _ (inner : Position → Reader Tree) (inner_expr : Class → Reader Tree)
   for_ends : (s : State) → Meets (Ends s.at) (for_stmt (inner sub_statement) inner_expr inner_pat inner_head s)
   unfolding for_stmt
   for_ends s = always _ (await_here (moved s)) _ (λ word v. always _ (expect kind.LParen v) _ (λ _ t.
-      always _ (opening inner_expr inner_pat inner_head t) _ (λ o u. for_behind_ends s.at word o u)))
+      always _ (opening inner_expr inner_pat inner_head (is_some word) t) _ (λ o u. for_behind_ends s.at word o u)))
 
   import_ends : (s : State) → Meets (Ends s.at) (import_stmt_at (inner_expr expression) s)
   unfolding import_stmt_at import_stmt
@@ -404,11 +406,6 @@ module _ (inner : Position → Reader Tree) (inner_expr : Class → Reader Tree)
     by_ends at kind.Export s e = import_ends s
     by_ends at _ s e = other_ends at s
 
-stmt_ends : (n : ℕ) (at : Position) (s : State) → Meets (Ends s.at) (stmt n at s)
-unfolding stmt stmt_level
-stmt_ends zero at s = too_deep_meets _ s
-stmt_ends (suc n) at s = by_ends (stmt n) (expr n) (pattern n) (head_cover n) (reader.parameters n) (member n) (stmt_keeps n) (expr_keeps n) (parameters_keep n) (member_keeps n) (pattern_keeps n) at (kind_at s.at) s refl
-
 -- ---- a statement on its tokens
 
 -- one at least, where fewer are left
@@ -424,16 +421,31 @@ takes_after : (c d : Place) → 1 ≤ length c.left → Passed (after c) d → T
 unfolding after
 takes_after c d l p = takes_first c d c.left refl l p
 
-stands : (s : State) (x : Tree) (t : State) → Ends s.at x t → IsBehind s t → length t.at.left + 1 ≤ length s.at.left → StandsAt x s.at t.at
+-- without decorators it begins with the first of its tokens
+pub stands : (s : State) (x : Tree) (t : State) → Ends s.at x t → IsBehind s t → length t.at.left + 1 ≤ length s.at.left → StandsPlainly x s.at t.at
 stands s x t (inl e) h l = record { end = t.at; takes = takes_all s.at t.at h.read h.tokens h.last l; span = e; behind = errors_here t.at }
 stands s x t (inr (e, k, p, z)) h l = let g : 1 ≤ length s.at.left = omega arith in record { end = e; takes = takes_after s.at e g p; span = k; behind = z }
 
-stands_by : (s : State) (o : Outcome Tree) → Meets (Ends s.at) o → Answers (Kept s) (Lost s) o → Falls 1 (length s.at.left) o → Meets (λ x t. StandsAt x s.at t.at) o
+stands_by : (s : State) (o : Outcome Tree) → Meets (Ends s.at) o → Answers (Kept s) (Lost s) o → Falls 1 (length s.at.left) o → Meets (λ x t. StandsPlainly x s.at t.at) o
 stands_by s (Ok p) h g l = stands s p.0 p.1 h g.0 l
 stands_by s (Err e) h g l = tt
 
+module _ (n : ℕ) (at : Position) where
+  abbrev plain : Position → Reader Tree
+  plain = stmt_level (stmt n) (expr n) (pattern n) (head_cover n) (reader.parameters n) (member n)
+
+  level_stands : (s : State) → Meets (λ x t. StandsPlainly x s.at t.at) (plain at s)
+  unfolding stmt_level
+  level_stands s = stands_by s (plain at s)
+      (by_ends (stmt n) (expr n) (pattern n) (head_cover n) (reader.parameters n) (member n) (stmt_keeps n) (expr_keeps n) (parameters_keep n) (member_keeps n) (pattern_keeps n) at (kind_at s.at) s refl)
+      (level_keeps (stmt n) (expr n) (pattern n) (head_cover n) (reader.parameters n) (member n) (stmt_keeps n) (expr_keeps n) (pattern_keeps n) (head_cover_keeps n) (parameters_keep n) (member_keeps n) at s s (behind_self s))
+      (stmt_level_falls (stmt n) (stmt_falls n) (expr n) (expr_falls n) (pattern n) (pattern_falls n) (head_cover n) (head_cover_falls n) (reader.parameters n) (parameters_fall n) (member n) (member_falls n) at s)
+
 stmt_stands : (n : ℕ) (at : Position) (s : State) → Meets (λ x t. StandsAt x s.at t.at) (stmt n at s)
-stmt_stands n at s = stands_by s (stmt n at s) (stmt_ends n at s) (stmt_keeps n at s s (behind_self s)) (stmt_falls n at s)
+unfolding stmt
+stmt_stands zero at s = too_deep_meets _ s
+stmt_stands (suc n) at s = either_stands (plain n at) at (level_stands n at)
+    (λ t. declared_is_bare (stmt n) (expr n) (pattern n) (head_cover n) (reader.parameters n) (member n) at t) (decorated_in n) (decorated_in_keeps n) (decorated_in_falls n) s
 
 -- ---- of a statement that stands in no other
 

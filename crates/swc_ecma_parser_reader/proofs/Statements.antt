@@ -12,7 +12,7 @@ use Rattle.swc_ecma_parser_input.specs.Place.{Place}
 use Rattle.swc_ecma_parser_model.specs.Tree.{Tree}
 use Rattle.swc_ecma_parser_grammar.specs.declared.position.Position.{Position}
 use Rattle.swc_ecma_parser_grammar.specs.Looks.{kind_at, sees, same_kind}
-use Rattle.swc_ecma_parser_grammar.specs.Names.{Code, name_at, identifier_at}
+use Rattle.swc_ecma_parser_grammar.specs.Names.{Code, identifier_at}
 use Rattle.swc_ecma_parser_grammar.specs.Follows.{may_begin_expression_statement, is_async_function, is_let_declaration, word_at}
 use Rattle.swc_ecma_parser_grammar.specs.ReadsSupported.{ReadsTop}
 use Rattle.swc_ecma_parser_grammar.specs.Walk.{walk, env_of}
@@ -25,6 +25,7 @@ use Rattle.swc_ecma_parser_reader.specs.Yields.{begins_yield}
 use Rattle.swc_ecma_parser_reader.specs.Arrows.{begins_named_arrow}
 use Rattle.swc_ecma_parser_reader.specs.AsyncArrows.{begins_async_arrow}
 use Rattle.swc_ecma_parser_reader.specs.Words.{begins_async_call}
+use Rattle.swc_ecma_parser_reader.specs.DecoratedStatements.{either_stmt}
 use Rattle.swc_ecma_parser_reader.specs.Reader.{expr_stmt, expr_stmt_at, begins_label, other_stmt, stmt_level, stmt, top_await, whole_stmt, expr}
 use Rattle.swc_ecma_parser_reader.specs.Entry.{StandsAt, statement_entry, statement_walk, statement_left, SoundStatement, ReadsSupportedStatement, CompleteStatement, AnswersStatement}
 use Rattle.swc_ecma_parser_reader.specs.Limits.{has_too_deep_token, has_out_of_memory_token}
@@ -101,7 +102,7 @@ before s ts = record s { at = record s.at { left = ts } }
 -- nothing but the fault is answered, in however many levels
 refused_in : (n : ℕ) (include_decl top_level : Bool) (s : State) (t : TokenAndSpan) (e : Error) (ts : List TokenAndSpan)
     → (u : State) × (stmt n (at_top include_decl top_level) (before s (record t { token = token.Error e } ∷ ts)) ≡ Err (fault_of e, u))
-unfolding stmt stmt_level other_stmt begins_label expr_stmt_at expr_stmt expr expr_level expression_expr assignment_expr cover_expr done_expr plain_expr begins_yield begins_named_arrow begins_async_arrow begins_async_call operators_expr binary_expr unary_expr awaits postfix left left_head primary literal marked_primary wanted too_deep kind_at same_kind identifier_at may_begin_expression_statement is_async_function is_let_declaration word_at
+unfolding stmt either_stmt stmt_level other_stmt begins_label expr_stmt_at expr_stmt expr expr_level expression_expr assignment_expr cover_expr done_expr plain_expr begins_yield begins_named_arrow begins_async_arrow begins_async_call operators_expr binary_expr unary_expr awaits postfix left left_head primary literal marked_primary wanted too_deep kind_at same_kind identifier_at may_begin_expression_statement is_async_function is_let_declaration word_at
 refused_in zero include_decl top_level s t e ts = (_, refl)
 refused_in (suc zero) true top_level s t e ts = (_, refl)
 refused_in (suc zero) false top_level s t e ts = (_, refl)
@@ -128,7 +129,7 @@ abbrev Ended : ℕ → Position → State → Type 0
 Ended n at s = (f : Fault) × (u : State) × (f.kind ≡ faults.Eof) × (stmt n at s ≡ Err (f, u))
 
 ended_in : (n : ℕ) (include_decl top_level : Bool) (s : State) → Ended n (at_top include_decl top_level) (before s [])
-unfolding stmt stmt_level other_stmt begins_label expr_stmt_at expr_stmt expr expr_level expression_expr assignment_expr cover_expr done_expr plain_expr begins_yield begins_named_arrow begins_async_arrow begins_async_call operators_expr binary_expr unary_expr awaits postfix left left_head primary literal marked_primary wanted too_deep kind_at same_kind identifier_at may_begin_expression_statement is_async_function is_let_declaration word_at
+unfolding stmt either_stmt stmt_level other_stmt begins_label expr_stmt_at expr_stmt expr expr_level expression_expr assignment_expr cover_expr done_expr plain_expr begins_yield begins_named_arrow begins_async_arrow begins_async_call operators_expr binary_expr unary_expr awaits postfix left left_head primary literal marked_primary wanted too_deep kind_at same_kind identifier_at may_begin_expression_statement is_async_function is_let_declaration word_at
 ended_in zero include_decl top_level s = (_, _, refl, refl)
 ended_in (suc zero) true top_level s = (_, _, refl, refl)
 ended_in (suc zero) false top_level s = (_, _, refl, refl)

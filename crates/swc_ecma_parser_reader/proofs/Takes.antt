@@ -1,6 +1,6 @@
 -- A reader never puts tokens back: its steps, and its loops.
 use Rattle.std.proofs.Common.{◌≡◌, ◌≢◌, ℕ, zero, suc, ◌+◌, ◌≤◌, Bool, true, false, cond, List, [], ◌∷◌, length, Ok, Err, refl, sym, ap, subst, arith}
-use Rattle.std.specs.Prelude.{nat_lt, ◌&&◌}
+use Rattle.std.specs.Prelude.{nat_lt, ◌&&◌, is_some}
 use Rattle.swc_ecma_parser_common.specs.declared.span.Span.{Span}
 use Rattle.swc_ecma_parser_error.specs.Kind as faults
 use Rattle.swc_ecma_parser_error.specs.Kind.{Kind, Fault, fault_of}
@@ -16,7 +16,7 @@ use Rattle.swc_ecma_parser_token.specs.Text.{word_text}
 use Rattle.swc_ecma_parser_grammar.specs.Looks.{kind_at, sees}
 use Rattle.swc_ecma_parser_grammar.specs.Names.{Code, is_name, is_identifier, may_bind_await}
 use Rattle.swc_ecma_parser_grammar.specs.Ends.{can_end}
-use Rattle.swc_ecma_parser_reader.specs.State.{State, Outcome, Reader, and_then, moved, coded, wanted, wanted_in, wanted_at, too_deep, too_deep_in, too_deep_at, refused, refuse, refuse_in, refuse_at, fault, recorded_in, recorded_at, expect, end, name, name_in, name_by, Step, More, Done, next_turn, after_turn, turns, loop, reference, unclean_name}
+use Rattle.swc_ecma_parser_reader.specs.State.{State, Outcome, Reader, labelled_as, and_then, moved, coded, wanted, wanted_in, wanted_at, too_deep, too_deep_in, too_deep_at, refused, refuse, refuse_in, refuse_at, fault, recorded_in, recorded_at, expect, end, name, name_in, name_by, Step, More, Done, next_turn, after_turn, turns, loop, reference, unclean_name}
 use Rattle.swc_ecma_parser_reader.specs.Reader.{close}
 
 -- an answer leaves at least k tokens fewer than n
@@ -215,3 +215,18 @@ module _ {A B : Type 0} (body : A → Reader (Step A B)) (h : (a : A) (s : State
   pub loop_falls : (a : A) (s : State) → Falls 0 (length s.at.left) (loop body a s)
   unfolding loop
   loop_falls a s = turns_fall (suc (length s.at.left)) a s
+
+-- a choice whose test is known
+pub falls_where : {A : Type 0} (k n : ℕ) (b : Bool) (x y : Outcome A) → (b ≡ true → Falls k n x) → Falls k n y → Falls k n (cond b x y)
+falls_where k n true x y h g = h refl
+falls_where k n false x y h g = g
+
+-- and one between readers
+pub falls_choice : {A : Type 0} (k n : ℕ) (b : Bool) (p q : Reader A) (s : State) → Falls k n (p s) → Falls k n (q s) → Falls k n (cond b p q s)
+falls_choice k n true p q s h g = h
+falls_choice k n false p q s h g = g
+
+-- a refusal said otherwise
+pub labelled_falls : {A : Type 0} (j n : ℕ) (o : Outcome A) → Falls j n o → Falls j n (labelled_as o)
+labelled_falls j n (Ok p) h = h
+labelled_falls j n (Err e) h = falls_if j n (is_some e.1.scope.mark) _ _ tt tt

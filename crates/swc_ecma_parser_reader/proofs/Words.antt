@@ -113,3 +113,8 @@ or_later false b h = h
 pub or_earlier : (a b : Bool) → (a || b) ≡ true → b ≡ false → a ≡ true
 or_earlier true b h g = refl
 or_earlier false b h g = let e : true ≡ false = sym h ∙ g in cc
+
+-- what is tested in module code
+pub tested : (m : Bool) (b : Bool) → (m ≡ true → b ≡ true) → (not m || b) ≡ true
+tested true b h = h refl
+tested false b h = refl

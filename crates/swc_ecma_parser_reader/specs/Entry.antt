@@ -65,12 +65,19 @@ pub record TakesErrors (c d : Place) : Type 0 where
   pub last : d.last ≡ last_span c.last errors
   pub are : are_errors errors ≡ true
 
--- A statement on its tokens: it goes from the first of them to the last. Error tokens behind it may be taken as well, with the
--- faults that are recorded of it.
+-- where a statement begins: with the first of its tokens, or behind decorators that it leaves out
+pub data StartsAt (c m : Place) : Type 0 where
+  at_once : m ≡ c → StartsAt c m
+  behind_decorators : kind_at c ≡ kind.At → TakesSome c m → StartsAt c m
+
+-- A statement on its tokens: it goes from the first of them, or of those behind decorators, to the last. Error tokens behind it may be
+-- taken as well, with the faults that are recorded of it.
 pub record StandsAt (x : Tree) (c d : Place) : Type 0 where
+  pub start : Place
+  pub starts : StartsAt c start
   pub end : Place
-  pub takes : TakesSome c end
-  pub span : span_of x ≡ spanned c end
+  pub takes : TakesSome start end
+  pub span : span_of x ≡ spanned start end
   pub behind : TakesErrors end d
 
 -- Statements on their tokens, one behind another, and whether one of them begins with `await`.

@@ -14,8 +14,11 @@ pub mod Heads
 pub mod Patterns
 pub mod Bodies
 pub mod Decorators
+pub mod DecoratedStatements
 pub mod Members
 pub mod Reader
+pub mod Dressed
+pub mod HeadWords
 pub mod DecoratorLevels
 pub mod Entry
 pub mod Limits

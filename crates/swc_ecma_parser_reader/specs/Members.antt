@@ -1,5 +1,5 @@
 -- The reader of classes: ECMA-262, section 15.7. What stands in a class is read one level further in, and what stands in a member one
--- more. No decorators are read. Auto-accessors are those of their proposal.
+-- more. Before members decorators are read, and auto-accessors are those of their proposal.
 use Rattle.std.specs.Prelude.{Bool, true, false, not, ◌&&◌, ◌||◌, if◌then◌else◌, List, [], ◌∷◌, ◌++◌, codes, Ok}
 use Rattle.swc_ecma_parser_common.specs.declared.span.Span.{Span}
 use Rattle.swc_ecma_parser_error.specs.Kind as faults
@@ -22,6 +22,7 @@ use Rattle.swc_ecma_parser_grammar.specs.Reads.{with_in}
 use Rattle.swc_ecma_parser_grammar.specs.language.Goals.{Class, assignment}
 use Rattle.swc_ecma_parser_grammar.specs.language.Contexts.{in_class, in_static_block, in_parameters}
 use Rattle.swc_ecma_parser_grammar.specs.language.Classes.{ends_key, is_static_word, is_accessor_word, method_member, field_member}
+use Rattle.swc_ecma_parser_reader.specs.Decorators.{Leading, leading, misplaced}
 use Rattle.swc_ecma_parser_reader.specs.Jumps.{told}
 use Rattle.swc_ecma_parser_reader.specs.Methods.{MethodForm, getter_form, setter_form, method_form, starred, is_bare}
 use Rattle.swc_ecma_parser_reader.specs.Operands.{Cover, private_name, inside, key}
@@ -53,10 +54,9 @@ member_words = λ s.
 unfoldable pub begins_words : Place → Bool
 begins_words c = begins_accessor (codes "get") c || (begins_accessor (codes "set") c || (begins_async_member c || sees kind.Mul c))
 
--- Whether no field goes on behind `accessor`, before any key: a static block does, with a `static` of its own or without it, or words or
--- `*` stand here.
-unfoldable pub begins_no_field : (is_static : Bool) → Place → Bool
-begins_no_field is_static c = (is_static && sees kind.LBrace c) || ((word_at (codes "static") c && sees kind.LBrace (after c)) || begins_words c)
+-- whether a static block goes on behind `accessor`, with a `static` of its own or without it
+unfoldable pub begins_block : (is_static : Bool) → Place → Bool
+begins_block is_static c = (is_static && sees kind.LBrace c) || (word_at (codes "static") c && sees kind.LBrace (after c))
 
 -- as the tree of a member has it
 abbrev pub kind_of_form : MethodForm → MethodKind
@@ -129,49 +129,50 @@ module _ (inner : Class → Reader Tree) (cover : Reader Cover) where
   unfoldable pub field_value : Reader Tree
   field_value = λ s. if sees kind.Assign s.at then inside inner cover assignment (moved s) else Ok (tree.absent, s)
 
-  unfoldable pub field_from : (is_static is_accessor : Bool) → Span → Tree → Reader Tree
-  field_from is_static is_accessor start x = do
+  unfoldable pub field_from : List Tree → (is_static is_accessor : Bool) → Span → Tree → Reader Tree
+  field_from decorators is_static is_accessor start x = do
     field_named x
     value ← field_value
     field_end
     span ← since start
-    pure (field_member span x value is_static is_accessor (listed []))
+    pure (field_member span x value is_static is_accessor (listed decorators))
 
-  unfoldable pub field : (is_static is_accessor : Bool) → Span → Tree → Reader Tree
-  field is_static is_accessor start x = λ s. if sees kind.Assign s.at || ends_at s.at then field_from is_static is_accessor start x s else wanted faults.Unexpected s
+  unfoldable pub field : List Tree → (is_static is_accessor : Bool) → Span → Tree → Reader Tree
+  field decorators is_static is_accessor start x = λ s. if sees kind.Assign s.at || ends_at s.at then field_from decorators is_static is_accessor start x s else wanted faults.Unexpected s
 
 -- ---- methods and constructors: what is read one level further in are statements and parameters
 
 module _ (stmt : Reader Tree) (params : Reader (List Tree)) where
   -- from behind the key; a member begins at a span, and its words at another
-  unfoldable pub method_parts : MethodForm → (start word : Span) → Reader Tree
-  method_parts form start word = do
+  unfoldable pub method_parts : List Tree → MethodForm → (start word : Span) → Reader Tree
+  method_parts decorators form start word = do
     ps ← within (λ k. in_parameters k (form_is_async form) (form_is_generator form)) params
     told (parameter_faults form word ps)
     body ← function_body stmt params (form_is_async form) (form_is_generator form)
     span ← since start
     misdirected (formal.parameters ps) body
-    pure (tree.function span (listed []) (formal.parameters ps) body (form_is_async form) (form_is_generator form))
+    pure (tree.function span (listed decorators) (formal.parameters ps) body (form_is_async form) (form_is_generator form))
 
-  unfoldable pub method : (is_static : Bool) → MethodForm → (start word : Span) → Tree → Reader Tree
-  method is_static form start word x = do
+  unfoldable pub method : List Tree → (is_static : Bool) → MethodForm → (start word : Span) → Tree → Reader Tree
+  method decorators is_static form start word x = do
     misnamed form start word x
-    fn ← method_parts form start word
+    fn ← method_parts decorators form start word
     pure (method_member (span_of fn) x fn (kind_of_form form) is_static)
 
-  -- a static one is a fault of its word, with which it begins
-  unfoldable pub constructor : (is_static : Bool) → Span → Tree → Reader Tree
-  constructor is_static start x = do
+  -- a static one is a fault of its word, which stands first behind any decorators
+  unfoldable pub constructor : (is_static : Bool) → (start first : Span) → Tree → Reader Tree
+  constructor is_static start first x = do
     ps ← params
     body ← function_body stmt params false false
     span ← since start
     misdirected (formal.parameters ps) body
-    told (only is_static faults.TS1089 start)
+    told (only is_static faults.TS1089 first)
     pure (tree.constructor span x (formal.parameters ps) body)
 
-  -- behind `(` on no word and no `*` stand before the key
-  unfoldable pub plain_method : (is_static : Bool) → (start word : Span) → Tree → Reader Tree
-  plain_method is_static start word x = λ s. if is_constructor_key x then constructor is_static start x s else method is_static (method_form false false) start word x s
+  -- before `(`, where no word and no `*` stand before the key
+  unfoldable pub plain_method : List Tree → (is_static : Bool) → (start first word : Span) → Tree → Reader Tree
+  plain_method decorators is_static start first word x = λ s.
+      if is_constructor_key x then constructor is_static start first x s else method decorators is_static (method_form false false) start word x s
 
   unfoldable pub static_block : Span → Reader Tree
   static_block start = do
@@ -180,75 +181,84 @@ module _ (stmt : Reader Tree) (params : Reader (List Tree)) where
     pure (tree.static_block span body)
 
   -- a second `static` is a fault of the first
-  unfoldable pub second_static : Span → Reader Tree
-  second_static start = do
-    fault (fault_at start faults.TS1184)
+  unfoldable pub second_static : (start first : Span) → Reader Tree
+  second_static start first = do
+    fault (fault_at first faults.TS1184)
     skip
     static_block start
 
-module _ (inner : Class → Reader Tree) (cover : Reader Cover) (stmt : Reader Tree) (params : Reader (List Tree)) where
-  unfoldable pub behind_key : (is_static : Bool) → MethodForm → (start word : Span) → Tree → Reader Tree
-  behind_key is_static form start word x = λ s.
-      if not (is_bare form) then method stmt params is_static form start word x s
-      else if sees kind.LParen s.at then plain_method stmt params is_static start word x s
-      else field inner cover is_static false start x s
+-- a constructor has no decorators
+unfoldable pub before_constructor : Leading → Tree → Reader (Unit {0})
+before_constructor v x = λ s. if is_constructor_key x then misplaced v s else Ok (tt, s)
 
-  unfoldable pub keyed_member : (is_static : Bool) → Span → Reader Tree
-  keyed_member is_static start = do
+-- ---- decorators were read before it is known whose they are: those before a constructor or a static block are dropped
+
+module _ (inner : Class → Reader Tree) (cover : Reader Cover) (stmt : Reader Tree) (params : Reader (List Tree)) where
+  unfoldable pub behind_key : Leading → (is_static : Bool) → MethodForm → (start first word : Span) → Tree → Reader Tree
+  behind_key v is_static form start first word x = λ s.
+      if not (is_bare form) then method stmt params v.found is_static form start word x s
+      else if sees kind.LParen s.at then (before_constructor v x >> plain_method stmt params v.found is_static start first word x) s
+      else field inner cover v.found is_static false start x s
+
+  unfoldable pub keyed_member : Leading → (is_static : Bool) → (start first : Span) → Reader Tree
+  keyed_member v is_static start first = do
     word ← span_here
     form ← member_words
     x ← member_key inner cover
-    behind_key is_static form start word x
+    behind_key v is_static form start first word x
 
   -- ---- behind `accessor`, where it is no key; the word stands at a span
 
   -- `static` and a block; it is a fault of the `static` before `accessor`, if one stands there
-  unfoldable pub static_behind : (is_static : Bool) → Span → Reader Tree
-  static_behind is_static start = λ s. if is_static then second_static stmt params start s else static_block stmt params start (moved s)
+  unfoldable pub static_behind : (is_static : Bool) → (start first : Span) → Reader Tree
+  static_behind is_static start first = λ s. if is_static then second_static stmt params start first s else static_block stmt params start (moved s)
 
-  -- what is no field is read as if `accessor` were not there
-  unfoldable pub unaccessed : (is_static : Bool) → Span → Reader Tree
-  unaccessed is_static start = λ s.
-      if is_static && sees kind.LBrace s.at then static_block stmt params start s
-      else if word_at (codes "static") s.at && sees kind.LBrace (after s.at) then static_behind is_static start s
-      else keyed_member is_static start s
+  -- a static block, with a `static` of its own or without it
+  unfoldable pub block_behind : (is_static : Bool) → (start first : Span) → Reader Tree
+  block_behind is_static start first = λ s. if is_static && sees kind.LBrace s.at then static_block stmt params start s else static_behind is_static start first s
 
   -- a method or a constructor that its `(` tells is a fault of `accessor` too
-  unfoldable pub behind_accessed_key : (is_static : Bool) → (start accessor word : Span) → Tree → Reader Tree
-  behind_accessed_key is_static start accessor word x = λ s.
-      if sees kind.LParen s.at then (fault (fault_at accessor faults.TS1184) >> plain_method stmt params is_static start word x) s
-      else field inner cover is_static true start x s
+  unfoldable pub behind_accessed_key : Leading → (is_static : Bool) → (start first accessor word : Span) → Tree → Reader Tree
+  behind_accessed_key v is_static start first accessor word x = λ s.
+      if sees kind.LParen s.at then (before_constructor v x >> (fault (fault_at accessor faults.TS1184) >> plain_method stmt params v.found is_static start first word x)) s
+      else field inner cover v.found is_static true start x s
 
-  unfoldable pub accessed_key : (is_static : Bool) → (start accessor : Span) → Reader Tree
-  accessed_key is_static start accessor = do
+  unfoldable pub accessed_key : Leading → (is_static : Bool) → (start first accessor : Span) → Reader Tree
+  accessed_key v is_static start first accessor = do
     word ← span_here
     x ← member_key inner cover
-    behind_accessed_key is_static start accessor word x
+    behind_accessed_key v is_static start first accessor word x
 
-  unfoldable pub accessed : (is_static : Bool) → (start accessor : Span) → Reader Tree
-  accessed is_static start accessor = λ s.
-      if begins_no_field is_static s.at then (fault (fault_at accessor faults.TS1184) >> unaccessed is_static start) s
-      else accessed_key is_static start accessor s
+  -- what is no field is a fault of `accessor`, and read as if the word were not there
+  unfoldable pub accessed : Leading → (is_static : Bool) → (start first accessor : Span) → Reader Tree
+  accessed v is_static start first accessor = λ s.
+      if begins_block is_static s.at then (misplaced v >> (fault (fault_at accessor faults.TS1184) >> block_behind is_static start first)) s
+      else if begins_words s.at then (fault (fault_at accessor faults.TS1184) >> keyed_member v is_static start first) s
+      else accessed_key v is_static start first accessor s
 
-  unfoldable pub accessor_member : (is_static : Bool) → Span → Reader Tree
-  accessor_member is_static start = do
+  unfoldable pub accessor_member : Leading → (is_static : Bool) → (start first : Span) → Reader Tree
+  accessor_member v is_static start first = do
     accessor ← span_here
     skip
-    accessed is_static start accessor
+    accessed v is_static start first accessor
 
   -- from behind `static`, if it stands there
-  unfoldable pub behind_static : (is_static : Bool) → Span → Reader Tree
-  behind_static is_static start = λ s.
-      if is_accessor_word s.code s.at then accessor_member is_static start s
-      else if is_static && sees kind.LBrace s.at then static_block stmt params start s
-      else if is_static && (word_at (codes "static") s.at && sees kind.LBrace (after s.at)) then second_static stmt params start s
-      else keyed_member is_static start s
+  unfoldable pub behind_static : Leading → (is_static : Bool) → (start first : Span) → Reader Tree
+  behind_static v is_static start first = λ s.
+      if is_accessor_word s.code s.at then accessor_member v is_static start first s
+      else if is_static && sees kind.LBrace s.at then (misplaced v >> static_block stmt params start) s
+      else if is_static && (word_at (codes "static") s.at && sees kind.LBrace (after s.at)) then (misplaced v >> second_static stmt params start first) s
+      else keyed_member v is_static start first s
 
-  unfoldable pub full_member : Reader Tree
-  full_member = do
-    start ← span_here
-    is_static ← static_word
-    behind_static is_static start
+  -- what stands behind the `@` of a decorator is read by a reader of its own
+  module _ (further : Reader Tree) where
+    unfoldable pub full_member : Reader Tree
+    full_member = do
+      start ← span_here
+      v ← leading further
+      first ← span_here
+      is_static ← static_word
+      behind_static v is_static start first
 
   unfoldable pub empty_member : Reader Tree
   empty_member = do
@@ -257,8 +267,8 @@ module _ (inner : Class → Reader Tree) (cover : Reader Cover) (stmt : Reader T
     span ← since start
     pure (tree.empty_member span)
 
-  unfoldable pub member_level : Reader Tree
-  member_level = λ s. if sees kind.Semi s.at then empty_member s else full_member s
+  unfoldable pub member_level : Reader Tree → Reader Tree
+  member_level further = λ s. if sees kind.Semi s.at then empty_member s else full_member further s
 
 -- ---- classes
 

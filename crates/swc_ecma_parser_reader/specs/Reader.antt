@@ -16,20 +16,22 @@ use Rattle.swc_ecma_parser_model.specs.Forms.{is_ident, is_ident_named, span_of}
 use Rattle.swc_ecma_parser_grammar.specs.declared.position.Position.{Position}
 use Rattle.swc_ecma_parser_grammar.specs.Looks.{kind_at, breaks_at, sees, span_at}
 use Rattle.swc_ecma_parser_grammar.specs.Names.{Code, name_at}
-use Rattle.swc_ecma_parser_grammar.specs.Follows.{word_at, may_begin_expression_statement, begins_import_expression, is_let_declaration, is_async_function}
+use Rattle.swc_ecma_parser_grammar.specs.Follows.{word_at, may_begin_expression_statement, begins_import_expression, is_let_declaration, is_async_function, begins_async_of}
 use Rattle.swc_ecma_parser_grammar.specs.Variables.{is_const, needs_no_initializer}
 use Rattle.swc_ecma_parser_grammar.specs.Reads.{with_in, head_code, nested_item, top_item}
-use Rattle.swc_ecma_parser_grammar.specs.Own.{labelled_function, duplicates, head_faults}
-use Rattle.swc_ecma_parser_grammar.specs.Using.{is_using_declaration}
+use Rattle.swc_ecma_parser_grammar.specs.Own.{only, labelled_function, duplicates, head_faults}
+use Rattle.swc_ecma_parser_grammar.specs.Using.{is_using_declaration, may_declare_using, stands_in_head}
 use Rattle.swc_ecma_parser_grammar.specs.Entries.{script_code}
 use Rattle.swc_ecma_parser_grammar.specs.language.Contexts.{in_loop, in_breakable, in_with, without_in}
 use Rattle.swc_ecma_parser_grammar.specs.language.Goals.{Class, expression, assignment, left_side}
 use Rattle.swc_ecma_parser_grammar.specs.language.Items.{sub_statement, labelled_item}
 use Rattle.swc_ecma_parser_reader.specs.Expressions as exprs
 use Rattle.swc_ecma_parser_reader.specs.Expressions.{Cover}
-use Rattle.swc_ecma_parser_reader.specs.Heads.{head_expr}
+use Rattle.swc_ecma_parser_reader.specs.Heads.{head_expr, head_behind_async}
 use Rattle.swc_ecma_parser_reader.specs.Methods.{FunctionForm, expression_form, class_form, property_form, getter_form, setter_form, method_form, parameter_form, block_form}
 unfoldable pub use Rattle.swc_ecma_parser_reader.specs.Bodies.{closes, at_end, close, directs, after_item, items_turn, items, block_from, block, braced, misdirected, named, function_word, own_name, no_parameter, one_parameter, function_body, function_parts, function_decl, function_expr, getter, setter, plain_method, arrow_block}
+use Rattle.swc_ecma_parser_reader.specs.Decorators.{decorated}
+use Rattle.swc_ecma_parser_reader.specs.DecoratedStatements.{either_stmt}
 use Rattle.swc_ecma_parser_reader.specs.Members.{member_level, class_expr, class_stmt}
 unfoldable pub use Rattle.swc_ecma_parser_reader.specs.Jumps.{told, target, unbroken, break_stmt, uncontinued, continue_stmt, misplaced, after_return, operand, returned, return_stmt}
 unfoldable pub use Rattle.swc_ecma_parser_reader.specs.Using.{misusing, using_from, using_stmt}
@@ -207,19 +209,35 @@ module _ (stmt : Reader Tree) (expr : Reader Tree) where
 pub data Opening : Type 0 where
   Nothing : Opening
   Variables : Tree → Opening
+  -- what is declared with `using`
+  Resource : Tree → Opening
+  -- a name before another
+  Named : Tree → Opening
   Expression : Cover → Opening
+
+-- behind a name before another a `;` is asked for, as behind an expression
+unfoldable pub unfollowed : Reader Tree
+unfollowed = expect kind.Semi >> wanted faults.Unexpected
 
 -- as the first part of three
 abbrev pub as_init : Opening → Reader Tree
 as_init Nothing = pure tree.absent
 as_init (Variables x) = pure x
+as_init (Resource x) = unfollowed
+as_init (Named p) = unfollowed
 as_init (Expression v) = exprs.close v
 
--- as what takes each value; behind `for await` the name `async` alone is not read yet
-abbrev pub as_left : (is_await : Bool) → Opening → Reader Tree
-as_left is_await Nothing = wanted faults.Unexpected
-as_left is_await (Variables x) = pure x
-as_left is_await (Expression v) = λ s. if is_await && is_ident_named (codes "async") v.x then wanted faults.Unexpected s else exprs.target v s
+-- as what takes each value
+abbrev pub as_left : Opening → Reader Tree
+as_left Nothing = wanted faults.Unexpected
+as_left (Variables x) = pure x
+as_left (Resource x) = pure x
+as_left (Named p) = pure p
+as_left (Expression v) = exprs.target v
+
+-- nothing is declared with `using` before `in`
+unfoldable pub undeclared : Span → Reader (Unit {0})
+undeclared span = λ s. told (only (sees kind.In s.at) faults.UsingDeclNotAllowedForForInLoop span) s
 
 module _ (expr : Class → Reader Tree) (pat : Reader Tree) where
   -- what a head declares, without an end
@@ -231,19 +249,50 @@ module _ (expr : Class → Reader Tree) (pat : Reader Tree) where
     span ← since start
     pure (Variables (tree.var span word (listed found)))
 
+  -- what `using` declares, from the name on
+  unfoldable pub using_head : Span → Reader Opening
+  using_head start = do
+    first ← span_here
+    name ← pat
+    span ← since first
+    whole ← since start
+    undeclared whole
+    pure (Resource (tree.using whole false (listed (tree.declarator span name tree.absent ∷ []))))
+
+  -- a name before another: `using` declares where `in` or `of` stands behind that
+  unfoldable pub named_head : Reader Opening
+  named_head = do
+    start ← span_here
+    p ← pat
+    λ s. if stands_in_head (after s.at) then using_head start s else Ok (Named p, s)
+
+  -- `async` before `of`
+  unfoldable pub async_head : Reader Opening
+  async_head = do
+    p ← within without_in pat
+    pure (Named p)
+
   module _ (head_cover : Reader Cover) where
     unfoldable pub head_expression : Reader Opening
     head_expression = do
       v ← within without_in head_cover
       pure (Expression v)
 
-    unfoldable pub opening : Reader Opening
-    opening = λ s.
+    -- `async` before `of` on its line: a name alone, or the head of an arrow function
+    unfoldable pub async_or_expression : Reader Opening
+    async_or_expression = λ s. if begins_async_of s.at then async_head s else head_expression s
+
+    unfoldable pub head_target : (is_await : Bool) → Reader Opening
+    head_target is_await = λ s. if is_await then async_or_expression s else head_expression s
+
+    unfoldable pub opening : (is_await : Bool) → Reader Opening
+    opening is_await = λ s.
         if sees kind.Semi s.at then Ok (Nothing, s)
         else if sees kind.Var s.at then head_variables decl.Var s
         else if sees kind.Const s.at then head_variables decl.Const s
         else if is_let_declaration s.at then head_variables decl.Let s
-        else head_expression s
+        else if may_declare_using s.code s.at then named_head s
+        else head_target is_await s
 
 -- a part of a head, unless what stands behind it does
 unfoldable pub head_part : TokenKind → Reader Tree → Reader Tree
@@ -280,7 +329,7 @@ module _ (stmt : Reader Tree) (expr : Class → Reader Tree) where
 
   unfoldable pub for_in : Span → Opening → Reader Tree
   for_in start first = do
-    left ← as_left false first
+    left ← as_left first
     λ s. misdeclared s.code.flags.strict left s
     skip
     right ← within with_in (expr expression)
@@ -291,7 +340,7 @@ module _ (stmt : Reader Tree) (expr : Class → Reader Tree) where
 
   unfoldable pub for_of : (is_await : Bool) → Span → Opening → Reader Tree
   for_of is_await start first = do
-    left ← as_left is_await first
+    left ← as_left first
     misdeclared true left
     skip
     right ← within with_in (expr assignment)
@@ -312,7 +361,7 @@ module _ (stmt : Reader Tree) (expr : Class → Reader Tree) where
     skip
     word ← await_here
     expect kind.LParen
-    first ← opening expr pat head_cover
+    first ← opening expr pat head_cover (is_some word)
     for_behind start word first
 
 -- ---- `if`: a chain of `else if` is one level
@@ -574,6 +623,7 @@ module _ (stmt : Position → Reader Tree) (expr : Class → Reader Tree) (pat :
   stmt_by at kind.Export = import_stmt_at (expr expression)
   stmt_by at _ = other_stmt stmt (expr expression) at
 
+  -- without decorators
   unfoldable pub stmt_level : Position → Reader Tree
   stmt_level at = λ s. stmt_by at (kind_at s.at) s
 
@@ -605,15 +655,25 @@ unfoldable mutual
   element zero = too_deep
   element (suc n) = element_level (expr n) (cover n) (pattern n) (element n)
 
+  -- what stands behind the `@` of a decorator; an expression in parentheses stands at the level of what it is the whole of
+  pub decorated_in : ℕ → Reader Tree
+  decorated_in zero = too_deep
+  decorated_in (suc n) = decorated (expr n) (cover n) (exprs.expr_level (expr n) (cover n) (function_by (stmt n nested_item) (parameter_list (expr n) (cover n) (pattern n) (element n)) (pattern n) (class_expr (expr n left_side) (member n))) expression)
+
   -- a member of a class
   pub member : ℕ → Reader Tree
   member zero = too_deep
-  member (suc n) = member_level (expr n) (cover n) (stmt n nested_item) (parameter_list (expr n) (cover n) (pattern n) (element n))
+  member (suc n) = member_level (expr n) (cover n) (stmt n nested_item) (parameter_list (expr n) (cover n) (pattern n) (element n)) (decorated_in n)
 
   -- a statement
   pub stmt : ℕ → Position → Reader Tree
   stmt zero at = too_deep
-  stmt (suc n) at = stmt_level (stmt n) (expr n) (pattern n) (head_cover n) (parameter_list (expr n) (cover n) (pattern n) (element n)) (member n) at
+  stmt (suc n) at = either_stmt (stmt_level (stmt n) (expr n) (pattern n) (head_cover n) (parameter_list (expr n) (cover n) (pattern n) (element n)) (member n)) (decorated_in n) at
+
+-- what the head of a loop begins with, from behind `async`, where a name stands
+unfoldable pub head_behind : ℕ → Span → Reader Cover
+head_behind zero start = too_deep
+head_behind (suc n) start = head_behind_async (expr n) (cover n) (function_by (stmt n nested_item) (parameter_list (expr n) (cover n) (pattern n) (element n)) (pattern n) (class_expr (expr n left_side) (member n))) start
 
 -- the parameters of a function, each with its default, if one stands there
 abbrev pub parameters : ℕ → Reader (List Tree)

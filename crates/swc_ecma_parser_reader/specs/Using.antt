@@ -1,5 +1,5 @@
 -- The reader of what is declared with `using`: the proposal on explicit resource management, beside ECMA-262, section 14.3.
-use Rattle.std.specs.Prelude.{Bool, false, List, Ok}
+use Rattle.std.specs.Prelude.{Bool, false, List}
 use Rattle.swc_ecma_parser_common.specs.declared.span.Span.{Span}
 use Rattle.swc_ecma_parser_model.specs.Tree as tree
 use Rattle.swc_ecma_parser_model.specs.Tree.{Tree, listed}

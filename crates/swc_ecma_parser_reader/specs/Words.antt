@@ -2,7 +2,6 @@
 use Rattle.std.specs.Prelude.{Bool, true, false, not, ◌&&◌, ◌||◌, if◌then◌else◌, nat_eq, List, [], ◌∷◌, codes, Ok}
 use Rattle.swc_ecma_parser_common.specs.declared.span.Span.{Span}
 use Rattle.swc_ecma_parser_error.specs.Kind as faults
-use Rattle.swc_ecma_parser_error.specs.Kind.{Kind}
 use Rattle.swc_ecma_parser_token.specs.declared.kind.TokenKind.TheVariants as kind
 use Rattle.swc_ecma_parser_token.specs.declared.token.Token.{Token}
 use Rattle.swc_ecma_parser_token.specs.declared.token.Token.TheVariants as token
@@ -11,7 +10,7 @@ use Rattle.swc_ecma_parser_token.specs.Text.{word_text}
 use Rattle.swc_ecma_parser_input.specs.Place.{Place, after}
 use Rattle.swc_ecma_parser_model.specs.declared.leaves.Ident.{Ident}
 use Rattle.swc_ecma_parser_model.specs.Tree as tree
-use Rattle.swc_ecma_parser_model.specs.Tree.{Tree, Text, listed}
+use Rattle.swc_ecma_parser_model.specs.Tree.{Tree}
 use Rattle.swc_ecma_parser_model.specs.Forms.{is_ident_named}
 use Rattle.swc_ecma_parser_grammar.specs.Looks.{breaks_at, sees, span_at}
 use Rattle.swc_ecma_parser_grammar.specs.Names.{identifier_at}

@@ -13,12 +13,12 @@ pub use around::Around;
 pub use keys::ends_key;
 pub use literal::Literal;
 pub use names::{
-    count_labels, is_identifier, is_label, is_name, is_reserved_word, may_bind_await,
+    count_labels, follows_let, is_identifier, is_label, is_name, is_reserved_word, may_bind_await,
     may_refer_to_await,
 };
 pub use operators::{
-    assign_operator, begins_operand, binary_operator, groups_left, mixes, precedence,
-    unary_operator, update_operator,
+    assign_operator, begins_operand, binary_operator, groups_left, is_assign_op, is_bin_op, mixes,
+    precedence, unary_operator, update_operator,
 };
 pub use source::Source;
 pub use wanted::{Wanted, missing};

@@ -2,10 +2,12 @@
 
 ghost use Rattle.std.specs.Prelude.{◌≡◌, map, count_by};
 ghost use Rattle.std.specs.Str.{bytes_eq};
+ghost use Rattle.swc_ecma_parser_grammar.specs.Follows as follows;
 ghost use Rattle.swc_ecma_parser_grammar.specs.Names as names;
 
 use swc_ecma_parser_common::Atom;
 use swc_ecma_parser_input::Context;
+use swc_ecma_parser_token::{Token, Word};
 
 /// Reserved in every context.
 const RESERVED_WORDS: [&str; 36] = [
@@ -131,4 +133,15 @@ pub fn is_identifier(flags: Context, text: &str) -> bool
     ensures { result ≡ names.is_identifier flags text.now }
 {
     !is_reserved(flags, text)
+}
+
+/// Whether `let` before this token begins a declaration.
+pub fn follows_let(token: &Token) -> bool
+    ensures { result ≡ follows.token_follows_let token.now }
+{
+    match token {
+        Token::LBrace | Token::LBracket => true,
+        Token::Word(word) => !is_reserved_word(word.as_str()) || word.as_str() == "enum",
+        _ => false,
+    }
 }

@@ -193,6 +193,10 @@ pub trait Source {
     fn is_using_declaration(&self) -> bool
         ensures { result ≡ resources.is_using_declaration (seen self.now).code (seen self.now).at };
 
+    /// Whether `using` stands here and may begin a declaration in the head of a loop.
+    fn may_declare_using(&self) -> bool
+        ensures { result ≡ resources.may_declare_using (seen self.now).code (seen self.now).at };
+
     /// Takes the current token.
     fn skip(&mut self) -> PResult<()>
         ensures { Gives (reader.skip (seen self.old)) result (seen self.new) };

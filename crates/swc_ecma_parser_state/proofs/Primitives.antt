@@ -1,5 +1,5 @@
 -- The steps that look for an error token first, by whether one stands there.
-use Rattle.std.proofs.Common.{◌≡◌, ◌≢◌, Bool, true, false, List, [], ◌∷◌, Option, Some, None, Ok, Err, refl, ap, ◌∙◌, sym}
+use Rattle.std.proofs.Common.{◌≡◌, true, false, List, [], ◌∷◌, Some, None, Ok, Err, refl, ap, ◌∙◌}
 use Rattle.std.specs.Prelude.{is_none}
 use Rattle.swc_ecma_parser_common.specs.declared.span.Span.{Span}
 use Rattle.swc_ecma_parser_error.specs.declared.error.Error.{Error}
@@ -11,9 +11,8 @@ use Rattle.swc_ecma_parser_token.specs.declared.token.TokenAndSpan.{TokenAndSpan
 use Rattle.swc_ecma_parser_input.specs.TokenSource.{means_out_of_memory}
 use Rattle.swc_ecma_parser_input.specs.Place.{first}
 use Rattle.swc_ecma_parser_grammar.specs.Looks.{span_at}
-use Rattle.swc_ecma_parser_model.specs.Tree.{Tree}
 use Rattle.swc_ecma_parser_reader.specs.declared.mark.Mark.TheVariants as mark
-use Rattle.swc_ecma_parser_reader.specs.State.{State, Outcome, moved, noted, fault, recorded_in, recorded_at, fault_at, end_of, wanted, wanted_in, wanted_at, too_deep, too_deep_in, too_deep_at, marked, refuse, refuse_in, refuse_at, refused}
+use Rattle.swc_ecma_parser_reader.specs.State.{State, moved, noted, fault, recorded_in, recorded_at, fault_at, end_of, wanted, wanted_in, wanted_at, too_deep, too_deep_in, too_deep_at, marked, refuse, refuse_in, refuse_at, refused}
 use Rattle.swc_ecma_parser_state.specs.FirstError.{error_of, first_error}
 
 -- ---- recording

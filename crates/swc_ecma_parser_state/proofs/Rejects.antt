@@ -1,5 +1,5 @@
 -- Refusals of what was read, by whether an error token stands behind it.
-use Rattle.std.proofs.Common.{◌≡◌, false, List, [], ◌∷◌, Option, Some, None, Ok, Err, refl, ap, ◌∙◌}
+use Rattle.std.proofs.Common.{◌≡◌, false, List, [], ◌∷◌, Some, None, Ok, Err, refl, ap, ◌∙◌}
 use Rattle.swc_ecma_parser_error.specs.declared.error.Error.{Error}
 use Rattle.swc_ecma_parser_error.specs.Kind.{Fault, fault_of}
 use Rattle.swc_ecma_parser_token.specs.declared.token.Token.{Token}

@@ -1,5 +1,5 @@
 -- Names, literals and shebangs, by the token that stands first.
-use Rattle.std.proofs.Common.{◌≡◌, Bool, true, false, cond, List, [], ◌∷◌, Option, Some, None, Ok, Err, refl, ap, ◌∙◌, sym}
+use Rattle.std.proofs.Common.{◌≡◌, true, false, List, [], ◌∷◌, Some, None, Ok, refl, ap, ◌∙◌, sym}
 use Rattle.swc_ecma_parser_common.specs.declared.span.Span.{Span}
 use Rattle.swc_ecma_parser_error.specs.Kind as faults
 use Rattle.swc_ecma_parser_error.specs.Kind.{Kind}
@@ -15,9 +15,9 @@ use Rattle.swc_ecma_parser_grammar.specs.Names.{is_name, is_clean_name, is_ident
 use Rattle.swc_ecma_parser_model.specs.Tree.{Tree, Text}
 use Rattle.swc_ecma_parser_model.specs.declared.leaves.Ident.{Ident}
 use Rattle.swc_ecma_parser_reader.specs.State.{State, Outcome, and_then, moved, fault, fault_at, name, name_in, name_by, unclean_name, wanted}
-use Rattle.swc_ecma_parser_reader.specs.Expressions.{literal, literal_in, literal_of, taken}
+use Rattle.swc_ecma_parser_reader.specs.Expressions.{literal, literal_in, literal_of}
 use Rattle.swc_ecma_parser_reader.specs.Words.{any_word, word_by, word_in}
-use Rattle.swc_ecma_parser_reader.specs.Reader.{shebang, shebang_in, shebang_of, shebang_taken}
+use Rattle.swc_ecma_parser_reader.specs.Reader.{shebang, shebang_in, shebang_of}
 use Rattle.swc_ecma_parser_state.specs.Taken.{token_is_clean, clean_first, is_literal, literal_first, is_shebang, shebang_first}
 
 -- ---- names

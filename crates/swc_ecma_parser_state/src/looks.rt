@@ -15,76 +15,10 @@ ghost use Rattle.swc_ecma_parser_reader.specs.Methods as methods;
 use crate::state::State;
 use swc_ecma_parser_grammar::Position;
 use swc_ecma_parser_input::Tokens;
-use swc_ecma_parser_source::{begins_operand, ends_key, is_identifier, is_reserved_word};
+use swc_ecma_parser_source::{
+    begins_operand, ends_key, follows_let, is_assign_op, is_bin_op, is_identifier,
+};
 use swc_ecma_parser_token::{Token, TokenAndSpan, TokenKind, Word};
-
-/// Whether it is an operator between two operands that is no word.
-fn is_bin_op(kind: TokenKind) -> bool
-    ensures { result ≡ follows.is_bin_op kind }
-{
-    matches!(
-        kind,
-        TokenKind::EqEq
-            | TokenKind::NotEq
-            | TokenKind::EqEqEq
-            | TokenKind::NotEqEq
-            | TokenKind::Lt
-            | TokenKind::LtEq
-            | TokenKind::Gt
-            | TokenKind::GtEq
-            | TokenKind::LShift
-            | TokenKind::RShift
-            | TokenKind::ZeroFillRShift
-            | TokenKind::Add
-            | TokenKind::Sub
-            | TokenKind::Mul
-            | TokenKind::Div
-            | TokenKind::Mod
-            | TokenKind::BitOr
-            | TokenKind::BitXor
-            | TokenKind::BitAnd
-            | TokenKind::LogicalOr
-            | TokenKind::LogicalAnd
-            | TokenKind::NullishCoalescing
-            | TokenKind::Exp
-    )
-}
-
-/// Whether it is an operator of an assignment.
-fn is_assign_op(kind: TokenKind) -> bool
-    ensures { result ≡ follows.is_assign_op kind }
-{
-    matches!(
-        kind,
-        TokenKind::Assign
-            | TokenKind::AddAssign
-            | TokenKind::SubAssign
-            | TokenKind::MulAssign
-            | TokenKind::DivAssign
-            | TokenKind::ModAssign
-            | TokenKind::ExpAssign
-            | TokenKind::LShiftAssign
-            | TokenKind::RShiftAssign
-            | TokenKind::ZeroFillRShiftAssign
-            | TokenKind::BitAndAssign
-            | TokenKind::BitOrAssign
-            | TokenKind::BitXorAssign
-            | TokenKind::AndAssign
-            | TokenKind::OrAssign
-            | TokenKind::NullishAssign
-    )
-}
-
-/// Whether `let` before this token begins a declaration.
-fn follows_let(token: &Token) -> bool
-    ensures { result ≡ follows.token_follows_let token.now }
-{
-    match token {
-        Token::LBrace | Token::LBracket => true,
-        Token::Word(word) => !is_reserved_word(word.as_str()) || word.as_str() == "enum",
-        _ => false,
-    }
-}
 
 impl<I: Tokens> State<I> {
     /// Whether a statement may end here without `;`: ECMA-262, section 12.10.
@@ -299,6 +233,17 @@ impl<I: Tokens> State<I> {
         ensures { result ≡ resources.is_using_declaration self.now.code self.now.at }
     {
         self.word_at("using") && self.next_is_identifier() && !self.next_had_line_break()
+    }
+
+    /// Whether `using` stands here and may begin a declaration in the head of a loop: a name that is not `of` stands behind it.
+    #[tactic(auto, unfolding(swc_ecma_parser_grammar::specs::Using::may_declare_using))]
+    pub fn may_declare_using(&self) -> bool
+        ensures { result ≡ resources.may_declare_using self.now.code self.now.at }
+    {
+        self.explicit_resource_management()
+            && self.word_at("using")
+            && self.next_is_identifier()
+            && !self.next_word_at("of")
     }
 
     /// The look-ahead of an expression statement: ECMA-262, section 14.5.

@@ -161,6 +161,10 @@ impl<I: Tokens> Source for State<I> {
         State::is_using_declaration(self)
     }
 
+    fn may_declare_using(&self) -> bool {
+        State::may_declare_using(self)
+    }
+
     fn skip(&mut self) -> PResult<()> {
         State::skip(self)
     }

@@ -4,7 +4,7 @@ use Rattle.swc_ecma_parser_common.specs.declared.span.Span.{Span}
 use Rattle.swc_ecma_parser_input.specs.Place.{Place, after}
 use Rattle.swc_ecma_parser_model.specs.declared.leaves.MethodKind.{MethodKind}
 use Rattle.swc_ecma_parser_model.specs.Tree as tree
-use Rattle.swc_ecma_parser_model.specs.Tree.{Tree, trees, listed}
+use Rattle.swc_ecma_parser_model.specs.Tree.{Tree, trees}
 use Rattle.swc_ecma_parser_model.specs.Kinds.{is_block, is_computed}
 use Rattle.swc_ecma_parser_grammar.specs.Looks.{spanned}
 use Rattle.swc_ecma_parser_grammar.specs.Names.{Code}
@@ -15,7 +15,7 @@ use Rattle.swc_ecma_parser_grammar.specs.language.Goals.{Goal, Purpose, binding,
 use Rattle.swc_ecma_parser_grammar.specs.language.Contexts.{in_class}
 use Rattle.swc_ecma_parser_grammar.specs.language.Lists.{ReadsEach, ReadsListed, Elements, no_elements, hole, last_element, more_elements}
 use Rattle.swc_ecma_parser_grammar.specs.language.Parts as parts
-use Rattle.swc_ecma_parser_grammar.specs.language.Parts.{KeyRule, AccessRule, ComputedRule, ElementRule, ArgumentsRule, is_private}
+use Rattle.swc_ecma_parser_grammar.specs.language.Parts.{KeyRule, AccessRule, ElementRule, ArgumentsRule, is_private}
 use Rattle.swc_ecma_parser_grammar.specs.language.Items.{nested_item, directed, directs_on, ItemsRule, BlockRule}
 use Rattle.swc_ecma_parser_grammar.specs.language.Functions as functions
 use Rattle.swc_ecma_parser_grammar.specs.Parameters.{parameter, parameters}

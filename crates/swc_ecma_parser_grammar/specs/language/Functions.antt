@@ -1,13 +1,13 @@
 -- Functions and methods: ECMA-262, section 15.
-use Rattle.std.specs.Prelude.{◌≡◌, Bool, true, false, not, List, [], ◌∷◌, map, codes}
+use Rattle.std.specs.Prelude.{◌≡◌, Bool, true, false, not, List, [], ◌∷◌, codes}
 use Rattle.swc_ecma_parser_token.specs.declared.kind.TokenKind.TheVariants as kind
 use Rattle.swc_ecma_parser_input.specs.Place.{Place, after}
 use Rattle.swc_ecma_parser_model.specs.declared.leaves.MethodKind.{MethodKind}
 use Rattle.swc_ecma_parser_model.specs.declared.leaves.MethodKind.TheVariants as method
 use Rattle.swc_ecma_parser_model.specs.Tree as tree
-use Rattle.swc_ecma_parser_model.specs.Tree.{Tree, Text, listed}
-use Rattle.swc_ecma_parser_model.specs.Forms.{span_of, is_rest}
-use Rattle.swc_ecma_parser_grammar.specs.Looks.{kind_at, breaks_at, spanned}
+use Rattle.swc_ecma_parser_model.specs.Tree.{Tree}
+use Rattle.swc_ecma_parser_model.specs.Forms.{is_rest}
+use Rattle.swc_ecma_parser_grammar.specs.Looks.{kind_at, spanned}
 use Rattle.swc_ecma_parser_grammar.specs.Names.{Code}
 use Rattle.swc_ecma_parser_grammar.specs.Follows.{word_at, AsyncWord, Star}
 use Rattle.swc_ecma_parser_grammar.specs.Parameters.{parameters}

@@ -118,9 +118,9 @@ module _ (n : ℕ) where
   field_value_same s = let t = moved s in meets_if _ (sees kind.Assign s.at) _ _
       (λ _. within_same with_in (λ k. refl) (expr n assignment) t (meets_as (expr n assignment (coded (with_in t.code) t)) (expr_sound n assignment (coded (with_in t.code) t)) (λ x u p. p.code))) (λ _. refl)
 
-  method_parts_same : (form : MethodForm) (start word : Span) (s : State) → Meets (Same s) (method_parts (stmt n nested_item) (parameters n) form start word s)
+  method_parts_same : (ds : List Tree) (form : MethodForm) (start word : Span) (s : State) → Meets (Same s) (method_parts (stmt n nested_item) (parameters n) ds form start word s)
   unfolding method_parts misdirected
-  method_parts_same form start word s =
+  method_parts_same ds form start word s =
       let w = form_is_async form in
       let g = form_is_generator form in
       let change : Code → Code = λ k. in_parameters k w g in
@@ -129,10 +129,10 @@ module _ (n : ℕ) where
       meets_then _ (function_body (stmt n nested_item) (parameters n) w g b) _ (body_same w g b) (λ body c h.
       meets_then _ (misdirected (formal.parameters ps) body c) _ (told_same _ c) (λ _ t i. i ∙ h ∙ f ∙ e))))
 
-  constructor_same : (is_static : Bool) (start : Span) (key : Tree) (s : State) → Meets (Same s) (constructor (stmt n nested_item) (parameters n) is_static start key s)
+  constructor_same : (is_static : Bool) (start first : Span) (key : Tree) (s : State) → Meets (Same s) (constructor (stmt n nested_item) (parameters n) is_static start first key s)
   unfolding constructor misdirected
-  constructor_same is_static start key s =
-      let late = only is_static faults.TS1089 start in
+  constructor_same is_static start first key s =
+      let late = only is_static faults.TS1089 first in
       meets_then _ (parameters n s) _ (parameters_same s) (λ ps a e.
       meets_then _ (function_body (stmt n nested_item) (parameters n) false false a) _ (body_same false false a) (λ body b f.
       meets_then _ (misdirected (formal.parameters ps) body b) _ (told_same _ b) (λ _ c g.
@@ -160,12 +160,12 @@ module _ (n : ℕ) where
   pub field_value_code : (s : State) (x : Tree) (t : State) → field_value (expr n) (cover n) s ≡ Ok (x, t) → t.code ≡ s.code
   field_value_code s x t e = meant (Same s) Refuses (field_value (expr n) (cover n) s) (Ok (x, t)) e (field_value_same s)
 
-  pub method_parts_code : (form : MethodForm) (start word : Span) (s : State) (x : Tree) (t : State) → method_parts (stmt n nested_item) (parameters n) form start word s ≡ Ok (x, t) → t.code ≡ s.code
-  method_parts_code form start word s x t e = meant (Same s) Refuses (method_parts (stmt n nested_item) (parameters n) form start word s) (Ok (x, t)) e (method_parts_same form start word s)
+  pub method_parts_code : (ds : List Tree) (form : MethodForm) (start word : Span) (s : State) (x : Tree) (t : State) → method_parts (stmt n nested_item) (parameters n) ds form start word s ≡ Ok (x, t) → t.code ≡ s.code
+  method_parts_code ds form start word s x t e = meant (Same s) Refuses (method_parts (stmt n nested_item) (parameters n) ds form start word s) (Ok (x, t)) e (method_parts_same ds form start word s)
 
-  pub constructor_code : (is_static : Bool) (start : Span) (key : Tree) (s : State) (x : Tree) (t : State) → constructor (stmt n nested_item) (parameters n) is_static start key s ≡ Ok (x, t)
+  pub constructor_code : (is_static : Bool) (start first : Span) (key : Tree) (s : State) (x : Tree) (t : State) → constructor (stmt n nested_item) (parameters n) is_static start first key s ≡ Ok (x, t)
       → t.code ≡ s.code
-  constructor_code is_static start key s x t e = meant (Same s) Refuses (constructor (stmt n nested_item) (parameters n) is_static start key s) (Ok (x, t)) e (constructor_same is_static start key s)
+  constructor_code is_static start first key s x t e = meant (Same s) Refuses (constructor (stmt n nested_item) (parameters n) is_static start first key s) (Ok (x, t)) e (constructor_same is_static start first key s)
 
   -- the statements of a static block
   pub block_code : (s : State) (x : Tree) (t : State) → braced (stmt n nested_item) false s ≡ Ok (x, t) → t.code ≡ s.code

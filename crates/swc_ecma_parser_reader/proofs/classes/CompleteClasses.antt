@@ -19,7 +19,7 @@ use Rattle.swc_ecma_parser_model.specs.Tree as tree
 use Rattle.swc_ecma_parser_model.specs.Tree.{Tree, listed, trees}
 use Rattle.swc_ecma_parser_model.specs.Forms.{is_absent}
 use Rattle.swc_ecma_parser_grammar.specs.Looks.{kind_at, first_kind, sees, same_kind, span_at, spanned}
-use Rattle.swc_ecma_parser_grammar.specs.Names.{Code, is_name, is_reserved, token_is_identifier, first_is_identifier, name_at, identifier_at, is_identifier}
+use Rattle.swc_ecma_parser_grammar.specs.Names.{Code, is_reserved, token_is_identifier, first_is_identifier, name_at, identifier_at, is_identifier}
 use Rattle.swc_ecma_parser_grammar.specs.Notes.{notes}
 use Rattle.swc_ecma_parser_grammar.specs.Own.{second_constructor}
 use Rattle.swc_ecma_parser_grammar.specs.Reads.{with_in}

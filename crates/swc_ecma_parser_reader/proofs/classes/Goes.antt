@@ -1,5 +1,5 @@
--- A member begins where no class ends, and with no error token and no `{`.
-use Rattle.std.proofs.Common.{◌≡◌, inl, inr, ◌⊎◌, ℕ, zero, suc, Bool, true, false, refl, ◌∙◌, ap, subst}
+-- A member begins where no class ends, and with no error token and no `{`; behind its decorators no further one stands.
+use Rattle.std.proofs.Common.{◌≡◌, inl, inr, ◌⊎◌, ℕ, zero, suc, Bool, true, false, refl, sym, ◌∙◌, ap, subst}
 use Rattle.std.specs.Prelude.{◌||◌}
 use Rattle.swc_ecma_parser_common.specs.declared.span.Span.{Span}
 use Rattle.swc_ecma_parser_token.specs.declared.keyword.Keyword.{Keyword}
@@ -14,7 +14,7 @@ use Rattle.swc_ecma_parser_token.specs.Kind.{token_kind, word_kind, keyword_kind
 use Rattle.swc_ecma_parser_input.specs.Place.{Place}
 use Rattle.swc_ecma_parser_model.specs.declared.leaves.MethodKind.{MethodKind}
 use Rattle.swc_ecma_parser_model.specs.Tree.{Tree}
-use Rattle.swc_ecma_parser_grammar.specs.Looks.{kind_at, same_kind}
+use Rattle.swc_ecma_parser_grammar.specs.Looks.{kind_at, sees, same_kind}
 use Rattle.swc_ecma_parser_grammar.specs.Names.{Code}
 use Rattle.swc_ecma_parser_grammar.specs.Follows.{not_async, async_word, Star, no_star, star}
 use Rattle.swc_ecma_parser_grammar.specs.Reads.{ReadsToken}
@@ -32,28 +32,41 @@ use Rattle.swc_ecma_parser_reader.proofs.expressions.SoundLefts.{word_stands}
 use Rattle.swc_ecma_parser_reader.proofs.classes.Shared.{MemberFollows}
 use Rattle.swc_ecma_parser_reader.proofs.classes.Words.{static_kind}
 
--- a token that ends no class, and is neither an error nor `{`
+-- a token that ends no class, and is neither an error nor `{` nor `@`
 abbrev goes_on : TokenKind → Bool
 goes_on kind.RBrace = false
 goes_on kind.LBrace = false
 goes_on kind.End = false
 goes_on kind.Error = false
+goes_on kind.At = false
 goes_on _ = true
 
 abbrev Goes : Place → Type 0
 Goes c = goes_on (kind_at c) ≡ true
 
-goes_kind : (k : TokenKind) → goes_on k ≡ true → ((same_kind k kind.RBrace || same_kind k kind.End) ≡ false) × ((is_error k ≡ false) × (same_kind k kind.LBrace ≡ false))
+goes_kind : (k : TokenKind) → goes_on k ≡ true → ((same_kind k kind.RBrace || same_kind k kind.End) ≡ false) × ((is_error k ≡ false) × (same_kind k kind.LBrace ≡ false)) × (same_kind k kind.At ≡ false)
 unfolding same_kind
 goes_kind kind.RBrace h = cc
 goes_kind kind.LBrace h = cc
 goes_kind kind.End h = cc
 goes_kind kind.Error h = cc
-goes_kind _ h = (refl, (refl, refl))
+goes_kind kind.At h = cc
+goes_kind _ h = (refl, (refl, refl), refl)
 
-goes_here : (c : Place) → Goes c → (closes c ≡ false) × MemberFollows c
+-- what is asked of the first token of a member
+abbrev Ready : Place → Type 0
+Ready c = (closes c ≡ false) × MemberFollows c
+
+goes_here : (c : Place) → Goes c → Ready c
 unfolding closes
-goes_here c h = goes_kind (kind_at c) h
+goes_here c h = let (a, b, e) = goes_kind (kind_at c) h in (a, b)
+
+no_at : (c : Place) → Goes c → sees kind.At c ≡ false
+no_at c h = (goes_kind (kind_at c) h).2
+
+at_ready : (c : Place) → kind_at c ≡ kind.At → Ready c
+unfolding closes same_kind
+at_ready c e = rw e (refl, (refl, refl))
 
 stands : (c : Place) (k : TokenKind) → kind_at c ≡ k → goes_on k ≡ true → Goes c
 stands c k e h = ap goes_on e ∙ h
@@ -117,17 +130,27 @@ undecorated_goes {k = k} m d r = by_core (core_goes (behind_accessor k m) d r)
     by_core (inl e) = stands m kind.Ident (static_kind m e) refl
     by_core (inr g) = words_go (is_static_word m) (is_accessor_word k (behind_modifier (is_static_word m) m)) k m refl refl g
 
-decorator_goes : {In : Goal → Type 0} {k : Code} {x : Tree} (c d : Place) → DecoratorRule In k x c d → Goes c
-decorator_goes c d (decorator_rule e i r n) = stands c kind.At i refl
+-- behind all its decorators
+pub no_decorator_follows : {In : Goal → Type 0} {k : Code} {b : Bool} {ds x : Tree} {c : Place} (m d : Place) → CoreRule In k (is_static_word m) b ds x c (behind_accessor k m) d → sees kind.At m ≡ false
+no_decorator_follows m d r = no_at m (undecorated_goes m d r)
 
-decorators_go : {In : Goal → Type 0} {k : Code} {ds : Tree} (c m : Place) → DecoratorsRule In k ds c m → Goes m → Goes c
-decorators_go c m (no_decorators n e) g = subst Goes n g
-decorators_go c m (some_decorators y ys i r e) g = decorator_goes c r.0 r.1
+decorator_kind : {In : Goal → Type 0} {k : Code} {x : Tree} (c d : Place) → DecoratorRule In k x c d → kind_at c ≡ kind.At
+decorator_kind c d (decorator_rule e i r n) = i
 
-rule_goes : {In : Goal → Type 0} {k : Code} {x : Tree} (c d : Place) → MemberRule In k x c d → Goes c
-rule_goes c d (empty_rule i n e) = stands c kind.Semi i refl
+decorators_go : {In : Goal → Type 0} {k : Code} {ds : Tree} (c m : Place) → DecoratorsRule In k ds c m → Goes m → Ready c
+decorators_go c m (no_decorators n e) g = goes_here c (subst Goes n g)
+decorators_go c m (some_decorators y ys i r e) g = at_ready c (decorator_kind c r.0 r.1)
+
+-- what begins with no `;` behind decorators begins with none before them
+pub decorators_no_semicolon : {In : Goal → Type 0} {k : Code} {ds : Tree} (c m : Place) → DecoratorsRule In k ds c m → sees kind.Semi m ≡ false → sees kind.Semi c ≡ false
+unfolding same_kind
+decorators_no_semicolon c m (no_decorators n e) h = ap (sees kind.Semi) (sym n) ∙ h
+decorators_no_semicolon c m (some_decorators y ys i r e) h = rw (decorator_kind c r.0 r.1) refl
+
+rule_goes : {In : Goal → Type 0} {k : Code} {x : Tree} (c d : Place) → MemberRule In k x c d → Ready c
+rule_goes c d (empty_rule i n e) = goes_here c (stands c kind.Semi i refl)
 rule_goes c d (member_rule ds m r q) = decorators_go c m r (undecorated_goes m d q)
 
 pub member_goes : (n : ℕ) (k : Code) (x : Tree) (c d : Place) → ReadsMember n k x c d → (closes c ≡ false) × MemberFollows c
 member_goes zero k x c d r = absurd r.0
-member_goes (suc n) k x c d r = goes_here c (rule_goes c d r.0)
+member_goes (suc n) k x c d r = rule_goes c d r.0

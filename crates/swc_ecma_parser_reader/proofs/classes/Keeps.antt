@@ -19,13 +19,15 @@ use Rattle.swc_ecma_parser_grammar.specs.language.Goals.{Class, assignment}
 use Rattle.swc_ecma_parser_grammar.specs.language.Contexts.{in_class, in_static_block, in_parameters}
 use Rattle.swc_ecma_parser_grammar.specs.language.Classes.{is_static_word, is_accessor_word}
 use Rattle.swc_ecma_parser_reader.specs.State.{Reader, moved, coded, within, fault, fault_at, name, expect}
+use Rattle.swc_ecma_parser_reader.specs.Decorators.{Leading, leading, misplaced}
 use Rattle.swc_ecma_parser_reader.specs.Jumps.{told}
 use Rattle.swc_ecma_parser_reader.specs.Methods.{MethodForm, getter_form, setter_form, method_form, is_bare}
 use Rattle.swc_ecma_parser_reader.specs.Expressions.{Cover, private_name}
-use Rattle.swc_ecma_parser_reader.specs.Members.{static_word, begins_accessor, begins_async_member, member_words, form_is_async, form_is_generator, private_faults, parameter_faults, misnamed_by, misnamed, field_end, field_named, private_key, member_key, field_value, field_from, field, method_parts, method, constructor, plain_method, static_block, second_static, behind_key, keyed_member, begins_no_field, static_behind, unaccessed, behind_accessed_key, accessed_key, accessed, accessor_member, behind_static, full_member, empty_member, member_level, members_turn, no_members, members, extended, surplus, class_parts, named_class, class_decl, class_name, unnamed_class, class_expr, class_stmt}
+use Rattle.swc_ecma_parser_reader.specs.Members.{static_word, begins_accessor, begins_async_member, member_words, form_is_async, form_is_generator, private_faults, parameter_faults, misnamed_by, misnamed, field_end, field_named, private_key, member_key, field_value, field_from, field, method_parts, method, constructor, plain_method, static_block, second_static, behind_key, before_constructor, keyed_member, begins_words, begins_block, static_behind, block_behind, behind_accessed_key, accessed_key, accessed, accessor_member, behind_static, full_member, empty_member, member_level, members_turn, no_members, members, extended, surplus, class_parts, named_class, class_decl, class_name, unnamed_class, class_expr, class_stmt}
 use Rattle.swc_ecma_parser_reader.specs.Bodies.{braced, close, closes, misdirected, named, function_body}
 use Rattle.swc_ecma_parser_reader.proofs.Meets.{answers_then, answers_if}
 use Rattle.swc_ecma_parser_reader.proofs.Behind.{Kept, Passes, behind_after, fault_keeps, wanted_keeps, reject_keeps, expect_keeps, close_keeps, name_keeps, loop_keeps}
+use Rattle.swc_ecma_parser_reader.proofs.decorators.Keeps.{leading_keeps, misplaced_keeps}
 use Rattle.swc_ecma_parser_reader.proofs.expressions.Keeps.{told_keeps, private_keeps, starred_keeps, inside_keeps, key_keeps}
 
 -- ---- what stands before the key of a member, and what is told of it
@@ -76,111 +78,122 @@ module _ (inner : Class → Reader Tree) (cover : Reader Cover) (stmt : Reader T
   unfolding field_value
   field_value_keeps b s f = answers_if _ _ (sees kind.Assign s.at) _ _ (λ _. inside_keeps inner cover below below_cover assignment b (moved s) (behind_after b s f)) (λ _. f)
 
-  field_from_keeps : (is_static is_accessor : Bool) (start : Span) (x : Tree) → Passes (field_from inner cover is_static is_accessor start x)
+  field_from_keeps : (ds : List Tree) (is_static is_accessor : Bool) (start : Span) (x : Tree) → Passes (field_from inner cover ds is_static is_accessor start x)
   unfolding field_from
-  field_from_keeps is_static is_accessor start x b s f = answers_then _ _ (field_named x s) _ (field_named_keeps x b s f) (λ _ t g.
+  field_from_keeps ds is_static is_accessor start x b s f = answers_then _ _ (field_named x s) _ (field_named_keeps x b s f) (λ _ t g.
       answers_then _ _ (field_value inner cover t) _ (field_value_keeps b t g) (λ y u k.
       answers_then (Kept b) _ (field_end u) _ (field_end_keeps b u k) (λ _ v j. j)))
 
-  field_keeps : (is_static is_accessor : Bool) (start : Span) (x : Tree) → Passes (field inner cover is_static is_accessor start x)
+  field_keeps : (ds : List Tree) (is_static is_accessor : Bool) (start : Span) (x : Tree) → Passes (field inner cover ds is_static is_accessor start x)
   unfolding field
-  field_keeps is_static is_accessor start x b s f = answers_if _ _ (sees kind.Assign s.at || ends_at s.at) _ _ (λ _. field_from_keeps is_static is_accessor start x b s f) (λ _. wanted_keeps _ faults.Unexpected b s f)
+  field_keeps ds is_static is_accessor start x b s f = answers_if _ _ (sees kind.Assign s.at || ends_at s.at) _ _ (λ _. field_from_keeps ds is_static is_accessor start x b s f) (λ _. wanted_keeps _ faults.Unexpected b s f)
 
   -- ---- methods, constructors and static blocks
 
-  method_parts_keeps : (form : MethodForm) (start word : Span) → Passes (method_parts stmt params form start word)
+  method_parts_keeps : (ds : List Tree) (form : MethodForm) (start word : Span) → Passes (method_parts stmt params ds form start word)
   unfolding method_parts misdirected
-  method_parts_keeps form start word b s f = let a = form_is_async form in let g = form_is_generator form in
+  method_parts_keeps ds form start word b s f = let a = form_is_async form in let g = form_is_generator form in
       answers_then (Kept b) _ (within (λ k. in_parameters k a g) params s) _
       (answers_then (Kept b) _ (params (coded (in_parameters s.code a g) s)) _ (below_params b (coded (in_parameters s.code a g) s) f) (λ ps t k. k)) (λ ps t k.
       answers_then (Kept b) _ (told (parameter_faults form word ps) t) _ (told_keeps b (parameter_faults form word ps) t k) (λ _ u j.
       answers_then (Kept b) _ (function_body stmt params a g u) _ (below_body a g b u j) (λ x v h.
       answers_then (Kept b) _ (misdirected (formal.parameters ps) x v) _ (told_keeps b _ v h) (λ _ w z. z))))
 
-  method_keeps : (is_static : Bool) (form : MethodForm) (start word : Span) (x : Tree) → Passes (method stmt params is_static form start word x)
+  method_keeps : (ds : List Tree) (is_static : Bool) (form : MethodForm) (start word : Span) (x : Tree) → Passes (method stmt params ds is_static form start word x)
   unfolding method
-  method_keeps is_static form start word x b s f = answers_then _ _ (misnamed form start word x s) _ (misnamed_keeps form start word x b s f) (λ _ t g.
-      answers_then (Kept b) _ (method_parts stmt params form start word t) _ (method_parts_keeps form start word b t g) (λ y u k. k))
+  method_keeps ds is_static form start word x b s f = answers_then _ _ (misnamed form start word x s) _ (misnamed_keeps form start word x b s f) (λ _ t g.
+      answers_then (Kept b) _ (method_parts stmt params ds form start word t) _ (method_parts_keeps ds form start word b t g) (λ y u k. k))
 
-  constructor_keeps : (is_static : Bool) (start : Span) (x : Tree) → Passes (constructor stmt params is_static start x)
+  constructor_keeps : (is_static : Bool) (start first : Span) (x : Tree) → Passes (constructor stmt params is_static start first x)
   unfolding constructor misdirected
-  constructor_keeps is_static start x b s f = answers_then (Kept b) _ (params s) _ (below_params b s f) (λ ps t k.
+  constructor_keeps is_static start first x b s f = answers_then (Kept b) _ (params s) _ (below_params b s f) (λ ps t k.
       answers_then (Kept b) _ (function_body stmt params false false t) _ (below_body false false b t k) (λ y u j.
       answers_then (Kept b) _ (misdirected (formal.parameters ps) y u) _ (told_keeps b _ u j) (λ _ v h.
-      answers_then (Kept b) _ (told (only is_static faults.TS1089 start) v) _ (told_keeps b (only is_static faults.TS1089 start) v h) (λ _ w z. z))))
+      answers_then (Kept b) _ (told (only is_static faults.TS1089 first) v) _ (told_keeps b (only is_static faults.TS1089 first) v h) (λ _ w z. z))))
 
-  plain_method_keeps : (is_static : Bool) (start word : Span) (x : Tree) → Passes (plain_method stmt params is_static start word x)
+  plain_method_keeps : (ds : List Tree) (is_static : Bool) (start first word : Span) (x : Tree) → Passes (plain_method stmt params ds is_static start first word x)
   unfolding plain_method
-  plain_method_keeps is_static start word x b s f = answers_if _ _ (is_constructor_key x) _ _ (λ _. constructor_keeps is_static start x b s f)
-      (λ _. method_keeps is_static (method_form false false) start word x b s f)
+  plain_method_keeps ds is_static start first word x b s f = answers_if _ _ (is_constructor_key x) _ _ (λ _. constructor_keeps is_static start first x b s f)
+      (λ _. method_keeps ds is_static (method_form false false) start word x b s f)
 
   static_block_keeps : (start : Span) → Passes (static_block stmt params start)
   unfolding static_block
   static_block_keeps start b s f = let t = coded (in_static_block s.code) s in
       answers_then (Kept b) _ (within in_static_block (braced stmt false) s) _ (answers_then (Kept b) _ (braced stmt false t) _ (below_block b t f) (λ x u k. k)) (λ x u k. k)
 
-  second_static_keeps : (start : Span) → Passes (second_static stmt params start)
+  second_static_keeps : (start first : Span) → Passes (second_static stmt params start first)
   unfolding second_static
-  second_static_keeps start b s f = answers_then _ _ (fault (fault_at start faults.TS1184) s) _ (fault_keeps b s f (fault_at start faults.TS1184))
+  second_static_keeps start first b s f = answers_then _ _ (fault (fault_at first faults.TS1184) s) _ (fault_keeps b s f (fault_at first faults.TS1184))
       (λ _ t g. static_block_keeps start b (moved t) (behind_after b t g))
 
   -- ---- members
 
-  behind_key_keeps : (is_static : Bool) (form : MethodForm) (start word : Span) (x : Tree) → Passes (behind_key inner cover stmt params is_static form start word x)
-  unfolding behind_key
-  behind_key_keeps is_static form start word x b s f = answers_if _ _ (not (is_bare form)) _ _ (λ _. method_keeps is_static form start word x b s f)
-      (λ _. answers_if _ _ (sees kind.LParen s.at) _ _ (λ _. plain_method_keeps is_static start word x b s f) (λ _. field_keeps is_static false start x b s f))
+  before_constructor_keeps : (v : Leading) (x : Tree) → Passes (before_constructor v x)
+  unfolding before_constructor
+  before_constructor_keeps v x b s f = answers_if _ _ (is_constructor_key x) _ _ (λ _. misplaced_keeps v b s f) (λ _. f)
 
-  keyed_member_keeps : (is_static : Bool) (start : Span) → Passes (keyed_member inner cover stmt params is_static start)
+  behind_key_keeps : (v : Leading) (is_static : Bool) (form : MethodForm) (start first word : Span) (x : Tree) → Passes (behind_key inner cover stmt params v is_static form start first word x)
+  unfolding behind_key
+  behind_key_keeps v is_static form start first word x b s f = answers_if _ _ (not (is_bare form)) _ _ (λ _. method_keeps v.found is_static form start word x b s f)
+      (λ _. answers_if _ _ (sees kind.LParen s.at) _ _
+      (λ _. answers_then _ _ (before_constructor v x s) _ (before_constructor_keeps v x b s f) (λ _ t g. plain_method_keeps v.found is_static start first word x b t g))
+      (λ _. field_keeps v.found is_static false start x b s f))
+
+  keyed_member_keeps : (v : Leading) (is_static : Bool) (start first : Span) → Passes (keyed_member inner cover stmt params v is_static start first)
   unfolding keyed_member
-  keyed_member_keeps is_static start b s f = answers_then _ _ (member_words s) _ (member_words_keeps b s f) (λ form t g.
-      answers_then _ _ (member_key inner cover t) _ (member_key_keeps b t g) (λ x u k. behind_key_keeps is_static form start (span_at s.at) x b u k))
+  keyed_member_keeps v is_static start first b s f = answers_then _ _ (member_words s) _ (member_words_keeps b s f) (λ form t g.
+      answers_then _ _ (member_key inner cover t) _ (member_key_keeps b t g) (λ x u k. behind_key_keeps v is_static form start first (span_at s.at) x b u k))
 
   -- behind `accessor`
-  static_behind_keeps : (is_static : Bool) (start : Span) → Passes (static_behind inner cover stmt params is_static start)
+  static_behind_keeps : (is_static : Bool) (start first : Span) → Passes (static_behind inner cover stmt params is_static start first)
   unfolding static_behind
-  static_behind_keeps is_static start b s f = answers_if _ _ is_static _ _ (λ _. second_static_keeps start b s f) (λ _. static_block_keeps start b (moved s) (behind_after b s f))
+  static_behind_keeps is_static start first b s f = answers_if _ _ is_static _ _ (λ _. second_static_keeps start first b s f) (λ _. static_block_keeps start b (moved s) (behind_after b s f))
 
-  unaccessed_keeps : (is_static : Bool) (start : Span) → Passes (unaccessed inner cover stmt params is_static start)
-  unfolding unaccessed
-  unaccessed_keeps is_static start b s f = answers_if _ _ (is_static && sees kind.LBrace s.at) _ _ (λ _. static_block_keeps start b s f)
-      (λ _. answers_if _ _ (word_at (codes "static") s.at && sees kind.LBrace (after s.at)) _ _ (λ _. static_behind_keeps is_static start b s f) (λ _. keyed_member_keeps is_static start b s f))
+  block_behind_keeps : (is_static : Bool) (start first : Span) → Passes (block_behind inner cover stmt params is_static start first)
+  unfolding block_behind
+  block_behind_keeps is_static start first b s f = answers_if _ _ (is_static && sees kind.LBrace s.at) _ _ (λ _. static_block_keeps start b s f) (λ _. static_behind_keeps is_static start first b s f)
 
-  behind_accessed_key_keeps : (is_static : Bool) (start accessor word : Span) (x : Tree) → Passes (behind_accessed_key inner cover stmt params is_static start accessor word x)
+  behind_accessed_key_keeps : (v : Leading) (is_static : Bool) (start first accessor word : Span) (x : Tree) → Passes (behind_accessed_key inner cover stmt params v is_static start first accessor word x)
   unfolding behind_accessed_key
-  behind_accessed_key_keeps is_static start accessor word x b s f = answers_if _ _ (sees kind.LParen s.at) _ _
-      (λ _. answers_then _ _ (fault (fault_at accessor faults.TS1184) s) _ (fault_keeps b s f (fault_at accessor faults.TS1184)) (λ _ t g. plain_method_keeps is_static start word x b t g))
-      (λ _. field_keeps is_static true start x b s f)
+  behind_accessed_key_keeps v is_static start first accessor word x b s f = let e = fault_at accessor faults.TS1184 in answers_if _ _ (sees kind.LParen s.at) _ _
+      (λ _. answers_then _ _ (before_constructor v x s) _ (before_constructor_keeps v x b s f) (λ _ t g.
+      answers_then _ _ (fault e t) _ (fault_keeps b t g e) (λ _ u k. plain_method_keeps v.found is_static start first word x b u k)))
+      (λ _. field_keeps v.found is_static true start x b s f)
 
-  accessed_key_keeps : (is_static : Bool) (start accessor : Span) → Passes (accessed_key inner cover stmt params is_static start accessor)
+  accessed_key_keeps : (v : Leading) (is_static : Bool) (start first accessor : Span) → Passes (accessed_key inner cover stmt params v is_static start first accessor)
   unfolding accessed_key
-  accessed_key_keeps is_static start accessor b s f = answers_then _ _ (member_key inner cover s) _ (member_key_keeps b s f) (λ x t g.
-      behind_accessed_key_keeps is_static start accessor (span_at s.at) x b t g)
+  accessed_key_keeps v is_static start first accessor b s f = answers_then _ _ (member_key inner cover s) _ (member_key_keeps b s f) (λ x t g.
+      behind_accessed_key_keeps v is_static start first accessor (span_at s.at) x b t g)
 
-  accessed_keeps : (is_static : Bool) (start accessor : Span) → Passes (accessed inner cover stmt params is_static start accessor)
+  accessed_keeps : (v : Leading) (is_static : Bool) (start first accessor : Span) → Passes (accessed inner cover stmt params v is_static start first accessor)
   unfolding accessed
-  accessed_keeps is_static start accessor b s f = answers_if _ _ (begins_no_field is_static s.at) _ _
-      (λ _. answers_then _ _ (fault (fault_at accessor faults.TS1184) s) _ (fault_keeps b s f (fault_at accessor faults.TS1184)) (λ _ t g. unaccessed_keeps is_static start b t g))
-      (λ _. accessed_key_keeps is_static start accessor b s f)
+  accessed_keeps v is_static start first accessor b s f = let e = fault_at accessor faults.TS1184 in answers_if _ _ (begins_block is_static s.at) _ _
+      (λ _. answers_then _ _ (misplaced v s) _ (misplaced_keeps v b s f) (λ _ t g.
+      answers_then _ _ (fault e t) _ (fault_keeps b t g e) (λ _ u k. block_behind_keeps is_static start first b u k)))
+      (λ _. answers_if _ _ (begins_words s.at) _ _ (λ _. answers_then _ _ (fault e s) _ (fault_keeps b s f e) (λ _ t g. keyed_member_keeps v is_static start first b t g))
+      (λ _. accessed_key_keeps v is_static start first accessor b s f))
 
-  accessor_member_keeps : (is_static : Bool) (start : Span) → Passes (accessor_member inner cover stmt params is_static start)
+  accessor_member_keeps : (v : Leading) (is_static : Bool) (start first : Span) → Passes (accessor_member inner cover stmt params v is_static start first)
   unfolding accessor_member
-  accessor_member_keeps is_static start b s f = accessed_keeps is_static start (span_at s.at) b (moved s) (behind_after b s f)
+  accessor_member_keeps v is_static start first b s f = accessed_keeps v is_static start first (span_at s.at) b (moved s) (behind_after b s f)
 
-  behind_static_keeps : (is_static : Bool) (start : Span) → Passes (behind_static inner cover stmt params is_static start)
+  behind_static_keeps : (v : Leading) (is_static : Bool) (start first : Span) → Passes (behind_static inner cover stmt params v is_static start first)
   unfolding behind_static
-  behind_static_keeps is_static start b s f = answers_if _ _ (is_accessor_word s.code s.at) _ _ (λ _. accessor_member_keeps is_static start b s f)
-      (λ _. answers_if _ _ (is_static && sees kind.LBrace s.at) _ _ (λ _. static_block_keeps start b s f)
-      (λ _. answers_if _ _ (is_static && (word_at (codes "static") s.at && sees kind.LBrace (after s.at))) _ _ (λ _. second_static_keeps start b s f)
-      (λ _. keyed_member_keeps is_static start b s f)))
+  behind_static_keeps v is_static start first b s f = answers_if _ _ (is_accessor_word s.code s.at) _ _ (λ _. accessor_member_keeps v is_static start first b s f)
+      (λ _. answers_if _ _ (is_static && sees kind.LBrace s.at) _ _ (λ _. answers_then _ _ (misplaced v s) _ (misplaced_keeps v b s f) (λ _ t g. static_block_keeps start b t g))
+      (λ _. answers_if _ _ (is_static && (word_at (codes "static") s.at && sees kind.LBrace (after s.at))) _ _
+      (λ _. answers_then _ _ (misplaced v s) _ (misplaced_keeps v b s f) (λ _ t g. second_static_keeps start first b t g))
+      (λ _. keyed_member_keeps v is_static start first b s f)))
 
-  full_member_keeps : Passes (full_member inner cover stmt params)
-  unfolding full_member
-  full_member_keeps b s f = answers_then _ _ (static_word s) _ (static_word_keeps b s f) (λ is_static t g. behind_static_keeps is_static (span_at s.at) b t g)
+  module _ (further : Reader Tree) (below_further : Passes further) where
+    full_member_keeps : Passes (full_member inner cover stmt params further)
+    unfolding full_member
+    full_member_keeps b s f = answers_then _ _ (leading further s) _ (leading_keeps further below_further b s f) (λ v t g.
+        answers_then _ _ (static_word t) _ (static_word_keeps b t g) (λ is_static u k. behind_static_keeps v is_static (span_at s.at) (span_at t.at) b u k))
 
-  pub member_level_keeps : Passes (member_level inner cover stmt params)
-  unfolding member_level empty_member
-  member_level_keeps b s f = answers_if _ _ (sees kind.Semi s.at) _ _ (λ _. behind_after b s f) (λ _. full_member_keeps b s f)
+    pub member_level_keeps : Passes (member_level inner cover stmt params further)
+    unfolding member_level empty_member
+    member_level_keeps b s f = answers_if _ _ (sees kind.Semi s.at) _ _ (λ _. behind_after b s f) (λ _. full_member_keeps b s f)
 
 -- ---- classes
 

@@ -19,12 +19,13 @@ use Rattle.swc_ecma_parser_grammar.specs.language.Goals.{Class, assignment}
 use Rattle.swc_ecma_parser_grammar.specs.language.Contexts.{in_class, in_static_block, in_parameters}
 use Rattle.swc_ecma_parser_grammar.specs.language.Classes.{is_static_word, is_accessor_word}
 use Rattle.swc_ecma_parser_grammar.proofs.Tests.{and_yes}
-use Rattle.swc_ecma_parser_reader.specs.State.{State, Outcome, Reader, moved, coded, noted, within, fault, fault_at, name, expect}
+use Rattle.swc_ecma_parser_reader.specs.State.{State, Outcome, Reader, and_then, moved, coded, noted, within, fault, fault_at, name, expect}
 use Rattle.swc_ecma_parser_reader.specs.Methods.{MethodForm, getter_form, setter_form, method_form, is_bare, star, starred}
 use Rattle.swc_ecma_parser_reader.specs.Expressions.{Cover, private_name, key, literal_key, computed_key, word_property, any_word, is_word_at, inside}
+use Rattle.swc_ecma_parser_reader.specs.Decorators.{Leading, leading, misplaced}
 use Rattle.swc_ecma_parser_reader.specs.Jumps.{told}
 use Rattle.swc_ecma_parser_reader.specs.Bodies.{closes, close, braced, named, misdirected, function_body}
-use Rattle.swc_ecma_parser_reader.specs.Members.{static_word, begins_accessor, begins_async_member, member_words, private_faults, parameter_faults, misnamed, misnamed_by, field_end, field_named, private_key, member_key, field_value, field_from, field, method_parts, method, constructor, plain_method, static_block, second_static, behind_key, keyed_member, begins_no_field, static_behind, unaccessed, behind_accessed_key, accessed_key, accessed, accessor_member, behind_static, full_member, empty_member, member_level, no_members, members_turn, members, extended, surplus, class_parts, named_class, class_decl, class_name, unnamed_class, class_expr, class_stmt, form_is_async, form_is_generator}
+use Rattle.swc_ecma_parser_reader.specs.Members.{static_word, begins_accessor, begins_async_member, member_words, private_faults, parameter_faults, misnamed, misnamed_by, field_end, field_named, private_key, member_key, field_value, field_from, field, method_parts, method, constructor, plain_method, static_block, second_static, behind_key, before_constructor, keyed_member, begins_words, begins_block, static_behind, block_behind, behind_accessed_key, accessed_key, accessed, accessor_member, behind_static, full_member, empty_member, member_level, no_members, members_turn, members, extended, surplus, class_parts, named_class, class_decl, class_name, unnamed_class, class_expr, class_stmt, form_is_async, form_is_generator}
 use Rattle.swc_ecma_parser_reader.proofs.Errors.{is_error, fault_here}
 use Rattle.swc_ecma_parser_reader.proofs.Meets.{Answers, answers_then, answers_if, loop_answers, saw}
 use Rattle.swc_ecma_parser_reader.proofs.Takes.{Falls}
@@ -32,6 +33,7 @@ use Rattle.swc_ecma_parser_reader.proofs.Shallow.{Fine, fine_more, fine_after, f
 use Rattle.swc_ecma_parser_reader.proofs.expressions.Falls.{any_word_falls, literal_key_falls, private_falls}
 use Rattle.swc_ecma_parser_reader.proofs.expressions.LimitSteps.{kept_more, reject_shallow, any_word_shallow, told_shallow, literal_key_shallow, private_shallow}
 use Rattle.swc_ecma_parser_reader.proofs.expressions.Limits.{star_shallow, inside_shallow}
+use Rattle.swc_ecma_parser_reader.proofs.decorators.Limits.{leading_shallow, misplaced_shallow}
 use Rattle.swc_ecma_parser_reader.proofs.classes.Words.{static_kind, auto_accessor_kind}
 
 -- what takes a token leaves one fewer
@@ -108,18 +110,18 @@ module _ (inner : Class → Reader Tree) (cover : Reader Cover) (stmt : Reader T
 
   -- ---- behind a key
 
-  field_shallow : (b a : Bool) (start : Span) (x : Tree) (i : ℕ) (s : State) → 2 * i + 1 ≤ n → Fine i s.at.left → Answers (Kept i) Shallow (field inner cover b a start x s)
+  field_shallow : (ds : List Tree) (b a : Bool) (start : Span) (x : Tree) (i : ℕ) (s : State) → 2 * i + 1 ≤ n → Fine i s.at.left → Answers (Kept i) Shallow (field inner cover ds b a start x s)
   unfolding field field_from field_value
-  field_shallow b a start x i s h f = answers_if _ _ (sees kind.Assign s.at || ends_at s.at) _ _
+  field_shallow ds b a start x i s h f = answers_if _ _ (sees kind.Assign s.at || ends_at s.at) _ _
       (λ _. answers_then _ _ (field_named x s) _ (field_named_shallow i s f x) (λ _ t g.
       answers_then _ _ (field_value inner cover t) _ (answers_if (Kept i) _ (sees kind.Assign t.at) _ _
       (λ _. inside_shallow inner cover n below below_cover assignment i (moved t) (omega arith) (fine_after i t.at g)) (λ _. g)) (λ v u k.
       answers_then _ _ (field_end u) _ (field_end_shallow i u k) (λ _ w j. j))))
       (λ _. wanted_shallow _ faults.Unexpected (λ z. cc) i s f)
 
-  method_parts_shallow : (form : MethodForm) (start word : Span) (i : ℕ) (s : State) → 2 * i + 1 ≤ n → Fine i s.at.left → Answers (Kept i) Shallow (method_parts stmt params form start word s)
+  method_parts_shallow : (ds : List Tree) (form : MethodForm) (start word : Span) (i : ℕ) (s : State) → 2 * i + 1 ≤ n → Fine i s.at.left → Answers (Kept i) Shallow (method_parts stmt params ds form start word s)
   unfolding method_parts misdirected
-  method_parts_shallow form start word i s h f =
+  method_parts_shallow ds form start word i s h f =
       let a = form_is_async form in
       let v = form_is_generator form in
       answers_then _ _ (within (λ k. in_parameters k a v) params s) _
@@ -128,30 +130,36 @@ module _ (inner : Class → Reader Tree) (cover : Reader Cover) (stmt : Reader T
       answers_then _ _ (function_body stmt params a v u) _ (below_body a v i u h j) (λ y w l.
       answers_then (Kept i) _ (misdirected (parameters ps) y w) _ (told_shallow i _ w l) (λ _ r z. z))))
 
-  method_shallow : (b : Bool) (form : MethodForm) (start word : Span) (x : Tree) (i : ℕ) (s : State) → 2 * i + 1 ≤ n → Fine i s.at.left
-      → Answers (Kept i) Shallow (method stmt params b form start word x s)
+  method_shallow : (ds : List Tree) (b : Bool) (form : MethodForm) (start word : Span) (x : Tree) (i : ℕ) (s : State) → 2 * i + 1 ≤ n → Fine i s.at.left
+      → Answers (Kept i) Shallow (method stmt params ds b form start word x s)
   unfolding method
-  method_shallow b form start word x i s h f = answers_then _ _ (misnamed form start word x s) _ (misnamed_shallow i s f form start word x) (λ _ t g.
-      answers_then _ _ (method_parts stmt params form start word t) _ (method_parts_shallow form start word i t h g) (λ fn u k. k))
+  method_shallow ds b form start word x i s h f = answers_then _ _ (misnamed form start word x s) _ (misnamed_shallow i s f form start word x) (λ _ t g.
+      answers_then _ _ (method_parts stmt params ds form start word t) _ (method_parts_shallow ds form start word i t h g) (λ fn u k. k))
 
-  constructor_shallow : (b : Bool) (start : Span) (x : Tree) (i : ℕ) (s : State) → 2 * i + 1 ≤ n → Fine i s.at.left → Answers (Kept i) Shallow (constructor stmt params b start x s)
+  constructor_shallow : (b : Bool) (start first : Span) (x : Tree) (i : ℕ) (s : State) → 2 * i + 1 ≤ n → Fine i s.at.left → Answers (Kept i) Shallow (constructor stmt params b start first x s)
   unfolding constructor misdirected
-  constructor_shallow b start x i s h f = answers_then _ _ (params s) _ (below_params i s (omega arith) f) (λ ps t g.
+  constructor_shallow b start first x i s h f = answers_then _ _ (params s) _ (below_params i s (omega arith) f) (λ ps t g.
       answers_then _ _ (function_body stmt params false false t) _ (below_body false false i t h g) (λ y u k.
       answers_then (Kept i) _ (misdirected (parameters ps) y u) _ (told_shallow i _ u k) (λ _ v j.
-      answers_then (Kept i) _ (told (only b faults.TS1089 start) v) _ (told_shallow i (only b faults.TS1089 start) v j) (λ _ w l. l))))
+      answers_then (Kept i) _ (told (only b faults.TS1089 first) v) _ (told_shallow i (only b faults.TS1089 first) v j) (λ _ w l. l))))
 
-  plain_method_shallow : (b : Bool) (start word : Span) (x : Tree) (i : ℕ) (s : State) → 2 * i + 1 ≤ n → Fine i s.at.left
-      → Answers (Kept i) Shallow (plain_method stmt params b start word x s)
+  plain_method_shallow : (ds : List Tree) (b : Bool) (start first word : Span) (x : Tree) (i : ℕ) (s : State) → 2 * i + 1 ≤ n → Fine i s.at.left
+      → Answers (Kept i) Shallow (plain_method stmt params ds b start first word x s)
   unfolding plain_method
-  plain_method_shallow b start word x i s h f = answers_if _ _ (is_constructor_key x) _ _ (λ _. constructor_shallow b start x i s h f)
-      (λ _. method_shallow b (method_form false false) start word x i s h f)
+  plain_method_shallow ds b start first word x i s h f = answers_if _ _ (is_constructor_key x) _ _ (λ _. constructor_shallow b start first x i s h f)
+      (λ _. method_shallow ds b (method_form false false) start word x i s h f)
 
-  behind_key_shallow : (b : Bool) (form : MethodForm) (start word : Span) (x : Tree) (i : ℕ) (s : State) → 2 * i + 1 ≤ n → Fine i s.at.left
-      → Answers (Kept i) Shallow (behind_key inner cover stmt params b form start word x s)
+  before_constructor_shallow : (v : Leading) (x : Tree) (m : ℕ) (s : State) → Fine m s.at.left → Answers (Kept m) Shallow (before_constructor v x s)
+  unfolding before_constructor
+  before_constructor_shallow v x m s f = answers_if _ _ (is_constructor_key x) _ _ (λ _. misplaced_shallow v m s f) (λ _. f)
+
+  behind_key_shallow : (v : Leading) (b : Bool) (form : MethodForm) (start first word : Span) (x : Tree) (i : ℕ) (s : State) → 2 * i + 1 ≤ n → Fine i s.at.left
+      → Answers (Kept i) Shallow (behind_key inner cover stmt params v b form start first word x s)
   unfolding behind_key
-  behind_key_shallow b form start word x i s h f = answers_if _ _ (not (is_bare form)) _ _ (λ _. method_shallow b form start word x i s h f) (λ _.
-      answers_if _ _ (sees kind.LParen s.at) _ _ (λ _. plain_method_shallow b start word x i s h f) (λ _. field_shallow b false start x i s h f))
+  behind_key_shallow v b form start first word x i s h f = answers_if _ _ (not (is_bare form)) _ _ (λ _. method_shallow v.found b form start word x i s h f) (λ _.
+      answers_if _ _ (sees kind.LParen s.at) _ _
+      (λ _. answers_then _ _ (before_constructor v x s) _ (before_constructor_shallow v x i s f) (λ _ t g. plain_method_shallow v.found b start first word x i t h g))
+      (λ _. field_shallow v.found b false start x i s h f))
 
   -- ---- members
 
@@ -160,69 +168,80 @@ module _ (inner : Class → Reader Tree) (cover : Reader Cover) (stmt : Reader T
   static_block_shallow start i s h f = answers_then _ _ (within in_static_block (braced stmt false) s) _
       (answers_then (Kept i) _ (braced stmt false (coded (in_static_block s.code) s)) _ (below_block i (coded (in_static_block s.code) s) h f) (λ x t k. k)) (λ x t k. k)
 
-  second_static_shallow : (start : Span) (i : ℕ) (s : State) → 2 * i + 1 ≤ n → Fine i s.at.left → Answers (Kept i) Shallow (second_static stmt params start s)
+  second_static_shallow : (start first : Span) (i : ℕ) (s : State) → 2 * i + 1 ≤ n → Fine i s.at.left → Answers (Kept i) Shallow (second_static stmt params start first s)
   unfolding second_static
-  second_static_shallow start i s h f = answers_then _ _ (fault (fault_at start faults.TS1184) s) _ (fault_shallow i s f _) (λ _ t g. static_block_shallow start i (moved t) h (fine_after i t.at g))
+  second_static_shallow start first i s h f = answers_then _ _ (fault (fault_at first faults.TS1184) s) _ (fault_shallow i s f _) (λ _ t g. static_block_shallow start i (moved t) h (fine_after i t.at g))
 
-  keyed_member_shallow : (b : Bool) (start : Span) (m : ℕ) (s : State) → 2 * m ≤ suc n → Fine m s.at.left → Answers (Kept m) Shallow (keyed_member inner cover stmt params b start s)
+  keyed_member_shallow : (v : Leading) (b : Bool) (start first : Span) (m : ℕ) (s : State) → 2 * m ≤ suc n → Fine m s.at.left → Answers (Kept m) Shallow (keyed_member inner cover stmt params v b start first s)
   unfolding keyed_member
-  keyed_member_shallow b start m s h f = answers_then _ _ (member_words s) _ (member_words_shallow m s f) (λ form t g.
+  keyed_member_shallow v b start first m s h f = answers_then _ _ (member_words s) _ (member_words_shallow m s f) (λ form t g.
       answers_then _ _ (member_key inner cover t) _ (member_key_takes m t h g) (λ x u (i, l, k).
-      kept_more i m (behind_key inner cover stmt params b form start (span_at s.at) x u) (omega arith) (behind_key_shallow b form start (span_at s.at) x i u (omega arith) k)))
+      kept_more i m (behind_key inner cover stmt params v b form start first (span_at s.at) x u) (omega arith) (behind_key_shallow v b form start first (span_at s.at) x i u (omega arith) k)))
 
   -- behind `accessor`, which was taken
-  unaccessed_shallow : (b : Bool) (start : Span) (i : ℕ) (s : State) → 2 * i + 1 ≤ n → Fine i s.at.left → Answers (Kept i) Shallow (unaccessed inner cover stmt params b start s)
-  unfolding unaccessed static_behind
-  unaccessed_shallow b start i s h f = answers_if _ _ (b && sees kind.LBrace s.at) _ _ (λ _. static_block_shallow start i s h f) (λ _.
-      answers_if _ _ (word_at (codes "static") s.at && sees kind.LBrace (after s.at)) _ _
-      (λ _. answers_if _ _ b _ _ (λ _. second_static_shallow start i s h f) (λ _. static_block_shallow start i (moved s) h (fine_after i s.at f))) (λ _.
-      keyed_member_shallow b start i s (omega arith) f))
+  block_behind_shallow : (b : Bool) (start first : Span) (i : ℕ) (s : State) → 2 * i + 1 ≤ n → Fine i s.at.left → Answers (Kept i) Shallow (block_behind inner cover stmt params b start first s)
+  unfolding block_behind static_behind
+  block_behind_shallow b start first i s h f = answers_if _ _ (b && sees kind.LBrace s.at) _ _ (λ _. static_block_shallow start i s h f)
+      (λ _. answers_if _ _ b _ _ (λ _. second_static_shallow start first i s h f) (λ _. static_block_shallow start i (moved s) h (fine_after i s.at f)))
 
-  behind_accessed_key_shallow : (b : Bool) (start accessor word : Span) (x : Tree) (i : ℕ) (s : State) → 2 * i + 1 ≤ n → Fine i s.at.left
-      → Answers (Kept i) Shallow (behind_accessed_key inner cover stmt params b start accessor word x s)
+  behind_accessed_key_shallow : (v : Leading) (b : Bool) (start first accessor word : Span) (x : Tree) (i : ℕ) (s : State) → 2 * i + 1 ≤ n → Fine i s.at.left
+      → Answers (Kept i) Shallow (behind_accessed_key inner cover stmt params v b start first accessor word x s)
   unfolding behind_accessed_key
-  behind_accessed_key_shallow b start accessor word x i s h f = answers_if _ _ (sees kind.LParen s.at) _ _
-      (λ _. answers_then _ _ (fault (fault_at accessor faults.TS1184) s) _ (fault_shallow i s f _) (λ _ t g. plain_method_shallow b start word x i t h g))
-      (λ _. field_shallow b true start x i s h f)
+  behind_accessed_key_shallow v b start first accessor word x i s h f = answers_if _ _ (sees kind.LParen s.at) _ _
+      (λ _. answers_then _ _ (before_constructor v x s) _ (before_constructor_shallow v x i s f) (λ _ t g.
+      answers_then _ _ (fault (fault_at accessor faults.TS1184) t) _ (fault_shallow i t g _) (λ _ u k. plain_method_shallow v.found b start first word x i u h k)))
+      (λ _. field_shallow v.found b true start x i s h f)
 
-  accessed_key_shallow : (b : Bool) (start accessor : Span) (i : ℕ) (s : State) → 2 * i + 1 ≤ n → Fine i s.at.left
-      → Answers (Kept i) Shallow (accessed_key inner cover stmt params b start accessor s)
+  accessed_key_shallow : (v : Leading) (b : Bool) (start first accessor : Span) (i : ℕ) (s : State) → 2 * i + 1 ≤ n → Fine i s.at.left
+      → Answers (Kept i) Shallow (accessed_key inner cover stmt params v b start first accessor s)
   unfolding accessed_key
-  accessed_key_shallow b start accessor i s h f = answers_then _ _ (member_key inner cover s) _ (member_key_takes i s (omega arith) f) (λ x t (j, l, g).
-      kept_more j i (behind_accessed_key inner cover stmt params b start accessor (span_at s.at) x t) (omega arith)
-      (behind_accessed_key_shallow b start accessor (span_at s.at) x j t (omega arith) g))
+  accessed_key_shallow v b start first accessor i s h f = answers_then _ _ (member_key inner cover s) _ (member_key_takes i s (omega arith) f) (λ x t (j, l, g).
+      kept_more j i (behind_accessed_key inner cover stmt params v b start first accessor (span_at s.at) x t) (omega arith)
+      (behind_accessed_key_shallow v b start first accessor (span_at s.at) x j t (omega arith) g))
 
-  accessed_shallow : (b : Bool) (start accessor : Span) (i : ℕ) (s : State) → 2 * i + 1 ≤ n → Fine i s.at.left
-      → Answers (Kept i) Shallow (accessed inner cover stmt params b start accessor s)
+  accessed_shallow : (v : Leading) (b : Bool) (start first accessor : Span) (i : ℕ) (s : State) → 2 * i + 1 ≤ n → Fine i s.at.left
+      → Answers (Kept i) Shallow (accessed inner cover stmt params v b start first accessor s)
   unfolding accessed
-  accessed_shallow b start accessor i s h f = answers_if _ _ (begins_no_field b s.at) _ _
-      (λ _. answers_then _ _ (fault (fault_at accessor faults.TS1184) s) _ (fault_shallow i s f _) (λ _ t g. unaccessed_shallow b start i t h g))
-      (λ _. accessed_key_shallow b start accessor i s h f)
+  accessed_shallow v b start first accessor i s h f = answers_if _ _ (begins_block b s.at) _ _
+      (λ _. answers_then _ _ (misplaced v s) _ (misplaced_shallow v i s f) (λ _ t g.
+      answers_then _ _ (fault (fault_at accessor faults.TS1184) t) _ (fault_shallow i t g _) (λ _ u k. block_behind_shallow b start first i u h k)))
+      (λ _. answers_if _ _ (begins_words s.at) _ _
+      (λ _. answers_then _ _ (fault (fault_at accessor faults.TS1184) s) _ (fault_shallow i s f _) (λ _ t g. keyed_member_shallow v b start first i t (omega arith) g))
+      (λ _. accessed_key_shallow v b start first accessor i s h f))
 
-  accessor_member_shallow : (b : Bool) (start : Span) (m : ℕ) (s : State) → 2 * m ≤ suc n → is_accessor_word s.code s.at ≡ true → Fine m s.at.left
-      → Answers (Kept m) Shallow (accessor_member inner cover stmt params b start s)
+  accessor_member_shallow : (v : Leading) (b : Bool) (start first : Span) (m : ℕ) (s : State) → 2 * m ≤ suc n → is_accessor_word s.code s.at ≡ true → Fine m s.at.left
+      → Answers (Kept m) Shallow (accessor_member inner cover stmt params v b start first s)
   unfolding accessor_member
-  accessor_member_shallow b start m s h e f =
+  accessor_member_shallow v b start first m s h e f =
       let (i, l, g) = fine_taken m s.at kind.Ident (auto_accessor_kind s.code s.at e) (λ z. cc) f in
-      kept_more i m (accessed inner cover stmt params b start (span_at s.at) (moved s)) (omega arith) (accessed_shallow b start (span_at s.at) i (moved s) (omega arith) g)
+      kept_more i m (accessed inner cover stmt params v b start first (span_at s.at) (moved s)) (omega arith) (accessed_shallow v b start first (span_at s.at) i (moved s) (omega arith) g)
 
-  behind_static_shallow : (b : Bool) (start : Span) (m : ℕ) (s : State) → 2 * m ≤ suc n → Fine m s.at.left → (b ≡ true → (i : ℕ) × (m ≡ suc i) × Fine i s.at.left)
-      → Answers (Kept m) Shallow (behind_static inner cover stmt params b start s)
+  -- a static block stands behind a token, also where decorators before it are told
+  behind_misplaced : (v : Leading) (p : Reader Tree) (i : ℕ) (s : State) → ((t : State) → Fine i t.at.left → Answers (Kept i) Shallow (p t)) → Fine i s.at.left
+      → Answers (Kept i) Shallow (and_then (misplaced v s) (λ _. p))
+  behind_misplaced v p i s h f = answers_then _ _ (misplaced v s) _ (misplaced_shallow v i s f) (λ _ t g. h t g)
+
+  behind_static_shallow : (v : Leading) (b : Bool) (start first : Span) (m : ℕ) (s : State) → 2 * m ≤ suc n → Fine m s.at.left → (b ≡ true → (i : ℕ) × (m ≡ suc i) × Fine i s.at.left)
+      → Answers (Kept m) Shallow (behind_static inner cover stmt params v b start first s)
   unfolding behind_static
-  behind_static_shallow b start m s h f taken = answers_if _ _ (is_accessor_word s.code s.at) _ _ (λ e. accessor_member_shallow b start m s h e f) (λ _.
+  behind_static_shallow v b start first m s h f taken = answers_if _ _ (is_accessor_word s.code s.at) _ _ (λ e. accessor_member_shallow v b start first m s h e f) (λ _.
       answers_if _ _ (b && sees kind.LBrace s.at) _ _
-      (λ e. let (i, l, g) = taken (and_yes b _ e).0 in kept_more i m (static_block stmt params start s) (omega arith) (static_block_shallow start i s (omega arith) g)) (λ _.
+      (λ e. let (i, l, g) = taken (and_yes b _ e).0 in
+      kept_more i m (and_then (misplaced v s) (λ _. static_block stmt params start)) (omega arith) (behind_misplaced v (static_block stmt params start) i s (λ t k. static_block_shallow start i t (omega arith) k) g)) (λ _.
       answers_if _ _ (b && (word_at (codes "static") s.at && sees kind.LBrace (after s.at))) _ _
-      (λ e. let (i, l, g) = taken (and_yes b _ e).0 in kept_more i m (second_static stmt params start s) (omega arith) (second_static_shallow start i s (omega arith) g)) (λ _.
-      keyed_member_shallow b start m s h f)))
+      (λ e. let (i, l, g) = taken (and_yes b _ e).0 in
+      kept_more i m (and_then (misplaced v s) (λ _. second_static stmt params start first)) (omega arith) (behind_misplaced v (second_static stmt params start first) i s (λ t k. second_static_shallow start first i t (omega arith) k) g)) (λ _.
+      keyed_member_shallow v b start first m s h f)))
 
-  full_member_shallow : (m : ℕ) (s : State) → 2 * m ≤ suc n → Fine m s.at.left → Answers (Kept m) Shallow (full_member inner cover stmt params s)
-  unfolding full_member
-  full_member_shallow m s h f = answers_then _ _ (static_word s) _ (static_word_shallow m s f) (λ b t g. behind_static_shallow b (span_at s.at) m t h g.0 g.1)
+  module _ (further : Reader Tree) (below_further : Levels n further) where
+    full_member_shallow : (m : ℕ) (s : State) → 2 * m ≤ suc n → Fine m s.at.left → Answers (Kept m) Shallow (full_member inner cover stmt params further s)
+    unfolding full_member
+    full_member_shallow m s h f = answers_then _ _ (leading further s) _ (leading_shallow further n below_further m s h f) (λ v t g.
+        answers_then _ _ (static_word t) _ (static_word_shallow m t g) (λ b u k. behind_static_shallow v b (span_at s.at) (span_at t.at) m u h k.0 k.1))
 
-  pub member_level_shallow : Levels (suc n) (member_level inner cover stmt params)
-  unfolding member_level empty_member
-  member_level_shallow m s h f = answers_if _ _ (sees kind.Semi s.at) _ _ (λ _. fine_after m s.at f) (λ _. full_member_shallow m s h f)
+    pub member_level_shallow : Levels (suc n) (member_level inner cover stmt params further)
+    unfolding member_level empty_member
+    member_level_shallow m s h f = answers_if _ _ (sees kind.Semi s.at) _ _ (λ _. fine_after m s.at f) (λ _. full_member_shallow m s h f)
 
 -- ---- classes
 

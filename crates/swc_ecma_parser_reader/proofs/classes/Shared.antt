@@ -1,6 +1,6 @@
 -- What is said of classes in more than one place: what stands behind a member, a class that is declared, and what the parts of a member
 -- are read as.
-use Rattle.std.proofs.Common.{◌≡◌, ℕ, Bool, true, false, List, []}
+use Rattle.std.proofs.Common.{◌≡◌, ℕ, true, false, List}
 use Rattle.std.specs.Prelude.{◌||◌, codes}
 use Rattle.swc_ecma_parser_token.specs.declared.kind.TokenKind.TheVariants as kind
 use Rattle.swc_ecma_parser_input.specs.Place.{Place}
@@ -40,10 +40,10 @@ WordsRead form c d = MethodHead (kind_of_form form) (form_is_async form) (form_i
 abbrev pub MemberKeyRead : ℕ → Code → Tree → Place → Place → Type 0
 MemberKeyRead n k x c d = MemberKeyRule (Reads n) k x c d × (is_supported_key_in k.flags.module x || is_private x ≡ true)
 
--- the function of a method that begins at a place, from behind its key
-pub record PartsRead (n : ℕ) (form : MethodForm) (start : Place) (fn : Tree) (k : Code) (c d : Place) : Type 0 where
+-- the function of a method that begins at a place, from behind its key, with decorators that were read before
+pub record PartsRead (n : ℕ) (ds : List Tree) (form : MethodForm) (start : Place) (fn : Tree) (k : Code) (c d : Place) : Type 0 where
   pub patterns : List Tree
   pub body : Tree
   pub parts : ReadsParts (ReadsStmt n) (ReadsParams n) k (form_is_async form) (form_is_generator form) patterns body c d
   pub arity : takes (kind_of_form form) patterns ≡ true
-  pub is : fn ≡ tree.function (spanned start d) (listed []) (parameters patterns) body (form_is_async form) (form_is_generator form)
+  pub is : fn ≡ tree.function (spanned start d) (listed ds) (parameters patterns) body (form_is_async form) (form_is_generator form)

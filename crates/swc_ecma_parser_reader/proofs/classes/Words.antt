@@ -1,5 +1,5 @@
 -- The words before the key of a member.
-use Rattle.std.proofs.Common.{◌≡◌, true, false}
+use Rattle.std.proofs.Common.{◌≡◌, true}
 use Rattle.swc_ecma_parser_token.specs.declared.kind.TokenKind.TheVariants as kind
 use Rattle.swc_ecma_parser_input.specs.Place.{Place}
 use Rattle.swc_ecma_parser_model.specs.Tree.{Text}

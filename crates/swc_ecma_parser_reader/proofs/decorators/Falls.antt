@@ -1,4 +1,5 @@
--- What stands behind `@` takes a token, and so does a decorator; a list of them may be empty.
+-- What stands behind `@` takes a token, and so does a decorator; a list of them may be empty, also one that is read before it is known
+-- whose it is.
 use Rattle.std.proofs.Common.{List, length, arith}
 use Rattle.swc_ecma_parser_common.specs.declared.span.Span.{Span}
 use Rattle.swc_ecma_parser_error.specs.Kind as faults
@@ -10,8 +11,8 @@ use Rattle.swc_ecma_parser_grammar.specs.Reads.{with_in}
 use Rattle.swc_ecma_parser_grammar.specs.language.Goals.{Class}
 use Rattle.swc_ecma_parser_reader.specs.State.{State, Reader, moved, coded, within, expect, name}
 use Rattle.swc_ecma_parser_reader.specs.Expressions.{Cover, accessed, called}
-use Rattle.swc_ecma_parser_reader.specs.Decorators.{chain_turn, chain_from, chain, behind_group, group, decorated, decorator, decorators_turn, decorators}
-use Rattle.swc_ecma_parser_reader.proofs.Takes.{Falls, falls_then, falls_last, falls_coded, falls_if, less, falls_next, falls_moved, name_falls, expect_falls, loop_falls}
+use Rattle.swc_ecma_parser_reader.specs.Decorators.{chain_turn, chain_from, chain, behind_group, group, decorated, decorator, decorators_turn, decorators, Leading, found_before, leading, has_any, misplaced}
+use Rattle.swc_ecma_parser_reader.proofs.Takes.{Falls, falls_then, falls_last, falls_coded, falls_if, less, falls_next, falls_moved, name_falls, fault_falls, expect_falls, loop_falls}
 use Rattle.swc_ecma_parser_reader.proofs.expressions.Falls.{no_end, falls_when, accessed_falls, called_falls}
 
 module _ (inner : Class → Reader Tree) (below : (class : Class) (s : State) → Falls 1 (length s.at.left) (inner class s))
@@ -58,3 +59,11 @@ module _ (further : Reader Tree) (below : (s : State) → Falls 1 (length s.at.l
   pub decorators_fall : (s : State) → Falls 0 (length s.at.left) (decorators further s)
   unfolding decorators
   decorators_fall s = falls_if 0 (length s.at.left) s.code.setting.decorators _ _ (loop_falls (decorators_turn further) decorators_turn_falls _ s) (omega arith)
+
+  pub leading_falls : (s : State) → Falls 0 (length s.at.left) (leading further s)
+  unfolding leading
+  leading_falls s = falls_last 0 (length s.at.left) (decorators further s) _ (decorators_fall s)
+
+pub misplaced_falls : (v : Leading) (s : State) → Falls 0 (length s.at.left) (misplaced v s)
+unfolding misplaced
+misplaced_falls v s = falls_if 0 (length s.at.left) (has_any v.found) _ _ (fault_falls _ (found_before v s)) (omega arith)

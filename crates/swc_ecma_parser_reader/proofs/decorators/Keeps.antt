@@ -9,11 +9,11 @@ use Rattle.swc_ecma_parser_model.specs.Tree.{Tree}
 use Rattle.swc_ecma_parser_grammar.specs.Looks.{sees, span_at}
 use Rattle.swc_ecma_parser_grammar.specs.Reads.{with_in}
 use Rattle.swc_ecma_parser_grammar.specs.language.Goals.{Class}
-use Rattle.swc_ecma_parser_reader.specs.State.{Reader, moved, coded, within, expect, name}
+use Rattle.swc_ecma_parser_reader.specs.State.{Reader, moved, coded, within, fault_at, expect, name}
 use Rattle.swc_ecma_parser_reader.specs.Expressions.{Cover, accessed, called}
-use Rattle.swc_ecma_parser_reader.specs.Decorators.{chain_turn, chain_from, chain, behind_group, group, decorated, decorator, decorators_turn, decorators}
+use Rattle.swc_ecma_parser_reader.specs.Decorators.{chain_turn, chain_from, chain, behind_group, group, decorated, decorator, decorators_turn, decorators, Leading, found_before, leading, has_any, misplaced}
 use Rattle.swc_ecma_parser_reader.proofs.Meets.{answers_then, answers_if, saw}
-use Rattle.swc_ecma_parser_reader.proofs.Behind.{Kept, Passes, behind_after, expect_keeps, name_keeps, loop_keeps}
+use Rattle.swc_ecma_parser_reader.proofs.Behind.{Kept, Passes, behind_after, fault_keeps, expect_keeps, name_keeps, loop_keeps}
 use Rattle.swc_ecma_parser_reader.proofs.expressions.Keeps.{accessed_keeps, called_keeps}
 
 module _ (inner : Class → Reader Tree) (cover : Reader Cover) (below : (class : Class) → Passes (inner class)) (below_cover : Passes cover) where
@@ -49,3 +49,11 @@ module _ (further : Reader Tree) (below : Passes further) where
   unfolding decorators decorators_turn
   decorators_keep b s f = answers_if _ _ s.code.setting.decorators _ _ (λ _. loop_keeps (decorators_turn further) b
       (λ found t g. answers_if _ _ (sees kind.At t.at) _ _ (λ _. answers_then _ _ (decorator further t) _ (decorator_keeps b t g) (λ x u k. k)) (λ _. g)) [] s f) (λ _. f)
+
+  pub leading_keeps : Passes (leading further)
+  unfolding leading
+  leading_keeps b s f = answers_then (Kept b) _ (decorators further s) _ (decorators_keep b s f) (λ xs t g. g)
+
+pub misplaced_keeps : (v : Leading) → Passes (misplaced v)
+unfolding misplaced
+misplaced_keeps v b s f = answers_if _ _ (has_any v.found) _ _ (λ _. fault_keeps b (found_before v s) f (fault_at v.place faults.InvalidLeadingDecorator)) (λ _. f)

@@ -1,11 +1,11 @@
 -- Decorators that are read before it is known whose they are, and those that nothing takes, which are dropped with a fault.
-use Rattle.std.proofs.Common.{◌≡◌, ℕ, suc, true, false, List, [], ◌∷◌, ◌++◌, length, Ok, refl, sym, ◌∙◌, ap, subst, append_assoc, arith}
+use Rattle.std.proofs.Common.{◌≡◌, ℕ, true, false, List, [], ◌∷◌, ◌++◌, length, Ok, refl, sym, ◌∙◌, ap, subst, append_assoc}
 use Rattle.std.proofs.lemmas.List.{append_cancel_left}
 use Rattle.swc_ecma_parser_error.specs.Kind as faults
 use Rattle.swc_ecma_parser_error.specs.Kind.{Fault}
 use Rattle.swc_ecma_parser_input.specs.Place.{Place}
 use Rattle.swc_ecma_parser_model.specs.Tree.{Tree, listed}
-use Rattle.swc_ecma_parser_grammar.specs.Looks.{spanned}
+use Rattle.swc_ecma_parser_grammar.specs.Looks.{kind_at, spanned}
 use Rattle.swc_ecma_parser_grammar.specs.Names.{Code}
 use Rattle.swc_ecma_parser_grammar.specs.ReadsSupported.{ReadsDecorated}
 use Rattle.swc_ecma_parser_grammar.specs.Supported.{supported_in}
@@ -16,38 +16,23 @@ use Rattle.swc_ecma_parser_reader.specs.Notes.{Notes, ◌⊕◌, notes_of}
 use Rattle.swc_ecma_parser_reader.specs.State.{State, Scope, Reader, fault, fault_at}
 use Rattle.swc_ecma_parser_reader.specs.Entry.{error_tokens}
 use Rattle.swc_ecma_parser_reader.specs.Decorators.{Leading, found_before, decorators, leading, has_any, misplaced}
-use Rattle.swc_ecma_parser_reader.proofs.Meets.{Meets, Answers, answers_then, answers_if, meets_then, meets_if}
+use Rattle.swc_ecma_parser_reader.proofs.Meets.{Meets, meets_then, meets_if}
+use Rattle.swc_ecma_parser_reader.proofs.Errors.{is_error, fault_here}
 use Rattle.swc_ecma_parser_reader.proofs.Notes.{or_nil}
-use Rattle.swc_ecma_parser_reader.proofs.Takes.{Falls, falls_last, falls_if, fault_falls}
-use Rattle.swc_ecma_parser_reader.proofs.Behind.{Kept, Passes, fault_keeps}
+use Rattle.swc_ecma_parser_reader.proofs.Takes.{Falls}
 use Rattle.swc_ecma_parser_reader.proofs.Between.{Walk, Sound, SoundTree, SoundStep, same, nil-split, drops-split, fewer-then, sound_as}
 use Rattle.swc_ecma_parser_reader.proofs.SoundParts.{meets_both}
-use Rattle.swc_ecma_parser_reader.proofs.Shallow.{Fine, Shallow, Levels, fault_shallow}
-use Rattle.swc_ecma_parser_reader.proofs.Shallow as shallow
 use Rattle.swc_ecma_parser_reader.proofs.Answered.{st, Reads}
 use Rattle.swc_ecma_parser_reader.proofs.expressions.SoundSteps.{stepped, meets_as, clash, fault_sound}
 use Rattle.swc_ecma_parser_reader.proofs.classes.SoundClasses.{Drops, fault_drops}
-use Rattle.swc_ecma_parser_reader.proofs.decorators.Falls.{decorators_fall}
-use Rattle.swc_ecma_parser_reader.proofs.decorators.Keeps.{decorators_keep}
-use Rattle.swc_ecma_parser_reader.proofs.decorators.Limits.{decorators_shallow}
+pub use Rattle.swc_ecma_parser_reader.proofs.decorators.Falls.{leading_falls, misplaced_falls}
+pub use Rattle.swc_ecma_parser_reader.proofs.decorators.Keeps.{leading_keeps, misplaced_keeps}
+pub use Rattle.swc_ecma_parser_reader.proofs.decorators.Limits.{leading_shallow, misplaced_shallow}
 use Rattle.swc_ecma_parser_reader.proofs.decorators.Shared.{NoneFollows, DecoratorsRead}
 use Rattle.swc_ecma_parser_reader.proofs.decorators.Sound.{decorators_sound}
 use Rattle.swc_ecma_parser_reader.proofs.decorators.Complete.{decorators_read}
 
 -- ---- the list and its place
-
-module _ (further : Reader Tree) where
-  pub leading_falls : ((s : State) → Falls 1 (length s.at.left) (further s)) → (s : State) → Falls 0 (length s.at.left) (leading further s)
-  unfolding leading
-  leading_falls below s = falls_last 0 (length s.at.left) (decorators further s) _ (decorators_fall further below s)
-
-  pub leading_keeps : Passes further → Passes (leading further)
-  unfolding leading
-  leading_keeps below b s f = answers_then (Kept b) _ (decorators further s) _ (decorators_keep further below b s f) (λ xs t g. g)
-
-  pub leading_shallow : (n : ℕ) → Levels n further → Levels (suc n) (leading further)
-  unfolding leading
-  leading_shallow n below m s h f = answers_then (shallow.Kept m) _ (decorators further s) _ (decorators_shallow further n below m s h f) (λ xs t g. g)
 
 -- what is read, and what is known of it behind it
 pub record SoundLeading (n : ℕ) (s : State) (v : Leading) (t : State) : Type 0 where
@@ -70,22 +55,15 @@ leading_reads In further reads falls k x c d r g s w f h =
 
 -- ---- a list that nothing takes
 
-pub misplaced_falls : (v : Leading) (s : State) → Falls 0 (length s.at.left) (misplaced v s)
-unfolding misplaced
-misplaced_falls v s = falls_if 0 (length s.at.left) (has_any v.found) _ _ (fault_falls _ (found_before v s)) (omega arith)
-
-pub misplaced_keeps : (v : Leading) → Passes (misplaced v)
-unfolding misplaced
-misplaced_keeps v b s f = answers_if _ _ (has_any v.found) _ _ (λ _. fault_keeps b (found_before v s) f (fault_at v.place faults.InvalidLeadingDecorator)) (λ _. f)
-
-pub misplaced_shallow : (v : Leading) (m : ℕ) (s : State) → Fine m s.at.left → Answers (shallow.Kept m) Shallow (misplaced v s)
-unfolding misplaced
-misplaced_shallow v m s f = answers_if _ _ (has_any v.found) _ _ (λ _. fault_shallow m (found_before v s) f _) (λ _. f)
-
 -- of no list nothing is said
 pub misplaced_none : (v : Leading) (s : State) → v.found ≡ [] → misplaced v s ≡ Ok (tt, s)
 unfolding misplaced
 misplaced_none v s e = rw e refl
+
+-- where no error token stands it takes none
+pub misplaced_still : (v : Leading) (s : State) → is_error (kind_at s.at) ≡ false → Meets (λ _ t. t.at ≡ s.at) (misplaced v s)
+unfolding misplaced
+misplaced_still v s h = meets_if _ (has_any v.found) _ _ (λ _. rw (fault_here (found_before v s) (fault_at v.place faults.InvalidLeadingDecorator) h) refl) (λ _. refl)
 
 none_of : (xs : List Tree) → has_any xs ≡ false → xs ≡ []
 none_of [] h = refl
@@ -109,13 +87,17 @@ module _ {w : Walk} {ns : Notes} {P Q : Code → Place → Place → Type 0} {s 
     reads = λ e. absurd (r.reads (nil-split (p.added ++ q.added) r.added e).1);
   }
 
--- where it is said behind some words, the list was none or is no part of what is read
-pub misplaced_sound : (n : ℕ) {Q : Code → Place → Place → Type 0} (s m i : State) (v : Leading) → SoundLeading n s v m → SoundStep Q m i
-    → Meets (λ _ t. SoundStep (λ k c d. (v.found ≡ []) × DecoratorsRead n [] k s.at m.at × Q k m.at i.at) s t) (misplaced v i)
+-- where it is said behind some words, the list was none or is no part of what is read; where it was none it is said behind these words
+pub misplaced_stays : (n : ℕ) {Q : Code → Place → Place → Type 0} (s m i : State) (v : Leading) → SoundLeading n s v m → SoundStep Q m i
+    → Meets (λ _ t. SoundStep (λ k c d. (v.found ≡ []) × DecoratorsRead n [] k s.at m.at × Q k m.at i.at × (d ≡ i.at)) s t) (misplaced v i)
 unfolding misplaced
-misplaced_sound n {Q = Q} s m i v p q = let f = fault_at v.place faults.InvalidLeadingDecorator in meets_if _ (has_any v.found) _ _
+misplaced_stays n {Q = Q} s m i v p q = let f = fault_at v.place faults.InvalidLeadingDecorator in meets_if _ (has_any v.found) _ _
     (λ _. let u = found_before v i in
     meets_as (fault f u) (meets_both _ _ (fault f u) (fault_sound {table = []} (λ k c d. ⊥) f u refl) (fault_drops f u refl)) (λ _ t (r, h). dropping_before v p.reads q p.before t r h))
     (λ h. let e = none_of v.found h in
     sound_as s i refl (ap (λ xs. walk (env_of s.code s.scope.labels) (listed xs)) e) (ap (λ xs. notes_of (listed xs)) e)
-    (λ (a, b). (e, subst (λ xs. DecoratorsRead n xs s.code s.at m.at) e a, b)) (stepped p.reads q))
+    (λ (a, b). (e, subst (λ xs. DecoratorsRead n xs s.code s.at m.at) e a, b, refl)) (stepped p.reads q))
+
+pub misplaced_sound : (n : ℕ) {Q : Code → Place → Place → Type 0} (s m i : State) (v : Leading) → SoundLeading n s v m → SoundStep Q m i
+    → Meets (λ _ t. SoundStep (λ k c d. (v.found ≡ []) × DecoratorsRead n [] k s.at m.at × Q k m.at i.at) s t) (misplaced v i)
+misplaced_sound n s m i v p q = meets_as (misplaced v i) (misplaced_stays n s m i v p q) (λ _ t r. sound_as s t refl refl refl (λ (e, a, b, d). (e, a, b)) r)

@@ -1,5 +1,5 @@
 -- What is said of decorators, in so many levels.
-use Rattle.std.proofs.Common.{◌≡◌, ℕ, zero, suc, true, List, [], ◌++◌, None, length, Ok, sym, ◌∙◌, ap, arith}
+use Rattle.std.proofs.Common.{◌≡◌, ℕ, suc, true, List, [], ◌++◌, None, length, Ok, sym, ◌∙◌, ap}
 use Rattle.swc_ecma_parser_error.specs.Kind.{Fault}
 use Rattle.swc_ecma_parser_input.specs.Place.{Place}
 use Rattle.swc_ecma_parser_model.specs.Tree.{Tree, listed}
@@ -8,63 +8,41 @@ use Rattle.swc_ecma_parser_grammar.specs.ReadsSupported.{ReadsDecorated}
 use Rattle.swc_ecma_parser_grammar.specs.Supported.{supported_in}
 use Rattle.swc_ecma_parser_grammar.specs.Walk.{env_of, walk}
 use Rattle.swc_ecma_parser_grammar.specs.language.Classes.{DecoratorsRule}
-use Rattle.swc_ecma_parser_grammar.specs.language.Goals.{expression}
 use Rattle.swc_ecma_parser_grammar.specs.language.Reads as language
 use Rattle.swc_ecma_parser_reader.specs.Notes.{Notes, no_notes, ◌⊕◌, notes_of}
 use Rattle.swc_ecma_parser_reader.specs.State.{State, Scope, Outcome}
 use Rattle.swc_ecma_parser_reader.specs.DecoratorLevels.{decorated_in, decorators_in}
-use Rattle.swc_ecma_parser_reader.specs.Reader.{expr, cover, function}
-use Rattle.swc_ecma_parser_reader.proofs.Meets.{Meets, Refuses, meant, too_deep_meets}
-use Rattle.swc_ecma_parser_reader.proofs.Takes.{Falls, too_deep_falls}
-use Rattle.swc_ecma_parser_reader.proofs.Behind.{Passes, too_deep_keeps}
+use Rattle.swc_ecma_parser_reader.proofs.Meets.{Meets, Refuses, meant}
+use Rattle.swc_ecma_parser_reader.proofs.Takes.{Falls}
+use Rattle.swc_ecma_parser_reader.proofs.Behind.{Passes}
 use Rattle.swc_ecma_parser_reader.proofs.Between.{SoundTree, Sound, same}
-use Rattle.swc_ecma_parser_reader.proofs.Falls.{expr_falls, cover_falls}
-use Rattle.swc_ecma_parser_reader.proofs.Keeps.{expr_keeps, cover_keeps}
-use Rattle.swc_ecma_parser_reader.proofs.Sound.{expr_sound, cover_sound, functions_sound}
-use Rattle.swc_ecma_parser_reader.proofs.decorators.Falls.{decorated_falls, decorators_fall}
-use Rattle.swc_ecma_parser_reader.proofs.decorators.Keeps.{decorated_keeps, decorators_keep}
+use Rattle.swc_ecma_parser_reader.proofs.Falls.{decorated_in_falls}
+use Rattle.swc_ecma_parser_reader.proofs.Keeps.{decorated_in_keeps}
+use Rattle.swc_ecma_parser_reader.proofs.Sound.{decorated_in_sound}
+use Rattle.swc_ecma_parser_reader.proofs.decorators.Falls.{decorators_fall}
+use Rattle.swc_ecma_parser_reader.proofs.decorators.Keeps.{decorators_keep}
 use Rattle.swc_ecma_parser_reader.proofs.decorators.Shared.{NoneFollows, DecoratorsRead}
-use Rattle.swc_ecma_parser_reader.proofs.decorators.Sound.{decorated_sound, decorators_sound}
-use Rattle.swc_ecma_parser_reader.proofs.Shallow.{Levels, too_deep_shallow}
-use Rattle.swc_ecma_parser_reader.proofs.Limits.{expr_shallow, cover_shallow}
-use Rattle.swc_ecma_parser_reader.proofs.decorators.Limits.{decorated_shallow, decorators_shallow}
+use Rattle.swc_ecma_parser_reader.proofs.decorators.Sound.{decorators_sound}
+use Rattle.swc_ecma_parser_reader.proofs.Shallow.{Levels}
+use Rattle.swc_ecma_parser_reader.proofs.Limits.{decorated_in_shallow}
+use Rattle.swc_ecma_parser_reader.proofs.decorators.Limits.{decorators_shallow}
 use Rattle.swc_ecma_parser_reader.proofs.Answered.{st, Reads}
 use Rattle.swc_ecma_parser_reader.proofs.Complete.{parts_read}
-use Rattle.swc_ecma_parser_reader.proofs.decorators.Complete.{decorated_reads, decorators_read}
+use Rattle.swc_ecma_parser_reader.proofs.decorators.Complete.{decorators_read}
 
 -- tokens are taken
-pub decorated_in_falls : (n : ℕ) (s : State) → Falls 1 (length s.at.left) (decorated_in n s)
-unfolding decorated_in
-decorated_in_falls zero s = too_deep_falls Tree 1 (length s.at.left) s
-decorated_in_falls (suc n) s = decorated_falls (expr n) (expr_falls n) (cover n) (cover_falls n) (expr (suc n) expression) (expr_falls (suc n) expression) s
-
 pub decorators_in_fall : (n : ℕ) (s : State) → Falls 0 (length s.at.left) (decorators_in n s)
 decorators_in_fall n = decorators_fall (decorated_in n) (decorated_in_falls n)
 
 -- nothing is lost
-pub decorated_in_keeps : (n : ℕ) → Passes (decorated_in n)
-unfolding decorated_in
-decorated_in_keeps zero b s f = too_deep_keeps _ b s f
-decorated_in_keeps (suc n) b s f = decorated_keeps (expr n) (cover n) (expr_keeps n) (cover_keeps n) (expr (suc n) expression) (expr_keeps (suc n) expression) b s f
-
 pub decorators_in_keep : (n : ℕ) → Passes (decorators_in n)
 decorators_in_keep n = decorators_keep (decorated_in n) (decorated_in_keeps n)
 
 -- with enough levels nothing is too deep
-pub decorated_in_shallow : (n : ℕ) → Levels n (decorated_in n)
-unfolding decorated_in
-decorated_in_shallow zero m s h f = too_deep_shallow _ s (omega arith)
-decorated_in_shallow (suc n) m s h f = decorated_shallow (expr n) (cover n) n (expr_shallow n) (cover_shallow n) (expr (suc n) expression) (expr_shallow (suc n) expression) m s h f
-
 pub decorators_in_shallow : (n : ℕ) → Levels (suc n) (decorators_in n)
 decorators_in_shallow n = decorators_shallow (decorated_in n) n (decorated_in_shallow n)
 
 -- what is read is the language's
-pub decorated_in_sound : (n : ℕ) (s : State) → Meets (λ x t. SoundTree (ReadsDecorated n) s x t) (decorated_in n s)
-unfolding decorated_in
-decorated_in_sound zero s = too_deep_meets _ s
-decorated_in_sound (suc n) s = decorated_sound n (expr n) (cover n) (expr_sound n) (cover_sound n) (function n) (functions_sound n) (expr (suc n) expression) (expr_sound (suc n) expression) s
-
 pub decorators_in_sound : (n : ℕ) (s : State) → Meets (λ xs t. Sound same (λ k l. walk (env_of k l) (listed xs)) (notes_of (listed xs)) (DecoratorsRead n xs) s t) (decorators_in n s)
 decorators_in_sound n = decorators_sound n (decorated_in n) (decorated_in_sound n)
 
@@ -79,9 +57,7 @@ decorators_in_code n s xs t e =
 
 -- what the language allows is read
 pub decorated_in_reads : (n : ℕ) (k : Code) (x : Tree) (c d : Place) → ReadsDecorated n k x c d → Reads (decorated_in n) k x c d
-unfolding decorated_in
-decorated_in_reads zero k x c d r w f h = absurd r.0
-decorated_in_reads (suc n) k x c d r w f h = decorated_reads (language.Reads n) (expr n) (cover n) (parts_read n).exprs (expr (suc n) expression) ((parts_read (suc n)).exprs.reads expression) k x c d r.0 r.1 w f h
+decorated_in_reads n = (parts_read n).decorateds
 
 pub decorators_in_read : (n : ℕ) (k : Code) (x : Tree) (c d : Place) → DecoratorsRule (language.Reads n) k x c d → NoneFollows k d → supported_in k.flags.module x ≡ true → (w : Scope) (f : List Fault) (h : Notes)
     → (ds : List Tree) × (x ≡ listed ds) × (decorators_in n (st c k w f h) ≡ Ok (ds, st d k w (f ++ walk (env_of k w.labels) x) (h ⊕ notes_of x)))

@@ -11,9 +11,9 @@ use Rattle.swc_ecma_parser_grammar.specs.Reads.{with_in}
 use Rattle.swc_ecma_parser_grammar.specs.language.Goals.{Class}
 use Rattle.swc_ecma_parser_reader.specs.State.{State, Reader, moved, coded, within, expect, name}
 use Rattle.swc_ecma_parser_reader.specs.Expressions.{Cover, accessed, called}
-use Rattle.swc_ecma_parser_reader.specs.Decorators.{chain_turn, chain_from, chain, behind_group, group, decorated, decorator, decorators_turn, decorators}
+use Rattle.swc_ecma_parser_reader.specs.Decorators.{chain_turn, chain_from, chain, behind_group, group, decorated, decorator, decorators_turn, decorators, Leading, found_before, leading, has_any, misplaced}
 use Rattle.swc_ecma_parser_reader.proofs.Meets.{Answers, answers_then, answers_if, loop_answers, saw}
-use Rattle.swc_ecma_parser_reader.proofs.Shallow.{Fine, fine_more, fine_taken, Shallow, Kept, name_shallow, expect_shallow, Levels}
+use Rattle.swc_ecma_parser_reader.proofs.Shallow.{Fine, fine_more, fine_taken, Shallow, Kept, fault_shallow, name_shallow, expect_shallow, Levels}
 use Rattle.swc_ecma_parser_reader.proofs.expressions.LimitSteps.{kept_more}
 use Rattle.swc_ecma_parser_reader.proofs.expressions.Limits.{accessed_shallow, called_shallow}
 
@@ -60,3 +60,11 @@ module _ (further : Reader Tree) (n : ℕ) (below : Levels n further) where
   decorators_shallow m s h f = answers_if _ _ s.code.setting.decorators _ _ (λ _. loop_answers (decorators_turn further) (Kept m) (Kept m) Shallow
       (λ found t g. answers_if _ _ (sees kind.At t.at) _ _ (λ e. answers_then _ _ (decorator further t) _ (decorator_shallow m t h (saw t.at kind.At e) g) (λ x u k. k)) (λ _. g))
       (λ t e. cc) [] s f) (λ _. f)
+
+  pub leading_shallow : Levels (suc n) (leading further)
+  unfolding leading
+  leading_shallow m s h f = answers_then (Kept m) _ (decorators further s) _ (decorators_shallow m s h f) (λ xs t g. g)
+
+pub misplaced_shallow : (v : Leading) (m : ℕ) (s : State) → Fine m s.at.left → Answers (Kept m) Shallow (misplaced v s)
+unfolding misplaced
+misplaced_shallow v m s f = answers_if _ _ (has_any v.found) _ _ (λ _. fault_shallow m (found_before v s) f _) (λ _. f)

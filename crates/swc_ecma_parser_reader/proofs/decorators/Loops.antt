@@ -11,11 +11,11 @@ use Rattle.swc_ecma_parser_reader.specs.Expressions.{accessed, called, expr_leve
 use Rattle.swc_ecma_parser_reader.specs.Decorators.{chain_turn, decorated, decorator, decorators_turn}
 use Rattle.swc_ecma_parser_reader.specs.DecoratorLevels.{decorated_in}
 use Rattle.swc_ecma_parser_reader.specs.Reader.{expr, cover, function}
+use Rattle.swc_ecma_parser_reader.proofs.Falls.{decorated_in_falls}
 use Rattle.swc_ecma_parser_reader.proofs.Sound.{expr_code}
 use Rattle.swc_ecma_parser_reader.proofs.Steps.{loop_more, loop_done, loop_err}
 use Rattle.swc_ecma_parser_reader.proofs.expressions.Loops.{shorter_by, accessed_shorter, called_shorter, deeper}
 use Rattle.swc_ecma_parser_reader.proofs.decorators.Falls.{decorator_falls}
-use Rattle.swc_ecma_parser_reader.proofs.decorators.Levels.{decorated_in_falls}
 
 -- ---- an access by a dot, arguments, or neither
 

@@ -20,7 +20,7 @@ use Rattle.swc_ecma_parser_input.specs.Place.{Place, after}
 use Rattle.swc_ecma_parser_model.specs.Tree as tree
 use Rattle.swc_ecma_parser_model.specs.Tree.{Tree, Text}
 use Rattle.swc_ecma_parser_grammar.specs.Looks.{kind_at, breaks_at, sees, same_kind, span_at}
-use Rattle.swc_ecma_parser_grammar.specs.Names.{is_reserved, is_name, token_is_identifier, first_is_identifier, name_at, is_identifier, identifier_at}
+use Rattle.swc_ecma_parser_grammar.specs.Names.{is_reserved, name_at, is_identifier}
 use Rattle.swc_ecma_parser_grammar.specs.Follows.{token_is, first_is, word_at}
 use Rattle.swc_ecma_parser_grammar.specs.language.Begins.{awaits}
 use Rattle.swc_ecma_parser_grammar.specs.language.Goals.{Class}

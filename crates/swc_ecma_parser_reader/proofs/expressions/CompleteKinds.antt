@@ -40,7 +40,6 @@ use Rattle.swc_ecma_parser_grammar.specs.language.Continues.{continues_unary, is
 use Rattle.swc_ecma_parser_grammar.specs.language.Parts as parts
 use Rattle.swc_ecma_parser_grammar.specs.language.Parts.{ReadsName, ReadsWord, KeyRule}
 use Rattle.swc_ecma_parser_grammar.specs.language.Functions as functions
-use Rattle.swc_ecma_parser_grammar.specs.language.Functions.{MethodHead}
 use Rattle.swc_ecma_parser_grammar.specs.language.LeftSides as sides
 use Rattle.swc_ecma_parser_grammar.proofs.SupportedBegins.{function_begins}
 use Rattle.swc_ecma_parser_grammar.specs.language.LeftSides.{PrimaryRule, LeftSideRule}

@@ -39,7 +39,7 @@ use Rattle.swc_ecma_parser_reader.proofs.expressions.Falls.{access_falls, argume
 use Rattle.swc_ecma_parser_reader.proofs.expressions.Loops.{shorter_by}
 use Rattle.swc_ecma_parser_reader.proofs.expressions.CompleteParts.{expect_reads, reference_reads, literal_reads, AsExpr, IsRead, IsFunctionRead, inside_reads, access_reads, access_seen, super_property_reads, arguments_read}
 use Rattle.swc_ecma_parser_reader.proofs.expressions.CompleteCovers.{array_reads, object_reads}
-use Rattle.swc_ecma_parser_reader.proofs.expressions.CompleteKinds.{refuted, supported_as, seen, named, null_unnamed, true_unnamed, false_unnamed, paren_here, array_here, object_here, this_here, function_here, class_here, primary_first, primary_seen, named_word}
+use Rattle.swc_ecma_parser_reader.proofs.expressions.CompleteKinds.{supported_as, seen, named, null_unnamed, true_unnamed, false_unnamed, paren_here, array_here, object_here, this_here, function_here, class_here, primary_first, primary_seen, named_word}
 use Rattle.swc_ecma_parser_grammar.proofs.Naming.{name_is_name}
 
 module _ (In : Goal → Type 0) (inner : Class → Reader Tree) (cover : Reader Cover) (given : IsRead In inner cover) (function : FunctionForm → Reader Tree) (functions : IsFunctionRead In function) where

@@ -24,7 +24,7 @@ use Rattle.swc_ecma_parser_grammar.specs.Follows.{token_is, first_is, word_at, A
 use Rattle.swc_ecma_parser_grammar.specs.Reads.{ReadsToken}
 use Rattle.swc_ecma_parser_grammar.specs.language.Goals.{Goal}
 use Rattle.swc_ecma_parser_grammar.specs.language.Parts as parts
-use Rattle.swc_ecma_parser_grammar.specs.language.Parts.{ReadsName, ReadsWord, KeyRule}
+use Rattle.swc_ecma_parser_grammar.specs.language.Parts.{KeyRule}
 use Rattle.swc_ecma_parser_grammar.specs.language.Functions as functions
 use Rattle.swc_ecma_parser_grammar.specs.language.Functions.{MethodHead}
 use Rattle.swc_ecma_parser_grammar.proofs.Tests.{and_no}

@@ -23,14 +23,14 @@ use Rattle.swc_ecma_parser_model.specs.Tree.{Tree, Text, listed}
 use Rattle.swc_ecma_parser_model.specs.Forms.{is_simple_target, span_of, has_plain_params}
 use Rattle.swc_ecma_parser_model.specs.Targets.{as_target, as_parameter}
 use Rattle.swc_ecma_parser_grammar.specs.Looks.{kind_at, sees, span_at, breaks_at}
-use Rattle.swc_ecma_parser_grammar.specs.Names.{is_name, name_at, may_refer_to_await}
+use Rattle.swc_ecma_parser_grammar.specs.Names.{name_at, may_refer_to_await}
 use Rattle.swc_ecma_parser_grammar.specs.Follows.{word_at, is_async_function, continues_left_side}
 use Rattle.swc_ecma_parser_grammar.specs.Own.{misplaced_directive}
 use Rattle.swc_ecma_parser_grammar.specs.Reads.{with_in}
 use Rattle.swc_ecma_parser_grammar.specs.language.Goals.{Class, expression, assignment, operator, unary, left_side, callee}
 use Rattle.swc_ecma_parser_grammar.specs.language.Operators.{unary_operator, update_operator, binary_operator, assign_operator, groups_left, mixes, is_unary}
 use Rattle.swc_ecma_parser_grammar.specs.language.Continues.{continues_conditional}
-use Rattle.swc_ecma_parser_reader.specs.State.{State, Reader, and_then, ◌>>=◌, moved, noted, module_found, coded, within, enclosed, unlabelled, wanted, fault_at, fault, expect, name, loop, as_name, reference}
+use Rattle.swc_ecma_parser_reader.specs.State.{State, Reader, and_then, ◌>>=◌, moved, noted, module_found, coded, within, enclosed, unlabelled, wanted, fault_at, fault, expect, loop, as_name, reference}
 use Rattle.swc_ecma_parser_reader.specs.Methods.{MethodForm, FunctionForm, expression_form, class_form, property_form, parameter_form, block_form, modifies, begins_async_method, star, starred, method_words, is_bare}
 use Rattle.swc_ecma_parser_reader.specs.Expressions.{Cover, no_covers, unmarked, close, target_or, target, goes_on, literal, literal_in, taken, any_word, word_in, word_by, touching_word, private_name, word_property, is_word_at, key_or, literal_key, shorthand_name, shorthand, dotted, ident_expr, this, bare_new, closed_left, simple, update_behind, behind_operand, postfix_at, right_class, read_operator, operator_at, left_operand, unmixed, unassigned, unassignable, unheaded, heads_arrow, begins_async_call, inside, brackets, access, spread_element, plain_element, element, arguments_turn, arguments, covered, spread_item, plain_item, item, array_turn, elements, array, computed_key, key, key_value, initialized, initialized_name, initialized_key, bare_key, behind_key, method, behind_words, keyed_property, spread_property, property, object_turn, properties, object, paren, marked_primary, literal_or, primary, accessed, called, left_turn, left_from, super_call, super_property, super_access, behind_super, super_head, constructed, new_head, import_call, meta_fault, import_meta, import_head, left_head, left, left_expr, prefixed, update_before, await_expr, postfix, updated, unary_by, unary_expr, operated, binary_by, binary_turn, binary_from, binary_expr, conditional, assigned_to, assigned, assigned_or, behind_operators, operators_expr, plain_expr, postfixed, continued, closed, assigned_pattern, behind_literal, open_literal, done_expr, cover_expr, assignment_expr, sequence_turn, sequence_from, expression_expr, expr_level, named_expr}
 use Rattle.swc_ecma_parser_reader.specs.Jumps.{told}
@@ -40,7 +40,7 @@ use Rattle.swc_ecma_parser_reader.specs.Yields.{begins_yield, bare_yield, yielde
 use Rattle.swc_ecma_parser_reader.specs.Heads.{sequenced, head_expr}
 use Rattle.swc_ecma_parser_reader.proofs.Meets.{Answers, answers_then, answers_if, saw}
 use Rattle.swc_ecma_parser_reader.proofs.expressions.Awaits.{await_fault, await_either}
-use Rattle.swc_ecma_parser_reader.proofs.Behind.{NothingLost, Kept, Lost, Passes, behind_after, behind_noted, fault_keeps, wanted_keeps, refuse_keeps, reject_keeps, expect_keeps, name_keeps, loop_keeps, reference_keeps, as_name_keeps}
+use Rattle.swc_ecma_parser_reader.proofs.Behind.{NothingLost, Kept, Lost, Passes, behind_after, behind_noted, fault_keeps, wanted_keeps, refuse_keeps, reject_keeps, expect_keeps, loop_keeps, reference_keeps, as_name_keeps}
 
 -- ---- what is known of the first token
 

@@ -23,13 +23,13 @@ use Rattle.swc_ecma_parser_grammar.specs.Names.{is_name, is_identifier, may_refe
 use Rattle.swc_ecma_parser_grammar.specs.Follows.{continues_left_side}
 use Rattle.swc_ecma_parser_grammar.specs.language.Operators.{groups_left, mixes, is_unary}
 use Rattle.swc_ecma_parser_grammar.specs.language.Continues.{continues_conditional}
-use Rattle.swc_ecma_parser_reader.specs.State.{State, Outcome, moved, wanted, reject, reject_in, reject_at, fault_at, fault, name, as_name, reference}
+use Rattle.swc_ecma_parser_reader.specs.State.{State, Outcome, moved, wanted, reject, reject_in, reject_at, fault_at, fault, as_name, reference}
 use Rattle.swc_ecma_parser_reader.specs.Expressions.{Cover, unmarked, close, target_or, target, literal, literal_in, taken, any_word, word_in, word_by, touching_word, private_name, word_property, key_or, literal_key, shorthand_name, shorthand, dotted, ident_expr, this, closed_left, simple, update_behind, behind_operand, left_operand, unmixed, unassigned, unassignable, unheaded, heads_arrow}
 use Rattle.swc_ecma_parser_reader.specs.Jumps.{told}
 use Rattle.swc_ecma_parser_reader.specs.AsyncArrows.{Argument, closed_arguments, closed_argument, argument_pattern, argument_parameter, argument_parameters}
 use Rattle.swc_ecma_parser_reader.specs.Arrows.{Group, closed_parts, may_stand_alone, closed_group, parameter, parameter_or, parameters_of}
 use Rattle.swc_ecma_parser_reader.proofs.Meets.{Answers, answers_then, answers_if}
-use Rattle.swc_ecma_parser_reader.proofs.Shallow.{Fine, fine_more, fine_after, Shallow, Kept, Taken, error_shallow, fault_shallow, refused_shallow, wanted_shallow, name_shallow, name_takes, reference_shallow, reference_takes}
+use Rattle.swc_ecma_parser_reader.proofs.Shallow.{Fine, fine_more, fine_after, Shallow, Kept, Taken, error_shallow, fault_shallow, refused_shallow, wanted_shallow, reference_shallow, reference_takes}
 use Rattle.swc_ecma_parser_input.specs.declared.context.Context.{Context}
 
 -- ---- what is known of the first token

@@ -18,7 +18,7 @@ use Rattle.swc_ecma_parser_model.specs.Tree as tree
 use Rattle.swc_ecma_parser_model.specs.Tree.{Tree, listed}
 use Rattle.swc_ecma_parser_model.specs.Forms.{is_simple_target, span_of, has_plain_params}
 use Rattle.swc_ecma_parser_grammar.specs.Looks.{kind_at, sees, span_at, breaks_at}
-use Rattle.swc_ecma_parser_grammar.specs.Names.{is_name, name_at, may_refer_to_await}
+use Rattle.swc_ecma_parser_grammar.specs.Names.{name_at, may_refer_to_await}
 use Rattle.swc_ecma_parser_grammar.specs.Follows.{word_at, is_async_function}
 use Rattle.swc_ecma_parser_grammar.specs.Own.{misplaced_directive}
 use Rattle.swc_ecma_parser_grammar.specs.Reads.{with_in}

@@ -13,10 +13,10 @@ use Rattle.swc_ecma_parser_model.specs.Tree.{Tree}
 use Rattle.swc_ecma_parser_grammar.specs.Looks.{sees}
 use Rattle.swc_ecma_parser_grammar.specs.language.Goals.{Class}
 use Rattle.swc_ecma_parser_reader.proofs.Falls.{expr_falls, cover_falls, functions_fall}
-use Rattle.swc_ecma_parser_reader.specs.Reader.{expr, cover, head_cover, function}
+use Rattle.swc_ecma_parser_reader.specs.Reader.{expr, cover, head_cover, head_behind, function}
 use Rattle.swc_ecma_parser_reader.specs.Arrows.{Parts, ended, rest_part, part_turn}
 use Rattle.swc_ecma_parser_reader.specs.AsyncArrows.{Argument, followed, argument, either_turn}
-use Rattle.swc_ecma_parser_reader.specs.Heads.{head_expr}
+use Rattle.swc_ecma_parser_reader.specs.Heads.{head_expr, head_behind_async}
 use Rattle.swc_ecma_parser_reader.specs.State.{State, Outcome, moved, too_deep, fault, fault_at, expect, loop}
 use Rattle.swc_ecma_parser_reader.specs.Expressions.{Cover, Covers, with_cover, with_comma, done, element, behind_comma, arguments_turn, covered, item, array_turn, property, object_turn, accessed, called, left_turn, operator_at, operated, binary_turn, cover_expr, assignment_expr, sequence_turn, expr_level}
 use Rattle.swc_ecma_parser_reader.proofs.Steps.{loop_more, loop_done, loop_err}
@@ -356,3 +356,11 @@ head_lowest n s e = rw e refl
 pub head_above : (n : ℕ) (s : State) → 0 < n → head_cover n s ≡ head_expr (expr (n - 1)) (cover (n - 1)) (function (n - 1)) s
 unfolding function head_cover
 head_above n s h = deeper (λ k. head_cover k s) n h
+
+pub behind_lowest : (n : ℕ) (start : Span) (s : State) → n ≡ 0 → head_behind n start s ≡ too_deep s
+unfolding head_behind
+behind_lowest n start s e = rw e refl
+
+pub behind_above : (n : ℕ) (start : Span) (s : State) → 0 < n → head_behind n start s ≡ head_behind_async (expr (n - 1)) (cover (n - 1)) (function (n - 1)) start s
+unfolding function head_behind
+behind_above n start s h = deeper (λ k. head_behind k start s) n h

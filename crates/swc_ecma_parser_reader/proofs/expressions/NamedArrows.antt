@@ -12,10 +12,7 @@ use Rattle.swc_ecma_parser_model.specs.Tree as tree
 use Rattle.swc_ecma_parser_model.specs.Tree.{Tree}
 use Rattle.swc_ecma_parser_grammar.specs.Looks.{kind_at, sees, same_kind, span_at}
 use Rattle.swc_ecma_parser_grammar.specs.Names.{is_name, name_at, is_identifier, may_bind_await}
-use Rattle.swc_ecma_parser_grammar.specs.Reads.{ReadsToken}
-use Rattle.swc_ecma_parser_grammar.specs.language.Begins.{awaits}
 use Rattle.swc_ecma_parser_grammar.specs.language.Goals.{Class}
-use Rattle.swc_ecma_parser_grammar.proofs.SupportedBegins as supported
 use Rattle.swc_ecma_parser_grammar.proofs.Tests.{and_yes}
 use Rattle.swc_ecma_parser_reader.specs.State.{State, Reader, moved, name, reference, unclean_name, name_in, name_by, fault, fault_at}
 use Rattle.swc_ecma_parser_reader.specs.Methods.{FunctionForm}
@@ -25,7 +22,7 @@ use Rattle.swc_ecma_parser_reader.specs.Expressions.{Cover, begins_async_call, h
 use Rattle.swc_ecma_parser_reader.proofs.Steps.{loop_done}
 use Rattle.swc_ecma_parser_reader.proofs.Meets.{Meets, wanted_meets, saw, meets_then, meets_if}
 use Rattle.swc_ecma_parser_reader.proofs.expressions.Covers.{met}
-use Rattle.swc_ecma_parser_reader.proofs.expressions.CompleteKinds.{seen, named_here, named_first, no_async_function, primary_seen, primary_operand, operand_plain, operand_update, quiet_stops, stopped}
+use Rattle.swc_ecma_parser_reader.proofs.expressions.CompleteKinds.{seen, named_first, no_async_function, primary_seen, primary_operand, operand_plain, operand_update, quiet_stops, stopped}
 use Rattle.swc_ecma_parser_reader.proofs.expressions.Yields.{yield_here}
 use Rattle.swc_ecma_parser_reader.proofs.Errors.{is_error}
 use Rattle.swc_ecma_parser_reader.proofs.expressions.SoundSteps.{fault_stays}

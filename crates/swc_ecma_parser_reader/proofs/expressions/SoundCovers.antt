@@ -43,7 +43,7 @@ use Rattle.swc_ecma_parser_reader.proofs.Meets.{Meets, Refuses, meets_then, meet
 use Rattle.swc_ecma_parser_reader.proofs.Errors.{kind_here, is_error}
 use Rattle.swc_ecma_parser_reader.proofs.Between.{SoundTree, SoundStep, Sound, same, sound_then, sound_moved, sound_here, sound_as, sound_after, within_sound}
 use Rattle.swc_ecma_parser_reader.proofs.expressions.Targets.{some_array, some_object, some_key_value, some_before, some_alone, some_rest, simple_is, simple_as, leaf_no_pattern, pattern_no_rest}
-use Rattle.swc_ecma_parser_reader.proofs.expressions.SoundSteps.{paired, stepped, moved_back, meets_as, reject_meets, clash, Takes, expect_sound, stands, any_word_sound, word_span, last_span, walks_push, notes_push, as_name_sound, as_name_stays}
+use Rattle.swc_ecma_parser_reader.proofs.expressions.SoundSteps.{paired, stepped, moved_back, meets_as, clash, Takes, expect_sound, stands, any_word_sound, word_span, last_span, walks_push, notes_push, as_name_sound, as_name_stays}
 use Rattle.swc_ecma_parser_grammar.proofs.Naming.{name_is_clean}
 use Rattle.swc_ecma_parser_reader.proofs.expressions.SoundLists.{elements_list, properties_list, begun_next, at_more, Plain, Pattern, Target, Part, PartRead, no_marks, SoFar, AllRead, all_read, push_last, push_next}
 use Rattle.swc_ecma_parser_reader.proofs.SoundParts.{meets_both}

@@ -1,5 +1,5 @@
 -- The reader of left-hand-side expressions is sound: accesses, arguments, primary expressions, calls, `new` and `super`.
-use Rattle.swc_ecma_parser_reader.proofs.Words.{async_begins, function_begins, function_no_await, begins_function}
+use Rattle.swc_ecma_parser_reader.proofs.Words.{async_begins, function_begins, begins_function}
 use Rattle.std.proofs.Common.{◌≡◌, ℕ, zero, suc, Bool, true, false, List, [], ◌∷◌, ◌++◌, Option, Some, None, refl, sym, ◌∙◌, ap, subst, append-nil}
 use Rattle.std.specs.Prelude.{not, ◌&&◌, ◌||◌, codes}
 use Rattle.swc_ecma_parser_common.specs.declared.span.Span.{Span}
@@ -37,7 +37,7 @@ use Rattle.swc_ecma_parser_grammar.specs.Walk as walks
 use Rattle.swc_ecma_parser_grammar.specs.Walk.{walk, env_of}
 use Rattle.swc_ecma_parser_grammar.proofs.Tests.{or_no, or_none, and_yes, and_both}
 use Rattle.swc_ecma_parser_reader.specs.Notes.{notes_of, all_notes_of}
-use Rattle.swc_ecma_parser_reader.specs.State.{State, Outcome, Reader, and_then, moved, module_found, fault, fault_at, expect, name, loop, reference}
+use Rattle.swc_ecma_parser_reader.specs.State.{State, Outcome, Reader, and_then, moved, module_found, fault, fault_at, expect, loop, reference}
 use Rattle.swc_ecma_parser_reader.specs.Methods.{MethodForm, FunctionForm, expression_form, class_form, property_form, parameter_form, block_form}
 use Rattle.swc_ecma_parser_reader.specs.Expressions.{Cover, literal_of, literal_in, taken, literal, ident_expr, this, super_property, bare_new, closed_left, unmarked, close, dotted, inside, brackets, access, spread_element, plain_element, element, behind_argument, arguments_turn, arguments, array, object, paren, marked_primary, literal_or, primary, accessed, called, left_turn, left_from, super_call, super_access, behind_super, super_head, constructed, new_head, import_call, meta_fault, import_meta, import_head, left_head, left, left_expr, any_word, word_property, named_expr}
 use Rattle.swc_ecma_parser_reader.proofs.Notes.{or_true, notes_nil}
@@ -46,7 +46,7 @@ use Rattle.swc_ecma_parser_reader.specs.Entry.{error_tokens}
 use Rattle.swc_ecma_parser_reader.proofs.Errors.{kind_here, is_error}
 use Rattle.swc_ecma_parser_reader.proofs.Between.{SoundTree, SoundStep, Sound, same, same-fewer, no_faults, sound_moved, sound_here, sound_as, sound_after}
 use Rattle.swc_ecma_parser_reader.proofs.expressions.CompleteKinds.{seen}
-use Rattle.swc_ecma_parser_reader.proofs.expressions.SoundSteps.{paired, stepped, moved_back, meets_as, reject_meets, other, clash, elsewhere, Takes, expect_sound, fault_sound, stands, token_first, FreeWord, reference_sound, Dotted, word_dotted, private_dotted, dotted_sound, walks_push, notes_push, supported_push, any_word_sound}
+use Rattle.swc_ecma_parser_reader.proofs.expressions.SoundSteps.{paired, stepped, moved_back, meets_as, reject_meets, other, clash, Takes, expect_sound, fault_sound, stands, FreeWord, reference_sound, Dotted, word_dotted, private_dotted, dotted_sound, walks_push, notes_push, supported_push, any_word_sound}
 use Rattle.swc_ecma_parser_grammar.proofs.Naming.{name_is_clean}
 use Rattle.swc_ecma_parser_reader.proofs.expressions.SoundCovers.{SoundCover, SoundLiteral, Headed, MethodRead, inside_sound, array_sound, object_sound}
 

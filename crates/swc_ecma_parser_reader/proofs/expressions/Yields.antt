@@ -17,7 +17,7 @@ use Rattle.swc_ecma_parser_input.specs.declared.context.Context.{Context}
 use Rattle.swc_ecma_parser_input.specs.Place.{Place}
 use Rattle.swc_ecma_parser_model.specs.Tree.{Tree}
 use Rattle.swc_ecma_parser_grammar.specs.Looks.{kind_at, sees, same_kind, first_kind}
-use Rattle.swc_ecma_parser_grammar.specs.Names.{is_name, is_reserved, is_one_of, reserved_words, strict_words, token_is_identifier, first_is_identifier, name_at, identifier_at, is_identifier}
+use Rattle.swc_ecma_parser_grammar.specs.Names.{is_reserved, is_one_of, reserved_words, strict_words, token_is_identifier, first_is_identifier, name_at, identifier_at, is_identifier}
 use Rattle.swc_ecma_parser_reader.proofs.expressions.Awaits.{other_awaits}
 use Rattle.swc_ecma_parser_grammar.specs.language.Begins.{begins_operand, begins_unary, begins_expression}
 use Rattle.swc_ecma_parser_grammar.specs.language.Goals.{Class}

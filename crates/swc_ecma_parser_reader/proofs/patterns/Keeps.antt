@@ -7,14 +7,14 @@ use Rattle.swc_ecma_parser_token.specs.declared.kind.TokenKind.TheVariants as ki
 use Rattle.swc_ecma_parser_model.specs.Tree as tree
 use Rattle.swc_ecma_parser_model.specs.Tree.{Tree, Text}
 use Rattle.swc_ecma_parser_grammar.specs.Looks.{kind_at, sees, span_at}
-use Rattle.swc_ecma_parser_grammar.specs.Names.{is_name, may_bind_await}
+use Rattle.swc_ecma_parser_grammar.specs.Names.{may_bind_await}
 use Rattle.swc_ecma_parser_grammar.specs.Reads.{with_in}
 use Rattle.swc_ecma_parser_grammar.specs.language.Goals.{Class, assignment}
 use Rattle.swc_ecma_parser_reader.specs.State.{State, Reader, moved, coded, within, expect, name, loop, as_name}
 use Rattle.swc_ecma_parser_reader.specs.Expressions.{Cover, inside, key}
 use Rattle.swc_ecma_parser_reader.specs.Patterns.{binding, rest, array_turn, elements, parameters_turn, parameter_list, array, rest_name, rest_property, key_value, initialized_name, bare_name, named, bare_key, behind_key, property, object_turn, properties, object, pattern_level, initialized, element_level}
 use Rattle.swc_ecma_parser_reader.proofs.Meets.{Answers, answers_then, answers_if, saw}
-use Rattle.swc_ecma_parser_reader.proofs.Behind.{NothingLost, Kept, Lost, Passes, behind_after, wanted_keeps, reject_keeps, expect_keeps, name_keeps, loop_keeps, as_name_keeps}
+use Rattle.swc_ecma_parser_reader.proofs.Behind.{NothingLost, Kept, Lost, Passes, behind_after, wanted_keeps, expect_keeps, name_keeps, loop_keeps, as_name_keeps}
 use Rattle.swc_ecma_parser_reader.proofs.expressions.Keeps.{unexpected_keeps, inside_keeps, key_keeps}
 
 binding_keeps : (b : State) (s : State) → NothingLost b s → Answers (Kept b) (Lost b) (binding s)

@@ -7,7 +7,7 @@ use Rattle.swc_ecma_parser_token.specs.declared.kind.TokenKind.TheVariants as ki
 use Rattle.swc_ecma_parser_model.specs.Tree as tree
 use Rattle.swc_ecma_parser_model.specs.Tree.{Tree, Text}
 use Rattle.swc_ecma_parser_grammar.specs.Looks.{kind_at, sees, span_at}
-use Rattle.swc_ecma_parser_grammar.specs.Names.{is_name, name_at, may_bind_await}
+use Rattle.swc_ecma_parser_grammar.specs.Names.{name_at, may_bind_await}
 use Rattle.swc_ecma_parser_grammar.specs.Reads.{with_in}
 use Rattle.swc_ecma_parser_grammar.specs.language.Goals.{Class, assignment}
 use Rattle.swc_ecma_parser_reader.specs.State.{State, Reader, moved, coded, within, expect, name, loop, as_name}
@@ -16,7 +16,7 @@ use Rattle.swc_ecma_parser_reader.specs.Patterns.{binding, rest, array_turn, ele
 use Rattle.swc_ecma_parser_reader.proofs.Meets.{Answers, answers_then, answers_if, loop_answers, saw}
 use Rattle.swc_ecma_parser_reader.proofs.Shallow.{Fine, fine_more, fine_after, fine_taken, Shallow, Kept, Taken, wanted_shallow, refuse_shallow, expect_shallow, name_shallow, name_takes, Levels}
 use Rattle.swc_ecma_parser_reader.proofs.expressions.CompleteKinds.{array_here, object_here}
-use Rattle.swc_ecma_parser_reader.proofs.expressions.LimitSteps.{kept_more, reject_shallow, unexpected_shallow, as_name_shallow}
+use Rattle.swc_ecma_parser_reader.proofs.expressions.LimitSteps.{kept_more, unexpected_shallow, as_name_shallow}
 use Rattle.swc_ecma_parser_reader.proofs.expressions.Limits.{inside_shallow, key_shallow}
 
 binding_shallow : (m : ℕ) (s : State) → Fine m s.at.left → Answers (Kept m) Shallow (binding s)

@@ -39,7 +39,7 @@ use Rattle.swc_ecma_parser_reader.proofs.Meets.{Meets, Refuses, meets_then, meet
 use Rattle.swc_ecma_parser_reader.proofs.Errors.{is_error}
 use Rattle.swc_ecma_parser_reader.proofs.Between.{SoundTree, Sound, same, sound_moved, sound_here, sound_as, sound_after, within_sound, SoundStep}
 use Rattle.swc_ecma_parser_reader.proofs.expressions.CompleteKinds.{array_here, object_here}
-use Rattle.swc_ecma_parser_reader.proofs.expressions.SoundSteps.{paired, stepped, moved_back, meets_as, reject_meets, clash, unseen, Takes, expect_sound, FreeWord, name_sound, walks_push, notes_push, as_name_sound, Clean, fault_stays}
+use Rattle.swc_ecma_parser_reader.proofs.expressions.SoundSteps.{paired, stepped, moved_back, meets_as, clash, unseen, Takes, expect_sound, FreeWord, name_sound, walks_push, notes_push, as_name_sound, Clean, fault_stays}
 use Rattle.swc_ecma_parser_grammar.proofs.Naming.{name_is_clean}
 use Rattle.swc_ecma_parser_reader.proofs.expressions.SoundLists.{Lists, elements_list, properties_list, Begun, at_more, begun_all, begun_next, begun_last, Plain, Target, nothing_plain, plain_next, plain_last}
 use Rattle.swc_ecma_parser_reader.proofs.expressions.SoundCovers.{SoundCover, SoundKey, key_sound, inside_sound, ident_key, key_inside, free_name, name_inside}

@@ -1,7 +1,6 @@
 use Rattle.std.proofs.Common.{map, sym, ◌∙◌}
 use Rattle.std.proofs.lemmas.List.{map_push}
 use Rattle.std.proofs.lemmas.Result.{err_from_is_err_and}
-use Rattle.swc_ecma_parser_reader.specs.Members.{Members}
 use Rattle.swc_ecma_parser_reader.proofs.classes.Loops.{members_more}
 use Rattle.swc_ecma_parser_classes.proofs.Members.{members_err, members_told_err, member_shorter}
 use Rattle.swc_ecma_parser_classes.proofs.class.members.Goals as goal

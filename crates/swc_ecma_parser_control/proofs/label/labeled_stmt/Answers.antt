@@ -1,15 +1,13 @@
-use Rattle.std.proofs.Common.{◌≡◌, [], Ok, Err, sym, ap, subst, ◌∙◌}
+use Rattle.std.proofs.Common.{◌≡◌, Ok, Err, sym, ap, subst, ◌∙◌}
 use Rattle.std.specs.Prelude.{IfOk}
 use Rattle.std.proofs.lemmas.Result.{err_from_is_err_and}
 use Rattle.swc_ecma_parser_common.specs.declared.span.Span.{Span}
-use Rattle.swc_ecma_parser_error.specs.Kind as faults
 use Rattle.swc_ecma_parser_error.specs.Kind.{Fault, fault_of}
 use Rattle.swc_ecma_parser_model.specs.Tree as tree
 use Rattle.swc_ecma_parser_grammar.specs.Looks.{span_at}
-use Rattle.swc_ecma_parser_grammar.specs.Own.{only}
 use Rattle.swc_ecma_parser_token.specs.declared.kind.TokenKind.TheVariants as kind
 use Rattle.swc_ecma_parser_reader.specs.State.{State, expect}
-use Rattle.swc_ecma_parser_reader.specs.Reader.{labeled_stmt, stmt, told}
+use Rattle.swc_ecma_parser_reader.specs.Reader.{labeled_stmt, stmt}
 use Rattle.swc_ecma_parser_functions.proofs.Parts.{made_gives}
 use Rattle.swc_ecma_parser_control.proofs.Labels.{function_err, labeled_found, labeled_err, told_of_function}
 use Rattle.swc_ecma_parser_control.proofs.label.labeled_stmt.Goals as goal

@@ -1,4 +1,4 @@
-use Rattle.std.proofs.Common.{◌≡◌, false, length, map}
+use Rattle.std.proofs.Common.{◌≡◌, length, map}
 use Rattle.swc_ecma_parser_grammar.specs.Reads.{nested_item}
 use Rattle.swc_ecma_parser_reader.specs.State.{loop}
 use Rattle.swc_ecma_parser_reader.specs.Reader as rules

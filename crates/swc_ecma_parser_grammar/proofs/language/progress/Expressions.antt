@@ -18,7 +18,7 @@ use Rattle.swc_ecma_parser_grammar.specs.Follows.{Star, AsyncWord}
 use Rattle.swc_ecma_parser_grammar.specs.language.Functions as functions
 use Rattle.swc_ecma_parser_grammar.specs.language.Functions.{PatternItemRule, ParametersRule, FunctionParts, FunctionRule, MethodHead, MethodRule}
 use Rattle.swc_ecma_parser_grammar.specs.language.Classes as classes
-use Rattle.swc_ecma_parser_grammar.specs.language.Classes.{DecoratorRule, DecoratorsRule, behind_modifier, MemberKeyRule, FieldValueRule, CoreRule, behind_static, behind_accessor, has_accessor, is_static_word, MemberRule, HeritageRule, ClassRule}
+use Rattle.swc_ecma_parser_grammar.specs.language.Classes.{DecoratorRule, DecoratorsRule, behind_modifier, MemberKeyRule, FieldValueRule, CoreRule, has_accessor, is_static_word, MemberRule, HeritageRule, ClassRule}
 use Rattle.swc_ecma_parser_grammar.specs.language.Objects as objects
 use Rattle.swc_ecma_parser_grammar.specs.language.Objects.{PropertyRule}
 use Rattle.swc_ecma_parser_grammar.specs.language.LeftSides as sides

@@ -6,7 +6,7 @@ use Rattle.swc_ecma_parser_token.specs.declared.token.TokenAndSpan.{TokenAndSpan
 use Rattle.swc_ecma_parser_input.specs.Place.{Place, past, after}
 use Rattle.swc_ecma_parser_model.specs.declared.leaves.MethodKind.{MethodKind}
 use Rattle.swc_ecma_parser_model.specs.Tree as tree
-use Rattle.swc_ecma_parser_model.specs.Tree.{Tree, Text, also, trees}
+use Rattle.swc_ecma_parser_model.specs.Tree.{Tree, Text}
 use Rattle.swc_ecma_parser_model.specs.Forms.{span_of}
 use Rattle.swc_ecma_parser_grammar.specs.Looks.{first_span, span_at, spanned}
 use Rattle.swc_ecma_parser_grammar.specs.Names.{Code}
@@ -15,7 +15,7 @@ use Rattle.swc_ecma_parser_grammar.specs.language.Goals.{Goal, Class, expression
 use Rattle.swc_ecma_parser_grammar.specs.language.Parts.{ReadsName, is_private}
 use Rattle.swc_ecma_parser_grammar.specs.language.Functions.{FunctionRule}
 use Rattle.swc_ecma_parser_grammar.specs.language.Classes as classes
-use Rattle.swc_ecma_parser_grammar.specs.language.Classes.{DecoratorsRule, method_member, field_member, CoreRule, MemberRule, ClassRule}
+use Rattle.swc_ecma_parser_grammar.specs.language.Classes.{method_member, field_member, CoreRule, MemberRule, ClassRule}
 use Rattle.swc_ecma_parser_grammar.specs.language.LeftSides as sides
 use Rattle.swc_ecma_parser_grammar.specs.language.LeftSides.{PrimaryRule, LeftSideRule}
 use Rattle.swc_ecma_parser_grammar.specs.language.Patterns as patterns

@@ -1,4 +1,4 @@
-use Rattle.std.proofs.Common.{◌≡◌, ◌<◌, length, arith, sym, ap, subst, ◌∙◌, map}
+use Rattle.std.proofs.Common.{◌<◌, length, arith, sym, ap, subst, ◌∙◌, map}
 use Rattle.std.specs.List.{between}
 use Rattle.std.proofs.lemmas.Grind.{common_steps}
 use Rattle.swc_ecma_parser_model.specs.Tree.{trees}

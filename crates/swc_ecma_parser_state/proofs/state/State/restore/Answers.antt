@@ -1,5 +1,5 @@
 use Rattle.swc_ecma_parser_state.proofs.Contexts.{context_is}
-use Rattle.std.proofs.Common.{◌++◌, ◌∙◌, ap, sym}
+use Rattle.std.proofs.Common.{◌++◌, ◌∙◌, ap}
 use Rattle.swc_ecma_parser_error.specs.Kind.{faults_of}
 use Rattle.swc_ecma_parser_state.proofs.Contexts.{recorded_stay}
 use Rattle.swc_ecma_parser_state.proofs.state.State.restore.Goals as goal

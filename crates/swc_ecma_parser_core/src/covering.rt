@@ -1,0 +1,14 @@
+//! Where something stands that may still become a pattern.
+
+use swc_ecma_parser_common::Span;
+
+/// Where something stands that may still become a pattern.
+#[derive(Clone, Copy)]
+pub enum Covering {
+    /// Anywhere in an expression.
+    Whole,
+    /// At the head of a loop.
+    Head,
+    /// There too, but for the word `async` that it begins with, which was taken: its span.
+    Behind(Span),
+}

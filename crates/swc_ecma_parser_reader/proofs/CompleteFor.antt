@@ -1,0 +1,268 @@
+-- What the grammar allows at the beginning of the head of a `for` is read: as the first part of three, before `in`, and before `of`.
+use Rattle.std.proofs.Common.{◌≡◌, inl, inr, ℕ, zero, suc, Bool, true, false, List, [], ◌∷◌, ◌++◌, Ok, refl, true≢false, sym, ◌∙◌, ap, append-nil, codes}
+use Rattle.std.specs.Prelude.{not, ◌&&◌}
+use Rattle.std.specs.Str.{bytes_eq}
+use Rattle.swc_ecma_parser_common.specs.declared.span.Span.{Span}
+use Rattle.swc_ecma_parser_error.specs.Kind.{Fault}
+use Rattle.swc_ecma_parser_token.specs.declared.kind.TokenKind.TheVariants as kind
+use Rattle.swc_ecma_parser_token.specs.declared.keyword.Keyword.TheVariants as keyword
+use Rattle.swc_ecma_parser_token.specs.declared.token.Token.TheVariants as token
+use Rattle.swc_ecma_parser_token.specs.declared.token.Word.{Word}
+use Rattle.swc_ecma_parser_token.specs.declared.token.Word.TheVariants as word
+use Rattle.swc_ecma_parser_token.specs.Text.{word_text}
+use Rattle.swc_ecma_parser_input.specs.declared.context.Context.{Context}
+use Rattle.swc_ecma_parser_input.specs.Place.{Place, after}
+use Rattle.swc_ecma_parser_model.specs.declared.leaves.VarDeclKind.{VarDeclKind}
+use Rattle.swc_ecma_parser_model.specs.declared.leaves.VarDeclKind.TheVariants as decl
+use Rattle.swc_ecma_parser_model.specs.Tree as tree
+use Rattle.swc_ecma_parser_model.specs.Tree.{Tree, Text, listed}
+use Rattle.swc_ecma_parser_model.specs.Forms.{is_binding_name}
+use Rattle.swc_ecma_parser_grammar.specs.Looks.{kind_at, breaks_at, sees, same_kind, spanned}
+use Rattle.swc_ecma_parser_grammar.specs.Names.{Code, identifier_at}
+use Rattle.swc_ecma_parser_grammar.specs.Follows.{word_at, token_is, may_begin_head, is_bare_async, is_async_of, begins_async_of, is_async_function}
+use Rattle.swc_ecma_parser_grammar.specs.Variables.{begins_variables}
+use Rattle.swc_ecma_parser_grammar.specs.Using.{may_declare_using, stands_in_head}
+use Rattle.swc_ecma_parser_grammar.specs.Reads.{with_in, head_code, HeadVariables, InitRule, no_init_rule, init_variables_rule, init_expression_rule, LeftRule, declared_rule, left_target_rule, OfLeftRule, of_left_rule, of_using_rule, DeclaratorRule, ReadsSeparated}
+use Rattle.swc_ecma_parser_grammar.specs.ReadsSupported.{ReadsClass, ReadsPat, ReadsTarget}
+use Rattle.swc_ecma_parser_grammar.specs.Walk.{env_of, walk}
+use Rattle.swc_ecma_parser_grammar.specs.language.Begins.{begins_expression, begins_unary}
+use Rattle.swc_ecma_parser_grammar.specs.language.Contexts.{without_in}
+use Rattle.swc_ecma_parser_grammar.specs.language.Goals.{Class, expression, assignment, assigning, pattern_goal}
+use Rattle.swc_ecma_parser_grammar.specs.language.Parts.{ReadsName}
+use Rattle.swc_ecma_parser_grammar.specs.language.Patterns.{binding_name_rule, target_name_rule, target_rule, array_rule, object_rule}
+use Rattle.swc_ecma_parser_grammar.specs.language.Reads as language
+use Rattle.swc_ecma_parser_grammar.proofs.Tests.{and_yes, and_no}
+use Rattle.swc_ecma_parser_grammar.proofs.StatementBegins.{word_place}
+use Rattle.swc_ecma_parser_grammar.proofs.Using.{no_other, word_target, word_no_function, using_alone}
+use Rattle.swc_ecma_parser_grammar.proofs.UsingParts.{target_bound, using_read, declares_in_head}
+use Rattle.swc_ecma_parser_reader.specs.Notes.{Notes, ◌⊕◌, notes_of}
+use Rattle.swc_ecma_parser_reader.specs.State.{Scope, State, Reader}
+use Rattle.swc_ecma_parser_reader.specs.Expressions.{Cover}
+use Rattle.swc_ecma_parser_reader.specs.Reader.{expr, head_cover, pattern, declarators, Opening, Nothing, Variables, Resource, Named, Expression, as_init, as_left, head_variables, undeclared, using_head, named_head, async_head, head_expression, async_or_expression, head_target, opening}
+use Rattle.swc_ecma_parser_reader.proofs.Notes.{or_nil}
+use Rattle.swc_ecma_parser_reader.proofs.Answered.{st, Gets, ReadsAs}
+use Rattle.swc_ecma_parser_reader.proofs.Below.{Below, pattern_reads}
+use Rattle.swc_ecma_parser_reader.proofs.CompleteParts.{many_declarators}
+use Rattle.swc_ecma_parser_reader.proofs.Meets.{saw}
+use Rattle.swc_ecma_parser_reader.proofs.Opens.{head_begins, let_stands}
+use Rattle.swc_ecma_parser_reader.proofs.Using.{by_contradiction, word_begins_head, async_of_words}
+use Rattle.swc_ecma_parser_reader.proofs.expressions.Covers as covers
+use Rattle.swc_ecma_parser_reader.proofs.expressions.CompleteHeads as heads
+use Rattle.swc_ecma_parser_reader.proofs.expressions.CompleteKinds.{seen, names_stand}
+use Rattle.swc_ecma_parser_reader.proofs.expressions.HeadEnds.{of_named, in_unnamed}
+
+-- what gives this tree as the first part of three, and what gives it as what takes each value
+abbrev pub AsInit : Tree → Opening → Type 0
+AsInit x o = (s : State) → as_init o s ≡ Ok (x, s)
+
+abbrev pub AsLeftSide : Tree → Opening → Type 0
+AsLeftSide x o = (s : State) → as_left o s ≡ Ok (x, s)
+
+-- ---- the words of a head
+
+-- a name with this text is that word
+async_token : (w : Word) → bytes_eq (word_text w) (codes "async") ≡ true → token_is (codes "async") (token.Word w) ≡ true
+async_token (word.Ident text) e = e
+async_token (word.Keyword keyword.Await) e = cc
+async_token _ e = cc
+
+async_word : (k : Code) (text : Text) (s : Span) (c d : Place) → ReadsName k text s c d → bytes_eq text (codes "async") ≡ true → word_at (codes "async") c ≡ true
+unfolding word_at
+async_word k text s c d r e = rw r.reads_word.is (async_token r.word (ap (λ t. bytes_eq t (codes "async")) (sym r.is_text) ∙ e))
+
+-- so a target that is this name begins with it, and is one token
+async_target : (n : ℕ) (k : Code) (x : Tree) (c d : Place) → language.Reads n (pattern_goal assigning k x c d) → is_bare_async x ≡ true → (word_at (codes "async") c ≡ true) × (d ≡ after c)
+async_target zero k x c d r h = absurd r
+async_target (suc n) k x c d (binding_name_rule text s i r e) h = cc
+async_target (suc n) k x c d (target_name_rule text s i a r e) h = (async_word k text s c d r (sym (ap is_bare_async e) ∙ h), r.reads_word.next)
+async_target (suc n) k x c d (target_rule y i r t u e) h = absurd (true≢false (sym h ∙ ap is_bare_async e))
+async_target (suc n) k x c d (array_rule xs m i r f g e) h = absurd (true≢false (sym h ∙ ap is_bare_async e))
+async_target (suc n) k x c d (object_rule xs m i r f g e) h = absurd (true≢false (sym h ∙ ap is_bare_async e))
+
+-- before `of` it is all of a target
+async_alone : (n : ℕ) (f : Context) (j : Code) (x : Tree) (c d : Place) → begins_async_of c ≡ true → language.Reads n (pattern_goal assigning j x c d) → is_binding_name x ≡ true
+unfolding is_async_function same_kind
+async_alone n f j x c d h r = let (a, b) = async_of_words c h in
+    (word_target f c (word_place (codes "async") c a) (rw (word_place (codes "of") (after c) b) (and_no (word_at (codes "async") c) _ refl)) (of_named f (after c) b).1 n j x d r).1
+
+-- `async of` on one line, where no `=>` follows
+async_begins : (c d : Place) → word_at (codes "async") c ≡ true → d ≡ after c → word_at (codes "of") d ≡ true → breaks_at d ≡ false → sees kind.Arrow (after d) ≡ false → begins_async_of c ≡ true
+unfolding begins_async_of
+async_begins c d a e b g h = rw (a, (ap (word_at (codes "of")) (sym e) ∙ b), (ap breaks_at (sym e) ∙ g), (ap (λ p. sees kind.Arrow (after p)) (sym e) ∙ h)) refl
+
+-- what is `async of` on one line begins so
+both : (a b : Bool) → (a ≡ true → b ≡ false → ⊥) → (a && not b) ≡ false
+both true true h = refl
+both true false h = absurd (h refl refl)
+both false b h = refl
+
+elsewhere : (n : ℕ) (w : Bool) (k : Code) (x : Tree) (c d : Place) → language.Reads n (pattern_goal assigning k x c d) → word_at (codes "of") d ≡ true → sees kind.Arrow (after d) ≡ false
+    → is_async_of w x d ≡ false → (w && begins_async_of c) ≡ false → is_async_of false x d ≡ false
+unfolding is_async_of
+elsewhere n true k x c d r o a i g = both (is_bare_async x) (breaks_at d) (λ h j. let (e, l) = async_target n k x c d r h in true≢false (sym (async_begins c d e l o j a) ∙ g))
+elsewhere n false k x c d r o a i g = i
+
+no_in : (c : Place) → word_at (codes "of") c ≡ true → sees kind.In c ≡ false
+unfolding same_kind
+no_in c h = rw (word_place (codes "of") c h) refl
+
+in_head : (c : Place) → word_at (codes "of") c ≡ true → stands_in_head c ≡ true
+unfolding stands_in_head
+in_head c h = rw (no_in c h, h) refl
+
+semicolon_no_name : (c : Place) → kind_at c ≡ kind.Semi → sees kind.Semi c ≡ false → ⊥
+semicolon_no_name c e h = true≢false (sym (seen c kind.Semi e) ∙ h)
+
+-- no expression begins with `=>`
+pub no_arrow : (f : Context) (c : Place) → begins_expression f c ≡ true → sees kind.Arrow c ≡ false
+unfolding begins_expression begins_unary same_kind
+no_arrow f c b = by_contradiction (sees kind.Arrow c) (λ h.
+    let i : identifier_at f c ≡ false = by_contradiction (identifier_at f c) (λ j. true≢false (sym h ∙ (no_other f c j).no_arrow)) in
+    true≢false (sym b ∙ rw (saw c kind.Arrow h, i) (and_no f.in_generator _ refl)))
+
+-- ---- which way the head goes
+
+module _ (inner_expr : Class → Reader Tree) (inner_pat : Reader Tree) (inner_cover : Reader Cover) (v : Bool) where
+  -- the word of a declaration tells that variables are declared
+  opening_declares : (word : VarDeclKind) (s : State) → begins_variables word s.at ≡ true → opening inner_expr inner_pat inner_cover v s ≡ head_variables inner_expr inner_pat word s
+  unfolding opening same_kind
+  opening_declares decl.Var s e = rw (saw s.at kind.Var e) refl
+  opening_declares decl.Const s e = rw (saw s.at kind.Const e) refl
+  opening_declares decl.Let s e = rw (let_stands s.at e, e) refl
+
+  opening_target : (s : State) → may_begin_head s.at ≡ true → may_declare_using s.code s.at ≡ false → opening inner_expr inner_pat inner_cover v s ≡ head_target inner_expr inner_pat inner_cover v s
+  unfolding opening
+  opening_target s e u = let b = head_begins s.at e in rw (b.0, b.1, b.2, b.3, u) refl
+
+  opening_starts : (s : State) → may_begin_head s.at ≡ true → may_declare_using s.code s.at ≡ false → (v && begins_async_of s.at) ≡ false
+      → opening inner_expr inner_pat inner_cover v s ≡ head_expression inner_expr inner_pat inner_cover s
+  unfolding head_target async_or_expression
+  opening_starts s e u a = opening_target s e u ∙ by_test v (begins_async_of s.at) refl a
+    where
+      by_test : (w b : Bool) → begins_async_of s.at ≡ b → (w && b) ≡ false → head_target inner_expr inner_pat inner_cover w s ≡ head_expression inner_expr inner_pat inner_cover s
+      by_test true true g i = cc
+      by_test true false g i = rw g refl
+      by_test false b g i = refl
+
+  opening_names : (s : State) → may_begin_head s.at ≡ true → may_declare_using s.code s.at ≡ true → opening inner_expr inner_pat inner_cover v s ≡ named_head inner_expr inner_pat s
+  unfolding opening
+  opening_names s e u = let b = head_begins s.at e in rw (b.0, b.1, b.2, b.3, u) refl
+
+  opening_async : (s : State) → may_begin_head s.at ≡ true → may_declare_using s.code s.at ≡ false → v ≡ true → begins_async_of s.at ≡ true
+      → opening inner_expr inner_pat inner_cover v s ≡ async_head inner_expr inner_pat s
+  unfolding head_target async_or_expression
+  opening_async s e u a i = opening_target s e u ∙ rw (a, i) refl
+
+module _ (n : ℕ) (below : Below n) where
+  declared_reads : (word : VarDeclKind) (xs : List Tree) (k : Code) (x : Tree) (c d : Place) (w : Scope) (f : List Fault) (h : Notes)
+      → ReadsSeparated (DeclaratorRule (ReadsClass n assignment) (ReadsPat n) (head_code word k) true word) xs (after c) d → x ≡ tree.var (spanned c d) word (listed xs)
+      → head_variables (expr n) (pattern n) word (st c k w f h) ≡ Ok (Variables x, st d k w (f ++ walk (env_of k w.labels) x) (h ⊕ notes_of x))
+  unfolding head_variables declarators spanned
+  declared_reads decl.Var xs k x c d w f h r e = rw (many_declarators n below true decl.Var xs [] (without_in k) (after c) d w f h r, e) refl
+  declared_reads decl.Const xs k x c d w f h r e = rw (many_declarators n below true decl.Const xs [] (with_in k) (after c) d w f h r, e) refl
+  declared_reads decl.Let xs k x c d w f h r e = rw (many_declarators n below true decl.Let xs [] (with_in k) (after c) d w f h r, e) refl
+
+  head_variables_read : (v : Bool) (k : Code) (x : Tree) (c d : Place) (w : Scope) (f : List Fault) (h : Notes) → HeadVariables (ReadsClass n) (ReadsPat n) k x c d
+      → opening (expr n) (pattern n) (head_cover n) v (st c k w f h) ≡ Ok (Variables x, st d k w (f ++ walk (env_of k w.labels) x) (h ⊕ notes_of x))
+  head_variables_read v k x c d w f h r =
+      opening_declares (expr n) (pattern n) (head_cover n) v r.word (st c k w f h) r.begins ∙ declared_reads r.word r.declarators k x c d w f h r.reads r.is
+
+  -- no expression before `;` begins with `using` before a name
+  no_using_init : (k : Code) (x : Tree) (c d : Place) → ReadsClass n expression (without_in k) x c d → kind_at d ≡ kind.Semi → may_declare_using k c ≡ false
+  no_using_init k x c d r e = by_contradiction (may_declare_using k c) (λ h. let (_, u, i, _) = declares_in_head k c h in
+      semicolon_no_name (after c) (sym (ap kind_at (using_alone k c u i (without_in k) n x d r.0)) ∙ e) (no_other k.flags (after c) i).no_semi)
+
+  pub opening_reads_init : (k : Code) (x : Tree) (c d : Place) → InitRule (ReadsClass n) (ReadsPat n) k x c d → kind_at d ≡ kind.Semi → ReadsAs (AsInit x) (opening (expr n) (pattern n) (head_cover n) false) k x c d
+  unfolding opening head_expression
+  opening_reads_init k x c d (no_init_rule a b e) z w f h =
+      record { value = Nothing; holds = λ s. rw e refl; is = rw (seen c kind.Semi a, e, b, append-nil f, append-nil h.held_back, or_nil h.found_module_item) refl }
+  opening_reads_init k x c d (init_variables_rule r) z w f h = record { value = Variables x; holds = λ s. refl; is = head_variables_read false k x c d w f h r }
+  opening_reads_init k x c d (init_expression_rule a r) z w f h =
+      let g = below.heads (without_in k) x c d r w f h in
+      record {
+        value = Expression g.value;
+        holds = λ s. covers.close_reads g.value s g.holds.1 ∙ rw g.holds.0 refl;
+        is = opening_starts (expr n) (pattern n) (head_cover n) false (st c k w f h) a (no_using_init k x c d r z) refl ∙ rw g.is refl;
+      }
+
+  -- ---- what takes each value
+
+  -- a name alone leaves everything but the place as it was
+  name_reads : (k : Code) (p : Tree) (c d : Place) (w : Scope) (f : List Fault) (h : Notes) → is_binding_name p ≡ true → ReadsPat n k p c d → pattern n (st c k w f h) ≡ Ok (p, st d k w f h)
+  name_reads k (tree.ident_pat s text) c d w f h i r = pattern_reads n below k (tree.ident_pat s text) c d r w f h ∙ rw (append-nil f, append-nil h.held_back, or_nil h.found_module_item) refl
+  name_reads k _ c d w f h i r = cc
+
+  target_reads : (v : Bool) (k : Code) (x : Tree) (c d : Place) → may_begin_head c ≡ true → ReadsTarget n (without_in k) x c d → may_declare_using k c ≡ false → (v && begins_async_of c) ≡ false
+      → heads.Heads (without_in k) x d → ReadsAs (AsLeftSide x) (opening (expr n) (pattern n) (head_cover n) v) k x c d
+  unfolding head_expression
+  target_reads v k x c d a r u i e w f h =
+      let g = below.targets (without_in k) x c d r e w f h in
+      record {
+        value = Expression g.value;
+        holds = λ s. covers.target_reads g.value s x g.holds.1 g.holds.0;
+        is = opening_starts (expr n) (pattern n) (head_cover n) v (st c k w f h) a u i ∙ rw g.is refl;
+      }
+
+  -- no target begins with `using` before a name that is not `of`, but this word alone
+  no_using_target : (k : Code) (x : Tree) (c d : Place) → ReadsTarget n (without_in k) x c d → (identifier_at k.flags d ≡ true → word_at (codes "of") d ≡ true) → may_declare_using k c ≡ false
+  no_using_target k x c d r o = by_contradiction (may_declare_using k c) (λ h. let (_, u, i, b) = declares_in_head k c h in
+      let e = (word_target k.flags c (word_place (codes "using") c u) (word_no_function k c u i) i n (without_in k) x d r.0).0 in
+      true≢false (sym (o (ap (identifier_at k.flags) e ∙ i)) ∙ ap (word_at (codes "of")) e ∙ b))
+
+  pub opening_reads_in : (k : Code) (x : Tree) (c d : Place) → LeftRule (ReadsClass n) (ReadsPat n) (ReadsTarget n) k x c d → kind_at d ≡ kind.In
+      → ReadsAs (AsLeftSide x) (opening (expr n) (pattern n) (head_cover n) false) k x c d
+  opening_reads_in k x c d (declared_rule r) e w f h = record { value = Variables x; holds = λ s. refl; is = head_variables_read false k x c d w f h r }
+  opening_reads_in k x c d (left_target_rule a r) e w f h =
+      target_reads false k x c d a r (no_using_target k x c d r (λ i. absurd (true≢false (sym i ∙ in_unnamed k.flags d e)))) refl (inl (e, refl)) w f h
+
+  -- `async` before `of` behind `for await`
+  async_reads : (v : Bool) (k : Code) (x : Tree) (c d : Place) → may_begin_head c ≡ true → ReadsTarget n (without_in k) x c d → may_declare_using k c ≡ false → v ≡ true → begins_async_of c ≡ true
+      → ReadsAs (AsLeftSide x) (opening (expr n) (pattern n) (head_cover n) v) k x c d
+  unfolding async_head
+  async_reads v k x c d a r u e i w f h =
+      let b = async_alone n k.flags (without_in k) x c d i r.0 in
+      record {
+        value = Named x;
+        holds = λ s. refl;
+        is = opening_async (expr n) (pattern n) (head_cover n) v (st c k w f h) a u e i ∙ rw (pattern_reads n below (without_in k) x c d (target_bound n (without_in k) x c d b r.0, r.1) w f h) refl;
+      }
+
+  -- what `using` declares
+  resource_reads : (v : Bool) (k : Code) (name x : Tree) (c d : Place) → may_declare_using k c ≡ true → ReadsPat n k name (after c) d → is_binding_name name ≡ true
+      → x ≡ tree.using (spanned c d) false (listed (tree.declarator (spanned (after c) d) name tree.absent ∷ [])) → word_at (codes "of") d ≡ true
+      → ReadsAs (AsLeftSide x) (opening (expr n) (pattern n) (head_cover n) v) k x c d
+  unfolding named_head using_head undeclared spanned
+  resource_reads v k (tree.ident_pat s text) x c d u r i e o w f h =
+      let g = declares_in_head k c u in
+      let (t, p) = using_read n k c g.1 (after c) d (tree.ident_pat s text) r.0 in
+      let b = (names_stand n k (tree.ident_pat s text) (after c) d r.0 refl refl).1 in
+      record {
+        value = Resource x;
+        holds = λ s. refl;
+        is = opening_names (expr n) (pattern n) (head_cover n) v (st c k w f h) (word_begins_head c (word_place (codes "using") c g.1)) u
+            ∙ rw (
+              name_reads k (tree.ident_pat t (codes "using")) c (after c) w f h refl (p, refl),
+              in_head (after (after c)) (ap (word_at (codes "of")) (sym b) ∙ o),
+              name_reads k (tree.ident_pat s text) (after c) d w f h refl r,
+              no_in d o,
+              e,
+              append-nil f,
+              append-nil h.held_back,
+              or_nil h.found_module_item,
+            ) refl;
+      }
+  resource_reads v k _ x c d u r i e o w f h = cc
+
+  -- behind it `of` stands, and no `=>` behind that
+  pub opening_reads_of : (v : Bool) (k : Code) (x : Tree) (c d : Place) → OfLeftRule (ReadsClass n) (ReadsPat n) (ReadsTarget n) k v x c d → word_at (codes "of") d ≡ true → sees kind.Arrow (after d) ≡ false
+      → ReadsAs (AsLeftSide x) (opening (expr n) (pattern n) (head_cover n) v) k x c d
+  opening_reads_of v k x c d (of_left_rule (declared_rule r) i) o a w f h = record { value = Variables x; holds = λ s. refl; is = head_variables_read v k x c d w f h r }
+  opening_reads_of v k x c d (of_left_rule (left_target_rule b r) i) o a w f h = by_test (v && begins_async_of c) refl
+    where
+      u : may_declare_using k c ≡ false
+      u = no_using_target k x c d r (λ _. o)
+
+      by_test : (t : Bool) → (v && begins_async_of c) ≡ t → Gets (AsLeftSide x) (opening (expr n) (pattern n) (head_cover n) v (st c k w f h)) (st d k w (f ++ walk (env_of k w.labels) x) (h ⊕ notes_of x))
+      by_test true e = let g = and_yes v (begins_async_of c) e in async_reads v k x c d b r u g.0 g.1 w f h
+      by_test false e = target_reads v k x c d b r u e (inr (o, elsewhere n v (without_in k) x c d r.0 o a i e)) w f h
+  opening_reads_of v k x c d (of_using_rule name u r i e) o a w f h = resource_reads v k name x c d u r i e o w f h
