@@ -20,14 +20,12 @@ use Rattle.swc_ecma_parser_core.specs.Covering.{covered}
 use Rattle.swc_ecma_parser_core.specs.declared.covering.Covering.{Covering}
 use Rattle.swc_ecma_parser_core.specs.declared.covering.Covering.TheVariants as covering
 use Rattle.swc_ecma_parser_core.proofs.Refusals.{too_deep_as}
-use Rattle.swc_ecma_parser_reader.proofs.AwaitWords.{await_lowest}
 
 module _ (n : ℕ) (s : State) where
   pub covered_refused : (place : Covering) (e : Fault × State) → n ≡ 0 → ◌≡◌ {A = Outcome Tree} (too_deep s) (Err e) → covered n place s ≡ Err e
   covered_refused covering.Whole e h k = cover_lowest n s h ∙ too_deep_as {A = Tree} {B = exprs.Cover} s e k
   covered_refused covering.Head e h k = head_lowest n s h ∙ too_deep_as {A = Tree} {B = exprs.Cover} s e k
   covered_refused (covering.Behind start) e h k = behind_lowest n start s h ∙ too_deep_as {A = Tree} {B = exprs.Cover} s e k
-  covered_refused (covering.BehindAwait start) e h k = await_lowest n start s h ∙ too_deep_as {A = Tree} {B = exprs.Cover} s e k
 
   pub as_covered : (place other : Covering) (o : Outcome exprs.Cover) → place ≡ other → covered n other s ≡ o → covered n place s ≡ o
   as_covered place other o e h = ap (λ a. covered n a s) e ∙ h

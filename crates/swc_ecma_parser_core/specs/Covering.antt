@@ -1,6 +1,5 @@
 -- What may still become a pattern, by where it stands.
 use Rattle.std.specs.Prelude.{ℕ}
-use Rattle.swc_ecma_parser_reader.specs.AwaitWords.{behind_await}
 use Rattle.swc_ecma_parser_reader.specs.Expressions.{Cover}
 use Rattle.swc_ecma_parser_reader.specs.Reader.{cover, head_cover, head_behind}
 use Rattle.swc_ecma_parser_reader.specs.State.{Reader}
@@ -12,4 +11,3 @@ abbrev pub covered : ℕ → Covering → Reader Cover
 covered n covering.Whole = cover n
 covered n covering.Head = head_cover n
 covered n (covering.Behind start) = head_behind n start
-covered n (covering.BehindAwait start) = behind_await n start

@@ -35,14 +35,11 @@ use swc_ecma_parser_literals::object::object_level;
 use swc_ecma_parser_members::decorators::{Leading, leading_decorators, misplaced};
 use swc_ecma_parser_members::member::member_level;
 use swc_ecma_parser_model::VarDeclKind;
-use swc_ecma_parser_operators::assignment::{
-    cover_expr, expr_behind_await, head_behind_async, head_expr,
-};
+use swc_ecma_parser_operators::assignment::{cover_expr, head_behind_async, head_expr};
 use swc_ecma_parser_operators::decorator::decorated_level;
 use swc_ecma_parser_operators::operator::expr_level;
 use swc_ecma_parser_patterns::pat::{element_level, pattern_level};
 use swc_ecma_parser_source::{Source, Wanted};
-use swc_ecma_parser_statements::using::{await_stmt, begins_await_using};
 use swc_ecma_parser_statements::variables::declarators;
 use swc_ecma_parser_token::TokenKind;
 use swc_ecma_parser_trees::{BuildsStatements, MakerOf};
@@ -69,14 +66,14 @@ pub fn stmt<P: Source, T: BuildsStatements>(
 
 /// A statement without decorators, with what stands in it in so many levels.
 #[cycle(knot)]
-#[tactic(auto, using(crate::proofs::Declared::function_is_stmt, crate::proofs::Declared::var_is_stmt, crate::proofs::Declared::class_is_stmt, swc_ecma_parser_reader::proofs::AwaitWords::begins_behind, swc_ecma_parser_reader::proofs::AwaitWords::begins_elsewhere))]
+#[tactic(auto, using(crate::proofs::Declared::function_is_stmt, crate::proofs::Declared::var_is_stmt, crate::proofs::Declared::class_is_stmt))]
 pub fn plain_stmt<P: Source, T: BuildsStatements>(
     t: &MakerOf<T>,
     p: &mut P,
     depth: usize,
     at: Position,
 ) -> PResult<T::Stmt>
-    ensures { GivesAs T.stmt_of (rules.plain_stmt depth at (P.seen p.old)) result (P.seen p.new) }
+    ensures { GivesAs T.stmt_of (dressed.plain_stmt depth at (P.seen p.old)) result (P.seen p.new) }
 {
     if at.include_decl && begins_function(p) {
         let decl = declared_function::<P, T>(t, p, depth)?;
@@ -94,9 +91,6 @@ pub fn plain_stmt<P: Source, T: BuildsStatements>(
         expr: expr::<P, T>,
         pat: pat::<P, T>,
     };
-    if begins_await_using(p, depth, at) {
-        return await_stmt(&g, t, p, at);
-    }
     level(&g, t, p, at)
 }
 
@@ -144,7 +138,7 @@ fn decorated_stmt<P: Source, T: BuildsStatements>(
     depth: usize,
     at: Position,
 ) -> PResult<T::Stmt>
-    ensures { GivesAs T.stmt_of (behind.decorated_stmt (rules.plain_stmt depth) (decorated_in depth) at (P.seen p.old)) result (P.seen p.new) }
+    ensures { GivesAs T.stmt_of (behind.decorated_stmt (dressed.plain_stmt depth) (decorated_in depth) at (P.seen p.old)) result (P.seen p.new) }
 {
     let list = leading::<P, T>(t, p, depth)?;
     stmt_behind::<P, T>(t, p, depth, at, list)
@@ -161,7 +155,7 @@ pub fn stmt_behind<P: Source, T: BuildsStatements>(
     at: Position,
     list: Leading<T::Decorator>,
 ) -> PResult<T::Stmt>
-    ensures { GivesAs T.stmt_of (behind.stmt_behind (rules.plain_stmt depth) at (leading_of T.decorator_of list) (P.seen p.old)) result (P.seen p.new) }
+    ensures { GivesAs T.stmt_of (behind.stmt_behind (dressed.plain_stmt depth) at (leading_of T.decorator_of list) (P.seen p.old)) result (P.seen p.new) }
 {
     if begins_declared(p) {
         return declared_behind::<P, T>(t, p, depth, at, list);
@@ -183,7 +177,7 @@ fn declared_behind<P: Source, T: BuildsStatements>(
     list: Leading<T::Decorator>,
 ) -> PResult<T::Stmt>
     requires { behind.begins_declared (P.seen p.now).at ≡ true }
-    ensures { GivesAs T.stmt_of (behind.declared_behind (rules.plain_stmt depth) at (leading_of T.decorator_of list) (P.seen p.old)) result (P.seen p.new) }
+    ensures { GivesAs T.stmt_of (behind.declared_behind (dressed.plain_stmt depth) at (leading_of T.decorator_of list) (P.seen p.old)) result (P.seen p.new) }
 {
     if p.sees(TokenKind::Class) {
         return class_statement_with::<P, T>(t, p, depth, at, list);
@@ -206,7 +200,7 @@ fn exported_behind<P: Source, T: BuildsStatements>(
     at: Position,
     list: &Leading<T::Decorator>,
 ) -> PResult<T::Stmt>
-    ensures { GivesAs T.stmt_of (behind.exported_behind (rules.plain_stmt depth) at (leading_of T.decorator_of list.now) (P.seen p.old)) result (P.seen p.new) }
+    ensures { GivesAs T.stmt_of (behind.exported_behind (dressed.plain_stmt depth) at (leading_of T.decorator_of list.now) (P.seen p.old)) result (P.seen p.new) }
 {
     let flags = p.flags();
     if (flags.in_class || flags.in_function) || p.decorators_before_export() {
@@ -225,7 +219,7 @@ fn other_behind<P: Source, T: BuildsStatements>(
     at: Position,
     list: &Leading<T::Decorator>,
 ) -> PResult<T::Stmt>
-    ensures { GivesAs T.stmt_of (behind.other_behind (rules.plain_stmt depth) at (leading_of T.decorator_of list.now) (P.seen p.old)) result (P.seen p.new) }
+    ensures { GivesAs T.stmt_of (behind.other_behind (dressed.plain_stmt depth) at (leading_of T.decorator_of list.now) (P.seen p.old)) result (P.seen p.new) }
 {
     if p.sees(TokenKind::Error) {
         return Err(p.wanted(Wanted::Expression));
@@ -252,9 +246,6 @@ pub fn expr<P: Source, T: BuildsStatements>(
         Reading::Decorated => Ok(done(decorated::<P, T>(t, p, depth)?)),
         Reading::Object => Ok(done(object_alone::<P, T>(t, p, depth)?)),
         Reading::Behind(start) => covered::<P, T>(t, p, depth, Covering::Behind(start)),
-        Reading::BehindAwait(start) => {
-            covered::<P, T>(t, p, depth, Covering::BehindAwait(start))
-        }
     }
 }
 
@@ -306,7 +297,6 @@ fn covered<P: Source, T: BuildsStatements>(
         Covering::Whole => cover_expr(&g, t, p),
         Covering::Head => head_expr(&g, t, p),
         Covering::Behind(start) => head_behind_async(&g, t, p, start),
-        Covering::BehindAwait(start) => expr_behind_await(&g, t, p, start),
     }
 }
 

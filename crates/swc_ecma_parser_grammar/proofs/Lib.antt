@@ -4,7 +4,6 @@ pub mod SupportedIn
 pub mod SupportedBegins
 pub mod Ended
 pub mod UsingParts
-pub mod AwaitHeads
 pub mod Marks
 pub mod Decorated
 pub mod Widens
@@ -37,6 +36,5 @@ mod ReadWithFaults
 pub mod ExpressionBegins
 pub mod StatementBegins
 pub mod Using
-pub mod AwaitUsing
 mod UnspelledStatements
 mod UnspelledItems

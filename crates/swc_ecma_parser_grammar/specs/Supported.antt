@@ -89,14 +89,14 @@ abbrev mutual
   -- `var`, `let` and `const`, with initializers or without: sections 14.3.2 and 14.3.1
   supported_in m (tree.var s word ds) = supported_in m ds
   supported_in m (tree.declarator s name init) = supported_in m name && supported_in m init
-  -- `using` and `await using`: the proposal on explicit resource management
-  supported_in m (tree.using s is_await ds) = supported_in m ds
+  -- `using`, but not behind `await`: the proposal on explicit resource management
+  supported_in m (tree.using s is_await ds) = not is_await && supported_in m ds
   -- blocks, empty statements, `debugger` and expression statements: sections 14.2, 14.4, 14.16 and 14.5
   supported_in m (tree.block s stmts) = supported_in m stmts
   supported_in m (tree.empty s) = true
   supported_in m (tree.debugger s) = true
   supported_in m (tree.expr_stmt s e) = supported_in m e
-  -- `for` of three parts, with `in` and with `of`, but with `await using` before it: sections 14.7.4 and 14.7.5
+  -- `for` of three parts, with `in` and with `of`: sections 14.7.4 and 14.7.5
   supported_in m (tree.for s init test next body) = supported_in m init && (supported_in m test && (supported_in m next && supported_in m body))
   supported_in m (tree.for_in s left right body) = supported_in m left && (supported_in m right && supported_in m body)
   supported_in m (tree.for_of s is_await left right body) = supported_in m left && (supported_in m right && supported_in m body)

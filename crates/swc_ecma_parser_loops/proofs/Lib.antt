@@ -1,6 +1,5 @@
 pub mod AsyncHead
 mod Awaited
-mod Awaits
 mod Flags
 mod Misdeclared
 mod Targets

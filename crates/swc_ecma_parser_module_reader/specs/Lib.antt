@@ -8,4 +8,3 @@ pub mod Programs
 pub mod ProgramEntry
 pub mod Items
 pub mod ItemEntry
-pub mod Turns

@@ -1,2 +1,1 @@
 mod Misused
-mod AwaitStmt

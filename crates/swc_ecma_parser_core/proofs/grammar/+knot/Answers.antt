@@ -10,7 +10,6 @@ use Rattle.swc_ecma_parser_inner.specs.Covers.{cover_of, read}
 use Rattle.swc_ecma_parser_core.proofs.Covers.{covered_refused, as_covered, read_class, read_decorated, read_expr, at_asked, refused_as, read_object}
 use Rattle.swc_ecma_parser_patterns.proofs.Patterns.{read_pat_lowest, as_asked}
 use Rattle.swc_ecma_parser_core.proofs.grammar.+knot.Goals as goal
-use Rattle.swc_ecma_parser_reader.proofs.AwaitWords.{await_above}
 
 pub expr-returns-in_err-expression-in-Expr : goal.expr-returns-in_err-expression-in-Expr
 expr-returns-in_err-expression-in-Expr g t c =
@@ -39,11 +38,6 @@ pub expr-returns-in-Behind : goal.expr-returns-in-Behind
 expr-returns-in-Behind g t c =
     subst (λ o. GivesAs (cover_of g.T.Trees.expr_of) o c.covered-in-Behind.result (g.P.Source.seen c.covered-in-Behind.new.p))
     (sym (at_asked c.args.depth (g.P.Source.seen c.args.p.now) c.args.asked _ _ c.in-Behind.is refl)) c.covered-in-Behind.ensures
-
-pub expr-returns-in-BehindAwait : goal.expr-returns-in-BehindAwait
-expr-returns-in-BehindAwait g t c =
-    subst (λ o. GivesAs (cover_of g.T.Trees.expr_of) o c.covered-in-BehindAwait.result (g.P.Source.seen c.covered-in-BehindAwait.new.p))
-    (sym (at_asked c.args.depth (g.P.Source.seen c.args.p.now) c.args.asked _ _ c.in-BehindAwait.is refl)) c.covered-in-BehindAwait.ensures
 
 pub expr-returns-in_err-class_expression-in-Class : goal.expr-returns-in_err-class_expression-in-Class
 expr-returns-in_err-class_expression-in-Class g t c =
@@ -107,12 +101,6 @@ covered-returns-in-Behind g t c =
     subst (λ o. GivesAs (cover_of g.T.Trees.expr_of) o c.head_behind_async.result (g.P.Source.seen c.head_behind_async.new.p))
     (sym (as_covered c.args.depth (g.P.Source.seen c.args.p.now) c.args.place _ _ c.in-Behind.is (behind_above c.args.depth _ (g.P.Source.seen c.args.p.now) (omega arith))))
     c.head_behind_async.ensures
-
-pub covered-returns-in-BehindAwait : goal.covered-returns-in-BehindAwait
-covered-returns-in-BehindAwait g t c =
-    subst (λ o. GivesAs (cover_of g.T.Trees.expr_of) o c.expr_behind_await.result (g.P.Source.seen c.expr_behind_await.new.p))
-    (sym (as_covered c.args.depth (g.P.Source.seen c.args.p.now) c.args.place _ _ c.in-BehindAwait.is (await_above c.args.depth _ (g.P.Source.seen c.args.p.now) (omega arith))))
-    c.expr_behind_await.ensures
 
 -- a class was read before
 pub plain_stmt-level-requires-clause-no_class : goal.plain_stmt-level-requires-clause-no_class

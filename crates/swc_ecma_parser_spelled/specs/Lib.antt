@@ -1,3 +1,0 @@
-pub mod Spelled
-pub mod Decides
-pub mod ModuleDecides
