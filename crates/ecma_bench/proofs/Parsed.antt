@@ -18,10 +18,12 @@ use Rattle.swc_ecma_parser_ast.specs.declared.script.Script.{Script}
 use Rattle.swc_ecma_parser_ast.specs.View.{view_script}
 use Rattle.swc_ecma_parser_grammar.specs.Entries.{script_code}
 use Rattle.swc_ecma_parser_grammar.specs.language.Programs as programs
+use Rattle.swc_ecma_parser_grammar.specs.Supported.{supported}
 use Rattle.swc_ecma_parser_grammar.specs.Walk.{walk, env_of}
 use Rattle.swc_ecma_parser_reader.specs.State.{State, Outcome}
 use Rattle.swc_ecma_parser_reader.specs.Entry.{unmarked, ReadsSupported, SoundScript, CompleteScript, script_walk}
 use Rattle.swc_ecma_parser_state.specs.Opened.{opened}
+use Rattle.swc_ecma_parser_spelled.proofs.Entries.{spelled_whole}
 use Rattle.ecma_report.specs.Spelled.{start_of, Spells}
 use Rattle.ecma_bench.specs.declared.fault.Fault.{Fault}
 use Rattle.ecma_bench.specs.declared.fault.Fault.TheVariants as fault
@@ -92,7 +94,7 @@ module _ (text : List ℕ) (s : State) where
   answer_spelled lacking b (Ok y) l (t, n, h) =
       let e = b (found y lacking l) in
       let a : h.added ≡ [] = sym (h.faults ∙ ap (λ o. o.faults ++ h.added) e) ∙ n in
-      (t.at, subst (λ o. programs.Spells 1000 programs.script o.code o.scope.labels (view_script y) o.at t.at) e (h.spells a), h.is_supported a)
+      (t.at, subst (λ o. programs.Spells 1000 programs.script o.code o.scope.labels (view_script y) o.at t.at) e (h.spells a))
   answer_spelled lacking b (Err f) l h = tt
 
   -- what the text spells is the answer
@@ -101,10 +103,11 @@ module _ (text : List ℕ) (s : State) where
       → (x : Tree) → Spells text x → MatchResult r (λ y. x ≡ view_script y) TellsWant
   unfolding Spells
   spelled_answered true b r l h x p = subst (λ o. MatchResult o (λ y. x ≡ view_script y) TellsWant) (sym (l refl)) tt
-  spelled_answered false b r l h x (d, p, known) =
+  spelled_answered false b r l h x (d, p) =
       let e = b refl in
       let q : programs.Spells 1000 programs.script s.code [] x s.at d = subst (λ o. programs.Spells 1000 programs.script o.code [] x o.at d) (sym e) p in
       let labels : s.scope.labels ≡ [] = ap (λ o. o.scope.labels) e in
+      let known : supported x ≡ true = spelled_whole 1000 programs.script s.code [] x s.at d 0 (λ i. cc) q in
       h x d (q.0, known) (ap (λ z. walk (env_of (script_code s.code) z) x) labels ∙ q.1) (ap (λ o. o.faults) e)
 
 -- neither of two tests holds

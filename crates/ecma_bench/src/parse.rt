@@ -103,8 +103,8 @@ fn script_of<I: Tokens>(parser: &mut Parser<I>) -> Result<Script, Fault>
     clean(answer, faults.as_slice())
 }
 
-/// Parses a text as a script, with no fault beside it. An answer is what the text spells; a text that spells a tree of the forms
-/// that are read so far has it as the answer, unless the text is too long or memory runs out.
+/// Parses a text as a script, with no fault beside it. An answer is what the text spells; a text that spells a tree has it as the
+/// answer, unless the text is too long or memory runs out.
 pub fn parse(alloc: Global, text: &str) -> Result<Script, Fault>
     ensures clean { IfOk result (λ script. Spells text.now (view_script script)) }
     ensures spelled { (x : Tree) → Spells text.now x → MatchResult result (λ script. x ≡ view_script script) TellsWant }

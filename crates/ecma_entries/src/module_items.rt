@@ -7,8 +7,8 @@ use std::alloc::{AllocError, Global};
 use std::test::Fail;
 use swc_ecma_parser::Parser;
 use swc_ecma_parser::error::PResult;
-use swc_ecma_parser::input::{Context, Tokens};
-use swc_ecma_parser::lexer::StringInput;
+use swc_ecma_parser::input::{Context, EsSyntax, Syntax, Tokens};
+use swc_ecma_parser::lexer::{Lexer, StringInput};
 
 const FORMS: [(&str, u32, &str); 10] = [
     (
@@ -190,6 +190,37 @@ const MODULES: [(&str, u32, &str); 1] = [(
     "  With 0..11\nfault 0..4 WithInStrict\n  ExportNamed 12..21\n",
 )];
 
+/// Behind decorators, which may stand before `export` too.
+const DECORATED: [(&str, u32, &str); 7] = [
+    (
+        "@d export class A {} b",
+        2,
+        "  ExportDecl 3..20\n  Expr 21..22\n",
+    ),
+    (
+        "with (a) ; @(function () { with (b) ; }) export class A {}",
+        2,
+        "  With 0..10\n  ExportDecl 41..58\nfault 0..4 WithInStrict\nfault 27..31 WithInStrict\n",
+    ),
+    (
+        "@(function () { with (a) ; }) class A {} export {}",
+        2,
+        "  Class 0..40\n  ExportNamed 41..50\nfault 16..20 WithInStrict\n",
+    ),
+    (
+        "@d import 'a'; with (b) c",
+        2,
+        "  Import 3..14\nfault 0..2 InvalidLeadingDecorator\n  With 15..25\nfault 15..19 WithInStrict\n",
+    ),
+    ("@d class A {}", 1, "  Class 0..13\n"),
+    ("@d export @e class A {}", 1, "refused 10..12 TS8038\n"),
+    (
+        "@d a",
+        1,
+        "  Expr 3..4\nfault 0..2 InvalidLeadingDecorator\n",
+    ),
+];
+
 /// Within no levels.
 const NO_LEVELS: [(&str, u32, &str); 5] = [
     (
@@ -230,11 +261,12 @@ const TWO_LEVELS: [(&str, u32, &str); 2] = [
     ),
 ];
 
-/// In which context a text is read, and within how many levels.
+/// In which context a text is read, within how many levels, and whether decorators are, before `export` too.
 #[derive(Clone, Copy)]
 struct Around {
     context: Context,
     limit: u32,
+    decorators: bool,
 }
 
 /// Writes what a parser answers that is asked for an item of a module.
@@ -266,7 +298,12 @@ fn read(
     around: Around,
     times: u32,
 ) -> Result<String, AllocError> {
-    let mut lexer = lexer(alloc, input);
+    let settings = EsSyntax {
+        decorators: around.decorators,
+        decorators_before_export: around.decorators,
+        ..EsSyntax::default()
+    };
+    let mut lexer = Lexer::new(alloc, Syntax::Es(settings), input, false);
     lexer.set_ctx(around.context);
     let mut parser = Parser::new_from_limited(alloc, lexer, around.limit);
     asked(alloc, &mut parser, times)
@@ -294,6 +331,7 @@ fn rows_of_items_hold(rt: HostRuntime) -> Result<(), Fail> {
     let around = Around {
         context: Context::default(),
         limit: 1000,
+        decorators: false,
     };
     for rows in [
         FORMS.as_slice(),
@@ -304,6 +342,11 @@ fn rows_of_items_hold(rt: HostRuntime) -> Result<(), Fail> {
     ] {
         write_wrong(rt.alloc(), &mut wrong, rows, around)?;
     }
+    let around = Around {
+        decorators: true,
+        ..around
+    };
+    write_wrong(rt.alloc(), &mut wrong, &DECORATED, around)?;
     assert_eq!(rt; wrong.as_str(), "");
     Ok(())
 }
@@ -320,13 +363,26 @@ fn rows_of_items_hold_in_other_code(rt: HostRuntime) -> Result<(), Fail> {
         rt.alloc(),
         &mut wrong,
         &UNDECIDED,
-        Around { context, limit },
+        Around {
+            context,
+            limit,
+            decorators: false,
+        },
     )?;
     let context = Context {
         module: true,
         ..Context::default()
     };
-    write_wrong(rt.alloc(), &mut wrong, &MODULES, Around { context, limit })?;
+    write_wrong(
+        rt.alloc(),
+        &mut wrong,
+        &MODULES,
+        Around {
+            context,
+            limit,
+            decorators: false,
+        },
+    )?;
     assert_eq!(rt; wrong.as_str(), "");
     Ok(())
 }
@@ -340,7 +396,16 @@ fn rows_of_items_hold_within_their_levels(rt: HostRuntime) -> Result<(), Fail> {
         (TWO_LEVELS.as_slice(), 2),
     ] {
         let context = Context::default();
-        write_wrong(rt.alloc(), &mut wrong, rows, Around { context, limit })?;
+        write_wrong(
+            rt.alloc(),
+            &mut wrong,
+            rows,
+            Around {
+                context,
+                limit,
+                decorators: false,
+            },
+        )?;
     }
     assert_eq!(rt; wrong.as_str(), "");
     Ok(())

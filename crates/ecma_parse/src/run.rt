@@ -98,8 +98,8 @@ pub fn run<R: Read, W: Write, E: Write>(
 
     ensures wordless { IfErr words (λ _. result ≡ 3) }
 
-    // Status 0 says that the text spells a tree of what the words ask for, of the forms that are read so far, and that its lines
-    // were written; a text that does ends with no other status, but that of a fault.
+    // Status 0 says that the text spells a tree of what the words ask for, and that its lines were written; a text that does ends
+    // with no other status, but that of a fault.
     ensures clean { result ≡ 0 → IsOkAnd words (λ words. (goal : Goal) × (asked words.items ≡ Some goal)
         × IfSome (R.remaining input.old) (λ xs. (x : Tree) × SpellsAs goal xs x
         × Appends (W.contents output.old) (W.contents output.new) (answer_lines (Ok x) []))) }

@@ -1,24 +1,24 @@
 -- What a clean report says of the text.
-use Rattle.std.proofs.Common.{◌≡◌, Bool, true, false, List, [], ◌∷◌, ◌++◌, Result, Ok, Err, refl, sym, ◌∙◌, ap, subst, append-nil}
-use Rattle.std.proofs.Common.{inl}
+use Rattle.std.proofs.Common.{◌≡◌, Bool, true, false, List, [], ◌∷◌, Result, Ok, Err, refl, sym, ◌∙◌, ap, subst}
 use Rattle.std.specs.Prelude.{◌||◌, IfOk, IfErr, ℕ, string_bytes}
 use Rattle.std.specs.Str.{chars}
 use Rattle.swc_ecma_parser_common.specs.declared.span.BytePos.{BytePos}
 use Rattle.swc_ecma_parser_error.specs.declared.error.Error.{Error}
-use Rattle.swc_ecma_parser_error.specs.Kind.{Fault, fault_of, IsOutOfMemory}
+use Rattle.swc_ecma_parser_error.specs.Kind.{Fault, IsOutOfMemory}
 use Rattle.swc_ecma_parser_input.specs.declared.syntax.Syntax.{Syntax}
 use Rattle.swc_ecma_parser_input.specs.Setting.{plain}
+use Rattle.swc_ecma_parser_lexer.specs.Ordered.{ordered}
 use Rattle.swc_ecma_parser_lexer.specs.Source.{outset}
 use Rattle.swc_ecma_parser_model.specs.Held.{Held}
 use Rattle.swc_ecma_parser_model.specs.Tree.{Tree}
 use Rattle.swc_ecma_parser_ast.specs.declared.script.Script.{Script}
 use Rattle.swc_ecma_parser_ast.specs.View.{view_script}
-use Rattle.swc_ecma_parser_grammar.specs.Entries.{script_code}
 use Rattle.swc_ecma_parser_grammar.specs.language.Programs as programs
-use Rattle.swc_ecma_parser_grammar.specs.Walk.{walk, env_of}
-use Rattle.swc_ecma_parser_reader.specs.State.{State, Outcome}
+use Rattle.swc_ecma_parser_reader.specs.State.{State}
+use Rattle.swc_ecma_parser_spelled.specs.Decides.{DecidesScript}
+use Rattle.swc_ecma_parser_spelled.specs.Spelled.{Ordered}
 use Rattle.swc_ecma_parser_state.specs.Opened.{opened}
-use Rattle.swc_ecma_parser_reader.specs.Entry.{unmarked, SoundScript, CompleteScript, script_walk}
+use Rattle.swc_ecma_parser_reader.specs.Entry.{unmarked}
 use Rattle.ecma_report.specs.declared.answer.Verdict.TheVariants as verdict
 use Rattle.ecma_report.specs.declared.answer.Report.{Report}
 use Rattle.ecma_report.specs.Lines.{seen, answer_lines}
@@ -30,49 +30,36 @@ pub no_faults : (x : Tree) (fs : List Fault) → verdict_of (Ok x) fs ≡ verdic
 no_faults x [] h = refl
 no_faults x (f ∷ fs) h = cc
 
--- no outcome is both
-pub never : {X : Type 0} (f : Fault) (u : State) (x : Tree) (v : State) → ◌≡◌ {A = Outcome Tree} (Ok (x, v)) (Err (f, u)) → X
-never f u x v h = cc
-
--- the answers of two outcomes
-abbrev pub tree_of : Tree → Outcome Tree → Tree
-tree_of x (Ok p) = p.0
-tree_of x (Err e) = x
-
-abbrev pub state_of : State → Outcome Tree → State
-state_of s (Ok p) = p.1
-state_of s (Err e) = s
+-- the tokens of a text stand one behind another
+pub text_ordered : (text : List ℕ) (s : State) → s ≡ start_of text → Ordered 0 s.at
+text_ordered text s e = subst (λ o. Ordered 0 o.at) (sym e) (ordered 0 0 false (chars text))
 
 module _ (text : List ℕ) (t : State) where
   -- a clean report is of a tree that the text spells
-  pub clean_is_spelled : (answer : Result (Script Held) Error) (s : State) → s ≡ start_of text → IfOk answer (λ x. SoundScript 1000 (unmarked s) (view_script x) t)
+  pub clean_is_spelled : (answer : Result (Script Held) Error) (s : State) → s ≡ start_of text → DecidesScript view_script 1000 (unmarked s) answer t
       → (fs : List Fault) → fs ≡ t.faults → verdict_of (seen view_script answer) fs ≡ verdict.Clean → (x : Tree) × Spells text x × (answer_lines (seen view_script answer) fs ≡ answer_lines (Ok x) [])
   unfolding Spells
   clean_is_spelled (Ok script) s e h fs g v =
       let x = view_script script in
       let n = no_faults x fs v in
-      let a : h.added ≡ [] = sym (h.faults ∙ ap (λ o. o.faults ++ h.added) e) ∙ sym g ∙ n in
-      (x, (t.at, subst (λ o. programs.Spells 1000 programs.script o.code o.scope.labels x o.at t.at) e (h.spells a), h.is_supported a), ap (answer_lines (Ok x)) n)
+      let none : t.faults ≡ s.faults = sym g ∙ n ∙ sym (ap (λ o. o.faults) e) in
+      let p : programs.Spells 1000 programs.script s.code s.scope.labels x s.at t.at = (h tt x t.at).0 (refl, refl, none) in
+      (x, (t.at, subst (λ o. programs.Spells 1000 programs.script o.code o.scope.labels x o.at t.at) e p), ap (answer_lines (Ok x)) n)
   clean_is_spelled (Err error) s e h fs g v = cc
 
   -- a tree that the text spells is reported, and nothing beside it
-  pub spelled_is_clean : (answer : Result (Script Held) Error) (s : State) → s ≡ start_of text → CompleteScript view_script 1000 (unmarked s) answer t
+  pub spelled_is_clean : (answer : Result (Script Held) Error) (s : State) → s ≡ start_of text → DecidesScript view_script 1000 (unmarked s) answer t
       → IfErr answer (λ error. ¬ IsOutOfMemory error) → (fs : List Fault) → fs ≡ t.faults → (x : Tree) → Spells text x
       → (verdict_of (seen view_script answer) fs ≡ verdict.Clean) × (answer_lines (seen view_script answer) fs ≡ answer_lines (Ok x) [])
   unfolding Spells
-  spelled_is_clean (Ok script) s e h m fs g x (d, p, known) =
-      let q : programs.Spells 1000 programs.script s.code [] x s.at d = subst (λ o. programs.Spells 1000 programs.script o.code [] x o.at d) (sym e) p in
-      let l : s.scope.labels ≡ [] = ap (λ o. o.scope.labels) e in
-      let w : script_walk s x ≡ [] = ap (λ z. walk (env_of (script_code s.code) z) x) l ∙ q.1 in
-      let k = h x d (q.0, known) (inl w) in
-      let y : x ≡ view_script script = ap (tree_of x) k in
-      let u : fs ≡ [] = g ∙ sym (ap (λ o. (state_of s o).faults) k) ∙ ap (λ z. s.faults ++ z) w ∙ append-nil s.faults ∙ ap (λ o. o.faults) e in
-      (ap (verdict_of (Ok (view_script script))) u, ap (λ z. answer_lines (Ok (view_script script)) z) u ∙ ap (λ z. answer_lines (Ok z) []) (sym y))
-  spelled_is_clean (Err error) s e h m fs g x (d, p, known) =
-      let q : programs.Spells 1000 programs.script s.code [] x s.at d = subst (λ o. programs.Spells 1000 programs.script o.code [] x o.at d) (sym e) p in
-      let l : s.scope.labels ≡ [] = ap (λ o. o.scope.labels) e in
-      let w : script_walk s x ≡ [] = ap (λ z. walk (env_of (script_code s.code) z) x) l ∙ q.1 in
-      never (fault_of error) _ x _ (h x d (q.0, known) (inl w) m)
+  spelled_is_clean (Ok script) s e h m fs g x (d, p) =
+      let q : programs.Spells 1000 programs.script s.code s.scope.labels x s.at d = subst (λ o. programs.Spells 1000 programs.script o.code o.scope.labels x o.at d) (sym e) p in
+      let (y, at, none) = (h tt x d).1 q in
+      let u : fs ≡ [] = g ∙ none ∙ ap (λ o. o.faults) e in
+      (ap (verdict_of (Ok (view_script script))) u, ap (λ z. answer_lines (Ok (view_script script)) z) u ∙ ap (λ z. answer_lines (Ok z) []) y)
+  spelled_is_clean (Err error) s e h m fs g x (d, p) =
+      let q : programs.Spells 1000 programs.script s.code s.scope.labels x s.at d = subst (λ o. programs.Spells 1000 programs.script o.code o.scope.labels x o.at d) (sym e) p in
+      absurd ((h m x d).1 q)
 
 -- neither of two tests holds
 pub neither : (a b : Bool) → (a || b) ≡ false → (a ≡ false) × (b ≡ false)

@@ -6,14 +6,12 @@ use Rattle.swc_ecma_parser_input.specs.Place as place
 use Rattle.swc_ecma_parser_input.specs.Place.{Place}
 use Rattle.swc_ecma_parser_model.specs.Tree.{Tree}
 use Rattle.swc_ecma_parser_grammar.specs.Names.{Code}
-use Rattle.swc_ecma_parser_grammar.specs.Supported.{supported}
 use Rattle.swc_ecma_parser_grammar.specs.Walk.{walk, env_of}
 use Rattle.swc_ecma_parser_grammar.specs.language.Programs as programs
 use Rattle.swc_ecma_parser_reader.specs.State.{State}
 use Rattle.swc_ecma_parser_state.specs.Opened.{opened}
 use Rattle.swc_ecma_parser_module_reader.specs.ProgramEntry.{ReadsProgram}
 use Rattle.swc_ecma_parser_module_reader.specs.Programs.{program_code}
-use Rattle.swc_ecma_parser_module_reader.specs.Supported.{supported_module, supported_program}
 use Rattle.swc_ecma_parser_lexer.specs.Source as source
 use Rattle.swc_ecma_parser_lexer.specs.Source.{default_context}
 use Rattle.swc_ecma_parser_lexer.specs.Tokens.{tokens}
@@ -28,18 +26,18 @@ outside = record { flags = default_context; setting = plain_setting }
 abbrev pub first_place : List ℕ → Place
 first_place text = place.outset (record { 0 = 0 }) (tokens 0 0 false (chars text))
 
--- a tree that a text spells as a script of the language, at most 1,000 levels deep, and of the forms that are read so far
+-- a tree that a text spells as a script of the language, at most 1,000 levels deep
 unfoldable pub Spells : List ℕ → Tree → Type 0
-Spells text x = (d : Place) × programs.Spells 1000 programs.script outside [] x (first_place text) d × (supported x ≡ true)
+Spells text x = (d : Place) × programs.Spells 1000 programs.script outside [] x (first_place text) d
 
 -- the same as a module
 unfoldable pub SpellsModule : List ℕ → Tree → Type 0
-SpellsModule text x = (d : Place) × programs.Spells 1000 programs.«module» outside [] x (first_place text) d × (supported_module x ≡ true)
+SpellsModule text x = (d : Place) × programs.Spells 1000 programs.«module» outside [] x (first_place text) d
 
 -- the same as a program: a script or a module, whichever it turns out to be
 unfoldable pub SpellsProgram : List ℕ → Tree → Type 0
 SpellsProgram text x =
-    (d : Place) × (ReadsProgram 1000 false outside x (first_place text) d × (walk (env_of (program_code outside) []) x ≡ [])) × (supported_program x ≡ true)
+    (d : Place) × (ReadsProgram 1000 false outside x (first_place text) d × (walk (env_of (program_code outside) []) x ≡ []))
 
 -- a tree that a text spells as what is asked for
 abbrev pub SpellsAs : Goal → List ℕ → Tree → Type 0

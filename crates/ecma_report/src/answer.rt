@@ -173,7 +173,7 @@ fn parse_program(alloc: Global, text: &str) -> Result<Report, AllocError>
 }
 
 /// Parses a text as a script, a module, or whichever of the two it turns out to be. The report is clean exactly where the text
-/// spells such a tree of the forms that are read so far, and then its lines are that tree's, unless memory runs out.
+/// spells such a tree, and then its lines are that tree's, unless memory runs out.
 pub fn parse(alloc: Global, text: &str, goal: Goal) -> Result<Report, AllocError>
     requires { length text.now < 2 ^ 32 }
     ensures clean { IfOk result (λ report. report.verdict ≡ Verdict.Clean

@@ -30,6 +30,7 @@ using a, [b] = c; → Script 0..17, Using 0..16, Empty 16..17, fault 0..16 Using
 using → Script 0..5, Expr 0..5 → Ident 0..5 using
 using¶a → Script 0..7, Expr 0..5, Expr 6..7
 { await using; } → Script 0..16, Block 0..16 → ExprStmt 2..14, AwaitExpr 2..13
+{ await using a = b } → Script 0..21, Block 0..21, fault 2..19 UsingDeclNotEnabled → UsingDecl 2..19
 for (using in a) ; → Script 0..18, ForIn 0..18
 if (a) using b = c → refused 13..14 ExpectedSemiForExprStmt";
 
@@ -58,14 +59,38 @@ using a = → refused 9..9 Eof
 if (a) using b = c → refused 13..14 ExpectedSemiForExprStmt
 a: using b = c → refused 9..10 ExpectedSemiForExprStmt";
 
+const AWAIT_USING: &str =
+    "await using a = b; → Script 0..18, Using 0..17, Empty 17..18, fault 0..5 TopLevelAwaitInScript → UsingDecl 0..17, is_await: true, VarDeclarator 12..17
+{ await using a = b } → Script 0..21, Block 0..21 → UsingDecl 2..19, is_await: true
+{ await¶using a = b } → Script 0..21, Block 0..21 → UsingDecl 2..19
+function f() { await using a = b } → Script 0..34, Fn 0..34 → UsingDecl 15..32
+async function f() { await using a = b, c = d } → Script 0..47, Fn 0..47 → UsingDecl 21..45, VarDeclarator 33..38, VarDeclarator 40..45
+async function f() { await using await = a } → Script 0..44, Fn 0..44, fault 33..38 InvalidIdentInAsync → UsingDecl 21..42
+{ await using a = b c } → Script 0..23, Block 0..23 → UsingDecl 2..19, ExprStmt 20..21
+{ await using a } → Script 0..17, Block 0..17, fault 2..15 InitRequiredForUsingDecl
+{ await using¶a } → Script 0..17, Block 0..17 → ExprStmt 2..13, AwaitExpr 2..13, ExprStmt 14..15
+{ await using } → Script 0..15, Block 0..15 → ExprStmt 2..13, AwaitExpr 2..13, Ident 8..13 using
+{ await using + a, b } → Script 0..22, Block 0..22 → SeqExpr 2..20, BinExpr 2..17, AwaitExpr 2..13
+{ await using ? a : b } → Script 0..23, Block 0..23 → CondExpr 2..21, AwaitExpr 2..13
+{ await using.a(b) } → Script 0..20, Block 0..20 → AwaitExpr 2..18, CallExpr 8..18
+{ await using in a } → Script 0..20, Block 0..20 → BinExpr 2..18, AwaitExpr 2..13
+function f() { await using } → Script 0..28, Fn 0..28, fault 15..20 AwaitInFunction → AwaitExpr 15..26
+{ await using = a } → refused 2..13 InvalidPat
+{ await using [a] = b } → refused 2..17 InvalidPat
+{ await using ** a } → refused 2..13 UnaryInExp
+{ await using => a } → refused 14..16 ExpectedSemiForExprStmt
+if (a) await using b = c → refused 19..20 ExpectedSemiForExprStmt
+a: await using b = c → refused 15..16 ExpectedSemiForExprStmt
+(await using a) → refused 13..14 Expected";
+
 /// Each table, and how many rows it has.
-pub const TABLES: [(&str, &str); 2] = [(DECLARATIONS, "21 rows"), (UNSET_USING, "7 rows")];
+pub const TABLES: [(&str, &str); 2] = [(DECLARATIONS, "21 rows"), (UNSET_USING, "8 rows")];
 
 /// The same of those for which `explicit_resource_management` is set.
-pub const SET_TABLES: [(&str, &str); 1] = [(USING, "23 rows")];
+pub const SET_TABLES: [(&str, &str); 2] = [(USING, "23 rows"), (AWAIT_USING, "22 rows")];
 
 /// Rows, each within so many levels.
-pub const LIMITS: [(&str, u32); 6] = [
+pub const LIMITS: [(&str, u32); 9] = [
     ("let a → refused 4..5 TooDeep", 1),
     ("let a → Script 0..5, Var 0..5", 2),
     ("const a = b → refused 6..7 TooDeep", 1),
@@ -74,5 +99,11 @@ pub const LIMITS: [(&str, u32); 6] = [
     (
         "using a = b → Script 0..11, Using 0..11, fault 0..11 UsingDeclNotEnabled",
         2,
+    ),
+    ("{ await using a = b } → refused 2..7 TooDeep", 2),
+    ("{ await using } → refused 2..7 TooDeep", 2),
+    (
+        "{ await using a = b } → Script 0..21, Block 0..21, fault 2..19 UsingDeclNotEnabled",
+        3,
     ),
 ];

@@ -26,7 +26,9 @@ for (;;a b → refused 9..10 Expected
 for a → refused 4..5 Expected
 for (;;) → refused 8..8 Eof
 for (using a of b) c → refused 11..12 Expected
-for (using a in b) c → refused 11..12 Expected";
+for (using a in b) c → refused 11..12 Expected
+for (await using a of b) c → refused 17..18 Expected
+for (await using a in b) c → refused 17..18 Expected";
 
 const FOR_INS: &str =
     "for (a in b) c → Script 0..14, ForIn 0..14 → ForInStmt 0..14, Ident 5..6 a, ExprStmt 13..14
@@ -109,12 +111,42 @@ for (using a, b of c) ; → refused 11..12 Expected
 for (using a = b of c) ; → refused 11..12 Expected
 'use strict'; for (using let of a) b → refused 25..28 Expected";
 
+const AWAIT_USING_HEADS: &str =
+    "for (await using a of b) c → Script 0..26, ForOf 0..26 → UsingDecl 5..18, is_await: true, VarDeclarator 17..18, Ident 17..18 a
+for (await¶using¶a of b) c → Script 0..26, ForOf 0..26 → UsingDecl 5..18, is_await: true
+for await (await using a of b) c → Script 0..32, ForOf 0..32 → is_await: true, UsingDecl 11..24, VarDeclarator 23..24
+for (await using await of a) b → Script 0..30, ForOf 0..30 → UsingDecl 5..22, VarDeclarator 17..22
+for (await using using of a) b → Script 0..30, ForOf 0..30 → UsingDecl 5..22, VarDeclarator 17..22
+async function f() { for (await using a of b) ; } → Script 0..49, Fn 0..49 → UsingDecl 26..39, is_await: true
+function f() { for (await using a of b) ; } → Script 0..43, Fn 0..43, fault 20..25 AwaitInFunction → UsingDecl 20..33, is_await: true
+for (await using a in b) ; → Script 0..26, ForIn 0..26, fault 5..18 UsingDeclNotAllowedForForInLoop → UsingDecl 5..18, VarDeclarator 17..18
+for (await using;;) ; → Script 0..21, For 0..21 → AwaitExpr 5..16, Ident 11..16 using
+for (await using, a;;) ; → Script 0..24, For 0..24 → SeqExpr 5..19, AwaitExpr 5..16
+for (await.a of b) ; → Script 0..20, ForOf 0..20 → MemberExpr 5..12
+for (await of a) ; → refused 14..15 Expected
+for (await using of a) b → refused 5..16 InvalidPat
+for (await using in a) b → refused 5..16 InvalidPat
+for (await using of of a) b → refused 5..16 InvalidPat
+for (await using a;;) ; → refused 17..18 Expected
+for (await using a, b of c) ; → refused 17..18 Expected
+for (await using a = b of c) ; → refused 17..18 Expected
+for (await using a of b, c) d → refused 23..24 Expected
+for (await using [a] of b) ; → refused 5..20 InvalidPat
+for (await using.a b of c) ; → refused 19..20 Expected
+for ((await using) a of b) ; → refused 19..20 Expected
+for (await await using a of b) ; → refused 23..24 Expected
+for (await other a of b) ; → refused 17..18 Expected
+'use strict'; for (await using let of a) b → refused 31..34 Expected";
+
 /// The same of those for which `explicit_resource_management` is set.
-pub const SET_TABLES: [(&str, &str); 1] = [(USING_HEADS, "17 rows")];
+pub const SET_TABLES: [(&str, &str); 2] = [
+    (USING_HEADS, "17 rows"),
+    (AWAIT_USING_HEADS, "25 rows"),
+];
 
 /// Each table, and how many rows it has.
 pub const TABLES: [(&str, &str); 4] = [
-    (FORS, "26 rows"),
+    (FORS, "28 rows"),
     (FOR_INS, "16 rows"),
     (FOR_OFS, "20 rows"),
     (FOR_AWAITS, "20 rows"),

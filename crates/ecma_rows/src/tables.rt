@@ -109,7 +109,12 @@ fn write_exports(alloc: Global, wrong: &mut String) -> Result<(), Fail> {
         },
         ..plainly(Goal::Module)
     };
-    write_tables(alloc, wrong, &exports::BOTH_TABLES, asked)
+    write_tables(alloc, wrong, &exports::BOTH_TABLES, asked)?;
+    let asked = Asked {
+        settings: asked.settings,
+        ..plainly(Goal::Program)
+    };
+    write_tables(alloc, wrong, &exports::BOTH_PROGRAM_TABLES, asked)
 }
 
 /// Writes the tables of statements behind decorators that do not hold.

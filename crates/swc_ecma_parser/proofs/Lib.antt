@@ -1,1 +1,2 @@
+mod ItemAlone
 mod SetBack

@@ -6,19 +6,21 @@ ghost use Rattle.swc_ecma_parser_module_reader.specs.Entry.{IsEntered, AnswersMo
 ghost use Rattle.swc_ecma_parser_error.specs.Kind.{Fault};
 ghost use Rattle.swc_ecma_parser_grammar.specs.Notes.{as_note};
 ghost use Rattle.swc_ecma_parser_module_reader.specs.ItemEntry.{AnswersItem};
-ghost use Rattle.swc_ecma_parser_module_reader.specs.Items.{begun_item};
+ghost use Rattle.swc_ecma_parser_module_reader.specs.Items.{begun_item, held_at, item_whole};
 ghost use Rattle.swc_ecma_parser_module_reader.specs.ProgramEntry.{AnswersProgram};
-ghost use Rattle.swc_ecma_parser_module_reader.specs.Programs.{begins_module};
 ghost use Rattle.swc_ecma_parser_reader.specs.State as reader;
+ghost use Rattle.swc_ecma_parser_reader.specs.State.{GivesAs};
 ghost use Rattle.swc_ecma_parser_reader.specs.Entry.{unmarked, AnswersScript, AnswersStatement, IsRestored};
 
 use crate::program::program_body;
 use std::alloc::Global;
+use swc_ecma_parser_core::grammar::leading;
 use swc_ecma_parser_core::script::{script_body, whole_stmt};
 use swc_ecma_parser_error::PResult;
 use swc_ecma_parser_grammar::Position;
 use swc_ecma_parser_input::Tokens;
-use swc_ecma_parser_module_items::items::{module_body, module_item};
+use swc_ecma_parser_module_items::decorated::begins_decorators;
+use swc_ecma_parser_module_items::items::{item_behind, module_body, module_item};
 use swc_ecma_parser_module_items::programs::begins_module;
 use swc_ecma_parser_state::State;
 use swc_ecma_parser_trees::{
@@ -110,13 +112,32 @@ pub fn program<I: Tokens, T: BuildsStatements + BuildsExport + BuildsVarDecl>(
 
 /// Makes module code of what begins with an import or an export.
 fn begin_item<I: Tokens>(state: &mut State<I>)
-    ensures { (recorded : List Fault) × (begins_module state.old.at ≡ true → map as_note recorded ≡ state.old.notes.held_back)
-        × (state.new ≡ begun_item recorded state.old) }
+    ensures { (recorded : List Fault) × (map as_note recorded ≡ held_at state.old) × (state.new ≡ begun_item recorded state.old) }
 {
     if !begins_module(state) {
         return;
     }
     state.turn_module();
+}
+
+/// One item of a module, in so many levels. Decorators before it are read as the code around.
+fn item_alone<I: Tokens, T: BuildsStatements + BuildsExport + BuildsVarDecl>(
+    t: &MakerOf<T>,
+    state: &mut State<I>,
+    limit: usize,
+) -> PResult<T::Item>
+    ensures { (recorded : List Fault) × GivesAs (λ x. (T.item_of x, map as_note recorded)) (item_whole limit recorded state.old) result state.new }
+{
+    if !begins_decorators(state) {
+        begin_item(state);
+        return module_item::<State<I>, T>(t, state, limit);
+    }
+    if limit == 0 {
+        return Err(state.too_deep());
+    }
+    let list = leading::<State<I>, T>(t, state, limit - 1)?;
+    begin_item(state);
+    item_behind::<State<I>, T>(t, state, limit - 1, list)
 }
 
 /// One item of a module, which may nest so many levels deep.
@@ -131,9 +152,8 @@ pub fn item<I: Tokens, T: BuildsStatements + BuildsExport + BuildsVarDecl>(
     let outer = state.flags();
     let found_module_item = state.found_module_item();
     state.begin();
-    begin_item(state);
     let maker: MakerOf<T> = Maker::new(alloc);
-    let read = module_item::<State<I>, T>(&maker, state, limit);
+    let read = item_alone::<I, T>(&maker, state, limit);
     maker.finish();
     match read {
         Ok(item) => Ok(item),

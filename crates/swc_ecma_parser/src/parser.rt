@@ -13,6 +13,9 @@ ghost use Rattle.swc_ecma_parser_reader.specs.Notes.{held_of};
 ghost use Rattle.swc_ecma_parser_reader.specs.State as reader;
 ghost use Rattle.swc_ecma_parser_reader.specs.Entry.{unmarked, SoundScript, CompleteScript, SoundStatement, CompleteStatement, IsRestored, Stays};
 ghost use Rattle.swc_ecma_parser_reader.specs.Limits.{has_too_deep_token, has_out_of_memory_token};
+ghost use Rattle.swc_ecma_parser_spelled.specs.Decides.{DecidesScript, DecidesStatement};
+ghost use Rattle.swc_ecma_parser_spelled.specs.ModuleDecides.{DecidesModule, DecidesItem, DecidesProgram};
+ghost use Rattle.swc_ecma_parser_spelled.specs.Spelled.{Ordered};
 ghost use Rattle.swc_ecma_parser_state.specs.Opened.{opened};
 ghost use Rattle.swc_ecma_parser_token.specs.declared.token.Token.TheVariants as token;
 ghost use Rattle.swc_ecma_parser_token.specs.declared.token.TokenAndSpan.{TokenAndSpan};
@@ -92,6 +95,10 @@ impl<I: Tokens> Parser<I> {
         // Each supported tree within the limit that spells the list is the answer, and only it, with its walk recorded.
         ensures complete { CompleteScript view_script self.old.limit (unmarked self.old.state) result self.new.state }
 
+        // Unless memory ran out: a tree is the answer, read up to a place with nothing recorded, exactly where the tokens up to there
+        // spell it within the limit.
+        ensures decides { DecidesScript view_script self.old.limit (unmarked self.old.state) result self.new.state }
+
         // No token of an answer is one that memory ran out for.
         ensures memory { IfOk result (λ x. has_out_of_memory_token self.old.state.at.left ≡ false) }
 
@@ -130,6 +137,11 @@ impl<I: Tokens> Parser<I> {
         // Each supported module within the limit that spells the list is the answer, and only it, with its walk recorded.
         ensures complete { (u : reader.State) × IsEntered (unmarked self.old.state) u
             × CompleteModule view_module self.old.limit u result self.new.state }
+
+        // On tokens in order, from `u` on and unless memory ran out: a tree is the answer with nothing recorded, exactly where the
+        // whole list spells it within the limit.
+        ensures decides { (from : ℕ) → Ordered from self.old.state.at → (u : reader.State) × IsEntered (unmarked self.old.state) u
+            × DecidesModule view_module self.old.limit u result self.new.state }
 
         // No token of an answer is one that memory ran out for.
         ensures memory { IfOk result (λ x. has_out_of_memory_token self.old.state.at.left ≡ false) }
@@ -172,6 +184,10 @@ impl<I: Tokens> Parser<I> {
         // with what had been held back before, if it is a module.
         ensures complete { CompleteProgram view_program self.old.limit (unmarked self.old.state) result self.new.state }
 
+        // The same on tokens in order, unless memory ran out: a tree is the answer, read up to a place with nothing recorded but what
+        // had been held back, exactly where the tokens up to there spell it within the limit.
+        ensures decides { (from : ℕ) → Ordered from self.old.state.at → DecidesProgram view_program self.old.limit (unmarked self.old.state) result self.new.state }
+
         // No token of an answer is one that memory ran out for.
         ensures memory { IfOk result (λ x. has_out_of_memory_token self.old.state.at.left ≡ false) }
 
@@ -203,13 +219,18 @@ impl<I: Tokens> Parser<I> {
     pub fn parse_module_item(&mut self) -> PResult<ModuleItem>
         ensures limit { self.new.limit ≡ self.old.limit }
 
-        // Of any answer: with no fault recorded but what had been held back the tokens that were taken spell it within the limit, it
-        // is supported, and its walk is empty; where no error token was read and nothing was dropped, its tabled faults are its walk.
+        // Of any answer: with no fault recorded but what had been held back, and nothing held back by decorators before its word, the
+        // tokens that were taken spell it within the limit, it is supported, and its walk is empty; where no error token was read and
+        // nothing was dropped, its tabled faults are its walk.
         ensures sound { IfOk result (λ x. SoundItemAlone self.old.limit (unmarked self.old.state) (view_module_item x) self.new.state) }
 
         // Each supported item within the limit that tokens from here on spell is the answer, and only it, with its walk recorded, and
         // with what had been held back, if it is an import or an export.
         ensures complete { CompleteItem view_module_item self.old.limit (unmarked self.old.state) result self.new.state }
+
+        // The same on tokens in order, unless memory ran out: a tree is the answer, read up to a place with nothing recorded but what
+        // had been held back, exactly where the tokens up to there spell it within the limit.
+        ensures decides { (from : ℕ) → Ordered from self.old.state.at → DecidesItem view_module_item self.old.limit (unmarked self.old.state) result self.new.state }
 
         // No token that an answer read is one that memory ran out for.
         ensures memory { IfOk result (λ x. has_out_of_memory_token self.new.state.at.left ≡ false → has_out_of_memory_token self.old.state.at.left ≡ false) }
@@ -245,6 +266,10 @@ impl<I: Tokens> Parser<I> {
 
         // Each supported tree within the limit that tokens from here on spell is the answer, and only it, with its walk recorded.
         ensures complete { CompleteStatement view_stmt self.old.limit false top_level (unmarked self.old.state) result self.new.state }
+
+        // Unless memory ran out: a tree is the answer, read up to a place with nothing recorded, exactly where the tokens up to there
+        // spell it within the limit.
+        ensures decides { DecidesStatement view_stmt self.old.limit false top_level (unmarked self.old.state) result self.new.state }
 
         // No token that an answer read is one that memory ran out for.
         ensures memory { IfOk result (λ x. has_out_of_memory_token self.new.state.at.left ≡ false → has_out_of_memory_token self.old.state.at.left ≡ false) }
@@ -283,6 +308,10 @@ impl<I: Tokens> Parser<I> {
 
         // Each supported tree within the limit that tokens from here on spell is the answer, and only it, with its walk recorded.
         ensures complete { CompleteStatement view_stmt self.old.limit true top_level (unmarked self.old.state) result self.new.state }
+
+        // Unless memory ran out: a tree is the answer, read up to a place with nothing recorded, exactly where the tokens up to there
+        // spell it within the limit.
+        ensures decides { DecidesStatement view_stmt self.old.limit true top_level (unmarked self.old.state) result self.new.state }
 
         // No token that an answer read is one that memory ran out for.
         ensures memory { IfOk result (λ x. has_out_of_memory_token self.new.state.at.left ≡ false → has_out_of_memory_token self.old.state.at.left ≡ false) }

@@ -36,14 +36,14 @@ pub(crate) fn program_body<I: Tokens, T: BuildsStatements + BuildsExport + Build
 {
     let start = state.span();
     let shebang = state.shebang()?;
-    let before = statements::<State<I>, T>(t, state, limit)?;
+    let front = statements::<State<I>, T>(t, state, limit)?;
     if is_script(state) {
         let span = since(state, start);
         state.leave_program(outer);
-        return Ok(T::script_program(T::script(span, before, shebang)));
+        return Ok(T::script_program(T::script(span, front.before, shebang)));
     }
     state.enter_module();
-    let body = items_from::<State<I>, T>(t, state, limit, before)?;
+    let body = items_from::<State<I>, T>(t, state, limit, front)?;
     let span = since(state, start);
     Ok(T::module_program(T::module(span, body, shebang)))
 }

@@ -1,5 +1,5 @@
 -- What kind of tree a value of the tree types stands for.
-use Rattle.std.proofs.Common.{◌≡◌, Bool, true, false, refl, ap, ◌∙◌, true≢false}
+use Rattle.std.proofs.Common.{◌≡◌, Bool, true, false, refl, ap, true≢false}
 use Rattle.swc_ecma_parser_common.specs.declared.span.Span.{Span}
 use Rattle.swc_ecma_parser_model.specs.Tree.{Tree, Text, ident, member, super_prop, paren, block, arrow}
 use Rattle.swc_ecma_parser_model.specs.Directive.{is_string_statement, is_use_strict}
@@ -8,10 +8,8 @@ use Rattle.swc_ecma_parser_model.specs.Held.{Held}
 use Rattle.swc_ecma_parser_model.specs.Kinds.{is_expr, is_module_decl}
 use Rattle.swc_ecma_parser_model.specs.Within.{is_block_arrow}
 use Rattle.swc_ecma_parser_ast.specs.Parts.{marked, as_expr}
-use Rattle.swc_ecma_parser_ast.specs.View.{view_expr, view_stmt, view_module_decl}
-use Rattle.swc_ecma_parser_ast.proofs.Apart.{kind_expr}
+use Rattle.swc_ecma_parser_ast.specs.View.{view_stmt, view_module_decl}
 use Rattle.swc_ecma_parser_ast.specs.declared.decl.Decl.TheVariants as v_decl
-use Rattle.swc_ecma_parser_ast.specs.declared.expr.Expr.{Expr}
 use Rattle.swc_ecma_parser_ast.specs.declared.program.ModuleDecl.{ModuleDecl}
 use Rattle.swc_ecma_parser_ast.specs.declared.program.ModuleDecl.TheVariants as v_module_decl
 use Rattle.swc_ecma_parser_ast.specs.declared.stmt.Stmt.{Stmt}

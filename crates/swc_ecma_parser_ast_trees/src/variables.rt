@@ -4,7 +4,9 @@ ghost use Rattle.swc_ecma_parser_ast_parts.specs.View.{view_made};
 
 use crate::Ast;
 use std::alloc::{AllocError, Global};
-use swc_ecma_parser_ast::{Decl, Pat, Span, Spanned, Stmt, VarDecl, VarDeclKind, VarDeclarator};
+use swc_ecma_parser_ast::{
+    Decl, Expr, Pat, Span, Spanned, Stmt, VarDecl, VarDeclKind, VarDeclarator,
+};
 use swc_ecma_parser_ast_parts::made::Made;
 use swc_ecma_parser_trees::BuildsVariables;
 
@@ -56,5 +58,16 @@ impl BuildsVariables for Ast {
 
     fn is_initialized(declarator: &VarDeclarator) -> bool {
         declarator.init.is_some()
+    }
+
+    #[tactic(auto, using(swc_ecma_parser_ast_parts::proofs::Kind::as_expr_view, crate::proofs::Kind::as_expr_not_name))]
+    fn awaits_name(expr: &Made, name: &str) -> bool {
+        match expr.get() {
+            Expr::Await(x) => match x.arg.get() {
+                Some(Expr::Ident(ident)) => ident.sym.as_str() == name,
+                _ => false,
+            },
+            _ => false,
+        }
     }
 }

@@ -1,5 +1,5 @@
 -- What is asked of a reader of expressions, in so many levels.
-use Rattle.std.proofs.Common.{◌≡◌, ◌≢◌, ℕ, Result, Err, sym, ap, subst, ◌∙◌}
+use Rattle.std.proofs.Common.{◌≡◌, ◌≢◌, ℕ, ◌-◌, ◌<◌, Result, Err, sym, ap, subst, ◌∙◌}
 use Rattle.swc_ecma_parser_error.specs.declared.error.Error.{Error}
 use Rattle.swc_ecma_parser_error.specs.Kind as faults
 use Rattle.swc_ecma_parser_error.specs.Kind.{Fault, fault_of, kind_of}
@@ -12,23 +12,28 @@ use Rattle.swc_ecma_parser_reader.specs.Classes.{class_of}
 use Rattle.swc_ecma_parser_reader.specs.DecoratorLevels.{decorated_in}
 use Rattle.swc_ecma_parser_reader.specs.Members.{class_expr}
 use Rattle.swc_ecma_parser_reader.specs.Reader as rules
-use Rattle.swc_ecma_parser_reader.proofs.expressions.Loops.{cover_lowest, head_lowest, behind_lowest}
+use Rattle.swc_ecma_parser_reader.proofs.expressions.Loops.{cover_lowest, head_lowest, behind_lowest, cover_above, head_above, behind_above}
 use Rattle.swc_ecma_parser_inner.specs.declared.cover.Reading.{Reading}
 use Rattle.swc_ecma_parser_inner.specs.declared.cover.Reading.TheVariants as reading
 use Rattle.swc_ecma_parser_inner.specs.Covers.{read}
-use Rattle.swc_ecma_parser_core.specs.Covering.{covered}
+use Rattle.swc_ecma_parser_core.specs.Covering.{covered, covered_level}
 use Rattle.swc_ecma_parser_core.specs.declared.covering.Covering.{Covering}
 use Rattle.swc_ecma_parser_core.specs.declared.covering.Covering.TheVariants as covering
 use Rattle.swc_ecma_parser_core.proofs.Refusals.{too_deep_as}
+use Rattle.swc_ecma_parser_reader.proofs.AwaitWords.{await_lowest, await_above}
 
 module _ (n : ℕ) (s : State) where
   pub covered_refused : (place : Covering) (e : Fault × State) → n ≡ 0 → ◌≡◌ {A = Outcome Tree} (too_deep s) (Err e) → covered n place s ≡ Err e
   covered_refused covering.Whole e h k = cover_lowest n s h ∙ too_deep_as {A = Tree} {B = exprs.Cover} s e k
   covered_refused covering.Head e h k = head_lowest n s h ∙ too_deep_as {A = Tree} {B = exprs.Cover} s e k
   covered_refused (covering.Behind start) e h k = behind_lowest n start s h ∙ too_deep_as {A = Tree} {B = exprs.Cover} s e k
+  covered_refused (covering.BehindAwait start) e h k = await_lowest n start s h ∙ too_deep_as {A = Tree} {B = exprs.Cover} s e k
 
-  pub as_covered : (place other : Covering) (o : Outcome exprs.Cover) → place ≡ other → covered n other s ≡ o → covered n place s ≡ o
-  as_covered place other o e h = ap (λ a. covered n a s) e ∙ h
+  pub covered_above : (place : Covering) → 0 < n → covered n place s ≡ covered_level (n - 1) place s
+  covered_above covering.Whole h = cover_above n s h
+  covered_above covering.Head h = head_above n s h
+  covered_above (covering.Behind start) h = behind_above n start s h
+  covered_above (covering.BehindAwait start) h = await_above n start s h
 
   -- a class that is an expression, as what is read with it
   pub read_class : (asked : Reading) (o : Outcome Tree) → asked ≡ reading.Class → class_expr (rules.expr n left_side) (rules.member n) s ≡ o → read n asked s ≡ and_then o (λ x. pure (exprs.done x))

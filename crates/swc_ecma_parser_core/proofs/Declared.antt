@@ -1,7 +1,6 @@
 -- A declaration of a function, of `var` or of a class is the statement that stands there.
-use Rattle.std.proofs.Common.{◌≡◌, ◌≢◌, ℕ, ◌-◌, ◌<◌, Bool, true, false, [], refl, sym, ◌∙◌}
+use Rattle.std.proofs.Common.{◌≡◌, ◌≢◌, ℕ, ◌-◌, ◌<◌, Bool, true, false, refl, ◌∙◌, List, [], sym}
 use Rattle.std.specs.Prelude.{◌&&◌, ◌||◌}
-use Rattle.swc_ecma_parser_common.specs.declared.span.Span.{Span}
 use Rattle.swc_ecma_parser_token.specs.declared.kind.TokenKind.TheVariants as kind
 use Rattle.swc_ecma_parser_model.specs.declared.leaves.VarDeclKind.TheVariants as decl
 use Rattle.swc_ecma_parser_input.specs.Place.{Place}
@@ -10,19 +9,22 @@ use Rattle.swc_ecma_parser_grammar.specs.Follows.{is_async_function}
 use Rattle.swc_ecma_parser_grammar.specs.Looks.{kind_at, same_kind, sees}
 use Rattle.swc_ecma_parser_grammar.specs.Reads.{nested_item}
 use Rattle.swc_ecma_parser_grammar.specs.language.Goals.{left_side}
-use Rattle.swc_ecma_parser_reader.specs.State.{State}
+use Rattle.swc_ecma_parser_reader.specs.State.{State, Reader}
 use Rattle.swc_ecma_parser_reader.specs.Decorators.{Leading}
 use Rattle.swc_ecma_parser_reader.specs.DecoratedStatements.{begins_declared, declared_behind, decorated_stmt}
-use Rattle.swc_ecma_parser_reader.specs.Dressed.{class_stmt_with, function_parts_with, function_decl_with, function_stmt_with, plain_stmt}
-use Rattle.swc_ecma_parser_reader.specs.Reader.{expr, pattern, head_cover, decorated_in, stmt, member, parameters, variables, function_parts, function_decl, stmt_level, function_stmt, async_or_other}
+use Rattle.swc_ecma_parser_reader.specs.Dressed.{class_stmt_with, function_decl_with, function_stmt_with, function_parts_with}
+use Rattle.swc_ecma_parser_reader.specs.Reader.{expr, pattern, head_cover, decorated_in, stmt, member, parameters, variables, function_decl, stmt_level, function_stmt, async_or_other, declarators, nests, plain_stmt, function_parts}
 use Rattle.swc_ecma_parser_reader.specs.Members.{class_stmt}
 use Rattle.swc_ecma_parser_reader.proofs.Meets.{saw}
 use Rattle.swc_ecma_parser_reader.proofs.Words.{async_kind}
 use Rattle.swc_ecma_parser_reader.proofs.Loops.{stmt_above}
 use Rattle.swc_ecma_parser_reader.proofs.decorators.Declared.{level_class}
-use Rattle.swc_ecma_parser_reader.proofs.decorators.Dressed.{function_parts_plain, behind_class, behind_function, behind_async}
+use Rattle.swc_ecma_parser_reader.proofs.decorators.Dressed.{behind_class, behind_function, behind_async, function_parts_plain}
 use Rattle.swc_ecma_parser_reader.proofs.decorators.Either.{either_decorated, either_plain}
 use Rattle.swc_ecma_parser_reader.proofs.expressions.SoundSteps.{unseen}
+use Rattle.swc_ecma_parser_reader.proofs.First.{first_at}
+use Rattle.swc_ecma_parser_model.specs.Tree.{Tree}
+use Rattle.swc_ecma_parser_common.specs.declared.span.Span.{Span}
 
 -- behind decorators, or without
 pub decorated_is_stmt : (n : ℕ) (at : Position) (s : State) → 0 < n → sees kind.At s.at && s.code.setting.decorators ≡ true → stmt n at s ≡ decorated_stmt (plain_stmt (n - 1)) (decorated_in (n - 1)) at s
@@ -31,40 +33,49 @@ decorated_is_stmt n at s h e = stmt_above n at s h ∙ either_decorated (plain_s
 pub plain_is_stmt : (n : ℕ) (at : Position) (s : State) → 0 < n → sees kind.At s.at && s.code.setting.decorators ≡ false → stmt n at s ≡ plain_stmt (n - 1) at s
 plain_is_stmt n at s h e = stmt_above n at s h ∙ either_plain (plain_stmt (n - 1)) (decorated_in (n - 1)) at s e
 
+-- the two readers of a statement without decorators
+abbrev found : ℕ → Reader (List Tree)
+found n = declarators (expr n) (pattern n) false decl.Var
+
+abbrev rest : ℕ → Position → Reader Tree
+rest n = stmt_level (stmt n) (expr n) (pattern n) (head_cover n) (parameters n) (member n)
+
 pub var_is_stmt : (n : ℕ) (at : Position) (s : State) → sees kind.Var s.at ≡ true → plain_stmt n at s ≡ variables (expr n) (pattern n) decl.Var s
-unfolding stmt_level
-var_is_stmt n at s e = rw (saw s.at kind.Var e) refl
+unfolding stmt_level same_kind
+var_is_stmt n at s e = first_at (found n) (nests n) (rest n) at kind.Var s (saw s.at kind.Var e) refl ∙ rw (saw s.at kind.Var e) refl
 
 pub function_is_stmt : (n : ℕ) (at : Position) (s : State) → at.include_decl ≡ true → sees kind.Function s.at || is_async_function s.at ≡ true
     → plain_stmt n at s ≡ function_decl (stmt n nested_item) (parameters n) s
-unfolding stmt_level function_stmt async_or_other
+unfolding stmt_level function_stmt async_or_other same_kind
 function_is_stmt n at s d e = by_word (sees kind.Function s.at) (is_async_function s.at) refl refl e
   where
     by_word : (a b : Bool) → sees kind.Function s.at ≡ a → is_async_function s.at ≡ b → (a || b) ≡ true → plain_stmt n at s ≡ function_decl (stmt n nested_item) (parameters n) s
-    by_word true b f g i = rw (saw s.at kind.Function f, d) refl
-    by_word false true f g i = rw (async_kind s.at g, g) refl
+    by_word true b f g i = first_at (found n) (nests n) (rest n) at kind.Function s (saw s.at kind.Function f) refl ∙ rw (saw s.at kind.Function f, d) refl
+    by_word false true f g i = first_at (found n) (nests n) (rest n) at kind.Ident s (async_kind s.at g) refl ∙ rw (async_kind s.at g, g) refl
     by_word false false f g i = cc
 
 pub class_is_stmt : (n : ℕ) (at : Position) (s : State) → sees kind.Class s.at ≡ true → plain_stmt n at s ≡ class_stmt (expr n left_side) (member n) at s
-class_is_stmt n at s e = level_class (stmt n) (expr n) (pattern n) (head_cover n) (parameters n) (member n) at s (saw s.at kind.Class e)
-
--- ---- what takes decorators
+unfolding same_kind
+class_is_stmt n at s e = first_at (found n) (nests n) (rest n) at kind.Class s (saw s.at kind.Class e) refl
+    ∙ level_class (stmt n) (expr n) (pattern n) (head_cover n) (parameters n) (member n) at s (saw s.at kind.Class e)
 
 -- a function without them
 pub function_undecorated : (n : ℕ) (is_async is_generator : Bool) (start : Span) (s : State) → function_parts (stmt n nested_item) (parameters n) is_async is_generator start s
     ≡ function_parts_with (stmt n nested_item) (parameters n) [] is_async is_generator start s
 function_undecorated n is_async is_generator start s = sym (function_parts_plain (stmt n nested_item) (parameters n) is_async is_generator start s)
 
+-- ---- what takes decorators
+
 pub class_takes : (n : ℕ) (at : Position) (v : Leading) (s : State) → sees kind.Class s.at ≡ true → declared_behind (plain_stmt n) at v s ≡ class_stmt_with (expr n left_side) (member n) at v s
-class_takes n at v s e = behind_class (stmt n) (expr n) (pattern n) (head_cover n) (parameters n) (member n) at v s (saw s.at kind.Class e)
+class_takes n at v s e = behind_class (stmt n) (expr n) (pattern n) (head_cover n) (parameters n) (member n) (found n) (nests n) at v s (saw s.at kind.Class e)
 
 pub function_takes : (n : ℕ) (at : Position) (v : Leading) (s : State) → sees kind.Function s.at ≡ true → declared_behind (plain_stmt n) at v s ≡ function_stmt_with (stmt n nested_item) (parameters n) at v s
-function_takes n at v s e = behind_function (stmt n) (expr n) (pattern n) (head_cover n) (parameters n) (member n) at v s (saw s.at kind.Function e)
+function_takes n at v s e = behind_function (stmt n) (expr n) (pattern n) (head_cover n) (parameters n) (member n) (found n) (nests n) at v s (saw s.at kind.Function e)
 
 pub async_takes : (n : ℕ) (at : Position) (v : Leading) (s : State) → begins_declared s.at ≡ true → sees kind.Class s.at ≡ false → sees kind.Function s.at ≡ false
     → declared_behind (plain_stmt n) at v s ≡ function_decl_with (stmt n nested_item) (parameters n) v.found s
 unfolding begins_declared
-async_takes n at v s h a f = behind_async (stmt n) (expr n) (pattern n) (head_cover n) (parameters n) (member n) at v s (last (sees kind.Class s.at) (sees kind.Function s.at) (is_async_function s.at) h a f)
+async_takes n at v s h a f = behind_async (stmt n) (expr n) (pattern n) (head_cover n) (parameters n) (member n) (found n) (nests n) at v s (last (sees kind.Class s.at) (sees kind.Function s.at) (is_async_function s.at) h a f)
   where
     last : (a b c : Bool) → (a || (b || c)) ≡ true → a ≡ false → b ≡ false → c ≡ true
     last true b c h e g = cc

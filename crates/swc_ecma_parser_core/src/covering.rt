@@ -11,4 +11,6 @@ pub enum Covering {
     Head,
     /// There too, but for the word `async` that it begins with, which was taken: its span.
     Behind(Span),
+    /// At the beginning of a statement, but for the word `await`, which was taken: its span.
+    BehindAwait(Span),
 }

@@ -22,9 +22,9 @@ ghost use Rattle.swc_ecma_parser_reader.specs.Reader as rules;
 ghost use Rattle.swc_ecma_parser_reader.specs.State.{GivesAs};
 
 use crate::covering::Covering;
+use crate::levels::{cover_level, plain_level};
 use swc_ecma_parser_classes::class::{ClassGrammar, NamedClass, class_decl_with, class_expr_with};
 use swc_ecma_parser_common::Span;
-use swc_ecma_parser_control::stmt::level;
 use swc_ecma_parser_error::{PResult, SyntaxError};
 use swc_ecma_parser_functions::function::{Manner, function_parts_with, function_word, star};
 use swc_ecma_parser_grammar::{Class, Position};
@@ -35,7 +35,6 @@ use swc_ecma_parser_literals::object::object_level;
 use swc_ecma_parser_members::decorators::{Leading, leading_decorators, misplaced};
 use swc_ecma_parser_members::member::member_level;
 use swc_ecma_parser_model::VarDeclKind;
-use swc_ecma_parser_operators::assignment::{cover_expr, head_behind_async, head_expr};
 use swc_ecma_parser_operators::decorator::decorated_level;
 use swc_ecma_parser_operators::operator::expr_level;
 use swc_ecma_parser_patterns::pat::{element_level, pattern_level};
@@ -73,7 +72,7 @@ pub fn plain_stmt<P: Source, T: BuildsStatements>(
     depth: usize,
     at: Position,
 ) -> PResult<T::Stmt>
-    ensures { GivesAs T.stmt_of (dressed.plain_stmt depth at (P.seen p.old)) result (P.seen p.new) }
+    ensures { GivesAs T.stmt_of (rules.plain_stmt depth at (P.seen p.old)) result (P.seen p.new) }
 {
     if at.include_decl && begins_function(p) {
         let decl = declared_function::<P, T>(t, p, depth)?;
@@ -91,7 +90,7 @@ pub fn plain_stmt<P: Source, T: BuildsStatements>(
         expr: expr::<P, T>,
         pat: pat::<P, T>,
     };
-    level(&g, t, p, at)
+    plain_level(&g, t, p, at)
 }
 
 /// Whether decorators begin here.
@@ -138,7 +137,7 @@ fn decorated_stmt<P: Source, T: BuildsStatements>(
     depth: usize,
     at: Position,
 ) -> PResult<T::Stmt>
-    ensures { GivesAs T.stmt_of (behind.decorated_stmt (dressed.plain_stmt depth) (decorated_in depth) at (P.seen p.old)) result (P.seen p.new) }
+    ensures { GivesAs T.stmt_of (behind.decorated_stmt (rules.plain_stmt depth) (decorated_in depth) at (P.seen p.old)) result (P.seen p.new) }
 {
     let list = leading::<P, T>(t, p, depth)?;
     stmt_behind::<P, T>(t, p, depth, at, list)
@@ -155,7 +154,7 @@ pub fn stmt_behind<P: Source, T: BuildsStatements>(
     at: Position,
     list: Leading<T::Decorator>,
 ) -> PResult<T::Stmt>
-    ensures { GivesAs T.stmt_of (behind.stmt_behind (dressed.plain_stmt depth) at (leading_of T.decorator_of list) (P.seen p.old)) result (P.seen p.new) }
+    ensures { GivesAs T.stmt_of (behind.stmt_behind (rules.plain_stmt depth) at (leading_of T.decorator_of list) (P.seen p.old)) result (P.seen p.new) }
 {
     if begins_declared(p) {
         return declared_behind::<P, T>(t, p, depth, at, list);
@@ -177,7 +176,7 @@ fn declared_behind<P: Source, T: BuildsStatements>(
     list: Leading<T::Decorator>,
 ) -> PResult<T::Stmt>
     requires { behind.begins_declared (P.seen p.now).at ≡ true }
-    ensures { GivesAs T.stmt_of (behind.declared_behind (dressed.plain_stmt depth) at (leading_of T.decorator_of list) (P.seen p.old)) result (P.seen p.new) }
+    ensures { GivesAs T.stmt_of (behind.declared_behind (rules.plain_stmt depth) at (leading_of T.decorator_of list) (P.seen p.old)) result (P.seen p.new) }
 {
     if p.sees(TokenKind::Class) {
         return class_statement_with::<P, T>(t, p, depth, at, list);
@@ -200,7 +199,7 @@ fn exported_behind<P: Source, T: BuildsStatements>(
     at: Position,
     list: &Leading<T::Decorator>,
 ) -> PResult<T::Stmt>
-    ensures { GivesAs T.stmt_of (behind.exported_behind (dressed.plain_stmt depth) at (leading_of T.decorator_of list.now) (P.seen p.old)) result (P.seen p.new) }
+    ensures { GivesAs T.stmt_of (behind.exported_behind (rules.plain_stmt depth) at (leading_of T.decorator_of list.now) (P.seen p.old)) result (P.seen p.new) }
 {
     let flags = p.flags();
     if (flags.in_class || flags.in_function) || p.decorators_before_export() {
@@ -219,7 +218,7 @@ fn other_behind<P: Source, T: BuildsStatements>(
     at: Position,
     list: &Leading<T::Decorator>,
 ) -> PResult<T::Stmt>
-    ensures { GivesAs T.stmt_of (behind.other_behind (dressed.plain_stmt depth) at (leading_of T.decorator_of list.now) (P.seen p.old)) result (P.seen p.new) }
+    ensures { GivesAs T.stmt_of (behind.other_behind (rules.plain_stmt depth) at (leading_of T.decorator_of list.now) (P.seen p.old)) result (P.seen p.new) }
 {
     if p.sees(TokenKind::Error) {
         return Err(p.wanted(Wanted::Expression));
@@ -246,6 +245,9 @@ pub fn expr<P: Source, T: BuildsStatements>(
         Reading::Decorated => Ok(done(decorated::<P, T>(t, p, depth)?)),
         Reading::Object => Ok(done(object_alone::<P, T>(t, p, depth)?)),
         Reading::Behind(start) => covered::<P, T>(t, p, depth, Covering::Behind(start)),
+        Reading::BehindAwait(start) => {
+            covered::<P, T>(t, p, depth, Covering::BehindAwait(start))
+        }
     }
 }
 
@@ -293,11 +295,7 @@ fn covered<P: Source, T: BuildsStatements>(
         expr: expr::<P, T>,
         pat: pat::<P, T>,
     };
-    match place {
-        Covering::Whole => cover_expr(&g, t, p),
-        Covering::Head => head_expr(&g, t, p),
-        Covering::Behind(start) => head_behind_async(&g, t, p, start),
-    }
+    cover_level(&g, t, p, place)
 }
 
 /// What stands behind the `@` of a decorator, in so many levels.

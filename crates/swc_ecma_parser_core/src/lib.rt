@@ -4,4 +4,5 @@
 
 pub mod covering;
 pub mod grammar;
+mod levels;
 pub mod script;

@@ -234,7 +234,7 @@ module _ (inner : Class → Reader Tree) (covers : Reader Cover) where
     unfolding prefixed await_expr
     unary_by_no_block (Some op) s = always NoBlock (inner unary (moved s)) _ (λ x t b. refl)
     unary_by_no_block None s = meets_if NoBlock (awaits s.code.flags s.at) _ _
-        (λ _. always NoBlock (await_allowed s) _ (λ _ t. always NoBlock (inner unary (moved t)) _ (λ x u b. refl)))
+        (λ _. always NoBlock (await_allowed (span_at s.at) s) _ (λ _ t. always NoBlock (inner unary (moved t)) _ (λ x u b. refl)))
         (λ _. updated_no_block (update_operator (kind_at s.at)) s)
 
     operators_no_block : (s : State) → Meets NoBlock (operators_expr inner covers function s)

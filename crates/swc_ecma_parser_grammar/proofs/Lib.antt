@@ -4,6 +4,7 @@ pub mod SupportedIn
 pub mod SupportedBegins
 pub mod Ended
 pub mod UsingParts
+pub mod AwaitHeads
 pub mod Marks
 pub mod Decorated
 pub mod Widens
@@ -36,5 +37,6 @@ mod ReadWithFaults
 pub mod ExpressionBegins
 pub mod StatementBegins
 pub mod Using
+pub mod AwaitUsing
 mod UnspelledStatements
 mod UnspelledItems

@@ -9,7 +9,7 @@ use Rattle.std.specs.Prelude.{not, ◌&&◌, ◌||◌, if◌then◌else◌}
 use Rattle.std.specs.List.{list_any}
 use Rattle.swc_ecma_parser_error.specs.Kind.{Fault}
 use Rattle.swc_ecma_parser_token.specs.declared.kind.TokenKind.TheVariants as kind
-use Rattle.swc_ecma_parser_grammar.specs.Follows.{is_async_function, word_at, Star, AsyncWord, AwaitWord, no_await, await_word}
+use Rattle.swc_ecma_parser_grammar.specs.Follows.{is_async_function, word_at, Star, AsyncWord}
 use Rattle.swc_ecma_parser_input.specs.Place.{Place, after}
 use Rattle.swc_ecma_parser_model.specs.declared.leaves.VarDeclKind.{VarDeclKind}
 use Rattle.swc_ecma_parser_model.specs.declared.leaves.VarDeclKind.TheVariants as decl
@@ -19,7 +19,7 @@ use Rattle.swc_ecma_parser_model.specs.Directive.{is_use_strict}
 use Rattle.swc_ecma_parser_grammar.specs.declared.position.Position.{Position}
 use Rattle.swc_ecma_parser_grammar.specs.Looks.{kind_at, sees, same_kind, spanned, breaks_at}
 use Rattle.swc_ecma_parser_grammar.specs.Names.{Code}
-use Rattle.swc_ecma_parser_grammar.specs.Reads.{with_in, directed, directs_on, nested_item, top_item, DeclaratorRule, plain_rule, initialized_rule, ReadsSeparated, ReadsItems, StmtRule, block_rule, empty_rule, debugger_rule, variables_rule, using_rule, if_statement_rule, TargetRule, no_target_rule, target_rule, OperandRule, no_operand_rule, operand_rule, break_rule, continue_rule, return_rule, case_clause_rule, default_clause_rule, ReadsCases, switch_rule, throw_rule, try_rule, with_rule, while_rule, do_while_rule, expr_rule, import_rule, ReadsBlock, CatchRule, no_catch_rule, catch_rule, catch_parameter_rule, FinallyRule, no_finally_rule, finally_rule, ReadsHead, IfRule, if_rule, ElseRule, no_else_rule, else_rule, else_if_rule, ReadsBraced, ReadsFunction, class_rule, function_rule, labeled_rule, head_code, HeadVariables, InitRule, no_init_rule, init_variables_rule, init_expression_rule, LeftRule, declared_rule, left_target_rule, for_in_rule, for_of_rule, PartRule, no_part_rule, part_rule, for_rule, OfLeftRule, of_left_rule, of_using_rule}
+use Rattle.swc_ecma_parser_grammar.specs.Reads.{with_in, directed, directs_on, nested_item, top_item, DeclaratorRule, plain_rule, initialized_rule, ReadsSeparated, ReadsItems, StmtRule, block_rule, empty_rule, debugger_rule, variables_rule, using_rule, if_statement_rule, TargetRule, no_target_rule, target_rule, OperandRule, no_operand_rule, operand_rule, break_rule, continue_rule, return_rule, case_clause_rule, default_clause_rule, ReadsCases, switch_rule, throw_rule, try_rule, with_rule, while_rule, do_while_rule, expr_rule, import_rule, ReadsBlock, CatchRule, no_catch_rule, catch_rule, catch_parameter_rule, FinallyRule, no_finally_rule, finally_rule, ReadsHead, IfRule, if_rule, ElseRule, no_else_rule, else_rule, else_if_rule, ReadsBraced, ReadsFunction, class_rule, function_rule, labeled_rule, head_code, HeadVariables, InitRule, no_init_rule, init_variables_rule, init_expression_rule, LeftRule, declared_rule, left_target_rule, for_in_rule, for_of_rule, PartRule, no_part_rule, part_rule, for_rule, OfLeftRule, of_left_rule, of_using_rule, of_await_rule}
 use Rattle.swc_ecma_parser_grammar.specs.Entries.{ReadsScript, ReadsShebang, some_shebang, no_shebang, script_code, items_await, script_awaits}
 use Rattle.swc_ecma_parser_grammar.specs.Using.{misused, each_misused}
 use Rattle.swc_ecma_parser_grammar.specs.Notes.{notes, all_notes, statement_note, with_note}
@@ -42,10 +42,11 @@ use Rattle.swc_ecma_parser_grammar.specs.language.Programs as programs
 use Rattle.swc_ecma_parser_grammar.specs.language.Programs.{ReadsEntry}
 use Rattle.swc_ecma_parser_grammar.proofs.Tests.{and_yes}
 use Rattle.swc_ecma_parser_grammar.proofs.SupportedIn.{strict_module, head_module}
-use Rattle.swc_ecma_parser_grammar.proofs.SupportedBegins.{refuted, supported_as}
+use Rattle.swc_ecma_parser_grammar.proofs.SupportedBegins.{supported_as}
 use Rattle.swc_ecma_parser_grammar.proofs.Unnoted.{Quiet, quiet_first, quiet_last, quiet_as}
 use Rattle.swc_ecma_parser_grammar.proofs.Naming.{name_is_name}
 use Rattle.swc_ecma_parser_grammar.proofs.UsingParts.{undeclared, so_set, bound, bound_stands, in_head_declares}
+use Rattle.swc_ecma_parser_grammar.proofs.AwaitHeads.{await_using_narrows}
 use Rattle.swc_ecma_parser_grammar.proofs.Widens.{saw, stands_there, value_stands, parameters_same}
 use Rattle.swc_ecma_parser_grammar.proofs.language.Asked.{or_left, or_right}
 
@@ -99,25 +100,13 @@ module _ (n : ℕ) (k : Code) where
   declarators_used s (x ∷ []) c d (r, e) = ap (λ fs. fs ++ []) (declarator_used s x c d r)
   declarators_used s (x ∷ y ∷ ys) c d (m, r, e, rs) = ap (λ fs. fs ++ each_misused s (y ∷ ys)) (declarator_used s x c m r) ∙ declarators_used s (y ∷ ys) (after m) d rs
 
-  using_narrows : (at : Position) (x : Tree) (c d word : Place) (r : declarations.UsingRule (Reads n) k at x c d) → supported_in k.flags.module x ≡ true → AwaitWord r.is_await c word → word ≡ r.word
+  using_narrows : (at : Position) (x : Tree) (c d : Place) → declarations.UsingRule (Reads n) k at x c d → supported_in k.flags.module x ≡ true
       → StmtRule (ReadsStmt n) (ReadsClass n) (ReadsPat n) (ReadsTarget n) (ReadsParams n) (ReadsNamedClass n) k at x c d
-  using_narrows at x c d word r h (await_word e i g) w = absurd (true≢false (sym (and_yes (not r.is_await) _ (supported_as _ x (tree.using (spanned c d) r.is_await (listed r.declarators)) r.is h)).0 ∙ ap not e))
-  using_narrows at x c d word r h (no_await e g) w =
-      let f = and_yes (not r.is_await) _ (supported_as _ x (tree.using (spanned c d) r.is_await (listed r.declarators)) r.is h) in
-      let p : c ≡ r.word = sym g ∙ w in
-      using_rule r.declarators (placed at r.is_await e r.has_place) (rw p r.begins)
-      (separated_narrow k.flags.module (declarations.UsingDeclaratorRule (Reads n) k) (DeclaratorRule (ReadsClass n assignment) (ReadsPat n) (with_in k) false decl.Var) using_declarator_narrows r.declarators
-      (after c) d (subst (λ z. ReadsSeparated (declarations.UsingDeclaratorRule (Reads n) k) r.declarators (after z) d) (sym p) r.reads) f.1)
-      (so_set k.setting.explicit_resource_management (spanned c d) r.declarators r.is_read (declarators_used (spanned c d) r.declarators (after r.word) d r.reads))
-      (r.is ∙ ap (λ b. tree.using (spanned c d) b (listed r.declarators)) e)
-    where
-      placed : (at : Position) (b : Bool) → b ≡ false → at.include_decl || (b && at.top_level) ≡ true → at.include_decl ≡ true
-      placed at true e f = cc
-      placed at false e f = plain at.include_decl f
-        where
-          plain : (a : Bool) → a || false ≡ true → a ≡ true
-          plain true f = refl
-          plain false f = cc
+  using_narrows at x c d r h =
+      let f = supported_as _ x (tree.using (spanned c d) r.is_await (listed r.declarators)) r.is h in
+      using_rule r.is_await r.declarators r.word r.has_place r.reads_await r.begins
+      (separated_narrow k.flags.module (declarations.UsingDeclaratorRule (Reads n) k) (DeclaratorRule (ReadsClass n assignment) (ReadsPat n) (with_in k) false decl.Var) using_declarator_narrows r.declarators (after r.word) d r.reads f)
+      (so_set k.setting.explicit_resource_management (spanned c d) r.declarators r.is_read (declarators_used (spanned c d) r.declarators (after r.word) d r.reads)) r.is
 
 -- ---- the head of a `for`
 
@@ -145,9 +134,15 @@ of_left_narrows : (n : ℕ) (is_await : Bool) {k : Code} {x : Tree} {c d : Place
 of_left_narrows n is_await (heads.of_left_rule r i) h = of_left_rule (left_narrows n r h) i
 of_left_narrows n is_await {k = k} {x = x} {c = c} {d = d} (heads.of_using_rule i (heads.using_head_rule y r e)) h =
     let f = e ∙ ap (λ z. tree.using (spanned c d) false (listed (z ∷ []))) r.is in
-    let g = and_yes (supported_in k.flags.module (tree.declarator (spanned (after c) d) r.name tree.absent)) true (supported_as _ x (tree.using (spanned c d) false (listed (tree.declarator (spanned (after c) d) r.name tree.absent ∷ []))) f h) in
+    let g = and_yes (supported_in k.flags.module (tree.declarator (spanned (after c) d) r.name tree.absent)) true
+    (supported_as k.flags.module x (tree.using (spanned c d) false (listed (tree.declarator (spanned (after c) d) r.name tree.absent ∷ []))) f h) in
     of_using_rule r.name (in_head_declares k c i r.begins (bound_stands n k r.name (after c) d r.is_name r.reads_name) r.no_of) (r.reads_name, (and_yes (supported_in k.flags.module r.name) true g.0).0) r.is_name f
-of_left_narrows n is_await {k = k} {x = x} (heads.of_using_rule i (heads.await_using_head_rule y a b r e)) h = refuted _ x (ap (supported_in k.flags.module) e) h
+of_left_narrows n is_await {k = k} {x = x} {c = c} {d = d} (heads.of_using_rule i (heads.await_using_head_rule y a b r e)) h =
+    let q = await_using_narrows n k y c d a b r in
+    let f = e ∙ ap (λ z. tree.using (spanned c d) true (listed (z ∷ []))) q.is in
+    let g = and_yes (supported_in k.flags.module (tree.declarator (spanned (after (after c)) d) q.name tree.absent)) true
+    (supported_as k.flags.module x (tree.using (spanned c d) true (listed (tree.declarator (spanned (after (after c)) d) q.name tree.absent ∷ []))) f h) in
+    of_await_rule q.words q.name (after (after c)) i (q.reads_words, q.supports) q.are_words q.no_of (q.reads_name, (and_yes (supported_in k.flags.module q.name) true g.0).0) q.is_name f
 
 part_narrows : (n : ℕ) {k : Code} {x : Tree} {c d : Place} → heads.PartRule (Reads n) k x c d → supported_in k.flags.module x ≡ true → PartRule (ReadsClass n) k x c d
 part_narrows n (heads.no_part_rule g e) h = no_part_rule g e
@@ -410,7 +405,7 @@ module _ (n : ℕ) (narrow : (k : Code) (at : Position) (x : Tree) (c d : Place)
       function_narrows k at a name x y c m d q r i s s.reads_name b g.1 e
   form_narrows k at x c d o (statements.variables_rule word xs m i (b, r) g e) h =
       variables_rule word xs m i b (declarators_narrow n (with_in k) false word xs (after c) m r (supported_as _ x (tree.var (spanned c d) word (listed xs)) e h)) g e
-  form_narrows k at x c d o (statements.using_rule r) h = using_narrows n k at x c d r.word r h r.reads_await refl
+  form_narrows k at x c d o (statements.using_rule r) h = using_narrows n k at x c d r h
   form_narrows k at x c d o (statements.block_rule r) h = block_rule (block_narrows o r h)
   form_narrows k at x c d o (statements.empty_rule i n e) h = empty_rule i n e
   form_narrows k at x c d o (statements.debugger_rule i g e) h = debugger_rule i g e

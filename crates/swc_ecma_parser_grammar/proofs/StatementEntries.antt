@@ -17,7 +17,7 @@ use Rattle.swc_ecma_parser_grammar.specs.declared.position.Position.{Position}
 use Rattle.swc_ecma_parser_grammar.specs.Looks.{sees, span_at}
 use Rattle.swc_ecma_parser_grammar.specs.Names.{Code}
 use Rattle.swc_ecma_parser_grammar.specs.Notes.{notes, all_notes, statement_note}
-use Rattle.swc_ecma_parser_grammar.specs.Reads.{with_in, directed, directs_on, nested_item, DeclaratorRule, plain_rule, initialized_rule, ReadsSeparated, ReadsItems, StmtRule, block_rule, empty_rule, debugger_rule, variables_rule, using_rule, if_statement_rule, TargetRule, no_target_rule, target_rule, OperandRule, no_operand_rule, operand_rule, break_rule, continue_rule, return_rule, labeled_rule, HeadVariables, InitRule, no_init_rule, init_variables_rule, init_expression_rule, LeftRule, declared_rule, left_target_rule, for_in_rule, for_of_rule, head_code, PartRule, no_part_rule, part_rule, for_rule, CaseRule, case_clause_rule, default_clause_rule, ReadsCases, switch_rule, throw_rule, try_rule, with_rule, while_rule, do_while_rule, expr_rule, import_rule, ReadsBlock, CatchRule, no_catch_rule, catch_rule, catch_parameter_rule, FinallyRule, no_finally_rule, finally_rule, ReadsHead, IfRule, if_rule, ElseRule, no_else_rule, else_rule, else_if_rule, ReadsBraced, ReadsFunction, class_rule, function_rule, OfLeftRule, of_left_rule, of_using_rule}
+use Rattle.swc_ecma_parser_grammar.specs.Reads.{with_in, directed, directs_on, nested_item, DeclaratorRule, plain_rule, initialized_rule, ReadsSeparated, ReadsItems, StmtRule, block_rule, empty_rule, debugger_rule, variables_rule, using_rule, if_statement_rule, TargetRule, no_target_rule, target_rule, OperandRule, no_operand_rule, operand_rule, break_rule, continue_rule, return_rule, labeled_rule, HeadVariables, InitRule, no_init_rule, init_variables_rule, init_expression_rule, LeftRule, declared_rule, left_target_rule, for_in_rule, for_of_rule, head_code, PartRule, no_part_rule, part_rule, for_rule, CaseRule, case_clause_rule, default_clause_rule, ReadsCases, switch_rule, throw_rule, try_rule, with_rule, while_rule, do_while_rule, expr_rule, import_rule, ReadsBlock, CatchRule, no_catch_rule, catch_rule, catch_parameter_rule, FinallyRule, no_finally_rule, finally_rule, ReadsHead, IfRule, if_rule, ElseRule, no_else_rule, else_rule, else_if_rule, ReadsBraced, ReadsFunction, class_rule, function_rule, OfLeftRule, of_left_rule, of_using_rule, of_await_rule}
 use Rattle.swc_ecma_parser_grammar.specs.Decorated.{declared_class, declared_function, DecoratedRule, EitherRule, plain_statement, decorated_statement}
 use Rattle.swc_ecma_parser_grammar.specs.Supported.{supported, supported_in, all_supported_in}
 use Rattle.swc_ecma_parser_grammar.specs.ReadsSupported.{ReadsClass, ReadsPat, ReadsTarget, ReadsStmt, ReadsTop, ReadsParams, ReadsNamedClass, ReadsDecorators, ReadsDeclared}
@@ -69,6 +69,7 @@ left_unnoted n {x = x} {c = c} {d = d} o (left_target_rule h r) = pattern_unnote
 of_left_unnoted : (n : ℕ) {w : Bool} {k : Code} {x : Tree} {c d : Place} → k.flags.module ≡ true → OfLeftRule (ReadsClass n) (ReadsPat n) (ReadsTarget n) k w x c d → notes x ≡ []
 of_left_unnoted n o (of_left_rule r i) = left_unnoted n o r
 of_left_unnoted n {k = k} {c = c} {d = d} o (of_using_rule name h r i e) = ap notes e ∙ rw (pattern_unnoted n binding k name (after c) d o r.0 r.1) refl
+of_left_unnoted n {k = k} {d = d} o (of_await_rule y name m s r u h q i e) = ap notes e ∙ rw (pattern_unnoted n binding k name m d o q.0 q.1) refl
 
 part_unnoted : (n : ℕ) {k : Code} {x : Tree} {c d : Place} → k.flags.module ≡ true → PartRule (ReadsClass n) k x c d → notes x ≡ []
 part_unnoted n o (no_part_rule g e) = ap notes e
@@ -146,7 +147,7 @@ module _ (n : ℕ) (small : (k : Code) (at : Position) (x : Tree) (c d : Place) 
   rule_unnoted k at x c d o (empty_rule h g e) = ap notes e
   rule_unnoted k at x c d o (debugger_rule h g e) = ap notes e
   rule_unnoted k at x c d o (variables_rule word xs m a h r g e) = ap notes e ∙ declarators_unnoted n (with_in k) false word xs (after c) m o r
-  rule_unnoted k at x c d o (using_rule xs a b r f e) = ap notes e ∙ declarators_unnoted n (with_in k) false _ xs (after c) d o r
+  rule_unnoted k at x c d o (using_rule v xs m a w b r f e) = ap notes e ∙ declarators_unnoted n (with_in k) false _ xs (after m) d o r
   rule_unnoted k at x c d o (if_statement_rule r) = if_unnoted o r
   rule_unnoted k at x c d o (switch_rule y xs m i h r j s g t e) = ap notes e ∙ joined (notes y) _ (head_unnoted n o r) (cases_unnoted (in_breakable k) false xs (after m) i o s)
   rule_unnoted k at x c d o (labeled_rule w s y m r f h t e) = ap notes e ∙ small (in_breakable k) (labelled_item (after m)) y (after m) d o t

@@ -1,6 +1,6 @@
 -- What is supported in module code and elsewhere: it is the same, but for what has notes.
 use Rattle.std.proofs.Common.{◌≡◌, Bool, true, false, true≢false, cond, List, [], ◌∷◌, ◌++◌, refl, sym, ◌∙◌, ap}
-use Rattle.std.specs.Prelude.{not, ◌&&◌, ◌||◌}
+use Rattle.std.specs.Prelude.{◌&&◌, ◌||◌}
 use Rattle.swc_ecma_parser_error.specs.Kind.{Fault}
 use Rattle.swc_ecma_parser_model.specs.Tree as tree
 use Rattle.swc_ecma_parser_model.specs.Tree.{Tree, Trees, none, also}
@@ -87,7 +87,7 @@ mutual
   lower m (tree.expr_pat e) h = lower m e h
   lower m (tree.var s word ds) h = lower m ds h
   lower m (tree.declarator s name init) h = let g = and_yes (supported_in m name) _ h in and_both _ _ (lower m name g.0) (lower m init g.1)
-  lower m (tree.using s is_await ds) h = let g = and_yes (not is_await) _ h in and_both _ _ g.0 (lower m ds g.1)
+  lower m (tree.using s is_await ds) h = lower m ds h
   lower m (tree.block s stmts) h = lower m stmts h
   lower m (tree.empty s) h = refl
   lower m (tree.debugger s) h = refl
@@ -197,7 +197,7 @@ mutual
   lift (tree.expr_pat e) h o = lift e h o
   lift (tree.var s word ds) h o = lift ds h o
   lift (tree.declarator s name init) h o = let g = and_yes (supported_in false name) _ h in and_both _ _ (lift name g.0 ((parted (notes name) (notes init) o).0)) (lift init g.1 ((parted (notes name) (notes init) o).1))
-  lift (tree.using s is_await ds) h o = let g = and_yes (not is_await) _ h in and_both _ _ g.0 (lift ds g.1 o)
+  lift (tree.using s is_await ds) h o = lift ds h o
   lift (tree.block s stmts) h o = lift stmts h o
   lift (tree.empty s) h o = refl
   lift (tree.debugger s) h o = refl

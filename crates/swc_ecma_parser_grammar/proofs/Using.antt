@@ -27,7 +27,7 @@ use Rattle.swc_ecma_parser_grammar.specs.language.Begins.{awaits}
 use Rattle.swc_ecma_parser_grammar.specs.language.Expressions.{operand_rule, AssignmentRule, assignment_rule, sequence_rule}
 use Rattle.swc_ecma_parser_grammar.specs.language.Patterns.{PatternRule, binding_name_rule, target_name_rule, target_rule, array_rule, object_rule}
 use Rattle.swc_ecma_parser_grammar.specs.language.Reads.{Reads}
-use Rattle.swc_ecma_parser_grammar.proofs.Tests.{and_yes, or_no}
+use Rattle.swc_ecma_parser_grammar.proofs.Tests.{and_yes, and_no, or_no, or_none}
 use Rattle.swc_ecma_parser_grammar.proofs.StatementBegins.{word_place}
 use Rattle.swc_ecma_parser_grammar.proofs.Beginnings.{opens}
 use Rattle.swc_ecma_parser_grammar.proofs.Inversions.{moved_kind, begins_form, is_access, is_bracket, IsLone, IsPlain, lone_name, lone_assignment}
@@ -149,8 +149,22 @@ using_no_async : (c : Place) → word_at (codes "using") c ≡ true → word_at 
 unfolding word_at
 using_no_async c h = no_async c.left h
 
-kind_differs : (j : TokenKind) (c : Place) → sees j c ≡ false → kind_at c ≡ j → same_kind j j ≡ true → ⊥
+pub kind_differs : (j : TokenKind) (c : Place) → sees j c ≡ false → kind_at c ≡ j → same_kind j j ≡ true → ⊥
 kind_differs j c h e s = true≢false (sym s ∙ ap (λ i. same_kind i j) (sym e) ∙ h)
+
+-- it is reserved nowhere
+using_token : (f : Context) (t : Token) → token_is (codes "using") t ≡ true → token_is_identifier f t ≡ true
+unfolding is_identifier is_reserved
+using_token f (token.Word (word.Ident text)) e = rw ((bytes_eq-Decides text (codes "using")).0 e) (ap not (or_none _ _ (and_no f.strict _ refl) (and_no f.in_generator _ refl)))
+using_token f _ e = cc
+
+using_first : (f : Context) (ts : List TokenAndSpan) → first_is (codes "using") ts ≡ true → first_is_identifier f ts ≡ true
+using_first f [] e = cc
+using_first f (t ∷ ts) e = using_token f t.token e
+
+pub using_identifier : (f : Context) (c : Place) → word_at (codes "using") c ≡ true → identifier_at f c ≡ true
+unfolding word_at identifier_at
+using_identifier f c e = using_first f c.left e
 
 -- ---- where it declares
 
@@ -173,7 +187,7 @@ module _ (k : Code) (c : Place) (w : word_at (codes "using") c ≡ true) (i : id
   unfolding is_async_function
   word_no_function = rw (using_no_async c w) refl
 
-  using_lone : (j : Code) → IsLone j c
+  pub using_lone : (j : Code) → IsLone j c
   using_lone j = lone_word k.flags c word_stands word_no_function i j
 
   using_plain : IsPlain c

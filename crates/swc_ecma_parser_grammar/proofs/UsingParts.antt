@@ -120,7 +120,7 @@ target_bound (suc n) k p c d h (array_rule es m i r j f e) = absurd (true≢fals
 target_bound (suc n) k p c d h (object_rule ps m i r j f e) = absurd (true≢false (sym h ∙ ap is_binding_name e))
 
 -- `using` is a name by itself, wherever another pattern is read
-using_word : (k : Code) (c : Place) → word_at (codes "using") c ≡ true → (s : Span) × ReadsName k (codes "using") s c (after c)
+pub using_word : (k : Code) (c : Place) → word_at (codes "using") c ≡ true → (s : Span) × ReadsName k (codes "using") s c (after c)
 unfolding word_at is_clean_name is_identifier is_reserved
 using_word k c h = by_first c.left refl h
   where

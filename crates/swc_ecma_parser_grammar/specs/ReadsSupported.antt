@@ -1,4 +1,4 @@
--- The part of the relation of the whole language that the parser reads so far.
+-- The relation of the whole language on supported trees.
 use Rattle.std.specs.Prelude.{◌≡◌, ℕ, zero, suc, true, false, ◌||◌, List, []}
 use Rattle.swc_ecma_parser_token.specs.declared.kind.TokenKind.TheVariants as kind
 use Rattle.swc_ecma_parser_input.specs.Place.{Place}

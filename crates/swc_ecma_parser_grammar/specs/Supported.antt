@@ -1,4 +1,5 @@
--- The part of the language that the parser reads so far.
+-- The trees that are answered whatever the walk finds in them: all of the language, but those with a function in an expression whose
+-- directive comes too late, and in module code those with a fault of module code alone in such a function or in a member of a class.
 use Rattle.std.specs.Prelude.{Bool, true, false, not, ◌&&◌, ◌||◌, List, [], ◌∷◌}
 use Rattle.swc_ecma_parser_error.specs.Kind.{Fault}
 use Rattle.swc_ecma_parser_model.specs.Tree as tree
@@ -89,8 +90,8 @@ abbrev mutual
   -- `var`, `let` and `const`, with initializers or without: sections 14.3.2 and 14.3.1
   supported_in m (tree.var s word ds) = supported_in m ds
   supported_in m (tree.declarator s name init) = supported_in m name && supported_in m init
-  -- `using`, but not behind `await`: the proposal on explicit resource management
-  supported_in m (tree.using s is_await ds) = not is_await && supported_in m ds
+  -- `using` and `await using`: the proposal on explicit resource management
+  supported_in m (tree.using s is_await ds) = supported_in m ds
   -- blocks, empty statements, `debugger` and expression statements: sections 14.2, 14.4, 14.16 and 14.5
   supported_in m (tree.block s stmts) = supported_in m stmts
   supported_in m (tree.empty s) = true

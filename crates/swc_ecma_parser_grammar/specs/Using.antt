@@ -1,13 +1,15 @@
 -- What is declared with `using`: the proposal on explicit resource management, which adds it to ECMA-262, section 14.3.
-use Rattle.std.specs.Prelude.{Bool, not, ◌&&◌, ◌||◌, List, [], ◌∷◌, ◌++◌, codes}
+use Rattle.std.specs.Prelude.{Bool, false, not, ◌&&◌, ◌||◌, List, [], ◌∷◌, ◌++◌, codes}
 use Rattle.swc_ecma_parser_common.specs.declared.span.Span.{Span}
 use Rattle.swc_ecma_parser_error.specs.Kind as kind
 use Rattle.swc_ecma_parser_error.specs.Kind.{Fault}
 use Rattle.swc_ecma_parser_token.specs.declared.kind.TokenKind.TheVariants as token
 use Rattle.swc_ecma_parser_input.specs.Place.{Place, after}
+use Rattle.swc_ecma_parser_model.specs.Tree as tree
 use Rattle.swc_ecma_parser_model.specs.Tree.{Tree}
-use Rattle.swc_ecma_parser_model.specs.Forms.{is_binding_name}
+use Rattle.swc_ecma_parser_model.specs.Forms.{is_binding_name, is_ident_named}
 use Rattle.swc_ecma_parser_model.specs.Within.{declared_name, is_initialized}
+use Rattle.swc_ecma_parser_grammar.specs.declared.position.Position.{Position}
 use Rattle.swc_ecma_parser_grammar.specs.Looks.{sees, breaks_at}
 use Rattle.swc_ecma_parser_grammar.specs.Names.{Code, identifier_at}
 use Rattle.swc_ecma_parser_grammar.specs.Follows.{word_at}
@@ -17,6 +19,10 @@ use Rattle.swc_ecma_parser_grammar.specs.Own.{only}
 unfoldable pub is_using_declaration : Code → Place → Bool
 is_using_declaration k c = word_at (codes "using") c && (identifier_at k.flags (after c) && not (breaks_at (after c)))
 
+-- behind `await`, at the top level too
+unfoldable pub is_await_using_declaration : Position → Code → Place → Bool
+is_await_using_declaration at k c = sees token.Await c && ((at.include_decl || at.top_level) && is_using_declaration k (after c))
+
 -- In the head of a loop it may begin one before a name on any line, which is not `of`, with the setting; and it does where `in` or `of`
 -- stands behind the name.
 unfoldable pub may_declare_using : Code → Place → Bool
@@ -24,6 +30,15 @@ may_declare_using k c = k.setting.explicit_resource_management && (word_at (code
 
 unfoldable pub stands_in_head : Place → Bool
 stands_in_head c = sees token.In c || word_at (codes "of") c
+
+-- The expression `await using`. In such a head, with the setting, it declares a name that stands behind it on any line and is not
+-- `of`, where `in` or `of` stands behind the name.
+unfoldable pub awaits_using : Tree → Bool
+awaits_using (tree.await s e) = is_ident_named (codes "using") e
+awaits_using _ = false
+
+unfoldable pub declares_behind : Code → Place → Bool
+declares_behind k c = k.setting.explicit_resource_management && (identifier_at k.flags c && (not (word_at (codes "of") c) && stands_in_head (after c)))
 
 -- A variable of such a declaration is a plain name, and it has an initializer. What is not so is said of the whole declaration.
 abbrev pub misused : Span → Tree → List Fault

@@ -1,6 +1,7 @@
 -- What may still become a pattern, as the reader knows it.
 use Rattle.std.specs.Prelude.{ℕ, map}
 use Rattle.swc_ecma_parser_model.specs.Tree.{Tree}
+use Rattle.swc_ecma_parser_reader.specs.AwaitWords.{behind_await}
 use Rattle.swc_ecma_parser_reader.specs.Classes.{class_of}
 use Rattle.swc_ecma_parser_reader.specs.DecoratorLevels.{decorated_in}
 use Rattle.swc_ecma_parser_reader.specs.Methods.{class_form}
@@ -27,6 +28,7 @@ read n reading.Class = rules.function n class_form >>= λ x. pure (exprs.done x)
 read n reading.Decorated = decorated_in n >>= λ x. pure (exprs.done x)
 read n reading.Object = rules.object_alone n >>= λ x. pure (exprs.done x)
 read n (reading.Behind start) = rules.head_behind n start
+read n (reading.BehindAwait start) = behind_await n start
 
 -- a key by itself, whatever reads what stands further in
 abbrev pub bare : Tree → Reader exprs.Cover

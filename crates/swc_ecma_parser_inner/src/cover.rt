@@ -60,6 +60,8 @@ pub enum Reading {
     Object,
     /// What the head of a loop begins with, from behind `async` on, which begins there, before a name on its line.
     Behind(Span),
+    /// An expression from behind `await` on, which begins there, before `using`.
+    BehindAwait(Span),
 }
 
 /// An expression, which stays one.

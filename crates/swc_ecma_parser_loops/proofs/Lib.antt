@@ -1,5 +1,6 @@
 pub mod AsyncHead
 mod Awaited
+mod Awaits
 mod Flags
 mod Misdeclared
 mod Targets

@@ -1,5 +1,5 @@
 -- What a head begins with, as the reader knows it.
-use Rattle.std.specs.Prelude.{◌≡◌, Bool, false, [], map}
+use Rattle.std.specs.Prelude.{◌≡◌, Bool, [], map}
 use Rattle.swc_ecma_parser_model.specs.Tree as tree
 use Rattle.swc_ecma_parser_model.specs.Tree.{Tree, listed}
 use Rattle.swc_ecma_parser_grammar.specs.Own.{head_faults}
@@ -16,9 +16,9 @@ use Rattle.swc_ecma_parser_loops.specs.declared.head.Left.TheVariants as left
 abbrev pub declared_of : {D : Type 0} → (D → Tree) → Declared D → Tree
 declared_of view x = tree.var x.span x.word (listed (map view x.found.items))
 
--- what `using` declares in a head
+-- what `using` declares in a head, behind `await` or not
 abbrev pub resources_of : {D : Type 0} → (D → Tree) → Resources D → Tree
-resources_of view x = tree.using x.span false (listed (map view x.found.items))
+resources_of view x = tree.using x.span x.is_await (listed (map view x.found.items))
 
 abbrev pub opening_of : {D X N : Type 0} → (D → Tree) → (X → Tree) → (N → Tree) → Opening D X N → rules.Opening
 opening_of declarator expr pat opening.Nothing = rules.Nothing

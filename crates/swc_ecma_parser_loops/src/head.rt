@@ -6,6 +6,7 @@ ghost use Rattle.swc_ecma_parser_error.specs.Kind.{IsOutOfMemory};
 ghost use Rattle.swc_ecma_parser_grammar.specs.Follows as follows;
 ghost use Rattle.swc_ecma_parser_grammar.specs.Looks as looks;
 ghost use Rattle.swc_ecma_parser_grammar.specs.Own as own;
+ghost use Rattle.swc_ecma_parser_grammar.specs.Using as using;
 ghost use Rattle.swc_ecma_parser_inner.specs.Nests.{Nests};
 ghost use Rattle.swc_ecma_parser_loops.specs.Flags as flags_of;
 ghost use Rattle.swc_ecma_parser_input.specs.Place as place;
@@ -43,6 +44,8 @@ pub struct Declared<D> {
 #[derive(Drop)]
 pub struct Resources<D> {
     pub span: Span,
+    /// Whether `await` stands before it.
+    pub is_await: bool,
     pub found: Vec<D>,
 }
 
@@ -150,7 +153,7 @@ fn undeclared<P: Source>(p: &mut P, span: Span) -> PResult<()>
     Ok(())
 }
 
-/// What `using` declares, from the name on.
+/// What `using` declares, behind `await` or not, from the name on.
 #[tactic(auto, unfolding(swc_ecma_parser_reader::specs::Reader::using_head))]
 fn using_head<
     P: Source,
@@ -162,10 +165,11 @@ fn using_head<
     g: &Grammar<S, E, N>,
     t: &MakerOf<T>,
     p: &mut P,
+    is_await: bool,
     start: Span,
 ) -> PResult<Opening<T::Declarator, T::Expr, T::Pat>>
     requires { Nests P.seen T.expr_of T.pat_of T.stmt_of g.now.depth (S.pre g.now.stmt) (S.post g.now.stmt) (E.pre g.now.expr) (E.post g.now.expr) (N.pre g.now.pat) (N.post g.now.pat) }
-    ensures gives { GivesAs (opening_of T.declarator_of T.expr_of T.pat_of) (rules.using_head (rules.expr g.now.depth) (rules.pattern g.now.depth) start (P.seen p.old)) result (P.seen p.new) }
+    ensures gives { GivesAs (opening_of T.declarator_of T.expr_of T.pat_of) (rules.using_head (rules.expr g.now.depth) (rules.pattern g.now.depth) is_await start (P.seen p.old)) result (P.seen p.new) }
     ensures bare { IfOk result (λ o. IsBare T.pat_of o) }
 {
     let first = p.span();
@@ -176,7 +180,11 @@ fn using_head<
     let declarator = grown(p, T::declarator(t.alloc, own, name, None))?;
     let mut found = Vec::new(t.alloc);
     pushed(p, &mut found, declarator)?;
-    Ok(Opening::Resources(Resources { span, found }))
+    Ok(Opening::Resources(Resources {
+        span,
+        is_await,
+        found,
+    }))
 }
 
 /// A name before another: `using` declares where `in` or `of` stands behind that.
@@ -199,9 +207,56 @@ fn named_head<
     let start = p.span();
     let name = (g.pat)(t, p, g.depth, Part::Pattern)?;
     if p.next_sees(TokenKind::In) || p.next_word_at("of") {
-        return using_head(g, t, p, start);
+        return using_head(g, t, p, false, start);
     }
     Ok(Opening::Named(name))
+}
+
+/// Whether an expression is `await using`.
+#[tactic(auto, using(crate::proofs::Awaits::awaits_using_is))]
+fn awaits_using<T: BuildsVariables>(expr: &T::Expr) -> bool
+    ensures { result ≡ using.awaits_using (T.expr_of expr.now) }
+{
+    T::awaits_name(expr, "using")
+}
+
+/// Whether a name stands here that `await using` before it declares: not `of`, with `in` or `of` behind it.
+#[tactic(auto, unfolding(swc_ecma_parser_grammar::specs::Using::declares_behind, swc_ecma_parser_grammar::specs::Using::stands_in_head))]
+fn declares_behind<P: Source>(p: &P) -> bool
+    ensures { result ≡ using.declares_behind (P.seen p.now).code (P.seen p.now).at }
+{
+    p.explicit_resource_management()
+        && p.identifier_at()
+        && !p.word_at("of")
+        && (p.next_sees(TokenKind::In) || p.next_word_at("of"))
+}
+
+/// What `await` begins: an expression, or, where it is `await using` and a name stands behind it, what that declares.
+#[tactic(auto, unfolding(swc_ecma_parser_reader::specs::Reader::await_head, swc_ecma_parser_reader::specs::Reader::await_or_expression))]
+fn await_head<
+    P: Source,
+    T: BuildsPattern + BuildsVariables,
+    S: Fn(&MakerOf<T>, &mut P, usize, Position) -> PResult<T::Stmt>,
+    E: Fn(&MakerOf<T>, &mut P, usize, Reading) -> PResult<Cover<T::Expr>>,
+    N: Fn(&MakerOf<T>, &mut P, usize, Part) -> PResult<T::Pat>,
+>(
+    g: &Grammar<S, E, N>,
+    t: &MakerOf<T>,
+    p: &mut P,
+) -> PResult<Opening<T::Declarator, T::Expr, T::Pat>>
+    requires { Nests P.seen T.expr_of T.pat_of T.stmt_of g.now.depth (S.pre g.now.stmt) (S.post g.now.stmt) (E.pre g.now.expr) (E.post g.now.expr) (N.pre g.now.pat) (N.post g.now.pat) }
+    ensures gives { GivesAs (opening_of T.declarator_of T.expr_of T.pat_of) (rules.await_head (rules.expr g.now.depth) (rules.pattern g.now.depth) (rules.head_cover g.now.depth) (P.seen p.old)) result (P.seen p.new) }
+    ensures bare { IfOk result (λ o. IsBare T.pat_of o) }
+{
+    let start = p.span();
+    let outer = p.flags();
+    p.set_flags(without_in(outer));
+    let v = (g.expr)(t, p, g.depth, Reading::Head)?;
+    p.set_flags(outer);
+    if awaits_using::<T>(&v.tree) && declares_behind(p) {
+        return using_head(g, t, p, true, start);
+    }
+    Ok(Opening::Expression(v))
 }
 
 /// Behind `async`, which was read as a name: it is one, unless `=>` stands behind `of`.
@@ -316,6 +371,9 @@ pub(crate) fn head_opening<
     }
     if p.may_declare_using() {
         return named_head(g, t, p);
+    }
+    if p.sees(TokenKind::Await) {
+        return await_head(g, t, p);
     }
     head_target(g, t, p, is_await)
 }
@@ -436,7 +494,7 @@ pub(crate) fn head_of<P: Source, T: BuildsFor>(
 {
     let head = match left {
         Left::Variables(x) => T::var_head(t.alloc, x.span, x.word, x.found),
-        Left::Resources(x) => T::using_head(t.alloc, x.span, false, x.found),
+        Left::Resources(x) => T::using_head(t.alloc, x.span, x.is_await, x.found),
         Left::Pattern(pat) => T::pat_head(t.alloc, pat),
     };
     grown(p, head)

@@ -2,9 +2,10 @@
 
 ghost use Rattle.std.specs.Prelude.{◌≡◌, map, Ok};
 ghost use Rattle.swc_ecma_parser_grammar.specs.Reads.{nested_item};
+ghost use Rattle.swc_ecma_parser_grammar.specs.language.Exports as around;
 ghost use Rattle.swc_ecma_parser_grammar.specs.language.Goals.{left_side};
 ghost use Rattle.swc_ecma_parser_members.specs.Leading.{leading_of};
-ghost use Rattle.swc_ecma_parser_model.specs.Tree.{trees};
+ghost use Rattle.swc_ecma_parser_model.specs.Tree.{listed, trees};
 ghost use Rattle.swc_ecma_parser_module_reader.specs.Decorated as decorated;
 ghost use Rattle.swc_ecma_parser_module_reader.specs.Exports as exports;
 ghost use Rattle.swc_ecma_parser_reader.specs.DecoratorLevels.{decorated_in};
@@ -33,7 +34,7 @@ use swc_ecma_parser_trees::{
 
 /// Whether decorators begin here.
 #[tactic(auto, unfolding(swc_ecma_parser_module_reader::specs::Decorated::begins_decorators))]
-fn begins_decorators<P: Source>(p: &P) -> bool
+pub fn begins_decorators<P: Source>(p: &P) -> bool
     ensures { result ≡ decorated.begins_decorators (P.seen p.now).code (P.seen p.now).at }
 {
     p.decorators() && p.sees(TokenKind::At)
@@ -45,6 +46,18 @@ fn none_before<T: BuildsFunction>(at: BytePos, list: &[T::Decorator]) -> bool
 {
     for item in list {
         if T::decorator_span(item).lo < at {
+            return false;
+        }
+    }
+    true
+}
+
+/// Whether each of these begins before a word.
+fn begin_before<T: BuildsFunction>(word: Span, list: &[T::Decorator]) -> bool
+    ensures { result ≡ around.begin_before word (listed (map T.decorator_of list.now)) }
+{
+    for item in list {
+        if T::decorator_span(item).lo >= word.lo {
             return false;
         }
     }
@@ -322,6 +335,38 @@ fn export_from<P: Source, T: BuildsStatements + BuildsExport + BuildsVarDecl>(
     behind_export::<P, T>(t, p, depth, start, before)
 }
 
+/// An export behind decorators, if they may stand there.
+#[tactic(auto, unfolding(swc_ecma_parser_module_reader::specs::Decorated::export_with))]
+pub fn export_with<P: Source, T: BuildsStatements + BuildsExport + BuildsVarDecl>(
+    t: &MakerOf<T>,
+    p: &mut P,
+    depth: usize,
+    before: Leading<T::Decorator>,
+) -> PResult<T::Item>
+    ensures { GivesAs T.item_of (decorated.export_with (rules.stmt depth nested_item) (rules.expr depth) (rules.pattern depth) (rules.parameters depth) (rules.member depth) (rules.object_alone depth) (decorated_in depth) (leading_of T.decorator_of before) (P.seen p.old)) result (P.seen p.new) }
+{
+    let word = p.span();
+    let may_stand = p.decorators_before_export() && begin_before::<T>(word, &before.found);
+    if !before.found.is_empty() && !may_stand {
+        return Err(p.reject(SyntaxError::DecoratorOnExport, before.place));
+    }
+    export_from::<P, T>(t, p, depth, before)
+}
+
+/// No decorators, where nothing was read.
+pub fn no_leading<P: Source, T: BuildsFunction>(t: &MakerOf<T>, p: &mut P) -> Leading<T::Decorator>
+    ensures none { leading_of T.decorator_of result ≡ decorated.no_leading (P.seen p.old) }
+    ensures state { P.seen p.new ≡ P.seen p.old }
+{
+    let module_found = found_module_item(t.alloc, p);
+    let place = p.span();
+    Leading {
+        found: Vec::new(t.alloc),
+        place,
+        module_found,
+    }
+}
+
 /// An export, before which no decorators stand.
 #[tactic(auto, unfolding(swc_ecma_parser_module_reader::specs::Decorated::export_item))]
 pub fn export_item<P: Source, T: BuildsStatements + BuildsExport + BuildsVarDecl>(
@@ -331,12 +376,6 @@ pub fn export_item<P: Source, T: BuildsStatements + BuildsExport + BuildsVarDecl
 ) -> PResult<T::Item>
     ensures { GivesAs T.item_of (decorated.export_item (rules.stmt depth nested_item) (rules.expr depth) (rules.pattern depth) (rules.parameters depth) (rules.member depth) (rules.object_alone depth) (decorated_in depth) (P.seen p.old)) result (P.seen p.new) }
 {
-    let module_found = found_module_item(t.alloc, p);
-    let place = p.span();
-    let before = Leading {
-        found: Vec::new(t.alloc),
-        place,
-        module_found,
-    };
+    let before = no_leading::<P, T>(t, p);
     export_from::<P, T>(t, p, depth, before)
 }

@@ -2,17 +2,20 @@
 
 ghost use Rattle.std.specs.Prelude.{◌≡◌, true, [], map, IsOk};
 ghost use Rattle.swc_ecma_parser_grammar.specs.Reads.{directed};
+ghost use Rattle.swc_ecma_parser_members.specs.Leading.{leading_of};
 ghost use Rattle.swc_ecma_parser_module_reader.specs.Modules as modules;
 ghost use Rattle.swc_ecma_parser_reader.specs.Reader as rules;
 ghost use Rattle.swc_ecma_parser_reader.specs.State as reader;
 ghost use Rattle.swc_ecma_parser_reader.specs.State.{GivesAs};
 
-use crate::decorated::export_item;
+use crate::decorated::{begins_decorators, export_item, export_with};
+use swc_ecma_parser_core::grammar::{leading, stmt_behind};
 use swc_ecma_parser_core::script::whole_stmt;
 use swc_ecma_parser_error::PResult;
 use swc_ecma_parser_grammar::Position;
 use swc_ecma_parser_inner::steps::{grown, pushed, since};
 use swc_ecma_parser_input::Context;
+use swc_ecma_parser_members::decorators::{Leading, misplaced};
 use swc_ecma_parser_modules::imports::import_decl;
 use swc_ecma_parser_source::Source;
 use swc_ecma_parser_token::TokenKind;
@@ -62,6 +65,55 @@ fn export_in<P: Source, T: BuildsStatements + BuildsExport + BuildsVarDecl>(
     export_item::<P, T>(t, p, limit - 1)
 }
 
+/// An import behind decorators, which are dropped.
+fn import_behind<P: Source, T: BuildsStatements + BuildsExport>(
+    t: &MakerOf<T>,
+    p: &mut P,
+    depth: usize,
+    list: &Leading<T::Decorator>,
+) -> PResult<T::Item>
+    ensures { GivesAs T.item_of (modules.import_behind depth (leading_of T.decorator_of list.now) (P.seen p.old)) result (P.seen p.new) }
+{
+    misplaced::<P, T>(t.alloc, p, list)?;
+    import_decl::<P, T>(t, p, depth)
+}
+
+/// An item behind decorators.
+#[tactic(auto, unfolding(swc_ecma_parser_module_reader::specs::Modules::item_behind))]
+pub fn item_behind<P: Source, T: BuildsStatements + BuildsExport + BuildsVarDecl>(
+    t: &MakerOf<T>,
+    p: &mut P,
+    depth: usize,
+    list: Leading<T::Decorator>,
+) -> PResult<T::Item>
+    ensures { GivesAs T.item_of (modules.item_behind depth (leading_of T.decorator_of list) (P.seen p.old)) result (P.seen p.new) }
+{
+    if begins_import(p) {
+        return import_behind::<P, T>(t, p, depth, &list);
+    }
+    if p.sees(TokenKind::Export) {
+        return export_with::<P, T>(t, p, depth, list);
+    }
+    let stmt = stmt_behind::<P, T>(t, p, depth, TOP_ITEM, list)?;
+    grown(p, T::stmt_item(t.alloc, stmt))
+}
+
+/// An item that begins with decorators, in so many levels.
+#[tactic(auto, using(swc_ecma_parser_module_reader::proofs::Levels::decorated_lowest, swc_ecma_parser_module_reader::proofs::Levels::decorated_above))]
+fn decorated_item<P: Source, T: BuildsStatements + BuildsExport + BuildsVarDecl>(
+    t: &MakerOf<T>,
+    p: &mut P,
+    limit: usize,
+) -> PResult<T::Item>
+    ensures { GivesAs T.item_of (modules.decorated_item limit (P.seen p.old)) result (P.seen p.new) }
+{
+    if limit == 0 {
+        return Err(p.too_deep());
+    }
+    let list = leading::<P, T>(t, p, limit - 1)?;
+    item_behind::<P, T>(t, p, limit - 1, list)
+}
+
 /// An item of a module, in so many levels: an import, an export or a statement.
 #[tactic(auto, unfolding(swc_ecma_parser_module_reader::specs::Modules::module_item))]
 pub fn module_item<P: Source, T: BuildsStatements + BuildsExport + BuildsVarDecl>(
@@ -76,6 +128,9 @@ pub fn module_item<P: Source, T: BuildsStatements + BuildsExport + BuildsVarDecl
     }
     if p.sees(TokenKind::Export) {
         return export_in::<P, T>(t, p, limit);
+    }
+    if begins_decorators(p) {
+        return decorated_item::<P, T>(t, p, limit);
     }
     let stmt = whole_stmt::<P, T>(t, p, limit, TOP_ITEM)?;
     grown(p, T::stmt_item(t.alloc, stmt))
@@ -102,8 +157,28 @@ pub(crate) fn at_end<P: Source>(p: &P) -> bool
     p.sees(TokenKind::End)
 }
 
+/// The items of a module behind these, the first of all of which can be a directive.
+#[tactic(auto, using(swc_ecma_parser_reader::proofs::Loops::items_stop, swc_ecma_parser_reader::proofs::Loops::items_err, swc_ecma_parser_core::proofs::Items::script_more, swc_ecma_parser_module_reader::proofs::Falls::item_shorter, std::proofs::lemmas::List::map_push))]
+pub(crate) fn items_behind<P: Source, T: BuildsStatements + BuildsExport + BuildsVarDecl>(
+    t: &MakerOf<T>,
+    p: &mut P,
+    limit: usize,
+    before: Vec<T::Item>,
+) -> PResult<Vec<T::Item>>
+    ensures gives { GivesAs (λ found. map T.item_of found.items) (reader.loop (rules.items_turn (modules.module_item limit) rules.at_end true) (map T.item_of before.items) (P.seen p.old)) result (P.seen p.new) }
+    ensures outright { (P.seen p.old).at.left ≡ [] → IsOk result }
+{
+    let mut found = before;
+    'items: while !at_end(p) {
+        let item = module_item::<P, T>(t, p, limit)?;
+        direct::<P, T>(p, found.is_empty(), &item);
+        pushed(p, &mut found, item)?;
+    }
+    Ok(found)
+}
+
 /// The items of a module, the first of which can be a directive.
-#[tactic(auto, unfolding(swc_ecma_parser_reader::specs::Reader::items), using(swc_ecma_parser_reader::proofs::Loops::items_stop, swc_ecma_parser_reader::proofs::Loops::items_err, swc_ecma_parser_core::proofs::Items::script_more, swc_ecma_parser_module_reader::proofs::Falls::item_shorter, std::proofs::lemmas::List::map_push))]
+#[tactic(auto, unfolding(swc_ecma_parser_reader::specs::Reader::items))]
 pub(crate) fn items<P: Source, T: BuildsStatements + BuildsExport + BuildsVarDecl>(
     t: &MakerOf<T>,
     p: &mut P,
@@ -112,13 +187,8 @@ pub(crate) fn items<P: Source, T: BuildsStatements + BuildsExport + BuildsVarDec
     ensures gives { GivesAs (λ found. map T.item_of found.items) (rules.items (modules.module_item limit) rules.at_end true (P.seen p.old)) result (P.seen p.new) }
     ensures outright { (P.seen p.old).at.left ≡ [] → IsOk result }
 {
-    let mut found = Vec::new(t.alloc);
-    'items: while !at_end(p) {
-        let item = module_item::<P, T>(t, p, limit)?;
-        direct::<P, T>(p, found.is_empty(), &item);
-        pushed(p, &mut found, item)?;
-    }
-    Ok(found)
+    let none = Vec::new(t.alloc);
+    items_behind::<P, T>(t, p, limit, none)
 }
 
 /// A module, whose items may stand so many levels deep.

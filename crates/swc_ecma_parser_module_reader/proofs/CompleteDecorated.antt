@@ -1,5 +1,5 @@
 -- What the grammar reads as an export and is supported is read, with the faults of the walk and the notes, and no others.
-use Rattle.std.proofs.Common.{◌≡◌, inl, inr, ℕ, Bool, true, false, true≢false, List, [], ◌∷◌, ◌++◌, Ok, refl, sym, ◌∙◌, ap, subst, append_assoc}
+use Rattle.std.proofs.Common.{◌≡◌, inl, inr, ℕ, Bool, true, false, true≢false, List, [], ◌∷◌, ◌++◌, Ok, refl, sym, ◌∙◌, ap, subst, append_assoc, ◌≤◌, arith}
 use Rattle.std.specs.Prelude.{◌&&◌}
 use Rattle.swc_ecma_parser_common.specs.declared.span.Span.{Span}
 use Rattle.swc_ecma_parser_error.specs.Kind.{Fault}
@@ -53,16 +53,17 @@ use Rattle.swc_ecma_parser_reader.proofs.decorators.Levels.{decorated_in_reads}
 use Rattle.swc_ecma_parser_reader.proofs.Falls.{decorated_in_falls}
 use Rattle.swc_ecma_parser_module_reader.specs.Decorated.{with_decorators, none_before, begins_decorators, no_leading, later_alone, later, decorating, by_default, named_with, default_with, behind_export, behind_default_word, export_from, export_item}
 use Rattle.swc_ecma_parser_module_reader.specs.Exports.{default_function, exported, export_decl}
-use Rattle.swc_ecma_parser_module_reader.specs.Supported.{supported_item, supported_behind}
+use Rattle.swc_ecma_parser_module_reader.specs.Supported.{supported_item, supported_beside, is_led, OrderedFor}
 use Rattle.swc_ecma_parser_module_reader.proofs.AllLevels.{below}
 use Rattle.swc_ecma_parser_module_reader.proofs.CompleteExportNames.{clause_no_at, export_from_read, export_own_read, export_all_read}
 use Rattle.swc_ecma_parser_module_reader.proofs.CompleteExports.{inner_stmt, front_plain, declared_word, default_words, stmt_function, no_class, function_begins, name_walk, name_notes, declared_reads, default_function_reads, default_expr_read, item_as, exported_supported, declaration_read, default_read}
 use Rattle.swc_ecma_parser_module_reader.proofs.DecoratedForms.{IsName, Takes, fn_decl_takes, fn_expr_takes, class_decl_takes, class_expr_takes}
-use Rattle.swc_ecma_parser_module_reader.proofs.ItemStarts.{exported_behind, default_behind, none_in_front}
+use Rattle.swc_ecma_parser_module_reader.proofs.ItemStarts.{exported_behind, default_behind}
 use Rattle.swc_ecma_parser_module_reader.proofs.ModuleCode.{IsModule, in_module_same}
 use Rattle.swc_ecma_parser_module_reader.proofs.NoDecorators.{expression_no_at, no_list_by}
 use Rattle.swc_ecma_parser_module_reader.proofs.SoundExported.{class_with, function_with}
 use Rattle.swc_ecma_parser_module_reader.proofs.SoundExports.{front_walk}
+use Rattle.swc_ecma_parser_module_reader.proofs.Ordered.{supported_behind, behind_only, led_exported, led_default, steps_on, ordered_after}
 
 -- ---- a class or a function behind decorators
 
@@ -75,23 +76,23 @@ parts_of true b true p h = (h, refl)
 parts_of true b false p h = cc
 parts_of false b q p h = cc
 
-any_of : (ds : List Tree) → has_none (listed ds) ≡ false → has_any ds ≡ true
+pub any_of : (ds : List Tree) → has_none (listed ds) ≡ false → has_any ds ≡ true
 any_of [] h = cc
 any_of (x ∷ xs) h = refl
 
 -- with no decorators, what is declared, and how it is read
-record Bare (k : Code) (declaration : Reader Tree) (ds : List Tree) (y : Tree) (c d : Place) : Type 0 where
-  bare : Tree
-  is : y ≡ with_decorators ds bare
-  takes : Takes bare
-  reads : ReadsCalm declaration k bare c d
+pub record Bare (k : Code) (declaration : Reader Tree) (ds : List Tree) (y : Tree) (c d : Place) : Type 0 where
+  pub bare : Tree
+  pub is : y ≡ with_decorators ds bare
+  pub takes : Takes bare
+  pub reads : ReadsCalm declaration k bare c d
 
 -- nothing is noted in it, nor in them
-split_notes : (ds : List Tree) (y bare : Tree) → y ≡ with_decorators ds bare → Takes bare → notes y ≡ [] → (notes (listed ds) ≡ []) × (notes bare ≡ [])
+pub split_notes : (ds : List Tree) (y bare : Tree) → y ≡ with_decorators ds bare → Takes bare → notes y ≡ [] → (notes (listed ds) ≡ []) × (notes bare ≡ [])
 split_notes ds y bare e f q = nil-split (notes (listed ds)) (notes bare) (ap (λ z. z.held_back) (f.noted ds) ∙ sym (ap notes e) ∙ q)
 
 module _ (n : ℕ) (k : Code) (o : IsModule k) where
-  class_bare : (ds : List Tree) (a name z y : Tree) (s : Span) (c d : Place) → ClassRule (language.Reads n) k c a name z c d → a ≡ listed ds → is_absent name ≡ false → y ≡ tree.class_decl name z
+  pub class_bare : (ds : List Tree) (a name z y : Tree) (s : Span) (c d : Place) → ClassRule (language.Reads n) k c a name z c d → a ≡ listed ds → is_absent name ≡ false → y ≡ tree.class_decl name z
       → supported_item (tree.export_decl s y) ≡ true → notes y ≡ [] → Bare k (class_decl (expr n left_side) (member n)) ds y c d
   class_bare ds a name z y s c d r u t e h q =
       let plain = tree.class (spanned c d) (listed []) (listed r.members) r.heritage in
@@ -99,7 +100,7 @@ module _ (n : ℕ) (k : Code) (o : IsModule k) where
       let bare = tree.class_decl name plain in
       let i : y ≡ tree.class_decl name whole = e ∙ ap (tree.class_decl name) (r.is ∙ ap (λ v. tree.class (spanned c d) v (listed r.members) r.heritage) u) in
       let f = class_decl_takes name plain (name_is r.reads_name) (spanned c d, r.members, r.heritage, refl) in
-      let p = parts_of (supported name) true (supported_behind s (listed ds)) (supported plain) (sym (ap (λ v. supported_item (tree.export_decl s v)) i) ∙ h) in record {
+      let p = parts_of (supported name) true (supported_beside s (listed ds)) (supported plain) (sym (ap (λ v. supported_item (tree.export_decl s v)) i) ∙ h) in record {
         bare = bare;
         is = i;
         takes = f;
@@ -107,7 +108,7 @@ module _ (n : ℕ) (k : Code) (o : IsModule k) where
             (class_with k (listed []) a name z c d r, lift_in k.flags.module bare p.0 (λ v. (split_notes ds y bare i f q).1)) t refl w g m;
       }
 
-  function_bare : (ds : List Tree) (a name z y : Tree) (s : Span) (c d : Place) (r : FunctionRule (language.Reads n) false k a name z c d) → a ≡ listed ds → is_absent name ≡ false → y ≡ tree.fn_decl name z
+  pub function_bare : (ds : List Tree) (a name z y : Tree) (s : Span) (c d : Place) (r : FunctionRule (language.Reads n) false k a name z c d) → a ≡ listed ds → is_absent name ≡ false → y ≡ tree.fn_decl name z
       → supported_item (tree.export_decl s y) ≡ true → notes y ≡ [] → Bare k (function_decl (inner_stmt n) (parameters n)) ds y c d
   function_bare ds a name z y s c d r u t e h q =
       let plain = tree.function (spanned c d) (listed []) (parameter_trees r.patterns) r.body r.is_async r.is_generator in
@@ -115,7 +116,7 @@ module _ (n : ℕ) (k : Code) (o : IsModule k) where
       let bare = tree.fn_decl name plain in
       let i : y ≡ tree.fn_decl name whole = e ∙ ap (tree.fn_decl name) (r.is ∙ ap (λ v. tree.function (spanned c d) v (parameter_trees r.patterns) r.body r.is_async r.is_generator) u) in
       let f = fn_decl_takes name plain (name_is r.reads_name) (spanned c d, r.patterns, r.body, r.is_async, r.is_generator, refl) in
-      let p = parts_of (supported name) true (supported_behind s (listed ds)) (supported plain) (sym (ap (λ v. supported_item (tree.export_decl s v)) i) ∙ h) in record {
+      let p = parts_of (supported name) true (supported_beside s (listed ds)) (supported plain) (sym (ap (λ v. supported_item (tree.export_decl s v)) i) ∙ h) in record {
         bare = bare;
         is = i;
         takes = f;
@@ -124,7 +125,7 @@ module _ (n : ℕ) (k : Code) (o : IsModule k) where
             (split_notes ds y bare i f q).1 w g m calm;
       }
 
-  class_default_bare : (ds : List Tree) (a name z y : Tree) (s : Span) (c d : Place) → ClassRule (language.Reads n) k c a name z c d → a ≡ listed ds → y ≡ tree.class_expr (spanned c d) name z
+  pub class_default_bare : (ds : List Tree) (a name z y : Tree) (s : Span) (c d : Place) → ClassRule (language.Reads n) k c a name z c d → a ≡ listed ds → y ≡ tree.class_expr (spanned c d) name z
       → supported_item (tree.export_default_decl s y) ≡ true → notes y ≡ [] → Bare k (class_expr (expr n left_side) (member n)) ds y c d
   class_default_bare ds a name z y s c d r u e h q =
       let plain = tree.class (spanned c d) (listed []) (listed r.members) r.heritage in
@@ -132,7 +133,7 @@ module _ (n : ℕ) (k : Code) (o : IsModule k) where
       let bare = tree.class_expr (spanned c d) name plain in
       let i : y ≡ tree.class_expr (spanned c d) name whole = e ∙ ap (tree.class_expr (spanned c d) name) (r.is ∙ ap (λ v. tree.class (spanned c d) v (listed r.members) r.heritage) u) in
       let f = class_expr_takes (spanned c d) name plain (name_is r.reads_name) (spanned c d, r.members, r.heritage, refl) in
-      let p = parts_of (supported name) true (supported_behind s (listed ds)) (supported plain) (sym (ap (λ v. supported_item (tree.export_default_decl s v)) i) ∙ h) in record {
+      let p = parts_of (supported name) true (supported_beside s (listed ds)) (supported plain) (sym (ap (λ v. supported_item (tree.export_default_decl s v)) i) ∙ h) in record {
         bare = bare;
         is = i;
         takes = f;
@@ -140,7 +141,7 @@ module _ (n : ℕ) (k : Code) (o : IsModule k) where
             (lift_in k.flags.module bare p.0 (λ v. (split_notes ds y bare i f q).1)) w g m;
       }
 
-  function_default_bare : (ds : List Tree) (a name z y : Tree) (s : Span) (c d : Place) (r : FunctionRule (language.Reads n) false k a name z c d) → a ≡ listed ds → y ≡ tree.fn_expr (spanned c d) name z
+  pub function_default_bare : (ds : List Tree) (a name z y : Tree) (s : Span) (c d : Place) (r : FunctionRule (language.Reads n) false k a name z c d) → a ≡ listed ds → y ≡ tree.fn_expr (spanned c d) name z
       → supported_item (tree.export_default_decl s y) ≡ true → notes y ≡ [] → Bare k (default_function (inner_stmt n) (parameters n)) ds y c d
   function_default_bare ds a name z y s c d r u e h q =
       let plain = tree.function (spanned c d) (listed []) (parameter_trees r.patterns) r.body r.is_async r.is_generator in
@@ -148,7 +149,7 @@ module _ (n : ℕ) (k : Code) (o : IsModule k) where
       let bare = tree.fn_expr (spanned c d) name plain in
       let i : y ≡ tree.fn_expr (spanned c d) name whole = e ∙ ap (tree.fn_expr (spanned c d) name) (r.is ∙ ap (λ v. tree.function (spanned c d) v (parameter_trees r.patterns) r.body r.is_async r.is_generator) u) in
       let f = fn_expr_takes (spanned c d) name plain (name_is r.reads_name) (spanned c d, r.patterns, r.body, r.is_async, r.is_generator, refl) in
-      let p = parts_of (supported name) true (supported_behind s (listed ds)) (supported plain) (sym (ap (λ v. supported_item (tree.export_default_decl s v)) i) ∙ h) in record {
+      let p = parts_of (supported name) true (supported_beside s (listed ds)) (supported plain) (sym (ap (λ v. supported_item (tree.export_default_decl s v)) i) ∙ h) in record {
         bare = bare;
         is = i;
         takes = f;
@@ -158,7 +159,7 @@ module _ (n : ℕ) (k : Code) (o : IsModule k) where
 
 -- ---- the list behind the words
 
-at_sign : {In : Goal → Type 0} {k : Code} {x : Tree} {c d : Place} → DecoratorRule In k x c d → kind_at c ≡ kind.At
+pub at_sign : {In : Goal → Type 0} {k : Code} {x : Tree} {c d : Place} → DecoratorRule In k x c d → kind_at c ≡ kind.At
 at_sign (decorator_rule e i r g) = i
 
 -- where one stands, with its setting
@@ -172,7 +173,7 @@ joined_read : (k : Code) (d : Place) (w : Scope) (f : List Fault) (h : Notes) (x
 joined_read k d w f h x z es fs gs l m n e q r = λ i. Ok (e i, st d k w ((append_assoc f es fs ∙ ap (λ v. f ++ v) q) i) ((notes_assoc h l m ∙ ap (λ v. h ⊕ v) r) i))
 
 module _ (n : ℕ) (k : Code) (o : IsModule k) where
-  list_read : (a : Tree) (c m : Place) → DecoratorsRule (language.Reads n) k a c m → sees kind.At m ≡ false → supported a ≡ true → notes a ≡ [] → (w : Scope) (f : List Fault) (h : Notes)
+  pub list_read : (a : Tree) (c m : Place) → DecoratorsRule (language.Reads n) k a c m → sees kind.At m ≡ false → supported a ≡ true → notes a ≡ [] → (w : Scope) (f : List Fault) (h : Notes)
       → (ds : List Tree) × (a ≡ listed ds) × (leading (decorated_in n) (st c k w f h) ≡ Ok (record { found = ds; place = spanned c m; module_found = h.found_module_item }, st m k w (f ++ walk (env_of k w.labels) a) (h ⊕ notes_of a)))
   list_read a c m r e s q w f h =
       leading_reads (language.Reads n) (decorated_in n) (λ j x i d r s. decorated_in_reads n j x i d (r, s)) (decorated_in_falls n) k a c m r (and_no k.setting.decorators (sees kind.At m) e)
@@ -207,25 +208,25 @@ module _ (n : ℕ) (k : Code) (o : IsModule k) where
       default_with_read declaration bare g l e = rw e refl
 
     -- a class or a function stands behind the list
-    class_named : (start : Span) (v : Leading) (s : State) → kind_at s.at ≡ kind.Class
+    pub class_named : (start : Span) (v : Leading) (s : State) → kind_at s.at ≡ kind.Class
         → named_with (inner_stmt n) (expr n) (pattern n) (parameters n) (member n) (object_alone n) (decorated_in n) start v s
         ≡ exported (inner_stmt n) (expr n) (pattern n) (parameters n) (member n) start (decorating v.found (class_decl (expr n left_side) (member n))) s
     unfolding named_with same_kind
     class_named start v s e = rw e refl
 
-    function_named : {b : Bool} (start : Span) (v : Leading) (s : State) (i : Place) → AsyncWord b s.at i → kind_at i ≡ kind.Function
+    pub function_named : {b : Bool} (start : Span) (v : Leading) (s : State) (i : Place) → AsyncWord b s.at i → kind_at i ≡ kind.Function
         → named_with (inner_stmt n) (expr n) (pattern n) (parameters n) (member n) (object_alone n) (decorated_in n) start v s
         ≡ exported (inner_stmt n) (expr n) (pattern n) (parameters n) (member n) start (decorating v.found (function_decl (inner_stmt n) (parameters n))) s
     unfolding named_with
     function_named start v s i a e = rw (no_class n s.at i a e, function_begins n s.at i a e) refl
 
-    class_default : (start first : Span) (v : Leading) (s : State) → kind_at s.at ≡ kind.Class
+    pub class_default : (start first : Span) (v : Leading) (s : State) → kind_at s.at ≡ kind.Class
         → default_with (inner_stmt n) (expr n) (pattern n) (parameters n) (member n) (object_alone n) (decorated_in n) start first v s
         ≡ by_default start (decorating v.found (class_expr (expr n left_side) (member n))) s
     unfolding default_with same_kind
     class_default start first v s e = rw e refl
 
-    function_default : {b : Bool} (start first : Span) (v : Leading) (s : State) (i : Place) → AsyncWord b s.at i → kind_at i ≡ kind.Function
+    pub function_default : {b : Bool} (start first : Span) (v : Leading) (s : State) (i : Place) → AsyncWord b s.at i → kind_at i ≡ kind.Function
         → default_with (inner_stmt n) (expr n) (pattern n) (parameters n) (member n) (object_alone n) (decorated_in n) start first v s
         ≡ by_default start (decorating v.found (default_function (inner_stmt n) (parameters n))) s
     unfolding default_with
@@ -358,7 +359,7 @@ function_no_export c m (async_word i j l o) e = rw (async_kind c (async_stands c
 -- ---- decorated exports
 
 -- the list that a tree of decorators is
-list_of : {In : Goal → Type 0} {k : Code} {a : Tree} {c d : Place} → DecoratorsRule In k a c d → (ds : List Tree) × (a ≡ listed ds)
+pub list_of : {In : Goal → Type 0} {k : Code} {a : Tree} {c d : Place} → DecoratorsRule In k a c d → (ds : List Tree) × (a ≡ listed ds)
 list_of (no_decorators e g) = ([], g)
 list_of (some_decorators y ys s r e) = (y ∷ ys, e)
 
@@ -433,37 +434,44 @@ module _ (n : ℕ) (k : Code) (o : IsModule k) (a x y : Tree) (c i d : Place) (z
         (function_no_at n i p.word p.reads_async p.is_function) (function_no_export i p.word p.reads_async p.is_function)
         (λ v t l. function_default n k o w f h (span_at c) (span_at (after c)) v t p.word (subst (λ z. AsyncWord p.is_async z p.word) (sym l) p.reads_async) p.is_function)
 
--- those before the words are not supported
-declared_decorated : (n : ℕ) (k : Code) (o : IsModule k) (a x y : Tree) (c m i d : Place) → ExportFrontRule (language.Reads n) k false a c m i → has_none a ≡ false → ExportedRule (language.Reads n) k a y i d
-    → x ≡ tree.export_decl (spanned m d) y → supported_item x ≡ true → notes x ≡ [] → ReadsCalm (whole_reader n) k x c d
+-- none of those behind the words begins before them; no word stands where decorators before them do
+declared_decorated : (n : ℕ) (k : Code) (o : IsModule k) (a x y : Tree) (c m i d : Place) → kind_at c ≡ kind.Export → OrderedFor (is_led x) c → ExportFrontRule (language.Reads n) k false a c m i → has_none a ≡ false
+    → ExportedRule (language.Reads n) k a y i d → x ≡ tree.export_decl (spanned m d) y → supported_item x ≡ true → notes x ≡ [] → ReadsCalm (whole_reader n) k x c d
 unfolding spanned
-declared_decorated n k o a x y c m i d (decorated_before p r b v) z g e s q w f h calm =
-    absurd (true≢false (sym (none_in_front (span_at m) d.last.hi a b (exported_behind k a x y (spanned m d) i d g e s)) ∙ z))
-declared_decorated n k o a x y c m i d (decorated_behind j l v r) z g e s q w f h calm =
-    let word = declared_word v in
-    declared_core n k o a x y c i d z (subst (λ p. supported_behind (spanned p d) a ≡ true) l (exported_behind k a x y (spanned m d) i d g e s)) s q w f h calm
-    (subst (λ p. DecoratorsRule (language.Reads n) k a p i) (word.1 ∙ ap after l) (subst (λ b. DecoratorsRule (language.Reads n) b a j i) (in_module_same k o) r))
-    (e ∙ ap (λ p. tree.export_decl (spanned p d) y) l) g
+declared_decorated n k o a x y c m i d word order (decorated_before t0 (no_decorators u v) b v0) z g e s q w f h calm = absurd (true≢false (sym (ap has_none v) ∙ z))
+declared_decorated n k o a x y c m i d word order (decorated_before t0 (some_decorators u us l (j, r, rs) v) b v0) z g e s q w f h calm = let f0 = sym word ∙ at_sign r in cc
+declared_decorated n k o a x y c m i d word order (decorated_behind j l v r) z g e s q w f h calm =
+    let next = declared_word v in
+    let list = subst (λ p. DecoratorsRule (language.Reads n) k a p i) (next.1 ∙ ap after l) (subst (λ b. DecoratorsRule (language.Reads n) b a j i) (in_module_same k o) r) in
+    let whole = e ∙ ap (λ p. tree.export_decl (spanned p d) y) l in
+    declared_core n k o a x y c i d z
+    (behind_only (language.Reads n) k (spanned c d) a c (after c) i (is_led x) list (subst (λ p. supported_beside (spanned p d) a ≡ true) l (exported_behind k a x y (spanned m d) i d g e s))
+    (led_exported k a x y (spanned c d) i d g whole) order (steps_on c)) s q w f h calm list whole g
 
-default_decorated : (n : ℕ) (k : Code) (o : IsModule k) (a x y : Tree) (c m i d : Place) → ExportFrontRule (language.Reads n) k true a c m i → has_none a ≡ false → DefaultRule (language.Reads n) k a y i d
-    → x ≡ tree.export_default_decl (spanned m d) y → supported_item x ≡ true → notes x ≡ [] → ReadsCalm (whole_reader n) k x c d
+default_decorated : (n : ℕ) (k : Code) (o : IsModule k) (a x y : Tree) (c m i d : Place) → kind_at c ≡ kind.Export → OrderedFor (is_led x) c → ExportFrontRule (language.Reads n) k true a c m i → has_none a ≡ false
+    → DefaultRule (language.Reads n) k a y i d → x ≡ tree.export_default_decl (spanned m d) y → supported_item x ≡ true → notes x ≡ [] → ReadsCalm (whole_reader n) k x c d
 unfolding spanned
-default_decorated n k o a x y c m i d (decorated_before p r b v) z g e s q w f h calm =
-    absurd (true≢false (sym (none_in_front (span_at m) d.last.hi a b (default_behind k a x y (spanned m d) i d g e s)) ∙ z))
-default_decorated n k o a x y c m i d (decorated_behind j l v r) z g e s q w f h calm =
+default_decorated n k o a x y c m i d word order (decorated_before t0 (no_decorators u v) b v0) z g e s q w f h calm = absurd (true≢false (sym (ap has_none v) ∙ z))
+default_decorated n k o a x y c m i d word order (decorated_before t0 (some_decorators u us l (j, r, rs) v) b v0) z g e s q w f h calm = let f0 = sym word ∙ at_sign r in cc
+default_decorated n k o a x y c m i d word order (decorated_behind j l v r) z g e s q w f h calm =
     let words = default_words v in
-    default_core n k o a x y c i d z (subst (λ p. supported_behind (spanned p d) a ≡ true) l (default_behind k a x y (spanned m d) i d g e s)) s q w f h calm
-    (subst (λ p. kind_at (after p) ≡ kind.Default) l words.0)
-    (subst (λ p. DecoratorsRule (language.Reads n) k a p i) (words.1 ∙ ap (λ p. after (after p)) l) (subst (λ b. DecoratorsRule (language.Reads n) b a j i) (in_module_same k o) r))
-    (e ∙ ap (λ p. tree.export_default_decl (spanned p d) y) l) g
+    let list = subst (λ p. DecoratorsRule (language.Reads n) k a p i) (words.1 ∙ ap (λ p. after (after p)) l) (subst (λ b. DecoratorsRule (language.Reads n) b a j i) (in_module_same k o) r) in
+    let whole = e ∙ ap (λ p. tree.export_default_decl (spanned p d) y) l in
+    default_core n k o a x y c i d z
+    (behind_only (language.Reads n) k (spanned c d) a c (after (after c)) i (is_led x) list (subst (λ p. supported_beside (spanned p d) a ≡ true) l (default_behind k a x y (spanned m d) i d g e s))
+    (led_default k a x y (spanned c d) i d g whole) order (λ h. twice (steps_on c h) (steps_on (after c) (ordered_after c h)))) s q w f h calm
+    (subst (λ p. kind_at (after p) ≡ kind.Default) l words.0) list whole g
+  where
+    twice : {a b c : ℕ} → a ≤ b → b ≤ c → a ≤ c
+    twice p q = omega arith
 
 -- ---- whole exports
 
-pub export_reads : (n : ℕ) (k : Code) (x : Tree) (c d : Place) → IsModule k → ExportRule (language.Reads n) k x c d → supported_item x ≡ true → notes x ≡ []
+pub export_reads : (n : ℕ) (k : Code) (x : Tree) (c d : Place) → IsModule k → kind_at c ≡ kind.Export → OrderedFor (is_led x) c → ExportRule (language.Reads n) k x c d → supported_item x ≡ true → notes x ≡ []
     → (w : Scope) (f : List Fault) (h : Notes) → Calm k w.labels x d
     → export_item (stmt n nested_item) (expr n) (pattern n) (parameters n) (member n) (object_alone n) (decorated_in n) (st c k w f h) ≡ Ok (x, st d k w (f ++ walk (env_of k w.labels) x) (h ⊕ notes_of x))
 unfolding same_kind
-export_reads n k x c d o (export_declaration_rule a y m i v r e) s q w f h calm = by_none (has_none a) refl
+export_reads n k x c d o word order (export_declaration_rule a y m i v r e) s q w f h calm = by_none (has_none a) refl
   where
     r1 : ExportedRule (language.Reads n) k a y i d
     r1 = subst (λ j. ExportedRule (language.Reads n) j a y i d) (in_module_same k o) r
@@ -478,18 +486,18 @@ export_reads n k x c d o (export_declaration_rule a y m i v r e) s q w f h calm 
         item_plain n (st c k w f h) no.0 (λ p. absurd (no.1 p))
         ∙ declaration_read n k a x y c d o j u.1 (e ∙ ap (λ p. tree.export_decl (spanned p d) y) u.0)
         (exported_supported (spanned m d) r u.1 (item_as x (tree.export_decl (spanned m d) y) e s)) (sym (ap notes e) ∙ q) w f h calm
-    by_none false z = declared_decorated n k o a x y c m i d v z r1 e s q w f h calm
-export_reads n k x c d o (export_from_rule b xs src attributes l m i v r a t g e) s q w f h calm =
+    by_none false z = declared_decorated n k o a x y c m i d word order v z r1 e s q w f h calm
+export_reads n k x c d o word order (export_from_rule b xs src attributes l m i v r a t g e) s q w f h calm =
     let no = clause_no_at r (inr a.0) in
     item_plain n (st c k w f h) no.0 no.1
     ∙ export_from_read n k o b xs src attributes x c l m i d (subst (λ j. ExportClauseRule j b xs (after c) l) (in_module_same k o) r) a
     (subst (λ j. AttributesRule (language.Reads n) j attributes m i) (in_module_same k o) t)
     (item_as x (tree.export_named (spanned c d) (listed xs) src attributes) e s, (nil-split (notes (listed xs) ++ notes src) (notes attributes) (sym (ap notes e) ∙ q)).1) g e w f h calm
-export_reads n k x c d o (export_names_rule xs m v r a g e) s q w f h calm =
+export_reads n k x c d o word order (export_names_rule xs m v r a g e) s q w f h calm =
     let no = clause_no_at r (inl refl) in
     item_plain n (st c k w f h) no.0 no.1
     ∙ export_own_read n k o xs x c m d (subst (λ j. ExportClauseRule j true xs (after c) m) (in_module_same k o) r) a g e w f h calm
-export_reads n k x c d o (export_default_declaration_rule a y m i v r e) s q w f h calm = by_none (has_none a) refl
+export_reads n k x c d o word order (export_default_declaration_rule a y m i v r e) s q w f h calm = by_none (has_none a) refl
   where
     r1 : DefaultRule (language.Reads n) k a y i d
     r1 = subst (λ j. DefaultRule (language.Reads n) j a y i d) (in_module_same k o) r
@@ -501,13 +509,13 @@ export_reads n k x c d o (export_default_declaration_rule a y m i v r e) s q w f
         let b = default_words u.2 in
         item_plain n (st c k w f h) (other_no_at n (after c) kind.Default b.0 refl) (λ p. subst (λ j. sees kind.At j ≡ false) b.1 (default_no_at n k a y i d r1))
         ∙ default_read n k a x y c m i d o v z r1 e s q w f h calm
-    by_none false z = default_decorated n k o a x y c m i d v z r1 e s q w f h calm
-export_reads n k x c d o (export_default_expression_rule e m v a b r g i) s q w f h calm =
+    by_none false z = default_decorated n k o a x y c m i d word order v z r1 e s q w f h calm
+export_reads n k x c d o word order (export_default_expression_rule e m v a b r g i) s q w f h calm =
     item_plain n (st c k w f h) (other_no_at n (after c) kind.Default a refl)
     (λ p. expression_no_at (with_in (in_module k)).flags (after (after c)) (expressions_begin n assignment (with_in (in_module k)) e (after (after c)) m r))
     ∙ default_expr_read n k o e x c m d a b (subst (λ j. language.Reads n (expr_goal assignment (with_in j) e (after (after c)) m)) (in_module_same k o) r) g i
     (item_as x (tree.export_default_expr (spanned c d) e) i s) (sym (ap notes i) ∙ q) w f h calm
-export_reads n k x c d o (export_all_rule src attributes m i v a r t g e) s q w f h calm =
+export_reads n k x c d o word order (export_all_rule src attributes m i v a r t g e) s q w f h calm =
     item_plain n (st c k w f h) (other_no_at n (after c) kind.Mul a refl) (λ p. let j = sym a ∙ p in cc)
     ∙ export_all_read n k o src attributes x c m i d a r (subst (λ j. AttributesRule (language.Reads n) j attributes m i) (in_module_same k o) t)
     (item_as x (tree.export_all (spanned c d) src attributes) e s, (nil-split (notes src) (notes attributes) (sym (ap notes e) ∙ q)).1) g e w f h calm

@@ -41,7 +41,7 @@ use Rattle.swc_ecma_parser_grammar.proofs.Tests.{and_yes}
 use Rattle.swc_ecma_parser_reader.specs.DecoratedStatements.{either_stmt}
 use Rattle.swc_ecma_parser_reader.specs.Members.{class_decl}
 use Rattle.swc_ecma_parser_reader.specs.Notes.{Notes, ◌⊕◌, notes_of, all_notes_of}
-use Rattle.swc_ecma_parser_reader.specs.Reader.{expr, pattern, member, parameters, object_alone, stmt, stmt_level, const_stmt, let_stmt, function_stmt, async_or_other, variables, function_decl, function_parts, misdirected, named}
+use Rattle.swc_ecma_parser_reader.specs.Reader.{expr, pattern, member, parameters, object_alone, stmt, stmt_level, const_stmt, let_stmt, function_stmt, async_or_other, variables, function_decl, function_parts, misdirected, named, await_using_or}
 use Rattle.swc_ecma_parser_reader.specs.State.{Scope, State, Reader, moved}
 use Rattle.swc_ecma_parser_reader.proofs.Answered.{st, ReadsCalm}
 use Rattle.swc_ecma_parser_reader.proofs.Below.{expr_reads, parameters_reads}
@@ -62,6 +62,7 @@ use Rattle.swc_ecma_parser_module_reader.proofs.CompleteShared.{name_reads}
 use Rattle.swc_ecma_parser_module_reader.proofs.CompleteExportNames.{no_function_at}
 use Rattle.swc_ecma_parser_module_reader.proofs.AllLevels.{below, function_body_reads, word_reads, star_reads}
 use Rattle.swc_ecma_parser_grammar.proofs.Naming.{name_is_name}
+use Rattle.swc_ecma_parser_grammar.specs.Using.{is_await_using_declaration}
 
 -- ---- words and decorators
 
@@ -89,13 +90,13 @@ module _ (n : ℕ) where
   inner_stmt = stmt n nested_item
 
   stmt_variables : (word : VarDeclKind) (s : State) → begins_variables word s.at ≡ true → stmt (suc n) nested_item s ≡ variables (expr n) (pattern n) word s
-  unfolding stmt either_stmt same_kind stmt_level const_stmt let_stmt
+  unfolding stmt either_stmt await_using_or is_await_using_declaration same_kind stmt_level const_stmt let_stmt
   stmt_variables decl.Var s e = rw (saw s.at kind.Var e) refl
   stmt_variables decl.Const s e = rw (saw s.at kind.Const e) refl
   stmt_variables decl.Let s e = rw (let_stands s.at e, e) refl
 
   pub stmt_function : {b : Bool} (s : State) (m : Place) → AsyncWord b s.at m → kind_at m ≡ kind.Function → stmt (suc n) nested_item s ≡ function_decl inner_stmt (parameters n) s
-  unfolding stmt either_stmt same_kind stmt_level function_stmt async_or_other
+  unfolding stmt either_stmt await_using_or is_await_using_declaration same_kind stmt_level function_stmt async_or_other
   stmt_function s m (not_async i j) e = rw (ap kind_at (sym j) ∙ e) refl
   stmt_function s m (async_word i j l o) e = let v = async_stands s.at m j l o e in rw (async_kind s.at v, v) refl
 

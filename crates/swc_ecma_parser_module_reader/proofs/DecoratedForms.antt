@@ -1,5 +1,5 @@
 -- Trees with decorators: what a class or a function under its name is with a list of them.
-use Rattle.std.proofs.Common.{◌≡◌, Bool, true, false, List, [], ◌++◌, refl, sym, ◌∙◌, ap, subst, append_assoc}
+use Rattle.std.proofs.Common.{◌≡◌, Bool, true, false, true≢false, List, [], ◌++◌, refl, sym, ◌∙◌, ap, subst, append_assoc}
 use Rattle.std.specs.Prelude.{not, ◌&&◌, ◌||◌, nat_lt, if◌then◌else◌}
 use Rattle.swc_ecma_parser_common.specs.declared.span.Span.{Span}
 use Rattle.swc_ecma_parser_model.specs.Tree as tree
@@ -8,15 +8,13 @@ use Rattle.swc_ecma_parser_model.specs.Forms.{span_of, has_plain_params}
 use Rattle.swc_ecma_parser_grammar.specs.Notes.{notes}
 use Rattle.swc_ecma_parser_grammar.specs.Own.{misplaced_directive}
 use Rattle.swc_ecma_parser_grammar.specs.Parameters.{parameters}
-use Rattle.swc_ecma_parser_grammar.specs.Supported.{all_supported}
 use Rattle.swc_ecma_parser_grammar.specs.Walk as walks
 use Rattle.swc_ecma_parser_grammar.specs.Walk.{Env, walk, walk_body, walk_class_body, walk_exported, walk_decorators, walk_each_decorator}
+use Rattle.swc_ecma_parser_grammar.specs.language.Exports.{all_before}
 use Rattle.swc_ecma_parser_grammar.specs.language.Noted.{has_meta}
-use Rattle.swc_ecma_parser_grammar.proofs.Tests.{and_yes}
 use Rattle.swc_ecma_parser_reader.specs.Notes.{◌⊕◌, notes_of}
 use Rattle.swc_ecma_parser_reader.proofs.Notes.{or_assoc}
 use Rattle.swc_ecma_parser_module_reader.specs.Decorated.{with_decorators, none_before}
-use Rattle.swc_ecma_parser_module_reader.specs.Supported.{supported_behind}
 
 -- ---- names
 
@@ -150,6 +148,20 @@ pub behind_walk : (env : Env) (s : Span) (ds : List Tree) → none_before s.lo (
 behind_walk env s ds h = walked_behind env s (trees ds) h
 
 -- so the walk has no other code for them in module code
-pub decorators_same : (env : Env) (s : Span) (ds : Tree) → supported_behind s ds ≡ true → walk_decorators (walks.in_module env) s ds ≡ walk_decorators env s ds
-decorators_same env s (tree.list ds) h = let g = (and_yes (all_supported ds) _ h).1 in walked_behind (walks.in_module env) s ds g ∙ sym (walked_behind env s ds g)
-decorators_same env s _ h = cc
+pub decorators_same : (env : Env) (s : Span) (ds : List Tree) → none_before s.lo (trees ds) ≡ true → walk_decorators (walks.in_module env) s (listed ds) ≡ walk_decorators env s (listed ds)
+decorators_same env s ds h = behind_walk (walks.in_module env) s ds h ∙ sym (behind_walk env s ds h)
+
+-- ---- decorators before an export
+
+-- each is walked as the code around
+walked_before : (env : Env) (s : Span) (ds : Trees) → all_before s ds ≡ true → walk_each_decorator env s ds ≡ walks.walks env false ds
+walked_before env s none h = refl
+walked_before env s (also d ds) h = by_case (nat_lt (span_of d).lo.0 s.lo.0) h (walked_before env s ds)
+  where
+    by_case : (b : Bool) → (b && all_before s ds) ≡ true → (all_before s ds ≡ true → walk_each_decorator env s ds ≡ walks.walks env false ds)
+        → walk (if b then env else walks.in_module env) d ++ walk_each_decorator env s ds ≡ walk env d ++ walks.walks env false ds
+    by_case true h f = ap (λ z. walk env d ++ z) (f h)
+    by_case false h f = absurd (true≢false (sym h))
+
+pub before_walk : (env : Env) (s : Span) (ds : List Tree) → all_before s (trees ds) ≡ true → walk_decorators env s (listed ds) ≡ walk env (listed ds)
+before_walk env s ds h = walked_before env s (trees ds) h

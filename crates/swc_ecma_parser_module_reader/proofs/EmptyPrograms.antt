@@ -6,17 +6,19 @@ use Rattle.swc_ecma_parser_input.specs.Place.{Place}
 use Rattle.swc_ecma_parser_model.specs.Tree as tree
 use Rattle.swc_ecma_parser_model.specs.Tree.{Tree, listed}
 use Rattle.swc_ecma_parser_grammar.specs.Entries.{no_shebang}
-use Rattle.swc_ecma_parser_grammar.specs.Looks.{spanned}
-use Rattle.swc_ecma_parser_grammar.specs.Reads.{top_item}
-use Rattle.swc_ecma_parser_reader.specs.Reader.{items, at_end, whole_stmt}
+use Rattle.swc_ecma_parser_grammar.specs.Looks.{spanned, span_at}
+use Rattle.swc_ecma_parser_reader.specs.Reader.{items, at_end}
 use Rattle.swc_ecma_parser_reader.specs.State.{State, coded}
 use Rattle.swc_ecma_parser_reader.proofs.CompleteParts.{at_end_at, shebang_reads}
 use Rattle.swc_ecma_parser_reader.proofs.Empty.{ended}
 use Rattle.swc_ecma_parser_reader.proofs.Loops.{items_stop}
 use Rattle.swc_ecma_parser_reader.proofs.expressions.Covers.{same_answer}
 use Rattle.swc_ecma_parser_module_reader.specs.Modules.{module_item}
-use Rattle.swc_ecma_parser_module_reader.specs.Programs.{begins_module, before_module, program_code, entered, as_script, as_module, program_body, program_whole}
+use Rattle.swc_ecma_parser_module_reader.specs.Programs.{begins_module, before_module, program_code, entered, as_script, as_module, program_body, program_whole, Front, front, behind_front}
 use Rattle.swc_ecma_parser_module_reader.proofs.Empty.{no_shebang_there}
+use Rattle.swc_ecma_parser_reader.specs.Decorators.{Leading}
+use Rattle.swc_ecma_parser_module_reader.specs.Decorated.{no_leading}
+use Rattle.swc_ecma_parser_module_reader.proofs.Fronts.{front_stop}
 
 -- statements stop there at once
 stops_there : (c : Place) → c.left ≡ [] → before_module c ≡ true
@@ -27,14 +29,24 @@ pub none_begins : {A : Type 0} (c : Place) → c.left ≡ [] → before_module c
 none_begins c e h = let f : true ≡ false = sym (stops_there c e) ∙ h in cc
 
 -- there are no statements, and no items behind them
-module _ (n : ℕ) (s : State) (e : s.at.left ≡ []) (xs : List Tree) (t : State) where
-  pub nothing_before : items (whole_stmt n top_item) before_module true s ≡ Ok (xs, t) → (xs ≡ []) × (t ≡ s)
-  unfolding items
-  nothing_before h = same_answer xs [] t s (sym h ∙ items_stop (whole_stmt n top_item) before_module true [] s (stops_there s.at e))
+front_nothing : (n : ℕ) (s : State) → s.at.left ≡ [] → front n s ≡ Ok (record { before = []; list = no_leading s }, s)
+unfolding front
+front_nothing n s e = front_stop n [] s (stops_there s.at e)
 
-  pub nothing_behind : items (module_item n) at_end true s ≡ Ok (xs, t) → xs ≡ []
-  unfolding items
-  nothing_behind h = (same_answer xs [] t s (sym h ∙ items_stop (module_item n) at_end true [] s (at_end_at s.at (ended s.at e)))).0
+items_nothing : (n : ℕ) (s : State) → s.at.left ≡ [] → items (module_item n) at_end true s ≡ Ok ([], s)
+unfolding items
+items_nothing n s e = items_stop (module_item n) at_end true [] s (at_end_at s.at (ended s.at e))
+
+behind_nothing : (n : ℕ) (v : Leading) (s : State) → s.at.left ≡ [] → v.found ≡ [] → behind_front n v s ≡ Ok ([], s)
+unfolding behind_front
+behind_nothing n v s e h = rw h (items_nothing n s e)
+
+module _ (n : ℕ) (s : State) (e : s.at.left ≡ []) where
+  pub nothing_before : (w : Front) (t : State) → front n s ≡ Ok (w, t) → (w.before ≡ []) × (w.list.found ≡ []) × (t ≡ s)
+  nothing_before w t h = let (a, b) = same_answer w (record { before = []; list = no_leading s }) t s (sym h ∙ front_nothing n s e) in (ap (λ z. z.before) a, ap (λ z. z.list.found) a, b)
+
+  pub nothing_behind : (v : Leading) → v.found ≡ [] → (xs : List Tree) (t : State) → behind_front n v s ≡ Ok (xs, t) → xs ≡ []
+  nothing_behind v g xs t h = (same_answer xs [] t s (sym h ∙ behind_nothing n v s e g)).0
 
 pub none_mapped : {A B : Type 0} (f : A → B) (xs : List A) → map f xs ≡ [] → xs ≡ []
 none_mapped f [] h = refl
@@ -43,11 +55,11 @@ none_mapped f (x ∷ xs) h = cc
 -- a script without statements, and the state as before
 pub script_of_nothing : (n : ℕ) (recorded : List Fault) (s : State) → s.at.left ≡ [] → s.notes.found_module_item ≡ false
     → program_whole n recorded s ≡ Ok ((tree.script (spanned s.at s.at) (listed []) None, []), s)
-unfolding program_whole program_body as_script items
+unfolding program_whole program_body as_script
 script_of_nothing n recorded s e g =
     rw (
       shebang_reads None s.at s.at (program_code s.code) s.scope s.faults s.notes (no_shebang (no_shebang_there s.at e) refl),
-      items_stop (whole_stmt n top_item) before_module true [] (coded (program_code s.code) s) (stops_there s.at e),
+      front_nothing n (coded (program_code s.code) s) e,
       at_end_at s.at (ended s.at e),
       g,
     ) refl
@@ -55,12 +67,12 @@ script_of_nothing n recorded s e g =
 -- a module without items, where module code begins
 pub module_program_of_nothing : (n : ℕ) (recorded : List Fault) (s : State) → s.at.left ≡ [] → s.notes.found_module_item ≡ true
     → program_whole n recorded s ≡ Ok ((tree.module_program (spanned s.at s.at) (listed []) None, s.notes.held_back), entered recorded s)
-unfolding program_whole program_body as_module items
+unfolding program_whole program_body as_module
 module_program_of_nothing n recorded s e g =
     rw (
       shebang_reads None s.at s.at (program_code s.code) s.scope s.faults s.notes (no_shebang (no_shebang_there s.at e) refl),
-      items_stop (whole_stmt n top_item) before_module true [] (coded (program_code s.code) s) (stops_there s.at e),
+      front_nothing n (coded (program_code s.code) s) e,
       at_end_at s.at (ended s.at e),
       g,
-      items_stop (module_item n) at_end true [] (record (entered recorded (coded (program_code s.code) s)) { notes = record { held_back = []; found_module_item = true } }) (at_end_at s.at (ended s.at e)),
+      behind_nothing n (record { found = []; place = span_at s.at; module_found = true }) (record (entered recorded (coded (program_code s.code) s)) { notes = record { held_back = []; found_module_item = true } }) e refl,
     ) refl

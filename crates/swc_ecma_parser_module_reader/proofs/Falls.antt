@@ -1,11 +1,11 @@
 -- An item of a module takes a token at least, and so does what is named in braces.
-use Rattle.std.proofs.Common.{◌≡◌, ◌≢◌, ℕ, zero, suc, ◌+◌, ◌<◌, ◌≤◌, Bool, true, false, List, [], ◌∷◌, length, Option, Some, None, Ok, Err, refl, sym, ◌∙◌, arith, subst}
-use Rattle.std.specs.Prelude.{◌&&◌, ◌||◌, ◌++◌, codes}
+use Rattle.std.proofs.Common.{◌≡◌, ◌≢◌, ℕ, zero, suc, ◌+◌, ◌<◌, ◌≤◌, Bool, true, false, List, [], ◌∷◌, length, Option, Some, None, Ok, Err, refl, sym, ◌∙◌, ap, arith, subst}
+use Rattle.std.specs.Prelude.{not, ◌&&◌, ◌||◌, ◌++◌, codes}
 use Rattle.swc_ecma_parser_common.specs.declared.span.Span.{Span}
 use Rattle.swc_ecma_parser_error.specs.Kind as faults
 use Rattle.swc_ecma_parser_token.specs.declared.kind.TokenKind.TheVariants as kind
 use Rattle.swc_ecma_parser_token.specs.declared.token.TokenAndSpan.{TokenAndSpan}
-use Rattle.swc_ecma_parser_input.specs.Place.{after}
+use Rattle.swc_ecma_parser_input.specs.Place.{Place, after}
 use Rattle.swc_ecma_parser_model.specs.declared.leaves.Ident.{Ident}
 use Rattle.swc_ecma_parser_model.specs.declared.leaves.ImportPhase.{ImportPhase}
 use Rattle.swc_ecma_parser_model.specs.declared.leaves.ImportPhase.TheVariants as phase
@@ -18,6 +18,7 @@ use Rattle.swc_ecma_parser_grammar.specs.Follows.{word_at, is_let_declaration, i
 use Rattle.swc_ecma_parser_grammar.specs.Own.{export_faults}
 use Rattle.swc_ecma_parser_grammar.specs.Reads.{with_in, nested_item, top_item}
 use Rattle.swc_ecma_parser_grammar.specs.language.Contexts.{outside_functions}
+use Rattle.swc_ecma_parser_grammar.specs.language.Exports.{begin_before}
 use Rattle.swc_ecma_parser_grammar.specs.language.Goals.{assignment, left_side}
 use Rattle.swc_ecma_parser_grammar.specs.language.Imports.{follows_phase}
 use Rattle.swc_ecma_parser_grammar.specs.language.ModuleParts.{begins_attributes}
@@ -28,33 +29,36 @@ use Rattle.swc_ecma_parser_reader.specs.Jumps.{told}
 use Rattle.swc_ecma_parser_reader.specs.Members.{class_decl, class_expr, class_stmt}
 use Rattle.swc_ecma_parser_reader.specs.Methods.{method_form, star}
 use Rattle.swc_ecma_parser_reader.specs.Operands.{literal, literal_in, taken, word_property}
-use Rattle.swc_ecma_parser_reader.specs.Reader.{variables, const_stmt, let_stmt, function_stmt, function_decl, function_parts, function_word, function_by, function, plain_method, async_or_other, named, optional_end, expr, pattern, member, stmt, stmt_level, parameters, object_alone}
+use Rattle.swc_ecma_parser_reader.specs.Reader.{variables, const_stmt, let_stmt, function_stmt, function_decl, function_parts, function_word, function_by, function, plain_method, async_or_other, named, optional_end, expr, pattern, member, stmt, stmt_level, parameters, object_alone, await_using_or}
 use Rattle.swc_ecma_parser_reader.specs.State.{State, Outcome, Reader, and_then, moved, coded, within, name, expect, expect_word, end, loop}
 use Rattle.swc_ecma_parser_reader.specs.Words.{any_word}
 use Rattle.swc_ecma_parser_reader.proofs.Falls.{expr_falls, functions_fall, member_falls, stmt_falls, whole_stmt_falls}
 use Rattle.swc_ecma_parser_reader.proofs.classes.Falls as classes
-use Rattle.swc_ecma_parser_reader.proofs.Meets.{saw}
+use Rattle.swc_ecma_parser_reader.proofs.Errors.{is_error}
+use Rattle.swc_ecma_parser_reader.proofs.Meets.{Meets, saw}
 use Rattle.swc_ecma_parser_reader.proofs.Objects.{object_alone_falls}
-use Rattle.swc_ecma_parser_reader.proofs.Takes.{Falls, falls_then, falls_last, falls_coded, falls_if, less, falls_next, moves, takes_one, falls_past, falls_moved, wanted_falls, too_deep_falls, refuse_falls, name_falls, end_falls, expect_falls, loop_falls}
+use Rattle.swc_ecma_parser_reader.proofs.Takes.{Falls, weaker, falls_then, falls_last, falls_coded, falls_if, less, falls_next, moves, takes_one, falls_past, falls_moved, wanted_falls, too_deep_falls, refuse_falls, name_falls, end_falls, expect_falls, loop_falls}
 use Rattle.swc_ecma_parser_reader.proofs.Words.{async_kind}
-use Rattle.swc_ecma_parser_reader.proofs.decorators.Leading.{leading_falls, misplaced_falls}
+use Rattle.swc_ecma_parser_reader.proofs.decorators.Leading.{leading_falls, misplaced_falls, misplaced_still}
 use Rattle.swc_ecma_parser_reader.proofs.Falls.{decorated_in_falls}
 use Rattle.swc_ecma_parser_reader.proofs.expressions.Falls.{reject_falls, falls_when, any_word_falls, star_falls, told_falls, no_end}
 use Rattle.swc_ecma_parser_reader.proofs.expressions.Loops.{shorter_by}
 use Rattle.swc_ecma_parser_module_reader.specs.Imports.{str_or, str, source, module_name, attributes, specifiers_turn, specifiers, same_name, other_name, import_specifier, binding_name, import_namespace, bindings, more_bindings, default_binding, import_clause, imported, import_from, phase_of, import_phased, is_phase_word, import_decl}
 use Rattle.swc_ecma_parser_module_reader.specs.Exports.{renamed_export, plain_export, export_specifier, export_namespace, names_from, own_names, export_names, more_names, namespace_names, export_all, export_star, is_namespace_next, behind_default, is_name_from, name_from, is_default_from, default_from, default_name, default_function, default_expr, begins_default_function, exported_function, exported_class, default_rest, export_default, exported, export_rest, export_named}
-use Rattle.swc_ecma_parser_module_reader.specs.Decorated.{none_before, begins_decorators, no_leading, later_alone, later, decorating, by_default, named_with, default_with, behind_export, behind_default_word, export_from, export_item}
-use Rattle.swc_ecma_parser_module_reader.specs.Modules.{begins_import, import_in, export_in, module_item}
+use Rattle.swc_ecma_parser_module_reader.specs.Decorated.{none_before, begins_decorators, no_leading, later_alone, later, decorating, by_default, named_with, default_with, behind_export, behind_default_word, export_from, export_with, export_item}
+use Rattle.swc_ecma_parser_module_reader.specs.Modules.{begins_import, import_in, export_in, import_behind, export_behind, module_item}
+use Rattle.swc_ecma_parser_module_reader.proofs.DecoratedItems.{item_cases}
+use Rattle.swc_ecma_parser_grammar.specs.Using.{is_await_using_declaration}
 
 -- ---- a declaration is the statement that it is where it stands
 
 module _ (n : ℕ) (s : State) where
   pub var_is_stmt : sees kind.Var s.at ≡ true → stmt (suc n) nested_item s ≡ variables (expr n) (pattern n) decl.Var s
-  unfolding stmt either_stmt same_kind stmt_level
+  unfolding stmt either_stmt await_using_or is_await_using_declaration same_kind stmt_level
   var_is_stmt e = rw (saw s.at kind.Var e) refl
 
   pub const_is_stmt : sees kind.Const s.at ≡ true → stmt (suc n) nested_item s ≡ variables (expr n) (pattern n) decl.Const s
-  unfolding stmt either_stmt same_kind stmt_level const_stmt
+  unfolding stmt either_stmt await_using_or is_await_using_declaration same_kind stmt_level const_stmt
   const_is_stmt e = rw (saw s.at kind.Const e) refl
 
   pub let_kind : is_let_declaration s.at ≡ true → kind_at s.at ≡ kind.Let
@@ -66,11 +70,11 @@ module _ (n : ℕ) (s : State) where
       first false b h = h
 
   pub let_is_stmt : is_let_declaration s.at ≡ true → stmt (suc n) nested_item s ≡ variables (expr n) (pattern n) decl.Let s
-  unfolding stmt either_stmt same_kind stmt_level let_stmt
+  unfolding stmt either_stmt await_using_or is_await_using_declaration same_kind stmt_level let_stmt
   let_is_stmt e = rw (let_kind e, e) refl
 
   pub function_is_stmt : begins_default_function s.at ≡ true → stmt (suc n) nested_item s ≡ function_decl (stmt n nested_item) (parameters n) s
-  unfolding stmt either_stmt same_kind stmt_level begins_default_function function_stmt async_or_other
+  unfolding stmt either_stmt await_using_or is_await_using_declaration same_kind stmt_level begins_default_function function_stmt async_or_other
   function_is_stmt e = by_word (sees kind.Function s.at) (is_async_function s.at) refl refl e
     where
       by_word : (a b : Bool) → sees kind.Function s.at ≡ a → is_async_function s.at ≡ b → (a || b) ≡ true → stmt (suc n) nested_item s ≡ function_decl (stmt n nested_item) (parameters n) s
@@ -79,7 +83,7 @@ module _ (n : ℕ) (s : State) where
       by_word false false h g i = cc
 
   pub class_is_stmt : sees kind.Class s.at ≡ true → stmt (suc n) nested_item s ≡ class_decl (expr n left_side) (member n) s
-  unfolding stmt either_stmt same_kind stmt_level class_stmt
+  unfolding stmt either_stmt await_using_or is_await_using_declaration same_kind stmt_level class_stmt
   class_is_stmt e = rw (saw s.at kind.Class e) refl
 
 -- ---- what imports and exports share
@@ -434,10 +438,29 @@ unfolding export_in export_item
 export_in_falls zero s e = too_deep_falls Tree 1 (length s.at.left) s
 export_in_falls (suc n) s e = export_from_falls n (no_leading s) s e
 
+-- behind decorators
+still_then : (n : ℕ) (c : Place) (o : Outcome (Unit {0})) (f : Reader Tree) → Meets (λ _ t. t.at ≡ c) o → ((t : State) → t.at ≡ c → Falls 1 n (f t)) → Falls 1 n (and_then o (λ _. f))
+still_then n c (Ok p) f h g = g p.1 h
+still_then n c (Err e) f h g = tt
+
+import_behind_falls : (n : ℕ) (v : Leading) (s : State) → begins_import s.at ≡ true → Falls 1 (length s.at.left) (import_behind n v s)
+import_behind_falls n v s h = let k = begins_import_kind s h in
+    still_then (length s.at.left) s.at (misplaced v s) (import_decl (object_alone n)) (misplaced_still v s (ap is_error k)) (λ t e.
+    subst (λ c. Falls 1 (length c.left) (import_decl (object_alone n) t)) e (import_decl_falls (object_alone n) (object_less n) t (λ g. let z = sym k ∙ sym (ap kind_at e) ∙ g in cc)))
+
+export_behind_falls : (n : ℕ) (v : Leading) (s : State) → sees kind.Export s.at ≡ true → Falls 1 (length s.at.left) (export_behind n v s)
+unfolding export_with
+export_behind_falls n v s h = falls_if 1 (length s.at.left) (has_any v.found && not (s.code.setting.decorators_before_export && begin_before (span_at s.at) (listed v.found))) _ _
+    (reject_falls Tree 1 (length s.at.left) _ s) (export_from_falls n v s (no_end s kind.Export (λ z. cc) h))
+
+-- from the decorators on
+from_list : (n : ℕ) (s : State) (v : Leading) (t : State) → leading (decorated_in n) s ≡ Ok (v, t) → (o : Outcome Tree) → Falls 1 (length t.at.left) o → Falls 1 (length s.at.left) o
+from_list n s v t h o f = weaker 0 1 (length s.at.left) (length t.at.left) o (subst (Falls 0 (length s.at.left)) h (leading_falls (decorated_in n) (decorated_in_falls n) s)) f
+
 pub module_item_falls : (n : ℕ) (s : State) → Falls 1 (length s.at.left) (module_item n s)
-unfolding module_item
-module_item_falls n s = falls_when 1 (length s.at.left) (begins_import s.at) _ _ (λ h. import_in_falls n s (λ g. let k = sym (begins_import_kind s h) ∙ g in cc)) (λ _.
-    falls_when 1 (length s.at.left) (sees kind.Export s.at) _ _ (λ h. export_in_falls n s (no_end s kind.Export (λ z. cc) h)) (λ _. whole_stmt_falls n top_item s))
+module_item_falls n s = item_cases (Falls 1 (length s.at.left)) n s (λ h. import_in_falls n s (λ g. let k = sym (begins_import_kind s h) ∙ g in cc))
+    (λ h. export_in_falls n s (no_end s kind.Export (λ z. cc) h)) (whole_stmt_falls n top_item s)
+    (λ m e b v t h. (λ i. from_list m s v t h _ (import_behind_falls m v t i), λ i. from_list m s v t h _ (export_behind_falls m v t i)))
 
 -- ---- what takes a token leaves fewer
 

@@ -26,7 +26,7 @@ use Rattle.swc_ecma_parser_reader.specs.DecoratedStatements.{either_stmt}
 use Rattle.swc_ecma_parser_reader.specs.Expressions.{expr_level, expression_expr}
 use Rattle.swc_ecma_parser_reader.specs.Members.{class_parts, class_name, named_class, unnamed_class, class_decl, class_expr, class_stmt}
 use Rattle.swc_ecma_parser_reader.specs.Methods.{star}
-use Rattle.swc_ecma_parser_reader.specs.Reader.{head, while_stmt, function_stmt, function_decl, function_parts, function_word, async_or_other, named, expr, member, stmt, stmt_level, parameters, top_await, whole_stmt}
+use Rattle.swc_ecma_parser_reader.specs.Reader.{head, while_stmt, function_stmt, function_decl, function_parts, function_word, async_or_other, named, expr, member, stmt, stmt_level, parameters, top_await, whole_stmt, await_using_or}
 use Rattle.swc_ecma_parser_reader.specs.State.{State, Outcome, moved, coded, within, expect, name}
 use Rattle.swc_ecma_parser_reader.specs.Entry.{IsBehind}
 use Rattle.swc_ecma_parser_reader.specs.Limits.{is_too_deep, has_too_deep_token}
@@ -41,6 +41,7 @@ use Rattle.swc_ecma_parser_reader.proofs.Words.{unreserved}
 use Rattle.swc_ecma_parser_reader.proofs.expressions.SoundSteps.{FreeWord, name_sound}
 use Rattle.swc_ecma_parser_reader.proofs.Between.{SoundStep}
 use Rattle.swc_ecma_parser_module_reader.proofs.Keeps.{parts_keep}
+use Rattle.swc_ecma_parser_grammar.specs.Using.{is_await_using_declaration}
 
 -- ---- what is left of tokens that are fine
 
@@ -88,7 +89,7 @@ abbrev in_while : State → State
 in_while s = before s (a_token (token.Word (word.Keyword keyword.While)) s.at.last ∷ a_token token.LParen s.at.last ∷ [])
 
 refused_in_while : (k : ℕ) (s : State) (p : Fault × State) → expr (suc k) assignment (coded (with_in s.code) s) ≡ Err p → stmt (suc (suc k)) nested_item (in_while s) ≡ Err p
-unfolding stmt either_stmt stmt_level while_stmt head expect expr expr_level expression_expr a_token kind_at same_kind after
+unfolding stmt either_stmt await_using_or is_await_using_declaration stmt_level while_stmt head expect expr expr_level expression_expr a_token kind_at same_kind after
 refused_in_while k s p h = rw h refl
 
 expr_fits : (n m : ℕ) (s : State) (e : Fault) (t : State) → 2 * m + 5 ≤ n → Fine m s.at.left → expr n assignment (coded (with_in s.code) s) ≡ Err (e, t) → e.kind ≢ faults.TooDeep
@@ -128,7 +129,7 @@ async_name s = unreserved s.code.flags (codes "async") refl
 
 refused_in_function : (k : ℕ) (w v : Bool) (start : Span) (s : State) (p : Fault × State) → function_parts (stmt k nested_item) (parameters k) w v start s ≡ Err p
     → stmt (suc k) nested_item (in_function w v start s) ≡ Err p
-unfolding stmt either_stmt stmt_level function_stmt function_decl async_or_other function_word star name a_token is_async_function word_at kind_at same_kind breaks_at span_at after
+unfolding stmt either_stmt await_using_or is_await_using_declaration stmt_level function_stmt function_decl async_or_other function_word star name a_token is_async_function word_at kind_at same_kind breaks_at span_at after
 refused_in_function k true true start s p h = rw (async_name s, h) refl
 refused_in_function k true false start s p h = rw (async_name s, h) refl
 refused_in_function k false true start s p h = rw (async_name s, h) refl
@@ -153,7 +154,7 @@ in_words start s = before s (a_token (token.Word (word.Keyword keyword.Class)) s
 
 refused_in_words : (k : ℕ) (start : Span) (s : State) (p : Fault × State) → class_parts (expr k left_side) (member k) start (coded (in_class s.code) s) ≡ Err p
     → stmt (suc k) nested_item (in_words start s) ≡ Err p
-unfolding stmt either_stmt stmt_level class_stmt class_decl named_class named name a_token kind_at same_kind span_at after
+unfolding stmt either_stmt await_using_or is_await_using_declaration stmt_level class_stmt class_decl named_class named name a_token kind_at same_kind span_at after
 refused_in_words k start s p h = rw (async_name (coded (in_class s.code) s), h) refl
 
 -- the code of a class is that of a class in it

@@ -1,7 +1,7 @@
 -- One item of a module by itself: an import or an export is read in module code, and anything else as a statement. What holds of
 -- both: with twice as many levels as tokens, and two more, nothing is too deep but what an error token says; and no token is put
 -- back, and no fault is lost.
-use Rattle.std.proofs.Common.{◌≡◌, ◌≢◌, ℕ, ◌+◌, ◌*◌, ◌≤◌, Bool, true, false, cond, List, [], ◌∷◌, ◌++◌, length, Result, Ok, Err, refl, sym, ◌∙◌, ap, subst, append_assoc, arith}
+use Rattle.std.proofs.Common.{◌≡◌, ◌≢◌, ℕ, ◌+◌, ◌*◌, ◌≤◌, Bool, true, false, cond, List, [], ◌∷◌, ◌++◌, length, Result, Ok, Err, refl, sym, ◌∙◌, ap, subst, append_assoc, arith, zero, suc, true≢false}
 use Rattle.swc_ecma_parser_error.specs.declared.error.Error.{Error}
 use Rattle.swc_ecma_parser_error.specs.Kind as faults
 use Rattle.swc_ecma_parser_error.specs.Kind.{Fault, fault_of}
@@ -14,40 +14,96 @@ use Rattle.swc_ecma_parser_model.specs.Tree.{Tree}
 use Rattle.swc_ecma_parser_grammar.specs.Looks.{kind_at, sees, same_kind}
 use Rattle.swc_ecma_parser_grammar.specs.Reads.{top_item}
 use Rattle.swc_ecma_parser_grammar.proofs.Tests.{or_no}
-use Rattle.swc_ecma_parser_reader.specs.Reader.{whole_stmt}
-use Rattle.swc_ecma_parser_reader.specs.State.{State}
+use Rattle.swc_ecma_parser_reader.specs.Reader.{whole_stmt, plain_stmt}
+use Rattle.swc_ecma_parser_reader.specs.State.{State, Outcome, Reader, and_then}
 use Rattle.swc_ecma_parser_reader.specs.Entry.{unmarked, IsBehind, Stays}
 use Rattle.swc_ecma_parser_reader.specs.Limits.{has_too_deep_token}
 use Rattle.swc_ecma_parser_reader.proofs.Behind.{Follows, behind_self}
 use Rattle.swc_ecma_parser_reader.proofs.Empty.{ended}
 use Rattle.swc_ecma_parser_reader.proofs.Errors.{kind_here}
-use Rattle.swc_ecma_parser_reader.proofs.Keeps.{outcome_behind}
-use Rattle.swc_ecma_parser_reader.proofs.Meets.{Answers, meant}
+use Rattle.swc_ecma_parser_reader.proofs.Keeps.{outcome_behind, whole_stmt_keeps, decorated_in_keeps}
+use Rattle.swc_ecma_parser_reader.proofs.Meets.{Answers, meant, answers_then, saw}
 use Rattle.swc_ecma_parser_reader.proofs.Shallow.{Fine, Shallow, Kept}
-use Rattle.swc_ecma_parser_module_reader.specs.Modules.{begins_import, module_item}
+use Rattle.swc_ecma_parser_module_reader.specs.Modules.{begins_import, module_item, import_behind, export_behind, item_behind, decorated_item}
 use Rattle.swc_ecma_parser_module_reader.specs.Programs.{begins_module}
-use Rattle.swc_ecma_parser_module_reader.specs.Items.{turned, begun_item, item_whole}
+use Rattle.swc_ecma_parser_module_reader.specs.Items.{turned, begun_item, item_whole, begun, decorated_alone}
 use Rattle.swc_ecma_parser_module_reader.specs.ItemEntry.{AnswersItem}
-use Rattle.swc_ecma_parser_module_reader.proofs.Keeps.{module_item_keeps}
-use Rattle.swc_ecma_parser_module_reader.proofs.Limits.{module_item_shallow}
+use Rattle.swc_ecma_parser_module_reader.proofs.Keeps.{module_item_keeps, import_behind_keeps, export_behind_keeps}
+use Rattle.swc_ecma_parser_module_reader.proofs.Limits.{module_item_shallow, behind_shallow}
 use Rattle.swc_ecma_parser_module_reader.proofs.ProgramKeeps.{Leaves, since}
+use Rattle.swc_ecma_parser_reader.specs.DecoratedStatements.{stmt_behind}
+use Rattle.swc_ecma_parser_reader.specs.DecoratorLevels.{decorated_in}
+use Rattle.swc_ecma_parser_reader.specs.Decorators.{Leading, leading}
+use Rattle.swc_ecma_parser_reader.proofs.decorators.Leading.{leading_keeps}
+use Rattle.swc_ecma_parser_module_reader.specs.Decorated.{begins_decorators}
+use Rattle.swc_ecma_parser_module_reader.proofs.DecoratedItems.{signs, whole_above, whole_lowest, whole_behind, behind_stated, word_cases}
+use Rattle.swc_ecma_parser_module_reader.proofs.Fits.{whole_shallow}
+use Rattle.swc_ecma_parser_module_reader.proofs.Fronts.{deep_then}
 
--- ---- the two cases
+-- ---- the cases
 
-item_stated : (n : ℕ) (s : State) → begins_module s.at ≡ false → module_item n s ≡ whole_stmt n top_item s
+-- an item, and what was held back
+abbrev pub with_held : List Fault → Outcome Tree → Outcome (Tree × List Fault)
+with_held held o = and_then o (λ x u. Ok ((x, held), u))
+
+item_stated : (n : ℕ) (s : State) → begins_module s.at ≡ false → begins_decorators s.code s.at ≡ false → module_item n s ≡ whole_stmt n top_item s
 unfolding module_item begins_module
-item_stated n s e = let g = or_no (begins_import s.at) (sees kind.Export s.at) e in rw (g.0, g.1) refl
+item_stated n s e h = let g = or_no (begins_import s.at) (sees kind.Export s.at) e in rw (g.0, g.1, h) refl
+
+-- `@` is neither word
+no_word : (s : State) → begins_decorators s.code s.at ≡ true → begins_module s.at ≡ false
+unfolding begins_module begins_import same_kind
+no_word s b = rw (saw s.at kind.At (signs s.code s.at b).1) refl
+
+module _ (Q : Outcome (Tree × List Fault) → Type 0) (recorded : List Fault) where
+  begun_cases : (p : Reader Tree) (t : State) → (begins_module t.at ≡ true → Q (with_held t.notes.held_back (p (turned recorded t)))) → (begins_module t.at ≡ false → Q (with_held [] (p t)))
+      → Q (begun recorded p t)
+  unfolding begun begun_item
+  begun_cases p t word other = by_word (begins_module t.at) refl
+    where
+      by_word : (b : Bool) → begins_module t.at ≡ b → Q (and_then (p (cond b (turned recorded t) t)) (λ x u. Ok ((x, cond b t.notes.held_back []), u)))
+      by_word true h = word h
+      by_word false h = other h
+
+  module _ (n : ℕ) (s : State) (declared : begins_module s.at ≡ true → Q (with_held s.notes.held_back (module_item n (turned recorded s)))) (stated : begins_module s.at ≡ false → Q (with_held [] (whole_stmt n top_item s)))
+      (led : (m : ℕ) → n ≡ suc m → begins_decorators s.code s.at ≡ true → (v : Leading) (t : State) → leading (decorated_in m) s ≡ Ok (v, t) → begins_module t.at ≡ true
+      → Q (with_held t.notes.held_back (item_behind m v (turned recorded t)))) where
+    module _ (b : begins_decorators s.code s.at ≡ true) where
+      at_level : (m : ℕ) → n ≡ m → Q (with_held [] (whole_stmt m top_item s))
+      at_level m e = subst (λ k. Q (with_held [] (whole_stmt k top_item s))) e (stated (no_word s b))
+
+      by_list : (m : ℕ) → n ≡ suc m → (o : Outcome Leading) → leading (decorated_in m) s ≡ o → Q (and_then o (λ v. begun recorded (item_behind m v)))
+      by_list m e (Ok p) h = begun_cases (item_behind m p.0) p.1 (led m e b p.0 p.1 h)
+          (λ w. subst (λ o. Q (with_held [] o)) (whole_behind m s b p.0 p.1 h ∙ sym (behind_stated m p.0 p.1 w)) (at_level (suc m) e))
+      by_list m e (Err f) h = subst (λ o. Q (with_held [] o)) (whole_above m s b ∙ ap (λ o. and_then o (stmt_behind (plain_stmt m) top_item)) h) (at_level (suc m) e)
+
+      by_level : (m : ℕ) → n ≡ m → Q (decorated_alone m recorded s)
+      unfolding decorated_alone decorated_item
+      by_level zero e = subst Q (ap (with_held []) (sym (whole_lowest s b)) ∙ deep_then s (λ x u. Ok ((x, []), u))) (at_level zero e)
+      by_level (suc m) e = by_list m e (leading (decorated_in m) s) refl
+
+    pub alone_cases : Q (item_whole n recorded s)
+    unfolding item_whole
+    alone_cases = by_sign (begins_decorators s.code s.at) refl
+      where
+        by_sign : (b : Bool) → begins_decorators s.code s.at ≡ b → Q (cond b (decorated_alone n recorded s) (begun recorded (module_item n) s))
+        by_sign true b = by_level b n refl
+        by_sign false b = begun_cases (module_item n) s declared (λ w. subst (λ o. Q (with_held [] o)) (sym (item_stated n s w b)) (stated w))
 
 module _ (n : ℕ) (recorded : List Fault) (s : State) where
   -- an import or an export begins
-  pub whole_declared : begins_module s.at ≡ true → item_whole n recorded s ≡ module_item n (turned recorded s)
-  unfolding item_whole begun_item
-  whole_declared e = rw e refl
+  pub whole_declared : begins_module s.at ≡ true → item_whole n recorded s ≡ with_held s.notes.held_back (module_item n (turned recorded s))
+  unfolding item_whole begun begun_item
+  whole_declared e = by_sign (begins_decorators s.code s.at) refl
+    where
+      by_sign : (b : Bool) → begins_decorators s.code s.at ≡ b → cond b (decorated_alone n recorded s) (begun recorded (module_item n) s) ≡ with_held s.notes.held_back (module_item n (turned recorded s))
+      by_sign true b = absurd (true≢false (sym e ∙ no_word s b))
+      by_sign false b = rw e refl
 
-  -- neither does
-  pub whole_stated : begins_module s.at ≡ false → item_whole n recorded s ≡ whole_stmt n top_item s
-  unfolding item_whole begun_item
-  whole_stated e = rw e (item_stated n s e)
+  -- neither does, nor do decorators
+  pub whole_stated : begins_module s.at ≡ false → begins_decorators s.code s.at ≡ false → item_whole n recorded s ≡ with_held [] (whole_stmt n top_item s)
+  unfolding item_whole begun begun_item
+  whole_stated e b = rw (b, e) (ap (with_held []) (item_stated n s e b))
 
 -- none does where this kind stands first
 none_by : (c : Place) (j : TokenKind) → kind_at c ≡ j → same_kind j kind.Import ≡ false → same_kind j kind.Export ≡ false → begins_module c ≡ false
@@ -65,17 +121,11 @@ none_at_error c t ts e h g = none_by c kind.Error (kind_here c t ts (token.Error
 
 -- ---- nothing is too deep
 
-begun_at : (recorded : List Fault) (s : State) → (begun_item recorded s).at ≡ s.at
-unfolding begun_item
-begun_at recorded s = by_test (begins_module s.at)
-  where
-    by_test : (b : Bool) → (cond b (turned recorded s) s).at ≡ s.at
-    by_test true = refl
-    by_test false = refl
-
 item_shallow : (n m : ℕ) (recorded : List Fault) (s : State) → 2 * m + 2 ≤ n → Fine m s.at.left → Answers (Kept m) Shallow (item_whole n recorded s)
-unfolding item_whole
-item_shallow n m recorded s l f = module_item_shallow n m (begun_item recorded s) l (subst (λ c. Fine m c.left) (sym (begun_at recorded s)) f)
+item_shallow n m recorded s l f = alone_cases (Answers (Kept m) Shallow) recorded n s
+    (λ _. answers_then (Kept m) _ (module_item n (turned recorded s)) _ (module_item_shallow n m (turned recorded s) l f) (λ x t g. g))
+    (λ _. answers_then (Kept m) _ (whole_stmt n top_item s) _ (whole_shallow n top_item m s l f) (λ x t g. g))
+    (λ k e b v t h w. answers_then (Kept m) _ (item_behind k v (turned recorded t)) _ (behind_shallow n m k s e l f v t h w (turned recorded t) refl) (λ x u g. g))
 
 -- a limit of twice the tokens and two more is never met, unless an error token says so
 pub item_fits : (n : ℕ) (recorded : List Fault) (s : State) (e : Fault) (t : State) → 2 * length s.at.left + 2 ≤ n → item_whole n recorded s ≡ Err (e, t)
@@ -87,26 +137,29 @@ item_fits n recorded s e t h g k =
 -- ---- nothing is lost
 
 -- faults are recorded where an import or an export begins
-behind_begun : (recorded : List Fault) (b s : State) → IsBehind b s → IsBehind b (begun_item recorded s)
-unfolding begun_item
-behind_begun recorded b s f = by_test (begins_module s.at)
-  where
-    by_test : (w : Bool) → IsBehind b (cond w (turned recorded s) s)
-    by_test true = record {
-      added = f.added ++ recorded;
-      faults = ap (λ z. z ++ recorded) f.faults ∙ append_assoc b.faults f.added recorded;
-      read = f.read;
-      tokens = f.tokens;
-      last = f.last;
-    }
-    by_test false = f
+behind_turned : (recorded : List Fault) (b s : State) → IsBehind b s → IsBehind b (turned recorded s)
+behind_turned recorded b s f = record {
+  added = f.added ++ recorded;
+  faults = ap (λ z. z ++ recorded) f.faults ∙ append_assoc b.faults f.added recorded;
+  read = f.read;
+  tokens = f.tokens;
+  last = f.last;
+}
+
+-- the decorators lose nothing
+behind_list : (n : ℕ) (b s : State) → IsBehind b s → (v : Leading) (t : State) → leading (decorated_in n) s ≡ Ok (v, t) → IsBehind b t
+behind_list n b s f v t h = meant (Follows b) (Follows b) (leading (decorated_in n) s) (Ok (v, t)) h (since (leading (decorated_in n)) (leading_keeps (decorated_in n) (decorated_in_keeps n)) b s f)
 
 item_keeps : (n : ℕ) (recorded : List Fault) → Leaves (item_whole n recorded)
-unfolding item_whole
-item_keeps n recorded b s f = since (module_item n) (module_item_keeps n) b (begun_item recorded s) (behind_begun recorded b s f)
+item_keeps n recorded b s f = alone_cases (Answers (Follows b) (Follows b)) recorded n s
+    (λ _. answers_then (Follows b) (Follows b) (module_item n (turned recorded s)) _ (since (module_item n) (module_item_keeps n) b (turned recorded s) (behind_turned recorded b s f)) (λ x t g. g))
+    (λ _. answers_then (Follows b) (Follows b) (whole_stmt n top_item s) _ (since (whole_stmt n top_item) (whole_stmt_keeps n top_item) b s f) (λ x t g. g))
+    (λ m e d v t h w. answers_then (Follows b) (Follows b) (item_behind m v (turned recorded t)) _
+    (word_cases (Answers (Follows b) (Follows b)) m v (turned recorded t) w (λ _. since (import_behind m v) (import_behind_keeps m v) b (turned recorded t) (behind_turned recorded b t (behind_list m b s f v t h)))
+    (λ _. since (export_behind m v) (export_behind_keeps m v) b (turned recorded t) (behind_turned recorded b t (behind_list m b s f v t h)))) (λ x u g. g))
 
 pub item_stays : (X : Type 0) (view : X → Tree) (limit : ℕ) (s : State) (r : Result X Error) (t : State) → AnswersItem view limit (unmarked s) r t → Stays s r t
 item_stays X view limit s (Ok x) t h =
-    meant (Follows s) (Follows s) (item_whole limit h.0 (unmarked s)) (Ok (view x, t)) h.2 (item_keeps limit h.0 s (unmarked s) (behind_self s).0)
+    meant (Follows s) (Follows s) (item_whole limit h.0 (unmarked s)) (Ok (_, t)) h.1 (item_keeps limit h.0 s (unmarked s) (behind_self s).0)
 item_stays X view limit s (Err e) t h = λ n. let p = h n in
     outcome_behind s (item_whole limit p.0 (unmarked s)) (fault_of e) p.1 t (item_keeps limit p.0 s (unmarked s) (behind_self s).0) p.2 p.3

@@ -1,7 +1,6 @@
 -- With which token an item of a module begins: an import and an export with their words, and a statement with neither.
-use Rattle.std.proofs.Common.{◌≡◌, ℕ, zero, suc, Bool, true, false, List, [], ◌∷◌, refl, sym, ◌∙◌, ap, codes}
-use Rattle.std.specs.Prelude.{not, ◌&&◌, ◌||◌, nat_lt}
-use Rattle.swc_ecma_parser_common.specs.declared.span.BytePos.{BytePos}
+use Rattle.std.proofs.Common.{◌≡◌, ◌⊎◌, inl, inr, ℕ, zero, suc, Bool, true, false, List, [], ◌∷◌, refl, sym, ◌∙◌, ap, codes}
+use Rattle.std.specs.Prelude.{◌&&◌, ◌||◌}
 use Rattle.swc_ecma_parser_common.specs.declared.span.Span.{Span}
 use Rattle.swc_ecma_parser_token.specs.declared.keyword.Keyword.{Keyword}
 use Rattle.swc_ecma_parser_token.specs.declared.keyword.Keyword.TheVariants as keyword
@@ -20,21 +19,20 @@ use Rattle.swc_ecma_parser_model.specs.declared.leaves.VarDeclKind.{VarDeclKind}
 use Rattle.swc_ecma_parser_model.specs.declared.leaves.VarDeclKind.TheVariants as decl
 use Rattle.swc_ecma_parser_model.specs.Kinds.{is_module_decl}
 use Rattle.swc_ecma_parser_model.specs.Tree as tree
-use Rattle.swc_ecma_parser_model.specs.Tree.{Tree, none, also}
-use Rattle.swc_ecma_parser_model.specs.Forms.{span_of}
+use Rattle.swc_ecma_parser_model.specs.Tree.{Tree}
 use Rattle.swc_ecma_parser_grammar.specs.declared.position.Position.{Position}
-use Rattle.swc_ecma_parser_grammar.specs.Follows.{begins_import_expression, AsyncWord, not_async, async_word}
-use Rattle.swc_ecma_parser_grammar.specs.Looks.{kind_at, first_kind, sees, same_kind, span_at, spanned}
+use Rattle.swc_ecma_parser_grammar.specs.Follows.{begins_import_expression, AsyncWord, not_async, async_word, no_await, await_word}
+use Rattle.swc_ecma_parser_grammar.specs.Looks.{kind_at, first_kind, sees, same_kind}
 use Rattle.swc_ecma_parser_grammar.specs.Names.{Code, is_reserved, is_name, is_identifier, token_is_identifier, first_is_identifier, identifier_at}
 use Rattle.swc_ecma_parser_grammar.specs.Reads.{ReadsToken, with_in, StmtRule, block_rule, empty_rule, debugger_rule, variables_rule, using_rule, if_statement_rule, switch_rule, labeled_rule, break_rule, continue_rule, return_rule, throw_rule, try_rule, while_rule, do_while_rule, for_rule, for_in_rule, for_of_rule, expr_rule, import_rule, if_rule, with_rule, function_rule, class_rule}
 use Rattle.swc_ecma_parser_grammar.specs.ReadsSupported.{ReadsClass, ReadsPat, ReadsTarget, ReadsStmt, ReadsParams, ReadsNamedClass, ReadsDecorators, ReadsDeclared}
 use Rattle.swc_ecma_parser_grammar.specs.Decorated.{DecoratedRule, EitherRule, plain_statement, decorated_statement}
-use Rattle.swc_ecma_parser_grammar.specs.Supported.{supported, all_supported, has_none}
+use Rattle.swc_ecma_parser_grammar.specs.Supported.{supported}
 use Rattle.swc_ecma_parser_grammar.specs.Variables.{begins_variables}
 use Rattle.swc_ecma_parser_grammar.specs.language.Begins.{begins_operand, begins_unary, begins_expression}
-use Rattle.swc_ecma_parser_grammar.specs.language.Classes.{DecoratorsRule, no_decorators, some_decorators}
+use Rattle.swc_ecma_parser_grammar.specs.language.Classes.{DecoratorRule, decorator_rule, no_decorators, some_decorators}
 use Rattle.swc_ecma_parser_grammar.specs.language.Exports as exports
-use Rattle.swc_ecma_parser_grammar.specs.language.Exports.{begin_before, all_before, ExportWords, ExportFrontRule, ExportedRule, DefaultRule, ExportRule}
+use Rattle.swc_ecma_parser_grammar.specs.language.Exports.{ExportWords, ExportFrontRule, ExportedRule, DefaultRule, ExportRule}
 use Rattle.swc_ecma_parser_grammar.specs.language.Goals.{Goal, expression}
 use Rattle.swc_ecma_parser_grammar.specs.language.Imports as imports
 use Rattle.swc_ecma_parser_grammar.specs.language.Imports.{ImportRule}
@@ -47,8 +45,7 @@ use Rattle.swc_ecma_parser_reader.proofs.Meets.{saw}
 use Rattle.swc_ecma_parser_reader.proofs.Opens.{decorators_begin, no_block_or_import, let_stands, import_stands}
 use Rattle.swc_ecma_parser_reader.proofs.expressions.CompleteKinds.{token_first}
 use Rattle.swc_ecma_parser_module_reader.specs.Modules.{begins_import}
-use Rattle.swc_ecma_parser_module_reader.specs.Decorated.{none_before}
-use Rattle.swc_ecma_parser_module_reader.specs.Supported.{supported_item, supported_behind, supported_decorated}
+use Rattle.swc_ecma_parser_module_reader.specs.Supported.{supported_item, supported_beside, supported_decorated}
 use Rattle.swc_ecma_parser_grammar.proofs.Naming.{name_is_free}
 use Rattle.swc_ecma_parser_grammar.proofs.Using.{using_stands}
 
@@ -143,7 +140,8 @@ rule_starts n k at x c d (block_rule r) = starts_by c kind.LBrace r.opens refl r
 rule_starts n k at x c d (empty_rule e g i) = starts_by c kind.Semi e refl refl
 rule_starts n k at x c d (debugger_rule e g i) = starts_by c kind.Debugger e refl refl
 rule_starts n k at x c d (variables_rule v xs m a e r g i) = variables_start v c e
-rule_starts n k at x c d (using_rule xs a b r g i) = starts_by c kind.Ident (using_stands k c b) refl refl
+rule_starts n k at x c d (using_rule v xs m a (no_await e h) b r g i) = starts_by c kind.Ident (sym (ap kind_at h) ∙ using_stands k m b) refl refl
+rule_starts n k at x c d (using_rule v xs m a (await_word e h l) b r g i) = starts_by c kind.Await h refl refl
 rule_starts n k at x c d (if_statement_rule (if_rule t y z m i e r s o j)) = starts_by c kind.If e refl refl
 rule_starts n k at x c d (switch_rule y xs m l e r i s g j z) = starts_by c kind.Switch e refl refl
 rule_starts n k at x c d (break_rule y m e r g i) = starts_by c kind.Break e refl refl
@@ -251,57 +249,51 @@ import_word c e = saw c kind.Import (and_yes (sees kind.Import c) _ e).0
 
 -- decorators that are supported stand behind the words of the export
 function_behind : (at : Span) (ds name y : Tree) (s : Span) (params body : Tree) (w g : Bool) → y ≡ tree.function s ds params body w g → supported name && supported_decorated at y ≡ true
-    → supported_behind at ds ≡ true
+    → supported_beside at ds ≡ true
 function_behind at ds name y s params body w g e h =
     let a : supported_decorated at (tree.function s ds params body w g) ≡ true = sym (ap (supported_decorated at) e) ∙ (and_yes (supported name) (supported_decorated at y) h).1 in
-    (and_yes (supported_behind at ds) _ a).0
+    (and_yes (supported_beside at ds) _ a).0
 
-class_behind : (at : Span) (ds name y : Tree) (s : Span) (body base : Tree) → y ≡ tree.class s ds body base → supported name && supported_decorated at y ≡ true → supported_behind at ds ≡ true
+class_behind : (at : Span) (ds name y : Tree) (s : Span) (body base : Tree) → y ≡ tree.class s ds body base → supported name && supported_decorated at y ≡ true → supported_beside at ds ≡ true
 class_behind at ds name y s body base e h =
     let a : supported_decorated at (tree.class s ds body base) ≡ true = sym (ap (supported_decorated at) e) ∙ (and_yes (supported name) (supported_decorated at y) h).1 in
-    (and_yes (supported_behind at ds) _ a).0
+    (and_yes (supported_beside at ds) _ a).0
 
-pub exported_behind : {In : Goal → Type 0} (k : Code) (ds x y : Tree) (s : Span) (c d : Place) → ExportedRule In k ds y c d → x ≡ tree.export_decl s y → supported_item x ≡ true → supported_behind s ds ≡ true
+pub exported_behind : {In : Goal → Type 0} (k : Code) (ds x y : Tree) (s : Span) (c d : Place) → ExportedRule In k ds y c d → x ≡ tree.export_decl s y → supported_item x ≡ true → supported_beside s ds ≡ true
 exported_behind k ds x y s c d (exports.exported_class name z r a e) i h = class_behind s ds name z _ _ _ r.is (sym (ap supported_item (i ∙ ap (tree.export_decl s) e)) ∙ h)
 exported_behind k ds x y s c d (exports.exported_function name z r a e) i h = function_behind s ds name z _ _ _ _ _ r.is (sym (ap supported_item (i ∙ ap (tree.export_decl s) e)) ∙ h)
-exported_behind k ds x y s c d (exports.exported_variables v xs m e r g i) j h = ap (supported_behind s) e
+exported_behind k ds x y s c d (exports.exported_variables v xs m e r g i) j h = ap (supported_beside s) e
 
 pub default_behind : {In : Goal → Type 0} (k : Code) (ds x y : Tree) (s : Span) (c d : Place) → DefaultRule In k ds y c d → x ≡ tree.export_default_decl s y → supported_item x ≡ true
-    → supported_behind s ds ≡ true
+    → supported_beside s ds ≡ true
 default_behind k ds x y s c d (exports.default_class name z r e) i h =
     class_behind s ds name z _ _ _ r.is (sym (ap supported_item (i ∙ ap (tree.export_default_decl s) e)) ∙ h)
 default_behind k ds x y s c d (exports.default_function name z r e) i h =
     function_behind s ds name z _ _ _ _ _ r.is (sym (ap supported_item (i ∙ ap (tree.export_default_decl s) e)) ∙ h)
 
--- so none stand before the words
-pub none_in_front : (w : Span) (hi : BytePos) (ds : Tree) → begin_before w ds ≡ true → supported_behind (record { lo = w.lo; hi = hi }) ds ≡ true → has_none ds ≡ true
-none_in_front w hi (tree.list none) e h = refl
-none_in_front w hi (tree.list (also x xs)) e h =
-    by_first (nat_lt (span_of x).lo.0 w.lo.0) (all_before w xs) (none_before w.lo xs) e (and_yes (all_supported (also x xs)) _ h).1
-  where
-    by_first : {X : Type 0} (b p q : Bool) → b && p ≡ true → not b && q ≡ true → X
-    by_first true p q e h = cc
-    by_first false p q e h = cc
-none_in_front w hi _ e h = cc
+-- ---- with which token it begins
+
+-- the word, or `@` where the setting has decorators
+abbrev pub ExportBegins : Code → Place → Type 0
+ExportBegins k c = (kind_at c ≡ kind.Export) ⊎ ((kind_at c ≡ kind.At) × (k.setting.decorators ≡ true))
 
 module _ (In : Goal → Type 0) where
   words_seen : {b : Bool} {c d : Place} → ExportWords b c d → kind_at c ≡ kind.Export
   words_seen (exports.export_word a e n) = e
   words_seen (exports.export_default_words a e g n) = e
 
-  bare_stays : (k : Code) (ds : Tree) (c d : Place) → DecoratorsRule In k ds c d → has_none ds ≡ true → d ≡ c
-  bare_stays k ds c d (no_decorators e g) h = e
-  bare_stays k ds c d (some_decorators y ys s r e) h = absurd (let g : false ≡ true = sym (ap has_none e) ∙ h in cc)
+  pub sign_seen : (k : Code) (x : Tree) (c d : Place) → DecoratorRule In k x c d → kind_at c ≡ kind.At
+  sign_seen k x c d (decorator_rule y e r i) = e
 
-  front_seen : (k : Code) (b : Bool) (ds : Tree) (c m n d : Place) → ExportFrontRule In k b ds c m n → supported_behind (spanned m d) ds ≡ true → kind_at c ≡ kind.Export
-  unfolding spanned
-  front_seen k b ds c m n d (exports.decorated_before a r e w) h = ap kind_at (sym (bare_stays k ds c m r (none_in_front (span_at m) d.last.hi ds e h))) ∙ words_seen w
-  front_seen k b ds c m n d (exports.decorated_behind i e w r) h = ap kind_at (sym e) ∙ words_seen w
+  front_seen : (k : Code) (b : Bool) (ds : Tree) (c m n : Place) → ExportFrontRule In k b ds c m n → ExportBegins k c
+  front_seen k b ds c m n (exports.decorated_before a (no_decorators e g) h w) = inl (ap kind_at (sym e) ∙ words_seen w)
+  front_seen k b ds c m n (exports.decorated_before a (some_decorators y ys s (i, r, rs) e) h w) = inr (sign_seen k y c i r, s)
+  front_seen k b ds c m n (exports.decorated_behind i e w r) = inl (ap kind_at (sym e) ∙ words_seen w)
 
-  pub export_seen : (k : Code) (x : Tree) (c d : Place) → ExportRule In k x c d → supported_item x ≡ true → kind_at c ≡ kind.Export
-  export_seen k x c d (exports.export_declaration_rule ds y m n f r is) h = front_seen k false ds c m n d f (exported_behind _ ds x y (spanned m d) n d r is h)
-  export_seen k x c d (exports.export_from_rule b xs src attributes l m n e r s t g is) h = e
-  export_seen k x c d (exports.export_names_rule xs m e r b g is) h = e
-  export_seen k x c d (exports.export_default_declaration_rule ds y m n f r is) h = front_seen k true ds c m n d f (default_behind _ ds x y (spanned m d) n d r is h)
-  export_seen k x c d (exports.export_default_expression_rule y m e g b r i is) h = e
-  export_seen k x c d (exports.export_all_rule src attributes m n e g r t i is) h = e
+  pub export_seen : (k : Code) (x : Tree) (c d : Place) → ExportRule In k x c d → ExportBegins k c
+  export_seen k x c d (exports.export_declaration_rule ds y m n f r is) = front_seen k false ds c m n f
+  export_seen k x c d (exports.export_from_rule b xs src attributes l m n e r s t g is) = inl e
+  export_seen k x c d (exports.export_names_rule xs m e r b g is) = inl e
+  export_seen k x c d (exports.export_default_declaration_rule ds y m n f r is) = front_seen k true ds c m n f
+  export_seen k x c d (exports.export_default_expression_rule y m e g b r i is) = inl e
+  export_seen k x c d (exports.export_all_rule src attributes m n e g r t i is) = inl e

@@ -1,7 +1,7 @@
 -- Whatever a module is read as, or refused, the tokens that are left are the last of those that were, what was read last is the
 -- token before them, and no recorded fault is lost.
 use Rattle.std.proofs.Common.{◌≡◌, ℕ, zero, suc, Bool, true, List, [], ◌∷◌, ◌++◌, Option, Some, None, Result, Ok, Err, subst}
-use Rattle.std.specs.Prelude.{◌&&◌, ◌||◌, codes}
+use Rattle.std.specs.Prelude.{not, ◌&&◌, ◌||◌, codes}
 use Rattle.swc_ecma_parser_common.specs.declared.span.Span.{Span}
 use Rattle.swc_ecma_parser_error.specs.declared.error.Error.{Error}
 use Rattle.swc_ecma_parser_error.specs.Kind as faults
@@ -24,6 +24,7 @@ use Rattle.swc_ecma_parser_grammar.specs.Own.{export_faults}
 use Rattle.swc_ecma_parser_grammar.specs.Parameters as formal
 use Rattle.swc_ecma_parser_grammar.specs.Reads.{with_in, nested_item, top_item}
 use Rattle.swc_ecma_parser_grammar.specs.language.Contexts.{outside_functions, in_parameters}
+use Rattle.swc_ecma_parser_grammar.specs.language.Exports.{begin_before}
 use Rattle.swc_ecma_parser_grammar.specs.language.Goals.{assignment, left_side}
 use Rattle.swc_ecma_parser_grammar.specs.language.Imports.{follows_phase}
 use Rattle.swc_ecma_parser_grammar.specs.language.ModuleParts.{begins_attributes}
@@ -47,10 +48,11 @@ use Rattle.swc_ecma_parser_reader.proofs.decorators.Leading.{leading_keeps, misp
 use Rattle.swc_ecma_parser_reader.proofs.Keeps.{decorated_in_keeps}
 use Rattle.swc_ecma_parser_module_reader.specs.Imports.{str_or, str, source, module_name, attributes, specifiers_turn, specifiers, same_name, other_name, import_specifier, binding_name, import_namespace, bindings, more_bindings, default_binding, import_clause, imported, import_from, phase_of, import_phased, is_phase_word, import_decl}
 use Rattle.swc_ecma_parser_module_reader.specs.Exports.{renamed_export, plain_export, export_specifier, export_namespace, names_from, own_names, export_names, more_names, namespace_names, export_all, export_star, is_namespace_next, behind_default, is_name_from, name_from, is_default_from, default_from, default_name, default_function, default_expr, begins_default_function, exported_function, exported_class, default_rest, export_default, exported, export_rest, export_named}
-use Rattle.swc_ecma_parser_module_reader.specs.Decorated.{none_before, begins_decorators, no_leading, later_alone, later, decorating, by_default, named_with, default_with, behind_export, behind_default_word, export_from, export_item}
-use Rattle.swc_ecma_parser_module_reader.specs.Modules.{begins_import, import_in, export_in, module_item, module_code, module_body, module_whole}
+use Rattle.swc_ecma_parser_module_reader.specs.Decorated.{none_before, begins_decorators, no_leading, later_alone, later, decorating, by_default, named_with, default_with, behind_export, behind_default_word, export_from, export_with, export_item}
+use Rattle.swc_ecma_parser_module_reader.specs.Modules.{import_in, export_in, import_behind, export_behind, module_item, module_code, module_body, module_whole}
 use Rattle.swc_ecma_parser_module_reader.specs.Entry.{AnswersModule}
 use Rattle.swc_ecma_parser_module_reader.proofs.Falls.{var_is_stmt, const_is_stmt, let_is_stmt, function_is_stmt, class_is_stmt}
+use Rattle.swc_ecma_parser_module_reader.proofs.DecoratedItems.{item_cases}
 
 -- ---- what imports and exports share
 
@@ -375,10 +377,22 @@ unfolding export_in export_item
 export_in_keeps zero b s f = too_deep_keeps _ b s f
 export_in_keeps (suc n) b s f = export_from_keeps n (no_leading s) b s f
 
+-- behind decorators
+pub import_behind_keeps : (n : ℕ) (v : Leading) → Passes (import_behind n v)
+import_behind_keeps n v b s f = answers_then (Kept b) _ (misplaced v s) _ (misplaced_keeps v b s f) (λ _ t g. import_decl_keeps (object_alone n) (object_alone_keeps n) b t g)
+
+pub export_behind_keeps : (n : ℕ) (v : Leading) → Passes (export_behind n v)
+unfolding export_with
+export_behind_keeps n v b s f = answers_if _ _ (has_any v.found && not (s.code.setting.decorators_before_export && begin_before (span_at s.at) (listed v.found))) _ _
+    (λ _. reject_keeps _ faults.DecoratorOnExport v.place b s f) (λ _. export_from_keeps n v b s f)
+
+-- the decorators
+pub list_keeps : (n : ℕ) (b s : State) → NothingLost b s → (v : Leading) (t : State) → leading (decorated_in n) s ≡ Ok (v, t) → NothingLost b t
+list_keeps n b s f v t h = meant (Kept b) (Lost b) (leading (decorated_in n) s) (Ok (v, t)) h (leading_keeps (decorated_in n) (decorated_in_keeps n) b s f)
+
 pub module_item_keeps : (n : ℕ) → Passes (module_item n)
-unfolding module_item
-module_item_keeps n b s f = answers_if _ _ (begins_import s.at) _ _ (λ _. import_in_keeps n b s f)
-    (λ _. answers_if _ _ (sees kind.Export s.at) _ _ (λ _. export_in_keeps n b s f) (λ _. whole_stmt_keeps n top_item b s f))
+module_item_keeps n b s f = item_cases (Answers (Kept b) (Lost b)) n s (λ _. import_in_keeps n b s f) (λ _. export_in_keeps n b s f) (whole_stmt_keeps n top_item b s f)
+    (λ m e d v t h. let g = list_keeps m b s f v t h in (λ _. import_behind_keeps m v b t g, λ _. export_behind_keeps m v b t g))
 
 pub module_keeps : (n : ℕ) → Passes (module_whole n)
 unfolding module_whole module_body

@@ -1,6 +1,6 @@
 -- With twice as many levels as tokens, and two more, nothing in a module is too deep but what an error token says.
-use Rattle.std.proofs.Common.{◌≡◌, ◌≢◌, ℕ, zero, suc, ◌+◌, ◌*◌, ◌≤◌, Bool, true, false, List, [], ◌∷◌, ◌++◌, length, Option, Some, None, Err, refl, sym, ◌∙◌, arith, subst}
-use Rattle.std.specs.Prelude.{◌&&◌, ◌||◌, codes}
+use Rattle.std.proofs.Common.{◌≡◌, ◌≢◌, ℕ, zero, suc, ◌+◌, ◌*◌, ◌≤◌, Bool, true, false, List, [], ◌∷◌, ◌++◌, length, Option, Some, None, Ok, Err, refl, sym, ◌∙◌, arith, subst}
+use Rattle.std.specs.Prelude.{not, ◌&&◌, ◌||◌, codes}
 use Rattle.swc_ecma_parser_common.specs.declared.span.Span.{Span}
 use Rattle.swc_ecma_parser_error.specs.Kind as faults
 use Rattle.swc_ecma_parser_error.specs.Kind.{Fault}
@@ -18,6 +18,7 @@ use Rattle.swc_ecma_parser_grammar.specs.Follows.{word_at, is_let_declaration, i
 use Rattle.swc_ecma_parser_grammar.specs.Own.{export_faults}
 use Rattle.swc_ecma_parser_grammar.specs.Reads.{with_in, nested_item, top_item}
 use Rattle.swc_ecma_parser_grammar.specs.language.Contexts.{outside_functions}
+use Rattle.swc_ecma_parser_grammar.specs.language.Exports.{begin_before}
 use Rattle.swc_ecma_parser_grammar.specs.language.Goals.{assignment, left_side}
 use Rattle.swc_ecma_parser_grammar.specs.language.Imports.{follows_phase}
 use Rattle.swc_ecma_parser_grammar.specs.language.ModuleParts.{begins_attributes}
@@ -40,9 +41,11 @@ use Rattle.swc_ecma_parser_reader.proofs.Limits.{decorated_in_shallow}
 use Rattle.swc_ecma_parser_reader.proofs.expressions.LimitSteps.{reject_shallow, told_shallow, literal_shallow, any_word_shallow, unexpected_shallow, kept_more}
 use Rattle.swc_ecma_parser_module_reader.specs.Imports.{str_or, str, source, module_name, attributes, specifiers_turn, specifiers, same_name, other_name, import_specifier, binding_name, import_namespace, bindings, more_bindings, default_binding, import_clause, imported, import_from, phase_of, import_phased, is_phase_word, import_decl}
 use Rattle.swc_ecma_parser_module_reader.specs.Exports.{renamed_export, plain_export, export_specifier, export_namespace, names_from, own_names, export_names, more_names, namespace_names, export_all, export_star, is_namespace_next, behind_default, is_name_from, name_from, is_default_from, default_from, default_name, default_function, default_expr, begins_default_function, exported_function, exported_class, default_rest, export_default, exported, export_rest, export_named}
-use Rattle.swc_ecma_parser_module_reader.specs.Decorated.{none_before, begins_decorators, no_leading, later_alone, later, decorating, by_default, named_with, default_with, behind_export, behind_default_word, export_from, export_item}
-use Rattle.swc_ecma_parser_module_reader.specs.Modules.{begins_import, import_in, export_in, module_item, module_code, module_body, module_whole}
+use Rattle.swc_ecma_parser_module_reader.specs.Decorated.{none_before, begins_decorators, no_leading, later_alone, later, decorating, by_default, named_with, default_with, behind_export, behind_default_word, export_from, export_with, export_item}
+use Rattle.swc_ecma_parser_module_reader.specs.Modules.{begins_import, import_in, export_in, import_behind, export_behind, item_behind, module_item, module_code, module_body, module_whole}
 use Rattle.swc_ecma_parser_module_reader.proofs.Falls.{var_is_stmt, const_is_stmt, let_is_stmt, function_is_stmt, class_is_stmt}
+use Rattle.swc_ecma_parser_module_reader.specs.Programs.{begins_module}
+use Rattle.swc_ecma_parser_module_reader.proofs.DecoratedItems.{word_cases, item_cases}
 use Rattle.swc_ecma_parser_module_reader.proofs.Fits.{whole_shallow, stmt_shallow, whole_expr_shallow, cost, parts_shallow, whole_class_shallow}
 
 -- a reader that needs no level
@@ -390,10 +393,38 @@ unfolding export_in export_item
 export_in_shallow zero m s l e f = absurd (omega arith)
 export_in_shallow (suc n) m s l e f = export_from_shallow n (no_leading s) m s l e f
 
+-- behind decorators
+import_behind_shallow : (n : ℕ) (v : Leading) (m : ℕ) (s : State) → 2 * m + 2 ≤ suc n → Fine m s.at.left → Answers (Kept m) Shallow (import_behind n v s)
+import_behind_shallow n v m s l f = answers_then (Kept m) _ (misplaced v s) _ (misplaced_shallow v m s f) (λ _ t g. import_decl_levels (object_alone n) n (object_alone_shallow n) m t (omega arith) g)
+
+export_behind_shallow : (n : ℕ) (v : Leading) (m : ℕ) (s : State) → 2 * m + 2 ≤ suc n → sees kind.Export s.at ≡ true → Fine m s.at.left → Answers (Kept m) Shallow (export_behind n v s)
+unfolding export_with
+export_behind_shallow n v m s l e f = answers_if _ _ (has_any v.found && not (s.code.setting.decorators_before_export && begin_before (span_at s.at) (listed v.found))) _ _
+    (λ _. reject_shallow _ faults.DecoratorOnExport v.place (λ z. cc) m s f) (λ _. export_from_shallow n v m s l e f)
+
+-- the decorators
+pub list_shallow : (n m : ℕ) (s : State) → 2 * m + 2 ≤ suc n → Fine m s.at.left → (v : Leading) (t : State) → leading (decorated_in n) s ≡ Ok (v, t) → Fine m t.at.left
+list_shallow n m s l f v t h = meant (Kept m) Shallow (leading (decorated_in n) s) (Ok (v, t)) h (leading_shallow (decorated_in n) n (decorated_in_shallow n) m s (omega arith) f)
+
+led_shallow : (n m k : ℕ) (s : State) → n ≡ suc k → 2 * m + 2 ≤ n → Fine m s.at.left → (v : Leading) (t : State) → leading (decorated_in k) s ≡ Ok (v, t)
+    → (begins_import t.at ≡ true → Answers (Kept m) Shallow (import_behind k v t)) × (sees kind.Export t.at ≡ true → Answers (Kept m) Shallow (export_behind k v t))
+led_shallow n m k s e l f v t h = let i : 2 * m + 2 ≤ suc k = subst (λ z. 2 * m + 2 ≤ z) e l in let g = list_shallow k m s i f v t h in
+    (λ _. import_behind_shallow k v m t i g, λ w. export_behind_shallow k v m t i w g)
+
+-- where one of the two words stands
+pub word_shallow : (k : ℕ) (v : Leading) (m : ℕ) (u : State) → 2 * m + 2 ≤ suc k → Fine m u.at.left → begins_module u.at ≡ true → Answers (Kept m) Shallow (item_behind k v u)
+word_shallow k v m u i g w = word_cases (Answers (Kept m) Shallow) k v u w (λ _. import_behind_shallow k v m u i g) (λ x. export_behind_shallow k v m u i x g)
+
+-- in whatever state that is
+pub behind_shallow : (n m k : ℕ) (s : State) → n ≡ suc k → 2 * m + 2 ≤ n → Fine m s.at.left → (v : Leading) (t : State) → leading (decorated_in k) s ≡ Ok (v, t) → begins_module t.at ≡ true
+    → (u : State) → u.at ≡ t.at → Answers (Kept m) Shallow (item_behind k v u)
+behind_shallow n m k s e l f v t h w u at =
+    let i : 2 * m + 2 ≤ suc k = subst (λ z. 2 * m + 2 ≤ z) e l in
+    word_shallow k v m u i (subst (λ c. Fine m c.left) (sym at) (list_shallow k m s i f v t h)) (subst (λ c. begins_module c ≡ true) (sym at) w)
+
 pub module_item_shallow : (n m : ℕ) (s : State) → 2 * m + 2 ≤ n → Fine m s.at.left → Answers (Kept m) Shallow (module_item n s)
-unfolding module_item
-module_item_shallow n m s l f = answers_if _ _ (begins_import s.at) _ _ (λ _. import_in_shallow n m s l f)
-    (λ _. answers_if _ _ (sees kind.Export s.at) _ _ (λ e. export_in_shallow n m s l e f) (λ _. whole_shallow n top_item m s l f))
+module_item_shallow n m s l f = item_cases (Answers (Kept m) Shallow) n s (λ _. import_in_shallow n m s l f) (λ e. export_in_shallow n m s l e f) (whole_shallow n top_item m s l f)
+    (λ k e b v t h. led_shallow n m k s e l f v t h)
 
 items_shallow : (m : ℕ) (inner : Reader Tree) → ((s : State) → Fine m s.at.left → Answers (Kept m) Shallow (inner s)) → (stops : Place → Bool) (directives : Bool) (s : State)
     → Fine m s.at.left → Answers (Kept m) Shallow (items inner stops directives s)

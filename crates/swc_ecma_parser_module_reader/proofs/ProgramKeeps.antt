@@ -1,22 +1,25 @@
 -- Whatever a program is read as, or refused, the tokens that are left are the last of those that were, what was read last is the
 -- token before them, and no recorded fault is lost.
-use Rattle.std.proofs.Common.{ℕ, true, List, [], ◌++◌, Option, Result, Ok, Err, sym, ◌∙◌, ap, append_assoc, append-nil}
+use Rattle.std.proofs.Common.{ℕ, true, List, [], ◌++◌, Option, Result, Ok, Err, sym, ◌∙◌, ap, append_assoc, append-nil, ◌≡◌, suc, ◌∷◌}
 use Rattle.std.specs.Prelude.{not, ◌&&◌}
 use Rattle.swc_ecma_parser_error.specs.declared.error.Error.{Error}
 use Rattle.swc_ecma_parser_error.specs.Kind.{Fault, fault_of}
 use Rattle.swc_ecma_parser_input.specs.Place.{Place}
 use Rattle.swc_ecma_parser_model.specs.Tree.{Tree, Text}
 use Rattle.swc_ecma_parser_grammar.specs.Reads.{top_item}
-use Rattle.swc_ecma_parser_reader.specs.Reader.{at_end, items, whole_stmt, shebang}
+use Rattle.swc_ecma_parser_reader.specs.Reader.{at_end, whole_stmt, shebang, items_turn}
 use Rattle.swc_ecma_parser_reader.specs.State.{State, Reader, coded}
 use Rattle.swc_ecma_parser_reader.specs.Entry.{unmarked, IsBehind, Stays}
-use Rattle.swc_ecma_parser_reader.proofs.Behind.{Passes, Follows, follows, behind_self, shebang_keeps}
+use Rattle.swc_ecma_parser_reader.proofs.Behind.{Passes, Follows, follows, behind_self, shebang_keeps, NothingLost, Kept, Lost, loop_keeps}
 use Rattle.swc_ecma_parser_reader.proofs.Keeps.{items_keeps, whole_stmt_keeps, outcome_behind}
 use Rattle.swc_ecma_parser_reader.proofs.Meets.{Answers, answers_then, answers_if, meant}
-use Rattle.swc_ecma_parser_module_reader.specs.Modules.{module_item}
-use Rattle.swc_ecma_parser_module_reader.specs.Programs.{before_module, program_code, entered, as_script, as_module, program_body, program_whole}
+use Rattle.swc_ecma_parser_module_reader.specs.Modules.{module_item, item_behind}
+use Rattle.swc_ecma_parser_module_reader.specs.Programs.{program_code, entered, as_script, as_module, program_body, program_whole, Front, begins_module, front_turn, front, behind_front}
 use Rattle.swc_ecma_parser_module_reader.specs.ProgramEntry.{AnswersProgram}
-use Rattle.swc_ecma_parser_module_reader.proofs.Keeps.{module_item_keeps}
+use Rattle.swc_ecma_parser_module_reader.proofs.Keeps.{module_item_keeps, list_keeps, import_behind_keeps, export_behind_keeps}
+use Rattle.swc_ecma_parser_reader.specs.Decorators.{Leading, has_any}
+use Rattle.swc_ecma_parser_module_reader.proofs.DecoratedItems.{word_cases}
+use Rattle.swc_ecma_parser_module_reader.proofs.Fronts.{turn_cases, fronts, list_word, known_both, behind_front_cases, Fronts}
 
 -- faults are recorded where module code begins, and none is lost
 behind_entered : (recorded : List Fault) (b s : State) → IsBehind b s → IsBehind b (entered recorded s)
@@ -36,20 +39,45 @@ Leaves p = (b s : State) → IsBehind b s → Answers (Follows b) (Follows b) (p
 pub since : {A : Type 0} (p : Reader A) → Passes p → Leaves p
 since p k b s f = let c = record b { notes = record b.notes { held_back = s.notes.held_back } } in follows c (p s) (k c s (f, ([], sym (append-nil s.notes.held_back))))
 
+-- ---- the statements before module code begins
+
+front_turn_keeps : (n : ℕ) (found : List Tree) → Passes (front_turn n found)
+front_turn_keeps n found b s f = turn_cases n found s (Answers (Kept b) (Lost b)) (λ _. f)
+    (λ _. answers_then (Kept b) (Lost b) (whole_stmt n top_item s) _ (whole_stmt_keeps n top_item b s f) (λ x t g. g)) (λ e m i d v t h w. list_keeps m b s f v t h)
+
+front_keeps : (n : ℕ) → Passes (front n)
+unfolding front
+front_keeps n b s f = loop_keeps (front_turn n) b (λ found t g. front_turn_keeps n found b t g) [] s f
+
+-- ---- the items behind them
+
+turn_keeps : (n : ℕ) (found : List Tree) → Passes (items_turn (module_item n) at_end true found)
+unfolding items_turn
+turn_keeps n found b s f = answers_if _ _ (at_end s.at) _ _ (λ _. f) (λ _. answers_then (Kept b) (Lost b) (module_item n s) _ (module_item_keeps n b s f) (λ x t g. g))
+
+behind_front_keeps : (n : ℕ) (v : Leading) (b s : State) → NothingLost b s → (has_any v.found ≡ true → (m : ℕ) × (n ≡ suc m) × (begins_module s.at ≡ true)) → Answers (Kept b) (Lost b) (behind_front n v s)
+behind_front_keeps n v b s f word = behind_front_cases (Answers (Kept b) (Lost b)) n v s (λ a. let (m, i, w) = word a in (
+  m,
+  i,
+  answers_then (Kept b) (Lost b) (item_behind m v s) _
+      (word_cases (Answers (Kept b) (Lost b)) m v s w (λ _. import_behind_keeps m v b s f) (λ _. export_behind_keeps m v b s f))
+      (λ x t g. loop_keeps (items_turn (module_item n) at_end true) b (λ found u h. turn_keeps n found b u h) (x ∷ []) t g),
+)) (λ _. items_keeps (module_item n) (module_item_keeps n) at_end true b s f)
+
 -- from where module code begins on
-module_keeps : (n : ℕ) (recorded : List Fault) (start : Place) (before : List Tree) (first : Option Text) → Leaves (as_module n recorded start before first)
+module_keeps : (n : ℕ) (recorded : List Fault) (start : Place) (w : Front) (first : Option Text) (b s : State) → IsBehind b s
+    → (has_any w.list.found ≡ true → (m : ℕ) × (n ≡ suc m) × (begins_module s.at ≡ true)) → Answers (Follows b) (Follows b) (as_module n recorded start w first s)
 unfolding as_module
-module_keeps n recorded start before first b s f = let u = entered recorded s in
-    answers_then (Follows b) (Follows b) (items (module_item n) at_end true u) _
-    (since (items (module_item n) at_end true) (items_keeps (module_item n) (module_item_keeps n) at_end true) b u (behind_entered recorded b s f)) (λ xs v k. k)
+module_keeps n recorded start w first b s f word = let u = entered recorded s in let c = record b { notes = record b.notes { held_back = u.notes.held_back } } in
+    answers_then (Follows b) (Follows b) (behind_front n w.list u) _
+    (follows c (behind_front n w.list u) (behind_front_keeps n w.list c u (behind_entered recorded b s f, ([], sym (append-nil u.notes.held_back))) word)) (λ xs v k. k)
 
 body_keeps : (n : ℕ) (recorded : List Fault) → Leaves (program_body n recorded)
 unfolding program_body as_script
 body_keeps n recorded b s f =
     answers_then (Follows b) (Follows b) (shebang s) _ (since shebang shebang_keeps b s f) (λ o t g.
-    answers_then (Follows b) (Follows b) (items (whole_stmt n top_item) before_module true t) _
-    (since (items (whole_stmt n top_item) before_module true) (items_keeps (whole_stmt n top_item) (whole_stmt_keeps n top_item) before_module true) b t g) (λ xs u k.
-    answers_if (Follows b) (Follows b) (at_end u.at && not u.notes.found_module_item) _ _ (λ _. k) (λ _. module_keeps n recorded s.at xs o b u k)))
+    answers_then (Follows b) (Follows b) (front n t) _ (known_both (Follows b) (Fronts n t) (Follows b) (front n t) (since (front n) (front_keeps n) b t g) (fronts n t)) (λ w u (k, is).
+    answers_if (Follows b) (Follows b) (at_end u.at && not u.notes.found_module_item) _ _ (λ _. k) (λ _. module_keeps n recorded s.at w o b u k (list_word n t w u is))))
 
 pub program_keeps : (n : ℕ) (recorded : List Fault) → Leaves (program_whole n recorded)
 unfolding program_whole

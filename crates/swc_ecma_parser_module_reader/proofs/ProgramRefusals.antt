@@ -1,5 +1,5 @@
 -- An error token in first place of a program is answered.
-use Rattle.std.proofs.Common.{◌≡◌, ℕ, zero, suc, List, ◌∷◌, Err, refl, sym, subst}
+use Rattle.std.proofs.Common.{◌≡◌, ℕ, zero, suc, List, ◌∷◌, Err, refl, sym, subst, Bool, true, false}
 use Rattle.swc_ecma_parser_error.specs.declared.error.Error.{Error}
 use Rattle.swc_ecma_parser_error.specs.Kind.{Fault, fault_of}
 use Rattle.swc_ecma_parser_token.specs.declared.token.Token.TheVariants as token
@@ -15,18 +15,27 @@ use Rattle.swc_ecma_parser_reader.specs.Yields.{begins_yield}
 use Rattle.swc_ecma_parser_reader.specs.Arrows.{begins_named_arrow}
 use Rattle.swc_ecma_parser_reader.specs.AsyncArrows.{begins_async_arrow}
 use Rattle.swc_ecma_parser_reader.specs.Words.{begins_async_call}
-use Rattle.swc_ecma_parser_reader.specs.Reader.{other_stmt, begins_label, expr, at_end, items_turn, items, expr_stmt, expr_stmt_at, stmt_level, stmt, top_await, whole_stmt, shebang}
+use Rattle.swc_ecma_parser_reader.specs.Reader.{other_stmt, begins_label, expr, at_end, items_turn, items, expr_stmt, expr_stmt_at, stmt_level, stmt, top_await, whole_stmt, shebang, await_using_or}
 use Rattle.swc_ecma_parser_module_reader.specs.Modules.{begins_import}
-use Rattle.swc_ecma_parser_module_reader.specs.Programs.{begins_module, before_module, program_body, program_whole}
-use Rattle.swc_ecma_parser_module_reader.proofs.Refusals.{before}
+use Rattle.swc_ecma_parser_module_reader.specs.Programs.{begins_module, before_module, program_body, program_whole, front, front_turn}
+use Rattle.swc_ecma_parser_module_reader.proofs.Refusals.{before, set_to}
+use Rattle.swc_ecma_parser_module_reader.specs.Decorated.{begins_decorators}
+use Rattle.swc_ecma_parser_grammar.specs.Using.{is_await_using_declaration}
 
 -- nothing but the fault is answered, in however many levels
+refused_by : (n : ℕ) (b : Bool) (recorded : List Fault) (s : State) (t : TokenAndSpan) (e : Error) (ts : List TokenAndSpan)
+    → (u : State) × (program_whole n recorded (before (set_to b s) t (token.Error e) ts) ≡ Err (fault_of e, u))
+unfolding program_whole program_body front front_turn begins_decorators before_module begins_module begins_import shebang items items_turn loop at_end whole_stmt top_await stmt either_stmt await_using_or is_await_using_declaration stmt_level other_stmt begins_label expr_stmt_at expr_stmt expr expr_level expression_expr assignment_expr cover_expr done_expr plain_expr begins_yield begins_named_arrow begins_async_arrow begins_async_call operators_expr binary_expr unary_expr awaits postfix left left_head primary literal marked_primary wanted too_deep kind_at same_kind identifier_at may_begin_expression_statement is_async_function is_let_declaration word_at
+refused_by zero true recorded s t e ts = (_, refl)
+refused_by zero false recorded s t e ts = (_, refl)
+refused_by (suc zero) true recorded s t e ts = (_, refl)
+refused_by (suc zero) false recorded s t e ts = (_, refl)
+refused_by (suc (suc n)) true recorded s t e ts = (_, refl)
+refused_by (suc (suc n)) false recorded s t e ts = (_, refl)
+
 refused_in : (n : ℕ) (recorded : List Fault) (s : State) (t : TokenAndSpan) (e : Error) (ts : List TokenAndSpan)
     → (u : State) × (program_whole n recorded (before s t (token.Error e) ts) ≡ Err (fault_of e, u))
-unfolding program_whole program_body before_module begins_module begins_import shebang items items_turn loop at_end whole_stmt top_await stmt either_stmt stmt_level other_stmt begins_label expr_stmt_at expr_stmt expr expr_level expression_expr assignment_expr cover_expr done_expr plain_expr begins_yield begins_named_arrow begins_async_arrow begins_async_call operators_expr binary_expr unary_expr awaits postfix left left_head primary literal marked_primary wanted too_deep kind_at same_kind identifier_at may_begin_expression_statement is_async_function is_let_declaration word_at
-refused_in zero recorded s t e ts = (_, refl)
-refused_in (suc zero) recorded s t e ts = (_, refl)
-refused_in (suc (suc n)) recorded s t e ts = (_, refl)
+refused_in n recorded s t e ts = refused_by n s.code.setting.decorators recorded s t e ts
 
 -- whatever the list goes on with
 pub program_of_error_token : (limit : ℕ) (recorded : List Fault) (s : State) (u : TokenAndSpan) (us : List TokenAndSpan) (d : Error) → s.at.left ≡ u ∷ us → u.token ≡ token.Error d

@@ -1,5 +1,5 @@
 -- An error token in first place is answered.
-use Rattle.std.proofs.Common.{◌≡◌, ℕ, zero, suc, List, ◌∷◌, Err, refl, sym, subst}
+use Rattle.std.proofs.Common.{◌≡◌, ℕ, zero, suc, List, ◌∷◌, Err, refl, sym, subst, Bool, true, false}
 use Rattle.swc_ecma_parser_error.specs.declared.error.Error.{Error}
 use Rattle.swc_ecma_parser_error.specs.Kind.{fault_of}
 use Rattle.swc_ecma_parser_token.specs.declared.token.Token.{Token}
@@ -16,19 +16,31 @@ use Rattle.swc_ecma_parser_reader.specs.Yields.{begins_yield}
 use Rattle.swc_ecma_parser_reader.specs.Arrows.{begins_named_arrow}
 use Rattle.swc_ecma_parser_reader.specs.AsyncArrows.{begins_async_arrow}
 use Rattle.swc_ecma_parser_reader.specs.Words.{begins_async_call}
-use Rattle.swc_ecma_parser_reader.specs.Reader.{other_stmt, begins_label, expr, at_end, items_turn, items, expr_stmt, expr_stmt_at, stmt_level, stmt, top_await, whole_stmt, shebang}
+use Rattle.swc_ecma_parser_reader.specs.Reader.{other_stmt, begins_label, expr, at_end, items_turn, items, expr_stmt, expr_stmt_at, stmt_level, stmt, top_await, whole_stmt, shebang, await_using_or}
 use Rattle.swc_ecma_parser_module_reader.specs.Modules.{begins_import, module_item, module_body, module_whole}
+use Rattle.swc_ecma_parser_module_reader.specs.Decorated.{begins_decorators}
+use Rattle.swc_ecma_parser_grammar.specs.Using.{is_await_using_declaration}
 
 -- a state with this token in first place
 abbrev pub before : State → TokenAndSpan → Token → List TokenAndSpan → State
 before s t v ts = record s { at = record s.at { left = record t { token = v } ∷ ts } }
 
+-- with decorators or without
+abbrev pub set_to : Bool → State → State
+set_to b s = record s { code = record s.code { setting = record s.code.setting { decorators = b } } }
+
 -- nothing but the fault is answered, in however many levels
+refused_by : (n : ℕ) (b : Bool) (s : State) (t : TokenAndSpan) (e : Error) (ts : List TokenAndSpan) → (u : State) × (module_whole n (before (set_to b s) t (token.Error e) ts) ≡ Err (fault_of e, u))
+unfolding module_whole module_body module_item begins_import begins_decorators shebang items items_turn loop at_end whole_stmt top_await stmt either_stmt await_using_or is_await_using_declaration stmt_level other_stmt begins_label expr_stmt_at expr_stmt expr expr_level expression_expr assignment_expr cover_expr done_expr plain_expr begins_yield begins_named_arrow begins_async_arrow begins_async_call operators_expr binary_expr unary_expr awaits postfix left left_head primary literal marked_primary wanted too_deep kind_at same_kind identifier_at may_begin_expression_statement is_async_function is_let_declaration word_at
+refused_by zero true s t e ts = (_, refl)
+refused_by zero false s t e ts = (_, refl)
+refused_by (suc zero) true s t e ts = (_, refl)
+refused_by (suc zero) false s t e ts = (_, refl)
+refused_by (suc (suc n)) true s t e ts = (_, refl)
+refused_by (suc (suc n)) false s t e ts = (_, refl)
+
 refused_in : (n : ℕ) (s : State) (t : TokenAndSpan) (e : Error) (ts : List TokenAndSpan) → (u : State) × (module_whole n (before s t (token.Error e) ts) ≡ Err (fault_of e, u))
-unfolding module_whole module_body module_item begins_import shebang items items_turn loop at_end whole_stmt top_await stmt either_stmt stmt_level other_stmt begins_label expr_stmt_at expr_stmt expr expr_level expression_expr assignment_expr cover_expr done_expr plain_expr begins_yield begins_named_arrow begins_async_arrow begins_async_call operators_expr binary_expr unary_expr awaits postfix left left_head primary literal marked_primary wanted too_deep kind_at same_kind identifier_at may_begin_expression_statement is_async_function is_let_declaration word_at
-refused_in zero s t e ts = (_, refl)
-refused_in (suc zero) s t e ts = (_, refl)
-refused_in (suc (suc n)) s t e ts = (_, refl)
+refused_in n s t e ts = refused_by n s.code.setting.decorators s t e ts
 
 -- whatever the list goes on with
 pub module_of_error_token : (n : ℕ) (s : State) (t : TokenAndSpan) (ts : List TokenAndSpan) (e : Error) → s.at.left ≡ t ∷ ts → t.token ≡ token.Error e → (u : State) × (module_whole n s ≡ Err (fault_of e, u))

@@ -64,8 +64,8 @@ use Rattle.swc_ecma_parser_reader.proofs.SoundParts.{end_sound, variables_stand,
 use Rattle.swc_ecma_parser_reader.proofs.SoundFunctions.{function_decl_sound, function_expr_sound}
 use Rattle.swc_ecma_parser_reader.proofs.Sound.{expr_sound, pattern_sound, parameters_sound, stmt_sound, classes_sound, class_sound as class_expr_sound}
 use Rattle.swc_ecma_parser_module_reader.specs.Exports.{default_name, default_function, begins_default_function}
-use Rattle.swc_ecma_parser_module_reader.specs.Decorated.{with_decorators, none_before}
-use Rattle.swc_ecma_parser_module_reader.specs.Supported.{supported_item}
+use Rattle.swc_ecma_parser_module_reader.specs.Decorated.{with_decorators}
+use Rattle.swc_ecma_parser_module_reader.specs.Supported.{on_one_side, supported_item}
 use Rattle.swc_ecma_parser_module_reader.proofs.DecoratedForms.{IsName, ident_name, absent_name, Takes, IsFunction, IsClass, fn_decl_takes, fn_expr_takes, class_decl_takes, class_expr_takes}
 use Rattle.swc_ecma_parser_module_reader.proofs.ModuleCode.{IsModule}
 use Rattle.swc_ecma_parser_error.specs.Kind.{Fault, fault_of}
@@ -89,15 +89,15 @@ abbrev VariablesRead : ℕ → Tree → Code → Place → Place → Type 0
 VariablesRead n x k c d = ExportedRule (Reads n) k (listed []) x c d × ((span : Span) → supported_item (tree.export_decl span x) ≡ true) × (k.flags.module ≡ true → notes x ≡ [])
 
 -- A class or a function that is exported, and one that is exported by default, in the code of the export: any decorators may stand
--- before it, which are supported behind the words.
+-- before it, which are supported behind the words of the export or before them.
 pub record ExportedRead (n : ℕ) (x : Tree) (k : Code) (c d : Place) : Type 0 where
   pub reads : (ds : List Tree) → ExportedRule (Reads n) k (listed ds) (with_decorators ds x) c d
-  pub supports : (ds : List Tree) (span : Span) → all_supported (trees ds) && none_before span.lo (trees ds) ≡ true → supported_item (tree.export_decl span (with_decorators ds x)) ≡ true
+  pub supports : (ds : List Tree) (span : Span) → all_supported (trees ds) && on_one_side span (trees ds) ≡ true → supported_item (tree.export_decl span (with_decorators ds x)) ≡ true
   pub unnoted : k.flags.module ≡ true → notes x ≡ []
 
 pub record DefaultRead (n : ℕ) (x : Tree) (k : Code) (c d : Place) : Type 0 where
   pub reads : (ds : List Tree) → DefaultRule (Reads n) k (listed ds) (with_decorators ds x) c d
-  pub supports : (ds : List Tree) (span : Span) → all_supported (trees ds) && none_before span.lo (trees ds) ≡ true → supported_item (tree.export_default_decl span (with_decorators ds x)) ≡ true
+  pub supports : (ds : List Tree) (span : Span) → all_supported (trees ds) && on_one_side span (trees ds) ≡ true → supported_item (tree.export_default_decl span (with_decorators ds x)) ≡ true
   pub unnoted : notes x ≡ []
 
 abbrev pub SoundVariables : ℕ → State → Tree → State → Type 0

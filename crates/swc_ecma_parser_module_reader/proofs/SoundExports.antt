@@ -21,7 +21,7 @@ use Rattle.swc_ecma_parser_grammar.specs.language.Classes as classes
 use Rattle.swc_ecma_parser_grammar.specs.language.Classes.{DecoratorsRule}
 use Rattle.swc_ecma_parser_grammar.specs.language.Contexts.{in_module}
 use Rattle.swc_ecma_parser_grammar.specs.language.Exports as exports
-use Rattle.swc_ecma_parser_grammar.specs.language.Exports.{ExportRule, ExportedRule, DefaultRule, ExportFrontRule, decorated_behind, export_word, export_default_words, may_begin_default}
+use Rattle.swc_ecma_parser_grammar.specs.language.Exports.{all_before, ExportRule, ExportedRule, DefaultRule, ExportFrontRule, decorated_behind, export_word, export_default_words, may_begin_default}
 use Rattle.swc_ecma_parser_grammar.specs.language.Goals.{Goal, expr_goal, assignment, left_side}
 use Rattle.swc_ecma_parser_grammar.specs.language.Reads.{Reads}
 use Rattle.swc_ecma_parser_grammar.proofs.SupportedIn.{lower}
@@ -45,7 +45,7 @@ use Rattle.swc_ecma_parser_reader.proofs.decorators.Leading.{SoundLeading, leadi
 use Rattle.swc_ecma_parser_reader.proofs.Sound.{decorated_in_sound}
 use Rattle.swc_ecma_parser_module_reader.specs.Decorated.{with_decorators, none_before, begins_decorators, no_leading, later_alone, later, decorating, by_default, named_with, default_with, behind_export, behind_default_word, export_from, export_item}
 use Rattle.swc_ecma_parser_module_reader.specs.Exports.{begins_default_function, is_default_from, is_name_from, default_function, default_expr, exported_function, exported_class, default_rest, export_default, exported, export_rest, export_named}
-use Rattle.swc_ecma_parser_module_reader.specs.Supported.{supported_item}
+use Rattle.swc_ecma_parser_module_reader.specs.Supported.{on_one_side, supported_item}
 use Rattle.swc_ecma_parser_module_reader.proofs.DecoratedForms.{Takes, behind_walk}
 use Rattle.swc_ecma_parser_module_reader.proofs.ModuleCode.{IsModule, in_module_same, module_env}
 use Rattle.swc_ecma_parser_module_reader.proofs.SoundExported.{SoundExport, SoundVariables, SoundExported, SoundDefault, variables_sound, function_sound, class_sound, default_begins, default_function_sound, default_class_sound}
@@ -59,6 +59,10 @@ lower_all m ds h = lower m (listed ds) h
 pub none_of : (xs : List Tree) → has_any xs ≡ false → xs ≡ []
 none_of [] h = refl
 none_of (x ∷ xs) h = cc
+
+-- those of which none begins before the export are on one side of it
+behind_one : (span : Span) (ds : List Tree) → none_before span.lo (trees ds) ≡ true → on_one_side span (trees ds) ≡ true
+behind_one span ds h = ap (λ b. b || all_before span (trees ds)) h
 
 -- no decorators stand between two places
 pub no_list : {In : Goal → Type 0} {k : Code} {c d : Place} → DecoratorsRule In k (listed []) c d → d ≡ c
@@ -97,7 +101,7 @@ module _ (n : ℕ) (s : State) (o : IsModule s.code) (start : Span) where
             (λ (a, r). (
               exports.export_declaration_rule (listed ds) y s.at u.at a.1 (subst (λ k. ExportedRule (Reads n) k (listed ds) y u.at t.at) (sym (in_module_same s.code o)) (r.reads ds))
                   (ap (λ z. tree.export_decl (record { lo = z.lo; hi = t.at.last.hi }) y) a.0),
-              r.supports ds span (and_both (all_supported (trees ds)) _ a.2 h),
+              r.supports ds span (and_both (all_supported (trees ds)) _ a.2 (behind_one span ds h)),
               front_notes ds x f (a.3 o.0) (r.unnoted o.0),
             )) (paired w p),
         refl,
@@ -114,7 +118,7 @@ module _ (n : ℕ) (s : State) (o : IsModule s.code) (start : Span) where
             (λ (a, r). (
               exports.export_default_declaration_rule (listed ds) y s.at u.at a.1 (subst (λ k. DefaultRule (Reads n) k (listed ds) y u.at t.at) (sym (in_module_same s.code o)) (r.reads ds))
                   (ap (λ z. tree.export_default_decl (record { lo = z.lo; hi = t.at.last.hi }) y) a.0),
-              r.supports ds span (and_both (all_supported (trees ds)) _ a.2 h),
+              r.supports ds span (and_both (all_supported (trees ds)) _ a.2 (behind_one span ds h)),
               front_notes ds x f (a.3 o.0) r.unnoted,
             )) (paired w p),
         refl,

@@ -66,6 +66,8 @@ pub record SoundTaken (n : ℕ) (v : Leading) (m : State) (x : Tree) (t : State)
   pub is : x ≡ exported_with v.found plain
   pub takes : Takes bare
   pub form : IsExportOf plain bare
+  -- it begins at its word
+  pub starts : form.0.lo ≡ (span_at m.at).lo
   pub sound : Sound same (λ k l. walk (env_of k l) plain) (notes_of plain) (BareRead n bare plain) m t
 
 -- or they were dropped, with what makes a program a module in them
@@ -92,7 +94,7 @@ found_step v m u p = record {
 }
 
 -- what was dropped is dropped in all that follows
-drops_later : (s g t : State) → Drops s g → NothingLost g t → Drops s t
+pub drops_later : (s g t : State) → Drops s g → NothingLost g t → Drops s t
 drops_later s g t (es, f, h) k = (es ++ k.0.added, k.0.faults ∙ ap (λ z. z ++ k.0.added) f ∙ append_assoc s.faults es k.0.added, both (drops (es ++ k.0.added)) refl)
   where
     both : (b : Bool) → drops (es ++ k.0.added) ≡ b → drops (es ++ k.0.added) ≡ true
@@ -106,11 +108,11 @@ drops_behind s m g es e (fs, f, h) = (es ++ fs, f ∙ ap (λ z. z ++ fs) e ∙ a
     both true e = e
     both false e = absurd (true≢false (sym h ∙ (drops-split es fs e).1))
 
-kept_meets : {A : Type 0} (g : State) (o : Outcome A) → Answers (Kept g) (Lost g) o → Meets (λ _ t. NothingLost g t) o
+pub kept_meets : {A : Type 0} (g : State) (o : Outcome A) → Answers (Kept g) (Lost g) o → Meets (λ _ t. NothingLost g t) o
 kept_meets g (Ok p) h = h
 kept_meets g (Err e) h = tt
 
-module _ (n : ℕ) (m : State) (o : IsModule m.code) (start : Span) (v : Leading) (any : has_any v.found ≡ true) where
+module _ (n : ℕ) (m : State) (o : IsModule m.code) (start : Span) (begins : start.lo ≡ (span_at m.at).lo) (v : Leading) (any : has_any v.found ≡ true) where
   -- its walk without decorators
   bare_walk : (span : Span) (z : Tree) → Takes z → walk (env_of m.code m.scope.labels) z ≡ walks.walk_exported (env_of m.code m.scope.labels) span (walk (walks.in_module (env_of m.code m.scope.labels)) z) z
   bare_walk span z f = let env = env_of m.code m.scope.labels in
@@ -128,6 +130,7 @@ module _ (n : ℕ) (m : State) (o : IsModule m.code) (start : Span) (v : Leading
         is = ap (tree.export_decl span) is;
         takes = f;
         form = (span, inl refl);
+        starts = begins;
         sound = sound_as m t refl (bare_walk span z f) refl
             (λ (a, r). bare_declared u.at a.0 a.2 r (ap (λ b. tree.export_decl (record { lo = b.lo; hi = t.at.last.hi }) z) a.1)) (paired w p);
       }))
@@ -143,6 +146,7 @@ module _ (n : ℕ) (m : State) (o : IsModule m.code) (start : Span) (v : Leading
         is = ap (tree.export_default_decl span) is;
         takes = f;
         form = (span, inr refl);
+        starts = begins;
         sound = sound_as m t refl (bare_walk span z f) refl
             (λ (a, r). bare_default u.at a.0 a.2 a.4 r (ap (λ b. tree.export_default_decl (record { lo = b.lo; hi = t.at.last.hi }) z) a.1)) (paired w p);
       }))
@@ -157,7 +161,7 @@ module _ (n : ℕ) (m : State) (o : IsModule m.code) (start : Span) (v : Leading
       (λ h. (refl, sound_as u t refl refl refl (λ b. no_list b.0.0) (empty_list n m o start u w t p (none_of w.found h)))))
 
   -- those that nothing takes
-  dropped_step : {P : Code → Place → Place → Type 0} (u : State) → SoundStep P m u → Meets (λ _ g. SoundStep (λ k c d. ⊥) (found_before v m) g × Drops (found_before v m) g) (misplaced v u)
+  pub dropped_step : {P : Code → Place → Place → Type 0} (u : State) → SoundStep P m u → Meets (λ _ g. SoundStep (λ k c d. ⊥) (found_before v m) g × Drops (found_before v m) g) (misplaced v u)
   unfolding misplaced
   dropped_step u w = let f = fault_at v.place faults.InvalidLeadingDecorator in let s = found_before v u in meets_if _ (has_any v.found) _ _
       (λ _. meets_as (fault f s) (meets_both _ _ (fault f s) (fault_sound {table = []} (λ k c d. ⊥) f s refl) (fault_drops f s refl)) (λ _ g (r, h).
@@ -218,8 +222,8 @@ unfolding export_with export_from
 export_with_sound n m o e v any = meets_if _ (has_any v.found && not (m.code.setting.decorators_before_export && begin_before (span_at m.at) (listed v.found))) _ _ (λ _. reject_meets _ _ m)
     (λ h. let may = allowed (has_any v.found) m.code.setting.decorators_before_export (begin_before (span_at m.at) (listed v.found)) any h in
     meets_if _ (sees kind.Default (after m.at)) _ _
-    (λ f. meets_as {P = SoundBehind n v m} {Q = λ x t. SoundBehind n v m x t × MayStand v m} _ (behind_words_sound n m o (span_at m.at) v any (span_at (after m.at)) (moved (moved m)) (words_step n m o e (saw (after m.at) kind.Default f))) (λ x t p. (p, may)))
-    (λ _. meets_as {P = SoundBehind n v m} {Q = λ x t. SoundBehind n v m x t × MayStand v m} _ (behind_word_sound n m o (span_at m.at) v any (moved m) (word_step n m o e)) (λ x t p. (p, may))))
+    (λ f. meets_as {P = SoundBehind n v m} {Q = λ x t. SoundBehind n v m x t × MayStand v m} _ (behind_words_sound n m o (span_at m.at) refl v any (span_at (after m.at)) (moved (moved m)) (words_step n m o e (saw (after m.at) kind.Default f))) (λ x t p. (p, may)))
+    (λ _. meets_as {P = SoundBehind n v m} {Q = λ x t. SoundBehind n v m x t × MayStand v m} _ (behind_word_sound n m o (span_at m.at) refl v any (moved m) (word_step n m o e)) (λ x t p. (p, may))))
   where
     allowed : (a b c : Bool) → a ≡ true → a && not (b && c) ≡ false → (b ≡ true) × (c ≡ true)
     allowed true true true g h = (refl, refl)

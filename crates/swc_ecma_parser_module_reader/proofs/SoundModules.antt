@@ -25,33 +25,39 @@ use Rattle.swc_ecma_parser_grammar.specs.Notes.{notes, all_notes}
 use Rattle.swc_ecma_parser_grammar.specs.Reads.{directed, directs_on, nested_item, top_item}
 use Rattle.swc_ecma_parser_grammar.specs.ReadsSupported.{ReadsTop}
 use Rattle.swc_ecma_parser_grammar.specs.Walk.{Env, walk, env_of, walk_items}
+use Rattle.swc_ecma_parser_grammar.specs.language.Contexts.{in_module}
 use Rattle.swc_ecma_parser_grammar.specs.language.Exports.{ExportRule}
 use Rattle.swc_ecma_parser_grammar.specs.language.Goals.{Goal, stmt_goal, item_goal}
 use Rattle.swc_ecma_parser_grammar.specs.language.ModuleItems.{statement_rule, import_item_rule, export_item_rule, begins_with_await, ModuleItemsRule}
+use Rattle.swc_ecma_parser_grammar.specs.language.Noted.{has_meta}
 use Rattle.swc_ecma_parser_grammar.specs.language.Programs.{ShebangRule, some_shebang, no_shebang}
 use Rattle.swc_ecma_parser_grammar.specs.language.Reads.{Reads}
 use Rattle.swc_ecma_parser_grammar.proofs.StatementEntries.{statement_widens, stmt_unnoted}
 use Rattle.swc_ecma_parser_grammar.proofs.Tests.{and_yes, and_both}
-use Rattle.swc_ecma_parser_grammar.proofs.Unnoted.{joined}
+use Rattle.swc_ecma_parser_grammar.proofs.Unnoted.{joined, decorators_unnoted}
 use Rattle.swc_ecma_parser_reader.specs.DecoratorLevels.{decorated_in}
+use Rattle.swc_ecma_parser_reader.specs.Decorators.{Leading, leading}
 use Rattle.swc_ecma_parser_reader.specs.Entry.{error_tokens}
 use Rattle.swc_ecma_parser_reader.specs.Limits.{has_out_of_memory_token}
 use Rattle.swc_ecma_parser_reader.specs.Notes.{Notes, ◌⊕◌, notes_of, all_notes_of, notes_with, all_notes_with}
 use Rattle.swc_ecma_parser_reader.specs.Reader.{expr, pattern, member, stmt, parameters, object_alone, directs, items_turn, items, at_end, whole_stmt, shebang_of, shebang_in, shebang_taken, shebang}
-use Rattle.swc_ecma_parser_reader.specs.State.{State, coded, flagged}
-use Rattle.swc_ecma_parser_reader.proofs.Notes.{or_nil, or_true, or_assoc}
+use Rattle.swc_ecma_parser_reader.specs.State.{State, coded, flagged, loop}
+use Rattle.swc_ecma_parser_reader.proofs.Notes.{or_nil, or_true, or_assoc, notes_assoc}
 use Rattle.swc_ecma_parser_reader.proofs.Meets.{Meets, Refuses, meets_then, meets_if, too_deep_meets, Turned, loop_answers, saw, meant}
 use Rattle.swc_ecma_parser_reader.proofs.Errors.{kind_here, none_counted, nothing_at_end}
-use Rattle.swc_ecma_parser_reader.proofs.Between.{Sound, SoundStep, same, sound_then, sound_moved, sound_here, sound_as, sound_coded, flags_back}
+use Rattle.swc_ecma_parser_reader.proofs.Between.{Sound, SoundStep, same, nil-split, sound_then, sound_moved, sound_here, sound_as, sound_coded, flags_back}
 use Rattle.swc_ecma_parser_reader.proofs.SoundScripts.{whole_sound}
+use Rattle.swc_ecma_parser_reader.proofs.decorators.Leading.{SoundLeading}
 use Rattle.swc_ecma_parser_reader.proofs.expressions.SoundSteps.{meets_as, stands, notes_push}
 use Rattle.swc_ecma_parser_module_reader.specs.Entry.{SoundModule}
-use Rattle.swc_ecma_parser_module_reader.specs.Decorated.{export_item}
+use Rattle.swc_ecma_parser_module_reader.specs.Decorated.{begins_decorators, export_item}
 use Rattle.swc_ecma_parser_module_reader.specs.Imports.{import_decl}
-use Rattle.swc_ecma_parser_module_reader.specs.Modules.{begins_import, import_in, export_in, module_item, module_code, module_body, module_whole}
+use Rattle.swc_ecma_parser_module_reader.specs.Modules.{begins_import, import_in, export_in, import_behind, export_behind, module_item, module_code, module_body, module_whole}
 use Rattle.swc_ecma_parser_module_reader.specs.Supported.{supported_item, all_supported_items, supported_module}
 use Rattle.swc_ecma_parser_module_reader.proofs.ItemStarts.{import_word, item_supported, no_module_decl}
-use Rattle.swc_ecma_parser_module_reader.proofs.ModuleCode.{IsModule, directed_same, behind_same, env_same}
+use Rattle.swc_ecma_parser_module_reader.proofs.ModuleCode.{IsModule, in_module_same, directed_same, behind_same, env_same}
+use Rattle.swc_ecma_parser_module_reader.proofs.DecoratedItems.{item_cases}
+use Rattle.swc_ecma_parser_module_reader.proofs.SoundLed.{SoundLed, list_sound, import_led, export_led}
 use Rattle.swc_ecma_parser_module_reader.proofs.SoundImports.{import_sound}
 use Rattle.swc_ecma_parser_module_reader.proofs.SoundShared.{object_sound}
 
@@ -142,6 +148,45 @@ import_in_sound (suc n) s m e = meets_as (import_decl (object_alone n) s) (impor
   sound_as s t refl refl (unawaited x) (λ (r, a, b). record { reads = import_item_rule r; supports = a; unnoted = b; awaits = decl_awaits x s.at h }) p,
 ))
 
+-- behind decorators
+led_item : (n : ℕ) (s u : State) (v : Leading) → IsModule s.code → (l : SoundLeading n s v u) → (x : Tree) (t : State) → SoundLed n s l.reads.added (notes_of (listed v.found)) u x t → SoundItem (suc n) s x t
+led_item n s u v o l x t p = (
+  false,
+  record {
+    code = p.code ∙ l.reads.code;
+    scope = p.scope;
+    added = l.reads.added ++ p.behind;
+    faults = p.faults ∙ ap (λ z. z ++ p.behind) l.reads.faults ∙ append_assoc s.faults l.reads.added p.behind;
+    notes = λ g. p.notes g ∙ ap (λ z. z ⊕ notes_of p.bare) (l.reads.notes (nil-split l.reads.added p.behind g).0) ∙ notes_assoc s.notes (notes_of (listed v.found)) (notes_of p.bare)
+        ∙ ap (λ z. s.notes ⊕ z) (p.noted g ∙ unawaited x);
+    found = p.found ∙ ap (λ b. s.notes.found_module_item || b) (sym (or_nil (has_meta x)));
+    walked = p.walked;
+    clean = p.clean;
+    fewer = p.fewer;
+    remembers = p.remembers;
+    reads = λ g. let r = l.reads.reads (nil-split l.reads.added p.behind g).0 in record {
+      reads = (p.reads g).0;
+      supports = (p.reads g).1;
+      unnoted = sym (ap {A = Notes} (λ z. z.held_back) (p.noted g)) ∙ joined (notes (listed v.found)) (notes p.bare) (decorators_unnoted n s.code (listed v.found) s.at u.at o.0 r.0.0 r.0.1) (p.quiet g);
+      awaits = decl_awaits x s.at p.declared;
+    };
+  },
+)
+
+led_above : (n : ℕ) (s : State) → IsModule s.code → begins_decorators s.code s.at ≡ true → (v : Leading) (t : State) → leading (decorated_in n) s ≡ Ok (v, t)
+    → (begins_import t.at ≡ true → Meets (SoundItem (suc n) s) (import_behind n v t)) × (sees kind.Export t.at ≡ true → Meets (SoundItem (suc n) s) (export_behind n v t))
+led_above n s o b v t h =
+    let (l, any) = list_sound n s b v t h in
+    let enters : t.code ≡ in_module s.code = l.reads.code ∙ sym (in_module_same s.code o) in (
+      λ i. meets_as (import_behind n v t) (import_led n s t v l t.code t.faults t.notes enters refl any i) (λ x u p. led_item n s t v o l x u p),
+      λ i. meets_as (export_behind n v t) (export_led n s t v l t.code t.faults t.notes enters refl any i) (λ x u p. led_item n s t v o l x u p),
+    )
+
+led_sound : (n k : ℕ) → n ≡ suc k → (s : State) → IsModule s.code → begins_decorators s.code s.at ≡ true → (v : Leading) (t : State) → leading (decorated_in k) s ≡ Ok (v, t)
+    → (begins_import t.at ≡ true → Meets (SoundItem n s) (import_behind k v t)) × (sees kind.Export t.at ≡ true → Meets (SoundItem n s) (export_behind k v t))
+led_sound n k e s o b v t h = let p = led_above k s o b v t h in
+    (λ i. subst (λ m. Meets (SoundItem m s) (import_behind k v t)) (sym e) (p.0 i), λ i. subst (λ m. Meets (SoundItem m s) (export_behind k v t)) (sym e) (p.1 i))
+
 -- ---- a first line
 
 -- no word and no operator is one
@@ -206,6 +251,10 @@ SoundModuleItems n s xs t = (b : Bool) × Sound same (λ k l. walk_items (env_of
 
 abbrev pub StoppedItems : ℕ → State → List Tree → State → Type 0
 StoppedItems n s xs t = SoundModuleItems n s xs t × (at_end t.at ≡ true)
+
+-- behind those that were found before
+abbrev pub StoppedBehind : ℕ → State → List Tree → List Tree → State → Type 0
+StoppedBehind n s found xs t = (ys : List Tree) × (xs ≡ found ++ ys) × StoppedItems n s ys t
 
 reads_push : (n : ℕ) (xs : List Tree) (x : Tree) (a b : Bool) (k : Code) (c m d : Place) → IsModule k → ReadsModuleItems n a xs k c m → ReadsItem n b k x m d → ReadsModuleItems n (a || b) (xs ++ x ∷ []) k c d
 reads_push n xs x a b k c m d i r q = record {
@@ -277,27 +326,37 @@ module _ (export_sound : (n : ℕ) (s : State) → IsModule s.code → kind_at s
 
   -- an item
   pub item_sound : (n : ℕ) (s : State) → IsModule s.code → Meets (SoundItem n s) (module_item n s)
-  unfolding module_item
-  item_sound n s m = meets_if _ (begins_import s.at) _ _ (λ e. import_in_sound n s m (import_word s.at e))
-      (λ _. meets_if _ (sees kind.Export s.at) _ _ (λ e. export_in_sound n s m (saw s.at kind.Export e)) (λ _. statement_sound n s m))
+  item_sound n s m = item_cases (Meets (SoundItem n s)) n s (λ e. import_in_sound n s m (import_word s.at e)) (λ e. export_in_sound n s m (saw s.at kind.Export e)) (statement_sound n s m)
+      (λ k e b v t h. led_sound n k e s m b v t h)
+
+  -- items behind those that were found before
+  abbrev Behind : ℕ → State → List Tree → List Tree → State → Type 0
+  Behind n s found xs t = (ys : List Tree) × (xs ≡ found ++ ys) × SoundModuleItems n s ys t
 
   -- each turn reads one
-  items_turn_sound : (n : ℕ) (s : State) → IsModule s.code → (xs : List Tree) (t : State) → SoundModuleItems n s xs t
-      → Meets (Turned (items_turn (module_item n) at_end true) (SoundModuleItems n s) (StoppedItems n s) Refuses) (items_turn (module_item n) at_end true xs t)
+  items_turn_sound : (n : ℕ) (s : State) → IsModule s.code → (found xs : List Tree) (t : State) → Behind n s found xs t
+      → Meets (Turned (items_turn (module_item n) at_end true) (Behind n s found) (StoppedBehind n s found) Refuses) (items_turn (module_item n) at_end true xs t)
   unfolding items_turn
-  items_turn_sound n s m xs t (a, p) = meets_if _ (at_end t.at) _ _ (λ e. ((a, p), e))
+  items_turn_sound n s m found xs t (ys, is, (a, p)) = meets_if _ (at_end t.at) _ _ (λ e. (ys, is, ((a, p), e)))
       (λ _. meets_then _ (module_item n t) _ (item_sound n t (subst IsModule (sym p.code) m)) (λ x u (b, q).
       let r = sound_then p q in (
-        a || b,
-        sound_coded s u (directed u.code (directs true xs) x) (directed_same u.code (subst IsModule (sym r.code) m) (directs true xs) x ∙ r.code)
-            (sound_as {g = same} s u refl (walk_push (env_of s.code s.scope.labels) m.1 true xs x) (notes_with_push xs x a b)
-            (λ (i, y, z). reads_push n xs x a b s.code s.at i u.at m y z) r),
+        ys ++ x ∷ [],
+        ap (λ z. z ++ x ∷ []) is ∙ append_assoc found ys (x ∷ []),
+        (
+          a || b,
+          sound_coded s u (directed u.code (directs true xs) x) (directed_same u.code (subst IsModule (sym r.code) m) (directs true xs) x ∙ r.code)
+              (sound_as {g = same} s u refl (walk_push (env_of s.code s.scope.labels) m.1 true ys x) (notes_with_push ys x a b)
+              (λ (i, y, z). reads_push n ys x a b s.code s.at i u.at m y z) r),
+        ),
       )))
+
+  pub items_behind : (n : ℕ) (s : State) → IsModule s.code → (found : List Tree) → Meets (StoppedBehind n s found) (loop (items_turn (module_item n) at_end true) found s)
+  items_behind n s m found = loop_answers (items_turn (module_item n) at_end true) (Behind n s found) (StoppedBehind n s found) Refuses (items_turn_sound n s m found) (λ t. tt) found s
+      ([], sym (append-nil found), (false, sound_here s (record { reads = (refl, refl); support = refl; unnoted = refl })))
 
   pub items_sound : (n : ℕ) (s : State) → IsModule s.code → Meets (StoppedItems n s) (items (module_item n) at_end true s)
   unfolding items
-  items_sound n s m = loop_answers (items_turn (module_item n) at_end true) (SoundModuleItems n s) (StoppedItems n s) Refuses (items_turn_sound n s m) (λ t. tt) [] s
-      (false, sound_here s (record { reads = (refl, refl); support = refl; unnoted = refl }))
+  items_sound n s m = meets_as (loop (items_turn (module_item n) at_end true) [] s) (items_behind n s m []) (λ xs t (ys, is, p). subst (λ z. StoppedItems n s z t) (sym is) p)
 
   -- a first line and items up to the end
   body_sound : (n : ℕ) (s : State) → IsModule s.code → Meets (SoundBody n s) (module_body n s)

@@ -1,18 +1,20 @@
 -- What is read as a program is in the language where nothing was recorded.
-use Rattle.std.proofs.Common.{◌≡◌, ◌⊎◌, inl, inr, ℕ, Bool, true, false, List, [], ◌∷◌, ◌++◌, map, Option, Ok, Err, refl, sym, ◌∙◌, ap, subst, append_assoc, append-nil}
+use Rattle.std.proofs.Common.{◌≡◌, ◌⊎◌, inl, inr, ℕ, suc, Bool, true, false, true≢false, cond, List, [], ◌∷◌, ◌++◌, map, Option, Ok, Err, refl, sym, ◌∙◌, ap, subst, append_assoc, append-nil}
 use Rattle.std.proofs.lemmas.List.{append_cancel_left}
 use Rattle.std.specs.Prelude.{not, ◌&&◌, ◌||◌}
 use Rattle.std.specs.List.{list_any}
 use Rattle.swc_ecma_parser_error.specs.Kind.{Fault}
+use Rattle.swc_ecma_parser_token.specs.declared.kind.TokenKind.{TokenKind}
 use Rattle.swc_ecma_parser_token.specs.declared.kind.TokenKind.TheVariants as kind
 use Rattle.swc_ecma_parser_input.specs.Place.{Place}
 use Rattle.swc_ecma_parser_model.specs.Kinds.{is_module_decl}
 use Rattle.swc_ecma_parser_model.specs.Tree as tree
 use Rattle.swc_ecma_parser_model.specs.Tree.{Tree, Text, listed, trees}
-use Rattle.swc_ecma_parser_grammar.specs.Looks.{kind_at, spanned}
+use Rattle.swc_ecma_parser_grammar.specs.Looks.{kind_at, sees, same_kind, spanned}
 use Rattle.swc_ecma_parser_grammar.specs.Names.{Code}
+use Rattle.swc_ecma_parser_grammar.specs.Follows.{begins_import_expression}
 use Rattle.swc_ecma_parser_grammar.specs.Notes.{notes, all_notes, as_note}
-use Rattle.swc_ecma_parser_grammar.specs.Reads.{directed, top_item}
+use Rattle.swc_ecma_parser_grammar.specs.Reads.{directed, directs_on, top_item}
 use Rattle.swc_ecma_parser_grammar.specs.Walk as walks
 use Rattle.swc_ecma_parser_grammar.specs.Walk.{env_of, walk_items, tabled, drops}
 use Rattle.swc_ecma_parser_grammar.specs.language.ModuleItems.{ModuleItemsRule}
@@ -20,7 +22,9 @@ use Rattle.swc_ecma_parser_grammar.specs.language.Noted.{has_meta, any_has_meta}
 use Rattle.swc_ecma_parser_grammar.specs.language.Programs as programs
 use Rattle.swc_ecma_parser_grammar.specs.language.Programs.{ShebangRule, ModuleRule, is_module_body, whole, code_behind}
 use Rattle.swc_ecma_parser_grammar.specs.language.Reads.{Reads}
+use Rattle.swc_ecma_parser_grammar.proofs.Tests.{and_yes}
 use Rattle.swc_ecma_parser_grammar.proofs.Unnoted.{joined}
+use Rattle.swc_ecma_parser_reader.specs.Decorators.{Leading, has_any}
 use Rattle.swc_ecma_parser_reader.specs.Entry.{error_tokens, IsLater}
 use Rattle.swc_ecma_parser_reader.specs.Limits.{has_out_of_memory_token}
 use Rattle.swc_ecma_parser_reader.specs.Notes.{all_notes_with}
@@ -31,19 +35,25 @@ use Rattle.swc_ecma_parser_reader.proofs.Meets.{Answers, Meets, Refuses, meets_t
 use Rattle.swc_ecma_parser_reader.proofs.Behind.{Kept, Lost, behind_self, shebang_keeps}
 use Rattle.swc_ecma_parser_reader.proofs.Keeps.{whole_stmt_keeps}
 use Rattle.swc_ecma_parser_reader.proofs.Errors.{none_counted, nothing_at_end}
-use Rattle.swc_ecma_parser_reader.proofs.Between.{Sound, same, sound_then, sound_as, flags_back, nil-split, drops-split, tabled-append, same-between}
+use Rattle.swc_ecma_parser_reader.proofs.Between.{Sound, SoundStep, sound_then, sound_as, flags_back, nil-split, drops-split, tabled-append, same-between}
 use Rattle.swc_ecma_parser_reader.proofs.SoundParts.{meets_both, code_after, code_setting}
-use Rattle.swc_ecma_parser_reader.proofs.SoundScripts.{ReadsTops, tops_sound}
+use Rattle.swc_ecma_parser_reader.proofs.SoundScripts.{ReadsTops, StoppedTops, tops_sound}
+use Rattle.swc_ecma_parser_reader.proofs.decorators.Leading.{SoundLeading}
 use Rattle.swc_ecma_parser_reader.proofs.expressions.SoundSteps.{meets_as}
 use Rattle.swc_ecma_parser_reader.proofs.patterns.Sound.{anything}
-use Rattle.swc_ecma_parser_module_reader.specs.Modules.{module_code, module_item}
+use Rattle.swc_ecma_parser_module_reader.specs.Modules.{begins_import, module_code, module_item}
 use Rattle.swc_ecma_parser_module_reader.specs.ProgramEntry.{any_module_decl, SoundProgram}
-use Rattle.swc_ecma_parser_module_reader.specs.Programs.{begins_module, before_module, program_code, entered, as_script, as_module, program_body, program_whole}
+use Rattle.swc_ecma_parser_module_reader.specs.Programs.{Front, begins_module, before_module, program_code, entered, front, behind_front, as_script, as_module, program_body, program_whole}
+use Rattle.swc_ecma_parser_module_reader.proofs.Fronts.{Fronts, plain_front, led_front, fronts}
+use Rattle.swc_ecma_parser_module_reader.proofs.Keeps.{list_keeps}
+use Rattle.swc_ecma_parser_module_reader.proofs.SoundAround.{SoundAround, plain_around, behind_list}
+use Rattle.swc_ecma_parser_module_reader.proofs.SoundLed.{list_sound}
 use Rattle.swc_ecma_parser_module_reader.proofs.ItemForms.{declaration_form}
 use Rattle.swc_ecma_parser_module_reader.proofs.ItemLists.{notes_joined, meta_joined, declarations_joined, supported_joined, declarations_listed, meta_listed, or_shift}
-use Rattle.swc_ecma_parser_module_reader.proofs.ProgramItems.{Leads, leads_declared, walk_joined, tops_supported, tops_unnoted, items_joined}
+use Rattle.swc_ecma_parser_module_reader.proofs.ModuleCode.{directed_may}
+use Rattle.swc_ecma_parser_module_reader.proofs.ProgramItems.{LeadsPlainly, plainly_leads, leads_declared, walk_joined, tops_supported, tops_unnoted, items_joined}
 use Rattle.swc_ecma_parser_module_reader.proofs.Sound.{items_sound}
-use Rattle.swc_ecma_parser_module_reader.proofs.SoundModules.{shebang_sound, ReadsModuleItems, at_end_seen}
+use Rattle.swc_ecma_parser_module_reader.proofs.SoundModules.{shebang_sound, at_end_seen}
 use Rattle.swc_ecma_parser_module_reader.proofs.StatementForms.{whole_form}
 
 -- ---- the statements: no import and no export is among them, and what was held back stays
@@ -78,12 +88,29 @@ statements_stated stops n s = loop_answers (items_turn (whole_stmt n top_item) s
 -- ---- the items behind them begin with an import or an export, unless the list ends there
 
 abbrev Led : State → List Tree → State → Type 0
-Led s xs t = Leads xs × (xs ≡ [] → t ≡ s)
+Led s xs t = LeadsPlainly xs × (xs ≡ [] → t ≡ s)
 
 -- where no list ends an import or an export begins
 begins_there : (c : Place) → before_module c ≡ true → at_end c ≡ false → begins_module c ≡ true
 unfolding before_module
 begins_there c h e = ap (λ b. b || begins_module c) (sym e) ∙ h
+
+-- no decorator stands there, nor does the list end before one of their words
+stops_no_sign : (c : Place) → before_module c ≡ true → sees kind.At c ≡ false
+unfolding before_module begins_module begins_import at_end same_kind
+stops_no_sign c h = no_sign (kind_at c) h
+  where
+    no_sign : (j : TokenKind) → (same_kind j kind.End || ((same_kind j kind.Import && not (begins_import_expression c)) || same_kind j kind.Export)) ≡ true → same_kind j kind.At ≡ false
+    no_sign kind.At h = absurd (true≢false (sym h))
+    no_sign _ h = refl
+
+word_goes : (c : Place) → begins_module c ≡ true → at_end c ≡ false
+unfolding begins_module begins_import at_end same_kind
+word_goes c h = no_end (kind_at c) h
+  where
+    no_end : (j : TokenKind) → ((same_kind j kind.Import && not (begins_import_expression c)) || same_kind j kind.Export) ≡ true → same_kind j kind.End ≡ false
+    no_end kind.End h = absurd (true≢false (sym h))
+    no_end _ h = refl
 
 module _ (n : ℕ) (s : State) (stopped : before_module s.at ≡ true) where
   led_push : (xs : List Tree) (t : State) → Led s xs t → at_end t.at ≡ false → Meets (λ x u. (v : State) → Led s (xs ++ x ∷ []) v) (module_item n t)
@@ -101,7 +128,7 @@ module _ (n : ℕ) (s : State) (stopped : before_module s.at ≡ true) where
   items_led = loop_answers (items_turn (module_item n) at_end true) (Led s) (Led s) Refuses led_turn (λ t. tt) [] s (tt, λ _. refl)
 
 led_to : (s : State) (xs : List Tree) (t : State) → Led s xs t → at_end t.at ≡ true → (at_end s.at ≡ true) ⊎ (any_module_decl (trees xs) ≡ true)
-led_to s xs t (l, e) h = by_case (leads_declared xs l)
+led_to s xs t (l, e) h = by_case (leads_declared xs (plainly_leads xs l))
   where
     by_case : (xs ≡ []) ⊎ (any_module_decl (trees xs) ≡ true) → (at_end s.at ≡ true) ⊎ (any_module_decl (trees xs) ≡ true)
     by_case (inl f) = inl (ap (λ z. at_end z.at) (sym (e f)) ∙ h)
@@ -147,7 +174,7 @@ script_is n s o b xs t p stated ends found =
       reads_shebang = r.1;
       reads_items = subst (λ z. ModuleItemsRule (Reads n) (program_code s.code) true xs z r.0 t.at) (or_nil b)
           (subst (λ zs. ModuleItemsRule (Reads n) (program_code s.code) true zs (b || false) r.0 t.at) (append-nil xs)
-          (items_joined n (program_code s.code) true xs [] b false r.0 t.at t.at r.2.0 r.2.1 (refl, refl) tt refl refl));
+          (items_joined n (program_code s.code) true xs [] b false r.0 t.at t.at r.2.0 r.2.1 (refl, refl) tt));
       to_the_end = e;
       is = ap (λ z. whole z (spanned s.at t.at) (listed xs) o) (sym is_none);
     } in
@@ -194,11 +221,11 @@ is_declared false true t i = refl
 is_declared false false t (inl i) = cc
 is_declared false false t (inr i) = i
 
-abbrev SoundBehind : ℕ → State → Bool → List Tree → State → Type 0
-SoundBehind n s c ys t = Sound same (λ k l. walk_items (env_of k l) true (trees ys)) (all_notes_with (trees ys) c) (ReadsModuleItems n c ys) s t
+four : {A : Type 0} (f a l r b : List A) → (f ++ a) ++ (l ++ r ++ b) ≡ f ++ ((a ++ l) ++ r ++ b)
+four f a l r b = simp (append_assoc) refl
 
-module _ (n : ℕ) (s : State) (o : Option Text) (recorded : List Fault) (b : Bool) (xs : List Tree) (m : State) (p : SoundFront n (begun s) o b xs m) (stated : any_module_decl (trees xs) ≡ false)
-    (held : HeldBehind s m) (noted_as : map as_note recorded ≡ m.notes.held_back) (c : Bool) (ys : List Tree) (t : State) (q : SoundBehind n (entered recorded m) c ys t) (leads : Leads ys)
+module _ (n : ℕ) (s : State) (o : Option Text) (recorded entering : List Fault) (b : Bool) (xs : List Tree) (m : State) (p : SoundFront n (begun s) o b xs m) (stated : any_module_decl (trees xs) ≡ false)
+    (held : HeldBehind s m) (noted_as : map as_note recorded ≡ entering) (c : Bool) (ys : List Tree) (t : State) (q : SoundAround n m recorded entering c ys t)
     (turned : (any_module_decl (trees ys) ≡ true) ⊎ (m.notes.found_module_item ≡ true)) (ends : at_end t.at ≡ true) where
   abbrev k0 : Code
   k0 = program_code s.code
@@ -213,15 +240,19 @@ module _ (n : ℕ) (s : State) (o : Option Text) (recorded : List Fault) (b : Bo
   the_end = at_end_seen t.at ends
 
   -- the walk of what stands behind, in the code behind the statements
-  walked_behind : walk_items (env_of (module_code m.code) m.scope.labels) true (trees ys) ≡ walk_items (env_of (module_code k1) s.scope.labels) true (trees ys)
-  walked_behind = ap (λ j. walk_items (env_of (module_code j) m.scope.labels) true (trees ys)) p.code ∙ ap (λ z.
-      walk_items (env_of (module_code k1) z.labels) true (trees ys)) p.scope
+  walked_behind : walk_items (env_of m.code m.scope.labels) true (trees ys) ≡ walk_items (env_of k1 s.scope.labels) true (trees ys)
+  walked_behind = ap (λ j. walk_items (env_of j m.scope.labels) true (trees ys)) p.code ∙ ap (λ z. walk_items (env_of k1 z.labels) true (trees ys)) p.scope
+
+  -- nothing was recorded before them, nor of them
+  split : (p.added ++ q.list) ++ q.behind ≡ [] → (p.added ≡ []) × (q.list ++ q.behind ≡ [])
+  split e = nil-split p.added (q.list ++ q.behind) (sym (append_assoc p.added q.list q.behind) ∙ e)
 
   -- where it held nothing back its statements note nothing
-  unnoted : p.added ≡ [] → q.added ≡ [] → held.0 ≡ [] → notes the_module ≡ []
+  unnoted : p.added ≡ [] → q.list ++ q.behind ≡ [] → held.0 ++ q.held ≡ [] → notes the_module ≡ []
   unnoted h g z =
+      let w = nil-split held.0 q.held z in
       let same_held : all_notes (trees xs) ≡ held.0 = append_cancel_left s.notes.held_back (all_notes (trees xs)) held.0 (sym (ap (λ v. v.held_back) (p.notes h)) ∙ held.1) in
-      notes_joined xs ys ∙ joined (all_notes (trees xs)) (all_notes (trees ys)) (same_held ∙ z) (q.reads g).unnoted
+      notes_joined xs ys ∙ joined (all_notes (trees xs)) (all_notes (trees ys)) (same_held ∙ w.0) (q.quiet g w.1)
 
   is_module : (s.notes.found_module_item || is_module_body (xs ++ ys) (b || c)) ≡ true
   is_module =
@@ -246,15 +277,14 @@ module _ (n : ℕ) (s : State) (o : Option Text) (recorded : List Fault) (b : Bo
       by_case (inl e) = inl e
       by_case (inr e) = inr (q.found ∙ ap (λ z. z || (any_has_meta (trees ys) || c)) e)
 
-  module_reads : p.added ≡ [] → q.added ≡ [] → ModuleRule (Reads n) s.notes.found_module_item k0 the_module s.at t.at
-  module_reads h g = let r = p.reads h in let z = q.reads g in record {
+  module_reads : p.added ≡ [] → q.list ++ q.behind ≡ [] → ModuleRule (Reads n) s.notes.found_module_item k0 the_module s.at t.at
+  module_reads h g = let r = p.reads h in record {
     shebang = o;
     first = r.0;
     items = xs ++ ys;
     awaits = b || c;
     reads_shebang = r.1;
-    reads_items = items_joined n k0 true xs ys b c r.0 m.at t.at r.2.0 r.2.1
-        (subst (λ j. ModuleItemsRule (Reads n) (module_code j) true ys c m.at t.at) p.code z.reads) leads z.support refl;
+    reads_items = items_joined n k0 true xs ys b c r.0 m.at t.at r.2.0 r.2.1 (subst (λ j. ModuleItemsRule (Reads n) j true ys c m.at t.at) p.code (q.reads g).0) q.leads;
     to_the_end = the_end;
     is = ap (λ v. whole v (spanned s.at t.at) (listed (xs ++ ys)) o) (sym is_module);
   }
@@ -265,33 +295,36 @@ module _ (n : ℕ) (s : State) (o : Option Text) (recorded : List Fault) (b : Bo
     code = flags_back (module_code s.code) t.code (ap (λ k. k.setting) q.code ∙ ap (λ k. k.setting) p.code ∙ code_setting k0 true xs);
     scope = q.scope ∙ p.scope;
     whole = the_end;
-    before = p.added;
+    before = p.added ++ q.list;
     recorded = recorded;
-    behind = q.added;
-    faults = q.faults ∙ ap (λ z. (z ++ recorded) ++ q.added) p.faults ∙ ap (λ z.
-        z ++ q.added) (append_assoc s.faults p.added recorded) ∙ append_assoc s.faults (p.added ++ recorded) q.added;
-    held = held.0;
-    recorded_as = noted_as ∙ held.1;
-    spells = λ e g. let h = nil-split p.added q.added e in (
+    behind = q.behind;
+    faults = q.faults ∙ ap (λ z. z ++ (q.list ++ recorded ++ q.behind)) p.faults ∙ four s.faults p.added q.list recorded q.behind;
+    held = held.0 ++ q.held;
+    recorded_as = noted_as ∙ q.held_as ∙ ap (λ z. z ++ q.held) held.1 ∙ append_assoc s.notes.held_back held.0 q.held;
+    spells = λ e g. let h = split e in (
       (module_reads h.0 h.1, λ _. unnoted h.0 h.1 g),
-      sym (walk_joined k0 s.scope.labels true xs ys stated leads)
-          ∙ joined (walks.walks (env_of k0 s.scope.labels) true (trees xs)) (walk_items (env_of (module_code k1) s.scope.labels) true (trees ys))
+      sym (walk_joined k0 s.scope.labels true xs ys stated q.leads)
+          ∙ joined (walks.walks (env_of k0 s.scope.labels) true (trees xs)) (walk_items (env_of k1 s.scope.labels) true (trees ys))
           (p.clean h.0) (sym walked_behind ∙ q.clean h.1),
     );
-    is_supported = λ e g. let h = nil-split p.added q.added e in let r = p.reads h.0 in
-        supported_joined xs ys (tops_supported n k0 true xs r.0 m.at r.2.0) (q.reads h.1).support;
-    walked = λ g d. let e = drops-split p.added q.added d in
+    is_supported = λ e g. let h = split e in let r = p.reads h.0 in
+        supported_joined xs ys (tops_supported n k0 true xs r.0 m.at r.2.0) (q.reads h.1).1;
+    walked = λ g d. let e = drops-split p.added (q.list ++ q.behind) (ap drops (sym (append_assoc p.added q.list q.behind)) ∙ d) in
         let l = same-between (error_tokens s.at.left) (error_tokens m.at.left) (error_tokens t.at.left) p.fewer q.fewer
         (none_counted s.at.left g ∙ sym (ap error_tokens (nothing_at_end t.at the_end))) in
-        tabled-append p.added q.added ∙ ap (λ z. z ++ tabled q.added) (p.walked l.0 e.0)
-        ∙ ap (λ z. walks.walks (env_of k0 s.scope.labels) true (trees xs) ++ z) (q.walked l.1 e.1 ∙ walked_behind) ∙ walk_joined k0 s.scope.labels true xs ys stated leads;
+        ap tabled (append_assoc p.added q.list q.behind) ∙ tabled-append p.added (q.list ++ q.behind) ∙ ap (λ z. z ++ tabled (q.list ++ q.behind)) (p.walked l.0 e.0)
+        ∙ ap (λ z. walks.walks (env_of k0 s.scope.labels) true (trees xs) ++ z) (q.walked l.1 e.1 ∙ walked_behind) ∙ walk_joined k0 s.scope.labels true xs ys stated q.leads;
     awaits = b || c;
     awaited = λ h g. refl;
-    noted = λ e g. let h = nil-split p.added q.added e in
-        q.notes h.1 ∙ (λ i. record { held_back = (q.reads h.1).unnoted i; found_module_item = found_as i });
+    noted = λ e g. let h = split e in (λ i. record { held_back = q.released h.1 i; found_module_item = (q.found ∙ found_as) i });
     found = q.found ∙ found_as;
     turns = turns_module;
   }
+
+-- code that may be a module's may be one behind statements too
+pub code_may : (k : Code) (directives : Bool) (xs : List Tree) → k.flags.can_be_module ≡ true → (code_after k directives xs).flags.can_be_module ≡ true
+code_may k directives [] h = h
+code_may k directives (x ∷ xs) h = code_may (directed k directives x) (directs_on directives x) xs (directed_may k directives x h)
 
 -- ---- programs
 
@@ -321,27 +354,73 @@ module _ (n : ℕ) (recorded : List Fault) (s : State) where
     unfolding as_script
     script_answered ends found = (λ _. script_is n s o b xs m p stated ends found, p.remembers (ap has_out_of_memory_token (nothing_at_end m.at (at_end_seen m.at ends))))
 
-    module_answered : HeldBehind s m → before_module m.at ≡ true → (at_end m.at && not m.notes.found_module_item) ≡ false → Meets Body (as_module n recorded s.at xs o m)
+    -- the items behind statements, in the state in which module code begins
+    abbrev Behind : List Fault → List Tree → State → Type 0
+    Behind entering ys t = (c : Bool) × SoundAround n m recorded entering c ys t × ((any_module_decl (trees ys) ≡ true) ⊎ (m.notes.found_module_item ≡ true)) × (at_end t.at ≡ true)
+
+    module_answered : HeldBehind s m → (u : State) (w : Front) → w.before ≡ xs → Meets (Behind u.notes.held_back) (behind_front n w.list (entered recorded u)) → Meets Body (as_module n recorded s.at w o u)
     unfolding as_module
-    module_answered held stops made =
-        let e = entered recorded m in
-        meets_then _ (items (module_item n) at_end true e) _
-        (meets_both _ _ (items (module_item n) at_end true e) (items_sound n e (refl, refl)) (items_led n e stops)) (λ ys t (((c, q), ends), led). (
-          λ noted_as. module_is n s o recorded b xs m p stated held noted_as c ys t q led.0
-              (is_turned (at_end m.at) m.notes.found_module_item (any_module_decl (trees ys)) made (led_to e ys t led ends)) ends,
+    module_answered held u w is h = meets_then {P = Behind u.notes.held_back} _ (behind_front n w.list (entered recorded u)) _ h (λ ys t (c, q, turned, ends).
+        subst (λ zs. Body (tree.module_program (spanned s.at t.at) (listed (zs ++ ys)) o, u.notes.held_back) t) (sym is) (
+          λ noted_as. module_is n s o recorded u.notes.held_back b xs m p stated held noted_as c ys t q turned ends,
           p.remembers (q.remembers (ap has_out_of_memory_token (nothing_at_end t.at (at_end_seen t.at ends)))),
         ))
+
+    -- it may be a module's code
+    may : m.code.flags.can_be_module ≡ true
+    may = ap (λ k. k.flags.can_be_module) p.code ∙ code_may (program_code s.code) true xs refl
+
+    plain_behind : (v : Leading) → v.found ≡ [] → before_module m.at ≡ true → (at_end m.at && not m.notes.found_module_item) ≡ false → Meets (Behind m.notes.held_back) (behind_front n v (entered recorded m))
+    unfolding behind_front
+    plain_behind v none stops made = let e = entered recorded m in meets_if _ (has_any v.found) _ _ (λ h. absurd (true≢false (sym h ∙ ap has_any none)))
+        (λ _. meets_as (items (module_item n) at_end true e) (meets_both _ _ (items (module_item n) at_end true e) (items_sound n e (refl, refl)) (items_led n e stops)) (λ ys t (((c, q), ends), led). (
+          c,
+          plain_around n m recorded c ys t may (stops_no_sign m.at stops) q led.0,
+          is_turned (at_end m.at) m.notes.found_module_item (any_module_decl (trees ys)) made (led_to e ys t led ends),
+          ends,
+        )))
+
+  module _ (o : Option Text) (b : Bool) (xs : List Tree) (m : State) (p : SoundFront n (begun s) o b xs m) (stated : any_module_decl (trees xs) ≡ false) where
+    list_behind : (j : ℕ) → n ≡ suc j → (v : Leading) (u : State) → (l : SoundLeading j m v u) → has_any v.found ≡ true → begins_module u.at ≡ true → IsLater m.notes.held_back u.notes.held_back
+        → Meets (Behind o b xs m p stated u.notes.held_back) (behind_front n v (entered recorded u))
+    list_behind j i v u l any word held =
+        let q = meets_as {Q = λ ys t. (c : Bool) × SoundAround (suc j) m recorded u.notes.held_back c ys t × ((any_module_decl (trees ys) ≡ true) ⊎ (m.notes.found_module_item ≡ true)) × (at_end t.at ≡ true)}
+        (behind_front (suc j) v (entered recorded u)) (behind_list j m u v l (may o b xs m p stated) recorded any word held) (λ ys t (c, r, d, ends). (c, r, inl d, ends)) in
+        subst (λ k. Meets (λ ys t. (c : Bool) × SoundAround k m recorded u.notes.held_back c ys t × ((any_module_decl (trees ys) ≡ true) ⊎ (m.notes.found_module_item ≡ true)) × (at_end t.at ≡ true))
+        (behind_front k v (entered recorded u))) (sym i) q
+
+  module _ (o : Option Text) (a : State) (line : SoundStep (λ k c d. ShebangRule c d o) (begun s) a) (h : HeldBehind (begun s) a) where
+    -- statements up to a place where they stop
+    module _ (stops : Place → Bool) (xs : List Tree) (m : State) (read : items (whole_stmt n top_item) stops true a ≡ Ok (xs, m)) where
+      tops : StoppedTops stops n a xs m
+      tops = meant (StoppedTops stops n a) Refuses (items (whole_stmt n top_item) stops true a) (Ok (xs, m)) read (tops_sound stops n a)
+
+      stated_tops : Stated a xs m
+      stated_tops = meant (Stated a) Refuses (items (whole_stmt n top_item) stops true a) (Ok (xs, m)) read (statements_stated stops n a)
+
+      whole_front : SoundFront n (begun s) o tops.0.0 xs m
+      whole_front = sound_as (begun s) m refl refl refl (λ z. z) (sound_then line tops.0.1)
+
+      whole_held : HeldBehind s m
+      whole_held = held_then (begun s) a m h stated_tops.1
+
+    front_answered : (w : Front) (u : State) → Fronts n a w u → Meets Body (cond (at_end u.at && not u.notes.found_module_item) (as_script s.at w.before o u) (as_module n recorded s.at w o u))
+    front_answered w u (plain_front read stops is) =
+        let b = (tops before_module w.before u read).0.0 in let p = whole_front before_module w.before u read in let z = (stated_tops before_module w.before u read).0 in
+        meets_if _ (at_end u.at && not u.notes.found_module_item) _ _
+        (λ e. let i = is_script (at_end u.at) u.notes.found_module_item e in script_answered o b w.before u p z i.0 i.1)
+        (λ e. module_answered o b w.before u p z (whole_held before_module w.before u read) u w refl (plain_behind o b w.before u p z w.list (ap (λ v. v.found) is) stops e))
+    front_answered w u (led_front j m stops i read begins list word) =
+        let b = (tops stops w.before m read).0.0 in let p = whole_front stops w.before m read in let z = (stated_tops stops w.before m read).0 in
+        let (l, any) = list_sound j m begins w.list u list in
+        meets_if _ (at_end u.at && not u.notes.found_module_item) _ _ (λ e. absurd (true≢false (sym (and_yes (at_end u.at) (not u.notes.found_module_item) e).0 ∙ word_goes u.at word)))
+        (λ _. module_answered o b w.before m p z (whole_held stops w.before m read) u w refl
+        (list_behind o b w.before m p z j i w.list u l any word (list_keeps j m m (behind_self m) w.list u list).1))
 
   body_answered : Meets Body (program_body n recorded (begun s))
   unfolding program_body
   body_answered = let k = begun s in meets_then _ (shebang k) _ (meets_both _ _ (shebang k) (shebang_sound k) (keeps_held k (shebang k) (shebang_keeps k k (behind_self k)))) (λ o a (line, h).
-      meets_then _ (items (whole_stmt n top_item) before_module true a) _
-      (meets_both _ _ (items (whole_stmt n top_item) before_module true a) (tops_sound before_module n a) (statements_stated before_module n a))
-      (λ xs m (((b, r, told, on), stops), (stated, g)).
-      let p : SoundFront n k o b xs m = sound_as k m refl refl refl (λ z. z) (sound_then line r) in
-      meets_if _ (at_end m.at && not m.notes.found_module_item) _ _
-      (λ e. let i = is_script (at_end m.at) m.notes.found_module_item e in script_answered o b xs m p stated i.0 i.1)
-      (λ e. module_answered o b xs m p stated (held_then k a m h g) stops e)))
+      meets_then _ (front n a) _ (fronts n a) (λ w u f. front_answered o a line h w u f))
 
   program_answered : Meets (Answered n recorded s) (program_whole n recorded s)
   unfolding program_whole

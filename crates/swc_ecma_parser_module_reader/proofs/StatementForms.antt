@@ -24,11 +24,12 @@ use Rattle.swc_ecma_parser_reader.specs.State.{State, Reader, moved, coded, with
 use Rattle.swc_ecma_parser_reader.specs.Methods.{star}
 use Rattle.swc_ecma_parser_reader.specs.Expressions.{Cover}
 use Rattle.swc_ecma_parser_reader.specs.Reader as reader
-use Rattle.swc_ecma_parser_reader.specs.Reader.{decorated_in, declarators, items, closes, close, no_label, note_statement, optional_end, head, note_with, as_init, as_left, head_part, misdeclared, await_here, opening, link, alternative, target, unbroken, uncontinued, operand, misplaced, clauses, braced, handler, finalizer, handled, labelled_body, relabels, function_word, named, top_await, goes_on, Opening, begins_label, unless_awaited, empty, debugger, variables, block, block_from, expr_stmt, expr_stmt_at, import_stmt, import_stmt_at, thrown, throw, while_stmt, with_stmt, do_while, for_parts, for_in, for_of, for_behind, for_stmt, links, if_stmt, break_stmt, continue_stmt, returned, return_stmt, labeled_stmt, other_stmt, switch_stmt, try_stmt, function_parts, function_decl, function_stmt, const_stmt, let_stmt, async_or_other, stmt_by, stmt_level, stmt, whole_stmt, expr, head_cover, pattern, member, misusing, using_from, using_stmt, using_or_other}
+use Rattle.swc_ecma_parser_reader.specs.Reader.{decorated_in, declarators, items, closes, close, no_label, note_statement, optional_end, head, note_with, as_init, as_left, head_part, misdeclared, await_here, opening, link, alternative, target, unbroken, uncontinued, operand, misplaced, clauses, braced, handler, finalizer, handled, labelled_body, relabels, function_word, named, top_await, goes_on, Opening, begins_label, unless_awaited, empty, debugger, variables, block, block_from, expr_stmt, expr_stmt_at, import_stmt, import_stmt_at, thrown, throw, while_stmt, with_stmt, do_while, for_parts, for_in, for_of, for_behind, for_stmt, links, if_stmt, break_stmt, continue_stmt, returned, return_stmt, labeled_stmt, other_stmt, switch_stmt, try_stmt, function_parts, function_decl, function_stmt, const_stmt, let_stmt, async_or_other, stmt_by, stmt_level, stmt, whole_stmt, expr, head_cover, pattern, member, misusing, using_from, using_stmt, using_or_other, await_using_stmt, plain_stmt}
 use Rattle.swc_ecma_parser_reader.proofs.Meets.{Meets, always, meets_then, meets_if, wanted_meets, too_deep_meets, refuse_meets}
 use Rattle.swc_ecma_parser_reader.proofs.SoundParts.{after_return_meets}
 use Rattle.swc_ecma_parser_reader.proofs.expressions.SoundSteps.{reject_meets}
 use Rattle.swc_ecma_parser_grammar.specs.Using.{is_using_declaration}
+use Rattle.swc_ecma_parser_reader.proofs.First.{first_meets}
 
 -- neither an import nor an export
 abbrev pub IsStatement : Tree → State → Type 0
@@ -239,11 +240,16 @@ module _ (plain : Position → Reader Tree) (at : Position) (form : (s : State) 
   unfolding either_stmt decorated_stmt
   either_form further s = meets_if _ (sees kind.At s.at && s.code.setting.decorators) _ _ (λ _. always _ (leading further s) _ (λ v t. behind_form v t)) (λ _. form s)
 
+await_using_form : (found : Reader (List Tree)) (s : State) → Meets IsStatement (await_using_stmt found s)
+unfolding await_using_stmt using_from misusing
+await_using_form found s = always _ (within with_in found (moved (moved s))) _ (λ xs t. always _ (misusing (record { lo = (span_at s.at).lo; hi = t.at.last.hi }) xs t) _ (λ _ u. refl))
+
 stmt_form : (n : ℕ) (at : Position) (s : State) → Meets IsStatement (stmt n at s)
 unfolding stmt stmt_level
 stmt_form zero at s = too_deep_meets _ s
-stmt_form (suc n) at s = either_form (stmt_level (stmt n) (expr n) (pattern n) (head_cover n) (reader.parameters n) (member n)) at
-    (λ t. by_form (stmt n) (expr n) (pattern n) (head_cover n) (reader.parameters n) (member n) at (kind_at t.at) t) (decorated_in n) s
+stmt_form (suc n) at s = either_form (plain_stmt n) at
+    (λ t. first_meets (declarators (expr n) (pattern n) false decl.Var) (reader.nests n) (stmt_level (stmt n) (expr n) (pattern n) (head_cover n) (reader.parameters n) (member n)) at IsStatement t
+    (λ _. await_using_form (declarators (expr n) (pattern n) false decl.Var) t) (by_form (stmt n) (expr n) (pattern n) (head_cover n) (reader.parameters n) (member n) at (kind_at t.at) t)) (decorated_in n) s
 
 pub whole_form : (n : ℕ) (at : Position) (s : State) → Meets IsStatement (whole_stmt n at s)
 unfolding whole_stmt

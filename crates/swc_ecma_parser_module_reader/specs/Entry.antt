@@ -17,7 +17,7 @@ use Rattle.swc_ecma_parser_reader.specs.Notes.{notes_with, ◌⊕◌}
 use Rattle.swc_ecma_parser_reader.specs.State.{State, GivesAs}
 use Rattle.swc_ecma_parser_reader.specs.Entry.{IsSetBack}
 use Rattle.swc_ecma_parser_module_reader.specs.Modules.{module_code, module_whole}
-use Rattle.swc_ecma_parser_module_reader.specs.Supported.{supported_module}
+use Rattle.swc_ecma_parser_module_reader.specs.Supported.{supported_module, any_led_in, OrderedFor}
 
 -- the walk of a module read in a state
 abbrev pub module_walk : State → Tree → List Fault
@@ -55,9 +55,9 @@ pub record SoundModule (limit : ℕ) (s : State) (x : Tree) (t : State) : Type 0
   pub noted : added ≡ [] → t.notes ≡ s.notes ⊕ notes_with x awaits
   pub found : t.notes.found_module_item ≡ (s.notes.found_module_item || (has_meta x || awaits))
 
--- a module of the language within a limit, of supported forms alone
+-- a module of the language within a limit, of supported forms alone, on tokens in order where an export has decorators before it
 abbrev pub ReadsSupportedModule : ℕ → Code → Tree → Place → Place → Type 0
-ReadsSupportedModule limit k x c d = ReadsEntry limit programs.«module» k x c d × (supported_module x ≡ true)
+ReadsSupportedModule limit k x c d = ReadsEntry limit programs.«module» k x c d × (supported_module x ≡ true) × OrderedFor (any_led_in x) c
 
 -- at most one supported module within a limit spells a list, and it ends in one place
 abbrev pub IsOneModule : Type 0

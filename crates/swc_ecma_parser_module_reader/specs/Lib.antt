@@ -8,3 +8,4 @@ pub mod Programs
 pub mod ProgramEntry
 pub mod Items
 pub mod ItemEntry
+pub mod Turns

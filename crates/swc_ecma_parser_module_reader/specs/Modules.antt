@@ -9,11 +9,13 @@ use Rattle.swc_ecma_parser_grammar.specs.Names.{Code}
 use Rattle.swc_ecma_parser_grammar.specs.Follows.{begins_import_expression}
 use Rattle.swc_ecma_parser_grammar.specs.Reads.{nested_item, top_item}
 use Rattle.swc_ecma_parser_grammar.specs.language.Programs.{entry_code, «module»}
+use Rattle.swc_ecma_parser_reader.specs.DecoratedStatements.{stmt_behind}
 use Rattle.swc_ecma_parser_reader.specs.DecoratorLevels.{decorated_in}
-use Rattle.swc_ecma_parser_reader.specs.Reader.{expr, pattern, member, stmt, parameters, object_alone, items, at_end, whole_stmt, shebang}
-use Rattle.swc_ecma_parser_reader.specs.State.{Reader, ◌>>=◌, pure, here, spanned_from, coded, flagged, too_deep}
+use Rattle.swc_ecma_parser_reader.specs.Decorators.{Leading, leading, misplaced}
+use Rattle.swc_ecma_parser_reader.specs.Reader.{expr, pattern, member, stmt, parameters, object_alone, items, at_end, whole_stmt, shebang, plain_stmt}
+use Rattle.swc_ecma_parser_reader.specs.State.{Reader, ◌>>=◌, pure, here, spanned_from, coded, flagged, too_deep, ◌>>◌}
 use Rattle.swc_ecma_parser_module_reader.specs.Imports.{import_decl}
-use Rattle.swc_ecma_parser_module_reader.specs.Decorated.{export_item}
+use Rattle.swc_ecma_parser_module_reader.specs.Decorated.{begins_decorators, export_item, export_with}
 
 -- `import` that begins no expression
 unfoldable pub begins_import : Place → Bool
@@ -27,11 +29,30 @@ unfoldable pub export_in : ℕ → Reader Tree
 export_in zero = too_deep
 export_in (suc n) = export_item (stmt n nested_item) (expr n) (pattern n) (parameters n) (member n) (object_alone n) (decorated_in n)
 
--- an item of a module, in so many levels: an import, an export or a statement
+-- An item behind decorators that were read before it is known what they belong to: before an import they are dropped, an export may
+-- have them, and a statement has them as anywhere.
+abbrev pub import_behind : ℕ → Leading → Reader Tree
+import_behind n v = misplaced v >> import_decl (object_alone n)
+
+abbrev pub export_behind : ℕ → Leading → Reader Tree
+export_behind n v = export_with (stmt n nested_item) (expr n) (pattern n) (parameters n) (member n) (object_alone n) (decorated_in n) v
+
+unfoldable pub item_behind : ℕ → Leading → Reader Tree
+item_behind n v = λ s.
+    if begins_import s.at then import_behind n v s
+    else if sees kind.Export s.at then export_behind n v s
+    else stmt_behind (plain_stmt n) top_item v s
+
+unfoldable pub decorated_item : ℕ → Reader Tree
+decorated_item zero = too_deep
+decorated_item (suc n) = leading (decorated_in n) >>= item_behind n
+
+-- an item of a module, in so many levels: an import, an export or a statement, with decorators before it or without
 unfoldable pub module_item : ℕ → Reader Tree
 module_item n = λ s.
     if begins_import s.at then import_in n s
     else if sees kind.Export s.at then export_in n s
+    else if begins_decorators s.code s.at then decorated_item n s
     else whole_stmt n top_item s
 
 -- ---- a module

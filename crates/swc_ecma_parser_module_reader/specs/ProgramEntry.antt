@@ -20,7 +20,7 @@ use Rattle.swc_ecma_parser_reader.specs.Notes.{Notes, notes_with, ◌⊕◌}
 use Rattle.swc_ecma_parser_reader.specs.State.{State}
 use Rattle.swc_ecma_parser_reader.specs.Entry.{IsSetBack}
 use Rattle.swc_ecma_parser_module_reader.specs.Programs.{program_code, program_whole}
-use Rattle.swc_ecma_parser_module_reader.specs.Supported.{supported_program}
+use Rattle.swc_ecma_parser_module_reader.specs.Supported.{supported_program, any_led_in, OrderedFor}
 
 -- the walk of a program read in a state
 abbrev pub program_walk : State → Tree → List Fault
@@ -70,9 +70,9 @@ pub record SoundProgram (limit : ℕ) (s : State) (x : Tree) (t : State) : Type 
   pub found : t.notes.found_module_item ≡ (s.notes.found_module_item || (has_meta x || awaits))
   pub turns : is_module_program x ≡ (has_module_decl x || t.notes.found_module_item)
 
--- a program of the language within a limit, of supported forms alone
+-- a program of the language within a limit, of supported forms alone, on tokens in order where an export has decorators before it
 abbrev pub ReadsSupportedProgram : ℕ → (is_certain : Bool) → Code → Tree → Place → Place → Type 0
-ReadsSupportedProgram limit is_certain k x c d = ReadsProgram limit is_certain k x c d × (supported_program x ≡ true)
+ReadsSupportedProgram limit is_certain k x c d = ReadsProgram limit is_certain k x c d × (supported_program x ≡ true) × OrderedFor (any_led_in x) c
 
 -- at most one supported program within a limit spells a list, and it ends in one place
 abbrev pub IsOneProgram : Type 0

@@ -3,6 +3,7 @@
 ghost use Rattle.std.specs.Prelude.{◌≡◌, true};
 ghost use Rattle.swc_ecma_parser_inner.specs.Covers.{cover_of};
 ghost use Rattle.swc_ecma_parser_inner.specs.Nests.{Nests};
+ghost use Rattle.swc_ecma_parser_reader.specs.AwaitWords as words;
 ghost use Rattle.swc_ecma_parser_reader.specs.Expressions as exprs;
 ghost use Rattle.swc_ecma_parser_reader.specs.Expressions.{is_literal};
 ghost use Rattle.swc_ecma_parser_reader.specs.Heads as heads;
@@ -16,6 +17,7 @@ use crate::operator::{
 use swc_ecma_parser_common::Span;
 use swc_ecma_parser_error::PResult;
 use swc_ecma_parser_functions::arrows::{arrow_of_one, only_parameter};
+use swc_ecma_parser_functions::awaits::awaited;
 use swc_ecma_parser_grammar::{Class, Position};
 use swc_ecma_parser_inner::cover::{Cover, Reading, close, done, nested, target};
 use swc_ecma_parser_inner::grammar::{Grammar, Part};
@@ -199,6 +201,7 @@ pub(crate) fn assignment_expr<
 
 /// What the head of a loop begins with: an expression that may still become a target.
 #[tactic(auto, unfolding(swc_ecma_parser_reader::specs::Heads::head_expr, swc_ecma_parser_reader::specs::Heads::sequenced))]
+#[inline(never)]
 pub fn head_expr<
     P: Source,
     T: BuildsExpr + BuildsCall + BuildsMethod + BuildsOperator + BuildsPattern,
@@ -220,6 +223,7 @@ pub fn head_expr<
 
 /// The same from behind `async` on, before a name on its line: nothing but an arrow function begins so.
 #[tactic(auto, unfolding(swc_ecma_parser_reader::specs::Heads::head_behind_async, swc_ecma_parser_reader::specs::Heads::async_arrow_from, swc_ecma_parser_reader::specs::Heads::sequenced, swc_ecma_parser_reader::specs::Expressions::close))]
+#[inline(never)]
 pub fn head_behind_async<
     P: Source,
     T: BuildsExpr + BuildsCall + BuildsMethod + BuildsOperator + BuildsPattern,
@@ -235,6 +239,28 @@ pub fn head_behind_async<
         return Err(p.wanted(Wanted::Expression));
     }
     let x = arrow_of_one(g, t, p, true, start, param)?;
+    if !p.sees(TokenKind::Comma) {
+        return Ok(done(x));
+    }
+    Ok(done(sequence_from(g, t, p, start, x)?))
+}
+
+/// An expression from behind `await` on, before `using`: nothing but that operator begins so.
+#[tactic(auto, unfolding(swc_ecma_parser_reader::specs::AwaitWords::awaited_expr, swc_ecma_parser_reader::specs::AwaitWords::awaited_operators, swc_ecma_parser_reader::specs::AwaitWords::awaited_binary))]
+#[inline(never)]
+pub fn expr_behind_await<
+    P: Source,
+    T: BuildsExpr + BuildsCall + BuildsMethod + BuildsOperator + BuildsPattern,
+    S: Fn(&MakerOf<T>, &mut P, usize, Position) -> PResult<T::Stmt>,
+    E: Fn(&MakerOf<T>, &mut P, usize, Reading) -> PResult<Cover<T::Expr>>,
+    N: Fn(&MakerOf<T>, &mut P, usize, Part) -> PResult<T::Pat>,
+>(g: &Grammar<S, E, N>, t: &MakerOf<T>, p: &mut P, start: Span) -> PResult<Cover<T::Expr>>
+    requires { Nests P.seen T.expr_of T.pat_of T.stmt_of g.now.depth (S.pre g.now.stmt) (S.post g.now.stmt) (E.pre g.now.expr) (E.post g.now.expr) (N.pre g.now.pat) (N.post g.now.pat) }
+    ensures { GivesAs (cover_of T.expr_of) (words.awaited_expr (rules.expr g.now.depth) (rules.cover g.now.depth) (rules.function g.now.depth) start (P.seen p.old)) result (P.seen p.new) }
+{
+    let x = awaited(g, t, p, start)?;
+    let x = binary_from(g, t, p, 1, start, x)?;
+    let x = behind_operators(g, t, p, false, start, x)?;
     if !p.sees(TokenKind::Comma) {
         return Ok(done(x));
     }

@@ -8,16 +8,16 @@ use Rattle.swc_ecma_parser_token.specs.declared.token.Word.{Word}
 use Rattle.swc_ecma_parser_grammar.proofs.Tests.{and_yes, and_both, and_no}
 use Rattle.swc_ecma_parser_grammar.proofs.SupportedBegins.{word_begins, name_begins, opens, expr_opens}
 use Rattle.swc_ecma_parser_grammar.specs.Own.{labelled_function, duplicates, misplaced_directive, head_faults}
-use Rattle.swc_ecma_parser_grammar.specs.Reads.{labeled_rule, with_rule, class_rule, function_rule, ReadsFunction, ReadsFunctionExpr, ReadsParts, OwnNameRule, no_own_name_rule, own_name_rule, ReadsBraced, InitRule, LeftRule, OfLeftRule, PartRule, no_part_rule, part_rule, for_rule, for_in_rule, for_of_rule, with_in, nested_item, ReadsToken, ReadsItems, break_rule, continue_rule, return_rule, StmtRule, block_rule, empty_rule, debugger_rule, variables_rule, if_statement_rule, CaseRule, case_clause_rule, default_clause_rule, ReadsCases, switch_rule, throw_rule, try_rule, while_rule, do_while_rule, expr_rule, import_rule, ReadsBlock, CatchRule, no_catch_rule, catch_rule, catch_parameter_rule, FinallyRule, no_finally_rule, finally_rule, ReadsHead, IfRule, if_rule, no_else_rule, else_rule, else_if_rule, using_rule}
+use Rattle.swc_ecma_parser_grammar.specs.Reads.{labeled_rule, with_rule, class_rule, function_rule, ReadsFunction, ReadsFunctionExpr, ReadsParts, OwnNameRule, no_own_name_rule, own_name_rule, ReadsBraced, InitRule, LeftRule, OfLeftRule, PartRule, no_part_rule, part_rule, for_rule, for_in_rule, for_of_rule, with_in, nested_item, ReadsToken, ReadsItems, break_rule, continue_rule, return_rule, StmtRule, block_rule, empty_rule, debugger_rule, variables_rule, if_statement_rule, CaseRule, case_clause_rule, default_clause_rule, ReadsCases, switch_rule, throw_rule, try_rule, while_rule, do_while_rule, expr_rule, import_rule, ReadsBlock, CatchRule, no_catch_rule, catch_rule, catch_parameter_rule, FinallyRule, no_finally_rule, finally_rule, ReadsHead, IfRule, if_rule, no_else_rule, else_rule, else_if_rule, using_rule, ReadsSeparated, DeclaratorRule}
 use Rattle.swc_ecma_parser_grammar.specs.Names.{is_name, first_is_identifier, identifier_at, Code}
 use Rattle.swc_ecma_parser_grammar.specs.language.Items.{labelled_item, sub_statement}
-use Rattle.swc_ecma_parser_reader.specs.Reader.{begins_label, relabels, labelled_body, labeled_stmt, other_stmt, with_stmt, await_here, misdirected, function_body, function_parts, function_decl, function_stmt, function_word, async_or_other, head_part, misdeclared, for_parts, for_in, for_of, for_behind, for_stmt, const_stmt, let_stmt, getter, setter, plain_method, arrow_block, named, own_name, function_expr, expr, cover, head_cover, pattern, element, decorated_in, member, parameters, function, function_by, closes, block_from, block, braced, expr_stmt_at, import_stmt_at, while_stmt, do_while, goes_on, closed_link, alternative, link_from, link, if_stmt, begins_clause, closes_clause, clause_from, default_clause, case_clause, clause, clauses_turn, clauses, switch_stmt, is_handled, handled, bound, parameter, finalizer, caught, handler, try_stmt, stmt_level, stmt, using_or_other}
+use Rattle.swc_ecma_parser_reader.specs.Reader.{begins_label, relabels, labelled_body, labeled_stmt, other_stmt, with_stmt, await_here, misdirected, function_body, function_parts, function_decl, function_stmt, function_word, async_or_other, head_part, misdeclared, for_parts, for_in, for_of, for_behind, for_stmt, const_stmt, let_stmt, getter, setter, plain_method, arrow_block, named, own_name, function_expr, expr, cover, head_cover, pattern, element, decorated_in, member, parameters, function, function_by, closes, block_from, block, braced, expr_stmt_at, import_stmt_at, while_stmt, do_while, goes_on, closed_link, alternative, link_from, link, if_stmt, begins_clause, closes_clause, clause_from, default_clause, case_clause, clause, clauses_turn, clauses, switch_stmt, is_handled, handled, bound, parameter, finalizer, caught, handler, try_stmt, stmt_level, stmt, using_or_other, plain_stmt}
 use Rattle.swc_ecma_parser_grammar.proofs.Marks.{no_word}
 use Rattle.swc_ecma_parser_reader.proofs.Opens.{unopened, let_stands, let_before_colon, opened, no_block_or_import, import_stands, stmt_goes}
 use Rattle.swc_ecma_parser_reader.proofs.expressions.SoundLefts.{word_stands}
 use Rattle.swc_ecma_parser_grammar.specs.Follows.{word_at, AwaitWord, no_await, await_word, Star, no_star, star as starred, AsyncWord, not_async, async_word, is_async_function}
 use Rattle.swc_ecma_parser_model.specs.declared.leaves.VarDeclKind.TheVariants as decl
-use Rattle.std.proofs.Common.{◌≡◌, inr, ℕ, zero, suc, Bool, true, false, List, [], ◌∷◌, ◌++◌, length, Ok, refl, sym, ◌∙◌, ap, subst, append_assoc, append-nil, Option, not, is_some, None, Some}
+use Rattle.std.proofs.Common.{◌≡◌, inr, ℕ, zero, suc, Bool, true, false, List, [], ◌∷◌, ◌++◌, length, Ok, refl, sym, ◌∙◌, ap, subst, append_assoc, append-nil, Option, not, is_some, None, Some, true≢false}
 use Rattle.std.specs.Prelude.{◌&&◌, ◌||◌, codes}
 use Rattle.swc_ecma_parser_common.specs.declared.span.Span.{Span}
 use Rattle.swc_ecma_parser_error.specs.Kind as faults
@@ -78,8 +78,10 @@ use Rattle.swc_ecma_parser_reader.proofs.Loops.{stmt_shorter, clauses_done, clau
 use Rattle.swc_ecma_parser_reader.proofs.Chains.{if_last, if_more}
 use Rattle.swc_ecma_parser_reader.proofs.CompleteParts.{behind_setting, break_reads, calm_first, calm_last, clause_ends, close_reads, closes_at, code_stays, condition_reads, continue_reads, debugger_reads, empty_reads, expect_reads, expr_stmt_reads, head_reads, import_stmt_reads, items_read, name_no_function, name_no_class, no_brace, no_label_here, optional_end_reads, return_reads, throw_reads, told_reads, variables_reads, note_with_reads, code_behind, using_reads}
 use Rattle.swc_ecma_parser_grammar.proofs.Naming.{name_is_free}
+use Rattle.swc_ecma_parser_grammar.specs.Using.{is_await_using_declaration, is_using_declaration}
 use Rattle.swc_ecma_parser_reader.proofs.CompleteFor.{no_arrow, opening_reads_init, opening_reads_in, opening_reads_of}
 use Rattle.swc_ecma_parser_grammar.proofs.ExpressionBegins.{expressions_begin}
+use Rattle.swc_ecma_parser_reader.proofs.CompleteFirst.{declares, placed, declares_so, plain_reads}
 use Rattle.swc_ecma_parser_grammar.proofs.Using.{using_stands, using_no_function}
 use Rattle.swc_ecma_parser_reader.proofs.Using.{no_using_before, no_using_here}
 
@@ -605,14 +607,6 @@ module _ (n : ℕ) (below : Below n) (reads : (at : Position) (k : Code) (x : Tr
       if_more n (st c k w f h) _ (linked k w f h t y i) (link_reads t y m k c i w f h r s (inr (ap is_error a))) (rw (seen i kind.Else a, seen (after i) kind.If (if_begins j)) refl)
       ∙ closed_reads t y z x k c d w f h _ e (if_reads j w (f ++ walk (env_of k w.labels) t ++ walk (env_of k w.labels) y) (h ⊕ notes_of t ⊕ notes_of y) (elsed k w.labels c d e q))
 
-  -- a declaration other than `var` stands where declarations are read
-  declares : (at : Position) → at.include_decl || false ≡ true → at.include_decl ≡ true
-  declares at h = by_test at.include_decl h
-    where
-      by_test : (b : Bool) → b || false ≡ true → b ≡ true
-      by_test true g = refl
-      by_test false g = cc
-
   colon_no_function : (m : Place) → kind_at m ≡ kind.Colon → sees kind.Function m ≡ false
   unfolding same_kind
   colon_no_function m e = rw e refl
@@ -625,43 +619,49 @@ module _ (n : ℕ) (below : Below n) (reads : (at : Position) (k : Code) (x : Tr
       let v = ap kind_at (sym j) ∙ e in rw (v, or_earlier at.include_decl (is_async_function c) a (plain_function c v)) (reads w f h q)
   function_statement at k x c d m a (async_word i j l o) e reads w f h q = let v = async_stands c m j l o e in rw (async_kind c v, v) (reads w f h q)
 
-  by_rules : (at : Position) (k : Code) (x : Tree) (c d : Place) → StmtRule (ReadsStmt n) (ReadsClass n) (ReadsPat n) (ReadsTarget n) (ReadsParams n) (ReadsNamedClass n) k at x c d
+  -- `await using` is read before
+  by_rules : (at : Position) (k : Code) (x : Tree) (c d : Place) → is_await_using_declaration at k c ≡ false → StmtRule (ReadsStmt n) (ReadsClass n) (ReadsPat n) (ReadsTarget n) (ReadsParams n) (ReadsNamedClass n) k at x c d
       → ReadsCalm (stmt_level (stmt n) (expr n) (pattern n) (head_cover n) (parameters n) (member n) at) k x c d
   unfolding stmt_level other_stmt const_stmt let_stmt expr_stmt_at import_stmt_at function_stmt class_stmt async_or_other using_or_other
-  by_rules at k x c d (class_rule name y a r b e) w f h q = rw (r.0.is_class, a) (class_decl_reads n below members k x c d name y r b e w f h)
-  by_rules at k x c d (function_rule a r) w f h q = function_statement at k x c d r.word a r.reads_async r.is_function (function_reads k x c d r) w f h q
-  by_rules at k x c d (block_rule r) w f h q = rw r.opens (block_reads k x c d r w f h)
-  by_rules at k x c d (empty_rule e g i) w f h q = rw e (empty_reads k x c d g i w f h)
-  by_rules at k x c d (debugger_rule e g i) w f h q = rw e (debugger_reads k x c d g i w f h)
-  by_rules at k x c d (variables_rule decl.Var xs m a e r g i) w f h q = rw (saw c kind.Var e) (variables_reads n below decl.Var xs m k x c d r g i w f h)
-  by_rules at k x c d (variables_rule decl.Const xs m a e r g i) w f h q = rw (saw c kind.Const e, declares at a) (variables_reads n below decl.Const xs m k x c d r g i w f h)
-  by_rules at k x c d (variables_rule decl.Let xs m a e r g i) w f h q = rw (let_stands c e, declares at a, e) (variables_reads n below decl.Let xs m k x c d r g i w f h)
-  by_rules at k x c d (using_rule xs a b r e g) w f h q = rw (using_stands k c b, using_no_function k c b, a, b) (using_reads n below xs k x c d r e g w f h)
-  by_rules at k x c d (if_statement_rule r) w f h q = rw (if_begins r) (if_reads r w f h q)
-  by_rules at k x c d (switch_rule y xs m i e r a s b g j) w f h q = rw e (switch_reads y xs m i k x c d r a s b g j w f h)
-  by_rules at k x c d (break_rule y m e r g i) w f h q = rw e (break_reads y m k x c d r g i w f h q)
-  by_rules at k x c d (continue_rule y m e r g i) w f h q = rw e (continue_reads y m k x c d r g i w f h q)
-  by_rules at k x c d (return_rule y m e r g i) w f h q = rw e (return_reads n below y m k x c d r g i w f h q)
-  by_rules at k x c d (for_rule a b g y l m i e o r s t u v z j p) w f h q = rw e (for_reads a b g y l m i k x c d o r s t u v z j p w f h q)
-  by_rules at k x c d (for_in_rule a b y m i e o r s t z j p) w f h q = rw e (for_in_reads a b y m i k x c d o r s t z j p w f h q)
-  by_rules at k x c d (for_of_rule b a g y l m i e v o r s t z j p) w f h q = rw e (for_of_reads b a g y l m i k x c d v o r s t z j p w f h q)
-  by_rules at k x c d (labeled_rule v s y m r o i t e) w f h q =
+  by_rules at k x c d n' (class_rule name y a r b e) w f h q = rw (r.0.is_class, a) (class_decl_reads n below members k x c d name y r b e w f h)
+  by_rules at k x c d n' (function_rule a r) w f h q = function_statement at k x c d r.word a r.reads_async r.is_function (function_reads k x c d r) w f h q
+  by_rules at k x c d n' (block_rule r) w f h q = rw r.opens (block_reads k x c d r w f h)
+  by_rules at k x c d n' (empty_rule e g i) w f h q = rw e (empty_reads k x c d g i w f h)
+  by_rules at k x c d n' (debugger_rule e g i) w f h q = rw e (debugger_reads k x c d g i w f h)
+  by_rules at k x c d n' (variables_rule decl.Var xs m a e r g i) w f h q = rw (saw c kind.Var e) (variables_reads n below decl.Var xs m k x c d r g i w f h)
+  by_rules at k x c d n' (variables_rule decl.Const xs m a e r g i) w f h q = rw (saw c kind.Const e, declares at a) (variables_reads n below decl.Const xs m k x c d r g i w f h)
+  by_rules at k x c d n' (variables_rule decl.Let xs m a e r g i) w f h q = rw (let_stands c e, declares at a, e) (variables_reads n below decl.Let xs m k x c d r g i w f h)
+  by_rules at k x c d n' (using_rule v xs m a (no_await l i) b r e g) w f h q =
+      let b' = subst (λ z. is_using_declaration k z ≡ true) i b in
+      rw (using_stands k c b', using_no_function k c b', placed at v l a, b')
+      (using_reads n below xs k x c d (subst (λ z. ReadsSeparated (DeclaratorRule (ReadsClass n assignment) (ReadsPat n) (with_in k) false decl.Var) xs (after z) d) i r) e (g ∙ ap (λ z. tree.using (spanned c d) z (listed xs)) l) w f h)
+  by_rules at k x c d n' (using_rule v xs m a (await_word l i j) b r e g) w f h q =
+      absurd (true≢false (sym (declares_so at k c m v a i j b) ∙ n'))
+  by_rules at k x c d n' (if_statement_rule r) w f h q = rw (if_begins r) (if_reads r w f h q)
+  by_rules at k x c d n' (switch_rule y xs m i e r a s b g j) w f h q = rw e (switch_reads y xs m i k x c d r a s b g j w f h)
+  by_rules at k x c d n' (break_rule y m e r g i) w f h q = rw e (break_reads y m k x c d r g i w f h q)
+  by_rules at k x c d n' (continue_rule y m e r g i) w f h q = rw e (continue_reads y m k x c d r g i w f h q)
+  by_rules at k x c d n' (return_rule y m e r g i) w f h q = rw e (return_reads n below y m k x c d r g i w f h q)
+  by_rules at k x c d n' (for_rule a b g y l m i e o r s t u v z j p) w f h q = rw e (for_reads a b g y l m i k x c d o r s t u v z j p w f h q)
+  by_rules at k x c d n' (for_in_rule a b y m i e o r s t z j p) w f h q = rw e (for_in_reads a b y m i k x c d o r s t z j p w f h q)
+  by_rules at k x c d n' (for_of_rule b a g y l m i e v o r s t z j p) w f h q = rw e (for_of_reads b a g y l m i k x c d v o r s t z j p w f h q)
+  by_rules at k x c d n' (labeled_rule v s y m r o i t e) w f h q =
       let b = name_begins k.flags v s c m r o in
       opened (stmt n) (expr n) (pattern n) (head_cover n) (parameters n) (member n) at (st c k w f h) (kind_at c) (word_begins k.flags v s c m r o) (no_brace v s c m r) b (name_no_const k.flags v s c m r o)
       (and_no at.include_decl _ (let_before_colon c (seen (after c) kind.Colon (ap kind_at (sym r.next) ∙ i)))) (name_no_function k.flags v s c m r o) (kinds.no_async_function c m r.next (colon_no_function m i)) (name_no_class k.flags v s c m r o)
       (and_no at.include_decl _ (no_using_before k c (seen (after c) kind.Colon (ap kind_at (sym r.next) ∙ i))))
       ∙ rw (label_begins k v s c m r o i) (labeled_reads v s y m k x c d r o i t e w f h q)
-  by_rules at k x c d (throw_rule y m e b r g i) w f h q = rw e (throw_reads n below y m k x c d b r g i w f h)
-  by_rules at k x c d (try_rule y z v m i e r s t b g) w f h q = rw e (try_reads y z v m i k x c d r s t b g w f h)
-  by_rules at k x c d (with_rule y z m e o r s i) w f h q = rw e (with_reads y z m k x c d o r s i w f h q)
-  by_rules at k x c d (while_rule y z m e r s i) w f h q = rw e (while_reads y z m k x c d r s i w f h q)
-  by_rules at k x c d (do_while_rule y z m i e s j r g o) w f h q = rw e (do_while_reads y z m i k x c d s j r g o w f h)
-  by_rules at k x c d (expr_rule e m b r l i g j) w f h q =
+  by_rules at k x c d n' (throw_rule y m e b r g i) w f h q = rw e (throw_reads n below y m k x c d b r g i w f h)
+  by_rules at k x c d n' (try_rule y z v m i e r s t b g) w f h q = rw e (try_reads y z v m i k x c d r s t b g w f h)
+  by_rules at k x c d n' (with_rule y z m e o r s i) w f h q = rw e (with_reads y z m k x c d o r s i w f h q)
+  by_rules at k x c d n' (while_rule y z m e r s i) w f h q = rw e (while_reads y z m k x c d r s i w f h q)
+  by_rules at k x c d n' (do_while_rule y z m i e s j r g o) w f h q = rw e (do_while_reads y z m i k x c d s j r g o w f h)
+  by_rules at k x c d n' (expr_rule e m b r l i g j) w f h q =
       let o = no_block_or_import at c b in
       opened (stmt n) (expr n) (pattern n) (head_cover n) (parameters n) (member n) at (st c k w f h) (kind_at c) (expr_opens n (with_in k) e c m r) o.0 o.1 (expr_no_const n (with_in k) e c m r) o.2 o.3 o.4 o.5
       (and_no at.include_decl _ (no_using_here n k (with_in k) e c m d r.0 g))
       ∙ rw (no_label_here n below k e c m r l, b) (expr_stmt_reads n below e m k x c d r l i g j w f h)
-  by_rules at k x c d (import_rule e m b r g j) w f h q = rw (import_stands c b, b) (import_stmt_reads n below e m k x c d b r g j w f h)
+  by_rules at k x c d n' (import_rule e m b r g j) w f h q = rw (import_stands c b, b) (import_stmt_reads n below e m k x c d b r g j w f h)
 
 -- ---- the parameter of a setter
 
@@ -777,7 +777,7 @@ whole (suc n) = let b = whole n in record {
     decorateds = decorated_above n b;
   };
   members = member_level_reads n b.parts (function_body_reads n b.parts b.stmts b.members) (braced_reads n b.parts b.stmts b.members);
-  stmts = λ at. either_reads n (stmt_level (stmt n) (expr n) (pattern n) (head_cover n) (parameters n) (member n)) at (by_rules n b.parts b.stmts b.members at) (decorated_in n) b.parts.decorateds (decorated_in_falls n);
+  stmts = λ at. either_reads n (plain_stmt n) at (λ k x c d r. plain_reads n b.parts at k x c d r (λ e. by_rules n b.parts b.stmts b.members at k x c d e r)) (decorated_in n) b.parts.decorateds (decorated_in_falls n);
 }
 
 pub parts_read : (n : ℕ) → Below n

@@ -1,9 +1,10 @@
 -- What the grammar allows at the beginning of the head of a `for` is read: as the first part of three, before `in`, and before `of`.
-use Rattle.std.proofs.Common.{◌≡◌, inl, inr, ℕ, zero, suc, Bool, true, false, List, [], ◌∷◌, ◌++◌, Ok, refl, true≢false, sym, ◌∙◌, ap, append-nil, codes}
-use Rattle.std.specs.Prelude.{not, ◌&&◌}
+use Rattle.std.proofs.Common.{◌≡◌, inl, inr, ℕ, zero, suc, Bool, true, false, List, [], ◌∷◌, ◌++◌, Ok, refl, true≢false, sym, ◌∙◌, ap, subst, append-nil, codes}
+use Rattle.std.specs.Prelude.{not, ◌&&◌, if◌then◌else◌}
 use Rattle.std.specs.Str.{bytes_eq}
 use Rattle.swc_ecma_parser_common.specs.declared.span.Span.{Span}
 use Rattle.swc_ecma_parser_error.specs.Kind.{Fault}
+use Rattle.swc_ecma_parser_token.specs.declared.kind.TokenKind.{TokenKind}
 use Rattle.swc_ecma_parser_token.specs.declared.kind.TokenKind.TheVariants as kind
 use Rattle.swc_ecma_parser_token.specs.declared.keyword.Keyword.TheVariants as keyword
 use Rattle.swc_ecma_parser_token.specs.declared.token.Token.TheVariants as token
@@ -17,12 +18,12 @@ use Rattle.swc_ecma_parser_model.specs.declared.leaves.VarDeclKind.TheVariants a
 use Rattle.swc_ecma_parser_model.specs.Tree as tree
 use Rattle.swc_ecma_parser_model.specs.Tree.{Tree, Text, listed}
 use Rattle.swc_ecma_parser_model.specs.Forms.{is_binding_name}
-use Rattle.swc_ecma_parser_grammar.specs.Looks.{kind_at, breaks_at, sees, same_kind, spanned}
+use Rattle.swc_ecma_parser_grammar.specs.Looks.{kind_at, breaks_at, sees, same_kind, spanned, span_at}
 use Rattle.swc_ecma_parser_grammar.specs.Names.{Code, identifier_at}
-use Rattle.swc_ecma_parser_grammar.specs.Follows.{word_at, token_is, may_begin_head, is_bare_async, is_async_of, begins_async_of, is_async_function}
+use Rattle.swc_ecma_parser_grammar.specs.Follows.{word_at, token_is, may_begin_head, is_bare_async, is_async_of, begins_async_of, is_async_function, is_let_declaration}
 use Rattle.swc_ecma_parser_grammar.specs.Variables.{begins_variables}
-use Rattle.swc_ecma_parser_grammar.specs.Using.{may_declare_using, stands_in_head}
-use Rattle.swc_ecma_parser_grammar.specs.Reads.{with_in, head_code, HeadVariables, InitRule, no_init_rule, init_variables_rule, init_expression_rule, LeftRule, declared_rule, left_target_rule, OfLeftRule, of_left_rule, of_using_rule, DeclaratorRule, ReadsSeparated}
+use Rattle.swc_ecma_parser_grammar.specs.Using.{may_declare_using, awaits_using, declares_behind, stands_in_head}
+use Rattle.swc_ecma_parser_grammar.specs.Reads.{with_in, head_code, HeadVariables, InitRule, no_init_rule, init_variables_rule, init_expression_rule, LeftRule, declared_rule, left_target_rule, OfLeftRule, of_left_rule, of_using_rule, of_await_rule, DeclaratorRule, ReadsSeparated}
 use Rattle.swc_ecma_parser_grammar.specs.ReadsSupported.{ReadsClass, ReadsPat, ReadsTarget}
 use Rattle.swc_ecma_parser_grammar.specs.Walk.{env_of, walk}
 use Rattle.swc_ecma_parser_grammar.specs.language.Begins.{begins_expression, begins_unary}
@@ -31,20 +32,22 @@ use Rattle.swc_ecma_parser_grammar.specs.language.Goals.{Class, expression, assi
 use Rattle.swc_ecma_parser_grammar.specs.language.Parts.{ReadsName}
 use Rattle.swc_ecma_parser_grammar.specs.language.Patterns.{binding_name_rule, target_name_rule, target_rule, array_rule, object_rule}
 use Rattle.swc_ecma_parser_grammar.specs.language.Reads as language
-use Rattle.swc_ecma_parser_grammar.proofs.Tests.{and_yes, and_no}
+use Rattle.swc_ecma_parser_grammar.proofs.Tests.{and_yes, and_both, and_no}
 use Rattle.swc_ecma_parser_grammar.proofs.StatementBegins.{word_place}
 use Rattle.swc_ecma_parser_grammar.proofs.Using.{no_other, word_target, word_no_function, using_alone}
-use Rattle.swc_ecma_parser_grammar.proofs.UsingParts.{target_bound, using_read, declares_in_head}
-use Rattle.swc_ecma_parser_reader.specs.Notes.{Notes, ◌⊕◌, notes_of}
-use Rattle.swc_ecma_parser_reader.specs.State.{Scope, State, Reader}
+use Rattle.swc_ecma_parser_grammar.proofs.UsingParts.{target_bound, using_read, declares_in_head, bound_stands}
+use Rattle.swc_ecma_parser_grammar.proofs.AwaitHeads.{awaited_words, declares_so, undeclared_unnamed, undeclared_of}
+use Rattle.swc_ecma_parser_reader.specs.Notes.{Notes, no_notes, ◌⊕◌, notes_of}
+use Rattle.swc_ecma_parser_reader.specs.State.{Scope, State, Outcome, Reader, coded, flagged}
 use Rattle.swc_ecma_parser_reader.specs.Expressions.{Cover}
-use Rattle.swc_ecma_parser_reader.specs.Reader.{expr, head_cover, pattern, declarators, Opening, Nothing, Variables, Resource, Named, Expression, as_init, as_left, head_variables, undeclared, using_head, named_head, async_head, head_expression, async_or_expression, head_target, opening}
-use Rattle.swc_ecma_parser_reader.proofs.Notes.{or_nil}
+use Rattle.swc_ecma_parser_reader.specs.Reader.{expr, head_cover, pattern, declarators, Opening, Nothing, Variables, Resource, Named, Expression, as_init, as_left, head_variables, undeclared, using_head, named_head, await_or_expression, async_head, head_expression, await_head, async_or_expression, head_target, opening}
+use Rattle.swc_ecma_parser_reader.proofs.Notes.{or_nil, notes_nil}
 use Rattle.swc_ecma_parser_reader.proofs.Answered.{st, Gets, ReadsAs}
 use Rattle.swc_ecma_parser_reader.proofs.Below.{Below, pattern_reads}
 use Rattle.swc_ecma_parser_reader.proofs.CompleteParts.{many_declarators}
 use Rattle.swc_ecma_parser_reader.proofs.Meets.{saw}
 use Rattle.swc_ecma_parser_reader.proofs.Opens.{head_begins, let_stands}
+use Rattle.swc_ecma_parser_reader.proofs.SoundFor.{awaited_walk, awaited_notes}
 use Rattle.swc_ecma_parser_reader.proofs.Using.{by_contradiction, word_begins_head, async_of_words}
 use Rattle.swc_ecma_parser_reader.proofs.expressions.Covers as covers
 use Rattle.swc_ecma_parser_reader.proofs.expressions.CompleteHeads as heads
@@ -113,6 +116,9 @@ in_head c h = rw (no_in c h, h) refl
 semicolon_no_name : (c : Place) → kind_at c ≡ kind.Semi → sees kind.Semi c ≡ false → ⊥
 semicolon_no_name c e h = true≢false (sym (seen c kind.Semi e) ∙ h)
 
+no_name_semicolon : (f : Context) (c : Place) → kind_at c ≡ kind.Semi → identifier_at f c ≡ false
+no_name_semicolon f c e = by_contradiction (identifier_at f c) (λ i. semicolon_no_name c e (no_other f c i).no_semi)
+
 -- no expression begins with `=>`
 pub no_arrow : (f : Context) (c : Place) → begins_expression f c ≡ true → sees kind.Arrow c ≡ false
 unfolding begins_expression begins_unary same_kind
@@ -120,29 +126,107 @@ no_arrow f c b = by_contradiction (sees kind.Arrow c) (λ h.
     let i : identifier_at f c ≡ false = by_contradiction (identifier_at f c) (λ j. true≢false (sym h ∙ (no_other f c j).no_arrow)) in
     true≢false (sym b ∙ rw (saw c kind.Arrow h, i) (and_no f.in_generator _ refl)))
 
+-- what the word of a declaration is, and is not
+var_sees : (c : Place) → kind_at c ≡ kind.Var → (sees kind.Semi c ≡ false) × (sees kind.Var c ≡ true)
+unfolding same_kind
+var_sees c e = (rw e refl, rw e refl)
+
+const_sees : (c : Place) → kind_at c ≡ kind.Const → (sees kind.Semi c ≡ false) × (sees kind.Var c ≡ false) × (sees kind.Const c ≡ true)
+unfolding same_kind
+const_sees c e = (rw e refl, rw e refl, rw e refl)
+
+let_sees : (c : Place) → kind_at c ≡ kind.Let → (sees kind.Semi c ≡ false) × (sees kind.Var c ≡ false) × (sees kind.Const c ≡ false)
+unfolding same_kind
+let_sees c e = (rw e refl, rw e refl, rw e refl)
+
+if_yes : {A : Type 0} (b : Bool) (p q : A) → b ≡ true → (if b then p else q) ≡ p
+if_yes true p q h = refl
+if_yes false p q h = cc
+
+if_no : {A : Type 0} (b : Bool) (p q : A) → b ≡ false → (if b then p else q) ≡ q
+if_no true p q h = cc
+if_no false p q h = refl
+
+-- where `async` stands `await` does not
+async_no_await : (c : Place) → begins_async_of c ≡ true → sees kind.Await c ≡ false
+unfolding same_kind
+async_no_await c h = rw (word_place (codes "async") c (async_of_words c h).0) refl
+
+-- nor does a word that declares; and where `await` stands a head begins
+no_word : (j : TokenKind) → j ≡ kind.Await → j ≡ kind.Ident → ⊥
+no_word j e g = let f : kind.Await ≡ kind.Ident = sym e ∙ g in cc
+
+await_no_using : (k : Code) (c : Place) → kind_at c ≡ kind.Await → may_declare_using k c ≡ false
+await_no_using k c e = by_contradiction (may_declare_using k c) (λ h. no_word (kind_at c) e (word_place (codes "using") c (declares_in_head k c h).1))
+
+await_begins_head : (c : Place) → kind_at c ≡ kind.Await → may_begin_head c ≡ true
+unfolding may_begin_head is_let_declaration same_kind
+await_begins_head c e = rw e refl
+
+-- a plain name
+record IsName (p : Tree) : Type 0 where
+  pub span : Span
+  pub text : Text
+  pub is : p ≡ tree.ident_pat span text
+
+name_shape : (p : Tree) → is_binding_name p ≡ true → IsName p
+name_shape (tree.ident_pat s text) h = record { span = s; text = text; is = refl }
+name_shape _ h = absurd (true≢false (sym h))
+
+-- what has no faults and no notes leaves everything but the place as it was
+nothing_added : (m : Place) (k : Code) (z : Scope) (f fs : List Fault) (h ns : Notes) → fs ≡ [] → ns ≡ no_notes → st m k z (f ++ fs) (h ⊕ ns) ≡ st m k z f h
+nothing_added m k z f fs h ns a b =
+    ap (λ gs. st m k z (f ++ gs) (h ⊕ ns)) a ∙ ap (λ os. st m k z (f ++ []) (h ⊕ os)) b ∙ ap (λ gs. st m k z gs (h ⊕ no_notes)) (append-nil f) ∙ ap (λ os. st m k z f os) (notes_nil h)
+
 -- ---- which way the head goes
 
 module _ (inner_expr : Class → Reader Tree) (inner_pat : Reader Tree) (inner_cover : Reader Cover) (v : Bool) where
   -- the word of a declaration tells that variables are declared
   opening_declares : (word : VarDeclKind) (s : State) → begins_variables word s.at ≡ true → opening inner_expr inner_pat inner_cover v s ≡ head_variables inner_expr inner_pat word s
-  unfolding opening same_kind
-  opening_declares decl.Var s e = rw (saw s.at kind.Var e) refl
-  opening_declares decl.Const s e = rw (saw s.at kind.Const e) refl
-  opening_declares decl.Let s e = rw (let_stands s.at e, e) refl
-
-  opening_target : (s : State) → may_begin_head s.at ≡ true → may_declare_using s.code s.at ≡ false → opening inner_expr inner_pat inner_cover v s ≡ head_target inner_expr inner_pat inner_cover v s
   unfolding opening
-  opening_target s e u = let b = head_begins s.at e in rw (b.0, b.1, b.2, b.3, u) refl
+  opening_declares decl.Var s e = let b = var_sees s.at (saw s.at kind.Var e) in rw (b.0, b.1) refl
+  opening_declares decl.Const s e = let b = const_sees s.at (saw s.at kind.Const e) in rw (b.0, b.1, b.2) refl
+  opening_declares decl.Let s e = let b = let_sees s.at (let_stands s.at e) in rw (b.0, b.1, b.2, e) refl
 
-  opening_starts : (s : State) → may_begin_head s.at ≡ true → may_declare_using s.code s.at ≡ false → (v && begins_async_of s.at) ≡ false
-      → opening inner_expr inner_pat inner_cover v s ≡ head_expression inner_expr inner_pat inner_cover s
+  opening_target : (s : State) → may_begin_head s.at ≡ true → may_declare_using s.code s.at ≡ false → sees kind.Await s.at ≡ false
+      → opening inner_expr inner_pat inner_cover v s ≡ head_target inner_expr inner_pat inner_cover v s
+  unfolding opening
+  opening_target s e u a = let b = head_begins s.at e in rw (b.0, b.1, b.2, b.3, u, a) refl
+
+  opening_awaits : (s : State) → may_begin_head s.at ≡ true → may_declare_using s.code s.at ≡ false → sees kind.Await s.at ≡ true
+      → opening inner_expr inner_pat inner_cover v s ≡ await_head inner_expr inner_pat inner_cover s
+  unfolding opening
+  opening_awaits s e u a = let b = head_begins s.at e in rw (b.0, b.1, b.2, b.3, u, a) refl
+
+  -- an expression, or a target, behind which nothing is declared
+  await_stays : (s : State) (x : Cover) (t : State) → inner_cover (coded (without_in s.code) s) ≡ Ok (x, t) → declares_behind (flagged s.code t).code t.at ≡ false
+      → await_head inner_expr inner_pat inner_cover s ≡ head_expression inner_expr inner_pat inner_cover s
+  unfolding head_expression await_head await_or_expression
+  await_stays s x t g i = rw g (if_no (awaits_using x.x && declares_behind (flagged s.code t).code t.at) _ _ (and_no (awaits_using x.x) _ i))
+
+  target_stays : (s : State) → (v && begins_async_of s.at) ≡ false → head_target inner_expr inner_pat inner_cover v s ≡ head_expression inner_expr inner_pat inner_cover s
   unfolding head_target async_or_expression
-  opening_starts s e u a = opening_target s e u ∙ by_test v (begins_async_of s.at) refl a
+  target_stays s a = by_test v (begins_async_of s.at) refl a
     where
       by_test : (w b : Bool) → begins_async_of s.at ≡ b → (w && b) ≡ false → head_target inner_expr inner_pat inner_cover w s ≡ head_expression inner_expr inner_pat inner_cover s
-      by_test true true g i = cc
-      by_test true false g i = rw g refl
-      by_test false b g i = refl
+      by_test true true j l = cc
+      by_test true false j l = rw j refl
+      by_test false b j l = refl
+
+  opening_starts : (s : State) → may_begin_head s.at ≡ true → may_declare_using s.code s.at ≡ false → (v && begins_async_of s.at) ≡ false
+      → (x : Cover) (t : State) → inner_cover (coded (without_in s.code) s) ≡ Ok (x, t) → declares_behind (flagged s.code t).code t.at ≡ false
+      → opening inner_expr inner_pat inner_cover v s ≡ head_expression inner_expr inner_pat inner_cover s
+  opening_starts s e u a x t g i = by_await (sees kind.Await s.at) refl
+    where
+      by_await : (b : Bool) → sees kind.Await s.at ≡ b → opening inner_expr inner_pat inner_cover v s ≡ head_expression inner_expr inner_pat inner_cover s
+      by_await true h = opening_awaits s e u h ∙ await_stays s x t g i
+      by_await false h = opening_target s e u h ∙ target_stays s a
+
+  -- or one behind which a name is declared
+  await_goes : (s : State) (x : Cover) (t : State) → inner_cover (coded (without_in s.code) s) ≡ Ok (x, t) → awaits_using x.x ≡ true → declares_behind (flagged s.code t).code t.at ≡ true
+      → await_head inner_expr inner_pat inner_cover s ≡ using_head inner_expr inner_pat true (span_at s.at) (flagged s.code t)
+  unfolding await_head await_or_expression
+  await_goes s x t g a i = rw g (if_yes (awaits_using x.x && declares_behind (flagged s.code t).code t.at) _ _ (and_both (awaits_using x.x) _ a i))
 
   opening_names : (s : State) → may_begin_head s.at ≡ true → may_declare_using s.code s.at ≡ true → opening inner_expr inner_pat inner_cover v s ≡ named_head inner_expr inner_pat s
   unfolding opening
@@ -151,7 +235,7 @@ module _ (inner_expr : Class → Reader Tree) (inner_pat : Reader Tree) (inner_c
   opening_async : (s : State) → may_begin_head s.at ≡ true → may_declare_using s.code s.at ≡ false → v ≡ true → begins_async_of s.at ≡ true
       → opening inner_expr inner_pat inner_cover v s ≡ async_head inner_expr inner_pat s
   unfolding head_target async_or_expression
-  opening_async s e u a i = opening_target s e u ∙ rw (a, i) refl
+  opening_async s e u a i = opening_target s e u (async_no_await s.at i) ∙ rw (a, i) refl
 
 module _ (n : ℕ) (below : Below n) where
   declared_reads : (word : VarDeclKind) (xs : List Tree) (k : Code) (x : Tree) (c d : Place) (w : Scope) (f : List Fault) (h : Notes)
@@ -166,6 +250,12 @@ module _ (n : ℕ) (below : Below n) where
       → opening (expr n) (pattern n) (head_cover n) v (st c k w f h) ≡ Ok (Variables x, st d k w (f ++ walk (env_of k w.labels) x) (h ⊕ notes_of x))
   head_variables_read v k x c d w f h r =
       opening_declares (expr n) (pattern n) (head_cover n) v r.word (st c k w f h) r.begins ∙ declared_reads r.word r.declarators k x c d w f h r.reads r.is
+
+  -- an expression, or a target, behind which nothing is declared
+  head_stays : (v : Bool) (k : Code) (c d : Place) (z : Scope) (f fs : List Fault) (h ns : Notes) → may_begin_head c ≡ true → may_declare_using k c ≡ false → (v && begins_async_of c) ≡ false
+      → (x : Cover) → head_cover n (st c (without_in k) z f h) ≡ Ok (x, st d (without_in k) z (f ++ fs) (h ⊕ ns)) → declares_behind k d ≡ false
+      → opening (expr n) (pattern n) (head_cover n) v (st c k z f h) ≡ head_expression (expr n) (pattern n) (head_cover n) (st c k z f h)
+  head_stays v k c d z f fs h ns a u i x g o = opening_starts (expr n) (pattern n) (head_cover n) v (st c k z f h) a u i x (st d (without_in k) z (f ++ fs) (h ⊕ ns)) g o
 
   -- no expression before `;` begins with `using` before a name
   no_using_init : (k : Code) (x : Tree) (c d : Place) → ReadsClass n expression (without_in k) x c d → kind_at d ≡ kind.Semi → may_declare_using k c ≡ false
@@ -182,7 +272,7 @@ module _ (n : ℕ) (below : Below n) where
       record {
         value = Expression g.value;
         holds = λ s. covers.close_reads g.value s g.holds.1 ∙ rw g.holds.0 refl;
-        is = opening_starts (expr n) (pattern n) (head_cover n) false (st c k w f h) a (no_using_init k x c d r z) refl ∙ rw g.is refl;
+        is = head_stays false k c d w f (walk (env_of (without_in k) w.labels) x) h (notes_of x) a (no_using_init k x c d r z) refl g.value g.is (undeclared_unnamed k d (no_name_semicolon k.flags d z)) ∙ rw g.is refl;
       }
 
   -- ---- what takes each value
@@ -193,14 +283,14 @@ module _ (n : ℕ) (below : Below n) where
   name_reads k _ c d w f h i r = cc
 
   target_reads : (v : Bool) (k : Code) (x : Tree) (c d : Place) → may_begin_head c ≡ true → ReadsTarget n (without_in k) x c d → may_declare_using k c ≡ false → (v && begins_async_of c) ≡ false
-      → heads.Heads (without_in k) x d → ReadsAs (AsLeftSide x) (opening (expr n) (pattern n) (head_cover n) v) k x c d
+      → declares_behind k d ≡ false → heads.Heads (without_in k) x d → ReadsAs (AsLeftSide x) (opening (expr n) (pattern n) (head_cover n) v) k x c d
   unfolding head_expression
-  target_reads v k x c d a r u i e w f h =
+  target_reads v k x c d a r u i o e w f h =
       let g = below.targets (without_in k) x c d r e w f h in
       record {
         value = Expression g.value;
         holds = λ s. covers.target_reads g.value s x g.holds.1 g.holds.0;
-        is = opening_starts (expr n) (pattern n) (head_cover n) v (st c k w f h) a u i ∙ rw g.is refl;
+        is = head_stays v k c d w f (walk (env_of (without_in k) w.labels) x) h (notes_of x) a u i g.value g.is o ∙ rw g.is refl;
       }
 
   -- no target begins with `using` before a name that is not `of`, but this word alone
@@ -213,7 +303,7 @@ module _ (n : ℕ) (below : Below n) where
       → ReadsAs (AsLeftSide x) (opening (expr n) (pattern n) (head_cover n) false) k x c d
   opening_reads_in k x c d (declared_rule r) e w f h = record { value = Variables x; holds = λ s. refl; is = head_variables_read false k x c d w f h r }
   opening_reads_in k x c d (left_target_rule a r) e w f h =
-      target_reads false k x c d a r (no_using_target k x c d r (λ i. absurd (true≢false (sym i ∙ in_unnamed k.flags d e)))) refl (inl (e, refl)) w f h
+      target_reads false k x c d a r (no_using_target k x c d r (λ i. absurd (true≢false (sym i ∙ in_unnamed k.flags d e)))) refl (undeclared_unnamed k d (in_unnamed k.flags d e)) (inl (e, refl)) w f h
 
   -- `async` before `of` behind `for await`
   async_reads : (v : Bool) (k : Code) (x : Tree) (c d : Place) → may_begin_head c ≡ true → ReadsTarget n (without_in k) x c d → may_declare_using k c ≡ false → v ≡ true → begins_async_of c ≡ true
@@ -253,6 +343,52 @@ module _ (n : ℕ) (below : Below n) where
       }
   resource_reads v k _ x c d u r i e o w f h = cc
 
+  -- what `await using` declares, from the name on
+  resource_declared : (w : Bool) (k : Code) (s : Span) (text : Text) (c m d : Place) (z : Scope) (f : List Fault) (h : Notes) → ReadsPat n k (tree.ident_pat s text) m d → word_at (codes "of") d ≡ true
+      → using_head (expr n) (pattern n) w (span_at c) (st m k z f h)
+      ≡ Ok (Resource (tree.using (spanned c d) w (listed (tree.declarator (spanned m d) (tree.ident_pat s text) tree.absent ∷ []))), st d k z f h)
+  unfolding using_head undeclared spanned
+  resource_declared w k s text c m d z f h r o = rw (name_reads k (tree.ident_pat s text) m d z f h refl r, no_in d o) refl
+
+  await_step : (v : Bool) (k : Code) (c m : Place) (z : Scope) (f fs : List Fault) (h ns : Notes) (x : Cover) → head_cover n (st c (without_in k) z f h) ≡ Ok (x, st m (without_in k) z (f ++ fs) (h ⊕ ns))
+      → fs ≡ [] → ns ≡ no_notes → awaits_using x.x ≡ true → declares_behind k m ≡ true
+      → await_head (expr n) (pattern n) (head_cover n) (st c k z f h) ≡ using_head (expr n) (pattern n) true (span_at c) (st m k z f h)
+  await_step v k c m z f fs h ns x g p q a i =
+      await_goes (expr n) (pattern n) (head_cover n) v (st c k z f h) x (st m (without_in k) z (f ++ fs) (h ⊕ ns)) g a i ∙ ap (using_head (expr n) (pattern n) true (span_at c)) (nothing_added m k z f fs h ns p q)
+
+  -- the tree that is read, in the name that it has
+  named_so : (k : Code) (c m d : Place) (z : Scope) (f : List Fault) (h : Notes) (s : Span) (text : Text) (x : Tree)
+      → x ≡ tree.using (spanned c d) true (listed (tree.declarator (spanned m d) (tree.ident_pat s text) tree.absent ∷ []))
+      → ◌≡◌ {A = Outcome Opening} (Ok (Resource (tree.using (spanned c d) true (listed (tree.declarator (spanned m d) (tree.ident_pat s text) tree.absent ∷ []))), st d k z (f ++ []) (h ⊕ no_notes)))
+      (Ok (Resource x, st d k z (f ++ walk (env_of k z.labels) x) (h ⊕ notes_of x)))
+  named_so k c m d z f h s text x e = ap (λ y. Ok (Resource y, st d k z (f ++ walk (env_of k z.labels) y) (h ⊕ notes_of y))) (sym e)
+
+  named_reads : (v : Bool) (k : Code) (y : Tree) (s : Span) (text : Text) (x : Tree) (c m d : Place) → k.setting.explicit_resource_management ≡ true → ReadsClass n expression (without_in k) y c m
+      → awaits_using y ≡ true → word_at (codes "of") m ≡ false → ReadsPat n k (tree.ident_pat s text) m d
+      → x ≡ tree.using (spanned c d) true (listed (tree.declarator (spanned m d) (tree.ident_pat s text) tree.absent ∷ [])) → word_at (codes "of") d ≡ true
+      → ReadsAs (AsLeftSide x) (opening (expr n) (pattern n) (head_cover n) v) k x c d
+  named_reads v k y s text x c m d u r a b q e o w f h =
+      let t = awaited_words n (without_in k) y c m r.0 a in
+      let g = below.heads (without_in k) y c m r w f h in
+      let l = (names_stand n k (tree.ident_pat s text) m d q.0 refl q.1).1 in
+      record {
+        value = Resource x;
+        holds = λ s. refl;
+        is = opening_awaits (expr n) (pattern n) (head_cover n) v (st c k w f h) (await_begins_head c t.stands) (await_no_using k c t.stands) (seen c kind.Await t.stands)
+            ∙ await_step v k c m w f (walk (env_of (without_in k) w.labels) y) h (notes_of y) g.value g.is (awaited_walk y (without_in k) w.labels a) (awaited_notes y a) (ap awaits_using g.holds.0 ∙ a)
+            (declares_so k m u (bound_stands n k (tree.ident_pat s text) m d refl q.0) b (in_head (after m) (ap (word_at (codes "of")) (sym l) ∙ o)))
+            ∙ resource_declared true k s text c m d w f h q o
+            ∙ ap (λ z. Ok (Resource (tree.using (spanned c d) true (listed (tree.declarator (spanned m d) (tree.ident_pat s text) tree.absent ∷ []))), z)) (sym (nothing_added d k w f [] h no_notes refl refl))
+            ∙ named_so k c m d w f h s text x e;
+      }
+
+  awaited_reads : (v : Bool) (k : Code) (y name x : Tree) (c m d : Place) → k.setting.explicit_resource_management ≡ true → ReadsClass n expression (without_in k) y c m → awaits_using y ≡ true
+      → word_at (codes "of") m ≡ false → ReadsPat n k name m d → is_binding_name name ≡ true → x ≡ tree.using (spanned c d) true (listed (tree.declarator (spanned m d) name tree.absent ∷ []))
+      → word_at (codes "of") d ≡ true → ReadsAs (AsLeftSide x) (opening (expr n) (pattern n) (head_cover n) v) k x c d
+  awaited_reads v k y name x c m d u r a b q i e o = let z = name_shape name i in
+      named_reads v k y z.span z.text x c m d u r a b (subst (λ p. ReadsPat n k p m d) z.is q)
+      (e ∙ ap (λ p. tree.using (spanned c d) true (listed (tree.declarator (spanned m d) p tree.absent ∷ []))) z.is) o
+
   -- behind it `of` stands, and no `=>` behind that
   pub opening_reads_of : (v : Bool) (k : Code) (x : Tree) (c d : Place) → OfLeftRule (ReadsClass n) (ReadsPat n) (ReadsTarget n) k v x c d → word_at (codes "of") d ≡ true → sees kind.Arrow (after d) ≡ false
       → ReadsAs (AsLeftSide x) (opening (expr n) (pattern n) (head_cover n) v) k x c d
@@ -264,5 +400,6 @@ module _ (n : ℕ) (below : Below n) where
 
       by_test : (t : Bool) → (v && begins_async_of c) ≡ t → Gets (AsLeftSide x) (opening (expr n) (pattern n) (head_cover n) v (st c k w f h)) (st d k w (f ++ walk (env_of k w.labels) x) (h ⊕ notes_of x))
       by_test true e = let g = and_yes v (begins_async_of c) e in async_reads v k x c d b r u g.0 g.1 w f h
-      by_test false e = target_reads v k x c d b r u e (inr (o, elsewhere n v (without_in k) x c d r.0 o a i e)) w f h
+      by_test false e = target_reads v k x c d b r u e (undeclared_of k d o) (inr (o, elsewhere n v (without_in k) x c d r.0 o a i e)) w f h
   opening_reads_of v k x c d (of_using_rule name u r i e) o a w f h = resource_reads v k name x c d u r i e o w f h
+  opening_reads_of v k x c d (of_await_rule y name m u r a b q i e) o z w f h = awaited_reads v k y name x c m d u r a b q i e o w f h

@@ -12,7 +12,7 @@ use Rattle.swc_ecma_parser_reader.specs.Notes.{no_notes, Notes, held, ◌⊕◌,
 use Rattle.swc_ecma_parser_grammar.proofs.Tests.{and_yes}
 use Rattle.swc_ecma_parser_grammar.proofs.Marks.{name_before_colon}
 use Rattle.swc_ecma_parser_grammar.specs.Names.{is_name, is_reserved, name_at, is_clean_name, is_identifier, Code}
-use Rattle.swc_ecma_parser_reader.specs.Reader.{begins_label, note_with, expr, pattern, told, target, unbroken, break_stmt, uncontinued, continue_stmt, misplaced, operand, returned, return_stmt, empty, debugger, initialized, declarator, declarators_turn, declarators, variables, closes, at_end, close, directs, items_turn, items, note_statement, no_label, expr_stmt, optional_end, import_stmt, thrown, throw, head, condition, begins_clause, closes_clause, shebang_of, shebang_in, shebang, misusing, using_from, using_stmt}
+use Rattle.swc_ecma_parser_reader.specs.Reader.{begins_label, note_with, expr, pattern, told, target, unbroken, break_stmt, uncontinued, continue_stmt, misplaced, operand, returned, return_stmt, empty, debugger, initialized, declarator, declarators_turn, declarators, variables, closes, at_end, close, directs, items_turn, items, note_statement, no_label, expr_stmt, optional_end, import_stmt, thrown, throw, head, condition, begins_clause, closes_clause, shebang_of, shebang_in, shebang, misusing, using_from, using_stmt, await_using_stmt, nests}
 use Rattle.std.specs.Prelude.{◌&&◌, ◌||◌, codes}
 use Rattle.swc_ecma_parser_common.specs.declared.span.Span.{Span}
 use Rattle.swc_ecma_parser_error.specs.Kind as faults
@@ -218,6 +218,22 @@ pub using_reads : (n : ℕ) (below : Below n) (xs : List Tree) (k : Code) (x : T
     → Reads (using_stmt (declarators (expr n) (pattern n) false decl.Var)) k x c d
 unfolding using_stmt using_from misusing declarators spanned
 using_reads n below xs k x c d r e g w f h = rw (many_declarators n below false decl.Var xs [] (with_in k) (after c) d w f h r, e, g) refl
+
+pub await_using_reads : (n : ℕ) (below : Below n) (xs : List Tree) (k : Code) (x : Tree) (c d : Place)
+    → ReadsSeparated (DeclaratorRule (ReadsClass n assignment) (ReadsPat n) (with_in k) false decl.Var) xs (after (after c)) d
+    → using_faults k.setting.explicit_resource_management (spanned c d) xs ≡ [] → x ≡ tree.using (spanned c d) true (listed xs)
+    → Reads (await_using_stmt (declarators (expr n) (pattern n) false decl.Var)) k x c d
+unfolding await_using_stmt using_from misusing declarators spanned
+await_using_reads n below xs k x c d r e g w f h = rw (many_declarators n below false decl.Var xs [] (with_in k) (after (after c)) d w f h r, e, g) refl
+
+-- where a declarator is read, a part of it can be
+pub declarators_nest : (n : ℕ) (k : Code) (xs : List Tree) (c d : Place) → ReadsSeparated (DeclaratorRule (ReadsClass n assignment) (ReadsPat n) k false decl.Var) xs c d → nests n ≡ true
+declarators_nest (suc n) k xs c d r = refl
+declarators_nest zero k [] c d r = absurd r
+declarators_nest zero k (x ∷ []) c d (plain_rule p r e b g, o) = absurd r.0
+declarators_nest zero k (x ∷ []) c d (initialized_rule p y m r e s g, o) = absurd r.0
+declarators_nest zero k (x ∷ y ∷ ys) c d (m, plain_rule p r e b g, o, rs) = absurd r.0
+declarators_nest zero k (x ∷ y ∷ ys) c d (m, initialized_rule p z i r e s g, o, rs) = absurd r.0
 
 -- ---- statements one behind another
 

@@ -10,7 +10,7 @@ use Rattle.swc_ecma_parser_reader.proofs.decorators.Falls.{decorated_falls}
 use Rattle.swc_ecma_parser_reader.proofs.decorators.Taking.{either_falls}
 use Rattle.swc_ecma_parser_reader.specs.State.{Scope, and_then, below, relabelled, below_label, enclosed, unlabelled, fault_at, noted, module_found, reference, State, Outcome, Reader, moved, coded, within, fault, labelled, labelled_as, name, expect, end}
 use Rattle.swc_ecma_parser_grammar.specs.language.Items.{labelled_item, sub_statement}
-use Rattle.swc_ecma_parser_reader.specs.Reader.{begins_label, relabels, labelled_body, labeled_stmt, other_stmt, note_with, with_stmt, await_here, unless_awaited, function_body, function_decl, function_parts, function_stmt, misdirected, function_word, async_or_other, missing_initializer, Opening, Nothing, Variables, Expression, as_init, as_left, head_variables, head_expression, opening, head_part, misdeclared, for_parts, for_in, for_of, for_behind, for_stmt, const_stmt, let_stmt, no_parameter, one_parameter, getter, setter, plain_method, arrow_block, function_by, named, own_name, function_expr, expr, cover, head_cover, pattern, element, decorated_in, member, function, empty, debugger, uninitialized, initialized, declarator, declarators_turn, declarators, variables, closes, at_end, close, items_turn, items, block_from, block, braced, note_statement, no_label, expr_stmt, expr_stmt_at, told, target, unbroken, break_stmt, uncontinued, continue_stmt, misplaced, after_return, operand, returned, return_stmt, optional_end, import_stmt, import_stmt_at, thrown, throw, head, while_stmt, do_while, Link, goes_on, condition, alternative, link_from, link, behind_link, links, if_stmt, begins_clause, closes_clause, Clauses, clause_from, default_clause, case_clause, clause, clauses_turn, clauses, switch_stmt, is_handled, handled, bound, parameter, finalizer, caught, handler, try_stmt, stmt_by, stmt_level, stmt, top_await_fault, top_await, whole_stmt, shebang_in, shebang_taken, shebang, script_body, script, misusing, using_from, using_stmt, using_or_other, Resource, Named, undeclared, using_head, named_head, async_head, unfollowed, async_or_expression, head_target}
+use Rattle.swc_ecma_parser_reader.specs.Reader.{begins_label, relabels, labelled_body, labeled_stmt, other_stmt, note_with, with_stmt, await_here, unless_awaited, function_body, function_decl, function_parts, function_stmt, misdirected, function_word, async_or_other, missing_initializer, Opening, Nothing, Variables, Expression, as_init, as_left, head_variables, head_expression, opening, head_part, misdeclared, for_parts, for_in, for_of, for_behind, for_stmt, const_stmt, let_stmt, no_parameter, one_parameter, getter, setter, plain_method, arrow_block, function_by, named, own_name, function_expr, expr, cover, head_cover, pattern, element, decorated_in, member, function, empty, debugger, uninitialized, initialized, declarator, declarators_turn, declarators, variables, closes, at_end, close, items_turn, items, block_from, block, braced, note_statement, no_label, expr_stmt, expr_stmt_at, told, target, unbroken, break_stmt, uncontinued, continue_stmt, misplaced, after_return, operand, returned, return_stmt, optional_end, import_stmt, import_stmt_at, thrown, throw, head, while_stmt, do_while, Link, goes_on, condition, alternative, link_from, link, behind_link, links, if_stmt, begins_clause, closes_clause, Clauses, clause_from, default_clause, case_clause, clause, clauses_turn, clauses, switch_stmt, is_handled, handled, bound, parameter, finalizer, caught, handler, try_stmt, stmt_by, stmt_level, stmt, top_await_fault, top_await, whole_stmt, shebang_in, shebang_taken, shebang, script_body, script, misusing, using_from, using_stmt, using_or_other, Resource, Named, undeclared, using_head, named_head, await_or_expression, await_head, async_head, unfollowed, async_or_expression, head_target}
 use Rattle.swc_ecma_parser_grammar.specs.language.Contexts.{without_in, named_by, in_body, in_arrow, in_parameters, in_loop, in_breakable, in_with}
 use Rattle.swc_ecma_parser_grammar.specs.Variables.{is_const, needs_no_initializer}
 use Rattle.swc_ecma_parser_model.specs.declared.leaves.VarDeclKind.{VarDeclKind}
@@ -37,9 +37,10 @@ use Rattle.swc_ecma_parser_reader.specs.Reader as reader
 use Rattle.swc_ecma_parser_reader.specs.Methods.{MethodForm, getter_form, setter_form, method_form, property_form, star}
 use Rattle.swc_ecma_parser_grammar.specs.Names.{name_at}
 use Rattle.swc_ecma_parser_reader.proofs.Takes.{Falls, falls_where, falls_choice, labelled_falls, falls_then, falls_last, falls_coded, falls_found, falls_if, less, falls_next, moves, takes, falls_past, falls_moved, wanted_falls, too_deep_falls, refuse_falls, refused_falls, fewer, name_falls, fault_falls, end_falls, close_falls, expect_falls, loop_falls, reference_falls}
+use Rattle.swc_ecma_parser_reader.proofs.First.{first_falls}
 use Rattle.swc_ecma_parser_reader.proofs.expressions.Falls as exprs
 use Rattle.swc_ecma_parser_reader.proofs.expressions.Falls.{reject_falls, falls_when, expect_takes, star_falls, told_falls, FunctionsFall}
-use Rattle.swc_ecma_parser_grammar.specs.Using.{is_using_declaration, may_declare_using, stands_in_head}
+use Rattle.swc_ecma_parser_grammar.specs.Using.{is_using_declaration, may_declare_using, awaits_using, declares_behind, stands_in_head}
 use Rattle.swc_ecma_parser_grammar.proofs.Using.{using_stands}
 use Rattle.swc_ecma_parser_grammar.proofs.Tests.{and_yes}
 
@@ -301,23 +302,26 @@ module _ (inner : Reader Tree) (h : (s : State) → Falls 1 (length s.at.left) (
   head_expression_falls : (s : State) → Falls 0 (length s.at.left) (head_expression inner_expr inner_pat inner_cover s)
   unfolding head_expression
   head_expression_falls s = falls_last 0 (length s.at.left) (within without_in inner_cover s) _
-      (falls_coded 0 (length s.at.left) (inner_cover (coded (without_in s.code) s)) _ _
-      (less (length s.at.left) (inner_cover (coded (without_in s.code) s)) (j (coded (without_in s.code) s))))
+      (falls_coded 0 (length s.at.left) (inner_cover (coded (without_in s.code) s)) _ _ (less (length s.at.left) (inner_cover (coded (without_in s.code) s)) (j (coded (without_in s.code) s))))
 
-  using_head_falls : (start : Span) (s : State) → Falls 0 (length s.at.left) (using_head inner_expr inner_pat start s)
+  using_head_falls : (is_await : Bool) (start : Span) (s : State) → Falls 0 (length s.at.left) (using_head inner_expr inner_pat is_await start s)
   unfolding using_head undeclared
-  using_head_falls start s = falls_then 0 0 (length s.at.left) (inner_pat s) _ (less (length s.at.left) (inner_pat s) (i s)) (λ name t.
-      falls_last 0 (length t.at.left) (undeclared (record { lo = start.lo; hi = t.at.last.hi }) t) _ (told_falls _ t))
+  using_head_falls is_await start s = falls_then 0 0 (length s.at.left) (inner_pat s) _ (less (length s.at.left) (inner_pat s) (i s)) (λ name t. falls_last 0 (length t.at.left) (undeclared (record { lo = start.lo; hi = t.at.last.hi }) t) _ (told_falls _ t))
 
   named_head_falls : (s : State) → Falls 0 (length s.at.left) (named_head inner_expr inner_pat s)
   unfolding named_head
   named_head_falls s = falls_then 0 0 (length s.at.left) (inner_pat s) _ (less (length s.at.left) (inner_pat s) (i s)) (λ p t.
-      falls_if 0 (length t.at.left) (stands_in_head (after t.at)) _ _ (using_head_falls (span_at s.at) t) (omega arith))
+      falls_if 0 (length t.at.left) (stands_in_head (after t.at)) _ _ (using_head_falls false (span_at s.at) t) (omega arith))
+
+  await_head_falls : (s : State) → Falls 0 (length s.at.left) (await_head inner_expr inner_pat inner_cover s)
+  unfolding await_head await_or_expression
+  await_head_falls s = falls_then 0 0 (length s.at.left) (within without_in inner_cover s) _
+      (falls_coded 0 (length s.at.left) (inner_cover (coded (without_in s.code) s)) _ _ (less (length s.at.left) (inner_cover (coded (without_in s.code) s)) (j (coded (without_in s.code) s)))) (λ v t.
+      falls_if 0 (length t.at.left) (awaits_using v.x && declares_behind t.code t.at) _ _ (using_head_falls true (span_at s.at) t) (omega arith))
 
   async_head_falls : (s : State) → Falls 0 (length s.at.left) (async_head inner_expr inner_pat s)
   unfolding async_head
-  async_head_falls s = falls_last 0 (length s.at.left) (within without_in inner_pat s) _
-      (falls_coded 0 (length s.at.left) (inner_pat (coded (without_in s.code) s)) _ _ (less (length s.at.left) (inner_pat (coded (without_in s.code) s)) (i (coded (without_in s.code) s))))
+  async_head_falls s = falls_last 0 (length s.at.left) (within without_in inner_pat s) _ (falls_coded 0 (length s.at.left) (inner_pat (coded (without_in s.code) s)) _ _ (less (length s.at.left) (inner_pat (coded (without_in s.code) s)) (i (coded (without_in s.code) s))))
 
   head_target_falls : (w : Bool) (s : State) → Falls 0 (length s.at.left) (head_target inner_expr inner_pat inner_cover w s)
   unfolding head_target async_or_expression
@@ -325,11 +329,9 @@ module _ (inner : Reader Tree) (h : (s : State) → Falls 1 (length s.at.left) (
 
   opening_falls : (w : Bool) (s : State) → Falls 0 (length s.at.left) (opening inner_expr inner_pat inner_cover w s)
   unfolding opening
-  opening_falls w s = falls_if 0 (length s.at.left) (sees kind.Semi s.at) _ _ (omega arith)
-      (falls_if 0 (length s.at.left) (sees kind.Var s.at) _ _ (head_variables_falls decl.Var s)
-      (falls_if 0 (length s.at.left) (sees kind.Const s.at) _ _ (head_variables_falls decl.Const s)
-      (falls_if 0 (length s.at.left) (is_let_declaration s.at) _ _ (head_variables_falls decl.Let s)
-      (falls_if 0 (length s.at.left) (may_declare_using s.code s.at) _ _ (named_head_falls s) (head_target_falls w s)))))
+  opening_falls w s = falls_if 0 (length s.at.left) (sees kind.Semi s.at) _ _ (omega arith) (falls_if 0 (length s.at.left) (sees kind.Var s.at) _ _ (head_variables_falls decl.Var s)
+      (falls_if 0 (length s.at.left) (sees kind.Const s.at) _ _ (head_variables_falls decl.Const s) (falls_if 0 (length s.at.left) (is_let_declaration s.at) _ _ (head_variables_falls decl.Let s)
+      (falls_if 0 (length s.at.left) (may_declare_using s.code s.at) _ _ (named_head_falls s) (falls_if 0 (length s.at.left) (sees kind.Await s.at) _ _ (await_head_falls s) (head_target_falls w s))))))
 
   head_part_falls : (behind : TokenKind) (s : State) → Falls 0 (length s.at.left) (head_part behind (inner_expr expression) s)
   unfolding head_part
@@ -729,8 +731,10 @@ all_taken (suc n) = let b = all_taken n in record {
   members = classes.member_level_falls (expr n) b.exprs (cover n) b.covers (stmt n nested_item) (reader.parameters n) (parameters_taken n b)
       (function_body_falls (stmt n nested_item) (b.stmts nested_item) (reader.parameters n) (parameters_taken n b)) (braced_takes (stmt n nested_item) (b.stmts nested_item) false)
       (decorated_in n) b.decorateds;
-  stmts = λ at. either_falls (stmt_level (stmt n) (expr n) (pattern n) (head_cover n) (reader.parameters n) (member n)) at
-      (stmt_level_falls (stmt n) b.stmts (expr n) b.exprs (pattern n) b.patterns (head_cover n) b.heads (reader.parameters n) (parameters_taken n b) (member n) b.members at) (decorated_in n) b.decorateds;
+  stmts = λ at. either_falls (reader.plain_stmt n) at
+      (λ s. first_falls (declarators (expr n) (pattern n) false decl.Var) (reader.nests n) (stmt_level (stmt n) (expr n) (pattern n) (head_cover n) (reader.parameters n) (member n)) at
+      (declarators_fall (expr n) b.exprs (pattern n) b.patterns false decl.Var) s
+      (stmt_level_falls (stmt n) b.stmts (expr n) b.exprs (pattern n) b.patterns (head_cover n) b.heads (reader.parameters n) (parameters_taken n b) (member n) b.members at s)) (decorated_in n) b.decorateds;
 }
 
 -- an expression of any class takes a token, and so does what may still become a pattern

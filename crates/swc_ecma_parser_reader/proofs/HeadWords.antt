@@ -87,7 +87,7 @@ state_of : {A : Type 0} → Outcome A → State → State
 state_of (Ok p) t = p.1
 state_of (Err e) t = t
 
-answered : {A : Type 0} (o : Outcome A) (a b : A) (t u : State) → o ≡ Ok (a, t) → o ≡ Ok (b, u) → t ≡ u
+pub answered : {A : Type 0} (o : Outcome A) (a b : A) (t u : State) → o ≡ Ok (a, t) → o ≡ Ok (b, u) → t ≡ u
 unfolding state_of
 answered o a b t u h g = ap (λ r. state_of r t) (sym h ∙ g)
 

@@ -4,9 +4,10 @@ use Rattle.swc_ecma_parser_grammar.specs.Parameters.{parameters}
 use Rattle.swc_ecma_parser_reader.proofs.patterns.Keeps as patterns
 use Rattle.swc_ecma_parser_reader.proofs.expressions.Keeps as expressions
 use Rattle.swc_ecma_parser_reader.specs.Reader as reader
+use Rattle.swc_ecma_parser_reader.proofs.First.{first_keeps}
 use Rattle.swc_ecma_parser_reader.proofs.expressions.Keeps.{star_keeps, told_keeps}
 use Rattle.swc_ecma_parser_reader.specs.Methods.{FunctionForm, expression_form, class_form, property_form, getter_form, setter_form, method_form, parameter_form, block_form, star}
-use Rattle.swc_ecma_parser_reader.specs.Reader.{no_parameter, one_parameter, getter, setter, plain_method, arrow_block, function_by, named, own_name, function_expr, expr, cover, head_cover, pattern, element, decorated_in, member, function, function_word, async_or_other, begins_label, relabels, labelled_body, labeled_stmt, other_stmt, note_with, with_stmt, await_here, unless_awaited, function_decl, function_stmt, function_parts, function_body, misdirected, missing_initializer, variables, Opening, Nothing, Variables, Expression, as_init, as_left, head_variables, head_expression, opening, head_part, misdeclared, for_parts, for_in, for_of, for_behind, for_stmt, const_stmt, let_stmt, empty, debugger, initialized, declarator, declarators_turn, declarators, closes, at_end, close, items_turn, items, block_from, block, braced, note_statement, no_label, expr_stmt, expr_stmt_at, optional_end, import_stmt, import_stmt_at, told, target, unbroken, break_stmt, uncontinued, continue_stmt, misplaced, after_return, operand, returned, return_stmt, thrown, throw, head, while_stmt, do_while, goes_on, condition, alternative, link_from, link, links, if_stmt, begins_clause, closes_clause, clause_from, default_clause, case_clause, clause, clauses_turn, clauses, switch_stmt, begins_at, is_handled, handled, bound, parameter, finalizer, caught, handler, try_stmt, stmt_by, stmt_level, stmt, top_await_fault, top_await, whole_stmt, shebang, script_body, script, misusing, using_from, using_stmt, using_or_other, Resource, Named, undeclared, using_head, named_head, async_head, unfollowed, async_or_expression, head_target}
+use Rattle.swc_ecma_parser_reader.specs.Reader.{no_parameter, one_parameter, getter, setter, plain_method, arrow_block, function_by, named, own_name, function_expr, expr, cover, head_cover, pattern, element, decorated_in, member, function, function_word, async_or_other, begins_label, relabels, labelled_body, labeled_stmt, other_stmt, note_with, with_stmt, await_here, unless_awaited, function_decl, function_stmt, function_parts, function_body, misdirected, missing_initializer, variables, Opening, Nothing, Variables, Expression, as_init, as_left, head_variables, head_expression, opening, head_part, misdeclared, for_parts, for_in, for_of, for_behind, for_stmt, const_stmt, let_stmt, empty, debugger, initialized, declarator, declarators_turn, declarators, closes, at_end, close, items_turn, items, block_from, block, braced, note_statement, no_label, expr_stmt, expr_stmt_at, optional_end, import_stmt, import_stmt_at, told, target, unbroken, break_stmt, uncontinued, continue_stmt, misplaced, after_return, operand, returned, return_stmt, thrown, throw, head, while_stmt, do_while, goes_on, condition, alternative, link_from, link, links, if_stmt, begins_clause, closes_clause, clause_from, default_clause, case_clause, clause, clauses_turn, clauses, switch_stmt, begins_at, is_handled, handled, bound, parameter, finalizer, caught, handler, try_stmt, stmt_by, stmt_level, stmt, top_await_fault, top_await, whole_stmt, shebang, script_body, script, misusing, using_from, using_stmt, using_or_other, Resource, Named, undeclared, using_head, named_head, await_or_expression, await_head, async_head, unfollowed, async_or_expression, head_target}
 use Rattle.swc_ecma_parser_grammar.specs.Names.{name_at}
 use Rattle.swc_ecma_parser_error.specs.declared.error.Error.{Error}
 use Rattle.swc_ecma_parser_grammar.specs.language.Programs.{at_top}
@@ -46,7 +47,7 @@ use Rattle.swc_ecma_parser_reader.proofs.Meets.{Answers, answers_then, answers_i
 use Rattle.swc_ecma_parser_reader.proofs.Behind.{NothingLost, Kept, Lost, Passes, Follows, follows, behind_self, behind_after, behind_noted, behind_held, refused_keeps, too_deep_keeps, fault_keeps, wanted_keeps, refuse_keeps, reject_keeps, end_keeps, expect_keeps, close_keeps, shebang_keeps, name_keeps, loop_keeps, reference_keeps}
 use Rattle.swc_ecma_parser_reader.specs.Entry.{unmarked, IsBehind, IsSetBack, AnswersScript, AnswersStatement, Stays}
 use Rattle.swc_ecma_parser_reader.proofs.Opens.{chain_goes}
-use Rattle.swc_ecma_parser_grammar.specs.Using.{is_using_declaration, may_declare_using, stands_in_head}
+use Rattle.swc_ecma_parser_grammar.specs.Using.{is_using_declaration, may_declare_using, awaits_using, declares_behind, stands_in_head}
 
 -- ---- statements
 
@@ -434,15 +435,21 @@ module _ (inner : Position → Reader Tree) (inner_expr : Class → Reader Tree)
       (answers_then (Kept b) _ (declarators inner_expr inner_pat true word (coded (head_code word t.code) (moved t))) _
       (declarators_keeps inner_expr inner_pat below_expr below_pat b true word (coded (head_code word t.code) (moved t)) (behind_after b t g)) (λ x u k. k)) (λ x u k. k)
 
-  using_head_keeps : (start : Span) (t : State) → NothingLost b t → Answers (Kept b) (Lost b) (using_head inner_expr inner_pat start t)
+  using_head_keeps : (is_await : Bool) (start : Span) (t : State) → NothingLost b t → Answers (Kept b) (Lost b) (using_head inner_expr inner_pat is_await start t)
   unfolding using_head undeclared
-  using_head_keeps start t g = answers_then _ _ (inner_pat t) _ (below_pat b t g) (λ name u k.
+  using_head_keeps is_await start t g = answers_then _ _ (inner_pat t) _ (below_pat b t g) (λ name u k.
       answers_then (Kept b) _ (undeclared (record { lo = start.lo; hi = u.at.last.hi }) u) _ (told_keeps b _ u k) (λ _ v j. j))
 
   named_head_keeps : (t : State) → NothingLost b t → Answers (Kept b) (Lost b) (named_head inner_expr inner_pat t)
   unfolding named_head
   named_head_keeps t g = answers_then _ _ (inner_pat t) _ (below_pat b t g) (λ p u k.
-      answers_if _ _ (stands_in_head (after u.at)) _ _ (λ _. using_head_keeps (span_at t.at) u k) (λ _. k))
+      answers_if _ _ (stands_in_head (after u.at)) _ _ (λ _. using_head_keeps false (span_at t.at) u k) (λ _. k))
+
+  await_head_keeps : (t : State) → NothingLost b t → Answers (Kept b) (Lost b) (await_head inner_expr inner_pat inner_head t)
+  unfolding await_head await_or_expression
+  await_head_keeps t g = answers_then _ _ (within without_in inner_head t) _
+      (answers_then (Kept b) _ (inner_head (coded (without_in t.code) t)) _ (below_head b (coded (without_in t.code) t) g) (λ v u k. k)) (λ v u k.
+      answers_if _ _ (awaits_using v.x && declares_behind u.code u.at) _ _ (λ _. using_head_keeps true (span_at t.at) u k) (λ _. k))
 
   async_head_keeps : (t : State) → NothingLost b t → Answers (Kept b) (Lost b) (async_head inner_expr inner_pat t)
   unfolding async_head
@@ -465,7 +472,8 @@ module _ (inner : Position → Reader Tree) (inner_expr : Class → Reader Tree)
       (λ _. answers_if _ _ (sees kind.Const t.at) _ _ (λ _. head_variables_keeps decl.Const t g)
       (λ _. answers_if _ _ (is_let_declaration t.at) _ _ (λ _. head_variables_keeps decl.Let t g)
       (λ _. answers_if _ _ (may_declare_using t.code t.at) _ _ (λ _. named_head_keeps t g)
-      (λ _. head_target_keeps w t g)))))
+      (λ _. answers_if _ _ (sees kind.Await t.at) _ _ (λ _. await_head_keeps t g)
+      (λ _. head_target_keeps w t g))))))
 
   head_part_keeps : (j : TokenKind) (t : State) → NothingLost b t → Answers (Kept b) (Lost b) (head_part j (inner_expr expression) t)
   unfolding head_part
@@ -636,6 +644,9 @@ module _ (inner : Position → Reader Tree) (inner_expr : Class → Reader Tree)
 
 -- ---- all levels
 
+pub declarators_keeps_all : (inner_expr : Class → Reader Tree) (inner_pat : Reader Tree) → ((class : Class) → Passes (inner_expr class)) → Passes inner_pat → Passes (declarators inner_expr inner_pat false decl.Var)
+declarators_keeps_all inner_expr inner_pat e p b s f = declarators_keeps inner_expr inner_pat e p b false decl.Var s f
+
 record Passing (n : ℕ) : Type 0 where
   exprs : (class : Class) → Passes (expr n class)
   covers : Passes (cover n)
@@ -681,8 +692,10 @@ all_passing (suc n) = let a = all_passing n in record {
   members = classes.member_level_keeps (expr n) (cover n) (stmt n nested_item) (reader.parameters n) a.exprs a.covers (parameters_passing n a)
       (function_body_keep (stmt n nested_item) (a.stmts nested_item) (reader.parameters n) (parameters_passing n a)) (braces_keep (stmt n nested_item) (a.stmts nested_item) false)
       (decorated_in n) a.decorateds;
-  stmts = λ at. either_keeps (stmt_level (stmt n) (expr n) (pattern n) (head_cover n) (reader.parameters n) (member n)) at
-      (λ b s f. level_keeps (stmt n) (expr n) (pattern n) (head_cover n) (reader.parameters n) (member n) a.stmts a.exprs a.patterns a.heads (parameters_passing n a) a.members at b s f) (decorated_in n) a.decorateds;
+  stmts = λ at. either_keeps (reader.plain_stmt n) at
+      (λ b s f. first_keeps (declarators (expr n) (pattern n) false decl.Var) (reader.nests n) (stmt_level (stmt n) (expr n) (pattern n) (head_cover n) (reader.parameters n) (member n)) at
+      (declarators_keeps_all (expr n) (pattern n) a.exprs a.patterns) b s f
+      (level_keeps (stmt n) (expr n) (pattern n) (head_cover n) (reader.parameters n) (member n) a.stmts a.exprs a.patterns a.heads (parameters_passing n a) a.members at b s f)) (decorated_in n) a.decorateds;
 }
 
 -- a statement, and what it is made of

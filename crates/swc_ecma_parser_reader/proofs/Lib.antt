@@ -25,8 +25,11 @@ pub mod Answered
 pub mod Below
 pub mod Using
 pub mod HeadWords
+pub mod AwaitWords
 pub mod CompleteParts
 mod CompleteFor
+mod CompleteFirst
+pub mod First
 pub mod Complete
 pub mod CompleteScripts
 pub mod Unique

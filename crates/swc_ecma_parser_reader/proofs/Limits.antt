@@ -9,7 +9,7 @@ use Rattle.swc_ecma_parser_reader.proofs.decorators.Limits.{decorated_shallow}
 use Rattle.swc_ecma_parser_reader.proofs.decorators.Taking.{either_shallow}
 use Rattle.swc_ecma_parser_reader.specs.Reader as reader
 use Rattle.swc_ecma_parser_reader.specs.Methods.{MethodForm, getter_form, setter_form, method_form, property_form, star}
-use Rattle.swc_ecma_parser_reader.specs.Reader.{no_parameter, one_parameter, getter, setter, plain_method, arrow_block, function_by, named, own_name, function_expr, expr, cover, head_cover, pattern, element, decorated_in, member, function, function_word, async_or_other, begins_label, relabels, labelled_body, labeled_stmt, other_stmt, note_with, with_stmt, await_here, unless_awaited, function_decl, function_stmt, function_parts, function_body, misdirected, missing_initializer, variables, Opening, Nothing, Variables, Expression, as_init, as_left, head_variables, head_expression, opening, head_part, misdeclared, for_parts, for_in, for_of, for_behind, for_stmt, const_stmt, let_stmt, empty, debugger, initialized, declarator, declarators_turn, declarators, closes, at_end, close, items_turn, items, block_from, block, braced, note_statement, no_label, expr_stmt, expr_stmt_at, optional_end, import_stmt, import_stmt_at, told, target, unbroken, break_stmt, uncontinued, continue_stmt, misplaced, after_return, operand, returned, return_stmt, thrown, throw, head, while_stmt, do_while, goes_on, condition, alternative, link_from, link, links, if_stmt, begins_clause, closes_clause, clause_from, default_clause, case_clause, clause, clauses_turn, clauses, switch_stmt, begins_at, is_handled, handled, bound, parameter, finalizer, caught, handler, try_stmt, stmt_by, stmt_level, stmt, top_await_fault, top_await, whole_stmt, shebang, script_body, script, misusing, using_from, using_stmt, using_or_other, Resource, Named, undeclared, using_head, named_head, async_head, unfollowed, async_or_expression, head_target}
+use Rattle.swc_ecma_parser_reader.specs.Reader.{no_parameter, one_parameter, getter, setter, plain_method, arrow_block, function_by, named, own_name, function_expr, expr, cover, head_cover, pattern, element, decorated_in, member, function, function_word, async_or_other, begins_label, relabels, labelled_body, labeled_stmt, other_stmt, note_with, with_stmt, await_here, unless_awaited, function_decl, function_stmt, function_parts, function_body, misdirected, missing_initializer, variables, Opening, Nothing, Variables, Expression, as_init, as_left, head_variables, head_expression, opening, head_part, misdeclared, for_parts, for_in, for_of, for_behind, for_stmt, const_stmt, let_stmt, empty, debugger, initialized, declarator, declarators_turn, declarators, closes, at_end, close, items_turn, items, block_from, block, braced, note_statement, no_label, expr_stmt, expr_stmt_at, optional_end, import_stmt, import_stmt_at, told, target, unbroken, break_stmt, uncontinued, continue_stmt, misplaced, after_return, operand, returned, return_stmt, thrown, throw, head, while_stmt, do_while, goes_on, condition, alternative, link_from, link, links, if_stmt, begins_clause, closes_clause, clause_from, default_clause, case_clause, clause, clauses_turn, clauses, switch_stmt, begins_at, is_handled, handled, bound, parameter, finalizer, caught, handler, try_stmt, stmt_by, stmt_level, stmt, top_await_fault, top_await, whole_stmt, shebang, script_body, script, misusing, using_from, using_stmt, using_or_other, Resource, Named, undeclared, using_head, named_head, await_or_expression, await_head, async_head, unfollowed, async_or_expression, head_target}
 use Rattle.swc_ecma_parser_grammar.specs.Names.{name_at}
 use Rattle.swc_ecma_parser_reader.proofs.Meets.{saw, Answers, answers_then, answers_if, loop_answers, meant}
 use Rattle.swc_ecma_parser_model.specs.Tree.{Text, Tree}
@@ -49,11 +49,12 @@ use Rattle.swc_ecma_parser_reader.specs.Expressions.{Cover}
 use Rattle.swc_ecma_parser_reader.specs.Limits.{has_too_deep_token}
 use Rattle.swc_ecma_parser_reader.proofs.Shallow.{StmtLevels, Fine, fine_more, fine_after, fine_taken, Shallow, Kept, Taken, too_deep_shallow, name_shallow, fault_shallow, wanted_shallow, refuse_shallow, end_shallow, expect_shallow, close_shallow, shebang_shallow, Levels, reference_shallow}
 use Rattle.swc_ecma_parser_reader.proofs.Opens.{chain_goes}
+use Rattle.swc_ecma_parser_reader.proofs.First.{first_shallow}
 use Rattle.swc_ecma_parser_reader.proofs.expressions.LimitSteps.{reject_shallow, told_shallow}
 use Rattle.swc_ecma_parser_reader.proofs.expressions.Limits.{star_shallow, FunctionsShallow}
 use Rattle.swc_ecma_parser_reader.proofs.classes.Limits as classes
 use Rattle.swc_ecma_parser_reader.specs.Members.{class_expr}
-use Rattle.swc_ecma_parser_grammar.specs.Using.{is_using_declaration, may_declare_using, stands_in_head}
+use Rattle.swc_ecma_parser_grammar.specs.Using.{is_using_declaration, may_declare_using, awaits_using, declares_behind, stands_in_head}
 
 -- ---- statements: one level more, for an expression that begins with the same token
 
@@ -482,25 +483,27 @@ module _ (inner : Position → Reader Tree) (inner_expr : Class → Reader Tree)
       (answers_then (Kept i) _ (declarators inner_expr inner_pat true word (coded (head_code word t.code) (moved t))) _
       (declarators_shallow inner_expr inner_pat n below_expr below_pat i h true word (coded (head_code word t.code) (moved t)) (fine_after i t.at g)) (λ x u k. k)) (λ x u k. k)
 
-  using_head_shallow : (i : ℕ) → 2 * i ≤ n → (start : Span) (t : State) → Fine i t.at.left → Answers (Kept i) Shallow (using_head inner_expr inner_pat start t)
+  using_head_shallow : (i : ℕ) → 2 * i ≤ n → (is_await : Bool) (start : Span) (t : State) → Fine i t.at.left → Answers (Kept i) Shallow (using_head inner_expr inner_pat is_await start t)
   unfolding using_head undeclared
-  using_head_shallow i h start t g = answers_then _ _ (inner_pat t) _ (below_pat i t h g) (λ name u k.
-      answers_then (Kept i) _ (undeclared (record { lo = start.lo; hi = u.at.last.hi }) u) _ (told_shallow i _ u k) (λ _ v j. j))
+  using_head_shallow i h is_await start t g = answers_then _ _ (inner_pat t) _ (below_pat i t h g) (λ name u k. answers_then (Kept i) _ (undeclared (record { lo = start.lo; hi = u.at.last.hi }) u) _ (told_shallow i _ u k) (λ _ v j. j))
 
   named_head_shallow : (i : ℕ) → 2 * i ≤ n → (t : State) → Fine i t.at.left → Answers (Kept i) Shallow (named_head inner_expr inner_pat t)
   unfolding named_head
   named_head_shallow i h t g = answers_then _ _ (inner_pat t) _ (below_pat i t h g) (λ p u k.
-      answers_if _ _ (stands_in_head (after u.at)) _ _ (λ _. using_head_shallow i h (span_at t.at) u k) (λ _. k))
+      answers_if _ _ (stands_in_head (after u.at)) _ _ (λ _. using_head_shallow i h false (span_at t.at) u k) (λ _. k))
+
+  await_head_shallow : (i : ℕ) → 2 * i ≤ n → (t : State) → Fine i t.at.left → Answers (Kept i) Shallow (await_head inner_expr inner_pat inner_head t)
+  unfolding await_head await_or_expression
+  await_head_shallow i h t g = answers_then _ _ (within without_in inner_head t) _ (answers_then (Kept i) _ (inner_head (coded (without_in t.code) t)) _ (below_head i (coded (without_in t.code) t) h g) (λ v u k. k)) (λ v u k.
+      answers_if _ _ (awaits_using v.x && declares_behind u.code u.at) _ _ (λ _. using_head_shallow i h true (span_at t.at) u k) (λ _. k))
 
   async_head_shallow : (i : ℕ) → 2 * i ≤ n → (t : State) → Fine i t.at.left → Answers (Kept i) Shallow (async_head inner_expr inner_pat t)
   unfolding async_head
-  async_head_shallow i h t g = answers_then _ _ (within without_in inner_pat t) _
-      (answers_then (Kept i) _ (inner_pat (coded (without_in t.code) t)) _ (below_pat i (coded (without_in t.code) t) h g) (λ p u k. k)) (λ p u k. k)
+  async_head_shallow i h t g = answers_then _ _ (within without_in inner_pat t) _ (answers_then (Kept i) _ (inner_pat (coded (without_in t.code) t)) _ (below_pat i (coded (without_in t.code) t) h g) (λ p u k. k)) (λ p u k. k)
 
   head_expression_shallow : (i : ℕ) → 2 * i ≤ n → (t : State) → Fine i t.at.left → Answers (Kept i) Shallow (head_expression inner_expr inner_pat inner_head t)
   unfolding head_expression
-  head_expression_shallow i h t g = answers_then _ _ (within without_in inner_head t) _
-      (answers_then (Kept i) _ (inner_head (coded (without_in t.code) t)) _ (below_head i (coded (without_in t.code) t) h g) (λ v u k. k)) (λ v u k. k)
+  head_expression_shallow i h t g = answers_then _ _ (within without_in inner_head t) _ (answers_then (Kept i) _ (inner_head (coded (without_in t.code) t)) _ (below_head i (coded (without_in t.code) t) h g) (λ v u k. k)) (λ v u k. k)
 
   head_target_shallow : (i : ℕ) → 2 * i ≤ n → (w : Bool) (t : State) → Fine i t.at.left → Answers (Kept i) Shallow (head_target inner_expr inner_pat inner_head w t)
   unfolding head_target async_or_expression
@@ -508,12 +511,10 @@ module _ (inner : Position → Reader Tree) (inner_expr : Class → Reader Tree)
 
   opening_shallow : (i : ℕ) → 2 * i ≤ n → (w : Bool) (t : State) → Fine i t.at.left → Answers (Kept i) Shallow (opening inner_expr inner_pat inner_head w t)
   unfolding opening
-  opening_shallow i h w t g = answers_if _ _ (sees kind.Semi t.at) _ _ (λ _. g)
-      (λ _. answers_if _ _ (sees kind.Var t.at) _ _ (λ _. head_variables_shallow i h decl.Var t g)
-      (λ _. answers_if _ _ (sees kind.Const t.at) _ _ (λ _. head_variables_shallow i h decl.Const t g)
-      (λ _. answers_if _ _ (is_let_declaration t.at) _ _ (λ _. head_variables_shallow i h decl.Let t g)
-      (λ _. answers_if _ _ (may_declare_using t.code t.at) _ _ (λ _. named_head_shallow i h t g)
-      (λ _. head_target_shallow i h w t g)))))
+  opening_shallow i h w t g = answers_if _ _ (sees kind.Semi t.at) _ _ (λ _. g) (λ _. answers_if _ _ (sees kind.Var t.at) _ _ (λ _. head_variables_shallow i h decl.Var t g)
+      (λ _. answers_if _ _ (sees kind.Const t.at) _ _ (λ _. head_variables_shallow i h decl.Const t g) (λ _. answers_if _ _ (is_let_declaration t.at) _ _ (λ _. head_variables_shallow i h decl.Let t g)
+      (λ _. answers_if _ _ (may_declare_using t.code t.at) _ _ (λ _. named_head_shallow i h t g) (λ _. answers_if _ _ (sees kind.Await t.at) _ _ (λ _. await_head_shallow i h t g)
+      (λ _. head_target_shallow i h w t g))))))
 
   head_part_shallow : (i : ℕ) → 2 * i ≤ n → (j : TokenKind) (t : State) → Fine i t.at.left → Answers (Kept i) Shallow (head_part j (inner_expr expression) t)
   unfolding head_part
@@ -747,8 +748,9 @@ all_enough (suc n) = let b = all_enough n in record {
   members = classes.member_level_shallow (expr n) (cover n) (stmt n nested_item) (reader.parameters n) n b.exprs b.covers (parameters_enough n b)
       (function_body_shallow (stmt n nested_item) n (b.stmts nested_item) (reader.parameters n) (parameters_enough n b)) (braces_shallow (stmt n nested_item) n (b.stmts nested_item) false)
       (decorated_in n) b.decorateds;
-  stmts = λ at. either_shallow (stmt_level (stmt n) (expr n) (pattern n) (head_cover n) (reader.parameters n) (member n)) at n
-      (λ m s h f. level_shallow (stmt n) (expr n) (pattern n) (head_cover n) (reader.parameters n) (member n) n b.stmts b.exprs b.patterns b.heads (parameters_enough n b) b.members at m h s f) (decorated_in n) b.decorateds;
+  stmts = λ at. either_shallow (reader.plain_stmt n) at n (λ m s h f. first_shallow (declarators (expr n) (pattern n) false decl.Var) (reader.nests n) (stmt_level (stmt n) (expr n) (pattern n) (head_cover n) (reader.parameters n) (member n)) at m
+      (λ t g. declarators_shallow (expr n) (pattern n) n b.exprs b.patterns m (omega arith) false decl.Var t g) s f
+      (level_shallow (stmt n) (expr n) (pattern n) (head_cover n) (reader.parameters n) (member n) n b.stmts b.exprs b.patterns b.heads (parameters_enough n b) b.members at m h s f)) (decorated_in n) b.decorateds;
 }
 
 -- an expression of any class, what may still become a pattern, and what a part of an expression holds that is none

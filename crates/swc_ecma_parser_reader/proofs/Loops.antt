@@ -15,7 +15,7 @@ use Rattle.swc_ecma_parser_grammar.specs.language.Contexts.{named_by}
 use Rattle.swc_ecma_parser_grammar.specs.language.Goals.{expression}
 use Rattle.swc_ecma_parser_reader.specs.Members.{member_level}
 use Rattle.swc_ecma_parser_reader.specs.State.{State, Reader, coded, moved, within, too_deep, loop}
-use Rattle.swc_ecma_parser_reader.specs.Reader.{declarator, declarators_turn, directs, items_turn, begins_clause, Clauses, clause, clauses_turn, named, own_name, stmt_level, stmt, whole_stmt, expr, cover, head_cover, pattern, decorated_in, member, parameters}
+use Rattle.swc_ecma_parser_reader.specs.Reader.{declarator, declarators_turn, directs, items_turn, begins_clause, Clauses, clause, clauses_turn, named, own_name, stmt, whole_stmt, expr, cover, pattern, decorated_in, member, parameters, plain_stmt}
 use Rattle.swc_ecma_parser_reader.specs.DecoratedStatements.{either_stmt}
 use Rattle.swc_ecma_parser_reader.proofs.Steps.{loop_more, loop_done, loop_err}
 use Rattle.swc_ecma_parser_reader.proofs.Takes.{moves}
@@ -98,8 +98,7 @@ pub stmt_lowest : (n : ℕ) (at : Position) (s : State) → n ≡ 0 → stmt n a
 unfolding stmt
 stmt_lowest n at s e = rw e refl
 
-pub stmt_above : (n : ℕ) (at : Position) (s : State) → 0 < n
-    → stmt n at s ≡ either_stmt (stmt_level (stmt (n - 1)) (expr (n - 1)) (pattern (n - 1)) (head_cover (n - 1)) (parameters (n - 1)) (member (n - 1))) (decorated_in (n - 1)) at s
+pub stmt_above : (n : ℕ) (at : Position) (s : State) → 0 < n → stmt n at s ≡ either_stmt (plain_stmt (n - 1)) (decorated_in (n - 1)) at s
 unfolding stmt
 stmt_above n at s h = deeper (λ k. stmt k at s) n h
 

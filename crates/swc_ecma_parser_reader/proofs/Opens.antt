@@ -21,7 +21,7 @@ use Rattle.swc_ecma_parser_model.specs.Forms.{is_ident}
 use Rattle.swc_ecma_parser_grammar.specs.declared.position.Position.{Position}
 use Rattle.swc_ecma_parser_grammar.specs.Looks.{kind_at, sees, same_kind, first_kind}
 use Rattle.swc_ecma_parser_grammar.specs.Names.{Code}
-use Rattle.swc_ecma_parser_grammar.specs.Follows.{may_begin_expression_statement, begins_import_expression, may_begin_head, token_follows_let, first_follows_let, is_let_declaration, is_async_function, AsyncWord, not_async, async_word}
+use Rattle.swc_ecma_parser_grammar.specs.Follows.{may_begin_expression_statement, begins_import_expression, may_begin_head, token_follows_let, first_follows_let, is_let_declaration, is_async_function, AsyncWord, not_async, async_word, no_await, await_word}
 use Rattle.swc_ecma_parser_grammar.specs.Variables.{begins_variables}
 use Rattle.swc_ecma_parser_grammar.specs.Reads.{with_in, StmtRule, block_rule, empty_rule, debugger_rule, variables_rule, if_statement_rule, switch_rule, labeled_rule, break_rule, continue_rule, return_rule, throw_rule, try_rule, while_rule, do_while_rule, for_rule, for_in_rule, for_of_rule, expr_rule, import_rule, if_rule, with_rule, class_rule, function_rule, using_rule}
 use Rattle.swc_ecma_parser_grammar.specs.Notes.{statement_note}
@@ -224,7 +224,8 @@ rule_goes Stmt Expr Pat Target Params Named h named k at x c d (block_rule r) = 
 rule_goes Stmt Expr Pat Target Params Named h named k at x c d (empty_rule e g i) = goes_by c kind.Semi e (refl, refl, refl, refl, refl, refl)
 rule_goes Stmt Expr Pat Target Params Named h named k at x c d (debugger_rule e g i) = goes_by c kind.Debugger e (refl, refl, refl, refl, refl, refl)
 rule_goes Stmt Expr Pat Target Params Named h named k at x c d (variables_rule word xs m a e r g i) = variables_go word c e
-rule_goes Stmt Expr Pat Target Params Named h named k at x c d (using_rule xs a b r g i) = goes_by c kind.Ident (using_stands k c b) (refl, refl, refl, refl, refl, refl)
+rule_goes Stmt Expr Pat Target Params Named h named k at x c d (using_rule v xs m a (no_await e l) b r g i) = goes_by c kind.Ident (sym (ap kind_at l) ∙ using_stands k m b) (refl, refl, refl, refl, refl, refl)
+rule_goes Stmt Expr Pat Target Params Named h named k at x c d (using_rule v xs m a (await_word e l o) b r g i) = goes_by c kind.Await l (refl, refl, refl, refl, refl, refl)
 rule_goes Stmt Expr Pat Target Params Named h named k at x c d (if_statement_rule (if_rule t y z m n e r s o i)) = goes_by c kind.If e (refl, refl, refl, refl, refl, refl)
 rule_goes Stmt Expr Pat Target Params Named h named k at x c d (switch_rule y xs m n e r i s g j z) = goes_by c kind.Switch e (refl, refl, refl, refl, refl, refl)
 rule_goes Stmt Expr Pat Target Params Named h named k at x c d (break_rule y m e r g i) = goes_by c kind.Break e (refl, refl, refl, refl, refl, refl)

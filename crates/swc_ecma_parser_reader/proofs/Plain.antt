@@ -20,10 +20,10 @@ use Rattle.swc_ecma_parser_reader.specs.Members.{class_parts, named_class, class
 use Rattle.swc_ecma_parser_reader.specs.State.{coded, below, below_label, fault, fault_at, recorded_at, recorded_in, noted, reference, State, Outcome, Reader, and_then, moved, within, wanted, name, expect, end}
 use Rattle.swc_ecma_parser_reader.specs.Methods.{star}
 use Rattle.swc_ecma_parser_reader.specs.DecoratedStatements.{either_stmt}
-use Rattle.swc_ecma_parser_reader.proofs.decorators.Declared.{declared_is_bare}
+use Rattle.swc_ecma_parser_reader.proofs.decorators.Declared.{declared_is_bare, first_declares}
 use Rattle.swc_ecma_parser_reader.proofs.decorators.Either.{either_at}
 use Rattle.swc_ecma_parser_reader.proofs.decorators.Labels.{either_unlabelled}
-use Rattle.swc_ecma_parser_reader.specs.Reader.{decorated_in, told, named, with_stmt, note_with, await_here, unless_awaited, misdirected, function_body, function_parts, function_decl, function_stmt, expr, head_cover, pattern, member, function_word, async_or_other, items, closes, close, declarators, link, alternative, head, clauses, target, unbroken, uncontinued, operand, braced, handler, finalizer, handled, optional_end, Opening, as_init, as_left, opening, head_part, misdeclared, labelled_body, relabels, no_label, note_statement, empty, debugger, variables, block, block_from, expr_stmt, expr_stmt_at, import_stmt, import_stmt_at, thrown, throw, while_stmt, do_while, for_parts, for_in, for_of, for_behind, for_stmt, goes_on, links, if_stmt, break_stmt, continue_stmt, returned, return_stmt, misplaced, begins_label, labeled_stmt, other_stmt, switch_stmt, try_stmt, const_stmt, let_stmt, stmt_by, stmt_level, stmt, misusing, using_from, using_stmt, using_or_other}
+use Rattle.swc_ecma_parser_reader.specs.Reader.{decorated_in, told, named, with_stmt, note_with, await_here, unless_awaited, misdirected, function_body, function_parts, function_decl, function_stmt, expr, head_cover, pattern, member, function_word, async_or_other, items, closes, close, declarators, link, alternative, head, clauses, target, unbroken, uncontinued, operand, braced, handler, finalizer, handled, optional_end, Opening, as_init, as_left, opening, head_part, misdeclared, labelled_body, relabels, no_label, note_statement, empty, debugger, variables, block, block_from, expr_stmt, expr_stmt_at, import_stmt, import_stmt_at, thrown, throw, while_stmt, do_while, for_parts, for_in, for_of, for_behind, for_stmt, goes_on, links, if_stmt, break_stmt, continue_stmt, returned, return_stmt, misplaced, begins_label, labeled_stmt, other_stmt, switch_stmt, try_stmt, const_stmt, let_stmt, stmt_by, stmt_level, stmt, misusing, using_from, using_stmt, using_or_other, await_using_stmt, plain_stmt}
 use Rattle.swc_ecma_parser_reader.proofs.Meets.{meets_then, Meets, Refuses, always, meets_if, wanted_meets, too_deep_meets, refuse_meets, meant, saw}
 use Rattle.std.specs.Prelude.{◌&&◌, ◌||◌, codes}
 use Rattle.std.proofs.lemmas.List.Recursion.{is_count_by}
@@ -45,6 +45,8 @@ use Rattle.swc_ecma_parser_grammar.specs.language.Goals.{Class, expression, assi
 use Rattle.swc_ecma_parser_reader.specs.Expressions.{Cover}
 use Rattle.swc_ecma_parser_reader.proofs.SoundParts.{after_return_meets}
 use Rattle.swc_ecma_parser_grammar.specs.Using.{is_using_declaration}
+use Rattle.swc_ecma_parser_reader.proofs.First.{first_meets}
+use Rattle.swc_ecma_parser_reader.proofs.decorators.Bare.{IsBare}
 
 -- no function that a label tells of
 abbrev Plain : Tree → State → Type 0
@@ -298,13 +300,28 @@ untold j b o e h = meets_as o h (λ x t g strict. g strict ∙ ap (λ z. cond z 
 unseen_told : (j : TokenKind) (b : Bool) (o : Outcome Tree) → same_kind j kind.Function ≡ false → Meets Plain o → Meets (Told j b) o
 unseen_told j b o e h = meets_as o h (λ x t g strict. g strict ∙ sym (ap (λ z. cond z (only strict faults.LabelledFunctionInStrict (span_of x) ++ only b faults.LabelledGeneratorOrAsync (span_of x)) []) e))
 
+await_using_plain : (found : Reader (List Tree)) (s : State) → Meets Plain (await_using_stmt found s)
+unfolding await_using_stmt using_from misusing
+await_using_plain found s = always Plain (within with_in found (moved (moved s))) _ (λ xs t. always Plain (misusing (record { lo = (span_at s.at).lo; hi = t.at.last.hi }) xs t) _ (λ _ u b. refl))
+
 module _ (n : ℕ) (at : Position) where
   abbrev plain : Position → Reader Tree
-  plain = stmt_level (stmt n) (expr n) (pattern n) (head_cover n) (reader.parameters n) (member n)
+  plain = plain_stmt n
 
-  level_told : (s : State) → Meets (Told (kind_at s.at) (is_starred s)) (plain at s)
+  abbrev rest : Position → Reader Tree
+  rest = stmt_level (stmt n) (expr n) (pattern n) (head_cover n) (reader.parameters n) (member n)
+
+  abbrev found : Reader (List Tree)
+  found = declarators (expr n) (pattern n) false decl.Var
+
+  level_told : (s : State) → Meets (Told (kind_at s.at) (is_starred s)) (rest at s)
   unfolding stmt_level
   level_told s = by_told (stmt n) (expr n) (pattern n) (head_cover n) (reader.parameters n) (member n) at (kind_at s.at) s refl
+
+  plain_told : (s : State) → Meets (Told (kind_at s.at) (is_starred s)) (plain at s)
+  unfolding same_kind
+  plain_told s = first_meets found (reader.nests n) rest at (Told (kind_at s.at) (is_starred s)) s
+      (λ e. unseen_told (kind_at s.at) (is_starred s) (await_using_stmt found s) (rw e refl) (await_using_plain found s)) (level_told s)
 
   -- behind decorators none is told of
   either_told : (s : State) → Meets (Told (kind_at s.at) (is_starred s)) (either_stmt plain (decorated_in n) at s)
@@ -312,10 +329,10 @@ module _ (n : ℕ) (at : Position) where
   either_told s = by_first (sees kind.Function s.at) refl
     where
       by_first : (b : Bool) → sees kind.Function s.at ≡ b → Meets (Told (kind_at s.at) (is_starred s)) (either_stmt plain (decorated_in n) at s)
-      by_first true e = subst (Meets (Told (kind_at s.at) (is_starred s))) (sym (either_at plain (decorated_in n) at s kind.Function (saw s.at kind.Function e) refl)) (level_told s)
+      by_first true e = subst (Meets (Told (kind_at s.at) (is_starred s))) (sym (either_at plain (decorated_in n) at s kind.Function (saw s.at kind.Function e) refl)) (plain_told s)
       by_first false e = unseen_told (kind_at s.at) (is_starred s) (either_stmt plain (decorated_in n) at s) e
-          (either_unlabelled plain at (λ t f. untold (kind_at t.at) (is_starred t) (plain at t) f (level_told t))
-          (λ t. declared_is_bare (stmt n) (expr n) (pattern n) (head_cover n) (reader.parameters n) (member n) at t) (decorated_in n) s e)
+          (either_unlabelled plain at (λ t f. untold (kind_at t.at) (is_starred t) (plain at t) f (plain_told t))
+          (λ t h. first_declares found (reader.nests n) rest at t (λ x u. IsBare x) h (declared_is_bare (stmt n) (expr n) (pattern n) (head_cover n) (reader.parameters n) (member n) at t h)) (decorated_in n) s e)
 
 stmt_meets_told : (n : ℕ) (at : Position) (s : State) → Meets (Told (kind_at s.at) (is_starred s)) (stmt n at s)
 unfolding stmt

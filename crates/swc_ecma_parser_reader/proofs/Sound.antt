@@ -7,7 +7,7 @@ use Rattle.swc_ecma_parser_reader.proofs.classes.Shared.{Declared}
 use Rattle.swc_ecma_parser_reader.proofs.classes.SoundMembers.{member_level_sound}
 use Rattle.swc_ecma_parser_reader.proofs.classes.SoundClasses.{class_expr_sound, class_stmt_sound}
 use Rattle.swc_ecma_parser_reader.proofs.decorators.Sound.{decorated_sound}
-use Rattle.swc_ecma_parser_reader.proofs.decorators.Declared.{level_declares, export_meets}
+use Rattle.swc_ecma_parser_reader.proofs.decorators.Declared.{declares_plainly, plain_exports}
 use Rattle.swc_ecma_parser_reader.proofs.decorators.SoundStatements.{either_sound}
 use Rattle.swc_ecma_parser_reader.proofs.patterns.Sound as patterns
 use Rattle.swc_ecma_parser_reader.proofs.patterns.Sound.{SoundParams, Unwrapped}
@@ -19,7 +19,7 @@ use Rattle.swc_ecma_parser_reader.proofs.Between.{sound_below, sound_coded, Soun
 use Rattle.swc_ecma_parser_reader.specs.State.{name, reference, below, below_label, State, Reader, moved, coded, within, fault_at, Outcome, wanted, labelled, labelled_as, expect, end}
 use Rattle.swc_ecma_parser_grammar.specs.Reads.{labeled_rule, with_rule, class_rule, function_rule, with_in, nested_item, ReadsItems, TargetRule, OperandRule, no_operand_rule, operand_rule, break_rule, continue_rule, return_rule, StmtRule, block_rule, empty_rule, debugger_rule, if_statement_rule, CaseRule, case_clause_rule, default_clause_rule, ReadsCases, switch_rule, throw_rule, try_rule, while_rule, do_while_rule, expr_rule, import_rule, ReadsBlock, CatchRule, no_catch_rule, catch_rule, catch_parameter_rule, FinallyRule, no_finally_rule, finally_rule, ReadsHead, IfRule, if_rule, ElseRule, no_else_rule, else_rule, else_if_rule}
 use Rattle.swc_ecma_parser_grammar.specs.Own.{labelled_function, duplicates}
-use Rattle.swc_ecma_parser_reader.proofs.SoundParts.{relabels_sound, SoundWith, note_with_sound, using_sound, end_sound, optional_end_sound, Declarators, declarators_sound, inside_sound, variables_sound, code_stays, items_sound, NoLabel, no_label_sound, NoNote, SoundNote, note_sound, and_false, unbroken_sound, uncontinued_sound, misplaced_sound, target_sound, after_return_meets}
+use Rattle.swc_ecma_parser_reader.proofs.SoundParts.{relabels_sound, SoundWith, note_with_sound, using_sound, end_sound, optional_end_sound, Declarators, declarators_sound, inside_sound, variables_sound, code_stays, items_sound, NoLabel, no_label_sound, NoNote, SoundNote, note_sound, and_false, unbroken_sound, uncontinued_sound, misplaced_sound, target_sound, after_return_meets, first_sound}
 use Rattle.swc_ecma_parser_grammar.specs.language.Items.{labelled_item, sub_statement}
 use Rattle.swc_ecma_parser_reader.specs.Reader.{begins_label, relabels, labelled_body, labeled_stmt, other_stmt, with_stmt, note_with, function_stmt, async_or_other, function_decl, variables, const_stmt, let_stmt, expr, cover, head_cover, pattern, element, decorated_in, member, function, function_by, getter, setter, plain_method, target, unbroken, break_stmt, uncontinued, continue_stmt, misplaced, operand, returned, return_stmt, empty, debugger, declarators, closes, close, items, block_from, block, braced, note_statement, no_label, expr_stmt, expr_stmt_at, optional_end, import_stmt, import_stmt_at, thrown, throw, head, while_stmt, do_while, Link, goes_on, condition, alternative, link_from, link, links, if_stmt, begins_clause, closes_clause, Clauses, clause_from, default_clause, case_clause, clause, clauses_turn, clauses, switch_stmt, begins_at, is_handled, handled, bound, parameter, finalizer, caught, handler, try_stmt, stmt_by, stmt_level, stmt, using_or_other}
 use Rattle.swc_ecma_parser_model.specs.declared.leaves.VarDeclKind.{VarDeclKind}
@@ -609,7 +609,7 @@ module _ (n : ℕ) (b : Sounds n) where
   openings : HeadSound (ReadsClass n) (ReadsPat n) (ReadsTarget n) (pattern n) (head_cover n)
   unfolding function function_by
   openings = record {
-    covers = λ s. meets_as (head_cover n s) (b.heads s) (λ v t p. sound_as s t refl refl refl (λ r. record { plain = r.plain; target = r.target }) p);
+    covers = λ s. meets_as (head_cover n s) (b.heads s) (λ v t p. sound_as s t refl refl refl (λ r. record { plain = r.plain; unmarked = r.unmarked; target = r.target }) p);
     names = names n;
     targets = λ k x c d e h r. (bound_target n k x c d e h r.0, r.1);
   }
@@ -679,12 +679,13 @@ all_sound (suc n) = let b = all_sound n in record {
   elements = patterns.element_level_sound n (expr n) (cover n) (pattern n) (element n) b.exprs b.covers b.patterns b.elements;
   decorateds = decorated_sound n (expr n) (cover n) b.exprs b.covers (function n) (functions n b) (expr (suc n) expression) (exprs_sound n b expression);
   members = member_level_sound n (expr n) (cover n) (stmt n nested_item) (reader.parameters n) b.exprs b.covers (b.stmts nested_item) (params n b) (decorated_in n) b.decorateds;
-  stmts = λ at. either_sound n (stmt_level (stmt n) (expr n) (pattern n) (head_cover n) (reader.parameters n) (member n)) at
+  stmts = λ at. either_sound n (reader.plain_stmt n) at
+      (λ s. first_sound (ReadsClass n) (ReadsPat n) (expr n) (pattern n) b.exprs b.patterns (ReadsStmt n) (ReadsTarget n) (ReadsParams n) (ReadsNamedClass n) at (reader.nests n) (stmt_level (stmt n) (expr n) (pattern n) (head_cover n) (reader.parameters n) (member n)) s
       (level_sound (ReadsStmt n) (ReadsClass n) (ReadsPat n) (ReadsTarget n) (ReadsParams n) (ReadsNamedClass n) (stmt n) (expr n) (pattern n) (head_cover n) (reader.parameters n) (member n)
-      b.stmts b.exprs b.patterns (openings n b) (params n b) (class_stmt_sound n (expr n left_side) (member n) (b.exprs left_side) b.members) (λ k x c d h r. import_unnoted n k x c d r h) at)
-      (λ s. level_declares (stmt n) (expr n) (pattern n) (head_cover n) (reader.parameters n) (member n) at s n (b.stmts nested_item) (params n b)
-      (class_stmt_sound n (expr n left_side) (member n) (b.exprs left_side) b.members))
-      (λ s. export_meets (stmt n) (expr n) (pattern n) (head_cover n) (reader.parameters n) (member n) at s (λ x t. ⊥)) (decorated_in n) b.decorateds;
+      b.stmts b.exprs b.patterns (openings n b) (params n b) (class_stmt_sound n (expr n left_side) (member n) (b.exprs left_side) b.members) (λ k x c d h r. import_unnoted n k x c d r h) at s))
+      (λ s. declares_plainly (stmt n) (expr n) (pattern n) (head_cover n) (reader.parameters n) (member n) at s n (b.stmts nested_item) (params n b)
+      (class_stmt_sound n (expr n left_side) (member n) (b.exprs left_side) b.members) (reader.declarators (expr n) (pattern n) false decl.Var) (reader.nests n))
+      (λ s. plain_exports (stmt n) (expr n) (pattern n) (head_cover n) (reader.parameters n) (member n) at s (reader.declarators (expr n) (pattern n) false decl.Var) (reader.nests n) (λ x t. ⊥)) (decorated_in n) b.decorateds;
 }
 
 -- an expression of a class is in the relation of the whole language within as many levels

@@ -1,8 +1,8 @@
 -- `for`: what its head begins with is sound, as its first part and as what takes each value, and so are the three loops.
-use Rattle.swc_ecma_parser_model.specs.Forms.{is_binding_name}
+use Rattle.swc_ecma_parser_model.specs.Forms.{is_binding_name, is_ident_named}
 use Rattle.swc_ecma_parser_common.specs.declared.span.Span.{Span}
 use Rattle.std.proofs.Common.{◌≡◌, Bool, true, false, List, [], ◌∷◌, ◌++◌, Some, None, refl, true≢false, sym, ◌∙◌, ap, subst, Option, is_some}
-use Rattle.std.specs.Prelude.{codes}
+use Rattle.std.specs.Prelude.{◌&&◌, codes}
 use Rattle.swc_ecma_parser_error.specs.Kind as faults
 use Rattle.swc_ecma_parser_error.specs.Kind.{Kind}
 use Rattle.swc_ecma_parser_token.specs.declared.kind.TokenKind.{TokenKind}
@@ -24,18 +24,18 @@ use Rattle.swc_ecma_parser_grammar.specs.Names.{Code, identifier_at}
 use Rattle.swc_ecma_parser_grammar.specs.Follows.{token_is, first_is, word_at, is_let_declaration, may_begin_head, is_async_of, begins_async_of, AwaitWord, no_await, await_word}
 use Rattle.swc_ecma_parser_grammar.specs.Variables.{begins_variables}
 use Rattle.swc_ecma_parser_grammar.specs.Own.{only, head_faults}
-use Rattle.swc_ecma_parser_grammar.specs.Using.{may_declare_using, stands_in_head}
+use Rattle.swc_ecma_parser_grammar.specs.Using.{may_declare_using, awaits_using, declares_behind, stands_in_head}
 use Rattle.swc_ecma_parser_grammar.specs.language.Contexts.{in_loop, without_in}
 use Rattle.swc_ecma_parser_grammar.specs.language.Goals.{Class, expression, assignment}
 use Rattle.swc_ecma_parser_grammar.specs.language.Items.{sub_statement}
-use Rattle.swc_ecma_parser_grammar.specs.Reads.{with_in, head_code, DeclaratorRule, ReadsSeparated, HeadVariables, InitRule, no_init_rule, init_variables_rule, init_expression_rule, LeftRule, declared_rule, left_target_rule, OfLeftRule, of_left_rule, of_using_rule, PartRule, no_part_rule, part_rule, StmtRule, for_rule, for_in_rule, for_of_rule}
+use Rattle.swc_ecma_parser_grammar.specs.Reads.{with_in, head_code, DeclaratorRule, ReadsSeparated, HeadVariables, InitRule, no_init_rule, init_variables_rule, init_expression_rule, LeftRule, declared_rule, left_target_rule, OfLeftRule, of_left_rule, of_using_rule, of_await_rule, PartRule, no_part_rule, part_rule, StmtRule, for_rule, for_in_rule, for_of_rule}
 use Rattle.swc_ecma_parser_grammar.specs.Walk as walks
 use Rattle.swc_ecma_parser_grammar.specs.Walk.{walk, env_of}
 use Rattle.swc_ecma_parser_reader.specs.Notes.{no_notes, ◌⊕◌, notes_of, all_notes_of}
 use Rattle.swc_ecma_parser_reader.specs.State.{State, Reader, moved, coded, within, expect}
 use Rattle.swc_ecma_parser_reader.specs.Expressions as exprs
-use Rattle.swc_ecma_parser_reader.specs.Expressions.{Cover}
-use Rattle.swc_ecma_parser_reader.specs.Reader.{declarators, Opening, Nothing, Variables, Resource, Named, Expression, unfollowed, as_init, as_left, head_variables, undeclared, using_head, named_head, async_head, head_expression, async_or_expression, head_target, opening, head_part, misdeclared, for_parts, for_in, for_of, for_behind, for_stmt, await_here, unless_awaited}
+use Rattle.swc_ecma_parser_reader.specs.Expressions.{Cover, is_literal}
+use Rattle.swc_ecma_parser_reader.specs.Reader.{declarators, Opening, Nothing, Variables, Resource, Named, Expression, unfollowed, as_init, as_left, head_variables, undeclared, using_head, named_head, await_or_expression, async_head, head_expression, await_head, async_or_expression, head_target, opening, head_part, misdeclared, for_parts, for_in, for_of, for_behind, for_stmt, await_here, unless_awaited}
 use Rattle.swc_ecma_parser_reader.proofs.expressions.Targets.{pattern_alike}
 use Rattle.swc_ecma_parser_reader.proofs.expressions.CompleteKinds.{seen}
 use Rattle.swc_ecma_parser_reader.proofs.patterns.Sound.{Moves}
@@ -43,6 +43,8 @@ use Rattle.swc_ecma_parser_reader.proofs.Using.{using_named, name_stands, word_b
 use Rattle.swc_ecma_parser_reader.proofs.Words.{word_named}
 use Rattle.swc_ecma_parser_grammar.proofs.StatementBegins.{word_place}
 use Rattle.swc_ecma_parser_grammar.proofs.UsingParts.{declares_in_head}
+use Rattle.swc_ecma_parser_grammar.proofs.AwaitHeads.{behind_declares}
+use Rattle.swc_ecma_parser_grammar.proofs.Tests.{and_yes}
 use Rattle.swc_ecma_parser_reader.proofs.expressions.Covers.{meets_each, close_is, target_is}
 use Rattle.swc_ecma_parser_reader.proofs.expressions.SoundSteps.{paired, stepped, meets_as, Takes, expect_sound, reject_meets}
 use Rattle.swc_ecma_parser_reader.proofs.Notes.{notes_nil}
@@ -88,9 +90,11 @@ declared_is_no_async Expr Pat k x c d r = rw r.is refl
 
 -- ---- what a head begins with
 
--- an expression where no part is one of a pattern alone, and a target where no comma stands behind a rest
+-- an expression where no part is one of a pattern alone, as in any form but an array or object, and a target where no comma stands
+-- behind a rest
 pub record CoverAs (Expr : Class → Code → Tree → Place → Place → Type 0) (Target : Code → Tree → Place → Place → Type 0) (v : Cover) (k : Code) (c d : Place) : Type 0 where
   pub plain : v.mark ≡ None → Expr expression k v.x c d
+  pub unmarked : is_literal v.x ≡ false → v.mark ≡ None
   pub target : v.comma ≡ false → (p : Tree) → as_target v.x ≡ Some p → Target k p c d × (word_at (codes "of") d ≡ true → is_async_of false p d ≡ false)
 
 abbrev pub SoundAs : (Class → Code → Tree → Place → Place → Type 0) → (Code → Tree → Place → Place → Type 0) → State → Cover → State → Type 0
@@ -116,12 +120,37 @@ plain_notes : (x : Tree) → is_binding_name x ≡ true → notes_of x ≡ no_no
 plain_notes (tree.ident_pat s text) h = refl
 plain_notes _ h = cc
 
-using_walk : (x : Tree) (s t : Span) (k : Code) (l : List Text) → is_binding_name x ≡ true → walk (env_of k l) x ≡ walk (env_of k l) (tree.using s false (listed (tree.declarator t x tree.absent ∷ [])))
-using_walk x s t k l h = let e = plain_walk x k l h in e ∙ sym (ap (λ fs. (fs ++ []) ++ []) e)
+using_walk : (w : Bool) (x : Tree) (s t : Span) (k : Code) (l : List Text) → is_binding_name x ≡ true → walk (env_of k l) x ≡ walk (env_of k l) (tree.using s w (listed (tree.declarator t x tree.absent ∷ [])))
+using_walk w x s t k l h = let e = plain_walk x k l h in e ∙ sym (ap (λ fs. (fs ++ []) ++ []) e)
 
-using_notes : (x : Tree) (s t : Span) → is_binding_name x ≡ true → no_notes ⊕ notes_of x ≡ notes_of (tree.using s false (listed (tree.declarator t x tree.absent ∷ [])))
-using_notes (tree.ident_pat v text) s t h = refl
-using_notes _ s t h = absurd (true≢false (sym h))
+using_notes : (w : Bool) (x : Tree) (s t : Span) → is_binding_name x ≡ true → no_notes ⊕ notes_of x ≡ notes_of (tree.using s w (listed (tree.declarator t x tree.absent ∷ [])))
+using_notes w (tree.ident_pat v text) s t h = refl
+using_notes w _ s t h = absurd (true≢false (sym h))
+
+-- nor has the expression `await using`
+record IsAwaited (x : Tree) : Type 0 where
+  pub span : Span
+  pub word : Span
+  pub text : Text
+  pub is : x ≡ tree.await span (tree.ident word text)
+
+word_shape : (s : Span) (e : Tree) → is_ident_named (codes "using") e ≡ true → IsAwaited (tree.await s e)
+word_shape s (tree.ident t text) h = record { span = s; word = t; text = text; is = refl }
+word_shape s _ h = absurd (true≢false (sym h))
+
+awaited_shape : (x : Tree) → awaits_using x ≡ true → IsAwaited x
+unfolding awaits_using
+awaited_shape (tree.await s e) h = word_shape s e h
+awaited_shape _ h = absurd (true≢false (sym h))
+
+pub awaited_walk : (x : Tree) (k : Code) (l : List Text) → awaits_using x ≡ true → walk (env_of k l) x ≡ []
+awaited_walk x k l h = ap (walk (env_of k l)) (awaited_shape x h).is
+
+pub awaited_notes : (x : Tree) → awaits_using x ≡ true → notes_of x ≡ no_notes
+awaited_notes x h = ap notes_of (awaited_shape x h).is
+
+awaited_unmarked : (x : Tree) → awaits_using x ≡ true → is_literal x ≡ false
+awaited_unmarked x h = ap is_literal (awaited_shape x h).is
 
 -- what no first part of three follows is refused
 unfollowed_meets : (P : Tree → State → Type 0) (s : State) → Meets P (unfollowed s)
@@ -197,7 +226,7 @@ module _ (Stmt : Code → Position → Tree → Place → Place → Type 0) (Exp
   named_sound w s m p e b o r = sound_as s m refl refl refl (λ q. (left_target_rule (word_begins_head s.at e) (sound_head.targets s.code p s.at m.at e b q), o)) r
 
   using_head_sound : (w : Bool) (s m : State) (p : Tree) → may_declare_using s.code s.at ≡ true → is_binding_name p ≡ true → m.at ≡ after s.at → SoundTree Pat s p m → stands_in_head (after m.at) ≡ true
-      → Meets (SoundOpening w s) (using_head inner_expr inner_pat (span_at s.at) m)
+      → Meets (SoundOpening w s) (using_head inner_expr inner_pat false (span_at s.at) m)
   unfolding using_head undeclared spanned
   using_head_sound w s m p h b i r j =
       let f : identifier_at m.code.flags m.at ≡ true = rw (r.code, i) (declares_in_head s.code s.at h).2 in
@@ -206,7 +235,7 @@ module _ (Stmt : Code → Position → Tree → Place → Place → Type 0) (Exp
       meets_then _ (undeclared span t) _ (untold_sound _ (only_untabled (sees kind.In t.at) _ span refl) t) (λ _ u q.
       let a : Sound same no_faults no_notes (λ k c d. d ≡ m.at) s m = sound_as s m refl (plain_walk p s.code s.scope.labels b) (plain_notes p b) (λ _. refl) r in
       let y : Sound same (λ k l. walk (env_of k l) name) (notes_of name) (λ k c d. Pat k name c d × (d ≡ t.at)) m t = sound_as m t refl refl refl (λ x. (x, refl)) v in
-      sound_as s u refl (using_walk name span (record { lo = (span_at m.at).lo; hi = t.at.last.hi }) s.code s.scope.labels z) (using_notes name span (record { lo = (span_at m.at).lo; hi = t.at.last.hi }) z)
+      sound_as s u refl (using_walk false name span (record { lo = (span_at m.at).lo; hi = t.at.last.hi }) s.code s.scope.labels z) (using_notes false name span (record { lo = (span_at m.at).lo; hi = t.at.last.hi }) z)
       (λ (d1, (d0, e0, (w0, y0)), (fe, de)).
       let l : u.at ≡ t.at = de ∙ y0 in (
         of_using_rule name h (subst (λ c. Pat s.code name c u.at) (e0 ∙ i) (subst (λ d. Pat s.code name d0 d) (sym de) w0)) z
@@ -222,6 +251,34 @@ module _ (Stmt : Code → Position → Tree → Place → Place → Type 0) (Exp
       meets_then _ (inner_pat s) _ (word_sound s (using_named s.code.flags s.at g.1) (name_stands s.code.flags (after s.at) g.2)) (λ p m (b, i, r).
       meets_if _ (stands_in_head (after m.at)) _ _ (λ j. using_head_sound w s m p h b i r j)
       (λ _. named_sound w s m p (word_place (codes "using") s.at g.1) b (λ o. absurd (true≢false (sym o ∙ ap (word_at (codes "of")) i ∙ g.3))) r))
+
+  await_using_sound : (w : Bool) (s m : State) (v : Cover) → awaits_using v.x ≡ true → declares_behind m.code m.at ≡ true
+      → Sound same (λ k l. walk (env_of (without_in k) l) v.x) (notes_of v.x) (λ k. CoverAs Expr Target v (without_in k)) s m → Meets (SoundOpening w s) (using_head inner_expr inner_pat true (span_at s.at) m)
+  unfolding using_head undeclared spanned
+  await_using_sound w s m v h j r =
+      let f = behind_declares m.code m.at j in
+      meets_then _ (inner_pat m) _ (word_sound m f.named (head_stands (after m.at) f.headed)) (λ name t (z, _, q).
+      let span : Span = record { lo = (span_at s.at).lo; hi = t.at.last.hi } in
+      meets_then _ (undeclared span t) _ (untold_sound _ (only_untabled (sees kind.In t.at) _ span refl) t) (λ _ u p.
+      let a : Sound same no_faults no_notes (λ k c d. CoverAs Expr Target v (without_in k) c d × (d ≡ m.at)) s m =
+      sound_as s m refl (awaited_walk v.x (without_in s.code) s.scope.labels h) (awaited_notes v.x h) (λ x. (x, refl)) r in
+      let y : Sound same (λ k l. walk (env_of k l) name) (notes_of name) (λ k c d. Pat k name c d × (d ≡ t.at)) m t = sound_as m t refl refl refl (λ x. (x, refl)) q in
+      sound_as s u refl (using_walk true name span (record { lo = (span_at m.at).lo; hi = t.at.last.hi }) s.code s.scope.labels z) (using_notes true name span (record { lo = (span_at m.at).lo; hi = t.at.last.hi }) z)
+      (λ (d1, (d0, (x0, e0), (w0, y0)), (fe, de)).
+      let l : u.at ≡ t.at = de ∙ y0 in (
+        of_await_rule v.x name m.at (ap (λ k. k.setting.explicit_resource_management) (sym r.code) ∙ f.is_set)
+            (subst (λ d. Expr expression (without_in s.code) v.x s.at d) e0 (x0.plain (x0.unmarked (awaited_unmarked v.x h)))) h f.no_of
+            (subst (λ c. Pat s.code name c u.at) e0 (subst (λ d. Pat s.code name d0 d) (sym de) w0)) z
+            (ap (λ d. tree.using (spanned s.at d) true (listed (tree.declarator (spanned m.at d) name tree.absent ∷ []))) (sym l)),
+        ap (sees kind.In) l ∙ unsaid (sees kind.In t.at) _ _ fe,
+      ))
+      (sound_more (sound_then a y) p)))
+
+  await_head_sound : (w : Bool) (s : State) → may_begin_head s.at ≡ true → Meets (SoundOpening w s) (await_head inner_expr inner_pat inner_head s)
+  unfolding await_head await_or_expression
+  await_head_sound w s h = meets_then _ (within without_in inner_head s) _
+      (within_sound (λ v k l. walk (env_of k l) v.x) (λ v. notes_of v.x) (λ v k. CoverAs Expr Target v k) without_in (λ k. refl) inner_head s (sound_head.covers (coded (without_in s.code) s))) (λ v t p.
+      meets_if _ (awaits_using v.x && declares_behind t.code t.at) _ _ (λ i. let g = and_yes (awaits_using v.x) _ i in await_using_sound w s t v g.0 g.1 p) (λ _. sound_as s t refl refl refl (λ r. (h, r)) p))
 
   async_head_sound : (w : Bool) (s : State) → w ≡ true → begins_async_of s.at ≡ true → Meets (SoundOpening w s) (async_head inner_expr inner_pat s)
   unfolding async_head
@@ -245,7 +302,8 @@ module _ (Stmt : Code → Position → Tree → Place → Place → Type 0) (Exp
       (λ f. meets_if _ (sees kind.Const s.at) _ _ (λ h. head_variables_sound w decl.Const s h)
       (λ g. meets_if _ (is_let_declaration s.at) _ _ (λ h. head_variables_sound w decl.Let s h)
       (λ h. meets_if _ (may_declare_using s.code s.at) _ _ (λ i. named_head_sound w s i)
-      (λ _. head_target_sound w s (begins_head s.at e f g h))))))
+      (λ _. meets_if _ (sees kind.Await s.at) _ _ (λ _. await_head_sound w s (begins_head s.at e f g h))
+      (λ _. head_target_sound w s (begins_head s.at e f g h)))))))
 
   -- as the first part of three
   as_init_sound : (w : Bool) (s m : State) (o : Opening) → SoundOpening w s o m → Meets (λ x t. SoundTree (InitRule Expr Pat) s x t) (as_init o m)

@@ -19,7 +19,7 @@ use Rattle.swc_ecma_parser_model.specs.Forms.{is_ident, is_ident_named, is_bindi
 use Rattle.swc_ecma_parser_grammar.specs.declared.position.Position.{Position}
 use Rattle.swc_ecma_parser_grammar.specs.Looks.{kind_at, sees, span_at, spanned}
 use Rattle.swc_ecma_parser_grammar.specs.Names.{Code}
-use Rattle.swc_ecma_parser_grammar.specs.Follows.{is_let_declaration}
+use Rattle.swc_ecma_parser_grammar.specs.Follows.{is_let_declaration, AwaitWord, no_await, await_word}
 use Rattle.swc_ecma_parser_grammar.specs.Variables.{begins_variables, is_var, is_const, needs_no_initializer}
 use Rattle.swc_ecma_parser_model.specs.Within.{declared_name, is_initialized}
 use Rattle.swc_ecma_parser_grammar.specs.Own.{only, stands_around, break_faults, continue_faults, return_faults, labelled_function, duplicates, surplus, head_faults, first_use_strict, misplaced_directive}
@@ -31,7 +31,7 @@ use Rattle.swc_ecma_parser_grammar.specs.Walk.{walk, env_of}
 use Rattle.swc_ecma_parser_grammar.specs.Notes.{statement_note, with_note}
 use Rattle.swc_ecma_parser_reader.specs.Notes.{no_notes, held, notes_of, all_notes_of}
 use Rattle.swc_ecma_parser_reader.specs.State.{State, Reader, moved, coded, within, noted, holding_back, module_fault, fault_at, Outcome, and_then, recorded_at, recorded_in, fault, name, end}
-use Rattle.swc_ecma_parser_reader.specs.Reader.{told, target, unbroken, uncontinued, misplaced, misdeclared, after_return, relabels, missing_initializer, initialized, declarator, declarators_turn, declarators, variables, close, directs, items_turn, items, note_statement, no_label, optional_end, note_with, misdirected, misusing, using_from, using_stmt}
+use Rattle.swc_ecma_parser_reader.specs.Reader.{told, target, unbroken, uncontinued, misplaced, misdeclared, after_return, relabels, missing_initializer, initialized, declarator, declarators_turn, declarators, variables, close, directs, items_turn, items, note_statement, no_label, optional_end, note_with, misdirected, misusing, using_from, using_stmt, await_using_stmt, await_using_or}
 use Rattle.swc_ecma_parser_reader.proofs.expressions.SoundSteps.{meets_as, reject_meets, refused_meets, name_sound, Takes, noted_sound, fault_sound, walks_push, notes_push}
 use Rattle.swc_ecma_parser_grammar.proofs.Tests.{and_yes}
 use Rattle.swc_ecma_parser_reader.proofs.Notes.{or_nil, notes_nil}
@@ -39,8 +39,9 @@ use Rattle.swc_ecma_parser_reader.specs.Entry.{error_tokens}
 use Rattle.swc_ecma_parser_reader.proofs.Errors.{is_error}
 use Rattle.swc_ecma_parser_reader.proofs.Meets.{Meets, Refuses, meets_then, meets_if, wanted_meets, refuse_meets, Turned, loop_answers, saw}
 use Rattle.swc_ecma_parser_reader.proofs.Between.{Sound, SoundTree, SoundStep, no_faults, same, same-fewer, sound_then, sound_more, sound_moved, sound_here, sound_as, sound_after, sound_coded, within_sound}
-use Rattle.swc_ecma_parser_grammar.specs.Using.{is_using_declaration, misused, each_misused, using_faults}
+use Rattle.swc_ecma_parser_grammar.specs.Using.{is_using_declaration, misused, each_misused, using_faults, is_await_using_declaration}
 use Rattle.swc_ecma_parser_grammar.proofs.Using.{using_stands}
+use Rattle.swc_ecma_parser_grammar.proofs.AwaitUsing.{declares_behind_await}
 
 -- ---- faults that are told and are none of the table
 
@@ -183,20 +184,40 @@ module _ (Expr : Class → Code → Tree → Place → Place → Type 0) (Pat : 
       sound_after s t refl (variables_stand word s.at e) refl refl (λ (i, r, z). variables_rule word xs i b e r z refl) (sound_more p q)))
 
   -- `using`: nothing is said of what stands there
-  pub using_sound : (Stmt : Code → Position → Tree → Place → Place → Type 0) (Target : Code → Tree → Place → Place → Type 0) (Params : Code → List Tree → Place → Place → Type 0)
-      (Named : Code → (name x : Tree) → Place → Place → Type 0) (at : Position) (s : State) → at.include_decl ≡ true → is_using_declaration s.code s.at ≡ true
-      → Meets (λ x t. SoundTree (λ k. StmtRule Stmt Expr Pat Target Params Named k at) s x t) (using_stmt (declarators expr pat false decl.Var) s)
-  unfolding using_stmt using_from misusing spanned
-  using_sound Stmt Target Params Named at s b e = meets_then _ (within with_in (declarators expr pat false decl.Var) (moved s)) _
-      (within_sound (λ xs k l. walks.walks (env_of k l) false (trees xs)) (λ xs. all_notes_of (trees xs)) (λ xs k. ReadsSeparated (Declared false decl.Var k) xs) with_in (λ k. refl)
-      (declarators expr pat false decl.Var) (moved s) (declarators_sound false decl.Var (coded (with_in s.code) (moved s)))) (λ xs m p.
-      let fs = using_faults m.code.setting.explicit_resource_management (spanned s.at m.at) xs in
-      meets_then _ (told fs m) _ (untold_sound fs (using_untabled m.code.setting.explicit_resource_management (spanned s.at m.at) xs) m) (λ _ t q.
-      let a : Sound same (λ k l. walks.walks (env_of k l) false (trees xs)) (all_notes_of (trees xs)) (λ k c d. ReadsSeparated (Declared false decl.Var (with_in k)) xs c d × (d ≡ m.at)) (moved s) m = sound_as (moved s) m refl refl refl (λ r. (r, refl)) p in
-      sound_after s t refl (ap is_error (using_stands s.code s.at e)) refl refl
-      (λ (i, (r, g), (z, y)). using_rule xs b e (subst (λ d. ReadsSeparated (Declared false decl.Var (with_in s.code)) xs (after s.at) d) (sym y) r)
-      (ap (λ d. using_faults s.code.setting.explicit_resource_management (spanned s.at d) xs) (y ∙ g) ∙ ap (λ (k : Code). using_faults k.setting.explicit_resource_management (spanned s.at m.at) xs) (sym p.code) ∙ z)
-      (ap (λ d. tree.using (spanned s.at d) false (listed xs)) (sym (y ∙ g)))) (sound_more a q)))
+  module _ (Stmt : Code → Position → Tree → Place → Place → Type 0) (Target : Code → Tree → Place → Place → Type 0) (Params : Code → List Tree → Place → Place → Type 0)
+      (Named : Code → (name x : Tree) → Place → Place → Type 0) (at : Position) where
+    -- from the word on, behind `await` or not
+    using_from_sound : (v : Bool) (c : Place) (s : State) → at.include_decl || (v && at.top_level) ≡ true → AwaitWord v c s.at → is_using_declaration s.code s.at ≡ true
+        → Meets (λ x t. Sound same (λ k l. walk (env_of k l) x) (notes_of x) (λ k _ d. StmtRule Stmt Expr Pat Target Params Named k at x c d) s t) (using_from (declarators expr pat false decl.Var) v (span_at c) s)
+    unfolding using_from misusing spanned
+    using_from_sound v c s b a e = meets_then _ (within with_in (declarators expr pat false decl.Var) (moved s)) _
+        (within_sound (λ xs k l. walks.walks (env_of k l) false (trees xs)) (λ xs. all_notes_of (trees xs)) (λ xs k. ReadsSeparated (Declared false decl.Var k) xs) with_in (λ k. refl)
+        (declarators expr pat false decl.Var) (moved s) (declarators_sound false decl.Var (coded (with_in s.code) (moved s)))) (λ xs m p.
+        let fs = using_faults m.code.setting.explicit_resource_management (spanned c m.at) xs in
+        meets_then _ (told fs m) _ (untold_sound fs (using_untabled m.code.setting.explicit_resource_management (spanned c m.at) xs) m) (λ _ t q.
+        let r : Sound same (λ k l. walks.walks (env_of k l) false (trees xs)) (all_notes_of (trees xs)) (λ k i d. ReadsSeparated (Declared false decl.Var (with_in k)) xs i d × (d ≡ m.at)) (moved s) m = sound_as (moved s) m refl refl refl (λ w. (w, refl)) p in
+        sound_after s t refl (ap is_error (using_stands s.code s.at e)) refl refl
+        (λ (i, (w, g), (z, y)). using_rule v xs s.at b a e (subst (λ d. ReadsSeparated (Declared false decl.Var (with_in s.code)) xs (after s.at) d) (sym y) w)
+        (ap (λ d. using_faults s.code.setting.explicit_resource_management (spanned c d) xs) (y ∙ g) ∙ ap (λ (k : Code). using_faults k.setting.explicit_resource_management (spanned c m.at) xs) (sym p.code) ∙ z)
+        (ap (λ d. tree.using (spanned c d) v (listed xs)) (sym (y ∙ g)))) (sound_more r q)))
+
+    pub using_sound : (s : State) → at.include_decl ≡ true → is_using_declaration s.code s.at ≡ true
+        → Meets (λ x t. SoundTree (λ k. StmtRule Stmt Expr Pat Target Params Named k at) s x t) (using_stmt (declarators expr pat false decl.Var) s)
+    unfolding using_stmt
+    using_sound s b e = meets_as (using_from (declarators expr pat false decl.Var) false (span_at s.at) s) (using_from_sound false s.at s (rw b refl) (no_await refl refl) e) (λ x t p. sound_as s t refl refl refl (λ r. r) p)
+
+    pub await_using_sound : (s : State) → at.include_decl || at.top_level ≡ true → kind_at s.at ≡ kind.Await → is_using_declaration s.code (after s.at) ≡ true
+        → Meets (λ x t. SoundTree (λ k. StmtRule Stmt Expr Pat Target Params Named k at) s x t) (await_using_stmt (declarators expr pat false decl.Var) s)
+    unfolding await_using_stmt
+    await_using_sound s b a e = meets_as (using_from (declarators expr pat false decl.Var) true (span_at s.at) (moved s)) (using_from_sound true s.at (moved s) b (await_word refl a refl) e)
+        (λ x t p. sound_after s t a refl refl refl (λ r. r) p)
+
+    -- before anything else
+    pub first_sound : (v : Bool) (rest : Position → Reader Tree) (s : State) → Meets (λ x t. SoundTree (λ k. StmtRule Stmt Expr Pat Target Params Named k at) s x t) (rest at s)
+        → Meets (λ x t. SoundTree (λ k. StmtRule Stmt Expr Pat Target Params Named k at) s x t) (await_using_or (declarators expr pat false decl.Var) v rest at s)
+    unfolding await_using_or
+    first_sound v rest s r = meets_if _ (is_await_using_declaration at s.code s.at && v) _ _
+        (λ h. let (b, e, i) = declares_behind_await at s.code s.at (and_yes (is_await_using_declaration at s.code s.at) v h).0 in await_using_sound s b e i) (λ _. r)
 
 -- ---- statements one behind another
 

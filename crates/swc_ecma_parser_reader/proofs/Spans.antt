@@ -36,21 +36,23 @@ use Rattle.swc_ecma_parser_reader.specs.State.{State, Outcome, Reader, moved, co
 use Rattle.swc_ecma_parser_reader.specs.Methods.{star}
 use Rattle.swc_ecma_parser_reader.specs.Expressions.{Cover}
 use Rattle.swc_ecma_parser_reader.specs.Reader as reader
-use Rattle.swc_ecma_parser_reader.specs.Reader.{decorated_in, told, named, items, closes, close, declarators, link, link_from, condition, alternative, head, clauses, target, unbroken, uncontinued, operand, braced, handler, finalizer, handled, optional_end, note_with, await_here, unless_awaited, Opening, as_init, as_left, opening, head_part, misdeclared, misdirected, labelled_body, relabels, no_label, note_statement, empty, debugger, variables, block, block_from, expr_stmt, expr_stmt_at, import_stmt, import_stmt_at, thrown, throw, while_stmt, with_stmt, do_while, for_parts, for_in, for_of, for_behind, for_stmt, goes_on, links, if_stmt, break_stmt, continue_stmt, returned, return_stmt, misplaced, begins_label, labeled_stmt, other_stmt, switch_stmt, try_stmt, function_word, function_body, function_parts, function_decl, function_stmt, const_stmt, let_stmt, async_or_other, stmt_by, stmt_level, stmt, top_await_fault, top_await, whole_stmt, expr, head_cover, pattern, member, misusing, using_from, using_stmt, using_or_other}
+use Rattle.swc_ecma_parser_reader.specs.Reader.{decorated_in, told, named, items, closes, close, declarators, link, link_from, condition, alternative, head, clauses, target, unbroken, uncontinued, operand, braced, handler, finalizer, handled, optional_end, note_with, await_here, unless_awaited, Opening, as_init, as_left, opening, head_part, misdeclared, misdirected, labelled_body, relabels, no_label, note_statement, empty, debugger, variables, block, block_from, expr_stmt, expr_stmt_at, import_stmt, import_stmt_at, thrown, throw, while_stmt, with_stmt, do_while, for_parts, for_in, for_of, for_behind, for_stmt, goes_on, links, if_stmt, break_stmt, continue_stmt, returned, return_stmt, misplaced, begins_label, labeled_stmt, other_stmt, switch_stmt, try_stmt, function_word, function_body, function_parts, function_decl, function_stmt, const_stmt, let_stmt, async_or_other, stmt_by, stmt_level, stmt, top_await_fault, top_await, whole_stmt, expr, head_cover, pattern, member, misusing, using_from, using_stmt, using_or_other, await_using_stmt, plain_stmt}
 use Rattle.swc_ecma_parser_reader.specs.Entry.{last_span, are_errors, TakesSome, TakesErrors, StandsAt, IsBehind}
 use Rattle.swc_ecma_parser_reader.proofs.Takes.{Falls}
-use Rattle.swc_ecma_parser_reader.proofs.Falls.{stmt_falls, stmt_level_falls, expr_falls, pattern_falls, head_cover_falls, parameters_fall, member_falls, decorated_in_falls}
+use Rattle.swc_ecma_parser_reader.proofs.Falls.{stmt_falls, stmt_level_falls, expr_falls, pattern_falls, head_cover_falls, parameters_fall, member_falls, decorated_in_falls, declarators_fall}
 use Rattle.swc_ecma_parser_reader.proofs.Meets.{Answers, Meets, Refuses, answers_then, answers_if, always, meets_then, meets_if, wanted_meets, too_deep_meets, refuse_meets, meant, saw}
 use Rattle.swc_ecma_parser_reader.proofs.Errors.{is_error, fault_here}
 use Rattle.swc_ecma_parser_reader.proofs.Behind.{NothingLost, Kept, Lost, Passes, behind_self, behind_after, end_keeps, expect_keeps, name_keeps, fault_keeps}
-use Rattle.swc_ecma_parser_reader.proofs.Keeps.{target_keeps, function_params_keep, function_body_keep, parameters_keep, stmt_keeps, level_keeps, head_cover_keeps, expr_keeps, member_keeps, declarators_keeps, pattern_keeps, decorated_in_keeps}
-use Rattle.swc_ecma_parser_reader.proofs.decorators.Declared.{declared_is_bare}
+use Rattle.swc_ecma_parser_reader.proofs.Keeps.{target_keeps, function_params_keep, function_body_keep, parameters_keep, stmt_keeps, level_keeps, head_cover_keeps, expr_keeps, member_keeps, declarators_keeps, pattern_keeps, decorated_in_keeps, declarators_keeps_all}
+use Rattle.swc_ecma_parser_reader.proofs.decorators.Declared.{declared_is_bare, first_declares}
 use Rattle.swc_ecma_parser_reader.proofs.decorators.Spans.{StandsPlainly, either_stands}
 use Rattle.swc_ecma_parser_reader.proofs.SoundParts.{after_return_meets}
 use Rattle.swc_ecma_parser_reader.proofs.expressions.SoundSteps.{reject_meets, meets_as}
 use Rattle.swc_ecma_parser_reader.proofs.expressions.Keeps.{star_keeps}
 use Rattle.swc_ecma_parser_model.specs.declared.leaves.Ident.{Ident}
 use Rattle.swc_ecma_parser_grammar.specs.Using.{is_using_declaration}
+use Rattle.swc_ecma_parser_reader.proofs.First.{first_meets, first_keeps, first_falls}
+use Rattle.swc_ecma_parser_reader.proofs.decorators.Bare.{IsBare}
 
 -- ---- error tokens that are taken
 
@@ -406,6 +408,14 @@ module _ (inner : Position → Reader Tree) (inner_expr : Class → Reader Tree)
     by_ends at kind.Export s e = import_ends s
     by_ends at _ s e = other_ends at s
 
+    await_using_ends : (s : State) → Meets (Ends s.at) (await_using_stmt (declarators inner_expr inner_pat false decl.Var) s)
+    unfolding await_using_stmt using_from misusing spanned
+    await_using_ends s = let b = moved s in let i = moved b in
+        meets_then _ (within with_in (declarators inner_expr inner_pat false decl.Var) i) _
+        (kept b (within with_in (declarators inner_expr inner_pat false decl.Var) i) (answers_then (Kept b) _ (declarators inner_expr inner_pat false decl.Var (coded (with_in s.code) i)) _
+        (declarators_keeps inner_expr inner_pat below_expr below_pat b false decl.Var (coded (with_in s.code) i) (behind_after b b (behind_self b))) (λ x t k. k))) (λ xs t k.
+        meets_then _ (misusing (record { lo = (span_at s.at).lo; hi = t.at.last.hi }) xs t) _ (told_errs _ t) (λ _ u z. inr (t.at, refl, (k.0.read, k.0.tokens, k.0.last), z)))
+
 -- ---- a statement on its tokens
 
 -- one at least, where fewer are left
@@ -432,20 +442,32 @@ stands_by s (Err e) h g l = tt
 
 module _ (n : ℕ) (at : Position) where
   abbrev plain : Position → Reader Tree
-  plain = stmt_level (stmt n) (expr n) (pattern n) (head_cover n) (reader.parameters n) (member n)
+  plain = plain_stmt n
 
-  level_stands : (s : State) → Meets (λ x t. StandsPlainly x s.at t.at) (plain at s)
+  abbrev rest : Position → Reader Tree
+  rest = stmt_level (stmt n) (expr n) (pattern n) (head_cover n) (reader.parameters n) (member n)
+
+  abbrev found : Reader (List Tree)
+  found = declarators (expr n) (pattern n) false decl.Var
+
+  level_ends : (s : State) → Meets (Ends s.at) (rest at s)
   unfolding stmt_level
-  level_stands s = stands_by s (plain at s)
-      (by_ends (stmt n) (expr n) (pattern n) (head_cover n) (reader.parameters n) (member n) (stmt_keeps n) (expr_keeps n) (parameters_keep n) (member_keeps n) (pattern_keeps n) at (kind_at s.at) s refl)
-      (level_keeps (stmt n) (expr n) (pattern n) (head_cover n) (reader.parameters n) (member n) (stmt_keeps n) (expr_keeps n) (pattern_keeps n) (head_cover_keeps n) (parameters_keep n) (member_keeps n) at s s (behind_self s))
-      (stmt_level_falls (stmt n) (stmt_falls n) (expr n) (expr_falls n) (pattern n) (pattern_falls n) (head_cover n) (head_cover_falls n) (reader.parameters n) (parameters_fall n) (member n) (member_falls n) at s)
+  level_ends s = by_ends (stmt n) (expr n) (pattern n) (head_cover n) (reader.parameters n) (member n) (stmt_keeps n) (expr_keeps n) (parameters_keep n) (member_keeps n) (pattern_keeps n) at (kind_at s.at) s refl
+
+  plain_stands : (s : State) → Meets (λ x t. StandsPlainly x s.at t.at) (plain at s)
+  plain_stands s = stands_by s (plain at s)
+      (first_meets found (reader.nests n) rest at (Ends s.at) s
+      (λ _. await_using_ends (stmt n) (expr n) (pattern n) (head_cover n) (reader.parameters n) (member n) (stmt_keeps n) (expr_keeps n) (parameters_keep n) (member_keeps n) (pattern_keeps n) s) (level_ends s))
+      (first_keeps found (reader.nests n) rest at (declarators_keeps_all (expr n) (pattern n) (expr_keeps n) (pattern_keeps n)) s s (behind_self s)
+      (level_keeps (stmt n) (expr n) (pattern n) (head_cover n) (reader.parameters n) (member n) (stmt_keeps n) (expr_keeps n) (pattern_keeps n) (head_cover_keeps n) (parameters_keep n) (member_keeps n) at s s (behind_self s)))
+      (first_falls found (reader.nests n) rest at (declarators_fall (expr n) (expr_falls n) (pattern n) (pattern_falls n) false decl.Var) s
+      (stmt_level_falls (stmt n) (stmt_falls n) (expr n) (expr_falls n) (pattern n) (pattern_falls n) (head_cover n) (head_cover_falls n) (reader.parameters n) (parameters_fall n) (member n) (member_falls n) at s))
 
 stmt_stands : (n : ℕ) (at : Position) (s : State) → Meets (λ x t. StandsAt x s.at t.at) (stmt n at s)
 unfolding stmt
 stmt_stands zero at s = too_deep_meets _ s
-stmt_stands (suc n) at s = either_stands (plain n at) at (level_stands n at)
-    (λ t. declared_is_bare (stmt n) (expr n) (pattern n) (head_cover n) (reader.parameters n) (member n) at t) (decorated_in n) (decorated_in_keeps n) (decorated_in_falls n) s
+stmt_stands (suc n) at s = either_stands (plain n at) at (plain_stands n at)
+    (λ t h. first_declares (found n at) (reader.nests n) (rest n at) at t (λ x u. IsBare x) h (declared_is_bare (stmt n) (expr n) (pattern n) (head_cover n) (reader.parameters n) (member n) at t h)) (decorated_in n) (decorated_in_keeps n) (decorated_in_falls n) s
 
 -- ---- of a statement that stands in no other
 

@@ -26,7 +26,7 @@ use Rattle.swc_ecma_parser_reader.specs.Arrows.{begins_named_arrow}
 use Rattle.swc_ecma_parser_reader.specs.AsyncArrows.{begins_async_arrow}
 use Rattle.swc_ecma_parser_reader.specs.Words.{begins_async_call}
 use Rattle.swc_ecma_parser_reader.specs.DecoratedStatements.{either_stmt}
-use Rattle.swc_ecma_parser_reader.specs.Reader.{expr_stmt, expr_stmt_at, begins_label, other_stmt, stmt_level, stmt, top_await, whole_stmt, expr}
+use Rattle.swc_ecma_parser_reader.specs.Reader.{expr_stmt, expr_stmt_at, begins_label, other_stmt, stmt_level, stmt, top_await, whole_stmt, expr, await_using_or}
 use Rattle.swc_ecma_parser_reader.specs.Entry.{StandsAt, statement_entry, statement_walk, statement_left, SoundStatement, ReadsSupportedStatement, CompleteStatement, AnswersStatement}
 use Rattle.swc_ecma_parser_reader.specs.Limits.{has_too_deep_token, has_out_of_memory_token}
 use Rattle.swc_ecma_parser_reader.proofs.Errors.{is_error, kind_here}
@@ -37,6 +37,7 @@ use Rattle.swc_ecma_parser_reader.proofs.Spans.{whole_is_on_tokens}
 use Rattle.swc_ecma_parser_reader.proofs.CompleteScripts.{whole_reads}
 use Rattle.swc_ecma_parser_reader.proofs.Empty.{ended}
 use Rattle.swc_ecma_parser_reader.proofs.Limits.{whole_fits}
+use Rattle.swc_ecma_parser_grammar.specs.Using.{is_await_using_declaration}
 
 -- ---- an entry reads what a statement is
 
@@ -102,7 +103,7 @@ before s ts = record s { at = record s.at { left = ts } }
 -- nothing but the fault is answered, in however many levels
 refused_in : (n : ℕ) (include_decl top_level : Bool) (s : State) (t : TokenAndSpan) (e : Error) (ts : List TokenAndSpan)
     → (u : State) × (stmt n (at_top include_decl top_level) (before s (record t { token = token.Error e } ∷ ts)) ≡ Err (fault_of e, u))
-unfolding stmt either_stmt stmt_level other_stmt begins_label expr_stmt_at expr_stmt expr expr_level expression_expr assignment_expr cover_expr done_expr plain_expr begins_yield begins_named_arrow begins_async_arrow begins_async_call operators_expr binary_expr unary_expr awaits postfix left left_head primary literal marked_primary wanted too_deep kind_at same_kind identifier_at may_begin_expression_statement is_async_function is_let_declaration word_at
+unfolding stmt either_stmt await_using_or is_await_using_declaration stmt_level other_stmt begins_label expr_stmt_at expr_stmt expr expr_level expression_expr assignment_expr cover_expr done_expr plain_expr begins_yield begins_named_arrow begins_async_arrow begins_async_call operators_expr binary_expr unary_expr awaits postfix left left_head primary literal marked_primary wanted too_deep kind_at same_kind identifier_at may_begin_expression_statement is_async_function is_let_declaration word_at
 refused_in zero include_decl top_level s t e ts = (_, refl)
 refused_in (suc zero) true top_level s t e ts = (_, refl)
 refused_in (suc zero) false top_level s t e ts = (_, refl)
@@ -129,7 +130,7 @@ abbrev Ended : ℕ → Position → State → Type 0
 Ended n at s = (f : Fault) × (u : State) × (f.kind ≡ faults.Eof) × (stmt n at s ≡ Err (f, u))
 
 ended_in : (n : ℕ) (include_decl top_level : Bool) (s : State) → Ended n (at_top include_decl top_level) (before s [])
-unfolding stmt either_stmt stmt_level other_stmt begins_label expr_stmt_at expr_stmt expr expr_level expression_expr assignment_expr cover_expr done_expr plain_expr begins_yield begins_named_arrow begins_async_arrow begins_async_call operators_expr binary_expr unary_expr awaits postfix left left_head primary literal marked_primary wanted too_deep kind_at same_kind identifier_at may_begin_expression_statement is_async_function is_let_declaration word_at
+unfolding stmt either_stmt await_using_or is_await_using_declaration stmt_level other_stmt begins_label expr_stmt_at expr_stmt expr expr_level expression_expr assignment_expr cover_expr done_expr plain_expr begins_yield begins_named_arrow begins_async_arrow begins_async_call operators_expr binary_expr unary_expr awaits postfix left left_head primary literal marked_primary wanted too_deep kind_at same_kind identifier_at may_begin_expression_statement is_async_function is_let_declaration word_at
 ended_in zero include_decl top_level s = (_, _, refl, refl)
 ended_in (suc zero) true top_level s = (_, _, refl, refl)
 ended_in (suc zero) false top_level s = (_, _, refl, refl)

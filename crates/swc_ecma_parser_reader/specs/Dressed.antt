@@ -1,5 +1,5 @@
 -- Classes and functions with decorators that were read before them, step by step.
-use Rattle.std.specs.Prelude.{ℕ, Bool, if◌then◌else◌, List}
+use Rattle.std.specs.Prelude.{Bool, if◌then◌else◌, List}
 use Rattle.swc_ecma_parser_common.specs.declared.span.Span.{Span}
 use Rattle.swc_ecma_parser_error.specs.Kind as faults
 use Rattle.swc_ecma_parser_model.specs.Tree as tree
@@ -12,7 +12,7 @@ use Rattle.swc_ecma_parser_grammar.specs.language.Contexts.{in_class}
 use Rattle.swc_ecma_parser_reader.specs.Decorators.{Leading}
 use Rattle.swc_ecma_parser_reader.specs.Members.{class_parts, class_name}
 use Rattle.swc_ecma_parser_reader.specs.Methods.{star}
-use Rattle.swc_ecma_parser_reader.specs.Reader.{named, function_word, function_parts, stmt_level, stmt, expr, pattern, head_cover, parameters, member}
+use Rattle.swc_ecma_parser_reader.specs.Reader.{named, function_word, function_parts}
 use Rattle.swc_ecma_parser_reader.specs.State.{Reader, ◌>>=◌, ◌>>◌, pure, span_here, skip, within, fault, fault_at, name}
 
 module _ (heritage member : Reader Tree) where
@@ -68,7 +68,3 @@ module _ (stmt : Reader Tree) (params : Reader (List Tree)) where
   unfoldable pub function_stmt_with : Position → Leading → Reader Tree
   function_stmt_with at v = λ s.
       if at.include_decl then function_decl_with v.found s else (fault (fault_at (span_at s.at) faults.DeclNotAllowed) >> function_decl_with v.found) s
-
--- a statement without decorators in so many levels
-abbrev pub plain_stmt : ℕ → Position → Reader Tree
-plain_stmt n = stmt_level (stmt n) (expr n) (pattern n) (head_cover n) (parameters n) (member n)

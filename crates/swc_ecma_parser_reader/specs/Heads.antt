@@ -8,7 +8,7 @@ use Rattle.swc_ecma_parser_grammar.specs.Looks.{sees}
 use Rattle.swc_ecma_parser_grammar.specs.language.Goals.{Class}
 use Rattle.swc_ecma_parser_reader.specs.Methods.{FunctionForm, parameter_form}
 use Rattle.swc_ecma_parser_reader.specs.Arrows.{arrow_from}
-use Rattle.swc_ecma_parser_reader.specs.State.{Reader, ◌>>=◌, pure, span_here, wanted}
+use Rattle.swc_ecma_parser_reader.specs.State.{Reader, ◌>>=◌, pure, span_here, wanted, ◌>>◌}
 use Rattle.swc_ecma_parser_reader.specs.Expressions.{Cover, done, close, cover_expr, sequence_from}
 
 module _ (inner : Class → Reader Tree) (covers : Reader Cover) (function : FunctionForm → Reader Tree) where

@@ -19,6 +19,7 @@ pub mod Members
 pub mod Reader
 pub mod Dressed
 pub mod HeadWords
+pub mod AwaitWords
 pub mod DecoratorLevels
 pub mod Entry
 pub mod Limits

@@ -7,7 +7,7 @@ use Rattle.swc_ecma_parser_input.specs.Place.{Place, after}
 use Rattle.swc_ecma_parser_model.specs.Tree.{Tree, Text}
 use Rattle.swc_ecma_parser_grammar.specs.Looks.{kind_at, breaks_at, sees}
 use Rattle.swc_ecma_parser_grammar.specs.Follows.{word_at}
-use Rattle.swc_ecma_parser_reader.specs.State.{Reader, ◌>>=◌, pure, moved}
+use Rattle.swc_ecma_parser_reader.specs.State.{Reader, ◌>>=◌, pure, moved, ◌>>◌}
 
 -- an accessor, or a method
 pub data MethodForm : Type 0 where

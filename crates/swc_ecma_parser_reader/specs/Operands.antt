@@ -158,8 +158,8 @@ postfix_at c = if breaks_at c then None else update_operator (kind_at c)
 abbrev pub misplaced_await : Code → Kind
 misplaced_await k = if k.flags.in_function then faults.AwaitInFunction else faults.AwaitParamInAsync
 
-unfoldable pub await_allowed : Reader (Unit {0})
-await_allowed = λ s. if may_await s.code then Ok (tt, s) else fault (fault_at (span_at s.at) (misplaced_await s.code)) s
+unfoldable pub await_allowed : (word : Span) → Reader (Unit {0})
+await_allowed word = λ s. if may_await s.code then Ok (tt, s) else fault (fault_at word (misplaced_await s.code)) s
 
 -- the class of the right operand
 abbrev pub right_class : BinaryOp → Class
@@ -584,7 +584,7 @@ module _ (inner : Class → Reader Tree) (cover : Reader Cover) where
   unfoldable pub await_expr : Reader Tree
   await_expr = do
     start ← span_here
-    await_allowed
+    await_allowed start
     skip
     e ← inner unary
     span ← since start

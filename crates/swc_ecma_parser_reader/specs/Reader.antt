@@ -20,7 +20,7 @@ use Rattle.swc_ecma_parser_grammar.specs.Follows.{word_at, may_begin_expression_
 use Rattle.swc_ecma_parser_grammar.specs.Variables.{is_const, needs_no_initializer}
 use Rattle.swc_ecma_parser_grammar.specs.Reads.{with_in, head_code, nested_item, top_item}
 use Rattle.swc_ecma_parser_grammar.specs.Own.{only, labelled_function, duplicates, head_faults}
-use Rattle.swc_ecma_parser_grammar.specs.Using.{is_using_declaration, may_declare_using, stands_in_head}
+use Rattle.swc_ecma_parser_grammar.specs.Using.{is_using_declaration, may_declare_using, awaits_using, declares_behind, stands_in_head}
 use Rattle.swc_ecma_parser_grammar.specs.Entries.{script_code}
 use Rattle.swc_ecma_parser_grammar.specs.language.Contexts.{in_loop, in_breakable, in_with, without_in}
 use Rattle.swc_ecma_parser_grammar.specs.language.Goals.{Class, expression, assignment, left_side}
@@ -34,7 +34,7 @@ use Rattle.swc_ecma_parser_reader.specs.Decorators.{decorated}
 use Rattle.swc_ecma_parser_reader.specs.DecoratedStatements.{either_stmt}
 use Rattle.swc_ecma_parser_reader.specs.Members.{member_level, class_expr, class_stmt}
 unfoldable pub use Rattle.swc_ecma_parser_reader.specs.Jumps.{told, target, unbroken, break_stmt, uncontinued, continue_stmt, misplaced, after_return, operand, returned, return_stmt}
-unfoldable pub use Rattle.swc_ecma_parser_reader.specs.Using.{misusing, using_from, using_stmt}
+unfoldable pub use Rattle.swc_ecma_parser_reader.specs.Using.{misusing, using_from, using_stmt, await_using_stmt, await_using_or}
 use Rattle.swc_ecma_parser_reader.specs.Patterns.{pattern_level, element_level, parameter_list}
 use Rattle.swc_ecma_parser_reader.specs.State.{Reader, ◌>>=◌, ◌>>◌, pure, here, span_here, since, skip, moved, spanned_from, coded, flagged, within, below_label, note_module_item, fault, fault_at, end_of, module_fault, wanted, too_deep, refuse, reject, refused, labelled, reference, expect, end, stuck, Step, More, Done, loop}
 
@@ -111,7 +111,7 @@ note_with span = λ s. Ok (tt, module_fault (fault_at span faults.WithInStrict) 
 unfoldable pub note_statement : Tree → Reader (Unit {0})
 note_statement x = λ s. if is_ident_named (codes "interface") x then Ok (tt, module_fault (fault_at (span_of x) faults.InvalidIdentInStrict) s) else Ok (tt, s)
 
--- a bare name before `:` is a label; none is read yet
+-- a bare name before `:` is a label and no expression
 unfoldable pub no_label : Tree → Reader (Unit {0})
 no_label x = λ s. if is_ident x && sees kind.Colon s.at then wanted faults.Unexpected s else Ok (tt, s)
 
@@ -249,22 +249,26 @@ module _ (expr : Class → Reader Tree) (pat : Reader Tree) where
     span ← since start
     pure (Variables (tree.var span word (listed found)))
 
-  -- what `using` declares, from the name on
-  unfoldable pub using_head : Span → Reader Opening
-  using_head start = do
+  -- what `using` declares, behind `await` or not, from the name on
+  unfoldable pub using_head : (is_await : Bool) → Span → Reader Opening
+  using_head is_await start = do
     first ← span_here
     name ← pat
     span ← since first
     whole ← since start
     undeclared whole
-    pure (Resource (tree.using whole false (listed (tree.declarator span name tree.absent ∷ []))))
+    pure (Resource (tree.using whole is_await (listed (tree.declarator span name tree.absent ∷ []))))
 
   -- a name before another: `using` declares where `in` or `of` stands behind that
   unfoldable pub named_head : Reader Opening
   named_head = do
     start ← span_here
     p ← pat
-    λ s. if stands_in_head (after s.at) then using_head start s else Ok (Named p, s)
+    λ s. if stands_in_head (after s.at) then using_head false start s else Ok (Named p, s)
+
+  -- behind what `await` begins: the expression `await using` declares where a name and `in` or `of` stand behind it
+  unfoldable pub await_or_expression : Span → Cover → Reader Opening
+  await_or_expression start v = λ s. if awaits_using v.x && declares_behind s.code s.at then using_head true start s else Ok (Expression v, s)
 
   -- `async` before `of`
   unfoldable pub async_head : Reader Opening
@@ -277,6 +281,12 @@ module _ (expr : Class → Reader Tree) (pat : Reader Tree) where
     head_expression = do
       v ← within without_in head_cover
       pure (Expression v)
+
+    unfoldable pub await_head : Reader Opening
+    await_head = do
+      start ← span_here
+      v ← within without_in head_cover
+      await_or_expression start v
 
     -- `async` before `of` on its line: a name alone, or the head of an arrow function
     unfoldable pub async_or_expression : Reader Opening
@@ -292,6 +302,7 @@ module _ (expr : Class → Reader Tree) (pat : Reader Tree) where
         else if sees kind.Const s.at then head_variables decl.Const s
         else if is_let_declaration s.at then head_variables decl.Let s
         else if may_declare_using s.code s.at then named_head s
+        else if sees kind.Await s.at then await_head s
         else head_target is_await s
 
 -- a part of a head, unless what stands behind it does
@@ -627,6 +638,11 @@ module _ (stmt : Position → Reader Tree) (expr : Class → Reader Tree) (pat :
   unfoldable pub stmt_level : Position → Reader Tree
   stmt_level at = λ s. stmt_by at (kind_at s.at) s
 
+-- whether a part of what stands in so many levels can be read
+abbrev pub nests : ℕ → Bool
+nests zero = false
+nests (suc n) = true
+
 -- ---- in so many levels: the body of a function that is an expression stands at the level of the expressions in what it is part of
 
 unfoldable mutual
@@ -668,7 +684,9 @@ unfoldable mutual
   -- a statement
   pub stmt : ℕ → Position → Reader Tree
   stmt zero at = too_deep
-  stmt (suc n) at = either_stmt (stmt_level (stmt n) (expr n) (pattern n) (head_cover n) (parameter_list (expr n) (cover n) (pattern n) (element n)) (member n)) (decorated_in n) at
+  stmt (suc n) at = either_stmt
+      (await_using_or (declarators (expr n) (pattern n) false decl.Var) (nests n) (stmt_level (stmt n) (expr n) (pattern n) (head_cover n) (parameter_list (expr n) (cover n) (pattern n) (element n)) (member n)))
+      (decorated_in n) at
 
 -- what the head of a loop begins with, from behind `async`, where a name stands
 unfoldable pub head_behind : ℕ → Span → Reader Cover
@@ -678,6 +696,10 @@ head_behind (suc n) start = head_behind_async (expr n) (cover n) (function_by (s
 -- the parameters of a function, each with its default, if one stands there
 abbrev pub parameters : ℕ → Reader (List Tree)
 parameters n = parameter_list (expr n) (cover n) (pattern n) (element n)
+
+-- a statement without decorators
+abbrev pub plain_stmt : ℕ → Position → Reader Tree
+plain_stmt n = await_using_or (declarators (expr n) (pattern n) false decl.Var) (nests n) (stmt_level (stmt n) (expr n) (pattern n) (head_cover n) (parameters n) (member n))
 
 -- a function as a part of an expression
 unfoldable pub function : ℕ → FunctionForm → Reader Tree

@@ -1,10 +1,11 @@
 -- The reader of what is declared with `using`: the proposal on explicit resource management, beside ECMA-262, section 14.3.
-use Rattle.std.specs.Prelude.{Bool, false, List}
+use Rattle.std.specs.Prelude.{Bool, true, false, ◌&&◌, if◌then◌else◌, List}
 use Rattle.swc_ecma_parser_common.specs.declared.span.Span.{Span}
 use Rattle.swc_ecma_parser_model.specs.Tree as tree
 use Rattle.swc_ecma_parser_model.specs.Tree.{Tree, listed}
+use Rattle.swc_ecma_parser_grammar.specs.declared.position.Position.{Position}
 use Rattle.swc_ecma_parser_grammar.specs.Reads.{with_in}
-use Rattle.swc_ecma_parser_grammar.specs.Using.{using_faults}
+use Rattle.swc_ecma_parser_grammar.specs.Using.{using_faults, is_await_using_declaration}
 use Rattle.swc_ecma_parser_reader.specs.State.{Reader, ◌>>=◌, ◌>>◌, pure, span_here, since, skip, within}
 use Rattle.swc_ecma_parser_reader.specs.Jumps.{told}
 
@@ -26,3 +27,14 @@ module _ (declarators : Reader (List Tree)) where
   using_stmt = do
     start ← span_here
     using_from false start
+
+  -- behind `await`, of which nothing is said
+  unfoldable pub await_using_stmt : Reader Tree
+  await_using_stmt = do
+    start ← span_here
+    skip
+    using_from true start
+
+  -- so it begins before anything else is read, where its parts can be
+  unfoldable pub await_using_or : (nests : Bool) → (Position → Reader Tree) → Position → Reader Tree
+  await_using_or nests rest at = λ s. if is_await_using_declaration at s.code s.at && nests then await_using_stmt s else rest at s

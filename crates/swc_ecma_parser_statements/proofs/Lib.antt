@@ -1,1 +1,2 @@
 mod Misused
+mod AwaitStmt

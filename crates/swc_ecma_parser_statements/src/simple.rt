@@ -43,7 +43,11 @@ pub fn debugger<P: Source, T: BuildsStmt>(alloc: Global, p: &mut P) -> PResult<T
 
 /// Adds the fault that the bare name `interface` is in module code.
 #[tactic(auto, unfolding(swc_ecma_parser_reader::specs::Reader::note_statement))]
-fn note_statement<P: Source, T: Trees>(alloc: Global, p: &mut P, x: &T::Expr) -> PResult<()>
+pub(crate) fn note_statement<P: Source, T: Trees>(
+    alloc: Global,
+    p: &mut P,
+    x: &T::Expr,
+) -> PResult<()>
     ensures { Gives (rules.note_statement (T.expr_of x.now) (P.seen p.old)) result (P.seen p.new) }
 {
     if !T::is_ident_named(x, "interface") {
@@ -53,9 +57,9 @@ fn note_statement<P: Source, T: Trees>(alloc: Global, p: &mut P, x: &T::Expr) ->
     p.module_fault(SyntaxError::InvalidIdentInStrict(word), T::expr_span(x))
 }
 
-/// A bare name before `:` is a label; none is read yet.
+/// Refuses a bare name before `:`, which is a label and no expression.
 #[tactic(auto, unfolding(swc_ecma_parser_reader::specs::Reader::no_label))]
-fn no_label<P: Source, T: Trees>(p: &mut P, x: &T::Expr) -> PResult<()>
+pub(crate) fn no_label<P: Source, T: Trees>(p: &mut P, x: &T::Expr) -> PResult<()>
     ensures { Gives (rules.no_label (T.expr_of x.now) (P.seen p.old)) result (P.seen p.new) }
 {
     if T::is_ident(x) && p.sees(TokenKind::Colon) {

@@ -1,12 +1,16 @@
 //! What is declared with `using`: the proposal on explicit resource management, beside ECMA-262, section 14.3.
 
-ghost use Rattle.std.specs.Prelude.{◌≡◌, false, map};
+ghost use Rattle.std.specs.Prelude.{◌≡◌, ◌&&◌, true, false, map};
+ghost use Rattle.swc_ecma_parser_grammar.specs.Looks as looks;
 ghost use Rattle.swc_ecma_parser_grammar.specs.Using as resources;
 ghost use Rattle.swc_ecma_parser_inner.specs.Nests.{Nests};
 ghost use Rattle.swc_ecma_parser_model.specs.declared.leaves.VarDeclKind.TheVariants as decl;
+ghost use Rattle.swc_ecma_parser_reader.specs.AwaitWords as words;
 ghost use Rattle.swc_ecma_parser_reader.specs.Reader as rules;
+ghost use Rattle.swc_ecma_parser_reader.specs.State as reader;
 ghost use Rattle.swc_ecma_parser_reader.specs.State.{Gives, GivesAs};
 
+use crate::simple::{no_label, note_statement};
 use crate::variables::declarators;
 use swc_ecma_parser_common::Span;
 use swc_ecma_parser_error::{PResult, SyntaxError};
@@ -15,8 +19,9 @@ use swc_ecma_parser_inner::cover::{Cover, Reading};
 use swc_ecma_parser_inner::grammar::{Grammar, Part};
 use swc_ecma_parser_inner::steps::{grown, since, with_in};
 use swc_ecma_parser_model::VarDeclKind;
-use swc_ecma_parser_source::Source;
-use swc_ecma_parser_trees::{BuildsPattern, BuildsVarDecl, BuildsVariables, MakerOf};
+use swc_ecma_parser_source::{Source, Wanted};
+use swc_ecma_parser_token::TokenKind;
+use swc_ecma_parser_trees::{BuildsPattern, BuildsStmt, BuildsVarDecl, BuildsVariables, MakerOf};
 
 /// Records what is said of one of the variables: it is no plain name, or it is given nothing.
 fn misused<P: Source, T: BuildsVariables>(
@@ -101,4 +106,53 @@ pub fn using_stmt<
 {
     let start = p.span();
     using_from(g, t, p, false, start)
+}
+
+/// Whether `await` stands here before `using`, where a declaration may stand.
+#[tactic(auto, unfolding(swc_ecma_parser_reader::specs::AwaitWords::begins_await_using))]
+fn may_declare<P: Source>(p: &P, at: Position) -> bool
+    ensures { result ≡ words.begins_await_using at (P.seen p.now).at }
+{
+    (at.include_decl || at.top_level) && p.sees(TokenKind::Await) && p.next_word_at("using")
+}
+
+/// The same, where what stands further in can be read in so many levels.
+#[tactic(auto, using(swc_ecma_parser_reader::proofs::AwaitWords::shut, swc_ecma_parser_reader::proofs::AwaitWords::opened))]
+pub fn begins_await_using<P: Source>(p: &P, depth: usize, at: Position) -> bool
+    ensures { result ≡ (rules.nests depth && words.begins_await_using at (P.seen p.now).at) }
+{
+    if depth == 0 {
+        return false;
+    }
+    may_declare(p, at)
+}
+
+/// A statement that begins with `await` before `using`: a declaration before a name on the line of `using`, or an expression statement.
+#[tactic(auto, unfolding(swc_ecma_parser_reader::specs::AwaitWords::stmt_behind_await, swc_ecma_parser_reader::specs::AwaitWords::expr_stmt_behind))]
+#[inline(never)]
+pub fn await_stmt<
+    P: Source,
+    T: BuildsPattern + BuildsStmt + BuildsVarDecl,
+    S: Fn(&MakerOf<T>, &mut P, usize, Position) -> PResult<T::Stmt>,
+    E: Fn(&MakerOf<T>, &mut P, usize, Reading) -> PResult<Cover<T::Expr>>,
+    N: Fn(&MakerOf<T>, &mut P, usize, Part) -> PResult<T::Pat>,
+>(g: &Grammar<S, E, N>, t: &MakerOf<T>, p: &mut P, at: Position) -> PResult<T::Stmt>
+    requires readers { Nests P.seen T.expr_of T.pat_of T.stmt_of g.now.depth (S.pre g.now.stmt) (S.post g.now.stmt) (E.pre g.now.expr) (E.post g.now.expr) (N.pre g.now.pat) (N.post g.now.pat) }
+    requires begins { (rules.nests g.now.depth && words.begins_await_using at (P.seen p.now).at) ≡ true }
+    ensures { GivesAs T.stmt_of (words.stmt_behind_await g.now.depth (looks.span_at (P.seen p.old).at) (reader.moved (P.seen p.old))) result (P.seen p.new) }
+{
+    let start = p.span();
+    p.skip()?;
+    if p.is_using_declaration() {
+        return using_from(g, t, p, true, start);
+    }
+    let outer = p.flags();
+    p.set_flags(with_in(outer));
+    let found = (g.expr)(t, p, g.depth, Reading::BehindAwait(start))?;
+    p.set_flags(outer);
+    no_label::<P, T>(p, &found.tree)?;
+    note_statement::<P, T>(t.alloc, p, &found.tree)?;
+    p.end(Wanted::EndOfExpression(T::expr_span(&found.tree)))?;
+    let span = since(p, start);
+    grown(p, T::expr_stmt(t.alloc, span, found.tree))
 }

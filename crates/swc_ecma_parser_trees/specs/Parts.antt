@@ -1,7 +1,12 @@
--- Parts of a node that may be left out.
+-- Parts of a node that may be left out, or that a node has or not.
 use Rattle.std.specs.Prelude.{Option, Some, None}
-use Rattle.swc_ecma_parser_model.specs.Tree.{Tree, absent}
+use Rattle.swc_ecma_parser_model.specs.Tree.{Tree, await, absent}
 
 abbrev pub part_of : {X : Type 0} → (X → Tree) → Option X → Tree
 part_of view None = absent
 part_of view (Some x) = view x
+
+-- the operand of `await`
+abbrev pub awaited : Tree → Tree
+awaited (await s arg) = arg
+awaited _ = absent

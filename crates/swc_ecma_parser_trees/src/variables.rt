@@ -56,4 +56,8 @@ pub trait BuildsVariables: Trees {
     /// Whether a declarator has an initializer.
     fn is_initialized(declarator: &Self::Declarator) -> bool
         ensures { result ≡ within.is_initialized (declarator_of declarator.now) };
+
+    /// Whether an expression is `await` before this name, as before what `await using` declares.
+    fn awaits_name(expr: &Self::Expr, name: &str) -> bool
+        ensures { result ≡ forms.is_ident_named name.now (parts.awaited (Self.expr_of expr.now)) };
 }

@@ -35,7 +35,7 @@ labelled_item c = record { include_decl = sees kind.Function c; top_level = fals
 abbrev pub directed : Code → Bool → Tree → Code
 directed k directives x = if directives && is_use_strict x then in_strict k else k
 
--- Whether what stands behind an item can be a directive still: only the first item of a body can, so far. ECMA-262 takes all
+-- Whether what stands behind an item can be a directive still: only the first item of a body can, as in the crate. ECMA-262 takes all
 -- strings that stand first.
 abbrev pub directs_on : Bool → Tree → Bool
 directs_on directives x = false

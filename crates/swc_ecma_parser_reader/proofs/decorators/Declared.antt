@@ -16,9 +16,10 @@ use Rattle.swc_ecma_parser_grammar.specs.language.Goals.{Class, left_side}
 use Rattle.swc_ecma_parser_reader.specs.DecoratedStatements.{begins_declared}
 use Rattle.swc_ecma_parser_reader.specs.Expressions.{Cover}
 use Rattle.swc_ecma_parser_reader.specs.Members.{class_stmt}
-use Rattle.swc_ecma_parser_reader.specs.Reader.{function_decl, function_stmt, async_or_other, import_stmt_at, stmt_level}
+use Rattle.swc_ecma_parser_reader.specs.Reader.{function_decl, function_stmt, async_or_other, import_stmt_at, stmt_level, await_using_or}
 use Rattle.swc_ecma_parser_reader.specs.State.{State, Reader, refuse}
 use Rattle.swc_ecma_parser_reader.proofs.Between.{SoundTree, sound_as}
+use Rattle.swc_ecma_parser_reader.proofs.First.{first_elsewhere, first_at}
 use Rattle.swc_ecma_parser_reader.proofs.Meets.{Meets, refuse_meets, saw}
 use Rattle.swc_ecma_parser_reader.proofs.SoundFunctions.{function_decl_sound, function_stmt_sound}
 use Rattle.swc_ecma_parser_reader.proofs.SoundParts.{meets_both}
@@ -49,10 +50,31 @@ unfolding begins_declared same_kind
 function_declares c m (not_async i j) e = rw (ap kind_at (sym j) ∙ e) refl
 function_declares c m (async_word i j l o) e = let v = async_stands c m j l o e in rw (async_kind c v, v) refl
 
+pub async_declares : (c : Place) → is_async_function c ≡ true → begins_declared c ≡ true
+unfolding begins_declared same_kind
+async_declares c e = rw (async_kind c e, e) refl
+
 -- neither an `@`, an error token nor `export` begins one
 pub no_declared : (c : Place) → begins_declared c ≡ true → (sees kind.At c ≡ false) × (sees kind.Error c ≡ false)
 unfolding same_kind
 no_declared c h = declared_by c h (λ e. (rw e refl, rw e refl)) (λ e. (rw e refl, rw e refl)) (λ e. (rw (async_kind c e) refl, rw (async_kind c e) refl))
+
+-- and no `await` does
+no_await : (c : Place) → begins_declared c ≡ true → sees kind.Await c ≡ false
+unfolding same_kind
+no_await c h = declared_by c h (λ e. rw e refl) (λ e. rw e refl) (λ e. rw (async_kind c e) refl)
+
+-- so `await using` stands before neither
+module _ (found : Reader (List Tree)) (v : Bool) (rest : Position → Reader Tree) (at : Position) (s : State) where
+  pub declared_first : begins_declared s.at ≡ true → await_using_or found v rest at s ≡ rest at s
+  declared_first h = first_elsewhere found v rest at s (no_await s.at h)
+
+  pub first_declares : (P : Tree → State → Type 0) → begins_declared s.at ≡ true → Meets P (rest at s) → Meets P (await_using_or found v rest at s)
+  first_declares P h r = subst (Meets P) (sym (declared_first h)) r
+
+  pub first_exports : (P : Tree → State → Type 0) → sees kind.Export s.at ≡ true → Meets P (rest at s) → Meets P (await_using_or found v rest at s)
+  unfolding same_kind
+  first_exports P h r = subst (Meets P) (sym (first_at found v rest at kind.Export s (saw s.at kind.Export h) refl)) r
 
 -- nor does `export` begin what `import` does
 no_import : (c : Place) → kind_at c ≡ kind.Export → begins_import_expression c ≡ false
@@ -86,6 +108,17 @@ module _ (inner : Position → Reader Tree) (inner_expr : Class → Reader Tree)
   pub export_meets : (P : Tree → State → Type 0) → sees kind.Export s.at ≡ true → Meets P (stmt_level inner inner_expr inner_pat inner_head inner_params inner_member at s)
   export_meets P h = subst (Meets P) (sym (level_export (saw s.at kind.Export h))) (refuse_meets P faults.ImportExportInScript s)
 
+  -- before neither stands `await using`
+  module _ (found : Reader (List Tree)) (v : Bool) where
+    abbrev plain : Position → Reader Tree
+    plain = await_using_or found v (stmt_level inner inner_expr inner_pat inner_head inner_params inner_member)
+
+    pub plain_exports : (P : Tree → State → Type 0) → sees kind.Export s.at ≡ true → Meets P (plain at s)
+    plain_exports P h = first_exports found v (stmt_level inner inner_expr inner_pat inner_head inner_params inner_member) at s P h (export_meets P h)
+
+    pub plain_declares : (P : Tree → State → Type 0) → begins_declared s.at ≡ true → Meets P (stmt_level inner inner_expr inner_pat inner_head inner_params inner_member at s) → Meets P (plain at s)
+    plain_declares P h r = first_declares found v (stmt_level inner inner_expr inner_pat inner_head inner_params inner_member) at s P h r
+
   pub declared_is_bare : begins_declared s.at ≡ true → Meets (λ x t. IsBare x) (stmt_level inner inner_expr inner_pat inner_head inner_params inner_member at s)
   declared_is_bare h = declared_meets (λ x t. IsBare x) h (λ _. class_stmt_bare (inner_expr left_side) inner_member at s) (λ _. function_stmt_bare (inner nested_item) inner_params at s)
       (λ _. function_decl_bare (inner nested_item) inner_params s)
@@ -104,6 +137,9 @@ module _ (inner : Position → Reader Tree) (inner_expr : Class → Reader Tree)
         (λ e. meets_as (function_decl (inner nested_item) inner_params s) (function_decl_sound (ReadsStmt n) (ReadsParams n) (inner nested_item) sound inner_params params s (async_begins s.at e))
         (λ x t p. sound_as s t refl refl refl (λ r. declared_function (or_later at.include_decl _ e) r) p)))
         (declared_is_bare h)
+
+    pub declares_plainly : (found : Reader (List Tree)) (v : Bool) → begins_declared s.at ≡ true → Meets (λ x t. SoundTree (λ k. ReadsDeclared n k at) s x t × IsBare x) (plain found v at s)
+    declares_plainly found v h = plain_declares found v (λ x t. SoundTree (λ k. ReadsDeclared n k at) s x t × IsBare x) h (level_declares h)
 
 -- a class or a function by itself is a statement
 pub declared_plain : (n : ℕ) (k : Code) (at : Position) (x : Tree) (c d : Place) → ReadsDeclared n k at x c d

@@ -8,21 +8,21 @@ use Rattle.swc_ecma_parser_model.specs.Tree.{Tree}
 use Rattle.swc_ecma_parser_model.specs.Forms.{span_of}
 use Rattle.swc_ecma_parser_grammar.specs.declared.position.Position.{Position}
 use Rattle.swc_ecma_parser_grammar.specs.Decorated.{class_behind, function_behind, decorated_by}
-use Rattle.swc_ecma_parser_grammar.specs.Follows.{is_async_function}
+use Rattle.swc_ecma_parser_grammar.specs.Follows.{is_async_function, not_async}
 use Rattle.swc_ecma_parser_grammar.specs.Looks.{kind_at, span_at}
 use Rattle.swc_ecma_parser_grammar.specs.Parameters.{parameters}
 use Rattle.swc_ecma_parser_grammar.specs.Reads.{nested_item, with_in}
 use Rattle.swc_ecma_parser_grammar.specs.language.Contexts.{in_class, in_parameters}
 use Rattle.swc_ecma_parser_grammar.specs.language.Goals.{Class, left_side}
 use Rattle.swc_ecma_parser_reader.specs.Decorators.{Leading}
-use Rattle.swc_ecma_parser_reader.specs.DecoratedStatements.{declared_behind}
+use Rattle.swc_ecma_parser_reader.specs.DecoratedStatements.{declared_behind, begins_declared}
 use Rattle.swc_ecma_parser_reader.specs.Dressed.{class_parts_with, named_class_with, class_decl_with, unnamed_class_with, class_expr_with, class_stmt_with, function_parts_with, function_decl_with, function_stmt_with}
 use Rattle.swc_ecma_parser_reader.specs.Expressions.{Cover}
 use Rattle.swc_ecma_parser_reader.specs.Members.{extended, surplus, members, class_parts, named_class, class_decl, class_name, unnamed_class, class_expr, class_stmt}
 use Rattle.swc_ecma_parser_reader.specs.Methods.{star}
-use Rattle.swc_ecma_parser_reader.specs.Reader.{close, misdirected, named, function_body, function_word, function_parts, function_decl, function_stmt, stmt_level}
+use Rattle.swc_ecma_parser_reader.specs.Reader.{close, misdirected, named, function_body, function_word, function_parts, function_decl, function_stmt, stmt_level, await_using_or}
 use Rattle.swc_ecma_parser_reader.specs.State.{State, Outcome, Reader, and_then, moved, coded, flagged, within, fault, fault_at, expect, name}
-use Rattle.swc_ecma_parser_reader.proofs.decorators.Declared.{level_class, level_function, level_async}
+use Rattle.swc_ecma_parser_reader.proofs.decorators.Declared.{level_class, level_function, level_async, declared_first, class_declares, function_declares, async_declares}
 
 -- steps that are the same, and what comes behind them is
 then_same : {A B C : Type 0} (o : Outcome A) (f g : A → Reader B) (k l : B → Reader C) → ((a : A) (s : State) → and_then (f a s) k ≡ and_then (g a s) l)
@@ -131,21 +131,27 @@ module _ (stmt : Reader Tree) (params : Reader (List Tree)) where
 -- ---- behind decorators
 
 module _ (inner : Position → Reader Tree) (inner_expr : Class → Reader Tree) (inner_pat : Reader Tree) (inner_head : Reader Cover) (inner_params : Reader (List Tree)) (inner_member : Reader Tree)
-    (at : Position) (v : Leading) (s : State) where
+    (found : Reader (List Tree)) (nests : Bool) (at : Position) (v : Leading) (s : State) where
+  abbrev rest : Position → Reader Tree
+  rest = stmt_level inner inner_expr inner_pat inner_head inner_params inner_member
+
   abbrev plain : Position → Reader Tree
-  plain = stmt_level inner inner_expr inner_pat inner_head inner_params inner_member
+  plain = await_using_or found nests rest
+
+  begins : begins_declared s.at ≡ true → plain at s ≡ rest at s
+  begins h = declared_first found nests rest at s h
 
   pub behind_class : kind_at s.at ≡ kind.Class → declared_behind plain at v s ≡ class_stmt_with (inner_expr left_side) inner_member at v s
   unfolding declared_behind
-  behind_class e = ap (λ z. and_then z (λ x t. Ok (decorated_by v.place v.found x, t))) (level_class inner inner_expr inner_pat inner_head inner_params inner_member at s e)
+  behind_class e = ap (λ z. and_then z (λ x t. Ok (decorated_by v.place v.found x, t))) (begins (class_declares s.at e) ∙ level_class inner inner_expr inner_pat inner_head inner_params inner_member at s e)
       ∙ class_stmt_behind (inner_expr left_side) inner_member at v s
 
   pub behind_function : kind_at s.at ≡ kind.Function → declared_behind plain at v s ≡ function_stmt_with (inner nested_item) inner_params at v s
   unfolding declared_behind
-  behind_function e = ap (λ z. and_then z (λ x t. Ok (decorated_by v.place v.found x, t))) (level_function inner inner_expr inner_pat inner_head inner_params inner_member at s e)
+  behind_function e = ap (λ z. and_then z (λ x t. Ok (decorated_by v.place v.found x, t))) (begins (function_declares s.at s.at (not_async refl refl) e) ∙ level_function inner inner_expr inner_pat inner_head inner_params inner_member at s e)
       ∙ function_stmt_behind (inner nested_item) inner_params at v s
 
   pub behind_async : is_async_function s.at ≡ true → declared_behind plain at v s ≡ function_decl_with (inner nested_item) inner_params v.found s
   unfolding declared_behind
-  behind_async e = ap (λ z. and_then z (λ x t. Ok (decorated_by v.place v.found x, t))) (level_async inner inner_expr inner_pat inner_head inner_params inner_member at s e)
+  behind_async e = ap (λ z. and_then z (λ x t. Ok (decorated_by v.place v.found x, t))) (begins (async_declares s.at e) ∙ level_async inner inner_expr inner_pat inner_head inner_params inner_member at s e)
       ∙ function_decl_behind (inner nested_item) inner_params v.found v.place s

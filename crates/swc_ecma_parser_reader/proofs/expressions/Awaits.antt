@@ -42,7 +42,7 @@ await_fault_untabled s = by_place s.code.flags.in_function
 
 -- what is read where it stands is read there, or behind its fault
 pub await_either : {A : Type 0} (Q : Outcome A → Type 0) (p : Reader A) (s : State) → awaits s.code.flags s.at ≡ true
-    → (may_await s.code ≡ true → Q (p s)) → (may_await s.code ≡ false → Q (p (noted (await_fault s) s))) → Q (and_then (await_allowed s) (λ _. p))
+    → (may_await s.code ≡ true → Q (p s)) → (may_await s.code ≡ false → Q (p (noted (await_fault s) s))) → Q (and_then (await_allowed (span_at s.at) s) (λ _. p))
 unfolding await_allowed
 await_either Q p s h here behind = by_test (may_await s.code) refl
   where

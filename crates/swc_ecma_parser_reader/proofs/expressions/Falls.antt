@@ -479,13 +479,13 @@ module _ (inner : Class → Reader Tree) (cover : Reader Cover) (h : (class : Cl
   unfolding prefixed
   prefixed_falls op s = falls_moved 1 s _ (falls_last 1 (length (after s.at).left) (inner unary (moved s)) _ (h unary (moved s)))
 
-  await_allowed_falls : (s : State) → Falls 0 (length s.at.left) (await_allowed s)
+  await_allowed_falls : (word : Span) (s : State) → Falls 0 (length s.at.left) (await_allowed word s)
   unfolding await_allowed
-  await_allowed_falls s = falls_if 0 (length s.at.left) (may_await s.code) _ _ (omega arith) (fault_falls _ s)
+  await_allowed_falls word s = falls_if 0 (length s.at.left) (may_await s.code) _ _ (omega arith) (fault_falls _ s)
 
   await_falls : (s : State) → Falls 1 (length s.at.left) (await_expr inner cover s)
   unfolding await_expr
-  await_falls s = falls_then 0 1 (length s.at.left) (await_allowed s) _ (await_allowed_falls s) (λ _ t.
+  await_falls s = falls_then 0 1 (length s.at.left) (await_allowed (span_at s.at) s) _ (await_allowed_falls (span_at s.at) s) (λ _ t.
       falls_moved 1 t _ (falls_last 1 (length (after t.at).left) (inner unary (moved t)) _ (h unary (moved t))))
 
   update_before_falls : (op : UpdateOp) (s : State) → Falls 1 (length s.at.left) (update_before inner cover op s)

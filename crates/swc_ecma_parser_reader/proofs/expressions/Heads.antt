@@ -39,6 +39,8 @@ use Rattle.swc_ecma_parser_reader.proofs.expressions.HeadEnds.{of_named}
 -- an expression where no part is one of a pattern alone, and a target where no comma stands behind a rest
 pub record HeadRead (n : ℕ) (v : Cover) (k : Code) (c d : Place) : Type 0 where
   pub plain : v.mark ≡ None → ReadsClass n expression k v.x c d
+  -- no other form than an array and an object has such a part
+  pub unmarked : is_literal v.x ≡ false → v.mark ≡ None
   pub target : v.comma ≡ false → (p : Tree) → as_target v.x ≡ Some p → ReadsTarget n k p c d × (word_at (codes "of") d ≡ true → is_async_of false p d ≡ false)
 
 -- a sequence is no target
@@ -47,7 +49,7 @@ unturned None p e h = cc
 unturned (Some q) p e h = cc
 
 sequence_read : (n : ℕ) (k : Code) (y : Tree) (c d : Place) → as_target y ≡ None → ReadsClass n expression k y c d → HeadRead n (done y) k c d
-sequence_read n k y c d e r = record { plain = λ _. r; target = λ _ p h. unturned (as_target y) p e h }
+sequence_read n k y c d e r = record { plain = λ _. r; unmarked = λ _. refl; target = λ _ p h. unturned (as_target y) p e h }
 
 sequence_unturned : (inner : Class → Reader Tree) (cover : Reader Cover) (function : FunctionForm → Reader Tree) (start : Span) (x : Tree) (s : State) → Meets (λ y t. as_target y ≡ None) (sequence_from inner cover function start x s)
 unfolding sequence_from
@@ -75,6 +77,7 @@ single_read : (n : ℕ) (k : Code) (v : Cover) (c d : Place) → CoverRead (suc 
 unfolding is_async_of
 single_read n k v c d r e = record {
   plain = λ i. let w = r.plain i in (assignment_rule w.0 e, w.1);
+  unmarked = r.unmarked;
   target = λ i p j. let w = r.pattern i p j in (
     (w.0, w.1),
     λ o. ap (λ b. b && not (breaks_at d)) (target_async v.x p j) ∙ async_alone (Reads n) k v.x c d (λ l. (r.plain (r.unmarked l)).0) (of_named k.flags d o).1,

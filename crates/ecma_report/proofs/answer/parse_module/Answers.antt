@@ -1,12 +1,11 @@
 -- The report is that of the answer, and the parser began at the text.
 use Rattle.std.proofs.Common.{◌≡◌, refl, sym, ◌∙◌, subst}
-use Rattle.std.specs.Prelude.{IfOk}
 use Rattle.swc_ecma_parser_ast.specs.View.{view_module}
-use Rattle.swc_ecma_parser_module_reader.specs.Entry.{SoundModule, CompleteModule}
+use Rattle.swc_ecma_parser_spelled.specs.ModuleDecides.{DecidesModule}
 use Rattle.ecma_report.specs.Lines.{seen}
 use Rattle.ecma_report.specs.Spelled.{start_of}
 use Rattle.ecma_report.proofs.ModuleReports.{clean_module_is_spelled, spelled_module_is_clean}
-use Rattle.ecma_report.proofs.Reported.{neither, clean_report, spelled_report, reported_with}
+use Rattle.ecma_report.proofs.Reported.{neither, text_ordered, clean_report, spelled_report, reported_with}
 use Rattle.ecma_report.proofs.answer.parse_module.Goals as goal
 
 pub returns-clause-clean : goal.returns-clause-clean
@@ -16,10 +15,10 @@ returns-clause-clean c =
     let a = seen view_module c.parse_module-answer.result in
     let found = neither _ _ (sym c.lacks_memory.ensures ∙ c.if-lacks_memory.false) in
     let begins : s ≡ start_of c.args.text.now = c.parser_of-parser.ensures.state found.0 found.1 in
-    let (u, i, h) = c.parse_module-answer.ensures.sound in
-    let sound = subst (λ n. IfOk c.parse_module-answer.result (λ x. SoundModule n u (view_module x) t)) c.parser_of-parser.ensures.limit h in
+    let (u, i, h) = c.parse_module-answer.ensures.decides 0 (text_ordered c.args.text.now s begins) in
+    let decides = subst (λ n. DecidesModule view_module n u c.parse_module-answer.result t) c.parser_of-parser.ensures.limit h in
     clean_report c.finished.result a t.faults c.finished.ensures.verdict c.finished.ensures.lines
-    (clean_module_is_spelled c.args.text.now s u begins i t c.parse_module-answer.result sound t.faults refl)
+    (clean_module_is_spelled c.args.text.now s u begins i t c.parse_module-answer.result decides t.faults refl)
 
 pub returns-clause-spelled : goal.returns-clause-spelled
 returns-clause-spelled c = λ x p.
@@ -28,7 +27,7 @@ returns-clause-spelled c = λ x p.
     let a = seen view_module c.parse_module-answer.result in
     let found = neither _ _ (sym c.lacks_memory.ensures ∙ c.if-lacks_memory.false) in
     let begins : s ≡ start_of c.args.text.now = c.parser_of-parser.ensures.state found.0 found.1 in
-    let (u, i, h) = c.parse_module-answer.ensures.complete in
-    let complete = subst (λ n. CompleteModule view_module n u c.parse_module-answer.result t) c.parser_of-parser.ensures.limit h in
+    let (u, i, h) = c.parse_module-answer.ensures.decides 0 (text_ordered c.args.text.now s begins) in
+    let decides = subst (λ n. DecidesModule view_module n u c.parse_module-answer.result t) c.parser_of-parser.ensures.limit h in
     spelled_report x c.finished.result a t.faults c.finished.ensures.verdict c.finished.ensures.lines
-    (reported_with c.finished.result c.finished.ensures.found (λ m. spelled_module_is_clean c.args.text.now s u begins i t c.parse_module-answer.result complete m t.faults refl x p))
+    (reported_with c.finished.result c.finished.ensures.found (λ m. spelled_module_is_clean c.args.text.now s u begins i t c.parse_module-answer.result decides m t.faults refl x p))

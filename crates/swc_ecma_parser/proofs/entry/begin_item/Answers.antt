@@ -1,4 +1,5 @@
-use Rattle.std.proofs.Common.{◌≡◌, true, false, [], refl, sym, ◌∙◌}
+use Rattle.std.proofs.Common.{◌≡◌, true, false, [], refl, sym, ap, ◌∙◌}
+use Rattle.std.specs.Prelude.{if◌then◌else◌}
 use Rattle.swc_ecma_parser_module_reader.specs.Items.{begun_item}
 use Rattle.swc_ecma_parser.proofs.entry.begin_item.Goals as goal
 
@@ -7,7 +8,7 @@ pub returns-then-not-begins_module : goal.returns-then-not-begins_module
 unfolding begun_item
 returns-then-not-begins_module g c =
     let e = sym c.begins_module.ensures ∙ c.if-not-begins_module.true in
-    ([], (λ h. let k : true ≡ false = sym h ∙ e in cc), rw e refl)
+    ([], rw e refl, rw e refl)
 
 pub returns : goal.returns
 unfolding begun_item
@@ -15,7 +16,7 @@ returns g c =
     let e = sym c.begins_module.ensures ∙ c.if-not-begins_module.false in
     let (recorded, faults, noted) = c.turn_module.ensures.faults in (
       recorded,
-      (λ _. noted),
+      rw e noted,
       rw e (λ i. record {
         at = c.turn_module.ensures.at i;
         code = c.turn_module.ensures.code i;

@@ -4,10 +4,9 @@ use Rattle.swc_ecma_parser_error.specs.Kind.{Fault, fault_of}
 use Rattle.swc_ecma_parser_reader.specs.State.{State, GivesAs}
 use Rattle.swc_ecma_parser_reader.proofs.Sound.{declarators_code}
 use Rattle.swc_ecma_parser_core.proofs.Declared.{no_class}
-use Rattle.swc_ecma_parser_reader.proofs.expressions.Loops.{cover_above, head_above, behind_above}
 use Rattle.swc_ecma_parser_reader.proofs.patterns.Loops.{pattern_above, element_above}
 use Rattle.swc_ecma_parser_inner.specs.Covers.{cover_of, read}
-use Rattle.swc_ecma_parser_core.proofs.Covers.{covered_refused, as_covered, read_class, read_decorated, read_expr, at_asked, refused_as, read_object}
+use Rattle.swc_ecma_parser_core.proofs.Covers.{covered_refused, covered_above, read_class, read_decorated, read_expr, at_asked, refused_as, read_object}
 use Rattle.swc_ecma_parser_patterns.proofs.Patterns.{read_pat_lowest, as_asked}
 use Rattle.swc_ecma_parser_core.proofs.grammar.+knot.Goals as goal
 
@@ -38,6 +37,11 @@ pub expr-returns-in-Behind : goal.expr-returns-in-Behind
 expr-returns-in-Behind g t c =
     subst (λ o. GivesAs (cover_of g.T.Trees.expr_of) o c.covered-in-Behind.result (g.P.Source.seen c.covered-in-Behind.new.p))
     (sym (at_asked c.args.depth (g.P.Source.seen c.args.p.now) c.args.asked _ _ c.in-Behind.is refl)) c.covered-in-Behind.ensures
+
+pub expr-returns-in-BehindAwait : goal.expr-returns-in-BehindAwait
+expr-returns-in-BehindAwait g t c =
+    subst (λ o. GivesAs (cover_of g.T.Trees.expr_of) o c.covered-in-BehindAwait.result (g.P.Source.seen c.covered-in-BehindAwait.new.p))
+    (sym (at_asked c.args.depth (g.P.Source.seen c.args.p.now) c.args.asked _ _ c.in-BehindAwait.is refl)) c.covered-in-BehindAwait.ensures
 
 pub expr-returns-in_err-class_expression-in-Class : goal.expr-returns-in_err-class_expression-in-Class
 expr-returns-in_err-class_expression-in-Class g t c =
@@ -84,27 +88,14 @@ expr-returns-in_ok-object_alone-in-Object g t c =
 pub covered-returns-then-depth-eq0 : goal.covered-returns-then-depth-eq0
 covered-returns-then-depth-eq0 g t c = λ h. covered_refused c.args.depth (g.P.Source.seen c.args.p.now) c.args.place _ c.if-depth-eq0.true (c.too_deep.ensures h)
 
-pub covered-returns-in-Whole : goal.covered-returns-in-Whole
-covered-returns-in-Whole g t c =
-    subst (λ o. GivesAs (cover_of g.T.Trees.expr_of) o c.cover_expr.result (g.P.Source.seen c.cover_expr.new.p))
-    (sym (as_covered c.args.depth (g.P.Source.seen c.args.p.now) c.args.place _ _ c.in-Whole.is (cover_above c.args.depth (g.P.Source.seen c.args.p.now) (omega arith))))
-    c.cover_expr.ensures
-
-pub covered-returns-in-Head : goal.covered-returns-in-Head
-covered-returns-in-Head g t c =
-    subst (λ o. GivesAs (cover_of g.T.Trees.expr_of) o c.head_expr.result (g.P.Source.seen c.head_expr.new.p))
-    (sym (as_covered c.args.depth (g.P.Source.seen c.args.p.now) c.args.place _ _ c.in-Head.is (head_above c.args.depth (g.P.Source.seen c.args.p.now) (omega arith))))
-    c.head_expr.ensures
-
-pub covered-returns-in-Behind : goal.covered-returns-in-Behind
-covered-returns-in-Behind g t c =
-    subst (λ o. GivesAs (cover_of g.T.Trees.expr_of) o c.head_behind_async.result (g.P.Source.seen c.head_behind_async.new.p))
-    (sym (as_covered c.args.depth (g.P.Source.seen c.args.p.now) c.args.place _ _ c.in-Behind.is (behind_above c.args.depth _ (g.P.Source.seen c.args.p.now) (omega arith))))
-    c.head_behind_async.ensures
+pub covered-returns : goal.covered-returns
+covered-returns g t c =
+    subst (λ o. GivesAs (cover_of g.T.Trees.expr_of) o c.cover_level.result (g.P.Source.seen c.cover_level.new.p))
+    (sym (covered_above c.args.depth (g.P.Source.seen c.args.p.now) c.args.place (omega arith))) c.cover_level.ensures
 
 -- a class was read before
-pub plain_stmt-level-requires-clause-no_class : goal.plain_stmt-level-requires-clause-no_class
-plain_stmt-level-requires-clause-no_class g t c = no_class (g.P.Source.seen c.args.p.now).at (sym c.sees-2.ensures ∙ c.if-sees-2.false)
+pub plain_stmt-plain_level-requires-clause-no_class : goal.plain_stmt-plain_level-requires-clause-no_class
+plain_stmt-plain_level-requires-clause-no_class g t c = no_class (g.P.Source.seen c.args.p.now).at (sym c.sees-2.ensures ∙ c.if-sees-2.false)
 
 pub pat-returns-then-depth-eq0 : goal.pat-returns-then-depth-eq0
 pat-returns-then-depth-eq0 g t c = λ h. read_pat_lowest c.args.depth c.args.part (g.P.Source.seen c.args.p.now) _ c.if-depth-eq0.true (c.too_deep.ensures h)

@@ -1,14 +1,12 @@
-use Rattle.std.proofs.Common.{◌≡◌, true, [], length, map}
-use Rattle.swc_ecma_parser_grammar.specs.Reads.{top_item}
+use Rattle.std.proofs.Common.{◌≡◌, [], length, map}
 use Rattle.swc_ecma_parser_reader.specs.State.{loop}
-use Rattle.swc_ecma_parser_reader.specs.Reader as rules
-use Rattle.swc_ecma_parser_module_reader.specs.Programs.{before_module}
+use Rattle.swc_ecma_parser_module_reader.specs.Programs.{front, front_turn}
 use Rattle.swc_ecma_parser_module_items.proofs.programs.statements.Given as goal
 
 -- what the whole loop gives is what the rest of it gives, and an empty list stays empty
 abbrev pub invariant-statements : goal.invariant-statements
-invariant-statements g l = let stmt = rules.whole_stmt l.limit top_item in
-    (rules.items stmt before_module true (g.P.Source.seen l.fn.p) ≡ loop (rules.items_turn stmt before_module true) (map g.T.Trees.stmt_of l.found.items) (g.P.Source.seen l.p))
+invariant-statements g l =
+    (front l.limit (g.P.Source.seen l.fn.p) ≡ loop (front_turn l.limit) (map g.T.Trees.stmt_of l.found.items) (g.P.Source.seen l.p))
     × ((g.P.Source.seen l.fn.p).at.left ≡ [] → (g.P.Source.seen l.p).at.left ≡ [])
 
 abbrev pub decreases-statements : goal.decreases-statements

@@ -1,5 +1,6 @@
 use Rattle.swc_ecma_parser_ast.specs.View.{view_module}
 use Rattle.swc_ecma_parser_module_reader.proofs.Answers as modules
+use Rattle.swc_ecma_parser_spelled.proofs.Decided.{module_decided}
 use Rattle.swc_ecma_parser.proofs.parser.Parser.parse_module.Goals as goal
 
 pub returns-clause-sound : goal.returns-clause-sound
@@ -25,3 +26,7 @@ returns-clause-error_token g c = let (u, i, h) = c.module.ensures.answers in
 pub returns-clause-stays : goal.returns-clause-stays
 returns-clause-stays g c = let (u, i, h) = c.module.ensures.answers in
     rw (← c.self.view_is) (modules.stays _ view_module c.self.inside.limit c.self.inside.state u i c.module.result c.module.new.state h)
+
+pub returns-clause-decides : goal.returns-clause-decides
+returns-clause-decides g c = let (u, i, h) = c.module.ensures.answers in
+    rw (← c.self.view_is) (λ from ordered. (u, i, module_decided _ view_module c.self.inside.limit c.self.inside.state u c.module.result c.module.new.state from ordered i h))

@@ -1,6 +1,7 @@
 use Rattle.swc_ecma_parser_ast.specs.View.{view_module_item}
 use Rattle.swc_ecma_parser_reader.specs.Entry.{unmarked}
 use Rattle.swc_ecma_parser_module_reader.proofs.ItemEntries as items
+use Rattle.swc_ecma_parser_spelled.proofs.Decided.{item_decided}
 use Rattle.swc_ecma_parser.proofs.parser.Parser.parse_module_item.Goals as goal
 
 pub returns-clause-sound : goal.returns-clause-sound
@@ -23,3 +24,7 @@ returns-clause-at_end g c = rw (← c.self.view_is) (items.at_end _ view_module_
 
 pub returns-clause-stays : goal.returns-clause-stays
 returns-clause-stays g c = rw (← c.self.view_is) (items.stays _ view_module_item c.self.inside.limit c.self.inside.state c.item.result c.item.new.state c.item.ensures.answers)
+
+pub returns-clause-decides : goal.returns-clause-decides
+returns-clause-decides g c =
+    rw (← c.self.view_is) (λ from ordered. item_decided _ view_module_item c.self.inside.limit (unmarked c.self.inside.state) c.item.result c.item.new.state from ordered c.item.ensures.answers)

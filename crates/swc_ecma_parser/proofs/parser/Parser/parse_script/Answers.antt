@@ -3,6 +3,8 @@ use Rattle.swc_ecma_parser_ast.specs.View.{view_script}
 use Rattle.swc_ecma_parser_reader.specs.Entry.{unmarked, CompleteScript}
 use Rattle.swc_ecma_parser_reader.proofs.Entries as entries
 use Rattle.swc_ecma_parser_reader.proofs.Keeps as keeps
+use Rattle.swc_ecma_parser_spelled.proofs.Decided.{script_decided}
+use Rattle.swc_ecma_parser_spelled.specs.Decides.{DecidesScript}
 use Rattle.swc_ecma_parser.proofs.parser.Parser.parse_script.Goals as goal
 
 pub returns-clause-sound : goal.returns-clause-sound
@@ -24,3 +26,8 @@ returns-clause-error_token g c = rw (← c.self.view_is) (entries.entry_of_error
 
 pub returns-clause-stays : goal.returns-clause-stays
 returns-clause-stays g c = rw (← c.self.view_is) (keeps.script_stays _ view_script c.self.inside.limit c.self.inside.state c.script.result c.script.new.state c.script.ensures.answers)
+
+pub returns-clause-decides : goal.returns-clause-decides
+returns-clause-decides g c =
+    subst (λ q. DecidesScript view_script q.limit (unmarked q.state) c.script.result c.script.new.state) c.self.view_is
+    (script_decided _ view_script c.self.inside.limit (unmarked c.self.inside.state) c.script.result c.script.new.state c.script.ensures.answers)

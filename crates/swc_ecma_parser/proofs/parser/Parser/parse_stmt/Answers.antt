@@ -3,6 +3,7 @@ use Rattle.swc_ecma_parser_ast.specs.View.{view_stmt}
 use Rattle.swc_ecma_parser_reader.specs.Entry.{unmarked}
 use Rattle.swc_ecma_parser_reader.proofs.Statements as statements
 use Rattle.swc_ecma_parser_reader.proofs.Keeps as keeps
+use Rattle.swc_ecma_parser_spelled.proofs.Decided.{statement_decided}
 use Rattle.swc_ecma_parser.proofs.parser.Parser.parse_stmt.Goals as goal
 
 pub returns-clause-sound : goal.returns-clause-sound
@@ -25,3 +26,6 @@ returns-clause-at_end g c = rw (← c.self.view_is) (statements.statement_at_end
 
 pub returns-clause-stays : goal.returns-clause-stays
 returns-clause-stays g c = rw (← c.self.view_is) (keeps.statement_stays _ view_stmt c.self.inside.limit c.self.inside.state false c.args.top_level c.statement.result c.statement.new.state c.statement.ensures.answers)
+
+pub returns-clause-decides : goal.returns-clause-decides
+returns-clause-decides g c = rw (← c.self.view_is) (statement_decided _ view_stmt c.self.inside.limit (unmarked c.self.inside.state) c.statement.result c.statement.new.state false c.args.top_level c.statement.ensures.answers)

@@ -8,7 +8,7 @@ use Rattle.swc_ecma_parser_module_reader.proofs.Falls.{item_shorter}
 use Rattle.swc_ecma_parser_reader.proofs.Loops.{items_err}
 use Rattle.swc_ecma_parser_reader.proofs.Empty.{never_more}
 use Rattle.swc_ecma_parser_core.proofs.Items.{script_more}
-use Rattle.swc_ecma_parser_module_items.proofs.items.items.Goals as goal
+use Rattle.swc_ecma_parser_module_items.proofs.items.items_behind.Goals as goal
 
 pub returns-in_err-item-clause-gives : goal.returns-in_err-item-clause-gives
 returns-in_err-item-clause-gives g c =

@@ -2,12 +2,12 @@ use Rattle.std.proofs.Common.{◌≡◌, true, [], length, map}
 use Rattle.swc_ecma_parser_reader.specs.State.{loop}
 use Rattle.swc_ecma_parser_reader.specs.Reader as rules
 use Rattle.swc_ecma_parser_module_reader.specs.Modules.{module_item}
-use Rattle.swc_ecma_parser_module_items.proofs.items.items.Given as goal
+use Rattle.swc_ecma_parser_module_items.proofs.items.items_behind.Given as goal
 
 -- what the whole loop gives is what the rest of it gives, and an empty list stays empty
 abbrev pub invariant-items : goal.invariant-items
 invariant-items g l = let item = module_item l.limit in
-    (rules.items item rules.at_end true (g.P.Source.seen l.fn.p) ≡ loop (rules.items_turn item rules.at_end true) (map g.T.BuildsItem.item_of l.found.items) (g.P.Source.seen l.p))
+    (loop (rules.items_turn item rules.at_end true) (map g.T.BuildsItem.item_of l.initial.found.items) (g.P.Source.seen l.fn.p) ≡ loop (rules.items_turn item rules.at_end true) (map g.T.BuildsItem.item_of l.found.items) (g.P.Source.seen l.p))
     × ((g.P.Source.seen l.fn.p).at.left ≡ [] → (g.P.Source.seen l.p).at.left ≡ [])
 
 abbrev pub decreases-items : goal.decreases-items

@@ -1,0 +1,53 @@
+-- One item by itself, as its code met it.
+use Rattle.std.proofs.Common.{◌≡◌, ◌≢◌, ℕ, zero, suc, ◌-◌, ◌<◌, true, false, List, [], map, Result, Ok, Err, refl, sym, ◌∙◌, ap, subst, arith}
+use Rattle.swc_ecma_parser_error.specs.declared.error.Error.{Error}
+use Rattle.swc_ecma_parser_error.specs.Kind.{Fault, fault_of, kind_of, OutOfMemory}
+use Rattle.swc_ecma_parser_grammar.specs.Notes.{as_note}
+use Rattle.swc_ecma_parser_model.specs.Tree.{Tree}
+use Rattle.swc_ecma_parser_reader.specs.DecoratorLevels.{decorated_in}
+use Rattle.swc_ecma_parser_reader.specs.Decorators.{Leading, leading}
+use Rattle.swc_ecma_parser_reader.specs.State.{State, Outcome, Reader, GivesAs, and_then, too_deep}
+use Rattle.swc_ecma_parser_module_reader.specs.Decorated.{begins_decorators}
+use Rattle.swc_ecma_parser_module_reader.specs.Items.{begun_item, held_at, item_whole}
+use Rattle.swc_ecma_parser_module_reader.specs.Modules.{item_behind, module_item}
+use Rattle.swc_ecma_parser_module_reader.proofs.Fronts.{deep_then}
+use Rattle.swc_ecma_parser_module_reader.proofs.ItemCases.{with_held}
+use Rattle.swc_ecma_parser_module_reader.proofs.ItemTurns.{alone_plain, alone_deep, alone_refused, alone_list}
+
+above_none : (n : ℕ) → (n ≡ 0 → ⊥) → 0 < n
+above_none zero h = absurd (h refl)
+above_none (suc n) h = omega arith
+
+-- what is too deep is refused as that, whatever was to be read
+deep_as : {A B : Type 0} (s : State) (f : A → Reader B) (e : Fault × State) → ◌≡◌ {A = Outcome A} (too_deep s) (Err e) → ◌≡◌ {A = Outcome B} (too_deep s) (Err e)
+deep_as s f e h = sym (deep_then s f) ∙ ap (λ o. and_then o f) h
+
+module _ {X : Type 0} (view : X → Tree) (n : ℕ) (s : State) where
+  -- the item, with what was recorded where module code began
+  abbrev pub Alone : Result X Error → State → Type 0
+  Alone result u = (recorded : List Fault) × GivesAs (λ x. (view x, map as_note recorded)) (item_whole n recorded s) result u
+
+  -- what begins in a state is answered
+  begun_alone : (recorded : List Fault) (t : State) (o : Outcome Tree) → item_whole n recorded s ≡ with_held (held_at t) o → map as_note recorded ≡ held_at t
+      → (result : Result X Error) (u : State) → GivesAs view o result u → GivesAs (λ x. (view x, map as_note recorded)) (item_whole n recorded s) result u
+  begun_alone recorded t o e h (Ok x) u g = e ∙ ap (with_held (held_at t)) g ∙ ap (λ z. Ok ((view x, z), u)) (sym h)
+  begun_alone recorded t o e h (Err f) u g = λ m. e ∙ ap (with_held (held_at t)) (g m)
+
+  pub plain_alone : begins_decorators s.code s.at ≡ false → (recorded : List Fault) → map as_note recorded ≡ held_at s → (t : State) → t ≡ begun_item recorded s
+      → (result : Result X Error) (u : State) → GivesAs view (module_item n t) result u → Alone result u
+  plain_alone b recorded h t e result u g =
+      (recorded, begun_alone recorded s _ (alone_plain n recorded s b) h result u (subst (λ z. GivesAs view (module_item n z) result u) e g))
+
+  module _ (b : begins_decorators s.code s.at ≡ true) where
+    pub deep_alone : n ≡ 0 → (e : Error) (u : State) → (kind_of e.kind ≢ OutOfMemory → ◌≡◌ {A = Outcome Tree} (too_deep s) (Err (fault_of e, u))) → Alone (Err e) u
+    deep_alone l e u h = ([], λ m. alone_deep n [] s b l ∙ deep_as s (λ x t. Ok ((x, []), t)) (fault_of e, u) (h m))
+
+    pub refused_alone : (n ≡ 0 → ⊥) → (e : Error) (u : State) → (kind_of e.kind ≢ OutOfMemory → leading (decorated_in (n - 1)) s ≡ Err (fault_of e, u)) → Alone (Err e) u
+    refused_alone l e u h = ([], λ m. alone_refused n [] s b (above_none n l) (fault_of e, u) (h m))
+
+    pub list_alone : (n ≡ 0 → ⊥) → (v : Leading) (t : State) → leading (decorated_in (n - 1)) s ≡ Ok (v, t) → (recorded : List Fault) → map as_note recorded ≡ held_at t
+        → (w : State) → w ≡ begun_item recorded t → (result : Result X Error) (u : State) → GivesAs view (item_behind (n - 1) v w) result u → Alone result u
+    list_alone l v t r recorded h w e result u g = (
+      recorded,
+      begun_alone recorded t _ (alone_list n recorded s b (above_none n l) v t r) h result u (subst (λ z. GivesAs view (item_behind (n - 1) v z) result u) e g),
+    )

@@ -1,0 +1,12 @@
+pub mod Wholes
+pub mod Parts
+pub mod Expressions
+pub mod Statements
+pub mod Ordered
+pub mod Exported
+pub mod Items
+pub mod Goals
+pub mod Entries
+pub mod Decides
+pub mod ModuleDecides
+pub mod Decided
