@@ -18,9 +18,9 @@ let(a) → Script 0..6, Expr 0..6 → CallExpr 0..6
 let; → Script 0..4, Expr 0..4
 let [a] → refused 4..7 PatVarWithoutInit
 const [a] → refused 6..9 PatVarWithoutInit
-const → refused 5..5 Eof
+const → Script 0..5, Var 0..5, fault 5..5 TS1009
 const 1 → refused 6..7 ExpectedIdent
-let a b → refused 6..7 Unexpected
+let a b → Script 0..7, Var 0..7, fault 6..7 TS1005
 'use strict'; let → refused 14..17 Unexpected
 while (a) const b = 1 → refused 10..15 Unexpected";
 
@@ -54,7 +54,7 @@ using => a → Script 0..10, Expr 0..10 → ArrowExpr 0..10
 using a → Script 0..7, Using 0..7, fault 0..7 InitRequiredForUsingDecl
 using a, [b] = c; → Script 0..17, Using 0..16, Empty 16..17, fault 0..16 InitRequiredForUsingDecl, fault 0..16 InvalidNameInUsingDecl
 using a, [b] → refused 9..12 PatVarWithoutInit
-using a, → refused 8..8 Eof
+using a, → Script 0..8, Using 0..8, fault 7..8 TS1009, fault 0..8 InitRequiredForUsingDecl
 using a = → refused 9..9 Eof
 if (a) using b = c → refused 13..14 ExpectedSemiForExprStmt
 a: using b = c → refused 9..10 ExpectedSemiForExprStmt";

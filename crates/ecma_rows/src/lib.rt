@@ -31,6 +31,8 @@ mod nodes;
 #[cfg(test)]
 mod programs;
 #[cfg(test)]
+mod recoveries;
+#[cfg(test)]
 mod report;
 #[cfg(test)]
 mod rows;

@@ -160,8 +160,8 @@ try {} catch (a → refused 14..15 Expected
 try {} catch (a = 1) {} → refused 16..17 Expected
 try {} catch () {} → refused 14..15 ExpectedIdent
 try {} finally → refused 7..14 Expected
-try {} finally {} catch {} → refused 18..23 Unexpected
-catch {} → refused 0..5 Unexpected";
+try {} finally {} catch {} → Script 0..26, Try 0..17, Expr 18..23, fault 18..23 TS1005
+catch {} → Script 0..8, Expr 0..5, fault 0..5 TS1005";
 
 /// Each table, and how many rows it has.
 pub const TABLES: [(&str, &str); 9] = [

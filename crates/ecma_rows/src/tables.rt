@@ -3,7 +3,7 @@
 use crate::report::report;
 use crate::{
     arrows, awaits, classes, declarations, decorated, decorators, exports, expressions, functions,
-    heads, methods, modules, programs, rows, statements,
+    heads, methods, modules, programs, recoveries, rows, statements,
 };
 use ecma_report::Goal;
 use ecma_texts::{Asked, plainly};
@@ -135,6 +135,14 @@ fn write_decorated(alloc: Global, wrong: &mut String) -> Result<(), Fail> {
     write_tables(alloc, wrong, &decorated::UNSET_TABLES, asked)
 }
 
+/// Writes the tables of what is dropped in modules and programs that do not hold.
+fn write_recoveries(alloc: Global, wrong: &mut String) -> Result<(), Fail> {
+    let asked = plainly(Goal::Module);
+    write_tables(alloc, wrong, &recoveries::MODULE_TABLES, asked)?;
+    let asked = plainly(Goal::Program);
+    write_tables(alloc, wrong, &recoveries::PROGRAM_TABLES, asked)
+}
+
 #[test]
 fn rows_hold(rt: HostRuntime) -> Result<(), Fail> {
     let alloc = rt.alloc();
@@ -148,6 +156,7 @@ fn rows_hold(rt: HostRuntime) -> Result<(), Fail> {
         functions::TABLES.as_slice(),
         heads::TABLES.as_slice(),
         methods::TABLES.as_slice(),
+        recoveries::TABLES.as_slice(),
         rows::TABLES.as_slice(),
         statements::TABLES.as_slice(),
     ] {
@@ -190,6 +199,7 @@ fn rows_hold(rt: HostRuntime) -> Result<(), Fail> {
     write_tables(alloc, &mut wrong, &declarations::SET_TABLES, asked)?;
     write_tables(alloc, &mut wrong, &heads::SET_TABLES, asked)?;
     write_tables(alloc, &mut wrong, &programs::TABLES, plainly(Goal::Program))?;
+    write_recoveries(alloc, &mut wrong)?;
     write_decorators(alloc, &mut wrong)?;
     write_decorated(alloc, &mut wrong)?;
     assert_eq!(rt; wrong.as_str(), "");
@@ -209,6 +219,7 @@ fn rows_hold_within_their_levels(rt: HostRuntime) -> Result<(), Fail> {
         functions::LIMITS.as_slice(),
         heads::LIMITS.as_slice(),
         methods::LIMITS.as_slice(),
+        recoveries::LIMITS.as_slice(),
         rows::LIMITS.as_slice(),
         statements::LIMITS.as_slice(),
     ] {

@@ -6,21 +6,17 @@ use Rattle.swc_ecma_parser_grammar.specs.Notes.{as_note}
 use Rattle.swc_ecma_parser_model.specs.Tree.{Tree}
 use Rattle.swc_ecma_parser_reader.specs.DecoratorLevels.{decorated_in}
 use Rattle.swc_ecma_parser_reader.specs.Decorators.{Leading, leading}
-use Rattle.swc_ecma_parser_reader.specs.State.{State, Outcome, Reader, GivesAs, and_then, too_deep}
+use Rattle.swc_ecma_parser_reader.specs.State.{State, Outcome, GivesAs, too_deep}
+use Rattle.swc_ecma_parser_core.proofs.Refusals.{too_deep_as}
 use Rattle.swc_ecma_parser_module_reader.specs.Decorated.{begins_decorators}
 use Rattle.swc_ecma_parser_module_reader.specs.Items.{begun_item, held_at, item_whole}
 use Rattle.swc_ecma_parser_module_reader.specs.Modules.{item_behind, module_item}
-use Rattle.swc_ecma_parser_module_reader.proofs.Fronts.{deep_then}
 use Rattle.swc_ecma_parser_module_reader.proofs.ItemCases.{with_held}
 use Rattle.swc_ecma_parser_module_reader.proofs.ItemTurns.{alone_plain, alone_deep, alone_refused, alone_list}
 
 above_none : (n : ℕ) → (n ≡ 0 → ⊥) → 0 < n
 above_none zero h = absurd (h refl)
 above_none (suc n) h = omega arith
-
--- what is too deep is refused as that, whatever was to be read
-deep_as : {A B : Type 0} (s : State) (f : A → Reader B) (e : Fault × State) → ◌≡◌ {A = Outcome A} (too_deep s) (Err e) → ◌≡◌ {A = Outcome B} (too_deep s) (Err e)
-deep_as s f e h = sym (deep_then s f) ∙ ap (λ o. and_then o f) h
 
 module _ {X : Type 0} (view : X → Tree) (n : ℕ) (s : State) where
   -- the item, with what was recorded where module code began
@@ -40,7 +36,7 @@ module _ {X : Type 0} (view : X → Tree) (n : ℕ) (s : State) where
 
   module _ (b : begins_decorators s.code s.at ≡ true) where
     pub deep_alone : n ≡ 0 → (e : Error) (u : State) → (kind_of e.kind ≢ OutOfMemory → ◌≡◌ {A = Outcome Tree} (too_deep s) (Err (fault_of e, u))) → Alone (Err e) u
-    deep_alone l e u h = ([], λ m. alone_deep n [] s b l ∙ deep_as s (λ x t. Ok ((x, []), t)) (fault_of e, u) (h m))
+    deep_alone l e u h = ([], λ m. alone_deep n [] s b l ∙ too_deep_as s (fault_of e, u) (h m))
 
     pub refused_alone : (n ≡ 0 → ⊥) → (e : Error) (u : State) → (kind_of e.kind ≢ OutOfMemory → leading (decorated_in (n - 1)) s ≡ Err (fault_of e, u)) → Alone (Err e) u
     refused_alone l e u h = ([], λ m. alone_refused n [] s b (above_none n l) (fault_of e, u) (h m))

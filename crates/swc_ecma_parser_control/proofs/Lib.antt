@@ -1,3 +1,4 @@
 pub mod Links
 pub mod Clauses
 pub mod Labels
+pub mod Strays

@@ -23,6 +23,7 @@ use swc_ecma_parser_inner::grammar::{Grammar, Part};
 use swc_ecma_parser_inner::steps::{grown, pushed, since};
 use swc_ecma_parser_loops::simple::SUB_STATEMENT;
 use swc_ecma_parser_source::Source;
+use swc_ecma_parser_statements::recovery::stays_refused;
 use swc_ecma_parser_token::TokenKind;
 use swc_ecma_parser_trees::{BuildsControl, MakerOf, Trees};
 
@@ -53,7 +54,7 @@ fn labelled<P: Source>(alloc: Global, p: &mut P, error: Error, word: Span) -> Er
     ensures gives { kind_of result.kind ≢ kinds.OutOfMemory
         → reader.labelled_as {A = Tree} (Err (fault_of error, P.seen p.old)) ≡ Err (fault_of result, P.seen p.new) }
 {
-    if matches!(error.kind, SyntaxError::OutOfMemory) || p.is_marked() {
+    if stays_refused(p, &error) {
         return error;
     }
     let span = error.span;

@@ -4,7 +4,8 @@ ghost use Rattle.std.specs.Prelude.{◌≡◌};
 ghost use Rattle.swc_ecma_parser_grammar.specs.Reads.{nested_item};
 ghost use Rattle.swc_ecma_parser_inner.specs.Nests.{Nests};
 ghost use Rattle.swc_ecma_parser_reader.specs.Reader as rules;
-ghost use Rattle.swc_ecma_parser_reader.specs.State.{GivesAs};
+ghost use Rattle.swc_ecma_parser_reader.specs.State as reader;
+ghost use Rattle.swc_ecma_parser_reader.specs.State.{Gives, GivesAs};
 ghost use Rattle.swc_ecma_parser_trees.specs.Parts.{part_of};
 
 use swc_ecma_parser_common::Span;
@@ -16,8 +17,9 @@ use swc_ecma_parser_inner::grammar::{Grammar, Part};
 use swc_ecma_parser_inner::steps::{grown, since};
 use swc_ecma_parser_patterns::pat::inner_pat;
 use swc_ecma_parser_source::Source;
+use swc_ecma_parser_statements::recovery::{put_back, stays_refused};
 use swc_ecma_parser_token::TokenKind;
-use swc_ecma_parser_trees::{BuildsBlock, BuildsTry, MakerOf, Trees};
+use swc_ecma_parser_trees::{BuildsBlock, BuildsOperator, BuildsStmt, BuildsTry, MakerOf, Trees};
 
 /// What a catch binds, in parentheses.
 #[tactic(auto, unfolding(swc_ecma_parser_reader::specs::Reader::bound))]
@@ -146,4 +148,80 @@ pub(crate) fn try_stmt<
     }
     let span = since(p, start);
     grown(p, T::try_stmt(t.alloc, span, block, handler, finalizer))
+}
+
+/// Reads a catch, if one stands here, and drops it, and so its refusal, but one for want of memory or depth.
+fn dropped_handler<
+    P: Source,
+    T: BuildsTry,
+    S: Fn(&MakerOf<T>, &mut P, usize, Position) -> PResult<T::Stmt>,
+    E: Fn(&MakerOf<T>, &mut P, usize, Reading) -> PResult<Cover<T::Expr>>,
+    N: Fn(&MakerOf<T>, &mut P, usize, Part) -> PResult<T::Pat>,
+>(g: &Grammar<S, E, N>, t: &MakerOf<T>, p: &mut P) -> PResult<()>
+    requires { Nests P.seen T.expr_of T.pat_of T.stmt_of g.now.depth (S.pre g.now.stmt) (S.post g.now.stmt) (E.pre g.now.expr) (E.post g.now.expr) (N.pre g.now.pat) (N.post g.now.pat) }
+    ensures { Gives (reader.attempted (rules.handler (rules.stmt g.now.depth nested_item) (rules.pattern g.now.depth)) (P.seen p.old)) result (P.seen p.new) }
+{
+    let around = p.copy_around()?;
+    let outer = p.flags();
+    match handler(g, t, p) {
+        Ok(_) => {
+            put_back(p, around, outer);
+            Ok(())
+        }
+        Err(error) => {
+            if stays_refused(p, &error) {
+                return Err(error);
+            }
+            put_back(p, around, outer);
+            Ok(())
+        }
+    }
+}
+
+/// The same of a finally.
+fn dropped_finalizer<
+    P: Source,
+    T: BuildsBlock,
+    S: Fn(&MakerOf<T>, &mut P, usize, Position) -> PResult<T::Stmt>,
+    E: Fn(&MakerOf<T>, &mut P, usize, Reading) -> PResult<Cover<T::Expr>>,
+    N: Fn(&MakerOf<T>, &mut P, usize, Part) -> PResult<T::Pat>,
+>(g: &Grammar<S, E, N>, t: &MakerOf<T>, p: &mut P) -> PResult<()>
+    requires { Nests P.seen T.expr_of T.pat_of T.stmt_of g.now.depth (S.pre g.now.stmt) (S.post g.now.stmt) (E.pre g.now.expr) (E.post g.now.expr) (N.pre g.now.pat) (N.post g.now.pat) }
+    ensures { Gives (reader.attempted (rules.finalizer (rules.stmt g.now.depth nested_item)) (P.seen p.old)) result (P.seen p.new) }
+{
+    let around = p.copy_around()?;
+    let outer = p.flags();
+    match finalizer(g, t, p) {
+        Ok(_) => {
+            put_back(p, around, outer);
+            Ok(())
+        }
+        Err(error) => {
+            if stays_refused(p, &error) {
+                return Err(error);
+            }
+            put_back(p, around, outer);
+            Ok(())
+        }
+    }
+}
+
+/// A catch or a finally behind no `try`: a fault of its word, which stands for it in the tree. What stands behind it is dropped.
+#[tactic(auto, unfolding(swc_ecma_parser_reader::specs::Reader::stray))]
+pub(crate) fn stray<
+    P: Source,
+    T: BuildsTry + BuildsStmt + BuildsOperator,
+    S: Fn(&MakerOf<T>, &mut P, usize, Position) -> PResult<T::Stmt>,
+    E: Fn(&MakerOf<T>, &mut P, usize, Reading) -> PResult<Cover<T::Expr>>,
+    N: Fn(&MakerOf<T>, &mut P, usize, Part) -> PResult<T::Pat>,
+>(g: &Grammar<S, E, N>, t: &MakerOf<T>, p: &mut P) -> PResult<T::Stmt>
+    requires { Nests P.seen T.expr_of T.pat_of T.stmt_of g.now.depth (S.pre g.now.stmt) (S.post g.now.stmt) (E.pre g.now.expr) (E.post g.now.expr) (N.pre g.now.pat) (N.post g.now.pat) }
+    ensures { GivesAs T.stmt_of (rules.stray (rules.stmt g.now.depth nested_item) (rules.pattern g.now.depth) (P.seen p.old)) result (P.seen p.new) }
+{
+    let word = p.span();
+    p.fault(SyntaxError::TS1005, word)?;
+    dropped_handler(g, t, p)?;
+    dropped_finalizer(g, t, p)?;
+    let invalid = grown(p, T::invalid(t.alloc, word))?;
+    grown(p, T::expr_stmt(t.alloc, word, invalid))
 }

@@ -8,7 +8,7 @@ ghost use Rattle.swc_ecma_parser_reader.specs.State.{GivesAs};
 ghost use Rattle.swc_ecma_parser_token.specs.declared.kind.TokenKind.TheVariants as kind;
 
 use crate::branch::if_stmt;
-use crate::handler::try_stmt;
+use crate::handler::{stray, try_stmt};
 use crate::label::{let_stmt, other_stmt};
 use crate::switch::switch_stmt;
 use crate::with_statement::with_stmt;
@@ -29,8 +29,8 @@ use swc_ecma_parser_statements::using::using_stmt;
 use swc_ecma_parser_statements::variables::{const_stmt, variables};
 use swc_ecma_parser_token::TokenKind;
 use swc_ecma_parser_trees::{
-    BuildsControl, BuildsFor, BuildsLoop, BuildsPattern, BuildsStmt, BuildsSwitch, BuildsTry,
-    BuildsVarDecl, MakerOf,
+    BuildsControl, BuildsFor, BuildsLoop, BuildsOperator, BuildsPattern, BuildsStmt, BuildsSwitch,
+    BuildsTry, BuildsVarDecl, MakerOf,
 };
 
 /// A statement that begins with a name, and is no function: what is declared with `using`, where declarations are read, or another.
@@ -74,6 +74,7 @@ fn async_or_other<
 pub fn level<
     P: Source,
     T: BuildsPattern
+        + BuildsOperator
         + BuildsStmt
         + BuildsControl
         + BuildsSwitch
@@ -104,6 +105,7 @@ pub fn level<
         TokenKind::Return => return_stmt(g, t, p),
         TokenKind::Throw => throw(g, t, p),
         TokenKind::Try => try_stmt(g, t, p),
+        TokenKind::Catch | TokenKind::Finally => stray(g, t, p),
         TokenKind::With => with_stmt(g, t, p),
         TokenKind::While => while_stmt(g, t, p),
         TokenKind::Do => do_while(g, t, p),

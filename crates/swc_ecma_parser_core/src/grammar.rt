@@ -6,7 +6,7 @@ ghost use Rattle.swc_ecma_parser_core.specs.Covering as covering;
 ghost use Rattle.swc_ecma_parser_grammar.specs.Follows as follows;
 ghost use Rattle.swc_ecma_parser_grammar.specs.Looks as looks;
 ghost use Rattle.swc_ecma_parser_grammar.specs.Reads.{nested_item};
-ghost use Rattle.swc_ecma_parser_grammar.specs.language.Goals.{left_side};
+ghost use Rattle.swc_ecma_parser_grammar.specs.language.Goals.{expression as expression_class, left_side};
 ghost use Rattle.swc_ecma_parser_model.specs.declared.leaves.VarDeclKind.TheVariants as decl;
 ghost use Rattle.swc_ecma_parser_token.specs.declared.kind.TokenKind.TheVariants as kind;
 ghost use Rattle.swc_ecma_parser_inner.specs.Covers.{cover_of, read};
@@ -19,7 +19,7 @@ ghost use Rattle.swc_ecma_parser_reader.specs.Decorators as decorators;
 ghost use Rattle.swc_ecma_parser_reader.specs.Dressed as dressed;
 ghost use Rattle.swc_ecma_parser_reader.specs.Members as members;
 ghost use Rattle.swc_ecma_parser_reader.specs.Reader as rules;
-ghost use Rattle.swc_ecma_parser_reader.specs.State.{GivesAs};
+ghost use Rattle.swc_ecma_parser_reader.specs.State.{Gives, GivesAs};
 
 use crate::covering::Covering;
 use crate::levels::{cover_level, plain_level};
@@ -39,6 +39,7 @@ use swc_ecma_parser_operators::decorator::decorated_level;
 use swc_ecma_parser_operators::operator::expr_level;
 use swc_ecma_parser_patterns::pat::{element_level, pattern_level};
 use swc_ecma_parser_source::{Source, Wanted};
+use swc_ecma_parser_statements::recovery::declaration_end;
 use swc_ecma_parser_statements::variables::declarators;
 use swc_ecma_parser_token::TokenKind;
 use swc_ecma_parser_trees::{BuildsStatements, MakerOf};
@@ -536,6 +537,24 @@ pub fn inner_declarators<P: Source, T: BuildsStatements>(
     declarators(&g, t, p, false, word)
 }
 
+/// The end of a declaration, where what is dropped for want of one stands in so many levels.
+#[cycle(knot)]
+pub fn inner_declaration_end<P: Source, T: BuildsStatements>(
+    t: &MakerOf<T>,
+    p: &mut P,
+    depth: usize,
+) -> PResult<()>
+    ensures { Gives (rules.declaration_end (rules.expr depth expression_class) (P.seen p.old)) result (P.seen p.new) }
+{
+    let g = Grammar {
+        depth,
+        stmt: stmt::<P, T>,
+        expr: expr::<P, T>,
+        pat: pat::<P, T>,
+    };
+    declaration_end(&g, t, p)
+}
+
 /// A function from behind its name, in so many levels.
 #[cycle(knot)]
 #[tactic(auto, using(crate::proofs::Declared::function_undecorated))]
@@ -653,7 +672,7 @@ fn declared_variables<P: Source, T: BuildsStatements>(
     p.set_flags(with_in(outer));
     let found = inner_declarators::<P, T>(t, p, depth, VarDeclKind::Var)?;
     p.set_flags(outer);
-    p.end(Wanted::Expression)?;
+    inner_declaration_end::<P, T>(t, p, depth)?;
     let span = since(p, start);
     grown(p, T::var(t.alloc, span, VarDeclKind::Var, found))
 }

@@ -50,6 +50,7 @@ pub(crate) fn cover_level<
 pub(crate) fn plain_level<
     P: Source,
     T: BuildsPattern
+        + BuildsOperator
         + BuildsStmt
         + BuildsControl
         + BuildsSwitch

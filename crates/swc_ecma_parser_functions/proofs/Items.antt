@@ -1,23 +1,12 @@
 -- The turns of the statements of a body, with directives or without.
-use Rattle.std.proofs.Common.{◌≡◌, ℕ, suc, nat_eq, arith, ◌<◌, Bool, true, false, List, [], ◌∷◌, ◌++◌, length, Ok, refl, sym, ap, ◌∙◌}
+use Rattle.std.proofs.Common.{◌≡◌, ◌<◌, Bool, false, List, [], ◌∷◌, ◌++◌, length, Ok, ap, ◌∙◌}
 use Rattle.std.specs.Prelude.{◌==◌, ◌&&◌}
-use Rattle.std.proofs.lemmas.Bool.Decides.{nat_tests}
 use Rattle.swc_ecma_parser_input.specs.Place.{Place}
 use Rattle.swc_ecma_parser_model.specs.Tree.{Tree}
 use Rattle.swc_ecma_parser_grammar.specs.Reads.{directed}
-use Rattle.swc_ecma_parser_grammar.proofs.Tests.{and_no}
 use Rattle.swc_ecma_parser_reader.specs.State.{State, Reader, coded, loop}
-use Rattle.swc_ecma_parser_reader.specs.Reader.{items_turn, directs}
-use Rattle.swc_ecma_parser_reader.proofs.Loops.{items_more}
-
-some_items : (n : ℕ) → nat_eq (suc n) 0 ≡ false
-some_items n = grind (arith, nat_tests)
-
--- the first can be a directive
-first_directs : (directives : Bool) (found : List Tree) (b : Bool) → b ≡ (length found == 0) → directs directives found ≡ (directives && b)
-first_directs true [] b e = sym e
-first_directs false [] b e = refl
-first_directs directives (x ∷ xs) b e = sym (and_no directives b (e ∙ some_items (length xs)))
+use Rattle.swc_ecma_parser_reader.specs.Reader.{items_turn}
+use Rattle.swc_ecma_parser_reader.proofs.Loops.{first_directs, items_more}
 
 pub body_more : (item : Reader Tree) (stops : Place → Bool) (directives : Bool) (found : List Tree) (b : Bool) (s : State) (x : Tree) (t : State) → b ≡ (length found == 0) → stops s.at ≡ false → item s ≡ Ok (x, t)
     → length t.at.left < length s.at.left

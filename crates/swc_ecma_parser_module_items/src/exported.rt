@@ -14,7 +14,8 @@ use crate::inner::inner_expr;
 use swc_ecma_parser_classes::class::NamedClass;
 use swc_ecma_parser_common::Span;
 use swc_ecma_parser_core::grammar::{
-    declared_class, declared_function, inner_class, inner_declarators, inner_function,
+    declared_class, declared_function, inner_class, inner_declaration_end, inner_declarators,
+    inner_function,
 };
 use swc_ecma_parser_error::PResult;
 use swc_ecma_parser_functions::function::{Manner, function_word, star};
@@ -182,7 +183,7 @@ fn exported_variables<P: Source, T: BuildsStatements + BuildsExport + BuildsVarD
     p.set_flags(with_in(outer));
     let found = inner_declarators::<P, T>(t, p, depth, word)?;
     p.set_flags(outer);
-    p.end(Wanted::Expression)?;
+    inner_declaration_end::<P, T>(t, p, depth)?;
     let span = since(p, first);
     let decl = grown(p, T::var_decl(t.alloc, span, word, found))?;
     let span = since(p, start);

@@ -197,5 +197,5 @@ module _ (n : ℕ) where
 
   pub whole_class_shallow : (m : ℕ) (s : State) → 2 * (m + 1) + 2 ≤ suc n → kind_at s.at ≡ kind.Class → Fine m s.at.left → Answers (Kept m) Shallow (class_expr (expr n left_side) (member n) s)
   whole_class_shallow m s l e f = with_refusals m s (class_expr (expr n left_side) (member n) s)
-      (class_expr_keeps (expr n left_side) (member n) (expr_keeps n left_side) (member_keeps n) s s (behind_self s)) f
+      (class_expr_keeps (expr n left_side) (member n) (expr_keeps n left_side) (member_keeps n) s s e (behind_self s)) f
       (λ z t h. meant (λ _ _. Unit {0}) Shallow (class_expr (expr n left_side) (member n) s) (Err (z, t)) h (class_fits m s l e f))

@@ -18,7 +18,7 @@ use Rattle.swc_ecma_parser_reader.specs.Reader.{whole_stmt, plain_stmt}
 use Rattle.swc_ecma_parser_reader.specs.State.{State, Outcome, Reader, and_then}
 use Rattle.swc_ecma_parser_reader.specs.Entry.{unmarked, IsBehind, Stays}
 use Rattle.swc_ecma_parser_reader.specs.Limits.{has_too_deep_token}
-use Rattle.swc_ecma_parser_reader.proofs.Behind.{Follows, behind_self}
+use Rattle.swc_ecma_parser_reader.proofs.Behind.{Follows, Remembers, behind_self}
 use Rattle.swc_ecma_parser_reader.proofs.Empty.{ended}
 use Rattle.swc_ecma_parser_reader.proofs.Errors.{kind_here}
 use Rattle.swc_ecma_parser_reader.proofs.Keeps.{outcome_behind, whole_stmt_keeps, decorated_in_keeps}
@@ -30,7 +30,7 @@ use Rattle.swc_ecma_parser_module_reader.specs.Items.{turned, begun_item, item_w
 use Rattle.swc_ecma_parser_module_reader.specs.ItemEntry.{AnswersItem}
 use Rattle.swc_ecma_parser_module_reader.proofs.Keeps.{module_item_keeps, import_behind_keeps, export_behind_keeps}
 use Rattle.swc_ecma_parser_module_reader.proofs.Limits.{module_item_shallow, behind_shallow}
-use Rattle.swc_ecma_parser_module_reader.proofs.ProgramKeeps.{Leaves, since}
+use Rattle.swc_ecma_parser_module_reader.proofs.ProgramKeeps.{Stayed, Left, Leaves, from_here, only_follows, since}
 use Rattle.swc_ecma_parser_reader.specs.DecoratedStatements.{stmt_behind}
 use Rattle.swc_ecma_parser_reader.specs.DecoratorLevels.{decorated_in}
 use Rattle.swc_ecma_parser_reader.specs.Decorators.{Leading, leading}
@@ -147,19 +147,23 @@ behind_turned recorded b s f = record {
 }
 
 -- the decorators lose nothing
-behind_list : (n : ℕ) (b s : State) → IsBehind b s → (v : Leading) (t : State) → leading (decorated_in n) s ≡ Ok (v, t) → IsBehind b t
-behind_list n b s f v t h = meant (Follows b) (Follows b) (leading (decorated_in n) s) (Ok (v, t)) h (since (leading (decorated_in n)) (leading_keeps (decorated_in n) (decorated_in_keeps n)) b s f)
+behind_list : (n : ℕ) (b s : State) → IsBehind b s × Remembers b s → (v : Leading) (t : State) → leading (decorated_in n) s ≡ Ok (v, t) → IsBehind b t × Remembers b t
+behind_list n b s f v t h = meant (Stayed b) (Left b) (leading (decorated_in n) s) (Ok (v, t)) h (since (leading (decorated_in n)) (leading_keeps (decorated_in n) (decorated_in_keeps n)) b s f)
 
-item_keeps : (n : ℕ) (recorded : List Fault) → Leaves (item_whole n recorded)
-item_keeps n recorded b s f = alone_cases (Answers (Follows b) (Follows b)) recorded n s
-    (λ _. answers_then (Follows b) (Follows b) (module_item n (turned recorded s)) _ (since (module_item n) (module_item_keeps n) b (turned recorded s) (behind_turned recorded b s f)) (λ x t g. g))
-    (λ _. answers_then (Follows b) (Follows b) (whole_stmt n top_item s) _ (since (whole_stmt n top_item) (whole_stmt_keeps n top_item) b s f) (λ x t g. g))
-    (λ m e d v t h w. answers_then (Follows b) (Follows b) (item_behind m v (turned recorded t)) _
-    (word_cases (Answers (Follows b) (Follows b)) m v (turned recorded t) w (λ _. since (import_behind m v) (import_behind_keeps m v) b (turned recorded t) (behind_turned recorded b t (behind_list m b s f v t h)))
-    (λ _. since (export_behind m v) (export_behind_keeps m v) b (turned recorded t) (behind_turned recorded b t (behind_list m b s f v t h)))) (λ x u g. g))
+pub item_keeps : (n : ℕ) (recorded : List Fault) → Leaves (item_whole n recorded)
+item_keeps n recorded b s f = alone_cases (Answers (Stayed b) (Left b)) recorded n s
+    (λ _. answers_then (Stayed b) (Left b) (module_item n (turned recorded s)) _ (since (module_item n) (module_item_keeps n) b (turned recorded s) (behind_turned recorded b s f.0, f.1)) (λ x t g. g))
+    (λ _. answers_then (Stayed b) (Left b) (whole_stmt n top_item s) _ (since (whole_stmt n top_item) (whole_stmt_keeps n top_item) b s f) (λ x t g. g))
+    (λ m e d v t h w. let u = turned recorded t in let g = behind_list m b s f v t h in let k : IsBehind b u × Remembers b u = (behind_turned recorded b t g.0, g.1) in
+    answers_then (Stayed b) (Left b) (item_behind m v u) _
+    (word_cases (Answers (Stayed b) (Left b)) m v u w (λ i. from_here b u (import_behind m v u) k (import_behind_keeps m v u u i (behind_self u)))
+    (λ i. from_here b u (export_behind m v u) k (export_behind_keeps m v u u i (behind_self u)))) (λ x z j. j))
+
+item_follows : (n : ℕ) (recorded : List Fault) (s : State) → Answers (Follows s) (Follows s) (item_whole n recorded (unmarked s))
+item_follows n recorded s = only_follows s (item_whole n recorded (unmarked s)) (item_keeps n recorded s (unmarked s) ((behind_self s).0, λ h. h))
 
 pub item_stays : (X : Type 0) (view : X → Tree) (limit : ℕ) (s : State) (r : Result X Error) (t : State) → AnswersItem view limit (unmarked s) r t → Stays s r t
 item_stays X view limit s (Ok x) t h =
-    meant (Follows s) (Follows s) (item_whole limit h.0 (unmarked s)) (Ok (_, t)) h.1 (item_keeps limit h.0 s (unmarked s) (behind_self s).0)
+    meant (Follows s) (Follows s) (item_whole limit h.0 (unmarked s)) (Ok (_, t)) h.1 (item_follows limit h.0 s)
 item_stays X view limit s (Err e) t h = λ n. let p = h n in
-    outcome_behind s (item_whole limit p.0 (unmarked s)) (fault_of e) p.1 t (item_keeps limit p.0 s (unmarked s) (behind_self s).0) p.2 p.3
+    outcome_behind s (item_whole limit p.0 (unmarked s)) (fault_of e) p.1 t (item_follows limit p.0 s) p.2 p.3

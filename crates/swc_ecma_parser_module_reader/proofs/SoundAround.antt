@@ -10,7 +10,6 @@ use Rattle.swc_ecma_parser_model.specs.Tree.{Tree, listed, trees}
 use Rattle.swc_ecma_parser_grammar.specs.Looks.{sees}
 use Rattle.swc_ecma_parser_grammar.specs.Names.{Code}
 use Rattle.swc_ecma_parser_grammar.specs.Notes.{notes, all_notes}
-use Rattle.swc_ecma_parser_grammar.specs.Reads.{directed}
 use Rattle.swc_ecma_parser_grammar.specs.Walk as walks
 use Rattle.swc_ecma_parser_grammar.specs.Walk.{Env, walk, env_of, walk_items, tabled, drops}
 use Rattle.swc_ecma_parser_grammar.specs.language.Contexts.{in_module}

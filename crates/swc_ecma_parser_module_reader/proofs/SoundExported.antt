@@ -30,7 +30,7 @@ use Rattle.swc_ecma_parser_grammar.specs.Decorated.{plain_statement}
 use Rattle.swc_ecma_parser_grammar.specs.ReadsSupported.{ReadsClass, ReadsPat, ReadsStmt, ReadsParams, ReadsNamedClass}
 use Rattle.swc_ecma_parser_grammar.specs.Walk as walks
 use Rattle.swc_ecma_parser_grammar.specs.Walk.{Env, walk, env_of}
-use Rattle.swc_ecma_parser_grammar.specs.language.Goals.{Goal, assignment, left_side}
+use Rattle.swc_ecma_parser_grammar.specs.language.Goals.{Goal, expression, assignment, left_side}
 use Rattle.swc_ecma_parser_grammar.specs.language.Contexts.{named_by, in_parameters, in_class}
 use Rattle.swc_ecma_parser_grammar.specs.language.Classes.{ClassRule}
 use Rattle.swc_ecma_parser_grammar.specs.language.Declarations as declarations
@@ -52,15 +52,17 @@ use Rattle.swc_ecma_parser_grammar.proofs.FunctionExprs.{function_supported}
 use Rattle.swc_ecma_parser_reader.specs.Notes.{notes_of, all_notes_of}
 use Rattle.swc_ecma_parser_reader.specs.Members.{extended, surplus, members, class_parts, named_class, class_decl, class_name, unnamed_class, class_expr, class_stmt}
 use Rattle.swc_ecma_parser_reader.specs.Methods.{star}
-use Rattle.swc_ecma_parser_reader.specs.State.{State, Outcome, Reader, and_then, moved, coded, flagged, within, name, name_by, name_in, wanted, expect, end, unclean_name, recorded_in, recorded_at, noted, fault, fault_at}
+use Rattle.swc_ecma_parser_reader.specs.State.{State, Outcome, Reader, and_then, moved, coded, flagged, within, name, name_by, name_in, wanted, expect, unclean_name, recorded_in, recorded_at, noted, fault, fault_at}
 use Rattle.swc_ecma_parser_reader.specs.Reader as reader
-use Rattle.swc_ecma_parser_reader.specs.Reader.{expr, pattern, member, stmt, declarators, variables, named, own_name, function_word, function_parts, function_decl, function_expr, misdirected, function_body, close}
+use Rattle.swc_ecma_parser_reader.specs.Reader.{expr, pattern, member, stmt, declarators, declaration_end, variables, named, own_name, function_word, function_parts, function_decl, function_expr, misdirected, function_body, close}
 use Rattle.swc_ecma_parser_reader.proofs.Words.{begins_function}
 use Rattle.swc_ecma_parser_reader.proofs.Meets.{Meets, meets_then, meets_if, saw, wanted_meets}
 use Rattle.swc_ecma_parser_reader.proofs.Between.{Sound, same, sound_more, sound_as, sound_after, within_sound}
 use Rattle.swc_ecma_parser_reader.proofs.expressions.SoundSteps.{meets_as}
 use Rattle.swc_ecma_parser_reader.proofs.patterns.Sound.{anything}
-use Rattle.swc_ecma_parser_reader.proofs.SoundParts.{end_sound, variables_stand, declarators_sound, meets_both}
+use Rattle.swc_ecma_parser_reader.proofs.Keeps.{expr_keeps}
+use Rattle.swc_ecma_parser_reader.proofs.SoundRecovered.{declaration_end_sound}
+use Rattle.swc_ecma_parser_reader.proofs.SoundParts.{variables_stand, declarators_sound, meets_both}
 use Rattle.swc_ecma_parser_reader.proofs.SoundFunctions.{function_decl_sound, function_expr_sound}
 use Rattle.swc_ecma_parser_reader.proofs.Sound.{expr_sound, pattern_sound, parameters_sound, stmt_sound, classes_sound, class_sound as class_expr_sound}
 use Rattle.swc_ecma_parser_module_reader.specs.Exports.{default_name, default_function, begins_default_function}
@@ -136,7 +138,7 @@ variables_sound n word s e = meets_then _ (within with_in (declarators (expr n) 
     (within_sound (λ xs k l. walks.walks (env_of k l) false (trees xs)) (λ xs. all_notes_of (trees xs))
     (λ xs k. ReadsSeparated (DeclaratorRule (ReadsClass n assignment) (ReadsPat n) k false word) xs) with_in (λ k. refl) (declarators (expr n) (pattern n) false word) (moved s)
     (declarators_sound (ReadsClass n) (ReadsPat n) (expr n) (pattern n) (expr_sound n) (pattern_sound n) false word (coded (with_in s.code) (moved s)))) (λ xs m p.
-    meets_then _ (end faults.Unexpected m) _ (end_sound faults.Unexpected m) (λ _ t q. (
+    meets_then _ (declaration_end (expr n expression) m) _ (declaration_end_sound (expr n expression) (expr_keeps n expression) m) (λ _ t q. (
       sound_after s t refl (variables_stand word s.at e) refl refl (λ (i, r, z). variables_read n word s.code (tree.var (spanned s.at t.at) word (listed xs)) xs s.at i t.at e r z refl) (sound_more p q),
       λ env span. refl,
     )))

@@ -100,6 +100,7 @@ declared_is n recorded s x t off noted_as p (d, w) = record {
   held = [];
   recorded_as = noted_as ∙ sym (ap (λ b. if b then s.notes.held_back else []) d) ∙ sym (append-nil (if is_module_decl x then s.notes.held_back else []));
   plain = λ _. (refl, refl);
+  stated = λ e. absurd (true≢false (sym d ∙ e));
   spells = λ h _. let r = p.reads h in ((declared_around n s.code x s.at t.at d off r.0, λ _. r.2), sym (w (env_of s.code s.scope.labels)) ∙ p.clean h);
   is_supported = λ h. (p.reads h).1;
   fewer = p.fewer;
@@ -121,6 +122,7 @@ stated_is n s x t p e = record {
   held = [];
   recorded_as = rw e refl;
   plain = λ _. (refl, refl);
+  stated = λ _. (refl, refl);
   spells = λ h _. let r = p.spells h in ((stmt_item n s.code x s.at t.at r.0.0, r.0.1), r.1);
   is_supported = λ h. item_supported x (p.is_supported h);
   fewer = p.fewer;
@@ -166,6 +168,7 @@ module _ (n : ℕ) (recorded : List Fault) (s : State) (begins : begins_decorato
       held = held.0;
       recorded_as = noted_as ∙ held.1 ∙ ap (λ b. (if b then s.notes.held_back else []) ++ held.0) (sym p.declared);
       plain = λ h. absurd (true≢false (sym (signs s.code s.at begins).1 ∙ h));
+      stated = λ h. absurd (true≢false (sym p.declared ∙ h));
       spells = λ g h. (((p.reads g).0, λ _. unnoted g h), p.clean g);
       is_supported = λ g. (p.reads g).1;
       fewer = p.fewer;

@@ -246,5 +246,5 @@ module _ (n : ℕ) (s u : State) (v : Leading) (l : SoundLeading n s v u) (k : C
         meets_then _ (misplaced v e) _ (meets_both _ _ (misplaced v e) (misplaced_still v e (ap is_error w)) (dropped_step n e e_module (span_at u.at) refl v any e (sound_here {P = λ j c d. Unit {0}} e tt))) (λ _ g (at, (p, b)).
         let o = import_decl (object_alone n) g in
         let m : IsModule g.code = subst IsModule (sym p.code) e_module in
-        meets_as o (meets_both _ _ o (import_sound (Reads n) (object_alone n) (object_sound n) g m (ap kind_at at ∙ w)) (kept_meets g o (import_decl_keeps (object_alone n) (object_alone_keeps n) g g (behind_self g))))
+        meets_as o (meets_both _ _ o (import_sound (Reads n) (object_alone n) (object_sound n) g m (ap kind_at at ∙ w)) (kept_meets g o (import_decl_keeps (object_alone n) (object_alone_keeps n) g g (ap kind_at at ∙ w) (behind_self g))))
         (λ x t ((q, d), c). dropped_led {P = λ j a b. ⊥} x t (sound_as (found_before v e) t refl refl refl (λ (a, b). a) (paired p q)) d (drops_later (found_before v e) g t b c)))

@@ -20,11 +20,11 @@ use Rattle.swc_ecma_parser_grammar.specs.Decorated.{decorated_by}
 use Rattle.swc_ecma_parser_reader.specs.Decorators.{Leading, leading, misplaced as misplaced_list}
 use Rattle.swc_ecma_parser_reader.specs.DecoratedStatements.{begins_declared, declared_behind, exported_behind, other_behind, stmt_behind, decorated_stmt, either_stmt}
 use Rattle.swc_ecma_parser_reader.specs.Members.{class_parts, named_class, class_decl, class_stmt}
-use Rattle.swc_ecma_parser_reader.specs.State.{State, Reader, moved, coded, within, fault, fault_at, wanted, name, expect, end, reference}
+use Rattle.swc_ecma_parser_reader.specs.State.{State, Reader, moved, coded, within, fault, fault_at, wanted, name, expect, end, reference, attempted}
 use Rattle.swc_ecma_parser_reader.specs.Methods.{star}
 use Rattle.swc_ecma_parser_reader.specs.Expressions.{Cover}
 use Rattle.swc_ecma_parser_reader.specs.Reader as reader
-use Rattle.swc_ecma_parser_reader.specs.Reader.{decorated_in, declarators, items, closes, close, no_label, note_statement, optional_end, head, note_with, as_init, as_left, head_part, misdeclared, await_here, opening, link, alternative, target, unbroken, uncontinued, operand, misplaced, clauses, braced, handler, finalizer, handled, labelled_body, relabels, function_word, named, top_await, goes_on, Opening, begins_label, unless_awaited, empty, debugger, variables, block, block_from, expr_stmt, expr_stmt_at, import_stmt, import_stmt_at, thrown, throw, while_stmt, with_stmt, do_while, for_parts, for_in, for_of, for_behind, for_stmt, links, if_stmt, break_stmt, continue_stmt, returned, return_stmt, labeled_stmt, other_stmt, switch_stmt, try_stmt, function_parts, function_decl, function_stmt, const_stmt, let_stmt, async_or_other, stmt_by, stmt_level, stmt, whole_stmt, expr, head_cover, pattern, member, misusing, using_from, using_stmt, using_or_other, await_using_stmt, plain_stmt}
+use Rattle.swc_ecma_parser_reader.specs.Reader.{decorated_in, declarators, items, closes, close, no_label, note_statement, optional_end, head, note_with, as_init, as_left, head_part, misdeclared, await_here, opening, link, alternative, target, unbroken, uncontinued, operand, misplaced, clauses, braced, handler, finalizer, handled, labelled_body, relabels, function_word, named, top_await, goes_on, Opening, begins_label, unless_awaited, empty, debugger, variables, block, block_from, expr_stmt, expr_stmt_at, import_stmt, import_stmt_at, thrown, throw, while_stmt, with_stmt, do_while, for_parts, for_in, for_of, for_behind, for_stmt, links, if_stmt, break_stmt, continue_stmt, returned, return_stmt, labeled_stmt, other_stmt, switch_stmt, try_stmt, function_parts, function_decl, function_stmt, const_stmt, let_stmt, async_or_other, stmt_by, stmt_level, stmt, whole_stmt, expr, head_cover, pattern, member, misusing, using_from, using_stmt, using_or_other, await_using_stmt, plain_stmt, declaration_end, stray}
 use Rattle.swc_ecma_parser_reader.proofs.Meets.{Meets, always, meets_then, meets_if, wanted_meets, too_deep_meets, refuse_meets}
 use Rattle.swc_ecma_parser_reader.proofs.SoundParts.{after_return_meets}
 use Rattle.swc_ecma_parser_reader.proofs.expressions.SoundSteps.{reject_meets}
@@ -43,7 +43,7 @@ module _ (inner : Position → Reader Tree) (inner_expr : Class → Reader Tree)
 
   variables_form : (word : VarDeclKind) (s : State) → Meets IsStatement (variables inner_expr inner_pat word s)
   unfolding variables
-  variables_form word s = always _ (within with_in (declarators inner_expr inner_pat false word) (moved s)) _ (λ xs t. always _ (end faults.Unexpected t) _ (λ _ u. refl))
+  variables_form word s = always _ (within with_in (declarators inner_expr inner_pat false word) (moved s)) _ (λ xs t. always _ (declaration_end (inner_expr expression) t) _ (λ _ u. refl))
 
   block_form : (p : Reader Tree) (s : State) → Meets IsStatement (block p s)
   unfolding block block_from
@@ -148,6 +148,10 @@ module _ (inner : Position → Reader Tree) (inner_expr : Class → Reader Tree)
   switch_form p q s = always _ (head q (moved s)) _ (λ x t. always _ (expect kind.LBrace t) _ (λ _ u. always _ (within in_breakable (clauses p q) u) _ (λ xs v.
       always _ (expect kind.RBrace v) _ (λ _ w. refl))))
 
+  stray_form : (p q : Reader Tree) (s : State) → Meets IsStatement (stray p q s)
+  unfolding stray
+  stray_form p q s = always _ (fault (fault_at (span_at s.at) faults.TS1005) s) _ (λ _ t. always _ (attempted (handler p q) t) _ (λ _ u. always _ (attempted (finalizer p) u) _ (λ _ v. refl)))
+
   try_form : (p q : Reader Tree) (s : State) → Meets IsStatement (try_stmt p q s)
   unfolding try_stmt
   try_form p q s = always _ (braced p false (moved s)) _ (λ x t. always _ (handler p q t) _ (λ y u. always _ (finalizer p u) _ (λ z v. always _ (handled t.at v) _ (λ _ w. refl))))
@@ -211,6 +215,8 @@ module _ (inner : Position → Reader Tree) (inner_expr : Class → Reader Tree)
   by_form at kind.Return s = return_form _ s
   by_form at kind.Throw s = throw_form _ s
   by_form at kind.Try s = try_form _ _ s
+  by_form at kind.Catch s = stray_form _ _ s
+  by_form at kind.Finally s = stray_form _ _ s
   by_form at kind.With s = with_form _ _ s
   by_form at kind.While s = while_form _ _ s
   by_form at kind.Do s = do_while_form _ _ s

@@ -45,6 +45,8 @@ pub record SoundItemAlone (limit : ℕ) (s : State) (x : Tree) (t : State) : Typ
   pub recorded_as : map as_note recorded ≡ (if is_module_decl x then s.notes.held_back else []) ++ held
   -- nothing stands before the word of an import or an export that is no decorator
   pub plain : sees kind.At s.at ≡ false → (before ≡ []) × (held ≡ [])
+  -- nor does anything of a statement, which all faults are recorded behind
+  pub stated : is_module_decl x ≡ false → (before ≡ []) × (held ≡ [])
   pub spells : before ++ behind ≡ [] → held ≡ [] → Spells limit programs.module_item s.code s.scope.labels x s.at t.at
   pub is_supported : before ++ behind ≡ [] → supported_item x ≡ true
   -- no error token comes to those that are left, and there are as many where none was read

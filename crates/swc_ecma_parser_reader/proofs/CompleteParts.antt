@@ -12,7 +12,7 @@ use Rattle.swc_ecma_parser_reader.specs.Notes.{no_notes, Notes, held, ◌⊕◌,
 use Rattle.swc_ecma_parser_grammar.proofs.Tests.{and_yes}
 use Rattle.swc_ecma_parser_grammar.proofs.Marks.{name_before_colon}
 use Rattle.swc_ecma_parser_grammar.specs.Names.{is_name, is_reserved, name_at, is_clean_name, is_identifier, Code}
-use Rattle.swc_ecma_parser_reader.specs.Reader.{begins_label, note_with, expr, pattern, told, target, unbroken, break_stmt, uncontinued, continue_stmt, misplaced, operand, returned, return_stmt, empty, debugger, initialized, declarator, declarators_turn, declarators, variables, closes, at_end, close, directs, items_turn, items, note_statement, no_label, expr_stmt, optional_end, import_stmt, thrown, throw, head, condition, begins_clause, closes_clause, shebang_of, shebang_in, shebang, misusing, using_from, using_stmt, await_using_stmt, nests}
+use Rattle.swc_ecma_parser_reader.specs.Reader.{begins_label, note_with, expr, pattern, told, target, unbroken, break_stmt, uncontinued, continue_stmt, misplaced, operand, returned, return_stmt, empty, debugger, initialized, declarator, declarators_turn, declarators, declaration_end, variables, closes, at_end, close, directs, items_turn, items, note_statement, no_label, expr_stmt, optional_end, import_stmt, thrown, throw, head, condition, begins_clause, closes_clause, shebang_of, shebang_in, shebang, misusing, using_from, using_stmt, await_using_stmt, nests}
 use Rattle.std.specs.Prelude.{◌&&◌, ◌||◌, codes}
 use Rattle.swc_ecma_parser_common.specs.declared.span.Span.{Span}
 use Rattle.swc_ecma_parser_error.specs.Kind as faults
@@ -35,7 +35,7 @@ use Rattle.swc_ecma_parser_grammar.specs.Ends.{Ends, by_semicolon, by_insertion,
 use Rattle.swc_ecma_parser_grammar.specs.Follows.{begins_import_expression}
 use Rattle.swc_ecma_parser_grammar.specs.Reads.{with_in, in_strict, ReadsToken, DeclaratorRule, plain_rule, initialized_rule, ReadsSeparated, directed, directs_on, ReadsItems, TargetRule, no_target_rule, target_rule, OperandRule, no_operand_rule, operand_rule, ReadsHead}
 use Rattle.swc_ecma_parser_grammar.specs.ReadsSupported.{ReadsClass, ReadsPat}
-use Rattle.swc_ecma_parser_grammar.specs.language.Goals.{Class, expression, assignment}
+use Rattle.swc_ecma_parser_grammar.specs.language.Goals.{expression, assignment}
 use Rattle.swc_ecma_parser_grammar.specs.Entries.{ReadsShebang, some_shebang, no_shebang}
 use Rattle.swc_ecma_parser_grammar.specs.Notes.{notes, statement_note, as_note, with_note}
 use Rattle.swc_ecma_parser_grammar.specs.language.Noted.{has_meta}
@@ -50,6 +50,7 @@ use Rattle.swc_ecma_parser_reader.proofs.expressions.CompleteParts.{name_reads}
 use Rattle.swc_ecma_parser_grammar.specs.Own.{break_faults, continue_faults, return_faults}
 use Rattle.swc_ecma_parser_reader.proofs.expressions.CompleteKinds.{seen, named_here}
 use Rattle.swc_ecma_parser_reader.proofs.Below.{Below, expr_reads, pattern_reads}
+use Rattle.swc_ecma_parser_reader.proofs.Declarators.{declarator_begins}
 use Rattle.swc_ecma_parser_reader.proofs.Loops.{items_stop, items_more, declarators_done, declarators_more}
 use Rattle.swc_ecma_parser_grammar.proofs.SupportedBegins.{expr_opens}
 use Rattle.swc_ecma_parser_reader.proofs.Opens.{import_unnoted, goes_open}
@@ -65,6 +66,12 @@ pub ends_read : (missing : Kind) (c d : Place) (k : Code) (w : Scope) (f : List 
 unfolding end
 ends_read missing c d k w f h (by_semicolon e g) = rw (seen c kind.Semi e, g) refl
 ends_read missing c d k w f h (by_insertion e i g) = rw (e, i, g) refl
+
+-- that of a declaration
+pub declaration_end_reads : (expr : Reader Tree) (c d : Place) (k : Code) (w : Scope) (f : List Fault) (h : Notes) → Ends c d → declaration_end expr (st c k w f h) ≡ Ok (tt, st d k w f h)
+unfolding declaration_end
+declaration_end_reads expr c d k w f h (by_semicolon e g) = rw (seen c kind.Semi e, g) refl
+declaration_end_reads expr c d k w f h (by_insertion e i g) = rw (e, i, g) refl
 
 -- one that nothing demands
 pub optional_end_reads : (c d : Place) (k : Code) (w : Scope) (f : List Fault) (h : Notes) → OptionalEnds c d → optional_end (st c k w f h) ≡ Ok (tt, st d k w f h)
@@ -196,9 +203,9 @@ module _ (n : ℕ) (below : Below n) (in_head : Bool) (word : VarDeclKind) where
   many_declarators [] found k c d w f h r = absurd r
   many_declarators (x ∷ []) found k c d w f h r =
       rw (append-nil (walk (env_of k w.labels) x), append-nil (notes x), or_nil (has_meta x))
-      (declarators_done n in_head word found (st c k w f h) x (st d k w (f ++ walk (env_of k w.labels) x) (h ⊕ notes_of x)) (declarator_reads k x c d r.0 w f h) r.1)
+      (declarators_done n in_head word found (st c k w f h) x (st d k w (f ++ walk (env_of k w.labels) x) (h ⊕ notes_of x)) (declarator_begins n k in_head word x c d r.0) (declarator_reads k x c d r.0 w f h) r.1)
   many_declarators (x ∷ y ∷ ys) found k c d w f h (m, r, e, more) =
-      declarators_more n in_head word found (st c k w f h) x (st m k w (f ++ walk (env_of k w.labels) x) (h ⊕ notes_of x)) (declarator_reads k x c m r w f h) (seen m kind.Comma e)
+      declarators_more n in_head word found (st c k w f h) x (st m k w (f ++ walk (env_of k w.labels) x) (h ⊕ notes_of x)) (declarator_begins n k in_head word x c m r) (declarator_reads k x c m r w f h) (seen m kind.Comma e)
       ∙ many_declarators (y ∷ ys) (found ++ x ∷ []) k (after m) d w (f ++ walk (env_of k w.labels) x) (h ⊕ notes_of x) more ∙ simp (append_assoc, or_assoc) refl
 
 pub variables_reads : (n : ℕ) (below : Below n) (word : VarDeclKind) (xs : List Tree) (m : Place) (k : Code) (x : Tree) (c d : Place)
@@ -208,7 +215,7 @@ unfolding variables declarators
 variables_reads n below word xs m k x c d r e g w f h =
     rw (
       many_declarators n below false word xs [] (with_in k) (after c) m w f h r,
-      ends_read faults.Unexpected m d k w (f ++ walks (env_of k w.labels) false (trees xs)) (h ⊕ all_notes_of (trees xs)) e,
+      declaration_end_reads (expr n expression) m d k w (f ++ walks (env_of k w.labels) false (trees xs)) (h ⊕ all_notes_of (trees xs)) e,
       g,
     ) refl
 

@@ -10,12 +10,12 @@ use Rattle.swc_ecma_parser_reader.proofs.decorators.Falls.{decorated_falls}
 use Rattle.swc_ecma_parser_reader.proofs.decorators.Taking.{either_falls}
 use Rattle.swc_ecma_parser_reader.specs.State.{Scope, and_then, below, relabelled, below_label, enclosed, unlabelled, fault_at, noted, module_found, reference, State, Outcome, Reader, moved, coded, within, fault, labelled, labelled_as, name, expect, end}
 use Rattle.swc_ecma_parser_grammar.specs.language.Items.{labelled_item, sub_statement}
-use Rattle.swc_ecma_parser_reader.specs.Reader.{begins_label, relabels, labelled_body, labeled_stmt, other_stmt, note_with, with_stmt, await_here, unless_awaited, function_body, function_decl, function_parts, function_stmt, misdirected, function_word, async_or_other, missing_initializer, Opening, Nothing, Variables, Expression, as_init, as_left, head_variables, head_expression, opening, head_part, misdeclared, for_parts, for_in, for_of, for_behind, for_stmt, const_stmt, let_stmt, no_parameter, one_parameter, getter, setter, plain_method, arrow_block, function_by, named, own_name, function_expr, expr, cover, head_cover, pattern, element, decorated_in, member, function, empty, debugger, uninitialized, initialized, declarator, declarators_turn, declarators, variables, closes, at_end, close, items_turn, items, block_from, block, braced, note_statement, no_label, expr_stmt, expr_stmt_at, told, target, unbroken, break_stmt, uncontinued, continue_stmt, misplaced, after_return, operand, returned, return_stmt, optional_end, import_stmt, import_stmt_at, thrown, throw, head, while_stmt, do_while, Link, goes_on, condition, alternative, link_from, link, behind_link, links, if_stmt, begins_clause, closes_clause, Clauses, clause_from, default_clause, case_clause, clause, clauses_turn, clauses, switch_stmt, is_handled, handled, bound, parameter, finalizer, caught, handler, try_stmt, stmt_by, stmt_level, stmt, top_await_fault, top_await, whole_stmt, shebang_in, shebang_taken, shebang, script_body, script, misusing, using_from, using_stmt, using_or_other, Resource, Named, undeclared, using_head, named_head, await_or_expression, await_head, async_head, unfollowed, async_or_expression, head_target}
+use Rattle.swc_ecma_parser_reader.specs.Reader.{begins_label, relabels, labelled_body, labeled_stmt, other_stmt, note_with, with_stmt, await_here, unless_awaited, function_body, function_decl, function_parts, function_stmt, misdirected, function_word, async_or_other, missing_initializer, Opening, Nothing, Variables, Expression, as_init, as_left, head_variables, head_expression, opening, head_part, misdeclared, for_parts, for_in, for_of, for_behind, for_stmt, const_stmt, let_stmt, no_parameter, one_parameter, getter, setter, plain_method, arrow_block, function_by, named, own_name, function_expr, expr, cover, head_cover, pattern, element, decorated_in, member, function, empty, debugger, uninitialized, initialized, ends_declarators, missing_at, no_declarator, declarator, declarators_turn, declarators, declaration_end, variables, closes, at_end, close, items_turn, items, block_from, block, braced, note_statement, no_label, expr_stmt, expr_stmt_at, told, target, unbroken, break_stmt, uncontinued, continue_stmt, misplaced, after_return, operand, returned, return_stmt, optional_end, import_stmt, import_stmt_at, thrown, throw, head, while_stmt, do_while, Link, goes_on, condition, alternative, link_from, link, behind_link, links, if_stmt, begins_clause, closes_clause, Clauses, clause_from, default_clause, case_clause, clause, clauses_turn, clauses, switch_stmt, is_handled, handled, bound, parameter, finalizer, caught, handler, try_stmt, stmt_by, stmt_level, stmt, top_await_fault, top_await, whole_stmt, shebang_in, shebang_taken, shebang, script_body, script, misusing, using_from, using_stmt, using_or_other, Resource, Named, undeclared, using_head, named_head, await_or_expression, await_head, async_head, unfollowed, async_or_expression, head_target}
 use Rattle.swc_ecma_parser_grammar.specs.language.Contexts.{without_in, named_by, in_body, in_arrow, in_parameters, in_loop, in_breakable, in_with}
 use Rattle.swc_ecma_parser_grammar.specs.Variables.{is_const, needs_no_initializer}
 use Rattle.swc_ecma_parser_model.specs.declared.leaves.VarDeclKind.{VarDeclKind}
 use Rattle.swc_ecma_parser_model.specs.declared.leaves.VarDeclKind.TheVariants as decl
-use Rattle.std.proofs.Common.{◌≡◌, ◌≢◌, ℕ, zero, suc, ◌+◌, ◌≤◌, Bool, true, false, cond, List, [], ◌∷◌, length, Option, Some, None, Ok, Err, refl, true≢false, sym, ◌∙◌, arith, ap}
+use Rattle.std.proofs.Common.{◌≡◌, ◌≢◌, ℕ, zero, suc, Bool, true, false, List, [], ◌∷◌, length, Option, Some, None, inl, inr, Ok, Err, refl, true≢false, sym, ◌∙◌, arith, ap}
 use Rattle.std.specs.Prelude.{◌&&◌, ◌||◌, is_some, codes}
 use Rattle.swc_ecma_parser_common.specs.declared.span.Span.{Span}
 use Rattle.swc_ecma_parser_error.specs.Kind as faults
@@ -24,7 +24,7 @@ use Rattle.swc_ecma_parser_token.specs.declared.kind.TokenKind.TheVariants as ki
 use Rattle.swc_ecma_parser_input.specs.Place.{Place, after}
 use Rattle.swc_ecma_parser_model.specs.Tree as tree
 use Rattle.swc_ecma_parser_model.specs.Tree.{Tree, Text}
-use Rattle.swc_ecma_parser_model.specs.Forms.{is_ident, is_ident_named, is_binding_name, is_rest}
+use Rattle.swc_ecma_parser_model.specs.Forms.{is_ident, is_binding_name, is_rest}
 use Rattle.swc_ecma_parser_grammar.specs.declared.position.Position.{Position}
 use Rattle.swc_ecma_parser_grammar.specs.Looks.{kind_at, breaks_at, sees, same_kind, span_at}
 use Rattle.swc_ecma_parser_grammar.specs.Follows.{word_at, may_begin_expression_statement, begins_import_expression, is_let_declaration, is_async_function, begins_async_of}
@@ -36,7 +36,11 @@ use Rattle.swc_ecma_parser_reader.specs.Expressions.{Cover}
 use Rattle.swc_ecma_parser_reader.specs.Reader as reader
 use Rattle.swc_ecma_parser_reader.specs.Methods.{MethodForm, getter_form, setter_form, method_form, property_form, star}
 use Rattle.swc_ecma_parser_grammar.specs.Names.{name_at}
-use Rattle.swc_ecma_parser_reader.proofs.Takes.{Falls, falls_where, falls_choice, labelled_falls, falls_then, falls_last, falls_coded, falls_found, falls_if, less, falls_next, moves, takes, falls_past, falls_moved, wanted_falls, too_deep_falls, refuse_falls, refused_falls, fewer, name_falls, fault_falls, end_falls, close_falls, expect_falls, loop_falls, reference_falls}
+use Rattle.swc_ecma_parser_reader.proofs.Takes.{Falls, falls_where, falls_choice, labelled_falls, falls_then, falls_last, falls_coded, falls_found, falls_if, less, falls_next, moves, takes, falls_past, falls_moved, wanted_falls, too_deep_falls, refuse_falls, refused_falls, fewer, name_falls, fault_falls, end_falls, close_falls, expect_falls, loop_falls, reference_falls, note_falls, note_with_falls, optional_end_falls}
+use Rattle.swc_ecma_parser_reader.proofs.Recovered.{Lossless, declaration_end_falls}
+use Rattle.swc_ecma_parser_reader.proofs.Behind.{Passes}
+use Rattle.swc_ecma_parser_reader.proofs.Keeps.{loses_nothing}
+use Rattle.swc_ecma_parser_reader.proofs.Strays.{stray_falls}
 use Rattle.swc_ecma_parser_reader.proofs.First.{first_falls}
 use Rattle.swc_ecma_parser_reader.proofs.expressions.Falls as exprs
 use Rattle.swc_ecma_parser_reader.proofs.expressions.Falls.{reject_falls, falls_when, expect_takes, star_falls, told_falls, FunctionsFall}
@@ -85,20 +89,20 @@ module _ (inner_expr : Class → Reader Tree) (g : (class : Class) (s : State) �
       falls_if 0 (length t.at.left) (sees kind.Assign t.at) _ _ (initialized_falls (span_at s.at) p t) (uninitialized_falls in_head word _ p t))
 
   declarators_turn_falls : (in_head : Bool) (word : VarDeclKind) (found : List Tree) (s : State) → Falls 0 (length s.at.left) (declarators_turn inner_expr inner in_head word found s)
-  unfolding declarators_turn
-  declarators_turn_falls in_head word found s = falls_then 0 0 (length s.at.left) (declarator inner_expr inner in_head word s) _
+  unfolding declarators_turn no_declarator
+  declarators_turn_falls in_head word found s = falls_if 0 (length s.at.left) (ends_declarators s.at) _ _ (falls_last 0 (length s.at.left) (fault (fault_at (missing_at found s.at) faults.TS1009) s) _ (fault_falls _ s)) (falls_then 0 0 (length s.at.left) (declarator inner_expr inner in_head word s) _
       (less (length s.at.left) (declarator inner_expr inner in_head word s) (declarator_falls in_head word s)) (λ x t.
-      falls_if 0 (length t.at.left) (sees kind.Comma t.at) _ _ (let m = moves t.at in omega arith) (omega arith))
+      falls_if 0 (length t.at.left) (sees kind.Comma t.at) _ _ (let m = moves t.at in omega arith) (omega arith)))
 
   pub declarators_fall : (in_head : Bool) (word : VarDeclKind) (s : State) → Falls 0 (length s.at.left) (declarators inner_expr inner in_head word s)
   unfolding declarators
   declarators_fall in_head word s = loop_falls (declarators_turn inner_expr inner in_head word) (declarators_turn_falls in_head word) [] s
 
-  variables_falls : (word : VarDeclKind) (s : State) → kind_at s.at ≢ kind.End → Falls 1 (length s.at.left) (variables inner_expr inner word s)
+  variables_falls : Passes (inner_expr expression) → (word : VarDeclKind) (s : State) → kind_at s.at ≢ kind.End → Falls 1 (length s.at.left) (variables inner_expr inner word s)
   unfolding variables
-  variables_falls word s e = falls_past s _ e (falls_then 0 0 (length (after s.at).left) (within with_in (declarators inner_expr inner false word) (moved s)) _
+  variables_falls passes word s e = falls_past s _ e (falls_then 0 0 (length (after s.at).left) (within with_in (declarators inner_expr inner false word) (moved s)) _
       (falls_coded 0 (length (after s.at).left) (declarators inner_expr inner false word (coded (with_in s.code) (moved s))) _ _ (declarators_fall false word (coded (with_in s.code) (moved s))))
-      (λ found t. falls_last 0 (length t.at.left) (end faults.Unexpected t) _ (end_falls faults.Unexpected t)))
+      (λ found t. falls_last 0 (length t.at.left) (declaration_end (inner_expr expression) t) _ (declaration_end_falls (inner_expr expression) passes t)))
 
   using_falls : (s : State) → kind_at s.at ≢ kind.End → Falls 1 (length s.at.left) (using_stmt (declarators inner_expr inner false decl.Var) s)
   unfolding using_stmt using_from misusing
@@ -133,23 +137,6 @@ module _ (inner : Reader Tree) (h : (s : State) → Falls 1 (length s.at.left) (
   braced_takes : (directives : Bool) (s : State) → Falls 1 (length s.at.left) (braced inner directives s)
   unfolding braced
   braced_takes directives s = falls_next (length s.at.left) (expect kind.LBrace s) _ (expect_takes kind.LBrace (λ z. cc) s) (λ _ t. block_from_falls directives s.at t)
-
--- a fault of module code is no token, whether recorded or held back
-noted_either : (b : Bool) (n : ℕ) (s t : State) → length s.at.left + 0 ≤ n → length t.at.left + 0 ≤ n → length (cond b s t).at.left + 0 ≤ n
-noted_either true n s t h g = h
-noted_either false n s t h g = g
-
-note_falls : (x : Tree) (s : State) → Falls 0 (length s.at.left) (note_statement x s)
-unfolding note_statement
-note_falls x s = falls_if 0 (length s.at.left) (is_ident_named (codes "interface") x) _ _ (noted_either s.code.flags.module (length s.at.left) _ _ (omega arith) (omega arith)) (omega arith)
-
-note_with_falls : (span : Span) (s : State) → Falls 0 (length s.at.left) (note_with span s)
-unfolding note_with
-note_with_falls span s = noted_either s.code.flags.module (length s.at.left) _ _ (omega arith) (omega arith)
-
-optional_end_falls : (s : State) → Falls 0 (length s.at.left) (optional_end s)
-unfolding optional_end
-optional_end_falls s = falls_if 0 (length s.at.left) (sees kind.Semi s.at) _ _ (let m = moves s.at in omega arith) (omega arith)
 
 module _ (inner : Reader Tree) (h : (s : State) → Falls 1 (length s.at.left) (inner s)) where
   no_label_falls : (x : Tree) (s : State) → Falls 0 (length s.at.left) (no_label x s)
@@ -617,14 +604,14 @@ module _ (inner : Position → Reader Tree) (h : (at : Position) (s : State) →
     (inner_expr : Class → Reader Tree) (g : (class : Class) (s : State) → Falls 1 (length s.at.left) (inner_expr class s))
     (inner_pat : Reader Tree) (i : (s : State) → Falls 1 (length s.at.left) (inner_pat s)) (inner_cover : Reader Cover) (j : (s : State) → Falls 1 (length s.at.left) (inner_cover s))
     (inner_params : Reader (List Tree)) (l : (s : State) → Falls 0 (length s.at.left) (inner_params s))
-    (inner_member : Reader Tree) (m : (s : State) → Falls 1 (length s.at.left) (inner_member s)) where
+    (inner_member : Reader Tree) (m : (s : State) → Falls 1 (length s.at.left) (inner_member s)) (lossless : Lossless (inner nested_item) (inner_expr expression) inner_pat) where
   const_falls : (at : Position) (s : State) → kind_at s.at ≢ kind.End → Falls 1 (length s.at.left) (const_stmt inner inner_expr inner_pat inner_cover inner_params inner_member at s)
   unfolding const_stmt
-  const_falls at s e = falls_choice 1 (length s.at.left) at.include_decl _ _ s (variables_falls inner_expr g inner_pat i decl.Const s e) (wanted_falls Tree 1 (length s.at.left) faults.Unexpected s)
+  const_falls at s e = falls_choice 1 (length s.at.left) at.include_decl _ _ s (variables_falls inner_expr g inner_pat i lossless.exprs decl.Const s e) (wanted_falls Tree 1 (length s.at.left) faults.Unexpected s)
 
   let_falls : (at : Position) (s : State) → kind_at s.at ≢ kind.End → Falls 1 (length s.at.left) (let_stmt inner inner_expr inner_pat inner_cover inner_params inner_member at s)
   unfolding let_stmt
-  let_falls at s e = falls_if 1 (length s.at.left) (at.include_decl && is_let_declaration s.at) _ _ (variables_falls inner_expr g inner_pat i decl.Let s e)
+  let_falls at s e = falls_if 1 (length s.at.left) (at.include_decl && is_let_declaration s.at) _ _ (variables_falls inner_expr g inner_pat i lossless.exprs decl.Let s e)
       (other_falls inner h (inner_expr expression) (g expression) at s)
 
   using_or_other_falls : (at : Position) (s : State) → Falls 1 (length s.at.left) (using_or_other inner inner_expr inner_pat inner_cover inner_params inner_member at s)
@@ -642,7 +629,7 @@ module _ (inner : Position → Reader Tree) (h : (at : Position) (s : State) →
   stmt_by_falls at kind.LBrace s e = block_falls (inner nested_item) (h nested_item) s (λ h. cc)
   stmt_by_falls at kind.Semi s e = empty_falls s (λ h. cc)
   stmt_by_falls at kind.Debugger s e = debugger_falls s (λ h. cc)
-  stmt_by_falls at kind.Var s e = variables_falls inner_expr g inner_pat i decl.Var s (λ h. cc)
+  stmt_by_falls at kind.Var s e = variables_falls inner_expr g inner_pat i lossless.exprs decl.Var s (λ h. cc)
   stmt_by_falls at kind.Const s e = const_falls at s (λ h. cc)
   stmt_by_falls at kind.Let s e = let_falls at s (λ h. cc)
   stmt_by_falls at kind.If s e = if_falls (inner sub_statement) (h sub_statement) (inner_expr expression) (g expression) s (λ h. cc)
@@ -652,6 +639,8 @@ module _ (inner : Position → Reader Tree) (h : (at : Position) (s : State) →
   stmt_by_falls at kind.Return s e = return_falls (inner_expr expression) (g expression) s (λ h. cc)
   stmt_by_falls at kind.Throw s e = throw_falls (inner_expr expression) (g expression) s (λ h. cc)
   stmt_by_falls at kind.Try s e = try_falls (inner nested_item) (h nested_item) inner_pat i s (λ h. cc)
+  stmt_by_falls at kind.Catch s e = stray_falls (inner nested_item) lossless.stmts inner_pat lossless.pats s (inl e)
+  stmt_by_falls at kind.Finally s e = stray_falls (inner nested_item) lossless.stmts inner_pat lossless.pats s (inr e)
   stmt_by_falls at kind.With s e = with_falls (inner sub_statement) (h sub_statement) (inner_expr expression) (g expression) s (λ h. cc)
   stmt_by_falls at kind.While s e = while_falls (inner sub_statement) (h sub_statement) (inner_expr expression) (g expression) s (λ h. cc)
   stmt_by_falls at kind.Do s e = do_while_falls (inner sub_statement) (h sub_statement) (inner_expr expression) (g expression) s (λ h. cc)
@@ -734,7 +723,7 @@ all_taken (suc n) = let b = all_taken n in record {
   stmts = λ at. either_falls (reader.plain_stmt n) at
       (λ s. first_falls (declarators (expr n) (pattern n) false decl.Var) (reader.nests n) (stmt_level (stmt n) (expr n) (pattern n) (head_cover n) (reader.parameters n) (member n)) at
       (declarators_fall (expr n) b.exprs (pattern n) b.patterns false decl.Var) s
-      (stmt_level_falls (stmt n) b.stmts (expr n) b.exprs (pattern n) b.patterns (head_cover n) b.heads (reader.parameters n) (parameters_taken n b) (member n) b.members at s)) (decorated_in n) b.decorateds;
+      (stmt_level_falls (stmt n) b.stmts (expr n) b.exprs (pattern n) b.patterns (head_cover n) b.heads (reader.parameters n) (parameters_taken n b) (member n) b.members (loses_nothing n) at s)) (decorated_in n) b.decorateds;
 }
 
 -- an expression of any class takes a token, and so does what may still become a pattern

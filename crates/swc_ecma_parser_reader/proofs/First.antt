@@ -11,12 +11,13 @@ use Rattle.swc_ecma_parser_grammar.specs.Reads.{with_in}
 use Rattle.swc_ecma_parser_grammar.specs.Using.{is_using_declaration, is_await_using_declaration}
 use Rattle.swc_ecma_parser_grammar.proofs.Tests.{and_yes}
 use Rattle.swc_ecma_parser_grammar.proofs.AwaitUsing.{declares_behind_await}
+use Rattle.swc_ecma_parser_grammar.proofs.Using.{using_stands}
 use Rattle.swc_ecma_parser_reader.specs.State.{State, Reader, moved, coded, within}
 use Rattle.swc_ecma_parser_reader.specs.Reader.{misusing, using_from, await_using_stmt, await_using_or}
 use Rattle.swc_ecma_parser_reader.proofs.Takes.{Falls, falls_then, falls_last, falls_coded, falls_past, falls_moved}
 use Rattle.swc_ecma_parser_reader.proofs.Meets.{Answers, Meets, answers_then, answers_if, meets_if}
 use Rattle.swc_ecma_parser_reader.proofs.Behind as behind
-use Rattle.swc_ecma_parser_reader.proofs.Behind.{Passes, NothingLost, Lost, behind_after}
+use Rattle.swc_ecma_parser_reader.proofs.Behind.{Passes, NothingLost, Lost, flagged_kept, behind_after}
 use Rattle.swc_ecma_parser_reader.proofs.Shallow as shallow
 use Rattle.swc_ecma_parser_reader.proofs.Shallow.{Fine, Shallow, fine_after}
 use Rattle.swc_ecma_parser_reader.proofs.expressions.Falls.{told_falls}
@@ -63,15 +64,18 @@ module _ (found : Reader (List Tree)) (v : Bool) (rest : Position → Reader Tre
         by_test false e = r
 
   module _ (h : Passes found) (b s : State) (f : NothingLost b s) where
-    pub await_using_keeps : Answers (behind.Kept b) (Lost b) (await_using_stmt found s)
+    await_using_keeps : is_await_using_declaration at s.code s.at ≡ true → Answers (behind.Kept b) (Lost b) (await_using_stmt found s)
     unfolding await_using_stmt using_from misusing
-    await_using_keeps = answers_then _ _ (within with_in found (moved (moved s))) _
-        (answers_then (behind.Kept b) _ (found (coded (with_in s.code) (moved (moved s)))) _ (h b (coded (with_in s.code) (moved (moved s))) (behind_after b (moved s) (behind_after b s f))) (λ xs t k. k)) (λ xs t k.
+    await_using_keeps e = let (_, a, u) = declares_behind_await at s.code s.at e in
+        let g = behind_after b (moved s) (using_stands s.code (after s.at) u) refl (behind_after b s a refl f) in
+        answers_then _ _ (within with_in found (moved (moved s))) _
+        (answers_then (behind.Kept b) _ (found (coded (with_in s.code) (moved (moved s)))) _ (h b (coded (with_in s.code) (moved (moved s))) g)
+        (λ xs t k. flagged_kept b (moved (moved s)) t g k)) (λ xs t k.
         answers_then (behind.Kept b) _ (misusing (record { lo = (span_at s.at).lo; hi = t.at.last.hi }) xs t) _ (told_keeps b _ t k) (λ _ u j. j))
 
     pub first_keeps : Answers (behind.Kept b) (Lost b) (rest at s) → Answers (behind.Kept b) (Lost b) (await_using_or found v rest at s)
     unfolding await_using_or
-    first_keeps r = answers_if _ _ (is_await_using_declaration at s.code s.at && v) _ _ (λ _. await_using_keeps) (λ _. r)
+    first_keeps r = answers_if _ _ (is_await_using_declaration at s.code s.at && v) _ _ (λ e. await_using_keeps (and_yes (is_await_using_declaration at s.code s.at) v e).0) (λ _. r)
 
   module _ (m : ℕ) (h : (s : State) → Fine m s.at.left → Answers (shallow.Kept m) Shallow (found s)) (s : State) (f : Fine m s.at.left) where
     await_using_shallow : Answers (shallow.Kept m) Shallow (await_using_stmt found s)

@@ -13,6 +13,9 @@ pub mod Meets
 pub mod Behind
 pub mod Errors
 pub mod Between
+pub mod Recovered
+pub mod SoundRecovered
+pub mod Strays
 pub mod SoundParts
 pub mod SoundFor
 pub mod SoundFunctions
@@ -26,6 +29,7 @@ pub mod Below
 pub mod Using
 pub mod HeadWords
 pub mod AwaitWords
+pub mod Declarators
 pub mod CompleteParts
 mod CompleteFor
 mod CompleteFirst
@@ -36,6 +40,7 @@ pub mod Unique
 pub mod Empty
 pub mod Shallow
 pub mod Limits
+pub mod KeepsParts
 pub mod Keeps
 pub mod Objects
 pub mod Spans

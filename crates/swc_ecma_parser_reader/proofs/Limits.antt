@@ -9,11 +9,11 @@ use Rattle.swc_ecma_parser_reader.proofs.decorators.Limits.{decorated_shallow}
 use Rattle.swc_ecma_parser_reader.proofs.decorators.Taking.{either_shallow}
 use Rattle.swc_ecma_parser_reader.specs.Reader as reader
 use Rattle.swc_ecma_parser_reader.specs.Methods.{MethodForm, getter_form, setter_form, method_form, property_form, star}
-use Rattle.swc_ecma_parser_reader.specs.Reader.{no_parameter, one_parameter, getter, setter, plain_method, arrow_block, function_by, named, own_name, function_expr, expr, cover, head_cover, pattern, element, decorated_in, member, function, function_word, async_or_other, begins_label, relabels, labelled_body, labeled_stmt, other_stmt, note_with, with_stmt, await_here, unless_awaited, function_decl, function_stmt, function_parts, function_body, misdirected, missing_initializer, variables, Opening, Nothing, Variables, Expression, as_init, as_left, head_variables, head_expression, opening, head_part, misdeclared, for_parts, for_in, for_of, for_behind, for_stmt, const_stmt, let_stmt, empty, debugger, initialized, declarator, declarators_turn, declarators, closes, at_end, close, items_turn, items, block_from, block, braced, note_statement, no_label, expr_stmt, expr_stmt_at, optional_end, import_stmt, import_stmt_at, told, target, unbroken, break_stmt, uncontinued, continue_stmt, misplaced, after_return, operand, returned, return_stmt, thrown, throw, head, while_stmt, do_while, goes_on, condition, alternative, link_from, link, links, if_stmt, begins_clause, closes_clause, clause_from, default_clause, case_clause, clause, clauses_turn, clauses, switch_stmt, begins_at, is_handled, handled, bound, parameter, finalizer, caught, handler, try_stmt, stmt_by, stmt_level, stmt, top_await_fault, top_await, whole_stmt, shebang, script_body, script, misusing, using_from, using_stmt, using_or_other, Resource, Named, undeclared, using_head, named_head, await_or_expression, await_head, async_head, unfollowed, async_or_expression, head_target}
+use Rattle.swc_ecma_parser_reader.specs.Reader.{no_parameter, one_parameter, getter, setter, plain_method, arrow_block, function_by, named, own_name, function_expr, expr, cover, head_cover, pattern, element, decorated_in, member, function, function_word, async_or_other, begins_label, relabels, labelled_body, labeled_stmt, other_stmt, note_with, with_stmt, await_here, unless_awaited, function_decl, function_stmt, function_parts, function_body, misdirected, missing_initializer, variables, Opening, Nothing, Variables, Expression, as_init, as_left, head_variables, head_expression, opening, head_part, misdeclared, for_parts, for_in, for_of, for_behind, for_stmt, const_stmt, let_stmt, empty, debugger, initialized, ends_declarators, missing_at, no_declarator, declarator, declarators_turn, declarators, declaration_end, stray, closes, at_end, close, items_turn, items, block_from, block, braced, note_statement, no_label, expr_stmt, expr_stmt_at, optional_end, import_stmt, import_stmt_at, told, target, unbroken, break_stmt, uncontinued, continue_stmt, misplaced, after_return, operand, returned, return_stmt, thrown, throw, head, while_stmt, do_while, goes_on, condition, alternative, link_from, link, links, if_stmt, begins_clause, closes_clause, clause_from, default_clause, case_clause, clause, clauses_turn, clauses, switch_stmt, begins_at, is_handled, handled, bound, parameter, finalizer, caught, handler, try_stmt, stmt_by, stmt_level, stmt, top_await_fault, top_await, whole_stmt, shebang, script_body, script, misusing, using_from, using_stmt, using_or_other, Resource, Named, undeclared, using_head, named_head, await_or_expression, await_head, async_head, unfollowed, async_or_expression, head_target}
 use Rattle.swc_ecma_parser_grammar.specs.Names.{name_at}
 use Rattle.swc_ecma_parser_reader.proofs.Meets.{saw, Answers, answers_then, answers_if, loop_answers, meant}
 use Rattle.swc_ecma_parser_model.specs.Tree.{Text, Tree}
-use Rattle.swc_ecma_parser_reader.specs.State.{below, below_label, enclosed, unlabelled, module_found, reference, State, Outcome, Reader, moved, coded, within, noted, holding_back, module_fault, recorded_at, recorded_in, fault, fault_at, wanted, refused, labelled, labelled_as, name, expect, end}
+use Rattle.swc_ecma_parser_reader.specs.State.{attempted, below, below_label, enclosed, unlabelled, module_found, reference, State, Outcome, Reader, moved, coded, within, noted, fault, fault_at, wanted, refused, says_out_of_memory, labelled, labelled_as, name, expect, end}
 use Rattle.swc_ecma_parser_grammar.specs.language.Items.{labelled_item, sub_statement}
 use Rattle.swc_ecma_parser_reader.specs.Expressions as exprs
 use Rattle.swc_ecma_parser_model.specs.declared.leaves.VarDeclKind.{VarDeclKind}
@@ -26,16 +26,10 @@ use Rattle.swc_ecma_parser_grammar.specs.Follows.{word_at, is_let_declaration, i
 use Rattle.std.proofs.Common.{◌≡◌, ◌≢◌, ℕ, zero, suc, ◌+◌, ◌*◌, ◌≤◌, Bool, true, false, cond, List, [], ◌∷◌, length, Option, Some, None, Ok, Err, refl, arith, ap}
 use Rattle.std.specs.Prelude.{◌&&◌, ◌||◌, is_some, codes}
 use Rattle.swc_ecma_parser_common.specs.declared.span.Span.{Span}
-use Rattle.swc_ecma_parser_error.specs.declared.kind.SyntaxError.{SyntaxError}
-use Rattle.swc_ecma_parser_error.specs.declared.kind.SyntaxError.TheVariants as says
 use Rattle.swc_ecma_parser_error.specs.Kind as faults
 use Rattle.swc_ecma_parser_error.specs.Kind.{Fault, kind_of}
 use Rattle.swc_ecma_parser_token.specs.declared.kind.TokenKind.{TokenKind}
 use Rattle.swc_ecma_parser_token.specs.declared.kind.TokenKind.TheVariants as kind
-use Rattle.swc_ecma_parser_token.specs.declared.token.Token.{Token}
-use Rattle.swc_ecma_parser_token.specs.declared.token.Token.TheVariants as token
-use Rattle.swc_ecma_parser_token.specs.declared.token.TokenAndSpan.{TokenAndSpan}
-use Rattle.swc_ecma_parser_input.specs.TokenSource.{means_out_of_memory}
 use Rattle.swc_ecma_parser_input.specs.Place.{Place, after}
 use Rattle.swc_ecma_parser_model.specs.Tree as tree
 use Rattle.swc_ecma_parser_model.specs.Forms.{is_ident, is_ident_named, is_binding_name, is_rest, span_of}
@@ -47,7 +41,9 @@ use Rattle.swc_ecma_parser_grammar.specs.Entries.{script_code}
 use Rattle.swc_ecma_parser_grammar.specs.language.Goals.{Class, expression, assignment, left_side}
 use Rattle.swc_ecma_parser_reader.specs.Expressions.{Cover}
 use Rattle.swc_ecma_parser_reader.specs.Limits.{has_too_deep_token}
-use Rattle.swc_ecma_parser_reader.proofs.Shallow.{StmtLevels, Fine, fine_more, fine_after, fine_taken, Shallow, Kept, Taken, too_deep_shallow, name_shallow, fault_shallow, wanted_shallow, refuse_shallow, end_shallow, expect_shallow, close_shallow, shebang_shallow, Levels, reference_shallow}
+use Rattle.swc_ecma_parser_reader.proofs.Shallow.{StmtLevels, Fine, fine_more, fine_after, fine_taken, Shallow, Kept, Taken, too_deep_shallow, name_shallow, fault_shallow, wanted_shallow, refuse_shallow, end_shallow, expect_shallow, close_shallow, shebang_shallow, Levels, reference_shallow, module_fault_fine, note_with_shallow, optional_end_shallow, told_memory, refused_kept}
+use Rattle.swc_ecma_parser_reader.proofs.Recovered.{Lossless, attempted_shallow, declaration_end_shallow}
+use Rattle.swc_ecma_parser_reader.proofs.Keeps.{loses_nothing, handler_keeps, finalizer_keeps}
 use Rattle.swc_ecma_parser_reader.proofs.Opens.{chain_goes}
 use Rattle.swc_ecma_parser_reader.proofs.First.{first_shallow}
 use Rattle.swc_ecma_parser_reader.proofs.expressions.LimitSteps.{reject_shallow, told_shallow}
@@ -77,9 +73,9 @@ module _ (inner_expr : Class → Reader Tree) (inner_pat : Reader Tree) (n : ℕ
 
   -- declarators are no level of their own
   declarators_shallow : (s : State) → Fine m s.at.left → Answers (Kept m) Shallow (declarators inner_expr inner_pat in_head word s)
-  unfolding declarators declarators_turn
+  unfolding declarators declarators_turn no_declarator
   declarators_shallow s f = loop_answers (declarators_turn inner_expr inner_pat in_head word) (Kept m) (Kept m) Shallow
-      (λ xs t g. answers_then _ _ (declarator inner_expr inner_pat in_head word t) _ (declarator_shallow t g) (λ x u h. answers_if _ _ (sees kind.Comma u.at) _ _ (λ _. fine_after m u.at h) (λ _. h)))
+      (λ xs t g. answers_if _ _ (ends_declarators t.at) _ _ (λ _. answers_then _ _ (fault _ t) _ (fault_shallow m t g (fault_at (missing_at xs t.at) faults.TS1009)) (λ _ u h. h)) (λ _. answers_then _ _ (declarator inner_expr inner_pat in_head word t) _ (declarator_shallow t g) (λ x u h. answers_if _ _ (sees kind.Comma u.at) _ _ (λ _. fine_after m u.at h) (λ _. h))))
       (λ t e. cc) [] s f
 
 -- as many tokens at most are left as a greater number says
@@ -94,46 +90,6 @@ unfolding items items_turn
 items_shallow inner n below stops directives m h s f = loop_answers (items_turn inner stops directives) (Kept m) (Kept m) Shallow
     (λ xs t g. answers_if _ _ (stops t.at) _ _ (λ _. g) (λ _. answers_then _ _ (inner t) _ (below m t h g) (λ x u k. k)))
     (λ t e. cc) [] s f
-
--- a note takes no token
-module_fault_fine : (m : ℕ) (g : Fault) (s : State) → Fine m s.at.left → Fine m (module_fault g s).at.left
-module_fault_fine m g s f = by_module s.code.flags.module
-  where
-    by_module : (b : Bool) → Fine m (cond b (noted g s) (holding_back g s)).at.left
-    by_module true = f
-    by_module false = f
-
-note_with_shallow : (m : ℕ) (span : Span) (s : State) → Fine m s.at.left → Answers (Kept m) Shallow (note_with span s)
-unfolding note_with
-note_with_shallow m span s f = module_fault_fine m (fault_at span faults.WithInStrict) s f
-
-optional_end_shallow : (m : ℕ) (s : State) → Fine m s.at.left → Answers (Kept m) Shallow (optional_end s)
-unfolding optional_end
-optional_end_shallow m s f = answers_if _ _ (sees kind.Semi s.at) _ _ (λ _. fine_after m s.at f) (λ _. f)
-
--- ---- faults that are told
-
--- what a fault for want of memory says is something else
-memory_kind : (k : SyntaxError) → means_out_of_memory k ≡ true → kind_of k ≢ faults.TooDeep
-memory_kind says.TooDeep h e = cc
-memory_kind _ h e = cc
-
-recorded_at_memory : (g : Fault) (s : State) (t : Token) → Answers (λ _ _. Unit {0}) Shallow (recorded_at g s t)
-recorded_at_memory g s (token.Error e) = answers_if _ _ (means_out_of_memory e.kind) _ _ (λ h. memory_kind e.kind h) (λ _. tt)
-recorded_at_memory g s _ = tt
-
-recorded_in_memory : (g : Fault) (s : State) (ts : List TokenAndSpan) → Answers (λ _ _. Unit {0}) Shallow (recorded_in g s ts)
-recorded_in_memory g s [] = tt
-recorded_in_memory g s (t ∷ ts) = recorded_at_memory g s t.token
-
-told_memory : (fs : List Fault) (s : State) → Answers (λ _ _. Unit {0}) Shallow (told fs s)
-unfolding fault
-told_memory [] s = tt
-told_memory (f ∷ fs) s = answers_then (λ _ _. Unit {0}) _ (fault f s) _ (recorded_in_memory f s s.at.left) (λ _ t _. told_memory fs t)
-
-refused_kept : {A : Type 0} (P : A → State → Type 0) (f : Fault) (o : Outcome (Unit {0})) → f.kind ≢ faults.TooDeep → Answers (λ _ _. Unit {0}) Shallow o → Answers P Shallow (refused f o)
-refused_kept P f (Ok p) h g = h
-refused_kept P f (Err e) h g = g
 
 -- the fault of a `return` that was refused
 after_return_shallow : (m : ℕ) (start : Span) (o : Outcome Tree) → Answers (Kept m) Shallow o → Answers (Kept m) Shallow (after_return start o)
@@ -191,7 +147,7 @@ misdeclared_shallow m refused left s f = told_shallow m (head_faults refused lef
 -- a refusal that says where it is, is not of what is too deep
 labelled_shallow : {A : Type 0} (P : A → State → Type 0) (o : Outcome A) → Answers P Shallow o → Answers P Shallow (labelled_as o)
 labelled_shallow P (Ok p) h = h
-labelled_shallow P (Err e) h = answers_if P Shallow (is_some e.1.scope.mark) _ _ (λ _. h) (λ _. λ z. cc)
+labelled_shallow P (Err e) h = answers_if P Shallow (is_some e.1.scope.mark || says_out_of_memory e.0.kind) _ _ (λ _. h) (λ _. λ z. cc)
 
 -- the links of a chain, each of which takes a token before the level below
 module _ (inner : Position → Reader Tree) (inner_expr : Class → Reader Tree) (n : ℕ)
@@ -320,7 +276,7 @@ module _ (inner : Reader Tree) (n : ℕ) (below : StmtLevels n inner) where
 
 module _ (inner : Position → Reader Tree) (inner_expr : Class → Reader Tree) (inner_pat : Reader Tree) (inner_head : Reader Cover) (inner_params : Reader (List Tree)) (inner_member : Reader Tree) (n : ℕ)
     (below_stmt : (at : Position) → StmtLevels n (inner at)) (below_expr : (class : Class) → Levels n (inner_expr class)) (below_pat : Levels n inner_pat) (below_head : Levels n inner_head)
-    (below_params : Levels n inner_params) (below_member : Levels n inner_member) (at : Position) (m : ℕ) (enough : 2 * m + 1 ≤ suc n) (s : State) (f : Fine m s.at.left) where
+    (below_params : Levels n inner_params) (below_member : Levels n inner_member) (lossless : Lossless (inner nested_item) (inner_expr expression) inner_pat) (at : Position) (m : ℕ) (enough : 2 * m + 1 ≤ suc n) (s : State) (f : Fine m s.at.left) where
   block_from_shallow : (i : ℕ) → 2 * i + 1 ≤ n → (directives : Bool) (start : Place) (t : State) → Fine i t.at.left → Answers (Kept i) Shallow (block_from (inner nested_item) directives start t)
   block_from_shallow i h directives start t g = braces_from_shallow (inner nested_item) n (below_stmt nested_item) directives start i t h g
 
@@ -343,7 +299,7 @@ module _ (inner : Position → Reader Tree) (inner_expr : Class → Reader Tree)
   variables_shallow word = answers_then _ _ (within with_in (declarators inner_expr inner_pat false word) (moved s)) _
       (answers_then (Kept m) _ (declarators inner_expr inner_pat false word (coded (with_in s.code) (moved s))) _
       (declarators_shallow inner_expr inner_pat n below_expr below_pat m (omega arith) false word (coded (with_in s.code) (moved s)) (fine_after m s.at f)) (λ x t k. k)) (λ x t k.
-      answers_then _ _ (end faults.Unexpected t) _ (end_shallow m t k faults.Unexpected (λ e. cc)) (λ _ u j. j))
+      answers_then _ _ (declaration_end (inner_expr expression) t) _ (declaration_end_shallow (inner_expr expression) lossless.exprs n (below_expr expression) m t (omega arith) k) (λ _ u j. j))
 
   using_shallow : Answers (Kept m) Shallow (using_stmt (declarators inner_expr inner_pat false decl.Var) s)
   unfolding using_stmt using_from misusing
@@ -624,6 +580,26 @@ module _ (inner : Position → Reader Tree) (inner_expr : Class → Reader Tree)
   unfolding handled
   handled_shallow i behind t g = answers_if _ _ (is_handled behind) _ _ (λ _. g) (λ _. fault_shallow i t g (fault_at (begins_at behind) faults.TS1005))
 
+  -- the word of a catch or finally is a token before the level below
+  catch_shallow : (t : State) → Fine m t.at.left → Answers (Kept m) Shallow (handler (inner nested_item) inner_pat t)
+  unfolding handler caught
+  catch_shallow t g = answers_if _ _ (sees kind.Catch t.at) _ _ (λ e. let (i, h, k) = fine_taken m t.at kind.Catch (saw t.at kind.Catch e) (λ z. cc) g in
+      answers_then _ _ (parameter inner_pat (moved t)) _ (parameter_shallow i (omega arith) (moved t) k) (λ x u j.
+      answers_then _ _ (braced (inner nested_item) false u) _ (braced_shallow i (omega arith) false u j) (λ y v z. fine_more i m v.at.left (omega arith) z))) (λ _. g)
+
+  finally_shallow : (t : State) → Fine m t.at.left → Answers (Kept m) Shallow (finalizer (inner nested_item) t)
+  unfolding finalizer
+  finally_shallow t g = answers_if _ _ (sees kind.Finally t.at) _ _ (λ e. let (i, h, k) = fine_taken m t.at kind.Finally (saw t.at kind.Finally e) (λ z. cc) g in
+      kept_more i m (omega arith) (braced (inner nested_item) false (moved t)) (braced_shallow i (omega arith) false (moved t) k)) (λ _. g)
+
+  stray_shallow : Answers (Kept m) Shallow (stray (inner nested_item) inner_pat s)
+  unfolding stray
+  stray_shallow = answers_then (Kept m) _ (fault (fault_at (span_at s.at) faults.TS1005) s) _ (fault_shallow m s f (fault_at (span_at s.at) faults.TS1005)) (λ _ t g.
+      answers_then (Kept m) _ (attempted (handler (inner nested_item) inner_pat) t) _
+      (attempted_shallow (handler (inner nested_item) inner_pat) (handler_keeps (inner nested_item) lossless.stmts inner_pat lossless.pats) m t g (catch_shallow t g)) (λ _ u k.
+      answers_then (Kept m) _ (attempted (finalizer (inner nested_item)) u) _
+      (attempted_shallow (finalizer (inner nested_item)) (finalizer_keeps (inner nested_item) lossless.stmts) m u k (finally_shallow u k)) (λ _ v j. j)))
+
   try_shallow : kind_at s.at ≡ kind.Try → Answers (Kept m) Shallow (try_stmt (inner nested_item) inner_pat s)
   unfolding try_stmt
   try_shallow e =
@@ -672,6 +648,8 @@ module _ (inner : Position → Reader Tree) (inner_expr : Class → Reader Tree)
   by_shallow kind.Return e = return_shallow e
   by_shallow kind.Throw e = throw_shallow e
   by_shallow kind.Try e = try_shallow e
+  by_shallow kind.Catch e = stray_shallow
+  by_shallow kind.Finally e = stray_shallow
   by_shallow kind.With e = with_shallow e
   by_shallow kind.While e = while_shallow e
   by_shallow kind.Do e = do_while_shallow e
@@ -750,7 +728,7 @@ all_enough (suc n) = let b = all_enough n in record {
       (decorated_in n) b.decorateds;
   stmts = λ at. either_shallow (reader.plain_stmt n) at n (λ m s h f. first_shallow (declarators (expr n) (pattern n) false decl.Var) (reader.nests n) (stmt_level (stmt n) (expr n) (pattern n) (head_cover n) (reader.parameters n) (member n)) at m
       (λ t g. declarators_shallow (expr n) (pattern n) n b.exprs b.patterns m (omega arith) false decl.Var t g) s f
-      (level_shallow (stmt n) (expr n) (pattern n) (head_cover n) (reader.parameters n) (member n) n b.stmts b.exprs b.patterns b.heads (parameters_enough n b) b.members at m h s f)) (decorated_in n) b.decorateds;
+      (level_shallow (stmt n) (expr n) (pattern n) (head_cover n) (reader.parameters n) (member n) n b.stmts b.exprs b.patterns b.heads (parameters_enough n b) b.members (loses_nothing n) at m h s f)) (decorated_in n) b.decorateds;
 }
 
 -- an expression of any class, what may still become a pattern, and what a part of an expression holds that is none

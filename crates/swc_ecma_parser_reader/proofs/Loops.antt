@@ -1,6 +1,8 @@
 -- The turns of the loops, and the levels, in the shapes that a loop over tokens and a recursion meet them.
-use Rattle.std.proofs.Common.{◌≡◌, ℕ, ◌-◌, ◌<◌, Bool, true, false, List, [], ◌∷◌, ◌++◌, length, Ok, Err, refl, arith}
-use Rattle.std.specs.Prelude.{◌||◌}
+use Rattle.std.proofs.Common.{◌≡◌, ℕ, suc, nat_eq, ◌-◌, ◌<◌, Bool, true, false, List, [], ◌∷◌, ◌++◌, length, Ok, Err, refl, sym, ◌∙◌, arith}
+use Rattle.std.specs.Prelude.{◌==◌, ◌&&◌, ◌||◌}
+use Rattle.std.proofs.lemmas.Bool.Decides.{nat_tests}
+use Rattle.swc_ecma_parser_error.specs.Kind as faults
 use Rattle.swc_ecma_parser_error.specs.Kind.{Fault}
 use Rattle.swc_ecma_parser_token.specs.declared.kind.TokenKind.TheVariants as kind
 use Rattle.swc_ecma_parser_input.specs.Place.{Place, after}
@@ -12,10 +14,11 @@ use Rattle.swc_ecma_parser_grammar.specs.Looks.{sees}
 use Rattle.swc_ecma_parser_grammar.specs.Names.{name_at}
 use Rattle.swc_ecma_parser_grammar.specs.Reads.{directed, nested_item}
 use Rattle.swc_ecma_parser_grammar.specs.language.Contexts.{named_by}
+use Rattle.swc_ecma_parser_grammar.proofs.Tests.{and_no}
 use Rattle.swc_ecma_parser_grammar.specs.language.Goals.{expression}
 use Rattle.swc_ecma_parser_reader.specs.Members.{member_level}
-use Rattle.swc_ecma_parser_reader.specs.State.{State, Reader, coded, moved, within, too_deep, loop}
-use Rattle.swc_ecma_parser_reader.specs.Reader.{declarator, declarators_turn, directs, items_turn, begins_clause, Clauses, clause, clauses_turn, named, own_name, stmt, whole_stmt, expr, cover, pattern, decorated_in, member, parameters, plain_stmt}
+use Rattle.swc_ecma_parser_reader.specs.State.{State, Reader, coded, moved, within, too_deep, fault, fault_at, loop}
+use Rattle.swc_ecma_parser_reader.specs.Reader.{ends_declarators, missing_at, no_declarator, declarator, declarators_turn, directs, items_turn, begins_clause, Clauses, clause, clauses_turn, named, own_name, stmt, whole_stmt, expr, cover, pattern, decorated_in, member, parameters, plain_stmt}
 use Rattle.swc_ecma_parser_reader.specs.DecoratedStatements.{either_stmt}
 use Rattle.swc_ecma_parser_reader.proofs.Steps.{loop_more, loop_done, loop_err}
 use Rattle.swc_ecma_parser_reader.proofs.Takes.{moves}
@@ -53,21 +56,41 @@ module _ (item : Reader Tree) (stops : Place → Bool) (directives : Bool) (foun
   unfolding items_turn
   items_more x t h g k = loop_more (items_turn item stops directives) found (found ++ x ∷ []) s (coded (directed t.code (directs directives found) x) t) (rw (h, g) refl) k
 
+some_items : (n : ℕ) → nat_eq (suc n) 0 ≡ false
+some_items n = grind (arith, nat_tests)
+
+-- the first of a body with directives can be one
+pub first_directs : (directives : Bool) (found : List Tree) (b : Bool) → b ≡ (length found == 0) → directs directives found ≡ (directives && b)
+first_directs true [] b e = sym e
+first_directs false [] b e = refl
+first_directs directives (x ∷ xs) b e = sym (and_no directives b (e ∙ some_items (length xs)))
+
 -- ---- declarators with commas between
 
 module _ (n : ℕ) (in_head : Bool) (word : VarDeclKind) (found : List Tree) (s : State) where
-  pub declarators_err : (e : Fault × State) → declarator (expr n) (pattern n) in_head word s ≡ Err e → loop (declarators_turn (expr n) (pattern n) in_head word) found s ≡ Err e
+  pub declarators_err : (e : Fault × State) → ends_declarators s.at ≡ false → declarator (expr n) (pattern n) in_head word s ≡ Err e → loop (declarators_turn (expr n) (pattern n) in_head word) found s ≡ Err e
   unfolding declarators_turn
-  declarators_err e h = loop_err (declarators_turn (expr n) (pattern n) in_head word) found s e (rw h refl)
+  declarators_err e b h = loop_err (declarators_turn (expr n) (pattern n) in_head word) found s e (rw (b, h) refl)
 
-  pub declarators_done : (x : Tree) (t : State) → declarator (expr n) (pattern n) in_head word s ≡ Ok (x, t) → sees kind.Comma t.at ≡ false → loop (declarators_turn (expr n) (pattern n) in_head word) found s ≡ Ok (found ++ x ∷ [], t)
+  -- where one is missing
+  pub declarators_miss : (t : State) → ends_declarators s.at ≡ true → fault (fault_at (missing_at found s.at) faults.TS1009) s ≡ Ok (tt, t)
+      → loop (declarators_turn (expr n) (pattern n) in_head word) found s ≡ Ok (found, t)
+  unfolding declarators_turn no_declarator
+  declarators_miss t b h = loop_done (declarators_turn (expr n) (pattern n) in_head word) found found s t (rw (b, h) refl)
+
+  pub declarators_miss_err : (e : Fault × State) → ends_declarators s.at ≡ true → fault (fault_at (missing_at found s.at) faults.TS1009) s ≡ Err e
+      → loop (declarators_turn (expr n) (pattern n) in_head word) found s ≡ Err e
+  unfolding declarators_turn no_declarator
+  declarators_miss_err e b h = loop_err (declarators_turn (expr n) (pattern n) in_head word) found s e (rw (b, h) refl)
+
+  pub declarators_done : (x : Tree) (t : State) → ends_declarators s.at ≡ false → declarator (expr n) (pattern n) in_head word s ≡ Ok (x, t) → sees kind.Comma t.at ≡ false → loop (declarators_turn (expr n) (pattern n) in_head word) found s ≡ Ok (found ++ x ∷ [], t)
   unfolding declarators_turn
-  declarators_done x t h e = loop_done (declarators_turn (expr n) (pattern n) in_head word) found (found ++ x ∷ []) s t (rw (h, e) refl)
+  declarators_done x t b h e = loop_done (declarators_turn (expr n) (pattern n) in_head word) found (found ++ x ∷ []) s t (rw (b, h, e) refl)
 
-  pub declarators_more : (x : Tree) (t : State) → declarator (expr n) (pattern n) in_head word s ≡ Ok (x, t) → sees kind.Comma t.at ≡ true
+  pub declarators_more : (x : Tree) (t : State) → ends_declarators s.at ≡ false → declarator (expr n) (pattern n) in_head word s ≡ Ok (x, t) → sees kind.Comma t.at ≡ true
       → loop (declarators_turn (expr n) (pattern n) in_head word) found s ≡ loop (declarators_turn (expr n) (pattern n) in_head word) (found ++ x ∷ []) (moved t)
   unfolding declarators_turn
-  declarators_more x t h e = loop_more (declarators_turn (expr n) (pattern n) in_head word) found (found ++ x ∷ []) s (moved t) (rw (h, e) refl) (declarators_shorter n in_head word s x t h)
+  declarators_more x t b h e = loop_more (declarators_turn (expr n) (pattern n) in_head word) found (found ++ x ∷ []) s (moved t) (rw (b, h, e) refl) (declarators_shorter n in_head word s x t h)
 
 -- ---- the clauses of a `switch`
 

@@ -17,13 +17,13 @@ use Rattle.swc_ecma_parser_error.specs.Kind.{Fault}
 use Rattle.swc_ecma_parser_grammar.specs.Own.{only, duplicates, labelled_function}
 use Rattle.swc_ecma_parser_grammar.specs.language.Items.{labelled_item, sub_statement}
 use Rattle.swc_ecma_parser_reader.specs.Members.{class_parts, named_class, class_decl, class_stmt}
-use Rattle.swc_ecma_parser_reader.specs.State.{coded, below, below_label, fault, fault_at, recorded_at, recorded_in, noted, reference, State, Outcome, Reader, and_then, moved, within, wanted, name, expect, end}
+use Rattle.swc_ecma_parser_reader.specs.State.{attempted, coded, below, below_label, fault, fault_at, recorded_at, recorded_in, noted, reference, State, Outcome, Reader, and_then, moved, within, wanted, name, expect, end}
 use Rattle.swc_ecma_parser_reader.specs.Methods.{star}
 use Rattle.swc_ecma_parser_reader.specs.DecoratedStatements.{either_stmt}
 use Rattle.swc_ecma_parser_reader.proofs.decorators.Declared.{declared_is_bare, first_declares}
 use Rattle.swc_ecma_parser_reader.proofs.decorators.Either.{either_at}
 use Rattle.swc_ecma_parser_reader.proofs.decorators.Labels.{either_unlabelled}
-use Rattle.swc_ecma_parser_reader.specs.Reader.{decorated_in, told, named, with_stmt, note_with, await_here, unless_awaited, misdirected, function_body, function_parts, function_decl, function_stmt, expr, head_cover, pattern, member, function_word, async_or_other, items, closes, close, declarators, link, alternative, head, clauses, target, unbroken, uncontinued, operand, braced, handler, finalizer, handled, optional_end, Opening, as_init, as_left, opening, head_part, misdeclared, labelled_body, relabels, no_label, note_statement, empty, debugger, variables, block, block_from, expr_stmt, expr_stmt_at, import_stmt, import_stmt_at, thrown, throw, while_stmt, do_while, for_parts, for_in, for_of, for_behind, for_stmt, goes_on, links, if_stmt, break_stmt, continue_stmt, returned, return_stmt, misplaced, begins_label, labeled_stmt, other_stmt, switch_stmt, try_stmt, const_stmt, let_stmt, stmt_by, stmt_level, stmt, misusing, using_from, using_stmt, using_or_other, await_using_stmt, plain_stmt}
+use Rattle.swc_ecma_parser_reader.specs.Reader.{decorated_in, told, named, with_stmt, note_with, await_here, unless_awaited, misdirected, function_body, function_parts, function_decl, function_stmt, expr, head_cover, pattern, member, function_word, async_or_other, items, closes, close, declarators, declaration_end, stray, link, alternative, head, clauses, target, unbroken, uncontinued, operand, braced, handler, finalizer, handled, optional_end, Opening, as_init, as_left, opening, head_part, misdeclared, labelled_body, relabels, no_label, note_statement, empty, debugger, variables, block, block_from, expr_stmt, expr_stmt_at, import_stmt, import_stmt_at, thrown, throw, while_stmt, do_while, for_parts, for_in, for_of, for_behind, for_stmt, goes_on, links, if_stmt, break_stmt, continue_stmt, returned, return_stmt, misplaced, begins_label, labeled_stmt, other_stmt, switch_stmt, try_stmt, const_stmt, let_stmt, stmt_by, stmt_level, stmt, misusing, using_from, using_stmt, using_or_other, await_using_stmt, plain_stmt}
 use Rattle.swc_ecma_parser_reader.proofs.Meets.{meets_then, Meets, Refuses, always, meets_if, wanted_meets, too_deep_meets, refuse_meets, meant, saw}
 use Rattle.std.specs.Prelude.{◌&&◌, ◌||◌, codes}
 use Rattle.std.proofs.lemmas.List.Recursion.{is_count_by}
@@ -81,7 +81,7 @@ module _ (inner : Position → Reader Tree) (inner_expr : Class → Reader Tree)
 
   variables_plain : (word : VarDeclKind) (s : State) → Meets Plain (variables inner_expr inner_pat word s)
   unfolding variables
-  variables_plain word s = always Plain (within with_in (declarators inner_expr inner_pat false word) (moved s)) _ (λ xs t. always Plain (end faults.Unexpected t) _ (λ _ u b. refl))
+  variables_plain word s = always Plain (within with_in (declarators inner_expr inner_pat false word) (moved s)) _ (λ xs t. always Plain (declaration_end (inner_expr expression) t) _ (λ _ u b. refl))
 
   using_plain : (s : State) → Meets Plain (using_stmt (declarators inner_expr inner_pat false decl.Var) s)
   unfolding using_stmt using_from misusing
@@ -129,6 +129,11 @@ module _ (inner : Position → Reader Tree) (inner_expr : Class → Reader Tree)
   unfolding throw thrown
   throw_plain s = meets_if Plain (breaks_at (after s.at) || sees kind.End (after s.at)) _ _ (λ _. refuse_meets Plain faults.LineBreakInThrow (moved s))
       (λ _. always Plain (within with_in (inner_expr expression) (moved s)) _ (λ x t. always Plain (end faults.Expected t) _ (λ _ u b. refl)))
+
+  stray_plain : (s : State) → Meets Plain (stray (inner nested_item) inner_pat s)
+  unfolding stray
+  stray_plain s = always Plain (fault (fault_at (span_at s.at) faults.TS1005) s) _ (λ _ t. always Plain (attempted (handler (inner nested_item) inner_pat) t) _ (λ _ u.
+      always Plain (attempted (finalizer (inner nested_item)) u) _ (λ _ v b. refl)))
 
   try_plain : (s : State) → Meets Plain (try_stmt (inner nested_item) inner_pat s)
   unfolding try_stmt
@@ -282,6 +287,8 @@ module _ (inner : Position → Reader Tree) (inner_expr : Class → Reader Tree)
   by_told at kind.Return s e = return_plain s
   by_told at kind.Throw s e = throw_plain s
   by_told at kind.Try s e = try_plain s
+  by_told at kind.Catch s e = stray_plain s
+  by_told at kind.Finally s e = stray_plain s
   by_told at kind.With s e = with_plain s
   by_told at kind.While s e = while_plain s
   by_told at kind.Do s e = do_while_plain s

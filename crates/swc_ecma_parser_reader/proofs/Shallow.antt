@@ -1,5 +1,5 @@
 -- What is never too deep: tokens that say nothing of the kind, and steps over them.
-use Rattle.std.proofs.Common.{◌≡◌, ◌≢◌, ℕ, zero, suc, ◌+◌, ◌*◌, ◌≤◌, Bool, true, false, List, [], ◌∷◌, length, Option, Some, None, Ok, Err, refl, sym, ◌∙◌, ap, subst, arith}
+use Rattle.std.proofs.Common.{◌≡◌, ◌≢◌, ℕ, zero, suc, ◌+◌, ◌*◌, ◌≤◌, Bool, true, false, cond, List, [], ◌∷◌, length, Option, Some, None, Ok, Err, refl, sym, ◌∙◌, ap, subst, arith}
 use Rattle.std.specs.Prelude.{◌||◌, ◌&&◌}
 use Rattle.swc_ecma_parser_common.specs.declared.span.Span.{Span}
 use Rattle.swc_ecma_parser_error.specs.declared.error.Error.{Error}
@@ -19,8 +19,8 @@ use Rattle.swc_ecma_parser_model.specs.Tree.{Tree, Text}
 use Rattle.swc_ecma_parser_grammar.specs.Looks.{kind_at, sees, span_at}
 use Rattle.swc_ecma_parser_grammar.specs.Names.{is_name, is_identifier, may_bind_await}
 use Rattle.swc_ecma_parser_grammar.specs.Ends.{can_end}
-use Rattle.swc_ecma_parser_reader.specs.State.{State, Outcome, Reader, moved, fault, recorded_in, recorded_at, fault_at, expect, end, name, name_in, name_by, wanted, wanted_in, wanted_at, too_deep, too_deep_in, refuse, refuse_in, refuse_at, refused, reference, unclean_name}
-use Rattle.swc_ecma_parser_reader.specs.Reader.{close, shebang_in, shebang_taken, shebang}
+use Rattle.swc_ecma_parser_reader.specs.State.{State, Outcome, Reader, moved, fault, recorded_in, recorded_at, fault_at, noted, holding_back, module_fault, expect, end, name, name_in, name_by, wanted, wanted_in, wanted_at, too_deep, too_deep_in, refuse, refuse_in, refuse_at, refused, reference, unclean_name}
+use Rattle.swc_ecma_parser_reader.specs.Reader.{told, close, note_with, optional_end, shebang_in, shebang_taken, shebang}
 use Rattle.swc_ecma_parser_reader.specs.Limits.{means_too_deep, is_too_deep, has_too_deep_token}
 use Rattle.swc_ecma_parser_reader.proofs.Meets.{Answers, answers_if, answers_then}
 use Rattle.swc_ecma_parser_model.specs.declared.leaves.Ident.{Ident}
@@ -232,3 +232,43 @@ Levels n p = (m : ℕ) (s : State) → 2 * m ≤ n → Fine m s.at.left → Answ
 -- the same, and one more: a reader of statements, for an expression that begins with the same token
 abbrev pub StmtLevels : ℕ → Reader Tree → Type 0
 StmtLevels n p = (m : ℕ) (s : State) → 2 * m + 1 ≤ n → Fine m s.at.left → Answers (Kept m) Shallow (p s)
+
+-- a note takes no token
+pub module_fault_fine : (m : ℕ) (g : Fault) (s : State) → Fine m s.at.left → Fine m (module_fault g s).at.left
+module_fault_fine m g s f = by_module s.code.flags.module
+  where
+    by_module : (b : Bool) → Fine m (cond b (noted g s) (holding_back g s)).at.left
+    by_module true = f
+    by_module false = f
+
+pub note_with_shallow : (m : ℕ) (span : Span) (s : State) → Fine m s.at.left → Answers (Kept m) Shallow (note_with span s)
+unfolding note_with
+note_with_shallow m span s f = module_fault_fine m (fault_at span faults.WithInStrict) s f
+
+pub optional_end_shallow : (m : ℕ) (s : State) → Fine m s.at.left → Answers (Kept m) Shallow (optional_end s)
+unfolding optional_end
+optional_end_shallow m s f = answers_if _ _ (sees kind.Semi s.at) _ _ (λ _. fine_after m s.at f) (λ _. f)
+
+-- ---- faults that are told
+
+-- what a fault for want of memory says is something else
+memory_kind : (k : SyntaxError) → means_out_of_memory k ≡ true → kind_of k ≢ faults.TooDeep
+memory_kind says.TooDeep h e = cc
+memory_kind _ h e = cc
+
+recorded_at_memory : (g : Fault) (s : State) (t : Token) → Answers (λ _ _. Unit {0}) Shallow (recorded_at g s t)
+recorded_at_memory g s (token.Error e) = answers_if _ _ (means_out_of_memory e.kind) _ _ (λ h. memory_kind e.kind h) (λ _. tt)
+recorded_at_memory g s _ = tt
+
+recorded_in_memory : (g : Fault) (s : State) (ts : List TokenAndSpan) → Answers (λ _ _. Unit {0}) Shallow (recorded_in g s ts)
+recorded_in_memory g s [] = tt
+recorded_in_memory g s (t ∷ ts) = recorded_at_memory g s t.token
+
+pub told_memory : (fs : List Fault) (s : State) → Answers (λ _ _. Unit {0}) Shallow (told fs s)
+unfolding fault
+told_memory [] s = tt
+told_memory (f ∷ fs) s = answers_then (λ _ _. Unit {0}) _ (fault f s) _ (recorded_in_memory f s s.at.left) (λ _ t _. told_memory fs t)
+
+pub refused_kept : {A : Type 0} (P : A → State → Type 0) (f : Fault) (o : Outcome (Unit {0})) → f.kind ≢ faults.TooDeep → Answers (λ _ _. Unit {0}) Shallow o → Answers P Shallow (refused f o)
+refused_kept P f (Ok p) h g = h
+refused_kept P f (Err e) h g = g

@@ -13,13 +13,13 @@ use Rattle.swc_ecma_parser_reader.proofs.patterns.Sound as patterns
 use Rattle.swc_ecma_parser_reader.proofs.patterns.Sound.{SoundParams, Unwrapped}
 use Rattle.swc_ecma_parser_reader.proofs.expressions.Sound as expressions
 use Rattle.swc_ecma_parser_reader.proofs.expressions.SoundLefts.{FunctionRead, FunctionsSound}
-use Rattle.std.proofs.Common.{append_assoc, ◌≡◌, ℕ, zero, suc, Bool, true, false, cond, List, [], ◌∷◌, ◌++◌, length, Ok, Err, refl, sym, ◌∙◌, ap, subst, append-nil}
+use Rattle.std.proofs.Common.{append_assoc, ◌≡◌, ℕ, zero, suc, Bool, true, false, cond, List, [], ◌∷◌, ◌++◌, length, Ok, refl, sym, ◌∙◌, ap, subst, append-nil}
 use Rattle.swc_ecma_parser_reader.specs.Notes.{no_notes, ◌⊕◌, notes_of, all_notes_of}
 use Rattle.swc_ecma_parser_reader.proofs.Between.{sound_below, sound_coded, Sound, SoundTree, SoundStep, no_faults, same, nil-split, sound_then, sound_more, sound_moved, sound_here, sound_as, sound_held, sound_after, within_sound}
-use Rattle.swc_ecma_parser_reader.specs.State.{name, reference, below, below_label, State, Reader, moved, coded, within, fault_at, Outcome, wanted, labelled, labelled_as, expect, end}
+use Rattle.swc_ecma_parser_reader.specs.State.{name, reference, below, below_label, State, Reader, moved, coded, within, fault_at, wanted, labelled, labelled_as, expect, end}
 use Rattle.swc_ecma_parser_grammar.specs.Reads.{labeled_rule, with_rule, class_rule, function_rule, with_in, nested_item, ReadsItems, TargetRule, OperandRule, no_operand_rule, operand_rule, break_rule, continue_rule, return_rule, StmtRule, block_rule, empty_rule, debugger_rule, if_statement_rule, CaseRule, case_clause_rule, default_clause_rule, ReadsCases, switch_rule, throw_rule, try_rule, while_rule, do_while_rule, expr_rule, import_rule, ReadsBlock, CatchRule, no_catch_rule, catch_rule, catch_parameter_rule, FinallyRule, no_finally_rule, finally_rule, ReadsHead, IfRule, if_rule, ElseRule, no_else_rule, else_rule, else_if_rule}
 use Rattle.swc_ecma_parser_grammar.specs.Own.{labelled_function, duplicates}
-use Rattle.swc_ecma_parser_reader.proofs.SoundParts.{relabels_sound, SoundWith, note_with_sound, using_sound, end_sound, optional_end_sound, Declarators, declarators_sound, inside_sound, variables_sound, code_stays, items_sound, NoLabel, no_label_sound, NoNote, SoundNote, note_sound, and_false, unbroken_sound, uncontinued_sound, misplaced_sound, target_sound, after_return_meets, first_sound}
+use Rattle.swc_ecma_parser_reader.proofs.SoundParts.{labelled_meets, relabels_sound, SoundWith, note_with_sound, using_sound, end_sound, optional_end_sound, Declarators, declarators_sound, inside_sound, variables_sound, code_stays, items_sound, NoLabel, no_label_sound, NoNote, SoundNote, note_sound, and_false, unbroken_sound, uncontinued_sound, misplaced_sound, target_sound, after_return_meets, first_sound}
 use Rattle.swc_ecma_parser_grammar.specs.language.Items.{labelled_item, sub_statement}
 use Rattle.swc_ecma_parser_reader.specs.Reader.{begins_label, relabels, labelled_body, labeled_stmt, other_stmt, with_stmt, note_with, function_stmt, async_or_other, function_decl, variables, const_stmt, let_stmt, expr, cover, head_cover, pattern, element, decorated_in, member, function, function_by, getter, setter, plain_method, target, unbroken, break_stmt, uncontinued, continue_stmt, misplaced, operand, returned, return_stmt, empty, debugger, declarators, closes, close, items, block_from, block, braced, note_statement, no_label, expr_stmt, expr_stmt_at, optional_end, import_stmt, import_stmt_at, thrown, throw, head, while_stmt, do_while, Link, goes_on, condition, alternative, link_from, link, links, if_stmt, begins_clause, closes_clause, Clauses, clause_from, default_clause, case_clause, clause, clauses_turn, clauses, switch_stmt, begins_at, is_handled, handled, bound, parameter, finalizer, caught, handler, try_stmt, stmt_by, stmt_level, stmt, using_or_other}
 use Rattle.swc_ecma_parser_model.specs.declared.leaves.VarDeclKind.{VarDeclKind}
@@ -31,9 +31,12 @@ use Rattle.swc_ecma_parser_reader.proofs.expressions.Covers.{met}
 use Rattle.swc_ecma_parser_reader.proofs.expressions.Groups.{ReadsParts}
 use Rattle.swc_ecma_parser_reader.proofs.expressions.GroupLevels.{tied_at, begins_at as part_begins}
 use Rattle.swc_ecma_parser_reader.proofs.expressions.Heads.{SoundHead, head_expr_sound}
+use Rattle.swc_ecma_parser_reader.proofs.Keeps.{loses_nothing}
+use Rattle.swc_ecma_parser_reader.proofs.Recovered.{Lossless}
+use Rattle.swc_ecma_parser_reader.proofs.Strays.{stray_sound}
 use Rattle.swc_ecma_parser_reader.proofs.SoundFor.{HeadSound, looped_sound, for_sound}
 use Rattle.swc_ecma_parser_grammar.proofs.UsingParts.{bound_target}
-use Rattle.std.specs.Prelude.{not, ◌&&◌, ◌||◌, is_some}
+use Rattle.std.specs.Prelude.{not, ◌&&◌, ◌||◌}
 use Rattle.swc_ecma_parser_common.specs.declared.span.Span.{Span}
 use Rattle.swc_ecma_parser_error.specs.Kind as faults
 use Rattle.swc_ecma_parser_token.specs.declared.kind.TokenKind.{TokenKind}
@@ -85,7 +88,7 @@ module _ (Stmt : Code → Position → Tree → Place → Place → Type 0) (Exp
     (sound_head : HeadSound Expr Pat Target inner_pat inner_head)
     (sound_params : (s : State) → Meets (λ ps t. Sound same (λ k l. walks.walks (env_of k l) false (trees ps)) (all_notes_of (trees ps)) (λ k. Params k ps) s t) (inner_params s))
     (sound_class : (at : Position) (s : State) → kind_at s.at ≡ kind.Class → Meets (λ x t. SoundTree (Declared Named at) s x t) (class_stmt (inner_expr left_side) inner_member at s))
-    (unnoted : (k : Code) (x : Tree) (c d : Place) → begins_import_expression c ≡ true → Expr expression k x c d → statement_note x ≡ []) (at : Position) where
+    (unnoted : (k : Code) (x : Tree) (c d : Place) → begins_import_expression c ≡ true → Expr expression k x c d → statement_note x ≡ []) (lossless : Lossless (inner nested_item) (inner_expr expression) inner_pat) (at : Position) where
   -- a statement in its place
   abbrev SoundStmt : State → Tree → State → Type 0
   SoundStmt s x t = SoundTree (λ k. StmtRule Stmt Expr Pat Target Params Named k at) s x t
@@ -227,11 +230,6 @@ module _ (Stmt : Code → Position → Tree → Place → Place → Type 0) (Exp
       (λ (c, (b, (a, f, (g, h)), j), o). do_while_rule x y a c e f g (subst (λ v. ReadsHead Expr s.code x v c) h j) o refl) (sound_more (sound_then (sound_more p q) r) z)))))
 
   -- ---- `if`
-
-  -- a refusal said otherwise answers nothing either
-  labelled_meets : {A : Type 0} (P : A → State → Type 0) (o : Outcome A) → Meets P o → Meets P (labelled_as o)
-  labelled_meets P (Ok p) h = h
-  labelled_meets P (Err e) h = meets_if P (is_some e.1.scope.mark) _ _ (λ _. tt) (λ _. tt)
 
   condition_sound : (s : State) → Meets (λ x t. SoundTree (ReadsHead Expr) s x t) (condition (inner_expr expression) s)
   unfolding condition labelled
@@ -483,7 +481,7 @@ module _ (Stmt : Code → Position → Tree → Place → Place → Type 0) (Exp
   -- ---- declarations
 
   declared_sound : (word : VarDeclKind) (s : State) → at.include_decl || is_var word ≡ true → begins_variables word s.at ≡ true → Meets (SoundStmt s) (variables inner_expr inner_pat word s)
-  declared_sound = variables_sound Expr Pat inner_expr inner_pat sound_expr sound_pat Stmt Target Params Named at
+  declared_sound = variables_sound Expr Pat inner_expr inner_pat sound_expr sound_pat Stmt Target Params Named at lossless.exprs
 
   -- where declarations are read
   allowed : (word : VarDeclKind) → at.include_decl ≡ true → at.include_decl || is_var word ≡ true
@@ -530,6 +528,8 @@ module _ (Stmt : Code → Position → Tree → Place → Place → Type 0) (Exp
   by_sound kind.Return s e = return_sound s e
   by_sound kind.Throw s e = throw_sound s e
   by_sound kind.Try s e = try_sound s e
+  by_sound kind.Catch s e = stray_sound (inner nested_item) lossless.stmts inner_pat lossless.pats _ s
+  by_sound kind.Finally s e = stray_sound (inner nested_item) lossless.stmts inner_pat lossless.pats _ s
   by_sound kind.With s e = with_sound s e
   by_sound kind.While s e = while_sound s e
   by_sound kind.Do s e = do_while_sound s e
@@ -682,7 +682,7 @@ all_sound (suc n) = let b = all_sound n in record {
   stmts = λ at. either_sound n (reader.plain_stmt n) at
       (λ s. first_sound (ReadsClass n) (ReadsPat n) (expr n) (pattern n) b.exprs b.patterns (ReadsStmt n) (ReadsTarget n) (ReadsParams n) (ReadsNamedClass n) at (reader.nests n) (stmt_level (stmt n) (expr n) (pattern n) (head_cover n) (reader.parameters n) (member n)) s
       (level_sound (ReadsStmt n) (ReadsClass n) (ReadsPat n) (ReadsTarget n) (ReadsParams n) (ReadsNamedClass n) (stmt n) (expr n) (pattern n) (head_cover n) (reader.parameters n) (member n)
-      b.stmts b.exprs b.patterns (openings n b) (params n b) (class_stmt_sound n (expr n left_side) (member n) (b.exprs left_side) b.members) (λ k x c d h r. import_unnoted n k x c d r h) at s))
+      b.stmts b.exprs b.patterns (openings n b) (params n b) (class_stmt_sound n (expr n left_side) (member n) (b.exprs left_side) b.members) (λ k x c d h r. import_unnoted n k x c d r h) (loses_nothing n) at s))
       (λ s. declares_plainly (stmt n) (expr n) (pattern n) (head_cover n) (reader.parameters n) (member n) at s n (b.stmts nested_item) (params n b)
       (class_stmt_sound n (expr n left_side) (member n) (b.exprs left_side) b.members) (reader.declarators (expr n) (pattern n) false decl.Var) (reader.nests n))
       (λ s. plain_exports (stmt n) (expr n) (pattern n) (head_cover n) (reader.parameters n) (member n) at s (reader.declarators (expr n) (pattern n) false decl.Var) (reader.nests n) (λ x t. ⊥)) (decorated_in n) b.decorateds;
@@ -789,9 +789,9 @@ method_code n w g start key s x t e = meant (λ _ u. u.code ≡ s.code) Refuses 
 pub clauses_code : (n : ℕ) (s : State) (xs : List Tree) (t : State) → clauses (stmt n nested_item) (expr n expression) s ≡ Ok (xs, t) → t.code ≡ s.code
 clauses_code n s xs t e =
     let noted : (k : Code) (x : Tree) (c d : Place) → begins_import_expression c ≡ true → ReadsClass n expression k x c d → statement_note x ≡ [] = λ k x c d h r. import_unnoted n k x c d r h in
-    let P : List Tree → State → Type 0 = SoundCases (ReadsStmt n) (ReadsClass n) (ReadsPat n) (ReadsTarget n) (ReadsParams n) (ReadsNamedClass n) (stmt n) (expr n) (pattern n) (head_cover n) (reader.parameters n) (member n) (stmt_sound n) (expr_sound n) (pattern_sound n) (opens_sound n) (parameters_sound n) (classes_sound n) noted nested_item s in
+    let P : List Tree → State → Type 0 = SoundCases (ReadsStmt n) (ReadsClass n) (ReadsPat n) (ReadsTarget n) (ReadsParams n) (ReadsNamedClass n) (stmt n) (expr n) (pattern n) (head_cover n) (reader.parameters n) (member n) (stmt_sound n) (expr_sound n) (pattern_sound n) (opens_sound n) (parameters_sound n) (classes_sound n) noted (loses_nothing n) nested_item s in
     let p : P xs t = meant P Refuses (clauses (stmt n nested_item) (expr n expression) s) (Ok (xs, t)) e
-    (clauses_sound (ReadsStmt n) (ReadsClass n) (ReadsPat n) (ReadsTarget n) (ReadsParams n) (ReadsNamedClass n) (stmt n) (expr n) (pattern n) (head_cover n) (reader.parameters n) (member n) (stmt_sound n) (expr_sound n) (pattern_sound n) (opens_sound n) (parameters_sound n) (classes_sound n) noted nested_item s) in p.code
+    (clauses_sound (ReadsStmt n) (ReadsClass n) (ReadsPat n) (ReadsTarget n) (ReadsParams n) (ReadsNamedClass n) (stmt n) (expr n) (pattern n) (head_cover n) (reader.parameters n) (member n) (stmt_sound n) (expr_sound n) (pattern_sound n) (opens_sound n) (parameters_sound n) (classes_sound n) noted (loses_nothing n) nested_item s) in p.code
 
 pub declarators_code : (n : ℕ) (in_head : Bool) (word : VarDeclKind) (s : State) (xs : List Tree) (t : State) → declarators (expr n) (pattern n) in_head word s ≡ Ok (xs, t) → t.code ≡ s.code
 declarators_code n in_head word s xs t e =

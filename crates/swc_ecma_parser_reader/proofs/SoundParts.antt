@@ -24,14 +24,16 @@ use Rattle.swc_ecma_parser_grammar.specs.Variables.{begins_variables, is_var, is
 use Rattle.swc_ecma_parser_model.specs.Within.{declared_name, is_initialized}
 use Rattle.swc_ecma_parser_grammar.specs.Own.{only, stands_around, break_faults, continue_faults, return_faults, labelled_function, duplicates, surplus, head_faults, first_use_strict, misplaced_directive}
 use Rattle.swc_ecma_parser_grammar.specs.Ends.{Ends, by_semicolon, by_insertion, OptionalEnds, by_a_semicolon, by_nothing, can_end, ends_at}
-use Rattle.swc_ecma_parser_grammar.specs.language.Goals.{Class, assignment}
+use Rattle.swc_ecma_parser_grammar.specs.language.Goals.{Class, expression, assignment}
 use Rattle.swc_ecma_parser_grammar.specs.Reads.{with_in, in_strict, directed, directs_on, DeclaratorRule, plain_rule, initialized_rule, ReadsSeparated, ReadsItems, TargetRule, no_target_rule, target_rule, StmtRule, variables_rule, using_rule}
 use Rattle.swc_ecma_parser_grammar.specs.Walk as walks
 use Rattle.swc_ecma_parser_grammar.specs.Walk.{walk, env_of}
 use Rattle.swc_ecma_parser_grammar.specs.Notes.{statement_note, with_note}
 use Rattle.swc_ecma_parser_reader.specs.Notes.{no_notes, held, notes_of, all_notes_of}
-use Rattle.swc_ecma_parser_reader.specs.State.{State, Reader, moved, coded, within, noted, holding_back, module_fault, fault_at, Outcome, and_then, recorded_at, recorded_in, fault, name, end}
-use Rattle.swc_ecma_parser_reader.specs.Reader.{told, target, unbroken, uncontinued, misplaced, misdeclared, after_return, relabels, missing_initializer, initialized, declarator, declarators_turn, declarators, variables, close, directs, items_turn, items, note_statement, no_label, optional_end, note_with, misdirected, misusing, using_from, using_stmt, await_using_stmt, await_using_or}
+use Rattle.swc_ecma_parser_reader.specs.State.{says_out_of_memory, labelled_as, State, Reader, moved, coded, within, noted, holding_back, module_fault, fault_at, Outcome, and_then, recorded_at, recorded_in, fault, name, end}
+use Rattle.swc_ecma_parser_reader.specs.Reader.{told, target, unbroken, uncontinued, misplaced, misdeclared, after_return, relabels, missing_initializer, initialized, ends_declarators, missing_at, no_declarator, declarator, declarators_turn, declarators, declaration_end, variables, close, directs, items_turn, items, note_statement, no_label, optional_end, note_with, misdirected, misusing, using_from, using_stmt, await_using_stmt, await_using_or}
+use Rattle.swc_ecma_parser_reader.proofs.Behind.{Passes}
+use Rattle.swc_ecma_parser_reader.proofs.SoundRecovered.{declaration_end_sound}
 use Rattle.swc_ecma_parser_reader.proofs.expressions.SoundSteps.{meets_as, reject_meets, refused_meets, name_sound, Takes, noted_sound, fault_sound, walks_push, notes_push}
 use Rattle.swc_ecma_parser_grammar.proofs.Tests.{and_yes}
 use Rattle.swc_ecma_parser_reader.proofs.Notes.{or_nil, notes_nil}
@@ -157,16 +159,23 @@ module _ (Expr : Class → Code → Tree → Place → Place → Type 0) (Pat : 
     abbrev pub Declarators : State → List Tree → State → Type 0
     Declarators s xs t = Sound same (λ k l. walks.walks (env_of k l) false (trees xs)) (all_notes_of (trees xs)) (λ k. ReadsSeparated (Declared k) xs) s t
 
+    -- one that is missing is a fault, and so no list of declarators stands there
+    no_declarator_sound : (s : State) (xs : List Tree) (t : State) → DeclaratorsSoFar s xs t
+        → Meets (Turned (declarators_turn expr pat in_head word) (DeclaratorsSoFar s) (Declarators s) Refuses) (no_declarator xs t)
+    unfolding no_declarator
+    no_declarator_sound s xs t p = meets_then _ (fault (fault_at (missing_at xs t.at) faults.TS1009) t) _ (fault_sound {table = []} (λ k c d. ⊥) (fault_at (missing_at xs t.at) faults.TS1009) t refl) (λ _ u r.
+        sound_as s u refl (append-nil (walks.walks (env_of s.code s.scope.labels) false (trees xs))) (notes_nil (all_notes_of (trees xs))) (λ (i, a, b). absurd b) (sound_then p r))
+
     -- each turn reads one declarator
     declarators_turn_sound : (s : State) (xs : List Tree) (t : State) → DeclaratorsSoFar s xs t
         → Meets (Turned (declarators_turn expr pat in_head word) (DeclaratorsSoFar s) (Declarators s) Refuses) (declarators_turn expr pat in_head word xs t)
     unfolding declarators_turn
-    declarators_turn_sound s xs t p = meets_then _ (declarator expr pat in_head word t) _ (declarator_sound t) (λ x u q. meets_if _ (sees kind.Comma u.at) _ _
+    declarators_turn_sound s xs t p = meets_if _ (ends_declarators t.at) _ _ (λ _. no_declarator_sound s xs t p) (λ _. meets_then _ (declarator expr pat in_head word t) _ (declarator_sound t) (λ x u q. meets_if _ (sees kind.Comma u.at) _ _
         (λ e. sound_as s (moved u) refl (walks_push (env_of s.code s.scope.labels) xs x) (notes_push xs x)
         (λ (m, (i, a, b), z). subst (λ y. Front (Declared s.code) (xs ++ x ∷ []) s.at y) (sym z.1) (front_push (Declared s.code) x s.at i m xs a b z.0))
         (sound_more (sound_then p q) (sound_moved {P = λ k. Takes kind.Comma} u (saw u.at kind.Comma e) refl (saw u.at kind.Comma e, refl))))
         (λ e. sound_as s u refl (walks_push (env_of s.code s.scope.labels) xs x) (notes_push xs x)
-        (λ (i, a, b). front_last (Declared s.code) x s.at i u.at xs a b e) (sound_then p q)))
+        (λ (i, a, b). front_last (Declared s.code) x s.at i u.at xs a b e) (sound_then p q))))
 
     -- declarators with commas between, and none behind
     pub declarators_sound : (s : State) → Meets (Declarators s) (declarators expr pat in_head word s)
@@ -175,12 +184,12 @@ module _ (Expr : Class → Code → Tree → Place → Place → Type 0) (Pat : 
 
   -- `var`, `let` or `const`
   pub variables_sound : (Stmt : Code → Position → Tree → Place → Place → Type 0) (Target : Code → Tree → Place → Place → Type 0) (Params : Code → List Tree → Place → Place → Type 0)
-      (Named : Code → (name x : Tree) → Place → Place → Type 0) (at : Position) (word : VarDeclKind) (s : State) → at.include_decl || is_var word ≡ true → begins_variables word s.at ≡ true → Meets (λ x t. SoundTree (λ k. StmtRule Stmt Expr Pat Target Params Named k at) s x t) (variables expr pat word s)
+      (Named : Code → (name x : Tree) → Place → Place → Type 0) (at : Position) → Passes (expr expression) → (word : VarDeclKind) (s : State) → at.include_decl || is_var word ≡ true → begins_variables word s.at ≡ true → Meets (λ x t. SoundTree (λ k. StmtRule Stmt Expr Pat Target Params Named k at) s x t) (variables expr pat word s)
   unfolding variables
-  variables_sound Stmt Target Params Named at word s b e = meets_then _ (within with_in (declarators expr pat false word) (moved s)) _
+  variables_sound Stmt Target Params Named at passes word s b e = meets_then _ (within with_in (declarators expr pat false word) (moved s)) _
       (within_sound (λ xs k l. walks.walks (env_of k l) false (trees xs)) (λ xs. all_notes_of (trees xs)) (λ xs k. ReadsSeparated (Declared false word k) xs) with_in (λ k. refl)
       (declarators expr pat false word) (moved s) (declarators_sound false word (coded (with_in s.code) (moved s)))) (λ xs m p.
-      meets_then _ (end faults.Unexpected m) _ (end_sound faults.Unexpected m) (λ _ t q.
+      meets_then _ (declaration_end (expr expression) m) _ (declaration_end_sound (expr expression) passes m) (λ _ t q.
       sound_after s t refl (variables_stand word s.at e) refl refl (λ (i, r, z). variables_rule word xs i b e r z refl) (sound_more p q)))
 
   -- `using`: nothing is said of what stands there
@@ -530,3 +539,8 @@ pub after_return_meets : {P : Tree → State → Type 0} (Q : Tree → State →
     → Meets Q (after_return start o)
 after_return_meets Q start (Ok p) h g = g p.0 p.1 h
 after_return_meets Q start (Err e) h g = meets_if Q (is_some e.1.scope.mark) _ _ (λ _. tt) (λ _. refused_meets Q e.0 (misplaced start e.1))
+
+-- a refusal said otherwise answers nothing either
+pub labelled_meets : {A : Type 0} (P : A → State → Type 0) (o : Outcome A) → Meets P o → Meets P (labelled_as o)
+labelled_meets P (Ok p) h = h
+labelled_meets P (Err e) h = meets_if P (is_some e.1.scope.mark || says_out_of_memory e.0.kind) _ _ (λ _. tt) (λ _. tt)

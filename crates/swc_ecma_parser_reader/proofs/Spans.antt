@@ -21,7 +21,7 @@ use Rattle.swc_ecma_parser_model.specs.Tree as tree
 use Rattle.swc_ecma_parser_model.specs.Tree.{Tree, Text}
 use Rattle.swc_ecma_parser_model.specs.Forms.{span_of}
 use Rattle.swc_ecma_parser_grammar.specs.declared.position.Position.{Position}
-use Rattle.swc_ecma_parser_grammar.specs.Looks.{kind_at, breaks_at, sees, span_at, same_kind, spanned}
+use Rattle.swc_ecma_parser_grammar.specs.Looks.{kind_at, breaks_at, sees, first_span, span_at, same_kind, spanned}
 use Rattle.swc_ecma_parser_grammar.specs.Names.{is_name, is_identifier, may_bind_await}
 use Rattle.swc_ecma_parser_grammar.specs.Follows.{word_at, may_begin_expression_statement, begins_import_expression, is_let_declaration, is_async_function}
 use Rattle.swc_ecma_parser_grammar.specs.Parameters.{parameters}
@@ -32,18 +32,20 @@ use Rattle.swc_ecma_parser_grammar.specs.language.Goals.{Class, expression, assi
 use Rattle.swc_ecma_parser_grammar.specs.language.Items.{sub_statement, labelled_item}
 use Rattle.swc_ecma_parser_grammar.proofs.Tests.{and_yes}
 use Rattle.swc_ecma_parser_reader.specs.Members.{extended, surplus, members, class_parts, named_class, class_decl, class_stmt}
-use Rattle.swc_ecma_parser_reader.specs.State.{State, Outcome, Reader, moved, coded, below, below_label, within, noted, module_found, recorded_at, recorded_in, fault, fault_at, wanted, name_by, name_in, name, expect, end, reference, unclean_name}
+use Rattle.swc_ecma_parser_reader.specs.State.{State, Outcome, Reader, attempted, moved, coded, below, below_label, within, noted, module_found, recorded_at, recorded_in, fault, fault_at, wanted, name_by, name_in, name, expect, end, reference, unclean_name}
 use Rattle.swc_ecma_parser_reader.specs.Methods.{star}
 use Rattle.swc_ecma_parser_reader.specs.Expressions.{Cover}
 use Rattle.swc_ecma_parser_reader.specs.Reader as reader
-use Rattle.swc_ecma_parser_reader.specs.Reader.{decorated_in, told, named, items, closes, close, declarators, link, link_from, condition, alternative, head, clauses, target, unbroken, uncontinued, operand, braced, handler, finalizer, handled, optional_end, note_with, await_here, unless_awaited, Opening, as_init, as_left, opening, head_part, misdeclared, misdirected, labelled_body, relabels, no_label, note_statement, empty, debugger, variables, block, block_from, expr_stmt, expr_stmt_at, import_stmt, import_stmt_at, thrown, throw, while_stmt, with_stmt, do_while, for_parts, for_in, for_of, for_behind, for_stmt, goes_on, links, if_stmt, break_stmt, continue_stmt, returned, return_stmt, misplaced, begins_label, labeled_stmt, other_stmt, switch_stmt, try_stmt, function_word, function_body, function_parts, function_decl, function_stmt, const_stmt, let_stmt, async_or_other, stmt_by, stmt_level, stmt, top_await_fault, top_await, whole_stmt, expr, head_cover, pattern, member, misusing, using_from, using_stmt, using_or_other, await_using_stmt, plain_stmt}
-use Rattle.swc_ecma_parser_reader.specs.Entry.{last_span, are_errors, TakesSome, TakesErrors, StandsAt, IsBehind}
+use Rattle.swc_ecma_parser_reader.specs.Reader.{decorated_in, told, named, items, closes, close, declarators, declaration_end, stray, link, link_from, condition, alternative, head, clauses, target, unbroken, uncontinued, operand, braced, handler, finalizer, handled, optional_end, note_with, await_here, unless_awaited, Opening, as_init, as_left, opening, head_part, misdeclared, misdirected, labelled_body, relabels, no_label, note_statement, empty, debugger, variables, block, block_from, expr_stmt, expr_stmt_at, import_stmt, import_stmt_at, thrown, throw, while_stmt, with_stmt, do_while, for_parts, for_in, for_of, for_behind, for_stmt, goes_on, links, if_stmt, break_stmt, continue_stmt, returned, return_stmt, misplaced, begins_label, labeled_stmt, other_stmt, switch_stmt, try_stmt, function_word, function_body, function_parts, function_decl, function_stmt, const_stmt, let_stmt, async_or_other, stmt_by, stmt_level, stmt, top_await_fault, top_await, whole_stmt, expr, head_cover, pattern, member, misusing, using_from, using_stmt, using_or_other, await_using_stmt, plain_stmt}
+use Rattle.swc_ecma_parser_reader.specs.Entry.{last_span, are_errors, TakesSome, TakesErrors, Taken, is_stray, errors_behind, dropped_behind, StandsAt, IsBehind}
 use Rattle.swc_ecma_parser_reader.proofs.Takes.{Falls}
 use Rattle.swc_ecma_parser_reader.proofs.Falls.{stmt_falls, stmt_level_falls, expr_falls, pattern_falls, head_cover_falls, parameters_fall, member_falls, decorated_in_falls, declarators_fall}
 use Rattle.swc_ecma_parser_reader.proofs.Meets.{Answers, Meets, Refuses, answers_then, answers_if, always, meets_then, meets_if, wanted_meets, too_deep_meets, refuse_meets, meant, saw}
 use Rattle.swc_ecma_parser_reader.proofs.Errors.{is_error, fault_here}
-use Rattle.swc_ecma_parser_reader.proofs.Behind.{NothingLost, Kept, Lost, Passes, behind_self, behind_after, end_keeps, expect_keeps, name_keeps, fault_keeps}
-use Rattle.swc_ecma_parser_reader.proofs.Keeps.{target_keeps, function_params_keep, function_body_keep, parameters_keep, stmt_keeps, level_keeps, head_cover_keeps, expr_keeps, member_keeps, declarators_keeps, pattern_keeps, decorated_in_keeps, declarators_keeps_all}
+use Rattle.swc_ecma_parser_reader.proofs.Behind.{NothingLost, Kept, Lost, Passes, flagged_kept, behind_self, behind_next, behind_then, behind_after, end_keeps, expect_keeps, name_keeps, fault_keeps}
+use Rattle.swc_ecma_parser_reader.proofs.Words.{async_parts}
+use Rattle.swc_ecma_parser_reader.proofs.KeepsParts.{target_keeps}
+use Rattle.swc_ecma_parser_reader.proofs.Keeps.{loses_nothing, function_params_keep, function_body_keep, parameters_keep, stmt_keeps, level_keeps, head_cover_keeps, expr_keeps, member_keeps, declarators_keeps, pattern_keeps, decorated_in_keeps, declarators_keeps_all}
 use Rattle.swc_ecma_parser_reader.proofs.decorators.Declared.{declared_is_bare, first_declares}
 use Rattle.swc_ecma_parser_reader.proofs.decorators.Spans.{StandsPlainly, either_stands}
 use Rattle.swc_ecma_parser_reader.proofs.SoundParts.{after_return_meets}
@@ -117,8 +119,20 @@ Spans c x t = span_of x ≡ spanned c t.at
 abbrev EndsBefore : Place → Tree → State → Type 0
 EndsBefore c x t = (e : Place) × (span_of x ≡ spanned c e) × Passed (after c) e × TakesErrors e t.at
 
+abbrev EndsPlainly : Place → Tree → State → Type 0
+EndsPlainly c x t = Spans c x t ⊎ EndsBefore c x t
+
+-- or one token alone, behind which what follows is dropped
+abbrev Strays : Place → Tree → State → Type 0
+Strays c x t = (is_stray x ≡ true) × (span_of x ≡ span_at c)
+
 abbrev Ends : Place → Tree → State → Type 0
-Ends c x t = Spans c x t ⊎ EndsBefore c x t
+Ends c x t = Spans c x t ⊎ (EndsBefore c x t ⊎ Strays c x t)
+
+-- so does what has the same span
+ends_as : (c : Place) (x y : Tree) (t : State) → span_of y ≡ span_of x → EndsPlainly c x t → Ends c y t
+ends_as c x y t e (inl h) = inl (e ∙ h)
+ends_as c x y t e (inr (m, h, p, z)) = inr (inl (m, e ∙ h, p, z))
 
 -- what is kept is known of an answer
 kept : {A : Type 0} (b : State) (o : Outcome A) → Answers (Kept b) (Lost b) o → Meets (Kept b) o
@@ -153,7 +167,7 @@ module _ (k : Kind) (s : State) where
 -- the words that begin a function are one token at least
 word_behind : (s : State) → Meets (Kept (moved s)) (function_word s)
 unfolding function_word
-word_behind s = meets_if _ (is_async_function s.at) _ _ (λ _. behind_after (moved s) (moved s) (behind_self (moved s))) (λ _. behind_self (moved s))
+word_behind s = meets_if _ (is_async_function s.at) _ _ (λ h. behind_after (moved s) (moved s) (async_parts s.at h).1 refl (behind_self (moved s))) (λ _. behind_self (moved s))
 
 module _ (inner : Position → Reader Tree) (inner_expr : Class → Reader Tree) (inner_pat : Reader Tree) (inner_head : Reader Cover) (inner_params : Reader (List Tree))
     (inner_member : Reader Tree) where
@@ -167,7 +181,7 @@ module _ (inner : Position → Reader Tree) (inner_expr : Class → Reader Tree)
 
   variables_end : (word : VarDeclKind) (s : State) → Meets (Ends s.at) (variables inner_expr inner_pat word s)
   unfolding variables
-  variables_end word s = always _ (within with_in (declarators inner_expr inner_pat false word) (moved s)) _ (λ xs t. always _ (end faults.Unexpected t) _ (λ _ u. inl refl))
+  variables_end word s = always _ (within with_in (declarators inner_expr inner_pat false word) (moved s)) _ (λ xs t. always _ (declaration_end (inner_expr expression) t) _ (λ _ u. inl refl))
 
   const_ends : (at : Position) (s : State) → Meets (Ends s.at) (const_stmt inner inner_expr inner_pat inner_head inner_params inner_member at s)
   unfolding const_stmt
@@ -203,6 +217,12 @@ module _ (inner : Position → Reader Tree) (inner_expr : Class → Reader Tree)
   unfolding try_stmt
   try_ends s = always _ (braced (inner nested_item) false (moved s)) _ (λ x t. always _ (handler (inner nested_item) inner_pat t) _ (λ y u.
       always _ (finalizer (inner nested_item) u) _ (λ z v. always _ (handled t.at v) _ (λ _ o. inl refl))))
+
+  -- what is dropped behind its word is no part of it
+  stray_ends : (s : State) → Meets (Ends s.at) (stray (inner nested_item) inner_pat s)
+  unfolding stray
+  stray_ends s = always _ (fault (fault_at (span_at s.at) faults.TS1005) s) _ (λ _ t. always _ (attempted (handler (inner nested_item) inner_pat) t) _ (λ _ u.
+      always _ (attempted (finalizer (inner nested_item)) u) _ (λ _ v. inr (inr (refl, refl)))))
 
   while_ends : (s : State) → Meets (Ends s.at) (while_stmt (inner sub_statement) (inner_expr expression) s)
   unfolding while_stmt
@@ -287,21 +307,21 @@ module _ (inner : Position → Reader Tree) (inner_expr : Class → Reader Tree)
   break_ends s = let b = moved s in
       meets_then _ (target b) _ (kept b (target b) (target_keeps b b (behind_self b))) (λ x t k.
       meets_then _ (end faults.Expected t) _ (kept b (end faults.Expected t) (end_keeps b t k faults.Expected)) (λ _ u j.
-      meets_then _ (unbroken x (record { lo = (span_at s.at).lo; hi = u.at.last.hi }) u) _ (told_errs _ u) (λ _ v z. inr (u.at, refl, (j.0.read, j.0.tokens, j.0.last), z))))
+      meets_then _ (unbroken x (record { lo = (span_at s.at).lo; hi = u.at.last.hi }) u) _ (told_errs _ u) (λ _ v z. inr (inl (u.at, refl, (j.0.read, j.0.tokens, j.0.last), z)))))
 
   continue_ends : (s : State) → Meets (Ends s.at) (continue_stmt s)
   unfolding continue_stmt uncontinued spanned
   continue_ends s = let b = moved s in
       meets_then _ (target b) _ (kept b (target b) (target_keeps b b (behind_self b))) (λ x t k.
       meets_then _ (end faults.Expected t) _ (kept b (end faults.Expected t) (end_keeps b t k faults.Expected)) (λ _ u j.
-      meets_then _ (uncontinued x (record { lo = (span_at s.at).lo; hi = u.at.last.hi }) u) _ (told_errs _ u) (λ _ v z. inr (u.at, refl, (j.0.read, j.0.tokens, j.0.last), z))))
+      meets_then _ (uncontinued x (record { lo = (span_at s.at).lo; hi = u.at.last.hi }) u) _ (told_errs _ u) (λ _ v z. inr (inl (u.at, refl, (j.0.read, j.0.tokens, j.0.last), z)))))
 
   module _ (below_stmt : (at : Position) → Passes (inner at)) (below_expr : (class : Class) → Passes (inner_expr class)) (below_params : Passes inner_params) (below_member : Passes inner_member)
       (below_pat : Passes inner_pat) where
     operand_keeps : (b s : State) → NothingLost b s → Answers (Kept b) (Lost b) (operand (inner_expr expression) s)
     unfolding operand
     operand_keeps b s f = answers_if (Kept b) _ (ends_at s.at) _ _ (λ _. f)
-        (λ _. answers_then (Kept b) _ (inner_expr expression (coded (with_in s.code) s)) _ (below_expr expression b (coded (with_in s.code) s) f) (λ x t k. k))
+        (λ _. answers_then (Kept b) _ (inner_expr expression (coded (with_in s.code) s)) _ (below_expr expression b (coded (with_in s.code) s) f) (λ x t k. flagged_kept b s t f k))
 
     abbrev Returned : Place → Tree → State → Type 0
     Returned c x t = Spans c x t × Passed (after c) t.at
@@ -315,21 +335,21 @@ module _ (inner : Position → Reader Tree) (inner_expr : Class → Reader Tree)
     return_ends : (s : State) → Meets (Ends s.at) (return_stmt (inner_expr expression) s)
     unfolding return_stmt misplaced
     return_ends s = after_return_meets {P = Returned s.at} (Ends s.at) (span_at s.at) (returned (inner_expr expression) (span_at s.at) (moved s)) (returned_ends s)
-        (λ x t (h, k). meets_then _ (misplaced (span_at s.at) t) _ (told_errs _ t) (λ _ u z. inr (t.at, h, k, z)))
+        (λ x t (h, k). meets_then _ (misplaced (span_at s.at) t) _ (told_errs _ t) (λ _ u z. inr (inl (t.at, h, k, z))))
 
     labelled_body_keeps : (text : Text) (b s : State) → NothingLost b s → Answers (Kept b) (Lost b) (labelled_body inner text s)
     unfolding labelled_body
     labelled_body_keeps text b s f = answers_then (Kept b) _ (below_label text (inner (labelled_item s.at)) (coded (in_breakable s.code) s)) _
         (answers_then (Kept b) _ (inner (labelled_item s.at) (below text (coded (in_breakable s.code) s))) _
-        (below_stmt (labelled_item s.at) b (below text (coded (in_breakable s.code) s)) f) (λ x u k. k)) (λ x u k. k)
+        (below_stmt (labelled_item s.at) b (below text (coded (in_breakable s.code) s)) f) (λ x u k. k)) (λ x u k. flagged_kept b s u f k)
 
     labeled_ends : (s : State) → Meets (Ends s.at) (labeled_stmt inner s)
     unfolding labeled_stmt relabels spanned
     labeled_ends s = let b = moved s in
         meets_then _ (reference faults.ExpectedIdent s) _ (referred_behind faults.ExpectedIdent s) (λ i t k.
-        meets_then _ (expect kind.Colon t) _ (kept b (expect kind.Colon t) (expect_keeps b t k kind.Colon)) (λ _ u j.
+        meets_then _ (expect kind.Colon t) _ (kept b (expect kind.Colon t) (expect_keeps b t k kind.Colon refl)) (λ _ u j.
         meets_then _ (labelled_body inner i.sym u) _ (kept b (labelled_body inner i.sym u) (labelled_body_keeps i.sym b u j)) (λ y v h.
-        meets_then _ (relabels (tree.ident i.span i.sym) y v) _ (told_errs _ v) (λ _ w z. inr (v.at, refl, (h.0.read, h.0.tokens, h.0.last), z)))))
+        meets_then _ (relabels (tree.ident i.span i.sym) y v) _ (told_errs _ v) (λ _ w z. inr (inl (v.at, refl, (h.0.read, h.0.tokens, h.0.last), z))))))
 
     other_ends : (at : Position) (s : State) → Meets (Ends s.at) (other_stmt inner (inner_expr expression) at s)
     unfolding other_stmt
@@ -339,7 +359,7 @@ module _ (inner : Position → Reader Tree) (inner_expr : Class → Reader Tree)
     unfolding let_stmt
     let_ends at s = meets_if _ (at.include_decl && is_let_declaration s.at) _ _ (λ _. variables_end decl.Let s) (λ _. other_ends at s)
 
-    function_parts_end : (is_async is_generator : Bool) (s t : State) → NothingLost (moved s) t → Meets (Ends s.at) (function_parts (inner nested_item) inner_params is_async is_generator (span_at s.at) t)
+    function_parts_end : (is_async is_generator : Bool) (s t : State) → NothingLost (moved s) t → Meets (EndsPlainly s.at) (function_parts (inner nested_item) inner_params is_async is_generator (span_at s.at) t)
     unfolding function_parts misdirected spanned
     function_parts_end a g s t k = let b = moved s in
         meets_then _ (within (λ k. in_parameters k a g) inner_params t) _
@@ -354,7 +374,7 @@ module _ (inner : Position → Reader Tree) (inner_expr : Class → Reader Tree)
         meets_then _ (function_word s) _ (word_behind s) (λ a t k.
         meets_then _ (star t) _ (kept b (star t) (star_keeps b t k)) (λ g u j.
         meets_then _ (name faults.ExpectedIdent u) _ (kept b (name faults.ExpectedIdent u) (name_keeps b u j faults.ExpectedIdent)) (λ i v h.
-        meets_then {P = Ends s.at} _ (function_parts (inner nested_item) inner_params a g (span_at s.at) v) _ (function_parts_end a g s v h) (λ x w z. z))))
+        meets_then {P = EndsPlainly s.at} _ (function_parts (inner nested_item) inner_params a g (span_at s.at) v) _ (function_parts_end a g s v h) (λ x w z. ends_as s.at x (tree.fn_decl (tree.ident i.span i.sym) x) w refl z))))
 
     function_stmt_ends : (at : Position) (s : State) → kind_at s.at ≡ kind.Function → Meets (Ends s.at) (function_stmt (inner nested_item) inner_params at s)
     unfolding function_stmt
@@ -366,8 +386,8 @@ module _ (inner : Position → Reader Tree) (inner_expr : Class → Reader Tree)
     using_ends s = let b = moved s in
         meets_then _ (within with_in (declarators inner_expr inner_pat false decl.Var) b) _
         (kept b (within with_in (declarators inner_expr inner_pat false decl.Var) b) (answers_then (Kept b) _ (declarators inner_expr inner_pat false decl.Var (coded (with_in s.code) b)) _
-        (declarators_keeps inner_expr inner_pat below_expr below_pat b false decl.Var (coded (with_in s.code) b) (behind_self b)) (λ x t k. k))) (λ xs t k.
-        meets_then _ (misusing (record { lo = (span_at s.at).lo; hi = t.at.last.hi }) xs t) _ (told_errs _ t) (λ _ u z. inr (t.at, refl, (k.0.read, k.0.tokens, k.0.last), z)))
+        (declarators_keeps inner_expr inner_pat below_expr below_pat b false decl.Var (coded (with_in s.code) b) (behind_self b)) (λ x t k. flagged_kept b b t (behind_self b) k))) (λ xs t k.
+        meets_then _ (misusing (record { lo = (span_at s.at).lo; hi = t.at.last.hi }) xs t) _ (told_errs _ t) (λ _ u z. inr (inl (t.at, refl, (k.0.read, k.0.tokens, k.0.last), z))))
 
     using_or_other_ends : (at : Position) (s : State) → Meets (Ends s.at) (using_or_other inner inner_expr inner_pat inner_head inner_params inner_member at s)
     unfolding using_or_other
@@ -397,6 +417,8 @@ module _ (inner : Position → Reader Tree) (inner_expr : Class → Reader Tree)
     by_ends at kind.Return s e = return_ends s
     by_ends at kind.Throw s e = throw_ends s
     by_ends at kind.Try s e = try_ends s
+    by_ends at kind.Catch s e = stray_ends s
+    by_ends at kind.Finally s e = stray_ends s
     by_ends at kind.With s e = with_ends s
     by_ends at kind.While s e = while_ends s
     by_ends at kind.Do s e = do_while_ends s
@@ -412,9 +434,10 @@ module _ (inner : Position → Reader Tree) (inner_expr : Class → Reader Tree)
     unfolding await_using_stmt using_from misusing spanned
     await_using_ends s = let b = moved s in let i = moved b in
         meets_then _ (within with_in (declarators inner_expr inner_pat false decl.Var) i) _
-        (kept b (within with_in (declarators inner_expr inner_pat false decl.Var) i) (answers_then (Kept b) _ (declarators inner_expr inner_pat false decl.Var (coded (with_in s.code) i)) _
-        (declarators_keeps inner_expr inner_pat below_expr below_pat b false decl.Var (coded (with_in s.code) i) (behind_after b b (behind_self b))) (λ x t k. k))) (λ xs t k.
-        meets_then _ (misusing (record { lo = (span_at s.at).lo; hi = t.at.last.hi }) xs t) _ (told_errs _ t) (λ _ u z. inr (t.at, refl, (k.0.read, k.0.tokens, k.0.last), z)))
+        (kept i (within with_in (declarators inner_expr inner_pat false decl.Var) i) (answers_then (Kept i) _ (declarators inner_expr inner_pat false decl.Var (coded (with_in s.code) i)) _
+        (declarators_keeps inner_expr inner_pat below_expr below_pat i false decl.Var (coded (with_in s.code) i) (behind_self i)) (λ x t k. flagged_kept i i t (behind_self i) k))) (λ xs t k.
+        let j = behind_then b i t (behind_next b b (behind_self b).0) k.0 in
+        meets_then _ (misusing (record { lo = (span_at s.at).lo; hi = t.at.last.hi }) xs t) _ (told_errs _ t) (λ _ u z. inr (inl (t.at, refl, (j.read, j.tokens, j.last), z))))
 
 -- ---- a statement on its tokens
 
@@ -431,10 +454,40 @@ takes_after : (c d : Place) → 1 ≤ length c.left → Passed (after c) d → T
 unfolding after
 takes_after c d l p = takes_first c d c.left refl l p
 
+-- the rest of what was taken from a place on, behind its first token
+taken_rest : (c d : Place) (ts : List TokenAndSpan) → c.left ≡ ts → (read : List TokenAndSpan) → c.left ≡ read ++ d.left → d.last ≡ last_span c.last read → length d.left + 1 ≤ length c.left → Taken (past c ts) d
+taken_rest c d ts i [] h g l = let e : length c.left ≡ length d.left = ap length h in absurd (omega arith)
+taken_rest c d [] i (u ∷ us) h g l = let e : length c.left ≡ 0 = ap length i in absurd (omega arith)
+taken_rest c d (t ∷ ts) i (u ∷ us) h g l =
+    let e : ◌≡◌ {A = List TokenAndSpan} (t ∷ ts) (u ∷ (us ++ d.left)) = sym i ∙ h in record {
+      read = us;
+      tokens = ap (λ l. (past c l).left) e;
+      last = g ∙ ap (λ l. last_span (past c l).last us) (sym e);
+    }
+
+rest_taken : (c d : Place) (read : List TokenAndSpan) → c.left ≡ read ++ d.left → d.last ≡ last_span c.last read → length d.left + 1 ≤ length c.left → Taken (after c) d
+unfolding after
+rest_taken c d read h g l = taken_rest c d c.left refl read h g l
+
+-- the span of one token
+one_span : (c : Place) → 1 ≤ length c.left → span_at c ≡ spanned c (after c)
+unfolding span_at spanned after
+one_span c l = in_list c.left l
+  where
+    in_list : (ts : List TokenAndSpan) → 1 ≤ length ts → first_span c.last ts ≡ record { lo = (first_span c.last ts).lo; hi = (past c ts).last.hi }
+    in_list [] h = absurd (omega arith)
+    in_list (t ∷ ts) h = refl
+
 -- without decorators it begins with the first of its tokens
 pub stands : (s : State) (x : Tree) (t : State) → Ends s.at x t → IsBehind s t → length t.at.left + 1 ≤ length s.at.left → StandsPlainly x s.at t.at
-stands s x t (inl e) h l = record { end = t.at; takes = takes_all s.at t.at h.read h.tokens h.last l; span = e; behind = errors_here t.at }
-stands s x t (inr (e, k, p, z)) h l = let g : 1 ≤ length s.at.left = omega arith in record { end = e; takes = takes_after s.at e g p; span = k; behind = z }
+stands s x t (inl e) h l = record { end = t.at; takes = takes_all s.at t.at h.read h.tokens h.last l; span = e; behind = errors_behind (errors_here t.at) }
+stands s x t (inr (inl (e, k, p, z))) h l = let g : 1 ≤ length s.at.left = omega arith in record { end = e; takes = takes_after s.at e g p; span = k; behind = errors_behind z }
+stands s x t (inr (inr (i, e))) h l = let g : 1 ≤ length s.at.left = omega arith in record {
+  end = after s.at;
+  takes = takes_after s.at (after s.at) g ([], refl, refl);
+  span = e ∙ one_span s.at g;
+  behind = dropped_behind i (rest_taken s.at t.at h.read h.tokens h.last l);
+}
 
 stands_by : (s : State) (o : Outcome Tree) → Meets (Ends s.at) o → Answers (Kept s) (Lost s) o → Falls 1 (length s.at.left) o → Meets (λ x t. StandsPlainly x s.at t.at) o
 stands_by s (Ok p) h g l = stands s p.0 p.1 h g.0 l
@@ -461,7 +514,7 @@ module _ (n : ℕ) (at : Position) where
       (first_keeps found (reader.nests n) rest at (declarators_keeps_all (expr n) (pattern n) (expr_keeps n) (pattern_keeps n)) s s (behind_self s)
       (level_keeps (stmt n) (expr n) (pattern n) (head_cover n) (reader.parameters n) (member n) (stmt_keeps n) (expr_keeps n) (pattern_keeps n) (head_cover_keeps n) (parameters_keep n) (member_keeps n) at s s (behind_self s)))
       (first_falls found (reader.nests n) rest at (declarators_fall (expr n) (expr_falls n) (pattern n) (pattern_falls n) false decl.Var) s
-      (stmt_level_falls (stmt n) (stmt_falls n) (expr n) (expr_falls n) (pattern n) (pattern_falls n) (head_cover n) (head_cover_falls n) (reader.parameters n) (parameters_fall n) (member n) (member_falls n) at s))
+      (stmt_level_falls (stmt n) (stmt_falls n) (expr n) (expr_falls n) (pattern n) (pattern_falls n) (head_cover n) (head_cover_falls n) (reader.parameters n) (parameters_fall n) (member n) (member_falls n) (loses_nothing n) at s))
 
 stmt_stands : (n : ℕ) (at : Position) (s : State) → Meets (λ x t. StandsAt x s.at t.at) (stmt n at s)
 unfolding stmt

@@ -1,6 +1,6 @@
 -- A reader never puts tokens back: its steps, and its loops.
 use Rattle.std.proofs.Common.{◌≡◌, ◌≢◌, ℕ, zero, suc, ◌+◌, ◌≤◌, Bool, true, false, cond, List, [], ◌∷◌, length, Ok, Err, refl, sym, ap, subst, arith}
-use Rattle.std.specs.Prelude.{nat_lt, ◌&&◌, is_some}
+use Rattle.std.specs.Prelude.{nat_lt, ◌&&◌, ◌||◌, is_some, codes}
 use Rattle.swc_ecma_parser_common.specs.declared.span.Span.{Span}
 use Rattle.swc_ecma_parser_error.specs.Kind as faults
 use Rattle.swc_ecma_parser_error.specs.Kind.{Kind, Fault, fault_of}
@@ -12,12 +12,14 @@ use Rattle.swc_ecma_parser_token.specs.declared.token.TokenAndSpan.{TokenAndSpan
 use Rattle.swc_ecma_parser_input.specs.TokenSource.{means_out_of_memory}
 use Rattle.swc_ecma_parser_input.specs.Place.{Place, past, after}
 use Rattle.swc_ecma_parser_model.specs.declared.leaves.Ident.{Ident}
+use Rattle.swc_ecma_parser_model.specs.Tree.{Tree}
+use Rattle.swc_ecma_parser_model.specs.Forms.{is_ident_named}
 use Rattle.swc_ecma_parser_token.specs.Text.{word_text}
 use Rattle.swc_ecma_parser_grammar.specs.Looks.{kind_at, sees}
 use Rattle.swc_ecma_parser_grammar.specs.Names.{Code, is_name, is_identifier, may_bind_await}
 use Rattle.swc_ecma_parser_grammar.specs.Ends.{can_end}
-use Rattle.swc_ecma_parser_reader.specs.State.{State, Outcome, Reader, labelled_as, and_then, moved, coded, wanted, wanted_in, wanted_at, too_deep, too_deep_in, too_deep_at, refused, refuse, refuse_in, refuse_at, fault, recorded_in, recorded_at, expect, end, name, name_in, name_by, Step, More, Done, next_turn, after_turn, turns, loop, reference, unclean_name}
-use Rattle.swc_ecma_parser_reader.specs.Reader.{close}
+use Rattle.swc_ecma_parser_reader.specs.State.{State, Outcome, Reader, says_out_of_memory, labelled_as, and_then, moved, coded, wanted, wanted_in, wanted_at, too_deep, too_deep_in, too_deep_at, refused, refuse, refuse_in, refuse_at, fault, recorded_in, recorded_at, expect, end, name, name_in, name_by, Step, More, Done, next_turn, after_turn, turns, loop, reference, unclean_name}
+use Rattle.swc_ecma_parser_reader.specs.Reader.{close, note_statement, note_with, optional_end}
 
 -- an answer leaves at least k tokens fewer than n
 abbrev pub Falls : {A : Type 0} → ℕ → ℕ → Outcome A → Type 0
@@ -229,4 +231,21 @@ falls_choice k n false p q s h g = g
 -- a refusal said otherwise
 pub labelled_falls : {A : Type 0} (j n : ℕ) (o : Outcome A) → Falls j n o → Falls j n (labelled_as o)
 labelled_falls j n (Ok p) h = h
-labelled_falls j n (Err e) h = falls_if j n (is_some e.1.scope.mark) _ _ tt tt
+labelled_falls j n (Err e) h = falls_if j n (is_some e.1.scope.mark || says_out_of_memory e.0.kind) _ _ tt tt
+
+-- a fault of module code is no token, whether recorded or held back
+noted_either : (b : Bool) (n : ℕ) (s t : State) → length s.at.left + 0 ≤ n → length t.at.left + 0 ≤ n → length (cond b s t).at.left + 0 ≤ n
+noted_either true n s t h g = h
+noted_either false n s t h g = g
+
+pub note_falls : (x : Tree) (s : State) → Falls 0 (length s.at.left) (note_statement x s)
+unfolding note_statement
+note_falls x s = falls_if 0 (length s.at.left) (is_ident_named (codes "interface") x) _ _ (noted_either s.code.flags.module (length s.at.left) _ _ (omega arith) (omega arith)) (omega arith)
+
+pub note_with_falls : (span : Span) (s : State) → Falls 0 (length s.at.left) (note_with span s)
+unfolding note_with
+note_with_falls span s = noted_either s.code.flags.module (length s.at.left) _ _ (omega arith) (omega arith)
+
+pub optional_end_falls : (s : State) → Falls 0 (length s.at.left) (optional_end s)
+unfolding optional_end
+optional_end_falls s = falls_if 0 (length s.at.left) (sees kind.Semi s.at) _ _ (let m = moves s.at in omega arith) (omega arith)

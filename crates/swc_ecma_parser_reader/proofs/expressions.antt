@@ -3,6 +3,7 @@ pub mod Falls
 pub mod Loops
 pub mod LimitSteps
 pub mod Limits
+pub mod Stands
 pub mod Keeps
 pub mod CompleteKinds
 pub mod CompleteMethods

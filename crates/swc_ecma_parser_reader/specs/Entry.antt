@@ -70,15 +70,32 @@ pub data StartsAt (c m : Place) : Type 0 where
   at_once : m ≡ c → StartsAt c m
   behind_decorators : kind_at c ≡ kind.At → TakesSome c m → StartsAt c m
 
--- A statement on its tokens: it goes from the first of them, or of those behind decorators, to the last. Error tokens behind it may be
--- taken as well, with the faults that are recorded of it.
+-- Tokens were taken from one place to another, or none.
+pub record Taken (c d : Place) : Type 0 where
+  pub read : List TokenAndSpan
+  pub tokens : c.left ≡ read ++ d.left
+  pub last : d.last ≡ last_span c.last read
+
+-- the statement that stands for a `catch` or `finally` behind no `try`
+abbrev pub is_stray : Tree → Bool
+is_stray (tree.expr_stmt span (tree.invalid word)) = true
+is_stray _ = false
+
+-- What is taken behind a statement: error tokens alone, with the faults that are recorded of it, but behind a `catch` or `finally`
+-- behind no `try` whatever is dropped.
+pub data TakenBehind (x : Tree) (c d : Place) : Type 0 where
+  errors_behind : TakesErrors c d → TakenBehind x c d
+  dropped_behind : is_stray x ≡ true → Taken c d → TakenBehind x c d
+
+-- A statement on its tokens: it goes from the first of them, or of those behind decorators, to the last, but for what is taken behind
+-- it.
 pub record StandsAt (x : Tree) (c d : Place) : Type 0 where
   pub start : Place
   pub starts : StartsAt c start
   pub end : Place
   pub takes : TakesSome start end
   pub span : span_of x ≡ spanned start end
-  pub behind : TakesErrors end d
+  pub behind : TakenBehind x end d
 
 -- Statements on their tokens, one behind another, and whether one of them begins with `await`.
 abbrev pub Stand : List Tree → (awaits : Bool) → Place → Place → Type 0

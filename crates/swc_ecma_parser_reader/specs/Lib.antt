@@ -16,6 +16,7 @@ pub mod Bodies
 pub mod Decorators
 pub mod DecoratedStatements
 pub mod Members
+pub mod Recovery
 pub mod Reader
 pub mod Dressed
 pub mod HeadWords

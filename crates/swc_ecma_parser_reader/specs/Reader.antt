@@ -34,9 +34,10 @@ use Rattle.swc_ecma_parser_reader.specs.Decorators.{decorated}
 use Rattle.swc_ecma_parser_reader.specs.DecoratedStatements.{either_stmt}
 use Rattle.swc_ecma_parser_reader.specs.Members.{member_level, class_expr, class_stmt}
 unfoldable pub use Rattle.swc_ecma_parser_reader.specs.Jumps.{told, target, unbroken, break_stmt, uncontinued, continue_stmt, misplaced, after_return, operand, returned, return_stmt}
+unfoldable pub use Rattle.swc_ecma_parser_reader.specs.Recovery.{any_token, behind_any, end_turn, up_to_end, no_end, declaration_end}
 unfoldable pub use Rattle.swc_ecma_parser_reader.specs.Using.{misusing, using_from, using_stmt, await_using_stmt, await_using_or}
 use Rattle.swc_ecma_parser_reader.specs.Patterns.{pattern_level, element_level, parameter_list}
-use Rattle.swc_ecma_parser_reader.specs.State.{Reader, ◌>>=◌, ◌>>◌, pure, here, span_here, since, skip, moved, spanned_from, coded, flagged, within, below_label, note_module_item, fault, fault_at, end_of, module_fault, wanted, too_deep, refuse, reject, refused, labelled, reference, expect, end, stuck, Step, More, Done, loop}
+use Rattle.swc_ecma_parser_reader.specs.State.{Reader, ◌>>=◌, ◌>>◌, pure, here, span_here, since, skip, moved, spanned_from, coded, flagged, within, below_label, note_module_item, attempted, fault, fault_at, end_of, module_fault, wanted, too_deep, refuse, reject, refused, labelled, reference, expect, end, stuck, Step, More, Done, loop}
 
 -- ---- statements
 
@@ -69,6 +70,21 @@ bare_declarator in_head word start p = do
   span ← since start
   uninitialized in_head word span p
 
+-- Before `;` and at the end of the list no declarator begins.
+unfoldable pub ends_declarators : Place → Bool
+ends_declarators c = sees kind.Semi c || sees kind.End c
+
+-- where one is missing: at the comma before it, or behind the word that begins the declaration
+abbrev pub missing_at : List Tree → Place → Span
+missing_at [] c = end_of c.last
+missing_at (x ∷ xs) c = c.last
+
+-- it is a fault, behind which the declaration goes on without it
+unfoldable pub no_declarator : List Tree → Reader (Step (List Tree) (List Tree))
+no_declarator found = λ s. (do
+  fault (fault_at (missing_at found s.at) faults.TS1009)
+  pure (Done found)) s
+
 module _ (expr : Class → Reader Tree) (pat : Reader Tree) where
   -- `=` and what a name is given
   unfoldable pub initialized : Span → Tree → Reader Tree
@@ -86,9 +102,9 @@ module _ (expr : Class → Reader Tree) (pat : Reader Tree) where
     λ s. if sees kind.Assign s.at then initialized start p s else bare_declarator in_head word start p s
 
   unfoldable pub declarators_turn : (in_head : Bool) → VarDeclKind → List Tree → Reader (Step (List Tree) (List Tree))
-  declarators_turn in_head word found = do
+  declarators_turn in_head word found = λ s. if ends_declarators s.at then no_declarator found s else (do
     x ← declarator in_head word
-    λ s. if sees kind.Comma s.at then Ok (More (found ++ x ∷ []), moved s) else Ok (Done (found ++ x ∷ []), s)
+    λ t. if sees kind.Comma t.at then Ok (More (found ++ x ∷ []), moved t) else Ok (Done (found ++ x ∷ []), t)) s
 
   unfoldable pub declarators : (in_head : Bool) → VarDeclKind → Reader (List Tree)
   declarators in_head word = loop (declarators_turn in_head word) []
@@ -99,7 +115,7 @@ module _ (expr : Class → Reader Tree) (pat : Reader Tree) where
     start ← here
     skip
     found ← within with_in (declarators false word)
-    end faults.Unexpected
+    declaration_end (expr expression)
     span ← spanned_from start
     pure (tree.var span word (listed found))
 
@@ -574,6 +590,15 @@ module _ (stmt : Reader Tree) where
       span ← spanned_from start
       pure (tree.try span body h f)
 
+    -- A catch or a finally behind no `try` is a fault of its word. It is read and dropped, with a finally behind a catch.
+    unfoldable pub stray : Reader Tree
+    stray = do
+      word ← span_here
+      fault (fault_at word faults.TS1005)
+      attempted handler
+      attempted finalizer
+      pure (tree.expr_stmt word (tree.invalid word))
+
 -- ---- a function or a class as a part of an expression
 
 module _ (stmt : Reader Tree) (params : Reader (List Tree)) where
@@ -623,6 +648,8 @@ module _ (stmt : Position → Reader Tree) (expr : Class → Reader Tree) (pat :
   stmt_by at kind.Return = return_stmt (expr expression)
   stmt_by at kind.Throw = throw (expr expression)
   stmt_by at kind.Try = try_stmt (stmt nested_item) pat
+  stmt_by at kind.Catch = stray (stmt nested_item) pat
+  stmt_by at kind.Finally = stray (stmt nested_item) pat
   stmt_by at kind.With = with_stmt (stmt sub_statement) (expr expression)
   stmt_by at kind.While = while_stmt (stmt sub_statement) (expr expression)
   stmt_by at kind.Do = do_while (stmt sub_statement) (expr expression)

@@ -1,5 +1,5 @@
 -- What a reader reads from, and the steps that every rule is made of.
-use Rattle.std.specs.Prelude.{◌≡◌, ◌≢◌, ℕ, zero, suc, Bool, true, ◌&&◌, if◌then◌else◌, nat_lt, List, [], ◌∷◌, ◌++◌, length, Option, Some, is_some, Result, Ok, Err}
+use Rattle.std.specs.Prelude.{◌≡◌, ◌≢◌, ℕ, zero, suc, Bool, true, false, ◌&&◌, ◌||◌, if◌then◌else◌, nat_lt, List, [], ◌∷◌, ◌++◌, length, Option, Some, is_some, Result, Ok, Err}
 use Rattle.swc_ecma_parser_common.specs.declared.span.Span.{Span}
 use Rattle.swc_ecma_parser_error.specs.declared.error.Error.{Error}
 use Rattle.swc_ecma_parser_error.specs.Kind as faults
@@ -216,13 +216,33 @@ reject_in f s (t ∷ ts) = reject_at f s t.token
 unfoldable pub reject : {A : Type 0} → Fault → Reader A
 reject f = λ s. reject_in f s s.at.left
 
--- the refusal of a part that has a name: at the same place, of the kind that says so. Where the state is marked it stays.
+-- whether a kind says that memory ran out
+abbrev pub says_out_of_memory : Kind → Bool
+says_out_of_memory faults.OutOfMemory = true
+says_out_of_memory _ = false
+
+-- the refusal of a part that has a name: at the same place, of the kind that says so. Where the state is marked, or memory ran out,
+-- it stays.
 abbrev pub labelled_as : {A : Type 0} → Outcome A → Outcome A
 labelled_as (Ok p) = Ok p
-labelled_as (Err e) = if is_some e.1.scope.mark then Err e else Err (fault_at e.0.span faults.WithLabel, e.1)
+labelled_as (Err e) = if is_some e.1.scope.mark || says_out_of_memory e.0.kind then Err e else Err (fault_at e.0.span faults.WithLabel, e.1)
 
 unfoldable pub labelled : {A : Type 0} → Reader A → Reader A
 labelled p = λ s. labelled_as (p s)
+
+-- ---- what is read and dropped
+
+-- the flags, the labels, and whether what makes a program a module was read, are what they were
+abbrev pub put_back : State → State → State
+put_back s t = flagged s.code (found_as s.notes (relabelled s.scope t))
+
+-- An answer is dropped, and so is a refusal, but where memory ran out or the state is marked.
+abbrev pub dropped_as : {A : Type 0} → State → Outcome A → Outcome (Unit {0})
+dropped_as s (Ok p) = Ok (tt, put_back s p.1)
+dropped_as s (Err e) = if is_some e.1.scope.mark || says_out_of_memory e.0.kind then Err e else Ok (tt, put_back s e.1)
+
+unfoldable pub attempted : {A : Type 0} → Reader A → Reader (Unit {0})
+attempted p = λ s. dropped_as s (p s)
 
 -- ---- fixed tokens, ends and names
 

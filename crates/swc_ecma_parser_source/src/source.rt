@@ -1,6 +1,6 @@
 //! What the rules read from.
 
-ghost use Rattle.std.specs.Prelude.{◌≡◌, ◌≢◌, [], Ok, Err, IsOk, is_some, option_map, count_by};
+ghost use Rattle.std.specs.Prelude.{◌≡◌, ◌≢◌, [], Ok, Err, IfErr, IfOk, IsOk, is_some, option_map, count_by};
 ghost use Rattle.std.specs.Str.{bytes_eq};
 ghost use Rattle.swc_ecma_parser_error.specs.Kind as kinds;
 ghost use Rattle.swc_ecma_parser_error.specs.Kind.{fault_of, kind_of, IsOutOfMemory};
@@ -16,6 +16,7 @@ ghost use Rattle.swc_ecma_parser_reader.specs.AsyncArrows as async_arrows;
 ghost use Rattle.swc_ecma_parser_reader.specs.Expressions as exprs;
 ghost use Rattle.swc_ecma_parser_reader.specs.Methods as methods;
 ghost use Rattle.swc_ecma_parser_reader.specs.Reader as rules;
+ghost use Rattle.swc_ecma_parser_reader.specs.Recovery as recovery;
 ghost use Rattle.swc_ecma_parser_reader.specs.State as reader;
 ghost use Rattle.swc_ecma_parser_reader.specs.State.{Gives, GivesAs};
 ghost use Rattle.swc_ecma_parser_source.specs.Around.{left_body};
@@ -121,6 +122,13 @@ pub trait Source {
     fn leave_body(&mut self, around: Around)
         ensures { seen self.new ≡ left_body around (seen self.old) };
 
+    /// A copy of what stands around, so that it can stand around again behind what is dropped.
+    fn copy_around(&mut self) -> PResult<Around>
+        ensures labels { IfOk result (λ around. around.labels.items ≡ (seen self.old).scope.labels) }
+        ensures found { IfOk result (λ around. around.found_module_item ≡ (seen self.old).notes.found_module_item) }
+        ensures state { IfOk result (λ around. seen self.new ≡ seen self.old) }
+        ensures err { IfErr result IsOutOfMemory };
+
     /// Whether a word stands here that can be a name, clean or not.
     fn name_at(&self) -> bool
         ensures { result ≡ names.name_at (seen self.now).code.flags (seen self.now).at };
@@ -200,6 +208,10 @@ pub trait Source {
     /// Takes the current token.
     fn skip(&mut self) -> PResult<()>
         ensures { Gives (reader.skip (seen self.old)) result (seen self.new) };
+
+    /// Takes the current token, whatever it is, but one that memory ran out for.
+    fn pass(&mut self) -> PResult<()>
+        ensures { Gives (recovery.any_token (seen self.old)) result (seen self.new) };
 
     /// Records a fault; an error token that stands here is read and recorded first.
     fn fault(&mut self, kind: SyntaxError, span: Span) -> PResult<()>

@@ -9,10 +9,11 @@ use Rattle.swc_ecma_parser_token.specs.declared.token.Token.{Token}
 use Rattle.swc_ecma_parser_token.specs.declared.token.Token.TheVariants as token
 use Rattle.swc_ecma_parser_token.specs.declared.token.TokenAndSpan.{TokenAndSpan}
 use Rattle.swc_ecma_parser_input.specs.TokenSource.{means_out_of_memory}
-use Rattle.swc_ecma_parser_input.specs.Place.{first}
+use Rattle.swc_ecma_parser_input.specs.Place.{first, past, after}
 use Rattle.swc_ecma_parser_grammar.specs.Looks.{span_at}
 use Rattle.swc_ecma_parser_reader.specs.declared.mark.Mark.TheVariants as mark
 use Rattle.swc_ecma_parser_reader.specs.State.{State, moved, noted, fault, recorded_in, recorded_at, fault_at, end_of, wanted, wanted_in, wanted_at, too_deep, too_deep_in, too_deep_at, marked, refuse, refuse_in, refuse_at, refused}
+use Rattle.swc_ecma_parser_reader.specs.Recovery.{passed_at, passed_in, any_token}
 use Rattle.swc_ecma_parser_state.specs.FirstError.{error_of, first_error}
 
 -- ---- recording
@@ -43,6 +44,33 @@ recorded_error_in f s (t ∷ ts) e h g = recorded_error_at f s t.token e h g
 pub fault_error : (f : Fault) (s : State) (e : Error) → first_error s.at.left ≡ Some e → means_out_of_memory e.kind ≡ false → fault f s ≡ Ok (tt, noted f (noted (fault_of e) (moved s)))
 unfolding fault
 fault_error f s e h g = recorded_error_in f s s.at.left e h g
+
+-- ---- any token
+
+any_plain_at : (s : State) (t : Token) → error_of t ≡ None → passed_at s t ≡ Ok (tt, moved s)
+any_plain_at s (token.Error e) h = cc
+any_plain_at s _ h = refl
+
+any_plain_in : (s : State) (ts : List TokenAndSpan) → s.at.left ≡ ts → first_error ts ≡ None → passed_in s ts ≡ Ok (tt, record s { at = past s.at ts })
+unfolding after
+any_plain_in s [] q h = refl
+any_plain_in s (t ∷ ts) q h = any_plain_at s t.token h ∙ ap (λ l. Ok (tt, record s { at = past s.at l })) q
+
+pub any_plain : (s : State) → first_error s.at.left ≡ None → any_token s ≡ Ok (tt, moved s)
+unfolding any_token after
+any_plain s h = any_plain_in s s.at.left refl h
+
+any_error_at : (s : State) (t : Token) (e : Error) → error_of t ≡ Some e → means_out_of_memory e.kind ≡ false → passed_at s t ≡ Ok (tt, moved s)
+any_error_at s (token.Error d) e h g = let k : d ≡ e = same_error d e h in rw (k, g) refl
+any_error_at s _ e h g = cc
+
+any_error_in : (s : State) (ts : List TokenAndSpan) (e : Error) → first_error ts ≡ Some e → means_out_of_memory e.kind ≡ false → passed_in s ts ≡ Ok (tt, moved s)
+any_error_in s [] e h g = cc
+any_error_in s (t ∷ ts) e h g = any_error_at s t.token e h g
+
+pub any_error : (s : State) (e : Error) → first_error s.at.left ≡ Some e → means_out_of_memory e.kind ≡ false → any_token s ≡ Ok (tt, moved s)
+unfolding any_token
+any_error s e h g = any_error_in s s.at.left e h g
 
 -- ---- what is wanted
 

@@ -207,7 +207,7 @@ impl<I: CommentSource> State<I> {
 }
 
 /// Equal texts, or no memory.
-fn copied(texts: &Vec<Atom>) -> Result<Vec<Atom>, AllocError>
+pub(crate) fn copied(texts: &Vec<Atom>) -> Result<Vec<Atom>, AllocError>
     ensures { IfOk result (λ copy. copy.items ≡ texts.now.items) }
 {
     let mut copy = Vec::with_capacity(*texts.allocator(), texts.len())?;

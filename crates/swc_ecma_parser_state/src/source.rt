@@ -89,6 +89,10 @@ impl<I: Tokens> Source for State<I> {
         State::leave_body(self, around);
     }
 
+    fn copy_around(&mut self) -> PResult<Around> {
+        State::copy_around(self)
+    }
+
     fn name_at(&self) -> bool {
         State::name_at(self)
     }
@@ -167,6 +171,10 @@ impl<I: Tokens> Source for State<I> {
 
     fn skip(&mut self) -> PResult<()> {
         State::skip(self)
+    }
+
+    fn pass(&mut self) -> PResult<()> {
+        State::pass(self)
     }
 
     fn fault(&mut self, kind: SyntaxError, span: Span) -> PResult<()> {

@@ -8,6 +8,7 @@ ghost use Rattle.swc_ecma_parser_input.specs.TokenSource as source;
 ghost use Rattle.swc_ecma_parser_model.specs.Tree.{Tree};
 ghost use Rattle.swc_ecma_parser_reader.specs.Expressions as exprs;
 ghost use Rattle.swc_ecma_parser_reader.specs.Reader as rules;
+ghost use Rattle.swc_ecma_parser_reader.specs.Recovery as recovery;
 ghost use Rattle.swc_ecma_parser_reader.specs.State as reader;
 ghost use Rattle.swc_ecma_parser_reader.specs.State.{Gives, GivesAs};
 ghost use Rattle.swc_ecma_parser_reader.specs.declared.mark.Mark.TheVariants as mark;
@@ -20,6 +21,7 @@ ghost use Rattle.swc_ecma_parser_source.specs.Wanted.{wanted_kind};
 ghost use Rattle.swc_ecma_parser_model.specs.declared.leaves.Ident.{Ident};
 ghost use Rattle.swc_ecma_parser_token.specs.Text.{word_text};
 
+use crate::entry::copied;
 use crate::state::State;
 use std::alloc::Global;
 use std::mem;
@@ -90,6 +92,22 @@ impl<I: Tokens> State<I> {
         self.found_module_item = found_module_item;
     }
 
+    /// A copy of what stands around, so that it can stand around again behind what is dropped.
+    pub fn copy_around(&mut self) -> PResult<Around>
+        ensures labels { IfOk result (λ around. around.labels.items ≡ self.old.scope.labels) }
+        ensures found { IfOk result (λ around. around.found_module_item ≡ self.old.notes.found_module_item) }
+        ensures state { IfOk result (λ around. self.new ≡ self.old) }
+        ensures err { IfErr result IsOutOfMemory }
+    {
+        match copied(&self.labels) {
+            Ok(labels) => Ok(Around {
+                labels,
+                found_module_item: self.found_module_item,
+            }),
+            Err(_) => Err(self.out_of_memory()),
+        }
+    }
+
     /// Takes the current token. Where the token behind the next one finds no memory, that is answered.
     pub(crate) fn take(&mut self) -> PResult<Option<TokenAndSpan>>
         ensures token { IfOk result (λ t. t ≡ place.first self.old.at.left) }
@@ -140,6 +158,17 @@ impl<I: Tokens> State<I> {
             return Err(error);
         }
         Ok(Some(error))
+    }
+
+    /// Takes the current token, whatever it is, but one that memory ran out for.
+    #[tactic(auto, using(crate::proofs::Primitives::any_plain, crate::proofs::Primitives::any_error))]
+    pub fn pass(&mut self) -> PResult<()>
+        ensures { Gives (recovery.any_token self.old) result self.new }
+    {
+        match self.take_error()? {
+            Some(_) => Ok(()),
+            None => self.skip(),
+        }
     }
 
     /// Adds a fault to those recorded.

@@ -1,2 +1,4 @@
 mod Misused
 mod AwaitStmt
+pub mod Dropped
+mod UpToEnd

@@ -4,6 +4,7 @@
 
 pub mod jump;
 pub mod leave;
+pub mod recovery;
 pub mod simple;
 pub mod using;
 pub mod variables;

@@ -6,6 +6,8 @@ ghost use Rattle.swc_ecma_parser_inner.specs.Nests.{Nests};
 ghost use Rattle.swc_ecma_parser_reader.specs.Reader as rules;
 ghost use Rattle.swc_ecma_parser_reader.specs.State.{GivesAs};
 
+use crate::recovery::declaration_end;
+use swc_ecma_parser_common::Span;
 use swc_ecma_parser_error::{PResult, SyntaxError};
 use swc_ecma_parser_grammar::{Class, Position};
 use swc_ecma_parser_inner::cover::{Cover, Reading, nested};
@@ -73,8 +75,30 @@ fn declarator<
     grown(p, T::declarator(t.alloc, span, name, None))
 }
 
-/// Declarators with commas between.
-#[tactic(auto, unfolding(swc_ecma_parser_reader::specs::Reader::declarators), using(swc_ecma_parser_reader::proofs::Loops::declarators_done, swc_ecma_parser_reader::proofs::Loops::declarators_err, swc_ecma_parser_reader::proofs::Loops::declarators_more, swc_ecma_parser_reader::proofs::Loops::declarators_shorter, std::proofs::lemmas::List::map_push))]
+/// Whether no declarator begins here: before `;` and at the end of the list.
+#[tactic(auto, unfolding(swc_ecma_parser_reader::specs::Reader::ends_declarators))]
+fn ends_declarators<P: Source>(p: &P) -> bool
+    ensures { result ≡ rules.ends_declarators (P.seen p.now).at }
+{
+    p.sees(TokenKind::Semi) || p.sees(TokenKind::End)
+}
+
+/// Where a declarator is missing: at the comma before it, or behind the word that begins the declaration.
+fn missing_at<P: Source, T: BuildsVariables>(p: &P, found: &[T::Declarator]) -> Span
+    ensures { result ≡ rules.missing_at (map T.declarator_of found.now) (P.seen p.now).at }
+{
+    let last = p.last_span();
+    match found {
+        [] => Span {
+            lo: last.hi,
+            hi: last.hi,
+        },
+        _ => last,
+    }
+}
+
+/// Declarators with commas between. One that is missing is a fault, behind which the declaration goes on without it.
+#[tactic(auto, unfolding(swc_ecma_parser_reader::specs::Reader::declarators), using(swc_ecma_parser_reader::proofs::Loops::declarators_done, swc_ecma_parser_reader::proofs::Loops::declarators_err, swc_ecma_parser_reader::proofs::Loops::declarators_miss, swc_ecma_parser_reader::proofs::Loops::declarators_miss_err, swc_ecma_parser_reader::proofs::Loops::declarators_more, swc_ecma_parser_reader::proofs::Loops::declarators_shorter, std::proofs::lemmas::List::map_push))]
 pub fn declarators<
     P: Source,
     T: BuildsPattern + BuildsVariables,
@@ -93,6 +117,11 @@ pub fn declarators<
 {
     let mut found = Vec::new(t.alloc);
     'declarators: loop {
+        if ends_declarators(p) {
+            let span = missing_at::<P, T>(p, found.as_slice());
+            p.fault(SyntaxError::TS1009, span)?;
+            return Ok(found);
+        }
         let declarator = declarator(g, t, p, in_head, word)?;
         pushed(p, &mut found, declarator)?;
         if !p.sees(TokenKind::Comma) {
@@ -120,7 +149,7 @@ pub fn variables<
     p.set_flags(with_in(outer));
     let found = declarators(g, t, p, false, word)?;
     p.set_flags(outer);
-    p.end(Wanted::Expression)?;
+    declaration_end(g, t, p)?;
     let span = since(p, start);
     grown(p, T::var(t.alloc, span, word, found))
 }

@@ -39,7 +39,7 @@ use Rattle.swc_ecma_parser_reader.specs.Notes.{Notes, ◌⊕◌, notes_of, all_n
 use Rattle.swc_ecma_parser_reader.specs.State.{Scope, loop}
 use Rattle.swc_ecma_parser_reader.specs.Members as reader
 use Rattle.swc_ecma_parser_reader.specs.Members.{Members, no_members, with_member, members_turn, extended, surplus, class_parts, class_name, unnamed_class, class_expr, named_class, class_decl}
-use Rattle.swc_ecma_parser_reader.specs.Reader.{closes, close, named, expr, member}
+use Rattle.swc_ecma_parser_reader.specs.Reader.{closes, named, expr, member}
 use Rattle.swc_ecma_parser_reader.proofs.Notes.{or_nil, or_assoc}
 use Rattle.swc_ecma_parser_reader.proofs.Answered.{st, Reads}
 use Rattle.swc_ecma_parser_reader.proofs.Below.{Below, expr_reads}

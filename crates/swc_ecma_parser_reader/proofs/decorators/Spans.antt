@@ -6,6 +6,7 @@ use Rattle.swc_ecma_parser_error.specs.Kind as faults
 use Rattle.swc_ecma_parser_token.specs.declared.kind.TokenKind.TheVariants as kind
 use Rattle.swc_ecma_parser_token.specs.declared.token.TokenAndSpan.{TokenAndSpan}
 use Rattle.swc_ecma_parser_input.specs.Place.{Place}
+use Rattle.swc_ecma_parser_model.specs.Tree as tree
 use Rattle.swc_ecma_parser_model.specs.Tree.{Tree}
 use Rattle.swc_ecma_parser_model.specs.Forms.{span_of}
 use Rattle.swc_ecma_parser_grammar.specs.declared.position.Position.{Position}
@@ -14,7 +15,7 @@ use Rattle.swc_ecma_parser_grammar.specs.Looks.{kind_at, sees, span_at, spanned}
 use Rattle.swc_ecma_parser_grammar.proofs.Tests.{and_yes}
 use Rattle.swc_ecma_parser_reader.specs.Decorators.{Leading, leading, misplaced, decorators, decorators_turn, decorator}
 use Rattle.swc_ecma_parser_reader.specs.DecoratedStatements.{begins_declared, declared_behind, exported_behind, other_behind, stmt_behind, decorated_stmt, either_stmt}
-use Rattle.swc_ecma_parser_reader.specs.Entry.{last_span, TakesSome, TakesErrors, at_once, behind_decorators, StandsAt, IsBehind}
+use Rattle.swc_ecma_parser_reader.specs.Entry.{last_span, TakesSome, is_stray, TakenBehind, errors_behind, dropped_behind, at_once, behind_decorators, StandsAt, IsBehind}
 use Rattle.swc_ecma_parser_reader.specs.State.{State, Outcome, Reader}
 use Rattle.swc_ecma_parser_reader.proofs.Behind.{NothingLost, Kept, Lost, Passes, behind_self}
 use Rattle.swc_ecma_parser_reader.proofs.Meets.{Answers, Meets, Refuses, Turned, always, loop_answers, meets_then, meets_if, wanted_meets, saw}
@@ -31,7 +32,17 @@ pub record StandsPlainly (x : Tree) (c d : Place) : Type 0 where
   pub end : Place
   pub takes : TakesSome c end
   pub span : span_of x ≡ spanned c end
-  pub behind : TakesErrors end d
+  pub behind : TakenBehind x end d
+
+-- what is taken behind one statement is taken behind another in its place
+taken_as : (x y : Tree) (c d : Place) → (is_stray x ≡ true → is_stray y ≡ true) → TakenBehind x c d → TakenBehind y c d
+taken_as x y c d h (errors_behind g) = errors_behind g
+taken_as x y c d h (dropped_behind i g) = dropped_behind (h i) g
+
+-- what is no declaration stays as it is behind decorators
+stray_decorated : (place : Span) (found : List Tree) (x : Tree) → is_stray x ≡ true → is_stray (decorated_by place found x) ≡ true
+stray_decorated place found (tree.expr_stmt s (tree.invalid w)) h = refl
+stray_decorated place found _ h = cc
 
 last_of_both : (s : Span) (ts us : List TokenAndSpan) → last_span s (ts ++ us) ≡ last_span (last_span s ts) us
 last_of_both s [] us = refl
@@ -97,8 +108,8 @@ module _ (plain : Position → Reader Tree) (at : Position) (stands : (s : State
     (bare : (s : State) → begins_declared s.at ≡ true → Meets (λ x t. IsBare x) (plain at s)) where
   module _ (s m : State) (v : Leading) (h : kind_at s.at ≡ kind.At) (p : TakesSome s.at m.at) (e : v.place ≡ spanned s.at m.at) where
     -- what leaves decorators out
-    left_out : (x y : Tree) (t : State) → span_of y ≡ span_of x → StandsPlainly x m.at t.at → StandsAt y s.at t.at
-    left_out x y t g q = record { start = m.at; starts = behind_decorators h p; end = q.end; takes = q.takes; span = g ∙ q.span; behind = q.behind }
+    left_out : (x y : Tree) (t : State) → (is_stray x ≡ true → is_stray y ≡ true) → span_of y ≡ span_of x → StandsPlainly x m.at t.at → StandsAt y s.at t.at
+    left_out x y t i g q = record { start = m.at; starts = behind_decorators h p; end = q.end; takes = q.takes; span = g ∙ q.span; behind = taken_as x y q.end t.at i q.behind }
 
     declared_stands : (x : Tree) (t : State) → IsBare x → StandsPlainly x m.at t.at → StandsAt (decorated_by v.place v.found x) s.at t.at
     unfolding spanned
@@ -112,9 +123,9 @@ module _ (plain : Position → Reader Tree) (at : Position) (stands : (s : State
           end = q.end;
           takes = takes_both s.at m.at q.end p q.takes;
           span = g ∙ ap (λ z. record { lo = z.lo; hi = (span_of x).hi }) e ∙ ap (λ z. record { lo = (span_at s.at).lo; hi = z.hi }) q.span;
-          behind = q.behind;
+          behind = taken_as x (decorated_by v.place v.found x) q.end t.at (stray_decorated v.place v.found x) q.behind;
         }
-        by_span (inr g) = left_out x (decorated_by v.place v.found x) t g q
+        by_span (inr g) = left_out x (decorated_by v.place v.found x) t (stray_decorated v.place v.found x) g q
 
     stmt_behind_stands : Meets (λ x t. StandsAt x s.at t.at) (stmt_behind plain at v m)
     unfolding stmt_behind declared_behind exported_behind other_behind
@@ -122,10 +133,10 @@ module _ (plain : Position → Reader Tree) (at : Position) (stands : (s : State
         (λ i. meets_then _ (plain at m) _ (meets_both _ _ (plain at m) (bare m i) (stands m)) (λ x t (b, q). declared_stands x t b q))
         (λ _. meets_if _ (sees kind.Export m.at) _ _
         (λ _. meets_if _ ((m.code.flags.in_class || m.code.flags.in_function) || m.code.setting.decorators_before_export) _ _
-        (λ _. meets_as (plain at m) (stands m) (λ x t q. left_out x x t refl q)) (λ _. reject_meets _ _ m))
+        (λ _. meets_as (plain at m) (stands m) (λ x t q. left_out x x t (λ i. i) refl q)) (λ _. reject_meets _ _ m))
         (λ _. meets_if _ (sees kind.Error m.at) _ _ (λ _. wanted_meets _ faults.Unexpected m)
         (λ g. meets_then {P = λ _ t. t.at ≡ m.at} _ (misplaced v m) _ (misplaced_stays v m g) (λ _ i j.
-        meets_as (plain at i) (stands i) (λ x t q. left_out x x t refl (subst (λ z. StandsPlainly x z t.at) j q))))))
+        meets_as (plain at i) (stands i) (λ x t q. left_out x x t (λ i. i) refl (subst (λ z. StandsPlainly x z t.at) j q))))))
 
   -- ---- the list
 

@@ -4,7 +4,6 @@ use Rattle.swc_ecma_parser_common.specs.declared.span.Span.{Span}
 use Rattle.swc_ecma_parser_error.specs.Kind as faults
 use Rattle.swc_ecma_parser_token.specs.declared.kind.TokenKind.TheVariants as kind
 use Rattle.swc_ecma_parser_token.specs.declared.token.Token.TheVariants as token
-use Rattle.swc_ecma_parser_token.specs.declared.token.Word.{Word}
 use Rattle.swc_ecma_parser_token.specs.Text.{word_text}
 use Rattle.swc_ecma_parser_input.specs.declared.context.Context.{Context}
 use Rattle.swc_ecma_parser_input.specs.Place.{Place, after}

@@ -143,14 +143,14 @@ token_first v i span c d r h = rw r.is h
 -- ---- recorded faults
 
 -- an error token in first place is one of those that are left
-error_taken : (c : Place) (u : TokenAndSpan) (ts : List TokenAndSpan) (e : Error) → c.left ≡ u ∷ ts → u.token ≡ token.Error e → error_tokens c.left ≡ suc (error_tokens (after c).left)
+pub error_taken : (c : Place) (u : TokenAndSpan) (ts : List TokenAndSpan) (e : Error) → c.left ≡ u ∷ ts → u.token ≡ token.Error e → error_tokens c.left ≡ suc (error_tokens (after c).left)
 unfolding same_kind after
 error_taken c u ts e h g = rw (h, g) refl
 
 no_fewer : {X : Type 0} (a b : ℕ) → a ≡ suc b → a ≡ b → X
 no_fewer a b e h = absurd (omega arith)
 
-one_fewer : (a b : ℕ) → a ≡ suc b → b ≤ a
+pub one_fewer : (a b : ℕ) → a ≡ suc b → b ≤ a
 one_fewer a b e = omega arith
 
 -- a recorded fault, of the table or not; an error token before it is recorded too

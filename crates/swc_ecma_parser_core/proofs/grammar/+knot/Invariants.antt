@@ -53,6 +53,9 @@ decreases-pat g l = 8 * l.depth + 4
 abbrev pub decreases-inner_declarators : goal.decreases-inner_declarators
 decreases-inner_declarators g l = 8 * l.depth + 5
 
+abbrev pub decreases-inner_declaration_end : goal.decreases-inner_declaration_end
+decreases-inner_declaration_end g l = 8 * l.depth + 5
+
 abbrev pub decreases-inner_function_with : goal.decreases-inner_function_with
 decreases-inner_function_with g l = 8 * l.depth + 5
 
