@@ -629,12 +629,14 @@ record Passing (n : ℕ) : Type 0 where
   elements : Passes (element n)
   decorateds : Passes (decorated_in n)
   members : Passes (member n)
-  operations : (start : Span) (x : Tree) → Passes (operators n start x)
   stmts : (at : Position) → Passes (stmt n at)
 
 module _ (n : ℕ) (b : Passing n) where
   parameters_passing : Passes (reader.parameters n)
   parameters_passing = patterns.parameter_list_keeps (expr n) (cover n) (pattern n) (element n) b.exprs b.covers b.patterns b.elements
+
+  operators_passing : (start : Span) (x : Tree) → Passes (operators n start x)
+  operators_passing start x c s f = expressions.binary_from_keeps (expr n) (cover n) b.exprs b.covers c 1 start x s f
 
   forms_passing : (form : FunctionForm) (c s : State) → Begins form s.at → NothingLost c s → Answers (Kept c) (Lost c) (function n form s)
   unfolding function
@@ -654,7 +656,7 @@ module _ (n : ℕ) (b : Passing n) where
   exprs_passing class c s f = expressions.level_keeps (expr n) (cover n) b.exprs b.covers c (function n) function_passing class s f
 
 all_passing : (n : ℕ) → Passing n
-unfolding function expr cover head_cover pattern element decorated_in member operators stmt
+unfolding function expr cover head_cover pattern element decorated_in member stmt
 all_passing zero = record {
   exprs = λ class b s f. too_deep_keeps _ b s f;
   covers = λ b s f. too_deep_keeps _ b s f;
@@ -663,7 +665,6 @@ all_passing zero = record {
   elements = λ b s f. too_deep_keeps _ b s f;
   decorateds = λ b s f. too_deep_keeps _ b s f;
   members = λ b s f. too_deep_keeps _ b s f;
-  operations = λ start x b s f. too_deep_keeps _ b s f;
   stmts = λ at b s f. too_deep_keeps _ b s f;
 }
 all_passing (suc n) = let a = all_passing n in record {
@@ -676,11 +677,10 @@ all_passing (suc n) = let a = all_passing n in record {
   members = classes.member_level_keeps (expr n) (cover n) (stmt n nested_item) (reader.parameters n) a.exprs a.covers (parameters_passing n a)
       (function_body_keep (stmt n nested_item) (a.stmts nested_item) (reader.parameters n) (parameters_passing n a)) (braces_keep (stmt n nested_item) (a.stmts nested_item) false)
       (decorated_in n) a.decorateds;
-  operations = λ start x b s f. expressions.binary_from_keeps (expr n) (cover n) a.exprs a.covers b 1 start x s f;
   stmts = λ at. either_keeps (reader.plain_stmt n) at
       (λ b s f. first_keeps (declarators (expr n) (pattern n) false decl.Var) (reader.nests n) (stmt_level (stmt n) (expr n) (pattern n) (head_cover n) (reader.parameters n) (member n) (operators n)) at
       (declarators_keeps_all (expr n) (pattern n) a.exprs a.patterns) b s f
-      (level_keeps (stmt n) (expr n) (pattern n) (head_cover n) (reader.parameters n) (member n) (operators n) a.stmts a.exprs a.patterns a.heads (parameters_passing n a) a.members a.operations at b s f)) (decorated_in n) a.decorateds;
+      (level_keeps (stmt n) (expr n) (pattern n) (head_cover n) (reader.parameters n) (member n) (operators n) a.stmts a.exprs a.patterns a.heads (parameters_passing n a) a.members (operators_passing n a) at b s f)) (decorated_in n) a.decorateds;
 }
 
 -- a statement, and what it is made of
@@ -711,7 +711,7 @@ decorated_in_keeps n = (all_passing n).decorateds
 
 -- the operators behind an expression
 pub operators_keep : (n : ℕ) (start : Span) (x : Tree) → Passes (operators n start x)
-operators_keep n = (all_passing n).operations
+operators_keep n = operators_passing n (all_passing n)
 
 -- what statements are read by
 pub loses_nothing : (n : ℕ) → Lossless (stmt n nested_item) (expr n expression) (pattern n) (operators n)

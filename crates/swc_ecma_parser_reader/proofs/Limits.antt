@@ -678,7 +678,6 @@ record Enough (n : ℕ) : Type 0 where
   elements : Levels n (element n)
   decorateds : Levels n (decorated_in n)
   members : Levels n (member n)
-  operations : (start : Span) (x : Tree) → Levels n (operators n start x)
   stmts : (at : Position) → StmtLevels n (stmt n at)
 
 -- a name is read in whatever levels
@@ -690,6 +689,9 @@ names_enough (suc n) m s h e f = patterns.name_level_takes (expr n) (cover n) (p
 module _ (n : ℕ) (b : Enough n) where
   parameters_enough : Levels n (reader.parameters n)
   parameters_enough m s h f = patterns.parameter_list_shallow (expr n) (cover n) (pattern n) (element n) n b.exprs b.covers b.patterns b.elements m (omega arith) s f
+
+  operators_enough : (start : Span) (x : Tree) → Levels n (operators n start x)
+  operators_enough start x m s h f = expressions.binary_from_shallow (expr n) (cover n) n b.exprs b.covers m (omega arith) 1 start x s f
 
   function_enough : FunctionsShallow n (function n)
   unfolding function function_by
@@ -707,7 +709,7 @@ module _ (n : ℕ) (b : Enough n) where
   exprs_enough class m s h f = expressions.level_shallow (expr n) (cover n) n b.exprs b.covers m h (function n) function_enough class s f
 
 all_enough : (n : ℕ) → Enough n
-unfolding function expr cover head_cover pattern element decorated_in member operators stmt
+unfolding function expr cover head_cover pattern element decorated_in member stmt
 all_enough zero = record {
   exprs = λ class m s h f. too_deep_shallow _ s (omega arith);
   covers = λ m s h f. too_deep_shallow _ s (omega arith);
@@ -716,7 +718,6 @@ all_enough zero = record {
   elements = λ m s h f. too_deep_shallow _ s (omega arith);
   decorateds = λ m s h f. too_deep_shallow _ s (omega arith);
   members = λ m s h f. too_deep_shallow _ s (omega arith);
-  operations = λ start x m s h f. too_deep_shallow _ s (omega arith);
   stmts = λ at m s h f. absurd (omega arith);
 }
 all_enough (suc n) = let b = all_enough n in record {
@@ -729,10 +730,9 @@ all_enough (suc n) = let b = all_enough n in record {
   members = classes.member_level_shallow (expr n) (cover n) (stmt n nested_item) (reader.parameters n) n b.exprs b.covers (parameters_enough n b)
       (function_body_shallow (stmt n nested_item) n (b.stmts nested_item) (reader.parameters n) (parameters_enough n b)) (braces_shallow (stmt n nested_item) n (b.stmts nested_item) false)
       (decorated_in n) b.decorateds;
-  operations = λ start x m s h f. expressions.binary_from_shallow (expr n) (cover n) n b.exprs b.covers m h 1 start x s f;
   stmts = λ at. either_shallow (reader.plain_stmt n) at n (λ m s h f. first_shallow (declarators (expr n) (pattern n) false decl.Var) (reader.nests n) (stmt_level (stmt n) (expr n) (pattern n) (head_cover n) (reader.parameters n) (member n) (operators n)) at m
       (λ t g. declarators_shallow (expr n) (pattern n) n b.exprs b.patterns m (omega arith) false decl.Var t g) s f
-      (level_shallow (stmt n) (expr n) (pattern n) (head_cover n) (reader.parameters n) (member n) (operators n) n b.stmts b.exprs b.patterns b.heads (parameters_enough n b) b.members b.operations (loses_nothing n) at m h s f)) (decorated_in n) b.decorateds;
+      (level_shallow (stmt n) (expr n) (pattern n) (head_cover n) (reader.parameters n) (member n) (operators n) n b.stmts b.exprs b.patterns b.heads (parameters_enough n b) b.members (operators_enough n b) (loses_nothing n) at m h s f)) (decorated_in n) b.decorateds;
 }
 
 -- an expression of any class, what may still become a pattern, and what a part of an expression holds that is none

@@ -2,7 +2,6 @@
 use Rattle.std.proofs.Common.{◌≡◌, ℕ, suc, nat_eq, ◌-◌, ◌<◌, Bool, true, false, List, [], ◌∷◌, ◌++◌, length, Ok, Err, refl, sym, ◌∙◌, arith}
 use Rattle.std.specs.Prelude.{◌==◌, ◌&&◌, ◌||◌}
 use Rattle.std.proofs.lemmas.Bool.Decides.{nat_tests}
-use Rattle.swc_ecma_parser_common.specs.declared.span.Span.{Span}
 use Rattle.swc_ecma_parser_error.specs.Kind as faults
 use Rattle.swc_ecma_parser_error.specs.Kind.{Fault}
 use Rattle.swc_ecma_parser_token.specs.declared.kind.TokenKind.TheVariants as kind
@@ -18,9 +17,8 @@ use Rattle.swc_ecma_parser_grammar.specs.language.Contexts.{named_by}
 use Rattle.swc_ecma_parser_grammar.proofs.Tests.{and_no}
 use Rattle.swc_ecma_parser_grammar.specs.language.Goals.{expression}
 use Rattle.swc_ecma_parser_reader.specs.Members.{member_level}
-use Rattle.swc_ecma_parser_reader.specs.Expressions.{binary_from}
 use Rattle.swc_ecma_parser_reader.specs.State.{State, Reader, coded, moved, within, too_deep, fault, fault_at, loop}
-use Rattle.swc_ecma_parser_reader.specs.Reader.{ends_declarators, missing_at, no_declarator, declarator, declarators_turn, directs, items_turn, begins_clause, Clauses, clause, clauses_turn, named, own_name, stmt, whole_stmt, expr, cover, pattern, decorated_in, member, operators, parameters, plain_stmt}
+use Rattle.swc_ecma_parser_reader.specs.Reader.{ends_declarators, missing_at, no_declarator, declarator, declarators_turn, directs, items_turn, begins_clause, Clauses, clause, clauses_turn, named, own_name, stmt, whole_stmt, expr, cover, pattern, decorated_in, member, parameters, plain_stmt}
 use Rattle.swc_ecma_parser_reader.specs.DecoratedStatements.{either_stmt}
 use Rattle.swc_ecma_parser_reader.proofs.Steps.{loop_more, loop_done, loop_err}
 use Rattle.swc_ecma_parser_reader.proofs.Takes.{moves}
@@ -134,15 +132,6 @@ member_lowest n s e = rw e refl
 pub member_above : (n : ℕ) (s : State) → 0 < n → member n s ≡ member_level (expr (n - 1)) (cover (n - 1)) (stmt (n - 1) nested_item) (parameters (n - 1)) (decorated_in (n - 1)) s
 unfolding member
 member_above n s h = deeper (λ k. member k s) n h
-
--- the operators behind an expression
-pub operators_lowest : (n : ℕ) (start : Span) (x : Tree) (s : State) → n ≡ 0 → operators n start x s ≡ too_deep s
-unfolding operators
-operators_lowest n start x s e = rw e refl
-
-pub operators_above : (n : ℕ) (start : Span) (x : Tree) (s : State) → 0 < n → operators n start x s ≡ binary_from (expr (n - 1)) (cover (n - 1)) 1 start x s
-unfolding operators
-operators_above n start x s h = deeper (λ k. operators k start x s) n h
 
 -- ---- the name of a function that is an expression
 

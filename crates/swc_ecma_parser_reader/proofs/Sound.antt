@@ -548,7 +548,6 @@ record Sounds (n : ℕ) : Type 0 where
   elements : (s : State) → Meets (λ x t. SoundTree (ReadsElement n) s x t) (element n s)
   decorateds : (s : State) → Meets (λ x t. SoundTree (ReadsDecorated n) s x t) (decorated_in n s)
   members : (s : State) → Meets (λ x t. SoundTree (ReadsMember n) s x t) (member n s)
-  operations : (start : Span) (x : Tree) (s t : State) → SoundWild s x t → Meets (λ y u. SoundWild s y u) (operators n start x t)
   stmts : (at : Position) (s : State) → Meets (λ x t. SoundTree (λ k. ReadsStmt n k at) s x t) (stmt n at s)
 
 -- ---- methods of the small relation are those of the whole language
@@ -648,12 +647,15 @@ module _ (n : ℕ) (b : Sounds n) where
           (λ x t q. sound_as s t refl refl refl (λ r. method_read n s.code x s.at t.at key w g r) q)
 
 module _ (n : ℕ) (b : Sounds n) where
+  operations : (start : Span) (x : Tree) (s t : State) → SoundWild s x t → Meets (λ y u. SoundWild s y u) (operators n start x t)
+  operations start x s t p = operators_sound n (expr n) (cover n) b.exprs 1 s start x t p
+
   exprs_sound : (class : Class) (s : State) → Meets (λ x t. SoundTree (ReadsClass (suc n) class) s x t) (expr (suc n) class s)
   unfolding function expr
   exprs_sound = expressions.level_sound n (expr n) (cover n) b.exprs b.covers (function n) (functions n b) (tied_at n) (parts n b)
 
 all_sound : (n : ℕ) → Sounds n
-unfolding function expr cover head_cover pattern element decorated_in member operators stmt
+unfolding function expr cover head_cover pattern element decorated_in member stmt
 all_sound zero = record {
   exprs = λ class s. too_deep_meets _ s;
   covers = λ s. too_deep_meets _ s;
@@ -662,7 +664,6 @@ all_sound zero = record {
   elements = λ s. too_deep_meets _ s;
   decorateds = λ s. too_deep_meets _ s;
   members = λ s. too_deep_meets _ s;
-  operations = λ start x s t p. too_deep_meets _ t;
   stmts = λ at s. too_deep_meets _ s;
 }
 all_sound (suc n) = let b = all_sound n in record {
@@ -673,11 +674,10 @@ all_sound (suc n) = let b = all_sound n in record {
   elements = patterns.element_level_sound n (expr n) (cover n) (pattern n) (element n) b.exprs b.covers b.patterns b.elements;
   decorateds = decorated_sound n (expr n) (cover n) b.exprs b.covers (function n) (functions n b) (expr (suc n) expression) (exprs_sound n b expression);
   members = member_level_sound n (expr n) (cover n) (stmt n nested_item) (reader.parameters n) b.exprs b.covers (b.stmts nested_item) (params n b) (decorated_in n) b.decorateds;
-  operations = λ start x s t p. operators_sound n (expr n) (cover n) b.exprs 1 s start x t p;
   stmts = λ at. either_sound n (reader.plain_stmt n) at
       (λ s. first_sound (ReadsClass n) (ReadsPat n) (expr n) (pattern n) b.exprs b.patterns (ReadsStmt n) (ReadsTarget n) (ReadsParams n) (ReadsNamedClass n) at (reader.nests n) (stmt_level (stmt n) (expr n) (pattern n) (head_cover n) (reader.parameters n) (member n) (operators n)) s
       (level_sound (ReadsStmt n) (ReadsClass n) (ReadsPat n) (ReadsTarget n) (ReadsParams n) (ReadsNamedClass n) (stmt n) (expr n) (pattern n) (head_cover n) (reader.parameters n) (member n) (operators n)
-      b.stmts b.exprs b.patterns (openings n b) (params n b) (class_stmt_sound n (expr n left_side) (member n) (b.exprs left_side) b.members) b.operations (λ k x c d h r. import_unnoted n k x c d r h) (loses_nothing n) at s))
+      b.stmts b.exprs b.patterns (openings n b) (params n b) (class_stmt_sound n (expr n left_side) (member n) (b.exprs left_side) b.members) (operations n b) (λ k x c d h r. import_unnoted n k x c d r h) (loses_nothing n) at s))
       (λ s. declares_plainly (stmt n) (expr n) (pattern n) (head_cover n) (reader.parameters n) (member n) (operators n) at s n (b.stmts nested_item) (params n b)
       (class_stmt_sound n (expr n left_side) (member n) (b.exprs left_side) b.members) (reader.declarators (expr n) (pattern n) false decl.Var) (reader.nests n))
       (λ s. plain_exports (stmt n) (expr n) (pattern n) (head_cover n) (reader.parameters n) (member n) (operators n) at s (reader.declarators (expr n) (pattern n) false decl.Var) (reader.nests n) (λ x t. ⊥)) (decorated_in n) b.decorateds;
@@ -728,7 +728,7 @@ pub member_sound : (n : ℕ) (s : State) → Meets (λ x t. SoundTree (ReadsMemb
 member_sound n = (all_sound n).members
 
 operations_sound : (n : ℕ) (start : Span) (x : Tree) (s t : State) → SoundWild s x t → Meets (λ y u. SoundWild s y u) (operators n start x t)
-operations_sound n = (all_sound n).operations
+operations_sound n = operations n (all_sound n)
 
 pub classes_sound : (n : ℕ) (at : Position) (s : State) → kind_at s.at ≡ kind.Class → Meets (λ x t. SoundTree (Declared (ReadsNamedClass n) at) s x t) (class_stmt (expr n left_side) (member n) at s)
 classes_sound n = class_stmt_sound n (expr n left_side) (member n) (expr_sound n left_side) (member_sound n)

@@ -708,16 +708,11 @@ unfoldable mutual
   member zero = too_deep
   member (suc n) = member_level (expr n) (cover n) (stmt n nested_item) (parameter_list (expr n) (cover n) (pattern n) (element n)) (decorated_in n)
 
-  -- the operators behind an expression that was read from a place on, with their operands
-  pub operators : ℕ → Span → Tree → Reader Tree
-  operators zero start x = too_deep
-  operators (suc n) start x = exprs.binary_from (expr n) (cover n) 1 start x
-
   -- a statement
   pub stmt : ℕ → Position → Reader Tree
   stmt zero at = too_deep
   stmt (suc n) at = either_stmt
-      (await_using_or (declarators (expr n) (pattern n) false decl.Var) (nests n) (stmt_level (stmt n) (expr n) (pattern n) (head_cover n) (parameter_list (expr n) (cover n) (pattern n) (element n)) (member n) (operators n)))
+      (await_using_or (declarators (expr n) (pattern n) false decl.Var) (nests n) (stmt_level (stmt n) (expr n) (pattern n) (head_cover n) (parameter_list (expr n) (cover n) (pattern n) (element n)) (member n) (exprs.binary_from (expr n) (cover n) 1)))
       (decorated_in n) at
 
 -- what the head of a loop begins with, from behind `async`, where a name stands
@@ -728,6 +723,10 @@ head_behind (suc n) start = head_behind_async (expr n) (cover n) (function_by (s
 -- the parameters of a function, each with its default, if one stands there
 abbrev pub parameters : ℕ → Reader (List Tree)
 parameters n = parameter_list (expr n) (cover n) (pattern n) (element n)
+
+-- the operators behind the expression of a statement, with their operands
+abbrev pub operators : ℕ → Span → Tree → Reader Tree
+operators n = exprs.binary_from (expr n) (cover n) 1
 
 -- a statement without decorators
 abbrev pub plain_stmt : ℕ → Position → Reader Tree
