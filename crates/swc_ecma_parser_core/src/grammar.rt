@@ -3,11 +3,10 @@
 ghost use Rattle.std.specs.Prelude.{◌≡◌, ◌&&◌, ◌||◌, map, false, true};
 ghost use Rattle.swc_ecma_parser_classes.specs.Named.{class_expr_of};
 ghost use Rattle.swc_ecma_parser_core.specs.Covering as covering;
-ghost use Rattle.swc_ecma_parser_core.specs.Declaration as declaration;
 ghost use Rattle.swc_ecma_parser_grammar.specs.Follows as follows;
 ghost use Rattle.swc_ecma_parser_grammar.specs.Looks as looks;
 ghost use Rattle.swc_ecma_parser_grammar.specs.Reads.{nested_item};
-ghost use Rattle.swc_ecma_parser_grammar.specs.language.Goals.{left_side};
+ghost use Rattle.swc_ecma_parser_grammar.specs.language.Goals.{expression as expression_class, left_side};
 ghost use Rattle.swc_ecma_parser_model.specs.declared.leaves.VarDeclKind.TheVariants as decl;
 ghost use Rattle.swc_ecma_parser_token.specs.declared.kind.TokenKind.TheVariants as kind;
 ghost use Rattle.swc_ecma_parser_inner.specs.Covers.{cover_of, read};
@@ -20,10 +19,10 @@ ghost use Rattle.swc_ecma_parser_reader.specs.Decorators as decorators;
 ghost use Rattle.swc_ecma_parser_reader.specs.Dressed as dressed;
 ghost use Rattle.swc_ecma_parser_reader.specs.Members as members;
 ghost use Rattle.swc_ecma_parser_reader.specs.Reader as rules;
-ghost use Rattle.swc_ecma_parser_reader.specs.State.{GivesAs};
+ghost use Rattle.swc_ecma_parser_reader.specs.State.{Gives, GivesAs};
 
 use crate::covering::Covering;
-use crate::levels::{cover_level, declared_level, plain_level};
+use crate::levels::{cover_level, plain_level};
 use swc_ecma_parser_classes::class::{ClassGrammar, NamedClass, class_decl_with, class_expr_with};
 use swc_ecma_parser_common::Span;
 use swc_ecma_parser_error::{PResult, SyntaxError};
@@ -31,7 +30,7 @@ use swc_ecma_parser_functions::function::{Manner, function_parts_with, function_
 use swc_ecma_parser_grammar::{Class, Position};
 use swc_ecma_parser_inner::cover::{Cover, Reading, done};
 use swc_ecma_parser_inner::grammar::{Grammar, Part};
-use swc_ecma_parser_inner::steps::{grown, since};
+use swc_ecma_parser_inner::steps::{grown, since, with_in};
 use swc_ecma_parser_literals::object::object_level;
 use swc_ecma_parser_members::decorators::{Leading, leading_decorators, misplaced};
 use swc_ecma_parser_members::member::member_level;
@@ -40,6 +39,8 @@ use swc_ecma_parser_operators::decorator::decorated_level;
 use swc_ecma_parser_operators::operator::expr_level;
 use swc_ecma_parser_patterns::pat::{element_level, pattern_level};
 use swc_ecma_parser_source::{Source, Wanted};
+use swc_ecma_parser_statements::recovery::declaration_end;
+use swc_ecma_parser_statements::variables::declarators;
 use swc_ecma_parser_token::TokenKind;
 use swc_ecma_parser_trees::{BuildsStatements, MakerOf};
 
@@ -517,15 +518,15 @@ fn begins_function<P: Source>(p: &P) -> bool
     p.sees(TokenKind::Function) || p.is_async_function()
 }
 
-/// What a declaration of variables holds, from behind its word up to its end, in so many levels.
+/// The declarators of a declaration, in so many levels.
 #[cycle(knot)]
-pub fn inner_declaration<P: Source, T: BuildsStatements>(
+pub fn inner_declarators<P: Source, T: BuildsStatements>(
     t: &MakerOf<T>,
     p: &mut P,
     depth: usize,
     word: VarDeclKind,
 ) -> PResult<Vec<T::Declarator>>
-    ensures { GivesAs (λ found. map T.declarator_of found.items) (declaration.declared (rules.expr depth) (rules.pattern depth) word (P.seen p.old)) result (P.seen p.new) }
+    ensures { GivesAs (λ found. map T.declarator_of found.items) (rules.declarators (rules.expr depth) (rules.pattern depth) false word (P.seen p.old)) result (P.seen p.new) }
 {
     let g = Grammar {
         depth,
@@ -533,7 +534,25 @@ pub fn inner_declaration<P: Source, T: BuildsStatements>(
         expr: expr::<P, T>,
         pat: pat::<P, T>,
     };
-    declared_level(&g, t, p, word)
+    declarators(&g, t, p, false, word)
+}
+
+/// The end of a declaration, where what is dropped for want of one stands in so many levels.
+#[cycle(knot)]
+pub fn inner_declaration_end<P: Source, T: BuildsStatements>(
+    t: &MakerOf<T>,
+    p: &mut P,
+    depth: usize,
+) -> PResult<()>
+    ensures { Gives (rules.declaration_end (rules.expr depth expression_class) (P.seen p.old)) result (P.seen p.new) }
+{
+    let g = Grammar {
+        depth,
+        stmt: stmt::<P, T>,
+        expr: expr::<P, T>,
+        pat: pat::<P, T>,
+    };
+    declaration_end(&g, t, p)
 }
 
 /// A function from behind its name, in so many levels.
@@ -639,7 +658,7 @@ pub fn declared_function<P: Source, T: BuildsStatements>(
 
 /// A declaration of `var`, in so many levels.
 #[cycle(knot)]
-#[tactic(auto, unfolding(crate::specs::Declaration::declared, swc_ecma_parser_reader::specs::Reader::variables, swc_ecma_parser_grammar::specs::Looks::spanned))]
+#[tactic(auto, unfolding(swc_ecma_parser_reader::specs::Reader::variables, swc_ecma_parser_grammar::specs::Looks::spanned))]
 fn declared_variables<P: Source, T: BuildsStatements>(
     t: &MakerOf<T>,
     p: &mut P,
@@ -649,7 +668,11 @@ fn declared_variables<P: Source, T: BuildsStatements>(
 {
     let start = p.span();
     p.skip()?;
-    let found = inner_declaration::<P, T>(t, p, depth, VarDeclKind::Var)?;
+    let outer = p.flags();
+    p.set_flags(with_in(outer));
+    let found = inner_declarators::<P, T>(t, p, depth, VarDeclKind::Var)?;
+    p.set_flags(outer);
+    inner_declaration_end::<P, T>(t, p, depth)?;
     let span = since(p, start);
     grown(p, T::var(t.alloc, span, VarDeclKind::Var, found))
 }

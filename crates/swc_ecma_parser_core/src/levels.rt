@@ -1,9 +1,8 @@
 //! What a function of the knot reads by one of several rules: each choice is one function over the readers, outside the knot, so that
 //! the knot hands its readers on once.
 
-ghost use Rattle.std.specs.Prelude.{◌≡◌, ◌≢◌, map};
+ghost use Rattle.std.specs.Prelude.{◌≡◌, ◌≢◌};
 ghost use Rattle.swc_ecma_parser_core.specs.Covering as covering;
-ghost use Rattle.swc_ecma_parser_core.specs.Declaration as declaration;
 ghost use Rattle.swc_ecma_parser_grammar.specs.Looks as looks;
 ghost use Rattle.swc_ecma_parser_inner.specs.Covers.{cover_of};
 ghost use Rattle.swc_ecma_parser_inner.specs.Nests.{Nests};
@@ -17,18 +16,14 @@ use swc_ecma_parser_error::PResult;
 use swc_ecma_parser_grammar::Position;
 use swc_ecma_parser_inner::cover::{Cover, Reading};
 use swc_ecma_parser_inner::grammar::{Grammar, Part};
-use swc_ecma_parser_inner::steps::with_in;
-use swc_ecma_parser_model::VarDeclKind;
 use swc_ecma_parser_operators::assignment::{
     cover_expr, expr_behind_await, head_behind_async, head_expr,
 };
 use swc_ecma_parser_source::Source;
-use swc_ecma_parser_statements::recovery::declaration_end;
 use swc_ecma_parser_statements::using::{await_stmt, begins_await_using};
-use swc_ecma_parser_statements::variables::declarators;
 use swc_ecma_parser_trees::{
     BuildsCall, BuildsControl, BuildsExpr, BuildsFor, BuildsLoop, BuildsMethod, BuildsOperator,
-    BuildsPattern, BuildsStmt, BuildsSwitch, BuildsTry, BuildsVarDecl, BuildsVariables, MakerOf,
+    BuildsPattern, BuildsStmt, BuildsSwitch, BuildsTry, BuildsVarDecl, MakerOf,
 };
 
 /// What may still become a pattern, where what stands in it is read by these readers.
@@ -75,24 +70,4 @@ pub(crate) fn plain_level<
         return await_stmt(g, t, p, at);
     }
     level(g, t, p, at)
-}
-
-/// What a declaration of variables holds, from behind its word up to its end, where what stands in it is read by these readers.
-#[tactic(auto, unfolding(crate::specs::Declaration::declared))]
-pub(crate) fn declared_level<
-    P: Source,
-    T: BuildsPattern + BuildsOperator + BuildsVariables,
-    S: Fn(&MakerOf<T>, &mut P, usize, Position) -> PResult<T::Stmt>,
-    E: Fn(&MakerOf<T>, &mut P, usize, Reading) -> PResult<Cover<T::Expr>>,
-    N: Fn(&MakerOf<T>, &mut P, usize, Part) -> PResult<T::Pat>,
->(g: &Grammar<S, E, N>, t: &MakerOf<T>, p: &mut P, word: VarDeclKind) -> PResult<Vec<T::Declarator>>
-    requires { Nests P.seen T.expr_of T.pat_of T.stmt_of g.now.depth (S.pre g.now.stmt) (S.post g.now.stmt) (E.pre g.now.expr) (E.post g.now.expr) (N.pre g.now.pat) (N.post g.now.pat) }
-    ensures { GivesAs (λ found. map T.declarator_of found.items) (declaration.declared (rules.expr g.now.depth) (rules.pattern g.now.depth) word (P.seen p.old)) result (P.seen p.new) }
-{
-    let outer = p.flags();
-    p.set_flags(with_in(outer));
-    let found = declarators(g, t, p, false, word)?;
-    p.set_flags(outer);
-    declaration_end(g, t, p)?;
-    Ok(found)
 }

@@ -14,11 +14,12 @@ use crate::inner::inner_expr;
 use swc_ecma_parser_classes::class::NamedClass;
 use swc_ecma_parser_common::Span;
 use swc_ecma_parser_core::grammar::{
-    declared_class, declared_function, inner_class, inner_declaration, inner_function,
+    declared_class, declared_function, inner_class, inner_declaration_end, inner_declarators,
+    inner_function,
 };
 use swc_ecma_parser_error::PResult;
 use swc_ecma_parser_functions::function::{Manner, function_word, star};
-use swc_ecma_parser_inner::steps::{grown, since};
+use swc_ecma_parser_inner::steps::{grown, since, with_in};
 use swc_ecma_parser_model::{Ident, VarDeclKind};
 use swc_ecma_parser_modules::exports::{
     default_from, export_names, export_star, is_default_from, is_name_from, name_from,
@@ -166,7 +167,7 @@ pub(crate) fn export_default<P: Source, T: BuildsStatements + BuildsExport>(
 }
 
 /// An export of variables, from their word on.
-#[tactic(auto, unfolding(swc_ecma_parser_core::specs::Declaration::declared, swc_ecma_parser_module_reader::specs::Exports::exported, swc_ecma_parser_reader::specs::Reader::variables, swc_ecma_parser_grammar::specs::Looks::spanned))]
+#[tactic(auto, unfolding(swc_ecma_parser_module_reader::specs::Exports::exported, swc_ecma_parser_reader::specs::Reader::variables, swc_ecma_parser_grammar::specs::Looks::spanned))]
 fn exported_variables<P: Source, T: BuildsStatements + BuildsExport + BuildsVarDecl>(
     t: &MakerOf<T>,
     p: &mut P,
@@ -178,7 +179,11 @@ fn exported_variables<P: Source, T: BuildsStatements + BuildsExport + BuildsVarD
 {
     let first = p.span();
     p.skip()?;
-    let found = inner_declaration::<P, T>(t, p, depth, word)?;
+    let outer = p.flags();
+    p.set_flags(with_in(outer));
+    let found = inner_declarators::<P, T>(t, p, depth, word)?;
+    p.set_flags(outer);
+    inner_declaration_end::<P, T>(t, p, depth)?;
     let span = since(p, first);
     let decl = grown(p, T::var_decl(t.alloc, span, word, found))?;
     let span = since(p, start);

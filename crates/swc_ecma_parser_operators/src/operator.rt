@@ -259,7 +259,7 @@ pub(crate) fn operator_here<P: Source>(p: &P, n: usize) -> Option<BinaryOp>
 /// The operators that bind at least so tightly, behind an operand that was read from a place on.
 #[tactic(auto, unfolding(swc_ecma_parser_reader::specs::Expressions::binary_from), using(swc_ecma_parser_reader::proofs::expressions::Loops::binary_done, swc_ecma_parser_reader::proofs::expressions::Loops::binary_more, swc_ecma_parser_reader::proofs::expressions::Loops::binary_err, swc_ecma_parser_reader::proofs::expressions::Loops::operated_shorter))]
 #[inline(never)]
-pub fn binary_from<
+pub(crate) fn binary_from<
     P: Source,
     T: BuildsOperator,
     S: Fn(&MakerOf<T>, &mut P, usize, Position) -> PResult<T::Stmt>,

@@ -15,8 +15,6 @@ pub mod Errors
 pub mod Between
 pub mod Recovered
 pub mod SoundRecovered
-pub mod StatementEnds
-pub mod SoundEnds
 pub mod Strays
 pub mod SoundParts
 pub mod SoundFor

@@ -73,9 +73,9 @@ fn attempted<
     }
 }
 
-/// Whether a declaration or a statement may end here without `;`: section 12.10.
+/// Whether a declaration may end here without `;`: section 12.10.
 #[tactic(auto, unfolding(swc_ecma_parser_grammar::specs::Ends::can_end))]
-pub(crate) fn can_end<P: Source>(p: &P) -> bool
+fn can_end<P: Source>(p: &P) -> bool
     ensures { result ≡ ends.can_end (P.seen p.now).at }
 {
     p.sees(TokenKind::End) || p.sees(TokenKind::RBrace) || p.had_line_break()

@@ -50,8 +50,11 @@ abbrev pub decreases-pat : goal.decreases-pat
 decreases-pat g l = 8 * l.depth + 4
 
 -- what a declaration, a function and a list of decorators hold is read in as many levels as they have
-abbrev pub decreases-inner_declaration : goal.decreases-inner_declaration
-decreases-inner_declaration g l = 8 * l.depth + 5
+abbrev pub decreases-inner_declarators : goal.decreases-inner_declarators
+decreases-inner_declarators g l = 8 * l.depth + 5
+
+abbrev pub decreases-inner_declaration_end : goal.decreases-inner_declaration_end
+decreases-inner_declaration_end g l = 8 * l.depth + 5
 
 abbrev pub decreases-inner_function_with : goal.decreases-inner_function_with
 decreases-inner_function_with g l = 8 * l.depth + 5
