@@ -1,7 +1,7 @@
 //! Rows of single statements, by hand, from the rules of ECMA-262, section 14.
 
 use ecma_report::show_statement;
-use ecma_texts::{input, lexer, tokens};
+use ecma_texts::{input, let_go, lexer, tokens};
 use std::alloc::{AllocError, Global};
 use std::test::Fail;
 use swc_ecma_parser::Parser;
@@ -33,7 +33,9 @@ fn read(
     times: u32,
 ) -> Result<String, AllocError> {
     let mut parser = Parser::new_from(alloc, lexer(alloc, input));
-    asked(alloc, &mut parser, may_declare, times)
+    let found = asked(alloc, &mut parser, may_declare, times);
+    let_go(parser);
+    found
 }
 
 #[test]
@@ -104,7 +106,10 @@ fn listed(alloc: Global, tokens: Vec<TokenAndSpan>, times: u32) -> Result<String
         return Err(AllocError);
     }
     let list = TokensInput::new(alloc, tokens, Context::default(), Syntax::default());
-    asked(alloc, &mut Parser::new_from(alloc, list), false, times)
+    let mut parser = Parser::new_from(alloc, list);
+    let found = asked(alloc, &mut parser, false, times);
+    let_go(parser);
+    found
 }
 
 #[test]
@@ -132,7 +137,10 @@ fn module_code(alloc: Global, input: StringInput<'_>) -> Result<String, AllocErr
         module: true,
         ..Context::default()
     });
-    asked(alloc, &mut Parser::new_from(alloc, lexer), true, 2)
+    let mut parser = Parser::new_from(alloc, lexer);
+    let found = asked(alloc, &mut parser, true, 2);
+    let_go(parser);
+    found
 }
 
 #[test]

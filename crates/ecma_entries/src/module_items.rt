@@ -2,7 +2,7 @@
 //! an item is asked for, and what is answered.
 
 use ecma_report::show_item;
-use ecma_texts::{input, lexer};
+use ecma_texts::{input, let_go, lexer};
 use std::alloc::{AllocError, Global};
 use std::test::Fail;
 use swc_ecma_parser::Parser;
@@ -306,7 +306,9 @@ fn read(
     let mut lexer = Lexer::new(alloc, Syntax::Es(settings), input, false);
     lexer.set_ctx(around.context);
     let mut parser = Parser::new_from_limited(alloc, lexer, around.limit);
-    asked(alloc, &mut parser, times)
+    let found = asked(alloc, &mut parser, times);
+    let_go(parser);
+    found
 }
 
 /// Writes each row that does not hold, with what it has.
@@ -446,14 +448,20 @@ fn an_import_and_an_export_leave_module_code(rt: HostRuntime) -> Result<(), Fail
 fn asked_with_clone<I: Tokens>(alloc: Global, parser: &mut Parser<I>) -> PResult<String> {
     let mut out = String::new(alloc);
     write_item(alloc, &mut out, parser)?;
-    write_item(alloc, &mut out, &mut parser.try_clone()?)?;
+    let mut clone = parser.try_clone()?;
+    let written = write_item(alloc, &mut out, &mut clone);
+    let_go(clone);
+    written?;
     write_item(alloc, &mut out, parser)?;
     Ok(out)
 }
 
 /// The same of a text.
 fn read_with_clone(alloc: Global, input: StringInput<'_>) -> PResult<String> {
-    asked_with_clone(alloc, &mut Parser::new_from(alloc, lexer(alloc, input)))
+    let mut parser = Parser::new_from(alloc, lexer(alloc, input));
+    let found = asked_with_clone(alloc, &mut parser);
+    let_go(parser);
+    found
 }
 
 #[test]

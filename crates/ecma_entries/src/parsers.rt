@@ -1,7 +1,7 @@
 //! Each public function of parsers once.
 
 use ecma_report::{Goal, Shown, show};
-use ecma_texts::{input, lexed, lexer, listed, plainly, tokens};
+use ecma_texts::{input, let_go, lexed, lexer, listed, plainly, tokens};
 use std::alloc::{AllocError, Global};
 use std::test::Fail;
 use swc_ecma_parser::Parser;
@@ -35,9 +35,11 @@ fn an_error_token_is_refused_with_its_error(rt: HostRuntime) -> Result<(), Fail>
 #[test]
 fn tokens_in_another_order_are_noticed(rt: HostRuntime) -> Result<(), Fail> {
     let mut tokens = tokens(rt.alloc(), input("a;")?)?;
-    assert!(rt; spans_ordered(tokens.as_slice()));
+    let before = spans_ordered(tokens.as_slice());
     tokens.reverse();
-    assert!(rt; !spans_ordered(tokens.as_slice()));
+    let behind = spans_ordered(tokens.as_slice());
+    let_go(tokens);
+    assert_eq!(rt; (before, behind), (true, false));
     Ok(())
 }
 
@@ -55,9 +57,9 @@ fn captured_tokens_parse_to_the_same(rt: HostRuntime) -> Result<(), Fail> {
     let alloc = rt.alloc();
     let text = "'use strict'; { var a; (b) } 1n";
     let (tokens, left) = captured(alloc, capturing(alloc, lexer(alloc, input(text)?)));
-    assert_eq!(rt; tokens.len(), 11);
-    assert_eq!(rt; left, 0);
+    let kept = tokens.len();
     let found = listed(alloc, tokens, plainly(Goal::Script))?;
+    assert_eq!(rt; (kept, left), (11, 0));
     let wanted = lexed(alloc, input(text)?, plainly(Goal::Script))?;
     assert_eq!(rt; found.tree.as_str(), wanted.tree.as_str());
     Ok(())
@@ -76,7 +78,10 @@ fn write_lines<I: Tokens>(
 
 /// Writes the lines of a parser's clone, and then its own.
 fn write_twice<I: Tokens>(alloc: Global, out: &mut String, parser: &mut Parser<I>) -> PResult<()> {
-    write_lines(alloc, out, &mut parser.try_clone()?)?;
+    let mut clone = parser.try_clone()?;
+    let written = write_lines(alloc, out, &mut clone);
+    let_go(clone);
+    written?;
     Ok(write_lines(alloc, out, parser)?)
 }
 
@@ -87,9 +92,12 @@ fn flat_parser(alloc: Global, input: StringInput<'_>) -> Parser<Lexer<'_>> {
 
 #[test]
 fn a_clone_answers_the_same_and_faults_are_handed_out_once(rt: HostRuntime) -> Result<(), Fail> {
+    let text = input("{ var a")?;
     let mut out = String::new(rt.alloc());
-    let mut parser = flat_parser(rt.alloc(), input("{ var a")?);
-    write_twice(rt.alloc(), &mut out, &mut parser)?;
+    let mut parser = flat_parser(rt.alloc(), text);
+    let written = write_twice(rt.alloc(), &mut out, &mut parser);
+    let_go(parser);
+    written?;
     let wanted = "Script 0..7\n  Block 0..7\nfault 6..7 Expected\n0\n\
         Script 0..7\n  Block 0..7\nfault 6..7 Expected\n0\n";
     assert_eq!(rt; out.as_str(), wanted);
@@ -117,16 +125,14 @@ fn write_comments<I: CommentSource>(out: &mut String, parser: &mut Parser<I>) ->
     Ok(())
 }
 
-/// Writes the comments that a parser hands out before it parses, then, and behind its lines.
-fn write_story<I: CommentSource>(
-    alloc: Global,
-    out: &mut String,
-    parser: &mut Parser<I>,
-) -> PResult<()> {
-    write_comments(out, parser)?;
-    write_comments(out, parser)?;
-    write_lines(alloc, out, parser)?;
-    write_comments(out, parser)
+/// The comments that a parser hands out before it parses, then, and behind its lines.
+fn story<I: CommentSource>(alloc: Global, parser: &mut Parser<I>) -> PResult<String> {
+    let mut out = String::new(alloc);
+    write_comments(&mut out, parser)?;
+    write_comments(&mut out, parser)?;
+    write_lines(alloc, &mut out, parser)?;
+    write_comments(&mut out, parser)?;
+    Ok(out)
 }
 
 /// A parser of a text, whose comments may be wanted.
@@ -152,30 +158,30 @@ fn comments_are_handed_out_once(rt: HostRuntime) -> Result<(), Fail> {
     // Two tokens are read ahead.
     let wanted =
         "Block 0..7: a ;Line 10..14: b;||Script 8..16\n  Expr 8..16\n0\nBlock 17..24: c ;|";
-    let mut out = String::new(alloc);
-    write_story(alloc, &mut out, &mut parser(alloc, input(COMMENTED)?, true))?;
-    assert_eq!(rt; out.as_str(), wanted);
-    out.clear();
-    let source = commented(alloc, input(COMMENTED)?);
-    write_story(alloc, &mut out, &mut capturing(alloc, source))?;
-    assert_eq!(rt; out.as_str(), wanted);
-    out.clear();
-    write_story(
-        alloc,
-        &mut out,
-        &mut parser(alloc, input(COMMENTED)?, false),
-    )?;
-    assert_eq!(rt; out.as_str(), "||Script 8..16\n  Expr 8..16\n0\n|");
+    let mut plain = parser(alloc, input(COMMENTED)?, true);
+    let found = story(alloc, &mut plain);
+    let_go(plain);
+    assert_eq!(rt; found?.as_str(), wanted);
+    let mut kept = capturing(alloc, commented(alloc, input(COMMENTED)?));
+    let found = story(alloc, &mut kept);
+    let_go(kept);
+    assert_eq!(rt; found?.as_str(), wanted);
+    let mut bare = parser(alloc, input(COMMENTED)?, false);
+    let found = story(alloc, &mut bare);
+    let_go(bare);
+    assert_eq!(rt; found?.as_str(), "||Script 8..16\n  Expr 8..16\n0\n|");
     Ok(())
 }
 
 /// How many comments a parser hands out, and how many tokens and comments the source has that it gives back then.
 fn given_back(alloc: Global, input: StringInput) -> PResult<(usize, usize, usize)> {
     let mut parser = Parser::new_from(alloc, commented(alloc, input));
-    let taken = parser.take_comments()?.len();
+    let taken = parser.take_comments().map(|it| it.len());
     let mut lexer = parser.into_input();
     let tokens = lexer.next().iter().count();
-    Ok((taken, tokens, lexer.take_comments()?.len()))
+    let left = lexer.take_comments().map(|it| it.len());
+    let_go(lexer);
+    Ok((taken?, tokens, left?))
 }
 
 #[test]
@@ -205,10 +211,10 @@ fn a_text_can_start_anywhere(rt: HostRuntime) -> Result<(), Fail> {
 
 /// What a text parses to by these settings.
 fn set(alloc: Global, input: StringInput<'_>, settings: EsSyntax) -> Result<Shown, AllocError> {
-    show(
-        alloc,
-        &mut Parser::new(alloc, Syntax::Es(settings), input, false),
-    )
+    let mut parser = Parser::new(alloc, Syntax::Es(settings), input, false);
+    let found = show(alloc, &mut parser);
+    let_go(parser);
+    found
 }
 
 #[test]
@@ -261,7 +267,10 @@ fn undecided(alloc: Global, input: StringInput<'_>) -> Result<Shown, AllocError>
         can_be_module: true,
         ..Context::default()
     });
-    show(alloc, &mut Parser::new_from(alloc, lexer))
+    let mut parser = Parser::new_from(alloc, lexer);
+    let found = show(alloc, &mut parser);
+    let_go(parser);
+    found
 }
 
 #[test]

@@ -35,7 +35,7 @@ const ARROW_FAULTS: &str = "a¶=> b → refused 2..4 LineBreakBeforeArrow
 (a = 1) => { 'use strict' } → Script 0..27, Expr 0..27, fault 13..25 IllegalLanguageModeDirective
 while (a) (() => { break }) → Script 0..27, While 0..27, fault 19..24 TS1105
 for (;;) (() => { continue; }); → Script 0..31, For 0..31, fault 18..27 TS1115
-() => {} || a → refused 9..11 ExpectedSemiForExprStmt
+() => {} || a → Script 0..13, Expr 0..13, fault 9..11 TS1005 → BinExpr 0..13, ArrowExpr 0..8
 1 + a => b → refused 6..8 ExpectedSemiForExprStmt
 (a) => → refused 6..6 Eof";
 
@@ -81,7 +81,7 @@ async(,) → refused 6..7 Unexpected
 async(a b) → refused 8..9 Expected
 async (a = 1) => { 'use strict' } → Script 0..33, Expr 0..33, fault 19..31 IllegalLanguageModeDirective
 while (a) async () => { break } → Script 0..31, While 0..31, fault 24..29 TS1105
-async () => {} || a → refused 15..17 ExpectedSemiForExprStmt
+async () => {} || a → Script 0..19, Expr 0..19, fault 15..17 TS1005 → BinExpr 0..19, ArrowExpr 0..14
 1 + async a => b → refused 10..11 ExpectedSemiForExprStmt
 1 + async (a) => b → refused 14..16 ExpectedSemiForExprStmt
 async () => → refused 11..11 Eof";

@@ -16,6 +16,8 @@ mod decorators;
 #[cfg(test)]
 mod deep;
 #[cfg(test)]
+mod examples;
+#[cfg(test)]
 mod exports;
 mod expressions;
 #[cfg(test)]

@@ -2,8 +2,8 @@
 
 use crate::report::report;
 use crate::{
-    arrows, awaits, classes, declarations, decorated, decorators, exports, expressions, functions,
-    heads, methods, modules, programs, recoveries, rows, statements,
+    arrows, awaits, classes, declarations, decorated, decorators, examples, exports, expressions,
+    functions, heads, methods, modules, programs, recoveries, rows, statements,
 };
 use ecma_report::Goal;
 use ecma_texts::{Asked, plainly};
@@ -135,6 +135,27 @@ fn write_decorated(alloc: Global, wrong: &mut String) -> Result<(), Fail> {
     write_tables(alloc, wrong, &decorated::UNSET_TABLES, asked)
 }
 
+/// Writes the tables of modules that may export the defaults of others that do not hold.
+fn write_defaults(alloc: Global, wrong: &mut String) -> Result<(), Fail> {
+    let asked = Asked {
+        settings: EsSyntax {
+            export_default_from: true,
+            ..EsSyntax::default()
+        },
+        ..plainly(Goal::Module)
+    };
+    write_tables(alloc, wrong, &modules::SET_TABLES, asked)?;
+    write_tables(alloc, wrong, &examples::DEFAULT_TABLES, asked)
+}
+
+/// Writes the tables of examples of modules and programs that do not hold.
+fn write_examples(alloc: Global, wrong: &mut String) -> Result<(), Fail> {
+    let asked = plainly(Goal::Module);
+    write_tables(alloc, wrong, &examples::MODULE_TABLES, asked)?;
+    let asked = plainly(Goal::Program);
+    write_tables(alloc, wrong, &examples::PROGRAM_TABLES, asked)
+}
+
 /// Writes the tables of what is dropped in modules and programs that do not hold.
 fn write_recoveries(alloc: Global, wrong: &mut String) -> Result<(), Fail> {
     let asked = plainly(Goal::Module);
@@ -152,6 +173,7 @@ fn rows_hold(rt: HostRuntime) -> Result<(), Fail> {
         awaits::TABLES.as_slice(),
         classes::TABLES.as_slice(),
         declarations::TABLES.as_slice(),
+        examples::TABLES.as_slice(),
         expressions::TABLES.as_slice(),
         functions::TABLES.as_slice(),
         heads::TABLES.as_slice(),
@@ -169,14 +191,8 @@ fn rows_hold(rt: HostRuntime) -> Result<(), Fail> {
         &classes::MODULE_TABLES,
         plainly(Goal::Module),
     )?;
-    let asked = Asked {
-        settings: EsSyntax {
-            export_default_from: true,
-            ..EsSyntax::default()
-        },
-        ..plainly(Goal::Module)
-    };
-    write_tables(alloc, &mut wrong, &modules::SET_TABLES, asked)?;
+    write_defaults(alloc, &mut wrong)?;
+    write_examples(alloc, &mut wrong)?;
     let asked = with_attributes(Goal::Script);
     write_tables(alloc, &mut wrong, &expressions::SET_TABLES, asked)?;
     let asked = with_attributes(Goal::Module);
@@ -215,6 +231,7 @@ fn rows_hold_within_their_levels(rt: HostRuntime) -> Result<(), Fail> {
         awaits::LIMITS.as_slice(),
         classes::LIMITS.as_slice(),
         declarations::LIMITS.as_slice(),
+        examples::LIMITS.as_slice(),
         expressions::LIMITS.as_slice(),
         functions::LIMITS.as_slice(),
         heads::LIMITS.as_slice(),

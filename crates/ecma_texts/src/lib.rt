@@ -35,6 +35,9 @@ pub fn input(text: &str) -> Result<StringInput<'_>, Fail> {
     Ok(StringInput::new(text, BytePos(0), end))
 }
 
+/// Drops it. A function that drops a parser or tokens is proved to do so on each way out, so the tests let go of them by this.
+pub fn let_go<T: Drop>(_: T) {}
+
 /// A lexer in these settings.
 pub fn set_lexer(alloc: Global, input: StringInput<'_>, settings: EsSyntax) -> Lexer<'_> {
     Lexer::new(alloc, Syntax::Es(settings), input, false)

@@ -187,20 +187,6 @@ pub fn class_parts_with<
     grown(p, T::class(t.alloc, span, decorators, found, super_class))
 }
 
-/// A class without decorators, from behind its name.
-#[tactic(auto, using(swc_ecma_parser_reader::proofs::decorators::Dressed::class_parts_plain))]
-pub fn class_parts<
-    P: Source,
-    T: BuildsClass,
-    E: Fn(&MakerOf<T>, &mut P, usize, Class) -> PResult<T::Expr>,
-    M: Fn(&MakerOf<T>, &mut P, usize, &[T::Member]) -> PResult<T::Member>,
->(c: &ClassGrammar<E, M>, t: &MakerOf<T>, p: &mut P, start: Span) -> PResult<T::Class>
-    requires { ReadsClass P.seen T.expr_of T.member_of c.now.depth (E.pre c.now.expr) (E.post c.now.expr) (M.pre c.now.member) (M.post c.now.member) }
-    ensures { GivesAs T.class_of (members.class_parts (rules.expr c.now.depth left_side) (rules.member c.now.depth) start (P.seen p.old)) result (P.seen p.new) }
-{
-    class_parts_with(c, t, p, start, Vec::new(t.alloc))
-}
-
 /// What stands around a class, from its name on.
 fn in_class(flags: Context) -> Context
     ensures { result ≡ record flags { in_class = true; strict = true } }
@@ -257,21 +243,6 @@ pub fn class_decl_with<
     let decl = named_class(c, t, p, start, decorators)?;
     p.set_flags(outer);
     Ok(decl)
-}
-
-/// A class that is declared, without decorators.
-#[tactic(auto, using(swc_ecma_parser_reader::proofs::decorators::Dressed::class_decl_plain))]
-pub fn class_decl<
-    P: Source,
-    T: BuildsClassDecl,
-    E: Fn(&MakerOf<T>, &mut P, usize, Class) -> PResult<T::Expr>,
-    M: Fn(&MakerOf<T>, &mut P, usize, &[T::Member]) -> PResult<T::Member>,
->(c: &ClassGrammar<E, M>, t: &MakerOf<T>, p: &mut P) -> PResult<T::Decl>
-    requires { ReadsClass P.seen T.expr_of T.member_of c.now.depth (E.pre c.now.expr) (E.post c.now.expr) (M.pre c.now.member) (M.post c.now.member) }
-    ensures { GivesAs T.decl_of (members.class_decl (rules.expr c.now.depth left_side) (rules.member c.now.depth) (P.seen p.old)) result (P.seen p.new) }
-{
-    let start = p.span();
-    class_decl_with(c, t, p, start, Vec::new(t.alloc))
 }
 
 /// The name of a class that is an expression, if it has one.

@@ -23,7 +23,8 @@ use swc_ecma_parser_statements::simple::expr_stmt_at;
 use swc_ecma_parser_statements::variables::variables;
 use swc_ecma_parser_token::TokenKind;
 use swc_ecma_parser_trees::{
-    BuildsBlock, BuildsControl, BuildsPattern, BuildsStmt, BuildsVariables, MakerOf, Trees,
+    BuildsBlock, BuildsControl, BuildsOperator, BuildsPattern, BuildsStmt, BuildsVariables,
+    MakerOf, Trees,
 };
 
 /// Whether a label stands here.
@@ -129,13 +130,13 @@ fn labeled_stmt<
 #[tactic(auto, unfolding(swc_ecma_parser_reader::specs::Reader::other_stmt))]
 pub(crate) fn other_stmt<
     P: Source,
-    T: BuildsStmt + BuildsControl + BuildsBlock,
+    T: BuildsStmt + BuildsOperator + BuildsControl + BuildsBlock,
     S: Fn(&MakerOf<T>, &mut P, usize, Position) -> PResult<T::Stmt>,
     E: Fn(&MakerOf<T>, &mut P, usize, Reading) -> PResult<Cover<T::Expr>>,
     N: Fn(&MakerOf<T>, &mut P, usize, Part) -> PResult<T::Pat>,
 >(g: &Grammar<S, E, N>, t: &MakerOf<T>, p: &mut P, at: Position) -> PResult<T::Stmt>
     requires { Nests P.seen T.expr_of T.pat_of T.stmt_of g.now.depth (S.pre g.now.stmt) (S.post g.now.stmt) (E.pre g.now.expr) (E.post g.now.expr) (N.pre g.now.pat) (N.post g.now.pat) }
-    ensures { GivesAs T.stmt_of (rules.other_stmt (rules.stmt g.now.depth) (rules.expr g.now.depth expression) at (P.seen p.old)) result (P.seen p.new) }
+    ensures { GivesAs T.stmt_of (rules.other_stmt (rules.stmt g.now.depth) (rules.expr g.now.depth expression) (rules.operators g.now.depth) at (P.seen p.old)) result (P.seen p.new) }
 {
     if begins_label(p) {
         return labeled_stmt(g, t, p);
@@ -147,13 +148,13 @@ pub(crate) fn other_stmt<
 #[tactic(auto, unfolding(swc_ecma_parser_reader::specs::Reader::let_stmt))]
 pub(crate) fn let_stmt<
     P: Source,
-    T: BuildsPattern + BuildsStmt + BuildsVariables + BuildsControl + BuildsBlock,
+    T: BuildsPattern + BuildsStmt + BuildsOperator + BuildsVariables + BuildsControl + BuildsBlock,
     S: Fn(&MakerOf<T>, &mut P, usize, Position) -> PResult<T::Stmt>,
     E: Fn(&MakerOf<T>, &mut P, usize, Reading) -> PResult<Cover<T::Expr>>,
     N: Fn(&MakerOf<T>, &mut P, usize, Part) -> PResult<T::Pat>,
 >(g: &Grammar<S, E, N>, t: &MakerOf<T>, p: &mut P, at: Position) -> PResult<T::Stmt>
     requires { Nests P.seen T.expr_of T.pat_of T.stmt_of g.now.depth (S.pre g.now.stmt) (S.post g.now.stmt) (E.pre g.now.expr) (E.post g.now.expr) (N.pre g.now.pat) (N.post g.now.pat) }
-    ensures { GivesAs T.stmt_of (rules.let_stmt (rules.stmt g.now.depth) (rules.expr g.now.depth) (rules.pattern g.now.depth) (rules.head_cover g.now.depth) (rules.parameters g.now.depth) (rules.member g.now.depth) at (P.seen p.old)) result (P.seen p.new) }
+    ensures { GivesAs T.stmt_of (rules.let_stmt (rules.stmt g.now.depth) (rules.expr g.now.depth) (rules.pattern g.now.depth) (rules.head_cover g.now.depth) (rules.parameters g.now.depth) (rules.member g.now.depth) (rules.operators g.now.depth) at (P.seen p.old)) result (P.seen p.new) }
 {
     if at.include_decl && p.is_let_declaration() {
         return variables(g, t, p, VarDeclKind::Let);

@@ -13,7 +13,7 @@ use Rattle.swc_ecma_parser_reader.specs.State.{State, Reader}
 use Rattle.swc_ecma_parser_reader.specs.Decorators.{Leading}
 use Rattle.swc_ecma_parser_reader.specs.DecoratedStatements.{begins_declared, declared_behind, decorated_stmt}
 use Rattle.swc_ecma_parser_reader.specs.Dressed.{class_stmt_with, function_decl_with, function_stmt_with, function_parts_with}
-use Rattle.swc_ecma_parser_reader.specs.Reader.{expr, pattern, head_cover, decorated_in, stmt, member, parameters, variables, function_decl, stmt_level, function_stmt, async_or_other, declarators, nests, plain_stmt, function_parts}
+use Rattle.swc_ecma_parser_reader.specs.Reader.{expr, pattern, head_cover, decorated_in, stmt, member, operators, parameters, variables, function_decl, stmt_level, function_stmt, async_or_other, declarators, nests, plain_stmt, function_parts}
 use Rattle.swc_ecma_parser_reader.specs.Members.{class_stmt}
 use Rattle.swc_ecma_parser_reader.proofs.Meets.{saw}
 use Rattle.swc_ecma_parser_reader.proofs.Words.{async_kind}
@@ -38,7 +38,7 @@ abbrev found : ℕ → Reader (List Tree)
 found n = declarators (expr n) (pattern n) false decl.Var
 
 abbrev rest : ℕ → Position → Reader Tree
-rest n = stmt_level (stmt n) (expr n) (pattern n) (head_cover n) (parameters n) (member n)
+rest n = stmt_level (stmt n) (expr n) (pattern n) (head_cover n) (parameters n) (member n) (operators n)
 
 pub var_is_stmt : (n : ℕ) (at : Position) (s : State) → sees kind.Var s.at ≡ true → plain_stmt n at s ≡ variables (expr n) (pattern n) decl.Var s
 unfolding stmt_level same_kind
@@ -57,7 +57,7 @@ function_is_stmt n at s d e = by_word (sees kind.Function s.at) (is_async_functi
 pub class_is_stmt : (n : ℕ) (at : Position) (s : State) → sees kind.Class s.at ≡ true → plain_stmt n at s ≡ class_stmt (expr n left_side) (member n) at s
 unfolding same_kind
 class_is_stmt n at s e = first_at (found n) (nests n) (rest n) at kind.Class s (saw s.at kind.Class e) refl
-    ∙ level_class (stmt n) (expr n) (pattern n) (head_cover n) (parameters n) (member n) at s (saw s.at kind.Class e)
+    ∙ level_class (stmt n) (expr n) (pattern n) (head_cover n) (parameters n) (member n) (operators n) at s (saw s.at kind.Class e)
 
 -- a function without them
 pub function_undecorated : (n : ℕ) (is_async is_generator : Bool) (start : Span) (s : State) → function_parts (stmt n nested_item) (parameters n) is_async is_generator start s
@@ -67,15 +67,15 @@ function_undecorated n is_async is_generator start s = sym (function_parts_plain
 -- ---- what takes decorators
 
 pub class_takes : (n : ℕ) (at : Position) (v : Leading) (s : State) → sees kind.Class s.at ≡ true → declared_behind (plain_stmt n) at v s ≡ class_stmt_with (expr n left_side) (member n) at v s
-class_takes n at v s e = behind_class (stmt n) (expr n) (pattern n) (head_cover n) (parameters n) (member n) (found n) (nests n) at v s (saw s.at kind.Class e)
+class_takes n at v s e = behind_class (stmt n) (expr n) (pattern n) (head_cover n) (parameters n) (member n) (operators n) (found n) (nests n) at v s (saw s.at kind.Class e)
 
 pub function_takes : (n : ℕ) (at : Position) (v : Leading) (s : State) → sees kind.Function s.at ≡ true → declared_behind (plain_stmt n) at v s ≡ function_stmt_with (stmt n nested_item) (parameters n) at v s
-function_takes n at v s e = behind_function (stmt n) (expr n) (pattern n) (head_cover n) (parameters n) (member n) (found n) (nests n) at v s (saw s.at kind.Function e)
+function_takes n at v s e = behind_function (stmt n) (expr n) (pattern n) (head_cover n) (parameters n) (member n) (operators n) (found n) (nests n) at v s (saw s.at kind.Function e)
 
 pub async_takes : (n : ℕ) (at : Position) (v : Leading) (s : State) → begins_declared s.at ≡ true → sees kind.Class s.at ≡ false → sees kind.Function s.at ≡ false
     → declared_behind (plain_stmt n) at v s ≡ function_decl_with (stmt n nested_item) (parameters n) v.found s
 unfolding begins_declared
-async_takes n at v s h a f = behind_async (stmt n) (expr n) (pattern n) (head_cover n) (parameters n) (member n) (found n) (nests n) at v s (last (sees kind.Class s.at) (sees kind.Function s.at) (is_async_function s.at) h a f)
+async_takes n at v s h a f = behind_async (stmt n) (expr n) (pattern n) (head_cover n) (parameters n) (member n) (operators n) (found n) (nests n) at v s (last (sees kind.Class s.at) (sees kind.Function s.at) (is_async_function s.at) h a f)
   where
     last : (a b c : Bool) → (a || (b || c)) ≡ true → a ≡ false → b ≡ false → c ≡ true
     last true b c h e g = cc

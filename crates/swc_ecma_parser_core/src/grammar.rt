@@ -240,6 +240,7 @@ pub fn expr<P: Source, T: BuildsStatements>(
 {
     match asked {
         Reading::Expr(class) => Ok(done(expression::<P, T>(t, p, depth, class)?)),
+        Reading::Operand(class) => Ok(done(right_operand::<P, T>(t, p, depth, class)?)),
         Reading::Cover => covered::<P, T>(t, p, depth, Covering::Whole),
         Reading::Head => covered::<P, T>(t, p, depth, Covering::Head),
         Reading::Class => Ok(done(class_expression::<P, T>(t, p, depth)?)),
@@ -274,6 +275,24 @@ pub fn expression<P: Source, T: BuildsStatements>(
         pat: pat::<P, T>,
     };
     expr_level(&g, t, p, class)
+}
+
+/// The right operand of an operator behind an expression in so many levels: it stands one level deeper.
+#[cycle(knot)]
+#[tactic(auto, using(swc_ecma_parser_reader::proofs::expressions::Loops::right_operand_lowest, swc_ecma_parser_reader::proofs::expressions::Loops::right_operand_above))]
+#[inline(never)]
+fn right_operand<P: Source, T: BuildsStatements>(
+    t: &MakerOf<T>,
+    p: &mut P,
+    depth: usize,
+    class: Class,
+) -> PResult<T::Expr>
+    ensures { GivesAs T.expr_of (rules.right_operand depth (class_of class) (P.seen p.old)) result (P.seen p.new) }
+{
+    if depth == 0 {
+        return Err(p.too_deep());
+    }
+    expression::<P, T>(t, p, depth - 1, class)
 }
 
 /// What may still become a pattern, in so many levels.

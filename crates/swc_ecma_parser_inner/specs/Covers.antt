@@ -22,6 +22,7 @@ covers_of view v = record { xs = map view v.parts.items; mark = v.mark; comma = 
 -- what is read in so many levels
 abbrev pub read : ℕ → Reading → Reader exprs.Cover
 read n (reading.Expr class) = rules.expr n (class_of class) >>= λ x. pure (exprs.done x)
+read n (reading.Operand class) = rules.right_operand n (class_of class) >>= λ x. pure (exprs.done x)
 read n reading.Cover = rules.cover n
 read n reading.Head = rules.head_cover n
 read n reading.Class = rules.function n class_form >>= λ x. pure (exprs.done x)

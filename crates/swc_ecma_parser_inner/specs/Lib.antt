@@ -2,3 +2,4 @@ pub mod Nests
 pub mod Covers
 pub mod Keys
 pub mod Patterns
+pub mod Operators

@@ -48,6 +48,8 @@ pub struct Covers<A> {
 pub enum Reading {
     /// An expression of a class.
     Expr(Class),
+    /// An expression of a class, one level deeper: the right operand of an operator behind an expression of this level.
+    Operand(Class),
     /// An assignment expression that may still become a pattern.
     Cover,
     /// What the head of a loop begins with: an expression that may still become a target.

@@ -2,7 +2,6 @@
 
 ghost use Rattle.std.specs.Prelude.{◌≡◌, true, false, map, IfOk};
 ghost use Rattle.swc_ecma_parser_members.specs.Keys.{member_key_of};
-ghost use Rattle.swc_ecma_parser_grammar.specs.Ends as ends;
 ghost use Rattle.swc_ecma_parser_grammar.specs.language.Classes.{field_member};
 ghost use Rattle.swc_ecma_parser_inner.specs.Nests.{Nests};
 ghost use Rattle.swc_ecma_parser_model.specs.Tree.{listed};
@@ -17,28 +16,13 @@ use swc_ecma_parser_common::Span;
 use swc_ecma_parser_error::{PResult, SyntaxError};
 use swc_ecma_parser_grammar::{Class, Position};
 use swc_ecma_parser_inner::cover::{Cover, Reading, inside};
+use swc_ecma_parser_inner::ends::{can_end, ends_at};
 use swc_ecma_parser_inner::grammar::{Grammar, Part};
 use swc_ecma_parser_inner::keys::made_key;
 use swc_ecma_parser_inner::steps::{grown, since};
 use swc_ecma_parser_source::{Source, Wanted};
 use swc_ecma_parser_token::TokenKind;
 use swc_ecma_parser_trees::{BuildsClass, MakerOf, Trees};
-
-/// Whether a field may end here without `;`: section 12.10.
-#[tactic(auto, unfolding(swc_ecma_parser_grammar::specs::Ends::can_end))]
-fn can_end<P: Source>(p: &P) -> bool
-    ensures { result ≡ ends.can_end (P.seen p.now).at }
-{
-    p.sees(TokenKind::End) || p.sees(TokenKind::RBrace) || p.had_line_break()
-}
-
-/// Whether nothing more of a field stands here.
-#[tactic(auto, unfolding(swc_ecma_parser_grammar::specs::Ends::ends_at))]
-fn ends_at<P: Source>(p: &P) -> bool
-    ensures { result ≡ ends.ends_at (P.seen p.now).at }
-{
-    p.sees(TokenKind::Semi) || can_end(p)
-}
 
 /// The end of a field, which is recorded where it is missing.
 #[tactic(auto, unfolding(swc_ecma_parser_reader::specs::Members::field_end))]

@@ -24,7 +24,7 @@ use Rattle.swc_ecma_parser_reader.specs.State.{State, Reader, moved, coded, with
 use Rattle.swc_ecma_parser_reader.specs.Methods.{star}
 use Rattle.swc_ecma_parser_reader.specs.Expressions.{Cover}
 use Rattle.swc_ecma_parser_reader.specs.Reader as reader
-use Rattle.swc_ecma_parser_reader.specs.Reader.{decorated_in, declarators, items, closes, close, no_label, note_statement, optional_end, head, note_with, as_init, as_left, head_part, misdeclared, await_here, opening, link, alternative, target, unbroken, uncontinued, operand, misplaced, clauses, braced, handler, finalizer, handled, labelled_body, relabels, function_word, named, top_await, goes_on, Opening, begins_label, unless_awaited, empty, debugger, variables, block, block_from, expr_stmt, expr_stmt_at, import_stmt, import_stmt_at, thrown, throw, while_stmt, with_stmt, do_while, for_parts, for_in, for_of, for_behind, for_stmt, links, if_stmt, break_stmt, continue_stmt, returned, return_stmt, labeled_stmt, other_stmt, switch_stmt, try_stmt, function_parts, function_decl, function_stmt, const_stmt, let_stmt, async_or_other, stmt_by, stmt_level, stmt, whole_stmt, expr, head_cover, pattern, member, misusing, using_from, using_stmt, using_or_other, await_using_stmt, plain_stmt, declaration_end, stray}
+use Rattle.swc_ecma_parser_reader.specs.Reader.{decorated_in, declarators, items, closes, close, no_label, note_statement, optional_end, head, note_with, as_init, as_left, head_part, misdeclared, await_here, opening, link, alternative, target, unbroken, uncontinued, operand, misplaced, clauses, braced, handler, finalizer, handled, labelled_body, relabels, function_word, named, top_await, goes_on, Opening, begins_label, unless_awaited, empty, debugger, variables, block, block_from, stmt_end, expr_stmt, expr_stmt_at, import_stmt, import_stmt_at, thrown, throw, while_stmt, with_stmt, do_while, for_parts, for_in, for_of, for_behind, for_stmt, links, if_stmt, break_stmt, continue_stmt, returned, return_stmt, labeled_stmt, other_stmt, switch_stmt, try_stmt, function_parts, function_decl, function_stmt, const_stmt, let_stmt, async_or_other, stmt_by, stmt_level, stmt, whole_stmt, expr, head_cover, pattern, member, misusing, using_from, using_stmt, using_or_other, await_using_stmt, plain_stmt, declaration_end, stray}
 use Rattle.swc_ecma_parser_reader.proofs.Meets.{Meets, always, meets_then, meets_if, wanted_meets, too_deep_meets, refuse_meets}
 use Rattle.swc_ecma_parser_reader.proofs.SoundParts.{after_return_meets}
 use Rattle.swc_ecma_parser_reader.proofs.expressions.SoundSteps.{reject_meets}
@@ -36,7 +36,7 @@ abbrev pub IsStatement : Tree → State → Type 0
 IsStatement x t = is_module_decl x ≡ false
 
 module _ (inner : Position → Reader Tree) (inner_expr : Class → Reader Tree) (inner_pat : Reader Tree)
-    (inner_head : Reader Cover) (inner_params : Reader (List Tree)) (inner_member : Reader Tree) where
+    (inner_head : Reader Cover) (inner_params : Reader (List Tree)) (inner_member : Reader Tree) (inner_operators : Span → Tree → Reader Tree) where
   debugger_form : (s : State) → Meets IsStatement (debugger s)
   unfolding debugger
   debugger_form s = always _ (end faults.Expected (moved s)) _ (λ _ t. refl)
@@ -49,12 +49,12 @@ module _ (inner : Position → Reader Tree) (inner_expr : Class → Reader Tree)
   unfolding block block_from
   block_form p s = always _ (items p closes false (moved s)) _ (λ xs t. always _ (close t) _ (λ _ u. refl))
 
-  expr_stmt_form : (p : Reader Tree) (s : State) → Meets IsStatement (expr_stmt p s)
+  expr_stmt_form : (p : Reader Tree) (s : State) → Meets IsStatement (expr_stmt p inner_operators s)
   unfolding expr_stmt
   expr_stmt_form p s = always _ (within with_in p s) _ (λ x t. always _ (no_label x t) _ (λ _ u. always _ (note_statement x u) _ (λ _ v.
-      always _ (end faults.ExpectedSemiForExprStmt v) _ (λ _ w. refl))))
+      always _ (stmt_end inner_operators (span_at s.at) x v) _ (λ _ w. refl))))
 
-  expr_stmt_at_form : (p : Reader Tree) (at : Position) (s : State) → Meets IsStatement (expr_stmt_at p at s)
+  expr_stmt_at_form : (p : Reader Tree) (at : Position) (s : State) → Meets IsStatement (expr_stmt_at p inner_operators at s)
   unfolding expr_stmt_at
   expr_stmt_at_form p at s = meets_if _ (may_begin_expression_statement at s.at) _ _ (λ _. expr_stmt_form p s) (λ _. wanted_meets _ faults.Unexpected s)
 
@@ -161,7 +161,7 @@ module _ (inner : Position → Reader Tree) (inner_expr : Class → Reader Tree)
   labeled_form s = always _ (reference faults.ExpectedIdent s) _ (λ i t. always _ (expect kind.Colon t) _ (λ _ u. always _ (labelled_body inner i.sym u) _ (λ x v.
       always _ (relabels (tree.ident i.span i.sym) x v) _ (λ _ w. refl))))
 
-  other_form : (p : Reader Tree) (at : Position) (s : State) → Meets IsStatement (other_stmt inner p at s)
+  other_form : (p : Reader Tree) (at : Position) (s : State) → Meets IsStatement (other_stmt inner p inner_operators at s)
   unfolding other_stmt
   other_form p at s = meets_if _ (begins_label s.code s.at) _ _ (λ _. labeled_form s) (λ _. expr_stmt_at_form p at s)
 
@@ -184,7 +184,7 @@ module _ (inner : Position → Reader Tree) (inner_expr : Class → Reader Tree)
   unfolding class_stmt
   class_stmt_form p at s = meets_if _ at.include_decl _ _ (λ _. class_form p s) (λ _. always _ (fault (fault_at (span_at s.at) faults.DeclNotAllowed) s) _ (λ _ t. class_form p t))
 
-  const_form : (at : Position) (s : State) → Meets IsStatement (const_stmt inner inner_expr inner_pat inner_head inner_params inner_member at s)
+  const_form : (at : Position) (s : State) → Meets IsStatement (const_stmt inner inner_expr inner_pat inner_head inner_params inner_member inner_operators at s)
   unfolding const_stmt
   const_form at s = by_place at.include_decl
     where
@@ -196,11 +196,11 @@ module _ (inner : Position → Reader Tree) (inner_expr : Class → Reader Tree)
   unfolding using_stmt using_from misusing
   using_form s = always _ (within with_in (declarators inner_expr inner_pat false decl.Var) (moved s)) _ (λ xs t. always _ (misusing (record { lo = (span_at s.at).lo; hi = t.at.last.hi }) xs t) _ (λ _ u. refl))
 
-  using_or_other_form : (at : Position) (s : State) → Meets IsStatement (using_or_other inner inner_expr inner_pat inner_head inner_params inner_member at s)
+  using_or_other_form : (at : Position) (s : State) → Meets IsStatement (using_or_other inner inner_expr inner_pat inner_head inner_params inner_member inner_operators at s)
   unfolding using_or_other
   using_or_other_form at s = meets_if _ (at.include_decl && is_using_declaration s.code s.at) _ _ (λ _. using_form s) (λ _. other_form _ at s)
 
-  by_form : (at : Position) (j : TokenKind) (s : State) → Meets IsStatement (stmt_by inner inner_expr inner_pat inner_head inner_params inner_member at j s)
+  by_form : (at : Position) (j : TokenKind) (s : State) → Meets IsStatement (stmt_by inner inner_expr inner_pat inner_head inner_params inner_member inner_operators at j s)
   unfolding empty if_stmt let_stmt async_or_other
   by_form at kind.LBrace s = block_form _ s
   by_form at kind.Semi s = refl
@@ -254,8 +254,8 @@ stmt_form : (n : ℕ) (at : Position) (s : State) → Meets IsStatement (stmt n 
 unfolding stmt stmt_level
 stmt_form zero at s = too_deep_meets _ s
 stmt_form (suc n) at s = either_form (plain_stmt n) at
-    (λ t. first_meets (declarators (expr n) (pattern n) false decl.Var) (reader.nests n) (stmt_level (stmt n) (expr n) (pattern n) (head_cover n) (reader.parameters n) (member n)) at IsStatement t
-    (λ _. await_using_form (declarators (expr n) (pattern n) false decl.Var) t) (by_form (stmt n) (expr n) (pattern n) (head_cover n) (reader.parameters n) (member n) at (kind_at t.at) t)) (decorated_in n) s
+    (λ t. first_meets (declarators (expr n) (pattern n) false decl.Var) (reader.nests n) (stmt_level (stmt n) (expr n) (pattern n) (head_cover n) (reader.parameters n) (member n) (reader.operators n)) at IsStatement t
+    (λ _. await_using_form (declarators (expr n) (pattern n) false decl.Var) t) (by_form (stmt n) (expr n) (pattern n) (head_cover n) (reader.parameters n) (member n) (reader.operators n) at (kind_at t.at) t)) (decorated_in n) s
 
 pub whole_form : (n : ℕ) (at : Position) (s : State) → Meets IsStatement (whole_stmt n at s)
 unfolding whole_stmt

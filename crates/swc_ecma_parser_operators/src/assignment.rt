@@ -10,10 +10,7 @@ ghost use Rattle.swc_ecma_parser_reader.specs.Heads as heads;
 ghost use Rattle.swc_ecma_parser_reader.specs.Reader as rules;
 ghost use Rattle.swc_ecma_parser_reader.specs.State.{GivesAs};
 
-use crate::operator::{
-    assigns_here, behind_operators, binary_from, operator_here, plain_expr, postfixed,
-    sequence_from,
-};
+use crate::operator::{assigns_here, behind_operators, plain_expr, postfixed, sequence_from};
 use swc_ecma_parser_common::Span;
 use swc_ecma_parser_error::PResult;
 use swc_ecma_parser_functions::arrows::{arrow_of_one, only_parameter};
@@ -21,6 +18,7 @@ use swc_ecma_parser_functions::awaits::awaited;
 use swc_ecma_parser_grammar::{Class, Position};
 use swc_ecma_parser_inner::cover::{Cover, Reading, close, done, nested, target};
 use swc_ecma_parser_inner::grammar::{Grammar, Part};
+use swc_ecma_parser_inner::operators::{Operands, binary_from, operator_here};
 use swc_ecma_parser_inner::steps::{grown, since};
 use swc_ecma_parser_left::left::left_from;
 use swc_ecma_parser_literals::array::array;
@@ -57,7 +55,7 @@ pub(crate) fn continued<
 {
     let x = left_from(g, t, p, true, start, x)?;
     let x = postfixed::<P, T>(t.alloc, p, start, x)?;
-    let x = binary_from(g, t, p, 1, start, x)?;
+    let x = binary_from(g, t, p, Operands::Nested, 1, start, x)?;
     behind_operators(g, t, p, false, start, x)
 }
 
@@ -259,7 +257,7 @@ pub fn expr_behind_await<
     ensures { GivesAs (cover_of T.expr_of) (words.awaited_expr (rules.expr g.now.depth) (rules.cover g.now.depth) (rules.function g.now.depth) start (P.seen p.old)) result (P.seen p.new) }
 {
     let x = awaited(g, t, p, start)?;
-    let x = binary_from(g, t, p, 1, start, x)?;
+    let x = binary_from(g, t, p, Operands::Nested, 1, start, x)?;
     let x = behind_operators(g, t, p, false, start, x)?;
     if !p.sees(TokenKind::Comma) {
         return Ok(done(x));

@@ -3,7 +3,6 @@
 ghost use Rattle.std.specs.Prelude.{◌≡◌, ◌&&◌, IfOk, map};
 ghost use Rattle.swc_ecma_parser_error.specs.Kind.{kind_of};
 ghost use Rattle.swc_ecma_parser_grammar.specs.language.Continues.{continues_conditional};
-ghost use Rattle.swc_ecma_parser_grammar.specs.language.Operators as operators;
 ghost use Rattle.swc_ecma_parser_inner.specs.Nests.{Nests};
 ghost use Rattle.swc_ecma_parser_reader.specs.Classes.{class_of};
 ghost use Rattle.swc_ecma_parser_reader.specs.Expressions as exprs;
@@ -21,13 +20,11 @@ use swc_ecma_parser_functions::yields::{begins_yield, yield_expr};
 use swc_ecma_parser_grammar::{Class, Position};
 use swc_ecma_parser_inner::cover::{Cover, Reading, inside, nested};
 use swc_ecma_parser_inner::grammar::{Grammar, Part};
+use swc_ecma_parser_inner::operators::{Operands, binary_from};
 use swc_ecma_parser_inner::steps::{grown, pushed, since};
 use swc_ecma_parser_left::left::{left, left_expr};
-use swc_ecma_parser_model::{AssignOp, BinaryOp, UnaryOp, UpdateOp};
-use swc_ecma_parser_source::{
-    Source, Wanted, assign_operator, binary_operator, groups_left, mixes, precedence,
-    unary_operator, update_operator,
-};
+use swc_ecma_parser_model::{AssignOp, UnaryOp, UpdateOp};
+use swc_ecma_parser_source::{Source, Wanted, assign_operator, unary_operator, update_operator};
 use swc_ecma_parser_token::TokenKind;
 use swc_ecma_parser_trees::{
     BuildsCall, BuildsExpr, BuildsMethod, BuildsOperator, BuildsPattern, MakerOf,
@@ -167,124 +164,6 @@ fn unary_expr<
     postfix(g, t, p)
 }
 
-/// Refuses a unary operator left of `**`.
-#[tactic(auto, unfolding(swc_ecma_parser_reader::specs::Expressions::left_operand))]
-fn left_operand<P: Source, T: BuildsOperator>(p: &mut P, op: BinaryOp, x: &T::Expr) -> PResult<()>
-    ensures { Gives (exprs.left_operand op (T.expr_of x.now) (P.seen p.old)) result (P.seen p.new) }
-{
-    if !groups_left(op) && (T::is_unary(x) || T::is_await(x)) {
-        return Err(p.reject(SyntaxError::UnaryInExp, T::expr_span(x)));
-    }
-    Ok(())
-}
-
-/// Whether an operator does not stand beside that of an operand.
-fn mixes_with<T: BuildsOperator>(op: BinaryOp, x: &T::Expr) -> bool
-    ensures { result ≡ operators.mixes op (T.expr_of x.now) }
-{
-    match T::binary_operator(x) {
-        Some(inner) => mixes(op, inner),
-        None => false,
-    }
-}
-
-/// An operator between two operands that were read from a place on.
-#[tactic(auto, unfolding(swc_ecma_parser_reader::specs::Expressions::unmixed))]
-fn unmixed<P: Source, T: BuildsOperator>(
-    alloc: Global,
-    p: &mut P,
-    start: Span,
-    op: BinaryOp,
-    x: T::Expr,
-    y: T::Expr,
-) -> PResult<T::Expr>
-    ensures { GivesAs T.expr_of (exprs.unmixed start op (T.expr_of x) (T.expr_of y) (P.seen p.old)) result (P.seen p.new) }
-{
-    let span = since(p, start);
-    if mixes_with::<T>(op, &x) || mixes_with::<T>(op, &y) {
-        return Err(p.reject(SyntaxError::NullishCoalescingWithLogicalOp, span));
-    }
-    grown(p, T::bin(alloc, span, op, x, y))
-}
-
-/// The class of the right operand.
-fn right_class(op: BinaryOp) -> Class
-    ensures { class_of result ≡ exprs.right_class op }
-{
-    let tightness = precedence(op);
-    Class::Operator(if groups_left(op) {
-        tightness + 1
-    } else {
-        tightness
-    })
-}
-
-/// An operator and its right operand, behind what was read from a place on.
-#[tactic(auto, unfolding(swc_ecma_parser_reader::specs::Expressions::operated))]
-fn operated<
-    P: Source,
-    T: BuildsOperator,
-    S: Fn(&MakerOf<T>, &mut P, usize, Position) -> PResult<T::Stmt>,
-    E: Fn(&MakerOf<T>, &mut P, usize, Reading) -> PResult<Cover<T::Expr>>,
-    N: Fn(&MakerOf<T>, &mut P, usize, Part) -> PResult<T::Pat>,
->(
-    g: &Grammar<S, E, N>,
-    t: &MakerOf<T>,
-    p: &mut P,
-    start: Span,
-    x: T::Expr,
-    op: BinaryOp,
-) -> PResult<T::Expr>
-    requires { Nests P.seen T.expr_of T.pat_of T.stmt_of g.now.depth (S.pre g.now.stmt) (S.post g.now.stmt) (E.pre g.now.expr) (E.post g.now.expr) (N.pre g.now.pat) (N.post g.now.pat) }
-    ensures { GivesAs (T.expr_of) (exprs.operated (rules.expr g.now.depth) (rules.cover g.now.depth) start (T.expr_of x) op (P.seen p.old)) result (P.seen p.new) }
-{
-    left_operand::<P, T>(p, op, &x)?;
-    p.skip()?;
-    let y = nested(g, t, p, right_class(op))?;
-    unmixed::<P, T>(t.alloc, p, start, op, x, y)
-}
-
-/// The operator that stands here, where it is read and binds at least so tightly.
-#[tactic(auto, unfolding(swc_ecma_parser_reader::specs::Expressions::operator_at))]
-pub(crate) fn operator_here<P: Source>(p: &P, n: usize) -> Option<BinaryOp>
-    ensures { result ≡ exprs.operator_at n (P.seen p.now) }
-{
-    match binary_operator(p.kind()) {
-        Some(BinaryOp::In) if !p.flags().include_in_expr => None,
-        Some(op) if n <= precedence(op) => Some(op),
-        _ => None,
-    }
-}
-
-/// The operators that bind at least so tightly, behind an operand that was read from a place on.
-#[tactic(auto, unfolding(swc_ecma_parser_reader::specs::Expressions::binary_from), using(swc_ecma_parser_reader::proofs::expressions::Loops::binary_done, swc_ecma_parser_reader::proofs::expressions::Loops::binary_more, swc_ecma_parser_reader::proofs::expressions::Loops::binary_err, swc_ecma_parser_reader::proofs::expressions::Loops::operated_shorter))]
-#[inline(never)]
-pub(crate) fn binary_from<
-    P: Source,
-    T: BuildsOperator,
-    S: Fn(&MakerOf<T>, &mut P, usize, Position) -> PResult<T::Stmt>,
-    E: Fn(&MakerOf<T>, &mut P, usize, Reading) -> PResult<Cover<T::Expr>>,
-    N: Fn(&MakerOf<T>, &mut P, usize, Part) -> PResult<T::Pat>,
->(
-    g: &Grammar<S, E, N>,
-    t: &MakerOf<T>,
-    p: &mut P,
-    n: usize,
-    start: Span,
-    x: T::Expr,
-) -> PResult<T::Expr>
-    requires { Nests P.seen T.expr_of T.pat_of T.stmt_of g.now.depth (S.pre g.now.stmt) (S.post g.now.stmt) (E.pre g.now.expr) (E.post g.now.expr) (N.pre g.now.pat) (N.post g.now.pat) }
-    ensures { GivesAs (T.expr_of) (exprs.binary_from (rules.expr g.now.depth) (rules.cover g.now.depth) n start (T.expr_of x) (P.seen p.old)) result (P.seen p.new) }
-{
-    let mut x = x;
-    'operators: loop {
-        match operator_here(p, n) {
-            Some(op) => x = operated(g, t, p, start, x, op)?,
-            None => return Ok(x),
-        }
-    }
-}
-
 /// Operands and operators that bind at least so tightly: sections 13.6 to 13.13.
 #[tactic(auto, unfolding(swc_ecma_parser_reader::specs::Expressions::binary_expr))]
 fn binary_expr<
@@ -299,7 +178,7 @@ fn binary_expr<
 {
     let start = p.span();
     let x = unary_expr(g, t, p)?;
-    binary_from(g, t, p, n, start, x)
+    binary_from(g, t, p, Operands::Nested, n, start, x)
 }
 
 /// Whether an assignment operator stands here.

@@ -3,7 +3,6 @@
 use Rattle.std.proofs.Common.{◌≡◌, ℕ, zero, suc, ◌-◌, ◌<◌, Bool, true, false, cond, List, Ok, Err, refl, sym, ◌∙◌, ap, codes, ◌≢◌}
 use Rattle.std.specs.Prelude.{◌&&◌, ◌||◌}
 use Rattle.swc_ecma_parser_common.specs.declared.span.Span.{Span}
-use Rattle.swc_ecma_parser_error.specs.Kind as faults
 use Rattle.swc_ecma_parser_error.specs.Kind.{Fault}
 use Rattle.swc_ecma_parser_token.specs.declared.kind.TokenKind.TheVariants as kind
 use Rattle.swc_ecma_parser_input.specs.Place.{Place, after}
@@ -22,13 +21,13 @@ use Rattle.swc_ecma_parser_grammar.specs.language.Goals.{Class, expression}
 use Rattle.swc_ecma_parser_grammar.proofs.StatementBegins.{word_place}
 use Rattle.swc_ecma_parser_grammar.proofs.Tests.{and_yes, and_no}
 use Rattle.swc_ecma_parser_grammar.proofs.Using.{using_identifier}
-use Rattle.swc_ecma_parser_reader.specs.State.{State, Outcome, Reader, and_then, moved, coded, flagged, fault_at, too_deep, ◌>>=◌, ◌>>◌, pure, since, end}
+use Rattle.swc_ecma_parser_reader.specs.State.{State, Outcome, Reader, and_then, moved, coded, flagged, fault_at, too_deep, ◌>>=◌, ◌>>◌, pure, since}
 use Rattle.swc_ecma_parser_reader.specs.Methods.{FunctionForm}
 use Rattle.swc_ecma_parser_reader.specs.Yields.{begins_yield}
 use Rattle.swc_ecma_parser_reader.specs.Arrows.{begins_named_arrow}
 use Rattle.swc_ecma_parser_reader.specs.AsyncArrows.{begins_async_arrow}
 use Rattle.swc_ecma_parser_reader.specs.Expressions.{Cover, done, close, misplaced_await, sequence_from, begins_async_call, await_allowed, await_expr, unary_expr, binary_expr, operators_expr, plain_expr, done_expr, cover_expr, assignment_expr, expression_expr, expr_level}
-use Rattle.swc_ecma_parser_reader.specs.Reader.{begins_label, other_stmt, expr_stmt, expr_stmt_at, declarators, await_using_stmt, await_using_or, stmt_level, stmt, expr, cover, head_cover, pattern, parameters, member, function, nests, plain_stmt, no_label, note_statement}
+use Rattle.swc_ecma_parser_reader.specs.Reader.{begins_label, other_stmt, expr_stmt, expr_stmt_at, declarators, await_using_stmt, await_using_or, stmt_level, stmt, expr, cover, head_cover, pattern, parameters, member, operators, function, nests, plain_stmt, no_label, note_statement, stmt_end}
 use Rattle.swc_ecma_parser_reader.specs.AwaitWords.{begins_await_using, awaited, awaited_binary, awaited_operators, awaited_expr, behind_await, expr_stmt_behind, stmt_behind_await}
 use Rattle.swc_ecma_parser_reader.proofs.Errors.{is_error, fault_here}
 use Rattle.swc_ecma_parser_reader.proofs.First.{not_first, is_first}
@@ -130,34 +129,34 @@ expr_goes zero s a w h = cc
 expr_goes (suc n) s a w h = expression_goes (expr n) (cover n) (function n) s a w
 
 -- what ends an expression statement
-abbrev ended : Span → Tree → Reader Tree
-ended start x = do
+abbrev ended : (Span → Tree → Reader Tree) → Span → Tree → Reader Tree
+ended operations start x = do
   no_label x
   note_statement x
-  end faults.ExpectedSemiForExprStmt
+  y ← stmt_end operations start x
   span ← since start
-  pure (tree.expr_stmt span x)
+  pure (tree.expr_stmt span y)
 
 expr_stmt_goes : (n : ℕ) (s : State) → kind_at s.at ≡ kind.Await → word_at (codes "using") (after s.at) ≡ true → nests n ≡ true
-    → expr_stmt (expr n expression) s ≡ expr_stmt_behind (behind_await n (span_at s.at)) (span_at s.at) (moved s)
+    → expr_stmt (expr n expression) (operators n) s ≡ expr_stmt_behind (behind_await n (span_at s.at)) (operators n) (span_at s.at) (moved s)
 unfolding expr_stmt expr_stmt_behind spanned
 expr_stmt_goes n s a w h = let m = coded (with_in s.code) s in
-    within_done (expr n expression m) s.code (ended (span_at s.at))
-    ∙ ap (λ o. and_then (and_then o (λ v t. Ok (v, flagged s.code t))) (λ v t. ended (span_at s.at) v.x t)) (sym (expr_goes n m a w h))
+    within_done (expr n expression m) s.code (ended (operators n) (span_at s.at))
+    ∙ ap (λ o. and_then (and_then o (λ v t. Ok (v, flagged s.code t))) (λ v t. ended (operators n) (span_at s.at) v.x t)) (sym (expr_goes n m a w h))
 
 module _ (n : ℕ) (at : Position) (s : State) where
   abbrev found : Reader (List Tree)
   found = declarators (expr n) (pattern n) false decl.Var
 
   abbrev rest : Position → Reader Tree
-  rest = stmt_level (stmt n) (expr n) (pattern n) (head_cover n) (parameters n) (member n)
+  rest = stmt_level (stmt n) (expr n) (pattern n) (head_cover n) (parameters n) (member n) (operators n)
 
   module _ (a : kind_at s.at ≡ kind.Await) (w : word_at (codes "using") (after s.at) ≡ true) where
     label_free : begins_label s.code s.at ≡ false
     unfolding begins_label same_kind
     label_free = and_no (name_at s.code.flags s.at) _ (rw (word_place (codes "using") (after s.at) w) refl)
 
-    level_goes : nests n ≡ true → rest at s ≡ expr_stmt_behind (behind_await n (span_at s.at)) (span_at s.at) (moved s)
+    level_goes : nests n ≡ true → rest at s ≡ expr_stmt_behind (behind_await n (span_at s.at)) (operators n) (span_at s.at) (moved s)
     unfolding stmt_level other_stmt expr_stmt_at
     level_goes h = rw (a, label_free, may_begin s.at a at) (expr_stmt_goes n s a w h)
 

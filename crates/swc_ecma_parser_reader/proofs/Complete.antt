@@ -11,7 +11,7 @@ use Rattle.swc_ecma_parser_grammar.specs.Own.{labelled_function, duplicates, mis
 use Rattle.swc_ecma_parser_grammar.specs.Reads.{labeled_rule, with_rule, class_rule, function_rule, ReadsFunction, ReadsFunctionExpr, ReadsParts, OwnNameRule, no_own_name_rule, own_name_rule, ReadsBraced, InitRule, LeftRule, OfLeftRule, PartRule, no_part_rule, part_rule, for_rule, for_in_rule, for_of_rule, with_in, nested_item, ReadsToken, ReadsItems, break_rule, continue_rule, return_rule, StmtRule, block_rule, empty_rule, debugger_rule, variables_rule, if_statement_rule, CaseRule, case_clause_rule, default_clause_rule, ReadsCases, switch_rule, throw_rule, try_rule, while_rule, do_while_rule, expr_rule, import_rule, ReadsBlock, CatchRule, no_catch_rule, catch_rule, catch_parameter_rule, FinallyRule, no_finally_rule, finally_rule, ReadsHead, IfRule, if_rule, no_else_rule, else_rule, else_if_rule, using_rule, ReadsSeparated, DeclaratorRule}
 use Rattle.swc_ecma_parser_grammar.specs.Names.{is_name, first_is_identifier, identifier_at, Code}
 use Rattle.swc_ecma_parser_grammar.specs.language.Items.{labelled_item, sub_statement}
-use Rattle.swc_ecma_parser_reader.specs.Reader.{begins_label, relabels, labelled_body, labeled_stmt, other_stmt, with_stmt, await_here, misdirected, function_body, function_parts, function_decl, function_stmt, function_word, async_or_other, head_part, misdeclared, for_parts, for_in, for_of, for_behind, for_stmt, const_stmt, let_stmt, getter, setter, plain_method, arrow_block, named, own_name, function_expr, expr, cover, head_cover, pattern, element, decorated_in, member, parameters, function, function_by, closes, block_from, block, braced, expr_stmt_at, import_stmt_at, while_stmt, do_while, goes_on, closed_link, alternative, link_from, link, if_stmt, begins_clause, closes_clause, clause_from, default_clause, case_clause, clause, clauses_turn, clauses, switch_stmt, is_handled, handled, bound, parameter, finalizer, caught, handler, try_stmt, stmt_level, stmt, using_or_other, plain_stmt}
+use Rattle.swc_ecma_parser_reader.specs.Reader.{begins_label, relabels, labelled_body, labeled_stmt, other_stmt, with_stmt, await_here, misdirected, function_body, function_parts, function_decl, function_stmt, function_word, async_or_other, head_part, misdeclared, for_parts, for_in, for_of, for_behind, for_stmt, const_stmt, let_stmt, getter, setter, plain_method, arrow_block, named, own_name, function_expr, expr, cover, head_cover, pattern, element, decorated_in, member, parameters, function, function_by, closes, block_from, block, braced, expr_stmt_at, import_stmt_at, while_stmt, do_while, goes_on, closed_link, alternative, link_from, link, if_stmt, begins_clause, closes_clause, clause_from, default_clause, case_clause, clause, clauses_turn, clauses, switch_stmt, is_handled, handled, bound, parameter, finalizer, caught, handler, try_stmt, stmt_level, stmt, using_or_other, operators, plain_stmt}
 use Rattle.swc_ecma_parser_grammar.proofs.Marks.{no_word}
 use Rattle.swc_ecma_parser_reader.proofs.Opens.{unopened, let_stands, let_before_colon, opened, no_block_or_import, import_stands, stmt_goes}
 use Rattle.swc_ecma_parser_reader.proofs.expressions.SoundLefts.{word_stands}
@@ -613,7 +613,7 @@ module _ (n : ℕ) (below : Below n) (reads : (at : Position) (k : Code) (x : Tr
 
   -- a function where declarations are read, or an async one
   function_statement : {b : Bool} (at : Position) (k : Code) (x : Tree) (c d m : Place) → at.include_decl || is_async_function c ≡ true → AsyncWord b c m → kind_at m ≡ kind.Function
-      → ReadsCalm (function_decl (stmt n nested_item) (parameters n)) k x c d → ReadsCalm (stmt_level (stmt n) (expr n) (pattern n) (head_cover n) (parameters n) (member n) at) k x c d
+      → ReadsCalm (function_decl (stmt n nested_item) (parameters n)) k x c d → ReadsCalm (stmt_level (stmt n) (expr n) (pattern n) (head_cover n) (parameters n) (member n) (operators n) at) k x c d
   unfolding stmt_level function_stmt async_or_other
   function_statement at k x c d m a (not_async i j) e reads w f h q =
       let v = ap kind_at (sym j) ∙ e in rw (v, or_earlier at.include_decl (is_async_function c) a (plain_function c v)) (reads w f h q)
@@ -621,7 +621,7 @@ module _ (n : ℕ) (below : Below n) (reads : (at : Position) (k : Code) (x : Tr
 
   -- `await using` is read before
   by_rules : (at : Position) (k : Code) (x : Tree) (c d : Place) → is_await_using_declaration at k c ≡ false → StmtRule (ReadsStmt n) (ReadsClass n) (ReadsPat n) (ReadsTarget n) (ReadsParams n) (ReadsNamedClass n) k at x c d
-      → ReadsCalm (stmt_level (stmt n) (expr n) (pattern n) (head_cover n) (parameters n) (member n) at) k x c d
+      → ReadsCalm (stmt_level (stmt n) (expr n) (pattern n) (head_cover n) (parameters n) (member n) (operators n) at) k x c d
   unfolding stmt_level other_stmt const_stmt let_stmt expr_stmt_at import_stmt_at function_stmt class_stmt async_or_other using_or_other
   by_rules at k x c d n' (class_rule name y a r b e) w f h q = rw (r.0.is_class, a) (class_decl_reads n below members k x c d name y r b e w f h)
   by_rules at k x c d n' (function_rule a r) w f h q = function_statement at k x c d r.word a r.reads_async r.is_function (function_reads k x c d r) w f h q
@@ -647,7 +647,7 @@ module _ (n : ℕ) (below : Below n) (reads : (at : Position) (k : Code) (x : Tr
   by_rules at k x c d n' (for_of_rule b a g y l m i e v o r s t z j p) w f h q = rw e (for_of_reads b a g y l m i k x c d v o r s t z j p w f h q)
   by_rules at k x c d n' (labeled_rule v s y m r o i t e) w f h q =
       let b = name_begins k.flags v s c m r o in
-      opened (stmt n) (expr n) (pattern n) (head_cover n) (parameters n) (member n) at (st c k w f h) (kind_at c) (word_begins k.flags v s c m r o) (no_brace v s c m r) b (name_no_const k.flags v s c m r o)
+      opened (stmt n) (expr n) (pattern n) (head_cover n) (parameters n) (member n) (operators n) at (st c k w f h) (kind_at c) (word_begins k.flags v s c m r o) (no_brace v s c m r) b (name_no_const k.flags v s c m r o)
       (and_no at.include_decl _ (let_before_colon c (seen (after c) kind.Colon (ap kind_at (sym r.next) ∙ i)))) (name_no_function k.flags v s c m r o) (kinds.no_async_function c m r.next (colon_no_function m i)) (name_no_class k.flags v s c m r o)
       (and_no at.include_decl _ (no_using_before k c (seen (after c) kind.Colon (ap kind_at (sym r.next) ∙ i))))
       ∙ rw (label_begins k v s c m r o i) (labeled_reads v s y m k x c d r o i t e w f h q)
@@ -658,7 +658,7 @@ module _ (n : ℕ) (below : Below n) (reads : (at : Position) (k : Code) (x : Tr
   by_rules at k x c d n' (do_while_rule y z m i e s j r g o) w f h q = rw e (do_while_reads y z m i k x c d s j r g o w f h)
   by_rules at k x c d n' (expr_rule e m b r l i g j) w f h q =
       let o = no_block_or_import at c b in
-      opened (stmt n) (expr n) (pattern n) (head_cover n) (parameters n) (member n) at (st c k w f h) (kind_at c) (expr_opens n (with_in k) e c m r) o.0 o.1 (expr_no_const n (with_in k) e c m r) o.2 o.3 o.4 o.5
+      opened (stmt n) (expr n) (pattern n) (head_cover n) (parameters n) (member n) (operators n) at (st c k w f h) (kind_at c) (expr_opens n (with_in k) e c m r) o.0 o.1 (expr_no_const n (with_in k) e c m r) o.2 o.3 o.4 o.5
       (and_no at.include_decl _ (no_using_here n k (with_in k) e c m d r.0 g))
       ∙ rw (no_label_here n below k e c m r l, b) (expr_stmt_reads n below e m k x c d r l i g j w f h)
   by_rules at k x c d n' (import_rule e m b r g j) w f h q = rw (import_stands c b, b) (import_stmt_reads n below e m k x c d b r g j w f h)

@@ -21,7 +21,7 @@ use Rattle.swc_ecma_parser_grammar.proofs.StatementBegins.{word_place}
 use Rattle.swc_ecma_parser_grammar.proofs.Using.{using_stands}
 use Rattle.swc_ecma_parser_grammar.proofs.AwaitUsing.{no_await_statement, no_await_label, declares_behind_await, behind_await_declares}
 use Rattle.swc_ecma_parser_reader.specs.State.{Reader}
-use Rattle.swc_ecma_parser_reader.specs.Reader.{declarators, expr, pattern, await_using_stmt, nests, stmt_level, stmt, head_cover, parameters, member, plain_stmt}
+use Rattle.swc_ecma_parser_reader.specs.Reader.{declarators, expr, pattern, await_using_stmt, nests, stmt_level, stmt, head_cover, parameters, member, operators, plain_stmt}
 use Rattle.swc_ecma_parser_reader.proofs.Meets.{saw}
 use Rattle.swc_ecma_parser_reader.proofs.Answered.{ReadsCalm, st}
 use Rattle.swc_ecma_parser_reader.proofs.Below.{Below}
@@ -80,7 +80,7 @@ module _ (n : ℕ) (below : Below n) where
   found = declarators (expr n) (pattern n) false decl.Var
 
   abbrev rest : Position → Reader Tree
-  rest = stmt_level (stmt n) (expr n) (pattern n) (head_cover n) (parameters n) (member n)
+  rest = stmt_level (stmt n) (expr n) (pattern n) (head_cover n) (parameters n) (member n) (operators n)
 
   abbrev pub AwaitUsing : Code → Tree → Place → Place → Type 0
   AwaitUsing k x c d = ReadsCalm (await_using_stmt (declarators (expr n) (pattern n) false decl.Var)) k x c d × (nests n ≡ true)

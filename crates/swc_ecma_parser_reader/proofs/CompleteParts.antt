@@ -12,7 +12,8 @@ use Rattle.swc_ecma_parser_reader.specs.Notes.{no_notes, Notes, held, ◌⊕◌,
 use Rattle.swc_ecma_parser_grammar.proofs.Tests.{and_yes}
 use Rattle.swc_ecma_parser_grammar.proofs.Marks.{name_before_colon}
 use Rattle.swc_ecma_parser_grammar.specs.Names.{is_name, is_reserved, name_at, is_clean_name, is_identifier, Code}
-use Rattle.swc_ecma_parser_reader.specs.Reader.{begins_label, note_with, expr, pattern, told, target, unbroken, break_stmt, uncontinued, continue_stmt, misplaced, operand, returned, return_stmt, empty, debugger, initialized, declarator, declarators_turn, declarators, declaration_end, variables, closes, at_end, close, directs, items_turn, items, note_statement, no_label, expr_stmt, optional_end, import_stmt, thrown, throw, head, condition, begins_clause, closes_clause, shebang_of, shebang_in, shebang, misusing, using_from, using_stmt, await_using_stmt, nests}
+use Rattle.swc_ecma_parser_reader.proofs.StatementEnds.{no_lack}
+use Rattle.swc_ecma_parser_reader.specs.Reader.{begins_label, note_with, expr, pattern, told, target, unbroken, break_stmt, uncontinued, continue_stmt, misplaced, operand, returned, return_stmt, empty, debugger, initialized, declarator, declarators_turn, declarators, declaration_end, variables, closes, at_end, close, directs, items_turn, items, note_statement, no_label, stmt_end, expr_stmt, optional_end, import_stmt, thrown, throw, head, condition, begins_clause, closes_clause, shebang_of, shebang_in, shebang, misusing, using_from, using_stmt, await_using_stmt, nests, operators}
 use Rattle.std.specs.Prelude.{◌&&◌, ◌||◌, codes}
 use Rattle.swc_ecma_parser_common.specs.declared.span.Span.{Span}
 use Rattle.swc_ecma_parser_error.specs.Kind as faults
@@ -341,13 +342,14 @@ unfolding note_with
 note_with_reads span m k w f h o = rw (o, or_nil h.found_module_item) refl
 
 pub expr_stmt_reads : (n : ℕ) (below : Below n) (e : Tree) (m : Place) (k : Code) (x : Tree) (c d : Place) → ReadsClass n expression (with_in k) e c m → is_ident e && sees kind.Colon m ≡ false
-    → k.flags.module && is_ident_named (codes "interface") e ≡ false → Ends m d → x ≡ tree.expr_stmt (spanned c d) e → Reads (expr_stmt (expr n expression)) k x c d
-unfolding expr_stmt no_label
+    → k.flags.module && is_ident_named (codes "interface") e ≡ false → Ends m d → x ≡ tree.expr_stmt (spanned c d) e → Reads (expr_stmt (expr n expression) (operators n)) k x c d
+unfolding expr_stmt stmt_end no_label
 expr_stmt_reads n below e m k x c d r l i g j w f h =
     rw (
       expr_reads n below expression (with_in k) e c m r w f h,
       l,
       note_reads e m k w (f ++ walk (env_of k w.labels) e) (h ⊕ notes_of e) i,
+      no_lack m d g,
       ends_read faults.ExpectedSemiForExprStmt m d k w (f ++ walk (env_of k w.labels) e) ((h ⊕ notes_of e) ⊕ held (statement_note e)) g,
       j,
       append_assoc,

@@ -10,7 +10,7 @@ use Rattle.swc_ecma_parser_reader.proofs.decorators.Falls.{decorated_falls}
 use Rattle.swc_ecma_parser_reader.proofs.decorators.Taking.{either_falls}
 use Rattle.swc_ecma_parser_reader.specs.State.{Scope, and_then, below, relabelled, below_label, enclosed, unlabelled, fault_at, noted, module_found, reference, State, Outcome, Reader, moved, coded, within, fault, labelled, labelled_as, name, expect, end}
 use Rattle.swc_ecma_parser_grammar.specs.language.Items.{labelled_item, sub_statement}
-use Rattle.swc_ecma_parser_reader.specs.Reader.{begins_label, relabels, labelled_body, labeled_stmt, other_stmt, note_with, with_stmt, await_here, unless_awaited, function_body, function_decl, function_parts, function_stmt, misdirected, function_word, async_or_other, missing_initializer, Opening, Nothing, Variables, Expression, as_init, as_left, head_variables, head_expression, opening, head_part, misdeclared, for_parts, for_in, for_of, for_behind, for_stmt, const_stmt, let_stmt, no_parameter, one_parameter, getter, setter, plain_method, arrow_block, function_by, named, own_name, function_expr, expr, cover, head_cover, pattern, element, decorated_in, member, function, empty, debugger, uninitialized, initialized, ends_declarators, missing_at, no_declarator, declarator, declarators_turn, declarators, declaration_end, variables, closes, at_end, close, items_turn, items, block_from, block, braced, note_statement, no_label, expr_stmt, expr_stmt_at, told, target, unbroken, break_stmt, uncontinued, continue_stmt, misplaced, after_return, operand, returned, return_stmt, optional_end, import_stmt, import_stmt_at, thrown, throw, head, while_stmt, do_while, Link, goes_on, condition, alternative, link_from, link, behind_link, links, if_stmt, begins_clause, closes_clause, Clauses, clause_from, default_clause, case_clause, clause, clauses_turn, clauses, switch_stmt, is_handled, handled, bound, parameter, finalizer, caught, handler, try_stmt, stmt_by, stmt_level, stmt, top_await_fault, top_await, whole_stmt, shebang_in, shebang_taken, shebang, script_body, script, misusing, using_from, using_stmt, using_or_other, Resource, Named, undeclared, using_head, named_head, await_or_expression, await_head, async_head, unfollowed, async_or_expression, head_target}
+use Rattle.swc_ecma_parser_reader.specs.Reader.{begins_label, right_operand, relabels, labelled_body, labeled_stmt, other_stmt, note_with, with_stmt, await_here, unless_awaited, function_body, function_decl, function_parts, function_stmt, misdirected, function_word, async_or_other, missing_initializer, Opening, Nothing, Variables, Expression, as_init, as_left, head_variables, head_expression, opening, head_part, misdeclared, for_parts, for_in, for_of, for_behind, for_stmt, const_stmt, let_stmt, no_parameter, one_parameter, getter, setter, plain_method, arrow_block, function_by, named, own_name, function_expr, expr, cover, head_cover, pattern, element, decorated_in, member, function, empty, debugger, uninitialized, initialized, ends_declarators, missing_at, no_declarator, declarator, declarators_turn, declarators, declaration_end, variables, closes, at_end, close, items_turn, items, block_from, block, braced, note_statement, no_label, stmt_end, expr_stmt, expr_stmt_at, told, target, unbroken, break_stmt, uncontinued, continue_stmt, misplaced, after_return, operand, returned, return_stmt, optional_end, import_stmt, import_stmt_at, thrown, throw, head, while_stmt, do_while, Link, goes_on, condition, alternative, link_from, link, behind_link, links, if_stmt, begins_clause, closes_clause, Clauses, clause_from, default_clause, case_clause, clause, clauses_turn, clauses, switch_stmt, is_handled, handled, bound, parameter, finalizer, caught, handler, try_stmt, stmt_by, stmt_level, stmt, top_await_fault, top_await, whole_stmt, shebang_in, shebang_taken, shebang, script_body, script, misusing, using_from, using_stmt, using_or_other, Resource, Named, undeclared, using_head, named_head, await_or_expression, await_head, async_head, unfollowed, async_or_expression, head_target}
 use Rattle.swc_ecma_parser_grammar.specs.language.Contexts.{without_in, named_by, in_body, in_arrow, in_parameters, in_loop, in_breakable, in_with}
 use Rattle.swc_ecma_parser_grammar.specs.Variables.{is_const, needs_no_initializer}
 use Rattle.swc_ecma_parser_model.specs.declared.leaves.VarDeclKind.{VarDeclKind}
@@ -38,6 +38,7 @@ use Rattle.swc_ecma_parser_reader.specs.Methods.{MethodForm, getter_form, setter
 use Rattle.swc_ecma_parser_grammar.specs.Names.{name_at}
 use Rattle.swc_ecma_parser_reader.proofs.Takes.{Falls, falls_where, falls_choice, labelled_falls, falls_then, falls_last, falls_coded, falls_found, falls_if, less, falls_next, moves, takes, falls_past, falls_moved, wanted_falls, too_deep_falls, refuse_falls, refused_falls, fewer, name_falls, fault_falls, end_falls, close_falls, expect_falls, loop_falls, reference_falls, note_falls, note_with_falls, optional_end_falls}
 use Rattle.swc_ecma_parser_reader.proofs.Recovered.{Lossless, declaration_end_falls}
+use Rattle.swc_ecma_parser_reader.proofs.StatementEnds.{stmt_end_falls}
 use Rattle.swc_ecma_parser_reader.proofs.Behind.{Passes}
 use Rattle.swc_ecma_parser_reader.proofs.Keeps.{loses_nothing}
 use Rattle.swc_ecma_parser_reader.proofs.Strays.{stray_falls}
@@ -147,16 +148,16 @@ module _ (inner : Reader Tree) (h : (s : State) → Falls 1 (length s.at.left) (
   whole_falls : (s : State) → Falls 1 (length s.at.left) (within with_in inner s)
   whole_falls s = falls_coded 1 (length s.at.left) (inner (coded (with_in s.code) s)) _ _ (h (coded (with_in s.code) s))
 
-  expr_stmt_falls : (s : State) → Falls 1 (length s.at.left) (expr_stmt inner s)
+  expr_stmt_falls : (operators : Span → Tree → Reader Tree) → ((start : Span) (x : Tree) → Passes (operators start x)) → (s : State) → Falls 1 (length s.at.left) (expr_stmt inner operators s)
   unfolding expr_stmt
-  expr_stmt_falls s = falls_next (length s.at.left) (within with_in inner s) _ (whole_falls s) (λ x t.
+  expr_stmt_falls operators p s = falls_next (length s.at.left) (within with_in inner s) _ (whole_falls s) (λ x t.
       falls_then 0 0 (length t.at.left) (no_label x t) _ (no_label_falls x t) (λ _ u.
       falls_then 0 0 (length u.at.left) (note_statement x u) _ (note_falls x u) (λ _ v.
-      falls_last 0 (length v.at.left) (end faults.ExpectedSemiForExprStmt v) _ (end_falls faults.ExpectedSemiForExprStmt v))))
+      falls_last 0 (length v.at.left) (stmt_end operators (span_at s.at) x v) _ (stmt_end_falls operators p (span_at s.at) x v))))
 
-  expr_stmt_at_falls : (at : Position) (s : State) → Falls 1 (length s.at.left) (expr_stmt_at inner at s)
+  expr_stmt_at_falls : (operators : Span → Tree → Reader Tree) → ((start : Span) (x : Tree) → Passes (operators start x)) → (at : Position) (s : State) → Falls 1 (length s.at.left) (expr_stmt_at inner operators at s)
   unfolding expr_stmt_at
-  expr_stmt_at_falls at s = falls_if 1 (length s.at.left) (may_begin_expression_statement at s.at) _ _ (expr_stmt_falls s) (wanted_falls Tree 1 (length s.at.left) faults.Unexpected s)
+  expr_stmt_at_falls operators p at s = falls_if 1 (length s.at.left) (may_begin_expression_statement at s.at) _ _ (expr_stmt_falls operators p s) (wanted_falls Tree 1 (length s.at.left) faults.Unexpected s)
 
   import_stmt_falls : (s : State) → Falls 1 (length s.at.left) (import_stmt inner s)
   unfolding import_stmt
@@ -427,9 +428,10 @@ module _ (inner : Position → Reader Tree) (h : (at : Position) (s : State) →
       falls_then 0 0 (length u.at.left) (labelled_body inner i.sym u) _ (labelled_body_falls i.sym u) (λ y v.
       falls_last 0 (length v.at.left) (relabels (tree.ident i.span i.sym) y v) _ (told_falls _ v))))
 
-  other_falls : (inner_expr : Reader Tree) → ((s : State) → Falls 1 (length s.at.left) (inner_expr s)) → (at : Position) (s : State) → Falls 1 (length s.at.left) (other_stmt inner inner_expr at s)
+  other_falls : (inner_expr : Reader Tree) → ((s : State) → Falls 1 (length s.at.left) (inner_expr s)) → (operators : Span → Tree → Reader Tree) → ((start : Span) (x : Tree) → Passes (operators start x))
+      → (at : Position) (s : State) → Falls 1 (length s.at.left) (other_stmt inner inner_expr operators at s)
   unfolding other_stmt
-  other_falls inner_expr g at s = falls_if 1 (length s.at.left) (begins_label s.code s.at) _ _ (labeled_falls s) (expr_stmt_at_falls inner_expr g at s)
+  other_falls inner_expr g operators p at s = falls_if 1 (length s.at.left) (begins_label s.code s.at) _ _ (labeled_falls s) (expr_stmt_at_falls inner_expr g operators p at s)
 
 -- ---- `switch`
 
@@ -604,28 +606,28 @@ module _ (inner : Position → Reader Tree) (h : (at : Position) (s : State) →
     (inner_expr : Class → Reader Tree) (g : (class : Class) (s : State) → Falls 1 (length s.at.left) (inner_expr class s))
     (inner_pat : Reader Tree) (i : (s : State) → Falls 1 (length s.at.left) (inner_pat s)) (inner_cover : Reader Cover) (j : (s : State) → Falls 1 (length s.at.left) (inner_cover s))
     (inner_params : Reader (List Tree)) (l : (s : State) → Falls 0 (length s.at.left) (inner_params s))
-    (inner_member : Reader Tree) (m : (s : State) → Falls 1 (length s.at.left) (inner_member s)) (lossless : Lossless (inner nested_item) (inner_expr expression) inner_pat) where
-  const_falls : (at : Position) (s : State) → kind_at s.at ≢ kind.End → Falls 1 (length s.at.left) (const_stmt inner inner_expr inner_pat inner_cover inner_params inner_member at s)
+    (inner_member : Reader Tree) (m : (s : State) → Falls 1 (length s.at.left) (inner_member s)) (inner_operators : Span → Tree → Reader Tree) (lossless : Lossless (inner nested_item) (inner_expr expression) inner_pat inner_operators) where
+  const_falls : (at : Position) (s : State) → kind_at s.at ≢ kind.End → Falls 1 (length s.at.left) (const_stmt inner inner_expr inner_pat inner_cover inner_params inner_member inner_operators at s)
   unfolding const_stmt
   const_falls at s e = falls_choice 1 (length s.at.left) at.include_decl _ _ s (variables_falls inner_expr g inner_pat i lossless.exprs decl.Const s e) (wanted_falls Tree 1 (length s.at.left) faults.Unexpected s)
 
-  let_falls : (at : Position) (s : State) → kind_at s.at ≢ kind.End → Falls 1 (length s.at.left) (let_stmt inner inner_expr inner_pat inner_cover inner_params inner_member at s)
+  let_falls : (at : Position) (s : State) → kind_at s.at ≢ kind.End → Falls 1 (length s.at.left) (let_stmt inner inner_expr inner_pat inner_cover inner_params inner_member inner_operators at s)
   unfolding let_stmt
   let_falls at s e = falls_if 1 (length s.at.left) (at.include_decl && is_let_declaration s.at) _ _ (variables_falls inner_expr g inner_pat i lossless.exprs decl.Let s e)
-      (other_falls inner h (inner_expr expression) (g expression) at s)
+      (other_falls inner h (inner_expr expression) (g expression) inner_operators lossless.operations at s)
 
-  using_or_other_falls : (at : Position) (s : State) → Falls 1 (length s.at.left) (using_or_other inner inner_expr inner_pat inner_cover inner_params inner_member at s)
+  using_or_other_falls : (at : Position) (s : State) → Falls 1 (length s.at.left) (using_or_other inner inner_expr inner_pat inner_cover inner_params inner_member inner_operators at s)
   unfolding using_or_other
   using_or_other_falls at s = falls_when 1 (length s.at.left) (at.include_decl && is_using_declaration s.code s.at) _ _
       (λ e. using_falls inner_expr g inner_pat i s (λ n. let o : kind.Ident ≡ kind.End = sym (using_stands s.code s.at (and_yes at.include_decl _ e).1) ∙ n in cc))
-      (λ _. other_falls inner h (inner_expr expression) (g expression) at s)
+      (λ _. other_falls inner h (inner_expr expression) (g expression) inner_operators lossless.operations at s)
 
-  async_or_other_falls : (at : Position) (s : State) → Falls 1 (length s.at.left) (async_or_other inner inner_expr inner_pat inner_cover inner_params inner_member at s)
+  async_or_other_falls : (at : Position) (s : State) → Falls 1 (length s.at.left) (async_or_other inner inner_expr inner_pat inner_cover inner_params inner_member inner_operators at s)
   unfolding async_or_other
   async_or_other_falls at s = falls_when 1 (length s.at.left) (is_async_function s.at) _ _ (λ e. function_falls (inner nested_item) (h nested_item) inner_params l s (async_begins s.at e))
       (λ _. using_or_other_falls at s)
 
-  stmt_by_falls : (at : Position) (k : TokenKind) (s : State) → kind_at s.at ≡ k → Falls 1 (length s.at.left) (stmt_by inner inner_expr inner_pat inner_cover inner_params inner_member at k s)
+  stmt_by_falls : (at : Position) (k : TokenKind) (s : State) → kind_at s.at ≡ k → Falls 1 (length s.at.left) (stmt_by inner inner_expr inner_pat inner_cover inner_params inner_member inner_operators at k s)
   stmt_by_falls at kind.LBrace s e = block_falls (inner nested_item) (h nested_item) s (λ h. cc)
   stmt_by_falls at kind.Semi s e = empty_falls s (λ h. cc)
   stmt_by_falls at kind.Debugger s e = debugger_falls s (λ h. cc)
@@ -650,9 +652,9 @@ module _ (inner : Position → Reader Tree) (h : (at : Position) (s : State) →
   stmt_by_falls at kind.Ident s e = async_or_other_falls at s
   stmt_by_falls at kind.Import s e = import_stmt_at_falls (inner_expr expression) (g expression) s
   stmt_by_falls at kind.Export s e = import_stmt_at_falls (inner_expr expression) (g expression) s
-  stmt_by_falls at _ s e = other_falls inner h (inner_expr expression) (g expression) at s
+  stmt_by_falls at _ s e = other_falls inner h (inner_expr expression) (g expression) inner_operators lossless.operations at s
 
-  pub stmt_level_falls : (at : Position) (s : State) → Falls 1 (length s.at.left) (stmt_level inner inner_expr inner_pat inner_cover inner_params inner_member at s)
+  pub stmt_level_falls : (at : Position) (s : State) → Falls 1 (length s.at.left) (stmt_level inner inner_expr inner_pat inner_cover inner_params inner_member inner_operators at s)
   unfolding stmt_level
   stmt_level_falls at s = stmt_by_falls at (kind_at s.at) s refl
 
@@ -721,14 +723,19 @@ all_taken (suc n) = let b = all_taken n in record {
       (function_body_falls (stmt n nested_item) (b.stmts nested_item) (reader.parameters n) (parameters_taken n b)) (braced_takes (stmt n nested_item) (b.stmts nested_item) false)
       (decorated_in n) b.decorateds;
   stmts = λ at. either_falls (reader.plain_stmt n) at
-      (λ s. first_falls (declarators (expr n) (pattern n) false decl.Var) (reader.nests n) (stmt_level (stmt n) (expr n) (pattern n) (head_cover n) (reader.parameters n) (member n)) at
+      (λ s. first_falls (declarators (expr n) (pattern n) false decl.Var) (reader.nests n) (stmt_level (stmt n) (expr n) (pattern n) (head_cover n) (reader.parameters n) (member n) (reader.operators n)) at
       (declarators_fall (expr n) b.exprs (pattern n) b.patterns false decl.Var) s
-      (stmt_level_falls (stmt n) b.stmts (expr n) b.exprs (pattern n) b.patterns (head_cover n) b.heads (reader.parameters n) (parameters_taken n b) (member n) b.members (loses_nothing n) at s)) (decorated_in n) b.decorateds;
+      (stmt_level_falls (stmt n) b.stmts (expr n) b.exprs (pattern n) b.patterns (head_cover n) b.heads (reader.parameters n) (parameters_taken n b) (member n) b.members (reader.operators n) (loses_nothing n) at s)) (decorated_in n) b.decorateds;
 }
 
 -- an expression of any class takes a token, and so does what may still become a pattern
 pub expr_falls : (n : ℕ) (class : Class) (s : State) → Falls 1 (length s.at.left) (expr n class s)
 expr_falls n = (all_taken n).exprs
+
+pub right_operand_falls : (n : ℕ) (class : Class) (s : State) → Falls 1 (length s.at.left) (right_operand n class s)
+unfolding right_operand
+right_operand_falls zero class s = too_deep_falls Tree 1 (length s.at.left) s
+right_operand_falls (suc n) class s = expr_falls n class s
 
 pub cover_falls : (n : ℕ) (s : State) → Falls 1 (length s.at.left) (cover n s)
 cover_falls n = (all_taken n).covers

@@ -17,7 +17,7 @@ use Rattle.swc_ecma_parser_grammar.proofs.StatementBegins.{word_place}
 use Rattle.swc_ecma_parser_grammar.proofs.Tests.{and_yes}
 use Rattle.swc_ecma_parser_grammar.proofs.Using.{using_stands}
 use Rattle.swc_ecma_parser_reader.specs.Methods.{FunctionForm, expression_form, class_form, property_form, getter_form, setter_form, method_form, parameter_form, block_form, star}
-use Rattle.swc_ecma_parser_reader.specs.Reader.{no_parameter, one_parameter, getter, setter, plain_method, arrow_block, function_by, named, own_name, function_expr, expr, cover, head_cover, pattern, element, decorated_in, member, function, function_word, async_or_other, begins_label, relabels, labelled_body, labeled_stmt, other_stmt, note_with, with_stmt, await_here, function_decl, function_stmt, function_parts, function_body, misdirected, missing_initializer, variables, Opening, as_init, as_left, head_variables, head_expression, opening, head_part, misdeclared, for_parts, for_in, for_of, for_behind, for_stmt, const_stmt, let_stmt, empty, debugger, initialized, ends_declarators, missing_at, no_declarator, declarator, declarators_turn, declarators, declaration_end, stray, closes, at_end, close, directs, items_turn, items, block_from, block, braced, note_statement, no_label, expr_stmt, expr_stmt_at, optional_end, import_stmt, import_stmt_at, told, target, unbroken, break_stmt, uncontinued, continue_stmt, operand, returned, return_stmt, thrown, throw, head, while_stmt, do_while, goes_on, condition, alternative, link_from, link, links, if_stmt, begins_clause, closes_clause, clause_from, default_clause, case_clause, clause, clauses_turn, clauses, switch_stmt, begins_at, is_handled, handled, bound, parameter, finalizer, caught, handler, try_stmt, stmt_by, stmt_level, stmt, top_await_fault, top_await, whole_stmt, shebang, script_body, script, misusing, using_from, using_stmt, using_or_other, undeclared, using_head, named_head, await_or_expression, await_head, async_head, async_or_expression, head_target}
+use Rattle.swc_ecma_parser_reader.specs.Reader.{no_parameter, one_parameter, getter, setter, plain_method, arrow_block, function_by, named, own_name, function_expr, expr, cover, head_cover, pattern, element, decorated_in, member, operators, right_operand, function, function_word, async_or_other, begins_label, relabels, labelled_body, labeled_stmt, other_stmt, note_with, with_stmt, await_here, function_decl, function_stmt, function_parts, function_body, misdirected, missing_initializer, variables, Opening, as_init, as_left, head_variables, head_expression, opening, head_part, misdeclared, for_parts, for_in, for_of, for_behind, for_stmt, const_stmt, let_stmt, empty, debugger, initialized, ends_declarators, missing_at, no_declarator, declarator, declarators_turn, declarators, declaration_end, stray, closes, at_end, close, directs, items_turn, items, block_from, block, braced, note_statement, no_label, stmt_end, expr_stmt, expr_stmt_at, optional_end, import_stmt, import_stmt_at, told, target, unbroken, break_stmt, uncontinued, continue_stmt, operand, returned, return_stmt, thrown, throw, head, while_stmt, do_while, goes_on, condition, alternative, link_from, link, links, if_stmt, begins_clause, closes_clause, clause_from, default_clause, case_clause, clause, clauses_turn, clauses, switch_stmt, begins_at, is_handled, handled, bound, parameter, finalizer, caught, handler, try_stmt, stmt_by, stmt_level, stmt, top_await_fault, top_await, whole_stmt, shebang, script_body, script, misusing, using_from, using_stmt, using_or_other, undeclared, using_head, named_head, await_or_expression, await_head, async_head, async_or_expression, head_target}
 use Rattle.swc_ecma_parser_grammar.specs.Names.{name_at}
 use Rattle.swc_ecma_parser_error.specs.declared.error.Error.{Error}
 use Rattle.swc_ecma_parser_grammar.specs.language.Programs.{at_top}
@@ -54,6 +54,7 @@ use Rattle.swc_ecma_parser_grammar.specs.language.Goals.{Class, expression, assi
 use Rattle.swc_ecma_parser_reader.specs.Expressions.{Cover}
 use Rattle.swc_ecma_parser_reader.proofs.Meets.{Answers, Meets, answers_then, answers_if, meant, saw, too_deep_meets}
 use Rattle.swc_ecma_parser_reader.proofs.Recovered.{Lossless, attempted_keeps, inside_passes, declaration_end_keeps}
+use Rattle.swc_ecma_parser_reader.proofs.StatementEnds.{stmt_end_keeps}
 use Rattle.swc_ecma_parser_reader.proofs.Behind.{NothingLost, Kept, Lost, Passes, ItemPasses, item_self, items_from, items_follow, Follows, follows, flagged_kept, lost, kept_both, answers_as, behind_self, behind_after, behind_seen, too_deep_keeps, fault_keeps, fault_stays, wanted_keeps, refuse_keeps, reject_keeps, end_keeps, expect_keeps, close_keeps, shebang_keeps, name_keeps, loop_keeps, reference_keeps}
 use Rattle.swc_ecma_parser_reader.specs.Entry.{unmarked, IsBehind, IsSetBack, AnswersScript, AnswersStatement, Stays}
 use Rattle.swc_ecma_parser_reader.proofs.Opens.{chain_goes}
@@ -255,8 +256,8 @@ module _ (inner : Reader Tree) (below : Passes inner) where
         answers_then (Kept b) _ (attempted (finalizer inner) u) _ (attempted_keeps (finalizer inner) finalizer_keeps b u k) (λ _ v j. j)))
 
 module _ (inner : Position → Reader Tree) (inner_expr : Class → Reader Tree) (inner_pat : Reader Tree) (inner_head : Reader Cover) (inner_params : Reader (List Tree))
-    (inner_member : Reader Tree) (below_stmt : (at : Position) → Passes (inner at)) (below_expr : (class : Class) → Passes (inner_expr class)) (below_pat : Passes inner_pat) (below_head : Passes inner_head)
-    (below_params : Passes inner_params) (below_member : Passes inner_member) (at : Position) (b : State) (s : State) (f : NothingLost b s) where
+    (inner_member : Reader Tree) (inner_operators : Span → Tree → Reader Tree) (below_stmt : (at : Position) → Passes (inner at)) (below_expr : (class : Class) → Passes (inner_expr class)) (below_pat : Passes inner_pat) (below_head : Passes inner_head)
+    (below_params : Passes inner_params) (below_member : Passes inner_member) (below_operators : (start : Span) (x : Tree) → Passes (inner_operators start x)) (at : Position) (b : State) (s : State) (f : NothingLost b s) where
   block_from_keeps : (directives : Bool) (start : Place) (t : State) → NothingLost b t → Answers (Kept b) (Lost b) (block_from (inner nested_item) directives start t)
   block_from_keeps directives start t g = braces_from_keep (inner nested_item) (below_stmt nested_item) directives start b t g
 
@@ -288,7 +289,7 @@ module _ (inner : Position → Reader Tree) (inner_expr : Class → Reader Tree)
       (declarators_keeps inner_expr inner_pat below_expr below_pat b false decl.Var (coded (with_in s.code) (moved s)) g) (λ x t k. flagged_kept b (moved s) t g k)) (λ x t k.
       answers_then (Kept b) _ (misusing (record { lo = (span_at s.at).lo; hi = t.at.last.hi }) x t) _ (told_keeps b _ t k) (λ _ u j. j))
 
-  const_keeps : kind_at s.at ≡ kind.Const → Answers (Kept b) (Lost b) (const_stmt inner inner_expr inner_pat inner_head inner_params inner_member at s)
+  const_keeps : kind_at s.at ≡ kind.Const → Answers (Kept b) (Lost b) (const_stmt inner inner_expr inner_pat inner_head inner_params inner_member inner_operators at s)
   unfolding const_stmt
   const_keeps e = where_declared at.include_decl
     where
@@ -300,15 +301,15 @@ module _ (inner : Position → Reader Tree) (inner_expr : Class → Reader Tree)
   whole_keeps : Answers (Kept b) (Lost b) (within with_in (inner_expr expression) s)
   whole_keeps = answers_then (Kept b) _ (inner_expr expression (coded (with_in s.code) s)) _ (below_expr expression b (coded (with_in s.code) s) f) (λ x t k. flagged_kept b s t f k)
 
-  expr_stmt_keeps : Answers (Kept b) (Lost b) (expr_stmt (inner_expr expression) s)
+  expr_stmt_keeps : Answers (Kept b) (Lost b) (expr_stmt (inner_expr expression) inner_operators s)
   unfolding expr_stmt no_label note_statement
   expr_stmt_keeps = answers_then _ _ (within with_in (inner_expr expression) s) _ whole_keeps (λ x t k.
       answers_then _ _ (no_label x t) _ (answers_if (Kept b) _ (is_ident x && sees kind.Colon t.at) _ _ (λ _. wanted_keeps _ faults.Unexpected b t k) (λ _. k)) (λ _ u j.
       answers_then _ _ (note_statement x u) _ (answers_if (Kept b) _ (is_ident_named (codes "interface") x) _ _
       (λ _. module_fault_keeps b (fault_at (span_of x) faults.InvalidIdentInStrict) u j) (λ _. j)) (λ _ v g.
-      answers_then _ _ (end faults.ExpectedSemiForExprStmt v) _ (end_keeps b v g faults.ExpectedSemiForExprStmt) (λ _ w z. z))))
+      answers_then _ _ (stmt_end inner_operators (span_at s.at) x v) _ (stmt_end_keeps inner_operators below_operators (span_at s.at) x b v g) (λ _ w z. z))))
 
-  expr_stmt_at_keeps : Answers (Kept b) (Lost b) (expr_stmt_at (inner_expr expression) at s)
+  expr_stmt_at_keeps : Answers (Kept b) (Lost b) (expr_stmt_at (inner_expr expression) inner_operators at s)
   unfolding expr_stmt_at
   expr_stmt_at_keeps = answers_if _ _ (may_begin_expression_statement at s.at) _ _ (λ _. expr_stmt_keeps) (λ _. wanted_keeps _ faults.Unexpected b s f)
 
@@ -341,11 +342,11 @@ module _ (inner : Position → Reader Tree) (inner_expr : Class → Reader Tree)
       answers_then (Kept b) _ (labelled_body inner x.sym u) _ (labelled_body_keeps x.sym u g) (λ y v j.
       answers_then (Kept b) _ (relabels (tree.ident x.span x.sym) y v) _ (told_keeps b _ v (j)) (λ _ b a. a))))
 
-  other_keeps : Answers (Kept b) (Lost b) (other_stmt inner (inner_expr expression) at s)
+  other_keeps : Answers (Kept b) (Lost b) (other_stmt inner (inner_expr expression) inner_operators at s)
   unfolding other_stmt
   other_keeps = answers_if _ _ (begins_label s.code s.at) _ _ (λ _. labeled_keeps) (λ _. expr_stmt_at_keeps)
 
-  let_keeps : kind_at s.at ≡ kind.Let → Answers (Kept b) (Lost b) (let_stmt inner inner_expr inner_pat inner_head inner_params inner_member at s)
+  let_keeps : kind_at s.at ≡ kind.Let → Answers (Kept b) (Lost b) (let_stmt inner inner_expr inner_pat inner_head inner_params inner_member inner_operators at s)
   unfolding let_stmt
   let_keeps e = answers_if _ _ (at.include_decl && is_let_declaration s.at) _ _ (λ _. variables_keeps decl.Let (ap is_error e)) (λ _. other_keeps)
 
@@ -569,15 +570,15 @@ module _ (inner : Position → Reader Tree) (inner_expr : Class → Reader Tree)
   function_stmt_keeps e = answers_if _ _ at.include_decl _ _ (λ _. function_keeps s (function_begins s.at e) f) (λ _. answers_then (Kept b) _ (fault (fault_at (span_at s.at) faults.DeclNotAllowed) s) _
       (fault_stays b s f (fault_at (span_at s.at) faults.DeclNotAllowed) (ap is_error e)) (λ _ t (g, o). function_keeps t (function_begins t.at (ap kind_at o ∙ e)) g))
 
-  using_or_other_keeps : Answers (Kept b) (Lost b) (using_or_other inner inner_expr inner_pat inner_head inner_params inner_member at s)
+  using_or_other_keeps : Answers (Kept b) (Lost b) (using_or_other inner inner_expr inner_pat inner_head inner_params inner_member inner_operators at s)
   unfolding using_or_other
   using_or_other_keeps = answers_if _ _ (at.include_decl && is_using_declaration s.code s.at) _ _ (λ e. using_keeps (and_yes at.include_decl _ e).1) (λ _. other_keeps)
 
-  async_or_other_keeps : Answers (Kept b) (Lost b) (async_or_other inner inner_expr inner_pat inner_head inner_params inner_member at s)
+  async_or_other_keeps : Answers (Kept b) (Lost b) (async_or_other inner inner_expr inner_pat inner_head inner_params inner_member inner_operators at s)
   unfolding async_or_other
   async_or_other_keeps = answers_if _ _ (is_async_function s.at) _ _ (λ e. function_keeps s (async_begins s.at e) f) (λ _. using_or_other_keeps)
 
-  by_keeps : (k : TokenKind) → kind_at s.at ≡ k → Answers (Kept b) (Lost b) (stmt_by inner inner_expr inner_pat inner_head inner_params inner_member at k s)
+  by_keeps : (k : TokenKind) → kind_at s.at ≡ k → Answers (Kept b) (Lost b) (stmt_by inner inner_expr inner_pat inner_head inner_params inner_member inner_operators at k s)
   unfolding empty if_stmt
   by_keeps kind.LBrace e = block_keeps e
   by_keeps kind.Semi e = behind_after b s e refl f
@@ -605,7 +606,7 @@ module _ (inner : Position → Reader Tree) (inner_expr : Class → Reader Tree)
   by_keeps kind.Export e = import_stmt_at_keeps
   by_keeps _ e = other_keeps
 
-  pub level_keeps : Answers (Kept b) (Lost b) (stmt_level inner inner_expr inner_pat inner_head inner_params inner_member at s)
+  pub level_keeps : Answers (Kept b) (Lost b) (stmt_level inner inner_expr inner_pat inner_head inner_params inner_member inner_operators at s)
   unfolding stmt_level
   level_keeps = by_keeps (kind_at s.at) refl
 
@@ -628,11 +629,15 @@ record Passing (n : ℕ) : Type 0 where
   elements : Passes (element n)
   decorateds : Passes (decorated_in n)
   members : Passes (member n)
+  operands : (class : Class) → Passes (right_operand n class)
   stmts : (at : Position) → Passes (stmt n at)
 
 module _ (n : ℕ) (b : Passing n) where
   parameters_passing : Passes (reader.parameters n)
   parameters_passing = patterns.parameter_list_keeps (expr n) (cover n) (pattern n) (element n) b.exprs b.covers b.patterns b.elements
+
+  operators_passing : (start : Span) (x : Tree) → Passes (operators n start x)
+  operators_passing start x c s f = expressions.binary_from_keeps (right_operand n) (cover n) b.operands b.covers c 1 start x s f
 
   forms_passing : (form : FunctionForm) (c s : State) → Begins form s.at → NothingLost c s → Answers (Kept c) (Lost c) (function n form s)
   unfolding function
@@ -652,7 +657,7 @@ module _ (n : ℕ) (b : Passing n) where
   exprs_passing class c s f = expressions.level_keeps (expr n) (cover n) b.exprs b.covers c (function n) function_passing class s f
 
 all_passing : (n : ℕ) → Passing n
-unfolding function expr cover head_cover pattern element decorated_in member stmt
+unfolding function expr cover head_cover pattern element decorated_in member right_operand stmt
 all_passing zero = record {
   exprs = λ class b s f. too_deep_keeps _ b s f;
   covers = λ b s f. too_deep_keeps _ b s f;
@@ -661,6 +666,7 @@ all_passing zero = record {
   elements = λ b s f. too_deep_keeps _ b s f;
   decorateds = λ b s f. too_deep_keeps _ b s f;
   members = λ b s f. too_deep_keeps _ b s f;
+  operands = λ class b s f. too_deep_keeps _ b s f;
   stmts = λ at b s f. too_deep_keeps _ b s f;
 }
 all_passing (suc n) = let a = all_passing n in record {
@@ -673,10 +679,11 @@ all_passing (suc n) = let a = all_passing n in record {
   members = classes.member_level_keeps (expr n) (cover n) (stmt n nested_item) (reader.parameters n) a.exprs a.covers (parameters_passing n a)
       (function_body_keep (stmt n nested_item) (a.stmts nested_item) (reader.parameters n) (parameters_passing n a)) (braces_keep (stmt n nested_item) (a.stmts nested_item) false)
       (decorated_in n) a.decorateds;
+  operands = a.exprs;
   stmts = λ at. either_keeps (reader.plain_stmt n) at
-      (λ b s f. first_keeps (declarators (expr n) (pattern n) false decl.Var) (reader.nests n) (stmt_level (stmt n) (expr n) (pattern n) (head_cover n) (reader.parameters n) (member n)) at
+      (λ b s f. first_keeps (declarators (expr n) (pattern n) false decl.Var) (reader.nests n) (stmt_level (stmt n) (expr n) (pattern n) (head_cover n) (reader.parameters n) (member n) (operators n)) at
       (declarators_keeps_all (expr n) (pattern n) a.exprs a.patterns) b s f
-      (level_keeps (stmt n) (expr n) (pattern n) (head_cover n) (reader.parameters n) (member n) a.stmts a.exprs a.patterns a.heads (parameters_passing n a) a.members at b s f)) (decorated_in n) a.decorateds;
+      (level_keeps (stmt n) (expr n) (pattern n) (head_cover n) (reader.parameters n) (member n) (operators n) a.stmts a.exprs a.patterns a.heads (parameters_passing n a) a.members (operators_passing n a) at b s f)) (decorated_in n) a.decorateds;
 }
 
 -- a statement, and what it is made of
@@ -705,9 +712,13 @@ pattern_keeps n = (all_passing n).patterns
 pub decorated_in_keeps : (n : ℕ) → Passes (decorated_in n)
 decorated_in_keeps n = (all_passing n).decorateds
 
+-- the operators behind an expression
+pub operators_keep : (n : ℕ) (start : Span) (x : Tree) → Passes (operators n start x)
+operators_keep n = operators_passing n (all_passing n)
+
 -- what statements are read by
-pub loses_nothing : (n : ℕ) → Lossless (stmt n nested_item) (expr n expression) (pattern n)
-loses_nothing n = record { stmts = stmt_keeps n nested_item; exprs = expr_keeps n expression; pats = pattern_keeps n }
+pub loses_nothing : (n : ℕ) → Lossless (stmt n nested_item) (expr n expression) (pattern n) (operators n)
+loses_nothing n = record { stmts = stmt_keeps n nested_item; exprs = expr_keeps n expression; pats = pattern_keeps n; operations = operators_keep n }
 
 -- a member of a class
 pub member_keeps : (n : ℕ) → Passes (member n)

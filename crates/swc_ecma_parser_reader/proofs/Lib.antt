@@ -15,6 +15,8 @@ pub mod Errors
 pub mod Between
 pub mod Recovered
 pub mod SoundRecovered
+pub mod StatementEnds
+pub mod SoundEnds
 pub mod Strays
 pub mod SoundParts
 pub mod SoundFor

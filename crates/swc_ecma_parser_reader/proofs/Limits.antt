@@ -9,7 +9,7 @@ use Rattle.swc_ecma_parser_reader.proofs.decorators.Limits.{decorated_shallow}
 use Rattle.swc_ecma_parser_reader.proofs.decorators.Taking.{either_shallow}
 use Rattle.swc_ecma_parser_reader.specs.Reader as reader
 use Rattle.swc_ecma_parser_reader.specs.Methods.{MethodForm, getter_form, setter_form, method_form, property_form, star}
-use Rattle.swc_ecma_parser_reader.specs.Reader.{no_parameter, one_parameter, getter, setter, plain_method, arrow_block, function_by, named, own_name, function_expr, expr, cover, head_cover, pattern, element, decorated_in, member, function, function_word, async_or_other, begins_label, relabels, labelled_body, labeled_stmt, other_stmt, note_with, with_stmt, await_here, unless_awaited, function_decl, function_stmt, function_parts, function_body, misdirected, missing_initializer, variables, Opening, Nothing, Variables, Expression, as_init, as_left, head_variables, head_expression, opening, head_part, misdeclared, for_parts, for_in, for_of, for_behind, for_stmt, const_stmt, let_stmt, empty, debugger, initialized, ends_declarators, missing_at, no_declarator, declarator, declarators_turn, declarators, declaration_end, stray, closes, at_end, close, items_turn, items, block_from, block, braced, note_statement, no_label, expr_stmt, expr_stmt_at, optional_end, import_stmt, import_stmt_at, told, target, unbroken, break_stmt, uncontinued, continue_stmt, misplaced, after_return, operand, returned, return_stmt, thrown, throw, head, while_stmt, do_while, goes_on, condition, alternative, link_from, link, links, if_stmt, begins_clause, closes_clause, clause_from, default_clause, case_clause, clause, clauses_turn, clauses, switch_stmt, begins_at, is_handled, handled, bound, parameter, finalizer, caught, handler, try_stmt, stmt_by, stmt_level, stmt, top_await_fault, top_await, whole_stmt, shebang, script_body, script, misusing, using_from, using_stmt, using_or_other, Resource, Named, undeclared, using_head, named_head, await_or_expression, await_head, async_head, unfollowed, async_or_expression, head_target}
+use Rattle.swc_ecma_parser_reader.specs.Reader.{no_parameter, one_parameter, getter, setter, plain_method, arrow_block, function_by, named, own_name, function_expr, expr, cover, head_cover, pattern, element, decorated_in, member, operators, right_operand, function, function_word, async_or_other, begins_label, relabels, labelled_body, labeled_stmt, other_stmt, note_with, with_stmt, await_here, unless_awaited, function_decl, function_stmt, function_parts, function_body, misdirected, missing_initializer, variables, Opening, Nothing, Variables, Expression, as_init, as_left, head_variables, head_expression, opening, head_part, misdeclared, for_parts, for_in, for_of, for_behind, for_stmt, const_stmt, let_stmt, empty, debugger, initialized, ends_declarators, missing_at, no_declarator, declarator, declarators_turn, declarators, declaration_end, stray, closes, at_end, close, items_turn, items, block_from, block, braced, note_statement, no_label, stmt_end, expr_stmt, expr_stmt_at, optional_end, import_stmt, import_stmt_at, told, target, unbroken, break_stmt, uncontinued, continue_stmt, misplaced, after_return, operand, returned, return_stmt, thrown, throw, head, while_stmt, do_while, goes_on, condition, alternative, link_from, link, links, if_stmt, begins_clause, closes_clause, clause_from, default_clause, case_clause, clause, clauses_turn, clauses, switch_stmt, begins_at, is_handled, handled, bound, parameter, finalizer, caught, handler, try_stmt, stmt_by, stmt_level, stmt, top_await_fault, top_await, whole_stmt, shebang, script_body, script, misusing, using_from, using_stmt, using_or_other, Resource, Named, undeclared, using_head, named_head, await_or_expression, await_head, async_head, unfollowed, async_or_expression, head_target}
 use Rattle.swc_ecma_parser_grammar.specs.Names.{name_at}
 use Rattle.swc_ecma_parser_reader.proofs.Meets.{saw, Answers, answers_then, answers_if, loop_answers, meant}
 use Rattle.swc_ecma_parser_model.specs.Tree.{Text, Tree}
@@ -23,7 +23,7 @@ use Rattle.swc_ecma_parser_grammar.specs.Variables.{is_const, needs_no_initializ
 use Rattle.swc_ecma_parser_grammar.specs.Own.{head_faults, misplaced_directive}
 use Rattle.swc_ecma_parser_grammar.specs.language.Contexts.{without_in, named_by, in_parameters, in_body, in_arrow, in_loop, in_breakable, in_with}
 use Rattle.swc_ecma_parser_grammar.specs.Follows.{word_at, is_let_declaration, is_async_function, may_begin_expression_statement, begins_import_expression, begins_async_of}
-use Rattle.std.proofs.Common.{◌≡◌, ◌≢◌, ℕ, zero, suc, ◌+◌, ◌*◌, ◌≤◌, Bool, true, false, cond, List, [], ◌∷◌, length, Option, Some, None, Ok, Err, refl, arith, ap}
+use Rattle.std.proofs.Common.{◌≡◌, ◌≢◌, ℕ, zero, suc, ◌+◌, ◌*◌, ◌-◌, ◌≤◌, Bool, true, false, cond, List, [], ◌∷◌, length, Option, Some, None, Ok, Err, refl, arith, ap}
 use Rattle.std.specs.Prelude.{◌&&◌, ◌||◌, is_some, codes}
 use Rattle.swc_ecma_parser_common.specs.declared.span.Span.{Span}
 use Rattle.swc_ecma_parser_error.specs.Kind as faults
@@ -43,6 +43,7 @@ use Rattle.swc_ecma_parser_reader.specs.Expressions.{Cover}
 use Rattle.swc_ecma_parser_reader.specs.Limits.{has_too_deep_token}
 use Rattle.swc_ecma_parser_reader.proofs.Shallow.{StmtLevels, Fine, fine_more, fine_after, fine_taken, Shallow, Kept, Taken, too_deep_shallow, name_shallow, fault_shallow, wanted_shallow, refuse_shallow, end_shallow, expect_shallow, close_shallow, shebang_shallow, Levels, reference_shallow, module_fault_fine, note_with_shallow, optional_end_shallow, told_memory, refused_kept}
 use Rattle.swc_ecma_parser_reader.proofs.Recovered.{Lossless, attempted_shallow, declaration_end_shallow}
+use Rattle.swc_ecma_parser_reader.proofs.StatementEnds.{stmt_end_shallow}
 use Rattle.swc_ecma_parser_reader.proofs.Keeps.{loses_nothing, handler_keeps, finalizer_keeps}
 use Rattle.swc_ecma_parser_reader.proofs.Opens.{chain_goes}
 use Rattle.swc_ecma_parser_reader.proofs.First.{first_shallow}
@@ -274,9 +275,9 @@ module _ (inner : Reader Tree) (n : ℕ) (below : StmtLevels n inner) where
         (answers_then (Kept i) _ (braced inner false (unlabelled t)) _ (braces_shallow false i (unlabelled t) h f) (λ x u k. k))
         (λ x u k. k)
 
-module _ (inner : Position → Reader Tree) (inner_expr : Class → Reader Tree) (inner_pat : Reader Tree) (inner_head : Reader Cover) (inner_params : Reader (List Tree)) (inner_member : Reader Tree) (n : ℕ)
+module _ (inner : Position → Reader Tree) (inner_expr : Class → Reader Tree) (inner_pat : Reader Tree) (inner_head : Reader Cover) (inner_params : Reader (List Tree)) (inner_member : Reader Tree) (inner_operators : Span → Tree → Reader Tree) (n : ℕ)
     (below_stmt : (at : Position) → StmtLevels n (inner at)) (below_expr : (class : Class) → Levels n (inner_expr class)) (below_pat : Levels n inner_pat) (below_head : Levels n inner_head)
-    (below_params : Levels n inner_params) (below_member : Levels n inner_member) (lossless : Lossless (inner nested_item) (inner_expr expression) inner_pat) (at : Position) (m : ℕ) (enough : 2 * m + 1 ≤ suc n) (s : State) (f : Fine m s.at.left) where
+    (below_params : Levels n inner_params) (below_member : Levels n inner_member) (below_operators : (start : Span) (x : Tree) → Levels n (inner_operators start x)) (lossless : Lossless (inner nested_item) (inner_expr expression) inner_pat inner_operators) (at : Position) (m : ℕ) (enough : 2 * m + 1 ≤ suc n) (s : State) (f : Fine m s.at.left) where
   block_from_shallow : (i : ℕ) → 2 * i + 1 ≤ n → (directives : Bool) (start : Place) (t : State) → Fine i t.at.left → Answers (Kept i) Shallow (block_from (inner nested_item) directives start t)
   block_from_shallow i h directives start t g = braces_from_shallow (inner nested_item) n (below_stmt nested_item) directives start i t h g
 
@@ -308,7 +309,7 @@ module _ (inner : Position → Reader Tree) (inner_expr : Class → Reader Tree)
       (declarators_shallow inner_expr inner_pat n below_expr below_pat m (omega arith) false decl.Var (coded (with_in s.code) (moved s)) (fine_after m s.at f)) (λ x t k. k)) (λ x t k.
       answers_then (Kept m) _ (misusing (record { lo = (span_at s.at).lo; hi = t.at.last.hi }) x t) _ (told_shallow m _ t k) (λ _ u j. j))
 
-  const_shallow : Answers (Kept m) Shallow (const_stmt inner inner_expr inner_pat inner_head inner_params inner_member at s)
+  const_shallow : Answers (Kept m) Shallow (const_stmt inner inner_expr inner_pat inner_head inner_params inner_member inner_operators at s)
   unfolding const_stmt
   const_shallow = where_declared at.include_decl
     where
@@ -320,15 +321,15 @@ module _ (inner : Position → Reader Tree) (inner_expr : Class → Reader Tree)
   whole_shallow : Answers (Kept m) Shallow (within with_in (inner_expr expression) s)
   whole_shallow = answers_then (Kept m) _ (inner_expr expression (coded (with_in s.code) s)) _ (below_expr expression m (coded (with_in s.code) s) (omega arith) f) (λ x t k. k)
 
-  expr_stmt_shallow : Answers (Kept m) Shallow (expr_stmt (inner_expr expression) s)
+  expr_stmt_shallow : Answers (Kept m) Shallow (expr_stmt (inner_expr expression) inner_operators s)
   unfolding expr_stmt no_label note_statement
   expr_stmt_shallow = answers_then _ _ (within with_in (inner_expr expression) s) _ whole_shallow (λ x t k.
       answers_then _ _ (no_label x t) _ (answers_if (Kept m) _ (is_ident x && sees kind.Colon t.at) _ _ (λ _. wanted_shallow _ faults.Unexpected (λ e. cc) m t k) (λ _. k)) (λ _ u j.
       answers_then _ _ (note_statement x u) _ (answers_if (Kept m) _ (is_ident_named (codes "interface") x) _ _
       (λ _. module_fault_fine m (fault_at (span_of x) faults.InvalidIdentInStrict) u j) (λ _. j)) (λ _ v g.
-      answers_then _ _ (end faults.ExpectedSemiForExprStmt v) _ (end_shallow m v g faults.ExpectedSemiForExprStmt (λ e. cc)) (λ _ w z. z))))
+      answers_then _ _ (stmt_end inner_operators (span_at s.at) x v) _ (stmt_end_shallow inner_operators n m below_operators (omega arith) (span_at s.at) x v g) (λ _ w z. z))))
 
-  expr_stmt_at_shallow : Answers (Kept m) Shallow (expr_stmt_at (inner_expr expression) at s)
+  expr_stmt_at_shallow : Answers (Kept m) Shallow (expr_stmt_at (inner_expr expression) inner_operators at s)
   unfolding expr_stmt_at
   expr_stmt_at_shallow = answers_if _ _ (may_begin_expression_statement at s.at) _ _ (λ _. expr_stmt_shallow) (λ _. wanted_shallow _ faults.Unexpected (λ e. cc) m s f)
 
@@ -365,11 +366,11 @@ module _ (inner : Position → Reader Tree) (inner_expr : Class → Reader Tree)
       answers_then (Kept m) _ (labelled_body inner x.sym u) _ (labelled_body_shallow i (omega arith) x.sym u g) (λ y v j.
       answers_then (Kept m) _ (relabels (tree.ident x.span x.sym) y v) _ (told_shallow m _ v (fine_more i m v.at.left (omega arith) j)) (λ _ b a. a))))
 
-  other_shallow : Answers (Kept m) Shallow (other_stmt inner (inner_expr expression) at s)
+  other_shallow : Answers (Kept m) Shallow (other_stmt inner (inner_expr expression) inner_operators at s)
   unfolding other_stmt
   other_shallow = answers_if _ _ (begins_label s.code s.at) _ _ (λ _. labeled_shallow) (λ _. expr_stmt_at_shallow)
 
-  let_shallow : Answers (Kept m) Shallow (let_stmt inner inner_expr inner_pat inner_head inner_params inner_member at s)
+  let_shallow : Answers (Kept m) Shallow (let_stmt inner inner_expr inner_pat inner_head inner_params inner_member inner_operators at s)
   unfolding let_stmt
   let_shallow = answers_if _ _ (at.include_decl && is_let_declaration s.at) _ _ (λ _. variables_shallow decl.Let) (λ _. other_shallow)
 
@@ -625,15 +626,15 @@ module _ (inner : Position → Reader Tree) (inner_expr : Class → Reader Tree)
   function_stmt_shallow e = answers_if _ _ at.include_decl _ _ (λ _. function_shallow s (function_begins s.at e) f) (λ _. rw (fault_here s (fault_at (span_at s.at) faults.DeclNotAllowed) (ap is_error e))
       (function_shallow (noted (fault_at (span_at s.at) faults.DeclNotAllowed) s) (function_begins s.at e) f))
 
-  using_or_other_shallow : Answers (Kept m) Shallow (using_or_other inner inner_expr inner_pat inner_head inner_params inner_member at s)
+  using_or_other_shallow : Answers (Kept m) Shallow (using_or_other inner inner_expr inner_pat inner_head inner_params inner_member inner_operators at s)
   unfolding using_or_other
   using_or_other_shallow = answers_if _ _ (at.include_decl && is_using_declaration s.code s.at) _ _ (λ _. using_shallow) (λ _. other_shallow)
 
-  async_or_other_shallow : Answers (Kept m) Shallow (async_or_other inner inner_expr inner_pat inner_head inner_params inner_member at s)
+  async_or_other_shallow : Answers (Kept m) Shallow (async_or_other inner inner_expr inner_pat inner_head inner_params inner_member inner_operators at s)
   unfolding async_or_other
   async_or_other_shallow = answers_if _ _ (is_async_function s.at) _ _ (λ e. function_shallow s (async_begins s.at e) f) (λ _. using_or_other_shallow)
 
-  by_shallow : (k : TokenKind) → kind_at s.at ≡ k → Answers (Kept m) Shallow (stmt_by inner inner_expr inner_pat inner_head inner_params inner_member at k s)
+  by_shallow : (k : TokenKind) → kind_at s.at ≡ k → Answers (Kept m) Shallow (stmt_by inner inner_expr inner_pat inner_head inner_params inner_member inner_operators at k s)
   unfolding empty if_stmt
   by_shallow kind.LBrace e = block_shallow e
   by_shallow kind.Semi e = fine_after m s.at f
@@ -661,7 +662,7 @@ module _ (inner : Position → Reader Tree) (inner_expr : Class → Reader Tree)
   by_shallow kind.Export e = import_stmt_at_shallow
   by_shallow _ e = other_shallow
 
-  level_shallow : Answers (Kept m) Shallow (stmt_level inner inner_expr inner_pat inner_head inner_params inner_member at s)
+  level_shallow : Answers (Kept m) Shallow (stmt_level inner inner_expr inner_pat inner_head inner_params inner_member inner_operators at s)
   unfolding stmt_level
   level_shallow = by_shallow (kind_at s.at) refl
 
@@ -677,6 +678,7 @@ record Enough (n : ℕ) : Type 0 where
   elements : Levels n (element n)
   decorateds : Levels n (decorated_in n)
   members : Levels n (member n)
+  operands : (class : Class) → Levels (n - 1) (right_operand n class)
   stmts : (at : Position) → StmtLevels n (stmt n at)
 
 -- a name is read in whatever levels
@@ -688,6 +690,9 @@ names_enough (suc n) m s h e f = patterns.name_level_takes (expr n) (cover n) (p
 module _ (n : ℕ) (b : Enough n) where
   parameters_enough : Levels n (reader.parameters n)
   parameters_enough m s h f = patterns.parameter_list_shallow (expr n) (cover n) (pattern n) (element n) n b.exprs b.covers b.patterns b.elements m (omega arith) s f
+
+  operators_enough : (start : Span) (x : Tree) → Levels n (operators n start x)
+  operators_enough start x m s h f = expressions.binary_from_shallow (right_operand n) (cover n) (n - 1) b.operands (λ i t g k. b.covers i t (omega arith) k) m (omega arith) 1 start x s f
 
   function_enough : FunctionsShallow n (function n)
   unfolding function function_by
@@ -705,7 +710,7 @@ module _ (n : ℕ) (b : Enough n) where
   exprs_enough class m s h f = expressions.level_shallow (expr n) (cover n) n b.exprs b.covers m h (function n) function_enough class s f
 
 all_enough : (n : ℕ) → Enough n
-unfolding function expr cover head_cover pattern element decorated_in member stmt
+unfolding function expr cover head_cover pattern element decorated_in member right_operand stmt
 all_enough zero = record {
   exprs = λ class m s h f. too_deep_shallow _ s (omega arith);
   covers = λ m s h f. too_deep_shallow _ s (omega arith);
@@ -714,6 +719,7 @@ all_enough zero = record {
   elements = λ m s h f. too_deep_shallow _ s (omega arith);
   decorateds = λ m s h f. too_deep_shallow _ s (omega arith);
   members = λ m s h f. too_deep_shallow _ s (omega arith);
+  operands = λ class m s h f. too_deep_shallow _ s (omega arith);
   stmts = λ at m s h f. absurd (omega arith);
 }
 all_enough (suc n) = let b = all_enough n in record {
@@ -726,9 +732,10 @@ all_enough (suc n) = let b = all_enough n in record {
   members = classes.member_level_shallow (expr n) (cover n) (stmt n nested_item) (reader.parameters n) n b.exprs b.covers (parameters_enough n b)
       (function_body_shallow (stmt n nested_item) n (b.stmts nested_item) (reader.parameters n) (parameters_enough n b)) (braces_shallow (stmt n nested_item) n (b.stmts nested_item) false)
       (decorated_in n) b.decorateds;
-  stmts = λ at. either_shallow (reader.plain_stmt n) at n (λ m s h f. first_shallow (declarators (expr n) (pattern n) false decl.Var) (reader.nests n) (stmt_level (stmt n) (expr n) (pattern n) (head_cover n) (reader.parameters n) (member n)) at m
+  operands = λ class m s h f. b.exprs class m s (omega arith) f;
+  stmts = λ at. either_shallow (reader.plain_stmt n) at n (λ m s h f. first_shallow (declarators (expr n) (pattern n) false decl.Var) (reader.nests n) (stmt_level (stmt n) (expr n) (pattern n) (head_cover n) (reader.parameters n) (member n) (operators n)) at m
       (λ t g. declarators_shallow (expr n) (pattern n) n b.exprs b.patterns m (omega arith) false decl.Var t g) s f
-      (level_shallow (stmt n) (expr n) (pattern n) (head_cover n) (reader.parameters n) (member n) n b.stmts b.exprs b.patterns b.heads (parameters_enough n b) b.members (loses_nothing n) at m h s f)) (decorated_in n) b.decorateds;
+      (level_shallow (stmt n) (expr n) (pattern n) (head_cover n) (reader.parameters n) (member n) (operators n) n b.stmts b.exprs b.patterns b.heads (parameters_enough n b) b.members (operators_enough n b) (loses_nothing n) at m h s f)) (decorated_in n) b.decorateds;
 }
 
 -- an expression of any class, what may still become a pattern, and what a part of an expression holds that is none

@@ -2,6 +2,7 @@
 use Rattle.swc_ecma_parser_grammar.proofs.StatementBegins.{word_place}
 use Rattle.std.proofs.Common.{◌≡◌, ℕ, zero, suc, Bool, true, false, List, [], ◌∷◌, refl, true≢false, sym, ◌∙◌, ap, codes}
 use Rattle.std.specs.Prelude.{not, ◌&&◌, ◌||◌}
+use Rattle.swc_ecma_parser_common.specs.declared.span.Span.{Span}
 use Rattle.swc_ecma_parser_token.specs.declared.keyword.Keyword.{Keyword}
 use Rattle.swc_ecma_parser_token.specs.declared.keyword.Keyword.TheVariants as keyword
 use Rattle.swc_ecma_parser_token.specs.declared.kind.TokenKind.{TokenKind}
@@ -42,35 +43,35 @@ use Rattle.swc_ecma_parser_grammar.proofs.Using.{using_stands}
 
 -- ---- an expression statement is read by its first token
 
-pub opened : (stmt : Position → Reader Tree) (expr : Class → Reader Tree) (pat : Reader Tree) (cover : Reader Cover) (params : Reader (List Tree)) (member : Reader Tree) (at : Position) (s : State) (k : TokenKind) → opens k ≡ true
+pub opened : (stmt : Position → Reader Tree) (expr : Class → Reader Tree) (pat : Reader Tree) (cover : Reader Cover) (params : Reader (List Tree)) (member : Reader Tree) (operators : Span → Tree → Reader Tree) (at : Position) (s : State) (k : TokenKind) → opens k ≡ true
     → same_kind k kind.LBrace ≡ false → same_kind k kind.Import ≡ false → same_kind k kind.Const ≡ false → at.include_decl && is_let_declaration s.at ≡ false → same_kind k kind.Function ≡ false → is_async_function s.at ≡ false → same_kind k kind.Class ≡ false
-    → at.include_decl && is_using_declaration s.code s.at ≡ false → stmt_by stmt expr pat cover params member at k s ≡ other_stmt stmt (expr expression) at s
+    → at.include_decl && is_using_declaration s.code s.at ≡ false → stmt_by stmt expr pat cover params member operators at k s ≡ other_stmt stmt (expr expression) operators at s
 unfolding same_kind let_stmt async_or_other using_or_other
-opened stmt expr pat cover params member at s kind.LBrace e h g i l j a o u = cc
-opened stmt expr pat cover params member at s kind.Semi e h g i l j a o u = cc
-opened stmt expr pat cover params member at s kind.Debugger e h g i l j a o u = cc
-opened stmt expr pat cover params member at s kind.Var e h g i l j a o u = cc
-opened stmt expr pat cover params member at s kind.Const e h g i l j a o u = cc
-opened stmt expr pat cover params member at s kind.If e h g i l j a o u = cc
-opened stmt expr pat cover params member at s kind.Break e h g i l j a o u = cc
-opened stmt expr pat cover params member at s kind.Continue e h g i l j a o u = cc
-opened stmt expr pat cover params member at s kind.Return e h g i l j a o u = cc
-opened stmt expr pat cover params member at s kind.For e h g i l j a o u = cc
-opened stmt expr pat cover params member at s kind.Throw e h g i l j a o u = cc
-opened stmt expr pat cover params member at s kind.Switch e h g i l j a o u = cc
-opened stmt expr pat cover params member at s kind.Try e h g i l j a o u = cc
-opened stmt expr pat cover params member at s kind.Catch e h g i l j a o u = cc
-opened stmt expr pat cover params member at s kind.Finally e h g i l j a o u = cc
-opened stmt expr pat cover params member at s kind.With e h g i l j a o u = cc
-opened stmt expr pat cover params member at s kind.While e h g i l j a o u = cc
-opened stmt expr pat cover params member at s kind.Do e h g i l j a o u = cc
-opened stmt expr pat cover params member at s kind.Function e h g i l j a o u = cc
-opened stmt expr pat cover params member at s kind.Class e h g i l j a o u = cc
-opened stmt expr pat cover params member at s kind.Import e h g i l j a o u = cc
-opened stmt expr pat cover params member at s kind.Export e h g i l j a o u = cc
-opened stmt expr pat cover params member at s kind.Let e h g i l j a o u = rw l refl
-opened stmt expr pat cover params member at s kind.Ident e h g i l j a o u = rw (a, u) refl
-opened stmt expr pat cover params member at s _ e h g i l j a o u = refl
+opened stmt expr pat cover params member operators at s kind.LBrace e h g i l j a o u = cc
+opened stmt expr pat cover params member operators at s kind.Semi e h g i l j a o u = cc
+opened stmt expr pat cover params member operators at s kind.Debugger e h g i l j a o u = cc
+opened stmt expr pat cover params member operators at s kind.Var e h g i l j a o u = cc
+opened stmt expr pat cover params member operators at s kind.Const e h g i l j a o u = cc
+opened stmt expr pat cover params member operators at s kind.If e h g i l j a o u = cc
+opened stmt expr pat cover params member operators at s kind.Break e h g i l j a o u = cc
+opened stmt expr pat cover params member operators at s kind.Continue e h g i l j a o u = cc
+opened stmt expr pat cover params member operators at s kind.Return e h g i l j a o u = cc
+opened stmt expr pat cover params member operators at s kind.For e h g i l j a o u = cc
+opened stmt expr pat cover params member operators at s kind.Throw e h g i l j a o u = cc
+opened stmt expr pat cover params member operators at s kind.Switch e h g i l j a o u = cc
+opened stmt expr pat cover params member operators at s kind.Try e h g i l j a o u = cc
+opened stmt expr pat cover params member operators at s kind.Catch e h g i l j a o u = cc
+opened stmt expr pat cover params member operators at s kind.Finally e h g i l j a o u = cc
+opened stmt expr pat cover params member operators at s kind.With e h g i l j a o u = cc
+opened stmt expr pat cover params member operators at s kind.While e h g i l j a o u = cc
+opened stmt expr pat cover params member operators at s kind.Do e h g i l j a o u = cc
+opened stmt expr pat cover params member operators at s kind.Function e h g i l j a o u = cc
+opened stmt expr pat cover params member operators at s kind.Class e h g i l j a o u = cc
+opened stmt expr pat cover params member operators at s kind.Import e h g i l j a o u = cc
+opened stmt expr pat cover params member operators at s kind.Export e h g i l j a o u = cc
+opened stmt expr pat cover params member operators at s kind.Let e h g i l j a o u = rw l refl
+opened stmt expr pat cover params member operators at s kind.Ident e h g i l j a o u = rw (a, u) refl
+opened stmt expr pat cover params member operators at s _ e h g i l j a o u = refl
 
 -- where one may begin neither a block does nor `import`, nor a function or another declaration
 neither_by : (block function class import async declares : Bool) → not (block || (function || (class || (import || (async || declares))))) ≡ true

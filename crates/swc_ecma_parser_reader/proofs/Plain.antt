@@ -23,7 +23,7 @@ use Rattle.swc_ecma_parser_reader.specs.DecoratedStatements.{either_stmt}
 use Rattle.swc_ecma_parser_reader.proofs.decorators.Declared.{declared_is_bare, first_declares}
 use Rattle.swc_ecma_parser_reader.proofs.decorators.Either.{either_at}
 use Rattle.swc_ecma_parser_reader.proofs.decorators.Labels.{either_unlabelled}
-use Rattle.swc_ecma_parser_reader.specs.Reader.{decorated_in, told, named, with_stmt, note_with, await_here, unless_awaited, misdirected, function_body, function_parts, function_decl, function_stmt, expr, head_cover, pattern, member, function_word, async_or_other, items, closes, close, declarators, declaration_end, stray, link, alternative, head, clauses, target, unbroken, uncontinued, operand, braced, handler, finalizer, handled, optional_end, Opening, as_init, as_left, opening, head_part, misdeclared, labelled_body, relabels, no_label, note_statement, empty, debugger, variables, block, block_from, expr_stmt, expr_stmt_at, import_stmt, import_stmt_at, thrown, throw, while_stmt, do_while, for_parts, for_in, for_of, for_behind, for_stmt, goes_on, links, if_stmt, break_stmt, continue_stmt, returned, return_stmt, misplaced, begins_label, labeled_stmt, other_stmt, switch_stmt, try_stmt, const_stmt, let_stmt, stmt_by, stmt_level, stmt, misusing, using_from, using_stmt, using_or_other, await_using_stmt, plain_stmt}
+use Rattle.swc_ecma_parser_reader.specs.Reader.{decorated_in, told, named, with_stmt, note_with, await_here, unless_awaited, misdirected, function_body, function_parts, function_decl, function_stmt, expr, head_cover, pattern, member, function_word, async_or_other, items, closes, close, declarators, declaration_end, stray, link, alternative, head, clauses, target, unbroken, uncontinued, operand, braced, handler, finalizer, handled, optional_end, Opening, as_init, as_left, opening, head_part, misdeclared, labelled_body, relabels, no_label, note_statement, empty, debugger, variables, block, block_from, stmt_end, expr_stmt, expr_stmt_at, import_stmt, import_stmt_at, thrown, throw, while_stmt, do_while, for_parts, for_in, for_of, for_behind, for_stmt, goes_on, links, if_stmt, break_stmt, continue_stmt, returned, return_stmt, misplaced, begins_label, labeled_stmt, other_stmt, switch_stmt, try_stmt, const_stmt, let_stmt, stmt_by, stmt_level, stmt, misusing, using_from, using_stmt, using_or_other, await_using_stmt, plain_stmt}
 use Rattle.swc_ecma_parser_reader.proofs.Meets.{meets_then, Meets, Refuses, always, meets_if, wanted_meets, too_deep_meets, refuse_meets, meant, saw}
 use Rattle.std.specs.Prelude.{◌&&◌, ◌||◌, codes}
 use Rattle.std.proofs.lemmas.List.Recursion.{is_count_by}
@@ -70,7 +70,7 @@ abbrev pub is_starred : State → Bool
 is_starred s = sees kind.Mul (after s.at)
 
 module _ (inner : Position → Reader Tree) (inner_expr : Class → Reader Tree) (inner_pat : Reader Tree) (inner_head : Reader Cover) (inner_params : Reader (List Tree))
-    (inner_member : Reader Tree) where
+    (inner_member : Reader Tree) (inner_operators : Span → Tree → Reader Tree) where
   block_plain : (s : State) → Meets Plain (block (inner nested_item) s)
   unfolding block block_from
   block_plain s = always Plain (items (inner nested_item) closes false (moved s)) _ (λ xs t. always Plain (close t) _ (λ _ u b. refl))
@@ -87,7 +87,7 @@ module _ (inner : Position → Reader Tree) (inner_expr : Class → Reader Tree)
   unfolding using_stmt using_from misusing
   using_plain s = always Plain (within with_in (declarators inner_expr inner_pat false decl.Var) (moved s)) _ (λ xs t. always Plain (misusing (record { lo = (span_at s.at).lo; hi = t.at.last.hi }) xs t) _ (λ _ u b. refl))
 
-  const_plain : (at : Position) (s : State) → Meets Plain (const_stmt inner inner_expr inner_pat inner_head inner_params inner_member at s)
+  const_plain : (at : Position) (s : State) → Meets Plain (const_stmt inner inner_expr inner_pat inner_head inner_params inner_member inner_operators at s)
   unfolding const_stmt
   const_plain at s = where_declared at.include_decl
     where
@@ -199,17 +199,17 @@ module _ (inner : Position → Reader Tree) (inner_expr : Class → Reader Tree)
   labeled_plain s = always Plain (reference faults.ExpectedIdent s) _ (λ i t. always Plain (expect kind.Colon t) _ (λ _ u.
       always Plain (labelled_body inner i.sym u) _ (λ y v. always Plain (relabels (tree.ident i.span i.sym) y v) _ (λ _ o b. refl))))
 
-  expr_plain : (at : Position) (s : State) → Meets Plain (expr_stmt_at (inner_expr expression) at s)
+  expr_plain : (at : Position) (s : State) → Meets Plain (expr_stmt_at (inner_expr expression) inner_operators at s)
   unfolding expr_stmt_at expr_stmt
   expr_plain at s = meets_if Plain (may_begin_expression_statement at s.at) _ _
       (λ _. always Plain (within with_in (inner_expr expression) s) _ (λ x t. always Plain (no_label x t) _ (λ _ u. always Plain (note_statement x u) _ (λ _ v.
-      always Plain (end faults.ExpectedSemiForExprStmt v) _ (λ _ o b. refl))))) (λ _. wanted_meets Plain faults.Unexpected s)
+      always Plain (stmt_end inner_operators (span_at s.at) x v) _ (λ _ o b. refl))))) (λ _. wanted_meets Plain faults.Unexpected s)
 
-  other_plain : (at : Position) (s : State) → Meets Plain (other_stmt inner (inner_expr expression) at s)
+  other_plain : (at : Position) (s : State) → Meets Plain (other_stmt inner (inner_expr expression) inner_operators at s)
   unfolding other_stmt
   other_plain at s = meets_if Plain (begins_label s.code s.at) _ _ (λ _. labeled_plain s) (λ _. expr_plain at s)
 
-  let_plain : (at : Position) (s : State) → Meets Plain (let_stmt inner inner_expr inner_pat inner_head inner_params inner_member at s)
+  let_plain : (at : Position) (s : State) → Meets Plain (let_stmt inner inner_expr inner_pat inner_head inner_params inner_member inner_operators at s)
   unfolding let_stmt
   let_plain at s = meets_if Plain (at.include_decl && is_let_declaration s.at) _ _ (λ _. variables_plain decl.Let s) (λ _. other_plain at s)
 
@@ -250,11 +250,11 @@ module _ (inner : Position → Reader Tree) (inner_expr : Class → Reader Tree)
   function_stmt_told at s e = meets_if (Told kind.Function (is_starred s)) at.include_decl _ _ (λ _. function_told s (plain_function s.at e))
       (λ _. rw (fault_here s (fault_at (span_at s.at) faults.DeclNotAllowed) (ap is_error e)) (function_told (noted (fault_at (span_at s.at) faults.DeclNotAllowed) s) (plain_function s.at e)))
 
-  using_or_other_plain : (at : Position) (s : State) → Meets Plain (using_or_other inner inner_expr inner_pat inner_head inner_params inner_member at s)
+  using_or_other_plain : (at : Position) (s : State) → Meets Plain (using_or_other inner inner_expr inner_pat inner_head inner_params inner_member inner_operators at s)
   unfolding using_or_other
   using_or_other_plain at s = meets_if Plain (at.include_decl && is_using_declaration s.code s.at) _ _ (λ _. using_plain s) (λ _. other_plain at s)
 
-  async_or_other_plain : (at : Position) (s : State) → Meets Plain (async_or_other inner inner_expr inner_pat inner_head inner_params inner_member at s)
+  async_or_other_plain : (at : Position) (s : State) → Meets Plain (async_or_other inner inner_expr inner_pat inner_head inner_params inner_member inner_operators at s)
   unfolding async_or_other
   async_or_other_plain at s = meets_if Plain (is_async_function s.at) _ _ (λ e. async_plain s e) (λ _. using_or_other_plain at s)
 
@@ -272,7 +272,7 @@ module _ (inner : Position → Reader Tree) (inner_expr : Class → Reader Tree)
   class_stmt_plain at s e = meets_if Plain at.include_decl _ _ (λ _. class_plain s)
       (λ _. rw (fault_here s (fault_at (span_at s.at) faults.DeclNotAllowed) (ap is_error e)) (class_plain (noted (fault_at (span_at s.at) faults.DeclNotAllowed) s)))
 
-  by_told : (at : Position) (j : TokenKind) (s : State) → kind_at s.at ≡ j → Meets (Told j (is_starred s)) (stmt_by inner inner_expr inner_pat inner_head inner_params inner_member at j s)
+  by_told : (at : Position) (j : TokenKind) (s : State) → kind_at s.at ≡ j → Meets (Told j (is_starred s)) (stmt_by inner inner_expr inner_pat inner_head inner_params inner_member inner_operators at j s)
   unfolding empty if_stmt same_kind
   by_told at kind.LBrace s e = block_plain s
   by_told at kind.Semi s e = λ b. refl
@@ -316,14 +316,14 @@ module _ (n : ℕ) (at : Position) where
   plain = plain_stmt n
 
   abbrev rest : Position → Reader Tree
-  rest = stmt_level (stmt n) (expr n) (pattern n) (head_cover n) (reader.parameters n) (member n)
+  rest = stmt_level (stmt n) (expr n) (pattern n) (head_cover n) (reader.parameters n) (member n) (reader.operators n)
 
   abbrev found : Reader (List Tree)
   found = declarators (expr n) (pattern n) false decl.Var
 
   level_told : (s : State) → Meets (Told (kind_at s.at) (is_starred s)) (rest at s)
   unfolding stmt_level
-  level_told s = by_told (stmt n) (expr n) (pattern n) (head_cover n) (reader.parameters n) (member n) at (kind_at s.at) s refl
+  level_told s = by_told (stmt n) (expr n) (pattern n) (head_cover n) (reader.parameters n) (member n) (reader.operators n) at (kind_at s.at) s refl
 
   plain_told : (s : State) → Meets (Told (kind_at s.at) (is_starred s)) (plain at s)
   unfolding same_kind
@@ -339,7 +339,7 @@ module _ (n : ℕ) (at : Position) where
       by_first true e = subst (Meets (Told (kind_at s.at) (is_starred s))) (sym (either_at plain (decorated_in n) at s kind.Function (saw s.at kind.Function e) refl)) (plain_told s)
       by_first false e = unseen_told (kind_at s.at) (is_starred s) (either_stmt plain (decorated_in n) at s) e
           (either_unlabelled plain at (λ t f. untold (kind_at t.at) (is_starred t) (plain at t) f (plain_told t))
-          (λ t h. first_declares found (reader.nests n) rest at t (λ x u. IsBare x) h (declared_is_bare (stmt n) (expr n) (pattern n) (head_cover n) (reader.parameters n) (member n) at t h)) (decorated_in n) s e)
+          (λ t h. first_declares found (reader.nests n) rest at t (λ x u. IsBare x) h (declared_is_bare (stmt n) (expr n) (pattern n) (head_cover n) (reader.parameters n) (member n) (reader.operators n) at t h)) (decorated_in n) s e)
 
 stmt_meets_told : (n : ℕ) (at : Position) (s : State) → Meets (Told (kind_at s.at) (is_starred s)) (stmt n at s)
 unfolding stmt

@@ -2,6 +2,7 @@
 -- itself. So does what stands up to the end of a declaration.
 use Rattle.std.proofs.Common.{◌≡◌, ◌≢◌, ℕ, suc, ◌≤◌, Bool, true, false, cond, List, [], ◌∷◌, ◌++◌, length, Ok, Err, refl, sym, ◌∙◌, ap, subst, arith}
 use Rattle.std.specs.Prelude.{◌||◌, is_some}
+use Rattle.swc_ecma_parser_common.specs.declared.span.Span.{Span}
 use Rattle.swc_ecma_parser_error.specs.Kind as faults
 use Rattle.swc_ecma_parser_error.specs.Kind.{Fault, fault_of}
 use Rattle.swc_ecma_parser_token.specs.declared.kind.TokenKind.TheVariants as kind
@@ -103,10 +104,11 @@ attempted_takes p q s e h passes = kept_takes s (dropped_as s (p s)) e (subst (�
     (dropped_keeps (moved s) s refl (q (moved s)) (passes (moved s) (moved s) (behind_self (moved s)))))
 
 -- what statements are read by loses nothing
-pub record Lossless (stmt expr pat : Reader Tree) : Type 0 where
+pub record Lossless (stmt expr pat : Reader Tree) (operators : Span → Tree → Reader Tree) : Type 0 where
   pub stmts : Passes stmt
   pub exprs : Passes expr
   pub pats : Passes pat
+  pub operations : (start : Span) (x : Tree) → Passes (operators start x)
 
 -- an expression in which `in` is an operator
 pub inside_passes : (p : Reader Tree) → Passes p → Passes (within with_in p)

@@ -10,18 +10,17 @@ use Rattle.swc_ecma_parser_reader.proofs.decorators.Sound.{decorated_sound}
 use Rattle.swc_ecma_parser_reader.proofs.decorators.Declared.{declares_plainly, plain_exports}
 use Rattle.swc_ecma_parser_reader.proofs.decorators.SoundStatements.{either_sound}
 use Rattle.swc_ecma_parser_reader.proofs.patterns.Sound as patterns
-use Rattle.swc_ecma_parser_reader.proofs.patterns.Sound.{SoundParams, Unwrapped}
 use Rattle.swc_ecma_parser_reader.proofs.expressions.Sound as expressions
 use Rattle.swc_ecma_parser_reader.proofs.expressions.SoundLefts.{FunctionRead, FunctionsSound}
 use Rattle.std.proofs.Common.{append_assoc, ◌≡◌, ℕ, zero, suc, Bool, true, false, cond, List, [], ◌∷◌, ◌++◌, length, Ok, refl, sym, ◌∙◌, ap, subst, append-nil}
 use Rattle.swc_ecma_parser_reader.specs.Notes.{no_notes, ◌⊕◌, notes_of, all_notes_of}
 use Rattle.swc_ecma_parser_reader.proofs.Between.{sound_below, sound_coded, Sound, SoundTree, SoundStep, no_faults, same, nil-split, sound_then, sound_more, sound_moved, sound_here, sound_as, sound_held, sound_after, within_sound}
 use Rattle.swc_ecma_parser_reader.specs.State.{name, reference, below, below_label, State, Reader, moved, coded, within, fault_at, wanted, labelled, labelled_as, expect, end}
-use Rattle.swc_ecma_parser_grammar.specs.Reads.{labeled_rule, with_rule, class_rule, function_rule, with_in, nested_item, ReadsItems, TargetRule, OperandRule, no_operand_rule, operand_rule, break_rule, continue_rule, return_rule, StmtRule, block_rule, empty_rule, debugger_rule, if_statement_rule, CaseRule, case_clause_rule, default_clause_rule, ReadsCases, switch_rule, throw_rule, try_rule, while_rule, do_while_rule, expr_rule, import_rule, ReadsBlock, CatchRule, no_catch_rule, catch_rule, catch_parameter_rule, FinallyRule, no_finally_rule, finally_rule, ReadsHead, IfRule, if_rule, ElseRule, no_else_rule, else_rule, else_if_rule}
+use Rattle.swc_ecma_parser_grammar.specs.Reads.{labeled_rule, with_rule, class_rule, function_rule, with_in, nested_item, ReadsItems, TargetRule, OperandRule, no_operand_rule, operand_rule, break_rule, continue_rule, return_rule, StmtRule, block_rule, empty_rule, debugger_rule, if_statement_rule, CaseRule, case_clause_rule, default_clause_rule, ReadsCases, switch_rule, throw_rule, try_rule, while_rule, do_while_rule, import_rule, ReadsBlock, CatchRule, no_catch_rule, catch_rule, catch_parameter_rule, FinallyRule, no_finally_rule, finally_rule, ReadsHead, IfRule, if_rule, ElseRule, no_else_rule, else_rule, else_if_rule}
 use Rattle.swc_ecma_parser_grammar.specs.Own.{labelled_function, duplicates}
-use Rattle.swc_ecma_parser_reader.proofs.SoundParts.{labelled_meets, relabels_sound, SoundWith, note_with_sound, using_sound, end_sound, optional_end_sound, Declarators, declarators_sound, inside_sound, variables_sound, code_stays, items_sound, NoLabel, no_label_sound, NoNote, SoundNote, note_sound, and_false, unbroken_sound, uncontinued_sound, misplaced_sound, target_sound, after_return_meets, first_sound}
+use Rattle.swc_ecma_parser_reader.proofs.SoundParts.{labelled_meets, relabels_sound, SoundWith, note_with_sound, using_sound, end_sound, optional_end_sound, Declarators, declarators_sound, inside_sound, variables_sound, code_stays, items_sound, and_false, unbroken_sound, uncontinued_sound, misplaced_sound, target_sound, after_return_meets, first_sound}
 use Rattle.swc_ecma_parser_grammar.specs.language.Items.{labelled_item, sub_statement}
-use Rattle.swc_ecma_parser_reader.specs.Reader.{begins_label, relabels, labelled_body, labeled_stmt, other_stmt, with_stmt, note_with, function_stmt, async_or_other, function_decl, variables, const_stmt, let_stmt, expr, cover, head_cover, pattern, element, decorated_in, member, function, function_by, getter, setter, plain_method, target, unbroken, break_stmt, uncontinued, continue_stmt, misplaced, operand, returned, return_stmt, empty, debugger, declarators, closes, close, items, block_from, block, braced, note_statement, no_label, expr_stmt, expr_stmt_at, optional_end, import_stmt, import_stmt_at, thrown, throw, head, while_stmt, do_while, Link, goes_on, condition, alternative, link_from, link, links, if_stmt, begins_clause, closes_clause, Clauses, clause_from, default_clause, case_clause, clause, clauses_turn, clauses, switch_stmt, begins_at, is_handled, handled, bound, parameter, finalizer, caught, handler, try_stmt, stmt_by, stmt_level, stmt, using_or_other}
+use Rattle.swc_ecma_parser_reader.specs.Reader.{begins_label, relabels, labelled_body, labeled_stmt, other_stmt, with_stmt, note_with, function_stmt, async_or_other, function_decl, variables, const_stmt, let_stmt, expr, cover, head_cover, pattern, element, decorated_in, member, operators, right_operand, function, function_by, getter, setter, plain_method, target, unbroken, break_stmt, uncontinued, continue_stmt, misplaced, operand, returned, return_stmt, empty, debugger, declarators, closes, close, items, block_from, block, braced, expr_stmt_at, optional_end, import_stmt, import_stmt_at, thrown, throw, head, while_stmt, do_while, Link, goes_on, condition, alternative, link_from, link, links, if_stmt, begins_clause, closes_clause, Clauses, clause_from, default_clause, case_clause, clause, clauses_turn, clauses, switch_stmt, begins_at, is_handled, handled, bound, parameter, finalizer, caught, handler, try_stmt, stmt_by, stmt_level, stmt, using_or_other}
 use Rattle.swc_ecma_parser_model.specs.declared.leaves.VarDeclKind.{VarDeclKind}
 use Rattle.swc_ecma_parser_model.specs.declared.leaves.VarDeclKind.TheVariants as decl
 use Rattle.swc_ecma_parser_grammar.specs.Variables.{begins_variables, is_var}
@@ -34,6 +33,8 @@ use Rattle.swc_ecma_parser_reader.proofs.expressions.Heads.{SoundHead, head_expr
 use Rattle.swc_ecma_parser_reader.proofs.Keeps.{loses_nothing}
 use Rattle.swc_ecma_parser_reader.proofs.Recovered.{Lossless}
 use Rattle.swc_ecma_parser_reader.proofs.Strays.{stray_sound}
+use Rattle.swc_ecma_parser_reader.proofs.SoundEnds.{SoundWild, expr_stmt_sound}
+use Rattle.swc_ecma_parser_reader.proofs.expressions.SoundOperators.{levels_inside, operators_sound}
 use Rattle.swc_ecma_parser_reader.proofs.SoundFor.{HeadSound, looped_sound, for_sound}
 use Rattle.swc_ecma_parser_grammar.proofs.UsingParts.{bound_target}
 use Rattle.std.specs.Prelude.{not, ◌&&◌, ◌||◌}
@@ -56,7 +57,6 @@ use Rattle.swc_ecma_parser_grammar.specs.ReadsSupported.{ReadsClass, ReadsPat, R
 use Rattle.swc_ecma_parser_grammar.specs.Walk as walks
 use Rattle.swc_ecma_parser_grammar.specs.Walk.{walk, env_of}
 use Rattle.swc_ecma_parser_grammar.specs.Notes.{notes, statement_note}
-use Rattle.swc_ecma_parser_grammar.specs.language.Noted.{has_meta}
 use Rattle.swc_ecma_parser_grammar.proofs.Tests.{or_no, and_yes, and_both}
 use Rattle.swc_ecma_parser_grammar.proofs.FunctionExprs.{function_widens, function_supported}
 use Rattle.swc_ecma_parser_grammar.proofs.MethodParts.{parts_widen, params_supported, body_supported, parameters_unnoted, body_unnoted}
@@ -72,7 +72,7 @@ use Rattle.swc_ecma_parser_grammar.specs.language.LeftSides.{is_callee}
 use Rattle.swc_ecma_parser_reader.specs.Expressions.{Cover}
 use Rattle.swc_ecma_parser_reader.proofs.expressions.SoundCovers.{SoundCover, HeadRead, Headed, MethodRead}
 use Rattle.swc_ecma_parser_reader.proofs.expressions.SoundSteps.{meets_as, FreeWord, Takes, expect_sound, fault_sound, walks_push, notes_push, reference_sound}
-use Rattle.swc_ecma_parser_reader.proofs.Notes.{or_nil, or_true, notes_nil}
+use Rattle.swc_ecma_parser_reader.proofs.Notes.{or_true, notes_nil}
 use Rattle.swc_ecma_parser_reader.proofs.Meets.{Meets, Refuses, meets_then, meets_if, wanted_meets, too_deep_meets, refuse_meets, Turned, loop_answers, saw, meant}
 use Rattle.swc_ecma_parser_reader.proofs.Opens.{import_unnoted, chain_goes, chain_stops}
 use Rattle.swc_ecma_parser_grammar.specs.Using.{is_using_declaration}
@@ -81,14 +81,15 @@ use Rattle.swc_ecma_parser_grammar.specs.Using.{is_using_declaration}
 
 module _ (Stmt : Code → Position → Tree → Place → Place → Type 0) (Expr : Class → Code → Tree → Place → Place → Type 0) (Pat Target : Code → Tree → Place → Place → Type 0)
     (Params : Code → List Tree → Place → Place → Type 0) (Named : Code → (name x : Tree) → Place → Place → Type 0) (inner : Position → Reader Tree) (inner_expr : Class → Reader Tree)
-    (inner_pat : Reader Tree) (inner_head : Reader Cover) (inner_params : Reader (List Tree)) (inner_member : Reader Tree)
+    (inner_pat : Reader Tree) (inner_head : Reader Cover) (inner_params : Reader (List Tree)) (inner_member : Reader Tree) (inner_operators : Span → Tree → Reader Tree)
     (sound : (at : Position) (s : State) → Meets (λ x t. SoundTree (λ k. Stmt k at) s x t) (inner at s))
     (sound_expr : (class : Class) (s : State) → Meets (λ x t. SoundTree (Expr class) s x t) (inner_expr class s))
     (sound_pat : (s : State) → Meets (λ x t. SoundTree Pat s x t) (inner_pat s))
     (sound_head : HeadSound Expr Pat Target inner_pat inner_head)
     (sound_params : (s : State) → Meets (λ ps t. Sound same (λ k l. walks.walks (env_of k l) false (trees ps)) (all_notes_of (trees ps)) (λ k. Params k ps) s t) (inner_params s))
     (sound_class : (at : Position) (s : State) → kind_at s.at ≡ kind.Class → Meets (λ x t. SoundTree (Declared Named at) s x t) (class_stmt (inner_expr left_side) inner_member at s))
-    (unnoted : (k : Code) (x : Tree) (c d : Place) → begins_import_expression c ≡ true → Expr expression k x c d → statement_note x ≡ []) (lossless : Lossless (inner nested_item) (inner_expr expression) inner_pat) (at : Position) where
+    (sound_operators : (start : Span) (x : Tree) (s t : State) → SoundWild s x t → Meets (λ y u. SoundWild s y u) (inner_operators start x t))
+    (unnoted : (k : Code) (x : Tree) (c d : Place) → begins_import_expression c ≡ true → Expr expression k x c d → statement_note x ≡ []) (lossless : Lossless (inner nested_item) (inner_expr expression) inner_pat inner_operators) (at : Position) where
   -- a statement in its place
   abbrev SoundStmt : State → Tree → State → Type 0
   SoundStmt s x t = SoundTree (λ k. StmtRule Stmt Expr Pat Target Params Named k at) s x t
@@ -111,20 +112,10 @@ module _ (Stmt : Code → Position → Tree → Place → Place → Type 0) (Exp
   braced_sound s = meets_as (braced (inner nested_item) false s) (braces_sound Stmt (inner nested_item) (sound nested_item) false s) (λ x t (xs, g, p).
       sound_as s t (code_stays s.code xs) (sym (ap (walk (env_of s.code s.scope.labels)) g)) (sym (ap notes_of g)) (λ r. in_braces Stmt (inner nested_item) (sound nested_item) false xs g r) p)
 
-  expr_stmt_sound : (s : State) → may_begin_expression_statement at s.at ≡ true → Meets (SoundStmt s) (expr_stmt (inner_expr expression) s)
-  unfolding expr_stmt SoundNote NoNote NoLabel
-  expr_stmt_sound s e = meets_then _ (within with_in (inner_expr expression) s) _
-      (within_sound (λ x k l. walk (env_of k l) x) notes_of (λ x k. Expr expression k x) with_in (λ k. refl) (inner_expr expression) s (sound_expr expression (coded (with_in s.code) s))) (λ x i p.
-      meets_then _ (no_label x i) _ (no_label_sound x i) (λ _ j q.
-      meets_then _ (note_statement x j) _ (note_sound x j) (λ _ m r.
-      meets_then _ (end faults.ExpectedSemiForExprStmt m) _ (end_sound faults.ExpectedSemiForExprStmt m) (λ _ t z.
-      sound_as s t refl (append-nil (walk (env_of s.code s.scope.labels) x)) (λ l. record { held_back = notes x ++ statement_note x; found_module_item = or_nil (has_meta x) l })
-      (λ (i, (j, (m, a, b), g), y). expr_rule x m e a b.0 g.0 (subst (λ v. Ends v t.at) (g.1 ∙ b.1) y) refl)
-      (sound_more (sound_then (sound_more p q) r) z)))))
-
-  expr_stmt_at_sound : (s : State) → Meets (SoundStmt s) (expr_stmt_at (inner_expr expression) at s)
+  expr_stmt_at_sound : (s : State) → Meets (SoundStmt s) (expr_stmt_at (inner_expr expression) inner_operators at s)
   unfolding expr_stmt_at
-  expr_stmt_at_sound s = meets_if _ (may_begin_expression_statement at s.at) _ _ (λ h. expr_stmt_sound s h) (λ _. wanted_meets _ faults.Unexpected s)
+  expr_stmt_at_sound s = meets_if _ (may_begin_expression_statement at s.at) _ _
+      (λ h. expr_stmt_sound inner_operators sound_operators Stmt Expr Pat Target Params Named at (inner_expr expression) (sound_expr expression) s h) (λ _. wanted_meets _ faults.Unexpected s)
 
   import_stmt_sound : (s : State) → begins_import_expression s.at ≡ true → Meets (SoundStmt s) (import_stmt (inner_expr expression) s)
   unfolding import_stmt
@@ -474,7 +465,7 @@ module _ (Stmt : Code → Position → Tree → Place → Place → Type 0) (Exp
       (ap (λ c. tree.labeled (spanned s.at c) (tree.ident i.span i.sym) y) (sym (e ∙ v)) ∙ ap (λ c. tree.labeled (spanned s.at t.at) (tree.ident i.span c) y) w.text))
       (sound_then b u)))))
 
-  other_sound : (s : State) → Meets (SoundStmt s) (other_stmt inner (inner_expr expression) at s)
+  other_sound : (s : State) → Meets (SoundStmt s) (other_stmt inner (inner_expr expression) inner_operators at s)
   unfolding other_stmt
   other_sound s = meets_if _ (begins_label s.code s.at) _ _ (λ _. labeled_sound s) (λ _. expr_stmt_at_sound s)
 
@@ -487,7 +478,7 @@ module _ (Stmt : Code → Position → Tree → Place → Place → Type 0) (Exp
   allowed : (word : VarDeclKind) → at.include_decl ≡ true → at.include_decl || is_var word ≡ true
   allowed word h = rw h refl
 
-  const_stmt_sound : (s : State) → begins_variables decl.Const s.at ≡ true → Meets (SoundStmt s) (const_stmt inner inner_expr inner_pat inner_head inner_params inner_member at s)
+  const_stmt_sound : (s : State) → begins_variables decl.Const s.at ≡ true → Meets (SoundStmt s) (const_stmt inner inner_expr inner_pat inner_head inner_params inner_member inner_operators at s)
   unfolding const_stmt
   const_stmt_sound s e = by_place at.include_decl refl
     where
@@ -495,26 +486,26 @@ module _ (Stmt : Code → Position → Tree → Place → Place → Type 0) (Exp
       by_place true h = declared_sound decl.Const s (allowed decl.Const h) e
       by_place false h = wanted_meets _ faults.Unexpected s
 
-  let_stmt_sound : (s : State) → Meets (SoundStmt s) (let_stmt inner inner_expr inner_pat inner_head inner_params inner_member at s)
+  let_stmt_sound : (s : State) → Meets (SoundStmt s) (let_stmt inner inner_expr inner_pat inner_head inner_params inner_member inner_operators at s)
   unfolding let_stmt
   let_stmt_sound s = meets_if _ (at.include_decl && is_let_declaration s.at) _ _
       (λ h. let b = and_yes at.include_decl (is_let_declaration s.at) h in declared_sound decl.Let s (allowed decl.Let b.0) b.1) (λ _. other_sound s)
 
-  using_or_other_sound : (s : State) → Meets (SoundStmt s) (using_or_other inner inner_expr inner_pat inner_head inner_params inner_member at s)
+  using_or_other_sound : (s : State) → Meets (SoundStmt s) (using_or_other inner inner_expr inner_pat inner_head inner_params inner_member inner_operators at s)
   unfolding using_or_other
   using_or_other_sound s = meets_if _ (at.include_decl && is_using_declaration s.code s.at) _ _
       (λ h. let b = and_yes at.include_decl (is_using_declaration s.code s.at) h in using_sound Expr Pat inner_expr inner_pat sound_expr sound_pat Stmt Target Params Named at s b.0 b.1) (λ _. other_sound s)
 
   -- each kind of token begins its statement
   -- an async function may stand in the place of any statement
-  async_or_other_sound : (s : State) → Meets (SoundStmt s) (async_or_other inner inner_expr inner_pat inner_head inner_params inner_member at s)
+  async_or_other_sound : (s : State) → Meets (SoundStmt s) (async_or_other inner inner_expr inner_pat inner_head inner_params inner_member inner_operators at s)
   unfolding async_or_other
   async_or_other_sound s = meets_if _ (is_async_function s.at) _ _
       (λ h. meets_as (function_decl (inner nested_item) inner_params s) (function_decl_sound Stmt Params (inner nested_item) (sound nested_item) inner_params sound_params s (async_begins s.at h))
       (λ x t p. sound_as s t refl refl refl (λ r. function_rule (or_later at.include_decl _ h) r) p))
       (λ _. using_or_other_sound s)
 
-  by_sound : (j : TokenKind) (s : State) → kind_at s.at ≡ j → Meets (SoundStmt s) (stmt_by inner inner_expr inner_pat inner_head inner_params inner_member at j s)
+  by_sound : (j : TokenKind) (s : State) → kind_at s.at ≡ j → Meets (SoundStmt s) (stmt_by inner inner_expr inner_pat inner_head inner_params inner_member inner_operators at j s)
   by_sound kind.LBrace s e = block_sound s e
   by_sound kind.Semi s e = empty_sound s e
   by_sound kind.Debugger s e = debugger_sound s e
@@ -542,7 +533,7 @@ module _ (Stmt : Code → Position → Tree → Place → Place → Type 0) (Exp
   by_sound kind.Export s e = import_stmt_at_sound s
   by_sound _ s e = other_sound s
 
-  level_sound : (s : State) → Meets (SoundStmt s) (stmt_level inner inner_expr inner_pat inner_head inner_params inner_member at s)
+  level_sound : (s : State) → Meets (SoundStmt s) (stmt_level inner inner_expr inner_pat inner_head inner_params inner_member inner_operators at s)
   unfolding stmt_level
   level_sound s = by_sound (kind_at s.at) s refl
 
@@ -556,11 +547,12 @@ record Sounds (n : ℕ) : Type 0 where
   elements : (s : State) → Meets (λ x t. SoundTree (ReadsElement n) s x t) (element n s)
   decorateds : (s : State) → Meets (λ x t. SoundTree (ReadsDecorated n) s x t) (decorated_in n s)
   members : (s : State) → Meets (λ x t. SoundTree (ReadsMember n) s x t) (member n s)
+  operands : (class : Class) (s : State) → Meets (λ x t. SoundTree (ReadsClass (levels_inside n) class) s x t) (right_operand n class s)
   stmts : (at : Position) (s : State) → Meets (λ x t. SoundTree (λ k. ReadsStmt n k at) s x t) (stmt n at s)
 
 -- ---- methods of the small relation are those of the whole language
 
-element_unwrapped : (n : ℕ) (s : State) → Meets Unwrapped (element n s)
+element_unwrapped : (n : ℕ) (s : State) → Meets patterns.Unwrapped (element n s)
 unfolding element
 element_unwrapped zero s = too_deep_meets _ s
 element_unwrapped (suc n) s = patterns.element_level_unwrapped (expr n) (cover n) (pattern n) (element n) s
@@ -614,7 +606,7 @@ module _ (n : ℕ) (b : Sounds n) where
     targets = λ k x c d e h r. (bound_target n k x c d e h r.0, r.1);
   }
 
-  params : (s : State) → Meets (λ ps t. SoundParams n s ps t) (reader.parameters n s)
+  params : (s : State) → Meets (λ ps t. patterns.SoundParams n s ps t) (reader.parameters n s)
   params = patterns.parameter_list_sound n (expr n) (cover n) (pattern n) (element n) b.exprs b.covers b.patterns b.elements
 
   -- what is read as a part in parentheses takes a token, leaves the code as it is, and begins with neither `)` nor `...`
@@ -655,12 +647,15 @@ module _ (n : ℕ) (b : Sounds n) where
           (λ x t q. sound_as s t refl refl refl (λ r. method_read n s.code x s.at t.at key w g r) q)
 
 module _ (n : ℕ) (b : Sounds n) where
+  operations : (start : Span) (x : Tree) (s t : State) → SoundWild s x t → Meets (λ y u. SoundWild s y u) (operators n start x t)
+  operations start x s t p = operators_sound (levels_inside n) (right_operand n) (cover n) b.operands 1 s start x t p
+
   exprs_sound : (class : Class) (s : State) → Meets (λ x t. SoundTree (ReadsClass (suc n) class) s x t) (expr (suc n) class s)
   unfolding function expr
   exprs_sound = expressions.level_sound n (expr n) (cover n) b.exprs b.covers (function n) (functions n b) (tied_at n) (parts n b)
 
 all_sound : (n : ℕ) → Sounds n
-unfolding function expr cover head_cover pattern element decorated_in member stmt
+unfolding function expr cover head_cover pattern element decorated_in member right_operand stmt
 all_sound zero = record {
   exprs = λ class s. too_deep_meets _ s;
   covers = λ s. too_deep_meets _ s;
@@ -669,6 +664,7 @@ all_sound zero = record {
   elements = λ s. too_deep_meets _ s;
   decorateds = λ s. too_deep_meets _ s;
   members = λ s. too_deep_meets _ s;
+  operands = λ class s. too_deep_meets _ s;
   stmts = λ at s. too_deep_meets _ s;
 }
 all_sound (suc n) = let b = all_sound n in record {
@@ -679,13 +675,14 @@ all_sound (suc n) = let b = all_sound n in record {
   elements = patterns.element_level_sound n (expr n) (cover n) (pattern n) (element n) b.exprs b.covers b.patterns b.elements;
   decorateds = decorated_sound n (expr n) (cover n) b.exprs b.covers (function n) (functions n b) (expr (suc n) expression) (exprs_sound n b expression);
   members = member_level_sound n (expr n) (cover n) (stmt n nested_item) (reader.parameters n) b.exprs b.covers (b.stmts nested_item) (params n b) (decorated_in n) b.decorateds;
+  operands = b.exprs;
   stmts = λ at. either_sound n (reader.plain_stmt n) at
-      (λ s. first_sound (ReadsClass n) (ReadsPat n) (expr n) (pattern n) b.exprs b.patterns (ReadsStmt n) (ReadsTarget n) (ReadsParams n) (ReadsNamedClass n) at (reader.nests n) (stmt_level (stmt n) (expr n) (pattern n) (head_cover n) (reader.parameters n) (member n)) s
-      (level_sound (ReadsStmt n) (ReadsClass n) (ReadsPat n) (ReadsTarget n) (ReadsParams n) (ReadsNamedClass n) (stmt n) (expr n) (pattern n) (head_cover n) (reader.parameters n) (member n)
-      b.stmts b.exprs b.patterns (openings n b) (params n b) (class_stmt_sound n (expr n left_side) (member n) (b.exprs left_side) b.members) (λ k x c d h r. import_unnoted n k x c d r h) (loses_nothing n) at s))
-      (λ s. declares_plainly (stmt n) (expr n) (pattern n) (head_cover n) (reader.parameters n) (member n) at s n (b.stmts nested_item) (params n b)
+      (λ s. first_sound (ReadsClass n) (ReadsPat n) (expr n) (pattern n) b.exprs b.patterns (ReadsStmt n) (ReadsTarget n) (ReadsParams n) (ReadsNamedClass n) at (reader.nests n) (stmt_level (stmt n) (expr n) (pattern n) (head_cover n) (reader.parameters n) (member n) (operators n)) s
+      (level_sound (ReadsStmt n) (ReadsClass n) (ReadsPat n) (ReadsTarget n) (ReadsParams n) (ReadsNamedClass n) (stmt n) (expr n) (pattern n) (head_cover n) (reader.parameters n) (member n) (operators n)
+      b.stmts b.exprs b.patterns (openings n b) (params n b) (class_stmt_sound n (expr n left_side) (member n) (b.exprs left_side) b.members) (operations n b) (λ k x c d h r. import_unnoted n k x c d r h) (loses_nothing n) at s))
+      (λ s. declares_plainly (stmt n) (expr n) (pattern n) (head_cover n) (reader.parameters n) (member n) (operators n) at s n (b.stmts nested_item) (params n b)
       (class_stmt_sound n (expr n left_side) (member n) (b.exprs left_side) b.members) (reader.declarators (expr n) (pattern n) false decl.Var) (reader.nests n))
-      (λ s. plain_exports (stmt n) (expr n) (pattern n) (head_cover n) (reader.parameters n) (member n) at s (reader.declarators (expr n) (pattern n) false decl.Var) (reader.nests n) (λ x t. ⊥)) (decorated_in n) b.decorateds;
+      (λ s. plain_exports (stmt n) (expr n) (pattern n) (head_cover n) (reader.parameters n) (member n) (operators n) at s (reader.declarators (expr n) (pattern n) false decl.Var) (reader.nests n) (λ x t. ⊥)) (decorated_in n) b.decorateds;
 }
 
 -- an expression of a class is in the relation of the whole language within as many levels
@@ -710,7 +707,7 @@ pub element_sound : (n : ℕ) (s : State) → Meets (λ x t. SoundTree (ReadsEle
 element_sound n = (all_sound n).elements
 
 -- and so are the parameters of a function, and a function that is an expression
-pub parameters_sound : (n : ℕ) (s : State) → Meets (λ ps t. SoundParams n s ps t) (reader.parameters n s)
+pub parameters_sound : (n : ℕ) (s : State) → Meets (λ ps t. patterns.SoundParams n s ps t) (reader.parameters n s)
 parameters_sound n = params n (all_sound n)
 
 pub function_sound : (n : ℕ) (s : State) → begins_function s.at ≡ true → Meets (λ x t. SoundTree (FunctionRead n) s x t) (function n expression_form s)
@@ -731,6 +728,9 @@ decorated_in_sound n = (all_sound n).decorateds
 -- so are a member of a class, and a class that is declared or is an expression
 pub member_sound : (n : ℕ) (s : State) → Meets (λ x t. SoundTree (ReadsMember n) s x t) (member n s)
 member_sound n = (all_sound n).members
+
+operations_sound : (n : ℕ) (start : Span) (x : Tree) (s t : State) → SoundWild s x t → Meets (λ y u. SoundWild s y u) (operators n start x t)
+operations_sound n = operations n (all_sound n)
 
 pub classes_sound : (n : ℕ) (at : Position) (s : State) → kind_at s.at ≡ kind.Class → Meets (λ x t. SoundTree (Declared (ReadsNamedClass n) at) s x t) (class_stmt (expr n left_side) (member n) at s)
 classes_sound n = class_stmt_sound n (expr n left_side) (member n) (expr_sound n left_side) (member_sound n)
@@ -789,9 +789,9 @@ method_code n w g start key s x t e = meant (λ _ u. u.code ≡ s.code) Refuses 
 pub clauses_code : (n : ℕ) (s : State) (xs : List Tree) (t : State) → clauses (stmt n nested_item) (expr n expression) s ≡ Ok (xs, t) → t.code ≡ s.code
 clauses_code n s xs t e =
     let noted : (k : Code) (x : Tree) (c d : Place) → begins_import_expression c ≡ true → ReadsClass n expression k x c d → statement_note x ≡ [] = λ k x c d h r. import_unnoted n k x c d r h in
-    let P : List Tree → State → Type 0 = SoundCases (ReadsStmt n) (ReadsClass n) (ReadsPat n) (ReadsTarget n) (ReadsParams n) (ReadsNamedClass n) (stmt n) (expr n) (pattern n) (head_cover n) (reader.parameters n) (member n) (stmt_sound n) (expr_sound n) (pattern_sound n) (opens_sound n) (parameters_sound n) (classes_sound n) noted (loses_nothing n) nested_item s in
+    let P : List Tree → State → Type 0 = SoundCases (ReadsStmt n) (ReadsClass n) (ReadsPat n) (ReadsTarget n) (ReadsParams n) (ReadsNamedClass n) (stmt n) (expr n) (pattern n) (head_cover n) (reader.parameters n) (member n) (operators n) (stmt_sound n) (expr_sound n) (pattern_sound n) (opens_sound n) (parameters_sound n) (classes_sound n) (operations_sound n) noted (loses_nothing n) nested_item s in
     let p : P xs t = meant P Refuses (clauses (stmt n nested_item) (expr n expression) s) (Ok (xs, t)) e
-    (clauses_sound (ReadsStmt n) (ReadsClass n) (ReadsPat n) (ReadsTarget n) (ReadsParams n) (ReadsNamedClass n) (stmt n) (expr n) (pattern n) (head_cover n) (reader.parameters n) (member n) (stmt_sound n) (expr_sound n) (pattern_sound n) (opens_sound n) (parameters_sound n) (classes_sound n) noted (loses_nothing n) nested_item s) in p.code
+    (clauses_sound (ReadsStmt n) (ReadsClass n) (ReadsPat n) (ReadsTarget n) (ReadsParams n) (ReadsNamedClass n) (stmt n) (expr n) (pattern n) (head_cover n) (reader.parameters n) (member n) (operators n) (stmt_sound n) (expr_sound n) (pattern_sound n) (opens_sound n) (parameters_sound n) (classes_sound n) (operations_sound n) noted (loses_nothing n) nested_item s) in p.code
 
 pub declarators_code : (n : ℕ) (in_head : Bool) (word : VarDeclKind) (s : State) (xs : List Tree) (t : State) → declarators (expr n) (pattern n) in_head word s ≡ Ok (xs, t) → t.code ≡ s.code
 declarators_code n in_head word s xs t e =

@@ -44,7 +44,7 @@ pub record Drops (s t : State) : Type 0 where
   pub remembers : has_out_of_memory_token t.at.left ≡ false → has_out_of_memory_token s.at.left ≡ false
 
 -- such a fault is one
-some_dropped : {X : Type 0} (fs : List Fault) → drops fs ≡ true → fs ≡ [] → X
+pub some_dropped : {X : Type 0} (fs : List Fault) → drops fs ≡ true → fs ≡ [] → X
 some_dropped [] h e = cc
 some_dropped (f ∷ fs) h e = cc
 

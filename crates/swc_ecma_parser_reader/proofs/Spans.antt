@@ -36,7 +36,7 @@ use Rattle.swc_ecma_parser_reader.specs.State.{State, Outcome, Reader, attempted
 use Rattle.swc_ecma_parser_reader.specs.Methods.{star}
 use Rattle.swc_ecma_parser_reader.specs.Expressions.{Cover}
 use Rattle.swc_ecma_parser_reader.specs.Reader as reader
-use Rattle.swc_ecma_parser_reader.specs.Reader.{decorated_in, told, named, items, closes, close, declarators, declaration_end, stray, link, link_from, condition, alternative, head, clauses, target, unbroken, uncontinued, operand, braced, handler, finalizer, handled, optional_end, note_with, await_here, unless_awaited, Opening, as_init, as_left, opening, head_part, misdeclared, misdirected, labelled_body, relabels, no_label, note_statement, empty, debugger, variables, block, block_from, expr_stmt, expr_stmt_at, import_stmt, import_stmt_at, thrown, throw, while_stmt, with_stmt, do_while, for_parts, for_in, for_of, for_behind, for_stmt, goes_on, links, if_stmt, break_stmt, continue_stmt, returned, return_stmt, misplaced, begins_label, labeled_stmt, other_stmt, switch_stmt, try_stmt, function_word, function_body, function_parts, function_decl, function_stmt, const_stmt, let_stmt, async_or_other, stmt_by, stmt_level, stmt, top_await_fault, top_await, whole_stmt, expr, head_cover, pattern, member, misusing, using_from, using_stmt, using_or_other, await_using_stmt, plain_stmt}
+use Rattle.swc_ecma_parser_reader.specs.Reader.{decorated_in, told, named, items, closes, close, declarators, declaration_end, stray, link, link_from, condition, alternative, head, clauses, target, unbroken, uncontinued, operand, braced, handler, finalizer, handled, optional_end, note_with, await_here, unless_awaited, Opening, as_init, as_left, opening, head_part, misdeclared, misdirected, labelled_body, relabels, no_label, note_statement, empty, debugger, variables, block, block_from, stmt_end, expr_stmt, expr_stmt_at, import_stmt, import_stmt_at, thrown, throw, while_stmt, with_stmt, do_while, for_parts, for_in, for_of, for_behind, for_stmt, goes_on, links, if_stmt, break_stmt, continue_stmt, returned, return_stmt, misplaced, begins_label, labeled_stmt, other_stmt, switch_stmt, try_stmt, function_word, function_body, function_parts, function_decl, function_stmt, const_stmt, let_stmt, async_or_other, stmt_by, stmt_level, stmt, top_await_fault, top_await, whole_stmt, expr, head_cover, pattern, member, misusing, using_from, using_stmt, using_or_other, await_using_stmt, plain_stmt}
 use Rattle.swc_ecma_parser_reader.specs.Entry.{last_span, are_errors, TakesSome, TakesErrors, Taken, is_stray, errors_behind, dropped_behind, StandsAt, IsBehind}
 use Rattle.swc_ecma_parser_reader.proofs.Takes.{Falls}
 use Rattle.swc_ecma_parser_reader.proofs.Falls.{stmt_falls, stmt_level_falls, expr_falls, pattern_falls, head_cover_falls, parameters_fall, member_falls, decorated_in_falls, declarators_fall}
@@ -45,7 +45,7 @@ use Rattle.swc_ecma_parser_reader.proofs.Errors.{is_error, fault_here}
 use Rattle.swc_ecma_parser_reader.proofs.Behind.{NothingLost, Kept, Lost, Passes, flagged_kept, behind_self, behind_next, behind_then, behind_after, end_keeps, expect_keeps, name_keeps, fault_keeps}
 use Rattle.swc_ecma_parser_reader.proofs.Words.{async_parts}
 use Rattle.swc_ecma_parser_reader.proofs.KeepsParts.{target_keeps}
-use Rattle.swc_ecma_parser_reader.proofs.Keeps.{loses_nothing, function_params_keep, function_body_keep, parameters_keep, stmt_keeps, level_keeps, head_cover_keeps, expr_keeps, member_keeps, declarators_keeps, pattern_keeps, decorated_in_keeps, declarators_keeps_all}
+use Rattle.swc_ecma_parser_reader.proofs.Keeps.{loses_nothing, function_params_keep, function_body_keep, parameters_keep, stmt_keeps, level_keeps, head_cover_keeps, expr_keeps, member_keeps, operators_keep, declarators_keeps, pattern_keeps, decorated_in_keeps, declarators_keeps_all}
 use Rattle.swc_ecma_parser_reader.proofs.decorators.Declared.{declared_is_bare, first_declares}
 use Rattle.swc_ecma_parser_reader.proofs.decorators.Spans.{StandsPlainly, either_stands}
 use Rattle.swc_ecma_parser_reader.proofs.SoundParts.{after_return_meets}
@@ -170,7 +170,7 @@ unfolding function_word
 word_behind s = meets_if _ (is_async_function s.at) _ _ (λ h. behind_after (moved s) (moved s) (async_parts s.at h).1 refl (behind_self (moved s))) (λ _. behind_self (moved s))
 
 module _ (inner : Position → Reader Tree) (inner_expr : Class → Reader Tree) (inner_pat : Reader Tree) (inner_head : Reader Cover) (inner_params : Reader (List Tree))
-    (inner_member : Reader Tree) where
+    (inner_member : Reader Tree) (inner_operators : Span → Tree → Reader Tree) where
   block_ends : (s : State) → Meets (Ends s.at) (block (inner nested_item) s)
   unfolding block block_from
   block_ends s = always _ (items (inner nested_item) closes false (moved s)) _ (λ xs t. always _ (close t) _ (λ _ u. inl refl))
@@ -183,7 +183,7 @@ module _ (inner : Position → Reader Tree) (inner_expr : Class → Reader Tree)
   unfolding variables
   variables_end word s = always _ (within with_in (declarators inner_expr inner_pat false word) (moved s)) _ (λ xs t. always _ (declaration_end (inner_expr expression) t) _ (λ _ u. inl refl))
 
-  const_ends : (at : Position) (s : State) → Meets (Ends s.at) (const_stmt inner inner_expr inner_pat inner_head inner_params inner_member at s)
+  const_ends : (at : Position) (s : State) → Meets (Ends s.at) (const_stmt inner inner_expr inner_pat inner_head inner_params inner_member inner_operators at s)
   unfolding const_stmt
   const_ends at s = where_declared at.include_decl
     where
@@ -280,11 +280,11 @@ module _ (inner : Position → Reader Tree) (inner_expr : Class → Reader Tree)
   import_ends s = meets_if _ (begins_import_expression s.at) _ _
       (λ _. always _ (within with_in (inner_expr expression) s) _ (λ x t. always _ (optional_end t) _ (λ _ u. inl refl))) (λ _. refuse_meets _ faults.ImportExportInScript s)
 
-  expr_ends : (at : Position) (s : State) → Meets (Ends s.at) (expr_stmt_at (inner_expr expression) at s)
+  expr_ends : (at : Position) (s : State) → Meets (Ends s.at) (expr_stmt_at (inner_expr expression) inner_operators at s)
   unfolding expr_stmt_at expr_stmt
   expr_ends at s = meets_if _ (may_begin_expression_statement at s.at) _ _
       (λ _. always _ (within with_in (inner_expr expression) s) _ (λ x t. always _ (no_label x t) _ (λ _ u. always _ (note_statement x u) _ (λ _ v.
-      always _ (end faults.ExpectedSemiForExprStmt v) _ (λ _ o. inl refl))))) (λ _. wanted_meets _ faults.Unexpected s)
+      always _ (stmt_end inner_operators (span_at s.at) x v) _ (λ _ o. inl refl))))) (λ _. wanted_meets _ faults.Unexpected s)
 
   -- a class ends with its `}`, from its name on and from its word on
   class_parts_end : (c : Place) (s : State) → Meets (Spans c) (class_parts (inner_expr left_side) inner_member (span_at c) s)
@@ -351,11 +351,11 @@ module _ (inner : Position → Reader Tree) (inner_expr : Class → Reader Tree)
         meets_then _ (labelled_body inner i.sym u) _ (kept b (labelled_body inner i.sym u) (labelled_body_keeps i.sym b u j)) (λ y v h.
         meets_then _ (relabels (tree.ident i.span i.sym) y v) _ (told_errs _ v) (λ _ w z. inr (inl (v.at, refl, (h.0.read, h.0.tokens, h.0.last), z))))))
 
-    other_ends : (at : Position) (s : State) → Meets (Ends s.at) (other_stmt inner (inner_expr expression) at s)
+    other_ends : (at : Position) (s : State) → Meets (Ends s.at) (other_stmt inner (inner_expr expression) inner_operators at s)
     unfolding other_stmt
     other_ends at s = meets_if _ (begins_label s.code s.at) _ _ (λ _. labeled_ends s) (λ _. expr_ends at s)
 
-    let_ends : (at : Position) (s : State) → Meets (Ends s.at) (let_stmt inner inner_expr inner_pat inner_head inner_params inner_member at s)
+    let_ends : (at : Position) (s : State) → Meets (Ends s.at) (let_stmt inner inner_expr inner_pat inner_head inner_params inner_member inner_operators at s)
     unfolding let_stmt
     let_ends at s = meets_if _ (at.include_decl && is_let_declaration s.at) _ _ (λ _. variables_end decl.Let s) (λ _. other_ends at s)
 
@@ -389,11 +389,11 @@ module _ (inner : Position → Reader Tree) (inner_expr : Class → Reader Tree)
         (declarators_keeps inner_expr inner_pat below_expr below_pat b false decl.Var (coded (with_in s.code) b) (behind_self b)) (λ x t k. flagged_kept b b t (behind_self b) k))) (λ xs t k.
         meets_then _ (misusing (record { lo = (span_at s.at).lo; hi = t.at.last.hi }) xs t) _ (told_errs _ t) (λ _ u z. inr (inl (t.at, refl, (k.0.read, k.0.tokens, k.0.last), z))))
 
-    using_or_other_ends : (at : Position) (s : State) → Meets (Ends s.at) (using_or_other inner inner_expr inner_pat inner_head inner_params inner_member at s)
+    using_or_other_ends : (at : Position) (s : State) → Meets (Ends s.at) (using_or_other inner inner_expr inner_pat inner_head inner_params inner_member inner_operators at s)
     unfolding using_or_other
     using_or_other_ends at s = meets_if _ (at.include_decl && is_using_declaration s.code s.at) _ _ (λ _. using_ends s) (λ _. other_ends at s)
 
-    async_or_other_ends : (at : Position) (s : State) → Meets (Ends s.at) (async_or_other inner inner_expr inner_pat inner_head inner_params inner_member at s)
+    async_or_other_ends : (at : Position) (s : State) → Meets (Ends s.at) (async_or_other inner inner_expr inner_pat inner_head inner_params inner_member inner_operators at s)
     unfolding async_or_other
     async_or_other_ends at s = meets_if _ (is_async_function s.at) _ _ (λ _. function_ends s) (λ _. using_or_other_ends at s)
 
@@ -402,7 +402,7 @@ module _ (inner : Position → Reader Tree) (inner_expr : Class → Reader Tree)
     class_stmt_ends at s e = meets_if _ at.include_decl _ _ (λ _. class_ends s)
         (λ _. rw (fault_here s (fault_at (span_at s.at) faults.DeclNotAllowed) (ap is_error e)) (class_ends (noted (fault_at (span_at s.at) faults.DeclNotAllowed) s)))
 
-    by_ends : (at : Position) (j : TokenKind) (s : State) → kind_at s.at ≡ j → Meets (Ends s.at) (stmt_by inner inner_expr inner_pat inner_head inner_params inner_member at j s)
+    by_ends : (at : Position) (j : TokenKind) (s : State) → kind_at s.at ≡ j → Meets (Ends s.at) (stmt_by inner inner_expr inner_pat inner_head inner_params inner_member inner_operators at j s)
     unfolding empty if_stmt
     by_ends at kind.LBrace s e = block_ends s
     by_ends at kind.Semi s e = inl refl
@@ -498,29 +498,29 @@ module _ (n : ℕ) (at : Position) where
   plain = plain_stmt n
 
   abbrev rest : Position → Reader Tree
-  rest = stmt_level (stmt n) (expr n) (pattern n) (head_cover n) (reader.parameters n) (member n)
+  rest = stmt_level (stmt n) (expr n) (pattern n) (head_cover n) (reader.parameters n) (member n) (reader.operators n)
 
   abbrev found : Reader (List Tree)
   found = declarators (expr n) (pattern n) false decl.Var
 
   level_ends : (s : State) → Meets (Ends s.at) (rest at s)
   unfolding stmt_level
-  level_ends s = by_ends (stmt n) (expr n) (pattern n) (head_cover n) (reader.parameters n) (member n) (stmt_keeps n) (expr_keeps n) (parameters_keep n) (member_keeps n) (pattern_keeps n) at (kind_at s.at) s refl
+  level_ends s = by_ends (stmt n) (expr n) (pattern n) (head_cover n) (reader.parameters n) (member n) (reader.operators n) (stmt_keeps n) (expr_keeps n) (parameters_keep n) (member_keeps n) (pattern_keeps n) at (kind_at s.at) s refl
 
   plain_stands : (s : State) → Meets (λ x t. StandsPlainly x s.at t.at) (plain at s)
   plain_stands s = stands_by s (plain at s)
       (first_meets found (reader.nests n) rest at (Ends s.at) s
-      (λ _. await_using_ends (stmt n) (expr n) (pattern n) (head_cover n) (reader.parameters n) (member n) (stmt_keeps n) (expr_keeps n) (parameters_keep n) (member_keeps n) (pattern_keeps n) s) (level_ends s))
+      (λ _. await_using_ends (stmt n) (expr n) (pattern n) (head_cover n) (reader.parameters n) (member n) (reader.operators n) (stmt_keeps n) (expr_keeps n) (parameters_keep n) (member_keeps n) (pattern_keeps n) s) (level_ends s))
       (first_keeps found (reader.nests n) rest at (declarators_keeps_all (expr n) (pattern n) (expr_keeps n) (pattern_keeps n)) s s (behind_self s)
-      (level_keeps (stmt n) (expr n) (pattern n) (head_cover n) (reader.parameters n) (member n) (stmt_keeps n) (expr_keeps n) (pattern_keeps n) (head_cover_keeps n) (parameters_keep n) (member_keeps n) at s s (behind_self s)))
+      (level_keeps (stmt n) (expr n) (pattern n) (head_cover n) (reader.parameters n) (member n) (reader.operators n) (stmt_keeps n) (expr_keeps n) (pattern_keeps n) (head_cover_keeps n) (parameters_keep n) (member_keeps n) (operators_keep n) at s s (behind_self s)))
       (first_falls found (reader.nests n) rest at (declarators_fall (expr n) (expr_falls n) (pattern n) (pattern_falls n) false decl.Var) s
-      (stmt_level_falls (stmt n) (stmt_falls n) (expr n) (expr_falls n) (pattern n) (pattern_falls n) (head_cover n) (head_cover_falls n) (reader.parameters n) (parameters_fall n) (member n) (member_falls n) (loses_nothing n) at s))
+      (stmt_level_falls (stmt n) (stmt_falls n) (expr n) (expr_falls n) (pattern n) (pattern_falls n) (head_cover n) (head_cover_falls n) (reader.parameters n) (parameters_fall n) (member n) (member_falls n) (reader.operators n) (loses_nothing n) at s))
 
 stmt_stands : (n : ℕ) (at : Position) (s : State) → Meets (λ x t. StandsAt x s.at t.at) (stmt n at s)
 unfolding stmt
 stmt_stands zero at s = too_deep_meets _ s
 stmt_stands (suc n) at s = either_stands (plain n at) at (plain_stands n at)
-    (λ t h. first_declares (found n at) (reader.nests n) (rest n at) at t (λ x u. IsBare x) h (declared_is_bare (stmt n) (expr n) (pattern n) (head_cover n) (reader.parameters n) (member n) at t h)) (decorated_in n) (decorated_in_keeps n) (decorated_in_falls n) s
+    (λ t h. first_declares (found n at) (reader.nests n) (rest n at) at t (λ x u. IsBare x) h (declared_is_bare (stmt n) (expr n) (pattern n) (head_cover n) (reader.parameters n) (member n) (reader.operators n) at t h)) (decorated_in n) (decorated_in_keeps n) (decorated_in_falls n) s
 
 -- ---- of a statement that stands in no other
 

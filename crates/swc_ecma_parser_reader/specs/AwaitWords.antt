@@ -2,7 +2,6 @@
 -- explicit resource management, or an expression statement, ECMA-262, section 14.5.
 use Rattle.std.specs.Prelude.{ℕ, zero, suc, Bool, true, false, ◌&&◌, ◌||◌, if◌then◌else◌, Ok, codes}
 use Rattle.swc_ecma_parser_common.specs.declared.span.Span.{Span}
-use Rattle.swc_ecma_parser_error.specs.Kind as faults
 use Rattle.swc_ecma_parser_token.specs.declared.kind.TokenKind.TheVariants as kind
 use Rattle.swc_ecma_parser_input.specs.Place.{Place, after}
 use Rattle.swc_ecma_parser_model.specs.declared.leaves.VarDeclKind.TheVariants as decl
@@ -16,8 +15,8 @@ use Rattle.swc_ecma_parser_grammar.specs.Using.{is_using_declaration}
 use Rattle.swc_ecma_parser_grammar.specs.language.Goals.{Class, unary}
 use Rattle.swc_ecma_parser_reader.specs.Methods.{FunctionForm}
 use Rattle.swc_ecma_parser_reader.specs.Expressions.{Cover, done, await_allowed, binary_from, behind_operators, sequence_from}
-use Rattle.swc_ecma_parser_reader.specs.Reader.{declarators, no_label, note_statement, using_from, expr, cover, pattern, function}
-use Rattle.swc_ecma_parser_reader.specs.State.{Reader, pure, since, within, end, too_deep, ◌>>=◌, ◌>>◌}
+use Rattle.swc_ecma_parser_reader.specs.Reader.{declarators, no_label, note_statement, stmt_end, using_from, expr, cover, pattern, operators, function}
+use Rattle.swc_ecma_parser_reader.specs.State.{Reader, pure, since, within, too_deep, ◌>>=◌, ◌>>◌}
 
 -- where such a statement begins
 unfoldable pub begins_await_using : Position → Place → Bool
@@ -54,17 +53,17 @@ behind_await zero start = too_deep
 behind_await (suc n) start = awaited_expr (expr n) (cover n) (function n) start
 
 -- an expression statement, from behind the first of its tokens on
-unfoldable pub expr_stmt_behind : Reader Cover → Span → Reader Tree
-expr_stmt_behind behind start = do
+unfoldable pub expr_stmt_behind : Reader Cover → (Span → Tree → Reader Tree) → Span → Reader Tree
+expr_stmt_behind behind operators start = do
   v ← within with_in behind
   no_label v.x
   note_statement v.x
-  end faults.ExpectedSemiForExprStmt
+  x ← stmt_end operators start v.x
   span ← since start
-  pure (tree.expr_stmt span v.x)
+  pure (tree.expr_stmt span x)
 
 -- a declaration before a name on the line of `using`, or an expression statement
 unfoldable pub stmt_behind_await : ℕ → Span → Reader Tree
 stmt_behind_await n start = λ s.
     if is_using_declaration s.code s.at then using_from (declarators (expr n) (pattern n) false decl.Var) true start s
-    else expr_stmt_behind (behind_await n start) start s
+    else expr_stmt_behind (behind_await n start) (operators n) start s

@@ -34,7 +34,7 @@ use Rattle.swc_ecma_parser_reader.specs.Decorators.{decorated}
 use Rattle.swc_ecma_parser_reader.specs.DecoratedStatements.{either_stmt}
 use Rattle.swc_ecma_parser_reader.specs.Members.{member_level, class_expr, class_stmt}
 unfoldable pub use Rattle.swc_ecma_parser_reader.specs.Jumps.{told, target, unbroken, break_stmt, uncontinued, continue_stmt, misplaced, after_return, operand, returned, return_stmt}
-unfoldable pub use Rattle.swc_ecma_parser_reader.specs.Recovery.{any_token, behind_any, end_turn, up_to_end, no_end, declaration_end}
+unfoldable pub use Rattle.swc_ecma_parser_reader.specs.Recovery.{any_token, behind_any, end_turn, up_to_end, no_end, declaration_end, is_sign, lacks_end, operators_on, stmt_end}
 unfoldable pub use Rattle.swc_ecma_parser_reader.specs.Using.{misusing, using_from, using_stmt, await_using_stmt, await_using_or}
 use Rattle.swc_ecma_parser_reader.specs.Patterns.{pattern_level, element_level, parameter_list}
 use Rattle.swc_ecma_parser_reader.specs.State.{Reader, ◌>>=◌, ◌>>◌, pure, here, span_here, since, skip, moved, spanned_from, coded, flagged, within, below_label, note_module_item, attempted, fault, fault_at, end_of, module_fault, wanted, too_deep, refuse, reject, refused, labelled, reference, expect, end, stuck, Step, More, Done, loop}
@@ -131,16 +131,16 @@ note_statement x = λ s. if is_ident_named (codes "interface") x then Ok (tt, mo
 unfoldable pub no_label : Tree → Reader (Unit {0})
 no_label x = λ s. if is_ident x && sees kind.Colon s.at then wanted faults.Unexpected s else Ok (tt, s)
 
-module _ (expr : Reader Tree) where
+module _ (expr : Reader Tree) (operators : Span → Tree → Reader Tree) where
   unfoldable pub expr_stmt : Reader Tree
   expr_stmt = do
     start ← here
     x ← within with_in expr
     no_label x
     note_statement x
-    end faults.ExpectedSemiForExprStmt
+    y ← stmt_end operators (span_at start) x
     span ← spanned_from start
-    pure (tree.expr_stmt span x)
+    pure (tree.expr_stmt span y)
 
   unfoldable pub expr_stmt_at : Position → Reader Tree
   expr_stmt_at at = λ s. if may_begin_expression_statement at s.at then expr_stmt s else wanted faults.Unexpected s
@@ -472,8 +472,8 @@ module _ (stmt : Position → Reader Tree) where
     pure (tree.labeled span (tree.ident i.span i.sym) body)
 
   -- a statement that its first token does not tell
-  unfoldable pub other_stmt : Reader Tree → Position → Reader Tree
-  other_stmt expr at = λ s. if begins_label s.code s.at then labeled_stmt s else expr_stmt_at expr at s
+  unfoldable pub other_stmt : Reader Tree → (Span → Tree → Reader Tree) → Position → Reader Tree
+  other_stmt expr operators at = λ s. if begins_label s.code s.at then labeled_stmt s else expr_stmt_at expr operators at s
 
 -- ---- `switch`
 
@@ -617,18 +617,18 @@ module _ (stmt : Reader Tree) (params : Reader (List Tree)) where
   function_stmt at = λ s. if at.include_decl then function_decl stmt params s else (fault (fault_at (span_at s.at) faults.DeclNotAllowed) >> function_decl stmt params) s
 
 module _ (stmt : Position → Reader Tree) (expr : Class → Reader Tree) (pat : Reader Tree) (head_cover : Reader Cover) (params : Reader (List Tree))
-    (member : Reader Tree) where
+    (member : Reader Tree) (operators : Span → Tree → Reader Tree) where
   -- `const`, where declarations are read
   unfoldable pub const_stmt : Position → Reader Tree
   const_stmt at = if at.include_decl then variables expr pat decl.Const else wanted faults.Unexpected
 
   -- `let` begins a declaration before what can be declared, where declarations are read; else it is a name
   unfoldable pub let_stmt : Position → Reader Tree
-  let_stmt at = λ s. if at.include_decl && is_let_declaration s.at then variables expr pat decl.Let s else other_stmt stmt (expr expression) at s
+  let_stmt at = λ s. if at.include_decl && is_let_declaration s.at then variables expr pat decl.Let s else other_stmt stmt (expr expression) operators at s
 
   -- `using` begins a declaration before a name on its line, where declarations are read; else it is a name
   unfoldable pub using_or_other : Position → Reader Tree
-  using_or_other at = λ s. if at.include_decl && is_using_declaration s.code s.at then using_stmt (declarators expr pat false decl.Var) s else other_stmt stmt (expr expression) at s
+  using_or_other at = λ s. if at.include_decl && is_using_declaration s.code s.at then using_stmt (declarators expr pat false decl.Var) s else other_stmt stmt (expr expression) operators at s
 
   -- an async function may stand in the place of any statement
   unfoldable pub async_or_other : Position → Reader Tree
@@ -659,7 +659,7 @@ module _ (stmt : Position → Reader Tree) (expr : Class → Reader Tree) (pat :
   stmt_by at kind.Ident = async_or_other at
   stmt_by at kind.Import = import_stmt_at (expr expression)
   stmt_by at kind.Export = import_stmt_at (expr expression)
-  stmt_by at _ = other_stmt stmt (expr expression) at
+  stmt_by at _ = other_stmt stmt (expr expression) operators at
 
   -- without decorators
   unfoldable pub stmt_level : Position → Reader Tree
@@ -708,11 +708,16 @@ unfoldable mutual
   member zero = too_deep
   member (suc n) = member_level (expr n) (cover n) (stmt n nested_item) (parameter_list (expr n) (cover n) (pattern n) (element n)) (decorated_in n)
 
+  -- the right operand of an operator behind an expression of that level: it stands one level further in
+  pub right_operand : ℕ → Class → Reader Tree
+  right_operand zero class = too_deep
+  right_operand (suc n) class = expr n class
+
   -- a statement
   pub stmt : ℕ → Position → Reader Tree
   stmt zero at = too_deep
   stmt (suc n) at = either_stmt
-      (await_using_or (declarators (expr n) (pattern n) false decl.Var) (nests n) (stmt_level (stmt n) (expr n) (pattern n) (head_cover n) (parameter_list (expr n) (cover n) (pattern n) (element n)) (member n)))
+      (await_using_or (declarators (expr n) (pattern n) false decl.Var) (nests n) (stmt_level (stmt n) (expr n) (pattern n) (head_cover n) (parameter_list (expr n) (cover n) (pattern n) (element n)) (member n) (exprs.binary_from (right_operand n) (cover n) 1)))
       (decorated_in n) at
 
 -- what the head of a loop begins with, from behind `async`, where a name stands
@@ -724,9 +729,13 @@ head_behind (suc n) start = head_behind_async (expr n) (cover n) (function_by (s
 abbrev pub parameters : ℕ → Reader (List Tree)
 parameters n = parameter_list (expr n) (cover n) (pattern n) (element n)
 
+-- the operators behind the expression of a statement, with their operands
+abbrev pub operators : ℕ → Span → Tree → Reader Tree
+operators n = exprs.binary_from (right_operand n) (cover n) 1
+
 -- a statement without decorators
 abbrev pub plain_stmt : ℕ → Position → Reader Tree
-plain_stmt n = await_using_or (declarators (expr n) (pattern n) false decl.Var) (nests n) (stmt_level (stmt n) (expr n) (pattern n) (head_cover n) (parameters n) (member n))
+plain_stmt n = await_using_or (declarators (expr n) (pattern n) false decl.Var) (nests n) (stmt_level (stmt n) (expr n) (pattern n) (head_cover n) (parameters n) (member n) (operators n))
 
 -- a function as a part of an expression
 unfoldable pub function : ℕ → FunctionForm → Reader Tree

@@ -1,5 +1,7 @@
 -- The end of a declaration. Where it is missing, the declaration goes on behind a fault with what is dropped, up to an end.
-use Rattle.std.specs.Prelude.{if◌then◌else◌, List, [], ◌∷◌, Ok, Err}
+-- The end of an expression statement. Where it is missing before an operator, the expression goes on behind a fault.
+use Rattle.std.specs.Prelude.{Bool, true, false, not, ◌&&◌, if◌then◌else◌, List, [], ◌∷◌, Option, Some, None, Ok, Err}
+use Rattle.swc_ecma_parser_common.specs.declared.span.Span.{Span}
 use Rattle.swc_ecma_parser_error.specs.Kind as faults
 use Rattle.swc_ecma_parser_error.specs.Kind.{fault_of}
 use Rattle.swc_ecma_parser_token.specs.declared.kind.TokenKind.TheVariants as kind
@@ -7,11 +9,15 @@ use Rattle.swc_ecma_parser_token.specs.declared.token.Token.{Token}
 use Rattle.swc_ecma_parser_token.specs.declared.token.Token.TheVariants as token
 use Rattle.swc_ecma_parser_token.specs.declared.token.TokenAndSpan.{TokenAndSpan}
 use Rattle.swc_ecma_parser_input.specs.TokenSource.{means_out_of_memory}
+use Rattle.swc_ecma_parser_input.specs.Place.{Place}
+use Rattle.swc_ecma_parser_model.specs.declared.operators.BinaryOp.{BinaryOp}
+use Rattle.swc_ecma_parser_model.specs.declared.operators.BinaryOp.TheVariants as binary
 use Rattle.swc_ecma_parser_model.specs.Tree.{Tree}
-use Rattle.swc_ecma_parser_grammar.specs.Looks.{sees, span_at}
+use Rattle.swc_ecma_parser_grammar.specs.Looks.{kind_at, sees, span_at}
 use Rattle.swc_ecma_parser_grammar.specs.Ends.{can_end}
 use Rattle.swc_ecma_parser_grammar.specs.Reads.{with_in}
-use Rattle.swc_ecma_parser_reader.specs.State.{State, Outcome, Reader, ◌>>=◌, ◌>>◌, moved, within, attempted, fault, fault_at, Step, More, Done, loop}
+use Rattle.swc_ecma_parser_grammar.specs.language.Operators.{binary_operator}
+use Rattle.swc_ecma_parser_reader.specs.State.{State, Outcome, Reader, ◌>>◌, pure, moved, within, attempted, fault, fault_at, end, Step, More, Done, loop}
 
 -- one token, whatever it is, but one that memory ran out for, which is answered
 abbrev pub passed_at : State → Token → Outcome (Unit {0})
@@ -49,3 +55,27 @@ module _ (expr : Reader Tree) where
 
   unfoldable pub declaration_end : Reader (Unit {0})
   declaration_end = λ s. if sees kind.Semi s.at then Ok (tt, moved s) else (if can_end s.at then Ok (tt, s) else no_end s)
+
+-- ---- the end of an expression statement
+
+-- whether an operator between two operands is written with signs, and not with a word
+abbrev pub is_sign : Option BinaryOp → Bool
+is_sign (Some binary.In) = false
+is_sign (Some binary.InstanceOf) = false
+is_sign (Some op) = true
+is_sign None = false
+
+-- where such an operator stands in the place of an end
+unfoldable pub lacks_end : Place → Bool
+lacks_end c = is_sign (binary_operator (kind_at c)) && not (can_end c)
+
+module _ (operators : Span → Tree → Reader Tree) where
+  -- the operators behind an expression that was read from a place on; no end is asked for behind them
+  unfoldable pub operators_on : Span → Tree → Reader Tree
+  operators_on start x = λ s. (do
+    fault (fault_at (span_at s.at) faults.TS1005)
+    within with_in (operators start x)) s
+
+  -- what the whole expression is
+  unfoldable pub stmt_end : Span → Tree → Reader Tree
+  stmt_end start x = λ s. if lacks_end s.at then operators_on start x s else (end faults.ExpectedSemiForExprStmt >> pure x) s

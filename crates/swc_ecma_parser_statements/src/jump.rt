@@ -1,7 +1,6 @@
 //! `break` and `continue`: ECMA-262, sections 14.9 and 14.8.
 
 ghost use Rattle.std.specs.Prelude.{◌≡◌};
-ghost use Rattle.swc_ecma_parser_grammar.specs.Ends as ends;
 ghost use Rattle.swc_ecma_parser_grammar.specs.Own as own;
 ghost use Rattle.swc_ecma_parser_reader.specs.Reader as rules;
 ghost use Rattle.swc_ecma_parser_reader.specs.State.{Gives, GivesAs};
@@ -10,22 +9,11 @@ ghost use Rattle.swc_ecma_parser_statements.specs.Labels.{label_of};
 use std::alloc::Global;
 use swc_ecma_parser_common::Span;
 use swc_ecma_parser_error::{PResult, SyntaxError};
+use swc_ecma_parser_inner::ends::ends_at;
 use swc_ecma_parser_inner::steps::{grown, since};
 use swc_ecma_parser_model::Ident;
 use swc_ecma_parser_source::{Source, Wanted};
-use swc_ecma_parser_token::TokenKind;
 use swc_ecma_parser_trees::BuildsControl;
-
-/// Whether nothing more of a statement stands here.
-#[tactic(auto, unfolding(swc_ecma_parser_grammar::specs::Ends::ends_at, swc_ecma_parser_grammar::specs::Ends::can_end))]
-pub(crate) fn ends_at<P: Source>(p: &P) -> bool
-    ensures { result ≡ ends.ends_at (P.seen p.now).at }
-{
-    p.sees(TokenKind::Semi)
-        || p.sees(TokenKind::End)
-        || p.sees(TokenKind::RBrace)
-        || p.had_line_break()
-}
 
 /// A label, where the statement does not end.
 #[tactic(auto, unfolding(swc_ecma_parser_reader::specs::Reader::target))]

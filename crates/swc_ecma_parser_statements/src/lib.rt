@@ -6,5 +6,6 @@ pub mod jump;
 pub mod leave;
 pub mod recovery;
 pub mod simple;
+mod statement_end;
 pub mod using;
 pub mod variables;

@@ -2,7 +2,6 @@
 
 ghost use Rattle.std.specs.Prelude.{◌≡◌, ◌||◌, is_some};
 ghost use Rattle.swc_ecma_parser_error.specs.Kind.{kind_of};
-ghost use Rattle.swc_ecma_parser_grammar.specs.Ends as ends;
 ghost use Rattle.swc_ecma_parser_grammar.specs.Reads.{with_in};
 ghost use Rattle.swc_ecma_parser_grammar.specs.language.Goals.{expression};
 ghost use Rattle.swc_ecma_parser_inner.specs.Nests.{Nests};
@@ -15,6 +14,7 @@ ghost use Rattle.swc_ecma_parser_reader.specs.State.{Gives};
 use swc_ecma_parser_error::{Error, PResult, SyntaxError};
 use swc_ecma_parser_grammar::{Class, Position};
 use swc_ecma_parser_inner::cover::{Cover, Reading, inside};
+use swc_ecma_parser_inner::ends::can_end;
 use swc_ecma_parser_inner::grammar::{Grammar, Part};
 use swc_ecma_parser_input::Context;
 use swc_ecma_parser_source::{Around, Source};
@@ -71,14 +71,6 @@ fn attempted<
             Ok(())
         }
     }
-}
-
-/// Whether a declaration may end here without `;`: section 12.10.
-#[tactic(auto, unfolding(swc_ecma_parser_grammar::specs::Ends::can_end))]
-fn can_end<P: Source>(p: &P) -> bool
-    ensures { result ≡ ends.can_end (P.seen p.now).at }
-{
-    p.sees(TokenKind::End) || p.sees(TokenKind::RBrace) || p.had_line_break()
 }
 
 /// Takes tokens up to an end, which is read, or up to an error token behind one of them.

@@ -7,6 +7,7 @@ ghost use Rattle.swc_ecma_parser_inner.specs.Nests.{Nests};
 ghost use Rattle.swc_ecma_parser_reader.specs.Reader as rules;
 ghost use Rattle.swc_ecma_parser_reader.specs.State.{Gives, GivesAs};
 
+use crate::statement_end::stmt_end;
 use std::alloc::Global;
 use swc_ecma_parser_common::Atom;
 use swc_ecma_parser_error::{PResult, SyntaxError};
@@ -16,7 +17,7 @@ use swc_ecma_parser_inner::grammar::{Grammar, Part};
 use swc_ecma_parser_inner::steps::{grown, since, with_in};
 use swc_ecma_parser_source::{Source, Wanted};
 use swc_ecma_parser_token::TokenKind;
-use swc_ecma_parser_trees::{BuildsStmt, MakerOf, Trees};
+use swc_ecma_parser_trees::{BuildsOperator, BuildsStmt, MakerOf, Trees};
 
 /// `;`
 #[tactic(auto, unfolding(swc_ecma_parser_reader::specs::Reader::empty, swc_ecma_parser_grammar::specs::Looks::spanned))]
@@ -72,13 +73,13 @@ pub(crate) fn no_label<P: Source, T: Trees>(p: &mut P, x: &T::Expr) -> PResult<(
 #[tactic(auto, unfolding(swc_ecma_parser_reader::specs::Reader::expr_stmt, swc_ecma_parser_grammar::specs::Looks::spanned))]
 fn expr_stmt<
     P: Source,
-    T: BuildsStmt,
+    T: BuildsStmt + BuildsOperator,
     S: Fn(&MakerOf<T>, &mut P, usize, Position) -> PResult<T::Stmt>,
     E: Fn(&MakerOf<T>, &mut P, usize, Reading) -> PResult<Cover<T::Expr>>,
     N: Fn(&MakerOf<T>, &mut P, usize, Part) -> PResult<T::Pat>,
 >(g: &Grammar<S, E, N>, t: &MakerOf<T>, p: &mut P) -> PResult<T::Stmt>
     requires { Nests P.seen T.expr_of T.pat_of T.stmt_of g.now.depth (S.pre g.now.stmt) (S.post g.now.stmt) (E.pre g.now.expr) (E.post g.now.expr) (N.pre g.now.pat) (N.post g.now.pat) }
-    ensures { GivesAs T.stmt_of (rules.expr_stmt (rules.expr g.now.depth expression) (P.seen p.old)) result (P.seen p.new) }
+    ensures { GivesAs T.stmt_of (rules.expr_stmt (rules.expr g.now.depth expression) (rules.operators g.now.depth) (P.seen p.old)) result (P.seen p.new) }
 {
     let start = p.span();
     let outer = p.flags();
@@ -87,22 +88,22 @@ fn expr_stmt<
     p.set_flags(outer);
     no_label::<P, T>(p, &x)?;
     note_statement::<P, T>(t.alloc, p, &x)?;
-    p.end(Wanted::EndOfExpression(T::expr_span(&x)))?;
+    let whole = stmt_end(g, t, p, start, x)?;
     let span = since(p, start);
-    grown(p, T::expr_stmt(t.alloc, span, x))
+    grown(p, T::expr_stmt(t.alloc, span, whole))
 }
 
 /// An expression statement, where one may begin.
 #[tactic(auto, unfolding(swc_ecma_parser_reader::specs::Reader::expr_stmt_at))]
 pub fn expr_stmt_at<
     P: Source,
-    T: BuildsStmt,
+    T: BuildsStmt + BuildsOperator,
     S: Fn(&MakerOf<T>, &mut P, usize, Position) -> PResult<T::Stmt>,
     E: Fn(&MakerOf<T>, &mut P, usize, Reading) -> PResult<Cover<T::Expr>>,
     N: Fn(&MakerOf<T>, &mut P, usize, Part) -> PResult<T::Pat>,
 >(g: &Grammar<S, E, N>, t: &MakerOf<T>, p: &mut P, at: Position) -> PResult<T::Stmt>
     requires { Nests P.seen T.expr_of T.pat_of T.stmt_of g.now.depth (S.pre g.now.stmt) (S.post g.now.stmt) (E.pre g.now.expr) (E.post g.now.expr) (N.pre g.now.pat) (N.post g.now.pat) }
-    ensures { GivesAs T.stmt_of (rules.expr_stmt_at (rules.expr g.now.depth expression) at (P.seen p.old)) result (P.seen p.new) }
+    ensures { GivesAs T.stmt_of (rules.expr_stmt_at (rules.expr g.now.depth expression) (rules.operators g.now.depth) at (P.seen p.old)) result (P.seen p.new) }
 {
     if !p.may_begin_expression_statement(at) {
         return Err(p.wanted(Wanted::Expression));

@@ -11,6 +11,7 @@ ghost use Rattle.swc_ecma_parser_reader.specs.State as reader;
 ghost use Rattle.swc_ecma_parser_reader.specs.State.{Gives, GivesAs};
 
 use crate::simple::{no_label, note_statement};
+use crate::statement_end::stmt_end;
 use crate::variables::declarators;
 use swc_ecma_parser_common::Span;
 use swc_ecma_parser_error::{PResult, SyntaxError};
@@ -19,9 +20,11 @@ use swc_ecma_parser_inner::cover::{Cover, Reading};
 use swc_ecma_parser_inner::grammar::{Grammar, Part};
 use swc_ecma_parser_inner::steps::{grown, since, with_in};
 use swc_ecma_parser_model::VarDeclKind;
-use swc_ecma_parser_source::{Source, Wanted};
+use swc_ecma_parser_source::Source;
 use swc_ecma_parser_token::TokenKind;
-use swc_ecma_parser_trees::{BuildsPattern, BuildsStmt, BuildsVarDecl, BuildsVariables, MakerOf};
+use swc_ecma_parser_trees::{
+    BuildsOperator, BuildsPattern, BuildsStmt, BuildsVarDecl, BuildsVariables, MakerOf,
+};
 
 /// Records what is said of one of the variables: it is no plain name, or it is given nothing.
 fn misused<P: Source, T: BuildsVariables>(
@@ -132,7 +135,7 @@ pub fn begins_await_using<P: Source>(p: &P, depth: usize, at: Position) -> bool
 #[inline(never)]
 pub fn await_stmt<
     P: Source,
-    T: BuildsPattern + BuildsStmt + BuildsVarDecl,
+    T: BuildsPattern + BuildsStmt + BuildsOperator + BuildsVarDecl,
     S: Fn(&MakerOf<T>, &mut P, usize, Position) -> PResult<T::Stmt>,
     E: Fn(&MakerOf<T>, &mut P, usize, Reading) -> PResult<Cover<T::Expr>>,
     N: Fn(&MakerOf<T>, &mut P, usize, Part) -> PResult<T::Pat>,
@@ -152,7 +155,7 @@ pub fn await_stmt<
     p.set_flags(outer);
     no_label::<P, T>(p, &found.tree)?;
     note_statement::<P, T>(t.alloc, p, &found.tree)?;
-    p.end(Wanted::EndOfExpression(T::expr_span(&found.tree)))?;
+    let whole = stmt_end(g, t, p, start, found.tree)?;
     let span = since(p, start);
-    grown(p, T::expr_stmt(t.alloc, span, found.tree))
+    grown(p, T::expr_stmt(t.alloc, span, whole))
 }

@@ -1,6 +1,7 @@
 -- Where a class or a function begins, a statement without decorators is one; where `export` stands it is none.
 use Rattle.std.proofs.Common.{◌≡◌, ℕ, Bool, true, false, List, refl, sym, ◌∙◌, ap, subst}
 use Rattle.std.specs.Prelude.{◌||◌}
+use Rattle.swc_ecma_parser_common.specs.declared.span.Span.{Span}
 use Rattle.swc_ecma_parser_error.specs.Kind as faults
 use Rattle.swc_ecma_parser_token.specs.declared.kind.TokenKind.TheVariants as kind
 use Rattle.swc_ecma_parser_input.specs.Place.{Place}
@@ -81,45 +82,45 @@ no_import : (c : Place) → kind_at c ≡ kind.Export → begins_import_expressi
 unfolding begins_import_expression same_kind
 no_import c e = rw e refl
 
-module _ (inner : Position → Reader Tree) (inner_expr : Class → Reader Tree) (inner_pat : Reader Tree) (inner_head : Reader Cover) (inner_params : Reader (List Tree)) (inner_member : Reader Tree)
+module _ (inner : Position → Reader Tree) (inner_expr : Class → Reader Tree) (inner_pat : Reader Tree) (inner_head : Reader Cover) (inner_params : Reader (List Tree)) (inner_member : Reader Tree) (inner_operators : Span → Tree → Reader Tree)
     (at : Position) (s : State) where
-  pub level_class : kind_at s.at ≡ kind.Class → stmt_level inner inner_expr inner_pat inner_head inner_params inner_member at s ≡ class_stmt (inner_expr left_side) inner_member at s
+  pub level_class : kind_at s.at ≡ kind.Class → stmt_level inner inner_expr inner_pat inner_head inner_params inner_member inner_operators at s ≡ class_stmt (inner_expr left_side) inner_member at s
   unfolding stmt_level
   level_class e = rw e refl
 
-  pub level_function : kind_at s.at ≡ kind.Function → stmt_level inner inner_expr inner_pat inner_head inner_params inner_member at s ≡ function_stmt (inner nested_item) inner_params at s
+  pub level_function : kind_at s.at ≡ kind.Function → stmt_level inner inner_expr inner_pat inner_head inner_params inner_member inner_operators at s ≡ function_stmt (inner nested_item) inner_params at s
   unfolding stmt_level
   level_function e = rw e refl
 
-  pub level_async : is_async_function s.at ≡ true → stmt_level inner inner_expr inner_pat inner_head inner_params inner_member at s ≡ function_decl (inner nested_item) inner_params s
+  pub level_async : is_async_function s.at ≡ true → stmt_level inner inner_expr inner_pat inner_head inner_params inner_member inner_operators at s ≡ function_decl (inner nested_item) inner_params s
   unfolding stmt_level async_or_other
   level_async e = rw (async_kind s.at e, e) refl
 
-  level_export : kind_at s.at ≡ kind.Export → stmt_level inner inner_expr inner_pat inner_head inner_params inner_member at s ≡ refuse faults.ImportExportInScript s
+  level_export : kind_at s.at ≡ kind.Export → stmt_level inner inner_expr inner_pat inner_head inner_params inner_member inner_operators at s ≡ refuse faults.ImportExportInScript s
   unfolding stmt_level import_stmt_at
   level_export e = rw (e, no_import s.at e) refl
 
   -- what holds of a class and of functions
   pub declared_meets : (P : Tree → State → Type 0) → begins_declared s.at ≡ true → (kind_at s.at ≡ kind.Class → Meets P (class_stmt (inner_expr left_side) inner_member at s))
       → (kind_at s.at ≡ kind.Function → Meets P (function_stmt (inner nested_item) inner_params at s)) → (is_async_function s.at ≡ true → Meets P (function_decl (inner nested_item) inner_params s))
-      → Meets P (stmt_level inner inner_expr inner_pat inner_head inner_params inner_member at s)
+      → Meets P (stmt_level inner inner_expr inner_pat inner_head inner_params inner_member inner_operators at s)
   declared_meets P h a f w = declared_by s.at h (λ e. subst (Meets P) (sym (level_class e)) (a e)) (λ e. subst (Meets P) (sym (level_function e)) (f e)) (λ e. subst (Meets P) (sym (level_async e)) (w e))
 
-  pub export_meets : (P : Tree → State → Type 0) → sees kind.Export s.at ≡ true → Meets P (stmt_level inner inner_expr inner_pat inner_head inner_params inner_member at s)
+  pub export_meets : (P : Tree → State → Type 0) → sees kind.Export s.at ≡ true → Meets P (stmt_level inner inner_expr inner_pat inner_head inner_params inner_member inner_operators at s)
   export_meets P h = subst (Meets P) (sym (level_export (saw s.at kind.Export h))) (refuse_meets P faults.ImportExportInScript s)
 
   -- before neither stands `await using`
   module _ (found : Reader (List Tree)) (v : Bool) where
     abbrev plain : Position → Reader Tree
-    plain = await_using_or found v (stmt_level inner inner_expr inner_pat inner_head inner_params inner_member)
+    plain = await_using_or found v (stmt_level inner inner_expr inner_pat inner_head inner_params inner_member inner_operators)
 
     pub plain_exports : (P : Tree → State → Type 0) → sees kind.Export s.at ≡ true → Meets P (plain at s)
-    plain_exports P h = first_exports found v (stmt_level inner inner_expr inner_pat inner_head inner_params inner_member) at s P h (export_meets P h)
+    plain_exports P h = first_exports found v (stmt_level inner inner_expr inner_pat inner_head inner_params inner_member inner_operators) at s P h (export_meets P h)
 
-    pub plain_declares : (P : Tree → State → Type 0) → begins_declared s.at ≡ true → Meets P (stmt_level inner inner_expr inner_pat inner_head inner_params inner_member at s) → Meets P (plain at s)
-    plain_declares P h r = first_declares found v (stmt_level inner inner_expr inner_pat inner_head inner_params inner_member) at s P h r
+    pub plain_declares : (P : Tree → State → Type 0) → begins_declared s.at ≡ true → Meets P (stmt_level inner inner_expr inner_pat inner_head inner_params inner_member inner_operators at s) → Meets P (plain at s)
+    plain_declares P h r = first_declares found v (stmt_level inner inner_expr inner_pat inner_head inner_params inner_member inner_operators) at s P h r
 
-  pub declared_is_bare : begins_declared s.at ≡ true → Meets (λ x t. IsBare x) (stmt_level inner inner_expr inner_pat inner_head inner_params inner_member at s)
+  pub declared_is_bare : begins_declared s.at ≡ true → Meets (λ x t. IsBare x) (stmt_level inner inner_expr inner_pat inner_head inner_params inner_member inner_operators at s)
   declared_is_bare h = declared_meets (λ x t. IsBare x) h (λ _. class_stmt_bare (inner_expr left_side) inner_member at s) (λ _. function_stmt_bare (inner nested_item) inner_params at s)
       (λ _. function_decl_bare (inner nested_item) inner_params s)
 
@@ -128,8 +129,8 @@ module _ (inner : Position → Reader Tree) (inner_expr : Class → Reader Tree)
       (params : (s : State) → Meets (λ ps t. SoundParams n s ps t) (inner_params s))
       (classes : (at : Position) (s : State) → kind_at s.at ≡ kind.Class → Meets (λ x t. SoundTree (Declared (ReadsNamedClass n) at) s x t) (class_stmt (inner_expr left_side) inner_member at s)) where
     pub level_declares : begins_declared s.at ≡ true
-        → Meets (λ x t. SoundTree (λ k. ReadsDeclared n k at) s x t × IsBare x) (stmt_level inner inner_expr inner_pat inner_head inner_params inner_member at s)
-    level_declares h = meets_both _ _ (stmt_level inner inner_expr inner_pat inner_head inner_params inner_member at s)
+        → Meets (λ x t. SoundTree (λ k. ReadsDeclared n k at) s x t × IsBare x) (stmt_level inner inner_expr inner_pat inner_head inner_params inner_member inner_operators at s)
+    level_declares h = meets_both _ _ (stmt_level inner inner_expr inner_pat inner_head inner_params inner_member inner_operators at s)
         (declared_meets (λ x t. SoundTree (λ k. ReadsDeclared n k at) s x t) h
         (λ e. meets_as (class_stmt (inner_expr left_side) inner_member at s) (classes at s e) (λ x t p. sound_as s t refl refl refl (λ (i, name, y, r, b, g). declared_class name y i r b g) p))
         (λ e. meets_as (function_stmt (inner nested_item) inner_params at s) (function_stmt_sound (ReadsStmt n) (ReadsParams n) (inner nested_item) sound inner_params params at s e)

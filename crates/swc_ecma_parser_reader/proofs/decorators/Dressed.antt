@@ -130,10 +130,10 @@ module _ (stmt : Reader Tree) (params : Reader (List Tree)) where
 
 -- ---- behind decorators
 
-module _ (inner : Position → Reader Tree) (inner_expr : Class → Reader Tree) (inner_pat : Reader Tree) (inner_head : Reader Cover) (inner_params : Reader (List Tree)) (inner_member : Reader Tree)
+module _ (inner : Position → Reader Tree) (inner_expr : Class → Reader Tree) (inner_pat : Reader Tree) (inner_head : Reader Cover) (inner_params : Reader (List Tree)) (inner_member : Reader Tree) (inner_operators : Span → Tree → Reader Tree)
     (found : Reader (List Tree)) (nests : Bool) (at : Position) (v : Leading) (s : State) where
   abbrev rest : Position → Reader Tree
-  rest = stmt_level inner inner_expr inner_pat inner_head inner_params inner_member
+  rest = stmt_level inner inner_expr inner_pat inner_head inner_params inner_member inner_operators
 
   abbrev plain : Position → Reader Tree
   plain = await_using_or found nests rest
@@ -143,15 +143,15 @@ module _ (inner : Position → Reader Tree) (inner_expr : Class → Reader Tree)
 
   pub behind_class : kind_at s.at ≡ kind.Class → declared_behind plain at v s ≡ class_stmt_with (inner_expr left_side) inner_member at v s
   unfolding declared_behind
-  behind_class e = ap (λ z. and_then z (λ x t. Ok (decorated_by v.place v.found x, t))) (begins (class_declares s.at e) ∙ level_class inner inner_expr inner_pat inner_head inner_params inner_member at s e)
+  behind_class e = ap (λ z. and_then z (λ x t. Ok (decorated_by v.place v.found x, t))) (begins (class_declares s.at e) ∙ level_class inner inner_expr inner_pat inner_head inner_params inner_member inner_operators at s e)
       ∙ class_stmt_behind (inner_expr left_side) inner_member at v s
 
   pub behind_function : kind_at s.at ≡ kind.Function → declared_behind plain at v s ≡ function_stmt_with (inner nested_item) inner_params at v s
   unfolding declared_behind
-  behind_function e = ap (λ z. and_then z (λ x t. Ok (decorated_by v.place v.found x, t))) (begins (function_declares s.at s.at (not_async refl refl) e) ∙ level_function inner inner_expr inner_pat inner_head inner_params inner_member at s e)
+  behind_function e = ap (λ z. and_then z (λ x t. Ok (decorated_by v.place v.found x, t))) (begins (function_declares s.at s.at (not_async refl refl) e) ∙ level_function inner inner_expr inner_pat inner_head inner_params inner_member inner_operators at s e)
       ∙ function_stmt_behind (inner nested_item) inner_params at v s
 
   pub behind_async : is_async_function s.at ≡ true → declared_behind plain at v s ≡ function_decl_with (inner nested_item) inner_params v.found s
   unfolding declared_behind
-  behind_async e = ap (λ z. and_then z (λ x t. Ok (decorated_by v.place v.found x, t))) (begins (async_declares s.at e) ∙ level_async inner inner_expr inner_pat inner_head inner_params inner_member at s e)
+  behind_async e = ap (λ z. and_then z (λ x t. Ok (decorated_by v.place v.found x, t))) (begins (async_declares s.at e) ∙ level_async inner inner_expr inner_pat inner_head inner_params inner_member inner_operators at s e)
       ∙ function_decl_behind (inner nested_item) inner_params v.found v.place s

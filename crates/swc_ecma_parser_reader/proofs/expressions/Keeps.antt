@@ -525,7 +525,7 @@ module _ (inner : Class → Reader Tree) (cover : Reader Cover) (below : (class 
     binary_by_keeps least start x (Some op) s e f = answers_then _ _ (operated inner cover start x op s) _
         (operated_keeps start x op s (no_error_by (λ k. read_operator least s.code (binary_operator k)) (kind_at s.at) op refl e) f) (λ y t g. g)
 
-    binary_from_keeps : (least : ℕ) (start : Span) (x : Tree) (s : State) → NothingLost b s → Answers (Kept b) (Lost b) (binary_from inner cover least start x s)
+    pub binary_from_keeps : (least : ℕ) (start : Span) (x : Tree) (s : State) → NothingLost b s → Answers (Kept b) (Lost b) (binary_from inner cover least start x s)
     unfolding binary_from binary_turn
     binary_from_keeps least start x s f = loop_keeps (binary_turn inner cover least start) b
         (λ y u k. binary_by_keeps least start y (operator_at least u) u refl k) x s f

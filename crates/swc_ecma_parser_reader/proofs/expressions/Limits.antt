@@ -368,7 +368,7 @@ module _ (inner : Class → Reader Tree) (cover : Reader Cover) (n : ℕ) (below
     binary_by_shallow least start x (Some op) s e f = answers_then _ _ (operated inner cover start x op s) _
         (operated_shallow start x op s (no_end_by (λ k. read_operator least s.code (binary_operator k)) (kind_at s.at) op refl e) f) (λ y t g. g)
 
-    binary_from_shallow : (least : ℕ) (start : Span) (x : Tree) (s : State) → Fine m s.at.left → Answers (Kept m) Shallow (binary_from inner cover least start x s)
+    pub binary_from_shallow : (least : ℕ) (start : Span) (x : Tree) (s : State) → Fine m s.at.left → Answers (Kept m) Shallow (binary_from inner cover least start x s)
     unfolding binary_from binary_turn
     binary_from_shallow least start x s f = loop_answers (binary_turn inner cover least start) (Kept m) (Kept m) Shallow
         (λ y u k. binary_by_shallow least start y (operator_at least u) u refl k) (λ u e. cc) x s f

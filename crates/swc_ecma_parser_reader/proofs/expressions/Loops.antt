@@ -13,11 +13,11 @@ use Rattle.swc_ecma_parser_model.specs.Tree.{Tree}
 use Rattle.swc_ecma_parser_grammar.specs.Looks.{sees}
 use Rattle.swc_ecma_parser_grammar.specs.language.Goals.{Class}
 use Rattle.swc_ecma_parser_reader.proofs.Falls.{expr_falls, cover_falls, functions_fall}
-use Rattle.swc_ecma_parser_reader.specs.Reader.{expr, cover, head_cover, head_behind, function}
+use Rattle.swc_ecma_parser_reader.specs.Reader.{right_operand, expr, cover, head_cover, head_behind, function}
 use Rattle.swc_ecma_parser_reader.specs.Arrows.{Parts, ended, rest_part, part_turn}
 use Rattle.swc_ecma_parser_reader.specs.AsyncArrows.{Argument, followed, argument, either_turn}
 use Rattle.swc_ecma_parser_reader.specs.Heads.{head_expr, head_behind_async}
-use Rattle.swc_ecma_parser_reader.specs.State.{State, Outcome, moved, too_deep, fault, fault_at, expect, loop}
+use Rattle.swc_ecma_parser_reader.specs.State.{State, Outcome, Reader, moved, too_deep, fault, fault_at, expect, loop}
 use Rattle.swc_ecma_parser_reader.specs.Expressions.{Cover, Covers, with_cover, with_comma, done, element, behind_comma, arguments_turn, covered, item, array_turn, property, object_turn, accessed, called, left_turn, operator_at, operated, binary_turn, cover_expr, assignment_expr, sequence_turn, expr_level}
 use Rattle.swc_ecma_parser_reader.proofs.Steps.{loop_more, loop_done, loop_err}
 use Rattle.swc_ecma_parser_reader.proofs.Takes.{Falls, moves, takes, fault_falls, expect_falls}
@@ -289,22 +289,24 @@ module _ (n : ℕ) (calls : Bool) (start : Span) (x : Tree) (s : State) where
 
 -- ---- operators that bind at least so tightly
 
-pub operated_shorter : (n : ℕ) (start : Span) (x : Tree) (op : BinaryOp) (s : State) (y : Tree) (t : State) → operated (expr n) (cover n) start x op s ≡ Ok (y, t) → length t.at.left < length s.at.left
-operated_shorter n start x op s y t e = shorter_by (length s.at.left) (operated (expr n) (cover n) start x op s) y t e (operated_falls (expr n) (cover n) (expr_falls n) (cover_falls n) start x op s)
+module _ (inner : Class → Reader Tree) (covers : Reader Cover) (inner_falls : (class : Class) (s : State) → Falls 1 (length s.at.left) (inner class s))
+    (covers_fall : (s : State) → Falls 1 (length s.at.left) (covers s)) (start : Span) (x : Tree) (s : State) where
+  pub operated_shorter : (op : BinaryOp) (y : Tree) (t : State) → operated inner covers start x op s ≡ Ok (y, t) → length t.at.left < length s.at.left
+  operated_shorter op y t e = shorter_by (length s.at.left) (operated inner covers start x op s) y t e (operated_falls inner covers inner_falls covers_fall start x op s)
 
-module _ (n least : ℕ) (start : Span) (x : Tree) (s : State) where
-  pub binary_done : operator_at least s ≡ None → loop (binary_turn (expr n) (cover n) least start) x s ≡ Ok (x, s)
-  unfolding binary_turn
-  binary_done e = loop_done (binary_turn (expr n) (cover n) least start) x x s s (rw e refl)
+  module _ (least : ℕ) where
+    pub binary_done : operator_at least s ≡ None → loop (binary_turn inner covers least start) x s ≡ Ok (x, s)
+    unfolding binary_turn
+    binary_done e = loop_done (binary_turn inner covers least start) x x s s (rw e refl)
 
-  pub binary_more : (op : BinaryOp) (y : Tree) (t : State) → operator_at least s ≡ Some op → operated (expr n) (cover n) start x op s ≡ Ok (y, t)
-      → loop (binary_turn (expr n) (cover n) least start) x s ≡ loop (binary_turn (expr n) (cover n) least start) y t
-  unfolding binary_turn
-  binary_more op y t h e = loop_more (binary_turn (expr n) (cover n) least start) x y s t (rw (h, e) refl) (operated_shorter n start x op s y t e)
+    pub binary_more : (op : BinaryOp) (y : Tree) (t : State) → operator_at least s ≡ Some op → operated inner covers start x op s ≡ Ok (y, t)
+        → loop (binary_turn inner covers least start) x s ≡ loop (binary_turn inner covers least start) y t
+    unfolding binary_turn
+    binary_more op y t h e = loop_more (binary_turn inner covers least start) x y s t (rw (h, e) refl) (operated_shorter op y t e)
 
-  pub binary_err : (op : BinaryOp) (e : Fault × State) → operator_at least s ≡ Some op → operated (expr n) (cover n) start x op s ≡ Err e → loop (binary_turn (expr n) (cover n) least start) x s ≡ Err e
-  unfolding binary_turn
-  binary_err op e h g = loop_err (binary_turn (expr n) (cover n) least start) x s e (rw (h, g) refl)
+    pub binary_err : (op : BinaryOp) (e : Fault × State) → operator_at least s ≡ Some op → operated inner covers start x op s ≡ Err e → loop (binary_turn inner covers least start) x s ≡ Err e
+    unfolding binary_turn
+    binary_err op e h g = loop_err (binary_turn inner covers least start) x s e (rw (h, g) refl)
 
 -- ---- sequences: a turn begins with the comma
 
@@ -340,6 +342,14 @@ expr_lowest n class s e = rw e refl
 pub expr_above : (n : ℕ) (class : Class) (s : State) → 0 < n → expr n class s ≡ expr_level (expr (n - 1)) (cover (n - 1)) (function (n - 1)) class s
 unfolding function expr
 expr_above n class s h = deeper (λ k. expr k class s) n h
+
+pub right_operand_lowest : (n : ℕ) (class : Class) (s : State) → n ≡ 0 → right_operand n class s ≡ too_deep s
+unfolding right_operand
+right_operand_lowest n class s e = rw e refl
+
+pub right_operand_above : (n : ℕ) (class : Class) (s : State) → 0 < n → right_operand n class s ≡ expr (n - 1) class s
+unfolding right_operand
+right_operand_above n class s h = deeper (λ k. right_operand k class s) n h
 
 pub cover_lowest : (n : ℕ) (s : State) → n ≡ 0 → cover n s ≡ too_deep s
 unfolding cover

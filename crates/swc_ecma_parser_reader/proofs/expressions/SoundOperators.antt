@@ -1,6 +1,7 @@
 -- The reader of unary, update and binary operators is sound.
 use Rattle.std.proofs.Common.{◌≡◌, ℕ, zero, suc, ◌<◌, ◌≤◌, Bool, true, false, cond, Option, Some, None, refl, sym, ◌∙◌, ap, subst, leb-true, leb-false, arith}
 use Rattle.std.specs.Prelude.{nat_le, not, ◌&&◌, ◌||◌}
+use Rattle.swc_ecma_parser_common.specs.declared.span.Span.{Span}
 use Rattle.swc_ecma_parser_token.specs.declared.kind.TokenKind.{TokenKind}
 use Rattle.swc_ecma_parser_token.specs.declared.kind.TokenKind.TheVariants as kind
 use Rattle.swc_ecma_parser_input.specs.Place.{Place, after}
@@ -318,3 +319,35 @@ module _ (n : ℕ) (inner : Class → Reader Tree) (cover : Reader Cover) (sound
   unfolding continues_operand
   operator_sound m s = meets_as (binary_expr inner cover function m s) (binary_sound m s) (λ x t p. sound_as s t refl refl refl (λ r.
       ((r.0.rule, or_none (continues_unary x t.at) _ r.0.ends r.1), r.0.supports)) p)
+
+-- ---- operators behind an operand that no rule has
+
+-- how many levels are left one level further in
+abbrev pub levels_inside : ℕ → ℕ
+levels_inside zero = zero
+levels_inside (suc n) = n
+
+module _ (n : ℕ) (inner : Class → Reader Tree) (cover : Reader Cover) (sound : (class : Class) (s : State) → Meets (λ x t. SoundTree (ReadsClass n class) s x t) (inner class s)) (m : ℕ) (s : State) (start : Span) where
+  abbrev SoundWild : Tree → State → Type 0
+  SoundWild x t = SoundTree (λ k y c d. ⊥) s x t
+
+  operated_wild : (x : Tree) (t : State) (op : BinaryOp) → SoundWild x t → operator_at m t ≡ Some op → Meets SoundWild (operated inner cover start x op t)
+  unfolding operated operator_at left_operand unmixed
+  operated_wild x t op p e = when_false SoundWild _ tt _ t (not (groups_left op) && is_unary x) (λ _.
+      meets_then _ (inner (right_class op) (moved t)) _ (sound (right_class op) (moved t)) (λ y u q. meets_if _ (mixes op x || mixes op y) _ _ (λ _. reject_meets _ _ u)
+      (λ _. sound_as s u refl refl refl (λ (a, b). absurd a)
+      (paired p (moved_back refl (binary_is_none (kind_at t.at) op (read_there m t.code (binary_operator (kind_at t.at)) op e).0) q)))))
+
+  binary_by_wild : (x : Tree) (t : State) (o : Option BinaryOp) → SoundWild x t → operator_at m t ≡ o
+      → Meets (Turned (binary_turn inner cover m start) SoundWild SoundWild Refuses) (binary_by inner cover start x o t)
+  binary_by_wild x t None p e = p
+  binary_by_wild x t (Some op) p e = meets_then _ (operated inner cover start x op t) _ (operated_wild x t op p e) (λ y u q. q)
+
+  binary_turn_wild : (x : Tree) (t : State) → SoundWild x t → Meets (Turned (binary_turn inner cover m start) SoundWild SoundWild Refuses) (binary_turn inner cover m start x t)
+  unfolding binary_turn
+  binary_turn_wild x t p = binary_by_wild x t (operator_at m t) p refl
+
+  -- are read with their operands, which are of the language
+  pub operators_sound : (x : Tree) (t : State) → SoundWild x t → Meets SoundWild (binary_from inner cover m start x t)
+  unfolding binary_from
+  operators_sound x t p = loop_answers (binary_turn inner cover m start) SoundWild SoundWild Refuses binary_turn_wild (λ _. tt) x t p

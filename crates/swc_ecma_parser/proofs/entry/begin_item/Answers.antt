@@ -1,5 +1,4 @@
-use Rattle.std.proofs.Common.{◌≡◌, true, false, [], refl, sym, ap, ◌∙◌}
-use Rattle.std.specs.Prelude.{if◌then◌else◌}
+use Rattle.std.proofs.Common.{[], refl, sym, ◌∙◌}
 use Rattle.swc_ecma_parser_module_reader.specs.Items.{begun_item}
 use Rattle.swc_ecma_parser.proofs.entry.begin_item.Goals as goal
 

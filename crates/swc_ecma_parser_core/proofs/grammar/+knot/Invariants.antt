@@ -5,6 +5,9 @@ use Rattle.swc_ecma_parser_core.proofs.grammar.+knot.Given as goal
 abbrev pub decreases-expression : goal.decreases-expression
 decreases-expression g l = 8 * l.depth
 
+abbrev pub decreases-right_operand : goal.decreases-right_operand
+decreases-right_operand g l = 8 * l.depth
+
 abbrev pub decreases-covered : goal.decreases-covered
 decreases-covered g l = 8 * l.depth
 

@@ -2,14 +2,15 @@ use Rattle.std.proofs.Common.{◌≡◌, length}
 use Rattle.swc_ecma_parser_reader.specs.State.{loop}
 use Rattle.swc_ecma_parser_reader.specs.Expressions as exprs
 use Rattle.swc_ecma_parser_reader.specs.Reader as rules
-use Rattle.swc_ecma_parser_operators.proofs.operator.binary_from.Given as goal
+use Rattle.swc_ecma_parser_inner.specs.Operators.{right}
+use Rattle.swc_ecma_parser_inner.proofs.operators.binary_from.Given as goal
 
 -- what the whole loop gives is what the rest of it gives
 abbrev pub invariant-operators : goal.invariant-operators
 invariant-operators g l =
-    let expr = rules.expr l.g.depth in
+    let operand = right l.g.depth l.operands in
     let cover = rules.cover l.g.depth in
-    exprs.binary_from expr cover l.n l.start (g.T.Trees.expr_of l.fn.x) (g.P.Source.seen l.fn.p) ≡ loop (exprs.binary_turn expr cover l.n l.start) (g.T.Trees.expr_of l.x) (g.P.Source.seen l.p)
+    exprs.binary_from operand cover l.n l.start (g.T.Trees.expr_of l.fn.x) (g.P.Source.seen l.fn.p) ≡ loop (exprs.binary_turn operand cover l.n l.start) (g.T.Trees.expr_of l.x) (g.P.Source.seen l.p)
 
 abbrev pub decreases-operators : goal.decreases-operators
 decreases-operators g l = length (g.P.Source.seen l.p).at.left

@@ -1,0 +1,63 @@
+//! The end of an expression statement, and the operators behind a fault where it is missing.
+
+ghost use Rattle.std.specs.Prelude.{◌≡◌};
+ghost use Rattle.swc_ecma_parser_inner.specs.Nests.{Nests};
+ghost use Rattle.swc_ecma_parser_reader.specs.Reader as rules;
+ghost use Rattle.swc_ecma_parser_reader.specs.Recovery as recovery;
+ghost use Rattle.swc_ecma_parser_reader.specs.State.{GivesAs};
+
+use swc_ecma_parser_common::Span;
+use swc_ecma_parser_error::{PResult, SyntaxError};
+use swc_ecma_parser_grammar::Position;
+use swc_ecma_parser_inner::cover::{Cover, Reading};
+use swc_ecma_parser_inner::ends::can_end;
+use swc_ecma_parser_inner::grammar::{Grammar, Part};
+use swc_ecma_parser_inner::operators::{Operands, binary_from};
+use swc_ecma_parser_inner::steps::with_in;
+use swc_ecma_parser_model::BinaryOp;
+use swc_ecma_parser_source::{Source, Wanted, binary_operator};
+use swc_ecma_parser_trees::{BuildsOperator, MakerOf};
+
+/// Whether an operator between two operands is written with signs, and not with a word.
+fn is_sign(op: Option<BinaryOp>) -> bool
+    ensures { result ≡ recovery.is_sign op }
+{
+    match op {
+        None => false,
+        Some(BinaryOp::In | BinaryOp::InstanceOf) => false,
+        Some(_) => true,
+    }
+}
+
+/// Whether such an operator stands in the place of the end of a statement.
+#[tactic(auto, unfolding(swc_ecma_parser_reader::specs::Recovery::lacks_end))]
+fn lacks_end<P: Source>(p: &P) -> bool
+    ensures { result ≡ recovery.lacks_end (P.seen p.now).at }
+{
+    is_sign(binary_operator(p.kind())) && !can_end(p)
+}
+
+/// The end of an expression statement. Where it is missing before an operator, the expression goes on behind a fault.
+#[tactic(auto, unfolding(swc_ecma_parser_reader::specs::Recovery::stmt_end, swc_ecma_parser_reader::specs::Recovery::operators_on))]
+pub(crate) fn stmt_end<
+    P: Source,
+    T: BuildsOperator,
+    S: Fn(&MakerOf<T>, &mut P, usize, Position) -> PResult<T::Stmt>,
+    E: Fn(&MakerOf<T>, &mut P, usize, Reading) -> PResult<Cover<T::Expr>>,
+    N: Fn(&MakerOf<T>, &mut P, usize, Part) -> PResult<T::Pat>,
+>(g: &Grammar<S, E, N>, t: &MakerOf<T>, p: &mut P, start: Span, x: T::Expr) -> PResult<T::Expr>
+    requires { Nests P.seen T.expr_of T.pat_of T.stmt_of g.now.depth (S.pre g.now.stmt) (S.post g.now.stmt) (E.pre g.now.expr) (E.post g.now.expr) (N.pre g.now.pat) (N.post g.now.pat) }
+    ensures { GivesAs T.expr_of (recovery.stmt_end (rules.operators g.now.depth) start (T.expr_of x) (P.seen p.old)) result (P.seen p.new) }
+{
+    if !lacks_end(p) {
+        p.end(Wanted::EndOfExpression(T::expr_span(&x)))?;
+        return Ok(x);
+    }
+    let span = p.span();
+    p.fault(SyntaxError::TS1005, span)?;
+    let outer = p.flags();
+    p.set_flags(with_in(outer));
+    let whole = binary_from(g, t, p, Operands::Further, 1, start, x)?;
+    p.set_flags(outer);
+    Ok(whole)
+}
