@@ -42,7 +42,7 @@ use Rattle.swc_ecma_parser_reader.specs.State.{Scope, State, Outcome, Reader, an
 use Rattle.swc_ecma_parser_reader.proofs.Answered.{st, Calm, ReadsCalm}
 use Rattle.swc_ecma_parser_reader.proofs.Between.{nil-split}
 use Rattle.swc_ecma_parser_reader.proofs.Complete.{member_reads}
-use Rattle.swc_ecma_parser_reader.proofs.Calm.{calm_last}
+use Rattle.swc_ecma_parser_reader.proofs.CompleteParts.{calm_last}
 use Rattle.swc_ecma_parser_reader.proofs.Meets.{saw}
 use Rattle.swc_ecma_parser_reader.proofs.Notes.{notes_assoc}
 use Rattle.swc_ecma_parser_reader.proofs.Opens.{let_stands}
