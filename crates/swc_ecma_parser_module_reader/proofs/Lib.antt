@@ -59,3 +59,6 @@ pub mod ItemTurns
 pub mod SoundItems
 pub mod CompleteItems
 pub mod ItemEntries
+pub mod ForwardImports
+pub mod ForwardExports
+pub mod Forward

@@ -49,3 +49,4 @@ pub mod Spans
 pub mod Refusals
 pub mod Entries
 pub mod Statements
+pub mod forward
