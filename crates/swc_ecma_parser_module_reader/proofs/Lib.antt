@@ -59,6 +59,3 @@ pub mod ItemTurns
 pub mod SoundItems
 pub mod CompleteItems
 pub mod ItemEntries
-pub mod ForwardImports
-pub mod ForwardExports
-pub mod Forward

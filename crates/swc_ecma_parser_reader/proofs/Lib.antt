@@ -49,4 +49,3 @@ pub mod Spans
 pub mod Refusals
 pub mod Entries
 pub mod Statements
-pub mod forward
