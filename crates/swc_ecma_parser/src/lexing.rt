@@ -1,7 +1,8 @@
 //! A parser of source text.
 
-ghost use Rattle.std.specs.Prelude.{◌≡◌, false, length};
+ghost use Rattle.std.specs.Prelude.{◌≡◌, false, true, length};
 ghost use Rattle.std.specs.Str.{chars};
+ghost use Rattle.swc_ecma_parser_forward.specs.Forward.{in_order};
 ghost use Rattle.swc_ecma_parser_input.specs.Place as place;
 ghost use Rattle.swc_ecma_parser_lexer.specs.Source as source;
 ghost use Rattle.swc_ecma_parser_state.specs.Opened.{opened};
@@ -23,6 +24,8 @@ impl<'a> Parser<Lexer<'a>> {
         ensures left { place.lacks_memory (place.first result.state.at.left) ≡ false
             → place.lacks_memory (place.second result.state.at.left) ≡ false
             → result.state ≡ opened (source.outset syntax input.entry.start (chars input.entry.src.now)) }
+        ensures in_order { place.lacks_memory (place.first result.state.at.left) ≡ false
+            → place.lacks_memory (place.second result.state.at.left) ≡ false → in_order result.state.at ≡ true }
         ensures len { length result.state.at.left
             ≡ length (source.outset syntax input.entry.start (chars input.entry.src.now)).left }
     {

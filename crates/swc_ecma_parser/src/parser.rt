@@ -5,6 +5,7 @@ ghost use Rattle.swc_ecma_parser_ast.specs.View.{view_module, view_module_item, 
 ghost use Rattle.swc_ecma_parser_error.specs.Kind as kinds;
 ghost use Rattle.swc_ecma_parser_error.specs.Kind.{fault_of, faults_of, kind_of, IsOutOfMemory};
 ghost use Rattle.swc_ecma_parser_error.specs.declared.error.Error.{Error};
+ghost use Rattle.swc_ecma_parser_forward.specs.Forward.{in_order, AnswersForward};
 ghost use Rattle.swc_ecma_parser_input.specs.Place as place;
 ghost use Rattle.swc_ecma_parser_module_reader.specs.Entry.{IsEntered, SoundModule, CompleteModule};
 ghost use Rattle.swc_ecma_parser_module_reader.specs.ItemEntry.{SoundItemAlone, CompleteItem};
@@ -63,6 +64,8 @@ impl<I: Tokens> Parser<I> {
         ensures kept { result.state ≡ record (opened (I.seen input)) { at = place.outset (I.seen input).start result.state.at.left } }
         ensures left { place.lacks_memory (place.first result.state.at.left) ≡ false
             → place.lacks_memory (place.second result.state.at.left) ≡ false → result.state ≡ opened (I.seen input) }
+        ensures in_order { place.lacks_memory (place.first result.state.at.left) ≡ false
+            → place.lacks_memory (place.second result.state.at.left) ≡ false → in_order result.state.at ≡ true }
         ensures len { length result.state.at.left ≡ length (I.seen input).left }
     {
         Parser::new_from_limited(alloc, input, DEFAULT_LIMIT)
@@ -74,6 +77,8 @@ impl<I: Tokens> Parser<I> {
         ensures kept { result.state ≡ record (opened (I.seen input)) { at = place.outset (I.seen input).start result.state.at.left } }
         ensures left { place.lacks_memory (place.first result.state.at.left) ≡ false
             → place.lacks_memory (place.second result.state.at.left) ≡ false → result.state ≡ opened (I.seen input) }
+        ensures in_order { place.lacks_memory (place.first result.state.at.left) ≡ false
+            → place.lacks_memory (place.second result.state.at.left) ≡ false → in_order result.state.at ≡ true }
         ensures len { length result.state.at.left ≡ length (I.seen input).left }
     {
         Parser {
@@ -98,6 +103,9 @@ impl<I: Tokens> Parser<I> {
         // Unless memory ran out: a tree is the answer, read up to a place with nothing recorded, exactly where the tokens up to there
         // spell it within the limit.
         ensures decides { DecidesScript view_script self.old.limit (unmarked self.old.state) result self.new.state }
+
+        // Of tokens in order, whatever is recorded: no span of an answer starts after its end, and what is left is in order.
+        ensures forward { in_order self.old.state.at ≡ true → AnswersForward view_script result self.new.state.at }
 
         // No token of an answer is one that memory ran out for.
         ensures memory { IfOk result (λ x. has_out_of_memory_token self.old.state.at.left ≡ false) }
@@ -142,6 +150,9 @@ impl<I: Tokens> Parser<I> {
         // whole list spells it within the limit.
         ensures decides { (from : ℕ) → Ordered from self.old.state.at → (u : reader.State) × IsEntered (unmarked self.old.state) u
             × DecidesModule view_module self.old.limit u result self.new.state }
+
+        // Of tokens in order, whatever is recorded: no span of an answer starts after its end, and what is left is in order.
+        ensures forward { in_order self.old.state.at ≡ true → AnswersForward view_module result self.new.state.at }
 
         // No token of an answer is one that memory ran out for.
         ensures memory { IfOk result (λ x. has_out_of_memory_token self.old.state.at.left ≡ false) }
@@ -188,6 +199,9 @@ impl<I: Tokens> Parser<I> {
         // had been held back, exactly where the tokens up to there spell it within the limit.
         ensures decides { (from : ℕ) → Ordered from self.old.state.at → DecidesProgram view_program self.old.limit (unmarked self.old.state) result self.new.state }
 
+        // Of tokens in order, whatever is recorded: no span of an answer starts after its end, and what is left is in order.
+        ensures forward { in_order self.old.state.at ≡ true → AnswersForward view_program result self.new.state.at }
+
         // No token of an answer is one that memory ran out for.
         ensures memory { IfOk result (λ x. has_out_of_memory_token self.old.state.at.left ≡ false) }
 
@@ -232,6 +246,9 @@ impl<I: Tokens> Parser<I> {
         // had been held back, exactly where the tokens up to there spell it within the limit.
         ensures decides { (from : ℕ) → Ordered from self.old.state.at → DecidesItem view_module_item self.old.limit (unmarked self.old.state) result self.new.state }
 
+        // Of tokens in order, whatever is recorded: no span of an answer starts after its end, and what is left is in order.
+        ensures forward { in_order self.old.state.at ≡ true → AnswersForward view_module_item result self.new.state.at }
+
         // No token that an answer read is one that memory ran out for.
         ensures memory { IfOk result (λ x. has_out_of_memory_token self.new.state.at.left ≡ false → has_out_of_memory_token self.old.state.at.left ≡ false) }
 
@@ -270,6 +287,9 @@ impl<I: Tokens> Parser<I> {
         // Unless memory ran out: a tree is the answer, read up to a place with nothing recorded, exactly where the tokens up to there
         // spell it within the limit.
         ensures decides { DecidesStatement view_stmt self.old.limit false top_level (unmarked self.old.state) result self.new.state }
+
+        // Of tokens in order, whatever is recorded: no span of an answer starts after its end, and what is left is in order.
+        ensures forward { in_order self.old.state.at ≡ true → AnswersForward view_stmt result self.new.state.at }
 
         // No token that an answer read is one that memory ran out for.
         ensures memory { IfOk result (λ x. has_out_of_memory_token self.new.state.at.left ≡ false → has_out_of_memory_token self.old.state.at.left ≡ false) }
@@ -312,6 +332,9 @@ impl<I: Tokens> Parser<I> {
         // Unless memory ran out: a tree is the answer, read up to a place with nothing recorded, exactly where the tokens up to there
         // spell it within the limit.
         ensures decides { DecidesStatement view_stmt self.old.limit true top_level (unmarked self.old.state) result self.new.state }
+
+        // Of tokens in order, whatever is recorded: no span of an answer starts after its end, and what is left is in order.
+        ensures forward { in_order self.old.state.at ≡ true → AnswersForward view_stmt result self.new.state.at }
 
         // No token that an answer read is one that memory ran out for.
         ensures memory { IfOk result (λ x. has_out_of_memory_token self.new.state.at.left ≡ false → has_out_of_memory_token self.old.state.at.left ≡ false) }

@@ -2,6 +2,7 @@ use Rattle.swc_ecma_parser_ast.specs.View.{view_module_item}
 use Rattle.swc_ecma_parser_reader.specs.Entry.{unmarked}
 use Rattle.swc_ecma_parser_module_reader.proofs.ItemEntries as items
 use Rattle.swc_ecma_parser_spelled.proofs.Decided.{item_decided}
+use Rattle.swc_ecma_parser_module_forward.proofs.Entries.{item_answers_forward}
 use Rattle.swc_ecma_parser.proofs.parser.Parser.parse_module_item.Goals as goal
 
 pub returns-clause-sound : goal.returns-clause-sound
@@ -28,3 +29,7 @@ returns-clause-stays g c = rw (← c.self.view_is) (items.stays _ view_module_it
 pub returns-clause-decides : goal.returns-clause-decides
 returns-clause-decides g c =
     rw (← c.self.view_is) (λ from ordered. item_decided _ view_module_item c.self.inside.limit (unmarked c.self.inside.state) c.item.result c.item.new.state from ordered c.item.ensures.answers)
+
+pub returns-clause-forward : goal.returns-clause-forward
+returns-clause-forward g c =
+    rw (← c.self.view_is) (λ o. item_answers_forward _ view_module_item c.self.inside.limit (unmarked c.self.inside.state) o c.item.result c.item.new.state c.item.ensures.answers)

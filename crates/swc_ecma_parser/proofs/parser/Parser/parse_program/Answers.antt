@@ -3,6 +3,7 @@ use Rattle.swc_ecma_parser_reader.specs.Entry.{unmarked}
 use Rattle.swc_ecma_parser_module_reader.proofs.Programs as programs
 use Rattle.swc_ecma_parser_module_reader.proofs.ProgramAnswers as answers
 use Rattle.swc_ecma_parser_spelled.proofs.Decided.{program_decided}
+use Rattle.swc_ecma_parser_module_forward.proofs.Entries.{program_answers_forward}
 use Rattle.swc_ecma_parser.proofs.parser.Parser.parse_program.Goals as goal
 
 pub returns-clause-sound : goal.returns-clause-sound
@@ -32,3 +33,7 @@ returns-clause-stays g c =
 pub returns-clause-decides : goal.returns-clause-decides
 returns-clause-decides g c =
     rw (← c.self.view_is) (λ from ordered. program_decided _ view_program c.self.inside.limit (unmarked c.self.inside.state) c.program.result c.program.new.state from ordered c.program.ensures.answers)
+
+pub returns-clause-forward : goal.returns-clause-forward
+returns-clause-forward g c =
+    rw (← c.self.view_is) (λ o. program_answers_forward _ view_program c.self.inside.limit (unmarked c.self.inside.state) o c.program.result c.program.new.state c.program.ensures.answers)

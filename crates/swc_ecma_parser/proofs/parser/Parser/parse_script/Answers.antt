@@ -5,6 +5,7 @@ use Rattle.swc_ecma_parser_reader.proofs.Entries as entries
 use Rattle.swc_ecma_parser_reader.proofs.Keeps as keeps
 use Rattle.swc_ecma_parser_spelled.proofs.Decided.{script_decided}
 use Rattle.swc_ecma_parser_spelled.specs.Decides.{DecidesScript}
+use Rattle.swc_ecma_parser_forward.proofs.Entries.{script_answers_forward}
 use Rattle.swc_ecma_parser.proofs.parser.Parser.parse_script.Goals as goal
 
 pub returns-clause-sound : goal.returns-clause-sound
@@ -31,3 +32,6 @@ pub returns-clause-decides : goal.returns-clause-decides
 returns-clause-decides g c =
     subst (λ q. DecidesScript view_script q.limit (unmarked q.state) c.script.result c.script.new.state) c.self.view_is
     (script_decided _ view_script c.self.inside.limit (unmarked c.self.inside.state) c.script.result c.script.new.state c.script.ensures.answers)
+
+pub returns-clause-forward : goal.returns-clause-forward
+returns-clause-forward g c = rw (← c.self.view_is) (λ o. script_answers_forward _ view_script c.self.inside.limit c.self.inside.state o c.script.result c.script.new.state c.script.ensures.answers)

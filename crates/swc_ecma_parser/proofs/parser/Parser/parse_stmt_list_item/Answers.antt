@@ -4,6 +4,7 @@ use Rattle.swc_ecma_parser_reader.specs.Entry.{unmarked}
 use Rattle.swc_ecma_parser_reader.proofs.Statements as statements
 use Rattle.swc_ecma_parser_reader.proofs.Keeps as keeps
 use Rattle.swc_ecma_parser_spelled.proofs.Decided.{statement_decided}
+use Rattle.swc_ecma_parser_forward.proofs.Entries.{statement_answers_forward}
 use Rattle.swc_ecma_parser.proofs.parser.Parser.parse_stmt_list_item.Goals as goal
 
 pub returns-clause-sound : goal.returns-clause-sound
@@ -29,3 +30,7 @@ returns-clause-stays g c = rw (← c.self.view_is) (keeps.statement_stays _ view
 
 pub returns-clause-decides : goal.returns-clause-decides
 returns-clause-decides g c = rw (← c.self.view_is) (statement_decided _ view_stmt c.self.inside.limit (unmarked c.self.inside.state) c.statement.result c.statement.new.state true c.args.top_level c.statement.ensures.answers)
+
+pub returns-clause-forward : goal.returns-clause-forward
+returns-clause-forward g c =
+    rw (← c.self.view_is) (λ o. statement_answers_forward _ view_stmt c.self.inside.limit c.self.inside.state o true c.args.top_level c.statement.result c.statement.new.state c.statement.ensures.answers)

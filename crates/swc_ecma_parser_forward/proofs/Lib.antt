@@ -1,0 +1,14 @@
+pub mod Places
+pub mod Trees
+pub mod Steps
+pub mod Operands
+pub mod Arrows
+pub mod Expressions
+pub mod Patterns
+pub mod Functions
+pub mod Decorators
+pub mod Classes
+pub mod Loops
+pub mod Statements
+pub mod Levels
+pub mod Entries

@@ -1,0 +1,12 @@
+//! No span of what the reader of modules answers starts after its end: proofs alone.
+#![tactic(auto)]
+
+ghost use Rattle.swc_ecma_parser_module_forward.specs.Laws.{ModulesRunForward, ProgramsRunForward, ItemsRunForward};
+
+/// A law: of tokens that stand one behind another, each span of a module, a program or an item of a module runs forward, whatever is
+/// recorded.
+pub fn runs_forward()
+    ensures modules { ModulesRunForward }
+    ensures programs { ProgramsRunForward }
+    ensures items { ItemsRunForward }
+{}
