@@ -4,4 +4,4 @@ use Rattle.swc_ecma_parser_forward.proofs.Entries.{opened_in_order}
 use Rattle.swc_ecma_parser.proofs.parser.Parser.new_from_limited.Goals as goal
 
 pub returns-clause-in_order : goal.returns-clause-in_order
-returns-clause-in_order g c = λ a b. ap (λ s. in_order s.at) (c.new.ensures.left a b) ∙ opened_in_order (g.I.Tokens.seen c.args.input) (g.I.Tokens.ordered c.args.input)
+returns-clause-in_order g c = λ a b. ap (λ s. in_order s.at) (c.new.ensures.left a b) ∙ opened_in_order (g.I.Tokens.seen c.args.input) (g.met.I.Tokens.ordered c.args.input)
